@@ -1,0 +1,40 @@
+//! What a work queue speaks of: jobs, tubes, requests, steps and answers.
+//!
+//! The definitions that every promise of this repository is stated in are the files of `specs/`: the
+//! one-list machine, the reading of a text into requests, the texts of answers, and what a line of a
+//! client is owed.
+#![tactic(auto)]
+
+pub use answer::Answer;
+pub use body::Body;
+pub use fault::NoMemory;
+pub use job::{Counts, Job, JobState};
+pub use line_end::{LineEnd, LineFault};
+pub use refusal::Refusal;
+pub use request::Request;
+pub use step::Step;
+pub use text::Text;
+pub use tube_name::TubeName;
+
+mod answer;
+mod body;
+mod fault;
+mod job;
+mod line_end;
+mod refusal;
+mod request;
+mod step;
+mod text;
+mod tube_name;
+
+/// A moment, in milliseconds. The core's clock starts at 0.
+pub type Moment = u64;
+
+/// The number of a job. Jobs are numbered from 1 in the order in which their puts were accepted.
+pub type JobId = u64;
+
+/// How urgent a job is: 0 is the most urgent, 4,294,967,295 the least.
+pub type Pri = u32;
+
+/// The place of one connection at a time, numbered from 0.
+pub type Seat = u16;

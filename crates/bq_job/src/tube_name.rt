@@ -1,0 +1,98 @@
+ghost use Rattle.std.specs.Prelude.{◌≡◌, ◌↔◌, IsSome, IfSome, IsTrue, IfOk, IsOk};
+ghost use Rattle.bq_job.specs.TubeName.{is_tube_name, name_byte, is_same_name};
+
+use std::alloc::AllocError;
+use std::marker::Model;
+
+/// How many bytes a tube's name has at most.
+pub const LONGEST_NAME: usize = 200;
+
+/// The name of a tube: 1 to 200 bytes out of ASCII letters, digits and `- + / ; . $ _ ( )`, of which
+/// the first is no `-`. It lies in a fixed array, so making and cloning one take no memory.
+#[derive(Clone, Copy, Debug)]
+pub struct TubeName {
+    bytes: [u8; LONGEST_NAME],
+    len: u8,
+}
+
+impl Model for TubeName {
+    ghost use Rattle.std.specs.Prelude.{List, ℕ, ◌≡◌, ◌≤◌, take, length, IsTrue};
+    ghost use Rattle.bq_job.specs.TubeName.{is_tube_name, filled_up};
+    ghost use Rattle.bq_job.specs.NameLaws.{name_given_back};
+
+    ghost Value = { List ℕ };
+
+    ghost view = { λ n. take n.len n.bytes };
+
+    // What lies behind the name is 0, so that the bytes give the array back.
+    ghost invariant = { λ n. (n.len ≤ 200) × IsTrue (is_tube_name (take n.len n.bytes)) × (n.bytes ≡ filled_up (take n.len n.bytes)) };
+
+    ghost inverse = { λ bytes. record { bytes = filled_up bytes; len = length bytes } };
+
+    ghost inverse_ok = { λ n h. name_given_back n h.0 h.2 };
+}
+
+impl TubeName {
+    /// The name of these bytes, if they are one.
+    pub fn new(bytes: &[u8]) -> Option<TubeName>
+        ensures lawful { IsSome result ↔ IsTrue (is_tube_name bytes.now) }
+        ensures bytes { IfSome result (λ name. name ≡ bytes.now) }
+    {
+        if !is_name(bytes) {
+            return None;
+        }
+        let mut copy = [0; LONGEST_NAME];
+        copy[..bytes.len()].copy_from_slice(bytes);
+        Some(TubeName {
+            bytes: copy,
+            len: bytes.len() as u8,
+        })
+    }
+
+    pub fn as_slice(&self) -> &[u8]
+        ensures bytes { result.now ≡ self.now }
+        ensures lawful { IsTrue (is_tube_name result.now) }
+    {
+        &self.bytes[..self.len as usize]
+    }
+}
+
+// Whether a byte may stand in a tube's name.
+fn is_name_byte(b: u8) -> bool
+    ensures { result ≡ name_byte b }
+{
+    b.is_ascii_alphanumeric()
+        || matches!(
+            b,
+            b'-' | b'+' | b'/' | b';' | b'.' | b'$' | b'_' | b'(' | b')'
+        )
+}
+
+// Whether the bytes are a tube's name.
+fn is_name(bytes: &[u8]) -> bool
+    ensures { result ≡ is_tube_name bytes.now }
+{
+    match bytes.first() {
+        None | Some(b'-') => false,
+        _ => bytes.len() <= LONGEST_NAME && bytes.iter().all(|b| is_name_byte(*b)),
+    }
+}
+
+impl PartialEq for TubeName {
+    ghost use Rattle.std.specs.Cmp as Cmp;
+    ghost use Rattle.std.specs.Cmp.Lexicographic.{nat_list_eq_equiv};
+
+    ghost eq = { is_same_name };
+
+    ghost laws = { Cmp.partial_equiv_from_equiv nat_list_eq_equiv };
+
+    fn eq(&self, other: &TubeName) -> bool {
+        self.as_slice() == other.as_slice()
+    }
+}
+
+impl Eq for TubeName {
+    ghost use Rattle.std.specs.Cmp.Lexicographic.{nat_list_eq_equiv};
+
+    ghost laws = { nat_list_eq_equiv };
+}
