@@ -1,3 +1,10 @@
+pub mod Changes
 pub mod Codes
+pub mod Dispatch
+pub mod Limits
+pub mod Machine
 pub mod NameLaws
+pub mod Timers
 pub mod TubeName
+pub mod Tubes
+pub mod Waits
