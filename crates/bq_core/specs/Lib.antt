@@ -1,0 +1,4 @@
+pub mod Codes
+pub mod JobChanges
+pub mod Outbox
+pub mod Places
