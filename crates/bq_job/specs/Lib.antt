@@ -1,3 +1,10 @@
 pub mod Codes
+pub mod CommandWords
+pub mod ComputedReading
+pub mod Line
+pub mod LineRead
 pub mod NameLaws
+pub mod Reading
+pub mod SameRequests
 pub mod TubeName
+pub mod Words

@@ -7,6 +7,7 @@
 
 pub use answer::Answer;
 pub use body::Body;
+pub use command::Command;
 pub use fault::NoMemory;
 pub use job::{Counts, Job, JobState};
 pub use line_end::{LineEnd, LineFault};
@@ -18,8 +19,10 @@ pub use tube_name::TubeName;
 
 mod answer;
 mod body;
+mod command;
 mod fault;
 mod job;
+pub mod laws_of_reading;
 mod line_end;
 mod refusal;
 mod request;
