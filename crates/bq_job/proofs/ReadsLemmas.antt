@@ -1,7 +1,7 @@
 -- Every text has one reading.
 use Rattle.std.proofs.Common.{◌≡◌, ℕ, zero, suc, ◌≤◌, ◌<◌, Bool, true, false, List, [], ◌∷◌, ◌++◌, Option, Some, None, ◌⊎◌, inl, inr, refl, sym, ap, ◌∙◌, arith, length, length-append, append_assoc, append-nil, IsTrue, rules, not, ◌&&◌}
 use Rattle.std.proofs.lemmas.Grind.{common_steps}
-use Rattle.bq_job.specs.CommandWords.{Profile}
+use Rattle.bq_job.specs.Profile.{Profile}
 use Rattle.bq_job.specs.Reading.{Reads, AreUnits, IsUnit, BeginsNoUnit, is_quit, quits_last, ends_by_quit}
 use Rattle.bq_job.specs.ComputedReading.{reading, reading_within, first_unit, onto_reading}
 use Rattle.bq_job.specs.SameRequests.{AreSameRequests, IsSameRequest, had_memory}

@@ -4,7 +4,7 @@ use Rattle.std.proofs.lemmas.Bool.Decides.{nat_tests}
 use Rattle.std.proofs.lemmas.Grind.{common_steps}
 use Rattle.bq_job.specs.TubeName.{is_same_name}
 use Rattle.bq_job.specs.Line.{first_line, line_end}
-use Rattle.bq_job.specs.CommandWords.{Profile}
+use Rattle.bq_job.specs.Profile.{Profile}
 use Rattle.bq_job.specs.LineRead.{LineRead, Whole, PutWaits, PutLine, read_line}
 use Rattle.bq_job.specs.Reading.{IsUnit, IsUnitAfter, IsPutRequest, put_with_body, BeginsNoUnit}
 use Rattle.bq_job.specs.ComputedReading.{first_unit, unit_after, unit_of_line, put_request}
@@ -80,17 +80,17 @@ pub first_unit-append : (p : Profile) (first more : List ℕ) (r : Request) → 
     → (q : Request) × (first_unit p (first ++ more) ≡ Some (q, more)) × IsComputed r q
 first_unit-append p first more r h = go (first_line first) refl h
   where
-    go : (o : Option (List ℕ × List ℕ)) → first_line first ≡ o → MatchOption o ⊥ (λ l. IsUnitAfter p (read_line p l.0) l.1 r)
+    go : (o : Option (List ℕ × List ℕ)) → first_line first ≡ o → MatchOption o ⊥ (λ l. IsUnitAfter p (read_line p.known l.0) l.1 r)
         → (q : Request) × (first_unit p (first ++ more) ≡ Some (q, more)) × IsComputed r q
     go None e h = absurd h
-    go (Some l) e h = rw (first_line-append first more l e) (unit_after-append p (read_line p l.0) l.1 more r h)
+    go (Some l) e h = rw (first_line-append first more l e) (unit_after-append p (read_line p.known l.0) l.1 more r h)
 
 -- the first unit of a text is a unit, and not empty
 pub first_unit-unit : (p : Profile) (text rest : List ℕ) (r : Request) → first_unit p text ≡ Some (r, rest)
     → (first : List ℕ) × (text ≡ first ++ rest) × IsUnit p first r × (0 < length first)
 first_unit-unit p text rest r e = go (first_line text) refl e
   where
-    from_line : (l : List ℕ × List ℕ) (taken : List ℕ) → first_line text ≡ Some l → l.1 ≡ taken ++ rest → IsUnitAfter p (read_line p l.0) taken r
+    from_line : (l : List ℕ × List ℕ) (taken : List ℕ) → first_line text ≡ Some l → l.1 ≡ taken ++ rest → IsUnitAfter p (read_line p.known l.0) taken r
         → (first : List ℕ) × (text ≡ first ++ rest) × IsUnit p first r × (0 < length first)
     from_line l taken is more unit =
         let whole : text ≡ (l.0 ++ 13 ∷ 10 ∷ taken) ++ rest = rw (first_line_is text l is, more) (sym (append_assoc l.0 (13 ∷ 10 ∷ taken) rest)) in
@@ -101,7 +101,7 @@ first_unit-unit p text rest r e = go (first_line text) refl e
         → (first : List ℕ) × (text ≡ first ++ rest) × IsUnit p first r × (0 < length first)
     go None is e = cc
     go (Some l) is e =
-        let taken : (taken : List ℕ) × (l.1 ≡ taken ++ rest) × IsUnitAfter p (read_line p l.0) taken r = unit_after-unit p (read_line p l.0) l.1 rest r e in
+        let taken : (taken : List ℕ) × (l.1 ≡ taken ++ rest) × IsUnitAfter p (read_line p.known l.0) taken r = unit_after-unit p (read_line p.known l.0) l.1 rest r e in
         from_line l taken.0 is taken.1 taken.2
 
 pub no_first_unit : (p : Profile) (text : List ℕ) → first_unit p text ≡ None → BeginsNoUnit p text

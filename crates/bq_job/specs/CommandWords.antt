@@ -1,9 +1,35 @@
 -- The words of the commands.
-use Rattle.std.specs.Prelude.{ℕ, ◌≡◌, List, [], ◌∷◌, Option, None, codes, find, map, if◌then◌else◌}
+use Rattle.std.specs.Prelude.{ℕ, List, [], ◌∷◌, Option, None, codes, find, map, if◌then◌else◌}
 use Rattle.std.specs.List.{list_any}
 use Rattle.bq_job.specs.TubeName.{is_same_name}
-use Rattle.bq_job.specs.declared.command.Command.{Command}
-use Rattle.bq_job.specs.declared.command.Command.TheVariants.{Put, Reserve, ReserveWithTimeout, ReserveJob, Delete, Release, Bury, Touch, Kick, KickJob, Use, ListTubeUsed, Watch, Ignore, Peek, PeekReady, PeekDelayed, PeekBuried, PauseTube, StatsJob, StatsTube, Stats, ListTubes, ListTubesWatched, Quit}
+
+-- the commands of a client
+pub data Command : Type 0 where
+  Put : Command
+  Reserve : Command
+  ReserveWithTimeout : Command
+  ReserveJob : Command
+  Delete : Command
+  Release : Command
+  Bury : Command
+  Touch : Command
+  Kick : Command
+  KickJob : Command
+  Use : Command
+  ListTubeUsed : Command
+  Watch : Command
+  Ignore : Command
+  Peek : Command
+  PeekReady : Command
+  PeekDelayed : Command
+  PeekBuried : Command
+  PauseTube : Command
+  StatsJob : Command
+  StatsTube : Command
+  Stats : Command
+  ListTubes : Command
+  ListTubesWatched : Command
+  Quit : Command
 
 abbrev pub word_of : Command → List ℕ
 word_of Put = codes "put"
@@ -38,16 +64,7 @@ all_commands = Put ∷ Reserve ∷ ReserveWithTimeout ∷ ReserveJob ∷ Delete 
 abbrev pub all_words : List (List ℕ)
 all_words = map word_of all_commands
 
--- What a reading of a text depends on: the most bytes that a job may have, and the words of the
--- commands that are known.
-pub record Profile : Type 0 where
-  pub max_job_size : ℕ
-  pub known : List (List ℕ)
-
-abbrev pub profile : ℕ → List (List ℕ) → Profile
-profile max_job_size known = record { max_job_size = max_job_size; known = known }
-
--- the command that a word names, if it is a known one. Upper and lower case are different.
-abbrev pub command_named : Profile → List ℕ → Option Command
-command_named p word =
-    if list_any (is_same_name word) p.known then find (λ c. is_same_name word (word_of c)) all_commands else None
+-- the command that a word names, if the word is among the known ones. Upper and lower case are different.
+abbrev pub command_named : List (List ℕ) → List ℕ → Option Command
+command_named known word =
+    if list_any (is_same_name word) known then find (λ c. is_same_name word (word_of c)) all_commands else None

@@ -1,7 +1,7 @@
 -- The reading of a text with ample memory, computed.
 use Rattle.std.specs.Prelude.{ℕ, zero, suc, ◌+◌, Bool, true, false, nat_lt, nat_le, List, [], ◌∷◌, length, take, drop, Option, Some, None, if◌then◌else◌}
 use Rattle.bq_job.specs.Line.{first_line}
-use Rattle.bq_job.specs.CommandWords.{Profile}
+use Rattle.bq_job.specs.Profile.{Profile}
 use Rattle.bq_job.specs.LineRead.{LineRead, Whole, PutWaits, PutLine, read_line}
 use Rattle.bq_job.specs.Reading.{put_with_body, is_quit}
 use Rattle.bq_job.specs.declared.request.Request.{Request}
@@ -22,7 +22,7 @@ unit_after p (PutWaits put) after =
 
 abbrev pub unit_of_line : Profile → Option (List ℕ × List ℕ) → Option (Request × List ℕ)
 unit_of_line p None = None
-unit_of_line p (Some (line, after)) = unit_after p (read_line p line) after
+unit_of_line p (Some (line, after)) = unit_after p (read_line p.known line) after
 
 -- the first request of a text, and what is left after its bytes
 abbrev pub first_unit : Profile → List ℕ → Option (Request × List ℕ)

@@ -1,9 +1,11 @@
+pub mod BodySoFar
 pub mod Codes
 pub mod CommandWords
 pub mod ComputedReading
 pub mod Line
 pub mod LineRead
 pub mod NameLaws
+pub mod Profile
 pub mod Reading
 pub mod SameRequests
 pub mod TubeName

@@ -1,9 +1,7 @@
 -- What a line asks for.
 use Rattle.std.specs.Prelude.{ℕ, ◌<◌, nat_lt, Bool, List, [], ◌∷◌, Option, Some, None, length, option_map, unwrap_or, if◌then◌else◌}
 use Rattle.bq_job.specs.Words.{words, number, job_id, tube_name}
-use Rattle.bq_job.specs.CommandWords.{Profile, command_named}
-use Rattle.bq_job.specs.declared.command.Command.{Command}
-use Rattle.bq_job.specs.declared.command.Command.TheVariants as commands
+use Rattle.bq_job.specs.CommandWords.{Command, command_named}
 use Rattle.bq_job.specs.declared.request.Request.{Request}
 use Rattle.bq_job.specs.declared.request.Request.TheVariants as requests
 use Rattle.bq_job.specs.declared.refusal.Refusal.TheVariants.{UnknownCommand, BadFormat}
@@ -58,31 +56,31 @@ put_words (pri ∷ delay ∷ ttr ∷ bytes ∷ []) = put_of (number pri) (number
 put_words _ = None
 
 abbrev pub read_words : Command → List (List ℕ) → Option LineRead
-read_words commands.Put = put_words
-read_words commands.Reserve = no_words requests.Reserve
-read_words commands.ReserveWithTimeout = one_word number requests.ReserveWithTimeout
-read_words commands.ReserveJob = one_word job_id requests.ReserveJob
-read_words commands.Delete = one_word job_id requests.Delete
-read_words commands.Release = release_words
-read_words commands.Bury = two_words job_id number requests.Bury
-read_words commands.Touch = one_word job_id requests.Touch
-read_words commands.Kick = one_word number requests.Kick
-read_words commands.KickJob = one_word job_id requests.KickJob
-read_words commands.Use = one_word tube_name requests.Use
-read_words commands.ListTubeUsed = no_words requests.ListTubeUsed
-read_words commands.Watch = one_word tube_name requests.Watch
-read_words commands.Ignore = one_word tube_name requests.Ignore
-read_words commands.Peek = one_word job_id requests.Peek
-read_words commands.PeekReady = no_words requests.PeekReady
-read_words commands.PeekDelayed = no_words requests.PeekDelayed
-read_words commands.PeekBuried = no_words requests.PeekBuried
-read_words commands.PauseTube = two_words tube_name number requests.PauseTube
-read_words commands.StatsJob = one_word job_id requests.StatsJob
-read_words commands.StatsTube = one_word tube_name requests.StatsTube
-read_words commands.Stats = no_words requests.Stats
-read_words commands.ListTubes = no_words requests.ListTubes
-read_words commands.ListTubesWatched = no_words requests.ListTubesWatched
-read_words commands.Quit = no_words requests.Quit
+read_words Command.Put = put_words
+read_words Command.Reserve = no_words requests.Reserve
+read_words Command.ReserveWithTimeout = one_word number requests.ReserveWithTimeout
+read_words Command.ReserveJob = one_word job_id requests.ReserveJob
+read_words Command.Delete = one_word job_id requests.Delete
+read_words Command.Release = release_words
+read_words Command.Bury = two_words job_id number requests.Bury
+read_words Command.Touch = one_word job_id requests.Touch
+read_words Command.Kick = one_word number requests.Kick
+read_words Command.KickJob = one_word job_id requests.KickJob
+read_words Command.Use = one_word tube_name requests.Use
+read_words Command.ListTubeUsed = no_words requests.ListTubeUsed
+read_words Command.Watch = one_word tube_name requests.Watch
+read_words Command.Ignore = one_word tube_name requests.Ignore
+read_words Command.Peek = one_word job_id requests.Peek
+read_words Command.PeekReady = no_words requests.PeekReady
+read_words Command.PeekDelayed = no_words requests.PeekDelayed
+read_words Command.PeekBuried = no_words requests.PeekBuried
+read_words Command.PauseTube = two_words tube_name number requests.PauseTube
+read_words Command.StatsJob = one_word job_id requests.StatsJob
+read_words Command.StatsTube = one_word tube_name requests.StatsTube
+read_words Command.Stats = no_words requests.Stats
+read_words Command.ListTubes = no_words requests.ListTubes
+read_words Command.ListTubesWatched = no_words requests.ListTubesWatched
+read_words Command.Quit = no_words requests.Quit
 
 abbrev pub bad_format : LineRead
 bad_format = Whole (requests.Refused BadFormat)
@@ -95,16 +93,17 @@ abbrev pub read_command : Option Command → List (List ℕ) → LineRead
 read_command None more = unknown_command
 read_command (Some command) more = unwrap_or (read_words command more) bad_format
 
-abbrev pub read_line_words : Profile → List (List ℕ) → LineRead
-read_line_words p [] = unknown_command
-read_line_words p (first ∷ more) = read_command (command_named p first) more
+abbrev pub read_line_words : List (List ℕ) → List (List ℕ) → LineRead
+read_line_words known [] = unknown_command
+read_line_words known (first ∷ more) = read_command (command_named known first) more
 
 -- how many bytes a line has at most, without its CR LF
 abbrev pub longest_line : ℕ
 longest_line = 222
 
--- What a line asks for. A line that is too long is BAD_FORMAT, whatever it holds.
-abbrev pub read_line : Profile → List ℕ → LineRead
-read_line p line =
-    let read = read_line_words p (words line) in
+-- What a line asks for where these words are known. A line that is too long is BAD_FORMAT, whatever it
+-- holds.
+abbrev pub read_line : List (List ℕ) → List ℕ → LineRead
+read_line known line =
+    let read = read_line_words known (words line) in
     if nat_lt longest_line (length line) then bad_format else read

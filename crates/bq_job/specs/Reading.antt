@@ -2,7 +2,7 @@
 use Rattle.std.specs.Prelude.{ℕ, ◌≡◌, ◌+◌, ◌⊎◌, Bool, true, false, ◌&&◌, ◌||◌, not, nat_lt, IsTrue, MatchBool, MatchOption, List, [], ◌∷◌, ◌++◌, length, take, drop, Option, Some, None, if◌then◌else◌}
 use Rattle.bq_job.specs.TubeName.{is_same_name}
 use Rattle.bq_job.specs.Line.{first_line, line_end}
-use Rattle.bq_job.specs.CommandWords.{Profile}
+use Rattle.bq_job.specs.Profile.{Profile}
 use Rattle.bq_job.specs.LineRead.{LineRead, Whole, PutWaits, PutLine, read_line}
 use Rattle.bq_job.specs.declared.request.Request.{Request}
 use Rattle.bq_job.specs.declared.request.Request.TheVariants.{Put, Quit, Refused}
@@ -31,7 +31,7 @@ IsUnitAfter p (PutWaits put) after request = (length after ≡ put.bytes + 2) ×
 
 -- the bytes are one whole request, this one
 abbrev pub IsUnit : Profile → List ℕ → Request → Type 0
-IsUnit p bytes request = MatchOption (first_line bytes) ⊥ (λ l. IsUnitAfter p (read_line p l.0) l.1 request)
+IsUnit p bytes request = MatchOption (first_line bytes) ⊥ (λ l. IsUnitAfter p (read_line p.known l.0) l.1 request)
 
 -- the bytes are whole requests, these, one after another
 abbrev pub AreUnits : Profile → List ℕ → List Request → Type 0

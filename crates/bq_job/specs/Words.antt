@@ -1,5 +1,5 @@
 -- The words of a line, and the numbers and names that they can be.
-use Rattle.std.specs.Prelude.{ℕ, zero, Bool, false, ◌&&◌, ◌==◌, nat_le, nat_lt, not, ◌+◌, ◌*◌, ◌-◌, ◌^◌, List, [], ◌∷◌, Option, Some, None, fold, if◌then◌else◌}
+use Rattle.std.specs.Prelude.{ℕ, Bool, ◌&&◌, ◌==◌, nat_le, nat_lt, ◌+◌, ◌*◌, ◌-◌, ◌^◌, List, Option, Some, None, fold, length, if◌then◌else◌}
 use Rattle.std.specs.List.{list_all, slice_split}
 use Rattle.bq_job.specs.TubeName.{is_tube_name}
 
@@ -12,8 +12,7 @@ is_digit b = nat_le 48 b && nat_le b 57
 
 -- one digit or more; leading zeros are allowed
 abbrev pub are_digits : List ℕ → Bool
-are_digits [] = false
-are_digits (b ∷ bytes) = is_digit b && list_all is_digit bytes
+are_digits word = nat_le 1 (length word) && list_all is_digit word
 
 abbrev pub with_digit : ℕ → ℕ → ℕ
 with_digit n b = n * 10 + (b - 48)

@@ -1,6 +1,6 @@
 //! What holds of every reading of a text into requests.
 ghost use Rattle.std.specs.Prelude.{◌≡◌, ℕ, List};
-ghost use Rattle.bq_job.specs.CommandWords.{Profile};
+ghost use Rattle.bq_job.specs.Profile.{Profile};
 ghost use Rattle.bq_job.specs.ComputedReading.{reading};
 ghost use Rattle.bq_job.specs.Reading.{Reads};
 ghost use Rattle.bq_job.specs.SameRequests.{AreSameRequests};

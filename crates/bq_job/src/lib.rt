@@ -6,8 +6,7 @@
 #![tactic(auto)]
 
 pub use answer::Answer;
-pub use body::Body;
-pub use command::Command;
+pub use body::{Body, BodyBuilder};
 pub use fault::NoMemory;
 pub use job::{Counts, Job, JobState};
 pub use line_end::{LineEnd, LineFault};
@@ -19,7 +18,6 @@ pub use tube_name::TubeName;
 
 mod answer;
 mod body;
-mod command;
 mod fault;
 mod job;
 pub mod laws_of_reading;
