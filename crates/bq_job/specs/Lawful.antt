@@ -1,0 +1,40 @@
+-- What holds of the machine after every step.
+use Rattle.std.specs.Prelude.{ℕ, suc, Bool, true, false, ◌≡◌, ◌≤◌, ◌&&◌, ◌||◌, not, Option, Some, None, List, [], ◌∷◌, map, IsTrue}
+use Rattle.std.specs.List.{list_all, list_any}
+use Rattle.bq_job.specs.declared.job.Job.{Job}
+use Rattle.bq_job.specs.declared.job.JobState.{JobState}
+use Rattle.bq_job.specs.declared.job.JobState.TheVariants as states
+use Rattle.bq_job.specs.Changes.{is_held_by, is_waiting}
+use Rattle.bq_job.specs.Dispatch.{next_job}
+use Rattle.bq_job.specs.JobCommands.{last_id}
+use Rattle.bq_job.specs.JobStates.{is_reserved}
+use Rattle.bq_job.specs.Machine.{Machine, SeatRecord, numbers}
+use Rattle.bq_job.specs.Tubes.{is_tube}
+use Rattle.bq_job.specs.Waits.{next_end}
+
+-- The ids grow strictly along the list, are at least low and below next.
+abbrev pub AreIdsWithin : ℕ → List Job → ℕ → Type 0
+AreIdsWithin low [] next = low ≤ next
+AreIdsWithin low (j ∷ jobs) next = (low ≤ j.id) × AreIdsWithin (suc j.id) jobs next
+
+-- Who holds the job is connected.
+abbrev pub has_open_holder : Machine → Job → Bool
+has_open_holder m j = not (is_reserved j.state) || list_any (λ s. s.connected && is_held_by s.number j) m.seats
+
+pub record IsLawful (m : Machine) : Type 0 where
+  -- A job has one id, which no other has or gets.
+  pub ids : AreIdsWithin 1 m.jobs m.next_id
+  -- Before the ids run out the machine drains.
+  pub next : m.draining ≡ false → m.next_id ≤ last_id
+  pub next_fits : m.next_id ≤ suc last_id
+  -- A reserved job is held by one open connection, the one that its state names.
+  pub holders : IsTrue (list_all (has_open_holder m) m.jobs)
+  pub seats : map (λ s. s.number) m.seats ≡ numbers 0 m.settings.seats
+  -- A waiting client is connected,
+  pub waits : IsTrue (list_all (λ s. not (is_waiting s) || s.connected) m.seats)
+  -- there is no job that a waiting client may have,
+  pub dispatched : next_job m ≡ None
+  -- and no wait would end now.
+  pub wait_ends : next_end m ≡ None
+  -- Nothing is kept of tubes that are gone.
+  pub tubes : IsTrue (list_all (λ t. is_tube t.name m) m.tubes)
