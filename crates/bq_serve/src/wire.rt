@@ -1,0 +1,4 @@
+//! The texts of the protocol: requests out of bytes.
+
+mod numbers;
+mod words;
