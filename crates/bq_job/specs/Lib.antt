@@ -1,4 +1,5 @@
 pub mod Acts
+pub mod AnswerRows
 pub mod AnswerText
 pub mod Asked
 pub mod Changes
@@ -15,8 +16,11 @@ pub mod Runs
 pub mod Statistics
 pub mod StatisticsCommands
 pub mod Steps
+pub mod TextRows
 pub mod Timers
 pub mod TubeCommands
 pub mod TubeName
+pub mod TubeOrder
 pub mod Tubes
 pub mod Waits
+pub mod Yaml

@@ -20,6 +20,7 @@ mod answer;
 mod body;
 mod fault;
 mod job;
+mod laws_of_texts;
 mod line_end;
 mod refusal;
 mod request;
