@@ -1,22 +1,19 @@
 -- The text of an answer: its head, its body and its tail, one after another.
-use Rattle.std.specs.Prelude.{ℕ, List, [], ◌∷◌, ◌++◌, length, codes, decimal}
+use Rattle.std.specs.Prelude.{ℕ, List, [], ◌++◌, length, codes, decimal}
 use Rattle.bq_job.specs.declared.answer.Answer.{Answer}
 use Rattle.bq_job.specs.declared.answer.Answer.TheVariants as answers
-
--- the end of a line
-abbrev pub crlf : List ℕ
-crlf = codes "\r\n"
+use Rattle.bq_job.specs.Line.{line_end}
 
 -- The first line, with its end. It tells how many bytes the body has, where there is one.
 -- A closed connection has no bytes at all.
 abbrev pub answer_head : Answer → List ℕ
-answer_head (answers.Inserted id) = codes "INSERTED " ++ decimal id ++ crlf
-answer_head (answers.Reserved id body) = codes "RESERVED " ++ decimal id ++ codes " " ++ decimal (length body) ++ crlf
-answer_head (answers.Found id body) = codes "FOUND " ++ decimal id ++ codes " " ++ decimal (length body) ++ crlf
-answer_head (answers.Ok text) = codes "OK " ++ decimal (length text) ++ crlf
-answer_head (answers.Using tube) = codes "USING " ++ tube ++ crlf
-answer_head (answers.Watching count) = codes "WATCHING " ++ decimal count ++ crlf
-answer_head (answers.KickedCount count) = codes "KICKED " ++ decimal count ++ crlf
+answer_head (answers.Inserted id) = codes "INSERTED " ++ decimal id ++ line_end
+answer_head (answers.Reserved id body) = codes "RESERVED " ++ decimal id ++ codes " " ++ decimal (length body) ++ line_end
+answer_head (answers.Found id body) = codes "FOUND " ++ decimal id ++ codes " " ++ decimal (length body) ++ line_end
+answer_head (answers.Ok text) = codes "OK " ++ decimal (length text) ++ line_end
+answer_head (answers.Using tube) = codes "USING " ++ tube ++ line_end
+answer_head (answers.Watching count) = codes "WATCHING " ++ decimal count ++ line_end
+answer_head (answers.KickedCount count) = codes "KICKED " ++ decimal count ++ line_end
 answer_head answers.Kicked = codes "KICKED\r\n"
 answer_head answers.Deleted = codes "DELETED\r\n"
 answer_head answers.Released = codes "RELEASED\r\n"
@@ -44,9 +41,9 @@ answer_body _ = []
 
 -- A body, also an empty one, is followed by the end of a line.
 abbrev pub answer_tail : Answer → List ℕ
-answer_tail (answers.Reserved id body) = crlf
-answer_tail (answers.Found id body) = crlf
-answer_tail (answers.Ok text) = crlf
+answer_tail (answers.Reserved id body) = line_end
+answer_tail (answers.Found id body) = line_end
+answer_tail (answers.Ok text) = line_end
 answer_tail _ = []
 
 abbrev pub answer_text : Answer → List ℕ

@@ -6,7 +6,7 @@
 #![tactic(auto)]
 
 pub use answer::Answer;
-pub use body::Body;
+pub use body::{Body, BodyBuilder};
 pub use fault::NoMemory;
 pub use job::{Counts, Job, JobState};
 pub use line_end::{LineEnd, LineFault};
@@ -20,6 +20,7 @@ mod answer;
 mod body;
 mod fault;
 mod job;
+pub mod laws_of_reading;
 mod laws_of_texts;
 mod line_end;
 mod refusal;

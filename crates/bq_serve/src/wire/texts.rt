@@ -1,5 +1,6 @@
 ghost use Rattle.std.specs.Prelude.{◌≡◌, ◌+◌, ◌≤◌, [], ◌++◌, length, codes, decimal};
 ghost use Rattle.bq_job.specs.AnswerText as spec;
+ghost use Rattle.bq_job.specs.Line.{line_end};
 
 use bq_job::Answer;
 use itoa::Buffer;
@@ -70,7 +71,7 @@ impl HeadBuf {
 // A word, a number and the end of the line.
 fn number_head(head: &mut HeadBuf, word: &[u8], n: u64)
     requires { length word.now ≤ 16 }
-    ensures { head.new ≡ word.now ++ decimal n ++ spec.crlf }
+    ensures { head.new ≡ word.now ++ decimal n ++ line_end }
 {
     head.clear();
     head.push(word);
@@ -81,7 +82,7 @@ fn number_head(head: &mut HeadBuf, word: &[u8], n: u64)
 // A word, the id of a job, how many bytes its body has, and the end of the line.
 fn job_head(head: &mut HeadBuf, word: &[u8], id: u64, size: usize)
     requires { length word.now ≤ 16 }
-    ensures { head.new ≡ word.now ++ decimal id ++ codes " " ++ decimal size ++ spec.crlf }
+    ensures { head.new ≡ word.now ++ decimal id ++ codes " " ++ decimal size ++ line_end }
 {
     head.clear();
     head.push(word);
@@ -102,7 +103,7 @@ fn word_head(head: &mut HeadBuf, line: &[u8])
 
 fn using_head(head: &mut HeadBuf, tube: &[u8])
     requires { length tube.now ≤ 200 }
-    ensures { head.new ≡ codes "USING " ++ tube.now ++ spec.crlf }
+    ensures { head.new ≡ codes "USING " ++ tube.now ++ line_end }
 {
     head.clear();
     head.push(b"USING ");
