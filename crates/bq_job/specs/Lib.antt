@@ -1,4 +1,5 @@
 pub mod Acts
+pub mod AnswerRows
 pub mod AnswerText
 pub mod Asked
 pub mod BodySoFar
@@ -23,9 +24,21 @@ pub mod SameRequests
 pub mod Statistics
 pub mod StatisticsCommands
 pub mod Steps
+<<<<<<< HEAD
 pub mod Timers
 pub mod TubeCommands
 pub mod TubeName
 pub mod Tubes
 pub mod Waits
 pub mod Words
+=======
+pub mod TextRows
+pub mod Timers
+pub mod TubeCommands
+pub mod TubeName
+pub mod TubeOrder
+pub mod Tubes
+pub mod Waits
+pub mod Words
+pub mod Yaml
+>>>>>>> a6c08d0be2d3140d7791a2feb069d55809f58084

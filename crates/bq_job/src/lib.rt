@@ -21,6 +21,7 @@ mod body;
 mod fault;
 mod job;
 pub mod laws_of_reading;
+mod laws_of_texts;
 mod line_end;
 mod refusal;
 mod request;
