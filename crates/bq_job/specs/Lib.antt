@@ -5,6 +5,7 @@ pub mod Changes
 pub mod Codes
 pub mod Computed
 pub mod Dispatch
+pub mod Examples
 pub mod JobCommands
 pub mod JobStates
 pub mod Lawful

@@ -23,6 +23,8 @@ mod job;
 mod line_end;
 mod refusal;
 mod request;
+#[cfg(test)]
+mod rows_of_machine;
 mod step;
 mod text;
 mod tube_name;
