@@ -1,3 +1,4 @@
+pub mod ChoiceLemmas
 pub mod LineLemmas
-pub mod UnitLemmas
 pub mod ReadsLemmas
+pub mod UnitLemmas

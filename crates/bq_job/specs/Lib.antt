@@ -9,6 +9,7 @@ pub mod CommandWords
 pub mod Computed
 pub mod ComputedReading
 pub mod Dispatch
+pub mod Examples
 pub mod JobCommands
 pub mod JobStates
 pub mod Lawful
@@ -24,14 +25,6 @@ pub mod SameRequests
 pub mod Statistics
 pub mod StatisticsCommands
 pub mod Steps
-<<<<<<< HEAD
-pub mod Timers
-pub mod TubeCommands
-pub mod TubeName
-pub mod Tubes
-pub mod Waits
-pub mod Words
-=======
 pub mod TextRows
 pub mod Timers
 pub mod TubeCommands
@@ -41,4 +34,3 @@ pub mod Tubes
 pub mod Waits
 pub mod Words
 pub mod Yaml
->>>>>>> a6c08d0be2d3140d7791a2feb069d55809f58084

@@ -25,6 +25,8 @@ mod laws_of_texts;
 mod line_end;
 mod refusal;
 mod request;
+#[cfg(test)]
+mod rows_of_machine;
 mod step;
 mod text;
 mod tube_name;
