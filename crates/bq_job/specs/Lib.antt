@@ -34,3 +34,5 @@ pub mod Tubes
 pub mod Waits
 pub mod Words
 pub mod Yaml
+pub mod LineSteps
+pub mod History
