@@ -1,10 +1,10 @@
 -- What loops over lists keep from turn to turn.
-use Rattle.std.proofs.Common.{◌≡◌, ℕ, zero, suc, ◌+◌, ◌<◌, Bool, List, [], ◌∷◌, ◌++◌, Option, length, get_or, set, take, drop, map, refl, sym, ap, ◌∙◌, slice_get, arith, add-one}
+use Rattle.std.proofs.Common.{◌≡◌, ℕ, zero, suc, ◌+◌, ◌<◌, Bool, List, [], ◌∷◌, ◌++◌, Option, length, get_or, set, take, drop, map, refl, sym, ap, ◌∙◌, slice_get, cond, ◌&&◌, None, Some, arith, add-one}
 use Rattle.std.proofs.lemmas.List.{length-append, length-map, length-take, length-drop}
 use Rattle.std.proofs.lemmas.List.Sums.{fold_more}
-use Rattle.std.proofs.lemmas.Option.{slice_get-get_or}
+use Rattle.std.proofs.lemmas.Option.{slice_get-get_or, slice_get_read}
 use Rattle.bq_job.specs.Changes.{better_of, first_of}
-use Rattle.bq_core.specs.Places.{better_at, better_with}
+use Rattle.bq_core.specs.Places.{better_at, better_if, better_with}
 
 -- the first i elements changed by f, and the others as they were
 abbrev pub changed_before : {A : Type 0} → (A → A) → ℕ → List A → List A
@@ -45,3 +45,16 @@ first_of_more passes before (x ∷ xs) i best fits so_far =
     ap (better_with passes before best) (slice_get-get_or (x ∷ xs) i x fits)
     ∙ ap (λ b. better_of passes before b (get_or (x ∷ xs) i x)) so_far
     ∙ sym (fold_more (better_of passes before) _ (x ∷ xs) i x fits)
+
+-- the same, where it was found out first whether the element passes
+pub first_of_more_if : {A : Type 0} (passes : A → Bool) (before : A → A → Bool) (xs : List A) (i : ℕ) (x : A) (best : Option A) (b : Bool) → i < length xs → x ≡ get_or xs i x → b ≡ passes x → best ≡ first_of passes before (take i xs) → better_if b before xs best i ≡ first_of passes before (take (i + 1) xs)
+first_of_more_if {A = A} passes before xs i x best b fits read found so_far =
+    let here = slice_get_read xs (length xs) i x refl fits read in
+    ap (better_with (λ _. b) before best) here
+    ∙ same best
+    ∙ ap (better_with passes before best) (sym here)
+    ∙ first_of_more passes before xs i best fits so_far
+  where
+    same : (best : Option A) → better_of (λ _. b) before best x ≡ better_of passes before best x
+    same None = ap (λ t. cond t (Some x) None) found
+    same (Some y) = ap (λ t. cond (t && before x y) (Some x) (Some y)) found

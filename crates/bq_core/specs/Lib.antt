@@ -1,4 +1,9 @@
 pub mod Codes
+pub mod EndingWaits
 pub mod JobChanges
 pub mod Outbox
+pub mod HandOuts
 pub mod Places
+pub mod SeatChanges
+pub mod State
+pub mod Turns

@@ -13,3 +13,7 @@ better_with passes before best (Some x) = better_of passes before best x
 
 abbrev pub better_at : {A : Type 0} → (A → Bool) → (A → A → Bool) → List A → Option A → ℕ → Option A
 better_at passes before xs best i = better_with passes before best (slice_get xs i)
+
+-- the same, where it is known whether that element passes
+abbrev pub better_if : {A : Type 0} → Bool → (A → A → Bool) → List A → Option A → ℕ → Option A
+better_if passes before xs best i = better_at (λ _. passes) before xs best i

@@ -10,11 +10,11 @@ pub use outs::Outs;
 
 // mod acts;
 mod config;
-// mod dispatch;
+mod dispatch;
 mod job_list;
 // mod machine;
 mod outs;
 mod place;
-// mod seat_list;
-// mod state;
+mod seat_list;
+mod state;
 // mod waits;

@@ -1,0 +1,49 @@
+ghost use Rattle.std.specs.Prelude.{◌≡◌};
+ghost use Rattle.bq_job.specs.Timers.{at_moment, after_timers};
+ghost use Rattle.bq_core.specs.State.{machine_of, IsSound};
+
+use crate::config::Config;
+use crate::job_list;
+use crate::job_list::JobChange;
+use crate::place::Place;
+use bq_job::{Job, JobId, Moment, TubeName};
+use std::alloc::Global;
+
+/// What a core holds. Every job and every client is in the default tube.
+#[derive(Debug, Drop)]
+pub(crate) struct State {
+    pub(crate) config: Config,
+    pub(crate) jobs: Vec<Job, Global>,
+    pub(crate) seats: Vec<Place, Global>,
+    pub(crate) default_tube: TubeName,
+    /// How many jobs were put into the default tube, and deleted from it.
+    pub(crate) tube_puts: u64,
+    pub(crate) tube_deletes: u64,
+    pub(crate) moment: Moment,
+    pub(crate) next_id: JobId,
+    pub(crate) tickets: u64,
+    pub(crate) draining: bool,
+    pub(crate) timeouts: u64,
+    pub(crate) puts: u64,
+    pub(crate) connections: u64,
+}
+
+/// A moment below the last one counts as that one.
+pub(crate) fn raise_moment(state: &mut State, at: Moment)
+    requires { IsSound state.old }
+    ensures after { machine_of state.new ≡ at_moment at (machine_of state.old) }
+    ensures sound { IsSound state.new }
+{
+    state.moment = state.moment.max(at);
+}
+
+/// Timers that are due fire.
+pub(crate) fn fire_timers(state: &mut State)
+    requires { IsSound state.old }
+    ensures after { machine_of state.new ≡ after_timers (machine_of state.old) }
+    ensures sound { IsSound state.new }
+{
+    let expired = job_list::expired_count(state.jobs.as_slice(), state.moment);
+    state.timeouts = state.timeouts.saturating_add(expired);
+    job_list::change_all(&mut state.jobs, &JobChange::FireTimers(state.moment));
+}
