@@ -1,3 +1,4 @@
 pub mod ChoiceLemmas
 pub mod ComputedLemmas
+pub mod DispatchLemmas
 pub mod ListLemmas

@@ -9,6 +9,7 @@ pub mod Examples
 pub mod JobCommands
 pub mod JobStates
 pub mod Lawful
+pub mod LeastJob
 pub mod Limits
 pub mod Machine
 pub mod NameLaws

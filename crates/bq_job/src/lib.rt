@@ -9,7 +9,7 @@ pub use answer::Answer;
 pub use body::Body;
 pub use fault::NoMemory;
 pub use job::{Counts, Job, JobState};
-pub use laws_of_machine::computed_is_step;
+pub use laws_of_machine::{computed_is_step, dispatched_is_least};
 pub use line_end::{LineEnd, LineFault};
 pub use refusal::Refusal;
 pub use request::Request;
