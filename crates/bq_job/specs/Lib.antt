@@ -13,6 +13,7 @@ pub mod Examples
 pub mod JobCommands
 pub mod JobStates
 pub mod Lawful
+pub mod LeastJob
 pub mod Limits
 pub mod Line
 pub mod LineRead
