@@ -1,6 +1,6 @@
 -- Where everything is in the default tube, the least ready job is the next one, and goes to the client
 -- that has waited longest.
-use Rattle.std.proofs.Common.{◌≡◌, ℕ, Bool, true, false, cond, ◌&&◌, ◌||◌, ◌==◌, not, List, [], ◌∷◌, ◌++◌, Option, Some, None, is_some, map, refl, sym, ap, ◌∙◌, if◌then◌else◌, unwrap_or, tt}
+use Rattle.std.proofs.Common.{◌≡◌, ℕ, Bool, true, false, cond, ◌&&◌, ◌||◌, ◌==◌, not, List, [], ◌∷◌, ◌++◌, Option, Some, None, is_some, map, refl, sym, ap, ◌∙◌, if◌then◌else◌, unwrap_or}
 use Rattle.std.specs.List.{AllByRecursion, list_any, find}
 use Rattle.bq_job.specs.declared.job.Job.{Job}
 use Rattle.bq_job.specs.Changes.{first_of, is_ready, is_waiting}
@@ -9,8 +9,17 @@ use Rattle.bq_job.specs.Machine.{Machine, SeatRecord, TubeRecord, default_tube}
 use Rattle.bq_job.specs.Tubes.{fresh_tube, is_paused, watches}
 use Rattle.bq_job.specs.TubeName.{is_same_name}
 use Rattle.bq_job.proofs.ChoiceLemmas.{first_of_agrees, first_of_none_passes}
+use Rattle.bq_job.specs.Changes.{is_held_by}
+use Rattle.bq_job.specs.Timers.{is_due, is_expired}
+use Rattle.bq_core.specs.declared.job_list.JobChange.{JobChange}
+use Rattle.bq_core.specs.declared.job_list.JobChange.TheVariants.{FireTimers, HandOut, GiveBack}
+use Rattle.bq_core.specs.declared.seat_list.SeatChange.{SeatChange}
+use Rattle.bq_core.specs.declared.seat_list.SeatChange.TheVariants.{StopWaiting, Wait, Connect, Clear, End}
 use Rattle.bq_core.specs.declared.state.State.{State}
-use Rattle.bq_core.specs.State.{IsAtDefault, IsInDefault, IsSound, default_record, machine_of, tubes_of}
+use Rattle.bq_core.specs.JobChanges.{changed}
+use Rattle.bq_core.specs.SeatChanges.{seat_changed_at}
+use Rattle.bq_core.specs.Plain.{IsAtDefault, IsInDefault}
+use Rattle.bq_core.specs.State.{IsSound, default_record, machine_of, tubes_of}
 
 -- what all elements have is kept where each change keeps it
 pub all_kept : {A : Type 0} (P : A → Type 0) (f : A → A) → ((x : A) → P x → P (f x)) → (xs : List A) → AllByRecursion P xs → AllByRecursion P (map f xs)
@@ -88,3 +97,25 @@ waiting_for_ready s j inside ready (r ∷ seats) all =
 pub next_seat_of_ready : (s : State) → IsSound s → (j : Job) → IsInDefault j → is_ready j ≡ true → next_seat (machine_of s) j ≡ first_of is_waiting is_wait_before s.seats.items
 next_seat_of_ready s sound j inside ready =
     first_of_agrees _ is_waiting is_wait_before s.seats.items (waiting_for_ready s j inside ready s.seats.items sound.seats)
+
+same_tube : (b : Bool) (x y : Job) → IsInDefault x → IsInDefault y → IsInDefault (if b then x else y)
+same_tube true x y h i = h
+same_tube false x y h i = i
+
+-- no change moves a job to another tube
+pub changed_in_default : (change : JobChange) (j : Job) → IsInDefault j → IsInDefault (changed change j)
+changed_in_default (FireTimers moment) j h = same_tube (is_due moment j.state) _ _ h (same_tube (is_expired moment j.state) _ _ h h)
+changed_in_default (HandOut id seat moment) j h = same_tube (j.id == id) _ _ h h
+changed_in_default (GiveBack seat) j h = same_tube (is_held_by seat j) _ _ h h
+
+same_seat : (b : Bool) (x y : SeatRecord) → IsAtDefault x → IsAtDefault y → IsAtDefault (if b then x else y)
+same_seat true x y h i = h
+same_seat false x y h i = i
+
+-- and none makes a client use or watch another tube
+pub changed_at_default : (number : ℕ) (change : SeatChange) (s : SeatRecord) → IsAtDefault s → IsAtDefault (seat_changed_at number change s)
+changed_at_default number StopWaiting s h = same_seat (s.number == number) _ s h h
+changed_at_default number (Wait ticket until) s h = same_seat (s.number == number) _ s h h
+changed_at_default number Connect s h = same_seat (s.number == number) _ s (refl, refl) h
+changed_at_default number Clear s h = same_seat (s.number == number) _ s (refl, refl) h
+changed_at_default number End s h = same_seat (s.number == number) _ s h h

@@ -1,9 +1,9 @@
 -- The machine that a core stands for.
 use Rattle.std.specs.Prelude.{ℕ, Bool, false, ◌≡◌, ◌≤◌, ◌&&◌, ◌==◌, if◌then◌else◌, List, [], ◌∷◌, None}
 use Rattle.std.specs.List.{AllByRecursion}
-use Rattle.bq_job.specs.declared.job.Job.{Job}
 use Rattle.bq_job.specs.JobCommands.{last_id}
-use Rattle.bq_job.specs.Machine.{Machine, SeatRecord, Settings, TubeRecord, default_tube}
+use Rattle.bq_job.specs.Machine.{Machine, Settings, TubeRecord, default_tube}
+use Rattle.bq_core.specs.Plain.{IsAtDefault, IsInDefault}
 use Rattle.bq_core.specs.declared.config.Config.{Config}
 use Rattle.bq_core.specs.declared.state.State.{State}
 
@@ -32,13 +32,6 @@ machine_of s = record {
   puts = s.puts;
   connections = s.connections;
 }
-
--- The seat uses and watches the default tube alone.
-abbrev pub IsAtDefault : SeatRecord → Type 0
-IsAtDefault s = (s.used ≡ default_tube) × (s.watched ≡ default_tube ∷ [])
-
-abbrev pub IsInDefault : Job → Type 0
-IsInDefault j = j.tube ≡ default_tube
 
 -- what the functions of this crate keep
 pub record IsSound (s : State) : Type 0 where

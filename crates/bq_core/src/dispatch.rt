@@ -44,15 +44,15 @@ fn hand_out(state: &mut State, outs: &mut Outs, i: usize, k: usize)
 fn turn(state: &mut State, outs: &mut Outs) -> bool
     requires sound { IsSound state.old }
     requires room { HasRoom 0 (machine_of state.old) outs.old }
-    ensures done { result ≡ false → (next_job (machine_of state.old) ≡ None) × (state.new ≡ state.old) × (outs.new ≡ outs.old) }
+    ensures done { result ≡ false → (next_job (machine_of state.old) ≡ None) × (machine_of state.new ≡ machine_of state.old) × (outs.new ≡ outs.old) }
     ensures given { result ≡ true → Gives DispatchTurn has_refused_share (machine_of state.old) (machine_of state.new) outs.old outs.new }
     ensures fewer { result ≡ true → waiting_count (machine_of state.new) < waiting_count (machine_of state.old) }
     ensures sound { IsSound state.new }
 {
-    let Some(k) = seat_list::first_waiter(state.seats.as_slice()) else {
+    let Some(k) = state.first_waiter() else {
         return false;
     };
-    let Some(i) = job_list::first_ready(state.jobs.as_slice()) else {
+    let Some(i) = state.first_ready() else {
         return false;
     };
     hand_out(state, outs, i, k);

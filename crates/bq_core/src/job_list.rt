@@ -7,7 +7,8 @@ ghost use Rattle.bq_job.specs.Dispatch.{reserved_by};
 ghost use Rattle.bq_job.specs.Limits.{later as later_by};
 ghost use Rattle.bq_job.specs.Timers.{is_expired, job_after_timers};
 ghost use Rattle.bq_job.specs.Waits.{is_ending_lease};
-ghost use Rattle.std.specs.List.{list_any};
+ghost use Rattle.std.specs.List.{AllByRecursion, list_any};
+ghost use Rattle.bq_core.specs.Plain.{IsInDefault};
 ghost use Rattle.bq_core.specs.JobChanges.{changed, given_back};
 ghost use Rattle.bq_core.specs.Places.{item_at, better_at};
 
@@ -90,13 +91,20 @@ fn change(job: &mut Job, change: &JobChange)
     }
 }
 
-/// Changes each job.
-pub(crate) fn change_all(jobs: &mut Vec<Job, Global>, what: &JobChange)
+fn change_each(jobs: &mut Vec<Job, Global>, what: &JobChange)
     ensures { jobs.new.items ≡ map (changed what.now) jobs.old.items }
 {
     for job in jobs.iter_mut() {
         change(job, what);
     }
+}
+
+/// Changes each job. Every job stays in its tube.
+pub(crate) fn change_all(jobs: &mut Vec<Job, Global>, what: &JobChange)
+    ensures after { jobs.new.items ≡ map (changed what.now) jobs.old.items }
+    ensures tubes { AllByRecursion IsInDefault jobs.old.items → AllByRecursion IsInDefault jobs.new.items }
+{
+    change_each(jobs, what);
 }
 
 fn is_expired(job: &Job, moment: Moment) -> bool

@@ -17,4 +17,4 @@ mod outs;
 mod place;
 mod seat_list;
 mod state;
-// mod waits;
+mod waits;

@@ -1,5 +1,7 @@
 ghost use Rattle.std.specs.Prelude.{◌≡◌, ◌<◌, ◌&&◌, map, length, IfSome};
+ghost use Rattle.std.specs.List.{AllByRecursion};
 ghost use Rattle.std.specs.Option.{option_copied};
+ghost use Rattle.bq_core.specs.Plain.{IsAtDefault};
 ghost use Rattle.bq_job.specs.Changes.{first_of, is_waiting, seat_with};
 ghost use Rattle.bq_job.specs.Dispatch.{is_wait_before};
 ghost use Rattle.bq_core.specs.SeatChanges.{seat_changed, seat_changed_at};
@@ -46,13 +48,20 @@ fn change_if(place: &mut Place, number: Seat, what: &SeatChange)
     }
 }
 
-/// Changes the seat of this number.
-pub(crate) fn change_at(seats: &mut Vec<Place, Global>, number: Seat, what: &SeatChange)
+fn change_each(seats: &mut Vec<Place, Global>, number: Seat, what: &SeatChange)
     ensures { seats.new.items ≡ map (seat_changed_at number what.now) seats.old.items }
 {
     for place in seats.iter_mut() {
         change_if(place, number, what);
     }
+}
+
+/// Changes the seat of this number. Every client uses and watches the default tube, as before.
+pub(crate) fn change_at(seats: &mut Vec<Place, Global>, number: Seat, what: &SeatChange)
+    ensures after { seats.new.items ≡ map (seat_changed_at number what.now) seats.old.items }
+    ensures tubes { AllByRecursion IsAtDefault seats.old.items → AllByRecursion IsAtDefault seats.new.items }
+{
+    change_each(seats, number, what);
 }
 
 /// The seat of this number.

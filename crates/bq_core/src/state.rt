@@ -1,4 +1,4 @@
-ghost use Rattle.std.specs.Prelude.{◌≡◌};
+ghost use Rattle.std.specs.Prelude.{◌≡◌, ◌<◌, length, IfSome};
 ghost use Rattle.bq_job.specs.Timers.{at_moment, after_timers};
 ghost use Rattle.bq_core.specs.State.{machine_of, IsSound};
 
@@ -6,6 +6,7 @@ use crate::config::Config;
 use crate::job_list;
 use crate::job_list::JobChange;
 use crate::place::Place;
+use crate::seat_list;
 use bq_job::{Job, JobId, Moment, TubeName};
 use std::alloc::Global;
 
@@ -26,6 +27,37 @@ pub(crate) struct State {
     pub(crate) timeouts: u64,
     pub(crate) puts: u64,
     pub(crate) connections: u64,
+}
+
+impl State {
+    ghost use Rattle.bq_job.specs.Changes.{first_of, is_ready, is_waiting};
+    ghost use Rattle.bq_job.specs.Dispatch.{is_job_before, is_wait_before};
+    ghost use Rattle.bq_core.specs.EndingWaits.{ends_waiting_among};
+    ghost use Rattle.bq_core.specs.Places.{item_at};
+
+    /// The place of the client that has waited longest.
+    pub(crate) fn first_waiter(&self) -> Option<usize>
+        ensures bound { IfSome result (λ i. i < length self.now.seats.items) }
+        ensures least { item_at self.now.seats.items result ≡ first_of is_waiting is_wait_before self.now.seats.items }
+    {
+        seat_list::first_waiter(self.seats.as_slice())
+    }
+
+    /// The place of the ready job that is handed out first.
+    pub(crate) fn first_ready(&self) -> Option<usize>
+        ensures bound { IfSome result (λ i. i < length self.now.jobs.items) }
+        ensures least { item_at self.now.jobs.items result ≡ first_of is_ready is_job_before self.now.jobs.items }
+    {
+        job_list::first_ready(self.jobs.as_slice())
+    }
+
+    /// The place of the client that has waited longest of those whose wait ends now.
+    pub(crate) fn first_ending(&self) -> Option<usize>
+        ensures bound { IfSome result (λ i. i < length self.now.seats.items) }
+        ensures least { item_at self.now.seats.items result ≡ first_of (ends_waiting_among self.now.jobs.items self.now.moment) is_wait_before self.now.seats.items }
+    {
+        seat_list::first_ending(self.seats.as_slice(), self.jobs.as_slice(), self.moment)
+    }
 }
 
 /// A moment below the last one counts as that one.
