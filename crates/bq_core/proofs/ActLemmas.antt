@@ -68,8 +68,8 @@ raised_is_some n = grind (arith, nat_tests)
 empty_or_not : (puts deletes : ℕ) → ((puts ≡ 0) × (deletes ≡ 0)) ⊎ (tubes_of puts deletes ≡ default_record puts deletes ∷ [])
 empty_or_not puts deletes =
     elim (cases_Bool (puts == 0 && deletes == 0)) [
-      inl both ↦ let parts = and_parts (puts == 0) (deletes == 0) both in inl (eqb-true puts 0 parts.0, eqb-true deletes 0 parts.1)
-    | inr one ↦ inr (ap (λ b. if b then [] else default_record puts deletes ∷ []) one)
+      | inl both ↦ let parts = and_parts (puts == 0) (deletes == 0) both in inl (eqb-true puts 0 parts.0, eqb-true deletes 0 parts.1)
+      | inr one ↦ inr (ap (λ b. if b then [] else default_record puts deletes ∷ []) one)
     ]
 
 -- what is kept of the default tube, changed
@@ -93,16 +93,16 @@ some_deletes puts deletes =
 pub put_counted : (puts deletes : ℕ) → tubes_with with_put puts deletes ≡ tubes_of (raised puts) deletes
 put_counted puts deletes =
     elim (empty_or_not puts deletes) [
-      inl none ↦ rw (none.0, none.1) refl
-    | inr one ↦ rw one (sym (some_puts puts deletes))
+      | inl none ↦ rw (none.0, none.1) refl
+      | inr one ↦ rw one (sym (some_puts puts deletes))
     ]
 
 -- a deletion is counted
 pub delete_counted : (puts deletes : ℕ) → tubes_with with_delete puts deletes ≡ tubes_of puts (raised deletes)
 delete_counted puts deletes =
     elim (empty_or_not puts deletes) [
-      inl none ↦ rw (none.0, none.1) refl
-    | inr one ↦ rw one (sym (some_deletes puts deletes))
+      | inl none ↦ rw (none.0, none.1) refl
+      | inr one ↦ rw one (sym (some_deletes puts deletes))
     ]
 
 -- what a put comes to that is accepted

@@ -41,11 +41,12 @@ abbrev pub is_asking : Option SeatRecord → Bool
 is_asking None = false
 is_asking (Some s) = s.connected && not (is_waiting s)
 
--- What a request came to: it had this effect, or it was left out because a growth was refused.
-abbrev pub Replies : Machine → Effect → Reply → Machine → Type 0
-Replies m e Silent next = e ≡ record { machine = next; answer = None }
-Replies m e (Told answer) next = e ≡ record { machine = next; answer = Some answer }
-Replies m e LeftOut next = (next ≡ m) × IsTrue (wants_growth e.answer)
+-- What a request came to: it had this effect, or it takes memory and was left out because a growth was
+-- refused.
+abbrev pub Replies : Bool → Machine → Effect → Reply → Machine → Type 0
+Replies takes m e Silent next = e ≡ record { machine = next; answer = None }
+Replies takes m e (Told answer) next = e ≡ record { machine = next; answer = Some answer }
+Replies takes m e LeftOut next = (next ≡ m) × IsTrue (takes && wants_growth e.answer)
 
 -- The command's own effect was carried out, and its answer added.
 pub record Acts (m : Machine) (seat : ℕ) (what : Step) (old new : Outbox) (last : Machine) : Type 0 where

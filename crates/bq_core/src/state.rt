@@ -3,10 +3,9 @@ ghost use Rattle.bq_job.specs.Timers.{at_moment, after_timers};
 ghost use Rattle.bq_core.specs.State.{machine_of, IsSound};
 
 use crate::config::Config;
-use crate::job_list;
 use crate::job_list::JobChange;
 use crate::place::Place;
-use crate::seat_list;
+use crate::{job_list, seat_list};
 use bq_job::{Job, JobId, Moment, Seat, TubeName};
 use std::alloc::Global;
 
@@ -30,10 +29,11 @@ pub(crate) struct State {
 }
 
 impl State {
-    ghost use Rattle.bq_job.specs.Changes.{first_of, is_ready, is_waiting, seat_with};
+    ghost use Rattle.bq_job.specs.Changes.{first_of, is_ready, is_waiting, job_with, seat_with};
     ghost use Rattle.bq_job.specs.Dispatch.{is_job_before, is_wait_before};
     ghost use Rattle.bq_core.specs.Acting.{is_asking, is_connected, is_free};
     ghost use Rattle.bq_core.specs.EndingWaits.{ends_waiting_among};
+    ghost use Rattle.bq_core.specs.JobChanges.{is_free_job};
     ghost use Rattle.bq_core.specs.Places.{item_at};
 
     /// Whether there is a seat of this number, and nobody is connected there.
@@ -64,6 +64,13 @@ impl State {
             None => false,
             Some(place) => place.is_connected() && !place.is_waiting(),
         }
+    }
+
+    /// Whether there is a job of this id that the client at the seat may delete.
+    pub(crate) fn may_delete(&self, id: JobId, seat: Seat) -> bool
+        ensures { result ≡ is_free_job seat (job_with id self.now.jobs.items) }
+    {
+        job_list::is_free_for(self.jobs.as_slice(), id, seat)
     }
 
     /// The place of the client that has waited longest.

@@ -4,4 +4,4 @@ use Rattle.bq_core.proofs.acts.delete.Goals as goal
 
 pub returns-clause-reply : goal.returns-clause-reply
 returns-clause-reply c s at =
-    let e = delete_done c.args.state.now s c.args.seat c.args.id at ? c.requires.jobs in cc
+    let e = delete_done c.args.state.now s c.args.seat c.args.id at (sym c.if-not-may_delete.ensures) c.requires.jobs in cc
