@@ -30,7 +30,7 @@ waits_no_more number s e w = rw (w, eq-eqb s.number number e) refl
 -- One client fewer waits once this one's wait is over.
 pub waiting_falls : (m : Machine) (s : SeatRecord) → Contains m.seats s → is_waiting s ≡ true → waiting_count (with_seat s.number without_wait m) < waiting_count m
 waiting_falls m s i w =
-    count_falls is_waiting (λ t. cond (t.number == s.number) (without_wait t) t) m.seats (unwait_waits_less s.number)
+    count_falls is_waiting (λ t. cond (t.number == s.number) (without_wait t) t) m.seats (all_always (λ t. is_waiting (cond (t.number == s.number) (without_wait t) t) ≡ true → is_waiting t ≡ true) m.seats (unwait_waits_less s.number))
     (list_any_with (λ t. is_waiting t && not (is_waiting (cond (t.number == s.number) (without_wait t) t))) m.seats s i (waits_no_more s.number s refl w))
 
 -- a turn of dispatch that gives the job

@@ -1,4 +1,6 @@
+pub mod ActLemmas
 pub mod ChoiceLemmas
 pub mod ComputedLemmas
 pub mod DispatchLemmas
+pub mod KeptLemmas
 pub mod ListLemmas
