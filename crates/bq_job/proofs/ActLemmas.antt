@@ -70,14 +70,14 @@ leaves_statistics m (Some j) h = leaves_jobs m m _ h refl
 free_by_delay : (delay moment : ℕ) → is_reserved (delayed_by delay moment) ≡ false
 free_by_delay delay moment = cond_both (delay == 0) states.Ready (states.Delayed (later moment delay)) (λ s. is_reserved s ≡ false) (λ e. refl) (λ e. refl)
 
-free_has_holder : (seats : List SeatRecord) (j : Job) → is_reserved j.state ≡ false → has_holder seats j ≡ true
+pub free_has_holder : (seats : List SeatRecord) (j : Job) → is_reserved j.state ≡ false → has_holder seats j ≡ true
 free_has_holder seats j e = rw e refl
 
 -- a job that the client holds
-held_here : (m : Machine) (s : SeatRecord) (j : Job) (deadline : ℕ) → IsThere m s → s.connected ≡ true → j.state ≡ states.Reserved s.number deadline → has_holder m.seats j ≡ true
+pub held_here : (m : Machine) (s : SeatRecord) (j : Job) (deadline : ℕ) → Contains m.seats s → s.connected ≡ true → j.state ≡ states.Reserved s.number deadline → has_holder m.seats j ≡ true
 held_here m s j deadline there c e =
     or_right (not (is_reserved j.state)) (list_any (λ t. t.connected && is_held_by t.number j) m.seats)
-    (list_any_with (λ t. t.connected && is_held_by t.number j) m.seats s there.seated
+    (list_any_with (λ t. t.connected && is_held_by t.number j) m.seats s there
     (and_from s.connected (is_held_by s.number j) c (rw e (eq-eqb s.number s.number refl))))
 
 leaves_put : (pri delay ttr : ℕ) (body : List ℕ) (m : Machine) (s : SeatRecord) → Keeps m → Leaves m (put_effect pri delay ttr body m s)
@@ -92,7 +92,7 @@ leaves_job : (id : ℕ) (f : Job → Job) (m : Machine) (answer : Answer) → Ke
 leaves_job id f m answer h same held = leaves_jobs m (with_job id f m) answer (kept_of_job id f h same held) refl
 
 -- A seat changes, and its client waits as before.
-kept_of_quiet_seat : (number : ℕ) (f : SeatRecord → SeatRecord) (m : Machine) → Keeps m → ((s : SeatRecord) → (f s).number ≡ s.number) → ((s : SeatRecord) → (f s).connected ≡ s.connected) → ((s : SeatRecord) → (f s).wait ≡ s.wait) → Keeps (with_seat number f m)
+pub kept_of_quiet_seat : (number : ℕ) (f : SeatRecord → SeatRecord) (m : Machine) → Keeps m → ((s : SeatRecord) → (f s).number ≡ s.number) → ((s : SeatRecord) → (f s).connected ≡ s.connected) → ((s : SeatRecord) → (f s).wait ≡ s.wait) → Keeps (with_seat number f m)
 kept_of_quiet_seat number f m h same stays waits_as =
     kept_of_seat number f h
     (all_always (λ s. s.number ≡ number → IsMild s (f s)) m.seats
@@ -158,7 +158,7 @@ leaves_asked requests.Reserve m s h there c = leaves_reserve None m s h there c
 leaves_asked (requests.ReserveWithTimeout seconds) m s h there c = leaves_reserve (Some (later m.moment seconds)) m s h there c
 leaves_asked (requests.ReserveJob id) m s h there c =
     leaves_on_job id (λ j. not (is_reserved j.state)) (λ j. telling (answers.Reserved j.id j.body) (with_job id (reserved_by m.moment s.number) m)) m h
-    (λ j. leaves_job id (reserved_by m.moment s.number) m (answers.Reserved j.id j.body) h (λ k. refl) (λ k. held_here m s (reserved_by m.moment s.number k) (later m.moment k.ttr) there c refl))
+    (λ j. leaves_job id (reserved_by m.moment s.number) m (answers.Reserved j.id j.body) h (λ k. refl) (λ k. held_here m s (reserved_by m.moment s.number k) (later m.moment k.ttr) there.seated c refl))
 leaves_asked (requests.Delete id) m s h there c =
     leaves_on_job id (is_free_for s) (λ j. telling answers.Deleted (after_delete m j)) m h
     (λ j. leaves_jobs m (after_delete m j) answers.Deleted (kept_of_filter (λ k. not (k.id == j.id)) h) refl)
@@ -171,7 +171,7 @@ leaves_asked (requests.Bury id pri) m s h there c =
 leaves_asked (requests.Touch id) m s h there c =
     leaves_on_job id (is_held_by s.number) (λ j. telling answers.Touched (with_job id (in_state (states.Reserved s.number (later m.moment j.ttr))) m)) m h
     (λ j. leaves_job id (in_state (states.Reserved s.number (later m.moment j.ttr))) m answers.Touched h (λ k. refl)
-    (λ k. held_here m s (in_state (states.Reserved s.number (later m.moment j.ttr)) k) (later m.moment j.ttr) there c refl))
+    (λ k. held_here m s (in_state (states.Reserved s.number (later m.moment j.ttr)) k) (later m.moment j.ttr) there.seated c refl))
 leaves_asked (requests.Kick bound) m s h there c =
     let chosen = take bound (kickable s.used m.jobs) in
     leaves_jobs m (after_kick chosen m) (answers.KickedCount (length chosen))

@@ -3,4 +3,5 @@ pub mod ChoiceLemmas
 pub mod ComputedLemmas
 pub mod DispatchLemmas
 pub mod KeptLemmas
+pub mod LawfulLemmas
 pub mod ListLemmas
