@@ -1,5 +1,8 @@
 pub mod ActLemmas
 pub mod ChoiceLemmas
+pub mod LineLemmas
+pub mod ReadsLemmas
+pub mod UnitLemmas
 pub mod ComputedLemmas
 pub mod DispatchLemmas
 pub mod KeptLemmas

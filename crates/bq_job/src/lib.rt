@@ -6,7 +6,7 @@
 #![tactic(auto)]
 
 pub use answer::Answer;
-pub use body::Body;
+pub use body::{Body, BodyBuilder};
 pub use fault::NoMemory;
 pub use job::{Counts, Job, JobState};
 pub use laws_of_machine::{
@@ -25,6 +25,8 @@ mod body;
 mod fault;
 mod job;
 mod laws_of_machine;
+pub mod laws_of_reading;
+mod laws_of_texts;
 mod line_end;
 mod refusal;
 mod request;

@@ -1,5 +1,6 @@
-ghost use Rattle.std.specs.Prelude.{◌≡◌, ◌↔◌, IsSome, IfSome, IsTrue, IfOk, IsOk};
-ghost use Rattle.bq_job.specs.TubeName.{is_tube_name, name_byte, is_same_name};
+ghost use Rattle.std.specs.Prelude.{◌≡◌, ◌↔◌, IsSome, IfSome, IsTrue, ◌≤◌, length};
+ghost use Rattle.bq_job.specs.TubeName.{is_tube_name, name_byte, is_same_name, begins_name, filled_up};
+ghost use Rattle.std.specs.List.{list_all};
 
 use std::alloc::AllocError;
 use std::marker::Model;
@@ -41,10 +42,8 @@ impl TubeName {
         if !is_name(bytes) {
             return None;
         }
-        let mut copy = [0; LONGEST_NAME];
-        copy[..bytes.len()].copy_from_slice(bytes);
         Some(TubeName {
-            bytes: copy,
+            bytes: filled(bytes),
             len: bytes.len() as u8,
         })
     }
@@ -68,14 +67,39 @@ fn is_name_byte(b: u8) -> bool
         )
 }
 
+// Whether a name may begin so.
+fn begins_well(bytes: &[u8]) -> bool
+    ensures { result ≡ begins_name bytes.now }
+{
+    match bytes {
+        [] => false,
+        [first, ..] => *first != b'-',
+    }
+}
+
+fn are_name_bytes(bytes: &[u8]) -> bool
+    ensures { result ≡ list_all name_byte bytes.now }
+{
+    bytes.iter().all(|b| is_name_byte(*b))
+}
+
 // Whether the bytes are a tube's name.
 fn is_name(bytes: &[u8]) -> bool
     ensures { result ≡ is_tube_name bytes.now }
 {
-    match bytes.first() {
-        None | Some(b'-') => false,
-        _ => bytes.len() <= LONGEST_NAME && bytes.iter().all(|b| is_name_byte(*b)),
-    }
+    begins_well(bytes) && bytes.len() <= LONGEST_NAME && are_name_bytes(bytes)
+}
+
+// The bytes at the front of an array of zeros.
+fn filled(bytes: &[u8]) -> [u8; LONGEST_NAME]
+    requires { length bytes.now ≤ 200 }
+    ensures { result ≡ filled_up bytes.now }
+{
+    let mut copy = [0; LONGEST_NAME];
+    let n = bytes.len();
+    let front = &mut copy[..n];
+    front.copy_from_slice(bytes);
+    copy
 }
 
 impl PartialEq for TubeName {

@@ -1,0 +1,3 @@
+pub mod LoopLemmas
+pub mod PlainLemmas
+pub mod TurnLemmas

@@ -1,0 +1,58 @@
+-- The first line of a text, and of a text that goes on.
+use Rattle.std.proofs.Common.{◌≡◌, ℕ, Bool, true, false, ◌==◌, ◌&&◌, List, [], ◌∷◌, ◌++◌, Option, Some, None, ◌⊎◌, inl, inr, refl, sym, ap, arith, option_map, if◌then◌else◌}
+use Rattle.std.proofs.lemmas.Bool.Decides.{nat_tests}
+use Rattle.bq_job.specs.Line.{first_line, onto_line, are_line_end}
+
+-- a first line ends at the first two bytes, or behind the first byte
+pub first_line_cases : (t : Bool) (a : ℕ) (bytes : List ℕ) (later : Option (List ℕ × List ℕ)) (l : List ℕ × List ℕ)
+    → (if t then Some ([], bytes) else option_map (onto_line a) later) ≡ Some l
+    → ((t ≡ true) × (([], bytes) ≡ l)) ⊎ ((m : List ℕ × List ℕ) × (t ≡ false) × (later ≡ Some m) × (onto_line a m ≡ l))
+first_line_cases true a bytes later l e = inl (refl, cc)
+first_line_cases false a bytes None l e = cc
+first_line_cases false a bytes (Some m) l e = inr (m, refl, refl, cc)
+
+-- a text that goes on has the same first line
+pub first_line-append : (text more : List ℕ) (l : List ℕ × List ℕ) → first_line text ≡ Some l → first_line (text ++ more) ≡ Some (l.0, l.1 ++ more)
+first_line-append [] more l e = cc
+first_line-append (a ∷ []) more l e = cc
+first_line-append (a ∷ b ∷ bytes) more l e =
+    elim (first_line_cases (are_line_end a b) a bytes (first_line (b ∷ bytes)) l e) [
+      | inl h ↦ rw (h.0, ← h.1)
+      | inr h ↦ rw (h.1, first_line-append (b ∷ bytes) more h.0 h.2, ← h.3)
+    ]
+
+-- a text is its first line, CR LF, and what comes after
+pub first_line_is : (text : List ℕ) (l : List ℕ × List ℕ) → first_line text ≡ Some l → text ≡ l.0 ++ 13 ∷ 10 ∷ l.1
+first_line_is [] l e = cc
+first_line_is (a ∷ []) l e = cc
+first_line_is (a ∷ b ∷ bytes) l e =
+    elim (first_line_cases (are_line_end a b) a bytes (first_line (b ∷ bytes)) l e) [
+      | inl h ↦ line_here a b bytes l h.0 h.1
+      | inr h ↦ rw (← h.3) (ap (λ bs. a ∷ bs) (first_line_is (b ∷ bytes) h.0 h.2))
+    ]
+  where
+    line_here : (a b : ℕ) (bytes : List ℕ) (l : List ℕ × List ℕ) → are_line_end a b ≡ true → ([], bytes) ≡ l → (a ∷ b ∷ bytes) ≡ l.0 ++ 13 ∷ 10 ∷ l.1
+    line_here a b bytes l t e = rw (← e) (grind (arith, nat_tests))
+
+-- no byte before a CR ends a line with it
+no_end-cr : (a : ℕ) → are_line_end a 13 ≡ false
+no_end-cr a = elim (a == 13) as (λ t. (t && false) ≡ false) [ true ↦ refl | false ↦ refl ]
+
+-- a byte in front of a line, and of what follows the line
+first_line-onto : (a b : ℕ) (bytes after other line : List ℕ) → are_line_end a b ≡ false → b ∷ bytes ≡ line ++ 13 ∷ 10 ∷ after
+    → first_line (line ++ 13 ∷ 10 ∷ other) ≡ Some (line, other) → first_line (a ∷ (line ++ 13 ∷ 10 ∷ other)) ≡ Some (a ∷ line, other)
+first_line-onto a b bytes after other [] f e ih = rw (no_end-cr a)
+first_line-onto a b bytes after other (c ∷ line) f e ih =
+    let same : b ≡ c = cc in
+    let f' : are_line_end a c ≡ false = rw (← same) f in
+    rw (f', ih)
+
+-- the first line is the same, whatever comes after its CR LF
+pub first_line_again : (text other : List ℕ) (l : List ℕ × List ℕ) → first_line text ≡ Some l → first_line (l.0 ++ 13 ∷ 10 ∷ other) ≡ Some (l.0, other)
+first_line_again [] other l e = cc
+first_line_again (a ∷ []) other l e = cc
+first_line_again (a ∷ b ∷ bytes) other l e =
+    elim (first_line_cases (are_line_end a b) a bytes (first_line (b ∷ bytes)) l e) [
+      | inl h ↦ rw (← h.1)
+      | inr h ↦ rw (← h.3) (first_line-onto a b bytes h.0.1 other h.0.0 h.1 (first_line_is (b ∷ bytes) h.0 h.2) (first_line_again (b ∷ bytes) other h.0 h.2))
+    ]

@@ -1,0 +1,22 @@
+//! What holds of every reading of a text into requests.
+ghost use Rattle.std.specs.Prelude.{◌≡◌, ℕ, List};
+ghost use Rattle.bq_job.specs.Profile.{Profile};
+ghost use Rattle.bq_job.specs.ComputedReading.{reading};
+ghost use Rattle.bq_job.specs.Reading.{Reads};
+ghost use Rattle.bq_job.specs.SameRequests.{AreSameRequests};
+ghost use Rattle.bq_job.specs.declared.request.Request.{Request};
+
+#[cfg(test)]
+mod rows;
+
+/// Every text has a reading: the computed one, which meets no want of memory.
+pub fn every_text_is_read()
+    ensures { (p : Profile) (text : List ℕ) → Reads p text (reading p text).0 (reading p text).1 }
+{}
+
+/// A text has one reading: two have the same rest and as many requests, each the same but for the
+/// choice of a refused memory.
+pub fn one_reading_only()
+    ensures { (p : Profile) (text : List ℕ) (firsts seconds : List Request) (rest other : List ℕ)
+        → Reads p text firsts rest → Reads p text seconds other → (rest ≡ other) × AreSameRequests firsts seconds }
+{}

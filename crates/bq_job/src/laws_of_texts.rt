@@ -1,0 +1,4 @@
+//! Laws of the texts of answers, statistics and lists.
+
+#[cfg(test)]
+mod rows;

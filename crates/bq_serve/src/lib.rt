@@ -1,0 +1,4 @@
+//! Serving clients over lines of bytes.
+#![tactic(auto)]
+
+pub mod wire;
