@@ -201,14 +201,14 @@ leaves_asked (requests.Refused why) m s h there c = leaves_jobs m m (refusal_ans
 leaves_connect : (m : Machine) (seat : ℕ) → Keeps m → Leaves m (silent (after_connect m seat))
 leaves_connect m seat h =
     leaves_silent m (after_connect m seat)
-    (kept_of_seat seat (λ s. record (empty_seat seat) { connected = true }) h
-    (all_always (λ s. s.number ≡ seat → IsMild s (record (empty_seat seat) { connected = true })) m.seats
-    (λ s e. record { number = sym e; stays = λ d. refl; waits = λ w. refl })))
-    (no_more_wait seat (λ s. record (empty_seat seat) { connected = true }) m (λ s w. absurd cc))
+    (kept_of_seat seat (λ s. record (empty_seat s.number) { connected = true }) h
+    (all_always (λ s. s.number ≡ seat → IsMild s (record (empty_seat s.number) { connected = true })) m.seats
+    (λ s e. record { number = refl; stays = λ d. refl; waits = λ w. refl })))
+    (no_more_wait seat (λ s. record (empty_seat s.number) { connected = true }) m (λ s w. absurd cc))
 
 leaves_close : (m : Machine) (seat : ℕ) → Keeps m → Leaves m (telling answers.Closed (after_close m seat))
 leaves_close m seat h =
-    leaves_telling m (after_close m seat) answers.Closed (kept_of_close seat h) (no_more_wait seat (λ s. empty_seat seat) m (λ s w. absurd cc))
+    leaves_telling m (after_close m seat) answers.Closed (kept_of_close seat h) (no_more_wait seat (λ s. empty_seat s.number) m (λ s w. absurd cc))
 
 leaves_itself : (m : Machine) → Keeps m → Leaves m (silent m)
 leaves_itself m h = leaves_silent m m h (omega arith)

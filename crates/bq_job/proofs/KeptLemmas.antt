@@ -149,7 +149,7 @@ only_seat low (suc n) number (t ∷ seats) s e f =
 
 -- a seat and a job when the client at this seat goes
 abbrev emptied : ℕ → SeatRecord → SeatRecord
-emptied seat s = cond (s.number == seat) (empty_seat seat) s
+emptied seat s = cond (s.number == seat) (empty_seat s.number) s
 
 abbrev given_back : ℕ → Job → Job
 given_back seat j = cond (is_held_by seat j) (in_state states.Ready j) j
@@ -157,7 +157,7 @@ given_back seat j = cond (is_held_by seat j) (in_state states.Ready j) j
 -- Who holds a job that isn't given back stays.
 holder_stays : (seat : ℕ) (j : Job) (s : SeatRecord) → is_held_by seat j ≡ false → (s.connected && is_held_by s.number j) ≡ true → ((emptied seat s).connected && is_held_by (emptied seat s).number j) ≡ true
 holder_stays seat j s e h =
-    cond_both (s.number == seat) (empty_seat seat) s (λ t. (t.connected && is_held_by t.number j) ≡ true)
+    cond_both (s.number == seat) (empty_seat s.number) s (λ t. (t.connected && is_held_by t.number j) ≡ true)
     (λ b.
     let held : is_held_by s.number j ≡ true = (and_parts s.connected (is_held_by s.number j) h).1 in
     absurd (both_ways (is_held_by seat j) e (subst (λ n. is_held_by n j ≡ true) (eqb-true s.number seat b) held)))
@@ -175,7 +175,7 @@ held_elsewhere seat seats j e h =
     ]
 
 -- A client goes: the jobs that it holds are ready, and its seat is empty.
-pub kept_of_close : {places next : ℕ} {jobs : List Job} {seats : List SeatRecord} {draining : Bool} (seat : ℕ) → Kept places jobs seats next draining → Kept places (map (λ j. cond (is_held_by seat j) (in_state states.Ready j) j) jobs) (map (λ s. cond (s.number == seat) (empty_seat seat) s) seats) next draining
+pub kept_of_close : {places next : ℕ} {jobs : List Job} {seats : List SeatRecord} {draining : Bool} (seat : ℕ) → Kept places jobs seats next draining → Kept places (map (λ j. cond (is_held_by seat j) (in_state states.Ready j) j) jobs) (map (λ s. cond (s.number == seat) (empty_seat s.number) s) seats) next draining
 kept_of_close {next = next} {jobs = jobs} {seats = seats} seat h = record {
   ids = ids_of_map (given_back seat) 1 next jobs (λ j. cond_both (is_held_by seat j) (in_state states.Ready j) j (λ k. k.id ≡ j.id) (λ e. refl) (λ e. refl)) h.ids;
   accepts = h.accepts;
@@ -186,11 +186,11 @@ kept_of_close {next = next} {jobs = jobs} {seats = seats} seat h = record {
       (λ e. held_elsewhere seat seats j e i)) h.holders);
   seated = keys_of_map (λ s. s.number) (emptied seat) seats
       (all_always (λ s. (emptied seat s).number ≡ s.number) seats
-      (λ s. cond_both (s.number == seat) (empty_seat seat) s (λ t. t.number ≡ s.number) (λ e. sym (eqb-true s.number seat e)) (λ e. refl)))
+      (λ s. cond_both (s.number == seat) (empty_seat s.number) s (λ t. t.number ≡ s.number) (λ e. refl) (λ e. refl)))
       ∙ h.seated;
   waits = all_of_map (λ s. is_open_wait s ≡ true) (emptied seat) seats
       (all_weaker (λ s. is_open_wait s ≡ true) (λ s. is_open_wait (emptied seat s) ≡ true) seats
-      (λ s i. cond_both (s.number == seat) (empty_seat seat) s (λ t. is_open_wait t ≡ true) (λ e. refl) (λ e. i)) h.waits);
+      (λ s i. cond_both (s.number == seat) (empty_seat s.number) s (λ t. is_open_wait t ≡ true) (λ e. refl) (λ e. i)) h.waits);
 }
 
 -- A job is added that nobody holds.
