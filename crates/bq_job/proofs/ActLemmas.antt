@@ -1,9 +1,9 @@
 -- What a command leaves: all that every part of a step keeps, and at most one client more that waits or
 -- is answered.
-use Rattle.std.proofs.Common.{ℕ, zero, suc, ◌≡◌, ◌≤◌, ◌<◌, ◌+◌, Bool, true, false, ◌&&◌, ◌||◌, not, cond, List, [], ◌∷◌, ◌++◌, map, length, take, arith, refl, sym, ap, ◌∙◌, subst, inl, inr, ◌⊎◌, Option, Some, None}
-use Rattle.std.specs.Prelude.{count_by, filter, find, is_some, ◌==◌}
-use Rattle.std.specs.List.{AllByRecursion as All, Contains, list_any, list_all}
-use Rattle.std.proofs.lemmas.Bool.{cases_Bool, and_parts, and_from, or_left, or_right, cond_both, eq-eqb, eqb-true, eqb-false, not-true}
+use Rattle.std.proofs.Common.{ℕ, zero, suc, ◌≡◌, ◌≤◌, ◌+◌, Bool, true, false, ◌&&◌, not, cond, List, [], ◌∷◌, map, length, take, arith, refl, ap, ◌∙◌, inl, inr, Option, Some, None}
+use Rattle.std.specs.Prelude.{count_by, ◌==◌}
+use Rattle.std.specs.List.{AllByRecursion as All, Contains, list_any}
+use Rattle.std.proofs.lemmas.Bool.{cases_Bool, and_parts, and_from, or_right, cond_both, eq-eqb, eqb-true}
 use Rattle.bq_job.specs.declared.answer.Answer.{Answer}
 use Rattle.bq_job.specs.declared.answer.Answer.TheVariants as answers
 use Rattle.bq_job.specs.declared.job.Job.{Job}
@@ -14,17 +14,17 @@ use Rattle.bq_job.specs.declared.step.Step.{Step}
 use Rattle.bq_job.specs.declared.step.Step.TheVariants as steps
 use Rattle.bq_job.specs.Acts.{Effect, on_found, on_job, showing, silent, telling}
 use Rattle.bq_job.specs.Asked.{after_close, after_connect, asked, at_found, at_seat, effect, refusal_answer, with_end}
-use Rattle.bq_job.specs.Changes.{first_of, in_state, is_held_by, is_waiting, job_with, seat_with, with_job, with_seat}
+use Rattle.bq_job.specs.Changes.{in_state, is_held_by, is_waiting, job_with, seat_with, with_job, with_seat}
 use Rattle.bq_job.specs.Computed.{waiting_count}
-use Rattle.bq_job.specs.Dispatch.{is_job_before, reserved_by}
-use Rattle.bq_job.specs.JobCommands.{after_delete, after_kick, after_put, buried, delayed_by, is_free_for, kickable, kicked, last_id, new_job, put_effect, released, reserve_effect, waiting_from}
+use Rattle.bq_job.specs.Dispatch.{reserved_by}
+use Rattle.bq_job.specs.JobCommands.{after_delete, after_kick, after_put, buried, delayed_by, is_free_for, kickable, kicked, new_job, put_effect, released, reserve_effect, waiting_from}
 use Rattle.bq_job.specs.JobStates.{is_reserved}
 use Rattle.bq_job.specs.Limits.{later, raised}
 use Rattle.bq_job.specs.Machine.{Machine, SeatRecord, empty_seat, numbers}
 use Rattle.bq_job.specs.StatisticsCommands.{job_statistics_or_not}
 use Rattle.bq_job.specs.TubeCommands.{pause_effect, using, watched_with, watching, watching_or_refused}
 use Rattle.bq_job.specs.Tubes.{is_tube}
-use Rattle.bq_job.proofs.KeptLemmas.{IsMild, Keeps, Kept, has_holder, kept_of_close, kept_of_drain, kept_of_filter, kept_of_job, kept_of_jobs, kept_of_push, kept_of_seat, numbers_above, only_seat}
+use Rattle.bq_job.proofs.KeptLemmas.{IsMild, Keeps, has_holder, kept_of_close, kept_of_drain, kept_of_filter, kept_of_job, kept_of_jobs, kept_of_push, kept_of_seat, numbers_above, only_seat}
 use Rattle.bq_job.proofs.ListLemmas.{all_always, all_weaker, count_cons, count_of_map, found_passes, list_any_with}
 
 abbrev pub answer_count : Option Answer → ℕ

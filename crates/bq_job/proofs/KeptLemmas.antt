@@ -1,16 +1,16 @@
 -- What every part of a step keeps, and the changes of jobs and of seats that keep it.
-use Rattle.std.proofs.Common.{ℕ, zero, suc, ◌≡◌, ◌≤◌, ◌<◌, ◌+◌, ◌-◌, ◌^◌, Bool, true, false, ◌&&◌, ◌||◌, not, cond, List, [], ◌∷◌, ◌++◌, map, length, arith, refl, sym, ap, ◌∙◌, subst, inl, inr, ◌⊎◌, Option, Some, None}
-use Rattle.std.specs.Prelude.{count_by, nat_le, filter, find, ◌==◌}
-use Rattle.std.specs.List.{AllByRecursion as All, Contains, list_any, list_all}
-use Rattle.std.proofs.lemmas.Bool.{cases_Bool, and_parts, and_from, and_left, and_right, or_parts, or_from, or_left, or_right, or_cases, both_ways, cond_both, eq-eqb, eqb-true, eqb-false, leb-false}
+use Rattle.std.proofs.Common.{ℕ, zero, suc, ◌≡◌, ◌≤◌, ◌+◌, Bool, true, false, ◌&&◌, ◌||◌, not, cond, List, [], ◌∷◌, ◌++◌, map, arith, refl, sym, ◌∙◌, subst, inl, inr, Some}
+use Rattle.std.specs.Prelude.{nat_le, filter, find, ◌==◌}
+use Rattle.std.specs.List.{AllByRecursion as All, list_any}
+use Rattle.std.proofs.lemmas.Bool.{cases_Bool, and_parts, and_from, or_parts, or_left, or_right, or_cases, both_ways, cond_both, eqb-true, eqb-false, leb-false}
 use Rattle.bq_job.specs.declared.job.Job.{Job}
 use Rattle.bq_job.specs.declared.job.JobState.TheVariants as states
-use Rattle.bq_job.specs.Changes.{in_state, is_held_by, is_holder, is_waiting}
+use Rattle.bq_job.specs.Changes.{in_state, is_held_by, is_waiting}
 use Rattle.bq_job.specs.JobCommands.{last_id}
 use Rattle.bq_job.specs.JobStates.{is_reserved}
 use Rattle.bq_job.specs.Lawful.{AreIdsWithin, IsLawful}
 use Rattle.bq_job.specs.Machine.{Machine, SeatRecord, empty_seat, numbers}
-use Rattle.bq_job.proofs.ListLemmas.{all_always, all_at, all_both, all_of_append, all_of_filter, all_of_map, all_pass, all_weaker, keys_of_map, list_any_of_map, list_any_with, list_all_from}
+use Rattle.bq_job.proofs.ListLemmas.{all_always, all_both, all_of_append, all_of_filter, all_of_map, all_pass, all_weaker, keys_of_map, list_any_of_map}
 
 -- Whoever holds the job is connected.
 abbrev pub has_holder : List SeatRecord → Job → Bool

@@ -1,9 +1,9 @@
 -- The machine is lawful at the start and after every step, and a step gives few answers.
-use Rattle.std.proofs.Common.{ℕ, zero, suc, ◌≡◌, ◌≤◌, ◌<◌, ◌+◌, Bool, true, false, ◌&&◌, ◌||◌, not, cond, List, [], ◌∷◌, ◌++◌, map, length, length-append, arith, refl, sym, ap, ◌∙◌, subst, inl, inr, ◌⊎◌, Option, Some, None}
-use Rattle.std.specs.Prelude.{count_by, filter, find, is_some, unwrap_or, MatchOption, ◌==◌}
+use Rattle.std.proofs.Common.{ℕ, zero, suc, ◌≡◌, ◌≤◌, ◌<◌, ◌+◌, true, false, ◌&&◌, ◌||◌, not, cond, List, [], ◌∷◌, map, length, length-append, arith, refl, sym, ap, ◌∙◌, subst, inl, inr, Option, Some, None}
+use Rattle.std.specs.Prelude.{is_some, unwrap_or, MatchOption, ◌==◌}
 use Rattle.std.specs.Cmp.Lexicographic.{bytes_decides}
-use Rattle.std.specs.List.{AllByRecursion as All, Contains, list_any, list_all}
-use Rattle.std.proofs.lemmas.Bool.{cases_Bool, and_parts, and_from, and_cases, or_left, or_right, or_parts, cond_both, eq-eqb, eqb-true, eqb-false, not-true, false_from_ne_true, both_ways}
+use Rattle.std.specs.List.{Contains, list_any, list_all}
+use Rattle.std.proofs.lemmas.Bool.{or_left, or_right, cond_both}
 use Rattle.std.proofs.lemmas.List.{length-map}
 use Rattle.std.proofs.lemmas.List.Sums.{count_by-le-length}
 use Rattle.bq_job.specs.declared.answer.Answer.{Answer}
@@ -11,10 +11,9 @@ use Rattle.bq_job.specs.declared.job.Job.{Job}
 use Rattle.bq_job.specs.declared.job.JobState.TheVariants as states
 use Rattle.bq_job.specs.declared.step.Step.{Step}
 use Rattle.bq_job.specs.Acts.{Effect}
-use Rattle.bq_job.specs.Asked.{effect}
 use Rattle.bq_job.specs.Changes.{in_state, is_ready, is_waiting, with_job, with_seat, without_wait}
 use Rattle.bq_job.specs.Computed.{waiting_count}
-use Rattle.bq_job.specs.Dispatch.{DispatchTurn, Given, IsHandOut, after_hand_out, is_job_before, is_wait_before, is_waiting_for, may_have, next_job, next_seat, reserved_by}
+use Rattle.bq_job.specs.Dispatch.{DispatchTurn, Given, IsHandOut, is_job_before, is_wait_before, is_waiting_for, next_job, next_seat, reserved_by}
 use Rattle.bq_job.specs.Lawful.{IsLawful, has_open_holder}
 use Rattle.bq_job.specs.Limits.{later}
 use Rattle.bq_job.specs.Machine.{Machine, SeatRecord, Settings, TubeRecord, default_tube, empty_seat, new_machine, numbers}
@@ -23,12 +22,12 @@ use Rattle.bq_job.specs.Timers.{after_timers, at_moment, is_due, is_expired, job
 use Rattle.bq_job.specs.Tubes.{forgetting, fresh_tube, is_tube, is_seated_at, is_paused, watches}
 use Rattle.bq_job.specs.TubeName.{is_same_name}
 use Rattle.bq_job.specs.Waits.{Chain, WaitEndTurn, end_of_wait, ends_waiting, next_end}
-use Rattle.bq_job.proofs.ActLemmas.{Leaves, answer_count, free_has_holder, held_here, kept_of_quiet_seat, leaves_effect}
+use Rattle.bq_job.proofs.ActLemmas.{Leaves, answer_count, held_here, leaves_effect}
 use Rattle.bq_job.proofs.ChoiceLemmas.{first_of_agrees, first_of_none, first_of_none_passes}
 use Rattle.bq_job.proofs.ComputedLemmas.{next_end_waits, next_seat_waits, waiting_falls}
-use Rattle.bq_job.proofs.DispatchLemmas.{Turn, turn_of}
+use Rattle.bq_job.proofs.DispatchLemmas.{turn_of}
 use Rattle.bq_job.proofs.KeptLemmas.{Keeps, has_holder, is_open_wait, kept_of_job, kept_of_jobs, kept_of_lawful, kept_of_seat, IsMild}
-use Rattle.bq_job.proofs.ListLemmas.{all_always, all_at, all_from_members, all_of_filter, all_of_map, all_weaker, find_in_filter, list_all_from, list_any_not, list_any_of_map, list_any_with, none_pass}
+use Rattle.bq_job.proofs.ListLemmas.{all_always, all_at, all_from_members, all_of_filter, all_of_map, all_weaker, find_in_filter, list_all_from, list_any_not, list_any_with, none_pass}
 
 -- what timers make of a job: ready, ready with one timeout more, or the same
 after_timers_is : (moment : ℕ) (j : Job) (P : Job → Type 0) → P (in_state states.Ready j) → P (record j { state = states.Ready; counts = with_timeout j.counts }) → P j → P (job_after_timers moment j)
