@@ -1,13 +1,14 @@
 -- The first of those that pass a test: it is one of the list, it passes, and none that passes comes before it.
-use Rattle.std.proofs.Common.{ℕ, ◌≡◌, ◌<◌, ◌+◌, Bool, true, false, ◌&&◌, ◌||◌, cond, List, [], ◌∷◌, ◌++◌, length, get_or, Option, Some, None, arith, refl, sym, ap, ◌∙◌, subst, rules, inl, inr, ◌⊎◌, zero}
-use Rattle.std.specs.Prelude.{is_some, IfSome, MatchOption, map, fold}
+use Rattle.std.proofs.Common.{ℕ, ◌≡◌, Bool, true, false, ◌&&◌, ◌||◌, List, [], ◌∷◌, Option, Some, None, arith, refl, sym, ap, ◌∙◌, subst, inl, inr, ◌⊎◌}
+use Rattle.std.specs.Prelude.{is_some, IfSome, fold}
 use Rattle.std.specs.Cmp.{IsStrictWeakOrder}
-use Rattle.std.specs.List.{All, AllByRecursion, Contains, list_any, list_all}
-use Rattle.std.proofs.lemmas.Bool.{cases_Bool, and_parts, and_from, and_cases, and_left, and_right, both_ways, false≢true, true≢false}
+use Rattle.std.specs.List.{AllByRecursion, Contains, list_any}
+use Rattle.std.proofs.lemmas.Bool.{cases_Bool, and_parts, and_cases, both_ways}
 use Rattle.std.proofs.lemmas.Bool.Decides.{nat_tests}
-use Rattle.std.proofs.lemmas.List.Elements.{All-from_recursion, recursion_from_All, All-contains, Contains-append_right}
+use Rattle.std.proofs.lemmas.List.Elements.{All-from_recursion, All-contains}
 use Rattle.std.proofs.lemmas.List.Folds.{list_any-from_Any}
 use Rattle.bq_job.specs.Changes.{better_of, first_of, is_pair_before}
+use Rattle.bq_job.proofs.ListLemmas.{contains_head, contains_tail}
 
 -- pairs of numbers, by the first and then by the second
 pub pair_order : {X : Type 0} (first second : X → ℕ) → IsStrictWeakOrder (λ x y. is_pair_before (first x) (second x) (first y) (second y))
@@ -68,13 +69,6 @@ fold_passes passes before best (x ∷ xs) h = fold_passes passes before (better_
 -- the chosen one passes
 pub first_of_passes : {X : Type 0} (passes : X → Bool) (before : X → X → Bool) (xs : List X) (z : X) → first_of passes before xs ≡ Some z → passes z ≡ true
 first_of_passes passes before xs z h = rw h at (fold_passes passes before None xs tt)
-
--- what is the head of a list, or in its rest
-pub contains_head : {X : Type 0} (x : X) (xs : List X) → Contains (x ∷ xs) x
-contains_head x xs = (0, omega arith, refl)
-
-pub contains_tail : {X : Type 0} (x : X) (xs : List X) (y : X) → Contains xs y → Contains (x ∷ xs) y
-contains_tail x xs y h = Contains-append_right (x ∷ []) xs y h
 
 fold_contains : {X : Type 0} (passes : X → Bool) (before : X → X → Bool) (best : Option X) (xs : List X) (z : X) → fold (better_of passes before) best xs ≡ Some z → (best ≡ Some z) ⊎ Contains xs z
 fold_contains passes before best [] z h = inl h

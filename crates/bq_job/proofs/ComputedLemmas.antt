@@ -1,23 +1,22 @@
 -- What is computed is a step of the machine.
-use Rattle.std.proofs.Common.{ℕ, zero, suc, ◌≡◌, ◌≤◌, ◌<◌, ◌+◌, Bool, true, false, ◌&&◌, ◌||◌, not, cond, List, [], ◌∷◌, ◌++◌, map, length, arith, refl, sym, ap, ◌∙◌, subst, inl, inr, ◌⊎◌, Option, Some, None, append_assoc}
-use Rattle.std.specs.Prelude.{count_by, filter, MatchOption, ◌==◌}
-use Rattle.std.specs.List.{AllByRecursion as All, Contains, list_any, list_all}
-use Rattle.std.proofs.lemmas.Bool.{cases_Bool, and_parts, and_from, and_left, and_right, or_parts, or_from, or_left, or_right, or_cases, both_ways, eq-eqb}
-use Rattle.std.proofs.lemmas.Bool.Decides.{nat_tests}
+use Rattle.std.proofs.Common.{ℕ, zero, suc, ◌≡◌, ◌≤◌, ◌<◌, true, false, ◌&&◌, ◌||◌, not, cond, arith, refl, inl, inr, Option, Some, None, append_assoc}
+use Rattle.std.specs.Prelude.{◌==◌}
+use Rattle.std.specs.List.{AllByRecursion as All, Contains, list_any}
+use Rattle.std.proofs.lemmas.Bool.{cases_Bool, and_parts, and_left, eq-eqb}
 use Rattle.bq_job.specs.declared.answer.Answer.TheVariants as answers
 use Rattle.bq_job.specs.declared.job.Job.{Job}
 use Rattle.bq_job.specs.declared.step.Step.{Step}
 use Rattle.bq_job.specs.Asked.{effect}
-use Rattle.bq_job.specs.Changes.{first_of, is_waiting, with_seat, without_wait}
-use Rattle.bq_job.specs.Computed.{Served, after_act, ample, after_dispatch, after_serving, after_wait_ends, dispatched, ended_at, handed_out, handed_to, stepped, unserved, wait_ended, waiting_count}
-use Rattle.bq_job.specs.Dispatch.{DispatchTurn, Given, IsHandOut, after_hand_out, is_job_before, is_wait_before, is_waiting_for, may_have, next_job, next_seat}
+use Rattle.bq_job.specs.Changes.{is_waiting, with_seat, without_wait}
+use Rattle.bq_job.specs.Computed.{Served, ample, after_dispatch, after_serving, after_wait_ends, dispatched, ended_at, handed_out, handed_to, stepped, wait_ended, waiting_count}
+use Rattle.bq_job.specs.Dispatch.{DispatchTurn, after_hand_out, is_job_before, is_wait_before, is_waiting_for, may_have, next_job, next_seat}
 use Rattle.bq_job.specs.Machine.{Machine, SeatRecord}
-use Rattle.bq_job.specs.Steps.{Dispatches, EndsWaits, IsStep, Serves, addressed, granted, has_refused_share}
+use Rattle.bq_job.specs.Steps.{Dispatches, EndsWaits, IsStep, Serves, granted, has_refused_share}
 use Rattle.bq_job.specs.Timers.{after_timers, at_moment}
 use Rattle.bq_job.specs.Tubes.{forgetting}
 use Rattle.bq_job.specs.Waits.{Chain, WaitEndTurn, end_of_wait, ends_waiting, is_deadline_soon, is_timed_out, next_end}
 use Rattle.bq_job.proofs.ChoiceLemmas.{first_of_contains, first_of_none_passes, first_of_passes, first_of_some}
-use Rattle.bq_job.proofs.ListLemmas.{all_always, all_weaker, count_falls, count_none, list_any_not, list_any_with, none_pass}
+use Rattle.bq_job.proofs.ListLemmas.{all_always, all_weaker, count_falls, count_none, list_any_not, list_any_with}
 
 -- Nobody who waits begins to.
 unwait_waits_less : (number : ℕ) (s : SeatRecord) → is_waiting (cond (s.number == number) (without_wait s) s) ≡ true → is_waiting s ≡ true
@@ -30,7 +29,7 @@ waits_no_more number s e w = rw (w, eq-eqb s.number number e) refl
 -- One client fewer waits once this one's wait is over.
 pub waiting_falls : (m : Machine) (s : SeatRecord) → Contains m.seats s → is_waiting s ≡ true → waiting_count (with_seat s.number without_wait m) < waiting_count m
 waiting_falls m s i w =
-    count_falls is_waiting (λ t. cond (t.number == s.number) (without_wait t) t) m.seats (unwait_waits_less s.number)
+    count_falls is_waiting (λ t. cond (t.number == s.number) (without_wait t) t) m.seats (all_always (λ t. is_waiting (cond (t.number == s.number) (without_wait t) t) ≡ true → is_waiting t ≡ true) m.seats (unwait_waits_less s.number))
     (list_any_with (λ t. is_waiting t && not (is_waiting (cond (t.number == s.number) (without_wait t) t))) m.seats s i (waits_no_more s.number s refl w))
 
 -- a turn of dispatch that gives the job

@@ -1,16 +1,14 @@
 -- Turns of dispatch and ends of waits: what each gives and leaves.
-use Rattle.std.proofs.Common.{ℕ, zero, suc, ◌≡◌, ◌≤◌, ◌<◌, ◌+◌, Bool, true, false, ◌&&◌, ◌||◌, not, cond, List, [], ◌∷◌, ◌++◌, map, length, arith, refl, sym, ap, ◌∙◌, subst, inl, inr, ◌⊎◌, Option, Some, None}
-use Rattle.std.specs.Prelude.{count_by, filter, MatchOption, ◌==◌}
-use Rattle.std.specs.List.{AllByRecursion as All, Contains, list_any, list_all}
-use Rattle.std.proofs.lemmas.Bool.{cases_Bool, and_parts, and_from, and_left, and_right}
-use Rattle.bq_job.specs.declared.answer.Answer.{Answer}
+use Rattle.std.proofs.Common.{ℕ, ◌≡◌, List, refl, ap, inl, inr, Option, Some, None}
+use Rattle.std.specs.Prelude.{MatchOption}
+use Rattle.std.specs.List.{list_any}
+use Rattle.std.proofs.lemmas.Bool.{and_from}
 use Rattle.bq_job.specs.declared.answer.Answer.TheVariants as answers
 use Rattle.bq_job.specs.declared.job.Job.{Job}
-use Rattle.bq_job.specs.Changes.{first_of, is_waiting, with_seat, without_wait}
-use Rattle.bq_job.specs.Dispatch.{DispatchTurn, Given, IsHandOut, after_hand_out, is_job_before, is_wait_before, is_waiting_for, may_have, next_job, next_seat}
+use Rattle.bq_job.specs.Changes.{is_waiting}
+use Rattle.bq_job.specs.Dispatch.{DispatchTurn, Given, IsHandOut, is_job_before, is_waiting_for, may_have, next_job, next_seat}
 use Rattle.bq_job.specs.LeastJob.{IsLeastFor, GetsLeast}
 use Rattle.bq_job.specs.Machine.{Machine, SeatRecord}
-use Rattle.bq_job.specs.Waits.{Chain, WaitEndTurn, end_of_wait, next_end}
 use Rattle.bq_job.proofs.ChoiceLemmas.{first_of_contains, first_of_is_least, pair_order}
 use Rattle.bq_job.proofs.ComputedLemmas.{next_seat_waits}
 use Rattle.bq_job.proofs.ListLemmas.{list_any_with}

@@ -1,12 +1,18 @@
 -- Facts about lists of any elements: tests, changes of each element, counts.
-use Rattle.std.proofs.Common.{ℕ, suc, ◌≡◌, ◌≤◌, ◌<◌, ◌+◌, Bool, true, false, ◌&&◌, ◌||◌, not, cond, List, [], ◌∷◌, ◌++◌, map, length, arith, refl, sym, ap, ◌∙◌, subst, inl, inr, ◌⊎◌}
-use Rattle.std.specs.Prelude.{count_by, filter}
+use Rattle.std.proofs.Common.{◌≡◌, ◌≤◌, ◌<◌, ◌+◌, Bool, true, false, ◌&&◌, not, cond, List, [], ◌∷◌, ◌++◌, map, arith, refl, ap, subst, inl, inr}
+use Rattle.std.specs.Prelude.{Some, count_by, filter, find}
 use Rattle.std.specs.List.{AllByRecursion as All, Contains, list_any, list_all}
-use Rattle.std.proofs.lemmas.Bool.{cases_Bool, and_parts, and_from, or_parts, or_from, or_left, or_right, or_cases, both_ways}
-use Rattle.std.proofs.lemmas.Bool.Decides.{nat_tests}
-use Rattle.std.proofs.lemmas.List.Elements.{All-from_recursion, recursion_from_All, All-contains, All-contains_itself}
+use Rattle.std.proofs.lemmas.Bool.{cases_Bool, and_parts, and_from, or_parts, or_from, or_left, or_right, or_cases, both_ways, false_from_ne_true}
+use Rattle.std.proofs.lemmas.List.Elements.{All-from_recursion, recursion_from_All, All-contains, All-contains_itself, Contains-append_right}
 use Rattle.std.proofs.lemmas.List.Folds.{list_any-from_Any}
 use Rattle.std.proofs.lemmas.List.Sums.{sum_by-cons}
+
+-- what is the head of a list, or in its rest
+pub contains_head : {X : Type 0} (x : X) (xs : List X) → Contains (x ∷ xs) x
+contains_head x xs = (0, omega arith, refl)
+
+pub contains_tail : {X : Type 0} (x : X) (xs : List X) (y : X) → Contains xs y → Contains (x ∷ xs) y
+contains_tail x xs y h = Contains-append_right (x ∷ []) xs y h
 
 -- what holds of all holds of one
 pub all_at : {X : Type 0} (P : X → Type 0) (xs : List X) (x : X) → All P xs → Contains xs x → P x
@@ -79,9 +85,9 @@ list_any_of_map p q f (x ∷ xs) w h =
     ]
 
 -- a change that leaves the keys leaves the list of the keys
-pub keys_of_map : {X K : Type 0} (key : X → K) (f : X → X) (xs : List X) → ((x : X) → key (f x) ≡ key x) → map key (map f xs) ≡ map key xs
+pub keys_of_map : {X K : Type 0} (key : X → K) (f : X → X) (xs : List X) → All (λ x. key (f x) ≡ key x) xs → map key (map f xs) ≡ map key xs
 keys_of_map key f [] same = refl
-keys_of_map key f (x ∷ xs) same = let here = same x in let rest = keys_of_map key f xs same in cc
+keys_of_map key f (x ∷ xs) same = let here = same.0 in let rest = keys_of_map key f xs same.1 in cc
 
 pub count_cons : {X : Type 0} (p : X → Bool) (x : X) (xs : List X) → count_by p (x ∷ xs) ≡ cond (p x) 1 0 + count_by p xs
 count_cons p x xs = sum_by-cons (λ x. cond (p x) 1 0) x xs
@@ -98,18 +104,18 @@ none_after_one true false h = omega arith
 none_after_one false c h = absurd cc
 
 -- Where the change makes nobody pass, no more pass,
-pub count_of_map : {X : Type 0} (p : X → Bool) (f : X → X) (xs : List X) → ((x : X) → p (f x) ≡ true → p x ≡ true) → count_by p (map f xs) ≤ count_by p xs
+pub count_of_map : {X : Type 0} (p : X → Bool) (f : X → X) (xs : List X) → All (λ x. p (f x) ≡ true → p x ≡ true) xs → count_by p (map f xs) ≤ count_by p xs
 count_of_map p f [] w = omega arith
 count_of_map p f (x ∷ xs) w =
-    rw (count_cons p (f x) (map f xs), count_cons p x xs) (omega (arith, one_or_none (p x) (p (f x)) (w x), count_of_map p f xs w))
+    rw (count_cons p (f x) (map f xs), count_cons p x xs) (omega (arith, one_or_none (p x) (p (f x)) w.0, count_of_map p f xs w.1))
 
 -- and fewer where one passes no more.
-pub count_falls : {X : Type 0} (p : X → Bool) (f : X → X) (xs : List X) → ((x : X) → p (f x) ≡ true → p x ≡ true) → list_any (λ x. p x && not (p (f x))) xs ≡ true → count_by p (map f xs) < count_by p xs
+pub count_falls : {X : Type 0} (p : X → Bool) (f : X → X) (xs : List X) → All (λ x. p (f x) ≡ true → p x ≡ true) xs → list_any (λ x. p x && not (p (f x))) xs ≡ true → count_by p (map f xs) < count_by p xs
 count_falls p f [] w h = absurd cc
 count_falls p f (x ∷ xs) w h =
     rw (count_cons p (f x) (map f xs), count_cons p x xs) (elim (or_cases (p x && not (p (f x))) (list_any (λ x. p x && not (p (f x))) xs) h) [
-      | inl e ↦ omega (arith, none_after_one (p x) (p (f x)) e, count_of_map p f xs w)
-      | inr e ↦ omega (arith, one_or_none (p x) (p (f x)) (w x), count_falls p f xs w e)
+      | inl e ↦ omega (arith, none_after_one (p x) (p (f x)) e, count_of_map p f xs w.1)
+      | inr e ↦ omega (arith, one_or_none (p x) (p (f x)) w.0, count_falls p f xs w.1 e)
     ])
 
 -- where none is counted, none passes
@@ -122,3 +128,26 @@ count_none p (x ∷ xs) h =
     none_here : (b : Bool) → cond b 1 0 ≤ 0 → b ≡ false
     none_here true h = absurd (omega arith)
     none_here false h = refl
+
+-- what a search finds passes and is in the list
+pub found_passes : {X : Type 0} (p : X → Bool) (xs : List X) (x : X) → find p xs ≡ Some x → (p x ≡ true) × Contains xs x
+found_passes p [] x h = absurd cc
+found_passes p (y ∷ ys) x h =
+    elim (cases_Bool (p y)) [
+      | inl e ↦
+          let same : Some y ≡ Some x = rw e at h in
+          let is : y ≡ x = (cc) in
+          (subst (λ z. p z ≡ true) is e, subst (Contains (y ∷ ys)) is (contains_head y ys))
+      | inr e ↦
+          let rest = found_passes p ys x (rw e at h) in
+          (rest.0, contains_tail y ys x rest.1)
+    ]
+
+-- A filter that keeps all that passes leaves what a search finds.
+pub find_in_filter : {X : Type 0} (p q : X → Bool) (xs : List X) → All (λ x. p x ≡ true → q x ≡ true) xs → find p (filter q xs) ≡ find p xs
+find_in_filter p q [] h = refl
+find_in_filter p q (x ∷ xs) h =
+    elim (cases_Bool (q x)) [
+      | inl e ↦ rw e (ap (cond (p x) (Some x)) (find_in_filter p q xs h.1))
+      | inr e ↦ let f : p x ≡ false = false_from_ne_true (p x) (λ t. both_ways (q x) e (h.0 t)) in rw (e, f) (find_in_filter p q xs h.1)
+    ]

@@ -4,7 +4,6 @@ use Rattle.std.specs.Prelude.{false, ℕ, zero, suc, Option, Some, None, List, [
 use Rattle.bq_job.specs.declared.answer.Answer.TheVariants as answers
 use Rattle.bq_job.specs.declared.job.Job.{Job}
 use Rattle.bq_job.specs.declared.step.Step.{Step}
-use Rattle.bq_job.specs.Acts.{Effect}
 use Rattle.bq_job.specs.Asked.{effect}
 use Rattle.bq_job.specs.Changes.{is_waiting, with_seat, without_wait}
 use Rattle.bq_job.specs.Dispatch.{Given, after_hand_out, next_job, next_seat}
