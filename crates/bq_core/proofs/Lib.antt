@@ -1,3 +1,4 @@
+pub mod ActLemmas
 pub mod LoopLemmas
 pub mod PlainLemmas
 pub mod TurnLemmas

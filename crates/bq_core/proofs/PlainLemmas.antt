@@ -1,6 +1,6 @@
 -- Where everything is in the default tube, the least ready job is the next one, and goes to the client
 -- that has waited longest.
-use Rattle.std.proofs.Common.{◌≡◌, ℕ, Bool, true, false, cond, ◌&&◌, ◌||◌, ◌==◌, not, List, [], ◌∷◌, ◌++◌, Option, Some, None, is_some, map, refl, sym, ap, ◌∙◌, if◌then◌else◌, unwrap_or}
+use Rattle.std.proofs.Common.{◌≡◌, ℕ, Bool, true, false, cond, ◌&&◌, ◌||◌, ◌==◌, not, List, [], ◌∷◌, ◌++◌, Option, Some, None, is_some, filter, map, refl, sym, ap, ◌∙◌, if◌then◌else◌, unwrap_or}
 use Rattle.std.specs.List.{AllByRecursion, list_any, find}
 use Rattle.bq_job.specs.declared.job.Job.{Job}
 use Rattle.bq_job.specs.Changes.{first_of, is_ready, is_waiting}
@@ -25,6 +25,15 @@ use Rattle.bq_core.specs.State.{IsSound, default_record, machine_of, tubes_of}
 pub all_kept : {A : Type 0} (P : A → Type 0) (f : A → A) → ((x : A) → P x → P (f x)) → (xs : List A) → AllByRecursion P xs → AllByRecursion P (map f xs)
 all_kept P f keeps [] all = tt
 all_kept P f keeps (x ∷ xs) all = (keeps x all.0, all_kept P f keeps xs all.1)
+
+-- and a part of them has it
+pub all_filtered : {A : Type 0} (P : A → Type 0) (p : A → Bool) (xs : List A) → AllByRecursion P xs → AllByRecursion P (filter p xs)
+all_filtered P p [] all = tt
+all_filtered P p (x ∷ xs) all = kept (p x) (all_filtered P p xs all.1)
+  where
+    kept : (b : Bool) → AllByRecursion P (filter p xs) → AllByRecursion P (if b then x ∷ filter p xs else filter p xs)
+    kept true rest = (all.0, rest)
+    kept false rest = rest
 
 -- the default tube is never paused
 no_pause : (s : State) → is_paused default_tube (machine_of s) ≡ false

@@ -35,8 +35,8 @@ chosen_waits seats s h = (
 hand_out_falls : (m : Machine) (j : Job) (s : SeatRecord) (g : Given) (next : Machine) → Contains m.seats s → is_waiting s ≡ true → IsHandOut m j s g next → waiting_count next < waiting_count m
 hand_out_falls m j s g next here waits h =
     elim h [
-      inl given ↦ rw given.1 (waiting_falls m s here waits)
-    | inr refused ↦ rw refused.1 (waiting_falls m s here waits)
+      | inl given ↦ rw given.1 (waiting_falls m s here waits)
+      | inr refused ↦ rw refused.1 (waiting_falls m s here waits)
     ]
 
 some_at : {A : Type 0} (xs : List A) (i : ℕ) → i < length xs → (x : A) × (slice_get xs i ≡ Some x)
@@ -81,8 +81,7 @@ module _ (st : State) (sound : IsSound st) (k : ℕ) (seat_there : k < length st
     ready : (j : Job) × (slice_get st.jobs.items i ≡ Some j) × (first_of is_ready is_job_before st.jobs.items ≡ Some j) × IsInDefault j × (is_ready j ≡ true)
     ready =
         let here = some_at st.jobs.items i job_there in
-        let first : first_of is_ready is_job_before st.jobs.items ≡ Some here.0 = sym job_is ∙ here.1 in
-        (
+        let first : first_of is_ready is_job_before st.jobs.items ≡ Some here.0 = sym job_is ∙ here.1 in (
           here.0,
           here.1,
           first,

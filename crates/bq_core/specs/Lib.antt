@@ -1,3 +1,4 @@
+pub mod Acting
 pub mod Codes
 pub mod EndingWaits
 pub mod JobChanges

@@ -1,4 +1,4 @@
-ghost use Rattle.std.specs.Prelude.{◌≡◌, ◌<◌, ◌+◌, ◌++◌, map, count_by, length, IfSome, if◌then◌else◌};
+ghost use Rattle.std.specs.Prelude.{◌≡◌, ◌<◌, ◌==◌, not, filter, map, count_by, length, IfSome, if◌then◌else◌};
 ghost use Rattle.std.specs.Option.{option_copied};
 ghost use Rattle.bq_job.specs.Changes.{better_of, first_of, is_ready, job_with};
 ghost use Rattle.bq_job.specs.Dispatch.{is_job_before};
@@ -9,7 +9,7 @@ ghost use Rattle.bq_job.specs.Timers.{is_expired, job_after_timers};
 ghost use Rattle.bq_job.specs.Waits.{is_ending_lease};
 ghost use Rattle.std.specs.List.{AllByRecursion, list_any};
 ghost use Rattle.bq_core.specs.Plain.{IsInDefault};
-ghost use Rattle.bq_core.specs.JobChanges.{changed, given_back};
+ghost use Rattle.bq_core.specs.JobChanges.{changed, given_back, is_free_job};
 ghost use Rattle.bq_core.specs.Places.{item_at, better_at};
 
 use bq_job::{Job, JobId, JobState, Moment, Seat};
@@ -168,6 +168,33 @@ pub(crate) fn find(jobs: &[Job], id: JobId) -> Option<&Job>
     ensures { option_copied result ≡ job_with id jobs.now }
 {
     jobs.iter().find(|job| job.id == id)
+}
+
+/// Whether there is a job of this id that nobody holds, or that the client at the seat holds itself.
+pub(crate) fn is_free_for(jobs: &[Job], id: JobId, seat: Seat) -> bool
+    ensures { result ≡ is_free_job seat (job_with id jobs.now) }
+{
+    match find(jobs, id) {
+        None => false,
+        Some(job) => match job.state {
+            JobState::Reserved(holder, _) => holder == seat,
+            _ => true,
+        },
+    }
+}
+
+fn keep_others(jobs: &mut Vec<Job, Global>, id: JobId)
+    ensures { jobs.new.items ≡ filter (λ k. not (k.id == id)) jobs.old.items }
+{
+    jobs.retain(|job| job.id != id);
+}
+
+/// Takes the job of this id out. The others stay in their tube.
+pub(crate) fn take_out(jobs: &mut Vec<Job, Global>, id: JobId)
+    ensures after { jobs.new.items ≡ filter (λ k. not (k.id == id)) jobs.old.items }
+    ensures tubes { AllByRecursion IsInDefault jobs.old.items → AllByRecursion IsInDefault jobs.new.items }
+{
+    keep_others(jobs, id);
 }
 
 fn is_ending(job: &Job, seat: Seat, moment: Moment) -> bool

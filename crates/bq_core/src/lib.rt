@@ -8,7 +8,7 @@ pub use config::{Config, CoreFault};
 // pub use machine::Core;
 pub use outs::Outs;
 
-// mod acts;
+mod acts;
 mod config;
 mod dispatch;
 mod job_list;

@@ -3,11 +3,10 @@ ghost use Rattle.bq_job.specs.Timers.{at_moment, after_timers};
 ghost use Rattle.bq_core.specs.State.{machine_of, IsSound};
 
 use crate::config::Config;
-use crate::job_list;
 use crate::job_list::JobChange;
 use crate::place::Place;
-use crate::seat_list;
-use bq_job::{Job, JobId, Moment, TubeName};
+use crate::{job_list, seat_list};
+use bq_job::{Job, JobId, Moment, Seat, TubeName};
 use std::alloc::Global;
 
 /// What a core holds. Every job and every client is in the default tube.
@@ -30,10 +29,49 @@ pub(crate) struct State {
 }
 
 impl State {
-    ghost use Rattle.bq_job.specs.Changes.{first_of, is_ready, is_waiting};
+    ghost use Rattle.bq_job.specs.Changes.{first_of, is_ready, is_waiting, job_with, seat_with};
     ghost use Rattle.bq_job.specs.Dispatch.{is_job_before, is_wait_before};
+    ghost use Rattle.bq_core.specs.Acting.{is_asking, is_connected, is_free};
     ghost use Rattle.bq_core.specs.EndingWaits.{ends_waiting_among};
+    ghost use Rattle.bq_core.specs.JobChanges.{is_free_job};
     ghost use Rattle.bq_core.specs.Places.{item_at};
+
+    /// Whether there is a seat of this number, and nobody is connected there.
+    pub(crate) fn is_free(&self, seat: Seat) -> bool
+        ensures { result ≡ is_free (seat_with seat self.now.seats.items) }
+    {
+        match seat_list::find(self.seats.as_slice(), seat) {
+            None => false,
+            Some(place) => !place.is_connected(),
+        }
+    }
+
+    /// Whether somebody is connected at the seat.
+    pub(crate) fn is_connected(&self, seat: Seat) -> bool
+        ensures { result ≡ is_connected (seat_with seat self.now.seats.items) }
+    {
+        match seat_list::find(self.seats.as_slice(), seat) {
+            None => false,
+            Some(place) => place.is_connected(),
+        }
+    }
+
+    /// Whether the client at the seat can ask: it is connected, and doesn't wait.
+    pub(crate) fn is_asking(&self, seat: Seat) -> bool
+        ensures { result ≡ is_asking (seat_with seat self.now.seats.items) }
+    {
+        match seat_list::find(self.seats.as_slice(), seat) {
+            None => false,
+            Some(place) => place.is_connected() && !place.is_waiting(),
+        }
+    }
+
+    /// Whether there is a job of this id that the client at the seat may delete.
+    pub(crate) fn may_delete(&self, id: JobId, seat: Seat) -> bool
+        ensures { result ≡ is_free_job seat (job_with id self.now.jobs.items) }
+    {
+        job_list::is_free_for(self.jobs.as_slice(), id, seat)
+    }
 
     /// The place of the client that has waited longest.
     pub(crate) fn first_waiter(&self) -> Option<usize>

@@ -5,11 +5,10 @@ ghost use Rattle.bq_core.specs.State.{machine_of, IsSound};
 ghost use Rattle.bq_core.specs.Turns.{Gives, HasRoom, none_refused};
 ghost use Rattle.bq_core.specs.WaitEnds.{EndsWait};
 
-use crate::job_list;
 use crate::outs::Outs;
-use crate::seat_list;
 use crate::seat_list::SeatChange;
 use crate::state::State;
+use crate::{job_list, seat_list};
 use bq_job::Answer;
 
 // The wait of the client at place k ends.
