@@ -246,9 +246,6 @@ pub length_addressed : (seat : ℕ) (o : Option Answer) → length (addressed se
 length_addressed seat None = refl
 length_addressed seat (Some answer) = refl
 
-waiting_after_act : (m n : Machine) (e : Effect) → n ≡ forgetting e.machine → waiting_count n ≡ waiting_count e.machine
-waiting_after_act m n e is = ap waiting_count is
-
 -- as many seats as the machine was made with
 length_numbers : (low n : ℕ) → length (numbers low n) ≡ n
 length_numbers low zero = refl
