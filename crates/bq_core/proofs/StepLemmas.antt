@@ -131,16 +131,16 @@ whole_step first at seat what begun between asked new acted_state last empty in_
       acts = sym (nothing_forgotten acted_state) ∙ ap forgetting a.after;
       serves_then = y.serves;
       answers_are =
-        let start : between.given ≡ x.handed ++ x.ended = x.added ∙ ap (λ given. given ++ x.handed ++ x.ended) empty in
-        y.added ∙ ap (λ given. given ++ y.handed ++ y.ended) (a.added ∙ ap (λ given. given ++ addressed seat e.answer) start);
+          let start : between.given ≡ x.handed ++ x.ended = x.added ∙ ap (λ given. given ++ x.handed ++ x.ended) empty in
+          y.added ∙ ap (λ given. given ++ y.handed ++ y.ended) (a.added ∙ ap (λ given. given ++ addressed seat e.answer) start);
       left_out = y.left_out ∙ a.left_out ∙ ap (λ b. b || is_growth_refused a.memory) (x.left_out ∙ in_it);
       unshared =
-        y.unshared
-        ∙ ap (λ b. b || has_refused_share y.handed) (
+          y.unshared
+          ∙ ap (λ b. b || has_refused_share y.handed) (
           a.unshared
           ∙ ap (λ b. b || is_share_refused a.memory) (x.unshared ∙ ap (λ b. b || has_refused_share x.handed) shared)
           ∙ or_comm (has_refused_share x.handed) (is_share_refused a.memory)
-        );
+          );
     }
   where
     or_comm : (b c : Bool) → (b || c) ≡ (c || b)

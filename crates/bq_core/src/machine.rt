@@ -10,9 +10,8 @@ ghost use Rattle.bq_core.specs.Turns.{HasRoom};
 
 use crate::config::{Config, CoreFault};
 use crate::outs::Outs;
-use crate::seat_list;
 use crate::state::State;
-use crate::{acts, dispatch, state, waits};
+use crate::{acts, dispatch, seat_list, state, waits};
 use bq_job::{Moment, Seat, Step, TubeName};
 use std::alloc::Global;
 use std::marker::Model;

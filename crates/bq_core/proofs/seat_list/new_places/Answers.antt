@@ -6,10 +6,10 @@ use Rattle.bq_core.proofs.seat_list.new_places.Goals as goal
 pub loop-number-preserved : goal.loop-number-preserved
 loop-number-preserved c = record {
   seats =
-    c.push_reserved.ensures.items
-    ∙ ap (λ seats. seats ++ c.new.result ∷ []) c.loop-number.invariant.seats
-    ∙ ap (λ s. map empty_seat (numbers 0 c.loop-number.number) ++ s ∷ []) c.new.ensures
-    ∙ sym (places_more c.loop-number.number);
+      c.push_reserved.ensures.items
+      ∙ ap (λ seats. seats ++ c.new.result ∷ []) c.loop-number.invariant.seats
+      ∙ ap (λ s. map empty_seat (numbers 0 c.loop-number.number) ++ s ∷ []) c.new.ensures
+      ∙ sym (places_more c.loop-number.number);
   len = omega arith;
   room = omega arith;
 }
