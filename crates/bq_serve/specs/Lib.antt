@@ -1,0 +1,6 @@
+pub mod LineSteps
+pub mod Past
+pub mod SeatMoves
+pub mod SeatParts
+pub mod SeatStands
+pub mod Standing

@@ -1,5 +1,8 @@
 //! Requests and answers as bytes.
 
-pub use texts::{HeadBuf, answer_body, answer_head, answer_tail};
+pub use reader::RequestReader;
+pub use texts::{answer_body, answer_head, answer_tail, HeadBuf};
 
+mod reader;
+mod state;
 mod texts;

@@ -1,0 +1,5 @@
+pub mod GoingLemmas
+pub mod MoveLemmas
+pub mod OpenLemmas
+pub mod ReadingLemmas
+pub mod StepLemmas

@@ -1,0 +1,4 @@
+#[derive(Debug, Drop)]
+pub struct State {
+    pub max_job_size: u32,
+}
