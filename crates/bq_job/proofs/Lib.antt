@@ -1,3 +1,10 @@
+pub mod ActLemmas
+pub mod ChoiceLemmas
 pub mod LineLemmas
-pub mod UnitLemmas
 pub mod ReadsLemmas
+pub mod UnitLemmas
+pub mod ComputedLemmas
+pub mod DispatchLemmas
+pub mod KeptLemmas
+pub mod LawfulLemmas
+pub mod ListLemmas

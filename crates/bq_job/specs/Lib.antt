@@ -9,9 +9,11 @@ pub mod CommandWords
 pub mod Computed
 pub mod ComputedReading
 pub mod Dispatch
+pub mod Examples
 pub mod JobCommands
 pub mod JobStates
 pub mod Lawful
+pub mod LeastJob
 pub mod Limits
 pub mod Line
 pub mod LineRead
@@ -33,3 +35,5 @@ pub mod Tubes
 pub mod Waits
 pub mod Words
 pub mod Yaml
+pub mod LineSteps
+pub mod History

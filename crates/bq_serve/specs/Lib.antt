@@ -4,3 +4,4 @@ pub mod SeatMoves
 pub mod SeatParts
 pub mod SeatStands
 pub mod Standing
+pub mod WordsLeft

@@ -6,3 +6,4 @@ pub use texts::{answer_body, answer_head, answer_tail, HeadBuf};
 mod reader;
 mod state;
 mod texts;
+mod words;

@@ -1,0 +1,4 @@
+pub mod ActLemmas
+pub mod LoopLemmas
+pub mod PlainLemmas
+pub mod TurnLemmas

@@ -1,0 +1,12 @@
+pub mod Acting
+pub mod Codes
+pub mod EndingWaits
+pub mod JobChanges
+pub mod Outbox
+pub mod HandOuts
+pub mod Places
+pub mod Plain
+pub mod SeatChanges
+pub mod State
+pub mod Turns
+pub mod WaitEnds
