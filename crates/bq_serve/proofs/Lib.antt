@@ -1,2 +1,3 @@
-pub mod WordLemmas
+pub mod LineEndLemmas
 pub mod NumberLemmas
+pub mod WordLemmas

@@ -1,3 +1,4 @@
 pub mod Asked
+pub mod LineEnds
 pub mod WordsLeft
 pub mod WordsSoFar

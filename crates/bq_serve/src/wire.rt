@@ -1,5 +1,6 @@
 //! The texts of the protocol: requests out of bytes.
 
+mod line_end;
 mod line_read;
 mod numbers;
 mod words;
