@@ -1,4 +1,5 @@
 pub mod Asked
 pub mod LineEnds
+pub mod PutBodies
 pub mod WordsLeft
 pub mod WordsSoFar
