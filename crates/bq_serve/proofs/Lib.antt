@@ -1,4 +1,5 @@
 pub mod LineEndLemmas
 pub mod NumberLemmas
 pub mod PutBodyLemmas
+pub mod ReaderLemmas
 pub mod WordLemmas

@@ -1,9 +1,9 @@
 -- The number that a word is.
-use Rattle.std.proofs.Common.{◌≡◌, ◌<◌, ◌≤◌, ℕ, ◌+◌, ◌*◌, ◌-◌, ◌^◌, zero, suc, Bool, true, false, List, [], ◌∷◌, Option, Some, None, refl, sym, ap, arith, length, drop, drop-cons, get_or, fold, nat_lt, nat_le}
+use Rattle.std.proofs.Common.{◌≡◌, ◌<◌, ◌≤◌, ℕ, ◌^◌, suc, true, false, List, [], ◌∷◌, Some, None, refl, sym, arith, length, drop, drop-cons, get_or, fold}
 use Rattle.std.proofs.lemmas.Bool.Decides.{nat_tests}
 use Rattle.std.proofs.lemmas.Grind.{common_steps}
 use Rattle.std.specs.List.{list_all}
-use Rattle.bq_job.specs.Words.{is_digit, are_digits, with_digit, value_of_digits, number_below, job_id, number}
+use Rattle.bq_job.specs.Words.{is_digit, with_digit, value_of_digits, job_id, number}
 
 -- more digits make no smaller number
 pub with_digits_le : (bytes : List ℕ) (n : ℕ) → n ≤ fold with_digit n bytes

@@ -1,5 +1,5 @@
 -- Bytes that are taken one part after another.
-use Rattle.std.proofs.Common.{◌≡◌, ◌≤◌, ℕ, ◌+◌, ◌-◌, List, [], ◌∷◌, ◌++◌, length, take, drop, arith, sym, ◌∙◌, ap, append_assoc, take-add}
+use Rattle.std.proofs.Common.{◌≡◌, ℕ, ◌+◌, ◌-◌, List, ◌++◌, length, take, drop, arith, append_assoc, take-add}
 use Rattle.std.proofs.lemmas.Grind.{common_steps}
 use Rattle.bq_serve.specs.PutBodies.{TakesBytes}
 use Rattle.bq_serve.specs.declared.wire.put_body.PutBody.{PutBody}

@@ -1,10 +1,8 @@
 -- The first word of a line.
-use Rattle.std.proofs.Common.{◌≡◌, ◌<◌, ℕ, ◌+◌, zero, suc, Bool, true, false, List, [], ◌∷◌, Option, Some, None, add-one, refl, sym, ap, arith, length, take, drop, get_or, MatchOption, ◌==◌, cond}
+use Rattle.std.proofs.Common.{◌≡◌, ◌<◌, ℕ, ◌+◌, zero, suc, true, false, List, [], ◌∷◌, Option, Some, None, add-one, refl, arith, length, take, drop, get_or, MatchOption, ◌==◌}
 use Rattle.std.proofs.lemmas.Bool.Decides.{nat_tests}
-use Rattle.std.proofs.lemmas.Grind.{common_steps}
-use Rattle.std.specs.List.{slice_split, onto_first}
 use Rattle.bq_job.specs.Words.{words}
-use Rattle.memchr.specs.Find.{IsFirstByte, is_byte, Nowhere, Passes}
+use Rattle.memchr.specs.Find.{IsFirstByte, is_byte}
 
 -- where no space is, the line is one word
 one_word : (line : List ℕ) → ((k : ℕ) → k < length line → (get_or line k 0 == 32) ≡ true → ⊥) → words line ≡ line ∷ []

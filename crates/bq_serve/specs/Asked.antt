@@ -1,5 +1,5 @@
 -- What a line that was read asks for.
-use Rattle.std.specs.Prelude.{ℕ, ◌≡◌, List, [], ◌∷◌, Option, Some, None}
+use Rattle.std.specs.Prelude.{ℕ, ◌≡◌, List, [], ◌∷◌, Option, None}
 use Rattle.bq_job.specs.CommandWords as spec_words
 use Rattle.bq_job.specs.LineRead as spec
 use Rattle.bq_job.specs.Words.{number}

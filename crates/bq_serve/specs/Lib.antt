@@ -1,5 +1,6 @@
 pub mod Asked
 pub mod LineEnds
 pub mod PutBodies
+pub mod Standing
 pub mod WordsLeft
 pub mod WordsSoFar

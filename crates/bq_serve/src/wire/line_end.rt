@@ -1,4 +1,4 @@
-ghost use Rattle.std.specs.Prelude.{◌≡◌, ◌<◌, ◌+◌, Some, None, MatchOption, length, drop, if◌then◌else◌, false};
+ghost use Rattle.std.specs.Prelude.{◌≡◌, ◌<◌, ◌≤◌, ◌+◌, IfSome, Some, None, MatchOption, length, drop, if◌then◌else◌, false};
 ghost use Rattle.bq_serve.specs.LineEnds as spec;
 
 use memchr::memchr;
@@ -38,7 +38,9 @@ pub fn ends_in_cr(after_cr: bool, bytes: &[u8]) -> bool
 /// How many bytes there are up to and with the first LF that stands behind a CR. The first byte stands
 /// behind a CR or not, as is told.
 pub fn line_end_after(after_cr: bool, bytes: &[u8]) -> Option<usize>
-    ensures { result ≡ spec.line_end_after after_cr bytes.now }
+    ensures value { result ≡ spec.line_end_after after_cr bytes.now }
+    ensures some { IfSome result (λ end. 0 < end) }
+    ensures within { IfSome result (λ end. end ≤ length bytes.now) }
 {
     let mut after_cr = after_cr;
     let mut passed = 0;

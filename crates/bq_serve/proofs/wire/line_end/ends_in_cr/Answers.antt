@@ -1,4 +1,4 @@
-use Rattle.std.proofs.Common.{◌≡◌, ◌<◌, ◌-◌, ◌==◌, arith, length, get_or, rules}
+use Rattle.std.proofs.Common.{◌≡◌, ◌<◌, ◌-◌, arith, length, get_or}
 use Rattle.std.proofs.lemmas.Grind.{common_steps}
 use Rattle.bq_serve.proofs.LineEndLemmas.{last_is_cr_last}
 use Rattle.bq_serve.proofs.wire.line_end.ends_in_cr.Goals as goal

@@ -1,4 +1,4 @@
-use Rattle.std.proofs.Common.{arith, None, Some}
+use Rattle.std.proofs.Common.{None, Some}
 use Rattle.bq_serve.proofs.LineEndLemmas.{first_feed}
 use Rattle.bq_serve.proofs.wire.line_end.first_line_feed.Goals as goal
 
