@@ -1,3 +1,4 @@
 pub mod LineLemmas
 pub mod UnitLemmas
+pub mod UnitsLemmas
 pub mod ReadsLemmas

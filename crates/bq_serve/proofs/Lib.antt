@@ -1,3 +1,4 @@
+pub mod HasReadLemmas
 pub mod LineEndLemmas
 pub mod NumberLemmas
 pub mod PutBodyLemmas

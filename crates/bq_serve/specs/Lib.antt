@@ -1,4 +1,5 @@
 pub mod Asked
+pub mod HasRead
 pub mod LineEnds
 pub mod PutBodies
 pub mod Standing

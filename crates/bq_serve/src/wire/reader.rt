@@ -2,6 +2,7 @@ ghost use Rattle.std.specs.Prelude.{◌≡◌, ◌≤◌, ◌<◌, ◌+◌, ◌+
 ghost use Rattle.bq_job.specs.LineRead as line_read;
 ghost use Rattle.bq_job.specs.Reading.{is_quit};
 ghost use Rattle.bq_serve.specs.Asked.{asked_by};
+ghost use Rattle.bq_serve.specs.HasRead.{ReadsOn};
 ghost use Rattle.bq_serve.specs.PutBodies.{HasRoom};
 ghost use Rattle.bq_serve.specs.Standing.{IsSound, Stands, StandsAt, Feeds, Keeps, IsLineOf, Waits, HandsOut, but_last};
 ghost use Rattle.bq_serve.specs.WordsSoFar.{words_so_far};
@@ -75,6 +76,9 @@ impl RequestReader {
         // Whatever text it stood for, that text and the bytes taken are this one request, and it stands
         // for the empty text now, or after a quit for none.
         ensures hands_out { IfSome result.1 (λ request. (text : List ℕ) → Stands self.old text → HandsOut self.new text piece.now result.0 request) }
+        // So of all bytes taken since the reader was new or restarted it hands out the requests, however
+        // they were cut.
+        ensures reads { ReadsOn self.old self.new piece.now result.0 result.1 }
         ensures over { self.old.place ≡ Over → (result.0 ≡ 0) × (result.1 ≡ None) × (self.new ≡ self.old) }
         ensures limit { self.new.max_job_size ≡ self.old.max_job_size }
     {
