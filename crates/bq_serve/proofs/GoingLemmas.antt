@@ -6,7 +6,7 @@ use Rattle.bq_job.specs.declared.request.Request.{Request}
 use Rattle.bq_job.specs.declared.request.Request.TheVariants as requests
 use Rattle.bq_job.specs.declared.step.Step.TheVariants as steps
 use Rattle.bq_job.specs.Reading.{is_quit}
-use Rattle.bq_serve.specs.LineSteps.{is_wait}
+use Rattle.bq_job.specs.LineSteps.{is_waiting_request}
 use Rattle.bq_serve.specs.Past.{Past, with_action}
 use Rattle.bq_serve.specs.SeatParts.{GoesOn, in_stage, asking_stage}
 use Rattle.bq_serve.specs.SeatStands.{IsOpen, StandsFor, StandsAt, seat_profile}
@@ -44,12 +44,12 @@ asking_quit m next n untold same fed p line =
 
 asking : (m : SeatMachine) (next : State) (n : ℕ) (q : Request) → is_quit q ≡ false → m.end_told ≡ false → profile_of next ≡ profile_of m.reader
     → ((text : List ℕ) → Stands m.reader text → HandsOut next text m.kept n q) → (p : Past) → IsOpen m.reader m.kept m.end_told 0 p
-    → StandsAt (stages.Asking (is_wait q)) next (drop n m.kept) m.end_told (with_action (actions.Submit (steps.Ask q)) p)
+    → StandsAt (stages.Asking (is_waiting_request q)) next (drop n m.kept) m.end_told (with_action (actions.Submit (steps.Ask q)) p)
 asking m next n q not_quit untold same fed p line =
     let o : IsOpen m.reader m.kept false 0 p = open_at m.reader m.kept m.kept m.end_told false 0 p refl untold line in
     let out = fed o.begun o.stands in
     let empty : Stands next [] = rw not_quit at out.next in
-    (waiting_at next (drop n m.kept) false m.end_told (is_wait q) _ (sym untold) (asks m.reader next m.kept n q p o same out.unit empty not_quit), untold)
+    (waiting_at next (drop n m.kept) false m.end_told (is_waiting_request q) _ (sym untold) (asks m.reader next m.kept n q p o same out.unit empty not_quit), untold)
 
 -- the reader has handed out a request, and it is asked
 pub goes_asking : (m : SeatMachine) (next : State) (n : ℕ) (q : Request) → m.end_told ≡ false → profile_of next ≡ profile_of m.reader

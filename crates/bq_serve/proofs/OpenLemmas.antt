@@ -12,16 +12,16 @@ use Rattle.bq_job.specs.declared.step.Step.{Step}
 use Rattle.bq_job.specs.declared.step.Step.TheVariants as steps
 use Rattle.bq_job.specs.Profile.{Profile}
 use Rattle.bq_job.specs.Reading.{Reads, AreUnits, IsUnit, BeginsNoUnit, is_quit}
-use Rattle.bq_serve.specs.LineSteps.{IsStepsOfLine, AreAsked, line_steps, answered_count, has_quit, is_wait, ends_by_wait, end_if, last_asks_wait}
+use Rattle.bq_job.specs.LineSteps.{IsStepsOfLine, AreEnds, AreAllAnswered, LineSeen, answered_count, is_waiting_request, ends_by_wait}
 use Rattle.bq_serve.specs.Past.{Past, with_action, with_mail, with_fault, first_past}
 use Rattle.bq_serve.specs.Standing.{profile_of, Stands}
-use Rattle.bq_serve.specs.SeatStands.{IsOpen, IsWaiting, IsServed, AreAnswersOfLine, StandsAt}
+use Rattle.bq_serve.specs.SeatStands.{IsOpen, IsWaiting, IsServed, StandsAt, seen_line, end_if, has_quit, IsLastBroken}
 use Rattle.bq_serve.specs.declared.wire.state.State.{State}
 use Rattle.bq_serve.specs.declared.seat.machine.Action.TheVariants as actions
 use Rattle.bq_serve.specs.declared.seat.machine.Event.TheVariants as events
 use Rattle.bq_serve.specs.declared.seat.machine.Stage.TheVariants as stages
 use Rattle.bq_serve.proofs.ReadingLemmas.{BeginsNoUnit-[], AreUnits-append, one_unit, Reads-after, Reads-begun, Reads-quit, ends_by_quit-append}
-use Rattle.bq_serve.proofs.StepLemmas.{answered_count-asked, ends_by_wait-asked, has_quit-asked, map-asked, last_asks_wait-asked, answered_count-end, last_asks_wait-end}
+use Rattle.bq_serve.proofs.StepLemmas.{answered_count-asked, answered_count-quit, ends_by_wait-asked, has_quit-asked, map-asked, no_quit_last, some_asked}
 
 -- a line is opened
 pub opened : (r : State) → Stands r [] → StandsAt stages.Connecting r [] false first_past
@@ -110,7 +110,7 @@ asked_steps r kept p o q =
 -- a request is asked
 pub asks : (r next : State) (kept : List ℕ) (n : ℕ) (q : Request) (p : Past) (o : IsOpen r kept false 0 p)
     → profile_of next ≡ profile_of r → IsUnit (profile_of next) (o.begun ++ take n kept) q → Stands next [] → is_quit q ≡ false
-    → IsWaiting next (drop n kept) false (is_wait q) (with_action (actions.Submit (steps.Ask q)) p)
+    → IsWaiting next (drop n kept) false (is_waiting_request q) (with_action (actions.Submit (steps.Ask q)) p)
 asks r next kept n q p o same unit h not_quit = (record {
   asked = o.asked ++ q ∷ [];
   units = o.units ++ (o.begun ++ take n kept);
@@ -130,15 +130,6 @@ asks r next kept n q p o same unit h not_quit = (record {
   fault_is = o.fault_is;
 }, λ w. ends_by_wait-asked o.asked q ∙ w)
 
--- how many of the steps are answered, if these follow
-counted : (r : State) (kept : List ℕ) (told : Bool) (out : ℕ) (p : Past) (o : IsOpen r kept told out p) (more : List Step)
-    → answered_count (p.steps ++ more) ≡ length o.asked + answered_count more
-counted r kept told out p o more =
-    let steps_are : p.steps ++ more ≡ steps.Connect ∷ (map steps.Ask o.asked ++ (end_if told ++ more)) =
-        ap (λ x. x ++ more) o.steps_are ∙ append_assoc (steps.Connect ∷ map steps.Ask o.asked) (end_if told) more in
-    let rest = answered_count-asked o.asked (end_if told ++ more) o.no_quit in
-    rw steps_are (omega (arith, rest, answered_count-end told more))
-
 -- a quit is asked
 pub quits : (r next : State) (kept : List ℕ) (n : ℕ) (p : Past) (o : IsOpen r kept false 0 p)
     → profile_of next ≡ profile_of r → IsUnit (profile_of next) (o.begun ++ take n kept) requests.Quit
@@ -147,26 +138,26 @@ quits r next kept n p o same unit =
     let unit_text : List ℕ = o.begun ++ take n kept in
     let bytes_are : p.bytes ≡ o.units ++ (unit_text ++ drop n kept) =
         o.bytes_are ∙ split_bytes o.units o.begun kept n ∙ append_assoc o.units unit_text (drop n kept) in
-    (rw o.closing_is refl, record {
-  steps_are = record {
-    read = o.asked ++ requests.Quit ∷ [];
+    (rw o.closing_is refl, λ written. record {
+  line = record {
+    requests = o.asked ++ requests.Quit ∷ [];
     rest = drop n kept;
     asked = o.asked ++ requests.Quit ∷ [];
-    told = false;
+    told = [];
     reads = Reads-after (profile_of next) p.bytes o.units (unit_text ++ drop n kept) (drop n kept) o.asked (requests.Quit ∷ []) bytes_are
         (same_units r next o.units o.asked same o.are_units) o.no_quit (Reads-quit (profile_of next) unit_text (drop n kept) requests.Quit unit refl);
-    are_asked = (refl, ends_by_quit-append o.asked (requests.Quit ∷ []) refl);
+    is_over = (refl, ends_by_quit-append o.asked (requests.Quit ∷ []) refl);
+    ends = inl refl;
     steps_are = ap (λ x. x ++ steps.Close ∷ []) (asked_steps r kept p o requests.Quit ∙ sym (append-nil _));
-    told_well = λ e. cc;
   };
-  written_is = o.written_is;
-  answers_are =
-    rw append_assoc (omega (arith, o.answered, counted r kept false 0 p o (steps.Ask requests.Quit ∷ steps.Close ∷ [])));
+  handed_out = o.written_is;
+  answered = omega (arith, o.answered, answered_count-quit o.asked o.no_quit);
+  broken = tt;
 })
 
 -- the steps of an open line, if the close follows
 closed_steps : (r : State) (kept : List ℕ) (told : Bool) (out : ℕ) (p : Past) (o : IsOpen r kept told out p)
-    → p.steps ++ steps.Close ∷ [] ≡ line_steps o.asked told
+    → p.steps ++ steps.Close ∷ [] ≡ (steps.Connect ∷ map steps.Ask o.asked) ++ end_if told ++ steps.Close ∷ []
 closed_steps r kept told out p o = ap (λ x. x ++ steps.Close ∷ []) o.steps_are
 
 -- every request was asked where no bytes are kept
@@ -176,22 +167,29 @@ all_read r kept told out p o none =
     Reads-begun (profile_of r) p.bytes o.units o.begun o.asked (o.bytes_are ∙ ap (λ k. o.units ++ (o.begun ++ k)) none ∙ ap (λ b. o.units ++ b) (append-nil o.begun))
     o.are_units o.no_quit o.no_unit
 
+-- the end is told only behind a reserve, and if the line says that it ended
+told_well : (bytes written : List ℕ) (ended : Bool) (fault : Option LineFault) (asked : List Request) (told : Bool)
+    → (told ≡ true → (ends_by_wait asked ≡ true) × (ended ≡ true)) → AreEnds (record { read = bytes; written = written; ended = ended; fault = fault }) asked (end_if told)
+told_well bytes written ended fault asked true h = inr (refl, (h refl).0, (h refl).1)
+told_well bytes written ended fault asked false h = inl refl
+
 -- a line is closed at the end of its input
-pub ends_line : (r : State) (kept : List ℕ) (told ended : Bool) (p : Past) → IsOpen r kept told 0 p → kept ≡ [] → ended ≡ true
-    → IsServed (profile_of r) ends.EndOfInput (with_action (actions.Submit steps.Close) (record p { ended = ended }))
-ends_line r kept told ended p o none e = record {
-  steps_are = record {
-    read = o.asked;
+pub ends_line : (r : State) (kept : List ℕ) (told ended : Bool) (p : Past) → IsOpen r kept told 0 p → kept ≡ [] → ended ≡ true → (written : List ℕ)
+    → IsServed (profile_of r) written ends.EndOfInput (with_action (actions.Submit steps.Close) (record p { ended = ended }))
+ends_line r kept told ended p o none e written = record {
+  line = record {
+    requests = o.asked;
     rest = o.begun;
     asked = o.asked;
-    told = told;
+    told = end_if told;
     reads = all_read r kept told 0 p o none;
-    are_asked = (refl, o.no_quit, e);
+    is_over = (refl, no_quit_last o.asked o.no_quit, e);
+    ends = told_well p.bytes written ended p.fault o.asked told (λ t. ((o.told_well t).0, e));
     steps_are = closed_steps r kept told 0 p o;
-    told_well = λ t. ((o.told_well t).0, e);
   };
-  written_is = o.written_is;
-  answers_are = omega (arith, o.answered, counted r kept told 0 p o (steps.Close ∷ []));
+  handed_out = o.written_is;
+  answered = omega (arith, o.answered, answered_count-asked o.asked o.no_quit);
+  broken = tt;
 }
 
 -- the first fault of a past without one
@@ -199,63 +197,56 @@ first_fault : (p : Past) (fault : LineFault) → p.fault ≡ None
     → with_fault fault p ≡ record p { fault = Some fault; written_at_fault = length p.written }
 first_fault p fault e = ap (λ f. if is_some f then p else record p { fault = Some fault; written_at_fault = length p.written }) e
 
--- a last reserve is the last request among the steps
-last_waits : (r : State) (kept : List ℕ) (told : Bool) (out : ℕ) (p : Past) (o : IsOpen r kept told out p) → ends_by_wait o.asked ≡ true
-    → last_asks_wait false (p.steps ++ steps.Close ∷ []) ≡ true
-last_waits r kept told out p o w =
-    let steps_are : p.steps ++ steps.Close ∷ [] ≡ steps.Connect ∷ (map steps.Ask o.asked ++ (end_if told ++ steps.Close ∷ [])) =
-        ap (λ x. x ++ steps.Close ∷ []) o.steps_are ∙ append_assoc (steps.Connect ∷ map steps.Ask o.asked) (end_if told) (steps.Close ∷ []) in
-    rw steps_are (last_asks_wait-asked false o.asked (end_if told ++ steps.Close ∷ []) w ∙ last_asks_wait-end told (steps.Close ∷ []))
-
 -- the answers of a line of which a read failed
 fault_answers : (r : State) (kept : List ℕ) (told : Bool) (p : Past) (out : ℕ) (o : IsOpen r kept told out p)
-    → ((out ≡ 0) ⊎ ((out ≡ 1) × (ends_by_wait o.asked ≡ true)))
-    → AreAnswersOfLine ends.ReadFault (p.steps ++ steps.Close ∷ []) p.mail p.written (length p.written)
-fault_answers r kept told p out o (inl e) = inl (omega (arith, e, o.answered, counted r kept told out p o (steps.Close ∷ [])))
-fault_answers r kept told p out o (inr e) =
-    inr (omega (arith, e.0, o.answered, counted r kept told out p o (steps.Close ∷ [])), last_waits r kept told out p o e.1)
+    → ((out ≡ 0) ⊎ ((out ≡ 1) × (ends_by_wait o.asked ≡ true))) → AreAllAnswered ends.ReadFault o.asked p.mail
+fault_answers r kept told p out o (inl e) = inl (omega (arith, e, o.answered, answered_count-asked o.asked o.no_quit))
+fault_answers r kept told p out o (inr e) = inr (e.1, omega (arith, e.0, o.answered, answered_count-asked o.asked o.no_quit))
 
 -- a line is closed after a read fault
 pub read_fails : (r : State) (kept : List ℕ) (told : Bool) (out : ℕ) (p : Past) (o : IsOpen r kept told out p) → kept ≡ []
-    → ((out ≡ 0) ⊎ ((out ≡ 1) × (ends_by_wait o.asked ≡ true)))
-    → IsServed (profile_of r) ends.ReadFault (with_action (actions.Submit steps.Close) (with_fault faults.Read p))
-read_fails r kept told out p o none answers =
-    let P : Past → Type 0 = λ q. IsServed (profile_of r) ends.ReadFault (with_action (actions.Submit steps.Close) q) in
+    → ((out ≡ 0) ⊎ ((out ≡ 1) × (ends_by_wait o.asked ≡ true))) → (written : List ℕ)
+    → IsServed (profile_of r) written ends.ReadFault (with_action (actions.Submit steps.Close) (with_fault faults.Read p))
+read_fails r kept told out p o none answers written =
+    let P : Past → Type 0 = λ q. IsServed (profile_of r) written ends.ReadFault (with_action (actions.Submit steps.Close) q) in
     subst P (sym (first_fault p faults.Read o.fault_is)) (record {
-  steps_are = record {
-    read = o.asked;
+  line = record {
+    requests = o.asked;
     rest = o.begun;
     asked = o.asked;
-    told = told;
+    told = end_if told;
     reads = all_read r kept told out p o none;
-    are_asked = (refl, o.no_quit, refl);
+    is_over = (refl, no_quit_last o.asked o.no_quit, refl);
+    ends = told_well p.bytes written p.ended (Some faults.Read) o.asked told (λ t. ((o.told_well t).0, o.ended_is ∙ t));
     steps_are = closed_steps r kept told out p o;
-    told_well = λ t. ((o.told_well t).0, o.ended_is ∙ t);
   };
-  written_is = o.written_is;
-  answers_are = fault_answers r kept told p out o answers;
+  handed_out = o.written_is;
+  answered = fault_answers r kept told p out o answers;
+  broken = tt;
 })
 
 -- a line is closed after a write fault
 pub write_fails : (r : State) (kept : List ℕ) (told : Bool) (p : Past) → IsOpen r kept told 0 p → 0 < length p.written
-    → ((text : List ℕ) → (requests : List Request) × (rest : List ℕ) × Reads (profile_of r) text requests rest)
-    → IsServed (profile_of r) ends.WriteFault (with_action (actions.Submit steps.Close) (with_fault faults.Write p))
-write_fails r kept told p o some_written all =
-    let P : Past → Type 0 = λ q. IsServed (profile_of r) ends.WriteFault (with_action (actions.Submit steps.Close) q) in
+    → ((text : List ℕ) → (requests : List Request) × (rest : List ℕ) × Reads (profile_of r) text requests rest) → (written : List ℕ)
+    → IsServed (profile_of r) written ends.WriteFault (with_action (actions.Submit steps.Close) (with_fault faults.Write p))
+write_fails r kept told p o some_written all written =
+    let P : Past → Type 0 = λ q. IsServed (profile_of r) written ends.WriteFault (with_action (actions.Submit steps.Close) q) in
     let more = all (o.begun ++ kept) in
+    let some : 0 < length o.asked = omega (arith, o.answered, ap length o.written_is) in
     subst P (sym (first_fault p faults.Write o.fault_is)) (record {
-  steps_are = record {
-    read = o.asked ++ more.0;
+  line = record {
+    requests = o.asked ++ more.0;
     rest = more.1;
     asked = o.asked;
-    told = told;
+    told = end_if told;
     reads = Reads-after (profile_of r) p.bytes o.units (o.begun ++ kept) more.1 o.asked more.0 o.bytes_are o.are_units o.no_quit more.2;
-    are_asked = (more.0, refl, o.no_quit, omega (arith, o.answered, ap length o.written_is), refl);
+    is_over = (more.0, refl, some_asked o.asked some, no_quit_last o.asked o.no_quit, refl);
+    ends = told_well p.bytes written p.ended (Some faults.Write) o.asked told (λ t. ((o.told_well t).0, o.ended_is ∙ t));
     steps_are = closed_steps r kept told 0 p o;
-    told_well = λ t. ((o.told_well t).0, o.ended_is ∙ t);
   };
-  written_is = o.written_is;
-  answers_are = (omega (arith, o.answered, counted r kept told 0 p o (steps.Close ∷ [])), refl);
+  handed_out = o.written_is;
+  answered = omega (arith, o.answered, answered_count-asked o.asked o.no_quit);
+  broken = refl;
 })
 
 -- mail before the close
@@ -291,14 +282,21 @@ answered r kept told waits p a w =
 }, omega (arith, length-append p.written (a ∷ [])))
 
 -- mail after the close is no part of what was served
-pub served_still : (profile : Profile) (end : LineEnd) (p : Past) (a : Answer) → IsServed profile end p → p.closing ≡ true
-    → IsServed profile end (with_mail a p) × ((with_mail a p).closing ≡ true)
+still_broken : (end : LineEnd) (p : Past) (mail : List Answer) → IsLastBroken end p → IsLastBroken end (record p { late_mail = mail })
+still_broken ends.Quit p mail h = tt
+still_broken ends.EndOfInput p mail h = tt
+still_broken ends.ReadFault p mail h = tt
+still_broken ends.WriteFault p mail h = h
+
+pub served_still : (profile : Profile) (end : LineEnd) (p : Past) (a : Answer) → ((written : List ℕ) → IsServed profile written end p) → p.closing ≡ true
+    → ((written : List ℕ) → IsServed profile written end (with_mail a p)) × ((with_mail a p).closing ≡ true)
 served_still profile end p a s e =
-    let P : Past → Type 0 = λ q. IsServed profile end q × (q.closing ≡ true) in
-    subst P (sym (late_mail p a e)) (record {
-  steps_are = s.steps_are;
-  written_is = s.written_is;
-  answers_are = s.answers_are;
+    let P : Past → Type 0 = λ q. ((written : List ℕ) → IsServed profile written end q) × (q.closing ≡ true) in
+    subst P (sym (late_mail p a e)) (λ written. record {
+  line = (s written).line;
+  handed_out = (s written).handed_out;
+  answered = (s written).answered;
+  broken = still_broken end p _ (s written).broken;
 }, e)
 
 -- while a reserve waits, it is told that the client sends no more

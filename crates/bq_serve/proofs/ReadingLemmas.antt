@@ -3,7 +3,7 @@ use Rattle.std.proofs.Common.{◌≡◌, ℕ, Bool, true, false, ◌||◌, List,
 use Rattle.bq_job.specs.Profile.{Profile}
 use Rattle.bq_job.specs.Reading.{Reads, AreUnits, IsUnit, BeginsNoUnit, is_quit, quits_last, ends_by_quit}
 use Rattle.bq_job.specs.declared.request.Request.{Request}
-use Rattle.bq_serve.specs.LineSteps.{has_quit}
+use Rattle.bq_serve.specs.SeatStands.{has_quit}
 
 -- nothing begins with a whole request
 pub BeginsNoUnit-[] : (P : Profile) → BeginsNoUnit P []

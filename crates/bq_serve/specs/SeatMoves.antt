@@ -33,5 +33,5 @@ pub record IsMove (old : SeatMachine) (event : Event) (action : Action) (new : S
   pub opened : OpensPast event action new
   -- every past that the machine stands for goes on by this event and this action
   pub past : (p : Past) → StandsFor old p → StandsFor new (past_after event action p)
-  -- a line that is over was served
-  pub over : IfLineOver action (λ end. (p : Past) → StandsFor old p → IsServed (seat_profile old) end (past_after event action p))
+  -- a line that is over was served, whatever bytes were written to it
+  pub over : IfLineOver action (λ end. (p : Past) → StandsFor old p → (written : List ℕ) → IsServed (seat_profile old) written end (past_after event action p))

@@ -5,7 +5,7 @@ use Rattle.bq_job.specs.declared.answer.Answer.TheVariants as replies
 use Rattle.bq_job.specs.declared.line_end.LineEnd.{LineEnd}
 use Rattle.bq_job.specs.Reading.{is_quit}
 use Rattle.bq_job.specs.declared.request.Request.{Request}
-use Rattle.bq_serve.specs.LineSteps.{is_wait}
+use Rattle.bq_job.specs.LineSteps.{is_waiting_request}
 use Rattle.bq_serve.specs.Past.{Past, with_action, awaited_by}
 use Rattle.bq_serve.specs.SeatStands.{IsOpen, StandsFor, seat_profile, awaited}
 use Rattle.bq_serve.specs.declared.seat.machine.Action.{Action}
@@ -40,4 +40,4 @@ is_closed _ = false
 
 -- what is awaited once this request was asked
 abbrev pub asking_stage : Request → Stage
-asking_stage request = if is_quit request then stages.AskingQuit else stages.Asking (is_wait request)
+asking_stage request = if is_quit request then stages.AskingQuit else stages.Asking (is_waiting_request request)

@@ -1,14 +1,14 @@
 -- What a seat machine stands for: the pasts that its fields agree with.
 use Rattle.std.specs.Prelude.{ℕ, ◌≡◌, ◌+◌, ◌<◌, ◌⊎◌, Bool, true, false, if◌then◌else◌, List, [], ◌∷◌, ◌++◌, length, map, Option, Some, None}
-use Rattle.bq_job.specs.declared.answer.Answer.{Answer}
+use Rattle.std.specs.List.{list_any}
 use Rattle.bq_job.specs.declared.line_end.LineEnd.{LineEnd}
 use Rattle.bq_job.specs.declared.line_end.LineEnd.TheVariants as ends
 use Rattle.bq_job.specs.declared.request.Request.{Request}
 use Rattle.bq_job.specs.declared.step.Step.{Step}
 use Rattle.bq_job.specs.declared.step.Step.TheVariants as steps
 use Rattle.bq_job.specs.Profile.{Profile}
-use Rattle.bq_job.specs.Reading.{AreUnits, BeginsNoUnit}
-use Rattle.bq_serve.specs.LineSteps.{IsStepsOfLine, answered_count, last_asks_wait, end_if, ends_by_wait, has_quit}
+use Rattle.bq_job.specs.Reading.{AreUnits, BeginsNoUnit, is_quit}
+use Rattle.bq_job.specs.LineSteps.{LineSeen, IsStepsOfLine, AreAllAnswered, ends_by_wait}
 use Rattle.bq_serve.specs.Past.{Past, Awaited, with_action}
 use Rattle.bq_serve.specs.Standing.{profile_of, Stands}
 use Rattle.bq_serve.specs.declared.wire.state.State.{State}
@@ -17,22 +17,29 @@ use Rattle.bq_serve.specs.declared.seat.machine.SeatMachine.{SeatMachine}
 use Rattle.bq_serve.specs.declared.seat.machine.Stage.{Stage}
 use Rattle.bq_serve.specs.declared.seat.machine.Stage.TheVariants as stages
 
--- How many of the answers to the requests came, by how the line was over: all; but where a read failed,
--- the one to a last reserve may be missing. A write failed on the last answer that was handed out.
-abbrev pub AreAnswersOfLine : LineEnd → List Step → List Answer → List Answer → ℕ → Type 0
-AreAnswersOfLine ends.Quit steps mail written at = length mail ≡ answered_count steps
-AreAnswersOfLine ends.EndOfInput steps mail written at = length mail ≡ answered_count steps
-AreAnswersOfLine ends.ReadFault steps mail written at =
-    (length mail ≡ answered_count steps)
-    ⊎ ((length mail + 1 ≡ answered_count steps) × (last_asks_wait false steps ≡ true))
-AreAnswersOfLine ends.WriteFault steps mail written at = (length mail ≡ answered_count steps) × (at ≡ length written)
+abbrev pub has_quit : List Request → Bool
+has_quit asked = list_any is_quit asked
 
--- A line was served from its opening to its end: its steps are those of the line, and the answers that
--- were handed out for writing are those that came before the close, in order.
-pub record IsServed (profile : Profile) (end : LineEnd) (p : Past) : Type 0 where
-  pub steps_are : IsStepsOfLine profile p.bytes p.ended p.fault end p.steps
-  pub written_is : p.written ≡ p.mail
-  pub answers_are : AreAnswersOfLine end p.steps p.mail p.written p.written_at_fault
+abbrev pub end_if : Bool → List Step
+end_if told = if told then steps.End ∷ [] else []
+
+-- the line, as far as the machine has seen it, if these bytes were written to it
+abbrev pub seen_line : List ℕ → Past → LineSeen
+seen_line bytes p = record { read = p.bytes; written = bytes; ended = p.ended; fault = p.fault }
+
+-- A write fault came on the last answer that was handed out.
+abbrev pub IsLastBroken : LineEnd → Past → Type 0
+IsLastBroken ends.WriteFault p = p.written_at_fault ≡ length p.written
+IsLastBroken _ p = Unit {0}
+
+-- A line was served from its opening to its close: its steps are those of the line. The answers that
+-- were handed out for writing are those that came before the close, in their order: one for each request
+-- but quit, of which after a read fault that to a last reserve may be missing.
+pub record IsServed (profile : Profile) (written : List ℕ) (end : LineEnd) (p : Past) : Type 0 where
+  pub line : IsStepsOfLine profile (seen_line written p) end p.steps
+  pub handed_out : p.written ≡ p.mail
+  pub answered : AreAllAnswered end line.asked p.mail
+  pub broken : IsLastBroken end p
 
 -- A line that is open. The bytes that were handed in are the units of the requests that were asked, then
 -- the text that the reader has begun, then those that are kept. So many answers are outstanding.
@@ -59,7 +66,7 @@ IsWaiting reader kept told waits p =
     (line : IsOpen reader kept told 1 p) × (waits ≡ true → ends_by_wait line.asked ≡ true)
 
 abbrev pub StandsAt : Stage → State → List ℕ → Bool → Past → Type 0
-StandsAt stages.Between reader kept told p = (end : LineEnd) × IsServed (profile_of reader) end p
+StandsAt stages.Between reader kept told p = (end : LineEnd) × ((written : List ℕ) → IsServed (profile_of reader) written end p)
 StandsAt stages.Connecting reader kept told p = IsOpen reader kept told 0 p × (told ≡ false)
 StandsAt stages.Reading reader kept told p = IsOpen reader kept told 0 p × (kept ≡ []) × (told ≡ false)
 StandsAt (stages.Asking waits) reader kept told p = IsWaiting reader kept told waits p × (told ≡ false)
@@ -69,9 +76,9 @@ StandsAt stages.TellingEnd reader kept told p = IsWaiting reader kept told true 
 StandsAt stages.Writing reader kept told p = IsOpen reader kept told 0 p × (0 < length p.written)
 -- a quit was asked, and a close is right
 StandsAt stages.AskingQuit reader kept told p =
-    (p.closing ≡ false) × IsServed (profile_of reader) ends.Quit (with_action (actions.Submit steps.Close) p)
-StandsAt (stages.Closing end) reader kept told p = IsServed (profile_of reader) end p × (p.closing ≡ true)
-StandsAt (stages.Leaving end) reader kept told p = IsServed (profile_of reader) end p × (p.closing ≡ true)
+    (p.closing ≡ false) × ((written : List ℕ) → IsServed (profile_of reader) written ends.Quit (with_action (actions.Submit steps.Close) p))
+StandsAt (stages.Closing end) reader kept told p = ((written : List ℕ) → IsServed (profile_of reader) written end p) × (p.closing ≡ true)
+StandsAt (stages.Leaving end) reader kept told p = ((written : List ℕ) → IsServed (profile_of reader) written end p) × (p.closing ≡ true)
 
 -- the machine's fields agree with this past
 abbrev pub StandsFor : SeatMachine → Past → Type 0

@@ -1,8 +1,13 @@
-//! Requests and answers as bytes.
+//! The texts of the protocol: requests out of bytes, and answers into bytes.
 
 pub use reader::RequestReader;
 pub use texts::{answer_body, answer_head, answer_tail, HeadBuf};
 
+mod kept_line;
+mod line_end;
+mod line_read;
+mod numbers;
+mod put_body;
 mod reader;
 mod state;
 mod texts;
