@@ -1,7 +1,7 @@
 //! The texts of the protocol: requests out of bytes, and answers into bytes.
 
 pub use reader::RequestReader;
-pub use texts::{answer_body, answer_head, answer_tail, HeadBuf};
+pub use texts::{HeadBuf, answer_body, answer_head, answer_tail};
 
 mod kept_line;
 mod line_end;

@@ -57,13 +57,9 @@ enum Stage {
     /// The line is being read, and nothing is outstanding.
     Reading,
     /// A request is being submitted. `waits` says that it is a reserve, whose answer may take long.
-    Asking {
-        waits: bool,
-    },
+    Asking { waits: bool },
     /// The answer to a request is awaited.
-    Polling {
-        waits: bool,
-    },
+    Polling { waits: bool },
     /// The line is being read while a reserve waits.
     ReadingOn,
     /// It is being submitted that the client sends no more.
@@ -90,13 +86,19 @@ pub struct SeatMachine {
 }
 
 impl SeatMachine {
+    ghost use Rattle.bq_job.specs.Profile.{profile};
+    ghost use Rattle.bq_serve.specs.Past.{Awaited};
     ghost use Rattle.bq_serve.specs.SeatMoves.{FitsPiece, IsMove};
     ghost use Rattle.bq_serve.specs.SeatParts.{GoesOn, asking_stage, in_stage, is_closed, reads_on};
     ghost use Rattle.bq_serve.specs.SeatStands.{awaited, seat_profile};
+    ghost use Rattle.bq_serve.specs.WordsSoFar.{words_so_far};
 
-    /// A machine that awaits its first line. Bodies of more than `max_job_size` bytes are refused.
+    /// A machine that awaits its first line. Bodies of more than `max_job_size` bytes, of 1 to 1,048,576,
+    /// are refused. All memory but that for bodies is asked for here.
     pub fn new(alloc: Global, max_job_size: u32) -> Result<SeatMachine, NoMemory>
         requires { (1 ≤ max_job_size) × (max_job_size ≤ 1048576) }
+        ensures awaits { IfOk result (λ machine. awaited machine ≡ Awaited.ALine) }
+        ensures profile { IfOk result (λ machine. seat_profile machine ≡ profile max_job_size words_so_far) }
     {
         let reader = RequestReader::new(alloc, max_job_size)?;
         let kept = Kept::new(alloc)?;
@@ -108,7 +110,10 @@ impl SeatMachine {
         })
     }
 
-    /// What to do, now that this has happened.
+    /// What to do, now that this has happened. Takes no memory but for the body of a put.
+    ///
+    /// An event that doesn't answer the last action changes nothing, and the action is `Stray`. At most
+    /// 4,096 bytes are handed in at once.
     pub fn on(&mut self, event: Event<'_>) -> Action
         requires { FitsPiece event }
         ensures { IsMove self.old event.entry result self.new }
@@ -329,3 +334,6 @@ fn stage_of(request: &Request) -> Stage
         _ => Stage::Asking { waits: false },
     }
 }
+
+#[cfg(test)]
+mod tests;
