@@ -1,19 +1,17 @@
 -- The moves of a seat machine, stage by stage.
-use Rattle.std.proofs.Common.{◌≡◌, ℕ, ◌<◌, Bool, true, false, not, ◌&&◌, ◌||◌, ◌==◌, List, [], ◌∷◌, ◌++◌, ◌⊎◌, inl, inr, Option, Some, None, refl, sym, ap, subst, ◌∙◌, length, if◌then◌else◌, arith, Bor}
+use Rattle.std.proofs.Common.{◌≡◌, ℕ, Bool, true, false, not, ◌&&◌, ◌==◌, List, [], ◌∷◌, inl, inr, refl, sym, ap, subst, ◌∙◌, length, if◌then◌else◌, arith, Bor}
 use Rattle.std.proofs.lemmas.Bool.Decides.{nat_tests}
 use Rattle.bq_job.specs.ComputedReading.{reading}
 use Rattle.bq_job.specs.declared.answer.Answer.{Answer}
-use Rattle.bq_job.specs.declared.answer.Answer.TheVariants as replies
 use Rattle.bq_job.specs.declared.line_end.LineEnd.{LineEnd}
 use Rattle.bq_job.specs.declared.line_end.LineEnd.TheVariants as ends
-use Rattle.bq_job.specs.declared.line_end.LineFault.TheVariants as faults
 use Rattle.bq_job.specs.declared.step.Step.TheVariants as steps
 use Rattle.bq_job.specs.Profile.{Profile}
 use Rattle.bq_job.specs.Reading.{Reads}
 use Rattle.bq_serve.specs.Past.{Past, with_action, with_event, past_after, is_stray, answers, first_past}
-use Rattle.bq_serve.specs.SeatMoves.{IsMove, OpensPast, IfLineOver}
-use Rattle.bq_serve.specs.SeatParts.{GoesOn, in_stage, is_going_on, is_closed, reads_on}
-use Rattle.bq_serve.specs.SeatStands.{IsOpen, IsServed, IsWaiting, StandsFor, StandsAt, seat_profile, awaited, awaited_at}
+use Rattle.bq_serve.specs.SeatMoves.{IsMove, IfLineOver}
+use Rattle.bq_serve.specs.SeatParts.{GoesOn, in_stage, is_going_on, reads_on}
+use Rattle.bq_serve.specs.SeatStands.{IsOpen, StandsFor, StandsAt, seat_profile, awaited_at}
 use Rattle.bq_serve.specs.Standing.{profile_of, Stands}
 use Rattle.bq_serve.specs.declared.wire.state.State.{State}
 use Rattle.bq_serve.specs.declared.seat.machine.Action.{Action}

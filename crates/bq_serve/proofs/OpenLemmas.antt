@@ -1,6 +1,5 @@
 -- What an open line stands for, as it is opened, asks, is answered and is closed.
-use Rattle.std.proofs.Common.{◌≡◌, ℕ, ◌+◌, ◌<◌, Bool, true, false, if◌then◌else◌, is_some, ◌||◌, List, [], ◌∷◌, ◌++◌, ◌⊎◌, inl, inr, Option, Some, None, refl, sym, ap, subst, ◌∙◌, append_assoc, append-nil, map, length, arith, length-append, take, drop, take-append-drop}
-use Rattle.std.proofs.lemmas.Grind.{common_steps}
+use Rattle.std.proofs.Common.{◌≡◌, ℕ, ◌<◌, Bool, true, false, if◌then◌else◌, is_some, List, [], ◌∷◌, ◌++◌, ◌⊎◌, inl, inr, Option, Some, None, refl, sym, ap, subst, ◌∙◌, append_assoc, append-nil, map, length, arith, length-append, take, drop, take-append-drop}
 use Rattle.bq_job.specs.declared.answer.Answer.{Answer}
 use Rattle.bq_job.specs.declared.line_end.LineEnd.{LineEnd}
 use Rattle.bq_job.specs.declared.line_end.LineEnd.TheVariants as ends
@@ -12,13 +11,12 @@ use Rattle.bq_job.specs.declared.step.Step.{Step}
 use Rattle.bq_job.specs.declared.step.Step.TheVariants as steps
 use Rattle.bq_job.specs.Profile.{Profile}
 use Rattle.bq_job.specs.Reading.{Reads, AreUnits, IsUnit, BeginsNoUnit, is_quit}
-use Rattle.bq_job.specs.LineSteps.{IsStepsOfLine, AreEnds, AreAllAnswered, LineSeen, answered_count, is_waiting_request, ends_by_wait}
+use Rattle.bq_job.specs.LineSteps.{AreEnds, AreAllAnswered, is_waiting_request, ends_by_wait}
 use Rattle.bq_serve.specs.Past.{Past, with_action, with_mail, with_fault, first_past}
 use Rattle.bq_serve.specs.Standing.{profile_of, Stands}
-use Rattle.bq_serve.specs.SeatStands.{IsOpen, IsWaiting, IsServed, StandsAt, seen_line, end_if, has_quit, IsLastBroken}
+use Rattle.bq_serve.specs.SeatStands.{IsOpen, IsWaiting, IsServed, StandsAt, end_if, IsLastBroken}
 use Rattle.bq_serve.specs.declared.wire.state.State.{State}
 use Rattle.bq_serve.specs.declared.seat.machine.Action.TheVariants as actions
-use Rattle.bq_serve.specs.declared.seat.machine.Event.TheVariants as events
 use Rattle.bq_serve.specs.declared.seat.machine.Stage.TheVariants as stages
 use Rattle.bq_serve.proofs.ReadingLemmas.{BeginsNoUnit-[], AreUnits-append, one_unit, Reads-after, Reads-begun, Reads-quit, ends_by_quit-append}
 use Rattle.bq_serve.proofs.StepLemmas.{answered_count-asked, answered_count-quit, ends_by_wait-asked, has_quit-asked, map-asked, no_quit_last, some_asked}

@@ -1,5 +1,5 @@
 -- What a seat machine does with an event.
-use Rattle.std.specs.Prelude.{ℕ, ◌≡◌, ◌≤◌, Bool, true, false, not, List, length, Option, Some}
+use Rattle.std.specs.Prelude.{ℕ, ◌≡◌, ◌≤◌, true, false, not, List, length, Some}
 use Rattle.bq_job.specs.declared.line_end.LineEnd.{LineEnd}
 use Rattle.bq_serve.specs.Past.{Past, past_after, first_past, is_stray, awaited_by, answers}
 use Rattle.bq_serve.specs.SeatStands.{StandsFor, IsServed, seat_profile, awaited}
