@@ -11,4 +11,6 @@ mod pieces;
 mod put_body;
 mod reader;
 mod state;
+#[cfg(test)]
+mod tests;
 mod words;
