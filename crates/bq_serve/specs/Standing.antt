@@ -42,11 +42,11 @@ StandsAt state Over text = ⊥
 abbrev pub Stands : State → List ℕ → Type 0
 Stands state text = StandsAt state state.place text
 
--- a body that is begun has room for the rest
+-- a body that is begun isn't whole, and has room for the rest
 abbrev pub IsSoundPlace : Place → Type 0
 IsSoundPlace InLine = Unit {0}
 IsSoundPlace (InLongLine after_cr) = Unit {0}
-IsSoundPlace (InBody body) = HasRoom body
+IsSoundPlace (InBody body) = HasRoom body × (body.taken < body.put.bytes + 2)
 IsSoundPlace Over = Unit {0}
 
 abbrev pub IsSound : State → Type 0

@@ -89,6 +89,7 @@ impl PutBody {
         ensures room { HasRoom self.new }
         ensures put { self.new.put ≡ self.old.put }
         ensures within { result ≤ length bytes.now }
+        ensures taken { self.new.taken ≡ self.old.taken + result }
         ensures takes { TakesBytes self.old self.new (take result bytes.now) }
         ensures all { self.new.taken < self.new.put.bytes + 2 → result ≡ length bytes.now }
     {

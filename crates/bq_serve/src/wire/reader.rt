@@ -2,7 +2,7 @@ ghost use Rattle.std.specs.Prelude.{◌≡◌, ◌≤◌, ◌<◌, ◌+◌, ◌+
 ghost use Rattle.bq_job.specs.LineRead as line_read;
 ghost use Rattle.bq_job.specs.Reading.{is_quit};
 ghost use Rattle.bq_serve.specs.Asked.{asked_by};
-ghost use Rattle.bq_serve.specs.HasRead.{ReadsOn};
+ghost use Rattle.bq_serve.specs.HasRead.{HasRead, ReadsOn};
 ghost use Rattle.bq_serve.specs.PutBodies.{HasRoom};
 ghost use Rattle.bq_serve.specs.Standing.{IsSound, Stands, StandsAt, Feeds, Keeps, IsLineOf, Waits, HandsOut, but_last};
 ghost use Rattle.bq_serve.specs.WordsSoFar.{words_so_far};
@@ -43,6 +43,7 @@ impl RequestReader {
     pub fn new(alloc: Global, max_job_size: u32) -> Result<RequestReader, NoMemory>
         requires { (1 ≤ max_job_size) × (max_job_size ≤ 1048576) }
         ensures stands { IfOk result (λ reader. Stands reader []) }
+        ensures reads { IfOk result (λ reader. HasRead reader [] []) }
         ensures limit { IfOk result (λ reader. reader.max_job_size ≡ max_job_size) }
     {
         let kept = KeptLine::new(alloc)?;
@@ -59,6 +60,7 @@ impl RequestReader {
     /// Forgets what was read, also a quit. Takes no memory.
     pub fn restart(&mut self)
         ensures stands { Stands self.new [] }
+        ensures reads { HasRead self.new [] [] }
         ensures limit { self.new.max_job_size ≡ self.old.max_job_size }
     {
         self.state.kept.clear();
@@ -70,6 +72,7 @@ impl RequestReader {
     /// which it asks for when its line is whole; where that is refused, the put is a refused request.
     pub fn feed(&mut self, piece: &[u8]) -> (usize, Option<Request>)
         ensures within { result.0 ≤ length piece.now }
+        ensures progress { IfSome result.1 (λ _. 0 < result.0) }
         // Whatever text it stood for, no beginning of that text and the piece is a request, all of the
         // piece was taken, and that is what it stands for now.
         ensures waits { result.1 ≡ None → (text : List ℕ) → Stands self.old text → Waits self.new text piece.now result.0 }
@@ -90,6 +93,7 @@ fn feed_state(alloc: Global, state: &mut State, piece: &[u8]) -> (usize, Option<
     requires { IsSound state.old }
     ensures sound { IsSound state.new }
     ensures within { result.0 ≤ length piece.now }
+    ensures progress { IfSome result.1 (λ _. 0 < result.0) }
     ensures feeds { Feeds (Stands state.old) state.new piece.now result.0 result.1 }
     ensures over { state.old.place ≡ Over → (result.0 ≡ 0) × (result.1 ≡ None) × (state.new ≡ state.old) }
     ensures limit { state.new.max_job_size ≡ state.old.max_job_size }
@@ -106,6 +110,7 @@ fn feed_state(alloc: Global, state: &mut State, piece: &[u8]) -> (usize, Option<
 fn feed_line(alloc: Global, state: &mut State, piece: &[u8]) -> (usize, Option<Request>)
     ensures sound { IsSound state.new }
     ensures within { result.0 ≤ length piece.now }
+    ensures progress { IfSome result.1 (λ _. 0 < result.0) }
     ensures feeds { Feeds (StandsAt state.old InLine) state.new piece.now result.0 result.1 }
     ensures limit { state.new.max_job_size ≡ state.old.max_job_size }
 {
@@ -164,9 +169,11 @@ fn after_line(
     piece: &[u8],
     end: usize,
 ) -> (usize, Option<Request>)
-    requires { end ≤ length piece.now }
+    requires some { 0 < end }
+    requires within { end ≤ length piece.now }
     ensures sound { IsSound state.new }
     ensures within { result.0 ≤ length piece.now }
+    ensures progress { IfSome result.1 (λ _. 0 < result.0) }
     ensures feeds { state.old.kept ≡ [] → Feeds (IsLineOf (asked_by read) (take end piece.now)) state.new piece.now result.0 result.1 }
     ensures limit { state.new.max_job_size ≡ state.old.max_job_size }
 {
@@ -197,6 +204,7 @@ fn place_behind(request: &Request) -> Place
 fn feed_long_line(state: &mut State, after_cr: bool, piece: &[u8]) -> (usize, Option<Request>)
     ensures sound { IsSound state.new }
     ensures within { result.0 ≤ length piece.now }
+    ensures progress { IfSome result.1 (λ _. 0 < result.0) }
     ensures feeds { Feeds (StandsAt state.old (InLongLine after_cr)) state.new piece.now result.0 result.1 }
     ensures limit { state.new.max_job_size ≡ state.old.max_job_size }
 {
@@ -214,9 +222,11 @@ fn feed_long_line(state: &mut State, after_cr: bool, piece: &[u8]) -> (usize, Op
 
 // Feeds the body of a put.
 fn feed_body(state: &mut State, body: PutBody, piece: &[u8]) -> (usize, Option<Request>)
-    requires { HasRoom body }
+    requires room { HasRoom body }
+    requires not_whole { body.taken < body.put.bytes + 2 }
     ensures sound { IsSound state.new }
     ensures within { result.0 ≤ length piece.now }
+    ensures progress { IfSome result.1 (λ _. 0 < result.0) }
     ensures feeds { Feeds (StandsAt state.old (InBody body)) state.new piece.now result.0 result.1 }
     ensures limit { state.new.max_job_size ≡ state.old.max_job_size }
 {

@@ -12,4 +12,4 @@ returns-in-PutWaits-clause-feeds c = λ nothing text line.
     let fed = c.feed_body-taken in
     let asked : asked_by c.args.read ≡ line_read.PutWaits (put_line_of body.result.put) = rw (c.in-PutWaits.is, body.ensures.put) in
     feeds_behind fed.new.state text c.args.piece.now (take (length c.args.piece.now - c.args.end) (drop c.args.end c.args.piece.now)) c.args.end fed.result.0 fed.result.1
-    c.requires rest (fed.ensures.feeds _ (nothing, line_begins body.result text (take c.args.end c.args.piece.now) (asked_by c.args.read) line asked body.ensures.nothing))
+    c.requires.within rest (fed.ensures.feeds _ (nothing, line_begins body.result text (take c.args.end c.args.piece.now) (asked_by c.args.read) line asked body.ensures.nothing))
