@@ -1,5 +1,5 @@
 -- What each event at a seat does, where its seat is known.
-use Rattle.std.proofs.Common.{◌≡◌, ℕ, suc, Bool, true, false, ◌+◌, ◌≤◌, ◌<◌, ◌&&◌, ◌||◌, ◌==◌, not, cond, List, [], ◌∷◌, ◌++◌, Option, Some, None, map, filter, refl, sym, ap, ◌∙◌, if◌then◌else◌, nat_eq, nat_le, unwrap_or, arith, inl, inr, eq-eqb, subst, ◌⊎◌}
+use Rattle.std.proofs.Common.{◌≡◌, ℕ, suc, Bool, true, false, ◌+◌, ◌≤◌, ◌<◌, ◌&&◌, ◌||◌, ◌==◌, not, cond, List, [], ◌∷◌, ◌++◌, Option, Some, None, map, filter, refl, sym, ap, ◌∙◌, if◌then◌else◌, nat_eq, nat_le, unwrap_or, arith, inl, inr, eq-eqb, subst, append-nil, ◌⊎◌}
 use Rattle.std.specs.List.{AllByRecursion, find}
 use Rattle.std.proofs.lemmas.Bool.{and_parts, cases_Bool, eqb-true}
 use Rattle.std.proofs.lemmas.Bool.Decides.{nat_tests}
@@ -15,10 +15,12 @@ use Rattle.bq_job.specs.Changes.{is_held_by, is_waiting, job_with, seat_with, wi
 use Rattle.bq_job.specs.JobCommands.{after_delete, delete_effect, is_free_for, last_id, new_job, put_effect, with_delete, with_put}
 use Rattle.bq_job.specs.Limits.{raised}
 use Rattle.bq_job.specs.Machine.{Machine, SeatRecord, TubeRecord, default_tube}
+use Rattle.bq_job.specs.Steps.{granted, growth_refused}
 use Rattle.bq_job.specs.Tubes.{fresh_tube, tube_record, with_record}
 use Rattle.bq_job.specs.TubeName.{is_same_name}
 use Rattle.bq_core.specs.declared.state.State.{State}
-use Rattle.bq_core.specs.Acting.{is_asking, is_connected, is_free}
+use Rattle.bq_core.specs.Acting.{Acts, is_asking, is_connected, is_free}
+use Rattle.bq_core.specs.Outbox.{Outbox}
 use Rattle.bq_core.specs.JobChanges.{is_free_job}
 use Rattle.bq_core.specs.Plain.{IsAtDefault, IsInDefault}
 use Rattle.bq_core.specs.State.{default_record, machine_of, tubes_of}
@@ -130,3 +132,48 @@ deleted_at st s id (Some j) e free all =
 pub delete_done : (st : State) (s : SeatRecord) (seat id : ℕ) → s.number ≡ seat → is_free_job seat (job_with id st.jobs.items) ≡ true → AllByRecursion IsInDefault st.jobs.items → delete_effect id (machine_of st) s ≡ telling answers.Deleted (record (machine_of st) { jobs = filter (λ k. not (k.id == id)) st.jobs.items; tubes = tubes_of st.tube_puts (raised st.tube_deletes) })
 delete_done st s seat id at free all =
     deleted_at st s id (job_with id st.jobs.items) refl (ap (λ n. is_free_job n (job_with id st.jobs.items)) at ∙ free) all
+
+-- the client who asks
+pub record Asks (st : State) (seat : ℕ) (request : Request) : Type 0 where
+  pub asker : SeatRecord
+  pub at_default : IsAtDefault asker
+  pub number : asker.number ≡ seat
+  pub asks : at_found (steps.Ask request) (machine_of st) (seat_with seat st.seats.items) ≡ asked request (machine_of st) asker
+
+asks_at : (st : State) (seat : ℕ) (request : Request) → AllByRecursion IsAtDefault st.seats.items → (o : Option SeatRecord) → seat_with seat st.seats.items ≡ o → is_asking o ≡ true → Asks st seat request
+asks_at st seat request all None e asking = absurd cc
+asks_at st seat request all (Some s) e asking = record {
+  asker = s;
+  at_default = found_has IsAtDefault (λ s. s.number == seat) st.seats.items s all e;
+  number = number_found seat st.seats.items s e;
+  asks = rw (e, asking) refl;
+}
+
+pub ask_at : (st : State) (seat : ℕ) (request : Request) → AllByRecursion IsAtDefault st.seats.items → is_asking (seat_with seat st.seats.items) ≡ true → Asks st seat request
+ask_at st seat request all asking = asks_at st seat request all (seat_with seat st.seats.items) refl asking
+
+or_false : (b : Bool) → b ≡ (b || false)
+or_false true = refl
+or_false false = refl
+
+pub acts_silent : (m : Machine) (seat : ℕ) (what : Step) (outs : Outbox) (last : Machine) → effect m seat what ≡ record { machine = last; answer = None } → Acts m seat what outs outs last
+acts_silent m seat what outs last is = record {
+  memory = granted;
+  possible = refl;
+  after = sym (ap (λ e. e.machine) is);
+  added = rw (ap (λ e. e.answer) is) (sym (append-nil outs.given));
+  most = refl;
+  left_out = or_false outs.left_out;
+  unshared = or_false outs.unshared;
+}
+
+pub acts_told : (m : Machine) (seat : ℕ) (what : Step) (answer : Answer) (old new : Outbox) (last : Machine) → effect m seat what ≡ record { machine = last; answer = Some answer } → new ≡ record old { given = old.given ++ (seat, answer) ∷ [] } → Acts m seat what old new last
+acts_told m seat what answer old new last is adds = record {
+  memory = granted;
+  possible = refl;
+  after = sym (ap (λ e. e.machine) is);
+  added = rw (ap (λ e. e.answer) is) (ap (λ o. o.given) adds);
+  most = ap (λ o. o.most) adds;
+  left_out = ap (λ o. o.left_out) adds ∙ or_false old.left_out;
+  unshared = ap (λ o. o.unshared) adds ∙ or_false old.unshared;
+}

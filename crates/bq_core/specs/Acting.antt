@@ -1,5 +1,5 @@
 -- The command's own effect, as the core carries it out.
-use Rattle.std.specs.Prelude.{ℕ, Bool, true, false, ◌≡◌, ◌+◌, ◌≤◌, ◌&&◌, ◌||◌, ◌++◌, not, IsTrue, Option, Some, None, length}
+use Rattle.std.specs.Prelude.{ℕ, Bool, true, false, ◌≡◌, ◌&&◌, ◌||◌, ◌++◌, not, IsTrue, Option, Some, None}
 use Rattle.bq_job.specs.declared.answer.Answer.{Answer}
 use Rattle.bq_job.specs.declared.request.Request.{Request}
 use Rattle.bq_job.specs.declared.request.Request.TheVariants as requests
@@ -7,7 +7,6 @@ use Rattle.bq_job.specs.declared.step.Step.{Step}
 use Rattle.bq_job.specs.declared.step.Step.TheVariants as steps
 use Rattle.bq_job.specs.Acts.{Effect}
 use Rattle.bq_job.specs.Changes.{is_waiting}
-use Rattle.bq_job.specs.Computed.{waiting_count}
 use Rattle.bq_job.specs.Machine.{Machine, SeatRecord}
 use Rattle.bq_job.specs.Steps.{Memory, acted, addressed, is_growth_refused, is_possible, is_share_refused, wants_growth}
 use Rattle.bq_core.specs.declared.acts.Reply.{Reply}
@@ -57,5 +56,3 @@ pub record Acts (m : Machine) (seat : ℕ) (what : Step) (old new : Outbox) (las
   pub most : new.most ≡ old.most
   pub left_out : new.left_out ≡ (old.left_out || is_growth_refused memory)
   pub unshared : new.unshared ≡ (old.unshared || is_share_refused memory)
-  -- An answer was added, or a waiting client, and not both.
-  pub taken : waiting_count last + length (addressed seat (acted memory m seat what).answer) ≤ waiting_count m + 1

@@ -5,14 +5,14 @@
 #![tactic(auto)]
 
 pub use config::{Config, CoreFault};
-// pub use machine::Core;
+pub use machine::Core;
 pub use outs::Outs;
 
 mod acts;
 mod config;
 mod dispatch;
 mod job_list;
-// mod machine;
+mod machine;
 mod outs;
 mod place;
 mod seat_list;

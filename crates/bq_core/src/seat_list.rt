@@ -1,9 +1,10 @@
-ghost use Rattle.std.specs.Prelude.{◌≡◌, ◌<◌, ◌&&◌, map, length, IfSome};
+ghost use Rattle.std.specs.Prelude.{◌≡◌, ◌<◌, map, length, IfSome, IfOk};
 ghost use Rattle.std.specs.List.{AllByRecursion};
 ghost use Rattle.std.specs.Option.{option_copied};
 ghost use Rattle.bq_core.specs.Plain.{IsAtDefault};
 ghost use Rattle.bq_job.specs.Changes.{first_of, is_waiting, seat_with};
 ghost use Rattle.bq_job.specs.Dispatch.{is_wait_before};
+ghost use Rattle.bq_job.specs.Machine.{empty_seat, numbers};
 ghost use Rattle.bq_core.specs.SeatChanges.{seat_changed, seat_changed_at};
 ghost use Rattle.bq_core.specs.Places.{item_at, better_if};
 ghost use Rattle.bq_core.specs.EndingWaits.{ends_waiting_among};
@@ -11,7 +12,7 @@ ghost use Rattle.bq_core.specs.EndingWaits.{ends_waiting_among};
 use crate::job_list;
 use crate::place::Place;
 use bq_job::{Job, Moment, Seat};
-use std::alloc::Global;
+use std::alloc::{AllocError, Global};
 
 /// What happens at a seat.
 #[derive(Clone, Copy, Debug)]
@@ -115,4 +116,15 @@ pub(crate) fn first_ending(seats: &[Place], jobs: &[Job], moment: Moment) -> Opt
         best = better(seats, best, i, ends_waiting(jobs, &seats[i], moment));
     }
     best
+}
+
+/// So many seats, with nobody there.
+pub(crate) fn new_places(alloc: Global, count: u16) -> Result<Vec<Place, Global>, AllocError>
+    ensures { IfOk result (λ seats. seats.items ≡ map empty_seat (numbers 0 count)) }
+{
+    let mut seats = Vec::with_capacity(alloc, usize::from(count))?;
+    for number in 0..count {
+        seats.push_reserved(Place::new(number));
+    }
+    Ok(seats)
 }

@@ -1,6 +1,7 @@
-ghost use Rattle.std.specs.Prelude.{◌≡◌, ◌<◌, length, IfSome};
+ghost use Rattle.std.specs.Prelude.{◌≡◌, ◌<◌, length, map, IfSome};
+ghost use Rattle.bq_job.specs.Machine.{empty_seat, new_machine, numbers};
 ghost use Rattle.bq_job.specs.Timers.{at_moment, after_timers};
-ghost use Rattle.bq_core.specs.State.{machine_of, IsSound};
+ghost use Rattle.bq_core.specs.State.{machine_of, settings_of, IsSound};
 
 use crate::config::Config;
 use crate::job_list::JobChange;
@@ -116,4 +117,30 @@ pub(crate) fn fire_timers(state: &mut State)
     let expired = job_list::expired_count(state.jobs.as_slice(), state.moment);
     state.timeouts = state.timeouts.saturating_add(expired);
     job_list::change_all(&mut state.jobs, &JobChange::FireTimers(state.moment));
+}
+
+/// No jobs, and nobody at the seats.
+pub(crate) fn first_state(alloc: Global, config: Config, seats: Vec<Place, Global>) -> State
+    requires free { seats.items ≡ map empty_seat (numbers 0 config.seats) }
+    ensures empty { machine_of result ≡ new_machine (settings_of config) }
+    ensures sound { IsSound result }
+{
+    let Some(default_tube) = TubeName::new(b"default") else {
+        unreachable!();
+    };
+    State {
+        config,
+        jobs: Vec::new(alloc),
+        seats,
+        default_tube,
+        tube_puts: 0,
+        tube_deletes: 0,
+        moment: 0,
+        next_id: 1,
+        tickets: 0,
+        draining: false,
+        timeouts: 0,
+        puts: 0,
+        connections: 0,
+    }
 }

@@ -36,7 +36,7 @@ after_timers_is moment j P due expired same =
     (λ e. cond_both (is_expired moment j.state) (record j { state = states.Ready; counts = with_timeout j.counts }) j P (λ f. expired) (λ f. same))
 
 -- Timers keep it.
-kept_of_timers : (at : ℕ) (m : Machine) → Keeps m → Keeps (forgetting (after_timers (at_moment at m)))
+pub kept_of_timers : (at : ℕ) (m : Machine) → Keeps m → Keeps (forgetting (after_timers (at_moment at m)))
 kept_of_timers at m h =
     let now = (at_moment at m).moment in
     kept_of_jobs (job_after_timers now) h
@@ -207,7 +207,7 @@ lawful_when_served first handed ended last h s =
     (dispatched_through_ends s.between ended e.end (ap next_job d.forgets ∙ next_job_as_before d.end ∙ d.done) e.turns) e.done)
 
 -- what a command leaves, whatever became of the memory that it wanted
-leaves_acted : (memory : Memory) (m : Machine) (seat : ℕ) (what : Step) → Keeps m → Leaves m (acted memory m seat what)
+pub leaves_acted : (memory : Memory) (m : Machine) (seat : ℕ) (what : Step) → Keeps m → Leaves m (acted memory m seat what)
 leaves_acted granted m seat what h = leaves_effect m seat what h
 leaves_acted growth_refused m seat what h = record { keeps = h; waiting = omega arith }
 leaves_acted share_refused m seat what h = record { keeps = h; waiting = omega arith }
@@ -242,19 +242,16 @@ new_is_lawful settings = record {
 }
 
 -- as many answers as the act gives
-length_addressed : (seat : ℕ) (o : Option Answer) → length (addressed seat o) ≡ answer_count o
+pub length_addressed : (seat : ℕ) (o : Option Answer) → length (addressed seat o) ≡ answer_count o
 length_addressed seat None = refl
 length_addressed seat (Some answer) = refl
-
-waiting_after_act : (m n : Machine) (e : Effect) → n ≡ forgetting e.machine → waiting_count n ≡ waiting_count e.machine
-waiting_after_act m n e is = ap waiting_count is
 
 -- as many seats as the machine was made with
 length_numbers : (low n : ℕ) → length (numbers low n) ≡ n
 length_numbers low zero = refl
 length_numbers low (suc n) = ap suc (length_numbers (suc low) n)
 
-seats_many : (m : Machine) → Keeps m → length m.seats ≡ m.settings.seats
+pub seats_many : (m : Machine) → Keeps m → length m.seats ≡ m.settings.seats
 seats_many m h = sym (length-map m.seats (λ s. s.number)) ∙ ap length h.seated ∙ length_numbers 0 m.settings.seats
 
 -- A step gives at most one answer more than there are seats.

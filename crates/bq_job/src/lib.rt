@@ -32,6 +32,8 @@ mod refusal;
 mod request;
 #[cfg(test)]
 mod rows_of_machine;
+#[cfg(test)]
+mod rows_of_sessions;
 mod step;
 mod text;
 mod tube_name;

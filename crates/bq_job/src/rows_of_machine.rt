@@ -1,86 +1,9 @@
 //! Worked examples of the machine. Each is a clause that holds by evaluating the definitions, and none
 //! runs our code.
-ghost use Rattle.bq_job.specs.declared.answer.Answer.TheVariants.{Buried, Closed, DeadlineSoon, Deleted, Draining, Found, Inserted, Kicked, KickedCount, NotFound, NotIgnored, Paused, Released, Reserved, TimedOut, Touched, Using, Watching};
-ghost use Rattle.bq_job.specs.declared.request.Request.TheVariants.{Bury, Delete, Ignore, Kick, KickJob, Peek, PauseTube, PeekBuried, PeekDelayed, PeekReady, Put, Release, Reserve, ReserveJob, ReserveWithTimeout, Touch, Use, Watch};
-ghost use Rattle.bq_job.specs.Examples.{Plays, ask, at, close, drain, end, session, tick, ◌gives◌};
-ghost use Rattle.std.specs.Prelude.{List, [], ◌∷◌, ◌≡◌, codes};
-
-/// A job is put, reserved and deleted.
-fn first_cycle()
-    ensures { session (Put 5 0 10 (codes "abc") ∷ Reserve ∷ Delete 1 ∷ [])
-        ≡ Inserted 1 ∷ Reserved 1 (codes "abc") ∷ Deleted ∷ [] }
-{}
-
-/// A job that is gone isn't deleted again.
-fn delete_twice()
-    ensures { session (Put 0 0 1 (codes "a") ∷ Delete 2 ∷ Delete 1 ∷ Delete 1 ∷ [])
-        ≡ Inserted 1 ∷ NotFound ∷ Deleted ∷ NotFound ∷ [] }
-{}
-
-/// Who holds jobs whose time to run ends within a second is told so, where no other job is ready.
-fn deadline_soon_behind_two_leases()
-    ensures { session (Put 0 0 1 [] ∷ Put 0 0 1 (codes "a") ∷ Reserve ∷ Reserve ∷ Reserve ∷ [])
-        ≡ Inserted 1 ∷ Inserted 2 ∷ Reserved 1 [] ∷ Reserved 2 (codes "a") ∷ DeadlineSoon ∷ [] }
-{}
-
-/// The least job goes first by priority, in whichever watched tube it is, then by id.
-fn least_across_tubes()
-    ensures { session
-        (Watch (codes "a") ∷ Put 7 0 9 (codes "x") ∷ Use (codes "a") ∷ Put 3 0 9 (codes "y")
-        ∷ Use (codes "default") ∷ Put 3 0 9 (codes "z") ∷ Reserve ∷ Reserve ∷ Reserve ∷ [])
-        ≡ Watching 2 ∷ Inserted 1 ∷ Using (codes "a") ∷ Inserted 2 ∷ Using (codes "default") ∷ Inserted 3
-        ∷ Reserved 2 (codes "y") ∷ Reserved 3 (codes "z") ∷ Reserved 1 (codes "x") ∷ [] }
-{}
-
-/// Buried jobs are shown and kicked in the order of their burials, and before delayed ones.
-fn bury_and_kick_order()
-    ensures { session
-        (Put 0 0 9 (codes "x") ∷ Put 0 0 9 (codes "y") ∷ Put 0 100 9 (codes "z") ∷ Reserve ∷ Reserve
-        ∷ Bury 2 0 ∷ Bury 1 0 ∷ PeekBuried ∷ Kick 5 ∷ Kick 5 ∷ [])
-        ≡ Inserted 1 ∷ Inserted 2 ∷ Inserted 3 ∷ Reserved 1 (codes "x") ∷ Reserved 2 (codes "y")
-        ∷ Buried ∷ Buried ∷ Found 2 (codes "y") ∷ KickedCount 2 ∷ KickedCount 1 ∷ [] }
-{}
-
-/// The only watched tube can't be ignored, and to watch one twice changes nothing.
-// To come, once their texts stand: the answers to ListTubesWatched and ListTubes at the end.
-fn watch_lists()
-    ensures { session
-        (Ignore (codes "default") ∷ Ignore (codes "b") ∷ Watch (codes "b") ∷ Watch (codes "b")
-        ∷ Ignore (codes "default") ∷ [])
-        ≡ NotIgnored ∷ Watching 1 ∷ Watching 2 ∷ Watching 2 ∷ Watching 1 ∷ [] }
-{}
-
-/// No job of a paused tube is handed out to a reserve; peek-ready shows it, and reserve-job takes it.
-fn paused_tube()
-    ensures { session
-        (Put 2 0 9 (codes "x") ∷ PauseTube (codes "default") 60 ∷ ReserveWithTimeout 0 ∷ PeekReady
-        ∷ ReserveJob 1 ∷ ReserveJob 1 ∷ PauseTube (codes "b") 1 ∷ [])
-        ≡ Inserted 1 ∷ Paused ∷ TimedOut ∷ Found 1 (codes "x") ∷ Reserved 1 (codes "x") ∷ NotFound ∷ NotFound ∷ [] }
-{}
-
-/// A released job keeps its id and gets its new priority.
-fn release_keeps_the_id()
-    ensures { session
-        (Put 4 0 9 (codes "x") ∷ Put 4 0 9 (codes "y") ∷ Reserve ∷ Release 1 5 0 ∷ Reserve ∷ Release 1 0 0
-        ∷ Delete 1 ∷ [])
-        ≡ Inserted 1 ∷ Inserted 2 ∷ Reserved 1 (codes "x") ∷ Released ∷ Reserved 2 (codes "y") ∷ NotFound
-        ∷ Deleted ∷ [] }
-{}
-
-/// A kick takes buried jobs first, then delayed ones, and then finds none.
-fn kick_in_turns()
-    ensures { session
-        (Put 0 0 9 (codes "x") ∷ Put 0 0 9 (codes "y") ∷ Put 0 100 9 (codes "z") ∷ Reserve ∷ Reserve
-        ∷ Bury 2 0 ∷ Bury 1 0 ∷ Kick 5 ∷ Kick 5 ∷ Kick 5 ∷ [])
-        ≡ Inserted 1 ∷ Inserted 2 ∷ Inserted 3 ∷ Reserved 1 (codes "x") ∷ Reserved 2 (codes "y")
-        ∷ Buried ∷ Buried ∷ KickedCount 2 ∷ KickedCount 1 ∷ KickedCount 0 ∷ [] }
-{}
-
-/// Of two delayed jobs the one that is due first is shown, though it was put last.
-fn peek_delayed_first_due()
-    ensures { session (Put 0 9 9 (codes "x") ∷ Put 0 5 9 (codes "y") ∷ PeekDelayed ∷ [])
-        ≡ Inserted 1 ∷ Inserted 2 ∷ Found 2 (codes "y") ∷ [] }
-{}
+ghost use Rattle.bq_job.specs.declared.answer.Answer.TheVariants.{Closed, DeadlineSoon, Draining, Found, Inserted, NotFound, Ok, Paused, Released, Reserved, TimedOut, Touched, Using, Watching};
+ghost use Rattle.bq_job.specs.declared.request.Request.TheVariants.{Delete, Ignore, PauseTube, Peek, Put, Release, Reserve, ReserveWithTimeout, StatsJob, Touch, Use, Watch};
+ghost use Rattle.bq_job.specs.Examples.{Plays, ask, at, close, drain, end, tick, ◌gives◌};
+ghost use Rattle.std.specs.Prelude.{List, [], ◌∷◌, ◌++◌, ◌≡◌, codes};
 
 /// Of two waiting clients each gets the job of a tube that it watches, whoever has waited longer.
 fn waiters_of_two_tubes()
@@ -111,13 +34,18 @@ fn deadline_soon_at_one_second()
 {}
 
 /// A client that waits when its own lease ends gets that job again.
-// To come, once its text stands: the answer to StatsJob at 2500.
 fn lease_expires_to_its_waiter()
     ensures { Plays
         (ask 0 (Put 0 0 2 (codes "x")) gives ((0, Inserted 1) ∷ [])
         ∷ ask 0 Reserve gives ((0, Reserved 1 (codes "x")) ∷ [])
         ∷ at 500 (ask 0 Reserve) gives []
         ∷ tick 2000 gives ((0, Reserved 1 (codes "x")) ∷ [])
+        ∷ at 2500 (ask 0 (StatsJob 1)) gives ((
+          0,
+          Ok
+              (codes "---\nid: 1\ntube: default\nstate: reserved\npri: 0\nage: 2\ndelay: 0\nttr: 2\n"
+              ++ codes "time-left: 1\nreserves: 2\ntimeouts: 1\nreleases: 0\nburies: 0\nkicks: 0\n"),
+        ) ∷ [])
         ∷ []) }
 {}
 
@@ -202,16 +130,6 @@ fn pause_lifted()
 
 #[test]
 fn rows_of_machine() {
-    first_cycle();
-    delete_twice();
-    deadline_soon_behind_two_leases();
-    least_across_tubes();
-    bury_and_kick_order();
-    watch_lists();
-    paused_tube();
-    release_keeps_the_id();
-    kick_in_turns();
-    peek_delayed_first_due();
     waiters_of_two_tubes();
     deadline_soon_at_one_second();
     lease_expires_to_its_waiter();
