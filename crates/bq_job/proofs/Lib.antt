@@ -1,8 +1,9 @@
 pub mod ActLemmas
 pub mod ChoiceLemmas
 pub mod LineLemmas
-pub mod ReadsLemmas
 pub mod UnitLemmas
+pub mod UnitsLemmas
+pub mod ReadsLemmas
 pub mod ComputedLemmas
 pub mod DispatchLemmas
 pub mod KeptLemmas
