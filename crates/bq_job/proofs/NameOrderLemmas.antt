@@ -12,7 +12,7 @@ use Rattle.bq_job.specs.declared.job.Job.{Job}
 use Rattle.bq_job.specs.Machine.{Machine, SeatRecord, default_tube}
 use Rattle.bq_job.specs.NameOrder.{is_in_order}
 use Rattle.bq_job.specs.TubeName.{is_same_name}
-use Rattle.bq_job.specs.TubeOrder.{with_name, in_name_order, seated_tubes, tubes}
+use Rattle.bq_job.specs.TubeOrder.{with_name, seated_tubes, tubes}
 use Rattle.bq_job.specs.Tubes.{is_name_before, is_tube, is_seated_at}
 
 both : (a b : Bool) → (a && b) ≡ true → (a ≡ true) × (b ≡ true)
