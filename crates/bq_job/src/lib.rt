@@ -35,6 +35,8 @@ mod rows_of_machine;
 #[cfg(test)]
 mod rows_of_sessions;
 mod step;
+#[cfg(test)]
+mod tests;
 mod text;
 mod tube_name;
 
