@@ -26,7 +26,7 @@ mod fault;
 mod job;
 mod laws_of_machine;
 pub mod laws_of_reading;
-mod laws_of_texts;
+pub mod laws_of_texts;
 mod line_end;
 mod refusal;
 mod request;

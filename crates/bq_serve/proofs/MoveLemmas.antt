@@ -9,8 +9,8 @@ use Rattle.bq_job.specs.declared.step.Step.TheVariants as steps
 use Rattle.bq_job.specs.Profile.{Profile}
 use Rattle.bq_job.specs.Reading.{Reads}
 use Rattle.bq_serve.specs.Past.{Past, with_action, with_event, past_after, is_stray, answers, first_past}
-use Rattle.bq_serve.specs.SeatMoves.{IsMove, IfLineOver}
-use Rattle.bq_serve.specs.SeatParts.{GoesOn, in_stage, is_going_on, reads_on}
+use Rattle.bq_serve.specs.SeatMoves.{IsMove, reads_on, IfLineOver}
+use Rattle.bq_serve.specs.SeatParts.{GoesOn, in_stage, is_going_on}
 use Rattle.bq_serve.specs.SeatStands.{IsOpen, StandsFor, StandsAt, seat_profile, awaited_at}
 use Rattle.bq_serve.specs.Standing.{profile_of, Stands}
 use Rattle.bq_serve.specs.declared.wire.state.State.{State}

@@ -29,10 +29,6 @@ pub record GoesOn (old : SeatMachine) (action : Action) (new : SeatMachine) : Ty
 abbrev pub in_stage : Stage → SeatMachine → SeatMachine
 in_stage stage m = record m { stage = stage }
 
--- The line is read while a reserve waits, where no bytes are kept and the input goes on.
-abbrev pub reads_on : Bool → SeatMachine → Bool
-reads_on waits m = waits && not m.end_told && (length m.kept == 0)
-
 abbrev pub is_closed : Answer → Bool
 is_closed replies.Closed = true
 is_closed _ = false

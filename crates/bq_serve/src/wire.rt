@@ -12,7 +12,7 @@ mod pieces;
 mod put_body;
 mod reader;
 mod state;
-mod texts;
 #[cfg(test)]
 mod tests;
+mod texts;
 mod words;

@@ -88,8 +88,8 @@ pub struct SeatMachine {
 impl SeatMachine {
     ghost use Rattle.bq_job.specs.Profile.{profile};
     ghost use Rattle.bq_serve.specs.Past.{Awaited};
-    ghost use Rattle.bq_serve.specs.SeatMoves.{FitsPiece, IsMove};
-    ghost use Rattle.bq_serve.specs.SeatParts.{GoesOn, asking_stage, in_stage, is_closed, reads_on};
+    ghost use Rattle.bq_serve.specs.SeatMoves.{FitsPiece, IsMove, LooksOn, reads_on};
+    ghost use Rattle.bq_serve.specs.SeatParts.{GoesOn, asking_stage, in_stage, is_closed};
     ghost use Rattle.bq_serve.specs.SeatStands.{awaited, seat_profile};
     ghost use Rattle.bq_serve.specs.WordsSoFar.{words_so_far};
 
@@ -116,7 +116,8 @@ impl SeatMachine {
     /// 4,096 bytes are handed in at once.
     pub fn on(&mut self, event: Event<'_>) -> Action
         requires { FitsPiece event }
-        ensures { IsMove self.old event.entry result self.new }
+        ensures moves { IsMove self.old event.entry result self.new }
+        ensures looks { LooksOn event.entry self.old.stage self.old result }
     {
         match event {
             Event::Opened => self.opened(),
@@ -177,7 +178,8 @@ impl SeatMachine {
     }
 
     fn nothing_yet(&mut self) -> Action
-        ensures { IsMove self.old Event.NothingYet result self.new }
+        ensures moves { IsMove self.old Event.NothingYet result self.new }
+        ensures looks { LooksOn Event.NothingYet self.old.stage self.old result }
     {
         match self.stage {
             Stage::Reading => Action::Read,
