@@ -60,7 +60,7 @@ end_in_reading_on m = record {
   awaits = λ e. refl;
   profile = refl;
   opened = tt;
-  past = λ p h. tells_end m.reader m.kept m.end_told p h.0 h.1 h.2;
+  past = λ p h. (tells_end m.reader m.kept m.end_told p h.0 h.1 h.2, refl);
   over = tt;
 }
 
@@ -83,7 +83,7 @@ submitted_end m = record {
   awaits = λ e. refl;
   profile = refl;
   opened = tt;
-  past = λ p h. h;
+  past = λ p h. h.0;
   over = tt;
 }
 

@@ -42,6 +42,7 @@ opened r h = (
     fault_is = refl;
   },
   refl,
+  refl,
 )
 
 -- bytes are handed in where none are kept

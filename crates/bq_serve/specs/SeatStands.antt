@@ -67,12 +67,12 @@ IsWaiting reader kept told waits p =
 
 abbrev pub StandsAt : Stage → State → List ℕ → Bool → Past → Type 0
 StandsAt stages.Between reader kept told p = (end : LineEnd) × ((written : List ℕ) → IsServed (profile_of reader) written end p)
-StandsAt stages.Connecting reader kept told p = IsOpen reader kept told 0 p × (told ≡ false)
+StandsAt stages.Connecting reader kept told p = IsOpen reader kept told 0 p × (told ≡ false) × (p.steps ≡ steps.Connect ∷ [])
 StandsAt stages.Reading reader kept told p = IsOpen reader kept told 0 p × (kept ≡ []) × (told ≡ false)
 StandsAt (stages.Asking waits) reader kept told p = IsWaiting reader kept told waits p × (told ≡ false)
 StandsAt (stages.Polling waits) reader kept told p = IsWaiting reader kept told waits p
 StandsAt stages.ReadingOn reader kept told p = IsWaiting reader kept told true p × (kept ≡ []) × (told ≡ false)
-StandsAt stages.TellingEnd reader kept told p = IsWaiting reader kept told true p
+StandsAt stages.TellingEnd reader kept told p = IsWaiting reader kept told true p × (told ≡ true)
 StandsAt stages.Writing reader kept told p = IsOpen reader kept told 0 p × (0 < length p.written)
 -- a quit was asked, and a close is right
 StandsAt stages.AskingQuit reader kept told p =
