@@ -1,3 +1,4 @@
+pub mod InTurnLemmas
 pub mod GoingLemmas
 pub mod HasReadLemmas
 pub mod LineEndLemmas

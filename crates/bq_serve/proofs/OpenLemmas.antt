@@ -160,6 +160,12 @@ quits r next kept n p o same unit =
         answered = omega (arith, o.answered, answered_count-quit o.asked o.no_quit);
         broken = tt;
       },
+      record {
+        asked = o.asked;
+        steps_are = ap (λ x. x ++ steps.Ask requests.Quit ∷ []) (o.steps_are ∙ append-nil (steps.Connect ∷ map steps.Ask o.asked));
+        answered = omega (arith, o.answered);
+        no_quit = o.no_quit;
+      },
     )
 
 -- the steps of an open line, if the close follows
