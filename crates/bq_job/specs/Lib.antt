@@ -37,3 +37,4 @@ pub mod Words
 pub mod Yaml
 pub mod LineSteps
 pub mod History
+pub mod OneClient
