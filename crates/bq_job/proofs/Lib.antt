@@ -9,3 +9,4 @@ pub mod DispatchLemmas
 pub mod KeptLemmas
 pub mod LawfulLemmas
 pub mod ListLemmas
+pub mod OneClientLemmas
