@@ -10,3 +10,4 @@ pub mod KeptLemmas
 pub mod LawfulLemmas
 pub mod ListLemmas
 pub mod NameOrderLemmas
+pub mod OneClientLemmas

@@ -38,3 +38,4 @@ pub mod Words
 pub mod Yaml
 pub mod LineSteps
 pub mod History
+pub mod OneClient
