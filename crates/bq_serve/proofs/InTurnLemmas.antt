@@ -60,7 +60,7 @@ asks_at [] p step e count none = absurd (omega arith)
 asks_at (r ∷ asked) p step e count none =
     let ends = ends_by r asked in
     let whole : p.steps ++ step ∷ [] ≡ (steps.Connect ∷ map steps.Ask ends.before) ++ steps.Ask ends.last ∷ [] =
-        e ∙ ap (λ rs. steps.Connect ∷ map steps.Ask rs) ends.is ∙ ap (λ xs. steps.Connect ∷ xs) (asks_last ends.before ends.last) in
+    e ∙ ap (λ rs. steps.Connect ∷ map steps.Ask rs) ends.is ∙ ap (λ xs. steps.Connect ∷ xs) (asks_last ends.before ends.last) in
     let last = last_same p.steps (steps.Connect ∷ map steps.Ask ends.before) step (steps.Ask ends.last) whole in
     let quit : has_quit ends.before ≡ false = quit_before ends.before ends.last (ap has_quit (sym ends.is) ∙ none) in
     let long = length-append ends.before (ends.last ∷ []) in
@@ -81,8 +81,8 @@ closes_at : (asked : List Request) (told : List Step) (p : Past) (step : Step) �
 closes_at asked told p step e ends =
     let last = last_same p.steps ((steps.Connect ∷ map steps.Ask asked) ++ told) step steps.Close e in
     in_place p last.1 (elim ends [
-      inl none ↦ (asked, false, last.0 ∙ ap (λ t. (steps.Connect ∷ map steps.Ask asked) ++ t) none)
-    | inr one ↦ (asked, true, last.0 ∙ ap (λ t. (steps.Connect ∷ map steps.Ask asked) ++ t) one)
+      | inl none ↦ (asked, false, last.0 ∙ ap (λ t. (steps.Connect ∷ map steps.Ask asked) ++ t) none)
+      | inr one ↦ (asked, true, last.0 ∙ ap (λ t. (steps.Connect ∷ map steps.Ask asked) ++ t) one)
     ])
 
 -- what a machine stands for while a step is submitted says that it comes in its turn

@@ -1,3 +1,4 @@
+pub mod OneSeat
 pub mod InTurn
 pub mod Asked
 pub mod HasRead
