@@ -1,6 +1,8 @@
 pub mod ActLemmas
 pub mod ChoiceLemmas
 pub mod LineLemmas
+pub mod UnitLemmas
+pub mod UnitsLemmas
 pub mod ReadsLemmas
 pub mod UnitLemmas
 pub mod ComputedLemmas

@@ -1,7 +1,19 @@
-ghost use Rattle.std.specs.Prelude.{◌≡◌};
+ghost use Rattle.std.specs.Prelude.{◌≡◌, ◌<◌, ◌≤◌, ◌^◌};
+ghost use Rattle.std.specs.Option.{SomeIff};
 ghost use Rattle.bq_job.specs.Words as spec;
 
 use bq_job::JobId;
+
+// The number with one more digit, if it fits.
+fn with_digit(value: u64, digit: u8) -> Option<u64>
+    requires { 48 ≤ digit }
+    ensures { SomeIff result (spec.with_digit value digit < 2 ^ 64) (spec.with_digit value digit) }
+{
+    let Some(shifted) = value.checked_mul(10) else {
+        return None;
+    };
+    shifted.checked_add(u64::from(digit - b'0'))
+}
 
 // The number that a word is, digits alone, if it fits.
 fn decimal(word: &[u8]) -> Option<u64>
@@ -15,7 +27,10 @@ fn decimal(word: &[u8]) -> Option<u64>
         if !byte.is_ascii_digit() {
             return None;
         }
-        value = value.checked_mul(10)?.checked_add(u64::from(*byte - b'0'))?;
+        let Some(longer) = with_digit(value, *byte) else {
+            return None;
+        };
+        value = longer;
     }
     Some(value)
 }

@@ -1,5 +1,6 @@
 ghost use Rattle.std.specs.Prelude.{◌≡◌, [], ◌∷◌, MatchOption};
 ghost use Rattle.bq_job.specs.Words.{words};
+ghost use Rattle.bq_serve.specs.WordsLeft.{words_left};
 
 use memchr::memchr;
 use std::marker::Model;
@@ -33,18 +34,18 @@ impl<'a> Words<'a> {
     pub fn next(&mut self) -> Option<&'a [u8]>
         ensures { MatchOption result ((self.old ≡ []) × (self.new ≡ [])) (λ word. self.old ≡ word.now ∷ self.new) }
     {
-        let Some(rest) = self.rest else {
-            return None;
-        };
-        match memchr(b' ', rest) {
-            Some(space) => {
-                self.rest = Some(&rest[space + 1..]);
-                Some(&rest[..space])
-            }
-            None => {
-                self.rest = None;
-                Some(rest)
-            }
-        }
+        let (word, more) = first_word(self.rest?);
+        self.rest = more;
+        Some(word)
+    }
+}
+
+// The first word of a line, and what comes after the space behind it.
+fn first_word(line: &[u8]) -> (&[u8], Option<&[u8]>)
+    ensures { words line.now ≡ result.0.now ∷ words_left result.1 }
+{
+    match memchr(b' ', line) {
+        Some(space) => (&line[..space], Some(&line[space + 1..])),
+        None => (line, None),
     }
 }

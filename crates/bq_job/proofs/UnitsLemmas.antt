@@ -1,0 +1,29 @@
+-- One more request behind others.
+use Rattle.std.proofs.Common.{◌≡◌, ℕ, Bool, true, false, not, ◌&&◌, List, [], ◌∷◌, ◌++◌, refl, sym, ◌∙◌, ap, append_assoc, append-nil, IsTrue}
+use Rattle.bq_job.specs.Profile.{Profile}
+use Rattle.bq_job.specs.Reading.{AreUnits, IsUnit, is_quit, quits_last, ends_by_quit}
+use Rattle.bq_job.specs.declared.request.Request.{Request}
+
+-- a unit behind units
+pub AreUnits-append : (p : Profile) (requests : List Request) (units unit : List ℕ) (r : Request) → AreUnits p units requests → IsUnit p unit r
+    → AreUnits p (units ++ unit) (requests ++ r ∷ [])
+AreUnits-append p [] units unit r are is = (unit, [], rw are (sym (append-nil unit)), is, refl)
+AreUnits-append p (q ∷ requests) units unit r are is =
+    (are.0, are.1 ++ unit, rw are.2 (append_assoc are.0 are.1 unit), are.3, AreUnits-append p requests are.1 unit r are.4 is)
+
+pub ends_by_quit-append : (requests : List Request) (r : Request) → ends_by_quit (requests ++ r ∷ []) ≡ is_quit r
+ends_by_quit-append [] r = refl
+ends_by_quit-append (q ∷ []) r = refl
+ends_by_quit-append (q ∷ next ∷ requests) r = ends_by_quit-append (next ∷ requests) r
+
+both_true : (a b : Bool) → (a && b) ≡ true → (a ≡ true) × (b ≡ true)
+both_true true b e = (refl, e)
+both_true false b e = cc
+
+-- where none is quit, one more may be
+pub quits_last-append : (requests : List Request) (r : Request) → IsTrue (quits_last requests) → ends_by_quit requests ≡ false → IsTrue (quits_last (requests ++ r ∷ []))
+quits_last-append [] r last no_quit = refl
+quits_last-append (q ∷ []) r last no_quit = rw no_quit refl
+quits_last-append (q ∷ next ∷ requests) r last no_quit =
+    let both = both_true (not (is_quit q)) (quits_last (next ∷ requests)) last in
+    rw (both.0, quits_last-append (next ∷ requests) r both.1 no_quit)

@@ -1,0 +1,51 @@
+-- The number that a word is.
+use Rattle.std.proofs.Common.{◌≡◌, ◌<◌, ◌≤◌, ℕ, ◌^◌, suc, true, false, List, [], ◌∷◌, Some, None, refl, sym, arith, length, drop, drop-cons, get_or, fold}
+use Rattle.std.proofs.lemmas.Bool.Decides.{nat_tests}
+use Rattle.std.proofs.lemmas.Grind.{common_steps}
+use Rattle.std.specs.List.{list_all}
+use Rattle.bq_job.specs.Words.{is_digit, with_digit, value_of_digits, job_id, number}
+
+-- more digits make no smaller number
+pub with_digits_le : (bytes : List ℕ) (n : ℕ) → n ≤ fold with_digit n bytes
+with_digits_le [] n = omega arith
+with_digits_le (b ∷ bytes) n = omega (arith, with_digits_le bytes (with_digit n b))
+
+pub job_id_empty : (word : List ℕ) → length word ≡ 0 → job_id word ≡ None
+job_id_empty [] e = refl
+job_id_empty (b ∷ word) e = grind (arith, common_steps)
+
+pub job_id_no_digits : (word : List ℕ) → list_all is_digit word ≡ false → job_id word ≡ None
+job_id_no_digits word e = grind (arith, nat_tests)
+
+pub job_id_great : (word : List ℕ) → 2 ^ 64 ≤ value_of_digits word → job_id word ≡ None
+job_id_great word e = grind (arith, nat_tests)
+
+pub job_id_is : (word : List ℕ) → 0 < length word → list_all is_digit word ≡ true → value_of_digits word < 2 ^ 64 → job_id word ≡ Some (value_of_digits word)
+job_id_is word some digits small = grind (arith, nat_tests)
+
+-- a number is a job's id that is small enough
+pub number_none : (word : List ℕ) → job_id word ≡ None → number word ≡ None
+number_none word e = grind (arith, nat_tests)
+
+pub number_is : (word : List ℕ) (n : ℕ) → job_id word ≡ Some n → n < 2 ^ 32 → number word ≡ Some n
+number_is word n e low = grind (arith, nat_tests)
+
+pub number_great : (word : List ℕ) (n : ℕ) → job_id word ≡ Some n → 2 ^ 32 ≤ n → number word ≡ None
+number_great word n e high = grind (arith, nat_tests)
+
+-- a word whose digits so far make too much
+pub too_great : (word : List ℕ) (i n : ℕ) → i < length word → fold with_digit n (drop i word) ≡ value_of_digits word
+    → (with_digit n (get_or word i 0) < 2 ^ 64 → ⊥) → None ≡ job_id word
+too_great word i n low value great =
+    let next : drop i word ≡ get_or word i 0 ∷ drop (suc i) word = drop-cons word i 0 low in
+    let rest : fold with_digit (with_digit n (get_or word i 0)) (drop (suc i) word) ≡ value_of_digits word = rw next at value in
+    sym (job_id_great word (omega (arith, with_digits_le (drop (suc i) word) (with_digit n (get_or word i 0)), rest)))
+
+-- a word whose digits are all read
+pub all_digits : (word : List ℕ) (i n : ℕ) → length word ≤ i → 0 < length word → list_all is_digit (drop i word) ≡ list_all is_digit word
+    → fold with_digit n (drop i word) ≡ value_of_digits word → n < 2 ^ 64 → Some n ≡ job_id word
+all_digits word i n end some digits value small =
+    let nothing : drop i word ≡ [] = grind (arith, common_steps) in
+    let all : list_all is_digit word ≡ true = rw nothing at (sym digits) in
+    let is : n ≡ value_of_digits word = rw nothing at value in
+    rw is (sym (job_id_is word some all (rw is at small)))

@@ -1,0 +1,63 @@
+ghost use Rattle.std.specs.Prelude.{◌≡◌, ◌≤◌, ◌+◌, ◌++◌, [], length, IfOk};
+
+use bq_job::NoMemory;
+use std::alloc::Global;
+use std::marker::Model;
+
+/// How many bytes are kept of a line at most: the longest line, and a CR.
+pub const MOST_KEPT: usize = 223;
+
+/// The bytes of a line that isn't whole. Its memory is given when it is made.
+#[derive(Debug, Drop)]
+pub struct KeptLine {
+    bytes: Vec<u8, Global>,
+}
+
+impl Model for KeptLine {
+    ghost use Rattle.std.specs.Prelude.{List, ℕ, ◌≤◌, vec_len};
+    ghost use Rattle.std.specs.Vec.{vec_capacity};
+
+    ghost Value = { List ℕ };
+
+    ghost view = { λ k. k.bytes.items };
+
+    ghost invariant = { λ k. (223 ≤ vec_capacity k.bytes) × (vec_len k.bytes ≤ 223) };
+}
+
+impl KeptLine {
+    pub fn new(alloc: Global) -> Result<KeptLine, NoMemory>
+        ensures { IfOk result (λ kept. kept ≡ []) }
+    {
+        match Vec::with_capacity(alloc, MOST_KEPT) {
+            Ok(bytes) => Ok(KeptLine { bytes }),
+            Err(_) => Err(NoMemory),
+        }
+    }
+
+    /// How many bytes more can be kept.
+    pub fn room(&self) -> usize
+        ensures { result + length self.now ≡ 223 }
+    {
+        MOST_KEPT - self.bytes.len()
+    }
+
+    pub fn as_slice(&self) -> &[u8]
+        ensures { result.now ≡ self.now }
+    {
+        self.bytes.as_slice()
+    }
+
+    /// Puts these bytes at the end. Takes no memory.
+    pub fn push_slice(&mut self, bytes: &[u8])
+        requires { length self.old + length bytes.now ≤ 223 }
+        ensures { self.new ≡ self.old ++ bytes.now }
+    {
+        let _fits = self.bytes.extend_from_slice(bytes);
+    }
+
+    pub fn clear(&mut self)
+        ensures { self.new ≡ [] }
+    {
+        self.bytes.clear();
+    }
+}
