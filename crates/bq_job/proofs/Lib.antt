@@ -4,7 +4,6 @@ pub mod LineLemmas
 pub mod UnitLemmas
 pub mod UnitsLemmas
 pub mod ReadsLemmas
-pub mod UnitLemmas
 pub mod ComputedLemmas
 pub mod DispatchLemmas
 pub mod KeptLemmas

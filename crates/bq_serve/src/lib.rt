@@ -1,4 +1,5 @@
 //! Serving clients over lines of bytes.
 #![tactic(auto)]
 
+pub mod seat;
 pub mod wire;
