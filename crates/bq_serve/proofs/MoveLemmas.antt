@@ -183,14 +183,14 @@ opens m next kept stands same none =
     let P : List ℕ → Type 0 = λ k. StandsAt stages.Connecting next k false first_past in
     let begun : StandsAt stages.Connecting next kept false first_past = subst P (sym none) (opened next stands) in
     record {
-  stray = refl;
-  unchanged = λ e. cc;
-  awaits = λ e. refl;
-  profile = same;
-  opened = λ e. begun;
-  past = λ p h. begun;
-  over = tt;
-}
+      stray = refl;
+      unchanged = λ e. cc;
+      awaits = λ e. refl;
+      profile = same;
+      opened = λ e. begun;
+      past = λ p h. begun;
+      over = tt;
+    }
 
 -- an action by which the machine goes on is no stray one, and ends no line
 going_past : (event : Event) (action : Action) (p : Past) → is_going_on action ≡ true → past_after event action p ≡ with_action action (with_event event p)
@@ -223,20 +223,20 @@ pub bytes_in_reading : (m mid new : SeatMachine) (bytes : Bor (List ℕ)) (actio
 bytes_in_reading m mid new bytes action s kept g =
     let not_stray = going_not_stray action g.going in
     let past : (p : Past) → StandsFor m p → StandsFor new (past_after (events.Bytes bytes) action p) = λ p h.
-        let P : Stage → Type 0 = λ t. StandsAt t m.reader m.kept m.end_told p in
-        let h' : StandsAt stages.Reading m.reader m.kept m.end_told p = subst P s h in
-        let line = handed_in m.reader m.kept m.end_told 0 p bytes.now h'.0 h'.1 h'.2 in
-        let Q : SeatMachine → Type 0 = λ x. IsOpen x.reader x.kept x.end_told 0 (with_event (events.Bytes bytes) p) in
-        rw (going_past (events.Bytes bytes) action p g.going) (g.past (with_event (events.Bytes bytes) p) (subst Q (sym kept) line)) in
+    let P : Stage → Type 0 = λ t. StandsAt t m.reader m.kept m.end_told p in
+    let h' : StandsAt stages.Reading m.reader m.kept m.end_told p = subst P s h in
+    let line = handed_in m.reader m.kept m.end_told 0 p bytes.now h'.0 h'.1 h'.2 in
+    let Q : SeatMachine → Type 0 = λ x. IsOpen x.reader x.kept x.end_told 0 (with_event (events.Bytes bytes) p) in
+    rw (going_past (events.Bytes bytes) action p g.going) (g.past (with_event (events.Bytes bytes) p) (subst Q (sym kept) line)) in
     record {
-  stray = not_stray ∙ sym (ap (λ t. not (answers (events.Bytes bytes) (awaited_at t))) s);
-  unchanged = λ e. cc;
-  awaits = λ e. g.awaits;
-  profile = g.profile ∙ ap seat_profile kept;
-  opened = tt;
-  past = past;
-  over = going_not_over action _ g.going;
-}
+      stray = not_stray ∙ sym (ap (λ t. not (answers (events.Bytes bytes) (awaited_at t))) s);
+      unchanged = λ e. cc;
+      awaits = λ e. g.awaits;
+      profile = g.profile ∙ ap seat_profile kept;
+      opened = tt;
+      past = past;
+      over = going_not_over action _ g.going;
+    }
 
 -- bytes come while a reserve waits
 pub bytes_in_reading_on : (m : SeatMachine) (kept : List ℕ) (bytes : Bor (List ℕ)) → kept ≡ bytes.now
@@ -244,14 +244,14 @@ pub bytes_in_reading_on : (m : SeatMachine) (kept : List ℕ) (bytes : Bor (List
 bytes_in_reading_on m kept bytes e =
     let P : List ℕ → Type 0 = λ k. IsMove (in_stage stages.ReadingOn m) (events.Bytes bytes) actions.PollMail (record m { kept = k; stage = stages.Polling true }) in
     subst P (sym e) (record {
-  stray = refl;
-  unchanged = λ f. cc;
-  awaits = λ f. refl;
-  profile = refl;
-  opened = tt;
-  past = λ p h. handed_in_waiting m.reader m.kept m.end_told true p bytes.now h.0 h.1 h.2;
-  over = tt;
-})
+      stray = refl;
+      unchanged = λ f. cc;
+      awaits = λ f. refl;
+      profile = refl;
+      opened = tt;
+      past = λ p h. handed_in_waiting m.reader m.kept m.end_told true p bytes.now h.0 h.1 h.2;
+      over = tt;
+    })
 
 -- an answer comes after the close: its own ends the line
 ends_by_closed : (m : SeatMachine) (end : LineEnd) (answer : Answer)

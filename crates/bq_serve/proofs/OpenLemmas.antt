@@ -25,23 +25,26 @@ use Rattle.bq_serve.proofs.StepLemmas.{answered_count-asked, answered_count-quit
 
 -- a line is opened
 pub opened : (r : State) → Stands r [] → StandsAt stages.Connecting r [] false first_past
-opened r h = (record {
-  asked = [];
-  units = [];
-  begun = [];
-  stands = h;
-  no_unit = BeginsNoUnit-[] (profile_of r);
-  are_units = refl;
-  bytes_are = refl;
-  no_quit = refl;
-  steps_are = refl;
-  told_well = λ e. cc;
-  closing_is = refl;
-  written_is = refl;
-  answered = refl;
-  ended_is = refl;
-  fault_is = refl;
-}, refl)
+opened r h = (
+  record {
+    asked = [];
+    units = [];
+    begun = [];
+    stands = h;
+    no_unit = BeginsNoUnit-[] (profile_of r);
+    are_units = refl;
+    bytes_are = refl;
+    no_quit = refl;
+    steps_are = refl;
+    told_well = λ e. cc;
+    closing_is = refl;
+    written_is = refl;
+    answered = refl;
+    ended_is = refl;
+    fault_is = refl;
+  },
+  refl,
+)
 
 -- bytes are handed in where none are kept
 pub handed_in : (r : State) (kept : List ℕ) (told : Bool) (out : ℕ) (p : Past) (more : List ℕ) → IsOpen r kept told out p → kept ≡ [] → told ≡ false
@@ -54,8 +57,8 @@ handed_in r kept told out p more o none untold = record {
   no_unit = o.no_unit;
   are_units = o.are_units;
   bytes_are =
-    ap (λ x. x ++ more) (o.bytes_are ∙ ap (λ k. o.units ++ (o.begun ++ k)) none ∙ ap (λ x. o.units ++ x) (append-nil o.begun))
-    ∙ append_assoc o.units o.begun more;
+      ap (λ x. x ++ more) (o.bytes_are ∙ ap (λ k. o.units ++ (o.begun ++ k)) none ∙ ap (λ x. o.units ++ x) (append-nil o.begun))
+      ∙ append_assoc o.units o.begun more;
   no_quit = o.no_quit;
   steps_are = o.steps_are;
   told_well = λ e. cc;
@@ -111,24 +114,27 @@ asked_steps r kept p o q =
 pub asks : (r next : State) (kept : List ℕ) (n : ℕ) (q : Request) (p : Past) (o : IsOpen r kept false 0 p)
     → profile_of next ≡ profile_of r → IsUnit (profile_of next) (o.begun ++ take n kept) q → Stands next [] → is_quit q ≡ false
     → IsWaiting next (drop n kept) false (is_waiting_request q) (with_action (actions.Submit (steps.Ask q)) p)
-asks r next kept n q p o same unit h not_quit = (record {
-  asked = o.asked ++ q ∷ [];
-  units = o.units ++ (o.begun ++ take n kept);
-  begun = [];
-  stands = h;
-  no_unit = BeginsNoUnit-[] (profile_of next);
-  are_units = AreUnits-append (profile_of next) o.units o.asked (o.begun ++ take n kept) (q ∷ []) (same_units r next o.units o.asked same o.are_units)
+asks r next kept n q p o same unit h not_quit = (
+  record {
+    asked = o.asked ++ q ∷ [];
+    units = o.units ++ (o.begun ++ take n kept);
+    begun = [];
+    stands = h;
+    no_unit = BeginsNoUnit-[] (profile_of next);
+    are_units = AreUnits-append (profile_of next) o.units o.asked (o.begun ++ take n kept) (q ∷ []) (same_units r next o.units o.asked same o.are_units)
         (one_unit (profile_of next) (o.begun ++ take n kept) q unit);
-  bytes_are = o.bytes_are ∙ split_bytes o.units o.begun kept n;
-  no_quit = has_quit-asked o.asked q o.no_quit not_quit;
-  steps_are = asked_steps r kept p o q ∙ sym (append-nil _);
-  told_well = λ e. cc;
-  closing_is = rw o.closing_is refl;
-  written_is = o.written_is;
-  answered = omega (arith, o.answered, length-append o.asked (q ∷ []));
-  ended_is = o.ended_is;
-  fault_is = o.fault_is;
-}, λ w. ends_by_wait-asked o.asked q ∙ w)
+    bytes_are = o.bytes_are ∙ split_bytes o.units o.begun kept n;
+    no_quit = has_quit-asked o.asked q o.no_quit not_quit;
+    steps_are = asked_steps r kept p o q ∙ sym (append-nil _);
+    told_well = λ e. cc;
+    closing_is = rw o.closing_is refl;
+    written_is = o.written_is;
+    answered = omega (arith, o.answered, length-append o.asked (q ∷ []));
+    ended_is = o.ended_is;
+    fault_is = o.fault_is;
+  },
+  λ w. ends_by_wait-asked o.asked q ∙ w,
+)
 
 -- a quit is asked
 pub quits : (r next : State) (kept : List ℕ) (n : ℕ) (p : Past) (o : IsOpen r kept false 0 p)
@@ -137,23 +143,25 @@ pub quits : (r next : State) (kept : List ℕ) (n : ℕ) (p : Past) (o : IsOpen 
 quits r next kept n p o same unit =
     let unit_text : List ℕ = o.begun ++ take n kept in
     let bytes_are : p.bytes ≡ o.units ++ (unit_text ++ drop n kept) =
-        o.bytes_are ∙ split_bytes o.units o.begun kept n ∙ append_assoc o.units unit_text (drop n kept) in
-    (rw o.closing_is refl, λ written. record {
-  line = record {
-    requests = o.asked ++ requests.Quit ∷ [];
-    rest = drop n kept;
-    asked = o.asked ++ requests.Quit ∷ [];
-    told = [];
-    reads = Reads-after (profile_of next) p.bytes o.units (unit_text ++ drop n kept) (drop n kept) o.asked (requests.Quit ∷ []) bytes_are
-        (same_units r next o.units o.asked same o.are_units) o.no_quit (Reads-quit (profile_of next) unit_text (drop n kept) requests.Quit unit refl);
-    is_over = (refl, ends_by_quit-append o.asked (requests.Quit ∷ []) refl);
-    ends = inl refl;
-    steps_are = ap (λ x. x ++ steps.Close ∷ []) (asked_steps r kept p o requests.Quit ∙ sym (append-nil _));
-  };
-  handed_out = o.written_is;
-  answered = omega (arith, o.answered, answered_count-quit o.asked o.no_quit);
-  broken = tt;
-})
+    o.bytes_are ∙ split_bytes o.units o.begun kept n ∙ append_assoc o.units unit_text (drop n kept) in (
+      rw o.closing_is refl,
+      λ written. record {
+        line = record {
+          requests = o.asked ++ requests.Quit ∷ [];
+          rest = drop n kept;
+          asked = o.asked ++ requests.Quit ∷ [];
+          told = [];
+          reads = Reads-after (profile_of next) p.bytes o.units (unit_text ++ drop n kept) (drop n kept) o.asked (requests.Quit ∷ []) bytes_are
+              (same_units r next o.units o.asked same o.are_units) o.no_quit (Reads-quit (profile_of next) unit_text (drop n kept) requests.Quit unit refl);
+          is_over = (refl, ends_by_quit-append o.asked (requests.Quit ∷ []) refl);
+          ends = inl refl;
+          steps_are = ap (λ x. x ++ steps.Close ∷ []) (asked_steps r kept p o requests.Quit ∙ sym (append-nil _));
+        };
+        handed_out = o.written_is;
+        answered = omega (arith, o.answered, answered_count-quit o.asked o.no_quit);
+        broken = tt;
+      },
+    )
 
 -- the steps of an open line, if the close follows
 closed_steps : (r : State) (kept : List ℕ) (told : Bool) (out : ℕ) (p : Past) (o : IsOpen r kept told out p)
@@ -210,20 +218,20 @@ pub read_fails : (r : State) (kept : List ℕ) (told : Bool) (out : ℕ) (p : Pa
 read_fails r kept told out p o none answers written =
     let P : Past → Type 0 = λ q. IsServed (profile_of r) written ends.ReadFault (with_action (actions.Submit steps.Close) q) in
     subst P (sym (first_fault p faults.Read o.fault_is)) (record {
-  line = record {
-    requests = o.asked;
-    rest = o.begun;
-    asked = o.asked;
-    told = end_if told;
-    reads = all_read r kept told out p o none;
-    is_over = (refl, no_quit_last o.asked o.no_quit, refl);
-    ends = told_well p.bytes written p.ended (Some faults.Read) o.asked told (λ t. ((o.told_well t).0, o.ended_is ∙ t));
-    steps_are = closed_steps r kept told out p o;
-  };
-  handed_out = o.written_is;
-  answered = fault_answers r kept told p out o answers;
-  broken = tt;
-})
+      line = record {
+        requests = o.asked;
+        rest = o.begun;
+        asked = o.asked;
+        told = end_if told;
+        reads = all_read r kept told out p o none;
+        is_over = (refl, no_quit_last o.asked o.no_quit, refl);
+        ends = told_well p.bytes written p.ended (Some faults.Read) o.asked told (λ t. ((o.told_well t).0, o.ended_is ∙ t));
+        steps_are = closed_steps r kept told out p o;
+      };
+      handed_out = o.written_is;
+      answered = fault_answers r kept told p out o answers;
+      broken = tt;
+    })
 
 -- a line is closed after a write fault
 pub write_fails : (r : State) (kept : List ℕ) (told : Bool) (p : Past) → IsOpen r kept told 0 p → 0 < length p.written
@@ -234,20 +242,20 @@ write_fails r kept told p o some_written all written =
     let more = all (o.begun ++ kept) in
     let some : 0 < length o.asked = omega (arith, o.answered, ap length o.written_is) in
     subst P (sym (first_fault p faults.Write o.fault_is)) (record {
-  line = record {
-    requests = o.asked ++ more.0;
-    rest = more.1;
-    asked = o.asked;
-    told = end_if told;
-    reads = Reads-after (profile_of r) p.bytes o.units (o.begun ++ kept) more.1 o.asked more.0 o.bytes_are o.are_units o.no_quit more.2;
-    is_over = (more.0, refl, some_asked o.asked some, no_quit_last o.asked o.no_quit, refl);
-    ends = told_well p.bytes written p.ended (Some faults.Write) o.asked told (λ t. ((o.told_well t).0, o.ended_is ∙ t));
-    steps_are = closed_steps r kept told 0 p o;
-  };
-  handed_out = o.written_is;
-  answered = omega (arith, o.answered, answered_count-asked o.asked o.no_quit);
-  broken = refl;
-})
+      line = record {
+        requests = o.asked ++ more.0;
+        rest = more.1;
+        asked = o.asked;
+        told = end_if told;
+        reads = Reads-after (profile_of r) p.bytes o.units (o.begun ++ kept) more.1 o.asked more.0 o.bytes_are o.are_units o.no_quit more.2;
+        is_over = (more.0, refl, some_asked o.asked some, no_quit_last o.asked o.no_quit, refl);
+        ends = told_well p.bytes written p.ended (Some faults.Write) o.asked told (λ t. ((o.told_well t).0, o.ended_is ∙ t));
+        steps_are = closed_steps r kept told 0 p o;
+      };
+      handed_out = o.written_is;
+      answered = omega (arith, o.answered, answered_count-asked o.asked o.no_quit);
+      broken = refl;
+    })
 
 -- mail before the close
 early_mail : (p : Past) (a : Answer) → p.closing ≡ false → with_mail a p ≡ record p { mail = p.mail ++ a ∷ [] }
@@ -263,23 +271,26 @@ pub answered : (r : State) (kept : List ℕ) (told waits : Bool) (p : Past) (a :
 answered r kept told waits p a w =
     let o = w.0 in
     let P : Past → Type 0 = λ q. StandsAt stages.Writing r kept told (with_action (actions.Write a) q) in
-    subst P (sym (early_mail p a o.closing_is)) (record {
-  asked = o.asked;
-  units = o.units;
-  begun = o.begun;
-  stands = o.stands;
-  no_unit = o.no_unit;
-  are_units = o.are_units;
-  bytes_are = o.bytes_are;
-  no_quit = o.no_quit;
-  steps_are = o.steps_are;
-  told_well = o.told_well;
-  closing_is = o.closing_is;
-  written_is = ap (λ x. x ++ a ∷ []) o.written_is;
-  answered = omega (arith, o.answered, length-append p.mail (a ∷ []));
-  ended_is = o.ended_is;
-  fault_is = o.fault_is;
-}, omega (arith, length-append p.written (a ∷ [])))
+    subst P (sym (early_mail p a o.closing_is)) (
+      record {
+        asked = o.asked;
+        units = o.units;
+        begun = o.begun;
+        stands = o.stands;
+        no_unit = o.no_unit;
+        are_units = o.are_units;
+        bytes_are = o.bytes_are;
+        no_quit = o.no_quit;
+        steps_are = o.steps_are;
+        told_well = o.told_well;
+        closing_is = o.closing_is;
+        written_is = ap (λ x. x ++ a ∷ []) o.written_is;
+        answered = omega (arith, o.answered, length-append p.mail (a ∷ []));
+        ended_is = o.ended_is;
+        fault_is = o.fault_is;
+      },
+      omega (arith, length-append p.written (a ∷ [])),
+    )
 
 -- mail after the close is no part of what was served
 still_broken : (end : LineEnd) (p : Past) (mail : List Answer) → IsLastBroken end p → IsLastBroken end (record p { late_mail = mail })
@@ -292,33 +303,39 @@ pub served_still : (profile : Profile) (end : LineEnd) (p : Past) (a : Answer) �
     → ((written : List ℕ) → IsServed profile written end (with_mail a p)) × ((with_mail a p).closing ≡ true)
 served_still profile end p a s e =
     let P : Past → Type 0 = λ q. ((written : List ℕ) → IsServed profile written end q) × (q.closing ≡ true) in
-    subst P (sym (late_mail p a e)) (λ written. record {
-  line = (s written).line;
-  handed_out = (s written).handed_out;
-  answered = (s written).answered;
-  broken = still_broken end p _ (s written).broken;
-}, e)
+    subst P (sym (late_mail p a e)) (
+      λ written. record {
+        line = (s written).line;
+        handed_out = (s written).handed_out;
+        answered = (s written).answered;
+        broken = still_broken end p _ (s written).broken;
+      },
+      e,
+    )
 
 -- while a reserve waits, it is told that the client sends no more
 pub tells_end : (r : State) (kept : List ℕ) (told : Bool) (p : Past) → IsWaiting r kept told true p → kept ≡ [] → told ≡ false
     → IsWaiting r kept true true (with_action (actions.Submit steps.End) (record p { ended = true }))
-tells_end r kept told p w none untold = let o = w.0 in let front : List Step = steps.Connect ∷ map steps.Ask o.asked in (record {
-  asked = o.asked;
-  units = o.units;
-  begun = o.begun;
-  stands = o.stands;
-  no_unit = o.no_unit;
-  are_units = o.are_units;
-  bytes_are = o.bytes_are;
-  no_quit = o.no_quit;
-  steps_are = ap (λ x. x ++ steps.End ∷ []) (o.steps_are ∙ ap (λ t. front ++ end_if t) untold ∙ append-nil front);
-  told_well = λ e. (w.1 refl, none);
-  closing_is = rw o.closing_is refl;
-  written_is = o.written_is;
-  answered = o.answered;
-  ended_is = refl;
-  fault_is = o.fault_is;
-}, w.1)
+tells_end r kept told p w none untold = let o = w.0 in let front : List Step = steps.Connect ∷ map steps.Ask o.asked in (
+  record {
+    asked = o.asked;
+    units = o.units;
+    begun = o.begun;
+    stands = o.stands;
+    no_unit = o.no_unit;
+    are_units = o.are_units;
+    bytes_are = o.bytes_are;
+    no_quit = o.no_quit;
+    steps_are = ap (λ x. x ++ steps.End ∷ []) (o.steps_are ∙ ap (λ t. front ++ end_if t) untold ∙ append-nil front);
+    told_well = λ e. (w.1 refl, none);
+    closing_is = rw o.closing_is refl;
+    written_is = o.written_is;
+    answered = o.answered;
+    ended_is = refl;
+    fault_is = o.fault_is;
+  },
+  w.1,
+)
 
 -- the same machine's line, in other words for what is kept and told
 pub open_at : (r : State) (kept other : List ℕ) (told same : Bool) (out : ℕ) (p : Past) → kept ≡ other → told ≡ same

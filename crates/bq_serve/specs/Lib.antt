@@ -1,8 +1,13 @@
 pub mod Asked
+pub mod Doors
+pub mod FaultCodes
 pub mod HasRead
+pub mod LineCalls
 pub mod LineEnds
+pub mod LineParts
 pub mod Past
 pub mod PutBodies
+pub mod ScriptPlace
 pub mod SeatMoves
 pub mod SeatParts
 pub mod SeatStands

@@ -57,13 +57,9 @@ enum Stage {
     /// The line is being read, and nothing is outstanding.
     Reading,
     /// A request is being submitted. `waits` says that it is a reserve, whose answer may take long.
-    Asking {
-        waits: bool,
-    },
+    Asking { waits: bool },
     /// The answer to a request is awaited.
-    Polling {
-        waits: bool,
-    },
+    Polling { waits: bool },
     /// The line is being read while a reserve waits.
     ReadingOn,
     /// It is being submitted that the client sends no more.
