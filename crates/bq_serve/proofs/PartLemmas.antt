@@ -15,7 +15,7 @@ whole_part (parts.Bytes bytes) offset written over =
 whole_part (parts.AfterWritten count) offset written over = grind (arith, common_steps)
 whole_part parts.Fault offset written over = cc
 
-at_first : (more : List Part) → bytes_up_to more zero zero ≡ []
+pub at_first : (more : List Part) → bytes_up_to more zero zero ≡ []
 at_first [] = refl
 at_first (part ∷ more) = grind (arith, common_steps)
 

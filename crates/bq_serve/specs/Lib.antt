@@ -14,3 +14,4 @@ pub mod SeatStands
 pub mod Standing
 pub mod WordsLeft
 pub mod WordsSoFar
+pub mod Writing
