@@ -6,8 +6,10 @@ pub mod LineEndLemmas
 pub mod MoveLemmas
 pub mod NumberLemmas
 pub mod OpenLemmas
+pub mod PartLemmas
 pub mod PutBodyLemmas
 pub mod ReaderLemmas
 pub mod ReadingLemmas
+pub mod ReadingsLemmas
 pub mod StepLemmas
 pub mod WordLemmas

@@ -1,5 +1,14 @@
 //! Serving clients over lines of bytes.
 #![tactic(auto)]
 
+pub use door::{Door, DoorFault};
+pub use fault::RunFault;
+pub use run::{One, run_one};
+
+pub mod clock;
+mod door;
+mod fault;
+pub mod line;
+mod run;
 pub mod seat;
 pub mod wire;

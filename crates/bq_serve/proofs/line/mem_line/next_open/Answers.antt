@@ -1,0 +1,20 @@
+use Rattle.std.proofs.Common.{◌≡◌, ◌<◌, Some, None, length, slice_get, refl, add-one, arith, rules}
+use Rattle.std.proofs.lemmas.Option.{slice_get_past, slice_get_read}
+use Rattle.bq_serve.proofs.PartLemmas.{passed}
+use Rattle.bq_serve.proofs.line.mem_line.next_open.Goals as goal
+
+pub loop-at-preserved : goal.loop-at-preserved
+loop-at-preserved c = record {
+  same =
+      let over = c.if-is_over.ensures in
+      let step = passed _ _ c.loop-at.from c.args.written c.index-parts-at.result c.loop-at-test.true c.index-parts-at.is (search rules) in
+      rw (add-one c.loop-at.at, step) c.loop-at.invariant.same;
+  on = omega arith;
+}
+
+pub returns-else-is_over-clause-open : goal.returns-else-is_over-clause-open
+returns-else-is_over-clause-open c =
+    rw (slice_get_read _ _ _ _ refl c.loop-at-test.true c.index-parts-at.is) (search rules)
+
+pub returns-after-loop-at-clause-open : goal.returns-after-loop-at-clause-open
+returns-after-loop-at-clause-open c = rw (slice_get_past _ _ c.loop-at-test.false) tt

@@ -1,0 +1,49 @@
+-- What the calls of a line do to what it tells of itself.
+use Rattle.std.specs.Prelude.{ℕ, ◌≡◌, ◌==◌, ◌||◌, Bool, true, false, IsTrue, List, [], ◌++◌, take, Option, Some, None, Result, Ok, Err, if◌then◌else◌}
+use Rattle.std.specs.declared.io.Error.{Error}
+use Rattle.std.specs.declared.io.ErrorKind.{ErrorKind}
+use Rattle.std.specs.declared.io.ErrorKind.TheVariants as kinds
+use Rattle.std.specs.IoError.{error_kind}
+use Rattle.bq_job.specs.declared.line_end.LineFault.{LineFault}
+use Rattle.bq_job.specs.declared.line_end.LineFault.TheVariants as faults
+use Rattle.bq_job.specs.LineSteps.{LineSeen}
+
+-- A line tells this of itself: the marks, and where it tells them, the bytes.
+pub record Tells (tells_bytes : Bool) (told line : LineSeen) : Type 0 where
+  pub ended : told.ended ≡ line.ended
+  pub fault : told.fault ≡ line.fault
+  pub read : IsTrue tells_bytes → told.read ≡ line.read
+  pub written : IsTrue tells_bytes → told.written ≡ line.written
+
+-- a line on which nothing was done
+abbrev pub new_line : LineSeen
+new_line = record { read = []; written = []; ended = false; fault = None }
+
+-- an error of a read that says only that there are no bytes yet
+abbrev pub is_nothing_yet : ErrorKind → Bool
+is_nothing_yet kinds.WouldBlock = true
+is_nothing_yet kinds.TimedOut = true
+is_nothing_yet kinds.Interrupted = true
+is_nothing_yet _ = false
+
+-- the first fault stays
+abbrev pub first_fault : Option LineFault → LineFault → Option LineFault
+first_fault None fault = Some fault
+first_fault (Some first) fault = Some first
+
+abbrev pub with_fault : LineFault → LineSeen → LineSeen
+with_fault fault line = record line { fault = first_fault line.fault fault }
+
+-- A read that gives no bytes says that the line ended.
+abbrev pub after_read : Result ℕ Error → List ℕ → LineSeen → LineSeen
+after_read (Ok n) buf line = record line { read = line.read ++ take n buf; ended = line.ended || n == 0 }
+after_read (Err e) buf line = if is_nothing_yet (error_kind e) then line else with_fault faults.Read line
+
+-- A write that takes no bytes is a fault, and so is any error.
+abbrev pub after_write : Result ℕ Error → List ℕ → LineSeen → LineSeen
+after_write (Ok n) buf line = if n == 0 then with_fault faults.Write line else record line { written = line.written ++ take n buf }
+after_write (Err e) buf line = with_fault faults.Write line
+
+abbrev pub after_flush : Result (Unit {0}) Error → LineSeen → LineSeen
+after_flush (Ok done) line = line
+after_flush (Err e) line = with_fault faults.Write line

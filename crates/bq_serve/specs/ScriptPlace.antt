@@ -1,0 +1,33 @@
+-- A script of readings, and the place in it.
+use Rattle.std.specs.Prelude.{ℕ, ◌≡◌, ◌≤◌, ◌+◌, ◌-◌, ◌⊎◌, List, [], ◌∷◌, ◌++◌, length, take, drop, replicate, Option, None, unwrap_or, slice_get}
+use Rattle.std.proofs.Common.{refl, inl, arith, add-zero}
+
+pub record ScriptPlace : Type 0 where
+  pub script : List (Option ℕ)
+  pub place : ℕ
+
+-- the last reading; an empty script reads None
+abbrev pub last_reading : List (Option ℕ) → Option ℕ
+last_reading script = unwrap_or (slice_get script (length script - 1)) None
+
+-- The readings that were given: those from the place before to the place after, and then, only where
+-- that is the end of the script, any number of times the last one.
+pub record IsRead (before : ScriptPlace) (readings : List (Option ℕ)) (after : ScriptPlace) : Type 0 where
+  pub count : ℕ
+  pub again : ℕ
+  pub script_is : after.script ≡ before.script
+  pub within : count ≤ length (drop before.place before.script)
+  pub place_is : after.place ≡ before.place + count
+  pub readings_are : readings ≡ take count (drop before.place before.script) ++ replicate again (last_reading before.script)
+  pub at_end : (again ≡ 0) ⊎ (length after.script ≤ after.place)
+
+pub none_read : (clock : ScriptPlace) → IsRead clock [] clock
+none_read clock = record {
+  count = 0;
+  again = 0;
+  script_is = refl;
+  within = omega arith;
+  place_is = omega arith;
+  readings_are = grind arith;
+  at_end = inl refl;
+}

@@ -1,0 +1,25 @@
+//! Clocks, which a run reads.
+ghost use Rattle.std.specs.Prelude.{◌≡◌, ℕ, List, [], ◌∷◌, ◌++◌, Option};
+
+pub use machine_clock::MachineClock;
+pub use script_clock::ScriptClock;
+
+mod machine_clock;
+mod script_clock;
+
+use bq_job::Moment;
+
+/// A clock that a run reads. What it reads is told by a relation between the clock before some readings,
+/// those readings in their order, and the clock after them.
+pub trait Clock {
+    /// From the first clock on these readings were given, and the last one is what was left.
+    ghost given: { Self → List (Option ℕ) → Self → Type 0 };
+
+    /// A reading: a moment in milliseconds, or none where the clock can't be read. A moment below the one
+    /// before is no error.
+    fn now(&mut self) -> Option<Moment>
+        ensures { (first : Self) (readings : List (Option ℕ)) → given first readings self.old → given first (readings ++ result ∷ []) self.new };
+
+    /// An unchanged clock gave no reading.
+    ghost none_given: { (clock : Self) → given clock [] clock };
+}

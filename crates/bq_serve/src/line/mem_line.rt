@@ -1,0 +1,147 @@
+ghost use Rattle.std.specs.Prelude.{◌≡◌, ◌≤◌, ◌+◌, length, vec_len, min, take, slice_get, IfOk, IfSome, false, true};
+ghost use Rattle.std.specs.Vec.{vec_capacity};
+ghost use Rattle.bq_serve.specs.LineCalls.{Tells, new_line};
+ghost use Rattle.bq_serve.specs.LineParts.{bytes_up_to, is_over};
+
+use super::{Line, note_fault};
+use bq_job::{LineFault, NoMemory};
+use std::alloc::Global;
+use std::io;
+use std::io::ErrorKind;
+
+/// A part of what a client in memory does.
+#[derive(Debug, Drop)]
+pub enum Part {
+    /// It sends these bytes. A part without bytes gives none, and is no end of the input.
+    Bytes(Vec<u8, Global>),
+    /// It sends no more until so many bytes were written to it.
+    AfterWritten(usize),
+    /// Its line fails: one read is answered by a fault.
+    Fault,
+}
+
+/// A line to a client in memory: a list of parts, behind which the input ends, and room for the bytes
+/// that are written.
+#[derive(Debug, Drop)]
+pub struct MemLine {
+    parts: Vec<Part, Global>,
+    // How many parts are over, and how many bytes of the next one were read.
+    place: usize,
+    offset: usize,
+    written: Vec<u8, Global>,
+    // How many bytes can still be written.
+    room: usize,
+    ended: bool,
+    fault: Option<LineFault>,
+    ghost fits: { vec_len written + room ≤ vec_capacity written },
+}
+
+impl MemLine {
+    /// A line of these parts, to which `room` bytes can be written. Their memory is asked for here.
+    pub fn new(alloc: Global, parts: Vec<Part, Global>, room: usize) -> Result<MemLine, NoMemory>
+        ensures parts { IfOk result (λ line. line.parts ≡ parts) }
+        ensures room { IfOk result (λ line. line.room ≡ room) }
+        ensures unused { IfOk result (λ line. Tells true (⟦<MemLine as Line>⟧.seen line) new_line) }
+    {
+        match Vec::with_capacity(alloc, room) {
+            Ok(written) => Ok(MemLine {
+                parts,
+                place: 0,
+                offset: 0,
+                written,
+                room,
+                ended: false,
+                fault: None,
+            }),
+            Err(_) => Err(NoMemory),
+        }
+    }
+
+    /// The bytes that were written to the line.
+    pub fn written(&self) -> &[u8]
+        ensures { result.now ≡ self.now.written.items }
+    {
+        self.written.as_slice()
+    }
+}
+
+impl Line for MemLine {
+    ghost seen = { λ line. record { read = bytes_up_to line.parts.items line.place line.offset; written = line.written.items; ended = line.ended; fault = line.fault } };
+
+    ghost tells_bytes = { true };
+
+    fn read(&mut self, buf: &mut [u8]) -> io::Result<usize> {
+        let (place, offset) = next_open(&self.parts, self.place, self.offset, self.written.len());
+        self.place = place;
+        self.offset = offset;
+        match self.parts.get(place) {
+            None => {
+                self.ended = true;
+                Ok(0)
+            }
+            Some(Part::Bytes(bytes)) => {
+                let count = copy_first(&bytes[offset..], buf);
+                self.offset = offset + count;
+                Ok(count)
+            }
+            Some(Part::AfterWritten(_)) => Err(io::Error::from(ErrorKind::WouldBlock)),
+            Some(Part::Fault) => {
+                self.place = place + 1;
+                self.offset = 0;
+                note_fault(&mut self.fault, LineFault::Read);
+                Err(io::Error::from(ErrorKind::BrokenPipe))
+            }
+        }
+    }
+
+    fn write(&mut self, buf: &[u8]) -> io::Result<usize> {
+        let count = buf.len().min(self.room);
+        if count == 0 {
+            note_fault(&mut self.fault, LineFault::Write);
+            return Err(io::Error::from(ErrorKind::StorageFull));
+        }
+        let _fits = self.written.extend_from_slice(&buf[..count]);
+        self.room -= count;
+        Ok(count)
+    }
+
+    fn flush(&mut self) -> io::Result<()> {
+        Ok(())
+    }
+}
+
+// Whether a part is over, once so many bytes of it were read and so many were written to the line.
+fn is_over(part: &Part, offset: usize, written: usize) -> bool
+    ensures { result ≡ is_over offset written part.now }
+{
+    match part {
+        Part::Bytes(bytes) => bytes.len() <= offset,
+        Part::AfterWritten(count) => *count <= written,
+        Part::Fault => false,
+    }
+}
+
+// The place and the offset from which the line goes on: parts that are over are passed.
+fn next_open(parts: &[Part], place: usize, offset: usize, written: usize) -> (usize, usize)
+    ensures same { bytes_up_to parts.now result.0 result.1 ≡ bytes_up_to parts.now place offset }
+    ensures open { IfSome (slice_get parts.now result.0) (λ part. is_over result.1 written part ≡ false) }
+    ensures none_skipped { place ≤ result.0 }
+{
+    let mut at = place;
+    let mut from = offset;
+    while at < parts.len() && is_over(&parts[at], from, written) {
+        at += 1;
+        from = 0;
+    }
+    (at, from)
+}
+
+// Copies as many first bytes as there is room for, and says how many.
+fn copy_first(bytes: &[u8], buf: &mut [u8]) -> usize
+    ensures count { result ≡ min (length bytes.now) (length buf.old) }
+    ensures copied { take result buf.new ≡ take result bytes.now }
+{
+    let count = bytes.len().min(buf.len());
+    buf[..count].copy_from_slice(&bytes[..count]);
+    count
+}

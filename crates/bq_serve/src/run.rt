@@ -1,0 +1,8 @@
+//! Runs, in which clients are served.
+
+pub use one::{One, run_one};
+
+mod answer_write;
+mod joined;
+mod one;
+mod serving;

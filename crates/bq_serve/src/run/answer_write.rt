@@ -1,0 +1,56 @@
+ghost use Rattle.std.specs.Prelude.{◌≡◌, ◌≤◌, ◌+◌, ◌++◌, length};
+ghost use Rattle.bq_job.specs.AnswerText.{answer_text};
+ghost use Rattle.bq_serve.specs.Writing.{Writes};
+
+use super::joined::{JOINED_ROOM, Joined};
+use crate::line::Line;
+use crate::wire::{HeadBuf, answer_body, answer_head, answer_tail};
+use bq_job::Answer;
+
+/// Writes the text of an answer and sends it off. Whether all of it was written.
+pub fn write_answer<L: Line>(line: &mut L, answer: &Answer) -> bool
+    ensures { Writes L.tells_bytes (answer_text answer.now) (L.seen line.old) (L.seen line.new) result }
+{
+    write_text(line, answer) && line.flush().is_ok()
+}
+
+// The parts of a text that is short go out in one write, and those of a longer one after one another.
+fn write_text<L: Line>(line: &mut L, answer: &Answer) -> bool
+    ensures { Writes L.tells_bytes (answer_text answer.now) (L.seen line.old) (L.seen line.new) result }
+{
+    let mut head_room = HeadBuf::new();
+    answer_head(answer, &mut head_room);
+    let head = head_room.as_slice();
+    let body = answer_body(answer);
+    let tail = answer_tail(answer);
+    if body.len() <= JOINED_ROOM - 512 {
+        write_joined(line, head, body, tail)
+    } else {
+        write_all(line, head) && write_all(line, body) && write_all(line, tail)
+    }
+}
+
+fn write_joined<L: Line>(line: &mut L, head: &[u8], body: &[u8], tail: &[u8]) -> bool
+    requires { length head.now + length body.now + length tail.now ≤ 4096 }
+    ensures { Writes L.tells_bytes (head.now ++ body.now ++ tail.now) (L.seen line.old) (L.seen line.new) result }
+{
+    let mut joined = Joined::new();
+    joined.push(head);
+    joined.push(body);
+    joined.push(tail);
+    write_all(line, joined.as_slice())
+}
+
+// Writes until all bytes are taken or a write fails.
+fn write_all<L: Line>(line: &mut L, bytes: &[u8]) -> bool
+    ensures { Writes L.tells_bytes bytes.now (L.seen line.old) (L.seen line.new) result }
+{
+    let mut done = 0;
+    while done < bytes.len() {
+        match line.write(&bytes[done..]) {
+            Ok(0) | Err(_) => return false,
+            Ok(count) => done += count,
+        }
+    }
+    true
+}

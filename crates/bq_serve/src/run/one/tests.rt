@@ -1,0 +1,205 @@
+//! Worked sessions of one line: the bytes that a client sends, and those that are written to it.
+
+use crate::clock::ScriptClock;
+use crate::line::{MemLine, Part};
+use crate::{RunFault, run_one};
+use bq_core::Config;
+use bq_job::{LineEnd, Moment};
+use std::alloc::Global;
+use std::test::Fail;
+
+const ROOM: usize = 1000;
+
+// What the client sends, the bytes that are written to it, and how its line is over.
+type Row = (&'static str, &'static str, LineEnd);
+
+static ROWS: [Row; 13] = [
+    (
+        "put 5 0 10 3\r\nabc\r\nreserve\r\ndelete 1\r\nquit\r\n",
+        "INSERTED 1\r\nRESERVED 1 3\r\nabc\r\nDELETED\r\n",
+        LineEnd::Quit,
+    ),
+    ("", "", LineEnd::EndOfInput),
+    (
+        "put 0 0 1 0\r\n\r\nput 0 0 1 1\r\na\r\nreserve\r\nreserve\r\nreserve\r\n",
+        "INSERTED 1\r\nINSERTED 2\r\nRESERVED 1 0\r\n\r\nRESERVED 2 1\r\na\r\nDEADLINE_SOON\r\n",
+        LineEnd::EndOfInput,
+    ),
+    (
+        "PUT\r\nput 1\r\ndelete 4294967296\r\n",
+        "UNKNOWN_COMMAND\r\nBAD_FORMAT\r\nNOT_FOUND\r\n",
+        LineEnd::EndOfInput,
+    ),
+    (
+        "put 4 0 9 1\r\nx\r\nput 3 0 9 1\r\ny\r\nreserve\r\nreserve\r\n",
+        "INSERTED 1\r\nINSERTED 2\r\nRESERVED 2 1\r\ny\r\nRESERVED 1 1\r\nx\r\n",
+        LineEnd::EndOfInput,
+    ),
+    ("put 0 0 1 5\r\nab", "", LineEnd::EndOfInput),
+    ("reserve", "", LineEnd::EndOfInput),
+    ("quit\r\nreserve\r\n", "", LineEnd::Quit),
+    ("reserve\r\n", "TIMED_OUT\r\n", LineEnd::EndOfInput),
+    (
+        "\r\nreserve \r\n reserve\r\nput 0 0 4294967296 1\r\n",
+        "UNKNOWN_COMMAND\r\nBAD_FORMAT\r\nUNKNOWN_COMMAND\r\nBAD_FORMAT\r\n",
+        LineEnd::EndOfInput,
+    ),
+    (
+        "put 0 0 1 2\r\nabXYreserve\r\n",
+        "EXPECTED_CRLF\r\nTIMED_OUT\r\n",
+        LineEnd::EndOfInput,
+    ),
+    (
+        "put 0 0 1 1\r\na\r\ndelete 2\r\ndelete 1\r\ndelete 1\r\n",
+        "INSERTED 1\r\nNOT_FOUND\r\nDELETED\r\nNOT_FOUND\r\n",
+        LineEnd::EndOfInput,
+    ),
+    (
+        "put 0 5 1 0\r\n\r\nreserve\r\n",
+        "INSERTED 1\r\nTIMED_OUT\r\n",
+        LineEnd::EndOfInput,
+    ),
+];
+
+fn config(max_job_size: u32) -> Config {
+    Config {
+        seats: 1,
+        max_job_size,
+    }
+}
+
+// A clock that stands still.
+fn still(alloc: Global) -> Result<ScriptClock, Fail> {
+    let mut script: Vec<Option<Moment>> = Vec::new(alloc);
+    script.push(Some(0))?;
+    Ok(ScriptClock::new(script))
+}
+
+// A client that sends this text at once.
+fn client(alloc: Global, sent: &str, room: usize) -> Result<MemLine, Fail> {
+    let mut parts: Vec<Part> = Vec::new(alloc);
+    parts.push(Part::Bytes(Vec::from_slice(alloc, sent.as_bytes())?))?;
+    Ok(MemLine::new(alloc, parts, room)?)
+}
+
+#[test]
+fn sessions(rt: HostRuntime) -> Result<(), Fail> {
+    let alloc = rt.alloc();
+    for (sent, written, end) in &ROWS {
+        let line = client(alloc, sent, ROOM)?;
+        let one = run_one(&rt, alloc, config(65535), line, still(alloc)?)?;
+        assert!(rt; one.line.written() == written.as_bytes(), "{sent:?}");
+        assert!(rt; one.end == *end, "{sent:?}");
+    }
+    Ok(())
+}
+
+// After a put that is too big the next one is the first that is accepted.
+#[test]
+fn small_limit(rt: HostRuntime) -> Result<(), Fail> {
+    let alloc = rt.alloc();
+    let sent = "put 0 0 1 3\r\nabc\r\nput 0 0 1 2\r\nab\r\n";
+    let line = client(alloc, sent, ROOM)?;
+    let one = run_one(&rt, alloc, config(2), line, still(alloc)?)?;
+    assert!(rt; one.line.written() == b"JOB_TOO_BIG\r\nINSERTED 1\r\n".as_slice());
+    Ok(())
+}
+
+// A write is cut short where the room ends, and that ends the line.
+#[test]
+fn write_cut_short(rt: HostRuntime) -> Result<(), Fail> {
+    let alloc = rt.alloc();
+    let line = client(alloc, "put 0 0 9 1\r\nx\r\n", 5)?;
+    let one = run_one(&rt, alloc, config(65535), line, still(alloc)?)?;
+    assert!(rt; one.line.written() == b"INSER".as_slice());
+    assert!(rt; one.end == LineEnd::WriteFault);
+    Ok(())
+}
+
+// What came before a read fault is answered.
+#[test]
+fn fault_after_an_answer(rt: HostRuntime) -> Result<(), Fail> {
+    let alloc = rt.alloc();
+    let mut parts: Vec<Part> = Vec::new(alloc);
+    parts.push(Part::Bytes(Vec::from_slice(alloc, b"put 0 0 9 1\r\nx\r\nput")?))?;
+    parts.push(Part::Bytes(Vec::new(alloc)))?;
+    parts.push(Part::Fault)?;
+    let line = MemLine::new(alloc, parts, ROOM)?;
+    let one = run_one(&rt, alloc, config(65535), line, still(alloc)?)?;
+    assert!(rt; one.line.written() == b"INSERTED 1\r\n".as_slice());
+    assert!(rt; one.end == LineEnd::ReadFault);
+    Ok(())
+}
+
+// A read fault ends a line also behind a reserve, which nothing has answered.
+#[test]
+fn fault_behind_a_wait(rt: HostRuntime) -> Result<(), Fail> {
+    let alloc = rt.alloc();
+    let mut parts: Vec<Part> = Vec::new(alloc);
+    parts.push(Part::Bytes(Vec::from_slice(alloc, b"reserve\r\n")?))?;
+    parts.push(Part::Fault)?;
+    let line = MemLine::new(alloc, parts, ROOM)?;
+    let one = run_one(&rt, alloc, config(65535), line, still(alloc)?)?;
+    assert!(rt; one.line.written().is_empty());
+    assert!(rt; one.end == LineEnd::ReadFault);
+    Ok(())
+}
+
+// A client that waits for its answers, and a clock that moves: a delayed job comes when it is due.
+#[test]
+fn answers_in_between(rt: HostRuntime) -> Result<(), Fail> {
+    let alloc = rt.alloc();
+    let mut parts: Vec<Part> = Vec::new(alloc);
+    parts.push(Part::AfterWritten(0))?;
+    parts.push(Part::Bytes(Vec::from_slice(alloc, b"put 0 1 9 1\r\n")?))?;
+    parts.push(Part::Bytes(Vec::from_slice(alloc, b"x\r\nreserve\r\n")?))?;
+    parts.push(Part::AfterWritten(29))?;
+    parts.push(Part::Bytes(Vec::from_slice(alloc, b"delete 1\r\n")?))?;
+    let line = MemLine::new(alloc, parts, ROOM)?;
+    let mut script: Vec<Option<Moment>> = Vec::new(alloc);
+    for moment in 0..30 {
+        script.push(Some(moment * 100))?;
+        script.push(None)?;
+    }
+    let one = run_one(&rt, alloc, config(65535), line, ScriptClock::new(script))?;
+    assert!(rt; one.line.written() == b"INSERTED 1\r\nRESERVED 1 1\r\nx\r\nDELETED\r\n".as_slice());
+    assert!(rt; one.end == LineEnd::EndOfInput);
+    Ok(())
+}
+
+// A body that doesn't fit the room in which short answers are joined.
+#[test]
+fn large_body(rt: HostRuntime) -> Result<(), Fail> {
+    let alloc = rt.alloc();
+    let body = vec![in alloc; b'x'; 10_000]?;
+    let mut parts: Vec<Part> = Vec::new(alloc);
+    parts.push(Part::Bytes(Vec::from_slice(alloc, b"put 0 0 9 10000\r\n")?))?;
+    parts.push(Part::Bytes(body))?;
+    parts.push(Part::Bytes(Vec::from_slice(alloc, b"\r\nreserve\r\n")?))?;
+    let line = MemLine::new(alloc, parts, 20_000)?;
+    let one = run_one(&rt, alloc, config(65535), line, still(alloc)?)?;
+    let written = one.line.written();
+    assert!(rt; written.starts_with(b"INSERTED 1\r\nRESERVED 1 10000\r\nxxx"));
+    assert!(rt; written.ends_with(b"xxx\r\n"));
+    assert!(rt; written.len() == 12 + 18 + 10_000 + 2);
+    Ok(())
+}
+
+// A configuration is refused where it is out of its ranges, or isn't for one seat.
+#[test]
+fn bad_configurations(rt: HostRuntime) -> Result<(), Fail> {
+    let alloc = rt.alloc();
+    for (seats, max_job_size) in [(0, 1), (2, 1), (257, 1), (1, 0), (1, 1_048_577)] {
+        let line = client(alloc, "quit\r\n", ROOM)?;
+        let bad = Config {
+            seats,
+            max_job_size,
+        };
+        let refused = match run_one(&rt, alloc, bad, line, still(alloc)?) {
+            Ok(_) => None,
+            Err(fault) => Some(fault),
+        };
+        assert!(rt; refused == Some(RunFault::BadConfiguration));
+    }
+    Ok(())
+}
