@@ -60,10 +60,10 @@ pub record IsOpen (reader : State) (kept : List ℕ) (told : Bool) (outstanding 
   pub ended_is : p.ended ≡ told
   pub fault_is : p.fault ≡ None
 
--- the same, and where this is true, the last request was a reserve
+-- the same with one answer outstanding, and whether the last request was a reserve
 abbrev pub IsWaiting : State → List ℕ → Bool → Bool → Past → Type 0
 IsWaiting reader kept told waits p =
-    (line : IsOpen reader kept told 1 p) × (waits ≡ true → ends_by_wait line.asked ≡ true)
+    (line : IsOpen reader kept told 1 p) × (ends_by_wait line.asked ≡ waits)
 
 abbrev pub StandsAt : Stage → State → List ℕ → Bool → Past → Type 0
 StandsAt stages.Between reader kept told p = (end : LineEnd) × ((written : List ℕ) → IsServed (profile_of reader) written end p)
