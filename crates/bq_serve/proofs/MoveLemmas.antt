@@ -108,7 +108,7 @@ reads_on_in_polling m waits w untold none = record {
   awaits = λ e. refl;
   profile = refl;
   opened = tt;
-  past = λ p h. ((h.0, λ e. h.1 w), none, untold);
+  past = λ p h. ((h.0, h.1 ∙ w), none, untold);
   over = tt;
 }
 
@@ -157,7 +157,7 @@ fault_in_reading_on m = record {
   awaits = λ e. refl;
   profile = refl;
   opened = tt;
-  past = λ p h. (read_fails m.reader m.kept m.end_told 1 p h.0.0 h.1 (inr (refl, h.0.1 refl)), or_true _);
+  past = λ p h. (read_fails m.reader m.kept m.end_told 1 p h.0.0 h.1 (inr (refl, h.0.1)), or_true _);
   over = tt;
 }
 

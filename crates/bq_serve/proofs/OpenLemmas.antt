@@ -132,7 +132,7 @@ asks r next kept n q p o same unit h not_quit = (
     ended_is = o.ended_is;
     fault_is = o.fault_is;
   },
-  λ w. ends_by_wait-asked o.asked q ∙ w,
+  ends_by_wait-asked o.asked q,
 )
 
 -- a quit is asked
@@ -332,7 +332,7 @@ tells_end r kept told p w none untold = let o = w.0 in let front : List Step = s
     bytes_are = o.bytes_are;
     no_quit = o.no_quit;
     steps_are = ap (λ x. x ++ steps.End ∷ []) (o.steps_are ∙ ap (λ t. front ++ end_if t) untold ∙ append-nil front);
-    told_well = λ e. (w.1 refl, none);
+    told_well = λ e. (w.1, none);
     closing_is = rw o.closing_is refl;
     written_is = o.written_is;
     answered = o.answered;

@@ -61,10 +61,10 @@ pub record IsOpen (reader : State) (kept : List ℕ) (told : Bool) (outstanding 
   pub ended_is : p.ended ≡ told
   pub fault_is : p.fault ≡ None
 
--- the same, and where this is true, the last request was a reserve
+-- the same with one answer outstanding, and whether the last request was a reserve
 abbrev pub IsWaiting : State → List ℕ → Bool → Bool → Past → Type 0
 IsWaiting reader kept told waits p =
-    (line : IsOpen reader kept told 1 p) × (waits ≡ true → ends_by_wait line.asked ≡ true)
+    (line : IsOpen reader kept told 1 p) × (ends_by_wait line.asked ≡ waits)
 
 -- The last step was a quit, and everything asked before it was answered.
 pub record HasAskedQuit (p : Past) : Type 0 where

@@ -116,7 +116,11 @@ impl SeatMachine {
     /// 4,096 bytes are handed in at once.
     pub fn on(&mut self, event: Event<'_>) -> Action
         requires { FitsPiece event }
+        // It is stray exactly where it doesn't answer the last action, and then nothing changes. Each past
+        // of the line that the machine stands for goes on by this event and this action, and where the
+        // line is over it was served: its steps are the line's, its answers those that came.
         ensures moves { IsMove self.old event.entry result self.new }
+        // While a reserve waits, the line is read on.
         ensures looks { LooksOn event.entry self.old.stage self.old result }
     {
         match event {
@@ -241,6 +245,7 @@ impl SeatMachine {
     {
         match self.stage {
             Stage::Writing => {
+                // Only the contract needs it: what isn't asked any more has a reading too.
                 every_text_is_read();
                 self.close(LineEnd::WriteFault)
             }
