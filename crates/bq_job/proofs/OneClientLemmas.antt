@@ -18,10 +18,11 @@ use Rattle.bq_job.specs.declared.step.Step.TheVariants as steps
 use Rattle.bq_job.specs.Acts.{Effect, on_found, on_job, showing, silent, telling}
 use Rattle.bq_job.specs.Asked.{after_close, after_connect, asked, at_found, at_seat, effect, refusal_answer, with_end}
 use Rattle.bq_job.specs.Changes.{in_state, is_held_by, is_waiting, job_with, seat_with, with_job, with_seat, without_wait}
-use Rattle.bq_job.specs.Dispatch.{DispatchTurn, Given, IsHandOut, next_seat, reserved_by}
+use Rattle.bq_job.specs.Dispatch.{DispatchTurn, Given, IsHandOut, is_wait_before, next_seat, reserved_by}
 use Rattle.bq_job.specs.JobCommands.{after_delete, after_kick, after_put, buried, is_free_for, kickable, kicked, new_job, put_effect, released, reserve_effect, waiting_from}
 use Rattle.bq_job.specs.JobStates.{is_buried, is_delayed, is_reserved}
 use Rattle.bq_job.specs.Lawful.{IsLawful}
+use Rattle.bq_job.specs.LineSteps.{is_waiting_request}
 use Rattle.bq_job.specs.Limits.{later, raised}
 use Rattle.bq_job.specs.Machine.{Machine, SeatRecord, empty_seat, numbers}
 use Rattle.bq_job.specs.OneClient.{GetsAnswer, GetsClosed, GetsWhatWaits, GivesClient, answers_wanted, has_closed, is_closed_answer, is_connected_at, is_waiting_at, owing}
@@ -31,11 +32,12 @@ use Rattle.bq_job.specs.Steps.{Dispatches, EndsWaits, IsStep, Memory, Outcome, S
 use Rattle.bq_job.specs.TubeCommands.{pause_effect, using, watched_with, watching, watching_or_refused}
 use Rattle.bq_job.specs.Timers.{after_timers, at_moment}
 use Rattle.bq_job.specs.Tubes.{forgetting, is_tube}
-use Rattle.bq_job.specs.Waits.{Chain, WaitEndTurn, end_of_wait, is_deadline_soon}
+use Rattle.bq_job.specs.Waits.{Chain, WaitEndTurn, end_of_wait, ends_waiting, is_deadline_soon, is_until_over}
+use Rattle.bq_job.proofs.ChoiceLemmas.{first_of_none}
 use Rattle.bq_job.proofs.ComputedLemmas.{next_end_waits, next_seat_waits}
 use Rattle.bq_job.proofs.DispatchLemmas.{turn_of}
 use Rattle.bq_job.proofs.KeptLemmas.{is_open_wait, only_seat}
-use Rattle.bq_job.proofs.LawfulLemmas.{end_of}
+use Rattle.bq_job.proofs.LawfulLemmas.{end_of, step_is_lawful}
 use Rattle.bq_job.proofs.ListLemmas.{all_always, all_at, all_both, all_of_map, all_pass, all_weaker, found_passes, keys_of_map, list_any_not, list_any_of_map, list_any_with, none_pass}
 
 -- whether the client at the seat waits, and whether there is one
@@ -45,7 +47,10 @@ waits_in seat seats = list_any (λ s. s.number == seat && is_waiting s) seats
 abbrev connected_in : ℕ → List SeatRecord → Bool
 connected_in seat seats = list_any (λ s. s.number == seat && s.connected) seats
 
--- one of its number is waited for
+abbrev ended_in : ℕ → List SeatRecord → Bool
+ended_in seat seats = list_any (λ s. s.number == seat && s.ended) seats
+
+-- one answer, if it is waited for
 abbrev one_for : Bool → ℕ
 one_for b = cond b 1 0
 
@@ -54,10 +59,11 @@ pub record Passes (seat : ℕ) (first last : List SeatRecord) (given : List Give
   pub count : length (answers_to seat given) + one_for (waits_in seat last) ≡ one_for (waits_in seat first)
   pub unclosed : has_closed (answers_to seat given) ≡ false
   pub connected : connected_in seat last ≡ connected_in seat first
+  pub ended : ended_in seat last ≡ ended_in seat first
   pub numbers : map (λ s. s.number) last ≡ map (λ s. s.number) first
 
 passes_itself : (seat : ℕ) (seats : List SeatRecord) → Passes seat seats seats []
-passes_itself seat seats = record { count = omega arith; unclosed = refl; connected = refl; numbers = refl }
+passes_itself seat seats = record { count = omega arith; unclosed = refl; connected = refl; ended = refl; numbers = refl }
 
 pub answers_append : (seat : ℕ) (xs ys : List Given) → answers_to seat (xs ++ ys) ≡ answers_to seat xs ++ answers_to seat ys
 answers_append seat [] ys = refl
@@ -76,6 +82,7 @@ passes_then seat first next last xs ys h i = record {
       let a = h.count in let b = i.count in omega arith;
   unclosed = ap has_closed (answers_append seat xs ys) ∙ unclosed_append (answers_to seat xs) (answers_to seat ys) h.unclosed i.unclosed;
   connected = i.connected ∙ h.connected;
+  ended = i.ended ∙ h.ended;
   numbers = i.numbers ∙ h.numbers;
 }
 
@@ -114,6 +121,11 @@ unwaited_connected seat number seats =
     any_of_map (λ s. s.number == seat && s.connected) (λ s. s.number == seat && s.connected) (unwaited number) seats
     (λ s. cond_both (s.number == number) (without_wait s) s (λ t. (t.number == seat && t.connected) ≡ (s.number == seat && s.connected)) (λ e. refl) (λ e. refl))
 
+unwaited_ended : (seat number : ℕ) (seats : List SeatRecord) → ended_in seat (map (unwaited number) seats) ≡ ended_in seat seats
+unwaited_ended seat number seats =
+    any_of_map (λ s. s.number == seat && s.ended) (λ s. s.number == seat && s.ended) (unwaited number) seats
+    (λ s. cond_both (s.number == number) (without_wait s) s (λ t. (t.number == seat && t.ended) ≡ (s.number == seat && s.ended)) (λ e. refl) (λ e. refl))
+
 unwaited_numbers : (number : ℕ) (seats : List SeatRecord) → map (λ s. s.number) (map (unwaited number) seats) ≡ map (λ s. s.number) seats
 unwaited_numbers number seats =
     keys_of_map (λ s. s.number) (unwaited number) seats
@@ -133,6 +145,7 @@ passes_turn seat seats s answer there waits stays =
             count = rw (told, waited, over) refl;
             unclosed = rw (told, stays) refl;
             connected = unwaited_connected seat s.number seats;
+            ended = unwaited_ended seat s.number seats;
             numbers = unwaited_numbers s.number seats;
           }
       | inr e ↦
@@ -141,6 +154,7 @@ passes_turn seat seats s answer there waits stays =
             count = rw (told, unwaited_another seat s.number seats e) (omega arith);
             unclosed = rw told refl;
             connected = unwaited_connected seat s.number seats;
+            ended = unwaited_ended seat s.number seats;
             numbers = unwaited_numbers s.number seats;
           }
     ]
@@ -196,6 +210,7 @@ record Found (seat : ℕ) (seats : List SeatRecord) : Type 0 where
   there : Contains seats client
   waits : waits_in seat seats ≡ is_waiting client
   connected : connected_in seat seats ≡ client.connected
+  ended : ended_in seat seats ≡ client.ended
 
 -- A test of the client at the seat is a test of its record.
 found_any : (seat : ℕ) (seats : List SeatRecord) (s : SeatRecord) (p : SeatRecord → Bool) → s.number ≡ seat → Contains seats s → All (λ t. t.number ≡ seat → t ≡ s) seats → list_any (λ t. t.number == seat && p t) seats ≡ p s
@@ -239,6 +254,7 @@ finds n seat seats e below =
       there = p.1;
       waits = found_any seat seats f.0 is_waiting is p.1 alone;
       connected = found_any seat seats f.0 (λ s. s.connected) is p.1 alone;
+      ended = found_any seat seats f.0 (λ s. s.ended) is p.1 alone;
     }
 
 -- the seats where the one of this number is changed
@@ -275,45 +291,47 @@ told None = []
 told (Some answer) = answer ∷ []
 
 -- The client asks without waiting: it is told so much, or waits for it.
-record Replies (seat wanted : ℕ) (seats : List SeatRecord) (e : Effect) : Type 0 where
+record Replies (seat wanted : ℕ) (may_wait : Bool) (seats : List SeatRecord) (e : Effect) : Type 0 where
   count : length (told e.answer) + one_for (waits_in seat (e.machine).seats) ≡ wanted
+  at_once : may_wait ≡ false → waits_in seat (e.machine).seats ≡ false
   unclosed : has_closed (told e.answer) ≡ false
   connected : connected_in seat (e.machine).seats ≡ connected_in seat seats
 
-replies_telling : (seat : ℕ) (m n : Machine) (answer : Answer) → is_closed_answer answer ≡ false → waits_in seat n.seats ≡ false → connected_in seat n.seats ≡ connected_in seat m.seats → Replies seat 1 m.seats (telling answer n)
-replies_telling seat m n answer stays w c = record { count = rw w refl; unclosed = rw stays refl; connected = c }
+replies_telling : {b : Bool} (seat : ℕ) (m n : Machine) (answer : Answer) → is_closed_answer answer ≡ false → waits_in seat n.seats ≡ false → connected_in seat n.seats ≡ connected_in seat m.seats → Replies seat 1 b m.seats (telling answer n)
+replies_telling seat m n answer stays w c = record { count = rw w refl; at_once = λ e. w; unclosed = rw stays refl; connected = c }
 
 -- the same machine with other jobs
-replies_jobs : (seat : ℕ) (m n : Machine) (answer : Answer) → waits_in seat m.seats ≡ false → is_closed_answer answer ≡ false → n.seats ≡ m.seats → Replies seat 1 m.seats (telling answer n)
+replies_jobs : {b : Bool} (seat : ℕ) (m n : Machine) (answer : Answer) → waits_in seat m.seats ≡ false → is_closed_answer answer ≡ false → n.seats ≡ m.seats → Replies seat 1 b m.seats (telling answer n)
 replies_jobs seat m n answer w stays same = replies_telling seat m n answer stays (ap (waits_in seat) same ∙ w) (ap (connected_in seat) same)
 
 -- A seat changes, and its client waits as before.
-replies_seat : (seat number : ℕ) (f : SeatRecord → SeatRecord) (m : Machine) (answer : Answer) → waits_in seat m.seats ≡ false → is_closed_answer answer ≡ false → ((s : SeatRecord) → (f s).number ≡ s.number) → ((s : SeatRecord) → (f s).connected ≡ s.connected) → ((s : SeatRecord) → is_waiting (f s) ≡ is_waiting s) → Replies seat 1 m.seats (telling answer (with_seat number f m))
+replies_seat : (seat number : ℕ) (f : SeatRecord → SeatRecord) (m : Machine) (answer : Answer) → waits_in seat m.seats ≡ false → is_closed_answer answer ≡ false → ((s : SeatRecord) → (f s).number ≡ s.number) → ((s : SeatRecord) → (f s).connected ≡ s.connected) → ((s : SeatRecord) → is_waiting (f s) ≡ is_waiting s) → Replies seat 1 false m.seats (telling answer (with_seat number f m))
 replies_seat seat number f m answer w stays same connects waits_as =
     replies_telling seat m (with_seat number f m) answer stays
     (changed_quiet seat number f is_waiting m.seats same waits_as ∙ w) (changed_quiet seat number f (λ s. s.connected) m.seats same connects)
 
-replies_on_job : (seat : ℕ) (passes : Job → Bool) (act : Job → Effect) (m : Machine) (o : Option Job) → waits_in seat m.seats ≡ false → ((j : Job) → Replies seat 1 m.seats (act j)) → Replies seat 1 m.seats (on_found passes act m o)
+replies_on_job : (seat : ℕ) (passes : Job → Bool) (act : Job → Effect) (m : Machine) (o : Option Job) → waits_in seat m.seats ≡ false → ((j : Job) → Replies seat 1 false m.seats (act j)) → Replies seat 1 false m.seats (on_found passes act m o)
 replies_on_job seat passes act m None w goes = replies_jobs seat m m answers.NotFound w refl refl
 replies_on_job seat passes act m (Some j) w goes =
-    cond_both (passes j) (act j) (telling answers.NotFound m) (Replies seat 1 m.seats) (λ e. goes j) (λ e. replies_jobs seat m m answers.NotFound w refl refl)
+    cond_both (passes j) (act j) (telling answers.NotFound m) (Replies seat 1 false m.seats) (λ e. goes j) (λ e. replies_jobs seat m m answers.NotFound w refl refl)
 
-replies_showing : (seat : ℕ) (m : Machine) (o : Option Job) → waits_in seat m.seats ≡ false → Replies seat 1 m.seats (showing m o)
+replies_showing : (seat : ℕ) (m : Machine) (o : Option Job) → waits_in seat m.seats ≡ false → Replies seat 1 false m.seats (showing m o)
 replies_showing seat m None w = replies_jobs seat m m answers.NotFound w refl refl
 replies_showing seat m (Some j) w = replies_jobs seat m m (answers.Found j.id j.body) w refl refl
 
-replies_statistics : (seat : ℕ) (m : Machine) (o : Option Job) → waits_in seat m.seats ≡ false → Replies seat 1 m.seats (job_statistics_or_not m o)
+replies_statistics : (seat : ℕ) (m : Machine) (o : Option Job) → waits_in seat m.seats ≡ false → Replies seat 1 false m.seats (job_statistics_or_not m o)
 replies_statistics seat m None w = replies_jobs seat m m answers.NotFound w refl refl
 replies_statistics seat m (Some j) w = replies_jobs seat m m _ w refl refl
 
-replies_watching : (seat : ℕ) (tubes : List (List ℕ)) (m : Machine) (s : SeatRecord) → waits_in seat m.seats ≡ false → Replies seat 1 m.seats (watching_or_refused tubes m s)
+replies_watching : (seat : ℕ) (tubes : List (List ℕ)) (m : Machine) (s : SeatRecord) → waits_in seat m.seats ≡ false → Replies seat 1 false m.seats (watching_or_refused tubes m s)
 replies_watching seat [] m s w = replies_jobs seat m m answers.NotIgnored w refl refl
 replies_watching seat (tube ∷ tubes) m s w = replies_seat seat s.number (watching (tube ∷ tubes)) m _ w refl (λ s. refl) (λ s. refl) (λ s. refl)
 
 -- The client begins to wait.
-replies_reserve : (until : Option ℕ) (m : Machine) (s : SeatRecord) → Contains m.seats s → Replies s.number 1 m.seats (reserve_effect until m s)
+replies_reserve : (until : Option ℕ) (m : Machine) (s : SeatRecord) → Contains m.seats s → Replies s.number 1 true m.seats (reserve_effect until m s)
 replies_reserve until m s there = record {
   count = rw (changed_some (waiting_from (raised m.tickets) until) is_waiting m.seats s there (λ t. refl) (λ t. refl)) refl;
+  at_once = λ e. absurd cc;
   unclosed = refl;
   connected = changed_quiet s.number s.number (waiting_from (raised m.tickets) until) (λ t. t.connected) m.seats (λ t. refl) (λ t. refl);
 }
@@ -326,9 +344,9 @@ refusal_stays refusals.ExpectedCrlf = refl
 refusal_stays refusals.OutOfMemory = refl
 
 -- every request
-replies_asked : (request : Request) (m : Machine) (s : SeatRecord) → Contains m.seats s → waits_in s.number m.seats ≡ false → Replies s.number (answers_wanted request) m.seats (asked request m s)
+replies_asked : (request : Request) (m : Machine) (s : SeatRecord) → Contains m.seats s → waits_in s.number m.seats ≡ false → Replies s.number (answers_wanted request) (is_waiting_request request) m.seats (asked request m s)
 replies_asked (requests.Put pri delay ttr body) m s there w =
-    cond_both m.draining (telling answers.Draining m) (telling (answers.Inserted m.next_id) (after_put m (new_job m s pri delay ttr body))) (Replies s.number 1 m.seats)
+    cond_both m.draining (telling answers.Draining m) (telling (answers.Inserted m.next_id) (after_put m (new_job m s pri delay ttr body))) (Replies s.number 1 false m.seats)
     (λ e. replies_jobs s.number m m answers.Draining w refl refl)
     (λ e. replies_jobs s.number m (after_put m (new_job m s pri delay ttr body)) (answers.Inserted m.next_id) w refl refl)
 replies_asked requests.Reserve m s there w = replies_reserve None m s there
@@ -360,25 +378,25 @@ replies_asked requests.PeekReady m s there w = replies_showing s.number m _ w
 replies_asked requests.PeekDelayed m s there w = replies_showing s.number m _ w
 replies_asked requests.PeekBuried m s there w = replies_showing s.number m _ w
 replies_asked (requests.PauseTube tube delay) m s there w =
-    cond_both (is_tube tube m) _ _ (Replies s.number 1 m.seats) (λ e. replies_jobs s.number m _ answers.Paused w refl refl) (λ e. replies_jobs s.number m m answers.NotFound w refl refl)
+    cond_both (is_tube tube m) _ _ (Replies s.number 1 false m.seats) (λ e. replies_jobs s.number m _ answers.Paused w refl refl) (λ e. replies_jobs s.number m m answers.NotFound w refl refl)
 replies_asked (requests.StatsJob id) m s there w = replies_statistics s.number m (job_with id m.jobs) w
 replies_asked (requests.StatsTube tube) m s there w =
-    cond_both (is_tube tube m) _ _ (Replies s.number 1 m.seats) (λ e. replies_jobs s.number m m _ w refl refl) (λ e. replies_jobs s.number m m answers.NotFound w refl refl)
+    cond_both (is_tube tube m) _ _ (Replies s.number 1 false m.seats) (λ e. replies_jobs s.number m m _ w refl refl) (λ e. replies_jobs s.number m m answers.NotFound w refl refl)
 replies_asked requests.Stats m s there w = replies_jobs s.number m m _ w refl refl
 replies_asked requests.ListTubes m s there w = replies_jobs s.number m m _ w refl refl
 replies_asked requests.ListTubesWatched m s there w = replies_jobs s.number m m _ w refl refl
-replies_asked requests.Quit m s there w = record { count = rw w refl; unclosed = refl; connected = refl }
+replies_asked requests.Quit m s there w = record { count = rw w refl; at_once = λ e. w; unclosed = refl; connected = refl }
 replies_asked (requests.Refused why) m s there w = replies_jobs s.number m m (refusal_answer why) w (refusal_stays why) refl
 
 -- an open client that doesn't wait asks
-replies_effect : (m : Machine) (seat : ℕ) (request : Request) (f : Found seat m.seats) → connected_in seat m.seats ≡ true → waits_in seat m.seats ≡ false → Replies seat (answers_wanted request) m.seats (effect m seat (steps.Ask request))
+replies_effect : (m : Machine) (seat : ℕ) (request : Request) (f : Found seat m.seats) → connected_in seat m.seats ≡ true → waits_in seat m.seats ≡ false → Replies seat (answers_wanted request) (is_waiting_request request) m.seats (effect m seat (steps.Ask request))
 replies_effect m seat request f c w =
     let s = f.client in
     let open_now : s.connected ≡ true = sym f.connected ∙ c in
     let waits_not : is_waiting s ≡ false = sym f.waits ∙ w in
-    subst (λ o. Replies seat (answers_wanted request) m.seats (at_found (steps.Ask request) m o)) (sym f.found)
-    (subst (λ b. Replies seat (answers_wanted request) m.seats (cond b (asked request m s) (silent m))) (sym (and_from s.connected (not (is_waiting s)) open_now (ap not waits_not)))
-    (subst (λ n. Replies n (answers_wanted request) m.seats (asked request m s)) f.number
+    subst (λ o. Replies seat (answers_wanted request) (is_waiting_request request) m.seats (at_found (steps.Ask request) m o)) (sym f.found)
+    (subst (λ b. Replies seat (answers_wanted request) (is_waiting_request request) m.seats (cond b (asked request m s) (silent m))) (sym (and_from s.connected (not (is_waiting s)) open_now (ap not waits_not)))
+    (subst (λ n. Replies n (answers_wanted request) (is_waiting_request request) m.seats (asked request m s)) f.number
     (replies_asked request m s f.there (subst (λ n. waits_in n m.seats ≡ false) (sym f.number) w))))
 
 wants_one : (request : Request) → step_takes_memory (steps.Ask request) ≡ true → answers_wanted request ≡ 1
@@ -392,14 +410,14 @@ shares_one requests.Quit (Some answer) n h e = let one : 1 + n ≡ 0 = e in absu
 shares_one _ o n h e = refl
 
 -- the same whatever became of the memory that it wanted
-replies_acted : (memory : Memory) (m : Machine) (seat : ℕ) (request : Request) → waits_in seat m.seats ≡ false → IsTrue (is_possible memory m seat (steps.Ask request)) → Replies seat (answers_wanted request) m.seats (effect m seat (steps.Ask request)) → Replies seat (answers_wanted request) m.seats (acted memory m seat (steps.Ask request))
+replies_acted : (memory : Memory) (m : Machine) (seat : ℕ) (request : Request) → waits_in seat m.seats ≡ false → IsTrue (is_possible memory m seat (steps.Ask request)) → Replies seat (answers_wanted request) (is_waiting_request request) m.seats (effect m seat (steps.Ask request)) → Replies seat (answers_wanted request) (is_waiting_request request) m.seats (acted memory m seat (steps.Ask request))
 replies_acted granted m seat request w p h = h
 replies_acted growth_refused m seat request w p h =
     let one = wants_one request ((and_parts _ _ p).0) in
-    subst (λ n. Replies seat n m.seats (telling answers.OutOfMemory m)) (sym one) (replies_jobs seat m m answers.OutOfMemory w refl refl)
+    subst (λ n. Replies seat n (is_waiting_request request) m.seats (telling answers.OutOfMemory m)) (sym one) (replies_jobs seat m m answers.OutOfMemory w refl refl)
 replies_acted share_refused m seat request w p h =
     let one = shares_one request (effect m seat (steps.Ask request)).answer _ p h.count in
-    subst (λ n. Replies seat n m.seats (telling answers.OutOfMemory m)) (sym one) (replies_jobs seat m m answers.OutOfMemory w refl refl)
+    subst (λ n. Replies seat n (is_waiting_request request) m.seats (telling answers.OutOfMemory m)) (sym one) (replies_jobs seat m m answers.OutOfMemory w refl refl)
 
 -- the parts of a step, to one client
 record Parts (client : ℕ) (first last : Machine) (seat : ℕ) (what : Step) (given : List Given) : Type 0 where
@@ -433,41 +451,38 @@ acted_fully granted m seat what h i p = refl
 acted_fully growth_refused m seat what h i p = absurd (both_ways (step_takes_memory what) h ((and_parts _ _ p).0))
 acted_fully share_refused m seat what h i p = absurd (both_ways (shares_body (effect m seat what).answer) i p)
 
--- A command that tells nobody anything, and leaves the client as it was.
-passes_quiet : (client : ℕ) (first last : Machine) (seat : ℕ) (what : Step) (given : List Given) → Parts client first last seat what given → step_takes_memory what ≡ false → ((m : Machine) → (effect m seat what).answer ≡ None) → ((m : Machine) → Passes client m.seats ((effect m seat what).machine).seats []) → Passes client first.seats last.seats given
-passes_quiet client first last seat what given p takes untold quiet =
+-- A command tells nobody anything, and the client waits and is connected as before.
+gets_quiet : (client : ℕ) (first last : Machine) (seat : ℕ) (what : Step) (given : List Given) → Parts client first last seat what given → step_takes_memory what ≡ false → ((m : Machine) → (effect m seat what).answer ≡ None) → ((m : Machine) → waits_in client ((effect m seat what).machine).seats ≡ waits_in client m.seats) → ((m : Machine) → connected_in client ((effect m seat what).machine).seats ≡ connected_in client m.seats) → GetsWhatWaits first last client (answers_to client given)
+gets_quiet client first last seat what given p takes untold waits connects =
     let m = p.before in
     let e : acted p.memory m seat what ≡ effect m seat what = acted_fully p.memory m seat what takes (ap shares_body (untold m)) p.possible in
     let goes : Passes client ((effect m seat what).machine).seats last.seats p.late = subst (λ (x : Effect). Passes client (x.machine).seats last.seats p.late) e p.goes in
-    let given_is : given ≡ p.early ++ p.late =
-    p.given_is ∙ ap (λ (x : Effect). p.early ++ (addressed seat x.answer ++ p.late)) e ∙ ap (λ o. p.early ++ (addressed seat o ++ p.late)) (untold m) in
-    subst (Passes client first.seats last.seats) (sym given_is)
-    (passes_then client first.seats m.seats last.seats p.early p.late p.comes
-    (passes_then client m.seats ((effect m seat what).machine).seats last.seats [] p.late (quiet m) goes))
+    let all : answers_to client given ≡ answers_to client p.early ++ answers_to client p.late =
+    ap (answers_to client) (p.given_is ∙ ap (λ (x : Effect). p.early ++ (addressed seat x.answer ++ p.late)) e ∙ ap (λ o. p.early ++ (addressed seat o ++ p.late)) (untold m))
+    ∙ answers_append client p.early p.late in
+    let same : one_for (waits_in client ((effect m seat what).machine).seats) ≡ one_for (waits_in client m.seats) = ap one_for (waits m) in
+    record {
+      count = let long : length (answers_to client given) ≡ length (answers_to client p.early) + length (answers_to client p.late) = ap length all ∙ simp length-append in
+          let a = p.comes.count in let b = goes.count in omega arith;
+      unclosed = ap has_closed all ∙ unclosed_append (answers_to client p.early) (answers_to client p.late) p.comes.unclosed goes.unclosed;
+      connected = goes.connected ∙ connects m ∙ p.comes.connected;
+    }
 
 end_untold : (m : Machine) (o : Option SeatRecord) → (at_found steps.End m o).answer ≡ None
 end_untold m None = refl
 end_untold m (Some s) = cond_both s.connected (silent (with_seat s.number with_end m)) (silent m) (λ e. e.answer ≡ None) (λ e. refl) (λ e. refl)
 
-end_quiet : (client : ℕ) (m : Machine) (o : Option SeatRecord) → Passes client m.seats ((at_found steps.End m o).machine).seats []
-end_quiet client m None = passes_itself client m.seats
-end_quiet client m (Some s) =
-    cond_both s.connected (silent (with_seat s.number with_end m)) (silent m) (λ e. Passes client m.seats (e.machine).seats [])
-    (λ e.
-    let waits = changed_quiet client s.number with_end is_waiting m.seats (λ t. refl) (λ t. refl) in
-    record {
-      count = let same : one_for (waits_in client (changed s.number with_end m.seats)) ≡ one_for (waits_in client m.seats) = ap one_for waits in omega arith;
-      unclosed = refl;
-      connected = changed_quiet client s.number with_end (λ t. t.connected) m.seats (λ t. refl) (λ t. refl);
-      numbers = keys_of_map (λ t. t.number) (λ t. cond (t.number == s.number) (with_end t) t) m.seats
-          (all_always (λ t. (cond (t.number == s.number) (with_end t) t).number ≡ t.number) m.seats
-          (λ t. cond_both (t.number == s.number) (with_end t) t (λ u. u.number ≡ t.number) (λ e. refl) (λ e. refl)));
-    })
-    (λ e. passes_itself client m.seats)
+end_waits : (client : ℕ) (m : Machine) (o : Option SeatRecord) → waits_in client ((at_found steps.End m o).machine).seats ≡ waits_in client m.seats
+end_waits client m None = refl
+end_waits client m (Some s) =
+    cond_both s.connected (silent (with_seat s.number with_end m)) (silent m) (λ e. waits_in client (e.machine).seats ≡ waits_in client m.seats)
+    (λ e. changed_quiet client s.number with_end is_waiting m.seats (λ t. refl) (λ t. refl)) (λ e. refl)
 
--- what a client gets that takes no step of its own
-gets_what_waits : (first last : Machine) (seat : ℕ) (given : List Given) → Passes seat first.seats last.seats given → GetsWhatWaits first last seat (answers_to seat given)
-gets_what_waits first last seat given p = record { count = p.count; unclosed = p.unclosed; connected = p.connected }
+end_connects : (client : ℕ) (m : Machine) (o : Option SeatRecord) → connected_in client ((at_found steps.End m o).machine).seats ≡ connected_in client m.seats
+end_connects client m None = refl
+end_connects client m (Some s) =
+    cond_both s.connected (silent (with_seat s.number with_end m)) (silent m) (λ e. connected_in client (e.machine).seats ≡ connected_in client m.seats)
+    (λ e. changed_quiet client s.number with_end (λ t. t.connected) m.seats (λ t. refl) (λ t. refl)) (λ e. refl)
 
 none_waited : (n : ℕ) (b : Bool) → n + one_for b ≡ 0 → (n ≡ 0) × (b ≡ false)
 none_waited n true h = absurd (omega arith)
@@ -548,6 +563,7 @@ gives_answer first last seat request given h there p c none =
     record {
       count = let long : length (answers_to seat given) ≡ length (told o) + length (answers_to seat p.late) = ap length all ∙ simp length-append in
           let a = reply.count in let b = p.goes.count in omega arith;
+      at_once = λ e. ap one_for ((none_waited (length (answers_to seat p.late)) (waits_in seat last.seats) (p.goes.count ∙ ap one_for (reply.at_once e))).1);
       unclosed = ap has_closed all ∙ unclosed_append (told o) (answers_to seat p.late) reply.unclosed p.goes.unclosed;
       connected = p.goes.connected ∙ reply.connected ∙ p.comes.connected ∙ c;
     }
@@ -579,6 +595,42 @@ gives_closed first last seat given h there p c =
       gone = goes.connected ∙ connected_after;
     }
 
+-- A tick at any seat gives to any client what it waits for.
+pub tick_gives_client : (first last : Machine) (at seat client : ℕ) (outcome : Outcome) (given : List Given) → IsStep first at seat steps.Tick outcome given last → GetsWhatWaits first last client (answers_to client given)
+tick_gives_client first last at seat client outcome given s =
+    gets_quiet client first last seat steps.Tick given (parts_of client first last at seat steps.Tick outcome given s) refl (λ m. refl) (λ m. refl) (λ m. refl)
+
+over_by_end : (waits soon past ended : Bool) → ended ≡ true → (waits && (soon || (past || ended))) ≡ false → waits ≡ false
+over_by_end false soon past ended e h = refl
+over_by_end true true past ended e h = absurd cc
+over_by_end true false true ended e h = absurd cc
+over_by_end true false false ended e h = absurd cc
+
+-- Who sends no more waits no more: no wait would end after the step.
+gives_end : (first last : Machine) (seat : ℕ) (given : List Given) → IsLawful first → IsLawful last → seat < first.settings.seats → Parts seat first last seat steps.End given → connected_in seat first.seats ≡ true → owing seat last ≡ 0
+gives_end first last seat given h i there p c =
+    let m = p.before in
+    let f = found_before first last seat steps.End given h there p in
+    let s = f.client in
+    let here : s.connected ≡ true = sym f.connected ∙ p.comes.connected ∙ c in
+    let effect_is : effect m seat steps.End ≡ silent (with_seat s.number with_end m) =
+    ap (at_found steps.End m) f.found ∙ ap (λ b. cond b (silent (with_seat s.number with_end m)) (silent m)) here in
+    let e : acted p.memory m seat steps.End ≡ silent (with_seat s.number with_end m) =
+    acted_fully p.memory m seat steps.End refl (ap (λ (x : Effect). shares_body x.answer) effect_is) p.possible ∙ effect_is in
+    let goes : Passes seat (changed s.number with_end m.seats) last.seats p.late = subst (λ (x : Effect). Passes seat (x.machine).seats last.seats p.late) e p.goes in
+    let ended_after : ended_in seat (changed s.number with_end m.seats) ≡ true =
+    subst (λ n. ended_in n (changed s.number with_end m.seats) ≡ true) f.number (changed_some with_end (λ t. t.ended) m.seats s f.there (λ t. refl) (λ t. refl)) in
+    let same_numbers : map (λ t. t.number) (changed s.number with_end m.seats) ≡ map (λ t. t.number) m.seats =
+    keys_of_map (λ t. t.number) (λ t. cond (t.number == s.number) (with_end t) t) m.seats
+    (all_always (λ t. (cond (t.number == s.number) (with_end t) t).number ≡ t.number) m.seats
+    (λ t. cond_both (t.number == s.number) (with_end t) t (λ u. u.number ≡ t.number) (λ e. refl) (λ e. refl))) in
+    let g = finds first.settings.seats seat last.seats (goes.numbers ∙ same_numbers ∙ p.comes.numbers ∙ h.seats) there in
+    let r = g.client in
+    let is_over : r.ended ≡ true = sym g.ended ∙ goes.ended ∙ ended_after in
+    let ends_not : ends_waiting last r ≡ false =
+    all_at (λ t. ends_waiting last t ≡ false) last.seats r (none_pass (ends_waiting last) last.seats (first_of_none (ends_waiting last) is_wait_before last.seats i.wait_ends)) g.there in
+    ap one_for (g.waits ∙ over_by_end (is_waiting r) (is_deadline_soon last r) (is_until_over last.moment r.wait) r.ended is_over ends_not)
+
 -- What a step gives to the client at its seat.
 pub step_gives_client : (first last : Machine) (at seat : ℕ) (what : Step) (outcome : Outcome) (given : List Given) → IsLawful first → seat < first.settings.seats → IsStep first at seat what outcome given last → GivesClient seat first what given last
 step_gives_client first last at seat steps.Connect outcome given h there s = λ c. gives_connect first last seat given h there (parts_of seat first last at seat steps.Connect outcome given s) c
@@ -586,15 +638,13 @@ step_gives_client first last at seat (steps.Ask request) outcome given h there s
     λ c none. gives_answer first last seat request given h there (parts_of seat first last at seat (steps.Ask request) outcome given s) c none
 step_gives_client first last at seat steps.Close outcome given h there s = λ c. gives_closed first last seat given h there (parts_of seat first last at seat steps.Close outcome given s) c
 step_gives_client first last at seat steps.End outcome given h there s =
-    gets_what_waits first last seat given
-    (passes_quiet seat first last seat steps.End given (parts_of seat first last at seat steps.End outcome given s) refl
-    (λ m. end_untold m (seat_with seat m.seats)) (λ m. end_quiet seat m (seat_with seat m.seats)))
+    let p = parts_of seat first last at seat steps.End outcome given s in (
+      gets_quiet seat first last seat steps.End given p refl
+          (λ m. end_untold m (seat_with seat m.seats)) (λ m. end_waits seat m (seat_with seat m.seats)) (λ m. end_connects seat m (seat_with seat m.seats)),
+      λ c. gives_end first last seat given h (step_is_lawful first last at seat steps.End outcome given h s) there p c,
+    )
 step_gives_client first last at seat steps.Drain outcome given h there s =
-    gets_what_waits first last seat given
-    (passes_quiet seat first last seat steps.Drain given (parts_of seat first last at seat steps.Drain outcome given s) refl (λ m. refl) (λ m. passes_itself seat m.seats))
-step_gives_client first last at seat steps.Tick outcome given h there s =
-    gets_what_waits first last seat given
-    (passes_quiet seat first last seat steps.Tick given (parts_of seat first last at seat steps.Tick outcome given s) refl (λ m. refl) (λ m. passes_itself seat m.seats))
+    gets_quiet seat first last seat steps.Drain given (parts_of seat first last at seat steps.Drain outcome given s) refl (λ m. refl) (λ m. refl) (λ m. refl)
+step_gives_client first last at seat steps.Tick outcome given h there s = tick_gives_client first last at seat seat outcome given s
 step_gives_client first last at seat steps.Gone outcome given h there s =
-    gets_what_waits first last seat given
-    (passes_quiet seat first last seat steps.Gone given (parts_of seat first last at seat steps.Gone outcome given s) refl (λ m. refl) (λ m. passes_itself seat m.seats))
+    gets_quiet seat first last seat steps.Gone given (parts_of seat first last at seat steps.Gone outcome given s) refl (λ m. refl) (λ m. refl) (λ m. refl)

@@ -9,6 +9,7 @@ use Rattle.bq_job.specs.declared.step.Step.{Step}
 use Rattle.bq_job.specs.declared.step.Step.TheVariants as steps
 use Rattle.bq_job.specs.Changes.{is_waiting}
 use Rattle.bq_job.specs.Dispatch.{Given}
+use Rattle.bq_job.specs.LineSteps.{is_waiting_request}
 use Rattle.bq_job.specs.Machine.{Machine}
 use Rattle.bq_job.specs.Runs.{answers_to}
 
@@ -40,9 +41,11 @@ pub record GetsWhatWaits (first last : Machine) (seat : ℕ) (given : List Answe
   pub unclosed : has_closed given ≡ false
   pub connected : is_connected_at seat last ≡ is_connected_at seat first
 
--- The client, who waits for nothing, asks: the answer comes, or is waited for.
+-- The client, who waits for nothing, asks: the answer comes, or is waited for if the request is one that
+-- may wait.
 pub record GetsAnswer (first last : Machine) (seat : ℕ) (request : Request) (given : List Answer) : Type 0 where
   pub count : length given + owing seat last ≡ answers_wanted request
+  pub at_once : is_waiting_request request ≡ false → owing seat last ≡ 0
   pub unclosed : has_closed given ≡ false
   pub connected : is_connected_at seat last ≡ true
 
@@ -56,14 +59,15 @@ pub record GetsClosed (first last : Machine) (seat : ℕ) (given : List Answer) 
   pub gone : is_connected_at seat last ≡ false
 
 -- The client at the seat, of these that there are, takes the step: what it is given, and what it waits
--- for then. A tick may be at any seat.
+-- for then. Who sends no more waits no more.
 abbrev pub GivesClient : ℕ → Machine → Step → List Given → Machine → Type 0
 GivesClient seat first steps.Connect given last =
     is_connected_at seat first ≡ false → (answers_to seat given ≡ []) × (owing seat last ≡ 0) × (is_connected_at seat last ≡ true)
 GivesClient seat first (steps.Ask request) given last =
     is_connected_at seat first ≡ true → owing seat first ≡ 0 → GetsAnswer first last seat request (answers_to seat given)
 GivesClient seat first steps.Close given last = is_connected_at seat first ≡ true → GetsClosed first last seat (answers_to seat given)
-GivesClient seat first steps.End given last = GetsWhatWaits first last seat (answers_to seat given)
+GivesClient seat first steps.End given last =
+    GetsWhatWaits first last seat (answers_to seat given) × (is_connected_at seat first ≡ true → owing seat last ≡ 0)
 GivesClient seat first steps.Drain given last = GetsWhatWaits first last seat (answers_to seat given)
 GivesClient seat first steps.Tick given last = GetsWhatWaits first last seat (answers_to seat given)
 GivesClient seat first steps.Gone given last = GetsWhatWaits first last seat (answers_to seat given)
