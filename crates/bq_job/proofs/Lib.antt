@@ -1,4 +1,12 @@
+pub mod ActLemmas
+pub mod ChoiceLemmas
 pub mod LineLemmas
 pub mod UnitLemmas
 pub mod UnitsLemmas
 pub mod ReadsLemmas
+pub mod ComputedLemmas
+pub mod DispatchLemmas
+pub mod KeptLemmas
+pub mod LawfulLemmas
+pub mod ListLemmas
+pub mod NameOrderLemmas

@@ -57,7 +57,7 @@ asked (requests.Refused why) m s = telling (refusal_answer why) m
 -- a client comes to the seat
 abbrev pub after_connect : Machine → ℕ → Machine
 after_connect m seat =
-    record (with_seat seat (λ s. record (empty_seat seat) { connected = true }) m) { connections = raised m.connections }
+    record (with_seat seat (λ s. record (empty_seat s.number) { connected = true }) m) { connections = raised m.connections }
 
 abbrev pub with_end : SeatRecord → SeatRecord
 with_end s = record s { ended = true }
@@ -65,7 +65,7 @@ with_end s = record s { ended = true }
 -- The client is gone: the jobs that it holds become ready.
 abbrev pub after_close : Machine → ℕ → Machine
 after_close m seat =
-    record (with_seat seat (λ s. empty_seat seat) m) { jobs = map (λ j. if is_held_by seat j then in_state states.Ready j else j) m.jobs }
+    record (with_seat seat (λ s. empty_seat s.number) m) { jobs = map (λ j. if is_held_by seat j then in_state states.Ready j else j) m.jobs }
 
 abbrev pub at_seat : Step → Machine → SeatRecord → Effect
 at_seat steps.Connect m s = if s.connected then silent m else silent (after_connect m s.number)

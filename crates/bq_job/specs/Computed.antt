@@ -1,15 +1,14 @@
 -- The machine as a function: what a step does where no memory is refused. It computes, so that worked
 -- examples are checked by evaluation; that it is a step of the machine is a law.
-use Rattle.std.specs.Prelude.{ℕ, zero, suc, Option, Some, None, List, [], ◌∷◌, ◌++◌, count_by}
+use Rattle.std.specs.Prelude.{false, ℕ, zero, suc, Option, Some, None, List, [], ◌∷◌, ◌++◌, count_by}
 use Rattle.bq_job.specs.declared.answer.Answer.TheVariants as answers
 use Rattle.bq_job.specs.declared.job.Job.{Job}
 use Rattle.bq_job.specs.declared.step.Step.{Step}
-use Rattle.bq_job.specs.Acts.{Effect}
 use Rattle.bq_job.specs.Asked.{effect}
 use Rattle.bq_job.specs.Changes.{is_waiting, with_seat, without_wait}
 use Rattle.bq_job.specs.Dispatch.{Given, after_hand_out, next_job, next_seat}
 use Rattle.bq_job.specs.Machine.{Machine, SeatRecord}
-use Rattle.bq_job.specs.Steps.{addressed}
+use Rattle.bq_job.specs.Steps.{Outcome, addressed}
 use Rattle.bq_job.specs.Timers.{after_timers, at_moment}
 use Rattle.bq_job.specs.Tubes.{forgetting}
 use Rattle.bq_job.specs.Waits.{end_of_wait, next_end}
@@ -25,26 +24,30 @@ unserved m = record { machine = m; given = [] }
 abbrev pub after_given : Given → Served → Served
 after_given given later = record later { given = given ∷ later.given }
 
+-- the job goes to this client, and the rest follows
+abbrev pub handed_to : (Machine → Served) → Machine → Job → Option SeatRecord → Served
+handed_to rest m j None = unserved m
+handed_to rest m j (Some s) = after_given (s.number, answers.Reserved j.id j.body) (rest (after_hand_out m j s))
+
+-- this job is handed out, and the rest follows
+abbrev pub handed_out : (Machine → Served) → Machine → Option Job → Served
+handed_out rest m None = unserved m
+handed_out rest m (Some j) = handed_to rest m j (next_seat m j)
+
 -- dispatch, at most so many turns
 abbrev pub dispatched : ℕ → Machine → Served
 dispatched zero m = unserved m
-dispatched (suc turns) m =
-    elim (next_job m) [
-      | None ↦ unserved m
-      | Some j ↦ elim (next_seat m j) [
-        | None ↦ unserved m
-        | Some s ↦ after_given (s.number, answers.Reserved j.id j.body) (dispatched turns (after_hand_out m j s))
-      ]
-    ]
+dispatched (suc turns) m = handed_out (λ next. dispatched turns next) m (next_job m)
+
+-- this client's wait ends, and the rest follows
+abbrev pub ended_at : (Machine → Served) → Machine → Option SeatRecord → Served
+ended_at rest m None = unserved m
+ended_at rest m (Some s) = after_given (s.number, end_of_wait m s) (rest (with_seat s.number without_wait m))
 
 -- the ends of waits, at most so many
 abbrev pub wait_ended : ℕ → Machine → Served
 wait_ended zero m = unserved m
-wait_ended (suc turns) m =
-    elim (next_end m) [
-      | None ↦ unserved m
-      | Some s ↦ after_given (s.number, end_of_wait m s) (wait_ended turns (with_seat s.number without_wait m))
-    ]
+wait_ended (suc turns) m = ended_at (λ next. wait_ended turns next) m (next_end m)
 
 -- how many clients wait; no more can be served
 abbrev pub waiting_count : Machine → ℕ
@@ -65,6 +68,10 @@ after_serving m =
 abbrev pub after_act : Machine → ℕ → Step → Served
 after_act m seat what =
     let e = effect m seat what in record { machine = forgetting e.machine; given = addressed seat e.answer }
+
+-- how a step comes out where no memory is refused
+abbrev pub ample : Outcome
+ample = record { left_out = false; unshared = false }
 
 -- a step
 abbrev pub stepped : Machine → ℕ → ℕ → Step → Served

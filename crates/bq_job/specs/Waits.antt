@@ -28,8 +28,11 @@ is_until_over moment None = false
 is_until_over moment (Some wait) = is_past moment wait.until
 
 -- The client's timeout has come, or the client sends no more.
+abbrev pub is_timed_out_at : ℕ → SeatRecord → Bool
+is_timed_out_at moment s = is_until_over moment s.wait || s.ended
+
 abbrev pub is_timed_out : Machine → SeatRecord → Bool
-is_timed_out m s = is_until_over m.moment s.wait || s.ended
+is_timed_out m s = is_timed_out_at m.moment s
 
 abbrev pub ends_waiting : Machine → SeatRecord → Bool
 ends_waiting m s = is_waiting s && (is_deadline_soon m s || is_timed_out m s)

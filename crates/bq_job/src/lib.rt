@@ -9,6 +9,10 @@ pub use answer::Answer;
 pub use body::{Body, BodyBuilder};
 pub use fault::NoMemory;
 pub use job::{Counts, Job, JobState};
+pub use laws_of_machine::{
+    computed_is_step, dispatched_is_least, new_machine_is_lawful, steps_give_few_answers,
+    steps_keep_lawful,
+};
 pub use line_end::{LineEnd, LineFault};
 pub use refusal::Refusal;
 pub use request::Request;
@@ -20,11 +24,19 @@ mod answer;
 mod body;
 mod fault;
 mod job;
+mod laws_of_machine;
 pub mod laws_of_reading;
+pub mod laws_of_texts;
 mod line_end;
 mod refusal;
 mod request;
+#[cfg(test)]
+mod rows_of_machine;
+#[cfg(test)]
+mod rows_of_sessions;
 mod step;
+#[cfg(test)]
+mod tests;
 mod text;
 mod tube_name;
 

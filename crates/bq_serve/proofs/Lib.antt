@@ -1,6 +1,11 @@
+pub mod GoingLemmas
 pub mod HasReadLemmas
 pub mod LineEndLemmas
+pub mod MoveLemmas
 pub mod NumberLemmas
+pub mod OpenLemmas
 pub mod PutBodyLemmas
 pub mod ReaderLemmas
+pub mod ReadingLemmas
+pub mod StepLemmas
 pub mod WordLemmas

@@ -1,7 +1,11 @@
 pub mod Asked
 pub mod HasRead
 pub mod LineEnds
+pub mod Past
 pub mod PutBodies
+pub mod SeatMoves
+pub mod SeatParts
+pub mod SeatStands
 pub mod Standing
 pub mod WordsLeft
 pub mod WordsSoFar

@@ -1,4 +1,5 @@
-//! Serves clients over lines: what they send is read into requests here.
+//! Serving clients over lines of bytes.
 #![tactic(auto)]
 
+pub mod seat;
 pub mod wire;

@@ -1,7 +1,8 @@
-//! The texts of the protocol: requests out of bytes.
+//! The texts of the protocol: requests out of bytes, and answers into bytes.
 
 pub use pieces::{requests_of, what_was_read_is_a_reading};
 pub use reader::RequestReader;
+pub use texts::{HeadBuf, answer_body, answer_head, answer_tail};
 
 mod kept_line;
 mod line_end;
@@ -13,4 +14,5 @@ mod reader;
 mod state;
 #[cfg(test)]
 mod tests;
+mod texts;
 mod words;

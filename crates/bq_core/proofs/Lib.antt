@@ -1,0 +1,5 @@
+pub mod ActLemmas
+pub mod LoopLemmas
+pub mod PlainLemmas
+pub mod StepLemmas
+pub mod TurnLemmas

@@ -1,0 +1,9 @@
+use Rattle.std.proofs.Common.{sym}
+use Rattle.bq_core.specs.State.{machine_of}
+use Rattle.bq_core.proofs.ActLemmas.{ask_at}
+use Rattle.bq_core.proofs.acts.ask.Goals as goal
+
+pub returns-then-is_asking-clause-reply : goal.returns-then-is_asking-clause-reply
+returns-then-is_asking-clause-reply c =
+    let asks = ask_at c.args.state.now c.args.seat c.args.request c.requires.sound.seats (sym c.if-is_asking.ensures) in
+    rw asks.asks (c.answer.ensures.reply asks.asker asks.at_default asks.number)

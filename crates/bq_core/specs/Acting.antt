@@ -1,0 +1,58 @@
+-- The command's own effect, as the core carries it out.
+use Rattle.std.specs.Prelude.{ℕ, Bool, true, false, ◌≡◌, ◌&&◌, ◌||◌, ◌++◌, not, IsTrue, Option, Some, None}
+use Rattle.bq_job.specs.declared.answer.Answer.{Answer}
+use Rattle.bq_job.specs.declared.request.Request.{Request}
+use Rattle.bq_job.specs.declared.request.Request.TheVariants as requests
+use Rattle.bq_job.specs.declared.step.Step.{Step}
+use Rattle.bq_job.specs.declared.step.Step.TheVariants as steps
+use Rattle.bq_job.specs.Acts.{Effect}
+use Rattle.bq_job.specs.Changes.{is_waiting}
+use Rattle.bq_job.specs.Machine.{Machine, SeatRecord}
+use Rattle.bq_job.specs.Steps.{Memory, acted, addressed, is_growth_refused, is_possible, is_share_refused, wants_growth}
+use Rattle.bq_core.specs.declared.acts.Reply.{Reply}
+use Rattle.bq_core.specs.declared.acts.Reply.TheVariants.{Silent, Told, LeftOut}
+use Rattle.bq_core.specs.Outbox.{Outbox}
+
+-- the requests that the core can carry out so far
+abbrev pub is_built_request : Request → Bool
+is_built_request (requests.Put pri delay ttr body) = true
+is_built_request requests.Reserve = true
+is_built_request (requests.Delete id) = true
+is_built_request requests.Quit = true
+is_built_request (requests.Refused why) = true
+is_built_request _ = false
+
+abbrev pub is_built : Step → Bool
+is_built (steps.Ask request) = is_built_request request
+is_built _ = true
+
+-- nobody is connected there
+abbrev pub is_free : Option SeatRecord → Bool
+is_free None = false
+is_free (Some s) = not s.connected
+
+abbrev pub is_connected : Option SeatRecord → Bool
+is_connected None = false
+is_connected (Some s) = s.connected
+
+-- the client there can ask
+abbrev pub is_asking : Option SeatRecord → Bool
+is_asking None = false
+is_asking (Some s) = s.connected && not (is_waiting s)
+
+-- What a request came to: it had this effect, or it takes memory and was left out because a growth was
+-- refused.
+abbrev pub Replies : Bool → Machine → Effect → Reply → Machine → Type 0
+Replies takes m e Silent next = e ≡ record { machine = next; answer = None }
+Replies takes m e (Told answer) next = e ≡ record { machine = next; answer = Some answer }
+Replies takes m e LeftOut next = (next ≡ m) × IsTrue (takes && wants_growth e.answer)
+
+-- The command's own effect was carried out, and its answer added.
+pub record Acts (m : Machine) (seat : ℕ) (what : Step) (old new : Outbox) (last : Machine) : Type 0 where
+  pub memory : Memory
+  pub possible : IsTrue (is_possible memory m seat what)
+  pub after : last ≡ (acted memory m seat what).machine
+  pub added : new.given ≡ old.given ++ addressed seat (acted memory m seat what).answer
+  pub most : new.most ≡ old.most
+  pub left_out : new.left_out ≡ (old.left_out || is_growth_refused memory)
+  pub unshared : new.unshared ≡ (old.unshared || is_share_refused memory)

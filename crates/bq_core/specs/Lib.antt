@@ -1,0 +1,14 @@
+pub mod Acting
+pub mod Codes
+pub mod EndingWaits
+pub mod JobChanges
+pub mod Limits
+pub mod Outbox
+pub mod HandOuts
+pub mod Places
+pub mod Plain
+pub mod SeatChanges
+pub mod Serving
+pub mod State
+pub mod Turns
+pub mod WaitEnds

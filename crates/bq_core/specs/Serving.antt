@@ -1,0 +1,17 @@
+-- Dispatch, and then the ends of waits, with their answers added.
+use Rattle.std.specs.Prelude.{ℕ, ◌≡◌, ◌||◌, ◌++◌, List}
+use Rattle.bq_job.specs.Dispatch.{Given}
+use Rattle.bq_job.specs.Machine.{Machine}
+use Rattle.bq_job.specs.Steps.{Serves, has_refused_share}
+use Rattle.bq_core.specs.Outbox.{Outbox}
+use Rattle.bq_core.specs.Turns.{HasRoom}
+
+pub record ServesInto (first : Machine) (old new : Outbox) (last : Machine) : Type 0 where
+  pub handed : List Given
+  pub ended : List Given
+  pub serves : Serves first handed ended last
+  pub added : new.given ≡ old.given ++ handed ++ ended
+  pub most : new.most ≡ old.most
+  pub left_out : new.left_out ≡ old.left_out
+  pub unshared : new.unshared ≡ (old.unshared || has_refused_share handed)
+  pub room : (more : ℕ) → HasRoom more first old → HasRoom more last new

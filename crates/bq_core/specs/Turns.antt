@@ -1,0 +1,26 @@
+-- What dispatch and the ends of waits add to the answers.
+use Rattle.std.specs.Prelude.{ℕ, Bool, false, ◌≡◌, ◌+◌, ◌≤◌, ◌||◌, ◌++◌, List, length}
+use Rattle.bq_job.specs.Computed.{waiting_count}
+use Rattle.bq_job.specs.Dispatch.{Given}
+use Rattle.bq_job.specs.Machine.{Machine}
+use Rattle.bq_job.specs.Waits.{Chain}
+use Rattle.bq_core.specs.Outbox.{Outbox}
+
+-- Turns of this kind led from the first machine to the last, and their answers were added. What they mean
+-- for the mark of refused shares is told by refused. Each took a waiting client away.
+pub record Gives (Turn : Machine → Given → Machine → Type 0) (refused : List Given → Bool) (first last : Machine) (old new : Outbox) : Type 0 where
+  pub given : List Given
+  pub turns : Chain Turn first given last
+  pub added : new.given ≡ old.given ++ given
+  pub most : new.most ≡ old.most
+  pub left_out : new.left_out ≡ old.left_out
+  pub unshared : new.unshared ≡ (old.unshared || refused given)
+  pub taken : waiting_count last + length given ≤ waiting_count first
+
+-- the ends of waits refuse no share
+abbrev pub none_refused : List Given → Bool
+none_refused given = false
+
+-- there is room for an answer to each waiting client, and for so many more
+abbrev pub HasRoom : ℕ → Machine → Outbox → Type 0
+HasRoom more m outs = waiting_count m + length outs.given + more ≤ outs.most

@@ -1,0 +1,120 @@
+ghost use Rattle.std.specs.Prelude.{◌≡◌, ◌<◌, ◌↔◌, not, IsTrue, IfOk, IsErrOf};
+ghost use Rattle.bq_job.specs.Lawful.{IsLawful};
+ghost use Rattle.bq_job.specs.Machine.{new_machine};
+ghost use Rattle.bq_job.specs.Steps.{IsStep};
+ghost use Rattle.bq_core.specs.Acting.{is_built};
+ghost use Rattle.bq_core.specs.Limits.{is_body_size, is_seat_count};
+ghost use Rattle.bq_core.specs.State.{machine_of, settings_of, IsSound};
+ghost use Rattle.bq_core.specs.Serving.{ServesInto};
+ghost use Rattle.bq_core.specs.Turns.{HasRoom};
+
+use crate::config::{Config, CoreFault};
+use crate::outs::Outs;
+use crate::state::State;
+use crate::{acts, dispatch, seat_list, state, waits};
+use bq_job::{Moment, Seat, Step, TubeName};
+use std::alloc::Global;
+use std::marker::Model;
+
+/// How many clients can be connected at a time at most.
+const MOST_SEATS: u16 = 256;
+
+/// How many bytes a job's body can have at most.
+const LARGEST_BODY: u32 = 1_048_576;
+
+/// The core: it stands for the one-list machine, and takes its steps.
+#[derive(Debug, Drop)]
+pub struct Core {
+    state: State,
+}
+
+impl Model for Core {
+    ghost use Rattle.bq_job.specs.Lawful.{IsLawful};
+    ghost use Rattle.bq_job.specs.Machine.{Machine};
+    ghost use Rattle.bq_core.specs.State.{machine_of, IsSound};
+
+    ghost Value = { Machine };
+
+    ghost view = { λ c. machine_of c.state };
+
+    ghost invariant = { λ c. IsLawful (machine_of c.state) × IsSound c.state };
+}
+
+// Jobs are dispatched, and then waits end.
+fn serve(state: &mut State, outs: &mut Outs)
+    requires sound { IsSound state.old }
+    requires room { HasRoom 0 (machine_of state.old) outs.old }
+    ensures served { ServesInto (machine_of state.old) outs.old outs.new (machine_of state.new) }
+    ensures sound { IsSound state.new }
+    ensures config { state.new.config ≡ state.old.config }
+{
+    dispatch::dispatch(state, outs);
+    waits::end_waits(state, outs);
+}
+
+// One step.
+fn take_step(state: &mut State, at: Moment, seat: Seat, what: Step, outs: &mut Outs)
+    requires lawful { IsLawful (machine_of state.old) }
+    requires sound { IsSound state.old }
+    requires built { IsTrue (is_built what) }
+    requires room { state.old.config.seats < outs.old.most }
+    ensures step { IsStep (machine_of state.old) at seat what (record { left_out = outs.new.left_out; unshared = outs.new.unshared }) outs.new.given (machine_of state.new) }
+    ensures most { outs.new.most ≡ outs.old.most }
+    ensures sound { IsSound state.new }
+    ensures config { state.new.config ≡ state.old.config }
+{
+    outs.begin();
+    state::raise_moment(state, at);
+    state::fire_timers(state);
+    serve(state, outs);
+    acts::act(state, seat, what, outs);
+    serve(state, outs);
+}
+
+fn is_seat_count(seats: u16) -> bool
+    ensures { result ≡ is_seat_count seats }
+{
+    1 <= seats && seats <= MOST_SEATS
+}
+
+fn is_body_size(bytes: u32) -> bool
+    ensures { result ≡ is_body_size bytes }
+{
+    1 <= bytes && bytes <= LARGEST_BODY
+}
+
+impl Core {
+    /// A core with no jobs and all seats free.
+    pub fn new(alloc: Global, config: Config) -> Result<Core, CoreFault>
+        ensures made { IfOk result (λ core. core ≡ new_machine (settings_of config)) }
+        ensures bad_seats { IsErrOf result CoreFault.BadSeats ↔ IsTrue (not (is_seat_count config.seats)) }
+        ensures bad_max_job_size { IsErrOf result CoreFault.BadMaxJobSize ↔ (IsTrue (is_seat_count config.seats) × IsTrue (not (is_body_size config.max_job_size))) }
+    {
+        if !is_seat_count(config.seats) {
+            return Err(CoreFault::BadSeats);
+        }
+        if !is_body_size(config.max_job_size) {
+            return Err(CoreFault::BadMaxJobSize);
+        }
+        let Ok(seats) = seat_list::new_places(alloc, config.seats) else {
+            return Err(CoreFault::NoMemory);
+        };
+        Ok(Core {
+            state: state::first_state(alloc, config, seats),
+        })
+    }
+
+    /// Takes a step: what happens at a seat, at a moment in milliseconds. `outs` then holds the answers in
+    /// their order. Any moment, seat and step is accepted; the requests that are built so far are `put`,
+    /// `reserve`, `delete`, `quit` and whatever the reader refused.
+    pub fn step(&mut self, at: Moment, seat: Seat, what: Step, outs: &mut Outs)
+        requires built { IsTrue (is_built what) }
+        requires room { self.old.settings.seats < outs.old.most }
+        ensures step { IsStep self.old at seat what (record { left_out = outs.new.left_out; unshared = outs.new.unshared }) outs.new.given self.new }
+        ensures lawful { IsLawful self.new }
+        ensures most { outs.new.most ≡ outs.old.most }
+        ensures settings { self.new.settings ≡ self.old.settings }
+    {
+        take_step(&mut self.state, at, seat, what, outs);
+    }
+}

@@ -1,0 +1,130 @@
+ghost use Rattle.std.specs.Prelude.{◌≡◌, ◌<◌, map, length, IfSome, IfOk};
+ghost use Rattle.std.specs.List.{AllByRecursion};
+ghost use Rattle.std.specs.Option.{option_copied};
+ghost use Rattle.bq_core.specs.Plain.{IsAtDefault};
+ghost use Rattle.bq_job.specs.Changes.{first_of, is_waiting, seat_with};
+ghost use Rattle.bq_job.specs.Dispatch.{is_wait_before};
+ghost use Rattle.bq_job.specs.Machine.{empty_seat, numbers};
+ghost use Rattle.bq_core.specs.SeatChanges.{seat_changed, seat_changed_at};
+ghost use Rattle.bq_core.specs.Places.{item_at, better_if};
+ghost use Rattle.bq_core.specs.EndingWaits.{ends_waiting_among};
+
+use crate::job_list;
+use crate::place::Place;
+use bq_job::{Job, Moment, Seat};
+use std::alloc::{AllocError, Global};
+
+/// What happens at a seat.
+#[derive(Clone, Copy, Debug)]
+pub(crate) enum SeatChange {
+    /// The client waits no longer.
+    StopWaiting,
+    /// The client waits, with this ticket, until this moment if there is one.
+    Wait(u64, Option<Moment>),
+    /// A client comes.
+    Connect,
+    /// The client is gone.
+    Clear,
+    /// The client sends no more.
+    End,
+}
+
+fn change(place: &mut Place, what: &SeatChange)
+    ensures { place.new ≡ seat_changed what.now place.old }
+{
+    match *what {
+        SeatChange::StopWaiting => place.stop_waiting(),
+        SeatChange::Wait(ticket, until) => place.wait_from(ticket, until),
+        SeatChange::Connect => place.connect(),
+        SeatChange::Clear => place.clear(),
+        SeatChange::End => place.end(),
+    }
+}
+
+fn change_if(place: &mut Place, number: Seat, what: &SeatChange)
+    ensures { place.new ≡ seat_changed_at number what.now place.old }
+{
+    if place.number() == number {
+        change(place, what);
+    }
+}
+
+fn change_each(seats: &mut Vec<Place, Global>, number: Seat, what: &SeatChange)
+    ensures { seats.new.items ≡ map (seat_changed_at number what.now) seats.old.items }
+{
+    for place in seats.iter_mut() {
+        change_if(place, number, what);
+    }
+}
+
+/// Changes the seat of this number. Every client uses and watches the default tube, as before.
+pub(crate) fn change_at(seats: &mut Vec<Place, Global>, number: Seat, what: &SeatChange)
+    ensures after { seats.new.items ≡ map (seat_changed_at number what.now) seats.old.items }
+    ensures tubes { AllByRecursion IsAtDefault seats.old.items → AllByRecursion IsAtDefault seats.new.items }
+{
+    change_each(seats, number, what);
+}
+
+/// The seat of this number.
+pub(crate) fn find(seats: &[Place], number: Seat) -> Option<&Place>
+    ensures { option_copied result ≡ seat_with number seats.now }
+{
+    seats.iter().find(|place| place.number() == number)
+}
+
+// The place of the client that has waited longest, once this one is looked at.
+fn better(seats: &[Place], best: Option<usize>, i: usize, passes: bool) -> Option<usize>
+    requires best { IfSome best (λ k. k < length seats.now) }
+    requires next { i < length seats.now }
+    ensures bound { IfSome result (λ k. k < length seats.now) }
+    ensures better { item_at seats.now result ≡ better_if passes is_wait_before seats.now (item_at seats.now best) i }
+{
+    let is_better = match best {
+        None => passes,
+        Some(k) => passes && seats[i].is_before(&seats[k]),
+    };
+    if is_better { Some(i) } else { best }
+}
+
+/// The place of the client that has waited longest.
+pub(crate) fn first_waiter(seats: &[Place]) -> Option<usize>
+    ensures bound { IfSome result (λ i. i < length seats.now) }
+    ensures least { item_at seats.now result ≡ first_of is_waiting is_wait_before seats.now }
+{
+    let mut best = None;
+    for i in 0..seats.len() {
+        best = better(seats, best, i, seats[i].is_waiting());
+    }
+    best
+}
+
+/// Whether the client waits, and its wait ends at this moment.
+fn ends_waiting(jobs: &[Job], place: &Place, moment: Moment) -> bool
+    ensures { result ≡ ends_waiting_among jobs.now moment place.now }
+{
+    place.is_waiting()
+        && (job_list::is_deadline_soon(jobs, place.number(), moment) || place.is_timed_out(moment))
+}
+
+/// The place of the client that has waited longest of those whose wait ends at this moment.
+pub(crate) fn first_ending(seats: &[Place], jobs: &[Job], moment: Moment) -> Option<usize>
+    ensures bound { IfSome result (λ i. i < length seats.now) }
+    ensures least { item_at seats.now result ≡ first_of (ends_waiting_among jobs.now moment) is_wait_before seats.now }
+{
+    let mut best = None;
+    for i in 0..seats.len() {
+        best = better(seats, best, i, ends_waiting(jobs, &seats[i], moment));
+    }
+    best
+}
+
+/// So many seats, with nobody there.
+pub(crate) fn new_places(alloc: Global, count: u16) -> Result<Vec<Place, Global>, AllocError>
+    ensures { IfOk result (λ seats. seats.items ≡ map empty_seat (numbers 0 count)) }
+{
+    let mut seats = Vec::with_capacity(alloc, usize::from(count))?;
+    for number in 0..count {
+        seats.push_reserved(Place::new(number));
+    }
+    Ok(seats)
+}

@@ -1,0 +1,60 @@
+ghost use Rattle.std.specs.Prelude.{◌≡◌, ◌<◌, ◌++◌, ◌∷◌, [], None, true, false, length};
+ghost use Rattle.bq_job.specs.Computed.{waiting_count};
+ghost use Rattle.bq_job.specs.Waits.{WaitEndTurn, next_end};
+ghost use Rattle.bq_core.specs.State.{machine_of, IsSound};
+ghost use Rattle.bq_core.specs.Turns.{Gives, HasRoom, none_refused};
+ghost use Rattle.bq_core.specs.WaitEnds.{EndsWait};
+
+use crate::outs::Outs;
+use crate::seat_list::SeatChange;
+use crate::state::State;
+use crate::{job_list, seat_list};
+use bq_job::Answer;
+
+// The wait of the client at place k ends.
+fn end_wait(state: &mut State, outs: &mut Outs, k: usize)
+    requires sound { IsSound state.old }
+    requires seat { k < length state.old.seats.items }
+    requires room { length outs.old.given < outs.old.most }
+    ensures given { EndsWait (machine_of state.old) k outs.old outs.new (machine_of state.new) }
+    ensures sound { IsSound state.new }
+    ensures config { state.new.config ≡ state.old.config }
+{
+    let number = state.seats[k].number();
+    let answer = if job_list::is_deadline_soon(state.jobs.as_slice(), number, state.moment) {
+        Answer::DeadlineSoon
+    } else {
+        Answer::TimedOut
+    };
+    outs.push(number, answer);
+    seat_list::change_at(&mut state.seats, number, &SeatChange::StopWaiting);
+}
+
+// Ends one wait, if there is one that ends now.
+fn turn(state: &mut State, outs: &mut Outs) -> bool
+    requires sound { IsSound state.old }
+    requires room { HasRoom 0 (machine_of state.old) outs.old }
+    ensures done { result ≡ false → (next_end (machine_of state.old) ≡ None) × (machine_of state.new ≡ machine_of state.old) × (outs.new ≡ outs.old) }
+    ensures given { result ≡ true → Gives WaitEndTurn none_refused (machine_of state.old) (machine_of state.new) outs.old outs.new }
+    ensures fewer { result ≡ true → waiting_count (machine_of state.new) < waiting_count (machine_of state.old) }
+    ensures sound { IsSound state.new }
+    ensures config { state.new.config ≡ state.old.config }
+{
+    let Some(k) = state.first_ending() else {
+        return false;
+    };
+    end_wait(state, outs, k);
+    true
+}
+
+/// The waits that end now end, the longest one first.
+pub(crate) fn end_waits(state: &mut State, outs: &mut Outs)
+    requires sound { IsSound state.old }
+    requires room { HasRoom 0 (machine_of state.old) outs.old }
+    ensures given { Gives WaitEndTurn none_refused (machine_of state.old) (machine_of state.new) outs.old outs.new }
+    ensures done { next_end (machine_of state.new) ≡ None }
+    ensures sound { IsSound state.new }
+    ensures config { state.new.config ≡ state.old.config }
+{
+    while turn(state, outs) {}
+}

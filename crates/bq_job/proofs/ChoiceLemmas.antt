@@ -1,0 +1,154 @@
+-- The first of those that pass a test: it is one of the list, it passes, and none that passes comes before it.
+use Rattle.std.proofs.Common.{ℕ, ◌≡◌, Bool, true, false, ◌&&◌, ◌||◌, List, [], ◌∷◌, Option, Some, None, arith, refl, sym, ap, ◌∙◌, subst, inl, inr, ◌⊎◌}
+use Rattle.std.specs.Prelude.{is_some, IfSome, fold}
+use Rattle.std.specs.Cmp.{IsStrictWeakOrder}
+use Rattle.std.specs.List.{AllByRecursion, Contains, list_any}
+use Rattle.std.proofs.lemmas.Bool.{cases_Bool, and_parts, and_cases, both_ways}
+use Rattle.std.proofs.lemmas.Bool.Decides.{nat_tests}
+use Rattle.std.proofs.lemmas.List.Elements.{All-from_recursion, All-contains}
+use Rattle.std.proofs.lemmas.List.Folds.{list_any-from_Any}
+use Rattle.bq_job.specs.Changes.{better_of, first_of, is_pair_before}
+use Rattle.bq_job.proofs.ListLemmas.{contains_head, contains_tail}
+
+-- pairs of numbers, by the first and then by the second
+pub pair_order : {X : Type 0} (first second : X → ℕ) → IsStrictWeakOrder (λ x y. is_pair_before (first x) (second x) (first y) (second y))
+pair_order first second = record { one_way = λ x y h. grind (arith, nat_tests); chain = λ x y z h i. grind (arith, nat_tests) }
+
+-- what the choice so far has to be beside the one that is chosen in the end
+abbrev IsNotAfter : {X : Type 0} → (X → X → Bool) → Option X → X → Type 0
+IsNotAfter before None z = Unit {0}
+IsNotAfter before (Some b) z = before b z ≡ false
+
+-- nothing comes before itself
+pub not_before_itself : {X : Type 0} {before : X → X → Bool} (order : IsStrictWeakOrder before) (x : X) → before x x ≡ false
+not_before_itself order x = grind (arith, order.one_way, cases_Bool)
+
+better_is_least : {X : Type 0} (passes : X → Bool) {before : X → X → Bool} (order : IsStrictWeakOrder before) (best : Option X) (x z : X) → IsNotAfter before (better_of passes before best x) z → IsNotAfter before best z × (passes x ≡ true → before x z ≡ false)
+better_is_least passes order None x z h = (tt, λ p. rw p at h)
+better_is_least passes {before = before} order (Some b) x z h =
+    elim (cases_Bool (passes x && before x b)) [
+      | inl e ↦
+          let g = rw e at h in
+          (order.chain b x z (order.one_way x b ((and_parts (passes x) (before x b) e).1)) g, λ p. g)
+      | inr e ↦
+          let g = rw e at h in
+          (g, λ p. order.chain x b z (grind (arith, and_cases, both_ways)) g)
+    ]
+
+-- Nothing in the list that passes comes before the one that is chosen, nor did the best one so far.
+fold_is_least : {X : Type 0} (passes : X → Bool) {before : X → X → Bool} (order : IsStrictWeakOrder before) (best : Option X) (xs : List X) (z : X) → fold (better_of passes before) best xs ≡ Some z → IsNotAfter before best z × AllByRecursion (λ y. passes y ≡ true → before y z ≡ false) xs
+fold_is_least passes {before = before} order best [] z h = (subst (λ b. IsNotAfter before b z) (sym h) (not_before_itself order z), tt)
+fold_is_least passes {before = before} order best (x ∷ xs) z h =
+    let rest = fold_is_least passes order (better_of passes before best x) xs z h in
+    let here = better_is_least passes order best x z rest.0 in
+    (here.0, (here.1, rest.1))
+
+-- the same of the choice among the whole list, by recursion on it
+pub first_of_least : {X : Type 0} (passes : X → Bool) {before : X → X → Bool} (order : IsStrictWeakOrder before) (xs : List X) (z : X) → first_of passes before xs ≡ Some z → AllByRecursion (λ y. passes y ≡ true → before y z ≡ false) xs
+first_of_least passes order xs z h = (fold_is_least passes order None xs z h).1
+
+-- nobody that passes comes before the chosen one
+pub first_of_is_least : {X : Type 0} (passes : X → Bool) {before : X → X → Bool} (order : IsStrictWeakOrder before) (xs : List X) (z y : X) → first_of passes before xs ≡ Some z → Contains xs y → passes y ≡ true → before y z ≡ false
+first_of_is_least passes {before = before} order xs z y h i p =
+    All-contains (λ y. passes y ≡ true → before y z ≡ false) xs y
+    (All-from_recursion (λ y. passes y ≡ true → before y z ≡ false) xs (first_of_least passes order xs z h)) i p
+
+-- The chosen one passes, as the best one so far did.
+better_passes : {X : Type 0} (passes : X → Bool) (before : X → X → Bool) (best : Option X) (x : X) → IfSome best (λ b. passes b ≡ true) → IfSome (better_of passes before best x) (λ b. passes b ≡ true)
+better_passes passes before None x h = elim (cases_Bool (passes x)) [ inl e ↦ rw (e, e) refl | inr e ↦ rw e tt ]
+better_passes passes before (Some b) x h =
+    elim (cases_Bool (passes x && before x b)) [
+      | inl e ↦ rw e ((and_parts (passes x) (before x b) e).0)
+      | inr e ↦ rw e h
+    ]
+
+fold_passes : {X : Type 0} (passes : X → Bool) (before : X → X → Bool) (best : Option X) (xs : List X) → IfSome best (λ b. passes b ≡ true) → IfSome (fold (better_of passes before) best xs) (λ b. passes b ≡ true)
+fold_passes passes before best [] h = h
+fold_passes passes before best (x ∷ xs) h = fold_passes passes before (better_of passes before best x) xs (better_passes passes before best x h)
+
+-- the chosen one passes
+pub first_of_passes : {X : Type 0} (passes : X → Bool) (before : X → X → Bool) (xs : List X) (z : X) → first_of passes before xs ≡ Some z → passes z ≡ true
+first_of_passes passes before xs z h = rw h at (fold_passes passes before None xs tt)
+
+fold_contains : {X : Type 0} (passes : X → Bool) (before : X → X → Bool) (best : Option X) (xs : List X) (z : X) → fold (better_of passes before) best xs ≡ Some z → (best ≡ Some z) ⊎ Contains xs z
+fold_contains passes before best [] z h = inl h
+fold_contains passes before best (x ∷ xs) z h = from_better passes before best x xs z (fold_contains passes before (better_of passes before best x) xs z h)
+  where
+    from_better : {X : Type 0} (passes : X → Bool) (before : X → X → Bool) (best : Option X) (x : X) (xs : List X) (z : X) → (better_of passes before best x ≡ Some z) ⊎ Contains xs z → (best ≡ Some z) ⊎ Contains (x ∷ xs) z
+    from_better passes before best x xs z (inr h) = inr (contains_tail x xs z h)
+    from_better passes before None x xs z (inl h) =
+        elim (cases_Bool (passes x)) [
+          | inl e ↦ let g : x ≡ z = (let k = rw e at h in cc) in inr (subst (Contains (x ∷ xs)) g (contains_head x xs))
+          | inr e ↦ let k = rw e at h in inl k
+        ]
+    from_better passes before (Some b) x xs z (inl h) =
+        elim (cases_Bool (passes x && before x b)) [
+          | inl e ↦ let g : x ≡ z = (let k = rw e at h in cc) in inr (subst (Contains (x ∷ xs)) g (contains_head x xs))
+          | inr e ↦ let k = rw e at h in inl k
+        ]
+
+-- the chosen one is in the list
+pub first_of_contains : {X : Type 0} (passes : X → Bool) (before : X → X → Bool) (xs : List X) (z : X) → first_of passes before xs ≡ Some z → Contains xs z
+first_of_contains passes before xs z h = elim (fold_contains passes before None xs z h) [ inl e ↦ absurd cc | inr i ↦ i ]
+
+or_assoc : (a b c : Bool) → ((a || b) || c) ≡ (a || (b || c))
+or_assoc true b c = refl
+or_assoc false b c = refl
+
+better_is_some : {X : Type 0} (passes : X → Bool) (before : X → X → Bool) (best : Option X) (x : X) → is_some (better_of passes before best x) ≡ (is_some best || passes x)
+better_is_some passes before None x = elim (cases_Bool (passes x)) [ inl e ↦ rw e refl | inr e ↦ rw e refl ]
+better_is_some passes before (Some b) x = elim (cases_Bool (passes x && before x b)) [ inl e ↦ rw e refl | inr e ↦ rw e refl ]
+
+fold_is_some : {X : Type 0} (passes : X → Bool) (before : X → X → Bool) (best : Option X) (xs : List X) → is_some (fold (better_of passes before) best xs) ≡ (is_some best || list_any passes xs)
+fold_is_some passes before None [] = refl
+fold_is_some passes before (Some b) [] = refl
+fold_is_some passes before best (x ∷ xs) =
+    fold_is_some passes before (better_of passes before best x) xs
+    ∙ ap (λ b. b || list_any passes xs) (better_is_some passes before best x)
+    ∙ or_assoc (is_some best) (passes x) (list_any passes xs)
+
+-- One is chosen exactly where one passes.
+pub first_of_is_some : {X : Type 0} (passes : X → Bool) (before : X → X → Bool) (xs : List X) → is_some (first_of passes before xs) ≡ list_any passes xs
+first_of_is_some passes before xs = fold_is_some passes before None xs
+
+-- where none is chosen, none passes
+pub first_of_none : {X : Type 0} (passes : X → Bool) (before : X → X → Bool) (xs : List X) → first_of passes before xs ≡ None → list_any passes xs ≡ false
+first_of_none passes before xs h = sym (first_of_is_some passes before xs) ∙ ap is_some h
+
+-- where none passes, none is chosen
+pub first_of_none_passes : {X : Type 0} (passes : X → Bool) (before : X → X → Bool) (xs : List X) → list_any passes xs ≡ false → first_of passes before xs ≡ None
+first_of_none_passes passes before xs h = none_chosen (first_of passes before xs) (first_of_is_some passes before xs ∙ h)
+  where
+    none_chosen : {X : Type 0} (o : Option X) → is_some o ≡ false → o ≡ None
+    none_chosen None e = refl
+    none_chosen (Some x) e = absurd cc
+
+-- one that passes is no reason to choose none
+pub first_of_some : {X : Type 0} (passes : X → Bool) (before : X → X → Bool) (xs : List X) → list_any passes xs ≡ true → (z : X) × (first_of passes before xs ≡ Some z)
+first_of_some passes before xs h = one_chosen (first_of passes before xs) (first_of_is_some passes before xs ∙ h)
+  where
+    one_chosen : {X : Type 0} (o : Option X) → is_some o ≡ true → (z : X) × (o ≡ Some z)
+    one_chosen None e = absurd cc
+    one_chosen (Some x) e = (x, refl)
+
+-- What is in the list and passes is the chosen one, if none that passes comes before it and no other ties with it.
+pub first_of_is : {X : Type 0} (passes : X → Bool) {before : X → X → Bool} (order : IsStrictWeakOrder before) (xs : List X) (x : X) → Contains xs x → passes x ≡ true → ((y : X) → Contains xs y → passes y ≡ true → before y x ≡ false) → ((y : X) → Contains xs y → before x y ≡ false → before y x ≡ false → y ≡ x) → first_of passes before xs ≡ Some x
+first_of_is passes {before = before} order xs x i p least unique =
+    let z = first_of_some passes before xs (list_any-from_Any passes xs (i.0, x, i.1, i.2, p)) in
+    let c = first_of_contains passes before xs z.0 z.1 in
+    let e : z.0 ≡ x = unique z.0 c (first_of_is_least passes order xs z.0 x z.1 i p) (least z.0 c (first_of_passes passes before xs z.0 z.1)) in
+    z.1 ∙ ap Some e
+
+better_agrees : {X : Type 0} (p q : X → Bool) (before : X → X → Bool) (best : Option X) (x : X) → p x ≡ q x → better_of p before best x ≡ better_of q before best x
+better_agrees p q before None x e = rw e refl
+better_agrees p q before (Some b) x e = rw e refl
+
+fold_agrees : {X : Type 0} (p q : X → Bool) (before : X → X → Bool) (best : Option X) (xs : List X) → AllByRecursion (λ x. p x ≡ q x) xs → fold (better_of p before) best xs ≡ fold (better_of q before) best xs
+fold_agrees p q before best [] h = refl
+fold_agrees p q before best (x ∷ xs) h =
+    ap (λ b. fold (better_of p before) b xs) (better_agrees p q before best x h.0)
+    ∙ fold_agrees p q before (better_of q before best x) xs h.1
+
+-- Two tests that agree on the list choose the same.
+pub first_of_agrees : {X : Type 0} (p q : X → Bool) (before : X → X → Bool) (xs : List X) → AllByRecursion (λ x. p x ≡ q x) xs → first_of p before xs ≡ first_of q before xs
+first_of_agrees p q before xs h = fold_agrees p q before None xs h

@@ -1,0 +1,185 @@
+-- What is computed is a step of the machine.
+use Rattle.std.proofs.Common.{ℕ, zero, suc, ◌≡◌, ◌≤◌, ◌<◌, true, false, ◌&&◌, ◌||◌, not, cond, arith, refl, inl, inr, Option, Some, None, append_assoc}
+use Rattle.std.specs.Prelude.{◌==◌}
+use Rattle.std.specs.List.{AllByRecursion as All, Contains, list_any}
+use Rattle.std.proofs.lemmas.Bool.{cases_Bool, and_parts, and_left, eq-eqb}
+use Rattle.bq_job.specs.declared.answer.Answer.TheVariants as answers
+use Rattle.bq_job.specs.declared.job.Job.{Job}
+use Rattle.bq_job.specs.declared.step.Step.{Step}
+use Rattle.bq_job.specs.Asked.{effect}
+use Rattle.bq_job.specs.Changes.{is_waiting, with_seat, without_wait}
+use Rattle.bq_job.specs.Computed.{Served, ample, after_dispatch, after_serving, after_wait_ends, dispatched, ended_at, handed_out, handed_to, stepped, wait_ended, waiting_count}
+use Rattle.bq_job.specs.Dispatch.{DispatchTurn, after_hand_out, is_job_before, is_wait_before, is_waiting_for, may_have, next_job, next_seat}
+use Rattle.bq_job.specs.Machine.{Machine, SeatRecord}
+use Rattle.bq_job.specs.Steps.{Dispatches, EndsWaits, IsStep, Serves, granted, has_refused_share}
+use Rattle.bq_job.specs.Timers.{after_timers, at_moment}
+use Rattle.bq_job.specs.Tubes.{forgetting}
+use Rattle.bq_job.specs.Waits.{Chain, WaitEndTurn, end_of_wait, ends_waiting, is_deadline_soon, is_timed_out, next_end}
+use Rattle.bq_job.proofs.ChoiceLemmas.{first_of_contains, first_of_none_passes, first_of_passes, first_of_some}
+use Rattle.bq_job.proofs.ListLemmas.{all_always, all_weaker, count_falls, count_none, list_any_not, list_any_with}
+
+-- Nobody who waits begins to.
+unwait_waits_less : (number : ℕ) (s : SeatRecord) → is_waiting (cond (s.number == number) (without_wait s) s) ≡ true → is_waiting s ≡ true
+unwait_waits_less number s h = elim (cases_Bool (s.number == number)) [ inl e ↦ absurd (let g = rw e at h in cc) | inr e ↦ rw e at h ]
+
+-- who waits, and waits no more once this wait is over
+waits_no_more : (number : ℕ) (s : SeatRecord) → s.number ≡ number → is_waiting s ≡ true → (is_waiting s && not (is_waiting (cond (s.number == number) (without_wait s) s))) ≡ true
+waits_no_more number s e w = rw (w, eq-eqb s.number number e) refl
+
+-- One client fewer waits once this one's wait is over.
+pub waiting_falls : (m : Machine) (s : SeatRecord) → Contains m.seats s → is_waiting s ≡ true → waiting_count (with_seat s.number without_wait m) < waiting_count m
+waiting_falls m s i w =
+    count_falls is_waiting (λ t. cond (t.number == s.number) (without_wait t) t) m.seats (all_always (λ t. is_waiting (cond (t.number == s.number) (without_wait t) t) ≡ true → is_waiting t ≡ true) m.seats (unwait_waits_less s.number))
+    (list_any_with (λ t. is_waiting t && not (is_waiting (cond (t.number == s.number) (without_wait t) t))) m.seats s i (waits_no_more s.number s refl w))
+
+-- a turn of dispatch that gives the job
+pub hand_out_turn : (m : Machine) (j : Job) (s : SeatRecord) → next_job m ≡ Some j → next_seat m j ≡ Some s → DispatchTurn m (s.number, answers.Reserved j.id j.body) (after_hand_out m j s)
+hand_out_turn m j s e f = rw (e, f) (inl (refl, refl))
+
+handed_to_turns : (rest : Machine → Served) (m : Machine) (j : Job) (o : Option SeatRecord) → ((n : Machine) → Chain DispatchTurn n (rest n).given (rest n).machine) → next_job m ≡ Some j → next_seat m j ≡ o → Chain DispatchTurn m (handed_to rest m j o).given (handed_to rest m j o).machine
+handed_to_turns rest m j None goes e f = refl
+handed_to_turns rest m j (Some s) goes e f = (after_hand_out m j s, hand_out_turn m j s e f, goes (after_hand_out m j s))
+
+handed_out_turns : (rest : Machine → Served) (m : Machine) (o : Option Job) → ((n : Machine) → Chain DispatchTurn n (rest n).given (rest n).machine) → next_job m ≡ o → Chain DispatchTurn m (handed_out rest m o).given (handed_out rest m o).machine
+handed_out_turns rest m None goes e = refl
+handed_out_turns rest m (Some j) goes e = handed_to_turns rest m j (next_seat m j) goes e refl
+
+-- Every turn of dispatch that is computed is a turn,
+pub dispatched_turns : (turns : ℕ) (m : Machine) → Chain DispatchTurn m (dispatched turns m).given (dispatched turns m).machine
+dispatched_turns zero m = refl
+dispatched_turns (suc turns) m = handed_out_turns (λ next. dispatched turns next) m (next_job m) (λ n. dispatched_turns turns n) refl
+
+-- no share is refused in them,
+handed_to_shared : (rest : Machine → Served) (m : Machine) (j : Job) (o : Option SeatRecord) → ((n : Machine) → has_refused_share (rest n).given ≡ false) → has_refused_share (handed_to rest m j o).given ≡ false
+handed_to_shared rest m j None goes = refl
+handed_to_shared rest m j (Some s) goes = goes (after_hand_out m j s)
+
+handed_out_shared : (rest : Machine → Served) (m : Machine) (o : Option Job) → ((n : Machine) → has_refused_share (rest n).given ≡ false) → has_refused_share (handed_out rest m o).given ≡ false
+handed_out_shared rest m None goes = refl
+handed_out_shared rest m (Some j) goes = handed_to_shared rest m j (next_seat m j) goes
+
+pub dispatched_shared : (turns : ℕ) (m : Machine) → has_refused_share (dispatched turns m).given ≡ false
+dispatched_shared zero m = refl
+dispatched_shared (suc turns) m = handed_out_shared (λ next. dispatched turns next) m (next_job m) (λ n. dispatched_shared turns n)
+
+-- where nobody waits no job is next,
+nobody_for : (m : Machine) (j : Job) → All (λ s. is_waiting s ≡ false) m.seats → list_any (is_waiting_for m j) m.seats ≡ false
+nobody_for m j h =
+    list_any_not (is_waiting_for m j) m.seats (all_weaker (λ s. is_waiting s ≡ false) (λ s. is_waiting_for m j s ≡ false) m.seats (λ s. and_left (is_waiting s) (may_have m s j)) h)
+
+none_waits : (m : Machine) → waiting_count m ≤ 0 → next_job m ≡ None
+none_waits m w =
+    let nobody = count_none is_waiting m.seats w in
+    first_of_none_passes (λ j. list_any (is_waiting_for m j) m.seats) is_job_before m.jobs
+    (list_any_not (λ j. list_any (is_waiting_for m j) m.seats) m.jobs
+    (all_always (λ j. list_any (is_waiting_for m j) m.seats ≡ false) m.jobs (λ j. nobody_for m j nobody)))
+
+-- The next job has a next client,
+pub next_has_seat : (m : Machine) (j : Job) → next_job m ≡ Some j → (s : SeatRecord) × (next_seat m j ≡ Some s)
+next_has_seat m j e =
+    first_of_some (is_waiting_for m j) is_wait_before m.seats
+    (first_of_passes (λ j. list_any (is_waiting_for m j) m.seats) is_job_before m.jobs j e)
+
+-- who is at a seat, waits and may have the job.
+pub next_seat_waits : (m : Machine) (j : Job) (s : SeatRecord) → next_seat m j ≡ Some s → Contains m.seats s × (is_waiting s ≡ true) × (may_have m s j ≡ true)
+next_seat_waits m j s f =
+    let parts = and_parts (is_waiting s) (may_have m s j) (first_of_passes (is_waiting_for m j) is_wait_before m.seats s f) in
+    (first_of_contains (is_waiting_for m j) is_wait_before m.seats s f, parts.0, parts.1)
+
+handed_to_all : (rest : Machine → Served) (turns : ℕ) (m : Machine) (j : Job) (o : Option SeatRecord) → ((n : Machine) → waiting_count n ≤ turns → next_job (rest n).machine ≡ None) → waiting_count m ≤ suc turns → next_job m ≡ Some j → next_seat m j ≡ o → next_job (handed_to rest m j o).machine ≡ None
+handed_to_all rest turns m j None goes w e f = let h = next_has_seat m j e in absurd (let g = h.1 in cc)
+handed_to_all rest turns m j (Some s) goes w e f =
+    let h = next_seat_waits m j s f in
+    goes (after_hand_out m j s) (omega (arith, waiting_falls m s h.0 h.1))
+
+handed_out_all : (rest : Machine → Served) (turns : ℕ) (m : Machine) (o : Option Job) → ((n : Machine) → waiting_count n ≤ turns → next_job (rest n).machine ≡ None) → waiting_count m ≤ suc turns → next_job m ≡ o → next_job (handed_out rest m o).machine ≡ None
+handed_out_all rest turns m None goes w e = e
+handed_out_all rest turns m (Some j) goes w e = handed_to_all rest turns m j (next_seat m j) goes w e refl
+
+-- and with as many turns as clients wait, none is next in the end.
+pub dispatched_all : (turns : ℕ) (m : Machine) → waiting_count m ≤ turns → next_job (dispatched turns m).machine ≡ None
+dispatched_all zero m w = none_waits m w
+dispatched_all (suc turns) m w = handed_out_all (λ next. dispatched turns next) turns m (next_job m) (λ n. dispatched_all turns n) w refl
+
+-- one wait that ends
+pub wait_end_turn : (m : Machine) (s : SeatRecord) → next_end m ≡ Some s → WaitEndTurn m (s.number, end_of_wait m s) (with_seat s.number without_wait m)
+wait_end_turn m s e = rw e (refl, refl)
+
+ended_at_turns : (rest : Machine → Served) (m : Machine) (o : Option SeatRecord) → ((n : Machine) → Chain WaitEndTurn n (rest n).given (rest n).machine) → next_end m ≡ o → Chain WaitEndTurn m (ended_at rest m o).given (ended_at rest m o).machine
+ended_at_turns rest m None goes e = refl
+ended_at_turns rest m (Some s) goes e = (with_seat s.number without_wait m, wait_end_turn m s e, goes (with_seat s.number without_wait m))
+
+-- Every end of a wait that is computed is one,
+pub wait_ended_turns : (turns : ℕ) (m : Machine) → Chain WaitEndTurn m (wait_ended turns m).given (wait_ended turns m).machine
+wait_ended_turns zero m = refl
+wait_ended_turns (suc turns) m = ended_at_turns (λ next. wait_ended turns next) m (next_end m) (λ n. wait_ended_turns turns n) refl
+
+none_ends : (m : Machine) → waiting_count m ≤ 0 → next_end m ≡ None
+none_ends m w =
+    first_of_none_passes (ends_waiting m) is_wait_before m.seats
+    (list_any_not (ends_waiting m) m.seats
+    (all_weaker (λ s. is_waiting s ≡ false) (λ s. ends_waiting m s ≡ false) m.seats (λ s. and_left (is_waiting s) (is_deadline_soon m s || is_timed_out m s)) (count_none is_waiting m.seats w)))
+
+-- who is next to stop waiting is at a seat and waits
+pub next_end_waits : (m : Machine) (s : SeatRecord) → next_end m ≡ Some s → Contains m.seats s × (is_waiting s ≡ true)
+next_end_waits m s e = (
+  first_of_contains (ends_waiting m) is_wait_before m.seats s e,
+  (and_parts (is_waiting s) (is_deadline_soon m s || is_timed_out m s) (first_of_passes (ends_waiting m) is_wait_before m.seats s e)).0,
+)
+
+ended_at_all : (rest : Machine → Served) (turns : ℕ) (m : Machine) (o : Option SeatRecord) → ((n : Machine) → waiting_count n ≤ turns → next_end (rest n).machine ≡ None) → waiting_count m ≤ suc turns → next_end m ≡ o → next_end (ended_at rest m o).machine ≡ None
+ended_at_all rest turns m None goes w e = e
+ended_at_all rest turns m (Some s) goes w e =
+    let h = next_end_waits m s e in
+    goes (with_seat s.number without_wait m) (omega (arith, waiting_falls m s h.0 h.1))
+
+-- and with as many turns as clients wait, no wait would end in the end.
+pub wait_ended_all : (turns : ℕ) (m : Machine) → waiting_count m ≤ turns → next_end (wait_ended turns m).machine ≡ None
+wait_ended_all zero m w = none_ends m w
+wait_ended_all (suc turns) m w = ended_at_all (λ next. wait_ended turns next) turns m (next_end m) (λ n. wait_ended_all turns n) w refl
+
+pub computed_dispatches : (m : Machine) → Dispatches m (after_dispatch m).given (after_dispatch m).machine
+computed_dispatches m = record {
+  end = (dispatched (waiting_count m) m).machine;
+  turns = dispatched_turns (waiting_count m) m;
+  done = dispatched_all (waiting_count m) m (omega arith);
+  forgets = refl;
+}
+
+pub computed_ends_waits : (m : Machine) → EndsWaits m (after_wait_ends m).given (after_wait_ends m).machine
+computed_ends_waits m = record {
+  end = (wait_ended (waiting_count m) m).machine;
+  turns = wait_ended_turns (waiting_count m) m;
+  done = wait_ended_all (waiting_count m) m (omega arith);
+  forgets = refl;
+}
+
+pub computed_serves : (m : Machine) → Serves m (after_dispatch m).given (after_wait_ends (after_dispatch m).machine).given (after_serving m).machine
+computed_serves m = record {
+  between = (after_dispatch m).machine;
+  dispatches = computed_dispatches m;
+  ends_waits = computed_ends_waits (after_dispatch m).machine;
+}
+
+-- What is computed is a step.
+pub stepped_is_step : (m : Machine) (at seat : ℕ) (what : Step) → IsStep m at seat what ample (stepped m at seat what).given (stepped m at seat what).machine
+stepped_is_step m at seat what =
+    let begin : Machine = forgetting (after_timers (at_moment at m)) in
+    let before : Machine = (after_serving begin).machine in
+    let after : Machine = forgetting (effect before seat what).machine in
+    record {
+      memory = granted;
+      before = before;
+      after = after;
+      handed = (after_dispatch begin).given;
+      ended = (after_wait_ends (after_dispatch begin).machine).given;
+      handed_then = (after_dispatch after).given;
+      ended_then = (after_wait_ends (after_dispatch after).machine).given;
+      serves = computed_serves begin;
+      possible = refl;
+      acts = refl;
+      serves_then = computed_serves after;
+      answers_are = simp append_assoc;
+      left_out = refl;
+      unshared = rw (dispatched_shared (waiting_count begin) begin, dispatched_shared (waiting_count after) after) refl;
+    }

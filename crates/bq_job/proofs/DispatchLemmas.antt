@@ -1,0 +1,69 @@
+-- Turns of dispatch and ends of waits: what each gives and leaves.
+use Rattle.std.proofs.Common.{ℕ, ◌≡◌, List, refl, ap, inl, inr, Option, Some, None}
+use Rattle.std.specs.Prelude.{MatchOption}
+use Rattle.std.specs.List.{list_any}
+use Rattle.std.proofs.lemmas.Bool.{and_from}
+use Rattle.bq_job.specs.declared.answer.Answer.TheVariants as answers
+use Rattle.bq_job.specs.declared.job.Job.{Job}
+use Rattle.bq_job.specs.Changes.{is_waiting}
+use Rattle.bq_job.specs.Dispatch.{DispatchTurn, Given, IsHandOut, is_job_before, is_waiting_for, may_have, next_job, next_seat}
+use Rattle.bq_job.specs.LeastJob.{IsLeastFor, GetsLeast}
+use Rattle.bq_job.specs.Machine.{Machine, SeatRecord}
+use Rattle.bq_job.proofs.ChoiceLemmas.{first_of_contains, first_of_is_least, pair_order}
+use Rattle.bq_job.proofs.ComputedLemmas.{next_seat_waits}
+use Rattle.bq_job.proofs.ListLemmas.{list_any_with}
+
+-- A turn of dispatch has a next job and a next client for it.
+pub record Turn (m : Machine) (given : Given) (next : Machine) : Type 0 where
+  pub job : Job
+  pub client : SeatRecord
+  pub job_is : next_job m ≡ Some job
+  pub client_is : next_seat m job ≡ Some client
+  pub hands : IsHandOut m job client given next
+
+pub turn_of : (m : Machine) (given : Given) (next : Machine) → DispatchTurn m given next → Turn m given next
+turn_of m given next turn = with_job_at (next_job m) refl turn
+  where
+    with_seat_at : (j : Job) (o : Option SeatRecord) → next_job m ≡ Some j → next_seat m j ≡ o → MatchOption o ⊥ (λ s. IsHandOut m j s given next) → Turn m given next
+    with_seat_at j None e f h = absurd h
+    with_seat_at j (Some s) e f h = record { job = j; client = s; job_is = e; client_is = f; hands = h }
+
+    with_job_at : (o : Option Job) → next_job m ≡ o → MatchOption o ⊥ (λ j. MatchOption (next_seat m j) ⊥ (λ s. IsHandOut m j s given next)) → Turn m given next
+    with_job_at None e h = absurd h
+    with_job_at (Some j) e h = with_seat_at j (next_seat m j) e refl h
+
+-- The next job is the least of those that its client may have.
+pub next_is_least : (m : Machine) (j : Job) (s : SeatRecord) → next_job m ≡ Some j → next_seat m j ≡ Some s → IsLeastFor m s j
+next_is_least m j s e f =
+    let w = next_seat_waits m j s f in
+    record {
+      kept = first_of_contains (λ j. list_any (is_waiting_for m j) m.seats) is_job_before m.jobs j e;
+      allowed = w.2;
+      least = λ k i h.
+          first_of_is_least (λ j. list_any (is_waiting_for m j) m.seats) (pair_order (λ j. j.pri) (λ j. j.id)) m.jobs j k e i
+          (list_any_with (is_waiting_for m k) m.seats s w.0 (and_from (is_waiting s) (may_have m s k) w.1 h));
+    }
+
+-- What a turn of dispatch gives with RESERVED is the least job that the client may have.
+pub reserved_is_least : (m next : Machine) (seat id : ℕ) (body : List ℕ) → DispatchTurn m (seat, answers.Reserved id body) next → GetsLeast m seat id body
+reserved_is_least m next seat id body turn = of_hand_out (turn_of m (seat, answers.Reserved id body) next turn)
+  where
+    of_given : (j : Job) (s : SeatRecord) → next_job m ≡ Some j → next_seat m j ≡ Some s → IsHandOut m j s (seat, answers.Reserved id body) next → GetsLeast m seat id body
+    of_given j s e f (inl h) =
+        let at : seat ≡ s.number = ap (λ (g : Given). g.0) h.0 in
+        let same : answers.Reserved id body ≡ answers.Reserved j.id j.body = ap (λ (g : Given). g.1) h.0 in
+        let w = next_seat_waits m j s f in
+        record {
+          client = s;
+          job = j;
+          seated = w.0;
+          seat_is = at;
+          waits = w.1;
+          id_is = (cc);
+          body_is = (cc);
+          least = next_is_least m j s e f;
+        }
+    of_given j s e f (inr h) = absurd (let g : answers.Reserved id body ≡ answers.OutOfMemory = ap (λ (g : Given). g.1) h.0 in cc)
+
+    of_hand_out : Turn m (seat, answers.Reserved id body) next → GetsLeast m seat id body
+    of_hand_out t = of_given t.job t.client t.job_is t.client_is t.hands

@@ -1,0 +1,221 @@
+-- What every part of a step keeps, and the changes of jobs and of seats that keep it.
+use Rattle.std.proofs.Common.{ℕ, zero, suc, ◌≡◌, ◌≤◌, ◌+◌, Bool, true, false, ◌&&◌, ◌||◌, not, cond, List, [], ◌∷◌, ◌++◌, map, arith, refl, sym, ◌∙◌, subst, inl, inr, Some}
+use Rattle.std.specs.Prelude.{nat_le, filter, find, ◌==◌}
+use Rattle.std.specs.List.{AllByRecursion as All, list_any}
+use Rattle.std.proofs.lemmas.Bool.{cases_Bool, and_parts, and_from, or_parts, or_left, or_right, or_cases, both_ways, cond_both, eqb-true, eqb-false, leb-false}
+use Rattle.bq_job.specs.declared.job.Job.{Job}
+use Rattle.bq_job.specs.declared.job.JobState.TheVariants as states
+use Rattle.bq_job.specs.Changes.{in_state, is_held_by, is_waiting}
+use Rattle.bq_job.specs.JobCommands.{last_id}
+use Rattle.bq_job.specs.JobStates.{is_reserved}
+use Rattle.bq_job.specs.Lawful.{AreIdsWithin, IsLawful}
+use Rattle.bq_job.specs.Machine.{Machine, SeatRecord, empty_seat, numbers}
+use Rattle.bq_job.proofs.ListLemmas.{all_always, all_both, all_of_append, all_of_filter, all_of_map, all_pass, all_weaker, keys_of_map, list_any_of_map}
+
+-- Whoever holds the job is connected.
+abbrev pub has_holder : List SeatRecord → Job → Bool
+has_holder seats j = not (is_reserved j.state) || list_any (λ s. s.connected && is_held_by s.number j) seats
+
+-- Whoever waits is connected.
+abbrev pub is_open_wait : SeatRecord → Bool
+is_open_wait s = not (is_waiting s) || s.connected
+
+pub record Kept (places : ℕ) (jobs : List Job) (seats : List SeatRecord) (next : ℕ) (draining : Bool) : Type 0 where
+  pub ids : AreIdsWithin 1 jobs next
+  pub accepts : draining ≡ false → next ≤ last_id
+  pub fits : next ≤ suc last_id
+  pub holders : All (λ j. has_holder seats j ≡ true) jobs
+  pub seated : map (λ s. s.number) seats ≡ numbers 0 places
+  pub waits : All (λ s. is_open_wait s ≡ true) seats
+
+-- the same of a machine
+abbrev pub Keeps : Machine → Type 0
+Keeps m = Kept m.settings.seats m.jobs m.seats m.next_id m.draining
+
+pub kept_of_lawful : (m : Machine) → IsLawful m → Keeps m
+kept_of_lawful m h = record {
+  ids = h.ids;
+  accepts = h.next;
+  fits = h.next_fits;
+  holders = all_pass (has_holder m.seats) m.jobs h.holders;
+  seated = h.seats;
+  waits = all_pass is_open_wait m.seats h.waits;
+}
+
+-- ids through changes of the list
+pub ids_of_map : (f : Job → Job) (low next : ℕ) (jobs : List Job) → ((j : Job) → (f j).id ≡ j.id) → AreIdsWithin low jobs next → AreIdsWithin low (map f jobs) next
+ids_of_map f low next [] same h = h
+ids_of_map f low next (j ∷ jobs) same h =
+    (omega (arith, same j, h.0), subst (λ id. AreIdsWithin (suc id) (map f jobs) next) (sym (same j)) (ids_of_map f (suc j.id) next jobs same h.1))
+
+pub ids_from_below : (low high next : ℕ) (jobs : List Job) → low ≤ high → AreIdsWithin high jobs next → AreIdsWithin low jobs next
+ids_from_below low high next [] less h = omega arith
+ids_from_below low high next (j ∷ jobs) less h = (omega (arith, h.0), h.1)
+
+pub ids_of_filter : (p : Job → Bool) (low next : ℕ) (jobs : List Job) → AreIdsWithin low jobs next → AreIdsWithin low (filter p jobs) next
+ids_of_filter p low next [] h = h
+ids_of_filter p low next (j ∷ jobs) h =
+    elim (cases_Bool (p j)) [
+      | inl e ↦ rw e (h.0, ids_of_filter p (suc j.id) next jobs h.1)
+      | inr e ↦ rw e (ids_of_filter p low next jobs (ids_from_below low (suc j.id) next jobs (omega (arith, h.0)) h.1))
+    ]
+
+pub ids_of_push : (low next : ℕ) (jobs : List Job) (j : Job) → j.id ≡ next → AreIdsWithin low jobs next → AreIdsWithin low (jobs ++ j ∷ []) (next + 1)
+ids_of_push low next [] j e h = (omega arith, omega arith)
+ids_of_push low next (k ∷ jobs) j e h = (h.0, ids_of_push (suc k.id) next jobs j e h.1)
+
+-- Jobs change, each keeps its id, and whoever holds one is connected.
+pub kept_of_jobs : {places next : ℕ} {jobs : List Job} {seats : List SeatRecord} {draining : Bool} (f : Job → Job) → Kept places jobs seats next draining → ((j : Job) → (f j).id ≡ j.id) → ((j : Job) → has_holder seats j ≡ true → has_holder seats (f j) ≡ true) → Kept places (map f jobs) seats next draining
+kept_of_jobs {next = next} {jobs = jobs} {seats = seats} f h same held = record {
+  ids = ids_of_map f 1 next jobs same h.ids;
+  accepts = h.accepts;
+  fits = h.fits;
+  holders = all_of_map (λ j. has_holder seats j ≡ true) f jobs (all_weaker (λ j. has_holder seats j ≡ true) (λ j. has_holder seats (f j) ≡ true) jobs held h.holders);
+  seated = h.seated;
+  waits = h.waits;
+}
+
+-- the same where the job of one id changes
+pub kept_of_job : {places next : ℕ} {jobs : List Job} {seats : List SeatRecord} {draining : Bool} (id : ℕ) (f : Job → Job) → Kept places jobs seats next draining → ((j : Job) → (f j).id ≡ j.id) → ((j : Job) → has_holder seats (f j) ≡ true) → Kept places (map (λ j. cond (j.id == id) (f j) j) jobs) seats next draining
+kept_of_job {seats = seats} id f h same held =
+    kept_of_jobs (λ j. cond (j.id == id) (f j) j) h
+    (λ j. cond_both (j.id == id) (f j) j (λ k. k.id ≡ j.id) (λ e. same j) (λ e. refl))
+    (λ j i. cond_both (j.id == id) (f j) j (λ k. has_holder seats k ≡ true) (λ e. held j) (λ e. i))
+
+-- what a change of a seat may do
+pub record IsMild (s t : SeatRecord) : Type 0 where
+  pub number : t.number ≡ s.number
+  pub stays : s.connected ≡ true → t.connected ≡ true
+  pub waits : is_open_wait s ≡ true → is_open_wait t ≡ true
+
+pub mild_itself : (s : SeatRecord) → IsMild s s
+mild_itself s = record { number = refl; stays = λ h. h; waits = λ h. h }
+
+still_held : (f : SeatRecord → SeatRecord) (seats : List SeatRecord) (j : Job) → All (λ s. IsMild s (f s)) seats → has_holder seats j ≡ true → has_holder (map f seats) j ≡ true
+still_held f seats j mild h =
+    elim (or_cases (not (is_reserved j.state)) (list_any (λ s. s.connected && is_held_by s.number j) seats) h) [
+      | inl e ↦ or_left (not (is_reserved j.state)) (list_any (λ s. s.connected && is_held_by s.number j) (map f seats)) e
+      | inr e ↦
+          or_right (not (is_reserved j.state)) (list_any (λ s. s.connected && is_held_by s.number j) (map f seats))
+          (list_any_of_map (λ s. s.connected && is_held_by s.number j) (λ s. s.connected && is_held_by s.number j) f seats
+          (all_weaker (λ s. IsMild s (f s)) (λ s. (s.connected && is_held_by s.number j) ≡ true → ((f s).connected && is_held_by (f s).number j) ≡ true) seats
+          (λ s c p. let parts = and_parts s.connected (is_held_by s.number j) p in
+          and_from (f s).connected (is_held_by (f s).number j) (c.stays parts.0) (subst (λ n. is_held_by n j ≡ true) (sym c.number) parts.1)) mild) e)
+    ]
+
+-- Seats change mildly.
+pub kept_of_seats : {places next : ℕ} {jobs : List Job} {seats : List SeatRecord} {draining : Bool} (f : SeatRecord → SeatRecord) → Kept places jobs seats next draining → All (λ s. IsMild s (f s)) seats → Kept places jobs (map f seats) next draining
+kept_of_seats {jobs = jobs} {seats = seats} f h mild = record {
+  ids = h.ids;
+  accepts = h.accepts;
+  fits = h.fits;
+  holders = all_weaker (λ j. has_holder seats j ≡ true) (λ j. has_holder (map f seats) j ≡ true) jobs (λ j. still_held f seats j mild) h.holders;
+  seated = keys_of_map (λ s. s.number) f seats (all_weaker (λ s. IsMild s (f s)) (λ s. (f s).number ≡ s.number) seats (λ s c. c.number) mild) ∙ h.seated;
+  waits = all_of_map (λ s. is_open_wait s ≡ true) f seats
+      (all_weaker (λ s. IsMild s (f s) × (is_open_wait s ≡ true)) (λ s. is_open_wait (f s) ≡ true) seats (λ s c. c.0.waits c.1)
+      (all_both (λ s. IsMild s (f s)) (λ s. is_open_wait s ≡ true) seats mild h.waits));
+}
+
+-- the same where the seat of one number changes
+pub kept_of_seat : {places next : ℕ} {jobs : List Job} {seats : List SeatRecord} {draining : Bool} (number : ℕ) (f : SeatRecord → SeatRecord) → Kept places jobs seats next draining → All (λ s. s.number ≡ number → IsMild s (f s)) seats → Kept places jobs (map (λ s. cond (s.number == number) (f s) s) seats) next draining
+kept_of_seat {seats = seats} number f h mild =
+    kept_of_seats (λ s. cond (s.number == number) (f s) s) h
+    (all_weaker (λ s. s.number ≡ number → IsMild s (f s)) (λ s. IsMild s (cond (s.number == number) (f s) s)) seats
+    (λ s c. cond_both (s.number == number) (f s) s (IsMild s) (λ e. c (eqb-true s.number number e)) (λ e. mild_itself s)) mild)
+
+-- numbers from low on are at least low
+pub numbers_above : (low n : ℕ) (seats : List SeatRecord) → map (λ s. s.number) seats ≡ numbers low n → All (λ s. low ≤ s.number) seats
+numbers_above low n [] e = tt
+numbers_above low zero (s ∷ seats) e = absurd cc
+numbers_above low (suc n) (s ∷ seats) e =
+    let here : s.number ≡ low = (cc) in
+    let rest : map (λ s. s.number) seats ≡ numbers (suc low) n = (cc) in
+    (omega arith, all_weaker (λ s. suc low ≤ s.number) (λ s. low ≤ s.number) seats (λ s h. omega arith) (numbers_above (suc low) n seats rest))
+
+-- The seat that is found is the only one of its number.
+pub only_seat : (low n number : ℕ) (seats : List SeatRecord) (s : SeatRecord) → map (λ s. s.number) seats ≡ numbers low n → find (λ s. s.number == number) seats ≡ Some s → All (λ t. t.number ≡ number → t ≡ s) seats
+only_seat low n number [] s e f = tt
+only_seat low zero number (t ∷ seats) s e f = absurd cc
+only_seat low (suc n) number (t ∷ seats) s e f =
+    let here : t.number ≡ low = (cc) in
+    let rest : map (λ s. s.number) seats ≡ numbers (suc low) n = (cc) in
+    elim (cases_Bool (t.number == number)) [
+      | inl b ↦
+          let found : Some t ≡ Some s = rw b at f in
+          let is : t.number ≡ number = eqb-true t.number number b in
+          (λ i. cc, all_weaker (λ u. suc low ≤ u.number) (λ u. u.number ≡ number → u ≡ s) seats (λ u h i. absurd (omega arith)) (numbers_above (suc low) n seats rest))
+      | inr b ↦ (λ i. absurd (eqb-false t.number number b i), only_seat (suc low) n number seats s rest (rw b at f))
+    ]
+
+-- a seat and a job when the client at this seat goes
+abbrev emptied : ℕ → SeatRecord → SeatRecord
+emptied seat s = cond (s.number == seat) (empty_seat s.number) s
+
+abbrev given_back : ℕ → Job → Job
+given_back seat j = cond (is_held_by seat j) (in_state states.Ready j) j
+
+-- Who holds a job that isn't given back stays.
+holder_stays : (seat : ℕ) (j : Job) (s : SeatRecord) → is_held_by seat j ≡ false → (s.connected && is_held_by s.number j) ≡ true → ((emptied seat s).connected && is_held_by (emptied seat s).number j) ≡ true
+holder_stays seat j s e h =
+    cond_both (s.number == seat) (empty_seat s.number) s (λ t. (t.connected && is_held_by t.number j) ≡ true)
+    (λ b.
+    let held : is_held_by s.number j ≡ true = (and_parts s.connected (is_held_by s.number j) h).1 in
+    absurd (both_ways (is_held_by seat j) e (subst (λ n. is_held_by n j ≡ true) (eqb-true s.number seat b) held)))
+    (λ b. h)
+
+held_elsewhere : (seat : ℕ) (seats : List SeatRecord) (j : Job) → is_held_by seat j ≡ false → has_holder seats j ≡ true → has_holder (map (emptied seat) seats) j ≡ true
+held_elsewhere seat seats j e h =
+    elim (or_cases (not (is_reserved j.state)) (list_any (λ s. s.connected && is_held_by s.number j) seats) h) [
+      | inl f ↦ or_left (not (is_reserved j.state)) (list_any (λ s. s.connected && is_held_by s.number j) (map (emptied seat) seats)) f
+      | inr f ↦
+          or_right (not (is_reserved j.state)) (list_any (λ s. s.connected && is_held_by s.number j) (map (emptied seat) seats))
+          (list_any_of_map (λ s. s.connected && is_held_by s.number j) (λ s. s.connected && is_held_by s.number j) (emptied seat) seats
+          (all_always (λ s. (s.connected && is_held_by s.number j) ≡ true → ((emptied seat s).connected && is_held_by (emptied seat s).number j) ≡ true) seats
+          (λ s. holder_stays seat j s e)) f)
+    ]
+
+-- A client goes: the jobs that it holds are ready, and its seat is empty.
+pub kept_of_close : {places next : ℕ} {jobs : List Job} {seats : List SeatRecord} {draining : Bool} (seat : ℕ) → Kept places jobs seats next draining → Kept places (map (λ j. cond (is_held_by seat j) (in_state states.Ready j) j) jobs) (map (λ s. cond (s.number == seat) (empty_seat s.number) s) seats) next draining
+kept_of_close {next = next} {jobs = jobs} {seats = seats} seat h = record {
+  ids = ids_of_map (given_back seat) 1 next jobs (λ j. cond_both (is_held_by seat j) (in_state states.Ready j) j (λ k. k.id ≡ j.id) (λ e. refl) (λ e. refl)) h.ids;
+  accepts = h.accepts;
+  fits = h.fits;
+  holders = all_of_map (λ j. has_holder (map (emptied seat) seats) j ≡ true) (given_back seat) jobs
+      (all_weaker (λ j. has_holder seats j ≡ true) (λ j. has_holder (map (emptied seat) seats) (given_back seat j) ≡ true) jobs
+      (λ j i. cond_both (is_held_by seat j) (in_state states.Ready j) j (λ k. has_holder (map (emptied seat) seats) k ≡ true) (λ e. refl)
+      (λ e. held_elsewhere seat seats j e i)) h.holders);
+  seated = keys_of_map (λ s. s.number) (emptied seat) seats
+      (all_always (λ s. (emptied seat s).number ≡ s.number) seats
+      (λ s. cond_both (s.number == seat) (empty_seat s.number) s (λ t. t.number ≡ s.number) (λ e. refl) (λ e. refl)))
+      ∙ h.seated;
+  waits = all_of_map (λ s. is_open_wait s ≡ true) (emptied seat) seats
+      (all_weaker (λ s. is_open_wait s ≡ true) (λ s. is_open_wait (emptied seat s) ≡ true) seats
+      (λ s i. cond_both (s.number == seat) (empty_seat s.number) s (λ t. is_open_wait t ≡ true) (λ e. refl) (λ e. i)) h.waits);
+}
+
+-- A job is added that nobody holds.
+pub kept_of_push : {places next : ℕ} {jobs : List Job} {seats : List SeatRecord} {draining : Bool} (j : Job) → Kept places jobs seats next draining → draining ≡ false → j.id ≡ next → is_reserved j.state ≡ false → Kept places (jobs ++ j ∷ []) seats (next + 1) (draining || nat_le last_id next)
+kept_of_push {next = next} {jobs = jobs} {seats = seats} {draining = draining} j h opens is free = record {
+  ids = ids_of_push 1 next jobs j is h.ids;
+  accepts = λ e. let n = h.accepts opens in let parts = or_parts draining (nat_le last_id next) e in let less = leb-false last_id next parts.1 in omega arith;
+  fits = let n = h.accepts opens in omega arith;
+  holders = all_of_append (λ j. has_holder seats j ≡ true) jobs (j ∷ []) h.holders (rw free refl, tt);
+  seated = h.seated;
+  waits = h.waits;
+}
+
+-- Jobs are taken out.
+pub kept_of_filter : {places next : ℕ} {jobs : List Job} {seats : List SeatRecord} {draining : Bool} (p : Job → Bool) → Kept places jobs seats next draining → Kept places (filter p jobs) seats next draining
+kept_of_filter {next = next} {jobs = jobs} {seats = seats} p h = record {
+  ids = ids_of_filter p 1 next jobs h.ids;
+  accepts = h.accepts;
+  fits = h.fits;
+  holders = all_weaker (λ j. (has_holder seats j ≡ true) × (p j ≡ true)) (λ j. has_holder seats j ≡ true) (filter p jobs) (λ j c. c.0)
+      (all_of_filter (λ j. has_holder seats j ≡ true) p jobs h.holders);
+  seated = h.seated;
+  waits = h.waits;
+}
+
+-- Draining begins.
+pub kept_of_drain : {places next : ℕ} {jobs : List Job} {seats : List SeatRecord} {draining : Bool} → Kept places jobs seats next draining → Kept places jobs seats next true
+kept_of_drain h = record { ids = h.ids; accepts = λ e. absurd cc; fits = h.fits; holders = h.holders; seated = h.seated; waits = h.waits }

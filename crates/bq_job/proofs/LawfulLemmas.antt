@@ -1,0 +1,272 @@
+-- The machine is lawful at the start and after every step, and a step gives few answers.
+use Rattle.std.proofs.Common.{ℕ, zero, suc, ◌≡◌, ◌≤◌, ◌<◌, ◌+◌, true, false, ◌&&◌, ◌||◌, not, cond, List, [], ◌∷◌, map, length, length-append, arith, refl, sym, ap, ◌∙◌, subst, inl, inr, Option, Some, None}
+use Rattle.std.specs.Prelude.{is_some, unwrap_or, MatchOption, ◌==◌}
+use Rattle.std.specs.Cmp.Lexicographic.{bytes_decides}
+use Rattle.std.specs.List.{Contains, list_any, list_all}
+use Rattle.std.proofs.lemmas.Bool.{or_left, or_right, cond_both}
+use Rattle.std.proofs.lemmas.List.{length-map}
+use Rattle.std.proofs.lemmas.List.Sums.{count_by-le-length}
+use Rattle.bq_job.specs.declared.answer.Answer.{Answer}
+use Rattle.bq_job.specs.declared.job.Job.{Job}
+use Rattle.bq_job.specs.declared.job.JobState.TheVariants as states
+use Rattle.bq_job.specs.declared.step.Step.{Step}
+use Rattle.bq_job.specs.Acts.{Effect}
+use Rattle.bq_job.specs.Changes.{in_state, is_ready, is_waiting, with_job, with_seat, without_wait}
+use Rattle.bq_job.specs.Computed.{waiting_count}
+use Rattle.bq_job.specs.Dispatch.{DispatchTurn, Given, IsHandOut, is_job_before, is_wait_before, is_waiting_for, next_job, next_seat, reserved_by}
+use Rattle.bq_job.specs.Lawful.{IsLawful, has_open_holder}
+use Rattle.bq_job.specs.Limits.{later}
+use Rattle.bq_job.specs.Machine.{Machine, SeatRecord, Settings, TubeRecord, default_tube, empty_seat, new_machine, numbers}
+use Rattle.bq_job.specs.Steps.{Dispatches, EndsWaits, IsStep, Memory, Outcome, Serves, acted, addressed, granted, growth_refused, share_refused}
+use Rattle.bq_job.specs.Timers.{after_timers, at_moment, is_due, is_expired, job_after_timers, with_timeout}
+use Rattle.bq_job.specs.Tubes.{forgetting, fresh_tube, is_tube, is_seated_at, is_paused, watches}
+use Rattle.bq_job.specs.TubeName.{is_same_name}
+use Rattle.bq_job.specs.Waits.{Chain, WaitEndTurn, end_of_wait, ends_waiting, next_end}
+use Rattle.bq_job.proofs.ActLemmas.{Leaves, answer_count, held_here, leaves_effect}
+use Rattle.bq_job.proofs.ChoiceLemmas.{first_of_agrees, first_of_none, first_of_none_passes}
+use Rattle.bq_job.proofs.ComputedLemmas.{next_end_waits, next_seat_waits, waiting_falls}
+use Rattle.bq_job.proofs.DispatchLemmas.{turn_of}
+use Rattle.bq_job.proofs.KeptLemmas.{Keeps, has_holder, is_open_wait, kept_of_job, kept_of_jobs, kept_of_lawful, kept_of_seat, IsMild}
+use Rattle.bq_job.proofs.ListLemmas.{all_always, all_at, all_from_members, all_of_filter, all_of_map, all_weaker, find_in_filter, list_all_from, list_any_not, list_any_with, none_pass}
+
+-- what timers make of a job: ready, ready with one timeout more, or the same
+after_timers_is : (moment : ℕ) (j : Job) (P : Job → Type 0) → P (in_state states.Ready j) → P (record j { state = states.Ready; counts = with_timeout j.counts }) → P j → P (job_after_timers moment j)
+after_timers_is moment j P due expired same =
+    cond_both (is_due moment j.state) (in_state states.Ready j) (cond (is_expired moment j.state) (record j { state = states.Ready; counts = with_timeout j.counts }) j) P (λ e. due)
+    (λ e. cond_both (is_expired moment j.state) (record j { state = states.Ready; counts = with_timeout j.counts }) j P (λ f. expired) (λ f. same))
+
+-- Timers keep it.
+pub kept_of_timers : (at : ℕ) (m : Machine) → Keeps m → Keeps (forgetting (after_timers (at_moment at m)))
+kept_of_timers at m h =
+    let now = (at_moment at m).moment in
+    kept_of_jobs (job_after_timers now) h
+    (λ j. after_timers_is now j (λ k. k.id ≡ j.id) refl refl refl)
+    (λ j i. after_timers_is now j (λ k. has_holder m.seats k ≡ true) refl refl i)
+
+-- A wait that is over keeps it.
+kept_without_wait : (number : ℕ) (m : Machine) → Keeps m → Keeps (with_seat number without_wait m)
+kept_without_wait number m h =
+    kept_of_seat number without_wait h
+    (all_always (λ s. s.number ≡ number → IsMild s (without_wait s)) m.seats (λ s e. record { number = refl; stays = λ c. c; waits = λ w. refl }))
+
+-- A turn keeps it, and takes one waiting client away.
+record IsTurn (m n : Machine) : Type 0 where
+  keeps : Keeps n
+  waiting : waiting_count n < waiting_count m
+
+-- Who waits is connected.
+waits_connected : (m : Machine) (s : SeatRecord) → Keeps m → Contains m.seats s → is_waiting s ≡ true → s.connected ≡ true
+waits_connected m s h i w = rw w at (all_at (λ s. is_open_wait s ≡ true) m.seats s h.waits i)
+
+turn_of_hand_out : (m : Machine) (j : Job) (s : SeatRecord) (given : Given) (next : Machine) → Keeps m → next_seat m j ≡ Some s → IsHandOut m j s given next → IsTurn m next
+turn_of_hand_out m j s given next h f (inl i) =
+    let w = next_seat_waits m j s f in
+    let c = waits_connected m s h w.0 w.1 in
+    subst (IsTurn m) (sym i.1) (record {
+      keeps = kept_without_wait s.number (with_job j.id (reserved_by m.moment s.number) m)
+          (kept_of_job j.id (reserved_by m.moment s.number) h (λ k. refl) (λ k. held_here m s (reserved_by m.moment s.number k) (later m.moment k.ttr) w.0 c refl));
+      waiting = waiting_falls (with_job j.id (reserved_by m.moment s.number) m) s w.0 w.1;
+    })
+turn_of_hand_out m j s given next h f (inr i) =
+    let w = next_seat_waits m j s f in
+    subst (IsTurn m) (sym i.1) (record { keeps = kept_without_wait s.number m h; waiting = waiting_falls m s w.0 w.1 })
+
+turn_of_dispatch : (m : Machine) (given : Given) (next : Machine) → Keeps m → DispatchTurn m given next → IsTurn m next
+turn_of_dispatch m given next h turn =
+    let t = turn_of m given next turn in turn_of_hand_out m t.job t.client given next h t.client_is t.hands
+
+-- a wait that ends has a client
+pub record End (m : Machine) (given : Given) (next : Machine) : Type 0 where
+  pub client : SeatRecord
+  pub client_is : next_end m ≡ Some client
+  pub given_is : given ≡ (client.number, end_of_wait m client)
+  pub next_is : next ≡ with_seat client.number without_wait m
+
+pub end_of : (m : Machine) (given : Given) (next : Machine) → WaitEndTurn m given next → End m given next
+end_of m given next turn = with_client (next_end m) refl turn
+  where
+    with_client : (o : Option SeatRecord) → next_end m ≡ o → MatchOption o ⊥ (λ s. (given ≡ (s.number, end_of_wait m s)) × (next ≡ with_seat s.number without_wait m)) → End m given next
+    with_client None e h = absurd h
+    with_client (Some s) e h = record { client = s; client_is = e; given_is = h.0; next_is = h.1 }
+
+turn_of_wait_end : (m : Machine) (given : Given) (next : Machine) → Keeps m → WaitEndTurn m given next → IsTurn m next
+turn_of_wait_end m given next h turn =
+    let e = end_of m given next turn in
+    let w = next_end_waits m e.client e.client_is in
+    subst (IsTurn m) (sym e.next_is) (record { keeps = kept_without_wait e.client.number m h; waiting = waiting_falls m e.client w.0 w.1 })
+
+-- Turns one after another keep it, and there are at most as many as clients wait.
+record AreTurns (first : Machine) (given : List Given) (last : Machine) : Type 0 where
+  keeps : Keeps last
+  waiting : length given + waiting_count last ≤ waiting_count first
+
+turns_of_chain : (Turns : Machine → Given → Machine → Type 0) (first : Machine) (given : List Given) (last : Machine) → ((m : Machine) (g : Given) (n : Machine) → Keeps m → Turns m g n → IsTurn m n) → Keeps first → Chain Turns first given last → AreTurns first given last
+turns_of_chain Turns first [] last each h chain = record { keeps = subst Keeps (sym chain) h; waiting = let e : waiting_count last ≡ waiting_count first = ap waiting_count chain in omega arith }
+turns_of_chain Turns first (g ∷ given) last each h chain =
+    let one = each first g chain.0 h chain.1 in
+    let more = turns_of_chain Turns chain.0 given last each one.keeps chain.2 in
+    record { keeps = more.keeps; waiting = let a = one.waiting in let b = more.waiting in omega arith }
+
+-- Dispatch keeps it, and gives at most as many answers as clients wait no more.
+turns_of_dispatches : (first : Machine) (given : List Given) (last : Machine) → Keeps first → Dispatches first given last → AreTurns first given last
+turns_of_dispatches first given last h d =
+    let t = turns_of_chain DispatchTurn first given d.end turn_of_dispatch h d.turns in
+    subst (AreTurns first given) (sym d.forgets) (record { keeps = t.keeps; waiting = t.waiting })
+
+turns_of_ends : (first : Machine) (given : List Given) (last : Machine) → Keeps first → EndsWaits first given last → AreTurns first given last
+turns_of_ends first given last h d =
+    let t = turns_of_chain WaitEndTurn first given d.end turn_of_wait_end h d.turns in
+    subst (AreTurns first given) (sym d.forgets) (record { keeps = t.keeps; waiting = t.waiting })
+
+-- the same of dispatch and the ends of waits together
+pub record HasServed (first : Machine) (handed ended : List Given) (last : Machine) : Type 0 where
+  pub keeps : Keeps last
+  pub waiting : length handed + length ended + waiting_count last ≤ waiting_count first
+
+pub served : (first : Machine) (handed ended : List Given) (last : Machine) → Keeps first → Serves first handed ended last → HasServed first handed ended last
+served first handed ended last h s =
+    let d = turns_of_dispatches first handed s.between h s.dispatches in
+    let e = turns_of_ends s.between ended last d.keeps s.ends_waits in
+    record { keeps = e.keeps; waiting = let a = d.waiting in let b = e.waiting in omega arith }
+
+-- What is forgotten is of tubes that don't exist, so a tube of a job is paused as before.
+record_kept : (m : Machine) (j : Job) (t : TubeRecord) → Contains m.jobs j → is_same_name j.tube t.name ≡ true → is_tube t.name m ≡ true
+record_kept m j t i e =
+    let same : j.tube ≡ t.name = (bytes_decides j.tube t.name).0 e in
+    let here : list_any (λ k. is_same_name t.name k.tube) m.jobs ≡ true =
+    list_any_with (λ k. is_same_name t.name k.tube) m.jobs j i ((bytes_decides t.name j.tube).1 (sym same)) in
+    or_left (is_same_name t.name default_tube || list_any (λ k. is_same_name t.name k.tube) m.jobs) (list_any (is_seated_at t.name) m.seats)
+    (or_right (is_same_name t.name default_tube) (list_any (λ k. is_same_name t.name k.tube) m.jobs) here)
+
+paused_as_before : (m : Machine) (j : Job) → Contains m.jobs j → is_paused j.tube (forgetting m) ≡ is_paused j.tube m
+paused_as_before m j i =
+    ap (λ o. is_some (unwrap_or o (fresh_tube j.tube)).pause)
+    (find_in_filter (λ t. is_same_name j.tube t.name) (λ t. is_tube t.name m) m.tubes
+    (all_always (λ t. is_same_name j.tube t.name ≡ true → is_tube t.name m ≡ true) m.tubes (λ t e. record_kept m j t i e)))
+
+wanted_as_before : (m : Machine) (j : Job) → Contains m.jobs j → list_any (is_waiting_for (forgetting m) j) m.seats ≡ list_any (is_waiting_for m j) m.seats
+wanted_as_before m j i = ap (λ b. list_any (λ s. is_waiting s && (is_ready j && watches j.tube s && not b)) m.seats) (paused_as_before m j i)
+
+next_job_as_before : (m : Machine) → next_job (forgetting m) ≡ next_job m
+next_job_as_before m =
+    first_of_agrees (λ j. list_any (is_waiting_for (forgetting m) j) m.seats) (λ j. list_any (is_waiting_for m j) m.seats) is_job_before m.jobs
+    (all_from_members (λ j. list_any (is_waiting_for (forgetting m) j) m.seats ≡ list_any (is_waiting_for m j) m.seats) m.jobs (wanted_as_before m))
+
+-- The end of a wait makes no job one that a waiting client may have.
+still_unwanted : (number : ℕ) (m : Machine) (j : Job) → list_any (is_waiting_for m j) m.seats ≡ false → list_any (is_waiting_for (with_seat number without_wait m) j) (with_seat number without_wait m).seats ≡ false
+still_unwanted number m j h =
+    list_any_not (is_waiting_for (with_seat number without_wait m) j) (with_seat number without_wait m).seats
+    (all_of_map (λ s. is_waiting_for (with_seat number without_wait m) j s ≡ false) (λ s. cond (s.number == number) (without_wait s) s) m.seats
+    (all_weaker (λ s. is_waiting_for m j s ≡ false) (λ s. is_waiting_for (with_seat number without_wait m) j (cond (s.number == number) (without_wait s) s) ≡ false) m.seats
+    (λ s i. cond_both (s.number == number) (without_wait s) s (λ t. is_waiting_for (with_seat number without_wait m) j t ≡ false) (λ e. refl) (λ e. i))
+    (none_pass (is_waiting_for m j) m.seats h)))
+
+still_dispatched : (number : ℕ) (m : Machine) → next_job m ≡ None → next_job (with_seat number without_wait m) ≡ None
+still_dispatched number m h =
+    first_of_none_passes (λ j. list_any (is_waiting_for (with_seat number without_wait m) j) (with_seat number without_wait m).seats) is_job_before m.jobs
+    (list_any_not (λ j. list_any (is_waiting_for (with_seat number without_wait m) j) (with_seat number without_wait m).seats) m.jobs
+    (all_weaker (λ j. list_any (is_waiting_for m j) m.seats ≡ false) (λ j. list_any (is_waiting_for (with_seat number without_wait m) j) (with_seat number without_wait m).seats ≡ false) m.jobs
+    (still_unwanted number m)
+    (none_pass (λ j. list_any (is_waiting_for m j) m.seats) m.jobs (first_of_none (λ j. list_any (is_waiting_for m j) m.seats) is_job_before m.jobs h))))
+
+dispatched_through_ends : (first : Machine) (given : List Given) (last : Machine) → next_job first ≡ None → Chain WaitEndTurn first given last → next_job last ≡ None
+dispatched_through_ends first [] last h chain = ap next_job chain ∙ h
+dispatched_through_ends first (g ∷ given) last h chain =
+    let e = end_of first g chain.0 chain.1 in
+    dispatched_through_ends chain.0 given last (ap next_job e.next_is ∙ still_dispatched e.client.number first h) chain.2
+
+-- what is kept of tubes is of tubes that exist, once the others are forgotten
+only_tubes : (m : Machine) → list_all (λ t. is_tube t.name (forgetting m)) (forgetting m).tubes ≡ true
+only_tubes m =
+    list_all_from (λ t. is_tube t.name (forgetting m)) (forgetting m).tubes
+    (all_weaker (λ t. Unit {0} × (is_tube t.name m ≡ true)) (λ t. is_tube t.name (forgetting m) ≡ true) (forgetting m).tubes (λ t c. c.1)
+    (all_of_filter (λ t. Unit {0}) (λ t. is_tube t.name m) m.tubes (all_always (λ t. Unit {0}) m.tubes (λ t. tt))))
+
+-- Where no job and no wait is next, the machine is lawful once tubes that are gone are forgotten.
+pub lawful_when_done : (m : Machine) → Keeps m → next_job m ≡ None → next_end m ≡ None → IsLawful (forgetting m)
+lawful_when_done m h jobs ends = record {
+  ids = h.ids;
+  next = h.accepts;
+  next_fits = h.fits;
+  holders = list_all_from (has_open_holder m) m.jobs h.holders;
+  seats = h.seated;
+  waits = list_all_from is_open_wait m.seats h.waits;
+  dispatched = next_job_as_before m ∙ jobs;
+  wait_ends = ends;
+  tubes = only_tubes m;
+}
+
+-- After dispatch and the ends of waits the machine is lawful.
+pub lawful_when_served : (first : Machine) (handed ended : List Given) (last : Machine) → Keeps first → Serves first handed ended last → IsLawful last
+lawful_when_served first handed ended last h s =
+    let d = s.dispatches in
+    let e = s.ends_waits in
+    let k = served first handed ended last h s in
+    subst IsLawful (sym e.forgets)
+    (lawful_when_done e.end (subst Keeps e.forgets k.keeps)
+    (dispatched_through_ends s.between ended e.end (ap next_job d.forgets ∙ next_job_as_before d.end ∙ d.done) e.turns) e.done)
+
+-- what a command leaves, whatever became of the memory that it wanted
+pub leaves_acted : (memory : Memory) (m : Machine) (seat : ℕ) (what : Step) → Keeps m → Leaves m (acted memory m seat what)
+leaves_acted granted m seat what h = leaves_effect m seat what h
+leaves_acted growth_refused m seat what h = record { keeps = h; waiting = omega arith }
+leaves_acted share_refused m seat what h = record { keeps = h; waiting = omega arith }
+
+-- A step leads from a lawful machine to a lawful one.
+pub step_is_lawful : (first last : Machine) (at seat : ℕ) (what : Step) (outcome : Outcome) (given : List Given) → IsLawful first → IsStep first at seat what outcome given last → IsLawful last
+step_is_lawful first last at seat what outcome given h s =
+    let before = served (forgetting (after_timers (at_moment at first))) s.handed s.ended s.before (kept_of_timers at first (kept_of_lawful first h)) s.serves in
+    let act = leaves_acted s.memory s.before seat what before.keeps in
+    lawful_when_served s.after s.handed_then s.ended_then last (subst Keeps (sym s.acts) act.keeps) s.serves_then
+
+numbered : (low n : ℕ) → map (λ s. s.number) (map empty_seat (numbers low n)) ≡ numbers low n
+numbered low zero = refl
+numbered low (suc n) = ap (λ ns. low ∷ ns) (numbered (suc low) n)
+
+-- The machine is lawful at the start.
+pub new_is_lawful : (settings : Settings) → IsLawful (new_machine settings)
+new_is_lawful settings = record {
+  ids = omega arith;
+  next = λ e. omega arith;
+  next_fits = omega arith;
+  holders = refl;
+  seats = numbered 0 settings.seats;
+  waits = list_all_from is_open_wait (map empty_seat (numbers 0 settings.seats))
+      (all_of_map (λ s. is_open_wait s ≡ true) empty_seat (numbers 0 settings.seats) (all_always (λ n. is_open_wait (empty_seat n) ≡ true) (numbers 0 settings.seats) (λ n. refl)));
+  dispatched = refl;
+  wait_ends = first_of_none_passes (ends_waiting (new_machine settings)) is_wait_before (map empty_seat (numbers 0 settings.seats))
+      (list_any_not (ends_waiting (new_machine settings)) (map empty_seat (numbers 0 settings.seats))
+      (all_of_map (λ s. ends_waiting (new_machine settings) s ≡ false) empty_seat (numbers 0 settings.seats)
+      (all_always (λ n. ends_waiting (new_machine settings) (empty_seat n) ≡ false) (numbers 0 settings.seats) (λ n. refl))));
+  tubes = refl;
+}
+
+-- as many answers as the act gives
+pub length_addressed : (seat : ℕ) (o : Option Answer) → length (addressed seat o) ≡ answer_count o
+length_addressed seat None = refl
+length_addressed seat (Some answer) = refl
+
+-- as many seats as the machine was made with
+length_numbers : (low n : ℕ) → length (numbers low n) ≡ n
+length_numbers low zero = refl
+length_numbers low (suc n) = ap suc (length_numbers (suc low) n)
+
+pub seats_many : (m : Machine) → Keeps m → length m.seats ≡ m.settings.seats
+seats_many m h = sym (length-map m.seats (λ s. s.number)) ∙ ap length h.seated ∙ length_numbers 0 m.settings.seats
+
+-- A step gives at most one answer more than there are seats.
+pub few_answers : (first last : Machine) (at seat : ℕ) (what : Step) (outcome : Outcome) (given : List Given) → IsLawful first → IsStep first at seat what outcome given last → length given ≤ first.settings.seats + 1
+few_answers first last at seat what outcome given h s =
+    let k = kept_of_lawful first h in
+    let begin = forgetting (after_timers (at_moment at first)) in
+    let before = served begin s.handed s.ended s.before (kept_of_timers at first k) s.serves in
+    let act = leaves_acted s.memory s.before seat what before.keeps in
+    let then = served s.after s.handed_then s.ended_then last (subst Keeps (sym s.acts) act.keeps) s.serves_then in
+    let answered = length_addressed seat (acted s.memory s.before seat what).answer in
+    let same : waiting_count s.after ≡ waiting_count (acted s.memory s.before seat what).machine = ap waiting_count s.acts in
+    let all = seats_many first k in
+    let few : waiting_count first ≤ length first.seats = count_by-le-length is_waiting first.seats in
+    let long : length given ≡ length s.handed + length s.ended + length (addressed seat (acted s.memory s.before seat what).answer) + length s.handed_then + length s.ended_then =
+    ap length s.answers_are ∙ simp length-append in
+    let a = before.waiting in let b = act.waiting in let c = then.waiting in
+    omega arith

@@ -1,0 +1,153 @@
+-- Facts about lists of any elements: tests, changes of each element, counts.
+use Rattle.std.proofs.Common.{◌≡◌, ◌≤◌, ◌<◌, ◌+◌, Bool, true, false, ◌&&◌, not, cond, List, [], ◌∷◌, ◌++◌, map, arith, refl, ap, subst, inl, inr}
+use Rattle.std.specs.Prelude.{Some, count_by, filter, find}
+use Rattle.std.specs.List.{AllByRecursion as All, Contains, list_any, list_all}
+use Rattle.std.proofs.lemmas.Bool.{cases_Bool, and_parts, and_from, or_parts, or_from, or_left, or_right, or_cases, both_ways, false_from_ne_true}
+use Rattle.std.proofs.lemmas.List.Elements.{All-from_recursion, recursion_from_All, All-contains, All-contains_itself, Contains-append_right}
+use Rattle.std.proofs.lemmas.List.Folds.{list_any-from_Any}
+use Rattle.std.proofs.lemmas.List.Sums.{sum_by-cons}
+
+-- what is the head of a list, or in its rest
+pub contains_head : {X : Type 0} (x : X) (xs : List X) → Contains (x ∷ xs) x
+contains_head x xs = (0, omega arith, refl)
+
+pub contains_tail : {X : Type 0} (x : X) (xs : List X) (y : X) → Contains xs y → Contains (x ∷ xs) y
+contains_tail x xs y h = Contains-append_right (x ∷ []) xs y h
+
+-- what holds of all holds of one
+pub all_at : {X : Type 0} (P : X → Type 0) (xs : List X) (x : X) → All P xs → Contains xs x → P x
+all_at P xs x h i = All-contains P xs x (All-from_recursion P xs h) i
+
+pub all_members : {X : Type 0} (xs : List X) → All (Contains xs) xs
+all_members xs = recursion_from_All (Contains xs) xs (All-contains_itself xs)
+
+pub all_always : {X : Type 0} (P : X → Type 0) (xs : List X) → ((x : X) → P x) → All P xs
+all_always P [] h = tt
+all_always P (x ∷ xs) h = (h x, all_always P xs h)
+
+pub all_weaker : {X : Type 0} (P Q : X → Type 0) (xs : List X) → ((x : X) → P x → Q x) → All P xs → All Q xs
+all_weaker P Q [] w h = tt
+all_weaker P Q (x ∷ xs) w h = (w x h.0, all_weaker P Q xs w h.1)
+
+-- what holds of each that is in the list
+pub all_from_members : {X : Type 0} (P : X → Type 0) (xs : List X) → ((x : X) → Contains xs x → P x) → All P xs
+all_from_members P xs h = all_weaker (Contains xs) P xs h (all_members xs)
+
+pub all_both : {X : Type 0} (P Q : X → Type 0) (xs : List X) → All P xs → All Q xs → All (λ x. P x × Q x) xs
+all_both P Q [] h i = tt
+all_both P Q (x ∷ xs) h i = ((h.0, i.0), all_both P Q xs h.1 i.1)
+
+pub all_of_map : {X Y : Type 0} (P : Y → Type 0) (f : X → Y) (xs : List X) → All (λ x. P (f x)) xs → All P (map f xs)
+all_of_map P f [] h = tt
+all_of_map P f (x ∷ xs) h = (h.0, all_of_map P f xs h.1)
+
+pub all_before_map : {X Y : Type 0} (P : Y → Type 0) (f : X → Y) (xs : List X) → All P (map f xs) → All (λ x. P (f x)) xs
+all_before_map P f [] h = tt
+all_before_map P f (x ∷ xs) h = (h.0, all_before_map P f xs h.1)
+
+pub all_of_append : {X : Type 0} (P : X → Type 0) (xs ys : List X) → All P xs → All P ys → All P (xs ++ ys)
+all_of_append P [] ys h i = i
+all_of_append P (x ∷ xs) ys h i = (h.0, all_of_append P xs ys h.1 i)
+
+-- what is kept passes, and what held of all holds of it
+pub all_of_filter : {X : Type 0} (P : X → Type 0) (p : X → Bool) (xs : List X) → All P xs → All (λ x. P x × (p x ≡ true)) (filter p xs)
+all_of_filter P p [] h = tt
+all_of_filter P p (x ∷ xs) h = elim (cases_Bool (p x)) [ inl e ↦ rw e ((h.0, e), all_of_filter P p xs h.1) | inr e ↦ rw e (all_of_filter P p xs h.1) ]
+
+-- a test of all, and one of any
+pub all_pass : {X : Type 0} (p : X → Bool) (xs : List X) → list_all p xs ≡ true → All (λ x. p x ≡ true) xs
+all_pass p [] h = tt
+all_pass p (x ∷ xs) h = let parts = and_parts (p x) (list_all p xs) h in (parts.0, all_pass p xs parts.1)
+
+pub list_all_from : {X : Type 0} (p : X → Bool) (xs : List X) → All (λ x. p x ≡ true) xs → list_all p xs ≡ true
+list_all_from p [] h = refl
+list_all_from p (x ∷ xs) h = and_from (p x) (list_all p xs) h.0 (list_all_from p xs h.1)
+
+pub none_pass : {X : Type 0} (p : X → Bool) (xs : List X) → list_any p xs ≡ false → All (λ x. p x ≡ false) xs
+none_pass p [] h = tt
+none_pass p (x ∷ xs) h = let parts = or_parts (p x) (list_any p xs) h in (parts.0, none_pass p xs parts.1)
+
+pub list_any_not : {X : Type 0} (p : X → Bool) (xs : List X) → All (λ x. p x ≡ false) xs → list_any p xs ≡ false
+list_any_not p [] h = refl
+list_any_not p (x ∷ xs) h = or_from (p x) (list_any p xs) h.0 (list_any_not p xs h.1)
+
+-- one that is in the list passes
+pub list_any_with : {X : Type 0} (p : X → Bool) (xs : List X) (x : X) → Contains xs x → p x ≡ true → list_any p xs ≡ true
+list_any_with p xs x i h = list_any-from_Any p xs (i.0, x, i.1, i.2, h)
+
+-- Where one passed the first test, its change passes the second.
+pub list_any_of_map : {X Y : Type 0} (p : X → Bool) (q : Y → Bool) (f : X → Y) (xs : List X) → All (λ x. p x ≡ true → q (f x) ≡ true) xs → list_any p xs ≡ true → list_any q (map f xs) ≡ true
+list_any_of_map p q f [] w h = h
+list_any_of_map p q f (x ∷ xs) w h =
+    elim (or_cases (p x) (list_any p xs) h) [
+      | inl e ↦ or_left (q (f x)) (list_any q (map f xs)) (w.0 e)
+      | inr e ↦ or_right (q (f x)) (list_any q (map f xs)) (list_any_of_map p q f xs w.1 e)
+    ]
+
+-- a change that leaves the keys leaves the list of the keys
+pub keys_of_map : {X K : Type 0} (key : X → K) (f : X → X) (xs : List X) → All (λ x. key (f x) ≡ key x) xs → map key (map f xs) ≡ map key xs
+keys_of_map key f [] same = refl
+keys_of_map key f (x ∷ xs) same = let here = same.0 in let rest = keys_of_map key f xs same.1 in cc
+
+pub count_cons : {X : Type 0} (p : X → Bool) (x : X) (xs : List X) → count_by p (x ∷ xs) ≡ cond (p x) 1 0 + count_by p xs
+count_cons p x xs = sum_by-cons (λ x. cond (p x) 1 0) x xs
+
+one_or_none : (b c : Bool) → (c ≡ true → b ≡ true) → cond c 1 0 ≤ cond b 1 0
+one_or_none true true w = omega arith
+one_or_none true false w = omega arith
+one_or_none false true w = absurd (let e = w refl in cc)
+one_or_none false false w = omega arith
+
+none_after_one : (b c : Bool) → (b && not c) ≡ true → cond c 1 0 < cond b 1 0
+none_after_one true true h = absurd cc
+none_after_one true false h = omega arith
+none_after_one false c h = absurd cc
+
+-- Where the change makes nobody pass, no more pass,
+pub count_of_map : {X : Type 0} (p : X → Bool) (f : X → X) (xs : List X) → All (λ x. p (f x) ≡ true → p x ≡ true) xs → count_by p (map f xs) ≤ count_by p xs
+count_of_map p f [] w = omega arith
+count_of_map p f (x ∷ xs) w =
+    rw (count_cons p (f x) (map f xs), count_cons p x xs) (omega (arith, one_or_none (p x) (p (f x)) w.0, count_of_map p f xs w.1))
+
+-- and fewer where one passes no more.
+pub count_falls : {X : Type 0} (p : X → Bool) (f : X → X) (xs : List X) → All (λ x. p (f x) ≡ true → p x ≡ true) xs → list_any (λ x. p x && not (p (f x))) xs ≡ true → count_by p (map f xs) < count_by p xs
+count_falls p f [] w h = absurd cc
+count_falls p f (x ∷ xs) w h =
+    rw (count_cons p (f x) (map f xs), count_cons p x xs) (elim (or_cases (p x && not (p (f x))) (list_any (λ x. p x && not (p (f x))) xs) h) [
+      | inl e ↦ omega (arith, none_after_one (p x) (p (f x)) e, count_of_map p f xs w.1)
+      | inr e ↦ omega (arith, one_or_none (p x) (p (f x)) w.0, count_falls p f xs w.1 e)
+    ])
+
+-- where none is counted, none passes
+pub count_none : {X : Type 0} (p : X → Bool) (xs : List X) → count_by p xs ≤ 0 → All (λ x. p x ≡ false) xs
+count_none p [] h = tt
+count_none p (x ∷ xs) h =
+    let g : cond (p x) 1 0 + count_by p xs ≤ 0 = rw (count_cons p x xs) at h in
+    (none_here (p x) (omega arith), count_none p xs (omega arith))
+  where
+    none_here : (b : Bool) → cond b 1 0 ≤ 0 → b ≡ false
+    none_here true h = absurd (omega arith)
+    none_here false h = refl
+
+-- what a search finds passes and is in the list
+pub found_passes : {X : Type 0} (p : X → Bool) (xs : List X) (x : X) → find p xs ≡ Some x → (p x ≡ true) × Contains xs x
+found_passes p [] x h = absurd cc
+found_passes p (y ∷ ys) x h =
+    elim (cases_Bool (p y)) [
+      | inl e ↦
+          let same : Some y ≡ Some x = rw e at h in
+          let is : y ≡ x = (cc) in
+          (subst (λ z. p z ≡ true) is e, subst (Contains (y ∷ ys)) is (contains_head y ys))
+      | inr e ↦
+          let rest = found_passes p ys x (rw e at h) in
+          (rest.0, contains_tail y ys x rest.1)
+    ]
+
+-- A filter that keeps all that passes leaves what a search finds.
+pub find_in_filter : {X : Type 0} (p q : X → Bool) (xs : List X) → All (λ x. p x ≡ true → q x ≡ true) xs → find p (filter q xs) ≡ find p xs
+find_in_filter p q [] h = refl
+find_in_filter p q (x ∷ xs) h =
+    elim (cases_Bool (q x)) [
+      | inl e ↦ rw e (ap (cond (p x) (Some x)) (find_in_filter p q xs h.1))
+      | inr e ↦ let f : p x ≡ false = false_from_ne_true (p x) (λ t. both_ways (q x) e (h.0 t)) in rw (e, f) (find_in_filter p q xs h.1)
+    ]

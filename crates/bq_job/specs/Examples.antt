@@ -1,0 +1,77 @@
+-- Short words for worked examples: what the machine answers to a list of steps, by evaluation.
+use Rattle.std.specs.Prelude.{ℕ, ◌≡◌, if◌then◌else◌, List, [], ◌∷◌, ◌++◌, map, flat_map}
+use Rattle.bq_job.specs.declared.answer.Answer.{Answer}
+use Rattle.bq_job.specs.declared.request.Request.{Request}
+use Rattle.bq_job.specs.declared.step.Step.{Step}
+use Rattle.bq_job.specs.declared.step.Step.TheVariants as steps
+use Rattle.bq_job.specs.CommandWords.{all_words}
+use Rattle.bq_job.specs.Computed.{stepped}
+use Rattle.bq_job.specs.ComputedReading.{reading}
+use Rattle.bq_job.specs.Dispatch.{Given}
+use Rattle.bq_job.specs.LineSteps.{answers_text, ends_by_wait}
+use Rattle.bq_job.specs.Machine.{Machine, new_machine}
+use Rattle.bq_job.specs.Profile.{profile}
+use Rattle.bq_job.specs.Runs.{Entry}
+
+-- what the machine answers to each step
+abbrev pub ran : Machine → List Entry → List (List Given)
+ran m [] = []
+ran m (e ∷ history) = let s = stepped m e.moment e.seat e.what in s.given ∷ ran s.machine history
+
+-- a step at the moment 0
+abbrev pub event : ℕ → Step → Entry
+event seat what = record { moment = 0; seat = seat; what = what }
+
+abbrev pub connect : ℕ → Entry
+connect seat = event seat steps.Connect
+
+abbrev pub ask : ℕ → Request → Entry
+ask seat request = event seat (steps.Ask request)
+
+abbrev pub close : ℕ → Entry
+close seat = event seat steps.Close
+
+-- the client at the seat sends no more
+abbrev pub end : ℕ → Entry
+end seat = event seat steps.End
+
+abbrev pub drain : Entry
+drain = event 0 steps.Drain
+
+abbrev pub tick : ℕ → Entry
+tick moment = record { moment = moment; seat = 0; what = steps.Tick }
+
+-- the same step at this moment
+abbrev pub at : ℕ → Entry → Entry
+at moment e = record e { moment = moment }
+
+infix 70 ◌gives◌
+-- a step, and the answers that it gives, each with its seat
+abbrev pub ◌gives◌ : Entry → List Given → Entry × List Given
+e gives answers = (e, answers)
+
+-- a machine with so many seats and nobody there
+abbrev pub server : ℕ → ℕ → Machine
+server seats max_job_size = new_machine (record { seats = seats; max_job_size = max_job_size })
+
+-- Once a client has come to each of three seats at the moment 0, the steps give the answers beside them.
+abbrev pub Plays : List (Entry × List Given) → Type 0
+Plays play =
+    ran (server 3 65535) (connect 0 ∷ connect 1 ∷ connect 2 ∷ map (λ p. p.0) play) ≡ [] ∷ [] ∷ [] ∷ map (λ p. p.1) play
+
+-- The steps of a lone client's line: it connects, asks, tells that it sends no more where it may still
+-- wait for its last answer, and is closed.
+abbrev pub lone_line : List Request → List Entry
+lone_line requests =
+    connect 0 ∷ map (ask 0) requests ++ (if ends_by_wait requests then end 0 ∷ [] else []) ++ close 0 ∷ []
+
+-- the answers to a lone client, by a clock that stands at 0
+abbrev pub session : ℕ → List Request → List Answer
+session max_job_size requests = flat_map (map (λ g. g.1)) (ran (server 1 max_job_size) (lone_line requests))
+
+-- the bytes that are written to a lone client which sends these bytes and no more
+abbrev pub replies_within : ℕ → List ℕ → List ℕ
+replies_within max_job_size sent = answers_text (session max_job_size (reading (profile max_job_size all_words) sent).0)
+
+abbrev pub replies : List ℕ → List ℕ
+replies sent = replies_within 65535 sent

@@ -1,0 +1,42 @@
+//! Laws of the machine: what holds of every step, whoever takes it.
+ghost use Rattle.bq_job.specs.declared.step.Step.{Step};
+ghost use Rattle.bq_job.specs.declared.answer.Answer.TheVariants.{Reserved};
+ghost use Rattle.bq_job.specs.Computed.{ample, stepped};
+ghost use Rattle.bq_job.specs.Dispatch.{DispatchTurn, Given};
+ghost use Rattle.bq_job.specs.Lawful.{IsLawful};
+ghost use Rattle.bq_job.specs.LeastJob.{GetsLeast};
+ghost use Rattle.bq_job.specs.Machine.{Machine, Settings, new_machine};
+ghost use Rattle.bq_job.specs.Steps.{IsStep, Outcome};
+ghost use Rattle.std.specs.Prelude.{ℕ, ◌+◌, ◌≤◌, List, length};
+
+/// From every machine there is a step with enough memory, and it can be computed.
+pub fn computed_is_step()
+    ensures { (m : Machine) (at seat : ℕ) (what : Step)
+        → IsStep m at seat what ample (stepped m at seat what).given (stepped m at seat what).machine }
+{}
+
+/// Where a turn of dispatch gives RESERVED, the job is the least of those that the client may have, by
+/// priority and then by id.
+pub fn dispatched_is_least()
+    ensures { (m next : Machine) (seat id : ℕ) (body : List ℕ)
+        → DispatchTurn m (seat, Reserved id body) next → GetsLeast m seat id body }
+{}
+
+/// The machine is lawful at the start.
+pub fn new_machine_is_lawful()
+    ensures { (settings : Settings) → IsLawful (new_machine settings) }
+{}
+
+/// A lawful machine is lawful after every step: so each job is held by one connected client at most, and
+/// nobody waits while a job is ready that it may have.
+pub fn steps_keep_lawful()
+    ensures { (first last : Machine) (at seat : ℕ) (what : Step) (outcome : Outcome) (given : List Given)
+        → IsLawful first → IsStep first at seat what outcome given last → IsLawful last }
+{}
+
+/// A step gives at most one answer more than there are seats.
+pub fn steps_give_few_answers()
+    ensures { (first last : Machine) (at seat : ℕ) (what : Step) (outcome : Outcome) (given : List Given)
+        → IsLawful first → IsStep first at seat what outcome given last
+        → length given ≤ first.settings.seats + 1 }
+{}
