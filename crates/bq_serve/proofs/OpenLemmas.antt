@@ -159,6 +159,7 @@ quits r next kept n p o same unit =
         handed_out = o.written_is;
         answered = omega (arith, o.answered, answered_count-quit o.asked o.no_quit);
         broken = tt;
+        fault = o.fault_is;
       },
       record {
         asked = o.asked;
@@ -203,6 +204,7 @@ ends_line r kept told ended p o none e written = record {
   handed_out = o.written_is;
   answered = omega (arith, o.answered, answered_count-asked o.asked o.no_quit);
   broken = tt;
+  fault = o.fault_is;
 }
 
 -- the first fault of a past without one
@@ -236,6 +238,7 @@ read_fails r kept told out p o none answers written =
       handed_out = o.written_is;
       answered = fault_answers r kept told p out o answers;
       broken = tt;
+      fault = refl;
     })
 
 -- a line is closed after a write fault
@@ -260,6 +263,7 @@ write_fails r kept told p o some_written all written =
       handed_out = o.written_is;
       answered = omega (arith, o.answered, answered_count-asked o.asked o.no_quit);
       broken = refl;
+      fault = refl;
     })
 
 -- mail before the close
@@ -314,6 +318,7 @@ served_still profile end p a s e =
         handed_out = (s written).handed_out;
         answered = (s written).answered;
         broken = still_broken end p _ (s written).broken;
+        fault = (s written).fault;
       },
       e,
     )

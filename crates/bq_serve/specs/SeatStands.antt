@@ -1,8 +1,10 @@
 -- What a seat machine stands for: the pasts that its fields agree with.
-use Rattle.std.specs.Prelude.{ℕ, ◌≡◌, ◌+◌, ◌<◌, Bool, true, false, if◌then◌else◌, List, [], ◌∷◌, ◌++◌, length, map, None}
+use Rattle.std.specs.Prelude.{ℕ, ◌≡◌, ◌+◌, ◌<◌, Bool, true, false, if◌then◌else◌, List, [], ◌∷◌, ◌++◌, length, map, Option, Some, None}
 use Rattle.std.specs.List.{list_any}
 use Rattle.bq_job.specs.declared.line_end.LineEnd.{LineEnd}
 use Rattle.bq_job.specs.declared.line_end.LineEnd.TheVariants as ends
+use Rattle.bq_job.specs.declared.line_end.LineFault.{LineFault}
+use Rattle.bq_job.specs.declared.line_end.LineFault.TheVariants as faults
 use Rattle.bq_job.specs.declared.request.Request.{Request}
 use Rattle.bq_job.specs.declared.request.Request.TheVariants as requests
 use Rattle.bq_job.specs.declared.step.Step.{Step}
@@ -33,6 +35,13 @@ abbrev pub IsLastBroken : LineEnd → Past → Type 0
 IsLastBroken ends.WriteFault p = p.written_at_fault ≡ length p.written
 IsLastBroken _ p = Unit {0}
 
+-- the fault that a line has that is over so
+abbrev pub IsFaultOf : LineEnd → Option LineFault → Type 0
+IsFaultOf ends.Quit fault = fault ≡ None
+IsFaultOf ends.EndOfInput fault = fault ≡ None
+IsFaultOf ends.ReadFault fault = fault ≡ Some faults.Read
+IsFaultOf ends.WriteFault fault = fault ≡ Some faults.Write
+
 -- A line was served from its opening to its close: its steps are those of the line. The answers that
 -- were handed out for writing are those that came before the close, in their order: one for each request
 -- but quit, of which after a read fault that to a last reserve may be missing.
@@ -41,6 +50,7 @@ pub record IsServed (profile : Profile) (written : List ℕ) (end : LineEnd) (p 
   pub handed_out : p.written ≡ p.mail
   pub answered : AreAllAnswered end line.asked p.mail
   pub broken : IsLastBroken end p
+  pub fault : IsFaultOf end p.fault
 
 -- A line that is open. The bytes that were handed in are the units of the requests that were asked, then
 -- the text that the reader has begun, then those that are kept. So many answers are outstanding.
