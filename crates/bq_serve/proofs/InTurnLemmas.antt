@@ -1,12 +1,17 @@
 -- Each step that a seat machine submits comes in its turn.
-use Rattle.std.proofs.Common.{◌≡◌, ◌+◌, Bool, true, false, List, [], ◌∷◌, ◌++◌, Option, Some, None, map, length, refl, sym, ap, ◌∙◌, arith, subst, inl, inr, append-nil, append_assoc, ℕ, ◌⊎◌}
+use Rattle.std.proofs.Common.{◌≡◌, ◌+◌, Bool, true, false, List, [], ◌∷◌, ◌++◌, Option, Some, None, map, length, refl, sym, ap, ◌∙◌, arith, subst, inl, inr, append-nil, append_assoc, ℕ, ◌⊎◌, ◌≤◌}
 use Rattle.std.proofs.lemmas.List.{length-append}
 use Rattle.bq_job.specs.declared.line_end.LineEnd.{LineEnd}
 use Rattle.bq_job.specs.declared.request.Request.{Request}
 use Rattle.bq_job.specs.declared.request.Request.TheVariants as requests
 use Rattle.bq_job.specs.declared.step.Step.{Step}
 use Rattle.bq_job.specs.declared.step.Step.TheVariants as steps
-use Rattle.bq_job.specs.LineSteps.{AreEnds}
+use Rattle.bq_job.specs.declared.answer.Answer.{Answer}
+use Rattle.bq_job.specs.declared.line_end.LineEnd.TheVariants as ends
+use Rattle.bq_job.specs.LineSteps.{AreAllAnswered, answered_count}
+use Rattle.bq_job.specs.OneClient.{answers_wanted}
+use Rattle.bq_serve.specs.OneSeat.{wanted}
+use Rattle.bq_serve.proofs.StepLemmas.{answered_count-asked}
 use Rattle.bq_serve.specs.Past.{Awaited, Past, with_action}
 use Rattle.bq_serve.specs.InTurn.{HasAsked, IsInTurn}
 use Rattle.bq_serve.specs.SeatStands.{HasAskedQuit, IsOpen, IsServed, IsWaiting, StandsAt, awaited_at, end_if, has_quit, seen_line}
@@ -49,6 +54,24 @@ asks_last : (asked : List Request) (q : Request) → map steps.Ask (asked ++ q �
 asks_last [] q = refl
 asks_last (r ∷ asked) q = ap (λ x. steps.Ask r ∷ x) (asks_last asked q)
 
+wanted_joined : (xs ys : List Step) → wanted (xs ++ ys) ≡ wanted xs + wanted ys
+wanted_joined [] ys = omega arith
+wanted_joined (steps.Ask r ∷ xs) ys = omega (arith, wanted_joined xs ys)
+wanted_joined (_ ∷ xs) ys = wanted_joined xs ys
+
+wanted_one : (r : Request) → answers_wanted r ≡ answered_count (r ∷ [])
+wanted_one requests.Quit = refl
+wanted_one _ = refl
+
+answered_first : (r : Request) (asked : List Request) → answered_count (r ∷ asked) ≡ answered_count (r ∷ []) + answered_count asked
+answered_first requests.Quit asked = omega arith
+answered_first _ asked = omega arith
+
+-- requests want as many answers as there are, but for quits
+pub wanted_asks : (asked : List Request) → wanted (map steps.Ask asked) ≡ answered_count asked
+wanted_asks [] = refl
+wanted_asks (r ∷ asked) = omega (arith, wanted_one r, wanted_asks asked, answered_first r asked)
+
 in_place : {step other : Step} (p : Past) → step ≡ other → IsInTurn other p → IsInTurn step p
 in_place p e h = subst (λ s. IsInTurn s p) (sym e) h
 
@@ -67,23 +90,35 @@ asks_at (r ∷ asked) p step e count none =
     let same = ap length ends.is in
     in_place p last.1 (ends.before, record { steps_are = last.0; no_quit = quit }, omega arith)
 
-tells_at : (asked : List Request) (p : Past) (step : Step) → p.steps ++ step ∷ [] ≡ (steps.Connect ∷ map steps.Ask asked) ++ steps.End ∷ [] → has_quit asked ≡ false → IsInTurn step p
-tells_at asked p step e none =
+tells_at : (asked : List Request) (p : Past) (step : Step) → p.steps ++ step ∷ [] ≡ (steps.Connect ∷ map steps.Ask asked) ++ steps.End ∷ [] → has_quit asked ≡ false → length p.mail + 1 ≡ length asked → IsInTurn step p
+tells_at asked p step e none count =
     let last = last_same p.steps (steps.Connect ∷ map steps.Ask asked) step steps.End e in
-    in_place p last.1 (asked, record { steps_are = last.0; no_quit = none })
+    in_place p last.1 (asked, record { steps_are = last.0; no_quit = none }, let same = ap wanted last.0 in omega (arith, same, wanted_asks asked, answered_count-asked asked none))
 
 quits_at : (p : Past) (step : Step) → HasAskedQuit (with_action (actions.Submit step) p) → IsInTurn step p
 quits_at p step q =
     let last = last_same p.steps (steps.Connect ∷ map steps.Ask q.asked) step (steps.Ask requests.Quit) q.steps_are in
     in_place p last.1 (q.asked, record { steps_are = last.0; no_quit = q.no_quit }, q.answered)
 
-closes_at : (asked : List Request) (told : List Step) (p : Past) (step : Step) → p.steps ++ step ∷ [] ≡ steps.Connect ∷ [] ++ map steps.Ask asked ++ told ++ steps.Close ∷ [] → (told ≡ []) ⊎ (told ≡ steps.End ∷ []) → IsInTurn step p
-closes_at asked told p step e ends =
+closes_at : (asked : List Request) (told : List Step) (p : Past) (step : Step) → p.steps ++ step ∷ [] ≡ steps.Connect ∷ [] ++ map steps.Ask asked ++ told ++ steps.Close ∷ [] → (told ≡ []) ⊎ (told ≡ steps.End ∷ []) → answered_count asked ≤ length p.mail + 1 → IsInTurn step p
+closes_at asked told p step e ends count =
     let last = last_same p.steps ((steps.Connect ∷ map steps.Ask asked) ++ told) step steps.Close e in
+    let joined = wanted_joined (steps.Connect ∷ map steps.Ask asked) told in
+    let same = ap wanted last.0 in
+    let asks = wanted_asks asked in
+    let few : told ≡ [] → wanted p.steps ≤ length p.mail + 1 = λ none. let zero_more : wanted told ≡ 0 = ap wanted none in omega arith in
+    let few_told : told ≡ steps.End ∷ [] → wanted p.steps ≤ length p.mail + 1 = λ one. let zero_more : wanted told ≡ 0 = ap wanted one in omega arith in
     in_place p last.1 (elim ends [
-      | inl none ↦ (asked, false, last.0 ∙ ap (λ t. (steps.Connect ∷ map steps.Ask asked) ++ t) none)
-      | inr one ↦ (asked, true, last.0 ∙ ap (λ t. (steps.Connect ∷ map steps.Ask asked) ++ t) one)
+      | inl none ↦ (asked, false, last.0 ∙ ap (λ t. (steps.Connect ∷ map steps.Ask asked) ++ t) none, few none)
+      | inr one ↦ (asked, true, last.0 ∙ ap (λ t. (steps.Connect ∷ map steps.Ask asked) ++ t) one, few_told one)
     ])
+
+few_missing : (end : LineEnd) (asked : List Request) (mail : List Answer) → AreAllAnswered end asked mail → answered_count asked ≤ length mail + 1
+few_missing ends.Quit asked mail h = omega arith
+few_missing ends.EndOfInput asked mail h = omega arith
+few_missing ends.WriteFault asked mail h = omega arith
+few_missing ends.ReadFault asked mail (inl h) = omega arith
+few_missing ends.ReadFault asked mail (inr h) = let one = h.1 in omega arith
 
 -- what a machine stands for while a step is submitted says that it comes in its turn
 pub in_turn : (stage : Stage) (reader : State) (kept : List ℕ) (told : Bool) (p : Past) (step : Step) → awaited_at stage ≡ Awaited.ASubmission → StandsAt stage reader kept told (with_action (actions.Submit step) p) → IsInTurn step p
@@ -96,10 +131,10 @@ in_turn (stages.Asking waits) reader kept told p step e h =
 in_turn (stages.Polling waits) reader kept told p step e h = cc
 in_turn stages.ReadingOn reader kept told p step e h = cc
 in_turn stages.TellingEnd reader kept told p step e h =
-    let o = h.0.0 in tells_at o.asked p step (o.steps_are ∙ ap (λ t. (steps.Connect ∷ map steps.Ask o.asked) ++ end_if t) h.1) o.no_quit
+    let o = h.0.0 in tells_at o.asked p step (o.steps_are ∙ ap (λ t. (steps.Connect ∷ map steps.Ask o.asked) ++ end_if t) h.1) o.no_quit o.answered
 in_turn stages.Writing reader kept told p step e h = cc
 in_turn stages.AskingQuit reader kept told p step e h = quits_at p step h.2
 in_turn (stages.Closing end) reader kept told p step e h =
     let line = (h.0 []).line in
-    closes_at line.asked line.told p step line.steps_are (elim line.ends [ inl none ↦ inl none | inr one ↦ inr one.0 ])
+    closes_at line.asked line.told p step line.steps_are (elim line.ends [ inl none ↦ inl none | inr one ↦ inr one.0 ]) (few_missing end line.asked p.mail (h.0 []).answered)
 in_turn (stages.Leaving end) reader kept told p step e h = cc

@@ -3,6 +3,7 @@ use Rattle.std.specs.Prelude.{◌≡◌, ◌+◌, ◌≤◌, Bool, false, List, 
 use Rattle.bq_job.specs.declared.request.Request.{Request}
 use Rattle.bq_job.specs.declared.step.Step.{Step}
 use Rattle.bq_job.specs.declared.step.Step.TheVariants as steps
+use Rattle.bq_serve.specs.OneSeat.{wanted}
 use Rattle.bq_serve.specs.Past.{Past}
 use Rattle.bq_serve.specs.SeatStands.{end_if, has_quit}
 
@@ -12,12 +13,13 @@ pub record HasAsked (asked : List Request) (p : Past) : Type 0 where
   pub no_quit : has_quit asked ≡ false
 
 -- A connect comes first. A request is asked once those before it are answered. An end is told, and a close
--- comes, behind the connect and the requests; an end is told once.
+-- comes, behind the connect and the requests; an end is told once. Then one answer at most is outstanding.
 abbrev pub IsInTurn : Step → Past → Type 0
 IsInTurn steps.Connect p = p.steps ≡ []
 IsInTurn (steps.Ask request) p = (asked : List Request) × HasAsked asked p × (length p.mail ≡ length asked)
-IsInTurn steps.End p = (asked : List Request) × HasAsked asked p
-IsInTurn steps.Close p = (asked : List Request) × (told : Bool) × (p.steps ≡ (steps.Connect ∷ map steps.Ask asked) ++ end_if told)
+IsInTurn steps.End p = (asked : List Request) × HasAsked asked p × (wanted p.steps ≤ length p.mail + 1)
+IsInTurn steps.Close p =
+    (asked : List Request) × (told : Bool) × (p.steps ≡ (steps.Connect ∷ map steps.Ask asked) ++ end_if told) × (wanted p.steps ≤ length p.mail + 1)
 IsInTurn steps.Drain p = ⊥
 IsInTurn steps.Tick p = ⊥
 IsInTurn steps.Gone p = ⊥
