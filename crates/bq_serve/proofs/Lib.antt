@@ -1,3 +1,4 @@
+pub mod GoesOnLemmas
 pub mod HistoryLemmas
 pub mod InTurnLemmas
 pub mod OneSeatLemmas

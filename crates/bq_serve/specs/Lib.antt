@@ -1,3 +1,4 @@
+pub mod ServingOne
 pub mod OneSeat
 pub mod InTurn
 pub mod Asked

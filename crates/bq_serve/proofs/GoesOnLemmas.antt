@@ -1,0 +1,124 @@
+-- A run of one client goes on by an event and the seat machine's answer to it.
+use Rattle.std.proofs.Common.{◌≡◌, ℕ, ◌+◌, ◌≤◌, Bool, true, false, ◌||◌, not, List, [], ◌∷◌, ◌++◌, Option, Some, None, map, length, refl, sym, ap, ◌∙◌, arith, subst, append-nil, append_assoc, if◌then◌else◌}
+use Rattle.std.specs.List.{list_any}
+use Rattle.bq_job.specs.declared.answer.Answer.{Answer}
+use Rattle.bq_job.specs.declared.line_end.LineFault.{LineFault}
+use Rattle.bq_job.specs.declared.step.Step.{Step}
+use Rattle.bq_job.specs.History.{steps_at}
+use Rattle.bq_job.specs.LineSteps.{LineSeen, answers_text}
+use Rattle.bq_job.specs.Machine.{Machine, Settings}
+use Rattle.bq_job.specs.Profile.{Profile}
+use Rattle.bq_job.specs.Runs.{Entry}
+use Rattle.bq_serve.specs.LineCalls.{Tells}
+use Rattle.bq_serve.specs.OneSeat.{IsWrittenSo, has_close}
+use Rattle.bq_serve.specs.Past.{Awaited, Past, answers, awaited_by, is_close, is_stray, past_after, with_action, with_event}
+use Rattle.bq_serve.specs.SeatMoves.{IsMove}
+use Rattle.bq_serve.specs.SeatStands.{StandsAt, StandsFor, awaited, awaited_at, seat_profile, seen_line}
+use Rattle.bq_serve.specs.ServingOne.{AreTaken, IsServing, IsSettled, IsWrittenAt}
+use Rattle.bq_serve.specs.declared.seat.machine.Action.{Action}
+use Rattle.bq_serve.specs.declared.seat.machine.Action.TheVariants as actions
+use Rattle.bq_serve.specs.declared.seat.machine.Event.{Event}
+use Rattle.bq_serve.specs.declared.seat.machine.SeatMachine.{SeatMachine}
+use Rattle.bq_serve.specs.declared.seat.machine.Stage.{Stage}
+use Rattle.bq_serve.specs.declared.seat.machine.Stage.TheVariants as stages
+use Rattle.bq_serve.specs.declared.wire.state.State.{State}
+
+-- an answer is handed out for writing before any fault
+pub unbroken_at : (stage : Stage) (reader : State) (kept : List ℕ) (told : Bool) (p : Past) → awaited_at stage ≡ Awaited.AWriting → StandsAt stage reader kept told p → p.fault ≡ None
+unbroken_at stages.Writing reader kept told p e h = h.0.fault_is
+unbroken_at stages.Between reader kept told p e h = cc
+unbroken_at stages.Connecting reader kept told p e h = cc
+unbroken_at stages.Reading reader kept told p e h = cc
+unbroken_at (stages.Asking waits) reader kept told p e h = cc
+unbroken_at (stages.Polling waits) reader kept told p e h = cc
+unbroken_at stages.ReadingOn reader kept told p e h = cc
+unbroken_at stages.TellingEnd reader kept told p e h = cc
+unbroken_at stages.AskingQuit reader kept told p e h = cc
+unbroken_at (stages.Closing end) reader kept told p e h = cc
+unbroken_at (stages.Leaving end) reader kept told p e h = cc
+
+closes_joined : (taken : List Step) (step : Step) → has_close (taken ++ step ∷ []) ≡ (has_close taken || is_close step)
+closes_joined [] step = or_false (is_close step)
+  where
+    or_false : (b : Bool) → (b || false) ≡ b
+    or_false true = refl
+    or_false false = refl
+closes_joined (s ∷ taken) step = ap (λ b. is_close s || b) (closes_joined taken step) ∙ or_assoc (is_close s) (has_close taken) (is_close step)
+  where
+    or_assoc : (a b c : Bool) → (a || (b || c)) ≡ ((a || b) || c)
+    or_assoc true b c = refl
+    or_assoc false b c = refl
+
+none_of_both : (a b : Bool) → (a || b) ≡ false → a ≡ false
+none_of_both true b e = cc
+none_of_both false b e = refl
+
+-- what an action does to what is settled
+settled_with : (settings : Settings) (tells : Bool) (core : Machine) (mail : List Answer) (heard : ℕ) (seen : LineSeen) (readings : List (Option ℕ)) (history : List Entry) (written : List ℕ) (action : Action) (p : Past) → IsSettled settings tells core mail heard seen readings history written p → IsSettled settings tells core mail heard seen readings history written (with_action action p)
+settled_with settings tells core mail heard seen readings history written (actions.Submit step) p s = record {
+  recorded = s.recorded;
+  client = s.client;
+  unclosed = s.unclosed;
+  closing = ap (λ b. b || is_close step) s.closing ∙ sym (closes_joined p.steps step);
+  late = λ e. s.late (none_of_both p.closing (is_close step) e);
+  seen_is = s.seen_is;
+}
+settled_with settings tells core mail heard seen readings history written (actions.Write answer) p s = record { recorded = s.recorded; client = s.client; unclosed = s.unclosed; closing = s.closing; late = s.late; seen_is = s.seen_is }
+settled_with settings tells core mail heard seen readings history written actions.Read p s = s
+settled_with settings tells core mail heard seen readings history written actions.PollMail p s = s
+settled_with settings tells core mail heard seen readings history written (actions.LineOver end) p s = s
+settled_with settings tells core mail heard seen readings history written actions.Stray p s = s
+
+taken_with : (action : Action) (p : Past) (taken : List Step) → p.steps ≡ taken → AreTaken action (with_action action p) taken
+taken_with (actions.Submit step) p taken e = ap (λ s. s ++ step ∷ []) e
+taken_with actions.Read p taken e = e
+taken_with actions.PollMail p taken e = e
+taken_with (actions.Write answer) p taken e = e
+taken_with (actions.LineOver end) p taken e = e
+taken_with actions.Stray p taken e = e
+
+written_before : (fault : Option LineFault) (handed : List Answer) (written : List ℕ) → fault ≡ None → IsWrittenSo fault handed written → written ≡ answers_text handed
+written_before None handed written e h = h
+written_before (Some f) handed written e h = absurd cc
+
+writes_with : (action : Action) (p : Past) (written : List ℕ) → (awaited_by action ≡ Some Awaited.AWriting → p.fault ≡ None) → IsWrittenSo p.fault p.written written → IsWrittenAt action (with_action action p) written
+writes_with (actions.Submit step) p written unbroken h = h
+writes_with actions.Read p written unbroken h = h
+writes_with actions.PollMail p written unbroken h = h
+writes_with (actions.Write answer) p written unbroken h = (p.written, refl, written_before p.fault p.written written (unbroken refl) h)
+writes_with (actions.LineOver end) p written unbroken h = h
+writes_with actions.Stray p written unbroken h = h
+
+fault_kept : (action : Action) (p : Past) → (with_action action p).fault ≡ p.fault
+fault_kept (actions.Submit step) p = refl
+fault_kept actions.Read p = refl
+fault_kept actions.PollMail p = refl
+fault_kept (actions.Write answer) p = refl
+fault_kept (actions.LineOver end) p = refl
+fault_kept actions.Stray p = refl
+
+-- The event happened, which the last action awaited; the machine goes on by this action.
+pub goes_on : (settings : Settings) (profile : Profile) (tells : Bool) (old new : SeatMachine) (core : Machine) (mail : List Answer) (heard : ℕ) (seen : LineSeen) (readings : List (Option ℕ)) (history : List Entry) (written : List ℕ) (event : Event) (action : Action) (p : Past)
+    → IsMove old event action new → answers event (awaited old) ≡ true → StandsFor old p → seat_profile old ≡ profile
+    → IsSettled settings tells core mail heard seen readings history written (with_event event p) → (with_event event p).steps ≡ steps_at 0 history
+    → IsWrittenSo (with_event event p).fault (with_event event p).written written
+    → IsServing settings profile tells new core mail heard seen readings action
+goes_on settings profile tells old new core mail heard seen readings history written event action p move awaits stands same settled taken writes =
+    let q = with_event event p in
+    let straight : is_stray action ≡ false = move.stray ∙ ap not awaits in
+    let after : past_after event action p ≡ with_action action q = ap (λ b. if b then p else with_action action q) straight in
+    let stands_new : StandsFor new (with_action action q) = subst (StandsFor new) after (move.past p stands) in
+    let awaits_new = move.awaits straight in
+    let unbroken : awaited_by action ≡ Some Awaited.AWriting → q.fault ≡ None =
+        λ e. let one : awaited new ≡ Awaited.AWriting = cc in sym (fault_kept action q) ∙ unbroken_at new.stage new.reader new.kept new.end_told (with_action action q) one stands_new in
+    record {
+      past = with_action action q;
+      history = history;
+      written = written;
+      settled = settled_with settings tells core mail heard seen readings history written action q settled;
+      taken = taken_with action q (steps_at 0 history) taken;
+      writes = writes_with action q written unbroken writes;
+      stands = stands_new;
+      awaits = awaits_new;
+      profile_is = move.profile ∙ same;
+    }

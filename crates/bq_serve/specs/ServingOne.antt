@@ -1,0 +1,62 @@
+-- How far a run of one client has come: what the seat machine stands for, what the core has recorded, and
+-- what the line tells agree.
+use Rattle.std.specs.Prelude.{ℕ, Bool, false, ◌≡◌, List, [], ◌∷◌, ◌++◌, map, Option, Some}
+use Rattle.bq_job.specs.declared.answer.Answer.{Answer}
+use Rattle.bq_job.specs.declared.step.Step.{Step}
+use Rattle.bq_job.specs.Dispatch.{Given}
+use Rattle.bq_job.specs.History.{steps_at}
+use Rattle.bq_job.specs.Lawful.{IsLawful}
+use Rattle.bq_job.specs.LineSteps.{LineSeen, answers_text}
+use Rattle.bq_job.specs.Machine.{Machine, Settings}
+use Rattle.bq_job.specs.OneClient.{has_closed}
+use Rattle.bq_job.specs.Profile.{Profile}
+use Rattle.bq_job.specs.Runs.{Entry}
+use Rattle.bq_job.specs.Steps.{IsStep, Outcome}
+use Rattle.bq_serve.specs.LineCalls.{Tells}
+use Rattle.bq_serve.specs.OneSeat.{IsClientAt, IsRecord, IsWrittenSo, has_close, moment_heard}
+use Rattle.bq_serve.specs.Past.{Past, awaited_by}
+use Rattle.bq_serve.specs.SeatStands.{StandsFor, awaited, seat_profile, seen_line}
+use Rattle.bq_serve.specs.declared.seat.machine.Action.{Action}
+use Rattle.bq_serve.specs.declared.seat.machine.Action.TheVariants as actions
+use Rattle.bq_serve.specs.declared.seat.machine.SeatMachine.{SeatMachine}
+
+-- The core took a step at a moment that it read from the clock, and its answers went into the mail.
+pub record TakesStep (core : Machine) (mail : List Answer) (heard : ℕ) (reading : Option ℕ) (what : Step) (next : Machine) (then : List Answer) (now_heard : ℕ) : Type 0 where
+  pub outcome : Outcome
+  pub given : List Given
+  pub step : IsStep core (moment_heard heard reading) 0 what outcome given next
+  pub lawful : IsLawful next
+  pub settings : next.settings ≡ core.settings
+  pub heard_is : now_heard ≡ moment_heard heard reading
+  pub mail_is : then ≡ mail ++ map (λ (g : Given). g.1) given
+
+-- the steps that were taken, while this action is carried out
+abbrev pub AreTaken : Action → Past → List Step → Type 0
+AreTaken (actions.Submit step) p taken = p.steps ≡ taken ++ step ∷ []
+AreTaken _ p taken = p.steps ≡ taken
+
+-- the bytes that were written, while this action is carried out
+abbrev pub IsWrittenAt : Action → Past → List ℕ → Type 0
+IsWrittenAt (actions.Write answer) p written = (first : List Answer) × (p.written ≡ first ++ answer ∷ []) × (written ≡ answers_text first)
+IsWrittenAt _ p written = IsWrittenSo p.fault p.written written
+
+-- what a run has settled, but for the action that is carried out
+pub record IsSettled (settings : Settings) (tells : Bool) (core : Machine) (mail : List Answer) (heard : ℕ) (seen : LineSeen) (readings : List (Option ℕ)) (history : List Entry) (written : List ℕ) (p : Past) : Type 0 where
+  pub recorded : IsRecord settings history readings (p.mail ++ (p.late_mail ++ mail)) core heard
+  pub client : IsClientAt (steps_at 0 history) (p.mail ++ (p.late_mail ++ mail)) core
+  pub unclosed : has_closed p.mail ≡ false
+  pub closing : p.closing ≡ has_close p.steps
+  pub late : p.closing ≡ false → p.late_mail ≡ []
+  pub seen_is : Tells tells seen (seen_line written p)
+
+-- a run that carries out an action
+pub record IsServing (settings : Settings) (profile : Profile) (tells : Bool) (machine : SeatMachine) (core : Machine) (mail : List Answer) (heard : ℕ) (seen : LineSeen) (readings : List (Option ℕ)) (action : Action) : Type 0 where
+  pub past : Past
+  pub history : List Entry
+  pub written : List ℕ
+  pub settled : IsSettled settings tells core mail heard seen readings history written past
+  pub taken : AreTaken action past (steps_at 0 history)
+  pub writes : IsWrittenAt action past written
+  pub stands : StandsFor machine past
+  pub awaits : awaited_by action ≡ Some (awaited machine)
+  pub profile_is : seat_profile machine ≡ profile
