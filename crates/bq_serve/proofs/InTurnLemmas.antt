@@ -72,43 +72,44 @@ pub wanted_asks : (asked : List Request) → wanted (map steps.Ask asked) ≡ an
 wanted_asks [] = refl
 wanted_asks (r ∷ asked) = omega (arith, wanted_one r, wanted_asks asked, answered_first r asked)
 
-in_place : {step other : Step} (p : Past) → step ≡ other → IsInTurn other p → IsInTurn step p
-in_place p e h = subst (λ s. IsInTurn s p) (sym e) h
+in_place : {step other : Step} (taken : List Step) (mail : List Answer) → step ≡ other → IsInTurn other taken mail → IsInTurn step taken mail
+in_place taken mail e h = subst (λ s. IsInTurn s taken mail) (sym e) h
 
-connects : (reader : State) (kept : List ℕ) (told : Bool) (p : Past) (step : Step) → p.steps ++ step ∷ [] ≡ steps.Connect ∷ [] → IsInTurn step p
-connects reader kept told p step e = let last = last_same p.steps [] step steps.Connect e in in_place p last.1 last.0
+connects : (taken : List Step) (mail : List Answer) (step : Step) → taken ++ step ∷ [] ≡ steps.Connect ∷ [] → IsInTurn step taken mail
+connects taken mail step e = let last = last_same taken [] step steps.Connect e in in_place taken mail last.1 last.0
 
-asks_at : (asked : List Request) (p : Past) (step : Step) → p.steps ++ step ∷ [] ≡ steps.Connect ∷ map steps.Ask asked → length p.mail + 1 ≡ length asked → has_quit asked ≡ false → IsInTurn step p
-asks_at [] p step e count none = absurd (omega arith)
-asks_at (r ∷ asked) p step e count none =
+asks_at : (asked : List Request) (taken : List Step) (mail : List Answer) (step : Step) → taken ++ step ∷ [] ≡ steps.Connect ∷ map steps.Ask asked → length mail + 1 ≡ length asked → has_quit asked ≡ false → IsInTurn step taken mail
+asks_at [] taken mail step e count none = absurd (omega arith)
+asks_at (r ∷ asked) taken mail step e count none =
     let ends = ends_by r asked in
-    let whole : p.steps ++ step ∷ [] ≡ (steps.Connect ∷ map steps.Ask ends.before) ++ steps.Ask ends.last ∷ [] =
+    let whole : taken ++ step ∷ [] ≡ (steps.Connect ∷ map steps.Ask ends.before) ++ steps.Ask ends.last ∷ [] =
     e ∙ ap (λ rs. steps.Connect ∷ map steps.Ask rs) ends.is ∙ ap (λ xs. steps.Connect ∷ xs) (asks_last ends.before ends.last) in
-    let last = last_same p.steps (steps.Connect ∷ map steps.Ask ends.before) step (steps.Ask ends.last) whole in
+    let last = last_same taken (steps.Connect ∷ map steps.Ask ends.before) step (steps.Ask ends.last) whole in
     let quit : has_quit ends.before ≡ false = quit_before ends.before ends.last (ap has_quit (sym ends.is) ∙ none) in
     let long = length-append ends.before (ends.last ∷ []) in
     let same = ap length ends.is in
-    in_place p last.1 (ends.before, record { steps_are = last.0; no_quit = quit }, omega arith)
+    in_place taken mail last.1 (ends.before, record { steps_are = last.0; no_quit = quit }, omega arith)
 
-tells_at : (asked : List Request) (p : Past) (step : Step) → p.steps ++ step ∷ [] ≡ (steps.Connect ∷ map steps.Ask asked) ++ steps.End ∷ [] → has_quit asked ≡ false → length p.mail + 1 ≡ length asked → IsInTurn step p
-tells_at asked p step e none count =
-    let last = last_same p.steps (steps.Connect ∷ map steps.Ask asked) step steps.End e in
-    in_place p last.1 (asked, record { steps_are = last.0; no_quit = none }, let same = ap wanted last.0 in omega (arith, same, wanted_asks asked, answered_count-asked asked none))
+tells_at : (asked : List Request) (taken : List Step) (mail : List Answer) (step : Step) → taken ++ step ∷ [] ≡ (steps.Connect ∷ map steps.Ask asked) ++ steps.End ∷ [] → has_quit asked ≡ false → length mail + 1 ≡ length asked → IsInTurn step taken mail
+tells_at asked taken mail step e none count =
+    let last = last_same taken (steps.Connect ∷ map steps.Ask asked) step steps.End e in
+    in_place taken mail last.1 (asked, record { steps_are = last.0; no_quit = none }, let same = ap wanted last.0 in omega (arith, same, wanted_asks asked, answered_count-asked asked none))
 
-quits_at : (p : Past) (step : Step) → HasAskedQuit (with_action (actions.Submit step) p) → IsInTurn step p
-quits_at p step q =
-    let last = last_same p.steps (steps.Connect ∷ map steps.Ask q.asked) step (steps.Ask requests.Quit) q.steps_are in
-    in_place p last.1 (q.asked, record { steps_are = last.0; no_quit = q.no_quit }, q.answered)
+quits_at : (taken : List Step) (p : Past) (step : Step) → p.steps ≡ taken ++ step ∷ [] → HasAskedQuit p → IsInTurn step taken p.mail
+quits_at taken p step are q =
+    let mail = p.mail in
+    let last = last_same taken (steps.Connect ∷ map steps.Ask q.asked) step (steps.Ask requests.Quit) (sym are ∙ q.steps_are) in
+    in_place taken mail last.1 (q.asked, record { steps_are = last.0; no_quit = q.no_quit }, q.answered)
 
-closes_at : (asked : List Request) (told : List Step) (p : Past) (step : Step) → p.steps ++ step ∷ [] ≡ steps.Connect ∷ [] ++ map steps.Ask asked ++ told ++ steps.Close ∷ [] → (told ≡ []) ⊎ (told ≡ steps.End ∷ []) → answered_count asked ≤ length p.mail + 1 → IsInTurn step p
-closes_at asked told p step e ends count =
-    let last = last_same p.steps ((steps.Connect ∷ map steps.Ask asked) ++ told) step steps.Close e in
+closes_at : (asked : List Request) (told : List Step) (taken : List Step) (mail : List Answer) (step : Step) → taken ++ step ∷ [] ≡ steps.Connect ∷ [] ++ map steps.Ask asked ++ told ++ steps.Close ∷ [] → (told ≡ []) ⊎ (told ≡ steps.End ∷ []) → answered_count asked ≤ length mail + 1 → IsInTurn step taken mail
+closes_at asked told taken mail step e ends count =
+    let last = last_same taken ((steps.Connect ∷ map steps.Ask asked) ++ told) step steps.Close e in
     let joined = wanted_joined (steps.Connect ∷ map steps.Ask asked) told in
     let same = ap wanted last.0 in
     let asks = wanted_asks asked in
-    let few : told ≡ [] → wanted p.steps ≤ length p.mail + 1 = λ none. let zero_more : wanted told ≡ 0 = ap wanted none in omega arith in
-    let few_told : told ≡ steps.End ∷ [] → wanted p.steps ≤ length p.mail + 1 = λ one. let zero_more : wanted told ≡ 0 = ap wanted one in omega arith in
-    in_place p last.1 (elim ends [
+    let few : told ≡ [] → wanted taken ≤ length mail + 1 = λ none. let zero_more : wanted told ≡ 0 = ap wanted none in omega arith in
+    let few_told : told ≡ steps.End ∷ [] → wanted taken ≤ length mail + 1 = λ one. let zero_more : wanted told ≡ 0 = ap wanted one in omega arith in
+    in_place taken mail last.1 (elim ends [
       | inl none ↦ (asked, false, last.0 ∙ ap (λ t. (steps.Connect ∷ map steps.Ask asked) ++ t) none, few none)
       | inr one ↦ (asked, true, last.0 ∙ ap (λ t. (steps.Connect ∷ map steps.Ask asked) ++ t) one, few_told one)
     ])
@@ -121,20 +122,21 @@ few_missing ends.ReadFault asked mail (inl h) = omega arith
 few_missing ends.ReadFault asked mail (inr h) = let one = h.1 in omega arith
 
 -- what a machine stands for while a step is submitted says that it comes in its turn
-pub in_turn : (stage : Stage) (reader : State) (kept : List ℕ) (told : Bool) (p : Past) (step : Step) → awaited_at stage ≡ Awaited.ASubmission → StandsAt stage reader kept told (with_action (actions.Submit step) p) → IsInTurn step p
-in_turn stages.Between reader kept told p step e h = cc
-in_turn stages.Connecting reader kept told p step e h = connects reader kept told p step h.2
-in_turn stages.Reading reader kept told p step e h = cc
-in_turn (stages.Asking waits) reader kept told p step e h =
+pub in_turn : (stage : Stage) (reader : State) (kept : List ℕ) (told : Bool) (p : Past) (taken : List Step) (step : Step) → awaited_at stage ≡ Awaited.ASubmission → p.steps ≡ taken ++ step ∷ [] → StandsAt stage reader kept told p → IsInTurn step taken p.mail
+in_turn stages.Between reader kept told p taken step e are h = cc
+in_turn stages.Connecting reader kept told p taken step e are h = connects taken p.mail step (sym are ∙ h.2)
+in_turn stages.Reading reader kept told p taken step e are h = cc
+in_turn (stages.Asking waits) reader kept told p taken step e are h =
     let o = h.0.0 in
-    asks_at o.asked p step (o.steps_are ∙ ap (λ t. (steps.Connect ∷ map steps.Ask o.asked) ++ end_if t) h.1 ∙ append-nil (steps.Connect ∷ map steps.Ask o.asked)) o.answered o.no_quit
-in_turn (stages.Polling waits) reader kept told p step e h = cc
-in_turn stages.ReadingOn reader kept told p step e h = cc
-in_turn stages.TellingEnd reader kept told p step e h =
-    let o = h.0.0 in tells_at o.asked p step (o.steps_are ∙ ap (λ t. (steps.Connect ∷ map steps.Ask o.asked) ++ end_if t) h.1) o.no_quit o.answered
-in_turn stages.Writing reader kept told p step e h = cc
-in_turn stages.AskingQuit reader kept told p step e h = quits_at p step h.2
-in_turn (stages.Closing end) reader kept told p step e h =
+    asks_at o.asked taken p.mail step (sym are ∙ o.steps_are ∙ ap (λ t. (steps.Connect ∷ map steps.Ask o.asked) ++ end_if t) h.1 ∙ append-nil (steps.Connect ∷ map steps.Ask o.asked)) o.answered o.no_quit
+in_turn (stages.Polling waits) reader kept told p taken step e are h = cc
+in_turn stages.ReadingOn reader kept told p taken step e are h = cc
+in_turn stages.TellingEnd reader kept told p taken step e are h =
+    let o = h.0.0 in
+    tells_at o.asked taken p.mail step (sym are ∙ o.steps_are ∙ ap (λ t. (steps.Connect ∷ map steps.Ask o.asked) ++ end_if t) h.1) o.no_quit o.answered
+in_turn stages.Writing reader kept told p taken step e are h = cc
+in_turn stages.AskingQuit reader kept told p taken step e are h = quits_at taken p step are h.2
+in_turn (stages.Closing end) reader kept told p taken step e are h =
     let line = (h.0 []).line in
-    closes_at line.asked line.told p step line.steps_are (elim line.ends [ inl none ↦ inl none | inr one ↦ inr one.0 ]) (few_missing end line.asked p.mail (h.0 []).answered)
-in_turn (stages.Leaving end) reader kept told p step e h = cc
+    closes_at line.asked line.told taken p.mail step (sym are ∙ line.steps_are) (elim line.ends [ inl none ↦ inl none | inr one ↦ inr one.0 ]) (few_missing end line.asked p.mail (h.0 []).answered)
+in_turn (stages.Leaving end) reader kept told p taken step e are h = cc
