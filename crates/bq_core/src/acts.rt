@@ -42,6 +42,7 @@ fn connect(state: &mut State, seat: Seat)
     requires { IsSound state.old }
     ensures after { machine_of state.new ≡ (effect (machine_of state.old) seat steps.Connect).machine }
     ensures sound { IsSound state.new }
+    ensures config { state.new.config ≡ state.old.config }
 {
     if state.is_free(seat) {
         seat_list::change_at(&mut state.seats, seat, &SeatChange::Connect);
@@ -53,6 +54,7 @@ fn end(state: &mut State, seat: Seat)
     requires { IsSound state.old }
     ensures after { machine_of state.new ≡ (effect (machine_of state.old) seat steps.End).machine }
     ensures sound { IsSound state.new }
+    ensures config { state.new.config ≡ state.old.config }
 {
     if state.is_connected(seat) {
         seat_list::change_at(&mut state.seats, seat, &SeatChange::End);
@@ -64,6 +66,7 @@ fn close(state: &mut State, seat: Seat) -> Option<Answer>
     requires { IsSound state.old }
     ensures reply { effect (machine_of state.old) seat steps.Close ≡ record { machine = machine_of state.new; answer = result } }
     ensures sound { IsSound state.new }
+    ensures config { state.new.config ≡ state.old.config }
 {
     if !state.is_connected(seat) {
         return None;
@@ -102,6 +105,7 @@ fn put(state: &mut State, new: NewJob) -> Reply
     requires { IsSound state.old }
     ensures reply { (s : SeatRecord) → IsAtDefault s → Replies true (machine_of state.old) (put_effect new.pri new.delay new.ttr new.body (machine_of state.old) s) result (machine_of state.new) }
     ensures sound { IsSound state.new }
+    ensures config { state.new.config ≡ state.old.config }
 {
     if state.draining {
         return Reply::Told(Answer::Draining);
@@ -124,6 +128,7 @@ fn reserve(state: &mut State, seat: Seat)
     requires { IsSound state.old }
     ensures reply { (s : SeatRecord) → s.number ≡ seat → reserve_effect None (machine_of state.old) s ≡ silent (machine_of state.new) }
     ensures sound { IsSound state.new }
+    ensures config { state.new.config ≡ state.old.config }
 {
     state.tickets = state.tickets.saturating_add(1);
     let change = SeatChange::Wait(state.tickets, None);
@@ -135,6 +140,7 @@ fn delete(state: &mut State, seat: Seat, id: JobId) -> Answer
     requires { IsSound state.old }
     ensures reply { (s : SeatRecord) → s.number ≡ seat → delete_effect id (machine_of state.old) s ≡ telling result (machine_of state.new) }
     ensures sound { IsSound state.new }
+    ensures config { state.new.config ≡ state.old.config }
 {
     if !state.may_delete(id, seat) {
         return Answer::NotFound;
@@ -162,6 +168,7 @@ fn answer(state: &mut State, seat: Seat, request: Request) -> Reply
     requires built { IsTrue (is_built_request request) }
     ensures reply { (s : SeatRecord) → IsAtDefault s → s.number ≡ seat → Replies (takes_memory request) (machine_of state.old) (asked request (machine_of state.old) s) result (machine_of state.new) }
     ensures sound { IsSound state.new }
+    ensures config { state.new.config ≡ state.old.config }
 {
     match request {
         Request::Put {
@@ -194,6 +201,7 @@ fn ask(state: &mut State, seat: Seat, request: Request) -> Reply
     requires built { IsTrue (is_built_request request) }
     ensures reply { Replies (takes_memory request) (machine_of state.old) (effect (machine_of state.old) seat (steps.Ask request)) result (machine_of state.new) }
     ensures sound { IsSound state.new }
+    ensures config { state.new.config ≡ state.old.config }
 {
     if state.is_asking(seat) {
         answer(state, seat, request)
@@ -207,6 +215,7 @@ fn reply_to(state: &mut State, seat: Seat, what: Step) -> Reply
     requires built { IsTrue (is_built what) }
     ensures reply { Replies (step_takes_memory what) (machine_of state.old) (effect (machine_of state.old) seat what) result (machine_of state.new) }
     ensures sound { IsSound state.new }
+    ensures config { state.new.config ≡ state.old.config }
 {
     match what {
         Step::Connect => {
@@ -237,6 +246,7 @@ pub(crate) fn act(state: &mut State, seat: Seat, what: Step, outs: &mut Outs)
     requires room { HasRoom 1 (machine_of state.old) outs.old }
     ensures acts { Acts (machine_of state.old) seat what outs.old outs.new (machine_of state.new) }
     ensures sound { IsSound state.new }
+    ensures config { state.new.config ≡ state.old.config }
 {
     match reply_to(state, seat, what) {
         Reply::Silent => {}

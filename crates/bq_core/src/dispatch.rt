@@ -22,6 +22,7 @@ fn hand_out(state: &mut State, outs: &mut Outs, i: usize, k: usize)
     requires room { length outs.old.given < outs.old.most }
     ensures given { HandsOut (machine_of state.old) i k outs.old outs.new (machine_of state.new) }
     ensures sound { IsSound state.new }
+    ensures config { state.new.config ≡ state.old.config }
 {
     let number = state.seats[k].number();
     let job = &state.jobs[i];
@@ -48,6 +49,7 @@ fn turn(state: &mut State, outs: &mut Outs) -> bool
     ensures given { result ≡ true → Gives DispatchTurn has_refused_share (machine_of state.old) (machine_of state.new) outs.old outs.new }
     ensures fewer { result ≡ true → waiting_count (machine_of state.new) < waiting_count (machine_of state.old) }
     ensures sound { IsSound state.new }
+    ensures config { state.new.config ≡ state.old.config }
 {
     let Some(k) = state.first_waiter() else {
         return false;
@@ -67,6 +69,7 @@ pub(crate) fn dispatch(state: &mut State, outs: &mut Outs)
     ensures given { Gives DispatchTurn has_refused_share (machine_of state.old) (machine_of state.new) outs.old outs.new }
     ensures done { next_job (machine_of state.new) ≡ None }
     ensures sound { IsSound state.new }
+    ensures config { state.new.config ≡ state.old.config }
 {
     while turn(state, outs) {}
 }

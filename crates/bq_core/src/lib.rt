@@ -17,4 +17,6 @@ mod outs;
 mod place;
 mod seat_list;
 mod state;
+#[cfg(test)]
+mod tests;
 mod waits;

@@ -46,6 +46,7 @@ fn serve(state: &mut State, outs: &mut Outs)
     requires room { HasRoom 0 (machine_of state.old) outs.old }
     ensures served { ServesInto (machine_of state.old) outs.old outs.new (machine_of state.new) }
     ensures sound { IsSound state.new }
+    ensures config { state.new.config ≡ state.old.config }
 {
     dispatch::dispatch(state, outs);
     waits::end_waits(state, outs);
@@ -60,6 +61,7 @@ fn take_step(state: &mut State, at: Moment, seat: Seat, what: Step, outs: &mut O
     ensures step { IsStep (machine_of state.old) at seat what (record { left_out = outs.new.left_out; unshared = outs.new.unshared }) outs.new.given (machine_of state.new) }
     ensures most { outs.new.most ≡ outs.old.most }
     ensures sound { IsSound state.new }
+    ensures config { state.new.config ≡ state.old.config }
 {
     outs.begin();
     state::raise_moment(state, at);
@@ -111,6 +113,7 @@ impl Core {
         ensures step { IsStep self.old at seat what (record { left_out = outs.new.left_out; unshared = outs.new.unshared }) outs.new.given self.new }
         ensures lawful { IsLawful self.new }
         ensures most { outs.new.most ≡ outs.old.most }
+        ensures settings { self.new.settings ≡ self.old.settings }
     {
         take_step(&mut self.state, at, seat, what, outs);
     }

@@ -104,6 +104,7 @@ pub(crate) fn raise_moment(state: &mut State, at: Moment)
     requires { IsSound state.old }
     ensures after { machine_of state.new ≡ at_moment at (machine_of state.old) }
     ensures sound { IsSound state.new }
+    ensures config { state.new.config ≡ state.old.config }
 {
     state.moment = state.moment.max(at);
 }
@@ -113,6 +114,7 @@ pub(crate) fn fire_timers(state: &mut State)
     requires { IsSound state.old }
     ensures after { machine_of state.new ≡ after_timers (machine_of state.old) }
     ensures sound { IsSound state.new }
+    ensures config { state.new.config ≡ state.old.config }
 {
     let expired = job_list::expired_count(state.jobs.as_slice(), state.moment);
     state.timeouts = state.timeouts.saturating_add(expired);

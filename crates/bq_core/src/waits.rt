@@ -18,6 +18,7 @@ fn end_wait(state: &mut State, outs: &mut Outs, k: usize)
     requires room { length outs.old.given < outs.old.most }
     ensures given { EndsWait (machine_of state.old) k outs.old outs.new (machine_of state.new) }
     ensures sound { IsSound state.new }
+    ensures config { state.new.config ≡ state.old.config }
 {
     let number = state.seats[k].number();
     let answer = if job_list::is_deadline_soon(state.jobs.as_slice(), number, state.moment) {
@@ -37,6 +38,7 @@ fn turn(state: &mut State, outs: &mut Outs) -> bool
     ensures given { result ≡ true → Gives WaitEndTurn none_refused (machine_of state.old) (machine_of state.new) outs.old outs.new }
     ensures fewer { result ≡ true → waiting_count (machine_of state.new) < waiting_count (machine_of state.old) }
     ensures sound { IsSound state.new }
+    ensures config { state.new.config ≡ state.old.config }
 {
     let Some(k) = state.first_ending() else {
         return false;
@@ -52,6 +54,7 @@ pub(crate) fn end_waits(state: &mut State, outs: &mut Outs)
     ensures given { Gives WaitEndTurn none_refused (machine_of state.old) (machine_of state.new) outs.old outs.new }
     ensures done { next_end (machine_of state.new) ≡ None }
     ensures sound { IsSound state.new }
+    ensures config { state.new.config ≡ state.old.config }
 {
     while turn(state, outs) {}
 }

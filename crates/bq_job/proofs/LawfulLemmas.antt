@@ -50,9 +50,9 @@ kept_without_wait number m h =
     (all_always (λ s. s.number ≡ number → IsMild s (without_wait s)) m.seats (λ s e. record { number = refl; stays = λ c. c; waits = λ w. refl }))
 
 -- A turn keeps it, and takes one waiting client away.
-record IsTurn (m n : Machine) : Type 0 where
-  keeps : Keeps n
-  waiting : waiting_count n < waiting_count m
+pub record IsTurn (m n : Machine) : Type 0 where
+  pub keeps : Keeps n
+  pub waiting : waiting_count n < waiting_count m
 
 -- Who waits is connected.
 waits_connected : (m : Machine) (s : SeatRecord) → Keeps m → Contains m.seats s → is_waiting s ≡ true → s.connected ≡ true

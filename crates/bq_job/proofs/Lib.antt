@@ -9,3 +9,5 @@ pub mod DispatchLemmas
 pub mod KeptLemmas
 pub mod LawfulLemmas
 pub mod ListLemmas
+pub mod NameOrderLemmas
+pub mod OneClientLemmas

@@ -1,5 +1,5 @@
 -- Every text has one reading.
-use Rattle.std.proofs.Common.{◌≡◌, ℕ, zero, suc, ◌≤◌, ◌<◌, Bool, true, false, List, [], ◌∷◌, ◌++◌, Option, Some, None, ◌⊎◌, inl, inr, refl, sym, ap, ◌∙◌, arith, length, length-append, append_assoc, append-nil, IsTrue, rules, not, ◌&&◌}
+use Rattle.std.proofs.Common.{◌≡◌, ℕ, zero, suc, ◌≤◌, Bool, true, false, List, [], ◌∷◌, ◌++◌, Option, Some, None, ◌⊎◌, inl, inr, refl, sym, ap, ◌∙◌, arith, length, length-append, append_assoc, append-nil, IsTrue, not, ◌&&◌}
 use Rattle.std.proofs.lemmas.Grind.{common_steps}
 use Rattle.bq_job.specs.Profile.{Profile}
 use Rattle.bq_job.specs.Reading.{Reads, AreUnits, IsUnit, BeginsNoUnit, is_quit, quits_last, ends_by_quit}
@@ -172,3 +172,14 @@ pub Reads-unique : (p : Profile) (text : List ℕ) (firsts seconds : List Reques
     → Reads p text firsts rest → Reads p text seconds other → (rest ≡ other) × AreSameRequests firsts seconds
 Reads-unique p text firsts seconds rest other a b =
     units_unique p firsts seconds a.units b.units rest other (sym a.text_is ∙ b.text_is) a.are_units b.are_units a.last_quits b.last_quits a.ended b.ended
+
+-- behind a quit nothing more is read
+pub Reads-more : (p : Profile) (text more : List ℕ) (requests : List Request) (rest : List ℕ) → Reads p text requests rest → IsTrue (ends_by_quit requests)
+    → Reads p (text ++ more) requests (rest ++ more)
+Reads-more p text more requests rest read quit = record {
+  units = read.units;
+  text_is = rw read.text_is (append_assoc read.units rest more);
+  are_units = read.are_units;
+  last_quits = read.last_quits;
+  ended = inl quit;
+}

@@ -1,5 +1,5 @@
 -- The first unit of a text, and units that begin texts.
-use Rattle.std.proofs.Common.{◌≡◌, ℕ, ◌+◌, ◌<◌, ◌≤◌, Bool, true, false, List, [], ◌∷◌, ◌++◌, Option, Some, None, ◌⊎◌, inl, inr, refl, sym, ap, arith, length, take, drop, nat_lt, nat_le, MatchBool, MatchOption, if◌then◌else◌, length-append, append_assoc, take-append-drop, IsTrue}
+use Rattle.std.proofs.Common.{◌≡◌, ℕ, ◌+◌, ◌<◌, Bool, true, false, List, [], ◌∷◌, ◌++◌, Option, Some, None, ◌⊎◌, inl, inr, refl, sym, ap, arith, length, take, drop, nat_lt, nat_le, MatchBool, MatchOption, if◌then◌else◌, length-append, append_assoc, take-append-drop, IsTrue}
 use Rattle.std.proofs.lemmas.Bool.Decides.{nat_tests}
 use Rattle.std.proofs.lemmas.Grind.{common_steps}
 use Rattle.bq_job.specs.TubeName.{is_same_name}
@@ -8,7 +8,7 @@ use Rattle.bq_job.specs.Profile.{Profile}
 use Rattle.bq_job.specs.LineRead.{LineRead, Whole, PutWaits, PutLine, read_line}
 use Rattle.bq_job.specs.Reading.{IsUnit, IsUnitAfter, IsPutRequest, put_with_body, BeginsNoUnit}
 use Rattle.bq_job.specs.ComputedReading.{first_unit, unit_after, unit_of_line, put_request}
-use Rattle.bq_job.specs.SameRequests.{IsSameRequest, IsRefusedMemory, had_memory}
+use Rattle.bq_job.specs.SameRequests.{IsRefusedMemory, had_memory}
 use Rattle.bq_job.specs.declared.request.Request.{Request}
 use Rattle.bq_job.specs.declared.request.Request.TheVariants as requests
 use Rattle.bq_job.specs.declared.refusal.Refusal.TheVariants as refusals

@@ -19,6 +19,7 @@ pub mod Line
 pub mod LineRead
 pub mod Machine
 pub mod NameLaws
+pub mod NameOrder
 pub mod Profile
 pub mod Reading
 pub mod Runs
@@ -37,3 +38,4 @@ pub mod Words
 pub mod Yaml
 pub mod LineSteps
 pub mod History
+pub mod OneClient

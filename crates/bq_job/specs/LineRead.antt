@@ -1,5 +1,5 @@
 -- What a line asks for.
-use Rattle.std.specs.Prelude.{ℕ, ◌<◌, nat_lt, Bool, List, [], ◌∷◌, Option, Some, None, length, option_map, unwrap_or, if◌then◌else◌}
+use Rattle.std.specs.Prelude.{ℕ, nat_lt, List, [], ◌∷◌, Option, Some, None, length, option_map, unwrap_or, if◌then◌else◌}
 use Rattle.bq_job.specs.Words.{words, number, job_id, tube_name}
 use Rattle.bq_job.specs.CommandWords.{Command, command_named}
 use Rattle.bq_job.specs.declared.request.Request.{Request}

@@ -1,5 +1,5 @@
 -- The reading of a text into requests.
-use Rattle.std.specs.Prelude.{ℕ, ◌≡◌, ◌+◌, ◌⊎◌, Bool, true, false, ◌&&◌, ◌||◌, not, nat_lt, IsTrue, MatchBool, MatchOption, List, [], ◌∷◌, ◌++◌, length, take, drop, Option, Some, None, if◌then◌else◌}
+use Rattle.std.specs.Prelude.{ℕ, ◌≡◌, ◌+◌, ◌⊎◌, Bool, true, false, ◌&&◌, not, nat_lt, IsTrue, MatchBool, MatchOption, List, [], ◌∷◌, ◌++◌, length, take, drop, if◌then◌else◌}
 use Rattle.bq_job.specs.TubeName.{is_same_name}
 use Rattle.bq_job.specs.Line.{first_line, line_end}
 use Rattle.bq_job.specs.Profile.{Profile}

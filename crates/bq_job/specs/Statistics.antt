@@ -1,13 +1,12 @@
 -- Statistics of a job, of a tube and of the server. They are counts over the lists of the machine made
 -- now, beside the counters that the machine keeps.
-use Rattle.std.specs.Prelude.{ℕ, Bool, true, false, ◌&&◌, ◌-◌, ◌/◌, nat_lt, if◌then◌else◌, Option, Some, None, List, [], ◌∷◌, ◌++◌, length, count_by, filter, codes, decimal}
-use Rattle.bq_job.specs.declared.job.Counts.{Counts}
+use Rattle.std.specs.Prelude.{ℕ, Bool, true, false, ◌&&◌, ◌-◌, ◌/◌, nat_lt, Option, Some, None, List, [], ◌∷◌, ◌++◌, length, count_by, filter, codes}
 use Rattle.bq_job.specs.declared.job.Job.{Job}
 use Rattle.bq_job.specs.declared.job.JobState.{JobState}
 use Rattle.bq_job.specs.declared.job.JobState.TheVariants as states
 use Rattle.bq_job.specs.Changes.{is_ready, is_waiting}
 use Rattle.bq_job.specs.JobStates.{is_reserved, is_delayed, is_buried}
-use Rattle.bq_job.specs.Machine.{Machine, SeatRecord, Pause, TubeRecord}
+use Rattle.bq_job.specs.Machine.{Machine, Pause}
 use Rattle.bq_job.specs.TubeName.{is_same_name}
 pub use Rattle.bq_job.specs.TubeOrder.{tubes}
 use Rattle.bq_job.specs.Tubes.{tube_record, watches}

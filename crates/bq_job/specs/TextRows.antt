@@ -1,9 +1,9 @@
 -- Machines and jobs whose texts were written down by hand.
-use Rattle.std.specs.Prelude.{ℕ, true, List, [], ◌∷◌, codes, None}
+use Rattle.std.specs.Prelude.{true, [], ◌∷◌, codes, None}
 use Rattle.bq_job.specs.declared.job.Counts.{Counts}
 use Rattle.bq_job.specs.declared.job.Job.{Job}
 use Rattle.bq_job.specs.declared.job.JobState.TheVariants as states
-use Rattle.bq_job.specs.Machine.{Machine, Settings, SeatRecord, TubeRecord, default_tube, empty_seat, new_machine}
+use Rattle.bq_job.specs.Machine.{Machine, Settings, default_tube, empty_seat, new_machine}
 
 abbrev pub one_seat : Settings
 one_seat = record { seats = 1; max_job_size = 65535 }

@@ -1,6 +1,5 @@
 -- The tubes that exist, and the order in which names are listed.
-use Rattle.std.specs.Prelude.{ℕ, if◌then◌else◌, List, [], ◌∷◌, ◌++◌, fold, map, filter, flat_map}
-use Rattle.bq_job.specs.declared.job.Job.{Job}
+use Rattle.std.specs.Prelude.{ℕ, if◌then◌else◌, List, [], ◌∷◌, ◌++◌, fold, map, flat_map}
 use Rattle.bq_job.specs.Machine.{Machine, SeatRecord, default_tube}
 use Rattle.bq_job.specs.TubeName.{is_same_name}
 use Rattle.bq_job.specs.Tubes.{is_name_before}

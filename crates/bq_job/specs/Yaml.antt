@@ -1,5 +1,5 @@
 -- How statistics and lists are laid out, as YAML texts.
-use Rattle.std.specs.Prelude.{ℕ, List, [], ◌∷◌, ◌++◌, flat_map, codes, decimal}
+use Rattle.std.specs.Prelude.{ℕ, List, ◌++◌, flat_map, codes, decimal}
 use Rattle.bq_job.specs.TubeOrder.{in_name_order}
 
 -- a key and its value

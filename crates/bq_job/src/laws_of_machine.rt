@@ -6,8 +6,9 @@ ghost use Rattle.bq_job.specs.Dispatch.{DispatchTurn, Given};
 ghost use Rattle.bq_job.specs.Lawful.{IsLawful};
 ghost use Rattle.bq_job.specs.LeastJob.{GetsLeast};
 ghost use Rattle.bq_job.specs.Machine.{Machine, Settings, new_machine};
+ghost use Rattle.bq_job.specs.OneClient.{GivesClient};
 ghost use Rattle.bq_job.specs.Steps.{IsStep, Outcome};
-ghost use Rattle.std.specs.Prelude.{ℕ, ◌+◌, ◌≤◌, List, length};
+ghost use Rattle.std.specs.Prelude.{ℕ, ◌+◌, ◌<◌, ◌≤◌, List, length};
 
 /// From every machine there is a step with enough memory, and it can be computed.
 pub fn computed_is_step()
@@ -39,4 +40,12 @@ pub fn steps_give_few_answers()
     ensures { (first last : Machine) (at seat : ℕ) (what : Step) (outcome : Outcome) (given : List Given)
         → IsLawful first → IsStep first at seat what outcome given last
         → length given ≤ first.settings.seats + 1 }
+{}
+
+/// What a step gives the client that takes it: the answers so far and the one that it waits for are as
+/// many as its requests but `quit`, and the answer to a close is the last one.
+pub fn steps_give_clients_their_answers()
+    ensures { (first last : Machine) (at seat : ℕ) (what : Step) (outcome : Outcome) (given : List Given)
+        → IsLawful first → seat < first.settings.seats → IsStep first at seat what outcome given last
+        → GivesClient seat first what given last }
 {}

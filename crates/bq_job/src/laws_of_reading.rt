@@ -1,8 +1,8 @@
 //! What holds of every reading of a text into requests.
-ghost use Rattle.std.specs.Prelude.{◌≡◌, ℕ, List};
+ghost use Rattle.std.specs.Prelude.{◌≡◌, ◌++◌, ℕ, List, IsTrue};
 ghost use Rattle.bq_job.specs.Profile.{Profile};
 ghost use Rattle.bq_job.specs.ComputedReading.{reading};
-ghost use Rattle.bq_job.specs.Reading.{Reads};
+ghost use Rattle.bq_job.specs.Reading.{Reads, ends_by_quit};
 ghost use Rattle.bq_job.specs.SameRequests.{AreSameRequests};
 ghost use Rattle.bq_job.specs.declared.request.Request.{Request};
 
@@ -19,4 +19,10 @@ pub fn every_text_is_read()
 pub fn one_reading_only()
     ensures { (p : Profile) (text : List ℕ) (firsts seconds : List Request) (rest other : List ℕ)
         → Reads p text firsts rest → Reads p text seconds other → (rest ≡ other) × AreSameRequests firsts seconds }
+{}
+
+/// Behind a quit anything may follow: nothing more is read.
+pub fn anything_follows_a_quit()
+    ensures { (p : Profile) (text more : List ℕ) (requests : List Request) (rest : List ℕ)
+        → Reads p text requests rest → IsTrue (ends_by_quit requests) → Reads p (text ++ more) requests (rest ++ more) }
 {}

@@ -1,4 +1,26 @@
-//! Laws of the texts of answers, statistics and lists.
+//! What holds of every text of statistics and every list.
+ghost use Rattle.std.specs.Prelude.{◌≡◌, ℕ, List, IsTrue};
+ghost use Rattle.std.specs.List.{list_any};
+ghost use Rattle.bq_job.specs.Machine.{Machine};
+ghost use Rattle.bq_job.specs.NameOrder.{is_in_order};
+ghost use Rattle.bq_job.specs.TubeName.{is_same_name};
+ghost use Rattle.bq_job.specs.TubeOrder.{in_name_order, tubes};
+ghost use Rattle.bq_job.specs.Tubes.{is_tube};
 
 #[cfg(test)]
 mod rows;
+
+/// A tube is listed exactly where it exists.
+pub fn existing_tubes_are_listed()
+    ensures { (name : List ℕ) (m : Machine) → list_any (is_same_name name) (tubes m) ≡ is_tube name m }
+{}
+
+/// Names are listed in byte order, each once.
+pub fn names_are_in_order()
+    ensures { (names : List (List ℕ)) → IsTrue (is_in_order (in_name_order names)) }
+{}
+
+/// Names that stand in byte order are listed as they are.
+pub fn order_stays()
+    ensures { (names : List (List ℕ)) → IsTrue (is_in_order names) → in_name_order names ≡ names }
+{}

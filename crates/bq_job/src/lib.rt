@@ -10,8 +10,8 @@ pub use body::{Body, BodyBuilder};
 pub use fault::NoMemory;
 pub use job::{Counts, Job, JobState};
 pub use laws_of_machine::{
-    computed_is_step, dispatched_is_least, new_machine_is_lawful, steps_give_few_answers,
-    steps_keep_lawful,
+    computed_is_step, dispatched_is_least, new_machine_is_lawful, steps_give_clients_their_answers,
+    steps_give_few_answers, steps_keep_lawful,
 };
 pub use line_end::{LineEnd, LineFault};
 pub use refusal::Refusal;
@@ -26,7 +26,7 @@ mod fault;
 mod job;
 mod laws_of_machine;
 pub mod laws_of_reading;
-mod laws_of_texts;
+pub mod laws_of_texts;
 mod line_end;
 mod refusal;
 mod request;
@@ -35,6 +35,8 @@ mod rows_of_machine;
 #[cfg(test)]
 mod rows_of_sessions;
 mod step;
+#[cfg(test)]
+mod tests;
 mod text;
 mod tube_name;
 

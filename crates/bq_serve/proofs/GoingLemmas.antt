@@ -1,6 +1,5 @@
 -- A machine that goes on while nothing is outstanding.
-use Rattle.std.proofs.Common.{◌≡◌, ℕ, ◌≤◌, Bool, true, false, ◌||◌, List, [], ◌∷◌, ◌++◌, Option, Some, None, refl, sym, ap, subst, ◌∙◌, length, take, drop, if◌then◌else◌, arith, IfSome}
-use Rattle.std.proofs.lemmas.Grind.{common_steps}
+use Rattle.std.proofs.Common.{◌≡◌, ℕ, Bool, true, false, ◌||◌, List, [], Option, Some, refl, sym, subst, ◌∙◌, drop, IfSome}
 use Rattle.bq_job.specs.declared.line_end.LineEnd.TheVariants as ends
 use Rattle.bq_job.specs.declared.request.Request.{Request}
 use Rattle.bq_job.specs.declared.request.Request.TheVariants as requests
@@ -9,7 +8,7 @@ use Rattle.bq_job.specs.Reading.{is_quit}
 use Rattle.bq_job.specs.LineSteps.{is_waiting_request}
 use Rattle.bq_serve.specs.Past.{Past, with_action}
 use Rattle.bq_serve.specs.SeatParts.{GoesOn, in_stage, asking_stage}
-use Rattle.bq_serve.specs.SeatStands.{IsOpen, StandsFor, StandsAt, seat_profile}
+use Rattle.bq_serve.specs.SeatStands.{IsOpen, StandsFor, StandsAt}
 use Rattle.bq_serve.specs.Standing.{profile_of, Stands, HandsOut}
 use Rattle.bq_serve.specs.declared.wire.state.State.{State}
 use Rattle.bq_serve.specs.declared.seat.machine.Action.{Action}

@@ -1,5 +1,5 @@
 -- What is read by calls in a row.
-use Rattle.std.proofs.Common.{◌≡◌, ◌<◌, ◌≤◌, ℕ, ◌+◌, zero, suc, Bool, true, false, MatchBool, List, [], ◌∷◌, ◌++◌, ◌⊎◌, inl, inr, Option, Some, None, refl, sym, ◌∙◌, ap, arith, length, length-append, append_assoc, append-nil, take, drop, get_or, add-one, take-append-drop, ◌-◌, IsTrue, option_to_list}
+use Rattle.std.proofs.Common.{◌≡◌, ◌<◌, ◌≤◌, ℕ, ◌+◌, Bool, true, false, MatchBool, List, [], ◌∷◌, ◌++◌, ◌⊎◌, inl, inr, Option, Some, None, refl, ◌∙◌, ap, arith, length, append_assoc, append-nil, take, drop, get_or, add-one, take-append-drop, ◌-◌, IsTrue, option_to_list}
 use Rattle.std.proofs.lemmas.Grind.{common_steps}
 use Rattle.std.proofs.lemmas.List.{drop_all}
 use Rattle.std.proofs.Math.Seq.{take-length, take-suc}
@@ -7,7 +7,7 @@ use Rattle.std.proofs.lemmas.Grind.{flat_map-append}
 use Rattle.std.specs.List.{flat_map}
 use Rattle.bq_job.specs.Profile.{profile}
 use Rattle.bq_serve.specs.WordsSoFar.{words_so_far}
-use Rattle.bq_job.specs.Reading.{Reads, BeginsNoUnit, IsUnit, is_quit, ends_by_quit}
+use Rattle.bq_job.specs.Reading.{Reads, BeginsNoUnit, is_quit, ends_by_quit}
 use Rattle.bq_job.specs.declared.request.Request.{Request}
 use Rattle.bq_job.proofs.UnitsLemmas.{AreUnits-append, ends_by_quit-append, quits_last-append}
 use Rattle.bq_serve.specs.HasRead.{HasRead, HasReadText, ReadsOn}

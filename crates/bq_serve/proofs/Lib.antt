@@ -1,3 +1,5 @@
+pub mod InTurnLemmas
+pub mod OneSeatLemmas
 pub mod GoingLemmas
 pub mod HasReadLemmas
 pub mod LineEndLemmas

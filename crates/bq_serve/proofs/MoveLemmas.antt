@@ -1,19 +1,17 @@
 -- The moves of a seat machine, stage by stage.
-use Rattle.std.proofs.Common.{◌≡◌, ℕ, ◌<◌, Bool, true, false, not, ◌&&◌, ◌||◌, ◌==◌, List, [], ◌∷◌, ◌++◌, ◌⊎◌, inl, inr, Option, Some, None, refl, sym, ap, subst, ◌∙◌, length, if◌then◌else◌, arith, Bor}
+use Rattle.std.proofs.Common.{◌≡◌, ℕ, Bool, true, false, not, ◌&&◌, ◌==◌, List, [], ◌∷◌, inl, inr, refl, sym, ap, subst, ◌∙◌, length, if◌then◌else◌, arith, Bor}
 use Rattle.std.proofs.lemmas.Bool.Decides.{nat_tests}
 use Rattle.bq_job.specs.ComputedReading.{reading}
 use Rattle.bq_job.specs.declared.answer.Answer.{Answer}
-use Rattle.bq_job.specs.declared.answer.Answer.TheVariants as replies
 use Rattle.bq_job.specs.declared.line_end.LineEnd.{LineEnd}
 use Rattle.bq_job.specs.declared.line_end.LineEnd.TheVariants as ends
-use Rattle.bq_job.specs.declared.line_end.LineFault.TheVariants as faults
 use Rattle.bq_job.specs.declared.step.Step.TheVariants as steps
 use Rattle.bq_job.specs.Profile.{Profile}
 use Rattle.bq_job.specs.Reading.{Reads}
 use Rattle.bq_serve.specs.Past.{Past, with_action, with_event, past_after, is_stray, answers, first_past}
-use Rattle.bq_serve.specs.SeatMoves.{IsMove, OpensPast, IfLineOver}
-use Rattle.bq_serve.specs.SeatParts.{GoesOn, in_stage, is_going_on, is_closed, reads_on}
-use Rattle.bq_serve.specs.SeatStands.{IsOpen, IsServed, IsWaiting, StandsFor, StandsAt, seat_profile, awaited, awaited_at}
+use Rattle.bq_serve.specs.SeatMoves.{IsMove, reads_on, IfLineOver}
+use Rattle.bq_serve.specs.SeatParts.{GoesOn, in_stage, is_going_on}
+use Rattle.bq_serve.specs.SeatStands.{IsOpen, StandsFor, StandsAt, seat_profile, awaited_at}
 use Rattle.bq_serve.specs.Standing.{profile_of, Stands}
 use Rattle.bq_serve.specs.declared.wire.state.State.{State}
 use Rattle.bq_serve.specs.declared.seat.machine.Action.{Action}
@@ -62,7 +60,7 @@ end_in_reading_on m = record {
   awaits = λ e. refl;
   profile = refl;
   opened = tt;
-  past = λ p h. tells_end m.reader m.kept m.end_told p h.0 h.1 h.2;
+  past = λ p h. (tells_end m.reader m.kept m.end_told p h.0 h.1 h.2, refl);
   over = tt;
 }
 
@@ -85,7 +83,7 @@ submitted_end m = record {
   awaits = λ e. refl;
   profile = refl;
   opened = tt;
-  past = λ p h. h;
+  past = λ p h. h.0;
   over = tt;
 }
 
@@ -110,7 +108,7 @@ reads_on_in_polling m waits w untold none = record {
   awaits = λ e. refl;
   profile = refl;
   opened = tt;
-  past = λ p h. ((h.0, λ e. h.1 w), none, untold);
+  past = λ p h. ((h.0, h.1 ∙ w), none, untold);
   over = tt;
 }
 
@@ -159,7 +157,7 @@ fault_in_reading_on m = record {
   awaits = λ e. refl;
   profile = refl;
   opened = tt;
-  past = λ p h. (read_fails m.reader m.kept m.end_told 1 p h.0.0 h.1 (inr (refl, h.0.1 refl)), or_true _);
+  past = λ p h. (read_fails m.reader m.kept m.end_told 1 p h.0.0 h.1 (inr (refl, h.0.1)), or_true _);
   over = tt;
 }
 

@@ -1,6 +1,5 @@
 -- What an open line stands for, as it is opened, asks, is answered and is closed.
-use Rattle.std.proofs.Common.{◌≡◌, ℕ, ◌+◌, ◌<◌, Bool, true, false, if◌then◌else◌, is_some, ◌||◌, List, [], ◌∷◌, ◌++◌, ◌⊎◌, inl, inr, Option, Some, None, refl, sym, ap, subst, ◌∙◌, append_assoc, append-nil, map, length, arith, length-append, take, drop, take-append-drop}
-use Rattle.std.proofs.lemmas.Grind.{common_steps}
+use Rattle.std.proofs.Common.{◌≡◌, ℕ, ◌<◌, Bool, true, false, if◌then◌else◌, is_some, List, [], ◌∷◌, ◌++◌, ◌⊎◌, inl, inr, Option, Some, None, refl, sym, ap, subst, ◌∙◌, append_assoc, append-nil, map, length, arith, length-append, take, drop, take-append-drop}
 use Rattle.bq_job.specs.declared.answer.Answer.{Answer}
 use Rattle.bq_job.specs.declared.line_end.LineEnd.{LineEnd}
 use Rattle.bq_job.specs.declared.line_end.LineEnd.TheVariants as ends
@@ -12,13 +11,12 @@ use Rattle.bq_job.specs.declared.step.Step.{Step}
 use Rattle.bq_job.specs.declared.step.Step.TheVariants as steps
 use Rattle.bq_job.specs.Profile.{Profile}
 use Rattle.bq_job.specs.Reading.{Reads, AreUnits, IsUnit, BeginsNoUnit, is_quit}
-use Rattle.bq_job.specs.LineSteps.{IsStepsOfLine, AreEnds, AreAllAnswered, LineSeen, answered_count, is_waiting_request, ends_by_wait}
+use Rattle.bq_job.specs.LineSteps.{AreEnds, AreAllAnswered, is_waiting_request, ends_by_wait}
 use Rattle.bq_serve.specs.Past.{Past, with_action, with_mail, with_fault, first_past}
 use Rattle.bq_serve.specs.Standing.{profile_of, Stands}
-use Rattle.bq_serve.specs.SeatStands.{IsOpen, IsWaiting, IsServed, StandsAt, seen_line, end_if, has_quit, IsLastBroken}
+use Rattle.bq_serve.specs.SeatStands.{IsOpen, IsWaiting, IsServed, StandsAt, end_if, IsLastBroken}
 use Rattle.bq_serve.specs.declared.wire.state.State.{State}
 use Rattle.bq_serve.specs.declared.seat.machine.Action.TheVariants as actions
-use Rattle.bq_serve.specs.declared.seat.machine.Event.TheVariants as events
 use Rattle.bq_serve.specs.declared.seat.machine.Stage.TheVariants as stages
 use Rattle.bq_serve.proofs.ReadingLemmas.{BeginsNoUnit-[], AreUnits-append, one_unit, Reads-after, Reads-begun, Reads-quit, ends_by_quit-append}
 use Rattle.bq_serve.proofs.StepLemmas.{answered_count-asked, answered_count-quit, ends_by_wait-asked, has_quit-asked, map-asked, no_quit_last, some_asked}
@@ -43,6 +41,7 @@ opened r h = (
     ended_is = refl;
     fault_is = refl;
   },
+  refl,
   refl,
 )
 
@@ -133,7 +132,7 @@ asks r next kept n q p o same unit h not_quit = (
     ended_is = o.ended_is;
     fault_is = o.fault_is;
   },
-  λ w. ends_by_wait-asked o.asked q ∙ w,
+  ends_by_wait-asked o.asked q,
 )
 
 -- a quit is asked
@@ -160,6 +159,12 @@ quits r next kept n p o same unit =
         handed_out = o.written_is;
         answered = omega (arith, o.answered, answered_count-quit o.asked o.no_quit);
         broken = tt;
+      },
+      record {
+        asked = o.asked;
+        steps_are = ap (λ x. x ++ steps.Ask requests.Quit ∷ []) (o.steps_are ∙ append-nil (steps.Connect ∷ map steps.Ask o.asked));
+        answered = omega (arith, o.answered);
+        no_quit = o.no_quit;
       },
     )
 
@@ -327,7 +332,7 @@ tells_end r kept told p w none untold = let o = w.0 in let front : List Step = s
     bytes_are = o.bytes_are;
     no_quit = o.no_quit;
     steps_are = ap (λ x. x ++ steps.End ∷ []) (o.steps_are ∙ ap (λ t. front ++ end_if t) untold ∙ append-nil front);
-    told_well = λ e. (w.1 refl, none);
+    told_well = λ e. (w.1, none);
     closing_is = rw o.closing_is refl;
     written_is = o.written_is;
     answered = o.answered;

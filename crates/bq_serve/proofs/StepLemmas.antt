@@ -1,10 +1,9 @@
 -- The steps of a line, as requests are asked one after another.
-use Rattle.std.proofs.Common.{◌≡◌, ◌≢◌, ℕ, ◌+◌, ◌<◌, Bool, true, false, ◌||◌, List, [], ◌∷◌, ◌++◌, refl, sym, ap, ◌∙◌, append_assoc, append-nil, map, length, arith, not, IsTrue}
+use Rattle.std.proofs.Common.{◌≡◌, ◌≢◌, ◌+◌, ◌<◌, false, List, [], ◌∷◌, ◌++◌, refl, ap, ◌∙◌, map, length, arith, not, IsTrue}
 use Rattle.bq_job.specs.Reading.{is_quit, ends_by_quit}
 use Rattle.bq_job.specs.LineSteps.{answered_count, is_waiting_request, ends_by_wait}
 use Rattle.bq_job.specs.declared.request.Request.{Request}
 use Rattle.bq_job.specs.declared.request.Request.TheVariants as requests
-use Rattle.bq_job.specs.declared.step.Step.{Step}
 use Rattle.bq_job.specs.declared.step.Step.TheVariants as steps
 use Rattle.bq_serve.specs.SeatStands.{has_quit}
 use Rattle.bq_serve.proofs.ReadingLemmas.{neither}

@@ -2,8 +2,7 @@
 use Rattle.std.specs.Prelude.{ℕ, ◌≡◌, ◌⊎◌, false, IsTrue, List, [], ◌++◌, take, Option, option_to_list}
 use Rattle.bq_job.specs.Reading.{AreUnits, quits_last, ends_by_quit}
 use Rattle.bq_job.specs.declared.request.Request.{Request}
-use Rattle.bq_serve.specs.Standing.{profile_of, Stands}
-use Rattle.bq_serve.specs.declared.wire.state.Place.TheVariants.{Over}
+use Rattle.bq_serve.specs.Standing.{profile_of, Stands, IsOver}
 use Rattle.bq_serve.specs.declared.wire.state.State.{State}
 
 -- The bytes taken are the units of the requests handed out, and then a text that the reader stands for;
@@ -14,7 +13,7 @@ pub record HasRead (reader : State) (taken : List ℕ) (requests : List Request)
   pub taken_is : taken ≡ units ++ rest
   pub are_units : AreUnits (profile_of reader) units requests
   pub last_quits : IsTrue (quits_last requests)
-  pub goes_on : (IsTrue (ends_by_quit requests) × (reader.place ≡ Over) × (rest ≡ [])) ⊎ ((ends_by_quit requests ≡ false) × Stands reader rest)
+  pub goes_on : (IsTrue (ends_by_quit requests) × IsOver reader × (rest ≡ [])) ⊎ ((ends_by_quit requests ≡ false) × Stands reader rest)
 
 -- so many bytes of a piece were taken, and perhaps a request was handed out
 abbrev pub ReadsOn : State → State → List ℕ → ℕ → Option Request → Type 0
@@ -27,4 +26,4 @@ pub record HasReadText (reader : State) (text : List ℕ) (requests : List Reque
   pub more : List ℕ
   pub text_is : text ≡ taken ++ more
   pub read : HasRead reader taken requests
-  pub all : (more ≡ []) ⊎ (reader.place ≡ Over)
+  pub all : (more ≡ []) ⊎ IsOver reader

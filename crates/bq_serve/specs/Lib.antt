@@ -1,3 +1,5 @@
+pub mod OneSeat
+pub mod InTurn
 pub mod Asked
 pub mod Doors
 pub mod FaultCodes

@@ -1,5 +1,5 @@
 -- What a seat machine does with an event.
-use Rattle.std.specs.Prelude.{ℕ, ◌≡◌, ◌≤◌, Bool, true, false, not, List, length, Option, Some}
+use Rattle.std.specs.Prelude.{ℕ, ◌≡◌, ◌≤◌, Bool, true, false, not, ◌&&◌, ◌==◌, if◌then◌else◌, List, length, Some}
 use Rattle.bq_job.specs.declared.line_end.LineEnd.{LineEnd}
 use Rattle.bq_serve.specs.Past.{Past, past_after, first_past, is_stray, awaited_by, answers}
 use Rattle.bq_serve.specs.SeatStands.{StandsFor, IsServed, seat_profile, awaited}
@@ -8,6 +8,8 @@ use Rattle.bq_serve.specs.declared.seat.machine.Event.TheVariants as events
 use Rattle.bq_serve.specs.declared.seat.machine.Action.{Action}
 use Rattle.bq_serve.specs.declared.seat.machine.Action.TheVariants as actions
 use Rattle.bq_serve.specs.declared.seat.machine.SeatMachine.{SeatMachine}
+use Rattle.bq_serve.specs.declared.seat.machine.Stage.{Stage}
+use Rattle.bq_serve.specs.declared.seat.machine.Stage.TheVariants as stages
 
 -- 4,096 bytes at most are handed in at once.
 abbrev pub FitsPiece : Event → Type 0
@@ -35,3 +37,13 @@ pub record IsMove (old : SeatMachine) (event : Event) (action : Action) (new : S
   pub past : (p : Past) → StandsFor old p → StandsFor new (past_after event action p)
   -- a line that is over was served, whatever bytes were written to it
   pub over : IfLineOver action (λ end. (p : Past) → StandsFor old p → (written : List ℕ) → IsServed (seat_profile old) written end (past_after event action p))
+
+-- While a reserve waits, the line is read where no bytes are kept and the input goes on.
+abbrev pub reads_on : Bool → SeatMachine → Bool
+reads_on waits m = waits && not m.end_told && (length m.kept == 0)
+
+-- While an answer is awaited and none has come, the mail is looked at again; but a line whose reserve
+-- waits is read first.
+abbrev pub LooksOn : Event → Stage → SeatMachine → Action → Type 0
+LooksOn events.NothingYet (stages.Polling waits) old action = action ≡ (if reads_on waits old then actions.Read else actions.PollMail)
+LooksOn _ _ old action = Unit {0}

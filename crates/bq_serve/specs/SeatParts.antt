@@ -1,8 +1,7 @@
 -- What the parts of a seat machine's moves do.
-use Rattle.std.specs.Prelude.{ℕ, ◌≡◌, Bool, true, false, not, ◌&&◌, ◌==◌, MatchBool, if◌then◌else◌, List, length, Option, Some}
+use Rattle.std.specs.Prelude.{◌≡◌, Bool, true, false, not, ◌&&◌, ◌==◌, if◌then◌else◌, length, Some}
 use Rattle.bq_job.specs.declared.answer.Answer.{Answer}
 use Rattle.bq_job.specs.declared.answer.Answer.TheVariants as replies
-use Rattle.bq_job.specs.declared.line_end.LineEnd.{LineEnd}
 use Rattle.bq_job.specs.Reading.{is_quit}
 use Rattle.bq_job.specs.declared.request.Request.{Request}
 use Rattle.bq_job.specs.LineSteps.{is_waiting_request}
@@ -29,10 +28,6 @@ pub record GoesOn (old : SeatMachine) (action : Action) (new : SeatMachine) : Ty
 
 abbrev pub in_stage : Stage → SeatMachine → SeatMachine
 in_stage stage m = record m { stage = stage }
-
--- The line is read while a reserve waits, where no bytes are kept and the input goes on.
-abbrev pub reads_on : Bool → SeatMachine → Bool
-reads_on waits m = waits && not m.end_told && (length m.kept == 0)
 
 abbrev pub is_closed : Answer → Bool
 is_closed replies.Closed = true

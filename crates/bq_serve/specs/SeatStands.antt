@@ -1,9 +1,10 @@
 -- What a seat machine stands for: the pasts that its fields agree with.
-use Rattle.std.specs.Prelude.{ℕ, ◌≡◌, ◌+◌, ◌<◌, ◌⊎◌, Bool, true, false, if◌then◌else◌, List, [], ◌∷◌, ◌++◌, length, map, Option, Some, None}
+use Rattle.std.specs.Prelude.{ℕ, ◌≡◌, ◌+◌, ◌<◌, Bool, true, false, if◌then◌else◌, List, [], ◌∷◌, ◌++◌, length, map, None}
 use Rattle.std.specs.List.{list_any}
 use Rattle.bq_job.specs.declared.line_end.LineEnd.{LineEnd}
 use Rattle.bq_job.specs.declared.line_end.LineEnd.TheVariants as ends
 use Rattle.bq_job.specs.declared.request.Request.{Request}
+use Rattle.bq_job.specs.declared.request.Request.TheVariants as requests
 use Rattle.bq_job.specs.declared.step.Step.{Step}
 use Rattle.bq_job.specs.declared.step.Step.TheVariants as steps
 use Rattle.bq_job.specs.Profile.{Profile}
@@ -60,23 +61,30 @@ pub record IsOpen (reader : State) (kept : List ℕ) (told : Bool) (outstanding 
   pub ended_is : p.ended ≡ told
   pub fault_is : p.fault ≡ None
 
--- the same, and where this is true, the last request was a reserve
+-- the same with one answer outstanding, and whether the last request was a reserve
 abbrev pub IsWaiting : State → List ℕ → Bool → Bool → Past → Type 0
 IsWaiting reader kept told waits p =
-    (line : IsOpen reader kept told 1 p) × (waits ≡ true → ends_by_wait line.asked ≡ true)
+    (line : IsOpen reader kept told 1 p) × (ends_by_wait line.asked ≡ waits)
+
+-- The last step was a quit, and everything asked before it was answered.
+pub record HasAskedQuit (p : Past) : Type 0 where
+  pub asked : List Request
+  pub steps_are : p.steps ≡ (steps.Connect ∷ map steps.Ask asked) ++ steps.Ask requests.Quit ∷ []
+  pub answered : length p.mail ≡ length asked
+  pub no_quit : has_quit asked ≡ false
 
 abbrev pub StandsAt : Stage → State → List ℕ → Bool → Past → Type 0
 StandsAt stages.Between reader kept told p = (end : LineEnd) × ((written : List ℕ) → IsServed (profile_of reader) written end p)
-StandsAt stages.Connecting reader kept told p = IsOpen reader kept told 0 p × (told ≡ false)
+StandsAt stages.Connecting reader kept told p = IsOpen reader kept told 0 p × (told ≡ false) × (p.steps ≡ steps.Connect ∷ [])
 StandsAt stages.Reading reader kept told p = IsOpen reader kept told 0 p × (kept ≡ []) × (told ≡ false)
 StandsAt (stages.Asking waits) reader kept told p = IsWaiting reader kept told waits p × (told ≡ false)
 StandsAt (stages.Polling waits) reader kept told p = IsWaiting reader kept told waits p
 StandsAt stages.ReadingOn reader kept told p = IsWaiting reader kept told true p × (kept ≡ []) × (told ≡ false)
-StandsAt stages.TellingEnd reader kept told p = IsWaiting reader kept told true p
+StandsAt stages.TellingEnd reader kept told p = IsWaiting reader kept told true p × (told ≡ true)
 StandsAt stages.Writing reader kept told p = IsOpen reader kept told 0 p × (0 < length p.written)
 -- a quit was asked, and a close is right
 StandsAt stages.AskingQuit reader kept told p =
-    (p.closing ≡ false) × ((written : List ℕ) → IsServed (profile_of reader) written ends.Quit (with_action (actions.Submit steps.Close) p))
+    (p.closing ≡ false) × ((written : List ℕ) → IsServed (profile_of reader) written ends.Quit (with_action (actions.Submit steps.Close) p)) × HasAskedQuit p
 StandsAt (stages.Closing end) reader kept told p = ((written : List ℕ) → IsServed (profile_of reader) written end p) × (p.closing ≡ true)
 StandsAt (stages.Leaving end) reader kept told p = ((written : List ℕ) → IsServed (profile_of reader) written end p) × (p.closing ≡ true)
 

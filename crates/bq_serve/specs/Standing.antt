@@ -42,6 +42,10 @@ StandsAt state Over text = ⊥
 abbrev pub Stands : State → List ℕ → Type 0
 Stands state text = StandsAt state state.place text
 
+-- a quit was read, and no restart came since
+abbrev pub IsOver : State → Type 0
+IsOver state = state.place ≡ Over
+
 -- a body that is begun isn't whole, and has room for the rest
 abbrev pub IsSoundPlace : Place → Type 0
 IsSoundPlace InLine = Unit {0}
@@ -62,7 +66,7 @@ pub record Waits (new : State) (text piece : List ℕ) (taken : ℕ) : Type 0 wh
 -- for none
 pub record HandsOut (new : State) (text piece : List ℕ) (taken : ℕ) (request : Request) : Type 0 where
   pub unit : IsUnit (profile_of new) (text ++ take taken piece) request
-  pub next : MatchBool (is_quit request) (new.place ≡ Over) (Stands new [])
+  pub next : MatchBool (is_quit request) (IsOver new) (Stands new [])
 
 abbrev pub FeedsText : State → List ℕ → List ℕ → ℕ → Option Request → Type 0
 FeedsText new text piece taken None = Waits new text piece taken

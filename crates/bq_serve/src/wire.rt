@@ -12,5 +12,7 @@ mod pieces;
 mod put_body;
 mod reader;
 mod state;
+#[cfg(test)]
+mod tests;
 mod texts;
 mod words;

@@ -86,13 +86,19 @@ pub struct SeatMachine {
 }
 
 impl SeatMachine {
-    ghost use Rattle.bq_serve.specs.SeatMoves.{FitsPiece, IsMove};
-    ghost use Rattle.bq_serve.specs.SeatParts.{GoesOn, asking_stage, in_stage, is_closed, reads_on};
+    ghost use Rattle.bq_job.specs.Profile.{profile};
+    ghost use Rattle.bq_serve.specs.Past.{Awaited};
+    ghost use Rattle.bq_serve.specs.SeatMoves.{FitsPiece, IsMove, LooksOn, reads_on};
+    ghost use Rattle.bq_serve.specs.SeatParts.{GoesOn, asking_stage, in_stage, is_closed};
     ghost use Rattle.bq_serve.specs.SeatStands.{awaited, seat_profile};
+    ghost use Rattle.bq_serve.specs.WordsSoFar.{words_so_far};
 
-    /// A machine that awaits its first line. Bodies of more than `max_job_size` bytes are refused.
+    /// A machine that awaits its first line. Bodies of more than `max_job_size` bytes, of 1 to 1,048,576,
+    /// are refused. All memory but that for bodies is asked for here.
     pub fn new(alloc: Global, max_job_size: u32) -> Result<SeatMachine, NoMemory>
         requires { (1 ≤ max_job_size) × (max_job_size ≤ 1048576) }
+        ensures awaits { IfOk result (λ machine. awaited machine ≡ Awaited.ALine) }
+        ensures profile { IfOk result (λ machine. seat_profile machine ≡ profile max_job_size words_so_far) }
     {
         let reader = RequestReader::new(alloc, max_job_size)?;
         let kept = Kept::new(alloc)?;
@@ -104,10 +110,18 @@ impl SeatMachine {
         })
     }
 
-    /// What to do, now that this has happened.
+    /// What to do, now that this has happened. Takes no memory but for the body of a put.
+    ///
+    /// An event that doesn't answer the last action changes nothing, and the action is `Stray`. At most
+    /// 4,096 bytes are handed in at once.
     pub fn on(&mut self, event: Event<'_>) -> Action
         requires { FitsPiece event }
-        ensures { IsMove self.old event.entry result self.new }
+        // It is stray exactly where it doesn't answer the last action, and then nothing changes. Each past
+        // of the line that the machine stands for goes on by this event and this action, and where the
+        // line is over it was served: its steps are the line's, its answers those that came.
+        ensures moves { IsMove self.old event.entry result self.new }
+        // While a reserve waits, the line is read on.
+        ensures looks { LooksOn event.entry self.old.stage self.old result }
     {
         match event {
             Event::Opened => self.opened(),
@@ -168,7 +182,8 @@ impl SeatMachine {
     }
 
     fn nothing_yet(&mut self) -> Action
-        ensures { IsMove self.old Event.NothingYet result self.new }
+        ensures moves { IsMove self.old Event.NothingYet result self.new }
+        ensures looks { LooksOn Event.NothingYet self.old.stage self.old result }
     {
         match self.stage {
             Stage::Reading => Action::Read,
@@ -230,6 +245,7 @@ impl SeatMachine {
     {
         match self.stage {
             Stage::Writing => {
+                // Only the contract needs it: what isn't asked any more has a reading too.
                 every_text_is_read();
                 self.close(LineEnd::WriteFault)
             }
@@ -325,3 +341,6 @@ fn stage_of(request: &Request) -> Stage
         _ => Stage::Asking { waits: false },
     }
 }
+
+#[cfg(test)]
+mod tests;

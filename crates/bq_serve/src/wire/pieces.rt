@@ -3,8 +3,8 @@ ghost use Rattle.std.specs.List.{flat_map};
 ghost use Rattle.bq_job.specs.Profile.{profile};
 ghost use Rattle.bq_job.specs.Reading.{Reads};
 ghost use Rattle.bq_serve.specs.HasRead.{HasRead, HasReadText};
+ghost use Rattle.bq_serve.specs.Standing.{IsOver};
 ghost use Rattle.bq_serve.specs.WordsSoFar.{words_so_far};
-ghost use Rattle.bq_serve.specs.declared.wire.state.Place.TheVariants.{Over};
 ghost use Rattle.bq_serve.specs.declared.wire.state.State.{State};
 
 use super::RequestReader;
@@ -36,7 +36,7 @@ fn feed_all(
     requests: &mut Vec<Request, Global>,
 ) -> Result<(), NoMemory>
     ensures reads { OnOk result ((taken : List ℕ) → HasRead reader.old taken requests.old.items → HasReadText reader.new (taken ++ piece.now) requests.new.items) }
-    ensures over { OnOk result (reader.old.place ≡ Over → (reader.new ≡ reader.old) × (requests.new.items ≡ requests.old.items)) }
+    ensures over { OnOk result (IsOver reader.old → (reader.new ≡ reader.old) × (requests.new.items ≡ requests.old.items)) }
     ensures limit { reader.new.max_job_size ≡ reader.old.max_job_size }
 {
     let mut from = 0;

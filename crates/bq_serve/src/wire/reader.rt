@@ -4,7 +4,7 @@ ghost use Rattle.bq_job.specs.Reading.{is_quit};
 ghost use Rattle.bq_serve.specs.Asked.{asked_by};
 ghost use Rattle.bq_serve.specs.HasRead.{HasRead, ReadsOn};
 ghost use Rattle.bq_serve.specs.PutBodies.{HasRoom};
-ghost use Rattle.bq_serve.specs.Standing.{IsSound, Stands, StandsAt, Feeds, Keeps, IsLineOf, Waits, HandsOut, but_last};
+ghost use Rattle.bq_serve.specs.Standing.{IsOver, IsSound, Stands, StandsAt, Feeds, Keeps, IsLineOf, Waits, HandsOut, but_last};
 ghost use Rattle.bq_serve.specs.WordsSoFar.{words_so_far};
 ghost use Rattle.bq_serve.specs.declared.wire.state.Place.TheVariants.{InLine, InLongLine, InBody, Over};
 
@@ -82,7 +82,7 @@ impl RequestReader {
         // So of all bytes taken since the reader was new or restarted it hands out the requests, however
         // they were cut.
         ensures reads { ReadsOn self.old self.new piece.now result.0 result.1 }
-        ensures over { self.old.place ≡ Over → (result.0 ≡ 0) × (result.1 ≡ None) × (self.new ≡ self.old) }
+        ensures over { IsOver self.old → (result.0 ≡ 0) × (result.1 ≡ None) × (self.new ≡ self.old) }
         ensures limit { self.new.max_job_size ≡ self.old.max_job_size }
     {
         feed_state(self.alloc, &mut self.state, piece)
@@ -95,7 +95,7 @@ fn feed_state(alloc: Global, state: &mut State, piece: &[u8]) -> (usize, Option<
     ensures within { result.0 ≤ length piece.now }
     ensures progress { IfSome result.1 (λ _. 0 < result.0) }
     ensures feeds { Feeds (Stands state.old) state.new piece.now result.0 result.1 }
-    ensures over { state.old.place ≡ Over → (result.0 ≡ 0) × (result.1 ≡ None) × (state.new ≡ state.old) }
+    ensures over { IsOver state.old → (result.0 ≡ 0) × (result.1 ≡ None) × (state.new ≡ state.old) }
     ensures limit { state.new.max_job_size ≡ state.old.max_job_size }
 {
     match mem::replace(&mut state.place, Place::Over) {

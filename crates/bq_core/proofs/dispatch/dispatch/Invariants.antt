@@ -1,4 +1,5 @@
 -- what the turns so far gave
+use Rattle.std.proofs.Common.{◌≡◌}
 use Rattle.bq_job.specs.Computed.{waiting_count}
 use Rattle.bq_job.specs.Dispatch.{DispatchTurn}
 use Rattle.bq_job.specs.Steps.{has_refused_share}
@@ -10,6 +11,7 @@ abbrev pub invariant-loop : goal.invariant-loop
 invariant-loop l = record {
   given : Gives DispatchTurn has_refused_share (machine_of l.fn.state) (machine_of l.state) l.fn.outs l.outs;
   sound : IsSound l.state;
+  config : l.state.config ≡ l.fn.state.config;
   room : HasRoom 0 (machine_of l.state) l.outs;
 }
 

@@ -1,4 +1,5 @@
 -- what the turns so far gave
+use Rattle.std.proofs.Common.{◌≡◌}
 use Rattle.bq_job.specs.Computed.{waiting_count}
 use Rattle.bq_job.specs.Waits.{WaitEndTurn}
 use Rattle.bq_core.specs.State.{IsSound, machine_of}
@@ -9,6 +10,7 @@ abbrev pub invariant-loop : goal.invariant-loop
 invariant-loop l = record {
   given : Gives WaitEndTurn none_refused (machine_of l.fn.state) (machine_of l.state) l.fn.outs l.outs;
   sound : IsSound l.state;
+  config : l.state.config ≡ l.fn.state.config;
   room : HasRoom 0 (machine_of l.state) l.outs;
 }
 

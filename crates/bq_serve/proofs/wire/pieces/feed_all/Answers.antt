@@ -1,9 +1,6 @@
-use Rattle.std.proofs.Common.{◌≡◌, ◌≤◌, ◌+◌, ◌-◌, arith, length, drop, None, Some, ◌∙◌, take, sym}
+use Rattle.std.proofs.Common.{◌≤◌, ◌-◌, arith, length, drop, Some, ◌∙◌, take}
 use Rattle.std.proofs.lemmas.Grind.{common_steps}
 use Rattle.bq_serve.specs.HasRead.{ReadsOn}
-use Rattle.bq_serve.specs.declared.wire.state.Place.{Place}
-use Rattle.bq_serve.specs.declared.wire.state.Place.TheVariants.{Over}
-use Rattle.bq_serve.specs.declared.wire.state.State.{State}
 use Rattle.bq_serve.proofs.HasReadLemmas.{read_further, read_to_end, over_gives_none}
 use Rattle.bq_serve.proofs.wire.pieces.feed_all.Goals as goal
 

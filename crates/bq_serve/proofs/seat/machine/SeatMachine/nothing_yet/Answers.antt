@@ -1,20 +1,14 @@
-use Rattle.std.proofs.Common.{◌≡◌, Bool, true, false, refl, sym, ap, ◌∙◌, length, drop, arith, if◌then◌else◌}
-use Rattle.bq_job.specs.declared.line_end.LineEnd.TheVariants as ends
-use Rattle.bq_job.specs.declared.step.Step.TheVariants as steps
-use Rattle.bq_serve.specs.SeatParts.{in_stage, reads_on, is_closed}
-use Rattle.bq_serve.specs.declared.seat.machine.Action.TheVariants as actions
-use Rattle.bq_serve.specs.declared.seat.machine.Event.TheVariants as events
+use Rattle.std.proofs.Common.{refl}
 use Rattle.bq_serve.specs.declared.seat.machine.Stage.TheVariants as stages
-use Rattle.bq_serve.proofs.GoingLemmas as going
 use Rattle.bq_serve.proofs.MoveLemmas as moves
 use Rattle.bq_serve.proofs.seat.machine.SeatMachine.nothing_yet.Goals as goal
 
-pub returns-in-ReadingOn : goal.returns-in-ReadingOn
-returns-in-ReadingOn c =
+pub returns-in-ReadingOn-clause-moves : goal.returns-in-ReadingOn-clause-moves
+returns-in-ReadingOn-clause-moves c =
     moves.by_result _ _ _ _ _ _ c.poll.ensures.action c.poll.ensures.after
     (moves.from_stage _ _ _ _ stages.ReadingOn c.in-ReadingOn.is (moves.nothing_in_reading_on c.args.self.now))
 
-pub returns-in-Polling : goal.returns-in-Polling
-returns-in-Polling c =
+pub returns-in-Polling-clause-moves : goal.returns-in-Polling-clause-moves
+returns-in-Polling-clause-moves c =
     moves.by_result _ _ _ _ _ _ c.no_mail_yet.ensures.action c.no_mail_yet.ensures.after
     (moves.nothing_in_polling c.args.self.now _ _ c.in-Polling.is refl)

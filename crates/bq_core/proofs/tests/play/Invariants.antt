@@ -1,0 +1,9 @@
+-- the answers of each step find room
+use Rattle.std.proofs.Common.{◌<◌}
+use Rattle.bq_core.proofs.tests.play.Given as goal
+
+abbrev pub invariant-loop-seat : goal.invariant-loop-seat
+invariant-loop-seat g l = l.core.settings.seats < l.outs.most
+
+abbrev pub invariant-loop-row : goal.invariant-loop-row
+invariant-loop-row g l = l.core.settings.seats < l.outs.most

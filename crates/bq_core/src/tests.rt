@@ -1,0 +1,337 @@
+//! Steps of a core, with the answers that the rules of the queue give them, found by hand.
+ghost use Rattle.std.specs.Prelude.{◌≡◌, IsTrue, IfOk};
+ghost use Rattle.bq_core.specs.Acting.{is_built};
+
+use crate::{Config, Core, CoreFault, Outs};
+use bq_job::{Answer, Body, JobId, Moment, NoMemory, Pri, Refusal, Request, Seat, Step};
+use std::alloc::Global;
+use std::process::Abort;
+use std::test::Fail;
+
+#[derive(Clone, Copy, Debug)]
+enum Do {
+    Connect,
+    /// Priority, delay and time to run in seconds, and the body.
+    Put(Pri, u32, u32, &'static [u8]),
+    Reserve,
+    Delete(JobId),
+    Quit,
+    Refused(Refusal),
+    End,
+    Close,
+    Drain,
+    Tick,
+    Gone,
+}
+
+#[derive(Clone, Copy, Debug)]
+enum Want {
+    Inserted(JobId),
+    Reserved(JobId, &'static [u8]),
+    Deleted,
+    NotFound,
+    Draining,
+    TimedOut,
+    DeadlineSoon,
+    BadFormat,
+    Closed,
+}
+
+/// A moment, a seat, what happens there, and the answers that it gives.
+type Row = (Moment, Seat, Do, &'static [(Seat, Want)]);
+
+fn step_of(alloc: Global, what: Do) -> Result<Step, NoMemory>
+    ensures { IfOk result (λ step. IsTrue (is_built step)) }
+{
+    Ok(match what {
+        Do::Connect => Step::Connect,
+        Do::Put(pri, delay, ttr, bytes) => Step::Ask(Request::Put {
+            pri,
+            delay,
+            ttr,
+            body: Body::new(alloc, bytes)?,
+        }),
+        Do::Reserve => Step::Ask(Request::Reserve),
+        Do::Delete(id) => Step::Ask(Request::Delete { id }),
+        Do::Quit => Step::Ask(Request::Quit),
+        Do::Refused(why) => Step::Ask(Request::Refused { why }),
+        Do::End => Step::End,
+        Do::Close => Step::Close,
+        Do::Drain => Step::Drain,
+        Do::Tick => Step::Tick,
+        Do::Gone => Step::Gone,
+    })
+}
+
+fn is_wanted(answer: &Answer, want: Want) -> bool {
+    match (answer, want) {
+        (Answer::Inserted(id), Want::Inserted(wanted)) => *id == wanted,
+        (Answer::Reserved(id, body), Want::Reserved(wanted, bytes)) => {
+            *id == wanted && body.as_slice() == bytes
+        }
+        (Answer::Deleted, Want::Deleted) => true,
+        (Answer::NotFound, Want::NotFound) => true,
+        (Answer::Draining, Want::Draining) => true,
+        (Answer::TimedOut, Want::TimedOut) => true,
+        (Answer::DeadlineSoon, Want::DeadlineSoon) => true,
+        (Answer::BadFormat, Want::BadFormat) => true,
+        (Answer::Closed, Want::Closed) => true,
+        _ => false,
+    }
+}
+
+// The step's answers are those wanted, in their order, and no others.
+fn expect(rt: &impl Abort, outs: &mut Outs, name: &str, row: &Row)
+    ensures { outs.new.most ≡ outs.old.most }
+{
+    for (seat, want) in row.3 {
+        match outs.take_first() {
+            None => assert!(rt; false, "{name}: no answer to {row:?}"),
+            Some((to, answer)) => {
+                assert_eq!(rt; to, *seat, "{name}: {row:?} answered {answer:?}");
+                assert!(rt;
+                    is_wanted(&answer, *want),
+                    "{name}: {row:?} answered {answer:?}"
+                );
+            }
+        }
+    }
+    assert!(rt;
+        outs.take_first().is_none(),
+        "{name}: {row:?} answered too much"
+    );
+}
+
+// The steps of a row of the table, on a core with four seats, of which the first three are connected.
+fn play(rt: &impl Abort, alloc: Global, name: &str, rows: &[Row]) -> Result<(), Fail> {
+    let config = Config {
+        seats: 4,
+        max_job_size: 10,
+    };
+    let mut core = Core::new(alloc, config)?;
+    let mut outs = Outs::new(alloc, 4)?;
+    for seat in 0..3 {
+        core.step(0, seat, Step::Connect, &mut outs);
+    }
+    for row in rows {
+        let (at, seat, what, _) = *row;
+        let step = step_of(alloc, what)?;
+        core.step(at, seat, step, &mut outs);
+        expect(rt, &mut outs, name, row);
+        assert!(rt;
+            !outs.left_out() && !outs.unshared(),
+            "{name}: {row:?} was refused memory"
+        );
+    }
+    Ok(())
+}
+
+const FIRST_CYCLE: &[Row] = &[
+    (0, 0, Do::Put(5, 0, 10, b"abc"), &[(0, Want::Inserted(1))]),
+    (0, 0, Do::Reserve, &[(0, Want::Reserved(1, b"abc"))]),
+    (0, 0, Do::Delete(1), &[(0, Want::Deleted)]),
+    (0, 0, Do::Quit, &[]),
+    (0, 0, Do::Close, &[(0, Want::Closed)]),
+    (0, 0, Do::Gone, &[]),
+];
+
+const DEADLINE_SOON_BEHIND_TWO_LEASES: &[Row] = &[
+    (0, 0, Do::Put(0, 0, 1, b""), &[(0, Want::Inserted(1))]),
+    (0, 0, Do::Put(0, 0, 1, b"a"), &[(0, Want::Inserted(2))]),
+    (0, 0, Do::Reserve, &[(0, Want::Reserved(1, b""))]),
+    (0, 0, Do::Reserve, &[(0, Want::Reserved(2, b"a"))]),
+    (0, 0, Do::Reserve, &[(0, Want::DeadlineSoon)]),
+];
+
+const LEASE_EXPIRES_TO_ITS_WAITER: &[Row] = &[
+    (0, 0, Do::Put(0, 0, 2, b"x"), &[(0, Want::Inserted(1))]),
+    (0, 0, Do::Reserve, &[(0, Want::Reserved(1, b"x"))]),
+    (500, 0, Do::Reserve, &[]),
+    (2000, 0, Do::Tick, &[(0, Want::Reserved(1, b"x"))]),
+];
+
+const DEADLINE_SOON_AT_ONE_SECOND: &[Row] = &[
+    (0, 0, Do::Put(0, 0, 2, b"x"), &[(0, Want::Inserted(1))]),
+    (0, 0, Do::Reserve, &[(0, Want::Reserved(1, b"x"))]),
+    (500, 0, Do::Reserve, &[]),
+    (999, 0, Do::Tick, &[]),
+    (1000, 0, Do::Tick, &[(0, Want::DeadlineSoon)]),
+];
+
+const LEASE_BEGINS_AT_THE_RESERVE: &[Row] = &[
+    (0, 0, Do::Put(0, 0, 2, b"x"), &[(0, Want::Inserted(1))]),
+    (1500, 1, Do::Reserve, &[(1, Want::Reserved(1, b"x"))]),
+    (1500, 2, Do::Reserve, &[]),
+    (3499, 0, Do::Tick, &[]),
+    (3500, 0, Do::Tick, &[(2, Want::Reserved(1, b"x"))]),
+    (3500, 1, Do::Delete(1), &[(1, Want::NotFound)]),
+    (3500, 2, Do::Delete(1), &[(2, Want::Deleted)]),
+];
+
+const CLOSE_HANDS_ON: &[Row] = &[
+    (0, 0, Do::Put(0, 0, 9, b"x"), &[(0, Want::Inserted(1))]),
+    (0, 1, Do::Reserve, &[(1, Want::Reserved(1, b"x"))]),
+    (0, 2, Do::Reserve, &[]),
+    (0, 0, Do::Delete(1), &[(0, Want::NotFound)]),
+    (
+        0,
+        1,
+        Do::Close,
+        &[(1, Want::Closed), (2, Want::Reserved(1, b"x"))],
+    ),
+];
+
+const WAITERS_BY_TICKET: &[Row] = &[
+    (0, 2, Do::Reserve, &[]),
+    (0, 1, Do::Reserve, &[]),
+    (
+        0,
+        0,
+        Do::Put(7, 0, 9, b"p"),
+        &[(0, Want::Inserted(1)), (2, Want::Reserved(1, b"p"))],
+    ),
+    (
+        0,
+        0,
+        Do::Put(3, 0, 9, b"q"),
+        &[(0, Want::Inserted(2)), (1, Want::Reserved(2, b"q"))],
+    ),
+];
+
+const LEAST_BY_PRIORITY_THEN_ID: &[Row] = &[
+    (0, 0, Do::Put(7, 0, 9, b"x"), &[(0, Want::Inserted(1))]),
+    (0, 0, Do::Put(3, 0, 9, b"y"), &[(0, Want::Inserted(2))]),
+    (0, 0, Do::Put(3, 0, 9, b"z"), &[(0, Want::Inserted(3))]),
+    (0, 0, Do::Reserve, &[(0, Want::Reserved(2, b"y"))]),
+    (0, 0, Do::Reserve, &[(0, Want::Reserved(3, b"z"))]),
+    (0, 0, Do::Reserve, &[(0, Want::Reserved(1, b"x"))]),
+];
+
+const DELAYED_PUT: &[Row] = &[
+    (0, 0, Do::Put(0, 5, 9, b"x"), &[(0, Want::Inserted(1))]),
+    (1000, 0, Do::Reserve, &[]),
+    (4999, 0, Do::Tick, &[]),
+    (5000, 0, Do::Tick, &[(0, Want::Reserved(1, b"x"))]),
+];
+
+const DRAINING: &[Row] = &[
+    (0, 0, Do::Put(0, 0, 9, b"x"), &[(0, Want::Inserted(1))]),
+    (0, 60_000, Do::Drain, &[]),
+    (0, 0, Do::Put(0, 0, 9, b"y"), &[(0, Want::Draining)]),
+    (0, 0, Do::Reserve, &[(0, Want::Reserved(1, b"x"))]),
+];
+
+const FALLING_MOMENT: &[Row] = &[
+    (5000, 0, Do::Tick, &[]),
+    (3000, 0, Do::Put(0, 1, 9, b"x"), &[(0, Want::Inserted(1))]),
+    (0, 0, Do::Reserve, &[]),
+    (5999, 0, Do::Tick, &[]),
+    (6000, 0, Do::Tick, &[(0, Want::Reserved(1, b"x"))]),
+];
+
+const NO_SUCH_SEAT: &[Row] = &[
+    (0, 4, Do::Connect, &[]),
+    (0, 4, Do::Reserve, &[]),
+    (0, 65_535, Do::Close, &[]),
+    (0, 3, Do::Reserve, &[]),
+    (0, 0, Do::Put(0, 0, 9, b"x"), &[(0, Want::Inserted(1))]),
+    (0, 0, Do::Connect, &[]),
+    (
+        0,
+        0,
+        Do::Refused(Refusal::BadFormat),
+        &[(0, Want::BadFormat)],
+    ),
+    (0, 0, Do::Reserve, &[(0, Want::Reserved(1, b"x"))]),
+];
+
+const END_OF_A_WAITER: &[Row] = &[
+    (0, 0, Do::Reserve, &[]),
+    (0, 0, Do::Delete(1), &[]),
+    (0, 0, Do::End, &[(0, Want::TimedOut)]),
+];
+
+#[test]
+fn rows_of_steps(rt: HostRuntime) -> Result<(), Fail> {
+    play(&rt, rt.alloc(), "first_cycle", FIRST_CYCLE)?;
+    play(
+        &rt,
+        rt.alloc(),
+        "deadline_soon_behind_two_leases",
+        DEADLINE_SOON_BEHIND_TWO_LEASES,
+    )?;
+    play(
+        &rt,
+        rt.alloc(),
+        "lease_expires_to_its_waiter",
+        LEASE_EXPIRES_TO_ITS_WAITER,
+    )?;
+    play(
+        &rt,
+        rt.alloc(),
+        "deadline_soon_at_one_second",
+        DEADLINE_SOON_AT_ONE_SECOND,
+    )?;
+    play(
+        &rt,
+        rt.alloc(),
+        "lease_begins_at_the_reserve",
+        LEASE_BEGINS_AT_THE_RESERVE,
+    )?;
+    play(&rt, rt.alloc(), "close_hands_on", CLOSE_HANDS_ON)?;
+    play(&rt, rt.alloc(), "waiters_by_ticket", WAITERS_BY_TICKET)?;
+    play(
+        &rt,
+        rt.alloc(),
+        "least_by_priority_then_id",
+        LEAST_BY_PRIORITY_THEN_ID,
+    )?;
+    play(&rt, rt.alloc(), "delayed_put", DELAYED_PUT)?;
+    play(&rt, rt.alloc(), "draining", DRAINING)?;
+    play(&rt, rt.alloc(), "falling_moment", FALLING_MOMENT)?;
+    play(&rt, rt.alloc(), "no_such_seat", NO_SUCH_SEAT)?;
+    play(&rt, rt.alloc(), "end_of_a_waiter", END_OF_A_WAITER)
+}
+
+#[test]
+fn answers_are_dropped_by_the_next_step(rt: HostRuntime) -> Result<(), Fail> {
+    let config = Config {
+        seats: 1,
+        max_job_size: 1,
+    };
+    let mut core = Core::new(rt.alloc(), config)?;
+    let mut outs = Outs::new(rt.alloc(), 1)?;
+    assert!(rt; outs.take_first().is_none());
+    core.step(0, 0, Step::Connect, &mut outs);
+    core.step(0, 0, Step::Ask(Request::Delete { id: 1 }), &mut outs);
+    core.step(0, 0, Step::Tick, &mut outs);
+    assert!(rt; outs.take_first().is_none());
+    Ok(())
+}
+
+#[test]
+fn refuses_configurations(rt: HostRuntime) {
+    for (seats, max_job_size, code) in [
+        (0, 0, 302),
+        (257, 1, 302),
+        (1, 0, 303),
+        (256, 1_048_577, 303),
+    ] {
+        match Core::new(
+            rt.alloc(),
+            Config {
+                seats,
+                max_job_size,
+            },
+        ) {
+            Ok(_) => assert!(rt; false, "{seats} seats, {max_job_size} bytes"),
+            Err(fault) => assert_eq!(rt; fault.code(), code),
+        }
+    }
+    assert_eq!(rt; CoreFault::NoMemory.code(), 301);
+    let most = Config {
+        seats: 256,
+        max_job_size: 1_048_576,
+    };
+    assert!(rt; Core::new(rt.alloc(), most).is_ok());
+}

@@ -1,0 +1,169 @@
+-- Names in byte order, and the tubes that are listed.
+use Rattle.std.proofs.Common.{◌≡◌, ℕ, Bool, true, false, ◌&&◌, ◌||◌, if◌then◌else◌, List, [], ◌∷◌, ◌++◌, refl, sym, ap, ◌∙◌, map, append_assoc, append-nil}
+use Rattle.std.specs.Prelude.{fold, flat_map}
+use Rattle.std.specs.List.{list_any}
+use Rattle.std.specs.Cmp.Lexicographic.{slice_cmp, bytes_decides}
+use Rattle.std.specs.Ordering.{nat_cmp, is_lt, ordering_reverse}
+use Rattle.std.specs.declared.cmp.Ordering.{Ordering}
+use Rattle.std.specs.declared.cmp.Ordering.TheVariants.{Less, Equal, Greater}
+use Rattle.std.proofs.lemmas.Cmp.{nat_list_cmp_total}
+use Rattle.std.proofs.lemmas.Map.Lookups.{exact_bytes}
+use Rattle.bq_job.specs.declared.job.Job.{Job}
+use Rattle.bq_job.specs.Machine.{Machine, SeatRecord, default_tube}
+use Rattle.bq_job.specs.NameOrder.{is_in_order}
+use Rattle.bq_job.specs.TubeName.{is_same_name}
+use Rattle.bq_job.specs.TubeOrder.{with_name, seated_tubes, tubes}
+use Rattle.bq_job.specs.Tubes.{is_name_before, is_tube, is_seated_at}
+
+both : (a b : Bool) → (a && b) ≡ true → (a ≡ true) × (b ≡ true)
+both true b e = (refl, e)
+both false b e = cc
+
+is_Less : (r : Ordering) → is_lt r ≡ true → r ≡ Less
+is_Less Less e = refl
+is_Less Equal e = cc
+is_Less Greater e = cc
+
+-- a name that is another one, or comes before it, or else comes after it
+comes_after : (a b : List ℕ) (r : Ordering) → slice_cmp nat_cmp a b ≡ r → is_same_name a b ≡ false → is_name_before a b ≡ false → is_name_before b a ≡ true
+comes_after a b Less e same before = let h : is_name_before a b ≡ true = ap is_lt e in cc
+comes_after a b Equal e same before = let h : is_same_name a b ≡ true = (bytes_decides a b).1 (exact_bytes a b e) in cc
+comes_after a b Greater e same before = ap is_lt (nat_list_cmp_total.antisymm b a ∙ ap ordering_reverse e)
+
+after : (a b : List ℕ) → is_same_name a b ≡ false → is_name_before a b ≡ false → is_name_before b a ≡ true
+after a b = comes_after a b (slice_cmp nat_cmp a b) refl
+
+before_trans : (a b c : List ℕ) → is_name_before a b ≡ true → is_name_before b c ≡ true → is_name_before a c ≡ true
+before_trans a b c h k = ap is_lt (nat_list_cmp_total.trans a b c (is_Less _ h) (is_Less _ k))
+
+not_before : (a b : List ℕ) → is_name_before a b ≡ true → is_name_before b a ≡ false
+not_before a b h = ap is_lt (nat_list_cmp_total.antisymm b a ∙ ap ordering_reverse (is_Less _ h))
+
+not_same : (a b : List ℕ) (same : Bool) → is_same_name b a ≡ same → is_name_before a b ≡ true → same ≡ false
+not_same a b false e h = refl
+not_same a b true e h =
+    let is : b ≡ a = (bytes_decides b a).0 e in
+    let one : is_name_before a a ≡ true = ap (λ x. is_name_before a x) (sym is) ∙ h in
+    let other = not_before a a one in
+    cc
+
+-- a name that is put behind one before it
+in_order_behind : (p n : List ℕ) (names : List (List ℕ)) → is_name_before p n ≡ true → is_in_order (p ∷ names) ≡ true → is_in_order (p ∷ with_name names n) ≡ true
+in_order_behind p n [] b h = rw b refl
+in_order_behind p n (o ∷ names) b h = go (in_order_behind o n names) (is_same_name n o) (is_name_before n o) refl refl
+  where
+    go : (is_name_before o n ≡ true → is_in_order (o ∷ names) ≡ true → is_in_order (o ∷ with_name names n) ≡ true)
+        → (same before : Bool) → is_same_name n o ≡ same → is_name_before n o ≡ before
+        → is_in_order (p ∷ (if same then o ∷ names else (if before then n ∷ o ∷ names else o ∷ with_name names n))) ≡ true
+    go more true before e f = h
+    go more false true e f = let k = both (is_name_before p o) (is_in_order (o ∷ names)) h in rw (b, f) k.1
+    go more false false e f = let k = both (is_name_before p o) (is_in_order (o ∷ names)) h in rw k.0 (more (after n o e f) k.1)
+
+in_order_with : (n : List ℕ) (names : List (List ℕ)) → is_in_order names ≡ true → is_in_order (with_name names n) ≡ true
+in_order_with n [] h = refl
+in_order_with n (o ∷ names) h = go (is_same_name n o) (is_name_before n o) refl refl
+  where
+    go : (same before : Bool) → is_same_name n o ≡ same → is_name_before n o ≡ before
+        → is_in_order (if same then o ∷ names else (if before then n ∷ o ∷ names else o ∷ with_name names n)) ≡ true
+    go true before e f = h
+    go false true e f = rw f h
+    go false false e f = in_order_behind o n names (after n o e f) h
+
+pub in_order_fold : (names so_far : List (List ℕ)) → is_in_order so_far ≡ true → is_in_order (fold with_name so_far names) ≡ true
+in_order_fold [] so_far h = h
+in_order_fold (n ∷ names) so_far h = in_order_fold names (with_name so_far n) (in_order_with n so_far h)
+
+-- the first of names in order comes before each later one
+first_before : (o n : List ℕ) (names more : List (List ℕ)) → is_in_order (o ∷ (names ++ n ∷ more)) ≡ true → is_name_before o n ≡ true
+first_before o n [] more h = (both _ _ h).0
+first_before o n (x ∷ names) more h = let k = both _ _ h in before_trans o x n k.0 (first_before x n names more k.1)
+
+rest_in_order : (o : List ℕ) (names : List (List ℕ)) → is_in_order (o ∷ names) ≡ true → is_in_order names ≡ true
+rest_in_order o [] h = refl
+rest_in_order o (x ∷ names) h = (both _ _ h).1
+
+-- a name that comes after all others is put behind them
+put_last : (n : List ℕ) (names more : List (List ℕ)) → is_in_order (names ++ n ∷ more) ≡ true → with_name names n ≡ names ++ n ∷ []
+put_last n [] more h = refl
+put_last n (o ∷ names) more h =
+    let b = first_before o n names more h in
+    rw (not_same o n (is_same_name n o) refl b, not_before o n b) (ap (λ x. o ∷ x) (put_last n names more (rest_in_order o (names ++ n ∷ more) h)))
+
+pub stays_fold : (names so_far : List (List ℕ)) → is_in_order (so_far ++ names) ≡ true → fold with_name so_far names ≡ so_far ++ names
+stays_fold [] so_far h = sym (append-nil so_far)
+stays_fold (n ∷ names) so_far h =
+    let one = put_last n so_far names h in
+    let moved : so_far ++ n ∷ names ≡ (so_far ++ n ∷ []) ++ names = sym (append_assoc so_far (n ∷ []) names) in
+    rw one (stays_fold names (so_far ++ n ∷ []) (rw (← moved) h) ∙ sym moved)
+
+or_swap : (a b c : Bool) → (a || (b || c)) ≡ (b || (a || c))
+or_swap true true c = refl
+or_swap true false c = refl
+or_swap false true c = refl
+or_swap false false c = refl
+
+or_twice : (a c : Bool) → (a || c) ≡ (a || (a || c))
+or_twice true c = refl
+or_twice false c = refl
+
+or_false : (a : Bool) → (a || false) ≡ a
+or_false true = refl
+or_false false = refl
+
+or_middle : (a b c : Bool) → ((a || b) || c) ≡ (b || (a || c))
+or_middle true true c = refl
+or_middle true false c = refl
+or_middle false true c = refl
+or_middle false false c = refl
+
+or_assoc : (a b c : Bool) → ((a || b) || c) ≡ (a || (b || c))
+or_assoc true b c = refl
+or_assoc false b c = refl
+
+-- a name is among names to which one was added, if it is that one or was among them
+any_with : (p : List ℕ → Bool) (n : List ℕ) (names : List (List ℕ)) → list_any p (with_name names n) ≡ (p n || list_any p names)
+any_with p n [] = refl
+any_with p n (o ∷ names) = go (any_with p n names) (is_same_name n o) (is_name_before n o) refl
+  where
+    go : list_any p (with_name names n) ≡ (p n || list_any p names) → (same before : Bool) → is_same_name n o ≡ same
+        → list_any p (if same then o ∷ names else (if before then n ∷ o ∷ names else o ∷ with_name names n)) ≡ (p n || (p o || list_any p names))
+    go more true before e = or_twice (p o) (list_any p names) ∙ ap (λ x. p x || (p o || list_any p names)) (sym ((bytes_decides n o).0 e))
+    go more false true e = refl
+    go more false false e = ap (λ b. p o || b) more ∙ or_swap (p o) (p n) (list_any p names)
+
+any_fold : (p : List ℕ → Bool) (names so_far : List (List ℕ)) → list_any p (fold with_name so_far names) ≡ (list_any p so_far || list_any p names)
+any_fold p [] so_far = sym (or_false (list_any p so_far))
+any_fold p (n ∷ names) so_far =
+    any_fold p names (with_name so_far n) ∙ ap (λ b. b || list_any p names) (any_with p n so_far) ∙ or_middle (p n) (list_any p so_far) (list_any p names)
+
+any-append : (p : List ℕ → Bool) (xs ys : List (List ℕ)) → list_any p (xs ++ ys) ≡ (list_any p xs || list_any p ys)
+any-append p [] ys = refl
+any-append p (x ∷ xs) ys = ap (λ b. p x || b) (any-append p xs ys) ∙ sym (or_assoc (p x) (list_any p xs) (list_any p ys))
+
+any-jobs : (p : List ℕ → Bool) (jobs : List Job) → list_any p (map (λ j. j.tube) jobs) ≡ list_any (λ j. p j.tube) jobs
+any-jobs p [] = refl
+any-jobs p (j ∷ jobs) = ap (λ b. p j.tube || b) (any-jobs p jobs)
+
+seated : (name : List ℕ) (s : SeatRecord) → list_any (is_same_name name) (seated_tubes s) ≡ is_seated_at name s
+seated name s = go s.connected
+  where
+    go : (connected : Bool) → list_any (is_same_name name) (if connected then s.used ∷ s.watched else []) ≡ (connected && (is_same_name name s.used || list_any (is_same_name name) s.watched))
+    go true = refl
+    go false = refl
+
+any-seats : (name : List ℕ) (seats : List SeatRecord) → list_any (is_same_name name) (flat_map seated_tubes seats) ≡ list_any (is_seated_at name) seats
+any-seats name [] = refl
+any-seats name (s ∷ seats) =
+    any-append (is_same_name name) (seated_tubes s) (flat_map seated_tubes seats)
+    ∙ ap (λ b. b || list_any (is_same_name name) (flat_map seated_tubes seats)) (seated name s)
+    ∙ ap (λ b. is_seated_at name s || b) (any-seats name seats)
+
+-- a tube is listed if it exists
+pub listed : (name : List ℕ) (m : Machine) → list_any (is_same_name name) (tubes m) ≡ is_tube name m
+listed name m =
+    let p : List ℕ → Bool = is_same_name name in
+    let first : List (List ℕ) = default_tube ∷ map (λ j. j.tube) m.jobs in
+    any_fold p (first ++ flat_map seated_tubes m.seats) []
+    ∙ any-append p first (flat_map seated_tubes m.seats)
+    ∙ ap (λ b. (p default_tube || b) || list_any p (flat_map seated_tubes m.seats)) (any-jobs p m.jobs)
+    ∙ ap (λ b. (p default_tube || list_any (λ j. p j.tube) m.jobs) || b) (any-seats name m.seats)

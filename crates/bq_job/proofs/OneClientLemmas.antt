@@ -1,0 +1,600 @@
+-- What a step gives to one client: turns of dispatch and ends of waits give it what it waits for, and
+-- the command's own effect gives it the answer, or makes it wait.
+use Rattle.std.proofs.Common.{ℕ, zero, suc, ◌≡◌, ◌≤◌, ◌<◌, ◌+◌, Bool, true, false, ◌&&◌, ◌||◌, not, cond, List, [], ◌∷◌, ◌++◌, map, length, take, length-append, append_assoc, arith, refl, sym, ap, ◌∙◌, subst, inl, inr, Option, Some, None}
+use Rattle.std.specs.Prelude.{◌==◌, find, filter, IsTrue}
+use Rattle.std.specs.List.{AllByRecursion as All, Contains, list_any}
+use Rattle.std.proofs.lemmas.Bool.{cases_Bool, and_from, and_parts, and_right, or_from, both_ways, cond_both, eq-eqb, eqb-true, eqb-false, false_from_ne_true}
+use Rattle.std.proofs.lemmas.List.Folds.{list_any-append}
+use Rattle.bq_job.specs.declared.answer.Answer.{Answer}
+use Rattle.bq_job.specs.declared.answer.Answer.TheVariants as answers
+use Rattle.bq_job.specs.declared.job.Job.{Job}
+use Rattle.bq_job.specs.declared.job.JobState.TheVariants as states
+use Rattle.bq_job.specs.declared.refusal.Refusal.{Refusal}
+use Rattle.bq_job.specs.declared.refusal.Refusal.TheVariants as refusals
+use Rattle.bq_job.specs.declared.request.Request.{Request}
+use Rattle.bq_job.specs.declared.request.Request.TheVariants as requests
+use Rattle.bq_job.specs.declared.step.Step.{Step}
+use Rattle.bq_job.specs.declared.step.Step.TheVariants as steps
+use Rattle.bq_job.specs.Acts.{Effect, on_found, on_job, showing, silent, telling}
+use Rattle.bq_job.specs.Asked.{after_close, after_connect, asked, at_found, at_seat, effect, refusal_answer, with_end}
+use Rattle.bq_job.specs.Changes.{in_state, is_held_by, is_waiting, job_with, seat_with, with_job, with_seat, without_wait}
+use Rattle.bq_job.specs.Dispatch.{DispatchTurn, Given, IsHandOut, next_seat, reserved_by}
+use Rattle.bq_job.specs.JobCommands.{after_delete, after_kick, after_put, buried, is_free_for, kickable, kicked, new_job, put_effect, released, reserve_effect, waiting_from}
+use Rattle.bq_job.specs.JobStates.{is_buried, is_delayed, is_reserved}
+use Rattle.bq_job.specs.Lawful.{IsLawful}
+use Rattle.bq_job.specs.Limits.{later, raised}
+use Rattle.bq_job.specs.Machine.{Machine, SeatRecord, empty_seat, numbers}
+use Rattle.bq_job.specs.OneClient.{GetsAnswer, GetsClosed, GetsWhatWaits, GivesClient, answers_wanted, has_closed, is_closed_answer, is_connected_at, is_waiting_at, owing}
+use Rattle.bq_job.specs.Runs.{answers_to}
+use Rattle.bq_job.specs.StatisticsCommands.{job_statistics_or_not}
+use Rattle.bq_job.specs.Steps.{Dispatches, EndsWaits, IsStep, Memory, Outcome, Serves, acted, addressed, granted, growth_refused, is_possible, share_refused, shares_body, step_takes_memory}
+use Rattle.bq_job.specs.TubeCommands.{pause_effect, using, watched_with, watching, watching_or_refused}
+use Rattle.bq_job.specs.Timers.{after_timers, at_moment}
+use Rattle.bq_job.specs.Tubes.{forgetting, is_tube}
+use Rattle.bq_job.specs.Waits.{Chain, WaitEndTurn, end_of_wait, is_deadline_soon}
+use Rattle.bq_job.proofs.ComputedLemmas.{next_end_waits, next_seat_waits}
+use Rattle.bq_job.proofs.DispatchLemmas.{turn_of}
+use Rattle.bq_job.proofs.KeptLemmas.{is_open_wait, only_seat}
+use Rattle.bq_job.proofs.LawfulLemmas.{end_of}
+use Rattle.bq_job.proofs.ListLemmas.{all_always, all_at, all_both, all_of_map, all_pass, all_weaker, found_passes, keys_of_map, list_any_not, list_any_of_map, list_any_with, none_pass}
+
+-- whether the client at the seat waits, and whether there is one
+abbrev waits_in : ℕ → List SeatRecord → Bool
+waits_in seat seats = list_any (λ s. s.number == seat && is_waiting s) seats
+
+abbrev connected_in : ℕ → List SeatRecord → Bool
+connected_in seat seats = list_any (λ s. s.number == seat && s.connected) seats
+
+-- one of its number is waited for
+abbrev one_for : Bool → ℕ
+one_for b = cond b 1 0
+
+-- What waits may be answered, and nothing else happens to the client.
+pub record Passes (seat : ℕ) (first last : List SeatRecord) (given : List Given) : Type 0 where
+  pub count : length (answers_to seat given) + one_for (waits_in seat last) ≡ one_for (waits_in seat first)
+  pub unclosed : has_closed (answers_to seat given) ≡ false
+  pub connected : connected_in seat last ≡ connected_in seat first
+  pub numbers : map (λ s. s.number) last ≡ map (λ s. s.number) first
+
+passes_itself : (seat : ℕ) (seats : List SeatRecord) → Passes seat seats seats []
+passes_itself seat seats = record { count = omega arith; unclosed = refl; connected = refl; numbers = refl }
+
+pub answers_append : (seat : ℕ) (xs ys : List Given) → answers_to seat (xs ++ ys) ≡ answers_to seat xs ++ answers_to seat ys
+answers_append seat [] ys = refl
+answers_append seat (g ∷ xs) ys =
+    elim (cases_Bool (g.0 == seat)) [
+      | inl e ↦ rw e (ap (λ more. g.1 ∷ more) (answers_append seat xs ys))
+      | inr e ↦ rw e (answers_append seat xs ys)
+    ]
+
+unclosed_append : (xs ys : List Answer) → has_closed xs ≡ false → has_closed ys ≡ false → has_closed (xs ++ ys) ≡ false
+unclosed_append xs ys h i = list_any-append is_closed_answer xs ys ∙ or_from (has_closed xs) (has_closed ys) h i
+
+passes_then : (seat : ℕ) (first next last : List SeatRecord) (xs ys : List Given) → Passes seat first next xs → Passes seat next last ys → Passes seat first last (xs ++ ys)
+passes_then seat first next last xs ys h i = record {
+  count = let long : length (answers_to seat (xs ++ ys)) ≡ length (answers_to seat xs) + length (answers_to seat ys) = ap length (answers_append seat xs ys) ∙ simp length-append in
+      let a = h.count in let b = i.count in omega arith;
+  unclosed = ap has_closed (answers_append seat xs ys) ∙ unclosed_append (answers_to seat xs) (answers_to seat ys) h.unclosed i.unclosed;
+  connected = i.connected ∙ h.connected;
+  numbers = i.numbers ∙ h.numbers;
+}
+
+-- tests that agree on each element and its change
+any_of_map : {X : Type 0} (p q : X → Bool) (f : X → X) (xs : List X) → ((x : X) → q (f x) ≡ p x) → list_any q (map f xs) ≡ list_any p xs
+any_of_map p q f [] h = refl
+any_of_map p q f (x ∷ xs) h = rw (h x, any_of_map p q f xs h) refl
+
+-- the seats once the wait at this one is over
+abbrev unwaited : ℕ → SeatRecord → SeatRecord
+unwaited number s = cond (s.number == number) (without_wait s) s
+
+-- the client's own wait is over
+unwaited_itself : (seat : ℕ) (seats : List SeatRecord) → waits_in seat (map (unwaited seat) seats) ≡ false
+unwaited_itself seat seats =
+    list_any_not (λ s. s.number == seat && is_waiting s) (map (unwaited seat) seats)
+    (all_of_map (λ s. (s.number == seat && is_waiting s) ≡ false) (unwaited seat) seats
+    (all_always (λ s. ((unwaited seat s).number == seat && is_waiting (unwaited seat s)) ≡ false) seats
+    (λ s. cond_both (s.number == seat) (without_wait s) s (λ t. (t.number == seat && is_waiting t) ≡ false)
+    (λ e. and_right (s.number == seat) false refl)
+    (λ e. rw e refl))))
+
+-- another's wait is over
+unwaited_another : (seat number : ℕ) (seats : List SeatRecord) → (number == seat) ≡ false → waits_in seat (map (unwaited number) seats) ≡ waits_in seat seats
+unwaited_another seat number seats other =
+    any_of_map (λ s. s.number == seat && is_waiting s) (λ s. s.number == seat && is_waiting s) (unwaited number) seats
+    (λ s. cond_both (s.number == number) (without_wait s) s (λ t. (t.number == seat && is_waiting t) ≡ (s.number == seat && is_waiting s))
+    (λ e.
+    let elsewhere : (s.number == seat) ≡ false = subst (λ n. (n == seat) ≡ false) (sym (eqb-true s.number number e)) other in
+    rw elsewhere refl)
+    (λ e. refl))
+
+-- a wait that is over changes nothing else
+unwaited_connected : (seat number : ℕ) (seats : List SeatRecord) → connected_in seat (map (unwaited number) seats) ≡ connected_in seat seats
+unwaited_connected seat number seats =
+    any_of_map (λ s. s.number == seat && s.connected) (λ s. s.number == seat && s.connected) (unwaited number) seats
+    (λ s. cond_both (s.number == number) (without_wait s) s (λ t. (t.number == seat && t.connected) ≡ (s.number == seat && s.connected)) (λ e. refl) (λ e. refl))
+
+unwaited_numbers : (number : ℕ) (seats : List SeatRecord) → map (λ s. s.number) (map (unwaited number) seats) ≡ map (λ s. s.number) seats
+unwaited_numbers number seats =
+    keys_of_map (λ s. s.number) (unwaited number) seats
+    (all_always (λ s. (unwaited number s).number ≡ s.number) seats
+    (λ s. cond_both (s.number == number) (without_wait s) s (λ t. t.number ≡ s.number) (λ e. refl) (λ e. refl)))
+
+-- One who waits is answered, and waits no longer.
+passes_turn : (seat : ℕ) (seats : List SeatRecord) (s : SeatRecord) (answer : Answer) → Contains seats s → is_waiting s ≡ true → is_closed_answer answer ≡ false → Passes seat seats (map (unwaited s.number) seats) ((s.number, answer) ∷ [])
+passes_turn seat seats s answer there waits stays =
+    elim (cases_Bool (s.number == seat)) [
+      | inl e ↦
+          let is : s.number ≡ seat = eqb-true s.number seat e in
+          let told : answers_to seat ((s.number, answer) ∷ []) ≡ answer ∷ [] = rw e refl in
+          let waited : waits_in seat seats ≡ true = list_any_with (λ t. t.number == seat && is_waiting t) seats s there (and_from (s.number == seat) (is_waiting s) e waits) in
+          let over : waits_in seat (map (unwaited s.number) seats) ≡ false = subst (λ n. waits_in seat (map (unwaited n) seats) ≡ false) (sym is) (unwaited_itself seat seats) in
+          record {
+            count = rw (told, waited, over) refl;
+            unclosed = rw (told, stays) refl;
+            connected = unwaited_connected seat s.number seats;
+            numbers = unwaited_numbers s.number seats;
+          }
+      | inr e ↦
+          let told : answers_to seat ((s.number, answer) ∷ []) ≡ [] = rw e refl in
+          record {
+            count = rw (told, unwaited_another seat s.number seats e) (omega arith);
+            unclosed = rw told refl;
+            connected = unwaited_connected seat s.number seats;
+            numbers = unwaited_numbers s.number seats;
+          }
+    ]
+
+-- the same where the turn is known by equations
+passes_turn_to : (seat : ℕ) (m next : Machine) (s : SeatRecord) (answer : Answer) (given : Given) → Contains m.seats s → is_waiting s ≡ true → is_closed_answer answer ≡ false → given ≡ (s.number, answer) → next.seats ≡ map (unwaited s.number) m.seats → Passes seat m.seats next.seats (given ∷ [])
+passes_turn_to seat m next s answer given there waits stays told is =
+    subst (λ seats. Passes seat m.seats seats (given ∷ [])) (sym is)
+    (subst (λ (g : Given). Passes seat m.seats (map (unwaited s.number) m.seats) (g ∷ [])) (sym told) (passes_turn seat m.seats s answer there waits stays))
+
+passes_hand_out : (seat : ℕ) (m : Machine) (j : Job) (s : SeatRecord) (given : Given) (next : Machine) → next_seat m j ≡ Some s → IsHandOut m j s given next → Passes seat m.seats next.seats (given ∷ [])
+passes_hand_out seat m j s given next f (inl i) =
+    let w = next_seat_waits m j s f in
+    passes_turn_to seat m next s (answers.Reserved j.id j.body) given w.0 w.1 refl i.0 (ap (λ (n : Machine). n.seats) i.1)
+passes_hand_out seat m j s given next f (inr i) =
+    let w = next_seat_waits m j s f in
+    passes_turn_to seat m next s answers.OutOfMemory given w.0 w.1 refl i.0 (ap (λ (n : Machine). n.seats) i.1)
+
+passes_dispatch : (seat : ℕ) (m : Machine) (given : Given) (next : Machine) → DispatchTurn m given next → Passes seat m.seats next.seats (given ∷ [])
+passes_dispatch seat m given next turn =
+    let t = turn_of m given next turn in passes_hand_out seat m t.job t.client given next t.client_is t.hands
+
+passes_wait_end : (seat : ℕ) (m : Machine) (given : Given) (next : Machine) → WaitEndTurn m given next → Passes seat m.seats next.seats (given ∷ [])
+passes_wait_end seat m given next turn =
+    let e = end_of m given next turn in
+    let w = next_end_waits m e.client e.client_is in
+    passes_turn_to seat m next e.client (end_of_wait m e.client) given w.0 w.1
+    (cond_both (is_deadline_soon m e.client) answers.DeadlineSoon answers.TimedOut (λ a. is_closed_answer a ≡ false) (λ d. refl) (λ d. refl)) e.given_is
+    (ap (λ (n : Machine). n.seats) e.next_is)
+
+-- turns one after another
+passes_chain : (Turns : Machine → Given → Machine → Type 0) (seat : ℕ) (first : Machine) (given : List Given) (last : Machine) → ((m : Machine) (g : Given) (n : Machine) → Turns m g n → Passes seat m.seats n.seats (g ∷ [])) → Chain Turns first given last → Passes seat first.seats last.seats given
+passes_chain Turns seat first [] last each chain = subst (λ (n : Machine). Passes seat first.seats n.seats []) (sym chain) (passes_itself seat first.seats)
+passes_chain Turns seat first (g ∷ given) last each chain =
+    passes_then seat first.seats (chain.0).seats last.seats (g ∷ []) given (each first g chain.0 chain.1) (passes_chain Turns seat chain.0 given last each chain.2)
+
+-- dispatch and the ends of waits
+pub passes_serves : (seat : ℕ) (first : Machine) (handed ended : List Given) (last : Machine) → Serves first handed ended last → Passes seat first.seats last.seats (handed ++ ended)
+passes_serves seat first handed ended last s =
+    let d = s.dispatches in
+    let e = s.ends_waits in
+    let begin = passes_chain DispatchTurn seat first handed d.end (passes_dispatch seat) d.turns in
+    let then = passes_chain WaitEndTurn seat s.between ended e.end (passes_wait_end seat) e.turns in
+    passes_then seat first.seats (s.between).seats last.seats handed ended
+    (subst (λ (n : Machine). Passes seat first.seats n.seats handed) (sym d.forgets) begin)
+    (subst (λ (n : Machine). Passes seat (s.between).seats n.seats ended) (sym e.forgets) then)
+
+-- The only seat of its number.
+record Found (seat : ℕ) (seats : List SeatRecord) : Type 0 where
+  client : SeatRecord
+  found : seat_with seat seats ≡ Some client
+  number : client.number ≡ seat
+  there : Contains seats client
+  waits : waits_in seat seats ≡ is_waiting client
+  connected : connected_in seat seats ≡ client.connected
+
+-- A test of the client at the seat is a test of its record.
+found_any : (seat : ℕ) (seats : List SeatRecord) (s : SeatRecord) (p : SeatRecord → Bool) → s.number ≡ seat → Contains seats s → All (λ t. t.number ≡ seat → t ≡ s) seats → list_any (λ t. t.number == seat && p t) seats ≡ p s
+found_any seat seats s p is there alone =
+    elim (cases_Bool (p s)) [
+      | inl e ↦ list_any_with (λ t. t.number == seat && p t) seats s there (and_from (s.number == seat) (p s) (eq-eqb s.number seat is) e) ∙ sym e
+      | inr e ↦
+          list_any_not (λ t. t.number == seat && p t) seats
+          (all_weaker (λ t. t.number ≡ seat → t ≡ s) (λ t. (t.number == seat && p t) ≡ false) seats
+          (λ t only. elim (cases_Bool (t.number == seat)) [
+            | inl b ↦ and_right (t.number == seat) (p t) (ap p (only (eqb-true t.number seat b)) ∙ e)
+            | inr b ↦ rw b refl
+          ]) alone) ∙ sym e
+    ]
+
+-- Where there are enough seats one is found.
+finds_seat : (low n seat : ℕ) (seats : List SeatRecord) → map (λ s. s.number) seats ≡ numbers low n → low ≤ seat → seat < low + n → (s : SeatRecord) × (seat_with seat seats ≡ Some s)
+finds_seat low zero seat seats e from below = absurd (omega arith)
+finds_seat low (suc n) seat [] e from below = absurd cc
+finds_seat low (suc n) seat (s ∷ seats) e from below =
+    let here : s.number ≡ low = (cc) in
+    let rest : map (λ s. s.number) seats ≡ numbers (suc low) n = (cc) in
+    elim (cases_Bool (s.number == seat)) [
+      | inl b ↦ (s, rw b refl)
+      | inr b ↦
+          let other = eqb-false s.number seat b in
+          let more = finds_seat (suc low) n seat seats rest (omega arith) (omega arith) in
+          (more.0, rw b (more.1))
+    ]
+
+finds : (n seat : ℕ) (seats : List SeatRecord) → map (λ s. s.number) seats ≡ numbers 0 n → seat < n → Found seat seats
+finds n seat seats e below =
+    let f = finds_seat 0 n seat seats e (omega arith) (omega arith) in
+    let p = found_passes (λ s. s.number == seat) seats f.0 f.1 in
+    let is : (f.0).number ≡ seat = eqb-true (f.0).number seat p.0 in
+    let alone = only_seat 0 n seat seats f.0 e f.1 in
+    record {
+      client = f.0;
+      found = f.1;
+      number = is;
+      there = p.1;
+      waits = found_any seat seats f.0 is_waiting is p.1 alone;
+      connected = found_any seat seats f.0 (λ s. s.connected) is p.1 alone;
+    }
+
+-- the seats where the one of this number is changed
+abbrev changed : ℕ → (SeatRecord → SeatRecord) → List SeatRecord → List SeatRecord
+changed number f seats = map (λ s. cond (s.number == number) (f s) s) seats
+
+-- The changed seat passes no test that the change doesn't,
+changed_none : (number : ℕ) (f : SeatRecord → SeatRecord) (q : SeatRecord → Bool) (seats : List SeatRecord) → ((s : SeatRecord) → q (f s) ≡ false) → list_any (λ s. s.number == number && q s) (changed number f seats) ≡ false
+changed_none number f q seats fails =
+    list_any_not (λ s. s.number == number && q s) (changed number f seats)
+    (all_of_map (λ s. (s.number == number && q s) ≡ false) (λ s. cond (s.number == number) (f s) s) seats
+    (all_always (λ s. ((cond (s.number == number) (f s) s).number == number && q (cond (s.number == number) (f s) s)) ≡ false) seats
+    (λ s. cond_both (s.number == number) (f s) s (λ t. (t.number == number && q t) ≡ false)
+    (λ e. and_right ((f s).number == number) (q (f s)) (fails s))
+    (λ e. rw e refl))))
+
+-- and passes one that the change does.
+changed_some : (f : SeatRecord → SeatRecord) (q : SeatRecord → Bool) (seats : List SeatRecord) (s : SeatRecord) → Contains seats s → ((s : SeatRecord) → (f s).number ≡ s.number) → ((s : SeatRecord) → q (f s) ≡ true) → list_any (λ t. t.number == s.number && q t) (changed s.number f seats) ≡ true
+changed_some f q seats s there same passes =
+    list_any_of_map (λ t. t.number == s.number) (λ t. t.number == s.number && q t) (λ t. cond (t.number == s.number) (f t) t) seats
+    (all_always (λ t. (t.number == s.number) ≡ true → ((cond (t.number == s.number) (f t) t).number == s.number && q (cond (t.number == s.number) (f t) t)) ≡ true) seats
+    (λ t e. rw e (and_from ((f t).number == s.number) (q (f t)) (rw (same t) e) (passes t))))
+    (list_any_with (λ t. t.number == s.number) seats s there (eq-eqb s.number s.number refl))
+
+-- A change that leaves the number and the answer to a test leaves the test of every seat.
+changed_quiet : (seat number : ℕ) (f : SeatRecord → SeatRecord) (q : SeatRecord → Bool) (seats : List SeatRecord) → ((s : SeatRecord) → (f s).number ≡ s.number) → ((s : SeatRecord) → q (f s) ≡ q s) → list_any (λ s. s.number == seat && q s) (changed number f seats) ≡ list_any (λ s. s.number == seat && q s) seats
+changed_quiet seat number f q seats same as_before =
+    any_of_map (λ s. s.number == seat && q s) (λ s. s.number == seat && q s) (λ s. cond (s.number == number) (f s) s) seats
+    (λ s. cond_both (s.number == number) (f s) s (λ t. (t.number == seat && q t) ≡ (s.number == seat && q s)) (λ e. ap (λ n. n == seat && q (f s)) (same s) ∙ ap (λ b. s.number == seat && b) (as_before s)) (λ e. refl))
+
+-- what the command itself tells the client
+abbrev told : Option Answer → List Answer
+told None = []
+told (Some answer) = answer ∷ []
+
+-- The client asks without waiting: it is told so much, or waits for it.
+record Replies (seat wanted : ℕ) (seats : List SeatRecord) (e : Effect) : Type 0 where
+  count : length (told e.answer) + one_for (waits_in seat (e.machine).seats) ≡ wanted
+  unclosed : has_closed (told e.answer) ≡ false
+  connected : connected_in seat (e.machine).seats ≡ connected_in seat seats
+
+replies_telling : (seat : ℕ) (m n : Machine) (answer : Answer) → is_closed_answer answer ≡ false → waits_in seat n.seats ≡ false → connected_in seat n.seats ≡ connected_in seat m.seats → Replies seat 1 m.seats (telling answer n)
+replies_telling seat m n answer stays w c = record { count = rw w refl; unclosed = rw stays refl; connected = c }
+
+-- the same machine with other jobs
+replies_jobs : (seat : ℕ) (m n : Machine) (answer : Answer) → waits_in seat m.seats ≡ false → is_closed_answer answer ≡ false → n.seats ≡ m.seats → Replies seat 1 m.seats (telling answer n)
+replies_jobs seat m n answer w stays same = replies_telling seat m n answer stays (ap (waits_in seat) same ∙ w) (ap (connected_in seat) same)
+
+-- A seat changes, and its client waits as before.
+replies_seat : (seat number : ℕ) (f : SeatRecord → SeatRecord) (m : Machine) (answer : Answer) → waits_in seat m.seats ≡ false → is_closed_answer answer ≡ false → ((s : SeatRecord) → (f s).number ≡ s.number) → ((s : SeatRecord) → (f s).connected ≡ s.connected) → ((s : SeatRecord) → is_waiting (f s) ≡ is_waiting s) → Replies seat 1 m.seats (telling answer (with_seat number f m))
+replies_seat seat number f m answer w stays same connects waits_as =
+    replies_telling seat m (with_seat number f m) answer stays
+    (changed_quiet seat number f is_waiting m.seats same waits_as ∙ w) (changed_quiet seat number f (λ s. s.connected) m.seats same connects)
+
+replies_on_job : (seat : ℕ) (passes : Job → Bool) (act : Job → Effect) (m : Machine) (o : Option Job) → waits_in seat m.seats ≡ false → ((j : Job) → Replies seat 1 m.seats (act j)) → Replies seat 1 m.seats (on_found passes act m o)
+replies_on_job seat passes act m None w goes = replies_jobs seat m m answers.NotFound w refl refl
+replies_on_job seat passes act m (Some j) w goes =
+    cond_both (passes j) (act j) (telling answers.NotFound m) (Replies seat 1 m.seats) (λ e. goes j) (λ e. replies_jobs seat m m answers.NotFound w refl refl)
+
+replies_showing : (seat : ℕ) (m : Machine) (o : Option Job) → waits_in seat m.seats ≡ false → Replies seat 1 m.seats (showing m o)
+replies_showing seat m None w = replies_jobs seat m m answers.NotFound w refl refl
+replies_showing seat m (Some j) w = replies_jobs seat m m (answers.Found j.id j.body) w refl refl
+
+replies_statistics : (seat : ℕ) (m : Machine) (o : Option Job) → waits_in seat m.seats ≡ false → Replies seat 1 m.seats (job_statistics_or_not m o)
+replies_statistics seat m None w = replies_jobs seat m m answers.NotFound w refl refl
+replies_statistics seat m (Some j) w = replies_jobs seat m m _ w refl refl
+
+replies_watching : (seat : ℕ) (tubes : List (List ℕ)) (m : Machine) (s : SeatRecord) → waits_in seat m.seats ≡ false → Replies seat 1 m.seats (watching_or_refused tubes m s)
+replies_watching seat [] m s w = replies_jobs seat m m answers.NotIgnored w refl refl
+replies_watching seat (tube ∷ tubes) m s w = replies_seat seat s.number (watching (tube ∷ tubes)) m _ w refl (λ s. refl) (λ s. refl) (λ s. refl)
+
+-- The client begins to wait.
+replies_reserve : (until : Option ℕ) (m : Machine) (s : SeatRecord) → Contains m.seats s → Replies s.number 1 m.seats (reserve_effect until m s)
+replies_reserve until m s there = record {
+  count = rw (changed_some (waiting_from (raised m.tickets) until) is_waiting m.seats s there (λ t. refl) (λ t. refl)) refl;
+  unclosed = refl;
+  connected = changed_quiet s.number s.number (waiting_from (raised m.tickets) until) (λ t. t.connected) m.seats (λ t. refl) (λ t. refl);
+}
+
+refusal_stays : (why : Refusal) → is_closed_answer (refusal_answer why) ≡ false
+refusal_stays refusals.UnknownCommand = refl
+refusal_stays refusals.BadFormat = refl
+refusal_stays refusals.JobTooBig = refl
+refusal_stays refusals.ExpectedCrlf = refl
+refusal_stays refusals.OutOfMemory = refl
+
+-- every request
+replies_asked : (request : Request) (m : Machine) (s : SeatRecord) → Contains m.seats s → waits_in s.number m.seats ≡ false → Replies s.number (answers_wanted request) m.seats (asked request m s)
+replies_asked (requests.Put pri delay ttr body) m s there w =
+    cond_both m.draining (telling answers.Draining m) (telling (answers.Inserted m.next_id) (after_put m (new_job m s pri delay ttr body))) (Replies s.number 1 m.seats)
+    (λ e. replies_jobs s.number m m answers.Draining w refl refl)
+    (λ e. replies_jobs s.number m (after_put m (new_job m s pri delay ttr body)) (answers.Inserted m.next_id) w refl refl)
+replies_asked requests.Reserve m s there w = replies_reserve None m s there
+replies_asked (requests.ReserveWithTimeout seconds) m s there w = replies_reserve (Some (later m.moment seconds)) m s there
+replies_asked (requests.ReserveJob id) m s there w =
+    replies_on_job s.number (λ j. not (is_reserved j.state)) (λ j. telling (answers.Reserved j.id j.body) (with_job id (reserved_by m.moment s.number) m)) m (job_with id m.jobs) w
+    (λ j. replies_jobs s.number m (with_job id (reserved_by m.moment s.number) m) (answers.Reserved j.id j.body) w refl refl)
+replies_asked (requests.Delete id) m s there w =
+    replies_on_job s.number (is_free_for s) (λ j. telling answers.Deleted (after_delete m j)) m (job_with id m.jobs) w
+    (λ j. replies_jobs s.number m (after_delete m j) answers.Deleted w refl refl)
+replies_asked (requests.Release id pri delay) m s there w =
+    replies_on_job s.number (is_held_by s.number) (λ j. telling answers.Released (with_job id (released m.moment pri delay) m)) m (job_with id m.jobs) w
+    (λ j. replies_jobs s.number m (with_job id (released m.moment pri delay) m) answers.Released w refl refl)
+replies_asked (requests.Bury id pri) m s there w =
+    replies_on_job s.number (is_held_by s.number) (λ j. telling answers.Buried (record (with_job id (buried (raised m.burials) pri) m) { burials = raised m.burials })) m (job_with id m.jobs) w
+    (λ j. replies_jobs s.number m _ answers.Buried w refl refl)
+replies_asked (requests.Touch id) m s there w =
+    replies_on_job s.number (is_held_by s.number) (λ j. telling answers.Touched (with_job id (in_state (states.Reserved s.number (later m.moment j.ttr))) m)) m (job_with id m.jobs) w
+    (λ j. replies_jobs s.number m _ answers.Touched w refl refl)
+replies_asked (requests.Kick bound) m s there w = replies_jobs s.number m _ _ w refl refl
+replies_asked (requests.KickJob id) m s there w =
+    replies_on_job s.number _ (λ j. telling answers.Kicked (with_job id kicked m)) m (job_with id m.jobs) w (λ j. replies_jobs s.number m _ answers.Kicked w refl refl)
+replies_asked (requests.Use tube) m s there w = replies_seat s.number s.number (using tube) m (answers.Using tube) w refl (λ s. refl) (λ s. refl) (λ s. refl)
+replies_asked requests.ListTubeUsed m s there w = replies_jobs s.number m m (answers.Using s.used) w refl refl
+replies_asked (requests.Watch tube) m s there w = replies_seat s.number s.number (watching (watched_with tube s)) m _ w refl (λ s. refl) (λ s. refl) (λ s. refl)
+replies_asked (requests.Ignore tube) m s there w = replies_watching s.number _ m s w
+replies_asked (requests.Peek id) m s there w = replies_showing s.number m (job_with id m.jobs) w
+replies_asked requests.PeekReady m s there w = replies_showing s.number m _ w
+replies_asked requests.PeekDelayed m s there w = replies_showing s.number m _ w
+replies_asked requests.PeekBuried m s there w = replies_showing s.number m _ w
+replies_asked (requests.PauseTube tube delay) m s there w =
+    cond_both (is_tube tube m) _ _ (Replies s.number 1 m.seats) (λ e. replies_jobs s.number m _ answers.Paused w refl refl) (λ e. replies_jobs s.number m m answers.NotFound w refl refl)
+replies_asked (requests.StatsJob id) m s there w = replies_statistics s.number m (job_with id m.jobs) w
+replies_asked (requests.StatsTube tube) m s there w =
+    cond_both (is_tube tube m) _ _ (Replies s.number 1 m.seats) (λ e. replies_jobs s.number m m _ w refl refl) (λ e. replies_jobs s.number m m answers.NotFound w refl refl)
+replies_asked requests.Stats m s there w = replies_jobs s.number m m _ w refl refl
+replies_asked requests.ListTubes m s there w = replies_jobs s.number m m _ w refl refl
+replies_asked requests.ListTubesWatched m s there w = replies_jobs s.number m m _ w refl refl
+replies_asked requests.Quit m s there w = record { count = rw w refl; unclosed = refl; connected = refl }
+replies_asked (requests.Refused why) m s there w = replies_jobs s.number m m (refusal_answer why) w (refusal_stays why) refl
+
+-- an open client that doesn't wait asks
+replies_effect : (m : Machine) (seat : ℕ) (request : Request) (f : Found seat m.seats) → connected_in seat m.seats ≡ true → waits_in seat m.seats ≡ false → Replies seat (answers_wanted request) m.seats (effect m seat (steps.Ask request))
+replies_effect m seat request f c w =
+    let s = f.client in
+    let open_now : s.connected ≡ true = sym f.connected ∙ c in
+    let waits_not : is_waiting s ≡ false = sym f.waits ∙ w in
+    subst (λ o. Replies seat (answers_wanted request) m.seats (at_found (steps.Ask request) m o)) (sym f.found)
+    (subst (λ b. Replies seat (answers_wanted request) m.seats (cond b (asked request m s) (silent m))) (sym (and_from s.connected (not (is_waiting s)) open_now (ap not waits_not)))
+    (subst (λ n. Replies n (answers_wanted request) m.seats (asked request m s)) f.number
+    (replies_asked request m s f.there (subst (λ n. waits_in n m.seats ≡ false) (sym f.number) w))))
+
+wants_one : (request : Request) → step_takes_memory (steps.Ask request) ≡ true → answers_wanted request ≡ 1
+wants_one requests.Quit h = absurd cc
+wants_one _ h = refl
+
+-- What shares a body is an answer to a request that wants one.
+shares_one : (request : Request) (o : Option Answer) (n : ℕ) → shares_body o ≡ true → length (told o) + n ≡ answers_wanted request → answers_wanted request ≡ 1
+shares_one requests.Quit None n h e = absurd cc
+shares_one requests.Quit (Some answer) n h e = let one : 1 + n ≡ 0 = e in absurd (omega arith)
+shares_one _ o n h e = refl
+
+-- the same whatever became of the memory that it wanted
+replies_acted : (memory : Memory) (m : Machine) (seat : ℕ) (request : Request) → waits_in seat m.seats ≡ false → IsTrue (is_possible memory m seat (steps.Ask request)) → Replies seat (answers_wanted request) m.seats (effect m seat (steps.Ask request)) → Replies seat (answers_wanted request) m.seats (acted memory m seat (steps.Ask request))
+replies_acted granted m seat request w p h = h
+replies_acted growth_refused m seat request w p h =
+    let one = wants_one request ((and_parts _ _ p).0) in
+    subst (λ n. Replies seat n m.seats (telling answers.OutOfMemory m)) (sym one) (replies_jobs seat m m answers.OutOfMemory w refl refl)
+replies_acted share_refused m seat request w p h =
+    let one = shares_one request (effect m seat (steps.Ask request)).answer _ p h.count in
+    subst (λ n. Replies seat n m.seats (telling answers.OutOfMemory m)) (sym one) (replies_jobs seat m m answers.OutOfMemory w refl refl)
+
+-- the parts of a step, to one client
+record Parts (client : ℕ) (first last : Machine) (seat : ℕ) (what : Step) (given : List Given) : Type 0 where
+  memory : Memory
+  before : Machine
+  early : List Given
+  late : List Given
+  comes : Passes client first.seats before.seats early
+  possible : IsTrue (is_possible memory before seat what)
+  goes : Passes client ((acted memory before seat what).machine).seats last.seats late
+  given_is : given ≡ early ++ (addressed seat (acted memory before seat what).answer ++ late)
+
+parts_of : (client : ℕ) (first last : Machine) (at seat : ℕ) (what : Step) (outcome : Outcome) (given : List Given) → IsStep first at seat what outcome given last → Parts client first last seat what given
+parts_of client first last at seat what outcome given s = record {
+  memory = s.memory;
+  before = s.before;
+  early = s.handed ++ s.ended;
+  late = s.handed_then ++ s.ended_then;
+  comes = passes_serves client (forgetting (after_timers (at_moment at first))) s.handed s.ended s.before s.serves;
+  possible = s.possible;
+  goes = subst (λ (n : Machine). Passes client n.seats last.seats (s.handed_then ++ s.ended_then)) s.acts (passes_serves client s.after s.handed_then s.ended_then last s.serves_then);
+  given_is = let told_now = addressed seat (acted s.memory s.before seat what).answer in
+      s.answers_are
+      ∙ append_assoc (s.handed ++ s.ended ++ told_now) s.handed_then s.ended_then
+      ∙ append_assoc (s.handed ++ s.ended) told_now (s.handed_then ++ s.ended_then);
+}
+
+-- Where no memory is taken and no body shared, none is refused.
+acted_fully : (memory : Memory) (m : Machine) (seat : ℕ) (what : Step) → step_takes_memory what ≡ false → shares_body (effect m seat what).answer ≡ false → IsTrue (is_possible memory m seat what) → acted memory m seat what ≡ effect m seat what
+acted_fully granted m seat what h i p = refl
+acted_fully growth_refused m seat what h i p = absurd (both_ways (step_takes_memory what) h ((and_parts _ _ p).0))
+acted_fully share_refused m seat what h i p = absurd (both_ways (shares_body (effect m seat what).answer) i p)
+
+-- A command that tells nobody anything, and leaves the client as it was.
+passes_quiet : (client : ℕ) (first last : Machine) (seat : ℕ) (what : Step) (given : List Given) → Parts client first last seat what given → step_takes_memory what ≡ false → ((m : Machine) → (effect m seat what).answer ≡ None) → ((m : Machine) → Passes client m.seats ((effect m seat what).machine).seats []) → Passes client first.seats last.seats given
+passes_quiet client first last seat what given p takes untold quiet =
+    let m = p.before in
+    let e : acted p.memory m seat what ≡ effect m seat what = acted_fully p.memory m seat what takes (ap shares_body (untold m)) p.possible in
+    let goes : Passes client ((effect m seat what).machine).seats last.seats p.late = subst (λ (x : Effect). Passes client (x.machine).seats last.seats p.late) e p.goes in
+    let given_is : given ≡ p.early ++ p.late =
+    p.given_is ∙ ap (λ (x : Effect). p.early ++ (addressed seat x.answer ++ p.late)) e ∙ ap (λ o. p.early ++ (addressed seat o ++ p.late)) (untold m) in
+    subst (Passes client first.seats last.seats) (sym given_is)
+    (passes_then client first.seats m.seats last.seats p.early p.late p.comes
+    (passes_then client m.seats ((effect m seat what).machine).seats last.seats [] p.late (quiet m) goes))
+
+end_untold : (m : Machine) (o : Option SeatRecord) → (at_found steps.End m o).answer ≡ None
+end_untold m None = refl
+end_untold m (Some s) = cond_both s.connected (silent (with_seat s.number with_end m)) (silent m) (λ e. e.answer ≡ None) (λ e. refl) (λ e. refl)
+
+end_quiet : (client : ℕ) (m : Machine) (o : Option SeatRecord) → Passes client m.seats ((at_found steps.End m o).machine).seats []
+end_quiet client m None = passes_itself client m.seats
+end_quiet client m (Some s) =
+    cond_both s.connected (silent (with_seat s.number with_end m)) (silent m) (λ e. Passes client m.seats (e.machine).seats [])
+    (λ e.
+    let waits = changed_quiet client s.number with_end is_waiting m.seats (λ t. refl) (λ t. refl) in
+    record {
+      count = let same : one_for (waits_in client (changed s.number with_end m.seats)) ≡ one_for (waits_in client m.seats) = ap one_for waits in omega arith;
+      unclosed = refl;
+      connected = changed_quiet client s.number with_end (λ t. t.connected) m.seats (λ t. refl) (λ t. refl);
+      numbers = keys_of_map (λ t. t.number) (λ t. cond (t.number == s.number) (with_end t) t) m.seats
+          (all_always (λ t. (cond (t.number == s.number) (with_end t) t).number ≡ t.number) m.seats
+          (λ t. cond_both (t.number == s.number) (with_end t) t (λ u. u.number ≡ t.number) (λ e. refl) (λ e. refl)));
+    })
+    (λ e. passes_itself client m.seats)
+
+-- what a client gets that takes no step of its own
+gets_what_waits : (first last : Machine) (seat : ℕ) (given : List Given) → Passes seat first.seats last.seats given → GetsWhatWaits first last seat (answers_to seat given)
+gets_what_waits first last seat given p = record { count = p.count; unclosed = p.unclosed; connected = p.connected }
+
+none_waited : (n : ℕ) (b : Bool) → n + one_for b ≡ 0 → (n ≡ 0) × (b ≡ false)
+none_waited n true h = absurd (omega arith)
+none_waited n false h = (omega arith, refl)
+
+no_length : (xs : List Answer) → length xs ≡ 0 → xs ≡ []
+no_length [] h = refl
+no_length (x ∷ xs) h = absurd (omega arith)
+
+addressed_told : (seat : ℕ) (o : Option Answer) → answers_to seat (addressed seat o) ≡ told o
+addressed_told seat None = refl
+addressed_told seat (Some answer) = rw (eq-eqb seat seat refl) refl
+
+-- the answers to the client that takes the step
+answers_of_parts : (seat : ℕ) (o : Option Answer) (early late given : List Given) → given ≡ early ++ (addressed seat o ++ late) → answers_to seat given ≡ answers_to seat early ++ (told o ++ answers_to seat late)
+answers_of_parts seat o early late given e =
+    ap (answers_to seat) e
+    ∙ answers_append seat early (addressed seat o ++ late)
+    ∙ ap (λ more. answers_to seat early ++ more) (answers_append seat (addressed seat o) late)
+    ∙ ap (λ now. answers_to seat early ++ (now ++ answers_to seat late)) (addressed_told seat o)
+
+no_wait : (here connected waits : Bool) → (not waits || connected) ≡ true → (here && connected) ≡ false → (here && waits) ≡ false
+no_wait false connected waits h i = refl
+no_wait true true waits h i = absurd cc
+no_wait true false true h i = absurd cc
+no_wait true false false h i = refl
+
+-- Where nobody is connected nobody waits.
+unconnected_waits_not : (seat : ℕ) (seats : List SeatRecord) → All (λ s. is_open_wait s ≡ true) seats → connected_in seat seats ≡ false → waits_in seat seats ≡ false
+unconnected_waits_not seat seats waits c =
+    list_any_not (λ s. s.number == seat && is_waiting s) seats
+    (all_weaker (λ s. (is_open_wait s ≡ true) × ((s.number == seat && s.connected) ≡ false)) (λ s. (s.number == seat && is_waiting s) ≡ false) seats
+    (λ s h. no_wait (s.number == seat) s.connected (is_waiting s) h.0 h.1)
+    (all_both (λ s. is_open_wait s ≡ true) (λ s. (s.number == seat && s.connected) ≡ false) seats waits (none_pass (λ s. s.number == seat && s.connected) seats c)))
+
+-- the seat that the step is at, before the command's own effect
+found_before : (first last : Machine) (seat : ℕ) (what : Step) (given : List Given) → IsLawful first → seat < first.settings.seats → (p : Parts seat first last seat what given) → Found seat (p.before).seats
+found_before first last seat what given h there p = finds first.settings.seats seat (p.before).seats (p.comes.numbers ∙ h.seats) there
+
+abbrev seated : SeatRecord → SeatRecord
+seated s = record (empty_seat s.number) { connected = true }
+
+gives_connect : (first last : Machine) (seat : ℕ) (given : List Given) → IsLawful first → seat < first.settings.seats → Parts seat first last seat steps.Connect given → connected_in seat first.seats ≡ false → (answers_to seat given ≡ []) × (owing seat last ≡ 0) × (is_connected_at seat last ≡ true)
+gives_connect first last seat given h there p c =
+    let m = p.before in
+    let f = found_before first last seat steps.Connect given h there p in
+    let s = f.client in
+    let waits_first : waits_in seat first.seats ≡ false = unconnected_waits_not seat first.seats (all_pass is_open_wait first.seats h.waits) c in
+    let begin = none_waited (length (answers_to seat p.early)) (waits_in seat m.seats) (p.comes.count ∙ ap one_for waits_first) in
+    let gone : s.connected ≡ false = sym f.connected ∙ p.comes.connected ∙ c in
+    let effect_is : effect m seat steps.Connect ≡ silent (after_connect m s.number) =
+    ap (at_found steps.Connect m) f.found ∙ ap (λ b. cond b (silent m) (silent (after_connect m s.number))) gone in
+    let e : acted p.memory m seat steps.Connect ≡ silent (after_connect m s.number) =
+    acted_fully p.memory m seat steps.Connect refl (ap (λ (x : Effect). shares_body x.answer) effect_is) p.possible ∙ effect_is in
+    let goes : Passes seat (changed s.number seated m.seats) last.seats p.late = subst (λ (x : Effect). Passes seat (x.machine).seats last.seats p.late) e p.goes in
+    let waits_after : waits_in seat (changed s.number seated m.seats) ≡ false =
+    subst (λ n. waits_in n (changed s.number seated m.seats) ≡ false) f.number (changed_none s.number seated is_waiting m.seats (λ t. refl)) in
+    let connected_after : connected_in seat (changed s.number seated m.seats) ≡ true =
+    subst (λ n. connected_in n (changed s.number seated m.seats) ≡ true) f.number (changed_some seated (λ t. t.connected) m.seats s f.there (λ t. refl) (λ t. refl)) in
+    let then = none_waited (length (answers_to seat p.late)) (waits_in seat last.seats) (goes.count ∙ ap one_for waits_after) in
+    let nothing : answers_to seat given ≡ answers_to seat p.early ++ answers_to seat p.late =
+    answers_of_parts seat None p.early p.late given (p.given_is ∙ ap (λ (x : Effect). p.early ++ (addressed seat x.answer ++ p.late)) e) in (
+      nothing ∙ ap (λ xs. xs ++ answers_to seat p.late) (no_length (answers_to seat p.early) begin.0) ∙ no_length (answers_to seat p.late) then.0,
+      ap one_for then.1,
+      goes.connected ∙ connected_after,
+    )
+
+gives_answer : (first last : Machine) (seat : ℕ) (request : Request) (given : List Given) → IsLawful first → seat < first.settings.seats → Parts seat first last seat (steps.Ask request) given → connected_in seat first.seats ≡ true → owing seat first ≡ 0 → GetsAnswer first last seat request (answers_to seat given)
+gives_answer first last seat request given h there p c none =
+    let m = p.before in
+    let f = found_before first last seat (steps.Ask request) given h there p in
+    let begin = none_waited (length (answers_to seat p.early)) (waits_in seat m.seats) (p.comes.count ∙ none) in
+    let reply = replies_acted p.memory m seat request begin.1 p.possible (replies_effect m seat request f (p.comes.connected ∙ c) begin.1) in
+    let o = (acted p.memory m seat (steps.Ask request)).answer in
+    let all : answers_to seat given ≡ told o ++ answers_to seat p.late =
+    answers_of_parts seat o p.early p.late given p.given_is
+    ∙ ap (λ xs. xs ++ (told o ++ answers_to seat p.late)) (no_length (answers_to seat p.early) begin.0) in
+    record {
+      count = let long : length (answers_to seat given) ≡ length (told o) + length (answers_to seat p.late) = ap length all ∙ simp length-append in
+          let a = reply.count in let b = p.goes.count in omega arith;
+      unclosed = ap has_closed all ∙ unclosed_append (told o) (answers_to seat p.late) reply.unclosed p.goes.unclosed;
+      connected = p.goes.connected ∙ reply.connected ∙ p.comes.connected ∙ c;
+    }
+
+gives_closed : (first last : Machine) (seat : ℕ) (given : List Given) → IsLawful first → seat < first.settings.seats → Parts seat first last seat steps.Close given → connected_in seat first.seats ≡ true → GetsClosed first last seat (answers_to seat given)
+gives_closed first last seat given h there p c =
+    let m = p.before in
+    let f = found_before first last seat steps.Close given h there p in
+    let s = f.client in
+    let here : s.connected ≡ true = sym f.connected ∙ p.comes.connected ∙ c in
+    let effect_is : effect m seat steps.Close ≡ telling answers.Closed (after_close m s.number) =
+    ap (at_found steps.Close m) f.found ∙ ap (λ b. cond b (telling answers.Closed (after_close m s.number)) (silent m)) here in
+    let e : acted p.memory m seat steps.Close ≡ telling answers.Closed (after_close m s.number) =
+    acted_fully p.memory m seat steps.Close refl (ap (λ (x : Effect). shares_body x.answer) effect_is) p.possible ∙ effect_is in
+    let emptied : SeatRecord → SeatRecord = λ s. empty_seat s.number in
+    let goes : Passes seat (changed s.number emptied m.seats) last.seats p.late = subst (λ (x : Effect). Passes seat (x.machine).seats last.seats p.late) e p.goes in
+    let waits_after : waits_in seat (changed s.number emptied m.seats) ≡ false =
+    subst (λ n. waits_in n (changed s.number emptied m.seats) ≡ false) f.number (changed_none s.number emptied is_waiting m.seats (λ t. refl)) in
+    let connected_after : connected_in seat (changed s.number emptied m.seats) ≡ false =
+    subst (λ n. connected_in n (changed s.number emptied m.seats) ≡ false) f.number (changed_none s.number emptied (λ t. t.connected) m.seats (λ t. refl)) in
+    let then = none_waited (length (answers_to seat p.late)) (waits_in seat last.seats) (goes.count ∙ ap one_for waits_after) in
+    record {
+      early = answers_to seat p.early;
+      given_is = answers_of_parts seat (Some answers.Closed) p.early p.late given (p.given_is ∙ ap (λ (x : Effect). p.early ++ (addressed seat x.answer ++ p.late)) e)
+          ∙ ap (λ xs. answers_to seat p.early ++ (answers.Closed ∷ xs)) (no_length (answers_to seat p.late) then.0);
+      count = let a = p.comes.count in omega arith;
+      unclosed = p.comes.unclosed;
+      none = ap one_for then.1;
+      gone = goes.connected ∙ connected_after;
+    }
+
+-- What a step gives to the client at its seat.
+pub step_gives_client : (first last : Machine) (at seat : ℕ) (what : Step) (outcome : Outcome) (given : List Given) → IsLawful first → seat < first.settings.seats → IsStep first at seat what outcome given last → GivesClient seat first what given last
+step_gives_client first last at seat steps.Connect outcome given h there s = λ c. gives_connect first last seat given h there (parts_of seat first last at seat steps.Connect outcome given s) c
+step_gives_client first last at seat (steps.Ask request) outcome given h there s =
+    λ c none. gives_answer first last seat request given h there (parts_of seat first last at seat (steps.Ask request) outcome given s) c none
+step_gives_client first last at seat steps.Close outcome given h there s = λ c. gives_closed first last seat given h there (parts_of seat first last at seat steps.Close outcome given s) c
+step_gives_client first last at seat steps.End outcome given h there s =
+    gets_what_waits first last seat given
+    (passes_quiet seat first last seat steps.End given (parts_of seat first last at seat steps.End outcome given s) refl
+    (λ m. end_untold m (seat_with seat m.seats)) (λ m. end_quiet seat m (seat_with seat m.seats)))
+step_gives_client first last at seat steps.Drain outcome given h there s =
+    gets_what_waits first last seat given
+    (passes_quiet seat first last seat steps.Drain given (parts_of seat first last at seat steps.Drain outcome given s) refl (λ m. refl) (λ m. passes_itself seat m.seats))
+step_gives_client first last at seat steps.Tick outcome given h there s =
+    gets_what_waits first last seat given
+    (passes_quiet seat first last seat steps.Tick given (parts_of seat first last at seat steps.Tick outcome given s) refl (λ m. refl) (λ m. passes_itself seat m.seats))
+step_gives_client first last at seat steps.Gone outcome given h there s =
+    gets_what_waits first last seat given
+    (passes_quiet seat first last seat steps.Gone given (parts_of seat first last at seat steps.Gone outcome given s) refl (λ m. refl) (λ m. passes_itself seat m.seats))

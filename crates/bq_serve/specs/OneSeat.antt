@@ -1,0 +1,53 @@
+-- A run of one client, at the one seat of a machine.
+use Rattle.std.specs.Prelude.{ℕ, Bool, true, false, ◌≡◌, ◌+◌, ◌≤◌, ◌==◌, IsTrue, List, [], ◌∷◌, ◌++◌, map, max, Option, Some, None, length}
+use Rattle.std.specs.List.{list_all}
+use Rattle.bq_job.specs.declared.answer.Answer.{Answer}
+use Rattle.bq_job.specs.declared.line_end.LineEnd.{LineEnd}
+use Rattle.bq_job.specs.declared.step.Step.{Step}
+use Rattle.bq_job.specs.Dispatch.{Given}
+use Rattle.bq_job.specs.History.{IsTimedBy, moments_heard, steps_at}
+use Rattle.bq_job.specs.Lawful.{IsLawful}
+use Rattle.bq_job.specs.LineSteps.{AreAllAnswered, IsStepsOfLine, IsWritten, LineSeen}
+use Rattle.bq_job.specs.Machine.{Machine, Settings, new_machine}
+use Rattle.bq_job.specs.Profile.{Profile}
+use Rattle.bq_job.specs.Runs.{Entry, Run, answers_of_line, answers_to}
+
+-- the moment that a reading stands for, after this one: none, or a smaller one, counts as the last
+abbrev pub moment_heard : ℕ → Option ℕ → ℕ
+moment_heard last None = last
+moment_heard last (Some moment) = max last moment
+
+-- the moment after all of these readings
+abbrev pub last_heard : ℕ → List (Option ℕ) → ℕ
+last_heard last [] = last
+last_heard last (reading ∷ readings) = last_heard (moment_heard last reading) readings
+
+-- The machine took the steps of this history, each at the moment of a reading of its own, and gave the
+-- client these answers.
+pub record IsRecord (settings : Settings) (history : List Entry) (readings : List (Option ℕ)) (answers : List Answer) (last : Machine) (moment : ℕ) : Type 0 where
+  pub given : List Given
+  pub runs : Run (new_machine settings) history given last
+  pub timed : map (λ e. e.moment) history ≡ moments_heard 0 readings
+  pub moment_is : moment ≡ last_heard 0 readings
+  pub lawful : IsLawful last
+  pub alone : IsTrue (list_all (λ e. e.seat == 0) history)
+  pub answers_are : answers_to 0 given ≡ answers
+
+-- The line is written what it is owed for these steps.
+pub record IsLineOf (profile : Profile) (seen : LineSeen) (over : LineEnd) (given : List Given) (taken : List Step) : Type 0 where
+  pub steps : IsStepsOfLine profile seen over taken
+  pub answered : AreAllAnswered over steps.asked (answers_of_line 0 0 given)
+  pub written : IsWritten over steps.asked (answers_of_line 0 0 given) seen.written
+
+-- One client was served. There is one history of steps, each at the moment of one of the clock's readings,
+-- in their order, and all of them at the client's seat but for ticks. The machine takes it from the start.
+-- Where the line tells its bytes, the steps are those of the line, each request was answered, and the
+-- line was written exactly what it was owed.
+pub record IsServedAlone (settings : Settings) (profile : Profile) (tells_bytes : Bool) (seen : LineSeen) (over : LineEnd) (readings : List (Option ℕ)) : Type 0 where
+  pub history : List Entry
+  pub given : List Given
+  pub last : Machine
+  pub runs : Run (new_machine settings) history given last
+  pub timed : IsTimedBy readings history
+  pub alone : IsTrue (list_all (λ e. e.seat == 0) history)
+  pub line : IsTrue tells_bytes → IsLineOf profile seen over given (steps_at 0 history)
