@@ -1,0 +1,34 @@
+//! What is chosen for a program.
+
+/// The programs that take options.
+#[derive(Clone, Copy, Debug, PartialEq, Eq)]
+pub enum Program {
+    /// Serves one client over its standard input and output.
+    Bq,
+}
+
+/// What is chosen for a program. A program that doesn't take an option has its default.
+#[derive(Debug, Drop)]
+pub struct Options {
+    /// The address to listen at, as it was written.
+    pub listen: Option<String>,
+    /// Whether the clock stands at 0.
+    pub still: bool,
+    /// How many clients can be connected at a time.
+    pub seats: u16,
+    /// How many bytes a job's body may have, 1 to 1,048,576.
+    pub max_job_size: u32,
+    /// How many connections each seat serves. None: without end.
+    pub sessions: Option<u32>,
+}
+
+/// Why there are no options.
+#[derive(Debug, Drop)]
+pub enum OptionFault {
+    /// The words are no options of the program; the text says why.
+    BadOptions(String),
+    /// The text is the help that was asked for.
+    AskedHelp(String),
+    /// A growth of memory was refused.
+    NoMemory,
+}
