@@ -1,3 +1,4 @@
+pub mod ArmLemmas
 pub mod GoesOnLemmas
 pub mod HistoryLemmas
 pub mod InTurnLemmas

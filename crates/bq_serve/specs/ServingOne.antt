@@ -21,14 +21,14 @@ use Rattle.bq_serve.specs.declared.seat.machine.Action.TheVariants as actions
 use Rattle.bq_serve.specs.declared.seat.machine.SeatMachine.{SeatMachine}
 
 -- The core took a step at a moment that it read from the clock, and its answers went into the mail.
-pub record TakesStep (core : Machine) (mail : List Answer) (heard : ℕ) (reading : Option ℕ) (what : Step) (next : Machine) (then : List Answer) (now_heard : ℕ) : Type 0 where
+pub record TakesStep (core : Machine) (mail : List Answer) (heard : ℕ) (reading : Option ℕ) (what : Step) (next : Machine) (later : List Answer) (now_heard : ℕ) : Type 0 where
   pub outcome : Outcome
   pub given : List Given
   pub step : IsStep core (moment_heard heard reading) 0 what outcome given next
   pub lawful : IsLawful next
   pub settings : next.settings ≡ core.settings
   pub heard_is : now_heard ≡ moment_heard heard reading
-  pub mail_is : then ≡ mail ++ map (λ (g : Given). g.1) given
+  pub mail_is : later ≡ mail ++ map (λ (g : Given). g.1) given
 
 -- the steps that were taken, while this action is carried out
 abbrev pub AreTaken : Action → Past → List Step → Type 0
