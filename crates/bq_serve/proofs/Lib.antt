@@ -1,3 +1,4 @@
+pub mod EventLemmas
 pub mod ArmLemmas
 pub mod GoesOnLemmas
 pub mod HistoryLemmas
