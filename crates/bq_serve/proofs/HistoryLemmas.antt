@@ -1,7 +1,7 @@
 -- The record of one client's run, step by step, and what it comes to in the end.
-use Rattle.std.proofs.Common.{◌≡◌, ℕ, ◌+◌, ◌≤◌, ◌⊎◌, Bool, true, false, ◌||◌, not, List, [], ◌∷◌, ◌++◌, Option, Some, None, map, length, max, refl, sym, ap, ◌∙◌, arith, subst, inl, inr, append-nil, append_assoc}
+use Rattle.std.proofs.Common.{◌≡◌, ℕ, ◌+◌, ◌≤◌, ◌⊎◌, Bool, true, false, ◌||◌, List, [], ◌∷◌, ◌++◌, Option, Some, None, map, length, max, refl, sym, ap, ◌∙◌, arith, subst, inl, inr, append-nil, append_assoc}
 use Rattle.std.specs.Prelude.{IsTrue, MatchBool, if◌then◌else◌, ◌==◌, slice_index_or}
-use Rattle.std.specs.List.{list_any, list_all}
+use Rattle.std.specs.List.{list_all}
 use Rattle.std.proofs.lemmas.Bool.{cases_Bool, and_parts, and_from, or_from, or_right, MatchBool-at_true, MatchBool-at_false}
 use Rattle.std.proofs.lemmas.List.{length-append}
 use Rattle.std.proofs.lemmas.List.Folds.{list_any-append}
@@ -15,7 +15,7 @@ use Rattle.bq_job.specs.declared.request.Request.TheVariants as requests
 use Rattle.bq_job.specs.declared.step.Step.{Step}
 use Rattle.bq_job.specs.declared.step.Step.TheVariants as steps
 use Rattle.bq_job.specs.Dispatch.{Given}
-use Rattle.bq_job.specs.History.{ArePickedFrom, IsTimedBy, is_tick, moments_heard, steps_at}
+use Rattle.bq_job.specs.History.{ArePickedFrom, is_tick, moments_heard, steps_at}
 use Rattle.bq_job.specs.Lawful.{IsLawful}
 use Rattle.bq_job.specs.LineSteps.{AreAllAnswered, AreEnds, IsOverBy, IsStepsOfLine, IsWritten, LineSeen, answered_count, answers_text, ends_by_wait}
 use Rattle.bq_job.specs.Machine.{Machine, Settings, new_machine}
@@ -83,9 +83,9 @@ steps_append (x ∷ xs) ys =
     elim (cases_Bool (is_tick x.what)) [
       | inl e ↦ rw e (steps_append xs ys)
       | inr e ↦ elim (cases_Bool (x.seat == 0)) [
-          | inl f ↦ rw (e, f) (ap (λ (more : List Step). x.what ∷ more) (steps_append xs ys))
-          | inr f ↦ rw (e, f) (steps_append xs ys)
-        ]
+        | inl f ↦ rw (e, f) (ap (λ (more : List Step). x.what ∷ more) (steps_append xs ys))
+        | inr f ↦ rw (e, f) (steps_append xs ys)
+      ]
     ]
 
 step_here : (at : ℕ) (what : Step) → steps_at 0 (entry_at at what ∷ []) ≡ (if is_tick what then [] else what ∷ [])
