@@ -185,7 +185,7 @@ opens m next kept stands same none =
       unchanged = λ e. cc;
       awaits = λ e. refl;
       profile = same;
-      opened = λ e. begun;
+      opened = λ e. (refl, begun);
       past = λ p h. begun;
       over = tt;
     }

@@ -158,7 +158,7 @@ quits r next kept n p o same unit =
         };
         handed_out = o.written_is;
         answered = omega (arith, o.answered, answered_count-quit o.asked o.no_quit);
-        broken = tt;
+        broken = o.fault_is;
       },
       record {
         asked = o.asked;
@@ -202,7 +202,7 @@ ends_line r kept told ended p o none e written = record {
   };
   handed_out = o.written_is;
   answered = omega (arith, o.answered, answered_count-asked o.asked o.no_quit);
-  broken = tt;
+  broken = o.fault_is;
 }
 
 -- the first fault of a past without one
@@ -299,8 +299,8 @@ answered r kept told waits p a w =
 
 -- mail after the close is no part of what was served
 still_broken : (end : LineEnd) (p : Past) (mail : List Answer) → IsLastBroken end p → IsLastBroken end (record p { late_mail = mail })
-still_broken ends.Quit p mail h = tt
-still_broken ends.EndOfInput p mail h = tt
+still_broken ends.Quit p mail h = h
+still_broken ends.EndOfInput p mail h = h
 still_broken ends.ReadFault p mail h = tt
 still_broken ends.WriteFault p mail h = h
 

@@ -1,12 +1,12 @@
-pub mod OneSeat
-pub mod InTurn
 pub mod Asked
 pub mod Doors
 pub mod FaultCodes
 pub mod HasRead
+pub mod InTurn
 pub mod LineCalls
 pub mod LineEnds
 pub mod LineParts
+pub mod OneSeat
 pub mod Past
 pub mod PutBodies
 pub mod ScriptPlace
@@ -14,6 +14,7 @@ pub mod SeatMoves
 pub mod SeatParts
 pub mod SeatStands
 pub mod Standing
+pub mod UnderWay
 pub mod WordsLeft
 pub mod WordsSoFar
 pub mod Writing

@@ -1,6 +1,7 @@
 -- What a seat machine does with an event.
 use Rattle.std.specs.Prelude.{ℕ, ◌≡◌, ◌≤◌, Bool, true, false, not, ◌&&◌, ◌==◌, if◌then◌else◌, List, length, Some}
 use Rattle.bq_job.specs.declared.line_end.LineEnd.{LineEnd}
+use Rattle.bq_job.specs.declared.step.Step.TheVariants as steps
 use Rattle.bq_serve.specs.Past.{Past, past_after, first_past, is_stray, awaited_by, answers}
 use Rattle.bq_serve.specs.SeatStands.{StandsFor, IsServed, seat_profile, awaited}
 use Rattle.bq_serve.specs.declared.seat.machine.Event.{Event}
@@ -16,9 +17,9 @@ abbrev pub FitsPiece : Event → Type 0
 FitsPiece (events.Bytes bytes) = length bytes.now ≤ 4096
 FitsPiece _ = Unit {0}
 
--- An opened line that was awaited has a past of its own.
+-- An opened line that was awaited has a past of its own, and its connect is submitted.
 abbrev pub OpensPast : Event → Action → SeatMachine → Type 0
-OpensPast events.Opened action new = is_stray action ≡ false → StandsFor new first_past
+OpensPast events.Opened action new = is_stray action ≡ false → (action ≡ actions.Submit steps.Connect) × StandsFor new first_past
 OpensPast _ action new = Unit {0}
 
 abbrev pub IfLineOver : Action → (LineEnd → Type 0) → Type 0

@@ -28,10 +28,13 @@ end_if told = if told then steps.End ∷ [] else []
 abbrev pub seen_line : List ℕ → Past → LineSeen
 seen_line bytes p = record { read = p.bytes; written = bytes; ended = p.ended; fault = p.fault }
 
--- A write fault came on the last answer that was handed out.
+-- A write fault came on the last answer that was handed out. A line that is over by a quit or by the end
+-- of its input had no fault.
 abbrev pub IsLastBroken : LineEnd → Past → Type 0
+IsLastBroken ends.Quit p = p.fault ≡ None
+IsLastBroken ends.EndOfInput p = p.fault ≡ None
+IsLastBroken ends.ReadFault p = Unit {0}
 IsLastBroken ends.WriteFault p = p.written_at_fault ≡ length p.written
-IsLastBroken _ p = Unit {0}
 
 -- A line was served from its opening to its close: its steps are those of the line. The answers that
 -- were handed out for writing are those that came before the close, in their order: one for each request
