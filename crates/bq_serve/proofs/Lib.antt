@@ -1,14 +1,14 @@
-pub mod EventLemmas
 pub mod ArmLemmas
+pub mod EventLemmas
 pub mod GoesOnLemmas
-pub mod HistoryLemmas
-pub mod InTurnLemmas
-pub mod OneSeatLemmas
 pub mod GoingLemmas
 pub mod HasReadLemmas
+pub mod HistoryLemmas
+pub mod InTurnLemmas
 pub mod LineEndLemmas
 pub mod MoveLemmas
 pub mod NumberLemmas
+pub mod OneSeatLemmas
 pub mod OpenLemmas
 pub mod PartLemmas
 pub mod PutBodyLemmas
@@ -17,3 +17,4 @@ pub mod ReadingLemmas
 pub mod ReadingsLemmas
 pub mod StepLemmas
 pub mod WordLemmas
+pub mod WritingLemmas

@@ -1,4 +1,4 @@
-ghost use Rattle.std.specs.Prelude.{◌≡◌, ◌≤◌, ◌+◌, ◌++◌, length};
+ghost use Rattle.std.specs.Prelude.{◌≡◌, ◌≤◌, ◌+◌, ◌++◌, true, length};
 ghost use Rattle.bq_job.specs.AnswerText.{answer_text};
 ghost use Rattle.bq_serve.specs.Writing.{Writes};
 
@@ -7,11 +7,20 @@ use crate::line::Line;
 use crate::wire::{HeadBuf, answer_body, answer_head, answer_tail};
 use bq_job::Answer;
 
+/// How many bytes the head and the tail of an answer have at most, where they are joined.
+const END_ROOM: usize = 256;
+
 /// Writes the text of an answer and sends it off. Whether all of it was written.
 pub fn write_answer<L: Line>(line: &mut L, answer: &Answer) -> bool
     ensures { Writes L.tells_bytes (answer_text answer.now) (L.seen line.old) (L.seen line.new) result }
 {
-    write_text(line, answer) && line.flush().is_ok()
+    if !write_text(line, answer) {
+        return false;
+    }
+    match line.flush() {
+        Ok(()) => true,
+        Err(_) => false,
+    }
 }
 
 // The parts of a text that is short go out in one write, and those of a longer one after one another.
@@ -23,11 +32,18 @@ fn write_text<L: Line>(line: &mut L, answer: &Answer) -> bool
     let head = head_room.as_slice();
     let body = answer_body(answer);
     let tail = answer_tail(answer);
-    if body.len() <= JOINED_ROOM - 512 {
+    if are_short(head, body, tail) {
         write_joined(line, head, body, tail)
     } else {
-        write_all(line, head) && write_all(line, body) && write_all(line, tail)
+        write_parts(line, head, body, tail)
     }
+}
+
+// Whether the parts can be joined.
+fn are_short(head: &[u8], body: &[u8], tail: &[u8]) -> bool
+    ensures { result ≡ true → length head.now + length body.now + length tail.now ≤ 4096 }
+{
+    head.len() <= END_ROOM && tail.len() <= END_ROOM && body.len() <= JOINED_ROOM - 2 * END_ROOM
 }
 
 fn write_joined<L: Line>(line: &mut L, head: &[u8], body: &[u8], tail: &[u8]) -> bool
@@ -41,6 +57,18 @@ fn write_joined<L: Line>(line: &mut L, head: &[u8], body: &[u8], tail: &[u8]) ->
     write_all(line, joined.as_slice())
 }
 
+fn write_parts<L: Line>(line: &mut L, head: &[u8], body: &[u8], tail: &[u8]) -> bool
+    ensures { Writes L.tells_bytes (head.now ++ body.now ++ tail.now) (L.seen line.old) (L.seen line.new) result }
+{
+    if !write_all(line, head) {
+        return false;
+    }
+    if !write_all(line, body) {
+        return false;
+    }
+    write_all(line, tail)
+}
+
 // Writes until all bytes are taken or a write fails.
 fn write_all<L: Line>(line: &mut L, bytes: &[u8]) -> bool
     ensures { Writes L.tells_bytes bytes.now (L.seen line.old) (L.seen line.new) result }
@@ -48,8 +76,13 @@ fn write_all<L: Line>(line: &mut L, bytes: &[u8]) -> bool
     let mut done = 0;
     while done < bytes.len() {
         match line.write(&bytes[done..]) {
-            Ok(0) | Err(_) => return false,
-            Ok(count) => done += count,
+            Ok(count) => {
+                if count == 0 {
+                    return false;
+                }
+                done += count;
+            }
+            Err(_) => return false,
         }
     }
     true
