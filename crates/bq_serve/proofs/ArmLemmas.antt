@@ -24,7 +24,6 @@ use Rattle.bq_serve.specs.declared.seat.machine.Action.TheVariants as actions
 use Rattle.bq_serve.specs.declared.seat.machine.SeatMachine.{SeatMachine}
 use Rattle.bq_serve.proofs.HistoryLemmas.{client_asks, client_closes, client_connects, client_ends, client_ticks, entry_at, record_more, steps_more}
 use Rattle.bq_serve.proofs.InTurnLemmas.{in_turn}
-use Rattle.bq_serve.proofs.OneSeatLemmas.{answers_here, filter_all}
 
 -- the step that is submitted comes in its turn
 turn_of_submit : (machine : SeatMachine) (p : Past) (taken : List Step) (step : Step) → awaited_by (actions.Submit step) ≡ Some (awaited machine) → p.steps ≡ taken ++ step ∷ [] → StandsFor machine p → IsInTurn step taken p.mail
@@ -44,11 +43,6 @@ client_after steps.Drain taken mail answers core next given turn few c g = absur
 client_after steps.Tick taken mail answers core next given turn few c g = absurd turn
 client_after steps.Gone taken mail answers core next given turn few c g = absurd turn
 
--- the answers to the only client are all that were given
-all_given : (core next : Machine) (mail : List Answer) (heard : ℕ) (reading : Option ℕ) (what : Step) (later : List Answer) (now : ℕ) → IsLawful core → core.settings.seats ≡ 1 → (t : TakesStep core mail heard reading what next later now) → answers_to 0 t.given ≡ map (λ (g : Given). g.1) t.given
-all_given core next mail heard reading what later now lawful one t =
-    filter_all t.given (answers_here core next (moment_heard heard reading) what t.outcome t.given lawful one (ap (λ s. s.seats) t.settings ∙ one) t.step)
-
 joined_on : (a b c d : List Answer) → (a ++ (b ++ c)) ++ d ≡ a ++ (b ++ (c ++ d))
 joined_on a b c d = append_assoc a (b ++ c) d ∙ ap (λ x. a ++ x) (append_assoc b c d)
 
@@ -57,11 +51,8 @@ module _ (settings : Settings) (tells : Bool) (core next : Machine) (mail later 
   abbrev pub history_with : List Entry
   history_with = history ++ entry_at (moment_heard heard reading) what ∷ []
 
-  answers_with : core.settings.seats ≡ 1 → IsSettled settings tells core mail heard seen readings history written p → (t : TakesStep core mail heard reading what next later now) → (p.mail ++ (p.late_mail ++ mail)) ++ answers_to 0 t.given ≡ p.mail ++ (p.late_mail ++ later)
-  answers_with one s t =
-      ap (λ g. (p.mail ++ (p.late_mail ++ mail)) ++ g) (all_given core next mail heard reading what later now s.recorded.lawful one t)
-      ∙ joined_on p.mail p.late_mail mail (map (λ (g : Given). g.1) t.given)
-      ∙ ap (λ m. p.mail ++ (p.late_mail ++ m)) (sym t.mail_is)
+  answers_with : IsSettled settings tells core mail heard seen readings history written p → (t : TakesStep core mail heard reading what next later now) → (p.mail ++ (p.late_mail ++ mail)) ++ answers_to 0 t.given ≡ p.mail ++ (p.late_mail ++ later)
+  answers_with s t = joined_on p.mail p.late_mail mail (answers_to 0 t.given) ∙ ap (λ m. p.mail ++ (p.late_mail ++ m)) (sym t.mail_is)
 
   gives_here : core.settings.seats ≡ 1 → IsSettled settings tells core mail heard seen readings history written p → (t : TakesStep core mail heard reading what next later now) → GivesClient 0 core what t.given next
   gives_here one s t =
@@ -70,7 +61,7 @@ module _ (settings : Settings) (tells : Bool) (core next : Machine) (mail later 
 
   settled_after : core.settings.seats ≡ 1 → (s : IsSettled settings tells core mail heard seen readings history written p) → (t : TakesStep core mail heard reading what next later now) → IsClientAt (steps_at 0 history_with) ((p.mail ++ (p.late_mail ++ mail)) ++ answers_to 0 t.given) next → IsSettled settings tells next later now seen (readings ++ reading ∷ []) history_with written p
   settled_after one s t client =
-      let same = answers_with one s t in
+      let same = answers_with s t in
       let more = record_more settings history readings (p.mail ++ (p.late_mail ++ mail)) core next heard reading what t.outcome t.given s.recorded t.step t.lawful in
       record {
         recorded = subst (λ n. IsRecord settings history_with (readings ++ reading ∷ []) (p.mail ++ (p.late_mail ++ later)) next n) (sym t.heard_is)

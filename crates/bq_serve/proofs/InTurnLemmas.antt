@@ -54,7 +54,7 @@ asks_last : (asked : List Request) (q : Request) → map steps.Ask (asked ++ q �
 asks_last [] q = refl
 asks_last (r ∷ asked) q = ap (λ x. steps.Ask r ∷ x) (asks_last asked q)
 
-wanted_joined : (xs ys : List Step) → wanted (xs ++ ys) ≡ wanted xs + wanted ys
+pub wanted_joined : (xs ys : List Step) → wanted (xs ++ ys) ≡ wanted xs + wanted ys
 wanted_joined [] ys = omega arith
 wanted_joined (steps.Ask r ∷ xs) ys = omega (arith, wanted_joined xs ys)
 wanted_joined (_ ∷ xs) ys = wanted_joined xs ys
@@ -114,7 +114,7 @@ closes_at asked told taken mail step e ends count =
       | inr one ↦ (asked, true, last.0 ∙ ap (λ t. (steps.Connect ∷ map steps.Ask asked) ++ t) one, few_told one)
     ])
 
-few_missing : (end : LineEnd) (asked : List Request) (mail : List Answer) → AreAllAnswered end asked mail → answered_count asked ≤ length mail + 1
+pub few_missing : (end : LineEnd) (asked : List Request) (mail : List Answer) → AreAllAnswered end asked mail → answered_count asked ≤ length mail + 1
 few_missing ends.Quit asked mail h = omega arith
 few_missing ends.EndOfInput asked mail h = omega arith
 few_missing ends.WriteFault asked mail h = omega arith

@@ -1,4 +1,5 @@
 pub mod ArmLemmas
+pub mod CarryLemmas
 pub mod EventLemmas
 pub mod GoesOnLemmas
 pub mod GoingLemmas

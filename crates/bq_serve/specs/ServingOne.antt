@@ -1,6 +1,6 @@
 -- How far a run of one client has come: what the seat machine stands for, what the core has recorded, and
 -- what the line tells agree.
-use Rattle.std.specs.Prelude.{ℕ, Bool, false, ◌≡◌, List, [], ◌∷◌, ◌++◌, map, Option, Some}
+use Rattle.std.specs.Prelude.{ℕ, Bool, false, ◌≡◌, List, [], ◌∷◌, ◌++◌, Option, Some}
 use Rattle.bq_job.specs.declared.answer.Answer.{Answer}
 use Rattle.bq_job.specs.declared.step.Step.{Step}
 use Rattle.bq_job.specs.Dispatch.{Given}
@@ -10,12 +10,14 @@ use Rattle.bq_job.specs.LineSteps.{LineSeen, answers_text}
 use Rattle.bq_job.specs.Machine.{Machine, Settings}
 use Rattle.bq_job.specs.OneClient.{has_closed}
 use Rattle.bq_job.specs.Profile.{Profile}
-use Rattle.bq_job.specs.Runs.{Entry}
+use Rattle.bq_job.specs.Runs.{Entry, answers_to}
 use Rattle.bq_job.specs.Steps.{IsStep, Outcome}
 use Rattle.bq_serve.specs.LineCalls.{Tells}
 use Rattle.bq_serve.specs.OneSeat.{IsClientAt, IsRecord, IsWrittenSo, has_close, moment_heard}
 use Rattle.bq_serve.specs.Past.{Past, awaited_by}
 use Rattle.bq_serve.specs.SeatStands.{StandsFor, awaited, seat_profile, seen_line}
+use Rattle.bq_serve.specs.WordsSoFar.{words_so_far}
+use Rattle.bq_serve.specs.declared.run.serving.Serving.{Serving}
 use Rattle.bq_serve.specs.declared.seat.machine.Action.{Action}
 use Rattle.bq_serve.specs.declared.seat.machine.Action.TheVariants as actions
 use Rattle.bq_serve.specs.declared.seat.machine.SeatMachine.{SeatMachine}
@@ -28,7 +30,7 @@ pub record TakesStep (core : Machine) (mail : List Answer) (heard : ℕ) (readin
   pub lawful : IsLawful next
   pub settings : next.settings ≡ core.settings
   pub heard_is : now_heard ≡ moment_heard heard reading
-  pub mail_is : later ≡ mail ++ map (λ (g : Given). g.1) given
+  pub mail_is : later ≡ mail ++ answers_to 0 given
 
 -- the steps that were taken, while this action is carried out
 abbrev pub AreTaken : Action → Past → List Step → Type 0
@@ -60,3 +62,26 @@ pub record IsServing (settings : Settings) (profile : Profile) (tells : Bool) (m
   pub stands : StandsFor machine past
   pub awaits : awaited_by action ≡ Some (awaited machine)
   pub profile_is : seat_profile machine ≡ profile
+
+-- What carrying an action out comes to, for a line that tells so much before and after, and these readings
+-- of the clock meanwhile: whatever the run was, it goes on by the next action.
+abbrev pub CarriesOn : Bool → LineSeen → LineSeen → Serving → Action → Serving → Action → List (Option ℕ) → Type 0
+CarriesOn tells seen later old action new next reads =
+    (settings : Settings) (profile : Profile) (readings : List (Option ℕ))
+    → IsServing settings profile tells old.machine old.core old.mail old.heard seen readings action
+    → IsServing settings profile tells new.machine new.core new.mail new.heard later (readings ++ reads) next
+
+-- There is room for what a step of one seat gives.
+pub record IsRoomy (serving : Serving) : Type 0 where
+  pub one : serving.core.settings.seats ≡ 1
+  pub most : serving.outs.most ≡ 2
+
+-- a run that carries out this action, whatever its line and its clock are
+pub record IsUnderWay (serving : Serving) (action : Action) : Type 0 where
+  pub settings : Settings
+  pub profile : Profile
+  pub tells : Bool
+  pub seen : LineSeen
+  pub readings : List (Option ℕ)
+  pub serves : IsServing settings profile tells serving.machine serving.core serving.mail serving.heard seen readings action
+  pub known : profile.known ≡ words_so_far

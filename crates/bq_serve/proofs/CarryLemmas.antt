@@ -1,0 +1,227 @@
+-- What carrying each action out settles.
+use Rattle.std.proofs.Common.{◌≡◌, ℕ, ◌+◌, ◌<◌, ◌≤◌, Bool, true, false, ◌==◌, List, [], ◌∷◌, ◌++◌, Option, Some, None, Result, Ok, Err, length, take, refl, sym, ap, ◌∙◌, arith, subst, map, inl, inr, MatchBool}
+use Rattle.std.specs.Slice.{Slice}
+use Rattle.std.proofs.lemmas.List.{length-append}
+use Rattle.std.specs.declared.io.Error.{Error}
+use Rattle.std.specs.IoError.{error_kind}
+use Rattle.bq_job.specs.declared.answer.Answer.{Answer}
+use Rattle.bq_job.specs.declared.line_end.LineEnd.{LineEnd}
+use Rattle.bq_job.specs.declared.line_end.LineFault.TheVariants as faults
+use Rattle.bq_job.specs.declared.answer.Answer.TheVariants.{Closed}
+use Rattle.bq_job.specs.declared.request.Request.{Request}
+use Rattle.bq_job.specs.declared.step.Step.{Step}
+use Rattle.bq_job.specs.declared.step.Step.TheVariants as steps
+use Rattle.bq_job.specs.AnswerText.{answer_text}
+use Rattle.bq_job.specs.History.{steps_at}
+use Rattle.bq_job.specs.LineSteps.{LineSeen, answered_count}
+use Rattle.bq_job.specs.Machine.{Machine, Settings}
+use Rattle.bq_job.specs.Profile.{Profile}
+use Rattle.bq_job.specs.Runs.{Entry}
+use Rattle.bq_serve.specs.InTurn.{IsInTurn}
+use Rattle.bq_serve.specs.LineCalls.{Tells, after_read, is_nothing_yet}
+use Rattle.bq_serve.specs.OneSeat.{IsClientAt, IsClosedClient, IsOpenClient, has_close, wanted}
+use Rattle.bq_serve.specs.Past.{Awaited, Past, answers, awaited_by, with_event, with_fault, with_mail}
+use Rattle.bq_serve.specs.SeatMoves.{IsMove}
+use Rattle.bq_serve.specs.SeatStands.{StandsAt, StandsFor, awaited, awaited_at, end_if, seen_line}
+use Rattle.bq_serve.specs.ServingOne.{AreTaken, IsServing, IsSettled, TakesStep}
+use Rattle.bq_serve.specs.Writing.{BreaksOff, with_written}
+use Rattle.bq_serve.specs.declared.seat.machine.Action.{Action}
+use Rattle.bq_serve.specs.declared.seat.machine.Action.TheVariants as actions
+use Rattle.bq_serve.specs.declared.seat.machine.Event.{Event}
+use Rattle.bq_serve.specs.declared.seat.machine.Event.TheVariants as events
+use Rattle.bq_serve.specs.declared.seat.machine.SeatMachine.{SeatMachine}
+use Rattle.bq_serve.specs.declared.seat.machine.Stage.{Stage}
+use Rattle.bq_serve.specs.declared.seat.machine.Stage.TheVariants as stages
+use Rattle.bq_serve.specs.declared.wire.state.State.{State}
+use Rattle.bq_serve.proofs.ArmLemmas.{history_with, stepped, ticked}
+use Rattle.bq_serve.proofs.EventLemmas.{cut_off, mailed, read_broken, read_end, read_nothing, read_some, retold, retold_bytes, retold_end, retold_fault, taken_at_fault, taken_at_mail, told_fault, writes_at_mail, writes_still, wrote}
+use Rattle.bq_serve.proofs.GoesOnLemmas.{goes_on, unbroken_at}
+use Rattle.bq_serve.proofs.HistoryLemmas.{wanted_asked}
+use Rattle.bq_serve.proofs.InTurnLemmas.{few_missing, in_turn, wanted_asks, wanted_joined}
+
+-- a step in its turn finds one answer outstanding at most
+few_at_turn : (step : Step) (taken : List Step) (mail : List Answer) → IsInTurn step taken mail → wanted taken ≤ length mail + 1
+few_at_turn steps.Connect taken mail h = let none = ap wanted h in omega arith
+few_at_turn (steps.Ask request) taken mail h =
+    let same = ap wanted h.1.steps_are in let asks = wanted_asked h.0 h.1.no_quit in let all = h.2 in omega arith
+few_at_turn steps.End taken mail h = h.2
+few_at_turn steps.Close taken mail h = h.2.2.1
+few_at_turn steps.Drain taken mail h = absurd h
+few_at_turn steps.Tick taken mail h = absurd h
+few_at_turn steps.Gone taken mail h = absurd h
+
+-- a look at the mail finds one answer outstanding at most
+few_of_asked : (asked : List Request) (more taken : List Step) (mail : List Answer) → taken ≡ (steps.Connect ∷ map steps.Ask asked) ++ more → wanted more ≡ 0 → wanted (map steps.Ask asked) ≤ length mail + 1 → wanted taken ≤ length mail + 1
+few_of_asked asked more taken mail is none few = let same = ap wanted is in let joined = wanted_joined (map steps.Ask asked) more in omega arith
+
+no_ends : (told : Bool) → wanted (end_if told) ≡ 0
+no_ends true = refl
+no_ends false = refl
+
+few_at_look : (stage : Stage) (reader : State) (kept : List ℕ) (told : Bool) (p : Past) → awaited_at stage ≡ Awaited.AMail → StandsAt stage reader kept told p → wanted p.steps ≤ length p.mail + 1
+few_at_look stages.Between reader kept told p e h = cc
+few_at_look stages.Connecting reader kept told p e h = cc
+few_at_look stages.Reading reader kept told p e h = cc
+few_at_look (stages.Asking waits) reader kept told p e h = cc
+few_at_look (stages.Polling waits) reader kept told p e h =
+    let o = h.0 in few_of_asked o.asked (end_if told) p.steps p.mail o.steps_are (no_ends told) (let all = o.answered in omega (arith, wanted_asked o.asked o.no_quit))
+few_at_look stages.ReadingOn reader kept told p e h = cc
+few_at_look stages.TellingEnd reader kept told p e h = cc
+few_at_look stages.Writing reader kept told p e h = cc
+few_at_look stages.AskingQuit reader kept told p e h = cc
+few_at_look (stages.Closing end) reader kept told p e h = cc
+few_at_look (stages.Leaving end) reader kept told p e h =
+    let line = (h.0 []).line in
+    let few = few_missing end line.asked p.mail (h.0 []).answered in
+    few_of_asked line.asked (line.told ++ steps.Close ∷ []) p.steps p.mail line.steps_are (elim line.ends [ inl none ↦ ap (λ t. wanted (t ++ steps.Close ∷ [])) none | inr one ↦ ap (λ t. wanted (t ++ steps.Close ∷ [])) one.0 ]) (omega (arith, wanted_asks line.asked))
+
+-- more answers than are wanted by one at most
+few_given : (taken : List Step) (answers : List Answer) (core : Machine) → IsClientAt taken answers core → length answers ≤ wanted taken + 1
+few_given [] answers core c = let none = ap length c.none in omega arith
+few_given (step ∷ taken) answers core c = at (has_close (step ∷ taken)) c
+  where
+    at : (b : Bool) → MatchBool b (IsClosedClient (step ∷ taken) answers core) (IsOpenClient (step ∷ taken) answers core) → length answers ≤ wanted (step ∷ taken) + 1
+    at true h = let is = ap length h.answers_are in let long = length-append h.before (Closed ∷ []) in let few = h.count in omega arith
+    at false h = let all = h.count in omega arith
+
+few_mail : (settings : Settings) (tells : Bool) (core : Machine) (mail : List Answer) (heard : ℕ) (seen : LineSeen) (readings : List (Option ℕ)) (history : List Entry) (written : List ℕ) (p : Past)
+    → IsSettled settings tells core mail heard seen readings history written p → wanted (steps_at 0 history) ≤ length p.mail + 1 → length mail ≤ 2
+few_mail settings tells core mail heard seen readings history written p s few =
+    let given = few_given (steps_at 0 history) (p.mail ++ (p.late_mail ++ mail)) core s.client in
+    let long = length-append p.mail (p.late_mail ++ mail) in
+    let later = length-append p.late_mail mail in
+    omega arith
+
+-- a step that is submitted finds room for its answers
+pub room_at_submit : (settings : Settings) (profile : Profile) (tells : Bool) (machine : SeatMachine) (core : Machine) (mail : List Answer) (heard : ℕ) (seen : LineSeen) (readings : List (Option ℕ)) (what : Step)
+    → IsServing settings profile tells machine core mail heard seen readings (actions.Submit what) → length mail ≤ 2
+room_at_submit settings profile tells machine core mail heard seen readings what s =
+    let awaited_is : awaited machine ≡ Awaited.ASubmission = cc in
+    let turn = in_turn machine.stage machine.reader machine.kept machine.end_told s.past (steps_at 0 s.history) what awaited_is s.taken s.stands in
+    few_mail settings tells core mail heard seen readings s.history s.written s.past s.settled (few_at_turn what (steps_at 0 s.history) s.past.mail turn)
+
+-- and so does a tick before a look at the mail
+pub room_at_look : (settings : Settings) (profile : Profile) (tells : Bool) (machine : SeatMachine) (core : Machine) (mail : List Answer) (heard : ℕ) (seen : LineSeen) (readings : List (Option ℕ))
+    → IsServing settings profile tells machine core mail heard seen readings actions.PollMail → length mail ≤ 2
+room_at_look settings profile tells machine core mail heard seen readings s =
+    let awaited_is : awaited machine ≡ Awaited.AMail = cc in
+    let few = few_at_look machine.stage machine.reader machine.kept machine.end_told s.past awaited_is s.stands in
+    few_mail settings tells core mail heard seen readings s.history s.written s.past s.settled (subst (λ t. wanted t ≤ length s.past.mail + 1) s.taken few)
+
+-- the step was submitted
+pub submit_on : (settings : Settings) (profile : Profile) (tells : Bool) (old new : SeatMachine) (core next : Machine) (mail later : List Answer) (heard now : ℕ) (seen : LineSeen) (readings : List (Option ℕ)) (reading : Option ℕ) (what : Step) (action : Action)
+    → core.settings.seats ≡ 1 → TakesStep core mail heard reading what next later now → IsMove old events.Submitted action new
+    → IsServing settings profile tells old core mail heard seen readings (actions.Submit what)
+    → IsServing settings profile tells new next later now seen (readings ++ reading ∷ []) action
+submit_on settings profile tells old new core next mail later heard now seen readings reading what action one t move s =
+    let after = stepped settings tells core next mail later heard now seen readings reading s.history s.written what s.past old s.awaits s.stands s.taken one s.settled t in
+    let awaited_is : awaited old ≡ Awaited.ASubmission = cc in
+    goes_on settings profile tells old new next later now seen (readings ++ reading ∷ []) (history_with settings tells core next mail later heard now seen readings reading s.history s.written what s.past) s.written events.Submitted action s.past
+        move (ap (answers events.Submitted) awaited_is) s.stands s.profile_is after.0 after.1 s.writes
+
+-- time passed, and there is an answer
+pub look_on_mail : (settings : Settings) (profile : Profile) (tells : Bool) (old new : SeatMachine) (core next : Machine) (mail later : List Answer) (heard now : ℕ) (seen : LineSeen) (readings : List (Option ℕ)) (reading : Option ℕ) (answer : Answer) (rest : List Answer) (action : Action)
+    → core.settings.seats ≡ 1 → TakesStep core mail heard reading steps.Tick next later now → later ≡ answer ∷ rest → IsMove old (events.Mail answer) action new
+    → IsServing settings profile tells old core mail heard seen readings actions.PollMail
+    → IsServing settings profile tells new next rest now seen (readings ++ reading ∷ []) action
+look_on_mail settings profile tells old new core next mail later heard now seen readings reading answer rest action one t is move s =
+    let with_tick = history_with settings tells core next mail later heard now seen readings reading s.history s.written steps.Tick s.past in
+    let after = ticked settings tells core next mail later heard now seen readings reading s.history s.written steps.Tick s.past refl one s.settled t in
+    let awaited_is : awaited old ≡ Awaited.AMail = cc in
+    let taken : s.past.steps ≡ steps_at 0 with_tick = s.taken ∙ sym after.1 in
+    let settled = subst (λ m. IsSettled settings tells next m now seen (readings ++ reading ∷ []) with_tick s.written s.past) is after.0 in
+    goes_on settings profile tells old new next rest now seen (readings ++ reading ∷ []) with_tick s.written (events.Mail answer) action s.past
+        move (ap (answers (events.Mail answer)) awaited_is) s.stands s.profile_is
+        (mailed settings tells next now seen (readings ++ reading ∷ []) with_tick s.written s.past answer rest taken settled)
+        (taken_at_mail answer s.past (steps_at 0 with_tick) taken) (writes_at_mail answer s.past s.written s.writes)
+
+-- time passed, and there is no answer
+pub look_on_none : (settings : Settings) (profile : Profile) (tells : Bool) (old new : SeatMachine) (core next : Machine) (mail later : List Answer) (heard now : ℕ) (seen : LineSeen) (readings : List (Option ℕ)) (reading : Option ℕ) (action : Action)
+    → core.settings.seats ≡ 1 → TakesStep core mail heard reading steps.Tick next later now → IsMove old events.NothingYet action new
+    → IsServing settings profile tells old core mail heard seen readings actions.PollMail
+    → IsServing settings profile tells new next later now seen (readings ++ reading ∷ []) action
+look_on_none settings profile tells old new core next mail later heard now seen readings reading action one t move s =
+    let with_tick = history_with settings tells core next mail later heard now seen readings reading s.history s.written steps.Tick s.past in
+    let after = ticked settings tells core next mail later heard now seen readings reading s.history s.written steps.Tick s.past refl one s.settled t in
+    let awaited_is : awaited old ≡ Awaited.AMail = cc in
+    goes_on settings profile tells old new next later now seen (readings ++ reading ∷ []) with_tick s.written events.NothingYet action s.past
+        move (ap (answers events.NothingYet) awaited_is) s.stands s.profile_is after.0 (s.taken ∙ sym after.1) s.writes
+
+told_itself : (tells : Bool) (line : LineSeen) → Tells tells line line
+told_itself tells line = record { ended = refl; fault = refl; read = λ t. refl; written = λ t. refl }
+
+-- bytes were written
+written_more : (tells : Bool) (seen later : LineSeen) (written more : List ℕ) (p : Past) → Tells tells later (with_written more seen) → Tells tells seen (seen_line written p) → Tells tells later (seen_line (written ++ more) p)
+written_more tells seen later written more p r s = record {
+  ended = r.ended ∙ s.ended;
+  fault = r.fault ∙ s.fault;
+  read = λ t. r.read t ∙ s.read t;
+  written = λ t. r.written t ∙ ap (λ x. x ++ more) (s.written t);
+}
+
+module _ (settings : Settings) (profile : Profile) (tells : Bool) (old new : SeatMachine) (core : Machine) (mail : List Answer) (heard : ℕ) (seen later : LineSeen) (readings : List (Option ℕ)) (action : Action) where
+  -- bytes were read
+  pub read_on_bytes : (n : ℕ) (buf : List ℕ) (piece : Slice ℕ) → (n == 0) ≡ false → piece.now ≡ take n buf → Tells tells later (after_read (Ok n) buf seen) → IsMove old (events.Bytes piece) action new
+      → IsServing settings profile tells old core mail heard seen readings actions.Read → IsServing settings profile tells new core mail heard later readings action
+  read_on_bytes n buf piece some is told move s =
+      let awaited_is : awaited old ≡ Awaited.AReading = cc in
+      let more : Tells tells later (seen_line s.written (record s.past { bytes = s.past.bytes ++ piece.now })) =
+          subst (λ b. Tells tells later (seen_line s.written (record s.past { bytes = s.past.bytes ++ b }))) (sym is) (read_some tells seen later s.written s.past n buf some told s.settled.seen_is) in
+      goes_on settings profile tells old new core mail heard later readings s.history s.written (events.Bytes piece) action s.past
+          move (ap (answers (events.Bytes piece)) awaited_is) s.stands s.profile_is
+          (retold_bytes settings tells core mail heard seen later readings s.history s.written s.written s.past (s.past.bytes ++ piece.now) s.settled more)
+          s.taken s.writes
+
+  pub read_on_end : (buf : List ℕ) → Tells tells later (after_read (Ok 0) buf seen) → IsMove old events.EndOfInput action new
+      → IsServing settings profile tells old core mail heard seen readings actions.Read → IsServing settings profile tells new core mail heard later readings action
+  read_on_end buf told move s =
+      let awaited_is : awaited old ≡ Awaited.AReading = cc in
+      goes_on settings profile tells old new core mail heard later readings s.history s.written events.EndOfInput action s.past
+          move (ap (answers events.EndOfInput) awaited_is) s.stands s.profile_is
+          (retold_end settings tells core mail heard seen later readings s.history s.written s.written s.past s.settled (read_end tells seen later s.written s.past buf told s.settled.seen_is))
+          s.taken s.writes
+
+  pub read_on_nothing : (e : Error) (buf : List ℕ) → is_nothing_yet (error_kind e) ≡ true → Tells tells later (after_read (Err e) buf seen) → IsMove old events.NothingYet action new
+      → IsServing settings profile tells old core mail heard seen readings actions.Read → IsServing settings profile tells new core mail heard later readings action
+  read_on_nothing e buf nothing told move s =
+      let awaited_is : awaited old ≡ Awaited.AReading = cc in
+      goes_on settings profile tells old new core mail heard later readings s.history s.written events.NothingYet action s.past
+          move (ap (answers events.NothingYet) awaited_is) s.stands s.profile_is
+          (retold settings tells core mail heard seen later readings s.history s.written s.written s.past s.settled (read_nothing tells seen later s.written s.past e buf nothing told s.settled.seen_is))
+          s.taken s.writes
+
+  pub read_on_fault : (e : Error) (buf : List ℕ) → is_nothing_yet (error_kind e) ≡ false → Tells tells later (after_read (Err e) buf seen) → IsMove old events.ReadFault action new
+      → IsServing settings profile tells old core mail heard seen readings actions.Read → IsServing settings profile tells new core mail heard later readings action
+  read_on_fault e buf broken told move s =
+      let awaited_is : awaited old ≡ Awaited.AReading = cc in
+      goes_on settings profile tells old new core mail heard later readings s.history s.written events.ReadFault action s.past
+          move (ap (answers events.ReadFault) awaited_is) s.stands s.profile_is
+          (retold_fault settings tells core mail heard seen later readings s.history s.written s.written s.past faults.Read s.settled (read_broken tells seen later s.written s.past e buf broken told s.settled.seen_is))
+          (taken_at_fault faults.Read s.past (steps_at 0 s.history) s.taken) (writes_still s.past s.written s.writes)
+
+  -- the answer was written whole
+  pub write_on_done : (answer : Answer) → Tells tells later (with_written (answer_text answer) seen) → IsMove old events.WriteDone action new
+      → IsServing settings profile tells old core mail heard seen readings (actions.Write answer) → IsServing settings profile tells new core mail heard later readings action
+  write_on_done answer told move s =
+      let p = s.past in
+      let awaited_is : awaited old ≡ Awaited.AWriting = cc in
+      let whole = unbroken_at old.stage old.reader old.kept old.end_told p awaited_is s.stands in
+      let text = s.written ++ answer_text answer in
+      goes_on settings profile tells old new core mail heard later readings s.history text events.WriteDone action p
+          move (ap (answers events.WriteDone) awaited_is) s.stands s.profile_is
+          (retold settings tells core mail heard seen later readings s.history s.written text p s.settled (written_more tells seen later s.written (answer_text answer) p told s.settled.seen_is))
+          s.taken (wrote p.fault p.written s.writes.0 answer s.written whole s.writes.1 s.writes.2)
+
+  -- the write of the answer broke off
+  pub write_on_fault : (answer : Answer) → BreaksOff tells (answer_text answer) seen later → IsMove old events.WriteFault action new
+      → IsServing settings profile tells old core mail heard seen readings (actions.Write answer) → IsServing settings profile tells new core mail heard later readings action
+  write_on_fault answer broken move s =
+      let p = s.past in
+      let awaited_is : awaited old ≡ Awaited.AWriting = cc in
+      let whole = unbroken_at old.stage old.reader old.kept old.end_told p awaited_is s.stands in
+      let text = s.written ++ broken.cut in
+      let half : Tells tells (with_written broken.cut seen) (seen_line text p) = written_more tells seen (with_written broken.cut seen) s.written broken.cut p (told_itself tells (with_written broken.cut seen)) s.settled.seen_is in
+      goes_on settings profile tells old new core mail heard later readings s.history text events.WriteFault action p
+          move (ap (answers events.WriteFault) awaited_is) s.stands s.profile_is
+          (retold_fault settings tells core mail heard seen later readings s.history s.written text p faults.Write s.settled (told_fault tells faults.Write (with_written broken.cut seen) later text p broken.seen half))
+          (taken_at_fault faults.Write p (steps_at 0 s.history) s.taken) (cut_off p s.writes.0 answer s.written broken.cut whole s.writes.1 s.writes.2 broken.is_beginning)
