@@ -1,4 +1,5 @@
 pub mod ArmLemmas
+pub mod BuiltLemmas
 pub mod EventLemmas
 pub mod GoesOnLemmas
 pub mod GoingLemmas
