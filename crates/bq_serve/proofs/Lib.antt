@@ -1,5 +1,6 @@
 pub mod ArmLemmas
 pub mod CarryLemmas
+pub mod BuiltLemmas
 pub mod EventLemmas
 pub mod GoesOnLemmas
 pub mod GoingLemmas
