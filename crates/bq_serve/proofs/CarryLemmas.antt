@@ -1,6 +1,6 @@
 -- What carrying each action out settles.
-use Rattle.std.proofs.Common.{◌≡◌, ℕ, ◌+◌, ◌<◌, ◌≤◌, Bool, true, false, ◌==◌, List, [], ◌∷◌, ◌++◌, Option, Some, None, Result, Ok, Err, length, take, refl, sym, ap, ◌∙◌, arith, subst, map, inl, inr, MatchBool}
-use Rattle.std.specs.Slice.{Slice}
+use Rattle.std.proofs.Common.{◌≡◌, ℕ, ◌+◌, ◌<◌, ◌≤◌, Bool, true, false, ◌==◌, List, [], ◌∷◌, ◌++◌, Option, Some, None, Result, Ok, Err, length, take, refl, sym, ap, ◌∙◌, arith, subst, map, inl, inr, MatchBool, Bor, not, append_assoc, append-nil}
+use Rattle.std.proofs.lemmas.Bool.{eqb-true}
 use Rattle.std.proofs.lemmas.List.{length-append}
 use Rattle.std.specs.declared.io.Error.{Error}
 use Rattle.std.specs.IoError.{error_kind}
@@ -14,17 +14,19 @@ use Rattle.bq_job.specs.declared.step.Step.TheVariants as steps
 use Rattle.bq_job.specs.AnswerText.{answer_text}
 use Rattle.bq_job.specs.History.{steps_at}
 use Rattle.bq_job.specs.LineSteps.{LineSeen, answered_count}
-use Rattle.bq_job.specs.Machine.{Machine, Settings}
+use Rattle.bq_job.specs.Machine.{Machine, Settings, new_machine}
+use Rattle.bq_job.specs.OneClient.{is_connected_at, owing}
 use Rattle.bq_job.specs.Profile.{Profile}
 use Rattle.bq_job.specs.Runs.{Entry}
 use Rattle.bq_serve.specs.InTurn.{IsInTurn}
-use Rattle.bq_serve.specs.LineCalls.{Tells, after_read, is_nothing_yet}
-use Rattle.bq_serve.specs.OneSeat.{IsClientAt, IsClosedClient, IsOpenClient, has_close, wanted}
-use Rattle.bq_serve.specs.Past.{Awaited, Past, answers, awaited_by, with_event, with_fault, with_mail}
+use Rattle.bq_serve.specs.LineCalls.{Tells, after_read, is_nothing_yet, new_line}
+use Rattle.bq_serve.specs.OneSeat.{IsClientAt, IsClosedClient, IsOpenClient, IsRecord, IsServedAlone, has_close, wanted}
+use Rattle.bq_serve.specs.Past.{Awaited, Past, answers, awaited_by, first_past, is_stray, with_event, with_fault, with_mail}
 use Rattle.bq_serve.specs.SeatMoves.{IsMove}
 use Rattle.bq_serve.specs.SeatStands.{StandsAt, StandsFor, awaited, awaited_at, end_if, seen_line}
-use Rattle.bq_serve.specs.ServingOne.{AreTaken, IsServing, IsSettled, TakesStep}
+use Rattle.bq_serve.specs.ServingOne.{AreTaken, IsNewServing, IsServing, IsSettled, TakesStep}
 use Rattle.bq_serve.specs.Writing.{BreaksOff, with_written}
+use Rattle.bq_serve.specs.declared.run.serving.Serving.{Serving}
 use Rattle.bq_serve.specs.declared.seat.machine.Action.{Action}
 use Rattle.bq_serve.specs.declared.seat.machine.Action.TheVariants as actions
 use Rattle.bq_serve.specs.declared.seat.machine.Event.{Event}
@@ -33,10 +35,11 @@ use Rattle.bq_serve.specs.declared.seat.machine.SeatMachine.{SeatMachine}
 use Rattle.bq_serve.specs.declared.seat.machine.Stage.{Stage}
 use Rattle.bq_serve.specs.declared.seat.machine.Stage.TheVariants as stages
 use Rattle.bq_serve.specs.declared.wire.state.State.{State}
+use Rattle.bq_job.proofs.LawfulLemmas.{new_is_lawful}
 use Rattle.bq_serve.proofs.ArmLemmas.{history_with, stepped, ticked}
 use Rattle.bq_serve.proofs.EventLemmas.{cut_off, mailed, read_broken, read_end, read_nothing, read_some, retold, retold_bytes, retold_end, retold_fault, taken_at_fault, taken_at_mail, told_fault, writes_at_mail, writes_still, wrote}
 use Rattle.bq_serve.proofs.GoesOnLemmas.{goes_on, unbroken_at}
-use Rattle.bq_serve.proofs.HistoryLemmas.{wanted_asked}
+use Rattle.bq_serve.proofs.HistoryLemmas.{served_alone, wanted_asked}
 use Rattle.bq_serve.proofs.InTurnLemmas.{few_missing, in_turn, wanted_asks, wanted_joined}
 
 -- a step in its turn finds one answer outstanding at most
@@ -45,7 +48,7 @@ few_at_turn steps.Connect taken mail h = let none = ap wanted h in omega arith
 few_at_turn (steps.Ask request) taken mail h =
     let same = ap wanted h.1.steps_are in let asks = wanted_asked h.0 h.1.no_quit in let all = h.2 in omega arith
 few_at_turn steps.End taken mail h = h.2
-few_at_turn steps.Close taken mail h = h.2.2.1
+few_at_turn steps.Close taken mail h = h.3
 few_at_turn steps.Drain taken mail h = absurd h
 few_at_turn steps.Tick taken mail h = absurd h
 few_at_turn steps.Gone taken mail h = absurd h
@@ -73,7 +76,7 @@ few_at_look (stages.Closing end) reader kept told p e h = cc
 few_at_look (stages.Leaving end) reader kept told p e h =
     let line = (h.0 []).line in
     let few = few_missing end line.asked p.mail (h.0 []).answered in
-    few_of_asked line.asked (line.told ++ steps.Close ∷ []) p.steps p.mail line.steps_are (elim line.ends [ inl none ↦ ap (λ t. wanted (t ++ steps.Close ∷ [])) none | inr one ↦ ap (λ t. wanted (t ++ steps.Close ∷ [])) one.0 ]) (omega (arith, wanted_asks line.asked))
+    few_of_asked line.asked (line.told ++ steps.Close ∷ []) p.steps p.mail (line.steps_are ∙ append_assoc (steps.Connect ∷ map steps.Ask line.asked) line.told (steps.Close ∷ [])) (elim line.ends [ inl none ↦ ap (λ t. wanted (t ++ steps.Close ∷ [])) none | inr one ↦ ap (λ t. wanted (t ++ steps.Close ∷ [])) one.0 ]) (omega (arith, wanted_asks line.asked))
 
 -- more answers than are wanted by one at most
 few_given : (taken : List Step) (answers : List Answer) (core : Machine) → IsClientAt taken answers core → length answers ≤ wanted taken + 1
@@ -136,16 +139,30 @@ look_on_mail settings profile tells old new core next mail later heard now seen 
         (taken_at_mail answer s.past (steps_at 0 with_tick) taken) (writes_at_mail answer s.past s.written s.writes)
 
 -- time passed, and there is no answer
-pub look_on_none : (settings : Settings) (profile : Profile) (tells : Bool) (old new : SeatMachine) (core next : Machine) (mail later : List Answer) (heard now : ℕ) (seen : LineSeen) (readings : List (Option ℕ)) (reading : Option ℕ) (action : Action)
-    → core.settings.seats ≡ 1 → TakesStep core mail heard reading steps.Tick next later now → IsMove old events.NothingYet action new
+pub look_on_none : (settings : Settings) (profile : Profile) (tells : Bool) (old new : SeatMachine) (core next : Machine) (mail later : List Answer) (heard now : ℕ) (seen : LineSeen) (readings : List (Option ℕ)) (reading : Option ℕ) (rest : List Answer) (action : Action)
+    → core.settings.seats ≡ 1 → TakesStep core mail heard reading steps.Tick next later now → later ≡ rest → IsMove old events.NothingYet action new
     → IsServing settings profile tells old core mail heard seen readings actions.PollMail
-    → IsServing settings profile tells new next later now seen (readings ++ reading ∷ []) action
-look_on_none settings profile tells old new core next mail later heard now seen readings reading action one t move s =
+    → IsServing settings profile tells new next rest now seen (readings ++ reading ∷ []) action
+look_on_none settings profile tells old new core next mail later heard now seen readings reading rest action one t is move s =
     let with_tick = history_with settings tells core next mail later heard now seen readings reading s.history s.written steps.Tick s.past in
     let after = ticked settings tells core next mail later heard now seen readings reading s.history s.written steps.Tick s.past refl one s.settled t in
     let awaited_is : awaited old ≡ Awaited.AMail = cc in
-    goes_on settings profile tells old new next later now seen (readings ++ reading ∷ []) with_tick s.written events.NothingYet action s.past
-        move (ap (answers events.NothingYet) awaited_is) s.stands s.profile_is after.0 (s.taken ∙ sym after.1) s.writes
+    let settled = subst (λ m. IsSettled settings tells next m now seen (readings ++ reading ∷ []) with_tick s.written s.past) is after.0 in
+    goes_on settings profile tells old new next rest now seen (readings ++ reading ∷ []) with_tick s.written events.NothingYet action s.past
+        move (ap (answers events.NothingYet) awaited_is) s.stands s.profile_is settled (s.taken ∙ sym after.1) s.writes
+
+not_zero : (n : ℕ) → (n ≡ 0 → ⊥) → (n == 0) ≡ false
+not_zero n some = at (n == 0) refl
+  where
+    at : (b : Bool) → (n == 0) ≡ b → b ≡ false
+    at true e = absurd (some (eqb-true n 0 e))
+    at false e = refl
+
+-- no reading of the clock is wanted
+pub without_clock : (settings : Settings) (profile : Profile) (tells : Bool) (machine : SeatMachine) (core : Machine) (mail : List Answer) (heard : ℕ) (seen : LineSeen) (readings : List (Option ℕ)) (action : Action)
+    → IsServing settings profile tells machine core mail heard seen readings action → IsServing settings profile tells machine core mail heard seen (readings ++ []) action
+without_clock settings profile tells machine core mail heard seen readings action s =
+    subst (λ r. IsServing settings profile tells machine core mail heard seen r action) (sym (append-nil readings)) s
 
 told_itself : (tells : Bool) (line : LineSeen) → Tells tells line line
 told_itself tells line = record { ended = refl; fault = refl; read = λ t. refl; written = λ t. refl }
@@ -161,12 +178,12 @@ written_more tells seen later written more p r s = record {
 
 module _ (settings : Settings) (profile : Profile) (tells : Bool) (old new : SeatMachine) (core : Machine) (mail : List Answer) (heard : ℕ) (seen later : LineSeen) (readings : List (Option ℕ)) (action : Action) where
   -- bytes were read
-  pub read_on_bytes : (n : ℕ) (buf : List ℕ) (piece : Slice ℕ) → (n == 0) ≡ false → piece.now ≡ take n buf → Tells tells later (after_read (Ok n) buf seen) → IsMove old (events.Bytes piece) action new
+  pub read_on_bytes : (n : ℕ) (buf : List ℕ) (piece : Bor (List ℕ)) → (n ≡ 0 → ⊥) → piece.now ≡ take n buf → Tells tells later (after_read (Ok n) buf seen) → IsMove old (events.Bytes piece) action new
       → IsServing settings profile tells old core mail heard seen readings actions.Read → IsServing settings profile tells new core mail heard later readings action
   read_on_bytes n buf piece some is told move s =
       let awaited_is : awaited old ≡ Awaited.AReading = cc in
       let more : Tells tells later (seen_line s.written (record s.past { bytes = s.past.bytes ++ piece.now })) =
-          subst (λ b. Tells tells later (seen_line s.written (record s.past { bytes = s.past.bytes ++ b }))) (sym is) (read_some tells seen later s.written s.past n buf some told s.settled.seen_is) in
+          subst (λ b. Tells tells later (seen_line s.written (record s.past { bytes = s.past.bytes ++ b }))) (sym is) (read_some tells seen later s.written s.past n buf (not_zero n some) told s.settled.seen_is) in
       goes_on settings profile tells old new core mail heard later readings s.history s.written (events.Bytes piece) action s.past
           move (ap (answers (events.Bytes piece)) awaited_is) s.stands s.profile_is
           (retold_bytes settings tells core mail heard seen later readings s.history s.written s.written s.past (s.past.bytes ++ piece.now) s.settled more)
@@ -225,3 +242,51 @@ module _ (settings : Settings) (profile : Profile) (tells : Bool) (old new : Sea
           move (ap (answers events.WriteFault) awaited_is) s.stands s.profile_is
           (retold_fault settings tells core mail heard seen later readings s.history s.written text p faults.Write s.settled (told_fault tells faults.Write (with_written broken.cut seen) later text p broken.seen half))
           (taken_at_fault faults.Write p (steps_at 0 s.history) s.taken) (cut_off p s.writes.0 answer s.written broken.cut whole s.writes.1 s.writes.2 broken.is_beginning)
+
+-- nobody is connected to a new machine of one seat, and nobody waits
+fresh_core : (settings : Settings) → settings.seats ≡ 1 → (owing 0 (new_machine settings) ≡ 0) × (is_connected_at 0 (new_machine settings) ≡ false)
+fresh_core settings one = (rw one refl, rw one refl)
+
+-- a line was opened, and its connect is to be submitted
+pub opened_first : (settings : Settings) (profile : Profile) (tells : Bool) (serving : Serving) (new : SeatMachine) (seen : LineSeen) (action : Action)
+    → IsNewServing settings profile serving → IsMove serving.machine events.Opened action new → Tells tells seen new_line
+    → IsServing settings profile tells new serving.core serving.mail serving.heard seen [] action
+opened_first settings profile tells serving new seen action fresh move told =
+    let straight : is_stray action ≡ false = move.stray ∙ ap (λ a. not (answers events.Opened a)) fresh.awaits in
+    let opened = move.opened straight in
+    let empty = fresh_core settings fresh.one in
+    let recorded : IsRecord settings [] [] [] (new_machine settings) 0 = record {
+      given = [];
+      runs = (refl, refl);
+      timed = refl;
+      moment_is = refl;
+      lawful = new_is_lawful settings;
+      alone = refl;
+      answers_are = refl;
+    } in
+    let client : IsClientAt [] [] (new_machine settings) = record { none = refl; owes = empty.0; connected = empty.1 } in
+    let settled : IsSettled settings tells (new_machine settings) [] 0 seen [] [] [] first_past = record { recorded = recorded; client = client; unclosed = refl; closing = refl; late = λ e. refl; seen_is = told } in
+    let at : IsSettled settings tells serving.core serving.mail serving.heard seen [] [] [] first_past =
+        subst (λ core. IsSettled settings tells core serving.mail serving.heard seen [] [] [] first_past) (sym fresh.core_is)
+          (subst (λ mail. IsSettled settings tells (new_machine settings) mail serving.heard seen [] [] [] first_past) (sym fresh.mail_is)
+            (subst (λ heard. IsSettled settings tells (new_machine settings) [] heard seen [] [] [] first_past) (sym fresh.heard_is) settled)) in
+    let first : IsServing settings profile tells new serving.core serving.mail serving.heard seen [] (actions.Submit steps.Connect) = record {
+      past = first_past;
+      history = [];
+      written = [];
+      settled = at;
+      taken = refl;
+      writes = refl;
+      stands = opened.1;
+      awaits = ap awaited_by (sym opened.0) ∙ move.awaits straight;
+      profile_is = move.profile ∙ fresh.profile_is;
+      over = tt;
+    } in
+    subst (IsServing settings profile tells new serving.core serving.mail serving.heard seen []) (sym opened.0) first
+
+-- A line that is over was served alone.
+pub over_alone : (settings : Settings) (profile : Profile) (tells : Bool) (machine : SeatMachine) (core : Machine) (mail : List Answer) (heard : ℕ) (seen : LineSeen) (readings : List (Option ℕ)) (end : LineEnd)
+    → IsServing settings profile tells machine core mail heard seen readings (actions.LineOver end) → IsServedAlone settings profile tells seen end readings
+over_alone settings profile tells machine core mail heard seen readings end s =
+    served_alone settings profile tells seen end s.history readings (s.past.late_mail ++ mail) core heard s.past s.written
+        s.settled.recorded s.taken s.settled.client s.settled.unclosed s.over s.settled.seen_is s.writes

@@ -12,8 +12,8 @@ use Rattle.bq_job.specs.Runs.{Entry}
 use Rattle.bq_serve.specs.LineCalls.{Tells}
 use Rattle.bq_serve.specs.OneSeat.{IsWrittenSo, has_close}
 use Rattle.bq_serve.specs.Past.{Awaited, Past, answers, awaited_by, is_close, is_stray, past_after, with_action, with_event}
-use Rattle.bq_serve.specs.SeatMoves.{IsMove}
-use Rattle.bq_serve.specs.SeatStands.{StandsAt, StandsFor, awaited, awaited_at, seat_profile, seen_line}
+use Rattle.bq_serve.specs.SeatMoves.{IfLineOver, IsMove}
+use Rattle.bq_serve.specs.SeatStands.{IsServed, StandsAt, StandsFor, awaited, awaited_at, seat_profile, seen_line}
 use Rattle.bq_serve.specs.ServingOne.{AreTaken, IsServing, IsSettled, IsWrittenAt}
 use Rattle.bq_serve.specs.declared.seat.machine.Action.{Action}
 use Rattle.bq_serve.specs.declared.seat.machine.Action.TheVariants as actions
@@ -97,6 +97,17 @@ fault_kept (actions.Write answer) p = refl
 fault_kept (actions.LineOver end) p = refl
 fault_kept actions.Stray p = refl
 
+over_with : (action : Action) (event : Event) (old : SeatMachine) (profile : Profile) (p : Past) → seat_profile old ≡ profile → StandsFor old p → past_after event action p ≡ with_action action (with_event event p)
+    → IfLineOver action (λ end. (q : Past) → StandsFor old q → (written : List ℕ) → IsServed (seat_profile old) written end (past_after event action q))
+    → IfLineOver action (λ end. (written : List ℕ) → IsServed profile written end (with_action action (with_event event p)))
+over_with (actions.Submit step) event old profile p same stands after h = tt
+over_with actions.Read event old profile p same stands after h = tt
+over_with actions.PollMail event old profile p same stands after h = tt
+over_with (actions.Write answer) event old profile p same stands after h = tt
+over_with (actions.LineOver end) event old profile p same stands after h = λ written.
+    subst (λ q. IsServed profile written end q) after (subst (λ x. IsServed x written end (past_after event (actions.LineOver end) p)) same (h p stands written))
+over_with actions.Stray event old profile p same stands after h = tt
+
 -- The event happened, which the last action awaited; the machine goes on by this action.
 pub goes_on : (settings : Settings) (profile : Profile) (tells : Bool) (old new : SeatMachine) (core : Machine) (mail : List Answer) (heard : ℕ) (seen : LineSeen) (readings : List (Option ℕ)) (history : List Entry) (written : List ℕ) (event : Event) (action : Action) (p : Past)
     → IsMove old event action new → answers event (awaited old) ≡ true → StandsFor old p → seat_profile old ≡ profile
@@ -121,4 +132,5 @@ goes_on settings profile tells old new core mail heard seen readings history wri
       stands = stands_new;
       awaits = awaits_new;
       profile_is = move.profile ∙ same;
+      over = over_with action event old profile p same stands after move.over;
     }

@@ -1,21 +1,24 @@
 -- How far a run of one client has come: what the seat machine stands for, what the core has recorded, and
 -- what the line tells agree.
-use Rattle.std.specs.Prelude.{ℕ, Bool, false, ◌≡◌, List, [], ◌∷◌, ◌++◌, Option, Some}
+use Rattle.std.specs.Prelude.{ℕ, Bool, false, ◌≡◌, ◌==◌, ◌&&◌, List, [], ◌∷◌, ◌++◌, Option, Some}
 use Rattle.bq_job.specs.declared.answer.Answer.{Answer}
 use Rattle.bq_job.specs.declared.step.Step.{Step}
 use Rattle.bq_job.specs.Dispatch.{Given}
 use Rattle.bq_job.specs.History.{steps_at}
 use Rattle.bq_job.specs.Lawful.{IsLawful}
 use Rattle.bq_job.specs.LineSteps.{LineSeen, answers_text}
-use Rattle.bq_job.specs.Machine.{Machine, Settings}
+use Rattle.bq_core.specs.Limits.{is_body_size}
+use Rattle.bq_core.specs.declared.config.Config.{Config}
+use Rattle.bq_job.specs.Machine.{Machine, Settings, new_machine}
 use Rattle.bq_job.specs.OneClient.{has_closed}
-use Rattle.bq_job.specs.Profile.{Profile}
+use Rattle.bq_job.specs.Profile.{Profile, profile}
 use Rattle.bq_job.specs.Runs.{Entry, answers_to}
 use Rattle.bq_job.specs.Steps.{IsStep, Outcome}
 use Rattle.bq_serve.specs.LineCalls.{Tells}
 use Rattle.bq_serve.specs.OneSeat.{IsClientAt, IsRecord, IsWrittenSo, has_close, moment_heard}
-use Rattle.bq_serve.specs.Past.{Past, awaited_by}
-use Rattle.bq_serve.specs.SeatStands.{StandsFor, awaited, seat_profile, seen_line}
+use Rattle.bq_serve.specs.Past.{Awaited, Past, awaited_by}
+use Rattle.bq_serve.specs.SeatMoves.{IfLineOver}
+use Rattle.bq_serve.specs.SeatStands.{IsServed, StandsFor, awaited, seat_profile, seen_line}
 use Rattle.bq_serve.specs.WordsSoFar.{words_so_far}
 use Rattle.bq_serve.specs.declared.run.serving.Serving.{Serving}
 use Rattle.bq_serve.specs.declared.seat.machine.Action.{Action}
@@ -62,6 +65,8 @@ pub record IsServing (settings : Settings) (profile : Profile) (tells : Bool) (m
   pub stands : StandsFor machine past
   pub awaits : awaited_by action ≡ Some (awaited machine)
   pub profile_is : seat_profile machine ≡ profile
+  -- a line that is over was served
+  pub over : IfLineOver action (λ end. (bytes : List ℕ) → IsServed profile bytes end past)
 
 -- What carrying an action out comes to, for a line that tells so much before and after, and these readings
 -- of the clock meanwhile: whatever the run was, it goes on by the next action.
@@ -85,3 +90,21 @@ pub record IsUnderWay (serving : Serving) (action : Action) : Type 0 where
   pub readings : List (Option ℕ)
   pub serves : IsServing settings profile tells serving.machine serving.core serving.mail serving.heard seen readings action
   pub known : profile.known ≡ words_so_far
+
+-- one seat, and a bound on bodies that is in its range
+abbrev pub is_lone : Config → Bool
+is_lone config = (config.seats == 1) && is_body_size config.max_job_size
+
+-- the profile of a configuration
+abbrev pub profile_so_far : Config → Profile
+profile_so_far config = profile config.max_job_size words_so_far
+
+-- a run that awaits its line
+pub record IsNewServing (settings : Settings) (profile : Profile) (serving : Serving) : Type 0 where
+  pub one : settings.seats ≡ 1
+  pub core_is : serving.core ≡ new_machine settings
+  pub most : serving.outs.most ≡ 2
+  pub mail_is : serving.mail ≡ []
+  pub heard_is : serving.heard ≡ 0
+  pub awaits : awaited serving.machine ≡ Awaited.ALine
+  pub profile_is : seat_profile serving.machine ≡ profile

@@ -1,14 +1,9 @@
-use Rattle.std.proofs.Common.{◌≡◌, ◌≤◌, ◌<◌, ◌+◌, length, arith}
+use Rattle.std.proofs.Common.{◌≡◌, ◌≤◌, ◌+◌, length, arith}
 use Rattle.bq_serve.proofs.run.serving.Serving.take_step.Goals as goal
 
 pub post-requires : goal.post-requires
 post-requires g c =
     let few = c.steps_give_few_answers.ensures _ _ _ _ _ _ _ c.requires.lawful c.step.ensures.step in
-    let one = c.requires.one in
+    let one = c.requires.roomy.one in
     let room = c.requires.room in
     omega arith
-
-pub returns-clause-client : goal.returns-clause-client
-returns-clause-client g c = λ outcome given step.
-    let one = c.requires.one in
-    c.steps_give_clients_their_answers.ensures _ _ _ _ _ _ _ c.requires.lawful (omega arith) step
