@@ -25,7 +25,11 @@ impl From<AllocError> for OptionFault {
 }
 
 /// The options in a program's words, of which the first is its name.
-pub fn options<'a, S: AsStr>(alloc: Global, program: Program, words: &'a [S]) -> Result<Options, OptionFault>
+pub fn options<'a, S: AsStr>(
+    alloc: Global,
+    program: Program,
+    words: &'a [S],
+) -> Result<Options, OptionFault>
     ensures { IfOk result (λ o. AreInRange program o) }
 {
     match program {
@@ -36,14 +40,6 @@ pub fn options<'a, S: AsStr>(alloc: Global, program: Program, words: &'a [S]) ->
 fn bq_options<'a, S: AsStr>(alloc: Global, words: &'a [S]) -> Result<Options, OptionFault>
     ensures { IfOk result (λ o. AreInRange Program.Bq o) }
 {
-    let command = bq_command(alloc)?;
-    match command.try_get_matches_from(words) {
-        Ok(matches) => Ok(bq_chosen(&matches)),
-        Err(e) => Err(fault_of(alloc, &e)),
-    }
-}
-
-fn bq_command(alloc: Global) -> Result<Command<'static>, AllocError> {
     let still = Arg::new(alloc, STILL)
         .long(STILL)
         .help("The clock stands at 0")
@@ -53,7 +49,11 @@ fn bq_command(alloc: Global) -> Result<Command<'static>, AllocError> {
         .value_name("B")
         .help("How many bytes a job's body may have, 1 to 1048576; 65535 unless chosen")
         .value_parser(clap::value_parser!(u32).range(1..=1_048_576));
-    Command::new(alloc, "bq").arg(still)?.arg(max_job_size)
+    let command = Command::new(alloc, "bq").arg(still)?.arg(max_job_size)?;
+    match command.try_get_matches_from(words) {
+        Ok(matches) => Ok(bq_chosen(&matches)),
+        Err(e) => Err(fault_of(alloc, &e)),
+    }
 }
 
 // The parser has refused sizes that are out of range; the clamp says so where it is read.

@@ -14,11 +14,10 @@ use chosen::{OptionFault, Options, Program};
 use command_line::options;
 use console::Console;
 use std::alloc::{AllocError, Global};
-use std::env;
-use std::io;
 use std::process::ExitCode;
 use std::rt::Clock;
 use std::sync::Wait;
+use std::{env, io};
 
 /// How the program ended, where its options were read.
 enum Ending {
@@ -33,8 +32,8 @@ fn main(rt: HostRuntime) -> io::Result<ExitCode> {
     let words: Vec<String> = env::args(&rt)?.collect(alloc)?;
     match options(alloc, Program::Bq, words.as_slice()) {
         Ok(options) => {
-            let line = IoLine::new(Console::new(rt.stdin(), rt.stdout()));
-            let ending = serve(&rt, alloc, &options, line, MachineClock::new(&rt));
+            let console = Console::new(rt.stdin(), rt.stdout());
+            let ending = serve(&rt, alloc, &options, console, MachineClock::new(&rt));
             close(&rt, ending)
         }
         Err(OptionFault::AskedHelp(text)) => {
@@ -63,13 +62,14 @@ fn serve<R: Wait, K: Clock + Drop>(
     rt: &R,
     alloc: Global,
     options: &Options,
-    line: IoLine<Console>,
+    console: Console,
     clock: MachineClock<K>,
 ) -> Ending {
     let config = Config {
         seats: options.seats,
         max_job_size: options.max_job_size,
     };
+    let line = IoLine::new(console);
     if options.still {
         let Ok(still) = still_clock(alloc) else {
             return Ending::Failed("no memory");

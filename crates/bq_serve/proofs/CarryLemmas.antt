@@ -120,7 +120,7 @@ submit_on settings profile tells old new core next mail later heard now seen rea
     let after = stepped settings tells core next mail later heard now seen readings reading s.history s.written what s.past old s.awaits s.stands s.taken one s.settled t in
     let awaited_is : awaited old ≡ Awaited.ASubmission = cc in
     goes_on settings profile tells old new next later now seen (readings ++ reading ∷ []) (history_with settings tells core next mail later heard now seen readings reading s.history s.written what s.past) s.written events.Submitted action s.past
-        move (ap (answers events.Submitted) awaited_is) s.stands s.profile_is after.0 after.1 s.writes
+    move (ap (answers events.Submitted) awaited_is) s.stands s.profile_is after.0 after.1 s.writes
 
 -- time passed, and there is an answer
 pub look_on_mail : (settings : Settings) (profile : Profile) (tells : Bool) (old new : SeatMachine) (core next : Machine) (mail later : List Answer) (heard now : ℕ) (seen : LineSeen) (readings : List (Option ℕ)) (reading : Option ℕ) (answer : Answer) (rest : List Answer) (action : Action)
@@ -134,9 +134,9 @@ look_on_mail settings profile tells old new core next mail later heard now seen 
     let taken : s.past.steps ≡ steps_at 0 with_tick = s.taken ∙ sym after.1 in
     let settled = subst (λ m. IsSettled settings tells next m now seen (readings ++ reading ∷ []) with_tick s.written s.past) is after.0 in
     goes_on settings profile tells old new next rest now seen (readings ++ reading ∷ []) with_tick s.written (events.Mail answer) action s.past
-        move (ap (answers (events.Mail answer)) awaited_is) s.stands s.profile_is
-        (mailed settings tells next now seen (readings ++ reading ∷ []) with_tick s.written s.past answer rest taken settled)
-        (taken_at_mail answer s.past (steps_at 0 with_tick) taken) (writes_at_mail answer s.past s.written s.writes)
+    move (ap (answers (events.Mail answer)) awaited_is) s.stands s.profile_is
+    (mailed settings tells next now seen (readings ++ reading ∷ []) with_tick s.written s.past answer rest taken settled)
+    (taken_at_mail answer s.past (steps_at 0 with_tick) taken) (writes_at_mail answer s.past s.written s.writes)
 
 -- time passed, and there is no answer
 pub look_on_none : (settings : Settings) (profile : Profile) (tells : Bool) (old new : SeatMachine) (core next : Machine) (mail later : List Answer) (heard now : ℕ) (seen : LineSeen) (readings : List (Option ℕ)) (reading : Option ℕ) (rest : List Answer) (action : Action)
@@ -149,7 +149,7 @@ look_on_none settings profile tells old new core next mail later heard now seen 
     let awaited_is : awaited old ≡ Awaited.AMail = cc in
     let settled = subst (λ m. IsSettled settings tells next m now seen (readings ++ reading ∷ []) with_tick s.written s.past) is after.0 in
     goes_on settings profile tells old new next rest now seen (readings ++ reading ∷ []) with_tick s.written events.NothingYet action s.past
-        move (ap (answers events.NothingYet) awaited_is) s.stands s.profile_is settled (s.taken ∙ sym after.1) s.writes
+    move (ap (answers events.NothingYet) awaited_is) s.stands s.profile_is settled (s.taken ∙ sym after.1) s.writes
 
 not_zero : (n : ℕ) → (n ≡ 0 → ⊥) → (n == 0) ≡ false
 not_zero n some = at (n == 0) refl
@@ -183,38 +183,38 @@ module _ (settings : Settings) (profile : Profile) (tells : Bool) (old new : Sea
   read_on_bytes n buf piece some is told move s =
       let awaited_is : awaited old ≡ Awaited.AReading = cc in
       let more : Tells tells later (seen_line s.written (record s.past { bytes = s.past.bytes ++ piece.now })) =
-          subst (λ b. Tells tells later (seen_line s.written (record s.past { bytes = s.past.bytes ++ b }))) (sym is) (read_some tells seen later s.written s.past n buf (not_zero n some) told s.settled.seen_is) in
+      subst (λ b. Tells tells later (seen_line s.written (record s.past { bytes = s.past.bytes ++ b }))) (sym is) (read_some tells seen later s.written s.past n buf (not_zero n some) told s.settled.seen_is) in
       goes_on settings profile tells old new core mail heard later readings s.history s.written (events.Bytes piece) action s.past
-          move (ap (answers (events.Bytes piece)) awaited_is) s.stands s.profile_is
-          (retold_bytes settings tells core mail heard seen later readings s.history s.written s.written s.past (s.past.bytes ++ piece.now) s.settled more)
-          s.taken s.writes
+      move (ap (answers (events.Bytes piece)) awaited_is) s.stands s.profile_is
+      (retold_bytes settings tells core mail heard seen later readings s.history s.written s.written s.past (s.past.bytes ++ piece.now) s.settled more)
+      s.taken s.writes
 
   pub read_on_end : (buf : List ℕ) → Tells tells later (after_read (Ok 0) buf seen) → IsMove old events.EndOfInput action new
       → IsServing settings profile tells old core mail heard seen readings actions.Read → IsServing settings profile tells new core mail heard later readings action
   read_on_end buf told move s =
       let awaited_is : awaited old ≡ Awaited.AReading = cc in
       goes_on settings profile tells old new core mail heard later readings s.history s.written events.EndOfInput action s.past
-          move (ap (answers events.EndOfInput) awaited_is) s.stands s.profile_is
-          (retold_end settings tells core mail heard seen later readings s.history s.written s.written s.past s.settled (read_end tells seen later s.written s.past buf told s.settled.seen_is))
-          s.taken s.writes
+      move (ap (answers events.EndOfInput) awaited_is) s.stands s.profile_is
+      (retold_end settings tells core mail heard seen later readings s.history s.written s.written s.past s.settled (read_end tells seen later s.written s.past buf told s.settled.seen_is))
+      s.taken s.writes
 
   pub read_on_nothing : (e : Error) (buf : List ℕ) → is_nothing_yet (error_kind e) ≡ true → Tells tells later (after_read (Err e) buf seen) → IsMove old events.NothingYet action new
       → IsServing settings profile tells old core mail heard seen readings actions.Read → IsServing settings profile tells new core mail heard later readings action
   read_on_nothing e buf nothing told move s =
       let awaited_is : awaited old ≡ Awaited.AReading = cc in
       goes_on settings profile tells old new core mail heard later readings s.history s.written events.NothingYet action s.past
-          move (ap (answers events.NothingYet) awaited_is) s.stands s.profile_is
-          (retold settings tells core mail heard seen later readings s.history s.written s.written s.past s.settled (read_nothing tells seen later s.written s.past e buf nothing told s.settled.seen_is))
-          s.taken s.writes
+      move (ap (answers events.NothingYet) awaited_is) s.stands s.profile_is
+      (retold settings tells core mail heard seen later readings s.history s.written s.written s.past s.settled (read_nothing tells seen later s.written s.past e buf nothing told s.settled.seen_is))
+      s.taken s.writes
 
   pub read_on_fault : (e : Error) (buf : List ℕ) → is_nothing_yet (error_kind e) ≡ false → Tells tells later (after_read (Err e) buf seen) → IsMove old events.ReadFault action new
       → IsServing settings profile tells old core mail heard seen readings actions.Read → IsServing settings profile tells new core mail heard later readings action
   read_on_fault e buf broken told move s =
       let awaited_is : awaited old ≡ Awaited.AReading = cc in
       goes_on settings profile tells old new core mail heard later readings s.history s.written events.ReadFault action s.past
-          move (ap (answers events.ReadFault) awaited_is) s.stands s.profile_is
-          (retold_fault settings tells core mail heard seen later readings s.history s.written s.written s.past faults.Read s.settled (read_broken tells seen later s.written s.past e buf broken told s.settled.seen_is))
-          (taken_at_fault faults.Read s.past (steps_at 0 s.history) s.taken) (writes_still s.past s.written s.writes)
+      move (ap (answers events.ReadFault) awaited_is) s.stands s.profile_is
+      (retold_fault settings tells core mail heard seen later readings s.history s.written s.written s.past faults.Read s.settled (read_broken tells seen later s.written s.past e buf broken told s.settled.seen_is))
+      (taken_at_fault faults.Read s.past (steps_at 0 s.history) s.taken) (writes_still s.past s.written s.writes)
 
   -- the answer was written whole
   pub write_on_done : (answer : Answer) → Tells tells later (with_written (answer_text answer) seen) → IsMove old events.WriteDone action new
@@ -225,9 +225,9 @@ module _ (settings : Settings) (profile : Profile) (tells : Bool) (old new : Sea
       let whole = unbroken_at old.stage old.reader old.kept old.end_told p awaited_is s.stands in
       let text = s.written ++ answer_text answer in
       goes_on settings profile tells old new core mail heard later readings s.history text events.WriteDone action p
-          move (ap (answers events.WriteDone) awaited_is) s.stands s.profile_is
-          (retold settings tells core mail heard seen later readings s.history s.written text p s.settled (written_more tells seen later s.written (answer_text answer) p told s.settled.seen_is))
-          s.taken (wrote p.fault p.written s.writes.0 answer s.written whole s.writes.1 s.writes.2)
+      move (ap (answers events.WriteDone) awaited_is) s.stands s.profile_is
+      (retold settings tells core mail heard seen later readings s.history s.written text p s.settled (written_more tells seen later s.written (answer_text answer) p told s.settled.seen_is))
+      s.taken (wrote p.fault p.written s.writes.0 answer s.written whole s.writes.1 s.writes.2)
 
   -- the write of the answer broke off
   pub write_on_fault : (answer : Answer) → BreaksOff tells (answer_text answer) seen later → IsMove old events.WriteFault action new
@@ -239,9 +239,9 @@ module _ (settings : Settings) (profile : Profile) (tells : Bool) (old new : Sea
       let text = s.written ++ broken.cut in
       let half : Tells tells (with_written broken.cut seen) (seen_line text p) = written_more tells seen (with_written broken.cut seen) s.written broken.cut p (told_itself tells (with_written broken.cut seen)) s.settled.seen_is in
       goes_on settings profile tells old new core mail heard later readings s.history text events.WriteFault action p
-          move (ap (answers events.WriteFault) awaited_is) s.stands s.profile_is
-          (retold_fault settings tells core mail heard seen later readings s.history s.written text p faults.Write s.settled (told_fault tells faults.Write (with_written broken.cut seen) later text p broken.seen half))
-          (taken_at_fault faults.Write p (steps_at 0 s.history) s.taken) (cut_off p s.writes.0 answer s.written broken.cut whole s.writes.1 s.writes.2 broken.is_beginning)
+      move (ap (answers events.WriteFault) awaited_is) s.stands s.profile_is
+      (retold_fault settings tells core mail heard seen later readings s.history s.written text p faults.Write s.settled (told_fault tells faults.Write (with_written broken.cut seen) later text p broken.seen half))
+      (taken_at_fault faults.Write p (steps_at 0 s.history) s.taken) (cut_off p s.writes.0 answer s.written broken.cut whole s.writes.1 s.writes.2 broken.is_beginning)
 
 -- nobody is connected to a new machine of one seat, and nobody waits
 fresh_core : (settings : Settings) → settings.seats ≡ 1 → (owing 0 (new_machine settings) ≡ 0) × (is_connected_at 0 (new_machine settings) ≡ false)
@@ -267,9 +267,9 @@ opened_first settings profile tells serving new seen action fresh move told =
     let client : IsClientAt [] [] (new_machine settings) = record { none = refl; owes = empty.0; connected = empty.1 } in
     let settled : IsSettled settings tells (new_machine settings) [] 0 seen [] [] [] first_past = record { recorded = recorded; client = client; unclosed = refl; closing = refl; late = λ e. refl; seen_is = told } in
     let at : IsSettled settings tells serving.core serving.mail serving.heard seen [] [] [] first_past =
-        subst (λ core. IsSettled settings tells core serving.mail serving.heard seen [] [] [] first_past) (sym fresh.core_is)
-          (subst (λ mail. IsSettled settings tells (new_machine settings) mail serving.heard seen [] [] [] first_past) (sym fresh.mail_is)
-            (subst (λ heard. IsSettled settings tells (new_machine settings) [] heard seen [] [] [] first_past) (sym fresh.heard_is) settled)) in
+    subst (λ core. IsSettled settings tells core serving.mail serving.heard seen [] [] [] first_past) (sym fresh.core_is)
+    (subst (λ mail. IsSettled settings tells (new_machine settings) mail serving.heard seen [] [] [] first_past) (sym fresh.mail_is)
+    (subst (λ heard. IsSettled settings tells (new_machine settings) [] heard seen [] [] [] first_past) (sym fresh.heard_is) settled)) in
     let first : IsServing settings profile tells new serving.core serving.mail serving.heard seen [] (actions.Submit steps.Connect) = record {
       past = first_past;
       history = [];
@@ -289,4 +289,4 @@ pub over_alone : (settings : Settings) (profile : Profile) (tells : Bool) (machi
     → IsServing settings profile tells machine core mail heard seen readings (actions.LineOver end) → IsServedAlone settings profile tells seen end readings
 over_alone settings profile tells machine core mail heard seen readings end s =
     served_alone settings profile tells seen end s.history readings (s.past.late_mail ++ mail) core heard s.past s.written
-        s.settled.recorded s.taken s.settled.client s.settled.unclosed s.over s.settled.seen_is s.writes
+    s.settled.recorded s.taken s.settled.client s.settled.unclosed s.over s.settled.seen_is s.writes

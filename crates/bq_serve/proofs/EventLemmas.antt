@@ -51,7 +51,7 @@ module _ (settings : Settings) (tells : Bool) (core : Machine) (heard : ℕ) (se
   open_mailed a rest open_still taken s =
       let none = s.late open_still in
       let same : p.mail ++ (p.late_mail ++ a ∷ rest) ≡ (p.mail ++ a ∷ []) ++ (p.late_mail ++ rest) =
-          ap (λ x. p.mail ++ (x ++ a ∷ rest)) none ∙ sym (append_assoc p.mail (a ∷ []) rest) ∙ ap (λ x. (p.mail ++ a ∷ []) ++ (x ++ rest)) (sym none) in
+      ap (λ x. p.mail ++ (x ++ a ∷ rest)) none ∙ sym (append_assoc p.mail (a ∷ []) rest) ∙ ap (λ x. (p.mail ++ a ∷ []) ++ (x ++ rest)) (sym none) in
       let no_close : has_close (steps_at 0 history) ≡ false = ap has_close (sym taken) ∙ sym s.closing ∙ open_still in
       let all = unclosed_open (steps_at 0 history) (p.mail ++ (p.late_mail ++ a ∷ rest)) core no_close s.client in
       record {

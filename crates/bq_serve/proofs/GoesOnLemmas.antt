@@ -121,7 +121,7 @@ goes_on settings profile tells old new core mail heard seen readings history wri
     let stands_new : StandsFor new (with_action action q) = subst (StandsFor new) after (move.past p stands) in
     let awaits_new = move.awaits straight in
     let unbroken : awaited_by action ≡ Some Awaited.AWriting → q.fault ≡ None =
-        λ e. let one : awaited new ≡ Awaited.AWriting = cc in sym (fault_kept action q) ∙ unbroken_at new.stage new.reader new.kept new.end_told (with_action action q) one stands_new in
+    λ e. let one : awaited new ≡ Awaited.AWriting = cc in sym (fault_kept action q) ∙ unbroken_at new.stage new.reader new.kept new.end_told (with_action action q) one stands_new in
     record {
       past = with_action action q;
       history = history;

@@ -1,6 +1,6 @@
 pub mod ArmLemmas
-pub mod CarryLemmas
 pub mod BuiltLemmas
+pub mod CarryLemmas
 pub mod EventLemmas
 pub mod GoesOnLemmas
 pub mod GoingLemmas

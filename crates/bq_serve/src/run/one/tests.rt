@@ -1,7 +1,9 @@
 //! Worked sessions of one line: the bytes that a client sends, and those that are written to it.
+ghost use Rattle.std.specs.Prelude.{IfOk, true};
+ghost use Rattle.bq_serve.specs.LineCalls.{Tells, new_line};
 
 use crate::clock::ScriptClock;
-use crate::line::{MemLine, Part};
+use crate::line::{Line, MemLine, Part};
 use crate::{RunFault, run_one};
 use bq_core::Config;
 use bq_job::{LineEnd, Moment};
@@ -36,8 +38,8 @@ static ROWS: [Row; 13] = [
         LineEnd::EndOfInput,
     ),
     ("put 0 0 1 5\r\nab", "", LineEnd::EndOfInput),
-    ("reserve", "", LineEnd::EndOfInput),
-    ("quit\r\nreserve\r\n", "", LineEnd::Quit),
+    ("list-tube-used", "", LineEnd::EndOfInput),
+    ("quit\r\nstats\r\n", "", LineEnd::Quit),
     ("reserve\r\n", "TIMED_OUT\r\n", LineEnd::EndOfInput),
     (
         "\r\nreserve \r\n reserve\r\nput 0 0 4294967296 1\r\n",
@@ -76,7 +78,9 @@ fn still(alloc: Global) -> Result<ScriptClock, Fail> {
 }
 
 // A client that sends this text at once.
-fn client(alloc: Global, sent: &str, room: usize) -> Result<MemLine, Fail> {
+fn client(alloc: Global, sent: &str, room: usize) -> Result<MemLine, Fail>
+    ensures { IfOk result (λ line. Tells true (⟦<MemLine as Line>⟧.seen line) new_line) }
+{
     let mut parts: Vec<Part> = Vec::new(alloc);
     parts.push(Part::Bytes(Vec::from_slice(alloc, sent.as_bytes())?))?;
     Ok(MemLine::new(alloc, parts, room)?)
@@ -201,5 +205,33 @@ fn bad_configurations(rt: HostRuntime) -> Result<(), Fail> {
         };
         assert!(rt; refused == Some(RunFault::BadConfiguration));
     }
+    Ok(())
+}
+
+// A clock that falls, or that can't be read, stands still: the job of 1 second's delay isn't due.
+#[test]
+fn falling_clock(rt: HostRuntime) -> Result<(), Fail> {
+    let alloc = rt.alloc();
+    let sent = "put 0 1 9 1\r\nx\r\nreserve\r\n";
+    let mut script: Vec<Option<Moment>> = Vec::new(alloc);
+    script.push(Some(1000))?;
+    script.push(Some(999))?;
+    script.push(None)?;
+    script.push(Some(0))?;
+    let line = client(alloc, sent, ROOM)?;
+    let one = run_one(&rt, alloc, config(65535), line, ScriptClock::new(script))?;
+    assert!(rt; one.line.written() == b"INSERTED 1\r\nTIMED_OUT\r\n".as_slice());
+    assert!(rt; one.end == LineEnd::EndOfInput);
+    Ok(())
+}
+
+// A clock that can't be read stands at 0.
+#[test]
+fn unread_clock(rt: HostRuntime) -> Result<(), Fail> {
+    let alloc = rt.alloc();
+    let line = client(alloc, ROWS[0].0, ROOM)?;
+    let one = run_one(&rt, alloc, config(65535), line, ScriptClock::new(Vec::new(alloc)))?;
+    assert!(rt; one.line.written() == ROWS[0].1.as_bytes());
+    assert!(rt; one.end == LineEnd::Quit);
     Ok(())
 }

@@ -16,6 +16,9 @@ loop-init g c =
 pub returns-in-LineOver-clause-served : goal.returns-in-LineOver-clause-served
 returns-in-LineOver-clause-served g c =
     let on = c.loop.invariant.goes_on in
-    let s = c.loop.serving in
-    (on.0, on.1, over_alone (settings_of c.args.config) (profile_so_far c.args.config) g.L.Line.tells_bytes s.machine s.core s.mail s.heard (g.L.Line.seen c.loop.line) on.0 c.in-LineOver.end
-      (subst (IsServing (settings_of c.args.config) (profile_so_far c.args.config) g.L.Line.tells_bytes s.machine s.core s.mail s.heard (g.L.Line.seen c.loop.line) on.0) c.in-LineOver.is on.2))
+    let s = c.loop.serving in (
+      on.0,
+      on.1,
+      over_alone (settings_of c.args.config) (profile_so_far c.args.config) g.L.Line.tells_bytes s.machine s.core s.mail s.heard (g.L.Line.seen c.loop.line) on.0 c.in-LineOver.end
+          (subst (IsServing (settings_of c.args.config) (profile_so_far c.args.config) g.L.Line.tells_bytes s.machine s.core s.mail s.heard (g.L.Line.seen c.loop.line) on.0) c.in-LineOver.is on.2),
+    )

@@ -15,7 +15,9 @@ returns-in-Write-clause-on g c =
 
 pub returns-in-LineOver-clause-on : goal.returns-in-LineOver-clause-on
 returns-in-LineOver-clause-on g c =
-    let old = c.args.self.now in
-    ([], λ first readings h. subst (λ r. g.C.Clock.given first r c.args.clock.now) (sym (append-nil readings)) h,
+    let old = c.args.self.now in (
+      [],
+      λ first readings h. subst (λ r. g.C.Clock.given first r c.args.clock.now) (sym (append-nil readings)) h,
       λ settings profile readings s. without_clock settings profile g.L.Line.tells_bytes old.machine old.core old.mail old.heard (g.L.Line.seen c.args.line.now) readings _
-        (subst (λ a. IsServing settings profile g.L.Line.tells_bytes old.machine old.core old.mail old.heard (g.L.Line.seen c.args.line.now) readings a) c.in-LineOver.is s))
+          (subst (λ a. IsServing settings profile g.L.Line.tells_bytes old.machine old.core old.mail old.heard (g.L.Line.seen c.args.line.now) readings a) c.in-LineOver.is s),
+    )

@@ -16,15 +16,21 @@ returns-in-Some-clause-on g c =
     let new = c.take_step.new.self in
     let taken = c.take_step.ensures.taken in
     let event = events.Mail c.in-Some.answer in
-    let move : IsMove old.machine event c.on.result c.on.new.self = subst (λ m. IsMove m event c.on.result c.on.new.self) c.take_step.ensures.machine c.on.ensures.moves in
-    (taken.0 ∷ [], taken.2, λ tells seen settings profile readings s.
-      look_on_mail settings profile tells old.machine c.on.new.self old.core new.core old.mail new.mail old.heard new.heard seen readings taken.0 c.in-Some.answer c.take_first.new.self c.on.result c.requires.roomy.one taken.1 c.in-Some.ensures move s)
+    let move : IsMove old.machine event c.on.result c.on.new.self = subst (λ m. IsMove m event c.on.result c.on.new.self) c.take_step.ensures.machine c.on.ensures.moves in (
+      taken.0 ∷ [],
+      taken.2,
+      λ tells seen settings profile readings s.
+          look_on_mail settings profile tells old.machine c.on.new.self old.core new.core old.mail new.mail old.heard new.heard seen readings taken.0 c.in-Some.answer c.take_first.new.self c.on.result c.requires.roomy.one taken.1 c.in-Some.ensures move s,
+    )
 
 pub returns-in-None-clause-on : goal.returns-in-None-clause-on
 returns-in-None-clause-on g c =
     let old = c.args.self.now in
     let new = c.take_step.new.self in
     let taken = c.take_step.ensures.taken in
-    let move : IsMove old.machine events.NothingYet c.on-in-None.result c.on-in-None.new.self = subst (λ m. IsMove m events.NothingYet c.on-in-None.result c.on-in-None.new.self) c.take_step.ensures.machine c.on-in-None.ensures.moves in
-    (taken.0 ∷ [], taken.2, λ tells seen settings profile readings s.
-      look_on_none settings profile tells old.machine c.on-in-None.new.self old.core new.core old.mail new.mail old.heard new.heard seen readings taken.0 c.take_first.new.self c.on-in-None.result c.requires.roomy.one taken.1 c.in-None.ensures move s)
+    let move : IsMove old.machine events.NothingYet c.on-in-None.result c.on-in-None.new.self = subst (λ m. IsMove m events.NothingYet c.on-in-None.result c.on-in-None.new.self) c.take_step.ensures.machine c.on-in-None.ensures.moves in (
+      taken.0 ∷ [],
+      taken.2,
+      λ tells seen settings profile readings s.
+          look_on_none settings profile tells old.machine c.on-in-None.new.self old.core new.core old.mail new.mail old.heard new.heard seen readings taken.0 c.take_first.new.self c.on-in-None.result c.requires.roomy.one taken.1 c.in-None.ensures move s,
+    )

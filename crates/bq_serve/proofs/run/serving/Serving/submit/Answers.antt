@@ -26,6 +26,9 @@ returns-clause-on g c =
     let old = c.args.self.now in
     let new = c.take_step.new.self in
     let taken = c.take_step.ensures.taken in
-    let move : IsMove old.machine events.Submitted c.on.result c.on.new.self = subst (λ m. IsMove m events.Submitted c.on.result c.on.new.self) c.take_step.ensures.machine c.on.ensures.moves in
-    (taken.0 ∷ [], taken.2, λ tells seen settings profile readings s.
-      submit_on settings profile tells old.machine c.on.new.self old.core new.core old.mail new.mail old.heard new.heard seen readings taken.0 c.args.what c.on.result c.requires.roomy.one taken.1 move s)
+    let move : IsMove old.machine events.Submitted c.on.result c.on.new.self = subst (λ m. IsMove m events.Submitted c.on.result c.on.new.self) c.take_step.ensures.machine c.on.ensures.moves in (
+      taken.0 ∷ [],
+      taken.2,
+      λ tells seen settings profile readings s.
+          submit_on settings profile tells old.machine c.on.new.self old.core new.core old.mail new.mail old.heard new.heard seen readings taken.0 c.args.what c.on.result c.requires.roomy.one taken.1 move s,
+    )
