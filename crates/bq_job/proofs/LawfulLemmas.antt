@@ -10,7 +10,6 @@ use Rattle.bq_job.specs.declared.answer.Answer.{Answer}
 use Rattle.bq_job.specs.declared.job.Job.{Job}
 use Rattle.bq_job.specs.declared.job.JobState.TheVariants as states
 use Rattle.bq_job.specs.declared.step.Step.{Step}
-use Rattle.bq_job.specs.Acts.{Effect}
 use Rattle.bq_job.specs.Changes.{in_state, is_ready, is_waiting, with_job, with_seat, without_wait}
 use Rattle.bq_job.specs.Computed.{waiting_count}
 use Rattle.bq_job.specs.Dispatch.{DispatchTurn, Given, IsHandOut, is_job_before, is_wait_before, is_waiting_for, next_job, next_seat, reserved_by}

@@ -1,9 +1,9 @@
 -- What a step gives to one client: turns of dispatch and ends of waits give it what it waits for, and
 -- the command's own effect gives it the answer, or makes it wait.
-use Rattle.std.proofs.Common.{ℕ, zero, suc, ◌≡◌, ◌≤◌, ◌<◌, ◌+◌, Bool, true, false, ◌&&◌, ◌||◌, not, cond, List, [], ◌∷◌, ◌++◌, map, length, take, length-append, append_assoc, arith, refl, sym, ap, ◌∙◌, subst, inl, inr, Option, Some, None}
-use Rattle.std.specs.Prelude.{◌==◌, find, filter, IsTrue}
+use Rattle.std.proofs.Common.{ℕ, zero, suc, ◌≡◌, ◌≤◌, ◌<◌, ◌+◌, Bool, true, false, ◌&&◌, ◌||◌, not, cond, List, [], ◌∷◌, ◌++◌, map, length, length-append, append_assoc, arith, refl, sym, ap, ◌∙◌, subst, inl, inr, Option, Some, None}
+use Rattle.std.specs.Prelude.{◌==◌, IsTrue}
 use Rattle.std.specs.List.{AllByRecursion as All, Contains, list_any}
-use Rattle.std.proofs.lemmas.Bool.{cases_Bool, and_from, and_parts, and_right, or_from, both_ways, cond_both, eq-eqb, eqb-true, eqb-false, false_from_ne_true}
+use Rattle.std.proofs.lemmas.Bool.{cases_Bool, and_from, and_parts, and_right, or_from, both_ways, cond_both, eq-eqb, eqb-true, eqb-false}
 use Rattle.std.proofs.lemmas.List.Folds.{list_any-append}
 use Rattle.bq_job.specs.declared.answer.Answer.{Answer}
 use Rattle.bq_job.specs.declared.answer.Answer.TheVariants as answers
@@ -15,21 +15,21 @@ use Rattle.bq_job.specs.declared.request.Request.{Request}
 use Rattle.bq_job.specs.declared.request.Request.TheVariants as requests
 use Rattle.bq_job.specs.declared.step.Step.{Step}
 use Rattle.bq_job.specs.declared.step.Step.TheVariants as steps
-use Rattle.bq_job.specs.Acts.{Effect, on_found, on_job, showing, silent, telling}
-use Rattle.bq_job.specs.Asked.{after_close, after_connect, asked, at_found, at_seat, effect, refusal_answer, with_end}
+use Rattle.bq_job.specs.Acts.{Effect, on_found, showing, silent, telling}
+use Rattle.bq_job.specs.Asked.{after_close, after_connect, asked, at_found, effect, refusal_answer, with_end}
 use Rattle.bq_job.specs.Changes.{in_state, is_held_by, is_waiting, job_with, seat_with, with_job, with_seat, without_wait}
 use Rattle.bq_job.specs.Dispatch.{DispatchTurn, Given, IsHandOut, is_wait_before, next_seat, reserved_by}
-use Rattle.bq_job.specs.JobCommands.{after_delete, after_kick, after_put, buried, is_free_for, kickable, kicked, new_job, put_effect, released, reserve_effect, waiting_from}
-use Rattle.bq_job.specs.JobStates.{is_buried, is_delayed, is_reserved}
+use Rattle.bq_job.specs.JobCommands.{after_delete, after_put, buried, is_free_for, kicked, new_job, released, reserve_effect, waiting_from}
+use Rattle.bq_job.specs.JobStates.{is_reserved}
 use Rattle.bq_job.specs.Lawful.{IsLawful}
 use Rattle.bq_job.specs.LineSteps.{is_waiting_request}
 use Rattle.bq_job.specs.Limits.{later, raised}
 use Rattle.bq_job.specs.Machine.{Machine, SeatRecord, empty_seat, numbers}
-use Rattle.bq_job.specs.OneClient.{GetsAnswer, GetsClosed, GetsWhatWaits, GivesClient, answers_wanted, has_closed, is_closed_answer, is_connected_at, is_waiting_at, owing}
+use Rattle.bq_job.specs.OneClient.{GetsAnswer, GetsClosed, GetsWhatWaits, GivesClient, answers_wanted, has_closed, is_closed_answer, is_connected_at, owing}
 use Rattle.bq_job.specs.Runs.{answers_to}
 use Rattle.bq_job.specs.StatisticsCommands.{job_statistics_or_not}
-use Rattle.bq_job.specs.Steps.{Dispatches, EndsWaits, IsStep, Memory, Outcome, Serves, acted, addressed, granted, growth_refused, is_possible, share_refused, shares_body, step_takes_memory}
-use Rattle.bq_job.specs.TubeCommands.{pause_effect, using, watched_with, watching, watching_or_refused}
+use Rattle.bq_job.specs.Steps.{IsStep, Memory, Outcome, Serves, acted, addressed, granted, growth_refused, is_possible, share_refused, shares_body, step_takes_memory}
+use Rattle.bq_job.specs.TubeCommands.{using, watched_with, watching, watching_or_refused}
 use Rattle.bq_job.specs.Timers.{after_timers, at_moment}
 use Rattle.bq_job.specs.Tubes.{forgetting, is_tube}
 use Rattle.bq_job.specs.Waits.{Chain, WaitEndTurn, end_of_wait, ends_waiting, is_deadline_soon, is_until_over}

@@ -1,5 +1,5 @@
 -- The command's own effect: what each request and each other event does by itself.
-use Rattle.std.specs.Prelude.{ℕ, Bool, true, false, ◌&&◌, not, if◌then◌else◌, Option, Some, None, List, map}
+use Rattle.std.specs.Prelude.{ℕ, true, ◌&&◌, not, if◌then◌else◌, Option, Some, None, map}
 use Rattle.bq_job.specs.declared.answer.Answer.{Answer}
 use Rattle.bq_job.specs.declared.answer.Answer.TheVariants as answers
 use Rattle.bq_job.specs.declared.job.JobState.TheVariants as states
@@ -10,7 +10,7 @@ use Rattle.bq_job.specs.declared.request.Request.TheVariants as requests
 use Rattle.bq_job.specs.declared.step.Step.{Step}
 use Rattle.bq_job.specs.declared.step.Step.TheVariants as steps
 use Rattle.bq_job.specs.Acts.{Effect, telling, silent}
-use Rattle.bq_job.specs.Changes.{in_state, is_held_by, is_waiting, job_with, seat_with, with_seat}
+use Rattle.bq_job.specs.Changes.{in_state, is_held_by, is_waiting, seat_with, with_seat}
 use Rattle.bq_job.specs.JobCommands.{bury_effect, delete_effect, kick_effect, kick_job_effect, put_effect, release_effect, reserve_effect, reserve_job_effect, touch_effect}
 use Rattle.bq_job.specs.Limits.{raised, later}
 use Rattle.bq_job.specs.Machine.{Machine, SeatRecord, empty_seat}

@@ -1,6 +1,6 @@
 -- Dispatch: while some waiting client may have a ready job, the least of all such jobs goes to the
 -- client that has waited longest of those that may have it.
-use Rattle.std.specs.Prelude.{ℕ, Bool, true, false, ◌≡◌, ◌&&◌, ◌⊎◌, not, Option, Some, None, MatchOption, List, [], ◌∷◌}
+use Rattle.std.specs.Prelude.{ℕ, Bool, ◌≡◌, ◌&&◌, ◌⊎◌, not, Option, Some, None, MatchOption}
 use Rattle.std.specs.List.{list_any}
 use Rattle.bq_job.specs.declared.answer.Answer.{Answer}
 use Rattle.bq_job.specs.declared.answer.Answer.TheVariants as answers

@@ -1,5 +1,5 @@
 -- One history of everybody's steps.
-use Rattle.std.specs.Prelude.{ℕ, zero, suc, Bool, true, false, ◌≡◌, ◌≤◌, ◌⊎◌, ◌&&◌, ◌==◌, not, nat_le, max, IsTrue, List, [], ◌∷◌, ◌++◌, map, filter, length, replicate, Option, Some, None}
+use Rattle.std.specs.Prelude.{ℕ, suc, Bool, true, false, ◌≡◌, ◌⊎◌, ◌==◌, not, nat_le, max, IsTrue, List, [], ◌∷◌, ◌++◌, map, filter, length, replicate, Option, Some, None}
 use Rattle.std.specs.List.{list_all}
 use Rattle.bq_job.specs.declared.line_end.LineEnd.{LineEnd}
 use Rattle.bq_job.specs.declared.step.Step.{Step}

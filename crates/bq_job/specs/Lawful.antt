@@ -1,14 +1,12 @@
 -- What holds of the machine after every step.
-use Rattle.std.specs.Prelude.{ℕ, suc, Bool, true, false, ◌≡◌, ◌≤◌, ◌&&◌, ◌||◌, not, Option, Some, None, List, [], ◌∷◌, map, IsTrue}
+use Rattle.std.specs.Prelude.{ℕ, suc, Bool, false, ◌≡◌, ◌≤◌, ◌&&◌, ◌||◌, not, None, List, [], ◌∷◌, map, IsTrue}
 use Rattle.std.specs.List.{list_all, list_any}
 use Rattle.bq_job.specs.declared.job.Job.{Job}
-use Rattle.bq_job.specs.declared.job.JobState.{JobState}
-use Rattle.bq_job.specs.declared.job.JobState.TheVariants as states
 use Rattle.bq_job.specs.Changes.{is_held_by, is_waiting}
 use Rattle.bq_job.specs.Dispatch.{next_job}
 use Rattle.bq_job.specs.JobCommands.{last_id}
 use Rattle.bq_job.specs.JobStates.{is_reserved}
-use Rattle.bq_job.specs.Machine.{Machine, SeatRecord, numbers}
+use Rattle.bq_job.specs.Machine.{Machine, numbers}
 use Rattle.bq_job.specs.Tubes.{is_tube}
 use Rattle.bq_job.specs.Waits.{next_end}
 

@@ -1,5 +1,5 @@
 -- The one-list machine: what a work queue server holds, with nothing kept to make it fast.
-use Rattle.std.specs.Prelude.{ℕ, zero, suc, Bool, true, false, List, [], ◌∷◌, Option, Some, None, codes, map}
+use Rattle.std.specs.Prelude.{ℕ, zero, suc, Bool, false, List, [], ◌∷◌, Option, None, codes, map}
 use Rattle.bq_job.specs.declared.job.Job.{Job}
 
 -- a client that waits for a job: its turn among those that wait, and the moment at which it gives up, if any

@@ -1,9 +1,8 @@
 -- Which tubes exist, and what is kept of them.
-use Rattle.std.specs.Prelude.{ℕ, Bool, true, false, ◌&&◌, ◌||◌, if◌then◌else◌, List, [], ◌∷◌, Option, Some, None, is_some, unwrap_or, filter, find}
+use Rattle.std.specs.Prelude.{ℕ, Bool, ◌&&◌, ◌||◌, if◌then◌else◌, List, [], ◌∷◌, None, is_some, unwrap_or, filter, find}
 use Rattle.std.specs.List.{list_any}
 use Rattle.std.specs.Cmp.Lexicographic.{slice_cmp}
 use Rattle.std.specs.Ordering.{nat_cmp, is_lt}
-use Rattle.bq_job.specs.declared.job.Job.{Job}
 use Rattle.bq_job.specs.Machine.{Machine, SeatRecord, TubeRecord, default_tube}
 use Rattle.bq_job.specs.TubeName.{is_same_name}
 

@@ -1,9 +1,8 @@
 -- Waits that end without a job, and chains of turns.
-use Rattle.std.specs.Prelude.{ℕ, Bool, true, false, ◌≡◌, ◌==◌, ◌&&◌, ◌||◌, ◌+◌, nat_le, if◌then◌else◌, Option, Some, None, MatchOption, List, [], ◌∷◌}
+use Rattle.std.specs.Prelude.{ℕ, Bool, false, ◌≡◌, ◌==◌, ◌&&◌, ◌||◌, ◌+◌, nat_le, if◌then◌else◌, Option, Some, None, MatchOption, List, [], ◌∷◌}
 use Rattle.std.specs.List.{list_any}
 use Rattle.bq_job.specs.declared.answer.Answer.{Answer}
 use Rattle.bq_job.specs.declared.answer.Answer.TheVariants as answers
-use Rattle.bq_job.specs.declared.job.Job.{Job}
 use Rattle.bq_job.specs.declared.job.JobState.{JobState}
 use Rattle.bq_job.specs.declared.job.JobState.TheVariants as states
 use Rattle.bq_job.specs.Changes.{first_of, is_waiting, with_seat, without_wait}

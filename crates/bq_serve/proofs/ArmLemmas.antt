@@ -1,25 +1,21 @@
 -- What each thing that a run does to its line, its core and its mail settles.
-use Rattle.std.proofs.Common.{◌≡◌, ℕ, ◌+◌, ◌<◌, ◌≤◌, Bool, true, false, ◌||◌, not, List, [], ◌∷◌, ◌++◌, Option, Some, None, map, length, refl, sym, ap, ◌∙◌, arith, subst, append-nil, append_assoc, if◌then◌else◌}
-use Rattle.std.specs.List.{AllByRecursion}
+use Rattle.std.proofs.Common.{◌≡◌, ℕ, ◌<◌, ◌≤◌, Bool, false, List, [], ◌∷◌, ◌++◌, Option, Some, length, refl, sym, ap, ◌∙◌, arith, subst, append_assoc, if◌then◌else◌}
 use Rattle.std.proofs.lemmas.List.{length-append}
 use Rattle.bq_job.specs.declared.answer.Answer.{Answer}
 use Rattle.bq_job.specs.declared.step.Step.{Step}
 use Rattle.bq_job.specs.declared.step.Step.TheVariants as steps
 use Rattle.bq_job.specs.Dispatch.{Given}
 use Rattle.bq_job.specs.History.{is_tick, steps_at}
-use Rattle.bq_job.specs.Lawful.{IsLawful}
 use Rattle.bq_job.specs.LineSteps.{LineSeen}
 use Rattle.bq_job.specs.Machine.{Machine, Settings}
 use Rattle.bq_job.specs.OneClient.{GivesClient}
-use Rattle.bq_job.specs.Profile.{Profile}
 use Rattle.bq_job.specs.Runs.{Entry, answers_to}
 use Rattle.bq_job.proofs.OneClientLemmas.{step_gives_client}
 use Rattle.bq_serve.specs.InTurn.{IsInTurn}
 use Rattle.bq_serve.specs.OneSeat.{IsClientAt, IsRecord, moment_heard}
 use Rattle.bq_serve.specs.Past.{Awaited, Past, awaited_by}
 use Rattle.bq_serve.specs.SeatStands.{StandsFor, awaited}
-use Rattle.bq_serve.specs.ServingOne.{AreTaken, IsServing, IsSettled, TakesStep}
-use Rattle.bq_serve.specs.declared.seat.machine.Action.{Action}
+use Rattle.bq_serve.specs.ServingOne.{IsSettled, TakesStep}
 use Rattle.bq_serve.specs.declared.seat.machine.Action.TheVariants as actions
 use Rattle.bq_serve.specs.declared.seat.machine.SeatMachine.{SeatMachine}
 use Rattle.bq_serve.proofs.HistoryLemmas.{client_asks, client_closes, client_connects, client_ends, client_ticks, entry_at, record_more, steps_more}

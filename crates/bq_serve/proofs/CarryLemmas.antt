@@ -1,5 +1,5 @@
 -- What carrying each action out settles.
-use Rattle.std.proofs.Common.{◌≡◌, ℕ, ◌+◌, ◌<◌, ◌≤◌, Bool, true, false, ◌==◌, List, [], ◌∷◌, ◌++◌, Option, Some, None, Result, Ok, Err, length, take, refl, sym, ap, ◌∙◌, arith, subst, map, inl, inr, MatchBool, Bor, not, append_assoc, append-nil}
+use Rattle.std.proofs.Common.{◌≡◌, ℕ, ◌+◌, ◌≤◌, Bool, true, false, ◌==◌, List, [], ◌∷◌, ◌++◌, Option, Ok, Err, length, take, refl, sym, ap, ◌∙◌, arith, subst, map, inl, inr, MatchBool, Bor, not, append_assoc, append-nil}
 use Rattle.std.proofs.lemmas.Bool.{eqb-true}
 use Rattle.std.proofs.lemmas.List.{length-append}
 use Rattle.std.specs.declared.io.Error.{Error}
@@ -13,7 +13,7 @@ use Rattle.bq_job.specs.declared.step.Step.{Step}
 use Rattle.bq_job.specs.declared.step.Step.TheVariants as steps
 use Rattle.bq_job.specs.AnswerText.{answer_text}
 use Rattle.bq_job.specs.History.{steps_at}
-use Rattle.bq_job.specs.LineSteps.{LineSeen, answered_count}
+use Rattle.bq_job.specs.LineSteps.{LineSeen}
 use Rattle.bq_job.specs.Machine.{Machine, Settings, new_machine}
 use Rattle.bq_job.specs.OneClient.{is_connected_at, owing}
 use Rattle.bq_job.specs.Profile.{Profile}
@@ -21,15 +21,14 @@ use Rattle.bq_job.specs.Runs.{Entry}
 use Rattle.bq_serve.specs.InTurn.{IsInTurn}
 use Rattle.bq_serve.specs.LineCalls.{Tells, after_read, is_nothing_yet, new_line}
 use Rattle.bq_serve.specs.OneSeat.{IsClientAt, IsClosedClient, IsOpenClient, IsRecord, IsServedAlone, has_close, wanted}
-use Rattle.bq_serve.specs.Past.{Awaited, Past, answers, awaited_by, first_past, is_stray, with_event, with_fault, with_mail}
+use Rattle.bq_serve.specs.Past.{Awaited, Past, answers, awaited_by, first_past, is_stray}
 use Rattle.bq_serve.specs.SeatMoves.{IsMove}
-use Rattle.bq_serve.specs.SeatStands.{StandsAt, StandsFor, awaited, awaited_at, end_if, seen_line}
-use Rattle.bq_serve.specs.ServingOne.{AreTaken, IsNewServing, IsServing, IsSettled, TakesStep}
+use Rattle.bq_serve.specs.SeatStands.{StandsAt, awaited, awaited_at, end_if, seen_line}
+use Rattle.bq_serve.specs.ServingOne.{IsNewServing, IsServing, IsSettled, TakesStep}
 use Rattle.bq_serve.specs.Writing.{BreaksOff, with_written}
 use Rattle.bq_serve.specs.declared.run.serving.Serving.{Serving}
 use Rattle.bq_serve.specs.declared.seat.machine.Action.{Action}
 use Rattle.bq_serve.specs.declared.seat.machine.Action.TheVariants as actions
-use Rattle.bq_serve.specs.declared.seat.machine.Event.{Event}
 use Rattle.bq_serve.specs.declared.seat.machine.Event.TheVariants as events
 use Rattle.bq_serve.specs.declared.seat.machine.SeatMachine.{SeatMachine}
 use Rattle.bq_serve.specs.declared.seat.machine.Stage.{Stage}

@@ -1,6 +1,5 @@
 -- What reads, writes and mail settle.
-use Rattle.std.proofs.Common.{◌≡◌, ℕ, ◌+◌, ◌≤◌, Bool, true, false, ◌||◌, ◌==◌, List, [], ◌∷◌, ◌++◌, Option, Some, None, Result, Ok, Err, is_some, map, length, take, refl, sym, ap, ◌∙◌, arith, subst, append-nil, append_assoc, if◌then◌else◌, IsTrue}
-use Rattle.std.proofs.lemmas.Bool.{eqb-true}
+use Rattle.std.proofs.Common.{◌≡◌, ℕ, Bool, true, false, ◌||◌, ◌==◌, List, [], ◌∷◌, ◌++◌, Option, Some, None, Ok, Err, is_some, length, take, refl, sym, ap, ◌∙◌, subst, append-nil, append_assoc, if◌then◌else◌}
 use Rattle.std.proofs.lemmas.List.Concat.{flat_map-append}
 use Rattle.std.specs.declared.io.Error.{Error}
 use Rattle.std.specs.IoError.{error_kind}
@@ -19,7 +18,6 @@ use Rattle.bq_serve.specs.OneSeat.{IsClientAt, IsRecord, IsWrittenSo, has_close}
 use Rattle.bq_serve.specs.Past.{Past, with_fault, with_mail}
 use Rattle.bq_serve.specs.SeatStands.{seen_line}
 use Rattle.bq_serve.specs.ServingOne.{IsSettled}
-use Rattle.bq_serve.specs.Writing.{BreaksOff, with_written}
 
 unclosed_first : (xs ys : List Answer) → has_closed (xs ++ ys) ≡ false → has_closed xs ≡ false
 unclosed_first [] ys e = refl

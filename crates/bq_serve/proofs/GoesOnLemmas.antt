@@ -1,6 +1,5 @@
 -- A run of one client goes on by an event and the seat machine's answer to it.
-use Rattle.std.proofs.Common.{◌≡◌, ℕ, ◌+◌, ◌≤◌, Bool, true, false, ◌||◌, not, List, [], ◌∷◌, ◌++◌, Option, Some, None, map, length, refl, sym, ap, ◌∙◌, arith, subst, append-nil, append_assoc, if◌then◌else◌}
-use Rattle.std.specs.List.{list_any}
+use Rattle.std.proofs.Common.{◌≡◌, ℕ, Bool, true, false, ◌||◌, not, List, [], ◌∷◌, ◌++◌, Option, Some, None, refl, sym, ap, ◌∙◌, subst, if◌then◌else◌}
 use Rattle.bq_job.specs.declared.answer.Answer.{Answer}
 use Rattle.bq_job.specs.declared.line_end.LineFault.{LineFault}
 use Rattle.bq_job.specs.declared.step.Step.{Step}
@@ -9,11 +8,10 @@ use Rattle.bq_job.specs.LineSteps.{LineSeen, answers_text}
 use Rattle.bq_job.specs.Machine.{Machine, Settings}
 use Rattle.bq_job.specs.Profile.{Profile}
 use Rattle.bq_job.specs.Runs.{Entry}
-use Rattle.bq_serve.specs.LineCalls.{Tells}
 use Rattle.bq_serve.specs.OneSeat.{IsWrittenSo, has_close}
 use Rattle.bq_serve.specs.Past.{Awaited, Past, answers, awaited_by, is_close, is_stray, past_after, with_action, with_event}
 use Rattle.bq_serve.specs.SeatMoves.{IfLineOver, IsMove}
-use Rattle.bq_serve.specs.SeatStands.{IsServed, StandsAt, StandsFor, awaited, awaited_at, seat_profile, seen_line}
+use Rattle.bq_serve.specs.SeatStands.{IsServed, StandsAt, StandsFor, awaited, awaited_at, seat_profile}
 use Rattle.bq_serve.specs.ServingOne.{AreTaken, IsServing, IsSettled, IsWrittenAt}
 use Rattle.bq_serve.specs.declared.seat.machine.Action.{Action}
 use Rattle.bq_serve.specs.declared.seat.machine.Action.TheVariants as actions

@@ -1,5 +1,5 @@
 -- Each step that a seat machine submits comes in its turn.
-use Rattle.std.proofs.Common.{◌≡◌, ◌+◌, Bool, true, false, List, [], ◌∷◌, ◌++◌, Option, Some, None, map, length, refl, sym, ap, ◌∙◌, arith, subst, inl, inr, append-nil, append_assoc, ℕ, ◌⊎◌, ◌≤◌}
+use Rattle.std.proofs.Common.{◌≡◌, ◌+◌, Bool, true, false, List, [], ◌∷◌, ◌++◌, map, length, refl, sym, ap, ◌∙◌, arith, subst, inl, inr, append-nil, ℕ, ◌⊎◌, ◌≤◌}
 use Rattle.std.proofs.lemmas.List.{length-append}
 use Rattle.bq_job.specs.declared.line_end.LineEnd.{LineEnd}
 use Rattle.bq_job.specs.declared.request.Request.{Request}
@@ -12,12 +12,10 @@ use Rattle.bq_job.specs.LineSteps.{AreAllAnswered, answered_count}
 use Rattle.bq_job.specs.OneClient.{answers_wanted}
 use Rattle.bq_serve.specs.OneSeat.{wanted}
 use Rattle.bq_serve.proofs.StepLemmas.{answered_count-asked}
-use Rattle.bq_serve.specs.Past.{Awaited, Past, with_action}
-use Rattle.bq_serve.specs.InTurn.{HasAsked, IsInTurn}
-use Rattle.bq_serve.specs.SeatStands.{HasAskedQuit, IsOpen, IsServed, IsWaiting, StandsAt, awaited_at, end_if, has_quit, seen_line}
-use Rattle.bq_serve.specs.Standing.{profile_of}
+use Rattle.bq_serve.specs.Past.{Awaited, Past}
+use Rattle.bq_serve.specs.InTurn.{IsInTurn}
+use Rattle.bq_serve.specs.SeatStands.{HasAskedQuit, StandsAt, awaited_at, end_if, has_quit}
 use Rattle.bq_serve.specs.declared.wire.state.State.{State}
-use Rattle.bq_serve.specs.declared.seat.machine.Action.TheVariants as actions
 use Rattle.bq_serve.specs.declared.seat.machine.Stage.{Stage}
 use Rattle.bq_serve.specs.declared.seat.machine.Stage.TheVariants as stages
 use Rattle.bq_serve.proofs.ReadingLemmas.{neither}

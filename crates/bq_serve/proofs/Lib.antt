@@ -10,7 +10,6 @@ pub mod InTurnLemmas
 pub mod LineEndLemmas
 pub mod MoveLemmas
 pub mod NumberLemmas
-pub mod OneSeatLemmas
 pub mod OpenLemmas
 pub mod PartLemmas
 pub mod PutBodyLemmas

@@ -1,5 +1,5 @@
 -- Parts of a line in memory that are over.
-use Rattle.std.proofs.Common.{◌≡◌, ◌<◌, ◌≤◌, ℕ, ◌+◌, ◌-◌, zero, suc, Bool, true, false, ◌||◌, ◌==◌, IfSome, min, List, [], ◌∷◌, ◌++◌, Some, None, refl, sym, ap, arith, append_assoc, length, take, drop, take-add, get_or, slice_get, nat_le}
+use Rattle.std.proofs.Common.{◌≡◌, ◌<◌, ◌≤◌, ℕ, ◌+◌, ◌-◌, zero, suc, Bool, true, false, ◌||◌, ◌==◌, IfSome, min, List, [], ◌∷◌, ◌++◌, refl, ap, arith, append_assoc, length, take, drop, take-add, get_or, slice_get, nat_le}
 use Rattle.std.proofs.lemmas.Bool.Decides.{nat_tests}
 use Rattle.std.proofs.lemmas.Option.{slice_get_read}
 use Rattle.std.proofs.lemmas.Grind.{common_steps}

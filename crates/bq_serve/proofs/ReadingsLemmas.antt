@@ -1,5 +1,5 @@
 -- One more reading of a script.
-use Rattle.std.proofs.Common.{◌≡◌, ◌<◌, ◌≤◌, ℕ, ◌+◌, ◌-◌, ◌⊎◌, inl, inr, zero, suc, add-one, List, [], ◌∷◌, ◌++◌, Option, Some, None, refl, sym, ap, arith, append_assoc, length, length-drop, take, drop, take-add, get_or, replicate}
+use Rattle.std.proofs.Common.{◌≡◌, ◌<◌, ◌≤◌, ℕ, ◌+◌, inl, inr, zero, suc, add-one, List, [], ◌∷◌, ◌++◌, Option, Some, None, refl, ap, arith, append_assoc, length, length-drop, take, drop, take-add, replicate}
 use Rattle.std.proofs.lemmas.Grind.{common_steps}
 use Rattle.std.proofs.lemmas.Option.{get_or_from_slice_get, slice_get_within}
 use Rattle.std.proofs.Math.Seq.{drop-cons, drop-drop}

@@ -1,6 +1,6 @@
 -- A script of readings, and the place in it.
-use Rattle.std.specs.Prelude.{ℕ, ◌≡◌, ◌≤◌, ◌+◌, ◌-◌, ◌⊎◌, List, [], ◌∷◌, ◌++◌, length, take, drop, replicate, Option, None, unwrap_or, slice_get}
-use Rattle.std.proofs.Common.{refl, inl, arith, add-zero}
+use Rattle.std.specs.Prelude.{ℕ, ◌≡◌, ◌≤◌, ◌+◌, ◌-◌, ◌⊎◌, List, [], ◌++◌, length, take, drop, replicate, Option, None, unwrap_or, slice_get}
+use Rattle.std.proofs.Common.{refl, inl, arith}
 
 pub record ScriptPlace : Type 0 where
   pub script : List (Option ℕ)

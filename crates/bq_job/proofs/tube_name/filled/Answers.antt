@@ -1,4 +1,4 @@
-use Rattle.std.proofs.Common.{◌≡◌, ℕ, ◌≤◌, ◌-◌, ◌++◌, List, length, drop, replicate, ap, ◌∙◌, refl}
+use Rattle.std.proofs.Common.{◌≡◌, ℕ, ◌≤◌, ◌++◌, List, length, drop, replicate, refl}
 use Rattle.std.proofs.lemmas.List.{drop-replicate}
 use Rattle.bq_job.specs.TubeName.{filled_up}
 use Rattle.bq_job.proofs.tube_name.filled.Goals as goal

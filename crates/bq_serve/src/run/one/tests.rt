@@ -230,7 +230,13 @@ fn falling_clock(rt: HostRuntime) -> Result<(), Fail> {
 fn unread_clock(rt: HostRuntime) -> Result<(), Fail> {
     let alloc = rt.alloc();
     let line = client(alloc, ROWS[0].0, ROOM)?;
-    let one = run_one(&rt, alloc, config(65535), line, ScriptClock::new(Vec::new(alloc)))?;
+    let one = run_one(
+        &rt,
+        alloc,
+        config(65535),
+        line,
+        ScriptClock::new(Vec::new(alloc)),
+    )?;
     assert!(rt; one.line.written() == ROWS[0].1.as_bytes());
     assert!(rt; one.end == LineEnd::Quit);
     Ok(())

@@ -1,5 +1,5 @@
 -- proofs/line/mem_line/next_open/Invariants.antt
-use Rattle.std.proofs.Common.{◌≡◌, ◌≤◌, ◌-◌, ℕ, length}
+use Rattle.std.proofs.Common.{◌≡◌, ◌≤◌, ◌-◌, length}
 use Rattle.bq_serve.specs.LineParts.{bytes_up_to}
 use Rattle.bq_serve.proofs.line.mem_line.next_open.Given as goal
 

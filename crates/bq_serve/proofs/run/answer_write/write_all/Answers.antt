@@ -1,4 +1,4 @@
-use Rattle.std.proofs.Common.{◌≡◌, ◌==◌, false, ◌≤◌, ◌+◌, length, refl, rules, arith}
+use Rattle.std.proofs.Common.{◌≡◌, ◌==◌, false, refl, rules, arith}
 use Rattle.std.proofs.lemmas.Bool.Decides.{nat_tests}
 use Rattle.bq_serve.proofs.WritingLemmas.{breaks_off, take_begins, tells_taken}
 use Rattle.bq_serve.proofs.run.answer_write.write_all.Goals as goal

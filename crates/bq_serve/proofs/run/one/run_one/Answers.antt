@@ -1,4 +1,4 @@
-use Rattle.std.proofs.Common.{◌≡◌, [], ◌∙◌, ap, subst}
+use Rattle.std.proofs.Common.{[], ◌∙◌, ap, subst}
 use Rattle.bq_core.specs.State.{settings_of}
 use Rattle.bq_serve.specs.ServingOne.{IsServing, profile_so_far}
 use Rattle.bq_serve.proofs.CarryLemmas.{opened_first, over_alone}

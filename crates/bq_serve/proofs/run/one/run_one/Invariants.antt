@@ -1,4 +1,4 @@
-use Rattle.std.proofs.Common.{◌≡◌, ℕ, List, Option}
+use Rattle.std.proofs.Common.{ℕ, List, Option}
 use Rattle.bq_core.specs.State.{settings_of}
 use Rattle.bq_serve.specs.ServingOne.{IsRoomy, IsServing, profile_so_far}
 use Rattle.bq_serve.proofs.run.one.run_one.Given as goal

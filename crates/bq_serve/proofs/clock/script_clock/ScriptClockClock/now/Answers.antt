@@ -1,4 +1,4 @@
-use Rattle.std.proofs.Common.{◌≡◌, ◌<◌, ◌≤◌, ◌+◌, length, slice_get, refl, sym, arith}
+use Rattle.std.proofs.Common.{◌<◌, ◌≤◌, length, refl, arith}
 use Rattle.bq_serve.specs.ScriptPlace.{ScriptPlace}
 use Rattle.bq_serve.proofs.ReadingsLemmas.{read_next, read_again}
 use Rattle.bq_serve.proofs.clock.script_clock.ScriptClockClock.now.Goals as goal

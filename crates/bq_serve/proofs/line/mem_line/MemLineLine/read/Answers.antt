@@ -1,6 +1,6 @@
-use Rattle.std.proofs.Common.{◌≡◌, ◌<◌, ◌+◌, Some, false, add-one, arith, refl, rules, sym}
+use Rattle.std.proofs.Common.{◌≡◌, add-one, refl}
 use Rattle.bq_serve.proofs.PartLemmas.{passed_fault, read_given, some_given, still_open}
-use Rattle.bq_serve.specs.LineParts.{part_bytes, is_over}
+use Rattle.bq_serve.specs.LineParts.{part_bytes}
 use Rattle.bq_serve.proofs.line.mem_line.MemLineLine.read.Goals as goal
 
 pub returns-in-Some-Bytes-clause-seen : goal.returns-in-Some-Bytes-clause-seen

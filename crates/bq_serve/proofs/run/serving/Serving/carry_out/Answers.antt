@@ -1,4 +1,4 @@
-use Rattle.std.proofs.Common.{◌≡◌, ◌∷◌, [], append-nil, subst, sym}
+use Rattle.std.proofs.Common.{[], append-nil, subst, sym}
 use Rattle.bq_serve.specs.ServingOne.{CarriesOn, IsServing}
 use Rattle.bq_serve.proofs.CarryLemmas.{without_clock}
 use Rattle.bq_serve.proofs.run.serving.Serving.carry_out.Goals as goal

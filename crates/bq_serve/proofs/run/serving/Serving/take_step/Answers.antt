@@ -1,4 +1,4 @@
-use Rattle.std.proofs.Common.{◌≡◌, ◌≤◌, ◌+◌, length, arith}
+use Rattle.std.proofs.Common.{arith}
 use Rattle.bq_serve.proofs.run.serving.Serving.take_step.Goals as goal
 
 pub post-requires : goal.post-requires
