@@ -1,6 +1,9 @@
-ghost use Rattle.std.specs.Prelude.{◌≡◌, ◌≤◌, ◌+◌, length, vec_len, min, take, slice_get, IfOk, IfSome, false, true};
+ghost use Rattle.std.specs.Prelude.{◌≡◌, ◌≤◌, ◌<◌, ◌+◌, ◌-◌, length, vec_len, min, take, slice_get, IfOk, IfErr, IsErr, IfSome, Some, false, true};
+ghost use Rattle.std.specs.Io.{ReadsAtMost, WritesAtMost};
+ghost use Rattle.std.specs.IoError.{error_kind};
+ghost use Rattle.bq_serve.specs.declared.line.mem_line.Part.TheVariants as parts;
 ghost use Rattle.std.specs.Vec.{vec_capacity};
-ghost use Rattle.bq_serve.specs.LineCalls.{Tells, new_line};
+ghost use Rattle.bq_serve.specs.LineCalls.{Tells, after_read, after_write, is_nothing_yet, new_line};
 ghost use Rattle.bq_serve.specs.LineParts.{bytes_up_to, is_over};
 
 use super::{Line, note_fault};
@@ -34,6 +37,8 @@ pub struct MemLine {
     ended: bool,
     fault: Option<LineFault>,
     ghost fits: { vec_len written + room ≤ vec_capacity written },
+    // Its input has ended only where no part is left.
+    ghost none_left: { ended ≡ true → vec_len parts ≤ place },
 }
 
 impl MemLine {
@@ -70,7 +75,13 @@ impl Line for MemLine {
 
     ghost tells_bytes = { true };
 
-    fn read(&mut self, buf: &mut [u8]) -> io::Result<usize> {
+    fn read(&mut self, buf: &mut [u8]) -> io::Result<usize>
+        requires { 0 < length buf.old }
+        ensures bound { ReadsAtMost result buf.new }
+        ensures seen { Tells true (⟦<MemLine as Line>⟧.seen self.new) (after_read result buf.new (⟦<MemLine as Line>⟧.seen self.old)) }
+        // Only a part that is a fault gives one, and is passed then.
+        ensures faults { IfErr result (λ e. is_nothing_yet (error_kind e) ≡ false → slice_get self.old.parts.items (self.new.place - 1) ≡ Some parts.Fault) }
+    {
         let (place, offset) = next_open(&self.parts, self.place, self.offset, self.written.len());
         self.place = place;
         self.offset = offset;
@@ -94,7 +105,13 @@ impl Line for MemLine {
         }
     }
 
-    fn write(&mut self, buf: &[u8]) -> io::Result<usize> {
+    fn write(&mut self, buf: &[u8]) -> io::Result<usize>
+        requires { 0 < length buf.now }
+        ensures bound { WritesAtMost result buf.now }
+        ensures seen { Tells true (⟦<MemLine as Line>⟧.seen self.new) (after_write result buf.now (⟦<MemLine as Line>⟧.seen self.old)) }
+        // Only where no byte fits is there a fault.
+        ensures full { IsErr result → self.old.room ≡ 0 }
+    {
         let count = buf.len().min(self.room);
         if count == 0 {
             note_fault(&mut self.fault, LineFault::Write);

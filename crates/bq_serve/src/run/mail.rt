@@ -42,7 +42,8 @@ impl Mail {
 
     /// Takes out the oldest answer.
     pub fn take_first(&mut self) -> Option<Answer>
-        ensures { self.old ≡ option_to_list result ++ self.new }
+        ensures oldest { self.old ≡ option_to_list result ++ self.new }
+        ensures empty { IsNone result ↔ (self.old ≡ []) }
     {
         self.answers.pop_front()
     }

@@ -20,7 +20,7 @@ returns-in-Some-clause-on g c =
       taken.0 ∷ [],
       taken.2,
       λ tells seen settings profile readings s.
-          look_on_mail settings profile tells old.machine c.on.new.self old.core new.core old.mail new.mail old.heard new.heard seen readings taken.0 c.in-Some.answer c.take_first.new.self c.on.result c.requires.roomy.one taken.1 c.in-Some.ensures move s,
+          look_on_mail settings profile tells old.machine c.on.new.self old.core new.core old.mail new.mail old.heard new.heard seen readings taken.0 c.in-Some.answer c.take_first.new.self c.on.result c.requires.roomy.one taken.1 c.in-Some.ensures.oldest move s,
     )
 
 pub returns-in-None-clause-on : goal.returns-in-None-clause-on
@@ -32,5 +32,5 @@ returns-in-None-clause-on g c =
       taken.0 ∷ [],
       taken.2,
       λ tells seen settings profile readings s.
-          look_on_none settings profile tells old.machine c.on-in-None.new.self old.core new.core old.mail new.mail old.heard new.heard seen readings taken.0 c.take_first.new.self c.on-in-None.result c.requires.roomy.one taken.1 c.in-None.ensures move s,
+          look_on_none settings profile tells old.machine c.on-in-None.new.self old.core new.core old.mail new.mail old.heard new.heard seen readings taken.0 c.take_first.new.self c.on-in-None.result c.requires.roomy.one taken.1 c.in-None.ensures.oldest move s,
     )
