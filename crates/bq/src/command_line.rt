@@ -90,3 +90,6 @@ fn fault_of(alloc: Global, e: &clap::Error) -> OptionFault {
         }
     }
 }
+
+#[cfg(test)]
+mod tests;

@@ -2,12 +2,13 @@
 ghost use Rattle.std.specs.Prelude.{IfOk, true};
 ghost use Rattle.bq_serve.specs.LineCalls.{Tells, new_line};
 
-use crate::clock::ScriptClock;
-use crate::line::{Line, MemLine, Part};
-use crate::{RunFault, run_one};
+use crate::clock::{MachineClock, ScriptClock};
+use crate::line::{IoLine, Line, MemLine, Part};
+use crate::{DoorFault, RunFault, run_one};
 use bq_core::Config;
 use bq_job::{LineEnd, Moment};
 use std::alloc::Global;
+use std::collections::VecDeque;
 use std::test::Fail;
 
 const ROOM: usize = 1000;
@@ -239,5 +240,33 @@ fn unread_clock(rt: HostRuntime) -> Result<(), Fail> {
     )?;
     assert!(rt; one.line.written() == ROWS[0].1.as_bytes());
     assert!(rt; one.end == LineEnd::Quit);
+    Ok(())
+}
+
+// A line over a stream, by the machine's clock. The stream gives back what is written behind what it had.
+#[test]
+fn stream_and_machine_clock(rt: HostRuntime) -> Result<(), Fail> {
+    let alloc = rt.alloc();
+    let mut stream: VecDeque<u8, Global> = VecDeque::with_capacity(alloc, ROOM)?;
+    for byte in b"delete 1\r\nquit\r\n" {
+        stream.push_back(*byte)?;
+    }
+    let line = IoLine::new(stream);
+    let one = run_one(&rt, alloc, config(65535), line, MachineClock::new(&rt))?;
+    assert!(rt; one.end == LineEnd::Quit);
+    let mut left = one.line.into_stream();
+    for byte in b"NOT_FOUND\r\n" {
+        assert!(rt; left.pop_front() == Some(*byte));
+    }
+    assert!(rt; left.is_empty());
+    Ok(())
+}
+
+#[test]
+fn fault_codes(rt: HostRuntime) -> Result<(), Fail> {
+    assert!(rt; RunFault::NoMemory.code() == 501);
+    assert!(rt; RunFault::ThreadRefused.code() == 502);
+    assert!(rt; RunFault::BadConfiguration.code() == 503);
+    assert!(rt; DoorFault.code() == 504);
     Ok(())
 }
