@@ -41,7 +41,8 @@ fn bad_options(rt: HostRuntime) -> Result<(), Fail> {
         ["bq", "--max-job-size", "x"],
         ["bq", "--still", "more"],
     ] {
-        match options(rt.alloc(), Program::Bq, &words) {
+        let refused = options(rt.alloc(), Program::Bq, &words);
+        match &refused {
             Err(OptionFault::BadOptions(text)) => assert!(rt; !text.is_empty()),
             _ => assert!(rt; false),
         }
@@ -51,7 +52,8 @@ fn bad_options(rt: HostRuntime) -> Result<(), Fail> {
 
 #[test]
 fn asked_help(rt: HostRuntime) -> Result<(), Fail> {
-    match options(rt.alloc(), Program::Bq, &["bq", "--help"]) {
+    let asked = options(rt.alloc(), Program::Bq, &["bq", "--help"]);
+    match &asked {
         Err(OptionFault::AskedHelp(text)) => assert!(rt; text.contains("--max-job-size")),
         _ => assert!(rt; false),
     }
