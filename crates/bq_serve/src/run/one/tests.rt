@@ -275,12 +275,19 @@ fn fault_codes(rt: HostRuntime) -> Result<(), Fail> {
 #[test]
 fn memory_refused(rt: HostRuntime) -> Result<(), Fail> {
     let alloc = rt.alloc();
-    let Ok(line) = client(alloc, "put 5 0 10 3\r\nabc\r\ndelete 1\r\nquit\r\n", ROOM) else {
+    let Ok(sent) = Vec::from_slice(alloc, b"put 5 0 10 3\r\nabc\r\ndelete 1\r\nquit\r\n") else {
         return Ok(());
     };
-    let Ok(clock) = still(alloc) else {
+    let Ok(parts) = vec![in alloc; Part::Bytes(sent)] else {
         return Ok(());
     };
+    let Ok(line) = MemLine::new(alloc, parts, ROOM) else {
+        return Ok(());
+    };
+    let Ok(script) = vec![in alloc; Some(0)] else {
+        return Ok(());
+    };
+    let clock = ScriptClock::new(script);
     match run_one(&rt, alloc, config(65535), line, clock) {
         Ok(one) => {
             let written = one.line.written();
