@@ -19,9 +19,9 @@ use Rattle.bq_job.specs.TubeName.{is_same_name}
 use Rattle.bq_job.specs.Words.{job_id, number, words}
 use Rattle.bq_serve.specs.Past.{Awaited, Past}
 use Rattle.bq_serve.specs.SeatStands.{StandsAt, awaited_at, end_if}
-use Rattle.bq_serve.specs.Standing.{profile_of}
-use Rattle.bq_serve.specs.WordsSoFar.{words_so_far}
-use Rattle.bq_serve.specs.declared.wire.state.State.{State}
+use Rattle.bq_wire.specs.Standing.{profile_of}
+use Rattle.bq_wire.specs.WordsSoFar.{words_so_far}
+use Rattle.bq_wire.specs.declared.state.State.{State}
 use Rattle.bq_serve.specs.declared.seat.machine.Stage.{Stage}
 use Rattle.bq_serve.specs.declared.seat.machine.Stage.TheVariants as stages
 use Rattle.bq_serve.proofs.InTurnLemmas.{ends_by, last_same}

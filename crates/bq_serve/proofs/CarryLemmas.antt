@@ -33,7 +33,7 @@ use Rattle.bq_serve.specs.declared.seat.machine.Event.TheVariants as events
 use Rattle.bq_serve.specs.declared.seat.machine.SeatMachine.{SeatMachine}
 use Rattle.bq_serve.specs.declared.seat.machine.Stage.{Stage}
 use Rattle.bq_serve.specs.declared.seat.machine.Stage.TheVariants as stages
-use Rattle.bq_serve.specs.declared.wire.state.State.{State}
+use Rattle.bq_wire.specs.declared.state.State.{State}
 use Rattle.bq_job.proofs.LawfulLemmas.{new_is_lawful}
 use Rattle.bq_serve.proofs.ArmLemmas.{history_with, stepped, ticked}
 use Rattle.bq_serve.proofs.EventLemmas.{cut_off, mailed, read_broken, read_end, read_nothing, read_some, retold, retold_bytes, retold_end, retold_fault, taken_at_fault, taken_at_mail, told_fault, writes_at_mail, writes_still, wrote}

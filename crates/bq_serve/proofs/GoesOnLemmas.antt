@@ -19,7 +19,7 @@ use Rattle.bq_serve.specs.declared.seat.machine.Event.{Event}
 use Rattle.bq_serve.specs.declared.seat.machine.SeatMachine.{SeatMachine}
 use Rattle.bq_serve.specs.declared.seat.machine.Stage.{Stage}
 use Rattle.bq_serve.specs.declared.seat.machine.Stage.TheVariants as stages
-use Rattle.bq_serve.specs.declared.wire.state.State.{State}
+use Rattle.bq_wire.specs.declared.state.State.{State}
 
 -- an answer is handed out for writing before any fault
 pub unbroken_at : (stage : Stage) (reader : State) (kept : List ℕ) (told : Bool) (p : Past) → awaited_at stage ≡ Awaited.AWriting → StandsAt stage reader kept told p → p.fault ≡ None

@@ -9,8 +9,8 @@ use Rattle.bq_job.specs.LineSteps.{is_waiting_request}
 use Rattle.bq_serve.specs.Past.{Past, with_action}
 use Rattle.bq_serve.specs.SeatParts.{GoesOn, in_stage, asking_stage}
 use Rattle.bq_serve.specs.SeatStands.{IsOpen, StandsFor, StandsAt}
-use Rattle.bq_serve.specs.Standing.{profile_of, Stands, HandsOut}
-use Rattle.bq_serve.specs.declared.wire.state.State.{State}
+use Rattle.bq_wire.specs.Standing.{profile_of, Stands, HandsOut}
+use Rattle.bq_wire.specs.declared.state.State.{State}
 use Rattle.bq_serve.specs.declared.seat.machine.Action.{Action}
 use Rattle.bq_serve.specs.declared.seat.machine.Action.TheVariants as actions
 use Rattle.bq_serve.specs.declared.seat.machine.SeatMachine.{SeatMachine}

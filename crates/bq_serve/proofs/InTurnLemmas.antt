@@ -15,7 +15,7 @@ use Rattle.bq_serve.proofs.StepLemmas.{answered_count-asked}
 use Rattle.bq_serve.specs.Past.{Awaited, Past}
 use Rattle.bq_serve.specs.InTurn.{IsInTurn}
 use Rattle.bq_serve.specs.SeatStands.{HasAskedQuit, StandsAt, awaited_at, end_if, has_quit}
-use Rattle.bq_serve.specs.declared.wire.state.State.{State}
+use Rattle.bq_wire.specs.declared.state.State.{State}
 use Rattle.bq_serve.specs.declared.seat.machine.Stage.{Stage}
 use Rattle.bq_serve.specs.declared.seat.machine.Stage.TheVariants as stages
 use Rattle.bq_serve.proofs.ReadingLemmas.{neither}

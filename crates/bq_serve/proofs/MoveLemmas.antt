@@ -12,8 +12,8 @@ use Rattle.bq_serve.specs.Past.{Past, with_action, with_event, past_after, is_st
 use Rattle.bq_serve.specs.SeatMoves.{IsMove, reads_on, IfLineOver}
 use Rattle.bq_serve.specs.SeatParts.{GoesOn, in_stage, is_going_on}
 use Rattle.bq_serve.specs.SeatStands.{IsOpen, StandsFor, StandsAt, seat_profile, awaited_at}
-use Rattle.bq_serve.specs.Standing.{profile_of, Stands}
-use Rattle.bq_serve.specs.declared.wire.state.State.{State}
+use Rattle.bq_wire.specs.Standing.{profile_of, Stands}
+use Rattle.bq_wire.specs.declared.state.State.{State}
 use Rattle.bq_serve.specs.declared.seat.machine.Action.{Action}
 use Rattle.bq_serve.specs.declared.seat.machine.Action.TheVariants as actions
 use Rattle.bq_serve.specs.declared.seat.machine.Event.{Event}

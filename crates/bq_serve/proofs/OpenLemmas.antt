@@ -13,9 +13,9 @@ use Rattle.bq_job.specs.Profile.{Profile}
 use Rattle.bq_job.specs.Reading.{Reads, AreUnits, IsUnit, BeginsNoUnit, is_quit}
 use Rattle.bq_job.specs.LineSteps.{AreEnds, AreAllAnswered, is_waiting_request, ends_by_wait}
 use Rattle.bq_serve.specs.Past.{Past, with_action, with_mail, with_fault, first_past}
-use Rattle.bq_serve.specs.Standing.{profile_of, Stands}
+use Rattle.bq_wire.specs.Standing.{profile_of, Stands}
 use Rattle.bq_serve.specs.SeatStands.{IsOpen, IsWaiting, IsServed, StandsAt, end_if, IsLastBroken}
-use Rattle.bq_serve.specs.declared.wire.state.State.{State}
+use Rattle.bq_wire.specs.declared.state.State.{State}
 use Rattle.bq_serve.specs.declared.seat.machine.Action.TheVariants as actions
 use Rattle.bq_serve.specs.declared.seat.machine.Stage.TheVariants as stages
 use Rattle.bq_serve.proofs.ReadingLemmas.{BeginsNoUnit-[], AreUnits-append, one_unit, Reads-after, Reads-begun, Reads-quit, ends_by_quit-append}

@@ -13,8 +13,8 @@ use Rattle.bq_job.specs.Profile.{Profile}
 use Rattle.bq_job.specs.Reading.{AreUnits, BeginsNoUnit, is_quit}
 use Rattle.bq_job.specs.LineSteps.{LineSeen, IsStepsOfLine, AreAllAnswered, ends_by_wait}
 use Rattle.bq_serve.specs.Past.{Past, Awaited, with_action}
-use Rattle.bq_serve.specs.Standing.{profile_of, Stands}
-use Rattle.bq_serve.specs.declared.wire.state.State.{State}
+use Rattle.bq_wire.specs.Standing.{profile_of, Stands}
+use Rattle.bq_wire.specs.declared.state.State.{State}
 use Rattle.bq_serve.specs.declared.seat.machine.Action.TheVariants as actions
 use Rattle.bq_serve.specs.declared.seat.machine.SeatMachine.{SeatMachine}
 use Rattle.bq_serve.specs.declared.seat.machine.Stage.{Stage}

@@ -19,7 +19,7 @@ use Rattle.bq_serve.specs.OneSeat.{IsClientAt, IsRecord, IsWrittenSo, has_close,
 use Rattle.bq_serve.specs.Past.{Awaited, Past, awaited_by}
 use Rattle.bq_serve.specs.SeatMoves.{IfLineOver}
 use Rattle.bq_serve.specs.SeatStands.{IsServed, StandsFor, awaited, seat_profile, seen_line}
-use Rattle.bq_serve.specs.WordsSoFar.{words_so_far}
+use Rattle.bq_wire.specs.WordsSoFar.{words_so_far}
 use Rattle.bq_serve.specs.declared.run.serving.Serving.{Serving}
 use Rattle.bq_serve.specs.declared.seat.machine.Action.{Action}
 use Rattle.bq_serve.specs.declared.seat.machine.Action.TheVariants as actions

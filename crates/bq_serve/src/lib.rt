@@ -11,4 +11,3 @@ mod fault;
 pub mod line;
 mod run;
 pub mod seat;
-pub mod wire;

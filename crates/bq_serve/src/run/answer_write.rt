@@ -4,8 +4,8 @@ ghost use Rattle.bq_serve.specs.Writing.{Writes};
 
 use super::joined::{JOINED_ROOM, Joined};
 use crate::line::Line;
-use crate::wire::{HeadBuf, answer_body, answer_head, answer_tail};
 use bq_job::Answer;
+use bq_wire::{HeadBuf, answer_body, answer_head, answer_tail};
 
 /// How many bytes the head and the tail of an answer have at most, where they are joined.
 const END_ROOM: usize = 256;

@@ -2,9 +2,9 @@ ghost use Rattle.std.specs.Prelude.{◌≡◌, ◌≤◌, [], length, IfOk, if�
 ghost use Rattle.bq_serve.specs.SeatParts.{asking_stage};
 
 use super::kept::Kept;
-use crate::wire::RequestReader;
 use bq_job::laws_of_reading::every_text_is_read;
 use bq_job::{Answer, LineEnd, NoMemory, Request, Step};
+use bq_wire::RequestReader;
 use std::alloc::Global;
 
 /// What happened to a connection since the machine's last action.
@@ -91,7 +91,7 @@ impl SeatMachine {
     ghost use Rattle.bq_serve.specs.SeatMoves.{FitsPiece, IsMove, LooksOn, reads_on};
     ghost use Rattle.bq_serve.specs.SeatParts.{GoesOn, asking_stage, in_stage, is_closed};
     ghost use Rattle.bq_serve.specs.SeatStands.{awaited, seat_profile};
-    ghost use Rattle.bq_serve.specs.WordsSoFar.{words_so_far};
+    ghost use Rattle.bq_wire.specs.WordsSoFar.{words_so_far};
 
     /// A machine that awaits its first line. Bodies of more than `max_job_size` bytes, of 1 to 1,048,576,
     /// are refused. All memory but that for bodies is asked for here.

@@ -1,0 +1,193 @@
+-- What is read by calls in a row.
+use Rattle.std.proofs.Common.{◌≡◌, ◌<◌, ◌≤◌, ℕ, ◌+◌, Bool, true, false, MatchBool, List, [], ◌∷◌, ◌++◌, ◌⊎◌, inl, inr, Option, Some, None, refl, ◌∙◌, ap, arith, length, append_assoc, append-nil, take, drop, get_or, add-one, take-append-drop, ◌-◌, IsTrue, option_to_list}
+use Rattle.std.proofs.lemmas.Grind.{common_steps}
+use Rattle.std.proofs.lemmas.List.{drop_all}
+use Rattle.std.proofs.Math.Seq.{take-length, take-suc}
+use Rattle.std.proofs.lemmas.Grind.{flat_map-append}
+use Rattle.std.specs.List.{flat_map}
+use Rattle.bq_job.specs.Profile.{profile}
+use Rattle.bq_wire.specs.WordsSoFar.{words_so_far}
+use Rattle.bq_job.specs.Reading.{Reads, BeginsNoUnit, is_quit, ends_by_quit}
+use Rattle.bq_job.specs.declared.request.Request.{Request}
+use Rattle.bq_job.proofs.UnitsLemmas.{AreUnits-append, ends_by_quit-append, quits_last-append}
+use Rattle.bq_wire.specs.HasRead.{HasRead, HasReadText, ReadsOn}
+use Rattle.bq_wire.specs.Standing.{profile_of, Stands, StandsAt, Feeds, FeedsText, Waits, HandsOut}
+use Rattle.bq_wire.specs.declared.state.Place.{Place}
+use Rattle.bq_wire.specs.declared.state.Place.TheVariants.{InLine, InLongLine, InBody, Over}
+use Rattle.bq_wire.specs.declared.state.State.{State}
+use Rattle.bq_wire.proofs.PutBodyLemmas.{take_two}
+use Rattle.bq_wire.proofs.ReaderLemmas.{Stands-no_unit}
+
+-- a reader that stands for the empty text has read nothing
+pub HasRead-none : (s : State) → Stands s [] → HasRead s [] []
+HasRead-none s stands = record { units = []; rest = []; taken_is = refl; are_units = refl; last_quits = refl; goes_on = inr (refl, stands) }
+
+-- a call without a request
+HasRead-waits : (old new : State) (piece taken : List ℕ) (count : ℕ) (requests : List Request) → profile_of new ≡ profile_of old
+    → (read : HasRead old taken requests) → ends_by_quit requests ≡ false → Waits new read.rest piece count → HasRead new (taken ++ take count piece) requests
+HasRead-waits old new piece taken count requests same read no_quit waits =
+    let all : take count piece ≡ piece = rw waits.all (take-length piece) in
+    record {
+      units = read.units;
+      rest = read.rest ++ piece;
+      taken_is = rw (all, read.taken_is) (append_assoc read.units read.rest piece);
+      are_units = rw same read.are_units;
+      last_quits = read.last_quits;
+      goes_on = inr (no_quit, waits.stands);
+    }
+
+-- a call with one
+HasRead-hands_out : (old new : State) (piece taken : List ℕ) (count : ℕ) (requests : List Request) (r : Request) → profile_of new ≡ profile_of old
+    → (read : HasRead old taken requests) → ends_by_quit requests ≡ false → HandsOut new read.rest piece count r → HasRead new (taken ++ take count piece) (requests ++ r ∷ [])
+HasRead-hands_out old new piece taken count requests r same read no_quit out = record {
+  units = read.units ++ (read.rest ++ take count piece);
+  rest = [];
+  taken_is = rw (append-nil, read.taken_is) (append_assoc read.units read.rest (take count piece));
+  are_units = AreUnits-append (profile_of new) requests read.units (read.rest ++ take count piece) r (rw same read.are_units) out.unit;
+  last_quits = quits_last-append requests r read.last_quits no_quit;
+  goes_on = go (is_quit r) refl out.next;
+}
+  where
+    go : (t : Bool) → is_quit r ≡ t → MatchBool t (new.place ≡ Over) (Stands new [])
+        → (IsTrue (ends_by_quit (requests ++ r ∷ [])) × (new.place ≡ Over) × ◌≡◌ {A = List ℕ} [] []) ⊎ ((ends_by_quit (requests ++ r ∷ []) ≡ false) × Stands new [])
+    go true q next = inl (rw (ends_by_quit-append requests r) q, next, refl)
+    go false q next = inr (rw (ends_by_quit-append requests r) q, next)
+
+-- a call
+pub reads_on : (old new : State) (piece : List ℕ) (count : ℕ) (request : Option Request) → new.max_job_size ≡ old.max_job_size
+    → Feeds (Stands old) new piece count request → (old.place ≡ Over → (count ≡ 0) × (request ≡ None) × (new ≡ old)) → ReadsOn old new piece count request
+reads_on old new piece count request same feeds over taken requests read = go read.goes_on
+  where
+    profiles : profile_of new ≡ profile_of old
+    profiles = ap (λ m. profile m words_so_far) same
+
+    fed : ends_by_quit requests ≡ false → (r : Option Request) → FeedsText new read.rest piece count r
+        → HasRead new (taken ++ take count piece) (requests ++ option_to_list r)
+    fed no_quit None waits = rw append-nil (HasRead-waits old new piece taken count requests profiles read no_quit waits)
+    fed no_quit (Some r) out = HasRead-hands_out old new piece taken count requests r profiles read no_quit out
+
+    quit : (count ≡ 0) × (request ≡ None) × (new ≡ old) → HasRead new (taken ++ take count piece) (requests ++ option_to_list request)
+    quit h = rw (h.0, h.1, h.2, append-nil taken, append-nil requests) read
+
+    go : (IsTrue (ends_by_quit requests) × (old.place ≡ Over) × (read.rest ≡ [])) ⊎ ((ends_by_quit requests ≡ false) × Stands old read.rest)
+        → HasRead new (taken ++ take count piece) (requests ++ option_to_list request)
+    go (inl h) = quit (over h.1)
+    go (inr h) = fed h.0 request (feeds read.rest h.1)
+
+-- what was read is a reading of the bytes taken
+pub HasRead-Reads : (s : State) (taken : List ℕ) (requests : List Request) (read : HasRead s taken requests) → Reads (profile_of s) taken requests read.rest
+HasRead-Reads s taken requests read = record {
+  units = read.units;
+  text_is = read.taken_is;
+  are_units = read.are_units;
+  last_quits = read.last_quits;
+  ended = go read.goes_on;
+}
+  where
+    go : (IsTrue (ends_by_quit requests) × (s.place ≡ Over) × (read.rest ≡ [])) ⊎ ((ends_by_quit requests ≡ false) × Stands s read.rest)
+        → IsTrue (ends_by_quit requests) ⊎ BeginsNoUnit (profile_of s) read.rest
+    go (inl h) = inl h.0
+    go (inr h) = inr (Stands-no_unit s s.place read.rest h.1)
+
+-- behind a quit anything may follow
+pub Reads-more : (s : State) (taken more : List ℕ) (requests : List Request) (read : HasRead s taken requests) → IsTrue (ends_by_quit requests)
+    → Reads (profile_of s) (taken ++ more) requests (read.rest ++ more)
+Reads-more s taken more requests read quit = record {
+  units = read.units;
+  text_is = rw read.taken_is (append_assoc read.units read.rest more);
+  are_units = read.are_units;
+  last_quits = read.last_quits;
+  ended = inl quit;
+}
+
+-- a request out of what is left of a piece
+pub read_further : (old new : State) (taken piece : List ℕ) (from count : ℕ) (requests : List Request) (r : Request)
+    → HasRead old (taken ++ take from piece) requests → ReadsOn old new (take (length piece - from) (drop from piece)) count (Some r)
+    → HasRead new (taken ++ take (from + count) piece) (requests ++ r ∷ [])
+read_further old new taken piece from count requests r read reads =
+    rw (take_two piece from count, ← append_assoc taken (take from piece) (take count (take (length piece - from) (drop from piece))))
+    (reads (taken ++ take from piece) requests read)
+
+-- nothing out of what is left of a piece
+pub read_to_end : (old new : State) (taken piece : List ℕ) (from count : ℕ) (requests : List Request) (request : Option Request) → request ≡ None → from ≤ length piece
+    → HasRead old (taken ++ take from piece) requests → ReadsOn old new (take (length piece - from) (drop from piece)) count request
+    → ((text : List ℕ) → Stands old text → Waits new text (take (length piece - from) (drop from piece)) count) → (old.place ≡ Over → new ≡ old)
+    → HasReadText new (taken ++ piece) requests
+read_to_end old new taken piece from count requests request none within read reads waits over = record {
+  taken = (taken ++ take from piece) ++ take count rest;
+  more = drop count rest;
+  text_is = whole;
+  read = now;
+  all = go read.goes_on;
+}
+  where
+    rest : List ℕ
+    rest = take (length piece - from) (drop from piece)
+
+    now : HasRead new ((taken ++ take from piece) ++ take count rest) requests
+    now = rw (none, append-nil requests) at (reads (taken ++ take from piece) requests read)
+
+    whole : taken ++ piece ≡ ((taken ++ take from piece) ++ take count rest) ++ drop count rest
+    whole =
+        let all : rest ≡ drop from piece = grind (arith, common_steps) in
+        rw (append_assoc (taken ++ take from piece) (take count rest) (drop count rest), take-append-drop count rest, all, append_assoc taken (take from piece) (drop from piece), take-append-drop from piece)
+
+    go : (IsTrue (ends_by_quit requests) × (old.place ≡ Over) × (read.rest ≡ [])) ⊎ ((ends_by_quit requests ≡ false) × Stands old read.rest)
+        → (drop count rest ≡ []) ⊎ (new.place ≡ Over)
+    go (inl h) = inr (rw (over h.1) h.1)
+    go (inr h) = let all = (waits read.rest h.1).all in inl (drop_all count rest (omega (arith, all)))
+
+-- one more piece of a text
+pub read_piece : (old new : State) (text piece : List ℕ) (before after : List Request)
+    → HasReadText old text before → ((taken : List ℕ) → HasRead old taken before → HasReadText new (taken ++ piece) after)
+    → (old.place ≡ Over → (new ≡ old) × (after ≡ before)) → HasReadText new (text ++ piece) after
+read_piece old new text piece before after was reads over = go was.all
+  where
+    whole : was.more ≡ [] → text ≡ was.taken
+    whole e = was.text_is ∙ ap (λ x. was.taken ++ x) e ∙ append-nil was.taken
+
+    same : old.place ≡ Over → HasReadText old (text ++ piece) before
+    same e = record {
+      taken = was.taken;
+      more = was.more ++ piece;
+      text_is = rw was.text_is (append_assoc was.taken was.more piece);
+      read = was.read;
+      all = inr e;
+    }
+
+    go : (was.more ≡ []) ⊎ (old.place ≡ Over) → HasReadText new (text ++ piece) after
+    go (inl e) = rw (whole e) (reads was.taken was.read)
+    go (inr e) = let h = over e in rw (h.0, h.1) (same e)
+
+-- the text that was offered is read
+pub HasReadText-Reads : (s : State) (text : List ℕ) (requests : List Request) → HasReadText s text requests → (rest : List ℕ) × Reads (profile_of s) text requests rest
+HasReadText-Reads s text requests read = go read.all read.read.goes_on
+  where
+    nowhere : (place : Place) (rest : List ℕ) → place ≡ Over → StandsAt s place rest → ⊥
+    nowhere InLine rest e stands = cc
+    nowhere (InLongLine after_cr) rest e stands = cc
+    nowhere (InBody body) rest e stands = cc
+    nowhere Over rest e stands = stands
+
+    go : (read.more ≡ []) ⊎ (s.place ≡ Over) → (IsTrue (ends_by_quit requests) × (s.place ≡ Over) × (read.read.rest ≡ [])) ⊎ ((ends_by_quit requests ≡ false) × Stands s read.read.rest)
+        → (rest : List ℕ) × Reads (profile_of s) text requests rest
+    go (inl e) on = (read.read.rest, rw (read.text_is, e, append-nil) (HasRead-Reads s read.taken requests read.read))
+    go (inr e) (inl quit) = (read.read.rest ++ read.more, rw read.text_is (Reads-more s read.taken read.more requests read.read quit.0))
+    go (inr e) (inr on) = absurd (nowhere s.place read.read.rest e on.1)
+
+-- behind a quit no request comes
+pub over_gives_none : (was now : State) (request : Option Request) (r : Request) → was.place ≡ Over → now ≡ was → request ≡ Some r → (now.place ≡ Over → request ≡ None) → ⊥
+over_gives_none was now request r e same some over =
+    let still : now.place ≡ Over = ap (λ s. s.place) same ∙ e in
+    let none : request ≡ None = over still in
+    cc
+
+-- the same, by the most bytes of a job
+pub read_of : (m : ℕ) (s : State) (text : List ℕ) (requests : List Request) → s.max_job_size ≡ m → HasReadText s text requests
+    → (rest : List ℕ) × Reads (profile m words_so_far) text requests rest
+read_of m s text requests e read = rw (← e) (HasReadText-Reads s text requests read)
+
+-- the pieces so far, and one more
+pub flat_map_more : {X : Type 0} (f : X → List ℕ) (xs : List X) (i : ℕ) (x : X) → i < length xs → x ≡ get_or xs i x
+    → flat_map f (take (i + 1) xs) ≡ flat_map f (take i xs) ++ f x
+flat_map_more f xs i x low is = rw (add-one, take-suc xs i x low, flat_map-append f (take i xs) (get_or xs i x ∷ []), ← is) (ap (λ bs. flat_map f (take i xs) ++ bs) (append-nil (f x)))

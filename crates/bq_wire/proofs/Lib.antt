@@ -1,0 +1,6 @@
+pub mod HasReadLemmas
+pub mod LineEndLemmas
+pub mod NumberLemmas
+pub mod PutBodyLemmas
+pub mod ReaderLemmas
+pub mod WordLemmas

@@ -1,0 +1,195 @@
+-- Where lines end.
+use Rattle.std.proofs.Common.{◌≡◌, ◌<◌, ◌≤◌, ℕ, ◌+◌, ◌-◌, zero, suc, Bool, true, false, ◌&&◌, ◌==◌, List, [], ◌∷◌, ◌++◌, ◌⊎◌, inl, inr, Option, Some, None, add-one, refl, sym, ap, arith, length, length-append, take, drop, get_or, MatchOption, option_map, if◌then◌else◌}
+use Rattle.std.proofs.lemmas.Bool.Decides.{nat_tests}
+use Rattle.std.proofs.lemmas.Grind.{common_steps}
+use Rattle.std.proofs.lemmas.List.{take-take, length-take-le}
+use Rattle.std.proofs.Math.Seq.{drop-append-add, take-append-add}
+use Rattle.bq_job.specs.Line.{first_line}
+use Rattle.bq_wire.specs.LineEnds.{line_end_after, last_is_cr, later_by}
+use Rattle.memchr.specs.Find.{IsFirstByte, is_byte}
+
+and_false : (c : Bool) → (c && false) ≡ false
+and_false true = refl
+and_false false = refl
+
+and_true : (c : Bool) → (c && true) ≡ c
+and_true true = refl
+and_true false = refl
+
+pub option_map-same : (f g : ℕ → ℕ) → ((n : ℕ) → f n ≡ g n) → (o : Option ℕ) → option_map f o ≡ option_map g o
+option_map-same f g same None = refl
+option_map-same f g same (Some n) = ap Some (same n)
+
+-- where no LF is, no line ends
+pub line_end_none : (c : Bool) (bytes : List ℕ) → ((k : ℕ) → k < length bytes → (get_or bytes k 0 == 10) ≡ true → ⊥) → line_end_after c bytes ≡ None
+line_end_none c [] none = refl
+line_end_none c (b ∷ bytes) none =
+    let not_here : (b == 10) ≡ false = grind (arith, nat_tests, none 0) in
+    let later : line_end_after (b == 13) bytes ≡ None = line_end_none (b == 13) bytes (λ k low. none (suc k) (omega arith)) in
+    rw (not_here, and_false c, later)
+
+-- one byte further
+one_more : (t : Bool) (k : ℕ) (o : Option ℕ)
+    → option_map suc (if t then Some (suc k) else option_map (λ n. suc k + n) o) ≡ (if t then Some (suc (suc k)) else option_map (λ n. suc (suc k) + n) o)
+one_more true k o = refl
+one_more false k None = refl
+one_more false k (Some n) = ap Some (omega arith)
+
+-- the first LF ends a line if it stands behind a CR; else what comes after it is looked at
+pub line_end_at : (c : Bool) (bytes : List ℕ) (k : ℕ) → k < length bytes → (get_or bytes k 0 == 10) ≡ true → ((j : ℕ) → j < k → (get_or bytes j 0 == 10) ≡ true → ⊥)
+    → line_end_after c bytes ≡ (if last_is_cr c (take k bytes) then Some (suc k) else option_map (λ n. suc k + n) (line_end_after false (drop (suc k) bytes)))
+line_end_at c [] k low here before = absurd (omega arith)
+line_end_at c (b ∷ bytes) zero low here before =
+    let no_cr : (b == 13) ≡ false = grind (arith, nat_tests) in
+    rw (here, and_true c, no_cr, option_map-same suc (λ n. 1 + n) (λ n. omega arith) (line_end_after false bytes))
+line_end_at c (b ∷ bytes) (suc k) low here before =
+    let not_here : (b == 10) ≡ false = grind (arith, nat_tests, before 0) in
+    let later = line_end_at (b == 13) bytes k (omega arith) here (λ j less. before (suc j) (omega arith)) in
+    rw (not_here, and_false c, later) (one_more (last_is_cr (b == 13) (take k bytes)) k (line_end_after false (drop (suc k) bytes)))
+
+-- the first line feed, as it is searched for
+pub first_feed : (c : Bool) (bytes : List ℕ) (r : Option ℕ) → IsFirstByte (is_byte 10) bytes r
+    → MatchOption r (line_end_after c bytes ≡ None) (λ k. (k < length bytes)
+    × (line_end_after c bytes ≡ (if last_is_cr c (take k bytes) then Some (k + 1) else later_by (k + 1) (line_end_after false (drop (k + 1) bytes)))))
+first_feed c bytes None none = line_end_none c bytes (λ k low. none k (omega arith) low)
+first_feed c bytes (Some k) found = (found.0.high, rw add-one (line_end_at c bytes k found.0.high found.1 (λ j less. found.0.before j (omega arith) less)))
+
+pub last_is_cr_none : (c : Bool) (bytes : List ℕ) → length bytes ≡ 0 → last_is_cr c bytes ≡ c
+last_is_cr_none c [] e = refl
+last_is_cr_none c (b ∷ bytes) e = grind (arith, common_steps)
+
+pub last_is_cr_last : (c : Bool) (bytes : List ℕ) → 0 < length bytes → last_is_cr c bytes ≡ (get_or bytes (length bytes - 1) 0 == 13)
+last_is_cr_last c [] some = absurd (omega arith)
+last_is_cr_last c (b ∷ []) some = refl
+last_is_cr_last c (b ∷ d ∷ bytes) some =
+    let last : length (b ∷ d ∷ bytes) - 1 ≡ suc (length (d ∷ bytes) - 1) = omega arith in
+    rw last (last_is_cr_last (b == 13) (d ∷ bytes) (omega arith))
+
+-- past two parts
+pub later_by_twice : (one two : ℕ) (o : Option ℕ) → later_by one (later_by two o) ≡ later_by (one + two) o
+later_by_twice one two None = refl
+later_by_twice one two (Some n) = ap Some (omega arith)
+
+-- a line ends at the first byte, or behind it
+pub end_cases : (t : Bool) (o : Option ℕ) (e : ℕ) → (if t then Some 1 else option_map suc o) ≡ Some e
+    → ((t ≡ true) × (e ≡ 1)) ⊎ ((n : ℕ) × (t ≡ false) × (o ≡ Some n) × (e ≡ suc n))
+end_cases true o e h = inl (refl, cc)
+end_cases false None e h = cc
+end_cases false (Some n) e h = inr (n, refl, refl, cc)
+
+no_end_cases : (t : Bool) (o : Option ℕ) → (if t then Some 1 else option_map suc o) ≡ None → (t ≡ false) × (o ≡ None)
+no_end_cases true o h = cc
+no_end_cases false None h = (refl, refl)
+no_end_cases false (Some n) h = cc
+
+pub line_end_within : (c : Bool) (bytes : List ℕ) (e : ℕ) → line_end_after c bytes ≡ Some e → (0 < e) × (e ≤ length bytes)
+line_end_within c [] e h = cc
+line_end_within c (b ∷ bytes) e h =
+    elim (end_cases (c && b == 10) (line_end_after (b == 13) bytes) e h) [
+      | inl a ↦ (omega (arith, a.1), omega (arith, a.1))
+      | inr a ↦ let more = line_end_within (b == 13) bytes a.0 a.2 in (omega (arith, a.3), omega (arith, a.3, more.1))
+    ]
+
+-- a line that ends with the first byte stands behind a CR
+pub line_end_one : (c : Bool) (bytes : List ℕ) → line_end_after c bytes ≡ Some 1 → c ≡ true
+line_end_one c [] h = cc
+line_end_one true (b ∷ bytes) h = refl
+line_end_one false (b ∷ bytes) h =
+    elim (end_cases false (line_end_after (b == 13) bytes) 1 h) [
+      | inl a ↦ a.0
+      | inr a ↦ absurd (omega (arith, a.3, (line_end_within (b == 13) bytes a.0 a.2).0))
+    ]
+
+-- the bytes up to a line's end have the same one
+pub line_end-take : (c : Bool) (bytes : List ℕ) (e : ℕ) → line_end_after c bytes ≡ Some e → line_end_after c (take e bytes) ≡ Some e
+line_end-take c [] e h = cc
+line_end-take c (b ∷ bytes) e h =
+    elim (end_cases (c && b == 10) (line_end_after (b == 13) bytes) e h) [
+      | inl a ↦ rw (a.1, a.0)
+      | inr a ↦ rw (a.3, a.1, line_end-take (b == 13) bytes a.0 a.2)
+    ]
+
+later_by-zero : (o : Option ℕ) → o ≡ later_by 0 o
+later_by-zero None = refl
+later_by-zero (Some n) = ap Some (omega arith)
+
+later_by-suc : (n : ℕ) (o : Option ℕ) → option_map suc (later_by n o) ≡ later_by (suc n) o
+later_by-suc n None = refl
+later_by-suc n (Some m) = ap Some (omega arith)
+
+-- where no line ends in a first part, it ends in the second or nowhere
+pub line_end-append : (c : Bool) (text more : List ℕ) → line_end_after c text ≡ None
+    → line_end_after c (text ++ more) ≡ later_by (length text) (line_end_after (last_is_cr c text) more)
+line_end-append c [] more h = later_by-zero (line_end_after c more)
+line_end-append c (b ∷ text) more h =
+    let no = no_end_cases (c && b == 10) (line_end_after (b == 13) text) h in
+    rw (no.0, line_end-append (b == 13) text more no.1) (later_by-suc (length text) (line_end_after (last_is_cr (b == 13) text) more))
+
+pub last_is_cr-append : (c : Bool) (text more : List ℕ) → last_is_cr c (text ++ more) ≡ last_is_cr (last_is_cr c text) more
+last_is_cr-append c [] more = refl
+last_is_cr-append c (b ∷ text) more = last_is_cr-append (b == 13) text more
+
+-- what the first line is where it ends
+first_line_behind : (a : ℕ) (bytes : List ℕ) (e : ℕ) → line_end_after (a == 13) bytes ≡ Some e
+    → first_line (a ∷ bytes) ≡ Some (take (e - 1) (a ∷ bytes), drop e bytes)
+first_line_behind a [] e h = cc
+first_line_behind a (b ∷ bytes) e h =
+    elim (end_cases (a == 13 && b == 10) (line_end_after (b == 13) bytes) e h) [
+      | inl x ↦ rw (x.1, x.0)
+      | inr x ↦
+          let some = line_end_within (b == 13) bytes x.0 x.2 in
+          let less : suc x.0 - 1 ≡ suc (x.0 - 1) = omega (arith, some.0) in
+          rw (x.3, x.1, less, first_line_behind b bytes x.0 x.2)
+    ]
+
+pub first_line_end : (text : List ℕ) (e : ℕ) → line_end_after false text ≡ Some e → first_line text ≡ Some (take (e - 2) text, drop e text)
+first_line_end [] e h = cc
+first_line_end (a ∷ bytes) e h =
+    elim (end_cases false (line_end_after (a == 13) bytes) e h) [
+      | inl x ↦ cc (x.0)
+      | inr x ↦ let less : suc x.0 - 2 ≡ x.0 - 1 = omega arith in rw (x.3, less) (first_line_behind a bytes x.0 x.2)
+    ]
+
+first_line_none_behind : (a : ℕ) (bytes : List ℕ) → line_end_after (a == 13) bytes ≡ None → first_line (a ∷ bytes) ≡ None
+first_line_none_behind a [] h = refl
+first_line_none_behind a (b ∷ bytes) h =
+    let no = no_end_cases (a == 13 && b == 10) (line_end_after (b == 13) bytes) h in
+    rw (no.0, first_line_none_behind b bytes no.1)
+
+pub first_line_none : (text : List ℕ) → line_end_after false text ≡ None → first_line text ≡ None
+first_line_none [] h = refl
+first_line_none (a ∷ bytes) h = first_line_none_behind a bytes (no_end_cases false (line_end_after (a == 13) bytes) h).1
+
+-- a text with no first line has no line's end
+pub no_line_end : (text : List ℕ) → first_line text ≡ None → line_end_after false text ≡ None
+no_line_end text none = go (line_end_after false text) refl
+  where
+    go : (o : Option ℕ) → line_end_after false text ≡ o → line_end_after false text ≡ None
+    go None e = e
+    go (Some n) e = let some = first_line_end text n e in cc
+
+-- no line ends in the text, nor in what comes
+pub goes_on : (text piece : List ℕ) → first_line text ≡ None → line_end_after (last_is_cr false text) piece ≡ None → first_line (text ++ piece) ≡ None
+goes_on text piece none more = first_line_none (text ++ piece) (rw (line_end-append false text piece (no_line_end text none), more))
+
+-- the line that ends in what comes
+pub ends_there : (text piece : List ℕ) (e : ℕ) → first_line text ≡ None → line_end_after (last_is_cr false text) piece ≡ Some e
+    → first_line (text ++ take e piece) ≡ Some (take (length (text ++ take (e - 1) piece) - 1) (text ++ take (e - 1) piece), [])
+ends_there text piece e none here =
+    let within = line_end_within (last_is_cr false text) piece e here in
+    let taken : line_end_after (last_is_cr false text) (take e piece) ≡ Some e = line_end-take (last_is_cr false text) piece e here in
+    let whole : line_end_after false (text ++ take e piece) ≡ Some (length text + e) =
+    rw (line_end-append false text (take e piece) (no_line_end text none), taken) in
+    rw (first_line_end (text ++ take e piece) (length text + e) whole, line_bytes text piece e within.0 within.1, nothing_left text piece e)
+  where
+    nothing_left : (text piece : List ℕ) (e : ℕ) → drop (length text + e) (text ++ take e piece) ≡ []
+    nothing_left text piece e = grind (arith, common_steps, drop-append-add text (take e piece) e)
+
+    line_bytes : (text piece : List ℕ) (e : ℕ) → 0 < e → e ≤ length piece
+        → take (length text + e - 2) (text ++ take e piece) ≡ take (length (text ++ take (e - 1) piece) - 1) (text ++ take (e - 1) piece)
+    line_bytes text piece e some within =
+        let front : take (e - 1) (take e piece) ≡ take (e - 1) piece = take-take (e - 1) e piece (omega arith) in
+        let whole : take (length text + (e - 1)) (text ++ take e piece) ≡ text ++ take (e - 1) piece = rw (take-append-add text (take e piece) (e - 1), front) in
+        let long : length (text ++ take (e - 1) piece) - 1 ≡ length text + e - 2 =
+        omega (arith, length-append text (take (e - 1) piece), length-take-le (e - 1) piece (omega arith)) in
+        rw (long, ← whole) (sym (take-take (length text + e - 2) (length text + (e - 1)) (text ++ take e piece) (omega arith)))

@@ -1,0 +1,215 @@
+-- What a reader stands for when bytes come.
+use Rattle.std.proofs.Common.{◌≡◌, ◌<◌, ◌≤◌, ℕ, ◌+◌, ◌-◌, zero, suc, Bool, true, false, List, [], ◌∷◌, ◌++◌, ◌⊎◌, inl, inr, Option, Some, None, refl, sym, ◌∙◌, ap, arith, length, length-append, append_assoc, append-nil, take, drop, take-add, take-append-drop, MatchBool, nat_lt, nat_le, if◌then◌else◌}
+use Rattle.std.proofs.lemmas.Bool.Decides.{nat_tests}
+use Rattle.std.proofs.lemmas.List.{length-take-le}
+use Rattle.bq_job.specs.Line.{first_line}
+use Rattle.bq_job.specs.LineRead as line_read
+use Rattle.bq_job.specs.Profile.{Profile, profile}
+use Rattle.bq_job.specs.Reading.{IsUnit, IsPutRequest, BeginsNoUnit, is_quit, put_with_body}
+use Rattle.bq_job.specs.ComputedReading.{unit_after}
+use Rattle.bq_job.specs.TubeName.{is_same_name}
+use Rattle.bq_job.specs.Line.{line_end}
+use Rattle.bq_job.specs.declared.request.Request.{Request}
+use Rattle.bq_job.specs.declared.request.Request.TheVariants as requests
+use Rattle.bq_job.specs.declared.refusal.Refusal.TheVariants as refusals
+use Rattle.bq_job.proofs.LineLemmas.{first_line-append}
+use Rattle.bq_job.proofs.UnitLemmas.{no_first_unit}
+use Rattle.bq_wire.specs.Asked.{put_line_of}
+use Rattle.bq_wire.specs.LineEnds.{line_end_after, last_is_cr}
+use Rattle.bq_wire.specs.PutBodies.{IsBodySoFar, TakesBytes}
+use Rattle.bq_wire.specs.Standing.{profile_of, Stands, StandsAt, IsPutBegun, IsLineOf, Waits, HandsOut, FeedsText, length_beside_cr, but_last, Keeps}
+use Rattle.bq_wire.specs.WordsSoFar.{words_so_far}
+use Rattle.bq_wire.specs.declared.put_body.PutBody.{PutBody}
+use Rattle.bq_wire.specs.declared.state.Place.{Place}
+use Rattle.bq_wire.specs.declared.state.Place.TheVariants.{InLine, InLongLine, InBody, Over}
+use Rattle.bq_wire.specs.declared.state.State.{State}
+use Rattle.bq_wire.proofs.LineEndLemmas.{goes_on, ends_there, line_end_within, line_end_one, last_is_cr-append}
+
+-- a text with no line begins with no unit
+pub no_line_no_unit : (p : Profile) (text : List ℕ) → first_line text ≡ None → BeginsNoUnit p text
+no_line_no_unit p text none = no_first_unit p text (rw none refl)
+
+-- neither does a put whose body isn't whole
+pub begun_no_unit : (m : ℕ) (body : PutBody) (text : List ℕ) → IsPutBegun body text → BeginsNoUnit (profile m words_so_far) text
+begun_no_unit m body text begun = no_first_unit (profile m words_so_far) text (rw (begun.first_line_is, begun.read_is) none)
+  where
+    none : unit_after (profile m words_so_far) (line_read.PutWaits (put_line_of body.put)) begun.after ≡ None
+    none = let short : nat_le (body.put.bytes + 2) (length begun.after) ≡ false = grind (arith, nat_tests, begun.less) in rw short
+
+-- no beginning of a text that a reader stands for is a unit
+pub Stands-no_unit : (s : State) (place : Place) (text : List ℕ) → StandsAt s place text → BeginsNoUnit (profile_of s) text
+Stands-no_unit s InLine text stands = no_line_no_unit (profile_of s) text stands.1
+Stands-no_unit s (InLongLine after_cr) text stands = no_line_no_unit (profile_of s) text stands.1
+Stands-no_unit s (InBody body) text stands = begun_no_unit s.max_job_size body text stands.1
+Stands-no_unit s Over text stands = absurd stands
+
+-- Waits, by what the reader stands for
+pub waits_by : (s : State) (text piece : List ℕ) (taken : ℕ) → taken ≡ length piece → Stands s (text ++ piece) → Waits s text piece taken
+waits_by s text piece taken all stands = record { all = all; none = Stands-no_unit s s.place (text ++ piece) stands; stands = stands }
+
+-- the request of a put is no quit
+pub put_no_quit : (p : Profile) (put : line_read.PutLine) (bytes : List ℕ) (r : Request) → IsPutRequest p put bytes r → is_quit r ≡ false
+put_no_quit p put bytes r h = go (nat_lt p.max_job_size put.bytes) h
+  where
+    body : (t : Bool) → is_quit (if t then requests.Put put.pri put.delay put.ttr (take put.bytes bytes) else requests.Refused refusals.ExpectedCrlf) ≡ false
+    body true = refl
+    body false = refl
+
+    go : (t : Bool) → MatchBool t (r ≡ requests.Refused refusals.JobTooBig) ((r ≡ requests.Refused refusals.OutOfMemory) ⊎ (r ≡ put_with_body put bytes)) → is_quit r ≡ false
+    go true h = ap is_quit h
+    go false (inl e) = ap is_quit e
+    go false (inr e) = ap is_quit e ∙ body (is_same_name (drop put.bytes bytes) line_end)
+
+-- more of a put's body came
+pub begun_more : (old new : PutBody) (text bytes : List ℕ) → IsPutBegun old text → new.put ≡ old.put → TakesBytes old new bytes → new.taken < new.put.bytes + 2
+    → IsPutBegun new (text ++ bytes)
+begun_more old new text bytes begun put takes less =
+    let so_far = takes begun.after begun.so_far in
+    record {
+      line = begun.line;
+      after = begun.after ++ bytes;
+      first_line_is = first_line-append text bytes (begun.line, begun.after) begun.first_line_is;
+      read_is = rw put begun.read_is;
+      so_far = so_far;
+      less = rw (← so_far.taken_is) less;
+    }
+
+-- all of a put came
+pub begun_whole : (m : ℕ) (old new : PutBody) (text bytes : List ℕ) (r : Request) → IsPutBegun old text → new.put ≡ old.put → TakesBytes old new bytes
+    → new.taken ≡ new.put.bytes + 2 → ((after : List ℕ) → IsBodySoFar new after → IsPutRequest (profile m words_so_far) (put_line_of new.put) after r)
+    → IsUnit (profile m words_so_far) (text ++ bytes) r × (is_quit r ≡ false)
+begun_whole m old new text bytes r begun put takes whole request =
+    let so_far = takes begun.after begun.so_far in
+    let is = request (begun.after ++ bytes) so_far in
+    let line : first_line (text ++ bytes) ≡ Some (begun.line, begun.after ++ bytes) = first_line-append text bytes (begun.line, begun.after) begun.first_line_is in
+    let read : line_read.read_line words_so_far begun.line ≡ line_read.PutWaits (put_line_of new.put) = rw put begun.read_is in
+    let long : length (begun.after ++ bytes) ≡ new.put.bytes + 2 = sym so_far.taken_is ∙ whole in
+    (rw (line, read) (long, is), put_no_quit (profile m words_so_far) (put_line_of new.put) (begun.after ++ bytes) r is)
+
+-- a line that is a whole request is a unit
+pub line_unit : (p : Profile) (text bytes : List ℕ) (r : Request) → p.known ≡ words_so_far → IsLineOf (line_read.Whole r) bytes text → IsUnit p (text ++ bytes) r
+line_unit p text bytes r known line = rw (line.first_line_is, known, line.read_is) (refl, refl)
+
+-- the line of a put begins it
+pub line_begins : (body : PutBody) (text bytes : List ℕ) (asked : line_read.LineRead) → IsLineOf asked bytes text → asked ≡ line_read.PutWaits (put_line_of body.put)
+    → IsBodySoFar body [] → IsPutBegun body (text ++ bytes)
+line_begins body text bytes asked line is so_far = record {
+  line = line.line;
+  after = [];
+  first_line_is = line.first_line_is;
+  read_is = line.read_is ∙ is;
+  so_far = so_far;
+  less = omega arith;
+}
+
+-- what was fed behind the first bytes of a piece
+pub feeds_behind : (new : State) (text piece rest : List ℕ) (end taken : ℕ) (r : Option Request) → end ≤ length piece → rest ≡ drop end piece
+    → FeedsText new (text ++ take end piece) rest taken r → FeedsText new text piece (end + taken) r
+feeds_behind new text piece rest end taken r within is fed = go r fed
+  where
+    whole : (text ++ take end piece) ++ rest ≡ text ++ piece
+    whole = rw (is, append_assoc text (take end piece) (drop end piece), take-append-drop end piece)
+
+    parts : (text ++ take end piece) ++ take taken rest ≡ text ++ take (end + taken) piece
+    parts = rw (is, append_assoc text (take end piece) (take taken (drop end piece)), ← take-add end taken piece)
+
+    go : (r : Option Request) → FeedsText new (text ++ take end piece) rest taken r → FeedsText new text piece (end + taken) r
+    go None fed = record {
+      all = omega (arith, fed.all, ap length whole, length-append text piece, length-append (text ++ take end piece) rest, length-append text (take end piece), length-take-le end piece within);
+      none = rw whole at fed.none;
+      stands = rw whole at fed.stands;
+    }
+    go (Some request) fed = record { unit = rw parts at fed.unit; next = fed.next }
+
+-- a line that is too long stays so
+pub long_more : (text piece : List ℕ) → 222 < length_beside_cr text → 222 < length_beside_cr (text ++ piece)
+long_more text [] long = rw append-nil long
+long_more text (b ∷ piece) long = go (last_is_cr false text) (last_is_cr false (text ++ b ∷ piece)) long
+  where
+    go : (t u : Bool) → 222 < length text - (if t then 1 else 0) → 222 < length (text ++ b ∷ piece) - (if u then 1 else 0)
+    go true true long = omega (arith, length-append text (b ∷ piece))
+    go true false long = omega (arith, length-append text (b ∷ piece))
+    go false true long = omega (arith, length-append text (b ∷ piece))
+    go false false long = omega (arith, length-append text (b ∷ piece))
+
+-- a line that is too long is BAD_FORMAT where it ends
+pub long_line_read : (text piece : List ℕ) (e : ℕ) → first_line text ≡ None → 222 < length_beside_cr text → line_end_after (last_is_cr false text) piece ≡ Some e
+    → IsLineOf line_read.bad_format (take e piece) text
+long_line_read text piece e none long here =
+    record { line = but_last (text ++ take (e - 1) piece); first_line_is = ends_there text piece e none here; read_is = read }
+  where
+    within : (0 < e) × (e ≤ length piece)
+    within = line_end_within (last_is_cr false text) piece e here
+
+    length_is : length (text ++ take (e - 1) piece) ≡ length text + (e - 1)
+    length_is = omega (arith, length-append text (take (e - 1) piece), length-take-le (e - 1) piece (omega (arith, within.1)))
+
+    line_length : (t : Bool) → last_is_cr false text ≡ t → 222 < length text - (if t then 1 else 0) → 222 < length text + (e - 1) - 1
+    line_length true is long = omega (arith, within.0)
+    line_length false is long = go e refl
+      where
+        go : (n : ℕ) → e ≡ n → 222 < length text + (e - 1) - 1
+        go zero is_n = absurd (omega (arith, within.0))
+        go (suc zero) is_n = let cr : last_is_cr false text ≡ true = line_end_one (last_is_cr false text) piece (rw is_n at here) in cc
+        go (suc (suc n)) is_n = omega arith
+
+    too_long : nat_lt 222 (length (but_last (text ++ take (e - 1) piece))) ≡ true
+    too_long =
+        let count : length (but_last (text ++ take (e - 1) piece)) ≡ length text + (e - 1) - 1 = rw (← length_is) (length-take-le (length (text ++ take (e - 1) piece) - 1) (text ++ take (e - 1) piece) (omega arith)) in
+        grind (arith, nat_tests, line_length (last_is_cr false text) refl long)
+
+    read : line_read.read_line words_so_far (but_last (text ++ take (e - 1) piece)) ≡ line_read.bad_format
+    read = rw too_long
+
+abbrev pub in_line : ℕ → List ℕ → State
+in_line m kept = record { max_job_size = m; kept = kept; place = InLine }
+
+-- a request that is no quit is handed out at its end, where nothing is kept
+pub hands_out : (m : ℕ) (kept text piece : List ℕ) (taken : ℕ) (r : Request) → kept ≡ [] → IsUnit (profile m words_so_far) (text ++ take taken piece) r
+    → is_quit r ≡ false → HandsOut (in_line m kept) text piece taken r
+hands_out m kept text piece taken r nothing unit no_quit = record { unit = unit; next = rw no_quit (sym nothing, refl) }
+
+-- a line of which there is no room for more is too long
+pub keep_long : (kept piece : List ℕ) (room : ℕ) (last : Bool) → room + length kept ≡ 223 → last_is_cr false (kept ++ piece) ≡ last
+    → room ≤ length piece → (length piece ≡ room → last ≡ false) → 222 < length_beside_cr (kept ++ piece)
+keep_long kept piece room true most is long exact = rw is (omega (arith, length-append kept piece, go))
+  where
+    go : length piece ≡ room → ⊥
+    go e = let no = exact e in cc
+keep_long kept piece room false most is long exact = rw is (omega (arith, length-append kept piece))
+
+-- what stands for a line that goes on
+pub kept_stands : (m : ℕ) (old new : List ℕ) (place : Place) (text piece : List ℕ) → text ≡ old → first_line text ≡ None
+    → line_end_after (last_is_cr false old) piece ≡ None → Keeps old new place piece
+    → StandsAt (record { max_job_size = m; kept = new; place = place }) place (text ++ piece)
+kept_stands m old new InLine text piece is none more keeps = (rw is (sym keeps), goes_on text piece none (rw is more))
+kept_stands m old new (InLongLine after_cr) text piece is none more keeps =
+    (keeps.0, goes_on text piece none (rw is more), rw is keeps.1, rw is keeps.2)
+kept_stands m old new (InBody body) text piece is none more keeps = absurd keeps
+kept_stands m old new Over text piece is none more keeps = absurd keeps
+
+-- the kept bytes and those up to the line's end are the line
+pub kept_line : (old text piece : List ℕ) (e : ℕ) (asked : line_read.LineRead) → text ≡ old → first_line text ≡ None
+    → line_end_after (last_is_cr false old) piece ≡ Some e → asked ≡ line_read.read_line words_so_far (but_last (old ++ take (e - 1) piece))
+    → IsLineOf asked (take e piece) text
+kept_line old text piece e asked is none here read = record {
+  line = but_last (text ++ take (e - 1) piece);
+  first_line_is = ends_there text piece e none (rw is here);
+  read_is = rw is (sym read);
+}
+
+-- what stands for a line that is too long and goes on
+pub long_stands : (m : ℕ) (kept text piece : List ℕ) (last after_cr : Bool) → kept ≡ [] → first_line text ≡ None → last_is_cr false text ≡ after_cr
+    → 222 < length_beside_cr text → line_end_after after_cr piece ≡ None → last ≡ last_is_cr after_cr piece
+    → StandsAt (record { max_job_size = m; kept = kept; place = InLongLine last }) (InLongLine last) (text ++ piece)
+long_stands m kept text piece last after_cr nothing none cr long more last_is =
+    (nothing, goes_on text piece none (rw cr more), rw (last_is_cr-append false text piece, cr) (sym last_is), long_more text piece long)
+
+-- a line that ends has a byte before its LF
+pub some_byte : (old piece : List ℕ) (e : ℕ) → line_end_after (last_is_cr false old) piece ≡ Some e → 0 < length old + length (take (e - 1) piece)
+some_byte old piece zero here = absurd (omega (arith, (line_end_within (last_is_cr false old) piece 0 here).0))
+some_byte [] piece (suc zero) here = let cr : false ≡ true = line_end_one false piece here in cc
+some_byte (b ∷ old) piece (suc zero) here = omega arith
+some_byte old piece (suc (suc e)) here =
+    let within = (line_end_within (last_is_cr false old) piece (suc (suc e)) here).1 in
+    omega (arith, length-take-le (suc (suc e) - 1) piece (omega arith))

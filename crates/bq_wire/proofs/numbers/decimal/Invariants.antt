@@ -1,0 +1,12 @@
+use Rattle.std.proofs.Common.{◌≡◌, ◌<◌, ◌^◌, drop, fold}
+use Rattle.std.specs.List.{list_all}
+use Rattle.bq_job.specs.Words as spec
+use Rattle.bq_wire.proofs.numbers.decimal.Given as goal
+
+-- the digits that are left make of the value so far that of the whole word
+abbrev pub invariant-loop-byte : goal.invariant-loop-byte
+invariant-loop-byte l = record {
+  digits : list_all spec.is_digit (drop l.byte-index l.word) ≡ list_all spec.is_digit l.word;
+  fits : l.value < 2 ^ 64;
+  value_is : fold spec.with_digit l.value (drop l.byte-index l.word) ≡ spec.value_of_digits l.word;
+}

@@ -1,0 +1,15 @@
+use Rattle.std.proofs.Common.{◌≡◌, take, drop, arith, length, ◌-◌}
+use Rattle.std.proofs.lemmas.Grind.{common_steps}
+use Rattle.bq_job.specs.LineRead as line_read
+use Rattle.bq_wire.specs.Asked.{put_line_of, asked_by}
+use Rattle.bq_wire.proofs.ReaderLemmas.{line_begins, feeds_behind}
+use Rattle.bq_wire.proofs.reader.after_line.Goals as goal
+
+pub returns-in-PutWaits-clause-feeds : goal.returns-in-PutWaits-clause-feeds
+returns-in-PutWaits-clause-feeds c = λ nothing text line.
+    let rest : take (length c.args.piece.now - c.args.end) (drop c.args.end c.args.piece.now) ≡ drop c.args.end c.args.piece.now = grind (arith, common_steps) in
+    let body = c.new-body in
+    let fed = c.feed_body-taken in
+    let asked : asked_by c.args.read ≡ line_read.PutWaits (put_line_of body.result.put) = rw (c.in-PutWaits.is, body.ensures.put) in
+    feeds_behind fed.new.state text c.args.piece.now (take (length c.args.piece.now - c.args.end) (drop c.args.end c.args.piece.now)) c.args.end fed.result.0 fed.result.1
+    c.requires.within rest (fed.ensures.feeds _ (nothing, line_begins body.result text (take c.args.end c.args.piece.now) (asked_by c.args.read) line asked body.ensures.nothing))

@@ -1,0 +1,19 @@
+use Rattle.std.proofs.Common.{refl, sym, take, length}
+use Rattle.bq_job.specs.Profile.{profile}
+use Rattle.bq_wire.specs.WordsSoFar.{words_so_far}
+use Rattle.bq_wire.proofs.ReaderLemmas.{waits_by, long_stands, long_line_read, line_unit, hands_out}
+use Rattle.bq_wire.proofs.reader.feed_long_line.Goals as goal
+
+pub returns-in-None-clause-feeds : goal.returns-in-None-clause-feeds
+returns-in-None-clause-feeds c = λ text stands.
+    waits_by _ text c.args.piece.now (length c.args.piece.now) refl
+    (long_stands c.args.state.now.max_job_size c.args.state.now.kept text c.args.piece.now c.ends_in_cr.result c.args.after_cr stands.0 stands.1 stands.2 stands.3
+    (sym c.in-None.ensures.value) c.ends_in_cr.ensures)
+
+pub returns-in-Some-clause-feeds : goal.returns-in-Some-clause-feeds
+returns-in-Some-clause-feeds c = λ text stands.
+    let here = sym c.in-Some.ensures.value in
+    let line = long_line_read text c.args.piece.now c.in-Some.end stands.1 stands.3 (rw stands.2 here) in
+    rw c.bad_format.ensures
+    (hands_out c.args.state.now.max_job_size c.args.state.now.kept text c.args.piece.now c.in-Some.end _ stands.0
+    (line_unit (profile c.args.state.now.max_job_size words_so_far) text (take c.in-Some.end c.args.piece.now) _ refl line) refl)

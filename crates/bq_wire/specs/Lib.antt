@@ -1,0 +1,7 @@
+pub mod Asked
+pub mod HasRead
+pub mod LineEnds
+pub mod PutBodies
+pub mod Standing
+pub mod WordsLeft
+pub mod WordsSoFar

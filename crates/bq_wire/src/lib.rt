@@ -1,0 +1,19 @@
+//! The texts of the protocol: requests out of bytes, and answers into bytes.
+#![tactic(auto)]
+
+pub use pieces::{requests_of, what_was_read_is_a_reading};
+pub use reader::RequestReader;
+pub use texts::{HeadBuf, answer_body, answer_head, answer_tail};
+
+mod kept_line;
+mod line_end;
+mod line_read;
+mod numbers;
+mod pieces;
+mod put_body;
+mod reader;
+mod state;
+#[cfg(test)]
+mod tests;
+mod texts;
+mod words;

@@ -1,0 +1,150 @@
+ghost use Rattle.std.specs.Prelude.{◌≡◌, ◌≤◌, ◌<◌, ◌+◌, ℕ, List, [], length, take, nat_le};
+ghost use Rattle.std.specs.Option.{ForSome};
+ghost use Rattle.bq_job.specs.Profile.{profile};
+ghost use Rattle.bq_job.specs.Reading.{IsPutRequest};
+ghost use Rattle.bq_wire.specs.Asked.{put_line_of};
+ghost use Rattle.bq_wire.specs.PutBodies.{IsBodySoFar, HasRoom, TakesBytes, Stores};
+ghost use Rattle.bq_wire.specs.WordsSoFar.{words_so_far};
+
+use crate::line_read::PutLine;
+use bq_job::{BodyBuilder, Refusal, Request};
+use std::alloc::Global;
+
+/// The body of a put, as far as it has come, with the two bytes after it.
+#[derive(Debug, Drop)]
+pub struct PutBody {
+    pub put: PutLine,
+    /// How many bytes were taken, of the body and of the two behind it.
+    pub taken: usize,
+    /// The body's bytes; none where it is too big, or its memory was refused.
+    pub store: Option<BodyBuilder>,
+    /// Whether what was taken behind the body begins CR LF.
+    pub good_end: bool,
+}
+
+impl PutBody {
+    /// A body of which nothing has come. Its memory is asked for here, and nowhere else.
+    pub fn new(alloc: Global, put: PutLine, max_job_size: u32) -> PutBody
+        ensures put { result.put ≡ put }
+        ensures nothing { IsBodySoFar result [] }
+        ensures room { HasRoom result }
+        ensures taken { result.taken ≡ 0 }
+    {
+        let store = if put.bytes > max_job_size {
+            None
+        } else {
+            BodyBuilder::new(alloc, put.bytes as usize).ok()
+        };
+        PutBody {
+            put,
+            taken: 0,
+            store,
+            good_end: true,
+        }
+    }
+
+    // Takes what belongs to the body, and says how many bytes that was.
+    fn take_body(&mut self, bytes: &[u8]) -> usize
+        requires { HasRoom self.old }
+        ensures room { HasRoom self.new }
+        ensures put { self.new.put ≡ self.old.put }
+        ensures within { result ≤ length bytes.now }
+        ensures taken { self.new.taken ≡ self.old.taken + result }
+        ensures takes { TakesBytes self.old self.new (take result bytes.now) }
+        ensures all { result < length bytes.now → self.new.put.bytes ≤ self.new.taken }
+    {
+        let left = (self.put.bytes as usize).saturating_sub(self.taken);
+        let count = left.min(bytes.len());
+        store_bytes(&mut self.store, &bytes[..count]);
+        self.taken += count;
+        count
+    }
+
+    // Takes the first byte, where it is one of the two behind the body, and says how many bytes that was.
+    fn take_end_byte(&mut self, bytes: &[u8]) -> usize
+        requires { HasRoom self.old }
+        ensures room { HasRoom self.new }
+        ensures put { self.new.put ≡ self.old.put }
+        ensures within { result ≤ length bytes.now }
+        ensures taken { self.new.taken ≡ self.old.taken + result }
+        ensures takes { TakesBytes self.old self.new (take result bytes.now) }
+        ensures one { 0 < length bytes.now → self.old.put.bytes ≤ self.old.taken → self.old.taken < self.old.put.bytes + 2 → result ≡ 1 }
+    {
+        let size = self.put.bytes as usize;
+        let Some(byte) = bytes.first() else {
+            return 0;
+        };
+        if self.taken < size || self.taken > size + 1 {
+            return 0;
+        }
+        let expected = if self.taken == size { b'\r' } else { b'\n' };
+        self.good_end = self.good_end && *byte == expected;
+        self.taken += 1;
+        1
+    }
+
+    /// Takes what belongs to the put, and says how many bytes that was.
+    pub fn take(&mut self, bytes: &[u8]) -> usize
+        requires { HasRoom self.old }
+        ensures room { HasRoom self.new }
+        ensures put { self.new.put ≡ self.old.put }
+        ensures within { result ≤ length bytes.now }
+        ensures taken { self.new.taken ≡ self.old.taken + result }
+        ensures takes { TakesBytes self.old self.new (take result bytes.now) }
+        ensures all { self.new.taken < self.new.put.bytes + 2 → result ≡ length bytes.now }
+    {
+        let body = self.take_body(bytes);
+        let cr = self.take_end_byte(&bytes[body..]);
+        let lf = self.take_end_byte(&bytes[body + cr..]);
+        body + cr + lf
+    }
+
+    /// Whether all of it has come.
+    pub fn is_whole(&self) -> bool
+        ensures { result ≡ nat_le (self.now.put.bytes + 2) self.now.taken }
+    {
+        self.put.bytes as usize + 2 <= self.taken
+    }
+
+    /// The request of a put, all of which has come. It takes no memory.
+    pub fn into_request(self, max_job_size: u32) -> Request
+        requires { self.taken ≡ self.put.bytes + 2 }
+        ensures { (after : List ℕ) → IsBodySoFar self after → IsPutRequest (profile max_job_size words_so_far) (put_line_of self.put) after result }
+    {
+        if self.put.bytes > max_job_size {
+            return refused(Refusal::JobTooBig);
+        }
+        let store = self.store;
+        let Some(store) = store else {
+            return refused(Refusal::OutOfMemory);
+        };
+        if !self.good_end {
+            return refused(Refusal::ExpectedCrlf);
+        }
+        match store.finish() {
+            Ok(body) => Request::Put {
+                pri: self.put.pri,
+                delay: self.put.delay,
+                ttr: self.put.ttr,
+                body,
+            },
+            Err(_) => refused(Refusal::OutOfMemory),
+        }
+    }
+}
+
+// Puts bytes into a store, where there is one.
+fn store_bytes(store: &mut Option<BodyBuilder>, bytes: &[u8])
+    requires { ForSome store.old (λ s. length bytes.now ≤ s.room) }
+    ensures { Stores store.old store.new bytes.now }
+{
+    if let Some(kept) = store {
+        kept.push_slice(bytes);
+    }
+}
+
+fn refused(why: Refusal) -> Request
+    ensures { result ≡ Request.Refused why }
+{
+    Request::Refused { why }
+}

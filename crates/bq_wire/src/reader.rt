@@ -1,0 +1,250 @@
+ghost use Rattle.std.specs.Prelude.{◌≡◌, ◌≤◌, ◌<◌, ◌+◌, ◌++◌, ℕ, List, [], length, take, IfOk, IfSome, Some, None, if◌then◌else◌};
+ghost use Rattle.bq_job.specs.LineRead as line_read;
+ghost use Rattle.bq_job.specs.Reading.{is_quit};
+ghost use Rattle.bq_wire.specs.Asked.{asked_by};
+ghost use Rattle.bq_wire.specs.HasRead.{HasRead, ReadsOn};
+ghost use Rattle.bq_wire.specs.PutBodies.{HasRoom};
+ghost use Rattle.bq_wire.specs.Standing.{IsOver, IsSound, Stands, StandsAt, Feeds, Keeps, IsLineOf, Waits, HandsOut, but_last};
+ghost use Rattle.bq_wire.specs.WordsSoFar.{words_so_far};
+ghost use Rattle.bq_wire.specs.declared.state.Place.TheVariants.{InLine, InLongLine, InBody, Over};
+
+use crate::kept_line::KeptLine;
+use crate::line_end::{ends_in_cr, line_end_after};
+use crate::line_read::{LineRead, read_line};
+use crate::put_body::PutBody;
+use crate::state::{Place, State};
+use bq_job::{NoMemory, Refusal, Request};
+use std::alloc::Global;
+use std::marker::Model;
+use std::mem;
+
+/// Reads requests out of bytes that come in pieces.
+#[derive(Drop)]
+pub struct RequestReader {
+    alloc: Global,
+    state: State,
+}
+
+impl Model for RequestReader {
+    ghost use Rattle.bq_wire.specs.declared.state.State.{State};
+
+    ghost Value = { State };
+
+    ghost use Rattle.bq_wire.specs.Standing.{IsSound};
+
+    ghost view = { λ r. r.state };
+
+    ghost invariant = { λ r. IsSound r.state };
+}
+
+impl RequestReader {
+    /// A reader that stands for the empty text. A job may have as many bytes as is told. The memory for
+    /// lines is asked for here.
+    pub fn new(alloc: Global, max_job_size: u32) -> Result<RequestReader, NoMemory>
+        requires { (1 ≤ max_job_size) × (max_job_size ≤ 1048576) }
+        ensures stands { IfOk result (λ reader. Stands reader []) }
+        ensures reads { IfOk result (λ reader. HasRead reader [] []) }
+        ensures limit { IfOk result (λ reader. reader.max_job_size ≡ max_job_size) }
+    {
+        let kept = KeptLine::new(alloc)?;
+        Ok(RequestReader {
+            alloc,
+            state: State {
+                max_job_size,
+                kept,
+                place: Place::InLine,
+            },
+        })
+    }
+
+    /// Forgets what was read, also a quit. Takes no memory.
+    pub fn restart(&mut self)
+        ensures stands { Stands self.new [] }
+        ensures reads { HasRead self.new [] [] }
+        ensures limit { self.new.max_job_size ≡ self.old.max_job_size }
+    {
+        self.state.kept.clear();
+        self.state.place = Place::InLine;
+    }
+
+    /// Takes bytes up to and with the last byte of the first whole request, else all, and says how many
+    /// it took. After a quit it takes none until `restart`. It takes no memory but for the body of a put,
+    /// which it asks for when its line is whole; where that is refused, the put is a refused request.
+    pub fn feed(&mut self, piece: &[u8]) -> (usize, Option<Request>)
+        ensures within { result.0 ≤ length piece.now }
+        ensures progress { IfSome result.1 (λ _. 0 < result.0) }
+        // Whatever text it stood for, no beginning of that text and the piece is a request, all of the
+        // piece was taken, and that is what it stands for now.
+        ensures waits { result.1 ≡ None → (text : List ℕ) → Stands self.old text → Waits self.new text piece.now result.0 }
+        // Whatever text it stood for, that text and the bytes taken are this one request, and it stands
+        // for the empty text now, or after a quit for none.
+        ensures hands_out { IfSome result.1 (λ request. (text : List ℕ) → Stands self.old text → HandsOut self.new text piece.now result.0 request) }
+        // So of all bytes taken since the reader was new or restarted it hands out the requests, however
+        // they were cut.
+        ensures reads { ReadsOn self.old self.new piece.now result.0 result.1 }
+        ensures over { IsOver self.old → (result.0 ≡ 0) × (result.1 ≡ None) × (self.new ≡ self.old) }
+        ensures limit { self.new.max_job_size ≡ self.old.max_job_size }
+    {
+        feed_state(self.alloc, &mut self.state, piece)
+    }
+}
+
+fn feed_state(alloc: Global, state: &mut State, piece: &[u8]) -> (usize, Option<Request>)
+    requires { IsSound state.old }
+    ensures sound { IsSound state.new }
+    ensures within { result.0 ≤ length piece.now }
+    ensures progress { IfSome result.1 (λ _. 0 < result.0) }
+    ensures feeds { Feeds (Stands state.old) state.new piece.now result.0 result.1 }
+    ensures over { IsOver state.old → (result.0 ≡ 0) × (result.1 ≡ None) × (state.new ≡ state.old) }
+    ensures limit { state.new.max_job_size ≡ state.old.max_job_size }
+{
+    match mem::replace(&mut state.place, Place::Over) {
+        Place::InLine => feed_line(alloc, state, piece),
+        Place::InLongLine(after_cr) => feed_long_line(state, after_cr, piece),
+        Place::InBody(body) => feed_body(state, body, piece),
+        Place::Over => (0, None),
+    }
+}
+
+// Feeds a line whose bytes are kept.
+fn feed_line(alloc: Global, state: &mut State, piece: &[u8]) -> (usize, Option<Request>)
+    ensures sound { IsSound state.new }
+    ensures within { result.0 ≤ length piece.now }
+    ensures progress { IfSome result.1 (λ _. 0 < result.0) }
+    ensures feeds { Feeds (StandsAt state.old InLine) state.new piece.now result.0 result.1 }
+    ensures limit { state.new.max_job_size ≡ state.old.max_job_size }
+{
+    match line_end_after(ends_in_cr(false, state.kept.as_slice()), piece) {
+        None => {
+            state.place = keep(&mut state.kept, piece);
+            (piece.len(), None)
+        }
+        Some(end) => {
+            let read = whole_line(&mut state.kept, &piece[..end - 1]);
+            after_line(alloc, state, read, piece, end)
+        }
+    }
+}
+
+// Keeps bytes of a line that isn't whole, or of one that is too long none.
+fn keep(kept: &mut KeptLine, piece: &[u8]) -> Place
+    ensures { Keeps kept.old kept.new result piece.now }
+{
+    let after_cr = ends_in_cr(ends_in_cr(false, kept.as_slice()), piece);
+    let room = kept.room();
+    if piece.len() < room || (piece.len() == room && after_cr) {
+        kept.push_slice(piece);
+        Place::InLine
+    } else {
+        kept.clear();
+        Place::InLongLine(after_cr)
+    }
+}
+
+// What a line asks for that ends now: of its last bytes all but the LF are given.
+fn whole_line(kept: &mut KeptLine, last: &[u8]) -> LineRead
+    requires { 0 < length kept.old + length last.now }
+    ensures cleared { kept.new ≡ [] }
+    ensures read { asked_by result ≡ line_read.read_line words_so_far (but_last (kept.old ++ last.now)) }
+{
+    if kept.as_slice().is_empty() {
+        return read_line(&last[..last.len() - 1]);
+    }
+    if last.len() > kept.room() {
+        kept.clear();
+        return LineRead::Whole(bad_format());
+    }
+    kept.push_slice(last);
+    let line = kept.as_slice();
+    let read = read_line(&line[..line.len() - 1]);
+    kept.clear();
+    read
+}
+
+// Goes on behind a whole line, which ends in the piece.
+fn after_line(
+    alloc: Global,
+    state: &mut State,
+    read: LineRead,
+    piece: &[u8],
+    end: usize,
+) -> (usize, Option<Request>)
+    requires some { 0 < end }
+    requires within { end ≤ length piece.now }
+    ensures sound { IsSound state.new }
+    ensures within { result.0 ≤ length piece.now }
+    ensures progress { IfSome result.1 (λ _. 0 < result.0) }
+    ensures feeds { state.old.kept ≡ [] → Feeds (IsLineOf (asked_by read) (take end piece.now)) state.new piece.now result.0 result.1 }
+    ensures limit { state.new.max_job_size ≡ state.old.max_job_size }
+{
+    match read {
+        LineRead::Whole(request) => {
+            state.place = place_behind(&request);
+            (end, Some(request))
+        }
+        LineRead::PutWaits(put) => {
+            let body = PutBody::new(alloc, put, state.max_job_size);
+            let (taken, request) = feed_body(state, body, &piece[end..]);
+            (end + taken, request)
+        }
+    }
+}
+
+// Where a reader is behind a request of one line.
+fn place_behind(request: &Request) -> Place
+    ensures { result ≡ (if is_quit request.now then Over else InLine) }
+{
+    match request {
+        Request::Quit => Place::Over,
+        _ => Place::InLine,
+    }
+}
+
+// Feeds a line that is too long.
+fn feed_long_line(state: &mut State, after_cr: bool, piece: &[u8]) -> (usize, Option<Request>)
+    ensures sound { IsSound state.new }
+    ensures within { result.0 ≤ length piece.now }
+    ensures progress { IfSome result.1 (λ _. 0 < result.0) }
+    ensures feeds { Feeds (StandsAt state.old (InLongLine after_cr)) state.new piece.now result.0 result.1 }
+    ensures limit { state.new.max_job_size ≡ state.old.max_job_size }
+{
+    match line_end_after(after_cr, piece) {
+        None => {
+            state.place = Place::InLongLine(ends_in_cr(after_cr, piece));
+            (piece.len(), None)
+        }
+        Some(end) => {
+            state.place = Place::InLine;
+            (end, Some(bad_format()))
+        }
+    }
+}
+
+// Feeds the body of a put.
+fn feed_body(state: &mut State, body: PutBody, piece: &[u8]) -> (usize, Option<Request>)
+    requires room { HasRoom body }
+    requires not_whole { body.taken < body.put.bytes + 2 }
+    ensures sound { IsSound state.new }
+    ensures within { result.0 ≤ length piece.now }
+    ensures progress { IfSome result.1 (λ _. 0 < result.0) }
+    ensures feeds { Feeds (StandsAt state.old (InBody body)) state.new piece.now result.0 result.1 }
+    ensures limit { state.new.max_job_size ≡ state.old.max_job_size }
+{
+    let mut body = body;
+    let taken = body.take(piece);
+    if body.is_whole() {
+        state.place = Place::InLine;
+        (taken, Some(body.into_request(state.max_job_size)))
+    } else {
+        state.place = Place::InBody(body);
+        (taken, None)
+    }
+}
+
+fn bad_format() -> Request
+    ensures { result ≡ Request.Refused Refusal.BadFormat }
+{
+    Request::Refused {
+        why: Refusal::BadFormat,
+    }
+}

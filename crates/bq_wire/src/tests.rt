@@ -1,0 +1,264 @@
+//! Worked readings, in one piece, cut at every byte, and cut in two at every place.
+
+use crate::{RequestReader, requests_of};
+use bq_job::{Refusal, Request};
+use std::alloc::{AllocError, Global};
+use std::process::Abort;
+use std::test::Fail;
+
+// A text and its requests. `~` is CR LF, `^` is CR; the filler stands between head and tail.
+#[derive(Clone, Copy)]
+struct Row {
+    limit: u32,
+    head: &'static str,
+    filler: u8,
+    count: usize,
+    tail: &'static str,
+    // The requests in short, each with `;` behind it.
+    wanted: &'static str,
+}
+
+const fn plain(limit: u32, head: &'static str, wanted: &'static str) -> Row {
+    Row {
+        limit,
+        head,
+        filler: 0,
+        count: 0,
+        tail: "",
+        wanted,
+    }
+}
+
+const fn filled(
+    head: &'static str,
+    filler: u8,
+    count: usize,
+    tail: &'static str,
+    wanted: &'static str,
+) -> Row {
+    Row {
+        limit: 65535,
+        head,
+        filler,
+        count,
+        tail,
+        wanted,
+    }
+}
+
+// Puts the bytes of a text at the end.
+fn push_text(bytes: &mut Vec<u8>, text: &str) -> Result<(), AllocError> {
+    for byte in text.as_bytes() {
+        match *byte {
+            b'~' => bytes.extend_from_slice(b"\r\n")?,
+            b'^' => bytes.push(b'\r')?,
+            other => bytes.push(other)?,
+        }
+    }
+    Ok(())
+}
+
+// The bytes of a row.
+fn text_of(alloc: Global, row: &Row) -> Result<Vec<u8>, AllocError> {
+    let mut bytes = Vec::new(alloc);
+    push_text(&mut bytes, row.head)?;
+    for _ in 0..row.count {
+        bytes.push(row.filler)?;
+    }
+    push_text(&mut bytes, row.tail)?;
+    Ok(bytes)
+}
+
+// A request in short: a refusal is its number.
+fn noted(alloc: Global, request: &Request) -> Result<String, AllocError> {
+    match request {
+        Request::Put {
+            pri,
+            delay,
+            ttr,
+            body,
+        } => format!(in alloc; "put {pri} {delay} {ttr} {:?};", body.as_slice()),
+        Request::Reserve => String::from_str(alloc, "reserve;"),
+        Request::Delete { id } => format!(in alloc; "delete {id};"),
+        Request::Quit => String::from_str(alloc, "quit;"),
+        Request::Refused { why } => format!(in alloc; "{};", why.code()),
+        _ => String::from_str(alloc, "another;"),
+    }
+}
+
+// The requests of a text in pieces, in short.
+fn read(alloc: Global, limit: u32, pieces: &[Vec<u8>]) -> Result<String, AllocError> {
+    let Ok(requests) = requests_of(alloc, limit.max(1).min(1_048_576), pieces) else {
+        return Err(AllocError);
+    };
+    let mut notes = String::new(alloc);
+    for request in &requests {
+        notes.push_str(noted(alloc, request)?.as_str())?;
+    }
+    Ok(notes)
+}
+
+// A text cut in two.
+fn two_pieces(alloc: Global, text: &[u8], at: usize) -> Result<Vec<Vec<u8>>, AllocError> {
+    let mut pieces = Vec::new(alloc);
+    let at = at.min(text.len());
+    pieces.push(Vec::from_slice(alloc, &text[..at])?)?;
+    pieces.push(Vec::from_slice(alloc, &text[at..])?)?;
+    Ok(pieces)
+}
+
+// A text in pieces of one byte.
+fn single_bytes(alloc: Global, text: &[u8]) -> Result<Vec<Vec<u8>>, AllocError> {
+    let mut pieces = Vec::new(alloc);
+    for byte in text {
+        pieces.push(Vec::from_slice(alloc, &[*byte])?)?;
+    }
+    Ok(pieces)
+}
+
+fn check_row(rt: &impl Abort, alloc: Global, row: &Row) -> Result<(), AllocError> {
+    let text = text_of(alloc, row)?;
+    let bytes = read(alloc, row.limit, &single_bytes(alloc, &text)?)?;
+    assert_eq!(rt; bytes.as_str(), row.wanted, "{} by bytes", row.head);
+    // The first of these is the text in one piece.
+    for at in 0..=text.len() {
+        let two = read(alloc, row.limit, &two_pieces(alloc, &text, at)?)?;
+        assert_eq!(rt; two.as_str(), row.wanted, "{} cut at {at}", row.head);
+    }
+    Ok(())
+}
+
+#[test]
+fn worked_rows(rt: HostRuntime) -> Result<(), Fail> {
+    let rows = [
+        plain(65535, "put 0 0 1 2~abXYreserve~", "104;reserve;"),
+        plain(
+            2,
+            "put 0 0 1 3~abc~put 0 0 1 2~ab~",
+            "103;put 0 0 1 [97, 98];",
+        ),
+        plain(65535, "put 0 0 1 5~ab", ""),
+        plain(
+            65535,
+            "~reserve ~ reserve~put 0 0 4294967296 1~",
+            "101;102;101;102;",
+        ),
+        plain(
+            65535,
+            "put 0 0 9 6~quit~~reserve~",
+            "put 0 0 9 [113, 117, 105, 116, 13, 10];reserve;",
+        ),
+        plain(65535, "quit~reserve~", "quit;"),
+        plain(
+            65535,
+            "PUT~put 1~delete -1~delete +1~delete~put 0 0 1 0~~",
+            "101;102;102;102;102;put 0 0 1 [];",
+        ),
+    ];
+    for row in &rows {
+        check_row(&rt, rt.alloc(), row)?;
+    }
+    Ok(())
+}
+
+#[test]
+fn long_rows(rt: HostRuntime) -> Result<(), Fail> {
+    let rows = [
+        filled("put 0 0 1 ", b'0', 211, "3~abc~", "put 0 0 1 [97, 98, 99];"),
+        filled("put 0 0 1 ", b'0', 212, "3~abc~", "102;101;"),
+        filled("", b'z', 222, "~", "101;"),
+        filled("", b'z', 223, "~", "102;"),
+        filled("", b'z', 223, "^~reserve~", "102;reserve;"),
+        filled("delete ", b'9', 300, "~reserve~", "102;reserve;"),
+        filled("delete ", b'9', 200, "~reserve~", "102;reserve;"),
+    ];
+    for row in &rows {
+        check_row(&rt, rt.alloc(), row)?;
+    }
+    Ok(())
+}
+
+#[test]
+fn hostile_rows(rt: HostRuntime) -> Result<(), Fail> {
+    let rows = [
+        plain(65535, "quit^~", "101;"),
+        plain(65535, "quit\nquit~^^~\n~", "101;101;101;"),
+        plain(1, "put 0 0 1 4294967295~abc", ""),
+        plain(
+            65535,
+            "\0\u{e9}~put 0 0 1 3~\0\u{e9}~",
+            "101;put 0 0 1 [0, 195, 169];",
+        ),
+        plain(
+            65535,
+            "delete 0018446744073709551615~delete 0018446744073709551616~",
+            "delete 18446744073709551615;102;",
+        ),
+        plain(
+            65535,
+            "put 004294967295 0 0 0~~put 004294967296 0 0 0~",
+            "put 4294967295 0 0 [];102;",
+        ),
+        plain(
+            65535,
+            "put 0 0 1 1~a^Xput 0 0 1 1~aX\nput 0 0 1 1~^~",
+            "104;104;put 0 0 1 [13];",
+        ),
+    ];
+    for row in &rows {
+        check_row(&rt, rt.alloc(), row)?;
+    }
+    Ok(())
+}
+
+// A quit holds until the restart.
+#[test]
+fn restarts(rt: HostRuntime) -> Result<(), Fail> {
+    let Ok(mut reader) = RequestReader::new(rt.alloc(), 10) else {
+        return Ok(());
+    };
+    assert!(rt; matches!(reader.feed(b"quit\r\nres"), (6, Some(Request::Quit))));
+    assert!(rt; matches!(reader.feed(b"reserve\r\n"), (0, None)));
+    reader.restart();
+    assert!(rt; matches!(reader.feed(b"reserve\r\n"), (9, Some(Request::Reserve))));
+    assert!(rt; matches!(reader.feed(b"res"), (3, None)));
+    reader.restart();
+    assert!(rt;
+        matches!(
+            reader.feed(b"erve\r\n"),
+            (
+                6,
+                Some(Request::Refused {
+                    why: Refusal::UnknownCommand
+                })
+            )
+        )
+    );
+    Ok(())
+}
+
+// Where the memory for a body is refused, its bytes are taken all the same.
+#[test]
+fn bodies_without_memory(rt: HostRuntime) -> Result<(), Fail> {
+    let Ok(mut reader) = RequestReader::new(rt.alloc(), 10) else {
+        return Ok(());
+    };
+    for _ in 0..2 {
+        assert!(rt; matches!(reader.feed(b"put 0 0 1 3\r\n"), (13, None)));
+        let (taken, request) = reader.feed(b"abc\r\nreserve\r\n");
+        assert_eq!(rt; taken, 5);
+        assert!(rt;
+            matches!(
+                request,
+                Some(
+                    Request::Put { .. }
+                        | Request::Refused {
+                            why: Refusal::OutOfMemory
+                        }
+                )
+            )
+        );
+        assert!(rt; matches!(reader.feed(b"reserve\r\n"), (9, Some(Request::Reserve))));
+    }
+    Ok(())
+}
