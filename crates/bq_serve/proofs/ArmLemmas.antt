@@ -11,15 +11,15 @@ use Rattle.bq_job.specs.Machine.{Machine, Settings}
 use Rattle.bq_job.specs.OneClient.{GivesClient}
 use Rattle.bq_job.specs.Runs.{Entry, answers_to}
 use Rattle.bq_job.proofs.OneClientLemmas.{step_gives_client}
-use Rattle.bq_serve.specs.InTurn.{IsInTurn}
+use Rattle.bq_seat.specs.InTurn.{IsInTurn}
 use Rattle.bq_serve.specs.OneSeat.{IsClientAt, IsRecord, moment_heard}
-use Rattle.bq_serve.specs.Past.{Awaited, Past, awaited_by}
-use Rattle.bq_serve.specs.SeatStands.{StandsFor, awaited}
+use Rattle.bq_seat.specs.Past.{Awaited, Past, awaited_by}
+use Rattle.bq_seat.specs.SeatStands.{StandsFor, awaited}
 use Rattle.bq_serve.specs.ServingOne.{IsSettled, TakesStep}
-use Rattle.bq_serve.specs.declared.seat.machine.Action.TheVariants as actions
-use Rattle.bq_serve.specs.declared.seat.machine.SeatMachine.{SeatMachine}
+use Rattle.bq_seat.specs.declared.machine.Action.TheVariants as actions
+use Rattle.bq_seat.specs.declared.machine.SeatMachine.{SeatMachine}
 use Rattle.bq_serve.proofs.HistoryLemmas.{client_asks, client_closes, client_connects, client_ends, client_ticks, entry_at, record_more, steps_more}
-use Rattle.bq_serve.proofs.InTurnLemmas.{in_turn}
+use Rattle.bq_seat.proofs.InTurnLemmas.{in_turn}
 
 -- the step that is submitted comes in its turn
 turn_of_submit : (machine : SeatMachine) (p : Past) (taken : List Step) (step : Step) → awaited_by (actions.Submit step) ≡ Some (awaited machine) → p.steps ≡ taken ++ step ∷ [] → StandsFor machine p → IsInTurn step taken p.mail

@@ -17,14 +17,14 @@ use Rattle.bq_job.specs.Profile.{Profile}
 use Rattle.bq_job.specs.Reading.{AreUnits, IsPutRequest, IsUnit, IsUnitAfter, put_with_body}
 use Rattle.bq_job.specs.TubeName.{is_same_name}
 use Rattle.bq_job.specs.Words.{job_id, number, words}
-use Rattle.bq_serve.specs.Past.{Awaited, Past}
-use Rattle.bq_serve.specs.SeatStands.{StandsAt, awaited_at, end_if}
+use Rattle.bq_seat.specs.Past.{Awaited, Past}
+use Rattle.bq_seat.specs.SeatStands.{StandsAt, awaited_at, end_if}
 use Rattle.bq_wire.specs.Standing.{profile_of}
 use Rattle.bq_wire.specs.WordsSoFar.{words_so_far}
 use Rattle.bq_wire.specs.declared.state.State.{State}
-use Rattle.bq_serve.specs.declared.seat.machine.Stage.{Stage}
-use Rattle.bq_serve.specs.declared.seat.machine.Stage.TheVariants as stages
-use Rattle.bq_serve.proofs.InTurnLemmas.{ends_by, last_same}
+use Rattle.bq_seat.specs.declared.machine.Stage.{Stage}
+use Rattle.bq_seat.specs.declared.machine.Stage.TheVariants as stages
+use Rattle.bq_seat.proofs.InTurnLemmas.{ends_by, last_same}
 
 -- the commands that are known so far
 abbrev is_known : Option Command → Bool

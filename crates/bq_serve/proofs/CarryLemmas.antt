@@ -18,28 +18,28 @@ use Rattle.bq_job.specs.Machine.{Machine, Settings, new_machine}
 use Rattle.bq_job.specs.OneClient.{is_connected_at, owing}
 use Rattle.bq_job.specs.Profile.{Profile}
 use Rattle.bq_job.specs.Runs.{Entry}
-use Rattle.bq_serve.specs.InTurn.{IsInTurn}
+use Rattle.bq_seat.specs.InTurn.{IsInTurn, wanted}
 use Rattle.bq_serve.specs.LineCalls.{Tells, after_read, is_nothing_yet, new_line}
-use Rattle.bq_serve.specs.OneSeat.{IsClientAt, IsClosedClient, IsOpenClient, IsRecord, IsServedAlone, has_close, wanted}
-use Rattle.bq_serve.specs.Past.{Awaited, Past, answers, awaited_by, first_past, is_stray}
-use Rattle.bq_serve.specs.SeatMoves.{IsMove}
-use Rattle.bq_serve.specs.SeatStands.{StandsAt, awaited, awaited_at, end_if, seen_line}
+use Rattle.bq_serve.specs.OneSeat.{IsClientAt, IsClosedClient, IsOpenClient, IsRecord, IsServedAlone}
+use Rattle.bq_seat.specs.Past.{Awaited, Past, answers, awaited_by, first_past, has_close, is_stray}
+use Rattle.bq_seat.specs.SeatMoves.{IsMove}
+use Rattle.bq_seat.specs.SeatStands.{StandsAt, awaited, awaited_at, end_if, seen_line}
 use Rattle.bq_serve.specs.ServingOne.{IsNewServing, IsServing, IsSettled, TakesStep}
 use Rattle.bq_serve.specs.Writing.{BreaksOff, with_written}
 use Rattle.bq_serve.specs.declared.run.serving.Serving.{Serving}
-use Rattle.bq_serve.specs.declared.seat.machine.Action.{Action}
-use Rattle.bq_serve.specs.declared.seat.machine.Action.TheVariants as actions
-use Rattle.bq_serve.specs.declared.seat.machine.Event.TheVariants as events
-use Rattle.bq_serve.specs.declared.seat.machine.SeatMachine.{SeatMachine}
-use Rattle.bq_serve.specs.declared.seat.machine.Stage.{Stage}
-use Rattle.bq_serve.specs.declared.seat.machine.Stage.TheVariants as stages
+use Rattle.bq_seat.specs.declared.machine.Action.{Action}
+use Rattle.bq_seat.specs.declared.machine.Action.TheVariants as actions
+use Rattle.bq_seat.specs.declared.machine.Event.TheVariants as events
+use Rattle.bq_seat.specs.declared.machine.SeatMachine.{SeatMachine}
+use Rattle.bq_seat.specs.declared.machine.Stage.{Stage}
+use Rattle.bq_seat.specs.declared.machine.Stage.TheVariants as stages
 use Rattle.bq_wire.specs.declared.state.State.{State}
 use Rattle.bq_job.proofs.LawfulLemmas.{new_is_lawful}
 use Rattle.bq_serve.proofs.ArmLemmas.{history_with, stepped, ticked}
 use Rattle.bq_serve.proofs.EventLemmas.{cut_off, mailed, read_broken, read_end, read_nothing, read_some, retold, retold_bytes, retold_end, retold_fault, taken_at_fault, taken_at_mail, told_fault, writes_at_mail, writes_still, wrote}
 use Rattle.bq_serve.proofs.GoesOnLemmas.{goes_on, unbroken_at}
 use Rattle.bq_serve.proofs.HistoryLemmas.{served_alone, wanted_asked}
-use Rattle.bq_serve.proofs.InTurnLemmas.{few_missing, in_turn, wanted_asks, wanted_joined}
+use Rattle.bq_seat.proofs.InTurnLemmas.{few_missing, in_turn, wanted_asks, wanted_joined}
 
 -- a step in its turn finds one answer outstanding at most
 few_at_turn : (step : Step) (taken : List Step) (mail : List Answer) → IsInTurn step taken mail → wanted taken ≤ length mail + 1

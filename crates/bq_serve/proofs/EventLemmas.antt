@@ -14,9 +14,9 @@ use Rattle.bq_job.specs.Machine.{Machine, Settings}
 use Rattle.bq_job.specs.OneClient.{has_closed, is_closed_answer}
 use Rattle.bq_job.specs.Runs.{Entry}
 use Rattle.bq_serve.specs.LineCalls.{Tells, after_read, first_fault, is_nothing_yet, with_fault as with_line_fault}
-use Rattle.bq_serve.specs.OneSeat.{IsClientAt, IsRecord, IsWrittenSo, has_close}
-use Rattle.bq_serve.specs.Past.{Past, with_fault, with_mail}
-use Rattle.bq_serve.specs.SeatStands.{seen_line}
+use Rattle.bq_serve.specs.OneSeat.{IsClientAt, IsRecord, IsWrittenSo}
+use Rattle.bq_seat.specs.Past.{Past, has_close, with_fault, with_mail}
+use Rattle.bq_seat.specs.SeatStands.{seen_line}
 use Rattle.bq_serve.specs.ServingOne.{IsSettled}
 
 unclosed_first : (xs ys : List Answer) → has_closed (xs ++ ys) ≡ false → has_closed xs ≡ false

@@ -8,17 +8,17 @@ use Rattle.bq_job.specs.LineSteps.{LineSeen, answers_text}
 use Rattle.bq_job.specs.Machine.{Machine, Settings}
 use Rattle.bq_job.specs.Profile.{Profile}
 use Rattle.bq_job.specs.Runs.{Entry}
-use Rattle.bq_serve.specs.OneSeat.{IsWrittenSo, has_close}
-use Rattle.bq_serve.specs.Past.{Awaited, Past, answers, awaited_by, is_close, is_stray, past_after, with_action, with_event}
-use Rattle.bq_serve.specs.SeatMoves.{IfLineOver, IsMove}
-use Rattle.bq_serve.specs.SeatStands.{IsServed, StandsAt, StandsFor, awaited, awaited_at, seat_profile}
+use Rattle.bq_serve.specs.OneSeat.{IsWrittenSo}
+use Rattle.bq_seat.specs.Past.{Awaited, Past, answers, awaited_by, has_close, is_close, is_stray, past_after, with_action, with_event}
+use Rattle.bq_seat.specs.SeatMoves.{IfLineOver, IsMove}
+use Rattle.bq_seat.specs.SeatStands.{IsServed, StandsAt, StandsFor, awaited, awaited_at, seat_profile}
 use Rattle.bq_serve.specs.ServingOne.{AreTaken, IsServing, IsSettled, IsWrittenAt}
-use Rattle.bq_serve.specs.declared.seat.machine.Action.{Action}
-use Rattle.bq_serve.specs.declared.seat.machine.Action.TheVariants as actions
-use Rattle.bq_serve.specs.declared.seat.machine.Event.{Event}
-use Rattle.bq_serve.specs.declared.seat.machine.SeatMachine.{SeatMachine}
-use Rattle.bq_serve.specs.declared.seat.machine.Stage.{Stage}
-use Rattle.bq_serve.specs.declared.seat.machine.Stage.TheVariants as stages
+use Rattle.bq_seat.specs.declared.machine.Action.{Action}
+use Rattle.bq_seat.specs.declared.machine.Action.TheVariants as actions
+use Rattle.bq_seat.specs.declared.machine.Event.{Event}
+use Rattle.bq_seat.specs.declared.machine.SeatMachine.{SeatMachine}
+use Rattle.bq_seat.specs.declared.machine.Stage.{Stage}
+use Rattle.bq_seat.specs.declared.machine.Stage.TheVariants as stages
 use Rattle.bq_wire.specs.declared.state.State.{State}
 
 -- an answer is handed out for writing before any fault

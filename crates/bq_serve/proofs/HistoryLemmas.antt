@@ -26,10 +26,11 @@ use Rattle.bq_job.specs.Runs.{Entry, Run, answers_of_line, answers_to, begun_wit
 use Rattle.bq_job.specs.Steps.{IsStep, Outcome}
 use Rattle.bq_job.proofs.OneClientLemmas.{answers_append}
 use Rattle.bq_serve.specs.LineCalls.{Tells}
-use Rattle.bq_serve.specs.OneSeat.{IsClientAt, IsClosedClient, IsCutOff, IsFresh, IsLineOf, IsOpenClient, IsRecord, IsServedAlone, IsWrittenSo, has_close, last_heard, moment_heard, wanted}
-use Rattle.bq_serve.specs.Past.{Past, is_close}
-use Rattle.bq_serve.specs.SeatStands.{IsFaultOf, IsServed, end_if, has_quit, seen_line}
-use Rattle.bq_serve.proofs.ReadingLemmas.{neither}
+use Rattle.bq_serve.specs.OneSeat.{IsClientAt, IsClosedClient, IsCutOff, IsFresh, IsLineOf, IsOpenClient, IsRecord, IsServedAlone, IsWrittenSo, last_heard, moment_heard}
+use Rattle.bq_seat.specs.InTurn.{wanted}
+use Rattle.bq_seat.specs.Past.{Past, has_close, is_close}
+use Rattle.bq_seat.specs.SeatStands.{IsFaultOf, IsServed, end_if, has_quit, seen_line}
+use Rattle.bq_seat.proofs.ReadingLemmas.{neither}
 
 -- a step at the only seat
 abbrev pub entry_at : ℕ → Step → Entry

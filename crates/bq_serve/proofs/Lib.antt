@@ -3,13 +3,7 @@ pub mod BuiltLemmas
 pub mod CarryLemmas
 pub mod EventLemmas
 pub mod GoesOnLemmas
-pub mod GoingLemmas
 pub mod HistoryLemmas
-pub mod InTurnLemmas
-pub mod MoveLemmas
-pub mod OpenLemmas
 pub mod PartLemmas
-pub mod ReadingLemmas
 pub mod ReadingsLemmas
-pub mod StepLemmas
 pub mod WritingLemmas

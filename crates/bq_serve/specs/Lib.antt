@@ -1,13 +1,8 @@
 pub mod Doors
 pub mod FaultCodes
-pub mod InTurn
 pub mod LineCalls
 pub mod LineParts
 pub mod OneSeat
-pub mod Past
 pub mod ScriptPlace
-pub mod SeatMoves
-pub mod SeatParts
-pub mod SeatStands
 pub mod ServingOne
 pub mod Writing

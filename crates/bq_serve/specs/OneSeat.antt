@@ -1,23 +1,23 @@
 -- A run of one client, at the one seat of a machine.
 use Rattle.std.specs.Prelude.{ℕ, Bool, true, false, ◌≡◌, ◌+◌, ◌≤◌, ◌==◌, IsTrue, MatchBool, List, [], ◌∷◌, ◌++◌, map, max, Option, Some, None, length}
-use Rattle.std.specs.List.{list_all, list_any}
+use Rattle.std.specs.List.{list_all}
 use Rattle.bq_job.specs.declared.answer.Answer.{Answer}
 use Rattle.bq_job.specs.declared.answer.Answer.TheVariants.{Closed}
 use Rattle.bq_job.specs.declared.line_end.LineFault.{LineFault}
 use Rattle.bq_job.specs.declared.line_end.LineFault.TheVariants as faults
 use Rattle.bq_job.specs.declared.line_end.LineEnd.{LineEnd}
 use Rattle.bq_job.specs.declared.step.Step.{Step}
-use Rattle.bq_job.specs.declared.step.Step.TheVariants as steps
 use Rattle.bq_job.specs.AnswerText.{answer_text}
 use Rattle.bq_job.specs.Dispatch.{Given}
 use Rattle.bq_job.specs.History.{IsTimedBy, moments_heard, steps_at}
 use Rattle.bq_job.specs.Lawful.{IsLawful}
 use Rattle.bq_job.specs.LineSteps.{AreAllAnswered, IsBeginning, IsStepsOfLine, IsWritten, LineSeen, answers_text}
 use Rattle.bq_job.specs.Machine.{Machine, Settings, new_machine}
-use Rattle.bq_job.specs.OneClient.{answers_wanted, has_closed, is_connected_at, owing}
+use Rattle.bq_job.specs.OneClient.{has_closed, is_connected_at, owing}
 use Rattle.bq_job.specs.Profile.{Profile}
 use Rattle.bq_job.specs.Runs.{Entry, Run, answers_of_line, answers_to}
-use Rattle.bq_serve.specs.Past.{is_close}
+use Rattle.bq_seat.specs.InTurn.{wanted}
+use Rattle.bq_seat.specs.Past.{has_close}
 
 -- the moment that a reading stands for, after this one: none, or a smaller one, counts as the last
 abbrev pub moment_heard : ℕ → Option ℕ → ℕ
@@ -39,15 +39,6 @@ pub record IsRecord (settings : Settings) (history : List Entry) (readings : Lis
   pub lawful : IsLawful last
   pub alone : IsTrue (list_all (λ e. e.seat == 0) history)
   pub answers_are : answers_to 0 given ≡ answers
-
--- how many answers these steps want
-abbrev pub wanted : List Step → ℕ
-wanted [] = 0
-wanted (steps.Ask request ∷ taken) = answers_wanted request + wanted taken
-wanted (step ∷ taken) = wanted taken
-
-abbrev pub has_close : List Step → Bool
-has_close taken = list_any is_close taken
 
 -- nobody has connected yet
 pub record IsFresh (answers : List Answer) (core : Machine) : Type 0 where

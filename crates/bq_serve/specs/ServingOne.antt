@@ -15,15 +15,15 @@ use Rattle.bq_job.specs.Profile.{Profile, profile}
 use Rattle.bq_job.specs.Runs.{Entry, answers_to}
 use Rattle.bq_job.specs.Steps.{IsStep, Outcome}
 use Rattle.bq_serve.specs.LineCalls.{Tells}
-use Rattle.bq_serve.specs.OneSeat.{IsClientAt, IsRecord, IsWrittenSo, has_close, moment_heard}
-use Rattle.bq_serve.specs.Past.{Awaited, Past, awaited_by}
-use Rattle.bq_serve.specs.SeatMoves.{IfLineOver}
-use Rattle.bq_serve.specs.SeatStands.{IsServed, StandsFor, awaited, seat_profile, seen_line}
+use Rattle.bq_serve.specs.OneSeat.{IsClientAt, IsRecord, IsWrittenSo, moment_heard}
+use Rattle.bq_seat.specs.Past.{Awaited, Past, awaited_by, has_close}
+use Rattle.bq_seat.specs.SeatMoves.{IfLineOver}
+use Rattle.bq_seat.specs.SeatStands.{IsServed, StandsFor, awaited, seat_profile, seen_line}
 use Rattle.bq_wire.specs.WordsSoFar.{words_so_far}
 use Rattle.bq_serve.specs.declared.run.serving.Serving.{Serving}
-use Rattle.bq_serve.specs.declared.seat.machine.Action.{Action}
-use Rattle.bq_serve.specs.declared.seat.machine.Action.TheVariants as actions
-use Rattle.bq_serve.specs.declared.seat.machine.SeatMachine.{SeatMachine}
+use Rattle.bq_seat.specs.declared.machine.Action.{Action}
+use Rattle.bq_seat.specs.declared.machine.Action.TheVariants as actions
+use Rattle.bq_seat.specs.declared.machine.SeatMachine.{SeatMachine}
 
 -- The core took a step at a moment that it read from the clock, and its answers went into the mail.
 pub record TakesStep (core : Machine) (mail : List Answer) (heard : ℕ) (reading : Option ℕ) (what : Step) (next : Machine) (later : List Answer) (now_heard : ℕ) : Type 0 where

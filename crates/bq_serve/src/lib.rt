@@ -10,4 +10,3 @@ mod door;
 mod fault;
 pub mod line;
 mod run;
-pub mod seat;

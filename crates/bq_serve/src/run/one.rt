@@ -8,9 +8,9 @@ use super::serving::Serving;
 use crate::RunFault;
 use crate::clock::Clock;
 use crate::line::Line;
-use crate::seat::{Action, Event};
 use bq_core::Config;
 use bq_job::LineEnd;
+use bq_seat::{Action, Event};
 use std::alloc::Global;
 use std::sync::Wait;
 

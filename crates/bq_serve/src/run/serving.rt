@@ -6,9 +6,9 @@ use super::mail::{Mail, post};
 use crate::RunFault;
 use crate::clock::Clock;
 use crate::line::{Line, is_nothing_yet};
-use crate::seat::{Action, Event, SeatMachine};
 use bq_core::{Config, Core, CoreFault, Outs};
 use bq_job::{Answer, Moment, Seat, Step, steps_give_few_answers};
+use bq_seat::{Action, Event, SeatMachine};
 use std::alloc::Global;
 
 /// The seat of a lone client.

@@ -1,6 +1,6 @@
 use Rattle.std.proofs.Common.{◌∷◌, [], subst}
-use Rattle.bq_serve.specs.SeatMoves.{IsMove}
-use Rattle.bq_serve.specs.declared.seat.machine.Event.TheVariants as events
+use Rattle.bq_seat.specs.SeatMoves.{IsMove}
+use Rattle.bq_seat.specs.declared.machine.Event.TheVariants as events
 use Rattle.bq_serve.proofs.CarryLemmas.{look_on_mail, look_on_none, room_at_look}
 use Rattle.bq_serve.proofs.run.serving.Serving.look_at_mail.Goals as goal
 

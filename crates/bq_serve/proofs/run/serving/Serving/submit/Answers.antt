@@ -1,8 +1,8 @@
 use Rattle.std.proofs.Common.{◌≡◌, ◌∷◌, [], ◌∙◌, ap, subst}
-use Rattle.bq_serve.specs.Past.{Awaited}
-use Rattle.bq_serve.specs.SeatMoves.{IsMove}
-use Rattle.bq_serve.specs.SeatStands.{awaited}
-use Rattle.bq_serve.specs.declared.seat.machine.Event.TheVariants as events
+use Rattle.bq_seat.specs.Past.{Awaited}
+use Rattle.bq_seat.specs.SeatMoves.{IsMove}
+use Rattle.bq_seat.specs.SeatStands.{awaited}
+use Rattle.bq_seat.specs.declared.machine.Event.TheVariants as events
 use Rattle.bq_serve.proofs.BuiltLemmas.{built}
 use Rattle.bq_serve.proofs.CarryLemmas.{room_at_submit, submit_on}
 use Rattle.bq_serve.proofs.run.serving.Serving.submit.Goals as goal

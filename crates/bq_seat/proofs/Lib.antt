@@ -1,0 +1,6 @@
+pub mod GoingLemmas
+pub mod InTurnLemmas
+pub mod MoveLemmas
+pub mod OpenLemmas
+pub mod ReadingLemmas
+pub mod StepLemmas

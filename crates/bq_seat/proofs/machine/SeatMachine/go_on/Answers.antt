@@ -1,0 +1,11 @@
+use Rattle.std.proofs.Common.{refl}
+use Rattle.bq_seat.proofs.GoingLemmas as going
+use Rattle.bq_seat.proofs.machine.SeatMachine.go_on.Goals as goal
+
+pub returns-then-self : goal.returns-then-self
+returns-then-self c = going.by_result _ _ _ _ _ c.close.ensures.action c.close.ensures.after (going.goes_told c.args.self.now c.if-self.true)
+
+pub returns-in-Some : goal.returns-in-Some
+returns-in-Some c =
+    going.by_result _ _ _ _ _ c.ask.ensures.action c.ask.ensures.after
+    (going.goes_handed c.args.self.now _ _ _ _ _ _ c.if-self.false (rw c.feed-taken.ensures.limit refl) c.as_slice.ensures c.drop_front.ensures c.in-Some.is c.feed-taken.ensures.hands_out)

@@ -1,0 +1,32 @@
+-- When a seat machine submits a step.
+use Rattle.std.specs.Prelude.{ℕ, ◌≡◌, ◌+◌, ◌≤◌, Bool, false, List, [], ◌∷◌, ◌++◌, map, length}
+use Rattle.bq_job.specs.declared.answer.Answer.{Answer}
+use Rattle.bq_job.specs.declared.request.Request.{Request}
+use Rattle.bq_job.specs.declared.step.Step.{Step}
+use Rattle.bq_job.specs.declared.step.Step.TheVariants as steps
+use Rattle.bq_job.specs.OneClient.{answers_wanted}
+use Rattle.bq_seat.specs.SeatStands.{end_if, has_quit}
+
+-- how many answers these steps want
+abbrev pub wanted : List Step → ℕ
+wanted [] = 0
+wanted (steps.Ask request ∷ taken) = answers_wanted request + wanted taken
+wanted (step ∷ taken) = wanted taken
+
+-- a client that has connected and asked these requests, none of them quit
+pub record HasAsked (asked : List Request) (taken : List Step) : Type 0 where
+  pub steps_are : taken ≡ steps.Connect ∷ map steps.Ask asked
+  pub no_quit : has_quit asked ≡ false
+
+-- When a step is submitted, after the steps that were taken, and so much mail. A connect comes first. A
+-- request is asked once those before it are answered. An end is told, and a close comes, behind the
+-- connect and the requests; an end is told once. Then one answer at most is outstanding.
+abbrev pub IsInTurn : Step → List Step → List Answer → Type 0
+IsInTurn steps.Connect taken mail = taken ≡ []
+IsInTurn (steps.Ask request) taken mail = (asked : List Request) × HasAsked asked taken × (length mail ≡ length asked)
+IsInTurn steps.End taken mail = (asked : List Request) × HasAsked asked taken × (wanted taken ≤ length mail + 1)
+IsInTurn steps.Close taken mail =
+    (asked : List Request) × (told : Bool) × (taken ≡ (steps.Connect ∷ map steps.Ask asked) ++ end_if told) × (wanted taken ≤ length mail + 1)
+IsInTurn steps.Drain taken mail = ⊥
+IsInTurn steps.Tick taken mail = ⊥
+IsInTurn steps.Gone taken mail = ⊥

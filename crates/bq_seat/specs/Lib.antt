@@ -1,0 +1,5 @@
+pub mod InTurn
+pub mod Past
+pub mod SeatMoves
+pub mod SeatParts
+pub mod SeatStands

@@ -1,0 +1,346 @@
+ghost use Rattle.std.specs.Prelude.{◌≡◌, ◌≤◌, [], length, IfOk, if◌then◌else◌};
+ghost use Rattle.bq_seat.specs.SeatParts.{asking_stage};
+
+use crate::kept::Kept;
+use bq_job::laws_of_reading::every_text_is_read;
+use bq_job::{Answer, LineEnd, NoMemory, Request, Step};
+use bq_wire::RequestReader;
+use std::alloc::Global;
+
+/// What happened to a connection since the machine's last action.
+#[derive(Debug, Drop)]
+pub enum Event<'a> {
+    /// A line was opened.
+    Opened,
+    /// The step was submitted.
+    Submitted,
+    /// These bytes were read, 4,096 at most.
+    Bytes(&'a [u8]),
+    /// There was nothing to read, or no mail.
+    NothingYet,
+    /// The client sends no more.
+    EndOfInput,
+    /// A read of the line failed.
+    ReadFault,
+    /// This answer came.
+    Mail(Answer),
+    /// The answer was written whole.
+    WriteDone,
+    /// A write to the line failed.
+    WriteFault,
+}
+
+/// What to do next for a connection.
+#[derive(Debug, Drop)]
+pub enum Action {
+    /// Submit this step of the line.
+    Submit(Step),
+    /// Read from the line.
+    Read,
+    /// Look whether an answer has come.
+    PollMail,
+    /// Write the text of this answer to the line.
+    Write(Answer),
+    /// The line is over. The next one may be opened.
+    LineOver(LineEnd),
+    /// The event doesn't answer the last action, and nothing was changed.
+    Stray,
+}
+
+/// What the machine did last, and so which events answer it.
+#[derive(Clone, Copy, Debug, PartialEq, Eq)]
+enum Stage {
+    /// No line is open, and an opened one is awaited.
+    Between,
+    /// The client's connect is being submitted.
+    Connecting,
+    /// The line is being read, and nothing is outstanding.
+    Reading,
+    /// A request is being submitted. `waits` says that it is a reserve, whose answer may take long.
+    Asking { waits: bool },
+    /// The answer to a request is awaited.
+    Polling { waits: bool },
+    /// The line is being read while a reserve waits.
+    ReadingOn,
+    /// It is being submitted that the client sends no more.
+    TellingEnd,
+    /// An answer is being written.
+    Writing,
+    /// A quit is being submitted.
+    AskingQuit,
+    /// The close is being submitted.
+    Closing(LineEnd),
+    /// The close's own answer is awaited, and other mail is thrown away.
+    Leaving(LineEnd),
+}
+
+/// The decisions for one connection at a time. One machine serves line after line.
+#[derive(Drop)]
+pub struct SeatMachine {
+    reader: RequestReader,
+    /// Bytes that came behind the requests that were asked.
+    kept: Kept,
+    stage: Stage,
+    /// Whether it was submitted that the client sends no more.
+    end_told: bool,
+}
+
+impl SeatMachine {
+    ghost use Rattle.bq_job.specs.Profile.{profile};
+    ghost use Rattle.bq_seat.specs.Past.{Awaited};
+    ghost use Rattle.bq_seat.specs.SeatMoves.{FitsPiece, IsMove, LooksOn, reads_on};
+    ghost use Rattle.bq_seat.specs.SeatParts.{GoesOn, asking_stage, in_stage, is_closed};
+    ghost use Rattle.bq_seat.specs.SeatStands.{awaited, seat_profile};
+    ghost use Rattle.bq_wire.specs.WordsSoFar.{words_so_far};
+
+    /// A machine that awaits its first line. Bodies of more than `max_job_size` bytes, of 1 to 1,048,576,
+    /// are refused. All memory but that for bodies is asked for here.
+    pub fn new(alloc: Global, max_job_size: u32) -> Result<SeatMachine, NoMemory>
+        requires { (1 ≤ max_job_size) × (max_job_size ≤ 1048576) }
+        ensures awaits { IfOk result (λ machine. awaited machine ≡ Awaited.ALine) }
+        ensures profile { IfOk result (λ machine. seat_profile machine ≡ profile max_job_size words_so_far) }
+    {
+        let reader = RequestReader::new(alloc, max_job_size)?;
+        let kept = Kept::new(alloc)?;
+        Ok(SeatMachine {
+            reader,
+            kept,
+            stage: Stage::Between,
+            end_told: false,
+        })
+    }
+
+    /// What to do, now that this has happened. Takes no memory but for the body of a put.
+    ///
+    /// An event that doesn't answer the last action changes nothing, and the action is `Stray`. At most
+    /// 4,096 bytes are handed in at once.
+    pub fn on(&mut self, event: Event<'_>) -> Action
+        requires { FitsPiece event }
+        // It is stray exactly where it doesn't answer the last action, and then nothing changes. Each past
+        // of the line that the machine stands for goes on by this event and this action, and where the
+        // line is over it was served: its steps are the line's, its answers those that came.
+        ensures moves { IsMove self.old event.entry result self.new }
+        // While a reserve waits, the line is read on.
+        ensures looks { LooksOn event.entry self.old.stage self.old result }
+    {
+        match event {
+            Event::Opened => self.opened(),
+            Event::Submitted => self.submitted(),
+            Event::Bytes(bytes) => self.bytes(bytes),
+            Event::NothingYet => self.nothing_yet(),
+            Event::EndOfInput => self.end_of_input(),
+            Event::ReadFault => self.read_fault(),
+            Event::Mail(answer) => self.mail(answer),
+            Event::WriteDone => self.write_done(),
+            Event::WriteFault => self.write_fault(),
+        }
+    }
+
+    fn opened(&mut self) -> Action
+        ensures { IsMove self.old Event.Opened result self.new }
+    {
+        match self.stage {
+            Stage::Between => {
+                self.reader.restart();
+                self.kept.clear();
+                self.end_told = false;
+                self.stage = Stage::Connecting;
+                Action::Submit(Step::Connect)
+            }
+            _ => Action::Stray,
+        }
+    }
+
+    fn submitted(&mut self) -> Action
+        ensures { IsMove self.old Event.Submitted result self.new }
+    {
+        match self.stage {
+            Stage::Connecting => self.go_on(),
+            Stage::Asking { waits } => self.poll(waits),
+            Stage::TellingEnd => self.poll(true),
+            Stage::AskingQuit => self.close(LineEnd::Quit),
+            Stage::Closing(end) => self.leave(end),
+            _ => Action::Stray,
+        }
+    }
+
+    fn bytes(&mut self, bytes: &[u8]) -> Action
+        requires { length bytes.now ≤ 4096 }
+        ensures { IsMove self.old (Event.Bytes bytes.entry) result self.new }
+    {
+        match self.stage {
+            Stage::Reading => {
+                self.kept.replace(bytes);
+                self.go_on()
+            }
+            Stage::ReadingOn => {
+                self.kept.replace(bytes);
+                self.poll(true)
+            }
+            _ => Action::Stray,
+        }
+    }
+
+    fn nothing_yet(&mut self) -> Action
+        ensures moves { IsMove self.old Event.NothingYet result self.new }
+        ensures looks { LooksOn Event.NothingYet self.old.stage self.old result }
+    {
+        match self.stage {
+            Stage::Reading => Action::Read,
+            Stage::ReadingOn => self.poll(true),
+            Stage::Polling { waits } => self.no_mail_yet(waits),
+            Stage::Leaving(_) => Action::PollMail,
+            _ => Action::Stray,
+        }
+    }
+
+    fn end_of_input(&mut self) -> Action
+        ensures { IsMove self.old Event.EndOfInput result self.new }
+    {
+        match self.stage {
+            Stage::Reading => self.close(LineEnd::EndOfInput),
+            Stage::ReadingOn => {
+                self.end_told = true;
+                self.stage = Stage::TellingEnd;
+                Action::Submit(Step::End)
+            }
+            _ => Action::Stray,
+        }
+    }
+
+    fn read_fault(&mut self) -> Action
+        ensures { IsMove self.old Event.ReadFault result self.new }
+    {
+        match self.stage {
+            Stage::Reading => self.close(LineEnd::ReadFault),
+            Stage::ReadingOn => self.close(LineEnd::ReadFault),
+            _ => Action::Stray,
+        }
+    }
+
+    fn mail(&mut self, answer: Answer) -> Action
+        ensures { IsMove self.old (Event.Mail answer) result self.new }
+    {
+        match self.stage {
+            Stage::Polling { .. } => {
+                self.stage = Stage::Writing;
+                Action::Write(answer)
+            }
+            Stage::Leaving(end) => self.mail_after_close(end, &answer),
+            _ => Action::Stray,
+        }
+    }
+
+    fn write_done(&mut self) -> Action
+        ensures { IsMove self.old Event.WriteDone result self.new }
+    {
+        match self.stage {
+            Stage::Writing => self.go_on(),
+            _ => Action::Stray,
+        }
+    }
+
+    fn write_fault(&mut self) -> Action
+        ensures { IsMove self.old Event.WriteFault result self.new }
+    {
+        match self.stage {
+            Stage::Writing => {
+                // Only the contract needs it: what isn't asked any more has a reading too.
+                every_text_is_read();
+                self.close(LineEnd::WriteFault)
+            }
+            _ => Action::Stray,
+        }
+    }
+
+    // Nothing is outstanding: the next request of the bytes that are kept is asked. Where they have
+    // none, more is read, or the line is closed if the client sends no more.
+    fn go_on(&mut self) -> Action
+        ensures { GoesOn self.old result self.new }
+    {
+        if self.end_told {
+            return self.close(LineEnd::EndOfInput);
+        }
+        let (taken, request) = self.reader.feed(self.kept.as_slice());
+        self.kept.drop_front(taken);
+        match request {
+            None => {
+                self.stage = Stage::Reading;
+                Action::Read
+            }
+            Some(request) => self.ask(request),
+        }
+    }
+
+    fn ask(&mut self, request: Request) -> Action
+        ensures action { result ≡ Action.Submit (Step.Ask request) }
+        ensures after { self.new ≡ in_stage (asking_stage request) self.old }
+    {
+        self.stage = stage_of(&request);
+        Action::Submit(Step::Ask(request))
+    }
+
+    fn poll(&mut self, waits: bool) -> Action
+        ensures action { result ≡ Action.PollMail }
+        ensures after { self.new ≡ in_stage (Stage.Polling waits) self.old }
+    {
+        self.stage = Stage::Polling { waits };
+        Action::PollMail
+    }
+
+    // No answer has come yet: while a reserve waits, the line is read if no bytes are kept.
+    fn no_mail_yet(&mut self, waits: bool) -> Action
+        ensures action { result ≡ (if reads_on waits self.old then Action.Read else Action.PollMail) }
+        ensures after { self.new ≡ (if reads_on waits self.old then in_stage Stage.ReadingOn self.old else self.old) }
+    {
+        if waits && !self.end_told && self.kept.is_empty() {
+            self.stage = Stage::ReadingOn;
+            Action::Read
+        } else {
+            Action::PollMail
+        }
+    }
+
+    fn close(&mut self, end: LineEnd) -> Action
+        ensures action { result ≡ Action.Submit Step.Close }
+        ensures after { self.new ≡ in_stage (Stage.Closing end) self.old }
+    {
+        self.stage = Stage::Closing(end);
+        Action::Submit(Step::Close)
+    }
+
+    fn leave(&mut self, end: LineEnd) -> Action
+        ensures action { result ≡ Action.PollMail }
+        ensures after { self.new ≡ in_stage (Stage.Leaving end) self.old }
+    {
+        self.stage = Stage::Leaving(end);
+        Action::PollMail
+    }
+
+    // The close's own answer ends the line. Other mail is thrown away.
+    fn mail_after_close(&mut self, end: LineEnd, answer: &Answer) -> Action
+        ensures action { result ≡ (if is_closed answer.now then Action.LineOver end else Action.PollMail) }
+        ensures after { self.new ≡ (if is_closed answer.now then in_stage Stage.Between self.old else self.old) }
+    {
+        match answer {
+            Answer::Closed => {
+                self.stage = Stage::Between;
+                Action::LineOver(end)
+            }
+            _ => Action::PollMail,
+        }
+    }
+}
+
+fn stage_of(request: &Request) -> Stage
+    ensures { result ≡ asking_stage request.now }
+{
+    match request {
+        Request::Quit => Stage::AskingQuit,
+        Request::Reserve | Request::ReserveWithTimeout { .. } => Stage::Asking { waits: true },
+        _ => Stage::Asking { waits: false },
+    }
+}
+
+#[cfg(test)]
+mod tests;

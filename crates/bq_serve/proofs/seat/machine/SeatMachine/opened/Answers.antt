@@ -1,9 +1,0 @@
-use Rattle.std.proofs.Common.{refl}
-use Rattle.bq_serve.specs.declared.seat.machine.Stage.TheVariants as stages
-use Rattle.bq_serve.proofs.MoveLemmas as moves
-use Rattle.bq_serve.proofs.seat.machine.SeatMachine.opened.Goals as goal
-
-pub returns-in-Between : goal.returns-in-Between
-returns-in-Between c =
-    moves.from_stage _ _ _ _ stages.Between c.in-Between.is
-    (moves.opens c.args.self.now _ _ c.restart.ensures.stands (rw c.restart.ensures.limit refl) c.clear.ensures)

@@ -1,8 +1,0 @@
-use Rattle.bq_serve.specs.declared.seat.machine.Stage.TheVariants as stages
-use Rattle.bq_serve.proofs.MoveLemmas as moves
-use Rattle.bq_serve.proofs.seat.machine.SeatMachine.write_fault.Goals as goal
-
-pub returns-in-Writing : goal.returns-in-Writing
-returns-in-Writing c =
-    moves.by_result _ _ _ _ _ _ c.close.ensures.action c.close.ensures.after
-    (moves.from_stage _ _ _ _ stages.Writing c.in-Writing.is (moves.fault_in_writing c.args.self.now c.every_text_is_read.ensures))

@@ -1,9 +1,0 @@
-//! What a connection does next: a machine that is told what happened to a client's line, and answers
-//! what to do. It reads requests out of the line's bytes, submits the line's steps, and hands out the
-//! answers that come for it.
-
-pub use bq_job::LineEnd;
-pub use machine::{Action, Event, SeatMachine};
-
-mod kept;
-mod machine;
