@@ -1,17 +1,14 @@
 //! Serves one client of the work queue over standard input and output.
 #![tactic(auto)]
 
-mod chosen;
-mod command_line;
 mod console;
 
+use bq_cli::{OptionFault, Options, Program, options};
 use bq_core::Config;
 use bq_job::LineEnd;
 use bq_serve::clock::{MachineClock, ScriptClock};
 use bq_serve::line::IoLine;
 use bq_serve::{RunFault, run_one};
-use chosen::{OptionFault, Options, Program};
-use command_line::options;
 use console::Console;
 use std::alloc::{AllocError, Global};
 use std::process::ExitCode;

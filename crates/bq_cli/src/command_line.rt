@@ -1,6 +1,6 @@
 //! The options in the words of a command line.
 ghost use Rattle.std.specs.Prelude.{◌≤◌, IfOk};
-ghost use Rattle.bq.specs.Ranges.{AreInRange};
+ghost use Rattle.bq_cli.specs.Ranges.{AreInRange};
 
 use crate::chosen::{OptionFault, Options, Program};
 use clap::error::ErrorKind;

@@ -1,8 +1,8 @@
 -- The ranges of the options.
 use Rattle.std.specs.Prelude.{◌≡◌, ◌≤◌, None}
-use Rattle.bq.specs.declared.chosen.Options.{Options}
-use Rattle.bq.specs.declared.chosen.Program.{Program}
-use Rattle.bq.specs.declared.chosen.Program.TheVariants.{Bq}
+use Rattle.bq_cli.specs.declared.chosen.Options.{Options}
+use Rattle.bq_cli.specs.declared.chosen.Program.{Program}
+use Rattle.bq_cli.specs.declared.chosen.Program.TheVariants.{Bq}
 
 -- how many seats a program has: one where it serves a lone client
 abbrev pub AreSeats : Program → Options → Type 0
