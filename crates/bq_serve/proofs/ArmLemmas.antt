@@ -42,20 +42,20 @@ client_after steps.Gone taken mail answers core next given turn few c g = absurd
 joined_on : (a b c d : List Answer) → (a ++ (b ++ c)) ++ d ≡ a ++ (b ++ (c ++ d))
 joined_on a b c d = append_assoc a (b ++ c) d ∙ ap (λ x. a ++ x) (append_assoc b c d)
 
-module _ (settings : Settings) (tells : Bool) (core next : Machine) (mail later : List Answer) (heard now : ℕ) (seen : LineSeen) (readings : List (Option ℕ)) (reading : Option ℕ) (history : List Entry) (written : List ℕ) (what : Step) (p : Past) where
+module _ (settings : Settings) (core next : Machine) (mail later : List Answer) (heard now : ℕ) (seen : LineSeen) (readings : List (Option ℕ)) (reading : Option ℕ) (history : List Entry) (written : List ℕ) (what : Step) (p : Past) where
   -- the history with the step
   abbrev pub history_with : List Entry
   history_with = history ++ entry_at (moment_heard heard reading) what ∷ []
 
-  answers_with : IsSettled settings tells core mail heard seen readings history written p → (t : TakesStep core mail heard reading what next later now) → (p.mail ++ (p.late_mail ++ mail)) ++ answers_to 0 t.given ≡ p.mail ++ (p.late_mail ++ later)
+  answers_with : IsSettled settings core mail heard seen readings history written p → (t : TakesStep core mail heard reading what next later now) → (p.mail ++ (p.late_mail ++ mail)) ++ answers_to 0 t.given ≡ p.mail ++ (p.late_mail ++ later)
   answers_with s t = joined_on p.mail p.late_mail mail (answers_to 0 t.given) ∙ ap (λ m. p.mail ++ (p.late_mail ++ m)) (sym t.mail_is)
 
-  gives_here : core.settings.seats ≡ 1 → IsSettled settings tells core mail heard seen readings history written p → (t : TakesStep core mail heard reading what next later now) → GivesClient 0 core what t.given next
+  gives_here : core.settings.seats ≡ 1 → IsSettled settings core mail heard seen readings history written p → (t : TakesStep core mail heard reading what next later now) → GivesClient 0 core what t.given next
   gives_here one s t =
       let some : 0 < core.settings.seats = rw one (omega arith) in
       step_gives_client core next (moment_heard heard reading) 0 what t.outcome t.given s.recorded.lawful some t.step
 
-  settled_after : core.settings.seats ≡ 1 → (s : IsSettled settings tells core mail heard seen readings history written p) → (t : TakesStep core mail heard reading what next later now) → IsClientAt (steps_at 0 history_with) ((p.mail ++ (p.late_mail ++ mail)) ++ answers_to 0 t.given) next → IsSettled settings tells next later now seen (readings ++ reading ∷ []) history_with written p
+  settled_after : core.settings.seats ≡ 1 → (s : IsSettled settings core mail heard seen readings history written p) → (t : TakesStep core mail heard reading what next later now) → IsClientAt (steps_at 0 history_with) ((p.mail ++ (p.late_mail ++ mail)) ++ answers_to 0 t.given) next → IsSettled settings next later now seen (readings ++ reading ∷ []) history_with written p
   settled_after one s t client =
       let same = answers_with s t in
       let more = record_more settings history readings (p.mail ++ (p.late_mail ++ mail)) core next heard reading what t.outcome t.given s.recorded t.step t.lawful in
@@ -70,7 +70,7 @@ module _ (settings : Settings) (tells : Bool) (core next : Machine) (mail later 
       }
 
   -- time passed
-  pub ticked : what ≡ steps.Tick → core.settings.seats ≡ 1 → (s : IsSettled settings tells core mail heard seen readings history written p) → (t : TakesStep core mail heard reading what next later now) → IsSettled settings tells next later now seen (readings ++ reading ∷ []) history_with written p × (steps_at 0 history_with ≡ steps_at 0 history)
+  pub ticked : what ≡ steps.Tick → core.settings.seats ≡ 1 → (s : IsSettled settings core mail heard seen readings history written p) → (t : TakesStep core mail heard reading what next later now) → IsSettled settings next later now seen (readings ++ reading ∷ []) history_with written p × (steps_at 0 history_with ≡ steps_at 0 history)
   ticked tick one s t =
       let same : steps_at 0 history_with ≡ steps_at 0 history = steps_more history (moment_heard heard reading) what ∙ ap (λ w. if is_tick w then steps_at 0 history else steps_at 0 history ++ w ∷ []) tick in
       let gives : GivesClient 0 core steps.Tick t.given next = subst (λ w. GivesClient 0 core w t.given next) tick (gives_here one s t) in
@@ -78,7 +78,7 @@ module _ (settings : Settings) (tells : Bool) (core next : Machine) (mail later 
       (settled_after one s t (subst (λ steps. IsClientAt steps ((p.mail ++ (p.late_mail ++ mail)) ++ answers_to 0 t.given) next) (sym same) client), same)
 
   -- the machine's step was taken
-  pub stepped : (machine : SeatMachine) → awaited_by (actions.Submit what) ≡ Some (awaited machine) → StandsFor machine p → p.steps ≡ steps_at 0 history ++ what ∷ [] → core.settings.seats ≡ 1 → (s : IsSettled settings tells core mail heard seen readings history written p) → (t : TakesStep core mail heard reading what next later now) → IsSettled settings tells next later now seen (readings ++ reading ∷ []) history_with written p × (p.steps ≡ steps_at 0 history_with)
+  pub stepped : (machine : SeatMachine) → awaited_by (actions.Submit what) ≡ Some (awaited machine) → StandsFor machine p → p.steps ≡ steps_at 0 history ++ what ∷ [] → core.settings.seats ≡ 1 → (s : IsSettled settings core mail heard seen readings history written p) → (t : TakesStep core mail heard reading what next later now) → IsSettled settings next later now seen (readings ++ reading ∷ []) history_with written p × (p.steps ≡ steps_at 0 history_with)
   stepped machine awaits stands taken one s t =
       let turn = turn_of_submit machine p (steps_at 0 history) what awaits taken stands in
       let long = length-append p.mail (p.late_mail ++ mail) in

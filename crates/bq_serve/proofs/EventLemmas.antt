@@ -13,11 +13,12 @@ use Rattle.bq_job.specs.LineSteps.{IsBeginning, LineSeen, answers_text}
 use Rattle.bq_job.specs.Machine.{Machine, Settings}
 use Rattle.bq_job.specs.OneClient.{has_closed, is_closed_answer}
 use Rattle.bq_job.specs.Runs.{Entry}
-use Rattle.bq_serve.specs.LineCalls.{Tells, after_read, first_fault, is_nothing_yet, with_fault as with_line_fault}
+use Rattle.bq_serve.specs.LineCalls.{after_read, first_fault, is_nothing_yet, with_fault as with_line_fault}
 use Rattle.bq_serve.specs.OneSeat.{IsClientAt, IsRecord, IsWrittenSo}
 use Rattle.bq_seat.specs.Past.{Past, has_close, with_fault, with_mail}
 use Rattle.bq_seat.specs.SeatStands.{seen_line}
 use Rattle.bq_serve.specs.ServingOne.{IsSettled}
+use Rattle.bq_serve.proofs.SeenLemmas.{same_seen}
 
 unclosed_first : (xs ys : List Answer) → has_closed (xs ++ ys) ≡ false → has_closed xs ≡ false
 unclosed_first [] ys e = refl
@@ -32,8 +33,8 @@ unclosed_open : (taken : List Step) (answers : List Answer) (core : Machine) →
 unclosed_open [] answers core e c = ap has_closed c.none
 unclosed_open (step ∷ taken) answers core e c = (rw e at c).unclosed
 
-module _ (settings : Settings) (tells : Bool) (core : Machine) (heard : ℕ) (seen : LineSeen) (readings : List (Option ℕ)) (history : List Entry) (written : List ℕ) (p : Past) where
-  late_mailed : (a : Answer) (rest : List Answer) → p.closing ≡ true → IsSettled settings tells core (a ∷ rest) heard seen readings history written p → IsSettled settings tells core rest heard seen readings history written (record p { late_mail = p.late_mail ++ a ∷ [] })
+module _ (settings : Settings) (core : Machine) (heard : ℕ) (seen : LineSeen) (readings : List (Option ℕ)) (history : List Entry) (written : List ℕ) (p : Past) where
+  late_mailed : (a : Answer) (rest : List Answer) → p.closing ≡ true → IsSettled settings core (a ∷ rest) heard seen readings history written p → IsSettled settings core rest heard seen readings history written (record p { late_mail = p.late_mail ++ a ∷ [] })
   late_mailed a rest closing s =
       let same : p.mail ++ (p.late_mail ++ a ∷ rest) ≡ p.mail ++ ((p.late_mail ++ a ∷ []) ++ rest) = ap (λ x. p.mail ++ x) (sym (append_assoc p.late_mail (a ∷ []) rest)) in
       record {
@@ -45,7 +46,7 @@ module _ (settings : Settings) (tells : Bool) (core : Machine) (heard : ℕ) (se
         seen_is = s.seen_is;
       }
 
-  open_mailed : (a : Answer) (rest : List Answer) → p.closing ≡ false → p.steps ≡ steps_at 0 history → IsSettled settings tells core (a ∷ rest) heard seen readings history written p → IsSettled settings tells core rest heard seen readings history written (record p { mail = p.mail ++ a ∷ [] })
+  open_mailed : (a : Answer) (rest : List Answer) → p.closing ≡ false → p.steps ≡ steps_at 0 history → IsSettled settings core (a ∷ rest) heard seen readings history written p → IsSettled settings core rest heard seen readings history written (record p { mail = p.mail ++ a ∷ [] })
   open_mailed a rest open_still taken s =
       let none = s.late open_still in
       let same : p.mail ++ (p.late_mail ++ a ∷ rest) ≡ (p.mail ++ a ∷ []) ++ (p.late_mail ++ rest) =
@@ -62,10 +63,10 @@ module _ (settings : Settings) (tells : Bool) (core : Machine) (heard : ℕ) (se
       }
 
   -- an answer was taken out of the mail
-  pub mailed : (a : Answer) (rest : List Answer) → p.steps ≡ steps_at 0 history → IsSettled settings tells core (a ∷ rest) heard seen readings history written p → IsSettled settings tells core rest heard seen readings history written (with_mail a p)
+  pub mailed : (a : Answer) (rest : List Answer) → p.steps ≡ steps_at 0 history → IsSettled settings core (a ∷ rest) heard seen readings history written p → IsSettled settings core rest heard seen readings history written (with_mail a p)
   mailed a rest taken s = at p.closing refl
     where
-      at : (b : Bool) → p.closing ≡ b → IsSettled settings tells core rest heard seen readings history written (if b then record p { late_mail = p.late_mail ++ a ∷ [] } else record p { mail = p.mail ++ a ∷ [] })
+      at : (b : Bool) → p.closing ≡ b → IsSettled settings core rest heard seen readings history written (if b then record p { late_mail = p.late_mail ++ a ∷ [] } else record p { mail = p.mail ++ a ∷ [] })
       at true e = late_mailed a rest e s
       at false e = open_mailed a rest e taken s
 
@@ -78,28 +79,20 @@ or_true true = refl
 or_true false = refl
 
 -- bytes were read
-pub read_some : (tells : Bool) (old new : LineSeen) (written : List ℕ) (p : Past) (n : ℕ) (buf : List ℕ) → (n == 0) ≡ false → Tells tells new (after_read (Ok n) buf old) → Tells tells old (seen_line written p) → Tells tells new (seen_line written (record p { bytes = p.bytes ++ take n buf }))
-read_some tells old new written p n buf some r s = record {
-  ended = r.ended ∙ ap (λ b. old.ended || b) some ∙ or_false old.ended ∙ s.ended;
-  fault = r.fault ∙ s.fault;
-  read = λ t. r.read t ∙ ap (λ x. x ++ take n buf) (s.read t);
-  written = λ t. r.written t ∙ s.written t;
-}
+pub read_some : (old new : LineSeen) (written : List ℕ) (p : Past) (n : ℕ) (buf : List ℕ) → (n == 0) ≡ false → new ≡ after_read (Ok n) buf old → old ≡ seen_line written p → new ≡ seen_line written (record p { bytes = p.bytes ++ take n buf })
+read_some old new written p n buf some r s =
+    r ∙ ap (after_read (Ok n) buf) s
+    ∙ ap (λ e. record (seen_line written (record p { bytes = p.bytes ++ take n buf })) { ended = e }) (ap (λ b. p.ended || b) some ∙ or_false p.ended)
 
 -- the input has ended
-pub read_end : (tells : Bool) (old new : LineSeen) (written : List ℕ) (p : Past) (buf : List ℕ) → Tells tells new (after_read (Ok 0) buf old) → Tells tells old (seen_line written p) → Tells tells new (seen_line written (record p { ended = true }))
-read_end tells old new written p buf r s = record {
-  ended = r.ended ∙ or_true old.ended;
-  fault = r.fault ∙ s.fault;
-  read = λ t. r.read t ∙ append-nil old.read ∙ s.read t;
-  written = λ t. r.written t ∙ s.written t;
-}
+pub read_end : (old new : LineSeen) (written : List ℕ) (p : Past) (buf : List ℕ) → new ≡ after_read (Ok 0) buf old → old ≡ seen_line written p → new ≡ seen_line written (record p { ended = true })
+read_end old new written p buf r s =
+    r ∙ ap (after_read (Ok 0) buf) s ∙ same_seen _ (seen_line written (record p { ended = true })) (or_true p.ended) refl (append-nil p.bytes) refl
 
 -- there was nothing to read
-pub read_nothing : (tells : Bool) (old new : LineSeen) (written : List ℕ) (p : Past) (e : Error) (buf : List ℕ) → is_nothing_yet (error_kind e) ≡ true → Tells tells new (after_read (Err e) buf old) → Tells tells old (seen_line written p) → Tells tells new (seen_line written p)
-read_nothing tells old new written p e buf nothing r s =
-    let told : Tells tells new old = subst (Tells tells new) (ap (λ b. if b then old else with_line_fault faults.Read old) nothing) r in
-    record { ended = told.ended ∙ s.ended; fault = told.fault ∙ s.fault; read = λ t. told.read t ∙ s.read t; written = λ t. told.written t ∙ s.written t }
+pub read_nothing : (old new : LineSeen) (written : List ℕ) (p : Past) (e : Error) (buf : List ℕ) → is_nothing_yet (error_kind e) ≡ true → new ≡ after_read (Err e) buf old → old ≡ seen_line written p → new ≡ seen_line written p
+read_nothing old new written p e buf nothing r s =
+    r ∙ ap (λ b. if b then old else with_line_fault faults.Read old) nothing ∙ s
 
 fault_same : (fault : LineFault) (p : Past) → (with_fault fault p).fault ≡ first_fault p.fault fault
 fault_same fault p = at p.fault refl
@@ -117,36 +110,31 @@ fault_keeps fault p = at (is_some p.fault)
     at false = (refl, refl)
 
 -- the line told a fault after these bytes
-pub told_fault : (tells : Bool) (fault : LineFault) (old new : LineSeen) (written : List ℕ) (p : Past) → Tells tells new (with_line_fault fault old) → Tells tells old (seen_line written p) → Tells tells new (seen_line written (with_fault fault p))
-told_fault tells fault old new written p r s =
+pub told_fault : (fault : LineFault) (old new : LineSeen) (written : List ℕ) (p : Past) → new ≡ with_line_fault fault old → old ≡ seen_line written p → new ≡ seen_line written (with_fault fault p)
+told_fault fault old new written p r s =
     let keeps = fault_keeps fault p in
-    record {
-      ended = r.ended ∙ s.ended ∙ sym keeps.1;
-      fault = r.fault ∙ ap (λ o. first_fault o fault) s.fault ∙ sym (fault_same fault p);
-      read = λ t. r.read t ∙ s.read t ∙ sym keeps.0;
-      written = λ t. r.written t ∙ s.written t;
-    }
+    r ∙ ap (with_line_fault fault) s ∙ same_seen _ (seen_line written (with_fault fault p)) (sym keeps.1) (sym (fault_same fault p)) (sym keeps.0) refl
 
 -- a read failed
-pub read_broken : (tells : Bool) (old new : LineSeen) (written : List ℕ) (p : Past) (e : Error) (buf : List ℕ) → is_nothing_yet (error_kind e) ≡ false → Tells tells new (after_read (Err e) buf old) → Tells tells old (seen_line written p) → Tells tells new (seen_line written (with_fault faults.Read p))
-read_broken tells old new written p e buf broken r s =
-    told_fault tells faults.Read old new written p (subst (Tells tells new) (ap (λ b. if b then old else with_line_fault faults.Read old) broken) r) s
+pub read_broken : (old new : LineSeen) (written : List ℕ) (p : Past) (e : Error) (buf : List ℕ) → is_nothing_yet (error_kind e) ≡ false → new ≡ after_read (Err e) buf old → old ≡ seen_line written p → new ≡ seen_line written (with_fault faults.Read p)
+read_broken old new written p e buf broken r s =
+    told_fault faults.Read old new written p (r ∙ ap (λ b. if b then old else with_line_fault faults.Read old) broken) s
 
-module _ (settings : Settings) (tells : Bool) (core : Machine) (mail : List Answer) (heard : ℕ) (old new : LineSeen) (readings : List (Option ℕ)) (history : List Entry) (written more : List ℕ) (p : Past) where
+module _ (settings : Settings) (core : Machine) (mail : List Answer) (heard : ℕ) (old new : LineSeen) (readings : List (Option ℕ)) (history : List Entry) (written more : List ℕ) (p : Past) where
   -- only what the line tells has changed
-  pub retold : IsSettled settings tells core mail heard old readings history written p → Tells tells new (seen_line more p) → IsSettled settings tells core mail heard new readings history more p
+  pub retold : IsSettled settings core mail heard old readings history written p → new ≡ seen_line more p → IsSettled settings core mail heard new readings history more p
   retold s told = record { recorded = s.recorded; client = s.client; unclosed = s.unclosed; closing = s.closing; late = s.late; seen_is = told }
 
-  pub retold_bytes : (bytes : List ℕ) → IsSettled settings tells core mail heard old readings history written p → Tells tells new (seen_line more (record p { bytes = bytes })) → IsSettled settings tells core mail heard new readings history more (record p { bytes = bytes })
+  pub retold_bytes : (bytes : List ℕ) → IsSettled settings core mail heard old readings history written p → new ≡ seen_line more (record p { bytes = bytes }) → IsSettled settings core mail heard new readings history more (record p { bytes = bytes })
   retold_bytes bytes s told = record { recorded = s.recorded; client = s.client; unclosed = s.unclosed; closing = s.closing; late = s.late; seen_is = told }
 
-  pub retold_end : IsSettled settings tells core mail heard old readings history written p → Tells tells new (seen_line more (record p { ended = true })) → IsSettled settings tells core mail heard new readings history more (record p { ended = true })
+  pub retold_end : IsSettled settings core mail heard old readings history written p → new ≡ seen_line more (record p { ended = true }) → IsSettled settings core mail heard new readings history more (record p { ended = true })
   retold_end s told = record { recorded = s.recorded; client = s.client; unclosed = s.unclosed; closing = s.closing; late = s.late; seen_is = told }
 
-  pub retold_fault : (fault : LineFault) → IsSettled settings tells core mail heard old readings history written p → Tells tells new (seen_line more (with_fault fault p)) → IsSettled settings tells core mail heard new readings history more (with_fault fault p)
+  pub retold_fault : (fault : LineFault) → IsSettled settings core mail heard old readings history written p → new ≡ seen_line more (with_fault fault p) → IsSettled settings core mail heard new readings history more (with_fault fault p)
   retold_fault fault s told = at (is_some p.fault) told
     where
-      at : (b : Bool) → Tells tells new (seen_line more (if b then p else record p { fault = Some fault; written_at_fault = length p.written })) → IsSettled settings tells core mail heard new readings history more (if b then p else record p { fault = Some fault; written_at_fault = length p.written })
+      at : (b : Bool) → new ≡ seen_line more (if b then p else record p { fault = Some fault; written_at_fault = length p.written }) → IsSettled settings core mail heard new readings history more (if b then p else record p { fault = Some fault; written_at_fault = length p.written })
       at true t = record { recorded = s.recorded; client = s.client; unclosed = s.unclosed; closing = s.closing; late = s.late; seen_is = t }
       at false t = record { recorded = s.recorded; client = s.client; unclosed = s.unclosed; closing = s.closing; late = s.late; seen_is = t }
 

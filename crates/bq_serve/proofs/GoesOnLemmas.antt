@@ -52,8 +52,8 @@ none_of_both true b e = cc
 none_of_both false b e = refl
 
 -- what an action does to what is settled
-settled_with : (settings : Settings) (tells : Bool) (core : Machine) (mail : List Answer) (heard : ℕ) (seen : LineSeen) (readings : List (Option ℕ)) (history : List Entry) (written : List ℕ) (action : Action) (p : Past) → IsSettled settings tells core mail heard seen readings history written p → IsSettled settings tells core mail heard seen readings history written (with_action action p)
-settled_with settings tells core mail heard seen readings history written (actions.Submit step) p s = record {
+settled_with : (settings : Settings) (core : Machine) (mail : List Answer) (heard : ℕ) (seen : LineSeen) (readings : List (Option ℕ)) (history : List Entry) (written : List ℕ) (action : Action) (p : Past) → IsSettled settings core mail heard seen readings history written p → IsSettled settings core mail heard seen readings history written (with_action action p)
+settled_with settings core mail heard seen readings history written (actions.Submit step) p s = record {
   recorded = s.recorded;
   client = s.client;
   unclosed = s.unclosed;
@@ -61,11 +61,11 @@ settled_with settings tells core mail heard seen readings history written (actio
   late = λ e. s.late (none_of_both p.closing (is_close step) e);
   seen_is = s.seen_is;
 }
-settled_with settings tells core mail heard seen readings history written (actions.Write answer) p s = record { recorded = s.recorded; client = s.client; unclosed = s.unclosed; closing = s.closing; late = s.late; seen_is = s.seen_is }
-settled_with settings tells core mail heard seen readings history written actions.Read p s = s
-settled_with settings tells core mail heard seen readings history written actions.PollMail p s = s
-settled_with settings tells core mail heard seen readings history written (actions.LineOver end) p s = s
-settled_with settings tells core mail heard seen readings history written actions.Stray p s = s
+settled_with settings core mail heard seen readings history written (actions.Write answer) p s = record { recorded = s.recorded; client = s.client; unclosed = s.unclosed; closing = s.closing; late = s.late; seen_is = s.seen_is }
+settled_with settings core mail heard seen readings history written actions.Read p s = s
+settled_with settings core mail heard seen readings history written actions.PollMail p s = s
+settled_with settings core mail heard seen readings history written (actions.LineOver end) p s = s
+settled_with settings core mail heard seen readings history written actions.Stray p s = s
 
 taken_with : (action : Action) (p : Past) (taken : List Step) → p.steps ≡ taken → AreTaken action (with_action action p) taken
 taken_with (actions.Submit step) p taken e = ap (λ s. s ++ step ∷ []) e
@@ -107,12 +107,12 @@ over_with (actions.LineOver end) event old profile p same stands after h = λ wr
 over_with actions.Stray event old profile p same stands after h = tt
 
 -- The event happened, which the last action awaited; the machine goes on by this action.
-pub goes_on : (settings : Settings) (profile : Profile) (tells : Bool) (old new : SeatMachine) (core : Machine) (mail : List Answer) (heard : ℕ) (seen : LineSeen) (readings : List (Option ℕ)) (history : List Entry) (written : List ℕ) (event : Event) (action : Action) (p : Past)
+pub goes_on : (settings : Settings) (profile : Profile) (old new : SeatMachine) (core : Machine) (mail : List Answer) (heard : ℕ) (seen : LineSeen) (readings : List (Option ℕ)) (history : List Entry) (written : List ℕ) (event : Event) (action : Action) (p : Past)
     → IsMove old event action new → answers event (awaited old) ≡ true → StandsFor old p → seat_profile old ≡ profile
-    → IsSettled settings tells core mail heard seen readings history written (with_event event p) → (with_event event p).steps ≡ steps_at 0 history
+    → IsSettled settings core mail heard seen readings history written (with_event event p) → (with_event event p).steps ≡ steps_at 0 history
     → IsWrittenSo (with_event event p).fault (with_event event p).written written
-    → IsServing settings profile tells new core mail heard seen readings action
-goes_on settings profile tells old new core mail heard seen readings history written event action p move awaits stands same settled taken writes =
+    → IsServing settings profile new core mail heard seen readings action
+goes_on settings profile old new core mail heard seen readings history written event action p move awaits stands same settled taken writes =
     let q = with_event event p in
     let straight : is_stray action ≡ false = move.stray ∙ ap not awaits in
     let after : past_after event action p ≡ with_action action q = ap (λ b. if b then p else with_action action q) straight in
@@ -124,7 +124,7 @@ goes_on settings profile tells old new core mail heard seen readings history wri
       past = with_action action q;
       history = history;
       written = written;
-      settled = settled_with settings tells core mail heard seen readings history written action q settled;
+      settled = settled_with settings core mail heard seen readings history written action q settled;
       taken = taken_with action q (steps_at 0 history) taken;
       writes = writes_with action q written unbroken writes;
       stands = stands_new;

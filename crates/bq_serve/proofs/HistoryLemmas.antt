@@ -25,7 +25,6 @@ use Rattle.bq_job.specs.Reading.{Reads, is_quit}
 use Rattle.bq_job.specs.Runs.{Entry, Run, answers_of_line, answers_to, begun_with, by_connection}
 use Rattle.bq_job.specs.Steps.{IsStep, Outcome}
 use Rattle.bq_job.proofs.OneClientLemmas.{answers_append}
-use Rattle.bq_serve.specs.LineCalls.{Tells}
 use Rattle.bq_serve.specs.OneSeat.{IsClientAt, IsClosedClient, IsCutOff, IsFresh, IsLineOf, IsOpenClient, IsRecord, IsServedAlone, IsWrittenSo, last_heard, moment_heard}
 use Rattle.bq_seat.specs.InTurn.{wanted}
 use Rattle.bq_seat.specs.Past.{Past, has_close, is_close}
@@ -351,10 +350,7 @@ is_done ends.WriteFault asked mail early written fault a i f w =
     subst (λ (xs : List Answer). IsDone ends.WriteFault asked xs written) (nothing_after mail early (answered_count asked) a i)
     (record { answered = a; written_is = (cut.first, cut.last, cut.cut, cut.handed_is, cut.is_beginning, cut.written_is) })
 
-same_seen : (seen line : LineSeen) → seen.ended ≡ line.ended → seen.fault ≡ line.fault → seen.read ≡ line.read → seen.written ≡ line.written → seen ≡ line
-same_seen seen line e f r w = λ i. record { read = r i; written = w i; ended = e i; fault = f i }
-
--- a line that tells its bytes
+-- what the line tells is what the machine was told of it
 line_of : (profile : Profile) (over : LineEnd) (seen line : LineSeen) (given : List Given) (taken own : List Step) (own_is : IsStepsOfLine profile line over own) → seen ≡ line → taken ≡ own → IsDone over own_is.asked (answers_of_line 0 0 given) line.written → IsLineOf profile seen over given taken
 line_of profile over seen line given taken own l same is done = record {
   steps = record {
@@ -380,8 +376,8 @@ done_at over asked told given mail rest last written fault given_is none client 
     subst (λ (xs : List Answer). IsDone over asked xs written) (sym (line_answers given c.before (given_is ∙ c.answers_are) c.unclosed ∙ first.is)) done
 
 -- A line that is over was served alone: whatever the machine was told of it agrees with the one history.
-pub served_alone : (settings : Settings) (profile : Profile) (tells : Bool) (seen : LineSeen) (over : LineEnd) (history : List Entry) (readings : List (Option ℕ)) (rest : List Answer) (last : Machine) (moment : ℕ) (p : Past) (written : List ℕ) → IsRecord settings history readings (p.mail ++ rest) last moment → p.steps ≡ steps_at 0 history → IsClientAt (steps_at 0 history) (p.mail ++ rest) last → has_closed p.mail ≡ false → ((bytes : List ℕ) → IsServed profile bytes over p) → Tells tells seen (seen_line written p) → IsWrittenSo p.fault p.written written → IsServedAlone settings profile tells seen over readings
-served_alone settings profile tells seen over history readings rest last moment p written r steps_are client unclosed served told writes =
+pub served_alone : (settings : Settings) (profile : Profile) (seen : LineSeen) (over : LineEnd) (history : List Entry) (readings : List (Option ℕ)) (rest : List Answer) (last : Machine) (moment : ℕ) (p : Past) (written : List ℕ) → IsRecord settings history readings (p.mail ++ rest) last moment → p.steps ≡ steps_at 0 history → IsClientAt (steps_at 0 history) (p.mail ++ rest) last → has_closed p.mail ≡ false → ((bytes : List ℕ) → IsServed profile bytes over p) → seen ≡ seen_line written p → IsWrittenSo p.fault p.written written → IsServedAlone settings profile seen over readings
+served_alone settings profile seen over history readings rest last moment p written r steps_are client unclosed served told writes =
     let s = served written in
     let l = s.line in
     let writes_mail : IsWrittenSo p.fault p.mail written = subst (λ (xs : List Answer). IsWrittenSo p.fault xs written) s.handed_out writes in
@@ -394,5 +390,5 @@ served_alone settings profile tells seen over history readings rest last moment 
       runs = r.runs;
       timed = subst (λ (xs : List ℕ). ArePickedFrom xs (moments_heard 0 readings)) (sym r.timed) (picked_itself (moments_heard 0 readings));
       alone = r.alone;
-      line = λ tells_them. line_of profile over seen (seen_line written p) r.given (steps_at 0 history) p.steps l (same_seen seen (seen_line written p) told.ended told.fault (told.read tells_them) (told.written tells_them)) (sym steps_are) (done_at over l.asked l.told r.given p.mail rest last written p.fault r.answers_are none there unclosed s.answered s.fault writes_mail);
+      line = line_of profile over seen (seen_line written p) r.given (steps_at 0 history) p.steps l told (sym steps_are) (done_at over l.asked l.told r.given p.mail rest last written p.fault r.answers_are none there unclosed s.answered s.fault writes_mail);
     }

@@ -6,4 +6,5 @@ pub mod GoesOnLemmas
 pub mod HistoryLemmas
 pub mod PartLemmas
 pub mod ReadingsLemmas
+pub mod SeenLemmas
 pub mod WritingLemmas

@@ -1,10 +1,10 @@
 -- Parts of a line in memory that are over.
-use Rattle.std.proofs.Common.{◌≡◌, ◌<◌, ◌≤◌, ℕ, ◌+◌, ◌-◌, zero, suc, Bool, true, false, ◌||◌, ◌==◌, IfSome, min, List, [], ◌∷◌, ◌++◌, refl, ap, arith, append_assoc, length, take, drop, take-add, get_or, slice_get, nat_le}
+use Rattle.std.proofs.Common.{◌≡◌, ◌<◌, ◌≤◌, ℕ, ◌+◌, ◌-◌, zero, suc, Bool, true, false, ◌||◌, ◌==◌, IfSome, min, List, [], ◌∷◌, ◌++◌, refl, sym, ap, arith, append_assoc, length, take, drop, take-add, get_or, slice_get, nat_le}
 use Rattle.std.proofs.lemmas.Bool.Decides.{nat_tests}
 use Rattle.std.proofs.lemmas.Option.{slice_get_read}
 use Rattle.std.proofs.lemmas.Grind.{common_steps}
 use Rattle.std.proofs.lemmas.List.{take_all}
-use Rattle.bq_serve.specs.LineParts.{part_bytes, bytes_up_to, is_over}
+use Rattle.bq_serve.specs.LineParts.{part_bytes, bytes_up_to, is_over, open_place, over_count}
 use Rattle.bq_serve.specs.declared.line.mem_line.Part.{Part}
 use Rattle.bq_serve.specs.declared.line.mem_line.Part.TheVariants as parts
 
@@ -73,3 +73,22 @@ some_given all place from written n room part bytes is_open lt is part_is some n
     let below : from < length bytes = grind (arith, nat_tests) in
     let whole : length (take (length bytes - from) (drop from bytes)) ≡ length bytes - from = grind (arith, common_steps) in
     omega arith
+
+-- no part is passed behind the last one
+pub open_past : (all : List Part) (place offset written : ℕ) → length all ≤ place → open_place all place offset written ≡ place
+open_past all place offset written past = let none : drop place all ≡ [] = grind (arith, common_steps) in rw none (omega arith)
+
+drop_at : (all : List Part) (place : ℕ) (part : Part) → place < length all → part ≡ get_or all place part → drop place all ≡ part ∷ drop (suc place) all
+drop_at [] place part lt is = absurd (omega arith)
+drop_at (first ∷ more) zero part lt is = ap (λ p. p ∷ more) (sym is)
+drop_at (first ∷ more) (suc place) part lt is = drop_at more place part (omega arith) is
+
+-- a part that isn't over comes next
+pub open_here : (all : List Part) (place offset written : ℕ) (part : Part) → place < length all → part ≡ get_or all place part
+    → is_over offset written part ≡ false → open_place all place offset written ≡ place
+open_here all place offset written part lt is not_over = rw (drop_at all place part lt is, not_over) (omega arith)
+
+-- one that is over is passed
+pub open_next : (all : List Part) (place offset written : ℕ) (part : Part) → place < length all → part ≡ get_or all place part
+    → is_over offset written part ≡ true → open_place all (suc place) 0 written ≡ open_place all place offset written
+open_next all place offset written part lt is over = rw (drop_at all place part lt is, over) (omega arith)

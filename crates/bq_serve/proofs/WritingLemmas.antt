@@ -4,43 +4,30 @@ use Rattle.std.proofs.lemmas.Grind.{common_steps}
 use Rattle.std.proofs.lemmas.List.{take-append-drop}
 use Rattle.bq_job.specs.LineSteps.{LineSeen, IsBeginning}
 use Rattle.bq_job.specs.declared.line_end.LineFault.TheVariants as faults
-use Rattle.bq_serve.specs.LineCalls.{Tells, first_fault, with_fault}
+use Rattle.bq_serve.specs.LineCalls.{first_fault, with_fault}
 use Rattle.bq_serve.specs.Writing.{BreaksOff, Writes, with_written}
 
 -- a further part is written
-pub tells_more : (t : Bool) (old mid new : LineSeen) (first more : List ℕ) → Tells t mid (with_written first old)
-    → Tells t new (with_written more mid) → Tells t new (with_written (first ++ more) old)
-tells_more t old mid new first more m n = record {
-  ended = n.ended ∙ m.ended;
-  fault = n.fault ∙ m.fault;
-  read = λ told. n.read told ∙ m.read told;
-  written = λ told. n.written told ∙ ap (λ x. x ++ more) (m.written told) ∙ append_assoc old.written first more;
-}
+pub written_joined : (old mid new : LineSeen) (first more : List ℕ) → mid ≡ with_written first old
+    → new ≡ with_written more mid → new ≡ with_written (first ++ more) old
+written_joined old mid new first more m n =
+    n ∙ ap (with_written more) m ∙ ap (λ w. record old { written = w }) (append_assoc old.written first more)
 
 -- bytes of the rest are written
-pub tells_taken : (t : Bool) (old mid new : LineSeen) (bytes rest : List ℕ) (done n : ℕ) → Tells t mid (with_written (take done bytes) old)
-    → rest ≡ take (length bytes - done) (drop done bytes) → Tells t new (with_written (take n rest) mid)
-    → Tells t new (with_written (take (done + n) bytes) old)
-tells_taken t old mid new bytes rest done n m rest_is h =
+pub written_on : (old mid new : LineSeen) (bytes rest : List ℕ) (done n : ℕ) → mid ≡ with_written (take done bytes) old
+    → rest ≡ take (length bytes - done) (drop done bytes) → new ≡ with_written (take n rest) mid
+    → new ≡ with_written (take (done + n) bytes) old
+written_on old mid new bytes rest done n m rest_is h =
     let whole : take (length bytes - done) (drop done bytes) ≡ drop done bytes = grind (arith, common_steps) in
-    rw (take-add done n bytes, ← whole, ← rest_is) (tells_more t old mid new (take done bytes) (take n rest) m h)
+    rw (take-add done n bytes, ← whole, ← rest_is) (written_joined old mid new (take done bytes) (take n rest) m h)
 
 -- nothing more was written before the fault
-pub breaks_off : (t : Bool) (old mid new : LineSeen) (text cut : List ℕ) → IsBeginning cut text → Tells t mid (with_written cut old)
-    → Tells t new (with_fault faults.Write mid) → BreaksOff t text old new
-breaks_off t old mid new text cut begins m n = record {
-  cut = cut;
-  is_beginning = begins;
-  seen = record {
-    ended = n.ended ∙ m.ended;
-    fault = n.fault ∙ ap (λ f. first_fault f faults.Write) m.fault;
-    read = λ told. n.read told ∙ m.read told;
-    written = λ told. n.written told ∙ m.written told;
-  };
-}
+pub breaks_off : (old mid new : LineSeen) (text cut : List ℕ) → IsBeginning cut text → mid ≡ with_written cut old
+    → new ≡ with_fault faults.Write mid → BreaksOff text old new
+breaks_off old mid new text cut begins m n = record { cut = cut; is_beginning = begins; seen = n ∙ ap (with_fault faults.Write) m }
 
-pub tells_itself : (t : Bool) (line : LineSeen) → Tells t line (with_written [] line)
-tells_itself t line = record { ended = refl; fault = refl; read = λ told. refl; written = λ told. sym (append-nil line.written) }
+pub written_nothing : (line : LineSeen) → line ≡ with_written [] line
+written_nothing line = ap (λ w. record line { written = w }) (sym (append-nil line.written))
 
 pub take_begins : (n : ℕ) (bytes : List ℕ) → IsBeginning (take n bytes) bytes
 take_begins n bytes = (drop n bytes, sym (take-append-drop n bytes))
@@ -53,20 +40,17 @@ begins_second : (cut first more : List ℕ) → IsBeginning cut more → IsBegin
 begins_second cut first more b = (b.0, ap (λ x. first ++ x) b.1 ∙ sym (append_assoc first cut b.0))
 
 -- the first part breaks off
-pub breaks_first : (t : Bool) (old new : LineSeen) (first more : List ℕ) → BreaksOff t first old new → BreaksOff t (first ++ more) old new
-breaks_first t old new first more b = record { cut = b.cut; is_beginning = begins_first b.cut first more b.is_beginning; seen = b.seen }
+pub breaks_first : (old new : LineSeen) (first more : List ℕ) → BreaksOff first old new → BreaksOff (first ++ more) old new
+breaks_first old new first more b = record { cut = b.cut; is_beginning = begins_first b.cut first more b.is_beginning; seen = b.seen }
 
 -- the first part is written, and then another
-pub writes_more : (t : Bool) (old mid new : LineSeen) (first more : List ℕ) (whole : Bool) → Tells t mid (with_written first old)
-    → Writes t more mid new whole → Writes t (first ++ more) old new whole
-writes_more t old mid new first more true m w = tells_more t old mid new first more m w
-writes_more t old mid new first more false m w = record {
+pub writes_more : (old mid new : LineSeen) (first more : List ℕ) (whole : Bool) → mid ≡ with_written first old
+    → Writes more mid new whole → Writes (first ++ more) old new whole
+writes_more old mid new first more true m w = written_joined old mid new first more m w
+writes_more old mid new first more false m w = record {
   cut = first ++ w.cut;
   is_beginning = begins_second w.cut first more w.is_beginning;
-  seen = record {
-    ended = w.seen.ended ∙ m.ended;
-    fault = w.seen.fault ∙ ap (λ f. first_fault f faults.Write) m.fault;
-    read = λ told. w.seen.read told ∙ m.read told;
-    written = λ told. w.seen.written told ∙ ap (λ x. x ++ w.cut) (m.written told) ∙ append_assoc old.written first w.cut;
-  };
+  seen =
+      w.seen ∙ ap (λ l. with_fault faults.Write (with_written w.cut l)) m
+      ∙ ap (λ x. with_fault faults.Write (record old { written = x })) (append_assoc old.written first w.cut);
 }

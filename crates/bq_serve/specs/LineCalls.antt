@@ -8,13 +8,6 @@ use Rattle.bq_job.specs.declared.line_end.LineFault.{LineFault}
 use Rattle.bq_job.specs.declared.line_end.LineFault.TheVariants as faults
 use Rattle.bq_job.specs.LineSteps.{LineSeen}
 
--- A line tells this of itself: the marks, and where it tells them, the bytes.
-pub record Tells (tells_bytes : Bool) (told line : LineSeen) : Type 0 where
-  pub ended : told.ended ≡ line.ended
-  pub fault : told.fault ≡ line.fault
-  pub read : IsTrue tells_bytes → told.read ≡ line.read
-  pub written : IsTrue tells_bytes → told.written ≡ line.written
-
 -- a line on which nothing was done
 abbrev pub new_line : LineSeen
 new_line = record { read = []; written = []; ended = false; fault = None }

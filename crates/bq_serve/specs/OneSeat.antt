@@ -90,13 +90,13 @@ pub record IsLineOf (profile : Profile) (seen : LineSeen) (over : LineEnd) (give
 
 -- One client was served. There is one history of steps, each at the moment of one of the clock's readings,
 -- in their order, and all of them at the client's seat but for ticks. The machine takes it from the start.
--- Where the line tells its bytes, the steps are those of the line, each request was answered, and the
--- line was written exactly what it was owed.
-pub record IsServedAlone (settings : Settings) (profile : Profile) (tells_bytes : Bool) (seen : LineSeen) (over : LineEnd) (readings : List (Option ℕ)) : Type 0 where
+-- The steps are those of the line, each request was answered, and the line was written exactly what it was
+-- owed.
+pub record IsServedAlone (settings : Settings) (profile : Profile) (seen : LineSeen) (over : LineEnd) (readings : List (Option ℕ)) : Type 0 where
   pub history : List Entry
   pub given : List Given
   pub last : Machine
   pub runs : Run (new_machine settings) history given last
   pub timed : IsTimedBy readings history
   pub alone : IsTrue (list_all (λ e. e.seat == 0) history)
-  pub line : IsTrue tells_bytes → IsLineOf profile seen over given (steps_at 0 history)
+  pub line : IsLineOf profile seen over given (steps_at 0 history)

@@ -14,7 +14,6 @@ use Rattle.bq_job.specs.OneClient.{has_closed}
 use Rattle.bq_job.specs.Profile.{Profile, profile}
 use Rattle.bq_job.specs.Runs.{Entry, answers_to}
 use Rattle.bq_job.specs.Steps.{IsStep, Outcome}
-use Rattle.bq_serve.specs.LineCalls.{Tells}
 use Rattle.bq_serve.specs.OneSeat.{IsClientAt, IsRecord, IsWrittenSo, moment_heard}
 use Rattle.bq_seat.specs.Past.{Awaited, Past, awaited_by, has_close}
 use Rattle.bq_seat.specs.SeatMoves.{IfLineOver}
@@ -46,20 +45,20 @@ IsWrittenAt (actions.Write answer) p written = (first : List Answer) × (p.writt
 IsWrittenAt _ p written = IsWrittenSo p.fault p.written written
 
 -- what a run has settled, but for the action that is carried out
-pub record IsSettled (settings : Settings) (tells : Bool) (core : Machine) (mail : List Answer) (heard : ℕ) (seen : LineSeen) (readings : List (Option ℕ)) (history : List Entry) (written : List ℕ) (p : Past) : Type 0 where
+pub record IsSettled (settings : Settings) (core : Machine) (mail : List Answer) (heard : ℕ) (seen : LineSeen) (readings : List (Option ℕ)) (history : List Entry) (written : List ℕ) (p : Past) : Type 0 where
   pub recorded : IsRecord settings history readings (p.mail ++ (p.late_mail ++ mail)) core heard
   pub client : IsClientAt (steps_at 0 history) (p.mail ++ (p.late_mail ++ mail)) core
   pub unclosed : has_closed p.mail ≡ false
   pub closing : p.closing ≡ has_close p.steps
   pub late : p.closing ≡ false → p.late_mail ≡ []
-  pub seen_is : Tells tells seen (seen_line written p)
+  pub seen_is : seen ≡ seen_line written p
 
 -- a run that carries out an action
-pub record IsServing (settings : Settings) (profile : Profile) (tells : Bool) (machine : SeatMachine) (core : Machine) (mail : List Answer) (heard : ℕ) (seen : LineSeen) (readings : List (Option ℕ)) (action : Action) : Type 0 where
+pub record IsServing (settings : Settings) (profile : Profile) (machine : SeatMachine) (core : Machine) (mail : List Answer) (heard : ℕ) (seen : LineSeen) (readings : List (Option ℕ)) (action : Action) : Type 0 where
   pub past : Past
   pub history : List Entry
   pub written : List ℕ
-  pub settled : IsSettled settings tells core mail heard seen readings history written past
+  pub settled : IsSettled settings core mail heard seen readings history written past
   pub taken : AreTaken action past (steps_at 0 history)
   pub writes : IsWrittenAt action past written
   pub stands : StandsFor machine past
@@ -68,13 +67,13 @@ pub record IsServing (settings : Settings) (profile : Profile) (tells : Bool) (m
   -- a line that is over was served
   pub over : IfLineOver action (λ end. (bytes : List ℕ) → IsServed profile bytes end past)
 
--- What carrying an action out comes to, for a line that tells so much before and after, and these readings
--- of the clock meanwhile: whatever the run was, it goes on by the next action.
-abbrev pub CarriesOn : Bool → LineSeen → LineSeen → Serving → Action → Serving → Action → List (Option ℕ) → Type 0
-CarriesOn tells seen later old action new next reads =
+-- What carrying an action out comes to, for what the line tells before and after, and these readings of the
+-- clock meanwhile: whatever the run was, it goes on by the next action.
+abbrev pub CarriesOn : LineSeen → LineSeen → Serving → Action → Serving → Action → List (Option ℕ) → Type 0
+CarriesOn seen later old action new next reads =
     (settings : Settings) (profile : Profile) (readings : List (Option ℕ))
-    → IsServing settings profile tells old.machine old.core old.mail old.heard seen readings action
-    → IsServing settings profile tells new.machine new.core new.mail new.heard later (readings ++ reads) next
+    → IsServing settings profile old.machine old.core old.mail old.heard seen readings action
+    → IsServing settings profile new.machine new.core new.mail new.heard later (readings ++ reads) next
 
 -- There is room for what a step of one seat gives.
 pub record IsRoomy (serving : Serving) : Type 0 where
@@ -85,10 +84,9 @@ pub record IsRoomy (serving : Serving) : Type 0 where
 pub record IsUnderWay (serving : Serving) (action : Action) : Type 0 where
   pub settings : Settings
   pub profile : Profile
-  pub tells : Bool
   pub seen : LineSeen
   pub readings : List (Option ℕ)
-  pub serves : IsServing settings profile tells serving.machine serving.core serving.mail serving.heard seen readings action
+  pub serves : IsServing settings profile serving.machine serving.core serving.mail serving.heard seen readings action
   pub known : profile.known ≡ words_so_far
 
 -- one seat, and a bound on bodies that is in its range

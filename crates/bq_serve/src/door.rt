@@ -38,7 +38,7 @@ pub trait Door {
     fn open(&mut self) -> Result<Option<Self::Line>, DoorFault>
         requires inside { is_out self.old ≡ false }
         requires more { is_at_end self.old ≡ false }
-        ensures opened { IsOpened Self.Line.tells_bytes Self.Line.seen (is_out self.new) (is_at_end self.new) result }
+        ensures opened { IsOpened Self.Line.seen (is_out self.new) (is_at_end self.new) result }
         ensures over { lines_over self.new ≡ lines_over self.old };
 
     /// Takes the line back that is out. It was over in this way.

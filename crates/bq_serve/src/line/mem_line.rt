@@ -1,10 +1,8 @@
-ghost use Rattle.std.specs.Prelude.{◌≡◌, ◌≤◌, ◌<◌, ◌+◌, ◌-◌, length, vec_len, min, take, slice_get, IfOk, IfErr, IsErr, IfSome, Some, false, true};
+ghost use Rattle.std.specs.Prelude.{◌≡◌, ◌≤◌, ◌<◌, ◌+◌, length, vec_len, min, take, slice_get, IfOk, IsOk, IsErr, IfSome, false, true};
 ghost use Rattle.std.specs.Io.{ReadsAtMost, WritesAtMost};
-ghost use Rattle.std.specs.IoError.{error_kind};
-ghost use Rattle.bq_serve.specs.declared.line.mem_line.Part.TheVariants as parts;
 ghost use Rattle.std.specs.Vec.{vec_capacity};
-ghost use Rattle.bq_serve.specs.LineCalls.{Tells, after_read, after_write, is_nothing_yet, new_line};
-ghost use Rattle.bq_serve.specs.LineParts.{bytes_up_to, is_over};
+ghost use Rattle.bq_serve.specs.LineCalls.{after_flush, after_read, after_write, new_line};
+ghost use Rattle.bq_serve.specs.LineParts.{IsAnsweredBy, bytes_up_to, is_over, open_place, place_after};
 
 use super::{Line, note_fault};
 use bq_job::{LineFault, NoMemory};
@@ -46,7 +44,8 @@ impl MemLine {
     pub fn new(alloc: Global, parts: Vec<Part, Global>, room: usize) -> Result<MemLine, NoMemory>
         ensures parts { IfOk result (λ line. line.parts ≡ parts) }
         ensures room { IfOk result (λ line. line.room ≡ room) }
-        ensures unused { IfOk result (λ line. Tells true (⟦<MemLine as Line>⟧.seen line) new_line) }
+        ensures unused { IfOk result (λ line. ⟦<MemLine as Line>⟧.seen line ≡ new_line) }
+        ensures at_first { IfOk result (λ line. (line.place ≡ 0) × (line.offset ≡ 0)) }
     {
         match Vec::with_capacity(alloc, room) {
             Ok(written) => Ok(MemLine {
@@ -73,14 +72,15 @@ impl MemLine {
 impl Line for MemLine {
     ghost seen = { λ line. record { read = bytes_up_to line.parts.items line.place line.offset; written = line.written.items; ended = line.ended; fault = line.fault } };
 
-    ghost tells_bytes = { true };
-
     fn read(&mut self, buf: &mut [u8]) -> io::Result<usize>
         requires { 0 < length buf.old }
         ensures bound { ReadsAtMost result buf.new }
-        ensures seen { Tells true (⟦<MemLine as Line>⟧.seen self.new) (after_read result buf.new (⟦<MemLine as Line>⟧.seen self.old)) }
-        // Only a part that is a fault gives one, and is passed then.
-        ensures faults { IfErr result (λ e. is_nothing_yet (error_kind e) ≡ false → slice_get self.old.parts.items (self.new.place - 1) ≡ Some parts.Fault) }
+        ensures seen { ⟦<MemLine as Line>⟧.seen self.new ≡ after_read result buf.new (⟦<MemLine as Line>⟧.seen self.old) }
+        // The first part that isn't over answers, and no other is passed.
+        ensures answered { IsAnsweredBy (slice_get self.old.parts.items (open_place self.old.parts.items self.old.place self.old.offset (vec_len self.old.written))) result }
+        ensures place { self.new.place ≡ place_after (slice_get self.old.parts.items (open_place self.old.parts.items self.old.place self.old.offset (vec_len self.old.written))) (open_place self.old.parts.items self.old.place self.old.offset (vec_len self.old.written)) }
+        ensures parts { self.new.parts ≡ self.old.parts }
+        ensures room { self.new.room ≡ self.old.room }
     {
         let (place, offset) = next_open(&self.parts, self.place, self.offset, self.written.len());
         self.place = place;
@@ -108,9 +108,11 @@ impl Line for MemLine {
     fn write(&mut self, buf: &[u8]) -> io::Result<usize>
         requires { 0 < length buf.now }
         ensures bound { WritesAtMost result buf.now }
-        ensures seen { Tells true (⟦<MemLine as Line>⟧.seen self.new) (after_write result buf.now (⟦<MemLine as Line>⟧.seen self.old)) }
-        // Only where no byte fits is there a fault.
-        ensures full { IsErr result → self.old.room ≡ 0 }
+        ensures seen { ⟦<MemLine as Line>⟧.seen self.new ≡ after_write result buf.now (⟦<MemLine as Line>⟧.seen self.old) }
+        // As many bytes as fit are taken. Only where none does is there a fault.
+        ensures taken { IfOk result (λ count. (count ≡ min (length buf.now) self.old.room) × (self.new.room + count ≡ self.old.room)) }
+        ensures full { IsErr result → (self.old.room ≡ 0) × (self.new.room ≡ 0) }
+        ensures parts { (self.new.parts ≡ self.old.parts) × (self.new.place ≡ self.old.place) × (self.new.offset ≡ self.old.offset) }
     {
         let count = buf.len().min(self.room);
         if count == 0 {
@@ -122,7 +124,10 @@ impl Line for MemLine {
         Ok(count)
     }
 
-    fn flush(&mut self) -> io::Result<()> {
+    fn flush(&mut self) -> io::Result<()>
+        ensures seen { ⟦<MemLine as Line>⟧.seen self.new ≡ after_flush result (⟦<MemLine as Line>⟧.seen self.old) }
+        ensures nothing { IsOk result × (self.new ≡ self.old) }
+    {
         Ok(())
     }
 }
@@ -142,7 +147,7 @@ fn is_over(part: &Part, offset: usize, written: usize) -> bool
 fn next_open(parts: &[Part], place: usize, offset: usize, written: usize) -> (usize, usize)
     ensures same { bytes_up_to parts.now result.0 result.1 ≡ bytes_up_to parts.now place offset }
     ensures open { IfSome (slice_get parts.now result.0) (λ part. is_over result.1 written part ≡ false) }
-    ensures none_skipped { place ≤ result.0 }
+    ensures place { result.0 ≡ open_place parts.now place offset written }
 {
     let mut at = place;
     let mut from = offset;

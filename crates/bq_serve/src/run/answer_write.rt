@@ -12,7 +12,7 @@ const END_ROOM: usize = 256;
 
 /// Writes the text of an answer and sends it off. Whether all of it was written.
 pub fn write_answer<L: Line>(line: &mut L, answer: &Answer) -> bool
-    ensures { Writes L.tells_bytes (answer_text answer.now) (L.seen line.old) (L.seen line.new) result }
+    ensures { Writes (answer_text answer.now) (L.seen line.old) (L.seen line.new) result }
 {
     if !write_text(line, answer) {
         return false;
@@ -25,7 +25,7 @@ pub fn write_answer<L: Line>(line: &mut L, answer: &Answer) -> bool
 
 // The parts of a text that is short go out in one write, and those of a longer one after one another.
 fn write_text<L: Line>(line: &mut L, answer: &Answer) -> bool
-    ensures { Writes L.tells_bytes (answer_text answer.now) (L.seen line.old) (L.seen line.new) result }
+    ensures { Writes (answer_text answer.now) (L.seen line.old) (L.seen line.new) result }
 {
     let mut head_room = HeadBuf::new();
     answer_head(answer, &mut head_room);
@@ -48,7 +48,7 @@ fn are_short(head: &[u8], body: &[u8], tail: &[u8]) -> bool
 
 fn write_joined<L: Line>(line: &mut L, head: &[u8], body: &[u8], tail: &[u8]) -> bool
     requires { length head.now + length body.now + length tail.now ≤ 4096 }
-    ensures { Writes L.tells_bytes (head.now ++ body.now ++ tail.now) (L.seen line.old) (L.seen line.new) result }
+    ensures { Writes (head.now ++ body.now ++ tail.now) (L.seen line.old) (L.seen line.new) result }
 {
     let mut joined = Joined::new();
     joined.push(head);
@@ -58,7 +58,7 @@ fn write_joined<L: Line>(line: &mut L, head: &[u8], body: &[u8], tail: &[u8]) ->
 }
 
 fn write_parts<L: Line>(line: &mut L, head: &[u8], body: &[u8], tail: &[u8]) -> bool
-    ensures { Writes L.tells_bytes (head.now ++ body.now ++ tail.now) (L.seen line.old) (L.seen line.new) result }
+    ensures { Writes (head.now ++ body.now ++ tail.now) (L.seen line.old) (L.seen line.new) result }
 {
     if !write_all(line, head) {
         return false;
@@ -71,7 +71,7 @@ fn write_parts<L: Line>(line: &mut L, head: &[u8], body: &[u8], tail: &[u8]) -> 
 
 // Writes until all bytes are taken or a write fails.
 fn write_all<L: Line>(line: &mut L, bytes: &[u8]) -> bool
-    ensures { Writes L.tells_bytes bytes.now (L.seen line.old) (L.seen line.new) result }
+    ensures { Writes bytes.now (L.seen line.old) (L.seen line.new) result }
 {
     let mut done = 0;
     while done < bytes.len() {

@@ -1,6 +1,6 @@
-ghost use Rattle.std.specs.Prelude.{◌↔◌, List, Option, ℕ, IfOk, IsErrOf, IsTrue, not};
+ghost use Rattle.std.specs.Prelude.{◌≡◌, ◌↔◌, List, Option, ℕ, IfOk, IsErrOf, IsTrue, not};
 ghost use Rattle.bq_core.specs.State.{settings_of};
-ghost use Rattle.bq_serve.specs.LineCalls.{Tells, new_line};
+ghost use Rattle.bq_serve.specs.LineCalls.{new_line};
 ghost use Rattle.bq_serve.specs.OneSeat.{IsServedAlone};
 ghost use Rattle.bq_serve.specs.ServingOne.{is_lone, profile_so_far};
 
@@ -35,10 +35,11 @@ pub fn run_one<R: Wait, L: Line + Drop, C: Clock + Drop>(
     mut clock: C,
 ) -> Result<One<L, C>, RunFault>
     // Nothing was done on the line yet.
-    requires new { Tells L.tells_bytes (L.seen line) new_line }
+    requires new { L.seen line ≡ new_line }
     // There is one history of the client's steps, each at the moment of a reading of the clock. The
-    // one-list machine takes it, and where the line tells its bytes, they are what the client is owed.
-    ensures served { IfOk result (λ one. (readings : List (Option ℕ)) × C.given clock readings one.clock × IsServedAlone (settings_of config) (profile_so_far config) L.tells_bytes (L.seen one.line) one.end readings) }
+    // one-list machine takes it; its steps are those of the bytes that were read, each request was
+    // answered, and the line was written exactly what the client is owed.
+    ensures served { IfOk result (λ one. (readings : List (Option ℕ)) × C.given clock readings one.clock × IsServedAlone (settings_of config) (profile_so_far config) (L.seen one.line) one.end readings) }
     ensures bad_configuration { IsErrOf result RunFault.BadConfiguration ↔ IsTrue (not (is_lone config)) }
     ensures no_thread { IsErrOf result RunFault.ThreadRefused ↔ ⊥ }
 {

@@ -80,7 +80,7 @@ impl Serving {
     ) -> Action
         requires under_way { IsUnderWay self.old action }
         requires roomy { IsRoomy self.old }
-        ensures on { (reads : List (Option ℕ)) × ((first : C) (readings : List (Option ℕ)) → C.given first readings clock.old → C.given first (readings ++ reads) clock.new) × CarriesOn L.tells_bytes (L.seen line.old) (L.seen line.new) self.old action self.new result reads }
+        ensures on { (reads : List (Option ℕ)) × ((first : C) (readings : List (Option ℕ)) → C.given first readings clock.old → C.given first (readings ++ reads) clock.new) × CarriesOn (L.seen line.old) (L.seen line.new) self.old action self.new result reads }
         ensures roomy { IsRoomy self.new }
     {
         match action {
@@ -96,7 +96,7 @@ impl Serving {
     fn submit<C: Clock>(&mut self, what: Step, clock: &mut C) -> Action
         requires under_way { IsUnderWay self.old (Action.Submit what) }
         requires roomy { IsRoomy self.old }
-        ensures on { (reads : List (Option ℕ)) × ((first : C) (readings : List (Option ℕ)) → C.given first readings clock.old → C.given first (readings ++ reads) clock.new) × ((tells : Bool) (seen : LineSeen) → CarriesOn tells seen seen self.old (Action.Submit what) self.new result reads) }
+        ensures on { (reads : List (Option ℕ)) × ((first : C) (readings : List (Option ℕ)) → C.given first readings clock.old → C.given first (readings ++ reads) clock.new) × ((seen : LineSeen) → CarriesOn seen seen self.old (Action.Submit what) self.new result reads) }
         ensures roomy { IsRoomy self.new }
     {
         self.take_step(what, clock);
@@ -104,7 +104,7 @@ impl Serving {
     }
 
     fn read<L: Line>(&mut self, line: &mut L) -> Action
-        ensures on { CarriesOn L.tells_bytes (L.seen line.old) (L.seen line.new) self.old Action.Read self.new result [] }
+        ensures on { CarriesOn (L.seen line.old) (L.seen line.new) self.old Action.Read self.new result [] }
         ensures roomy { IsRoomy self.old → IsRoomy self.new }
     {
         let mut room = [0; PIECE_ROOM];
@@ -125,7 +125,7 @@ impl Serving {
     fn look_at_mail<C: Clock>(&mut self, clock: &mut C) -> Action
         requires under_way { IsUnderWay self.old Action.PollMail }
         requires roomy { IsRoomy self.old }
-        ensures on { (reads : List (Option ℕ)) × ((first : C) (readings : List (Option ℕ)) → C.given first readings clock.old → C.given first (readings ++ reads) clock.new) × ((tells : Bool) (seen : LineSeen) → CarriesOn tells seen seen self.old Action.PollMail self.new result reads) }
+        ensures on { (reads : List (Option ℕ)) × ((first : C) (readings : List (Option ℕ)) → C.given first readings clock.old → C.given first (readings ++ reads) clock.new) × ((seen : LineSeen) → CarriesOn seen seen self.old Action.PollMail self.new result reads) }
         ensures roomy { IsRoomy self.new }
     {
         self.take_step(Step::Tick, clock);
@@ -136,7 +136,7 @@ impl Serving {
     }
 
     fn write<L: Line>(&mut self, answer: &Answer, line: &mut L) -> Action
-        ensures on { CarriesOn L.tells_bytes (L.seen line.old) (L.seen line.new) self.old (Action.Write answer.now) self.new result [] }
+        ensures on { CarriesOn (L.seen line.old) (L.seen line.new) self.old (Action.Write answer.now) self.new result [] }
         ensures roomy { IsRoomy self.old → IsRoomy self.new }
     {
         if write_answer(line, answer) {

@@ -1,6 +1,6 @@
 //! Worked sessions of one line: the bytes that a client sends, and those that are written to it.
-ghost use Rattle.std.specs.Prelude.{IfOk, true};
-ghost use Rattle.bq_serve.specs.LineCalls.{Tells, new_line};
+ghost use Rattle.std.specs.Prelude.{◌≡◌, IfOk};
+ghost use Rattle.bq_serve.specs.LineCalls.{new_line};
 
 use crate::clock::{MachineClock, ScriptClock};
 use crate::line::{IoLine, Line, MemLine, Part};
@@ -80,7 +80,7 @@ fn still(alloc: Global) -> Result<ScriptClock, Fail> {
 
 // A client that sends this text at once.
 fn client(alloc: Global, sent: &str, room: usize) -> Result<MemLine, Fail>
-    ensures { IfOk result (λ line. Tells true (⟦<MemLine as Line>⟧.seen line) new_line) }
+    ensures { IfOk result (λ line. ⟦<MemLine as Line>⟧.seen line ≡ new_line) }
 {
     let mut parts: Vec<Part> = Vec::new(alloc);
     parts.push(Part::Bytes(Vec::from_slice(alloc, sent.as_bytes())?))?;

@@ -1,12 +1,11 @@
-use Rattle.std.proofs.Common.{◌≤◌, ◌-◌, length, take}
-use Rattle.bq_serve.specs.LineCalls.{Tells}
+use Rattle.std.proofs.Common.{◌≡◌, ◌≤◌, ◌-◌, length, take}
 use Rattle.bq_serve.specs.Writing.{with_written}
 use Rattle.bq_serve.proofs.run.answer_write.write_all.Given as goal
 
 abbrev pub invariant-loop-done : goal.invariant-loop-done
 invariant-loop-done g l = record {
   within : l.done ≤ length l.bytes;
-  seen : Tells g.L.Line.tells_bytes (g.L.Line.seen l.line) (with_written (take l.done l.bytes) (g.L.Line.seen l.fn.line));
+  seen : (g.L.Line.seen l.line) ≡ with_written (take l.done l.bytes) (g.L.Line.seen l.fn.line);
 }
 
 abbrev pub decreases-loop-done : goal.decreases-loop-done

@@ -9,7 +9,7 @@ loop-init g c =
     let made = c.in_ok-serving.ensures.made in
     record {
       iterator = (tt, tt);
-      goes_on = ([], g.met.C.Clock.none_given c.args.clock, opened_first (settings_of c.args.config) (profile_so_far c.args.config) g.L.Line.tells_bytes c.in_ok-serving.serving c.on-action.new.self (g.L.Line.seen c.args.line) c.on-action.result made c.on-action.ensures.moves c.requires.new);
+      goes_on = ([], g.met.C.Clock.none_given c.args.clock, opened_first (settings_of c.args.config) (profile_so_far c.args.config) c.in_ok-serving.serving c.on-action.new.self (g.L.Line.seen c.args.line) c.on-action.result made c.on-action.ensures.moves c.requires.new);
       roomy = record { one = ap (λ m. m.settings.seats) made.core_is ∙ made.one; most = made.most };
     }
 
@@ -19,6 +19,6 @@ returns-in-LineOver-clause-served g c =
     let s = c.loop.serving in (
       on.0,
       on.1,
-      over_alone (settings_of c.args.config) (profile_so_far c.args.config) g.L.Line.tells_bytes s.machine s.core s.mail s.heard (g.L.Line.seen c.loop.line) on.0 c.in-LineOver.end
-          (subst (IsServing (settings_of c.args.config) (profile_so_far c.args.config) g.L.Line.tells_bytes s.machine s.core s.mail s.heard (g.L.Line.seen c.loop.line) on.0) c.in-LineOver.is on.2),
+      over_alone (settings_of c.args.config) (profile_so_far c.args.config) s.machine s.core s.mail s.heard (g.L.Line.seen c.loop.line) on.0 c.in-LineOver.end
+          (subst (IsServing (settings_of c.args.config) (profile_so_far c.args.config) s.machine s.core s.mail s.heard (g.L.Line.seen c.loop.line) on.0) c.in-LineOver.is on.2),
     )

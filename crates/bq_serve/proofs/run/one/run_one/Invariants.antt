@@ -7,6 +7,6 @@ abbrev pub invariant-loop : goal.invariant-loop
 invariant-loop g l = record {
   iterator : (goal.iterator-loop g).can_next l.iterator' × (goal.iterator-loop g).is_finite l.iterator';
   goes_on : (readings : List (Option ℕ)) × g.C.Clock.given l.fn.clock readings l.clock
-      × IsServing (settings_of l.fn.config) (profile_so_far l.fn.config) g.L.Line.tells_bytes l.serving.machine l.serving.core l.serving.mail l.serving.heard (g.L.Line.seen l.line) readings l.action;
+      × IsServing (settings_of l.fn.config) (profile_so_far l.fn.config) l.serving.machine l.serving.core l.serving.mail l.serving.heard (g.L.Line.seen l.line) readings l.action;
   roomy : IsRoomy l.serving;
 }

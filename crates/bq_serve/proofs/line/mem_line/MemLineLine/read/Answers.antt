@@ -1,6 +1,9 @@
 use Rattle.std.proofs.Common.{◌≡◌, add-one, refl}
 use Rattle.bq_serve.proofs.PartLemmas.{passed_fault, read_given, some_given, still_open}
+use Rattle.bq_job.specs.declared.line_end.LineFault.TheVariants as faults
+use Rattle.bq_serve.specs.LineCalls.{with_fault}
 use Rattle.bq_serve.specs.LineParts.{part_bytes}
+use Rattle.bq_serve.proofs.SeenLemmas.{same_seen}
 use Rattle.bq_serve.proofs.line.mem_line.MemLineLine.read.Goals as goal
 
 pub returns-in-Some-Bytes-clause-seen : goal.returns-in-Some-Bytes-clause-seen
@@ -13,21 +16,12 @@ returns-in-Some-Bytes-clause-seen c =
     let lt = found.3.0 in
     let bytes_are : part_bytes c.in-Some-Bytes.field-0.now ≡ c.in-Some-Bytes.bytes.items = rw c.in-Some-Bytes.field-0-is refl in
     let some = some_given _ _ _ c.len.result _ _ _ c.in-Some-Bytes.bytes.items is_open lt found.1 (rw c.in-Some-Bytes.field-0-is refl) c.requires count in
-    record {
-      ended = still_open c.args.self.now.ended _ some;
-      fault = refl;
-      read = λ told. read_given _ _ _ _ _ _ _ _ _ same lt found.1 bytes_are copied;
-      written = λ told. refl;
-    }
+    same_seen _ _ (still_open c.args.self.now.ended _ some) refl (read_given _ _ _ _ _ _ _ _ _ same lt found.1 bytes_are copied) refl
 
 pub returns-in-Some-Fault-clause-seen : goal.returns-in-Some-Fault-clause-seen
 returns-in-Some-Fault-clause-seen c =
     let found = rw c.deref-2.ensures.value at c.in-Some-Fault.ensures.lookup in
     let same = rw c.deref.ensures.value at c.next_open-place.ensures.same in
     let passed = passed_fault _ _ c.next_open-place.result.1 _ found.3.0 found.1 c.in-Some-Fault.field-0-is in
-    rw c.from-in-Some-Fault.ensures (record {
-      ended = refl;
-      fault = c.note_fault.ensures;
-      read = λ told. rw (add-one c.next_open-place.result.0, passed) same;
-      written = λ told. refl;
-    })
+    rw c.from-in-Some-Fault.ensures
+    (same_seen _ (with_fault faults.Read _) refl c.note_fault.ensures (rw (add-one c.next_open-place.result.0, passed) same) refl)

@@ -19,7 +19,7 @@ pub take_step-requires-clause-room : goal.take_step-requires-clause-room
 take_step-requires-clause-room g c =
     let u = c.requires.under_way in
     let old = c.args.self.now in
-    room_at_submit u.settings u.profile u.tells old.machine old.core old.mail old.heard u.seen u.readings c.args.what u.serves
+    room_at_submit u.settings u.profile old.machine old.core old.mail old.heard u.seen u.readings c.args.what u.serves
 
 pub returns-clause-on : goal.returns-clause-on
 returns-clause-on g c =
@@ -29,6 +29,6 @@ returns-clause-on g c =
     let move : IsMove old.machine events.Submitted c.on.result c.on.new.self = subst (λ m. IsMove m events.Submitted c.on.result c.on.new.self) c.take_step.ensures.machine c.on.ensures.moves in (
       taken.0 ∷ [],
       taken.2,
-      λ tells seen settings profile readings s.
-          submit_on settings profile tells old.machine c.on.new.self old.core new.core old.mail new.mail old.heard new.heard seen readings taken.0 c.args.what c.on.result c.requires.roomy.one taken.1 move s,
+      λ seen settings profile readings s.
+          submit_on settings profile old.machine c.on.new.self old.core new.core old.mail new.mail old.heard new.heard seen readings taken.0 c.args.what c.on.result c.requires.roomy.one taken.1 move s,
     )
