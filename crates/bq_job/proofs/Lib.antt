@@ -11,3 +11,4 @@ pub mod LawfulLemmas
 pub mod ListLemmas
 pub mod NameOrderLemmas
 pub mod OneClientLemmas
+pub mod RunLemmas

@@ -35,6 +35,7 @@ use Rattle.bq_seat.specs.declared.machine.Stage.{Stage}
 use Rattle.bq_seat.specs.declared.machine.Stage.TheVariants as stages
 use Rattle.bq_wire.specs.declared.state.State.{State}
 use Rattle.bq_job.proofs.LawfulLemmas.{new_is_lawful}
+use Rattle.bq_job.proofs.RunLemmas.{run_none}
 use Rattle.bq_serve.proofs.ArmLemmas.{history_with, stepped, ticked}
 use Rattle.bq_serve.proofs.EventLemmas.{cut_off, mailed, read_broken, read_end, read_nothing, read_some, retold, retold_bytes, retold_end, retold_fault, taken_at_fault, taken_at_mail, told_fault, writes_at_mail, writes_still, wrote}
 use Rattle.bq_serve.proofs.GoesOnLemmas.{goes_on, unbroken_at}
@@ -248,7 +249,7 @@ opened_first settings profile serving new seen action fresh move told =
     let empty = fresh_core settings fresh.one in
     let recorded : IsRecord settings [] [] [] (new_machine settings) 0 = record {
       given = [];
-      runs = (refl, refl);
+      runs = run_none (new_machine settings);
       timed = refl;
       moment_is = refl;
       lawful = new_is_lawful settings;

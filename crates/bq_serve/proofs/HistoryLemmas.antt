@@ -25,6 +25,7 @@ use Rattle.bq_job.specs.Reading.{Reads, is_quit}
 use Rattle.bq_job.specs.Runs.{Entry, Run, answers_of_line, answers_to, begun_with, by_connection}
 use Rattle.bq_job.specs.Steps.{IsStep, Outcome}
 use Rattle.bq_job.proofs.OneClientLemmas.{answers_append}
+use Rattle.bq_job.proofs.RunLemmas.{run_more}
 use Rattle.bq_serve.specs.OneSeat.{IsClientAt, IsClosedClient, IsCutOff, IsFresh, IsLineOf, IsOpenClient, IsRecord, IsServedAlone, IsWrittenSo, last_heard, moment_heard}
 use Rattle.bq_seat.specs.InTurn.{wanted}
 use Rattle.bq_seat.specs.Past.{Past, has_close, is_close}
@@ -34,12 +35,6 @@ use Rattle.bq_seat.proofs.ReadingLemmas.{neither}
 -- a step at the only seat
 abbrev pub entry_at : ℕ → Step → Entry
 entry_at at what = record { moment = at; seat = 0; what = what }
-
-run_more : (first : Machine) (history : List Entry) (so_far : List Given) (last next : Machine) (e : Entry) (outcome : Outcome) (given : List Given) → Run first history so_far last → IsStep last e.moment e.seat e.what outcome given next → Run first (history ++ e ∷ []) (so_far ++ given) next
-run_more first [] so_far last next e outcome given r s =
-    (outcome, given, [], next, subst (λ (m : Machine). IsStep m e.moment e.seat e.what outcome given next) r.1 s, subst (λ (xs : List Given). xs ++ given ≡ given ++ []) (sym r.0) (sym (append-nil given)), (refl, refl))
-run_more first (h ∷ history) so_far last next e outcome given r s =
-    (r.0, r.1, r.2 ++ given, r.3, r.4, ap (λ (xs : List Given). xs ++ given) r.5 ∙ append_assoc r.1 r.2 given, run_more r.3 history r.2 last next e outcome given r.6 s)
 
 map_more : {X Y : Type 0} (f : X → Y) (xs : List X) (x : X) → map f (xs ++ x ∷ []) ≡ map f xs ++ f x ∷ []
 map_more f [] x = refl
