@@ -7,7 +7,7 @@ use Rattle.bq_job.proofs.ListLemmas.{all_at}
 use Rattle.bq_job.specs.declared.job.Job.{Job}
 use Rattle.bq_job.specs.Changes.{first_of, is_ready, is_waiting, with_seat, without_wait}
 use Rattle.bq_job.specs.Computed.{waiting_count}
-use Rattle.bq_job.specs.Dispatch.{DispatchTurn, Given, IsHandOut, is_job_before, is_wait_before, next_job, next_seat}
+use Rattle.bq_job.specs.Dispatch.{DispatchTurn, GivenAnswer, IsHandOut, is_job_before, is_wait_before, next_job, next_seat}
 use Rattle.bq_job.specs.Machine.{Machine, SeatRecord}
 use Rattle.bq_job.specs.Steps.{has_refused_share, is_out_of_memory}
 use Rattle.bq_job.specs.Waits.{Chain, WaitEndTurn, end_of_wait, ends_waiting, next_end}
@@ -32,7 +32,7 @@ chosen_waits seats s h = (
 )
 
 -- a hand-out takes the client away, whether the share was given or not
-hand_out_falls : (m : Machine) (j : Job) (s : SeatRecord) (g : Given) (next : Machine) → Contains m.seats s → is_waiting s ≡ true → IsHandOut m j s g next → waiting_count next < waiting_count m
+hand_out_falls : (m : Machine) (j : Job) (s : SeatRecord) (g : GivenAnswer) (next : Machine) → Contains m.seats s → is_waiting s ≡ true → IsHandOut m j s g next → waiting_count next < waiting_count m
 hand_out_falls m j s g next here waits h =
     elim h [
       | inl given ↦ rw given.1 (waiting_falls m s here waits)
@@ -101,7 +101,7 @@ module _ (st : State) (sound : IsSound st) (k : ℕ) (seat_there : k < length st
     pub turn_falls : waiting_count last < waiting_count (machine_of st)
     turn_falls = hand_out_falls (machine_of st) ready.0 waiter.0 _ last waiter.2 waiter.3 (given ready.0 waiter.0 ready.1 waiter.1).hand_out
 
-pub refused_joined : (xs ys : List Given) → has_refused_share (xs ++ ys) ≡ (has_refused_share xs || has_refused_share ys)
+pub refused_joined : (xs ys : List GivenAnswer) → has_refused_share (xs ++ ys) ≡ (has_refused_share xs || has_refused_share ys)
 refused_joined [] ys = refl
 refused_joined (x ∷ xs) ys = ap (λ b. is_out_of_memory x.1 || b) (refused_joined xs ys) ∙ or_assoc (is_out_of_memory x.1) (has_refused_share xs) (has_refused_share ys)
   where
@@ -109,12 +109,12 @@ refused_joined (x ∷ xs) ys = ap (λ b. is_out_of_memory x.1 || b) (refused_joi
     or_assoc true b c = refl
     or_assoc false b c = refl
 
-chain_joined : (Turn : Machine → Given → Machine → Type 0) (first middle last : Machine) (xs ys : List Given) → Chain Turn first xs middle → Chain Turn middle ys last → Chain Turn first (xs ++ ys) last
+chain_joined : (Turn : Machine → GivenAnswer → Machine → Type 0) (first middle last : Machine) (xs ys : List GivenAnswer) → Chain Turn first xs middle → Chain Turn middle ys last → Chain Turn first (xs ++ ys) last
 chain_joined Turn first middle last [] ys a b = rw a at b
 chain_joined Turn first middle last (x ∷ xs) ys a b = (a.0, a.1, chain_joined Turn a.0 middle last xs ys a.2 b)
 
 -- no turn was taken
-pub gives_nothing : (Turn : Machine → Given → Machine → Type 0) (refused : List Given → Bool) → refused [] ≡ false → (m : Machine) (o : Outbox) → Gives Turn refused m m o o
+pub gives_nothing : (Turn : Machine → GivenAnswer → Machine → Type 0) (refused : List GivenAnswer → Bool) → refused [] ≡ false → (m : Machine) (o : Outbox) → Gives Turn refused m m o o
 gives_nothing Turn refused none m o = record {
   given = [];
   turns = refl;
@@ -126,7 +126,7 @@ gives_nothing Turn refused none m o = record {
 }
 
 -- first these turns were taken, and then those
-pub gives_joined : (Turn : Machine → Given → Machine → Type 0) (refused : List Given → Bool) → ((xs ys : List Given) → refused (xs ++ ys) ≡ (refused xs || refused ys)) → (first middle last : Machine) (old between new : Outbox) → Gives Turn refused first middle old between → Gives Turn refused middle last between new → Gives Turn refused first last old new
+pub gives_joined : (Turn : Machine → GivenAnswer → Machine → Type 0) (refused : List GivenAnswer → Bool) → ((xs ys : List GivenAnswer) → refused (xs ++ ys) ≡ (refused xs || refused ys)) → (first middle last : Machine) (old between new : Outbox) → Gives Turn refused first middle old between → Gives Turn refused middle last between new → Gives Turn refused first last old new
 gives_joined Turn refused joined first middle last old between new a b = record {
   given = a.given ++ b.given;
   turns = chain_joined Turn first middle last a.given b.given a.turns b.turns;
@@ -142,14 +142,14 @@ gives_joined Turn refused joined first middle last old between new a b = record 
     or_assoc false b c = refl
 
 -- turns that take a waiting client away for each answer leave the room that there was
-pub room_kept : (Turn : Machine → Given → Machine → Type 0) (refused : List Given → Bool) (more : ℕ) (first last : Machine) (old new : Outbox) → Gives Turn refused first last old new → HasRoom more first old → HasRoom more last new
+pub room_kept : (Turn : Machine → GivenAnswer → Machine → Type 0) (refused : List GivenAnswer → Bool) (more : ℕ) (first last : Machine) (old new : Outbox) → Gives Turn refused first last old new → HasRoom more first old → HasRoom more last new
 room_kept Turn refused more first last old new gives room =
     omega (arith, ap length gives.added, length-append old.given gives.given, gives.taken, gives.most, room)
 
 -- one end of a wait is a chain of them
 one_end : (m next : Machine) (old new : Outbox) (s : SeatRecord) → next_end m ≡ Some s → Contains m.seats s → is_waiting s ≡ true → AddsWaitEnd m s old new next → Gives WaitEndTurn none_refused m next old new
 one_end m next old new s is here waits adds =
-    let given : Given = (s.number, end_of_wait m s) in
+    let given : GivenAnswer = (s.number, end_of_wait m s) in
     let turn : WaitEndTurn m given next = rw is (refl, adds.ended) in
     record {
       given = given ∷ [];

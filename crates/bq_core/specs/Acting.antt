@@ -8,7 +8,7 @@ use Rattle.bq_job.specs.declared.step.Step.TheVariants as steps
 use Rattle.bq_job.specs.Acts.{Effect}
 use Rattle.bq_job.specs.Changes.{is_waiting}
 use Rattle.bq_job.specs.Machine.{Machine, SeatRecord}
-use Rattle.bq_job.specs.Steps.{Memory, acted, addressed, is_growth_refused, is_possible, is_share_refused, wants_growth}
+use Rattle.bq_job.specs.Steps.{Memory, acted, addressed, is_growth_refused, is_possible, is_share_refused, may_be_left_out}
 use Rattle.bq_core.specs.declared.acts.Reply.{Reply}
 use Rattle.bq_core.specs.declared.acts.Reply.TheVariants.{Silent, Told, LeftOut}
 use Rattle.bq_core.specs.Outbox.{Outbox}
@@ -45,7 +45,7 @@ is_asking (Some s) = s.connected && not (is_waiting s)
 abbrev pub Replies : Bool → Machine → Effect → Reply → Machine → Type 0
 Replies takes m e Silent next = e ≡ record { machine = next; answer = None }
 Replies takes m e (Told answer) next = e ≡ record { machine = next; answer = Some answer }
-Replies takes m e LeftOut next = (next ≡ m) × IsTrue (takes && wants_growth e.answer)
+Replies takes m e LeftOut next = (next ≡ m) × IsTrue (takes && may_be_left_out e.answer)
 
 -- The command's own effect was carried out, and its answer added.
 pub record Acts (m : Machine) (seat : ℕ) (what : Step) (old new : Outbox) (last : Machine) : Type 0 where

@@ -1,14 +1,14 @@
 -- Dispatch, and then the ends of waits, with their answers added.
 use Rattle.std.specs.Prelude.{ℕ, ◌≡◌, ◌||◌, ◌++◌, List}
-use Rattle.bq_job.specs.Dispatch.{Given}
+use Rattle.bq_job.specs.Dispatch.{GivenAnswer}
 use Rattle.bq_job.specs.Machine.{Machine}
 use Rattle.bq_job.specs.Steps.{Serves, has_refused_share}
 use Rattle.bq_core.specs.Outbox.{Outbox}
 use Rattle.bq_core.specs.Turns.{HasRoom}
 
 pub record ServesInto (first : Machine) (old new : Outbox) (last : Machine) : Type 0 where
-  pub handed : List Given
-  pub ended : List Given
+  pub handed : List GivenAnswer
+  pub ended : List GivenAnswer
   pub serves : Serves first handed ended last
   pub added : new.given ≡ old.given ++ handed ++ ended
   pub most : new.most ≡ old.most

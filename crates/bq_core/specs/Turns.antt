@@ -1,15 +1,15 @@
 -- What dispatch and the ends of waits add to the answers.
 use Rattle.std.specs.Prelude.{ℕ, Bool, false, ◌≡◌, ◌+◌, ◌≤◌, ◌||◌, ◌++◌, List, length}
 use Rattle.bq_job.specs.Computed.{waiting_count}
-use Rattle.bq_job.specs.Dispatch.{Given}
+use Rattle.bq_job.specs.Dispatch.{GivenAnswer}
 use Rattle.bq_job.specs.Machine.{Machine}
 use Rattle.bq_job.specs.Waits.{Chain}
 use Rattle.bq_core.specs.Outbox.{Outbox}
 
 -- Turns of this kind led from the first machine to the last, and their answers were added. What they mean
 -- for the mark of refused shares is told by refused. Each took a waiting client away.
-pub record Gives (Turn : Machine → Given → Machine → Type 0) (refused : List Given → Bool) (first last : Machine) (old new : Outbox) : Type 0 where
-  pub given : List Given
+pub record Gives (Turn : Machine → GivenAnswer → Machine → Type 0) (refused : List GivenAnswer → Bool) (first last : Machine) (old new : Outbox) : Type 0 where
+  pub given : List GivenAnswer
   pub turns : Chain Turn first given last
   pub added : new.given ≡ old.given ++ given
   pub most : new.most ≡ old.most
@@ -18,7 +18,7 @@ pub record Gives (Turn : Machine → Given → Machine → Type 0) (refused : Li
   pub taken : waiting_count last + length given ≤ waiting_count first
 
 -- the ends of waits refuse no share
-abbrev pub none_refused : List Given → Bool
+abbrev pub none_refused : List GivenAnswer → Bool
 none_refused given = false
 
 -- there is room for an answer to each waiting client, and for so many more

@@ -38,7 +38,7 @@ enum Want {
 }
 
 /// A moment, a seat, what happens there, and the answers that it gives.
-type Row = (Moment, Seat, Do, &'static [(Seat, Want)]);
+type Example = (Moment, Seat, Do, &'static [(Seat, Want)]);
 
 fn step_of(alloc: Global, what: Do) -> Result<Step, NoMemory>
     ensures { IfOk result (λ step. IsTrue (is_built step)) }
@@ -81,29 +81,29 @@ fn is_wanted(answer: &Answer, want: Want) -> bool {
 }
 
 // The step's answers are those wanted, in their order, and no others.
-fn expect(rt: &impl Abort, outs: &mut Outs, name: &str, row: &Row)
+fn expect(rt: &impl Abort, outs: &mut Outs, name: &str, example: &Example)
     ensures { outs.new.most ≡ outs.old.most }
 {
-    for (seat, want) in row.3 {
+    for (seat, want) in example.3 {
         match outs.take_first() {
-            None => assert!(rt; false, "{name}: no answer to {row:?}"),
+            None => assert!(rt; false, "{name}: no answer to {example:?}"),
             Some((to, answer)) => {
-                assert_eq!(rt; to, *seat, "{name}: {row:?} answered {answer:?}");
+                assert_eq!(rt; to, *seat, "{name}: {example:?} answered {answer:?}");
                 assert!(rt;
                     is_wanted(&answer, *want),
-                    "{name}: {row:?} answered {answer:?}"
+                    "{name}: {example:?} answered {answer:?}"
                 );
             }
         }
     }
     assert!(rt;
         outs.take_first().is_none(),
-        "{name}: {row:?} answered too much"
+        "{name}: {example:?} answered too much"
     );
 }
 
-// The steps of a row of the table, on a core with four seats, of which the first three are connected.
-fn play(rt: &impl Abort, alloc: Global, name: &str, rows: &[Row]) -> Result<(), Fail> {
+// The steps of an example of the table, on a core with four seats, of which the first three are connected.
+fn play(rt: &impl Abort, alloc: Global, name: &str, examples: &[Example]) -> Result<(), Fail> {
     let config = Config {
         seats: 4,
         max_job_size: 10,
@@ -113,20 +113,20 @@ fn play(rt: &impl Abort, alloc: Global, name: &str, rows: &[Row]) -> Result<(), 
     for seat in 0..3 {
         core.step(0, seat, Step::Connect, &mut outs);
     }
-    for row in rows {
-        let (at, seat, what, _) = *row;
+    for example in examples {
+        let (at, seat, what, _) = *example;
         let step = step_of(alloc, what)?;
         core.step(at, seat, step, &mut outs);
-        expect(rt, &mut outs, name, row);
+        expect(rt, &mut outs, name, example);
         assert!(rt;
             !outs.left_out() && !outs.unshared(),
-            "{name}: {row:?} was refused memory"
+            "{name}: {example:?} was refused memory"
         );
     }
     Ok(())
 }
 
-const FIRST_CYCLE: &[Row] = &[
+const FIRST_CYCLE: &[Example] = &[
     (0, 0, Do::Put(5, 0, 10, b"abc"), &[(0, Want::Inserted(1))]),
     (0, 0, Do::Reserve, &[(0, Want::Reserved(1, b"abc"))]),
     (0, 0, Do::Delete(1), &[(0, Want::Deleted)]),
@@ -135,7 +135,7 @@ const FIRST_CYCLE: &[Row] = &[
     (0, 0, Do::Gone, &[]),
 ];
 
-const DEADLINE_SOON_BEHIND_TWO_LEASES: &[Row] = &[
+const DEADLINE_SOON_BEHIND_TWO_LEASES: &[Example] = &[
     (0, 0, Do::Put(0, 0, 1, b""), &[(0, Want::Inserted(1))]),
     (0, 0, Do::Put(0, 0, 1, b"a"), &[(0, Want::Inserted(2))]),
     (0, 0, Do::Reserve, &[(0, Want::Reserved(1, b""))]),
@@ -143,14 +143,14 @@ const DEADLINE_SOON_BEHIND_TWO_LEASES: &[Row] = &[
     (0, 0, Do::Reserve, &[(0, Want::DeadlineSoon)]),
 ];
 
-const LEASE_EXPIRES_TO_ITS_WAITER: &[Row] = &[
+const LEASE_EXPIRES_TO_ITS_WAITER: &[Example] = &[
     (0, 0, Do::Put(0, 0, 2, b"x"), &[(0, Want::Inserted(1))]),
     (0, 0, Do::Reserve, &[(0, Want::Reserved(1, b"x"))]),
     (500, 0, Do::Reserve, &[]),
     (2000, 0, Do::Tick, &[(0, Want::Reserved(1, b"x"))]),
 ];
 
-const DEADLINE_SOON_AT_ONE_SECOND: &[Row] = &[
+const DEADLINE_SOON_AT_ONE_SECOND: &[Example] = &[
     (0, 0, Do::Put(0, 0, 2, b"x"), &[(0, Want::Inserted(1))]),
     (0, 0, Do::Reserve, &[(0, Want::Reserved(1, b"x"))]),
     (500, 0, Do::Reserve, &[]),
@@ -158,7 +158,7 @@ const DEADLINE_SOON_AT_ONE_SECOND: &[Row] = &[
     (1000, 0, Do::Tick, &[(0, Want::DeadlineSoon)]),
 ];
 
-const LEASE_BEGINS_AT_THE_RESERVE: &[Row] = &[
+const LEASE_BEGINS_AT_THE_RESERVE: &[Example] = &[
     (0, 0, Do::Put(0, 0, 2, b"x"), &[(0, Want::Inserted(1))]),
     (1500, 1, Do::Reserve, &[(1, Want::Reserved(1, b"x"))]),
     (1500, 2, Do::Reserve, &[]),
@@ -168,7 +168,7 @@ const LEASE_BEGINS_AT_THE_RESERVE: &[Row] = &[
     (3500, 2, Do::Delete(1), &[(2, Want::Deleted)]),
 ];
 
-const CLOSE_HANDS_ON: &[Row] = &[
+const CLOSE_HANDS_ON: &[Example] = &[
     (0, 0, Do::Put(0, 0, 9, b"x"), &[(0, Want::Inserted(1))]),
     (0, 1, Do::Reserve, &[(1, Want::Reserved(1, b"x"))]),
     (0, 2, Do::Reserve, &[]),
@@ -181,7 +181,7 @@ const CLOSE_HANDS_ON: &[Row] = &[
     ),
 ];
 
-const WAITERS_BY_TICKET: &[Row] = &[
+const WAITERS_BY_TICKET: &[Example] = &[
     (0, 2, Do::Reserve, &[]),
     (0, 1, Do::Reserve, &[]),
     (
@@ -198,7 +198,7 @@ const WAITERS_BY_TICKET: &[Row] = &[
     ),
 ];
 
-const LEAST_BY_PRIORITY_THEN_ID: &[Row] = &[
+const LEAST_BY_PRIORITY_THEN_ID: &[Example] = &[
     (0, 0, Do::Put(7, 0, 9, b"x"), &[(0, Want::Inserted(1))]),
     (0, 0, Do::Put(3, 0, 9, b"y"), &[(0, Want::Inserted(2))]),
     (0, 0, Do::Put(3, 0, 9, b"z"), &[(0, Want::Inserted(3))]),
@@ -207,21 +207,21 @@ const LEAST_BY_PRIORITY_THEN_ID: &[Row] = &[
     (0, 0, Do::Reserve, &[(0, Want::Reserved(1, b"x"))]),
 ];
 
-const DELAYED_PUT: &[Row] = &[
+const DELAYED_PUT: &[Example] = &[
     (0, 0, Do::Put(0, 5, 9, b"x"), &[(0, Want::Inserted(1))]),
     (1000, 0, Do::Reserve, &[]),
     (4999, 0, Do::Tick, &[]),
     (5000, 0, Do::Tick, &[(0, Want::Reserved(1, b"x"))]),
 ];
 
-const DRAINING: &[Row] = &[
+const DRAINING: &[Example] = &[
     (0, 0, Do::Put(0, 0, 9, b"x"), &[(0, Want::Inserted(1))]),
     (0, 60_000, Do::Drain, &[]),
     (0, 0, Do::Put(0, 0, 9, b"y"), &[(0, Want::Draining)]),
     (0, 0, Do::Reserve, &[(0, Want::Reserved(1, b"x"))]),
 ];
 
-const FALLING_MOMENT: &[Row] = &[
+const FALLING_MOMENT: &[Example] = &[
     (5000, 0, Do::Tick, &[]),
     (3000, 0, Do::Put(0, 1, 9, b"x"), &[(0, Want::Inserted(1))]),
     (0, 0, Do::Reserve, &[]),
@@ -229,7 +229,7 @@ const FALLING_MOMENT: &[Row] = &[
     (6000, 0, Do::Tick, &[(0, Want::Reserved(1, b"x"))]),
 ];
 
-const NO_SUCH_SEAT: &[Row] = &[
+const NO_SUCH_SEAT: &[Example] = &[
     (0, 4, Do::Connect, &[]),
     (0, 4, Do::Reserve, &[]),
     (0, 65_535, Do::Close, &[]),
@@ -245,14 +245,14 @@ const NO_SUCH_SEAT: &[Row] = &[
     (0, 0, Do::Reserve, &[(0, Want::Reserved(1, b"x"))]),
 ];
 
-const END_OF_A_WAITER: &[Row] = &[
+const END_OF_A_WAITER: &[Example] = &[
     (0, 0, Do::Reserve, &[]),
     (0, 0, Do::Delete(1), &[]),
     (0, 0, Do::End, &[(0, Want::TimedOut)]),
 ];
 
 #[test]
-fn rows_of_steps(rt: HostRuntime) -> Result<(), Fail> {
+fn examples_of_steps(rt: HostRuntime) -> Result<(), Fail> {
     play(&rt, rt.alloc(), "first_cycle", FIRST_CYCLE)?;
     play(
         &rt,

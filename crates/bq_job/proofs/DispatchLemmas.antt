@@ -6,7 +6,7 @@ use Rattle.std.proofs.lemmas.Bool.{and_from}
 use Rattle.bq_job.specs.declared.answer.Answer.TheVariants as answers
 use Rattle.bq_job.specs.declared.job.Job.{Job}
 use Rattle.bq_job.specs.Changes.{is_waiting}
-use Rattle.bq_job.specs.Dispatch.{DispatchTurn, Given, IsHandOut, is_job_before, is_waiting_for, may_have, next_job, next_seat}
+use Rattle.bq_job.specs.Dispatch.{DispatchTurn, GivenAnswer, IsHandOut, is_job_before, is_waiting_for, may_have, next_job, next_seat}
 use Rattle.bq_job.specs.LeastJob.{IsLeastFor, GetsLeast}
 use Rattle.bq_job.specs.Machine.{Machine, SeatRecord}
 use Rattle.bq_job.proofs.ChoiceLemmas.{first_of_contains, first_of_is_least, pair_order}
@@ -14,14 +14,14 @@ use Rattle.bq_job.proofs.ComputedLemmas.{next_seat_waits}
 use Rattle.bq_job.proofs.ListLemmas.{list_any_with}
 
 -- A turn of dispatch has a next job and a next client for it.
-pub record Turn (m : Machine) (given : Given) (next : Machine) : Type 0 where
+pub record Turn (m : Machine) (given : GivenAnswer) (next : Machine) : Type 0 where
   pub job : Job
   pub client : SeatRecord
   pub job_is : next_job m ≡ Some job
   pub client_is : next_seat m job ≡ Some client
   pub hands : IsHandOut m job client given next
 
-pub turn_of : (m : Machine) (given : Given) (next : Machine) → DispatchTurn m given next → Turn m given next
+pub turn_of : (m : Machine) (given : GivenAnswer) (next : Machine) → DispatchTurn m given next → Turn m given next
 turn_of m given next turn = with_job_at (next_job m) refl turn
   where
     with_seat_at : (j : Job) (o : Option SeatRecord) → next_job m ≡ Some j → next_seat m j ≡ o → MatchOption o ⊥ (λ s. IsHandOut m j s given next) → Turn m given next
@@ -50,8 +50,8 @@ reserved_is_least m next seat id body turn = of_hand_out (turn_of m (seat, answe
   where
     of_given : (j : Job) (s : SeatRecord) → next_job m ≡ Some j → next_seat m j ≡ Some s → IsHandOut m j s (seat, answers.Reserved id body) next → GetsLeast m seat id body
     of_given j s e f (inl h) =
-        let at : seat ≡ s.number = ap (λ (g : Given). g.0) h.0 in
-        let same : answers.Reserved id body ≡ answers.Reserved j.id j.body = ap (λ (g : Given). g.1) h.0 in
+        let at : seat ≡ s.number = ap (λ (g : GivenAnswer). g.0) h.0 in
+        let same : answers.Reserved id body ≡ answers.Reserved j.id j.body = ap (λ (g : GivenAnswer). g.1) h.0 in
         let w = next_seat_waits m j s f in
         record {
           client = s;
@@ -63,7 +63,7 @@ reserved_is_least m next seat id body turn = of_hand_out (turn_of m (seat, answe
           body_is = (cc);
           least = next_is_least m j s e f;
         }
-    of_given j s e f (inr h) = absurd (let g : answers.Reserved id body ≡ answers.OutOfMemory = ap (λ (g : Given). g.1) h.0 in cc)
+    of_given j s e f (inr h) = absurd (let g : answers.Reserved id body ≡ answers.OutOfMemory = ap (λ (g : GivenAnswer). g.1) h.0 in cc)
 
     of_hand_out : Turn m (seat, answers.Reserved id body) next → GetsLeast m seat id body
     of_hand_out t = of_given t.job t.client t.job_is t.client_is t.hands

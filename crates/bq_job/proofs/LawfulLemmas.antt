@@ -12,7 +12,7 @@ use Rattle.bq_job.specs.declared.job.JobState.TheVariants as states
 use Rattle.bq_job.specs.declared.step.Step.{Step}
 use Rattle.bq_job.specs.Changes.{in_state, is_ready, is_waiting, with_job, with_seat, without_wait}
 use Rattle.bq_job.specs.Computed.{waiting_count}
-use Rattle.bq_job.specs.Dispatch.{DispatchTurn, Given, IsHandOut, is_job_before, is_wait_before, is_waiting_for, next_job, next_seat, reserved_by}
+use Rattle.bq_job.specs.Dispatch.{DispatchTurn, GivenAnswer, IsHandOut, is_job_before, is_wait_before, is_waiting_for, next_job, next_seat, reserved_by}
 use Rattle.bq_job.specs.Lawful.{IsLawful, has_open_holder}
 use Rattle.bq_job.specs.Limits.{later}
 use Rattle.bq_job.specs.Machine.{Machine, SeatRecord, Settings, TubeRecord, default_tube, empty_seat, new_machine, numbers}
@@ -57,7 +57,7 @@ pub record IsTurn (m n : Machine) : Type 0 where
 waits_connected : (m : Machine) (s : SeatRecord) → Keeps m → Contains m.seats s → is_waiting s ≡ true → s.connected ≡ true
 waits_connected m s h i w = rw w at (all_at (λ s. is_open_wait s ≡ true) m.seats s h.waits i)
 
-turn_of_hand_out : (m : Machine) (j : Job) (s : SeatRecord) (given : Given) (next : Machine) → Keeps m → next_seat m j ≡ Some s → IsHandOut m j s given next → IsTurn m next
+turn_of_hand_out : (m : Machine) (j : Job) (s : SeatRecord) (given : GivenAnswer) (next : Machine) → Keeps m → next_seat m j ≡ Some s → IsHandOut m j s given next → IsTurn m next
 turn_of_hand_out m j s given next h f (inl i) =
     let w = next_seat_waits m j s f in
     let c = waits_connected m s h w.0 w.1 in
@@ -70,36 +70,36 @@ turn_of_hand_out m j s given next h f (inr i) =
     let w = next_seat_waits m j s f in
     subst (IsTurn m) (sym i.1) (record { keeps = kept_without_wait s.number m h; waiting = waiting_falls m s w.0 w.1 })
 
-turn_of_dispatch : (m : Machine) (given : Given) (next : Machine) → Keeps m → DispatchTurn m given next → IsTurn m next
+turn_of_dispatch : (m : Machine) (given : GivenAnswer) (next : Machine) → Keeps m → DispatchTurn m given next → IsTurn m next
 turn_of_dispatch m given next h turn =
     let t = turn_of m given next turn in turn_of_hand_out m t.job t.client given next h t.client_is t.hands
 
 -- a wait that ends has a client
-pub record End (m : Machine) (given : Given) (next : Machine) : Type 0 where
+pub record End (m : Machine) (given : GivenAnswer) (next : Machine) : Type 0 where
   pub client : SeatRecord
   pub client_is : next_end m ≡ Some client
   pub given_is : given ≡ (client.number, end_of_wait m client)
   pub next_is : next ≡ with_seat client.number without_wait m
 
-pub end_of : (m : Machine) (given : Given) (next : Machine) → WaitEndTurn m given next → End m given next
+pub end_of : (m : Machine) (given : GivenAnswer) (next : Machine) → WaitEndTurn m given next → End m given next
 end_of m given next turn = with_client (next_end m) refl turn
   where
     with_client : (o : Option SeatRecord) → next_end m ≡ o → MatchOption o ⊥ (λ s. (given ≡ (s.number, end_of_wait m s)) × (next ≡ with_seat s.number without_wait m)) → End m given next
     with_client None e h = absurd h
     with_client (Some s) e h = record { client = s; client_is = e; given_is = h.0; next_is = h.1 }
 
-turn_of_wait_end : (m : Machine) (given : Given) (next : Machine) → Keeps m → WaitEndTurn m given next → IsTurn m next
+turn_of_wait_end : (m : Machine) (given : GivenAnswer) (next : Machine) → Keeps m → WaitEndTurn m given next → IsTurn m next
 turn_of_wait_end m given next h turn =
     let e = end_of m given next turn in
     let w = next_end_waits m e.client e.client_is in
     subst (IsTurn m) (sym e.next_is) (record { keeps = kept_without_wait e.client.number m h; waiting = waiting_falls m e.client w.0 w.1 })
 
 -- Turns one after another keep it, and there are at most as many as clients wait.
-record AreTurns (first : Machine) (given : List Given) (last : Machine) : Type 0 where
+record AreTurns (first : Machine) (given : List GivenAnswer) (last : Machine) : Type 0 where
   keeps : Keeps last
   waiting : length given + waiting_count last ≤ waiting_count first
 
-turns_of_chain : (Turns : Machine → Given → Machine → Type 0) (first : Machine) (given : List Given) (last : Machine) → ((m : Machine) (g : Given) (n : Machine) → Keeps m → Turns m g n → IsTurn m n) → Keeps first → Chain Turns first given last → AreTurns first given last
+turns_of_chain : (Turns : Machine → GivenAnswer → Machine → Type 0) (first : Machine) (given : List GivenAnswer) (last : Machine) → ((m : Machine) (g : GivenAnswer) (n : Machine) → Keeps m → Turns m g n → IsTurn m n) → Keeps first → Chain Turns first given last → AreTurns first given last
 turns_of_chain Turns first [] last each h chain = record { keeps = subst Keeps (sym chain) h; waiting = let e : waiting_count last ≡ waiting_count first = ap waiting_count chain in omega arith }
 turns_of_chain Turns first (g ∷ given) last each h chain =
     let one = each first g chain.0 h chain.1 in
@@ -107,22 +107,22 @@ turns_of_chain Turns first (g ∷ given) last each h chain =
     record { keeps = more.keeps; waiting = let a = one.waiting in let b = more.waiting in omega arith }
 
 -- Dispatch keeps it, and gives at most as many answers as clients wait no more.
-turns_of_dispatches : (first : Machine) (given : List Given) (last : Machine) → Keeps first → Dispatches first given last → AreTurns first given last
+turns_of_dispatches : (first : Machine) (given : List GivenAnswer) (last : Machine) → Keeps first → Dispatches first given last → AreTurns first given last
 turns_of_dispatches first given last h d =
     let t = turns_of_chain DispatchTurn first given d.end turn_of_dispatch h d.turns in
     subst (AreTurns first given) (sym d.forgets) (record { keeps = t.keeps; waiting = t.waiting })
 
-turns_of_ends : (first : Machine) (given : List Given) (last : Machine) → Keeps first → EndsWaits first given last → AreTurns first given last
+turns_of_ends : (first : Machine) (given : List GivenAnswer) (last : Machine) → Keeps first → EndsWaits first given last → AreTurns first given last
 turns_of_ends first given last h d =
     let t = turns_of_chain WaitEndTurn first given d.end turn_of_wait_end h d.turns in
     subst (AreTurns first given) (sym d.forgets) (record { keeps = t.keeps; waiting = t.waiting })
 
 -- the same of dispatch and the ends of waits together
-pub record HasServed (first : Machine) (handed ended : List Given) (last : Machine) : Type 0 where
+pub record HasServed (first : Machine) (handed ended : List GivenAnswer) (last : Machine) : Type 0 where
   pub keeps : Keeps last
   pub waiting : length handed + length ended + waiting_count last ≤ waiting_count first
 
-pub served : (first : Machine) (handed ended : List Given) (last : Machine) → Keeps first → Serves first handed ended last → HasServed first handed ended last
+pub served : (first : Machine) (handed ended : List GivenAnswer) (last : Machine) → Keeps first → Serves first handed ended last → HasServed first handed ended last
 served first handed ended last h s =
     let d = turns_of_dispatches first handed s.between h s.dispatches in
     let e = turns_of_ends s.between ended last d.keeps s.ends_waits in
@@ -168,7 +168,7 @@ still_dispatched number m h =
     (still_unwanted number m)
     (none_pass (λ j. list_any (is_waiting_for m j) m.seats) m.jobs (first_of_none (λ j. list_any (is_waiting_for m j) m.seats) is_job_before m.jobs h))))
 
-dispatched_through_ends : (first : Machine) (given : List Given) (last : Machine) → next_job first ≡ None → Chain WaitEndTurn first given last → next_job last ≡ None
+dispatched_through_ends : (first : Machine) (given : List GivenAnswer) (last : Machine) → next_job first ≡ None → Chain WaitEndTurn first given last → next_job last ≡ None
 dispatched_through_ends first [] last h chain = ap next_job chain ∙ h
 dispatched_through_ends first (g ∷ given) last h chain =
     let e = end_of first g chain.0 chain.1 in
@@ -196,7 +196,7 @@ lawful_when_done m h jobs ends = record {
 }
 
 -- After dispatch and the ends of waits the machine is lawful.
-pub lawful_when_served : (first : Machine) (handed ended : List Given) (last : Machine) → Keeps first → Serves first handed ended last → IsLawful last
+pub lawful_when_served : (first : Machine) (handed ended : List GivenAnswer) (last : Machine) → Keeps first → Serves first handed ended last → IsLawful last
 lawful_when_served first handed ended last h s =
     let d = s.dispatches in
     let e = s.ends_waits in
@@ -212,7 +212,7 @@ leaves_acted growth_refused m seat what h = record { keeps = h; waiting = omega 
 leaves_acted share_refused m seat what h = record { keeps = h; waiting = omega arith }
 
 -- A step leads from a lawful machine to a lawful one.
-pub step_is_lawful : (first last : Machine) (at seat : ℕ) (what : Step) (outcome : Outcome) (given : List Given) → IsLawful first → IsStep first at seat what outcome given last → IsLawful last
+pub step_is_lawful : (first last : Machine) (at seat : ℕ) (what : Step) (outcome : Outcome) (given : List GivenAnswer) → IsLawful first → IsStep first at seat what outcome given last → IsLawful last
 step_is_lawful first last at seat what outcome given h s =
     let before = served (forgetting (after_timers (at_moment at first))) s.handed s.ended s.before (kept_of_timers at first (kept_of_lawful first h)) s.serves in
     let act = leaves_acted s.memory s.before seat what before.keeps in
@@ -254,7 +254,7 @@ pub seats_many : (m : Machine) → Keeps m → length m.seats ≡ m.settings.sea
 seats_many m h = sym (length-map m.seats (λ s. s.number)) ∙ ap length h.seated ∙ length_numbers 0 m.settings.seats
 
 -- A step gives at most one answer more than there are seats.
-pub few_answers : (first last : Machine) (at seat : ℕ) (what : Step) (outcome : Outcome) (given : List Given) → IsLawful first → IsStep first at seat what outcome given last → length given ≤ first.settings.seats + 1
+pub few_answers : (first last : Machine) (at seat : ℕ) (what : Step) (outcome : Outcome) (given : List GivenAnswer) → IsLawful first → IsStep first at seat what outcome given last → length given ≤ first.settings.seats + 1
 few_answers first last at seat what outcome given h s =
     let k = kept_of_lawful first h in
     let begin = forgetting (after_timers (at_moment at first)) in

@@ -18,7 +18,7 @@ use Rattle.bq_job.specs.declared.step.Step.TheVariants as steps
 use Rattle.bq_job.specs.Acts.{Effect, on_found, showing, silent, telling}
 use Rattle.bq_job.specs.Asked.{after_close, after_connect, asked, at_found, effect, refusal_answer, with_end}
 use Rattle.bq_job.specs.Changes.{in_state, is_held_by, is_waiting, job_with, seat_with, with_job, with_seat, without_wait}
-use Rattle.bq_job.specs.Dispatch.{DispatchTurn, Given, IsHandOut, is_wait_before, next_seat, reserved_by}
+use Rattle.bq_job.specs.Dispatch.{DispatchTurn, GivenAnswer, IsHandOut, is_wait_before, next_seat, reserved_by}
 use Rattle.bq_job.specs.JobCommands.{after_delete, after_put, buried, is_free_for, kicked, new_job, released, reserve_effect, waiting_from}
 use Rattle.bq_job.specs.JobStates.{is_reserved}
 use Rattle.bq_job.specs.Lawful.{IsLawful}
@@ -55,7 +55,7 @@ abbrev one_for : Bool → ℕ
 one_for b = cond b 1 0
 
 -- What waits may be answered, and nothing else happens to the client.
-pub record Passes (seat : ℕ) (first last : List SeatRecord) (given : List Given) : Type 0 where
+pub record Passes (seat : ℕ) (first last : List SeatRecord) (given : List GivenAnswer) : Type 0 where
   pub count : length (answers_to seat given) + one_for (waits_in seat last) ≡ one_for (waits_in seat first)
   pub unclosed : has_closed (answers_to seat given) ≡ false
   pub connected : connected_in seat last ≡ connected_in seat first
@@ -65,7 +65,7 @@ pub record Passes (seat : ℕ) (first last : List SeatRecord) (given : List Give
 passes_itself : (seat : ℕ) (seats : List SeatRecord) → Passes seat seats seats []
 passes_itself seat seats = record { count = omega arith; unclosed = refl; connected = refl; ended = refl; numbers = refl }
 
-pub answers_append : (seat : ℕ) (xs ys : List Given) → answers_to seat (xs ++ ys) ≡ answers_to seat xs ++ answers_to seat ys
+pub answers_append : (seat : ℕ) (xs ys : List GivenAnswer) → answers_to seat (xs ++ ys) ≡ answers_to seat xs ++ answers_to seat ys
 answers_append seat [] ys = refl
 answers_append seat (g ∷ xs) ys =
     elim (cases_Bool (g.0 == seat)) [
@@ -76,7 +76,7 @@ answers_append seat (g ∷ xs) ys =
 unclosed_append : (xs ys : List Answer) → has_closed xs ≡ false → has_closed ys ≡ false → has_closed (xs ++ ys) ≡ false
 unclosed_append xs ys h i = list_any-append is_closed_answer xs ys ∙ or_from (has_closed xs) (has_closed ys) h i
 
-passes_then : (seat : ℕ) (first next last : List SeatRecord) (xs ys : List Given) → Passes seat first next xs → Passes seat next last ys → Passes seat first last (xs ++ ys)
+passes_then : (seat : ℕ) (first next last : List SeatRecord) (xs ys : List GivenAnswer) → Passes seat first next xs → Passes seat next last ys → Passes seat first last (xs ++ ys)
 passes_then seat first next last xs ys h i = record {
   count = let long : length (answers_to seat (xs ++ ys)) ≡ length (answers_to seat xs) + length (answers_to seat ys) = ap length (answers_append seat xs ys) ∙ simp length-append in
       let a = h.count in let b = i.count in omega arith;
@@ -160,12 +160,12 @@ passes_turn seat seats s answer there waits stays =
     ]
 
 -- the same where the turn is known by equations
-passes_turn_to : (seat : ℕ) (m next : Machine) (s : SeatRecord) (answer : Answer) (given : Given) → Contains m.seats s → is_waiting s ≡ true → is_closed_answer answer ≡ false → given ≡ (s.number, answer) → next.seats ≡ map (unwaited s.number) m.seats → Passes seat m.seats next.seats (given ∷ [])
+passes_turn_to : (seat : ℕ) (m next : Machine) (s : SeatRecord) (answer : Answer) (given : GivenAnswer) → Contains m.seats s → is_waiting s ≡ true → is_closed_answer answer ≡ false → given ≡ (s.number, answer) → next.seats ≡ map (unwaited s.number) m.seats → Passes seat m.seats next.seats (given ∷ [])
 passes_turn_to seat m next s answer given there waits stays told is =
     subst (λ seats. Passes seat m.seats seats (given ∷ [])) (sym is)
-    (subst (λ (g : Given). Passes seat m.seats (map (unwaited s.number) m.seats) (g ∷ [])) (sym told) (passes_turn seat m.seats s answer there waits stays))
+    (subst (λ (g : GivenAnswer). Passes seat m.seats (map (unwaited s.number) m.seats) (g ∷ [])) (sym told) (passes_turn seat m.seats s answer there waits stays))
 
-passes_hand_out : (seat : ℕ) (m : Machine) (j : Job) (s : SeatRecord) (given : Given) (next : Machine) → next_seat m j ≡ Some s → IsHandOut m j s given next → Passes seat m.seats next.seats (given ∷ [])
+passes_hand_out : (seat : ℕ) (m : Machine) (j : Job) (s : SeatRecord) (given : GivenAnswer) (next : Machine) → next_seat m j ≡ Some s → IsHandOut m j s given next → Passes seat m.seats next.seats (given ∷ [])
 passes_hand_out seat m j s given next f (inl i) =
     let w = next_seat_waits m j s f in
     passes_turn_to seat m next s (answers.Reserved j.id j.body) given w.0 w.1 refl i.0 (ap (λ (n : Machine). n.seats) i.1)
@@ -173,11 +173,11 @@ passes_hand_out seat m j s given next f (inr i) =
     let w = next_seat_waits m j s f in
     passes_turn_to seat m next s answers.OutOfMemory given w.0 w.1 refl i.0 (ap (λ (n : Machine). n.seats) i.1)
 
-passes_dispatch : (seat : ℕ) (m : Machine) (given : Given) (next : Machine) → DispatchTurn m given next → Passes seat m.seats next.seats (given ∷ [])
+passes_dispatch : (seat : ℕ) (m : Machine) (given : GivenAnswer) (next : Machine) → DispatchTurn m given next → Passes seat m.seats next.seats (given ∷ [])
 passes_dispatch seat m given next turn =
     let t = turn_of m given next turn in passes_hand_out seat m t.job t.client given next t.client_is t.hands
 
-passes_wait_end : (seat : ℕ) (m : Machine) (given : Given) (next : Machine) → WaitEndTurn m given next → Passes seat m.seats next.seats (given ∷ [])
+passes_wait_end : (seat : ℕ) (m : Machine) (given : GivenAnswer) (next : Machine) → WaitEndTurn m given next → Passes seat m.seats next.seats (given ∷ [])
 passes_wait_end seat m given next turn =
     let e = end_of m given next turn in
     let w = next_end_waits m e.client e.client_is in
@@ -186,13 +186,13 @@ passes_wait_end seat m given next turn =
     (ap (λ (n : Machine). n.seats) e.next_is)
 
 -- turns one after another
-passes_chain : (Turns : Machine → Given → Machine → Type 0) (seat : ℕ) (first : Machine) (given : List Given) (last : Machine) → ((m : Machine) (g : Given) (n : Machine) → Turns m g n → Passes seat m.seats n.seats (g ∷ [])) → Chain Turns first given last → Passes seat first.seats last.seats given
+passes_chain : (Turns : Machine → GivenAnswer → Machine → Type 0) (seat : ℕ) (first : Machine) (given : List GivenAnswer) (last : Machine) → ((m : Machine) (g : GivenAnswer) (n : Machine) → Turns m g n → Passes seat m.seats n.seats (g ∷ [])) → Chain Turns first given last → Passes seat first.seats last.seats given
 passes_chain Turns seat first [] last each chain = subst (λ (n : Machine). Passes seat first.seats n.seats []) (sym chain) (passes_itself seat first.seats)
 passes_chain Turns seat first (g ∷ given) last each chain =
     passes_then seat first.seats (chain.0).seats last.seats (g ∷ []) given (each first g chain.0 chain.1) (passes_chain Turns seat chain.0 given last each chain.2)
 
 -- dispatch and the ends of waits
-pub passes_serves : (seat : ℕ) (first : Machine) (handed ended : List Given) (last : Machine) → Serves first handed ended last → Passes seat first.seats last.seats (handed ++ ended)
+pub passes_serves : (seat : ℕ) (first : Machine) (handed ended : List GivenAnswer) (last : Machine) → Serves first handed ended last → Passes seat first.seats last.seats (handed ++ ended)
 passes_serves seat first handed ended last s =
     let d = s.dispatches in
     let e = s.ends_waits in
@@ -420,17 +420,17 @@ replies_acted share_refused m seat request w p h =
     subst (λ n. Replies seat n (is_waiting_request request) m.seats (telling answers.OutOfMemory m)) (sym one) (replies_jobs seat m m answers.OutOfMemory w refl refl)
 
 -- the parts of a step, to one client
-record Parts (client : ℕ) (first last : Machine) (seat : ℕ) (what : Step) (given : List Given) : Type 0 where
+record Parts (client : ℕ) (first last : Machine) (seat : ℕ) (what : Step) (given : List GivenAnswer) : Type 0 where
   memory : Memory
   before : Machine
-  early : List Given
-  late : List Given
+  early : List GivenAnswer
+  late : List GivenAnswer
   comes : Passes client first.seats before.seats early
   possible : IsTrue (is_possible memory before seat what)
   goes : Passes client ((acted memory before seat what).machine).seats last.seats late
   given_is : given ≡ early ++ (addressed seat (acted memory before seat what).answer ++ late)
 
-parts_of : (client : ℕ) (first last : Machine) (at seat : ℕ) (what : Step) (outcome : Outcome) (given : List Given) → IsStep first at seat what outcome given last → Parts client first last seat what given
+parts_of : (client : ℕ) (first last : Machine) (at seat : ℕ) (what : Step) (outcome : Outcome) (given : List GivenAnswer) → IsStep first at seat what outcome given last → Parts client first last seat what given
 parts_of client first last at seat what outcome given s = record {
   memory = s.memory;
   before = s.before;
@@ -452,7 +452,7 @@ acted_fully growth_refused m seat what h i p = absurd (both_ways (step_takes_mem
 acted_fully share_refused m seat what h i p = absurd (both_ways (shares_body (effect m seat what).answer) i p)
 
 -- A command tells nobody anything, and the client waits and is connected as before.
-gets_quiet : (client : ℕ) (first last : Machine) (seat : ℕ) (what : Step) (given : List Given) → Parts client first last seat what given → step_takes_memory what ≡ false → ((m : Machine) → (effect m seat what).answer ≡ None) → ((m : Machine) → waits_in client ((effect m seat what).machine).seats ≡ waits_in client m.seats) → ((m : Machine) → connected_in client ((effect m seat what).machine).seats ≡ connected_in client m.seats) → GetsWhatWaits first last client (answers_to client given)
+gets_quiet : (client : ℕ) (first last : Machine) (seat : ℕ) (what : Step) (given : List GivenAnswer) → Parts client first last seat what given → step_takes_memory what ≡ false → ((m : Machine) → (effect m seat what).answer ≡ None) → ((m : Machine) → waits_in client ((effect m seat what).machine).seats ≡ waits_in client m.seats) → ((m : Machine) → connected_in client ((effect m seat what).machine).seats ≡ connected_in client m.seats) → GetsWhatWaits first last client (answers_to client given)
 gets_quiet client first last seat what given p takes untold waits connects =
     let m = p.before in
     let e : acted p.memory m seat what ≡ effect m seat what = acted_fully p.memory m seat what takes (ap shares_body (untold m)) p.possible in
@@ -497,7 +497,7 @@ addressed_told seat None = refl
 addressed_told seat (Some answer) = rw (eq-eqb seat seat refl) refl
 
 -- the answers to the client that takes the step
-answers_of_parts : (seat : ℕ) (o : Option Answer) (early late given : List Given) → given ≡ early ++ (addressed seat o ++ late) → answers_to seat given ≡ answers_to seat early ++ (told o ++ answers_to seat late)
+answers_of_parts : (seat : ℕ) (o : Option Answer) (early late given : List GivenAnswer) → given ≡ early ++ (addressed seat o ++ late) → answers_to seat given ≡ answers_to seat early ++ (told o ++ answers_to seat late)
 answers_of_parts seat o early late given e =
     ap (answers_to seat) e
     ∙ answers_append seat early (addressed seat o ++ late)
@@ -519,13 +519,13 @@ unconnected_waits_not seat seats waits c =
     (all_both (λ s. is_open_wait s ≡ true) (λ s. (s.number == seat && s.connected) ≡ false) seats waits (none_pass (λ s. s.number == seat && s.connected) seats c)))
 
 -- the seat that the step is at, before the command's own effect
-found_before : (first last : Machine) (seat : ℕ) (what : Step) (given : List Given) → IsLawful first → seat < first.settings.seats → (p : Parts seat first last seat what given) → Found seat (p.before).seats
+found_before : (first last : Machine) (seat : ℕ) (what : Step) (given : List GivenAnswer) → IsLawful first → seat < first.settings.seats → (p : Parts seat first last seat what given) → Found seat (p.before).seats
 found_before first last seat what given h there p = finds first.settings.seats seat (p.before).seats (p.comes.numbers ∙ h.seats) there
 
 abbrev seated : SeatRecord → SeatRecord
 seated s = record (empty_seat s.number) { connected = true }
 
-gives_connect : (first last : Machine) (seat : ℕ) (given : List Given) → IsLawful first → seat < first.settings.seats → Parts seat first last seat steps.Connect given → connected_in seat first.seats ≡ false → (answers_to seat given ≡ []) × (owing seat last ≡ 0) × (is_connected_at seat last ≡ true)
+gives_connect : (first last : Machine) (seat : ℕ) (given : List GivenAnswer) → IsLawful first → seat < first.settings.seats → Parts seat first last seat steps.Connect given → connected_in seat first.seats ≡ false → (answers_to seat given ≡ []) × (owing seat last ≡ 0) × (is_connected_at seat last ≡ true)
 gives_connect first last seat given h there p c =
     let m = p.before in
     let f = found_before first last seat steps.Connect given h there p in
@@ -550,7 +550,7 @@ gives_connect first last seat given h there p c =
       goes.connected ∙ connected_after,
     )
 
-gives_answer : (first last : Machine) (seat : ℕ) (request : Request) (given : List Given) → IsLawful first → seat < first.settings.seats → Parts seat first last seat (steps.Ask request) given → connected_in seat first.seats ≡ true → owing seat first ≡ 0 → GetsAnswer first last seat request (answers_to seat given)
+gives_answer : (first last : Machine) (seat : ℕ) (request : Request) (given : List GivenAnswer) → IsLawful first → seat < first.settings.seats → Parts seat first last seat (steps.Ask request) given → connected_in seat first.seats ≡ true → owing seat first ≡ 0 → GetsAnswer first last seat request (answers_to seat given)
 gives_answer first last seat request given h there p c none =
     let m = p.before in
     let f = found_before first last seat (steps.Ask request) given h there p in
@@ -568,7 +568,7 @@ gives_answer first last seat request given h there p c none =
       connected = p.goes.connected ∙ reply.connected ∙ p.comes.connected ∙ c;
     }
 
-gives_closed : (first last : Machine) (seat : ℕ) (given : List Given) → IsLawful first → seat < first.settings.seats → Parts seat first last seat steps.Close given → connected_in seat first.seats ≡ true → GetsClosed first last seat (answers_to seat given)
+gives_closed : (first last : Machine) (seat : ℕ) (given : List GivenAnswer) → IsLawful first → seat < first.settings.seats → Parts seat first last seat steps.Close given → connected_in seat first.seats ≡ true → GetsClosed first last seat (answers_to seat given)
 gives_closed first last seat given h there p c =
     let m = p.before in
     let f = found_before first last seat steps.Close given h there p in
@@ -596,7 +596,7 @@ gives_closed first last seat given h there p c =
     }
 
 -- A tick at any seat gives to any client what it waits for.
-pub tick_gives_client : (first last : Machine) (at seat client : ℕ) (outcome : Outcome) (given : List Given) → IsStep first at seat steps.Tick outcome given last → GetsWhatWaits first last client (answers_to client given)
+pub tick_gives_client : (first last : Machine) (at seat client : ℕ) (outcome : Outcome) (given : List GivenAnswer) → IsStep first at seat steps.Tick outcome given last → GetsWhatWaits first last client (answers_to client given)
 tick_gives_client first last at seat client outcome given s =
     gets_quiet client first last seat steps.Tick given (parts_of client first last at seat steps.Tick outcome given s) refl (λ m. refl) (λ m. refl) (λ m. refl)
 
@@ -607,7 +607,7 @@ over_by_end true false true ended e h = absurd cc
 over_by_end true false false ended e h = absurd cc
 
 -- Who sends no more waits no more: no wait would end after the step.
-gives_end : (first last : Machine) (seat : ℕ) (given : List Given) → IsLawful first → IsLawful last → seat < first.settings.seats → Parts seat first last seat steps.End given → connected_in seat first.seats ≡ true → owing seat last ≡ 0
+gives_end : (first last : Machine) (seat : ℕ) (given : List GivenAnswer) → IsLawful first → IsLawful last → seat < first.settings.seats → Parts seat first last seat steps.End given → connected_in seat first.seats ≡ true → owing seat last ≡ 0
 gives_end first last seat given h i there p c =
     let m = p.before in
     let f = found_before first last seat steps.End given h there p in
@@ -632,7 +632,7 @@ gives_end first last seat given h i there p c =
     ap one_for (g.waits ∙ over_by_end (is_waiting r) (is_deadline_soon last r) (is_until_over last.moment r.wait) r.ended is_over ends_not)
 
 -- What a step gives to the client at its seat.
-pub step_gives_client : (first last : Machine) (at seat : ℕ) (what : Step) (outcome : Outcome) (given : List Given) → IsLawful first → seat < first.settings.seats → IsStep first at seat what outcome given last → GivesClient seat first what given last
+pub step_gives_client : (first last : Machine) (at seat : ℕ) (what : Step) (outcome : Outcome) (given : List GivenAnswer) → IsLawful first → seat < first.settings.seats → IsStep first at seat what outcome given last → GivesClient seat first what given last
 step_gives_client first last at seat steps.Connect outcome given h there s = λ c. gives_connect first last seat given h there (parts_of seat first last at seat steps.Connect outcome given s) c
 step_gives_client first last at seat (steps.Ask request) outcome given h there s =
     λ c none. gives_answer first last seat request given h there (parts_of seat first last at seat (steps.Ask request) outcome given s) c none

@@ -1,38 +1,38 @@
 -- Runs, one step at a time: what a run of no step, of a first step, of a last step and of two parts is.
 use Rattle.std.proofs.Common.{ℕ, ◌≡◌, List, [], ◌∷◌, ◌++◌, map, refl, sym, ap, ◌∙◌, subst, append_assoc, append-nil}
 use Rattle.std.specs.Prelude.{flat_map}
-use Rattle.bq_job.specs.Dispatch.{Given}
+use Rattle.bq_job.specs.Dispatch.{GivenAnswer}
 use Rattle.bq_job.specs.Machine.{Machine}
 use Rattle.bq_job.specs.Runs.{Entry, GoesBy, IsTransition, Run, RunBy, Transition, parts_of}
 use Rattle.bq_job.specs.Steps.{IsStep, Outcome}
 
 -- A run begins with this step, and the rest is a run.
-pub record Begins (first : Machine) (e : Entry) (history : List Entry) (given : List Given) (last : Machine) : Type 0 where
+pub record Begins (first : Machine) (e : Entry) (history : List Entry) (given : List GivenAnswer) (last : Machine) : Type 0 where
   pub outcome : Outcome
-  pub now : List Given
-  pub more : List Given
+  pub now : List GivenAnswer
+  pub more : List GivenAnswer
   pub next : Machine
   pub step : IsStep first e.moment e.seat e.what outcome now next
   pub given_is : given ≡ now ++ more
   pub rest : Run next history more last
 
 -- A run consists of two.
-pub record Splits (first : Machine) (history more : List Entry) (given : List Given) (last : Machine) : Type 0 where
-  pub given_first : List Given
-  pub given_then : List Given
+pub record Splits (first : Machine) (history more : List Entry) (given : List GivenAnswer) (last : Machine) : Type 0 where
+  pub given_first : List GivenAnswer
+  pub given_then : List GivenAnswer
   pub middle : Machine
   pub run_first : Run first history given_first middle
   pub run_then : Run middle more given_then last
   pub given_is : given ≡ given_first ++ given_then
 
 -- the step, as one that was taken
-abbrev pub taken_as : (first : Machine) (e : Entry) (outcome : Outcome) (given : List Given) (last : Machine) → IsStep first e.moment e.seat e.what outcome given last → Transition
+abbrev pub taken_as : (first : Machine) (e : Entry) (outcome : Outcome) (given : List GivenAnswer) (last : Machine) → IsStep first e.moment e.seat e.what outcome given last → Transition
 taken_as first e outcome given last step = record { entry = e; first = first; parts = parts_of step; last = last; outcome = outcome; given = given }
 
 pub run_none : (m : Machine) → Run m [] [] m
 run_none m = ([], record { taken = []; goes = refl; history_is = refl; outcomes_are = refl; given_is = refl })
 
-pub run_from : (first next last : Machine) (e : Entry) (history : List Entry) (outcome : Outcome) (now more : List Given) → IsStep first e.moment e.seat e.what outcome now next → Run next history more last → Run first (e ∷ history) (now ++ more) last
+pub run_from : (first next last : Machine) (e : Entry) (history : List Entry) (outcome : Outcome) (now more : List GivenAnswer) → IsStep first e.moment e.seat e.what outcome now next → Run next history more last → Run first (e ∷ history) (now ++ more) last
 run_from first next last e history outcome now more step (outcomes, r) = (
   outcome ∷ outcomes,
   record {
@@ -40,7 +40,7 @@ run_from first next last e history outcome now more step (outcomes, r) = (
     goes = (refl, record { step = step; parts_are = refl }, r.goes);
     history_is = ap (λ (xs : List Entry). e ∷ xs) r.history_is;
     outcomes_are = ap (λ (xs : List Outcome). outcome ∷ xs) r.outcomes_are;
-    given_is = ap (λ (xs : List Given). now ++ xs) r.given_is;
+    given_is = ap (λ (xs : List GivenAnswer). now ++ xs) r.given_is;
   },
 )
 
@@ -48,14 +48,14 @@ run_from first next last e history outcome now more step (outcomes, r) = (
 pub run_of : (first last : Machine) (taken : List Transition) → GoesBy first taken last → Run first (map (λ t. t.entry) taken) (flat_map (λ t. t.given) taken) last
 run_of first last taken goes = (map (λ t. t.outcome) taken, record { taken = taken; goes = goes; history_is = refl; outcomes_are = refl; given_is = refl })
 
-pub run_of_none : (first last : Machine) (given : List Given) → Run first [] given last → (given ≡ []) × (last ≡ first)
+pub run_of_none : (first last : Machine) (given : List GivenAnswer) → Run first [] given last → (given ≡ []) × (last ≡ first)
 run_of_none first last given (outcomes, r) = of_taken r.taken r.goes r.history_is r.given_is
   where
     of_taken : (taken : List Transition) → GoesBy first taken last → map (λ t. t.entry) taken ≡ [] → flat_map (λ t. t.given) taken ≡ given → (given ≡ []) × (last ≡ first)
     of_taken [] goes e g = (sym g, goes)
     of_taken (t ∷ taken) goes e g = absurd cc
 
-begins_with : (first last : Machine) (e : Entry) (history : List Entry) (given : List Given) (t : Transition) (taken : List Transition) → t.first ≡ first → IsTransition t → GoesBy t.last taken last → t.entry ≡ e → map (λ t. t.entry) taken ≡ history → t.given ++ flat_map (λ t. t.given) taken ≡ given → Begins first e history given last
+begins_with : (first last : Machine) (e : Entry) (history : List Entry) (given : List GivenAnswer) (t : Transition) (taken : List Transition) → t.first ≡ first → IsTransition t → GoesBy t.last taken last → t.entry ≡ e → map (λ t. t.entry) taken ≡ history → t.given ++ flat_map (λ t. t.given) taken ≡ given → Begins first e history given last
 begins_with first last e history given t taken starts is goes same rest g = record {
   outcome = t.outcome;
   now = t.given;
@@ -66,29 +66,29 @@ begins_with first last e history given t taken starts is goes same rest g = reco
   rest = subst (λ (h : List Entry). Run t.last h (flat_map (λ t. t.given) taken) last) rest (run_of t.last last taken goes);
 }
 
-pub run_first : (first last : Machine) (e : Entry) (history : List Entry) (given : List Given) → Run first (e ∷ history) given last → Begins first e history given last
+pub run_first : (first last : Machine) (e : Entry) (history : List Entry) (given : List GivenAnswer) → Run first (e ∷ history) given last → Begins first e history given last
 run_first first last e history given (outcomes, r) = of_taken r.taken r.goes r.history_is r.given_is
   where
     of_taken : (taken : List Transition) → GoesBy first taken last → map (λ t. t.entry) taken ≡ e ∷ history → flat_map (λ t. t.given) taken ≡ given → Begins first e history given last
     of_taken [] goes h g = absurd cc
     of_taken (t ∷ taken) goes h g = begins_with first last e history given t taken goes.0 goes.1 goes.2 (cc) (cc) g
 
-pub run_append : (first next last : Machine) (history more : List Entry) (given later : List Given) → Run first history given next → Run next more later last → Run first (history ++ more) (given ++ later) last
+pub run_append : (first next last : Machine) (history more : List Entry) (given later : List GivenAnswer) → Run first history given next → Run next more later last → Run first (history ++ more) (given ++ later) last
 run_append first next last [] more given later r s =
     let ends = run_of_none first next given r in
-    subst (λ (xs : List Given). Run first more (xs ++ later) last) (sym ends.0) (subst (λ (m : Machine). Run m more later last) ends.1 s)
+    subst (λ (xs : List GivenAnswer). Run first more (xs ++ later) last) (sym ends.0) (subst (λ (m : Machine). Run m more later last) ends.1 s)
 run_append first next last (e ∷ history) more given later r s =
     let b = run_first first next e history given r in
-    subst (λ (xs : List Given). Run first (e ∷ history ++ more) xs last) (sym (append_assoc b.now b.more later) ∙ ap (λ (xs : List Given). xs ++ later) (sym b.given_is))
+    subst (λ (xs : List GivenAnswer). Run first (e ∷ history ++ more) xs last) (sym (append_assoc b.now b.more later) ∙ ap (λ (xs : List GivenAnswer). xs ++ later) (sym b.given_is))
     (run_from first b.next last e (history ++ more) b.outcome b.now (b.more ++ later) b.step (run_append b.next next last history more b.more later b.rest s))
 
 -- a run, and one step more
-pub run_more : (first : Machine) (history : List Entry) (so_far : List Given) (last next : Machine) (e : Entry) (outcome : Outcome) (given : List Given) → Run first history so_far last → IsStep last e.moment e.seat e.what outcome given next → Run first (history ++ e ∷ []) (so_far ++ given) next
+pub run_more : (first : Machine) (history : List Entry) (so_far : List GivenAnswer) (last next : Machine) (e : Entry) (outcome : Outcome) (given : List GivenAnswer) → Run first history so_far last → IsStep last e.moment e.seat e.what outcome given next → Run first (history ++ e ∷ []) (so_far ++ given) next
 run_more first history so_far last next e outcome given r step =
     run_append first last next history (e ∷ []) so_far given r
-    (subst (λ (xs : List Given). Run last (e ∷ []) xs next) (append-nil given) (run_from last next next e [] outcome given [] step (run_none next)))
+    (subst (λ (xs : List GivenAnswer). Run last (e ∷ []) xs next) (append-nil given) (run_from last next next e [] outcome given [] step (run_none next)))
 
-pub run_split : (first last : Machine) (history more : List Entry) (given : List Given) → Run first (history ++ more) given last → Splits first history more given last
+pub run_split : (first last : Machine) (history more : List Entry) (given : List GivenAnswer) → Run first (history ++ more) given last → Splits first history more given last
 run_split first last [] more given r = record { given_first = []; given_then = given; middle = first; run_first = run_none first; run_then = r; given_is = refl }
 run_split first last (e ∷ history) more given r =
     let b = run_first first last e (history ++ more) given r in
@@ -99,5 +99,5 @@ run_split first last (e ∷ history) more given r =
       middle = s.middle;
       run_first = run_from first b.next s.middle e history b.outcome b.now s.given_first b.step s.run_first;
       run_then = s.run_then;
-      given_is = b.given_is ∙ ap (λ (xs : List Given). b.now ++ xs) s.given_is ∙ sym (append_assoc b.now s.given_first s.given_then);
+      given_is = b.given_is ∙ ap (λ (xs : List GivenAnswer). b.now ++ xs) s.given_is ∙ sym (append_assoc b.now s.given_first s.given_then);
     }

@@ -6,7 +6,7 @@ use Rattle.bq_job.specs.declared.job.Job.{Job}
 use Rattle.bq_job.specs.declared.step.Step.{Step}
 use Rattle.bq_job.specs.Asked.{effect}
 use Rattle.bq_job.specs.Changes.{is_waiting, with_seat, without_wait}
-use Rattle.bq_job.specs.Dispatch.{Given, after_hand_out, next_job, next_seat}
+use Rattle.bq_job.specs.Dispatch.{GivenAnswer, after_hand_out, next_job, next_seat}
 use Rattle.bq_job.specs.Machine.{Machine, SeatRecord}
 use Rattle.bq_job.specs.Steps.{Outcome, addressed}
 use Rattle.bq_job.specs.Timers.{after_timers, at_moment}
@@ -16,12 +16,12 @@ use Rattle.bq_job.specs.Waits.{end_of_wait, next_end}
 -- a machine, and the answers that were given on the way to it
 pub record Served : Type 0 where
   pub machine : Machine
-  pub given : List Given
+  pub given : List GivenAnswer
 
 abbrev pub unserved : Machine → Served
 unserved m = record { machine = m; given = [] }
 
-abbrev pub after_given : Given → Served → Served
+abbrev pub after_given : GivenAnswer → Served → Served
 after_given given later = record later { given = given ∷ later.given }
 
 -- the job goes to this client, and the rest follows

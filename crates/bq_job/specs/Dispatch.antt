@@ -13,8 +13,8 @@ use Rattle.bq_job.specs.Machine.{Machine, SeatRecord, Wait}
 use Rattle.bq_job.specs.Tubes.{watches, is_paused}
 
 -- an answer, and the seat that it goes to
-abbrev pub Given : Type 0
-Given = ℕ × Answer
+abbrev pub GivenAnswer : Type 0
+GivenAnswer = ℕ × Answer
 
 -- A seat may be given a ready job of an unpaused tube that it watches.
 abbrev pub may_have : Machine → SeatRecord → Job → Bool
@@ -56,12 +56,12 @@ after_hand_out m j s = with_seat s.number without_wait (with_job j.id (reserved_
 
 -- The client gets the job. Where the share of its body was refused, the client is told so and waits no
 -- longer, and the job stays as it was.
-abbrev pub IsHandOut : Machine → Job → SeatRecord → Given → Machine → Type 0
+abbrev pub IsHandOut : Machine → Job → SeatRecord → GivenAnswer → Machine → Type 0
 IsHandOut m j s given next =
     ((given ≡ (s.number, answers.Reserved j.id j.body)) × (next ≡ after_hand_out m j s))
     ⊎ ((given ≡ (s.number, answers.OutOfMemory)) × (next ≡ with_seat s.number without_wait m))
 
 -- one job is handed out
-abbrev pub DispatchTurn : Machine → Given → Machine → Type 0
+abbrev pub DispatchTurn : Machine → GivenAnswer → Machine → Type 0
 DispatchTurn m given next =
     MatchOption (next_job m) ⊥ (λ j. MatchOption (next_seat m j) ⊥ (λ s. IsHandOut m j s given next))

@@ -7,14 +7,14 @@ use Rattle.bq_job.specs.declared.step.Step.TheVariants as steps
 use Rattle.bq_job.specs.CommandWords.{all_words}
 use Rattle.bq_job.specs.Computed.{stepped}
 use Rattle.bq_job.specs.ComputedReading.{reading}
-use Rattle.bq_job.specs.Dispatch.{Given}
+use Rattle.bq_job.specs.Dispatch.{GivenAnswer}
 use Rattle.bq_job.specs.LineSteps.{answers_text, ends_by_wait}
 use Rattle.bq_job.specs.Machine.{Machine, new_machine}
 use Rattle.bq_job.specs.Profile.{profile}
 use Rattle.bq_job.specs.Runs.{Entry}
 
 -- what the machine answers to each step
-abbrev pub ran : Machine → List Entry → List (List Given)
+abbrev pub ran : Machine → List Entry → List (List GivenAnswer)
 ran m [] = []
 ran m (e ∷ history) = let s = stepped m e.moment e.seat e.what in s.given ∷ ran s.machine history
 
@@ -47,7 +47,7 @@ at moment e = record e { moment = moment }
 
 infix 70 ◌gives◌
 -- a step, and the answers that it gives, each with its seat
-abbrev pub ◌gives◌ : Entry → List Given → Entry × List Given
+abbrev pub ◌gives◌ : Entry → List GivenAnswer → Entry × List GivenAnswer
 e gives answers = (e, answers)
 
 -- a machine with so many seats and nobody there
@@ -55,7 +55,7 @@ abbrev pub server : ℕ → ℕ → Machine
 server seats max_job_size = new_machine (record { seats = seats; max_job_size = max_job_size })
 
 -- Once a client has come to each of three seats at the moment 0, the steps give the answers beside them.
-abbrev pub Plays : List (Entry × List Given) → Type 0
+abbrev pub Plays : List (Entry × List GivenAnswer) → Type 0
 Plays play =
     ran (server 3 65535) (connect 0 ∷ connect 1 ∷ connect 2 ∷ map (λ p. p.0) play) ≡ [] ∷ [] ∷ [] ∷ map (λ p. p.1) play
 

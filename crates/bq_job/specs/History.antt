@@ -4,7 +4,7 @@ use Rattle.std.specs.List.{list_all}
 use Rattle.bq_job.specs.declared.line_end.LineEnd.{LineEnd}
 use Rattle.bq_job.specs.declared.step.Step.{Step}
 use Rattle.bq_job.specs.declared.step.Step.TheVariants as steps
-use Rattle.bq_job.specs.Dispatch.{Given}
+use Rattle.bq_job.specs.Dispatch.{GivenAnswer}
 use Rattle.bq_job.specs.LineSteps.{AreAllAnswered, IsStepsOfLine, IsWritten, LineSeen}
 use Rattle.bq_job.specs.Profile.{Profile}
 use Rattle.bq_job.specs.Runs.{Entry, answers_of_line}
@@ -28,26 +28,26 @@ steps_at seat history = map (λ e. e.what) (filter (λ e. e.seat == seat) (witho
 
 -- At a door's seat are the steps of its lines, in the order in which they ended, and then it is said that
 -- no more come. Each line is answered and written exactly what it is owed. The lines are counted from n.
-abbrev pub AreStepsOfDoor : Profile → ℕ → ℕ → List LineOver → List Given → List Step → Type 0
-AreStepsOfDoor p seat n [] given taken = taken ≡ steps.Gone ∷ []
-AreStepsOfDoor p seat n (line ∷ lines) given taken =
+abbrev pub IsDoorServed : Profile → ℕ → ℕ → List LineOver → List GivenAnswer → List Step → Type 0
+IsDoorServed p seat n [] given taken = taken ≡ steps.Gone ∷ []
+IsDoorServed p seat n (line ∷ lines) given taken =
     (own more : List Step)
     × (of_line : IsStepsOfLine p line.seen line.over own)
     × AreAllAnswered line.over of_line.asked (answers_of_line seat n given)
     × IsWritten line.over of_line.asked (answers_of_line seat n given) line.seen.written
     × (taken ≡ own ++ more)
-    × AreStepsOfDoor p seat (suc n) lines given more
+    × IsDoorServed p seat (suc n) lines given more
 
 -- the doors stand at the seats from this one on
-abbrev pub AreStepsOfDoors : Profile → ℕ → List (List LineOver) → List Given → List Entry → Type 0
-AreStepsOfDoors p seat [] given history = Unit {0}
-AreStepsOfDoors p seat (lines ∷ doors) given history =
-    AreStepsOfDoor p seat 0 lines given (steps_at seat history) × AreStepsOfDoors p (suc seat) doors given history
+abbrev pub AreDoorsServed : Profile → ℕ → List (List LineOver) → List GivenAnswer → List Entry → Type 0
+AreDoorsServed p seat [] given history = Unit {0}
+AreDoorsServed p seat (lines ∷ doors) given history =
+    IsDoorServed p seat 0 lines given (steps_at seat history) × AreDoorsServed p (suc seat) doors given history
 
 -- The history holds the steps of each door's lines once and in their order, and for the control line so
 -- many drains and its end. In the run over it these answers were given.
-pub record IsHistoryOf (p : Profile) (doors : List (List LineOver)) (drains : ℕ) (given : List Given) (history : List Entry) : Type 0 where
-  pub of_doors : AreStepsOfDoors p 0 doors given history
+pub record IsHistoryOf (p : Profile) (doors : List (List LineOver)) (drains : ℕ) (given : List GivenAnswer) (history : List Entry) : Type 0 where
+  pub of_doors : AreDoorsServed p 0 doors given history
   pub of_control : steps_at (length doors) history ≡ replicate drains steps.Drain ++ steps.Gone ∷ []
   pub of_nobody_else : IsTrue (list_all (λ e. nat_le e.seat (length doors)) (without_ticks history))
 

@@ -1,5 +1,5 @@
 pub mod Acts
-pub mod AnswerRows
+pub mod AnswerExamples
 pub mod AnswerText
 pub mod Asked
 pub mod BodySoFar
@@ -27,7 +27,7 @@ pub mod SameRequests
 pub mod Statistics
 pub mod StatisticsCommands
 pub mod Steps
-pub mod TextRows
+pub mod TextExamples
 pub mod Timers
 pub mod TubeCommands
 pub mod TubeName

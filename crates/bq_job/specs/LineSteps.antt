@@ -44,19 +44,19 @@ IsOverBy line ends.WriteFault read asked =
     (more : List Request) × (read ≡ asked ++ more) × (asked ≢ []) × IsTrue (not (ends_by_quit asked)) × (line.fault ≡ Some faults.Write)
 
 -- An end may be told just before the close, where the last request may wait and the line says that it ended.
-abbrev pub AreEnds : LineSeen → List Request → List Step → Type 0
-AreEnds line asked told = (told ≡ []) ⊎ ((told ≡ steps.End ∷ []) × IsTrue (ends_by_wait asked) × IsTrue line.ended)
+abbrev pub MayTellEnd : LineSeen → List Request → List Step → Type 0
+MayTellEnd line asked end_steps = (end_steps ≡ []) ⊎ ((end_steps ≡ steps.End ∷ []) × IsTrue (ends_by_wait asked) × IsTrue line.ended)
 
 -- The steps of a line that is over: it connects, asks its requests in their order, and is closed.
 pub record IsStepsOfLine (p : Profile) (line : LineSeen) (over : LineEnd) (taken : List Step) : Type 0 where
   pub requests : List Request
   pub rest : List ℕ
   pub asked : List Request
-  pub told : List Step
+  pub end_steps : List Step
   pub reads : Reads p line.read requests rest
   pub is_over : IsOverBy line over requests asked
-  pub ends : AreEnds line asked told
-  pub steps_are : taken ≡ steps.Connect ∷ [] ++ map steps.Ask asked ++ told ++ steps.Close ∷ []
+  pub ends : MayTellEnd line asked end_steps
+  pub steps_are : taken ≡ steps.Connect ∷ [] ++ map steps.Ask asked ++ end_steps ++ steps.Close ∷ []
 
 -- the texts of the answers, joined
 abbrev pub answers_text : List Answer → List ℕ

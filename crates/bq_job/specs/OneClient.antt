@@ -8,7 +8,7 @@ use Rattle.bq_job.specs.declared.request.Request.TheVariants as requests
 use Rattle.bq_job.specs.declared.step.Step.{Step}
 use Rattle.bq_job.specs.declared.step.Step.TheVariants as steps
 use Rattle.bq_job.specs.Changes.{is_waiting}
-use Rattle.bq_job.specs.Dispatch.{Given}
+use Rattle.bq_job.specs.Dispatch.{GivenAnswer}
 use Rattle.bq_job.specs.LineSteps.{is_waiting_request}
 use Rattle.bq_job.specs.Machine.{Machine}
 use Rattle.bq_job.specs.Runs.{answers_to}
@@ -60,7 +60,7 @@ pub record GetsClosed (first last : Machine) (seat : ℕ) (given : List Answer) 
 
 -- The client at the seat, of these that there are, takes the step: what it is given, and what it waits
 -- for then. Who sends no more waits no more.
-abbrev pub GivesClient : ℕ → Machine → Step → List Given → Machine → Type 0
+abbrev pub GivesClient : ℕ → Machine → Step → List GivenAnswer → Machine → Type 0
 GivesClient seat first steps.Connect given last =
     is_connected_at seat first ≡ false → (answers_to seat given ≡ []) × (owing seat last ≡ 0) × (is_connected_at seat last ≡ true)
 GivesClient seat first (steps.Ask request) given last =

@@ -4,7 +4,7 @@ use Rattle.bq_job.specs.declared.answer.Answer.{Answer}
 use Rattle.bq_job.specs.declared.answer.Answer.TheVariants as answers
 use Rattle.bq_job.specs.declared.step.Step.{Step}
 use Rattle.bq_job.specs.AnswerText.{answer_text}
-use Rattle.bq_job.specs.Dispatch.{Given}
+use Rattle.bq_job.specs.Dispatch.{GivenAnswer}
 use Rattle.bq_job.specs.Machine.{Machine}
 use Rattle.bq_job.specs.Steps.{IsStep, Memory, Outcome}
 
@@ -17,19 +17,19 @@ pub record Entry : Type 0 where
 -- the parts of a step: the answers that each part gave, and the machines between the parts
 pub record Parts : Type 0 where
   -- first jobs are dispatched and waits end,
-  pub handed : List Given
+  pub handed : List GivenAnswer
   pub between : Machine
-  pub ended : List Given
+  pub ended : List GivenAnswer
   pub before : Machine
   -- then comes the command's own effect,
   pub memory : Memory
   pub after : Machine
   -- then jobs are dispatched and waits end once more.
-  pub handed_then : List Given
+  pub handed_then : List GivenAnswer
   pub between_then : Machine
-  pub ended_then : List Given
+  pub ended_then : List GivenAnswer
 
-abbrev pub parts_of : {first last : Machine} {at seat : ℕ} {what : Step} {outcome : Outcome} {answers : List Given} → IsStep first at seat what outcome answers last → Parts
+abbrev pub parts_of : {first last : Machine} {at seat : ℕ} {what : Step} {outcome : Outcome} {answers : List GivenAnswer} → IsStep first at seat what outcome answers last → Parts
 parts_of step = record {
   handed = step.handed;
   between = step.serves.between;
@@ -49,7 +49,7 @@ pub record Transition : Type 0 where
   pub parts : Parts
   pub last : Machine
   pub outcome : Outcome
-  pub given : List Given
+  pub given : List GivenAnswer
 
 -- The machine may take this step so.
 pub record IsTransition (t : Transition) : Type 0 where
@@ -63,7 +63,7 @@ GoesBy first (t ∷ taken) last = (t.first ≡ first) × IsTransition t × GoesB
 
 -- The machine takes the steps of the history, one after another. They come out so, and give these answers
 -- in this order. What is to be said of each step of the run is said of the list of steps taken.
-pub record RunBy (first : Machine) (history : List Entry) (outcomes : List Outcome) (given : List Given) (last : Machine) : Type 0 where
+pub record RunBy (first : Machine) (history : List Entry) (outcomes : List Outcome) (given : List GivenAnswer) (last : Machine) : Type 0 where
   pub taken : List Transition
   pub goes : GoesBy first taken last
   pub history_is : map (λ t. t.entry) taken ≡ history
@@ -71,11 +71,11 @@ pub record RunBy (first : Machine) (history : List Entry) (outcomes : List Outco
   pub given_is : flat_map (λ t. t.given) taken ≡ given
 
 -- The machine takes the steps of the history, however they come out.
-abbrev pub Run : Machine → List Entry → List Given → Machine → Type 0
+abbrev pub Run : Machine → List Entry → List GivenAnswer → Machine → Type 0
 Run first history given last = (outcomes : List Outcome) × RunBy first history outcomes given last
 
 -- the answers that go to a seat
-abbrev pub answers_to : ℕ → List Given → List Answer
+abbrev pub answers_to : ℕ → List GivenAnswer → List Answer
 answers_to seat given = map (λ g. g.1) (filter (λ g. g.0 == seat) given)
 
 abbrev pub begun_with : Answer → List (List Answer) → List (List Answer)
@@ -89,9 +89,9 @@ by_connection (answers.Closed ∷ more) = [] ∷ by_connection more
 by_connection (answer ∷ more) = begun_with answer (by_connection more)
 
 -- the answers to the nth connection at the seat, counted from 0
-abbrev pub answers_of_line : ℕ → ℕ → List Given → List Answer
+abbrev pub answers_of_line : ℕ → ℕ → List GivenAnswer → List Answer
 answers_of_line seat n given = slice_index_or (by_connection (answers_to seat given)) n []
 
 -- what the nth client at the seat is owed
-abbrev pub owed : ℕ → ℕ → List Given → List ℕ
+abbrev pub owed : ℕ → ℕ → List GivenAnswer → List ℕ
 owed seat n given = flat_map answer_text (answers_of_line seat n given)

@@ -10,7 +10,7 @@ use Rattle.bq_job.specs.Machine.{Machine, Pause}
 use Rattle.bq_job.specs.TubeName.{is_same_name}
 pub use Rattle.bq_job.specs.TubeOrder.{tubes}
 use Rattle.bq_job.specs.Tubes.{tube_record, watches}
-use Rattle.bq_job.specs.Yaml.{Entry, number, entries_text}
+use Rattle.bq_job.specs.Yaml.{KeyValue, key_number, statistics_text}
 pub use Rattle.bq_job.specs.Yaml.{name_list}
 
 -- whole seconds from one moment to a later one, rounded down; 0 where it isn't later
@@ -31,20 +31,20 @@ time_left moment (states.Reserved seat deadline) = seconds_between moment deadli
 time_left moment (states.Buried burial) = 0
 
 abbrev pub job_statistics : Machine → Job → List ℕ
-job_statistics m j = entries_text (
-    number (codes "id") j.id
+job_statistics m j = statistics_text (
+    key_number (codes "id") j.id
     ∷ (codes "tube", j.tube)
     ∷ (codes "state", state_word j.state)
-    ∷ number (codes "pri") j.pri
-    ∷ number (codes "age") (seconds_between j.put_at m.moment)
-    ∷ number (codes "delay") j.delay
-    ∷ number (codes "ttr") j.ttr
-    ∷ number (codes "time-left") (time_left m.moment j.state)
-    ∷ number (codes "reserves") j.counts.reserves
-    ∷ number (codes "timeouts") j.counts.timeouts
-    ∷ number (codes "releases") j.counts.releases
-    ∷ number (codes "buries") j.counts.buries
-    ∷ number (codes "kicks") j.counts.kicks
+    ∷ key_number (codes "pri") j.pri
+    ∷ key_number (codes "age") (seconds_between j.put_at m.moment)
+    ∷ key_number (codes "delay") j.delay
+    ∷ key_number (codes "ttr") j.ttr
+    ∷ key_number (codes "time-left") (time_left m.moment j.state)
+    ∷ key_number (codes "reserves") j.counts.reserves
+    ∷ key_number (codes "timeouts") j.counts.timeouts
+    ∷ key_number (codes "releases") j.counts.releases
+    ∷ key_number (codes "buries") j.counts.buries
+    ∷ key_number (codes "kicks") j.counts.kicks
     ∷ [])
 
 -- An urgent job is a ready one with a priority below 1024; it counts as ready too.
@@ -52,13 +52,13 @@ abbrev pub is_urgent : Job → Bool
 is_urgent j = is_ready j && nat_lt j.pri 1024
 
 -- how many of the jobs are in each state
-abbrev pub job_counts : List Job → List Entry
+abbrev pub job_counts : List Job → List KeyValue
 job_counts jobs =
-    number (codes "current-jobs-urgent") (count_by is_urgent jobs)
-    ∷ number (codes "current-jobs-ready") (count_by is_ready jobs)
-    ∷ number (codes "current-jobs-reserved") (count_by (λ j. is_reserved j.state) jobs)
-    ∷ number (codes "current-jobs-delayed") (count_by (λ j. is_delayed j.state) jobs)
-    ∷ number (codes "current-jobs-buried") (count_by (λ j. is_buried j.state) jobs)
+    key_number (codes "current-jobs-urgent") (count_by is_urgent jobs)
+    ∷ key_number (codes "current-jobs-ready") (count_by is_ready jobs)
+    ∷ key_number (codes "current-jobs-reserved") (count_by (λ j. is_reserved j.state) jobs)
+    ∷ key_number (codes "current-jobs-delayed") (count_by (λ j. is_delayed j.state) jobs)
+    ∷ key_number (codes "current-jobs-buried") (count_by (λ j. is_buried j.state) jobs)
     ∷ []
 
 -- the jobs in the tube
@@ -73,8 +73,8 @@ abbrev pub watching_count : List ℕ → Machine → ℕ
 watching_count name m = count_by (λ s. s.connected && watches name s) m.seats
 
 -- how many clients that watch the tube wait for a job
-abbrev pub waiting_count : List ℕ → Machine → ℕ
-waiting_count name m = count_by (λ s. is_waiting s && watches name s) m.seats
+abbrev pub waiting_clients_of : List ℕ → Machine → ℕ
+waiting_clients_of name m = count_by (λ s. is_waiting s && watches name s) m.seats
 
 -- the seconds that were asked for
 abbrev pub pause_seconds : Option Pause → ℕ
@@ -87,17 +87,17 @@ pause_time_left moment None = 0
 pause_time_left moment (Some pause) = seconds_between moment pause.until
 
 abbrev pub tube_statistics : List ℕ → Machine → List ℕ
-tube_statistics name m = let kept = tube_record name m in entries_text (
+tube_statistics name m = let kept = tube_record name m in statistics_text (
     ((codes "name", name) ∷ [])
     ++ job_counts (jobs_in name m)
-    ++ (number (codes "total-jobs") kept.puts
-    ∷ number (codes "current-using") (using_count name m)
-    ∷ number (codes "current-watching") (watching_count name m)
-    ∷ number (codes "current-waiting") (waiting_count name m)
-    ∷ number (codes "cmd-delete") kept.deletes
-    ∷ number (codes "cmd-pause-tube") kept.pauses
-    ∷ number (codes "pause") (pause_seconds kept.pause)
-    ∷ number (codes "pause-time-left") (pause_time_left m.moment kept.pause)
+    ++ (key_number (codes "total-jobs") kept.puts
+    ∷ key_number (codes "current-using") (using_count name m)
+    ∷ key_number (codes "current-watching") (watching_count name m)
+    ∷ key_number (codes "current-waiting") (waiting_clients_of name m)
+    ∷ key_number (codes "cmd-delete") kept.deletes
+    ∷ key_number (codes "cmd-pause-tube") kept.pauses
+    ∷ key_number (codes "pause") (pause_seconds kept.pause)
+    ∷ key_number (codes "pause-time-left") (pause_time_left m.moment kept.pause)
     ∷ []))
 
 abbrev pub bool_word : Bool → List ℕ
@@ -105,14 +105,14 @@ bool_word true = codes "true"
 bool_word false = codes "false"
 
 abbrev pub server_statistics : Machine → List ℕ
-server_statistics m = entries_text (
+server_statistics m = statistics_text (
     job_counts m.jobs
-    ++ (number (codes "job-timeouts") m.timeouts
-    ∷ number (codes "total-jobs") m.puts
-    ∷ number (codes "max-job-size") m.settings.max_job_size
-    ∷ number (codes "current-tubes") (length (tubes m))
-    ∷ number (codes "current-connections") (count_by (λ s. s.connected) m.seats)
-    ∷ number (codes "current-waiting") (count_by is_waiting m.seats)
-    ∷ number (codes "total-connections") m.connections
+    ++ (key_number (codes "job-timeouts") m.timeouts
+    ∷ key_number (codes "total-jobs") m.puts
+    ∷ key_number (codes "max-job-size") m.settings.max_job_size
+    ∷ key_number (codes "current-tubes") (length (tubes m))
+    ∷ key_number (codes "current-connections") (count_by (λ s. s.connected) m.seats)
+    ∷ key_number (codes "current-waiting") (count_by is_waiting m.seats)
+    ∷ key_number (codes "total-connections") m.connections
     ∷ (codes "draining", bool_word m.draining)
     ∷ []))

@@ -9,7 +9,7 @@ use Rattle.bq_job.specs.declared.step.Step.{Step}
 use Rattle.bq_job.specs.declared.step.Step.TheVariants as steps
 use Rattle.bq_job.specs.Acts.{Effect, telling}
 use Rattle.bq_job.specs.Asked.{effect}
-use Rattle.bq_job.specs.Dispatch.{DispatchTurn, Given, next_job}
+use Rattle.bq_job.specs.Dispatch.{DispatchTurn, GivenAnswer, next_job}
 use Rattle.bq_job.specs.Machine.{Machine}
 use Rattle.bq_job.specs.Timers.{after_timers, at_moment}
 use Rattle.bq_job.specs.Tubes.{forgetting}
@@ -37,11 +37,11 @@ step_takes_memory (steps.Ask request) = takes_memory request
 step_takes_memory _ = false
 
 -- No answer, DRAINING and NOT_FOUND want no growth.
-abbrev pub wants_growth : Option Answer → Bool
-wants_growth None = false
-wants_growth (Some answers.Draining) = false
-wants_growth (Some answers.NotFound) = false
-wants_growth (Some _) = true
+abbrev pub may_be_left_out : Option Answer → Bool
+may_be_left_out None = false
+may_be_left_out (Some answers.Draining) = false
+may_be_left_out (Some answers.NotFound) = false
+may_be_left_out (Some _) = true
 
 abbrev pub shares_body : Option Answer → Bool
 shares_body (Some (answers.Reserved id body)) = true
@@ -51,7 +51,7 @@ shares_body _ = false
 -- Only the commands that take memory can be refused a growth, and only answers with a body a share.
 abbrev pub is_possible : Memory → Machine → ℕ → Step → Bool
 is_possible granted m seat what = true
-is_possible growth_refused m seat what = step_takes_memory what && wants_growth (effect m seat what).answer
+is_possible growth_refused m seat what = step_takes_memory what && may_be_left_out (effect m seat what).answer
 is_possible share_refused m seat what = shares_body (effect m seat what).answer
 
 -- The command's own effect. Where memory was refused, nothing is changed and the answer says so.
@@ -60,7 +60,7 @@ acted granted m seat what = effect m seat what
 acted growth_refused m seat what = telling answers.OutOfMemory m
 acted share_refused m seat what = telling answers.OutOfMemory m
 
-abbrev pub addressed : ℕ → Option Answer → List Given
+abbrev pub addressed : ℕ → Option Answer → List GivenAnswer
 addressed seat None = []
 addressed seat (Some answer) = (seat, answer) ∷ []
 
@@ -69,25 +69,25 @@ is_out_of_memory answers.OutOfMemory = true
 is_out_of_memory _ = false
 
 -- whether dispatch was refused a share for one of these
-abbrev pub has_refused_share : List Given → Bool
+abbrev pub has_refused_share : List GivenAnswer → Bool
 has_refused_share given = list_any (λ g. is_out_of_memory g.1) given
 
 -- Dispatch goes on until no waiting client may have a job.
-pub record Dispatches (first : Machine) (given : List Given) (last : Machine) : Type 0 where
+pub record Dispatches (first : Machine) (given : List GivenAnswer) (last : Machine) : Type 0 where
   pub end : Machine
   pub turns : Chain DispatchTurn first given end
   pub done : next_job end ≡ None
   pub forgets : last ≡ forgetting end
 
 -- Waits end until none would end now.
-pub record EndsWaits (first : Machine) (given : List Given) (last : Machine) : Type 0 where
+pub record EndsWaits (first : Machine) (given : List GivenAnswer) (last : Machine) : Type 0 where
   pub end : Machine
   pub turns : Chain WaitEndTurn first given end
   pub done : next_end end ≡ None
   pub forgets : last ≡ forgetting end
 
 -- dispatch, and then the ends of waits
-pub record Serves (first : Machine) (handed ended : List Given) (last : Machine) : Type 0 where
+pub record Serves (first : Machine) (handed ended : List GivenAnswer) (last : Machine) : Type 0 where
   pub between : Machine
   pub dispatches : Dispatches first handed between
   pub ends_waits : EndsWaits between ended last
@@ -108,15 +108,15 @@ pub record Outcome : Type 0 where
 
 -- Timers fire, jobs are dispatched, waits end; then comes the command's own effect, and once more jobs
 -- are dispatched and waits end. The answers are in that order.
-pub record IsStep (first : Machine) (at seat : ℕ) (what : Step) (outcome : Outcome) (answers : List Given) (last : Machine) : Type 0 where
+pub record IsStep (first : Machine) (at seat : ℕ) (what : Step) (outcome : Outcome) (answers : List GivenAnswer) (last : Machine) : Type 0 where
   pub memory : Memory
   -- before and after the command's own effect
   pub before : Machine
   pub after : Machine
-  pub handed : List Given
-  pub ended : List Given
-  pub handed_then : List Given
-  pub ended_then : List Given
+  pub handed : List GivenAnswer
+  pub ended : List GivenAnswer
+  pub handed_then : List GivenAnswer
+  pub ended_then : List GivenAnswer
   pub serves : Serves (forgetting (after_timers (at_moment at first))) handed ended before
   pub possible : IsTrue (is_possible memory before seat what)
   pub acts : after ≡ forgetting (acted memory before seat what).machine

@@ -6,7 +6,7 @@ use Rattle.bq_job.specs.declared.answer.Answer.TheVariants as answers
 use Rattle.bq_job.specs.declared.job.JobState.{JobState}
 use Rattle.bq_job.specs.declared.job.JobState.TheVariants as states
 use Rattle.bq_job.specs.Changes.{first_of, is_waiting, with_seat, without_wait}
-use Rattle.bq_job.specs.Dispatch.{Given, is_wait_before}
+use Rattle.bq_job.specs.Dispatch.{GivenAnswer, is_wait_before}
 use Rattle.bq_job.specs.Machine.{Machine, SeatRecord, Wait}
 
 -- a lease of the seat that ends within a second
@@ -44,11 +44,11 @@ abbrev pub next_end : Machine → Option SeatRecord
 next_end m = first_of (ends_waiting m) is_wait_before m.seats
 
 -- one wait ends
-abbrev pub WaitEndTurn : Machine → Given → Machine → Type 0
+abbrev pub WaitEndTurn : Machine → GivenAnswer → Machine → Type 0
 WaitEndTurn m given next =
     MatchOption (next_end m) ⊥ (λ s. (given ≡ (s.number, end_of_wait m s)) × (next ≡ with_seat s.number without_wait m))
 
 -- one turn after another, each with its answer
-abbrev pub Chain : (Machine → Given → Machine → Type 0) → Machine → List Given → Machine → Type 0
+abbrev pub Chain : (Machine → GivenAnswer → Machine → Type 0) → Machine → List GivenAnswer → Machine → Type 0
 Chain Turn first [] last = last ≡ first
 Chain Turn first (given ∷ more) last = (next : Machine) × Turn first given next × Chain Turn next more last

@@ -3,19 +3,19 @@ use Rattle.std.specs.Prelude.{ℕ, List, ◌++◌, flat_map, codes, decimal}
 use Rattle.bq_job.specs.TubeOrder.{in_name_order}
 
 -- a key and its value
-abbrev pub Entry : Type 0
-Entry = List ℕ × List ℕ
+abbrev pub KeyValue : Type 0
+KeyValue = List ℕ × List ℕ
 
 -- a key whose value is a number
-abbrev pub number : List ℕ → ℕ → Entry
-number key n = (key, decimal n)
+abbrev pub key_number : List ℕ → ℕ → KeyValue
+key_number key n = (key, decimal n)
 
-abbrev pub entry_line : Entry → List ℕ
-entry_line entry = entry.0 ++ codes ": " ++ entry.1 ++ codes "\n"
+abbrev pub key_value_line : KeyValue → List ℕ
+key_value_line pair = pair.0 ++ codes ": " ++ pair.1 ++ codes "\n"
 
--- Statistics: a line `key: value` for each entry.
-abbrev pub entries_text : List Entry → List ℕ
-entries_text entries = codes "---\n" ++ flat_map entry_line entries
+-- Statistics: a line `key: value` for each pair.
+abbrev pub statistics_text : List KeyValue → List ℕ
+statistics_text pairs = codes "---\n" ++ flat_map key_value_line pairs
 
 abbrev pub name_line : List ℕ → List ℕ
 name_line name = codes "- " ++ name ++ codes "\n"

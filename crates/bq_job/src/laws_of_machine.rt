@@ -2,7 +2,7 @@
 ghost use Rattle.bq_job.specs.declared.step.Step.{Step};
 ghost use Rattle.bq_job.specs.declared.answer.Answer.TheVariants.{Reserved};
 ghost use Rattle.bq_job.specs.Computed.{ample, stepped};
-ghost use Rattle.bq_job.specs.Dispatch.{DispatchTurn, Given};
+ghost use Rattle.bq_job.specs.Dispatch.{DispatchTurn, GivenAnswer};
 ghost use Rattle.bq_job.specs.Lawful.{IsLawful};
 ghost use Rattle.bq_job.specs.LeastJob.{GetsLeast};
 ghost use Rattle.bq_job.specs.Machine.{Machine, Settings, new_machine};
@@ -31,13 +31,13 @@ pub fn new_machine_is_lawful()
 /// A lawful machine is lawful after every step: so each job is held by one connected client at most, and
 /// nobody waits while a job is ready that it may have.
 pub fn steps_keep_lawful()
-    ensures { (first last : Machine) (at seat : ℕ) (what : Step) (outcome : Outcome) (given : List Given)
+    ensures { (first last : Machine) (at seat : ℕ) (what : Step) (outcome : Outcome) (given : List GivenAnswer)
         → IsLawful first → IsStep first at seat what outcome given last → IsLawful last }
 {}
 
 /// A step gives at most one answer more than there are seats.
 pub fn steps_give_few_answers()
-    ensures { (first last : Machine) (at seat : ℕ) (what : Step) (outcome : Outcome) (given : List Given)
+    ensures { (first last : Machine) (at seat : ℕ) (what : Step) (outcome : Outcome) (given : List GivenAnswer)
         → IsLawful first → IsStep first at seat what outcome given last
         → length given ≤ first.settings.seats + 1 }
 {}
@@ -45,7 +45,7 @@ pub fn steps_give_few_answers()
 /// What a step gives the client that takes it: the answers so far and the one that it waits for are as
 /// many as its requests but `quit`, and the answer to a close is the last one.
 pub fn steps_give_clients_their_answers()
-    ensures { (first last : Machine) (at seat : ℕ) (what : Step) (outcome : Outcome) (given : List Given)
+    ensures { (first last : Machine) (at seat : ℕ) (what : Step) (outcome : Outcome) (given : List GivenAnswer)
         → IsLawful first → seat < first.settings.seats → IsStep first at seat what outcome given last
         → GivesClient seat first what given last }
 {}

@@ -7,7 +7,7 @@ ghost use Rattle.bq_job.specs.SameRequests.{AreSameRequests};
 ghost use Rattle.bq_job.specs.declared.request.Request.{Request};
 
 #[cfg(test)]
-mod rows;
+mod examples;
 
 /// Every text has a reading: the computed one, which meets no want of memory.
 pub fn every_text_is_read()

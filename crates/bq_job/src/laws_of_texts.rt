@@ -8,7 +8,7 @@ ghost use Rattle.bq_job.specs.TubeOrder.{in_name_order, tubes};
 ghost use Rattle.bq_job.specs.Tubes.{is_tube};
 
 #[cfg(test)]
-mod rows;
+mod examples;
 
 /// A tube is listed exactly where it exists.
 pub fn existing_tubes_are_listed()

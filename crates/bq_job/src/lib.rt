@@ -22,6 +22,10 @@ pub use tube_name::TubeName;
 
 mod answer;
 mod body;
+#[cfg(test)]
+mod examples_of_sessions;
+#[cfg(test)]
+mod examples_of_steps;
 mod fault;
 mod job;
 mod laws_of_machine;
@@ -30,10 +34,6 @@ pub mod laws_of_texts;
 mod line_end;
 mod refusal;
 mod request;
-#[cfg(test)]
-mod rows_of_machine;
-#[cfg(test)]
-mod rows_of_sessions;
 mod step;
 #[cfg(test)]
 mod tests;

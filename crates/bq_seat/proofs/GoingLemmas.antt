@@ -8,8 +8,8 @@ use Rattle.bq_job.specs.Reading.{is_quit}
 use Rattle.bq_job.specs.LineSteps.{is_waiting_request}
 use Rattle.bq_seat.specs.Past.{Past, with_action}
 use Rattle.bq_seat.specs.SeatParts.{GoesOn, in_stage, asking_stage}
-use Rattle.bq_seat.specs.SeatStands.{IsOpen, StandsFor, StandsAt}
-use Rattle.bq_wire.specs.Standing.{profile_of, Stands, HandsOut}
+use Rattle.bq_seat.specs.SeatStands.{IsOpen, StandsFor, StandsInStage}
+use Rattle.bq_wire.specs.Standing.{profile_of, Stands, HandsRequest}
 use Rattle.bq_wire.specs.declared.state.State.{State}
 use Rattle.bq_seat.specs.declared.machine.Action.{Action}
 use Rattle.bq_seat.specs.declared.machine.Action.TheVariants as actions
@@ -35,15 +35,15 @@ abbrev pub after_asking : SeatMachine → State → ℕ → Request → SeatMach
 after_asking m next taken request = record m { reader = next; kept = drop taken m.kept; stage = asking_stage request }
 
 asking_quit : (m : SeatMachine) (next : State) (n : ℕ) → m.end_told ≡ false → profile_of next ≡ profile_of m.reader
-    → ((text : List ℕ) → Stands m.reader text → HandsOut next text m.kept n requests.Quit)
+    → ((text : List ℕ) → Stands m.reader text → HandsRequest next text m.kept n requests.Quit)
     → (p : Past) → IsOpen m.reader m.kept m.end_told 0 p → StandsFor (after_asking m next n requests.Quit) (with_action (actions.Submit (steps.Ask requests.Quit)) p)
 asking_quit m next n untold same fed p line =
     let o : IsOpen m.reader m.kept false 0 p = open_at m.reader m.kept m.kept m.end_told false 0 p refl untold line in
     quits m.reader next m.kept n p o same (fed o.begun o.stands).unit
 
 asking : (m : SeatMachine) (next : State) (n : ℕ) (q : Request) → is_quit q ≡ false → m.end_told ≡ false → profile_of next ≡ profile_of m.reader
-    → ((text : List ℕ) → Stands m.reader text → HandsOut next text m.kept n q) → (p : Past) → IsOpen m.reader m.kept m.end_told 0 p
-    → StandsAt (stages.Asking (is_waiting_request q)) next (drop n m.kept) m.end_told (with_action (actions.Submit (steps.Ask q)) p)
+    → ((text : List ℕ) → Stands m.reader text → HandsRequest next text m.kept n q) → (p : Past) → IsOpen m.reader m.kept m.end_told 0 p
+    → StandsInStage (stages.Asking (is_waiting_request q)) next (drop n m.kept) m.end_told (with_action (actions.Submit (steps.Ask q)) p)
 asking m next n q not_quit untold same fed p line =
     let o : IsOpen m.reader m.kept false 0 p = open_at m.reader m.kept m.kept m.end_told false 0 p refl untold line in
     let out = fed o.begun o.stands in
@@ -52,7 +52,7 @@ asking m next n q not_quit untold same fed p line =
 
 -- the reader has handed out a request, and it is asked
 pub goes_asking : (m : SeatMachine) (next : State) (n : ℕ) (q : Request) → m.end_told ≡ false → profile_of next ≡ profile_of m.reader
-    → ((text : List ℕ) → Stands m.reader text → HandsOut next text m.kept n q)
+    → ((text : List ℕ) → Stands m.reader text → HandsRequest next text m.kept n q)
     → GoesOn m (actions.Submit (steps.Ask q)) (after_asking m next n q)
 goes_asking m next n requests.Quit untold same fed = record {
   going = refl;
@@ -70,13 +70,13 @@ goes_asking m next n q untold same fed = record {
 -- the same, as the reader and the kept bytes tell it
 pub goes_handed : (m : SeatMachine) (next : State) (n : ℕ) (q : Request) (piece kept : List ℕ) (found : Option Request)
     → m.end_told ≡ false → profile_of next ≡ profile_of m.reader → piece ≡ m.kept → kept ≡ drop n m.kept → found ≡ Some q
-    → IfSome found (λ request. (text : List ℕ) → Stands m.reader text → HandsOut next text piece n request)
+    → IfSome found (λ request. (text : List ℕ) → Stands m.reader text → HandsRequest next text piece n request)
     → GoesOn m (actions.Submit (steps.Ask q)) (record m { reader = next; kept = kept; stage = asking_stage q })
 goes_handed m next n q piece kept found untold same piece_is kept_is found_is fed =
-    let P : Option Request → Type 0 = λ f. IfSome f (λ request. (text : List ℕ) → Stands m.reader text → HandsOut next text piece n request) in
-    let Q : List ℕ → Type 0 = λ x. (text : List ℕ) → Stands m.reader text → HandsOut next text x n q in
+    let P : Option Request → Type 0 = λ f. IfSome f (λ request. (text : List ℕ) → Stands m.reader text → HandsRequest next text piece n request) in
+    let Q : List ℕ → Type 0 = λ x. (text : List ℕ) → Stands m.reader text → HandsRequest next text x n q in
     let R : List ℕ → Type 0 = λ k. GoesOn m (actions.Submit (steps.Ask q)) (record m { reader = next; kept = k; stage = asking_stage q }) in
-    let handed : (text : List ℕ) → Stands m.reader text → HandsOut next text piece n q = subst P found_is fed in
+    let handed : (text : List ℕ) → Stands m.reader text → HandsRequest next text piece n q = subst P found_is fed in
     subst R (sym kept_is) (goes_asking m next n q untold same (subst Q piece_is handed))
 
 -- the same action and machine, in other words

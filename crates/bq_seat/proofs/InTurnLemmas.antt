@@ -13,7 +13,7 @@ use Rattle.bq_job.specs.OneClient.{answers_wanted}
 use Rattle.bq_seat.specs.InTurn.{IsInTurn, wanted}
 use Rattle.bq_seat.proofs.StepLemmas.{answered_count-asked}
 use Rattle.bq_seat.specs.Past.{Awaited, Past}
-use Rattle.bq_seat.specs.SeatStands.{HasAskedQuit, StandsAt, awaited_at, end_if, has_quit}
+use Rattle.bq_seat.specs.SeatStands.{HasAskedQuit, StandsInStage, awaited_at, end_if, has_quit}
 use Rattle.bq_wire.specs.declared.state.State.{State}
 use Rattle.bq_seat.specs.declared.machine.Stage.{Stage}
 use Rattle.bq_seat.specs.declared.machine.Stage.TheVariants as stages
@@ -119,7 +119,7 @@ few_missing ends.ReadFault asked mail (inl h) = omega arith
 few_missing ends.ReadFault asked mail (inr h) = let one = h.1 in omega arith
 
 -- what a machine stands for while a step is submitted says that it comes in its turn
-pub in_turn : (stage : Stage) (reader : State) (kept : List ℕ) (told : Bool) (p : Past) (taken : List Step) (step : Step) → awaited_at stage ≡ Awaited.ASubmission → p.steps ≡ taken ++ step ∷ [] → StandsAt stage reader kept told p → IsInTurn step taken p.mail
+pub in_turn : (stage : Stage) (reader : State) (kept : List ℕ) (told : Bool) (p : Past) (taken : List Step) (step : Step) → awaited_at stage ≡ Awaited.ASubmission → p.steps ≡ taken ++ step ∷ [] → StandsInStage stage reader kept told p → IsInTurn step taken p.mail
 in_turn stages.Between reader kept told p taken step e are h = cc
 in_turn stages.Connecting reader kept told p taken step e are h = connects taken p.mail step (sym are ∙ h.2)
 in_turn stages.Reading reader kept told p taken step e are h = cc
@@ -135,5 +135,5 @@ in_turn stages.Writing reader kept told p taken step e are h = cc
 in_turn stages.AskingQuit reader kept told p taken step e are h = quits_at taken p step are h.2
 in_turn (stages.Closing end) reader kept told p taken step e are h =
     let line = (h.0 []).line in
-    closes_at line.asked line.told taken p.mail step (sym are ∙ line.steps_are) (elim line.ends [ inl none ↦ inl none | inr one ↦ inr one.0 ]) (few_missing end line.asked p.mail (h.0 []).answered)
+    closes_at line.asked line.end_steps taken p.mail step (sym are ∙ line.steps_are) (elim line.ends [ inl none ↦ inl none | inr one ↦ inr one.0 ]) (few_missing end line.asked p.mail (h.0 []).answered)
 in_turn (stages.Leaving end) reader kept told p taken step e are h = cc

@@ -11,7 +11,7 @@ use Rattle.bq_job.specs.Reading.{Reads}
 use Rattle.bq_seat.specs.Past.{Past, with_action, with_event, past_after, is_stray, answers, first_past}
 use Rattle.bq_seat.specs.SeatMoves.{IsMove, reads_on, IfLineOver}
 use Rattle.bq_seat.specs.SeatParts.{GoesOn, in_stage, is_going_on}
-use Rattle.bq_seat.specs.SeatStands.{IsOpen, StandsFor, StandsAt, seat_profile, awaited_at}
+use Rattle.bq_seat.specs.SeatStands.{IsOpen, StandsFor, StandsInStage, seat_profile, awaited_at}
 use Rattle.bq_wire.specs.Standing.{profile_of, Stands}
 use Rattle.bq_wire.specs.declared.state.State.{State}
 use Rattle.bq_seat.specs.declared.machine.Action.{Action}
@@ -178,8 +178,8 @@ fault_in_writing m every = record {
 pub opens : (m : SeatMachine) (next : State) (kept : List ℕ) → Stands next [] → profile_of next ≡ profile_of m.reader → kept ≡ []
     → IsMove (in_stage stages.Between m) events.Opened (actions.Submit steps.Connect) (record { reader = next; kept = kept; stage = stages.Connecting; end_told = false })
 opens m next kept stands same none =
-    let P : List ℕ → Type 0 = λ k. StandsAt stages.Connecting next k false first_past in
-    let begun : StandsAt stages.Connecting next kept false first_past = subst P (sym none) (opened next stands) in
+    let P : List ℕ → Type 0 = λ k. StandsInStage stages.Connecting next k false first_past in
+    let begun : StandsInStage stages.Connecting next kept false first_past = subst P (sym none) (opened next stands) in
     record {
       stray = refl;
       unchanged = λ e. cc;
@@ -221,8 +221,8 @@ pub bytes_in_reading : (m mid new : SeatMachine) (bytes : Bor (List ℕ)) (actio
 bytes_in_reading m mid new bytes action s kept g =
     let not_stray = going_not_stray action g.going in
     let past : (p : Past) → StandsFor m p → StandsFor new (past_after (events.Bytes bytes) action p) = λ p h.
-    let P : Stage → Type 0 = λ t. StandsAt t m.reader m.kept m.end_told p in
-    let h' : StandsAt stages.Reading m.reader m.kept m.end_told p = subst P s h in
+    let P : Stage → Type 0 = λ t. StandsInStage t m.reader m.kept m.end_told p in
+    let h' : StandsInStage stages.Reading m.reader m.kept m.end_told p = subst P s h in
     let line = handed_in m.reader m.kept m.end_told 0 p bytes.now h'.0 h'.1 h'.2 in
     let Q : SeatMachine → Type 0 = λ x. IsOpen x.reader x.kept x.end_told 0 (with_event (events.Bytes bytes) p) in
     rw (going_past (events.Bytes bytes) action p g.going) (g.past (with_event (events.Bytes bytes) p) (subst Q (sym kept) line)) in

@@ -11,10 +11,10 @@ use Rattle.bq_job.specs.declared.step.Step.{Step}
 use Rattle.bq_job.specs.declared.step.Step.TheVariants as steps
 use Rattle.bq_job.specs.Profile.{Profile}
 use Rattle.bq_job.specs.Reading.{Reads, AreUnits, IsUnit, BeginsNoUnit, is_quit}
-use Rattle.bq_job.specs.LineSteps.{AreEnds, AreAllAnswered, is_waiting_request, ends_by_wait}
+use Rattle.bq_job.specs.LineSteps.{MayTellEnd, AreAllAnswered, is_waiting_request, ends_by_wait}
 use Rattle.bq_seat.specs.Past.{Past, with_action, with_mail, with_fault, first_past}
 use Rattle.bq_wire.specs.Standing.{profile_of, Stands}
-use Rattle.bq_seat.specs.SeatStands.{IsOpen, IsWaiting, IsServed, StandsAt, end_if, IsLastBroken}
+use Rattle.bq_seat.specs.SeatStands.{IsOpen, IsWaiting, IsServed, StandsInStage, end_if, IsLastBroken}
 use Rattle.bq_wire.specs.declared.state.State.{State}
 use Rattle.bq_seat.specs.declared.machine.Action.TheVariants as actions
 use Rattle.bq_seat.specs.declared.machine.Stage.TheVariants as stages
@@ -22,7 +22,7 @@ use Rattle.bq_seat.proofs.ReadingLemmas.{BeginsNoUnit-[], AreUnits-append, one_u
 use Rattle.bq_seat.proofs.StepLemmas.{answered_count-asked, answered_count-quit, ends_by_wait-asked, has_quit-asked, map-asked, no_quit_last, some_asked}
 
 -- a line is opened
-pub opened : (r : State) → Stands r [] → StandsAt stages.Connecting r [] false first_past
+pub opened : (r : State) → Stands r [] → StandsInStage stages.Connecting r [] false first_past
 opened r h = (
   record {
     asked = [];
@@ -138,7 +138,7 @@ asks r next kept n q p o same unit h not_quit = (
 -- a quit is asked
 pub quits : (r next : State) (kept : List ℕ) (n : ℕ) (p : Past) (o : IsOpen r kept false 0 p)
     → profile_of next ≡ profile_of r → IsUnit (profile_of next) (o.begun ++ take n kept) requests.Quit
-    → StandsAt stages.AskingQuit next (drop n kept) false (with_action (actions.Submit (steps.Ask requests.Quit)) p)
+    → StandsInStage stages.AskingQuit next (drop n kept) false (with_action (actions.Submit (steps.Ask requests.Quit)) p)
 quits r next kept n p o same unit =
     let unit_text : List ℕ = o.begun ++ take n kept in
     let bytes_are : p.bytes ≡ o.units ++ (unit_text ++ drop n kept) =
@@ -149,7 +149,7 @@ quits r next kept n p o same unit =
           requests = o.asked ++ requests.Quit ∷ [];
           rest = drop n kept;
           asked = o.asked ++ requests.Quit ∷ [];
-          told = [];
+          end_steps = [];
           reads = Reads-after (profile_of next) p.bytes o.units (unit_text ++ drop n kept) (drop n kept) o.asked (requests.Quit ∷ []) bytes_are
               (same_units r next o.units o.asked same o.are_units) o.no_quit (Reads-quit (profile_of next) unit_text (drop n kept) requests.Quit unit refl);
           is_over = (refl, ends_by_quit-append o.asked (requests.Quit ∷ []) refl);
@@ -183,7 +183,7 @@ all_read r kept told out p o none =
 
 -- the end is told only behind a reserve, and if the line says that it ended
 told_well : (bytes written : List ℕ) (ended : Bool) (fault : Option LineFault) (asked : List Request) (told : Bool)
-    → (told ≡ true → (ends_by_wait asked ≡ true) × (ended ≡ true)) → AreEnds (record { read = bytes; written = written; ended = ended; fault = fault }) asked (end_if told)
+    → (told ≡ true → (ends_by_wait asked ≡ true) × (ended ≡ true)) → MayTellEnd (record { read = bytes; written = written; ended = ended; fault = fault }) asked (end_if told)
 told_well bytes written ended fault asked true h = inr (refl, (h refl).0, (h refl).1)
 told_well bytes written ended fault asked false h = inl refl
 
@@ -195,7 +195,7 @@ ends_line r kept told ended p o none e written = record {
     requests = o.asked;
     rest = o.begun;
     asked = o.asked;
-    told = end_if told;
+    end_steps = end_if told;
     reads = all_read r kept told 0 p o none;
     is_over = (refl, no_quit_last o.asked o.no_quit, e);
     ends = told_well p.bytes written ended p.fault o.asked told (λ t. ((o.told_well t).0, e));
@@ -229,7 +229,7 @@ read_fails r kept told out p o none answers written =
         requests = o.asked;
         rest = o.begun;
         asked = o.asked;
-        told = end_if told;
+        end_steps = end_if told;
         reads = all_read r kept told out p o none;
         is_over = (refl, no_quit_last o.asked o.no_quit, refl);
         ends = told_well p.bytes written p.ended (Some faults.Read) o.asked told (λ t. ((o.told_well t).0, o.ended_is ∙ t));
@@ -254,7 +254,7 @@ write_fails r kept told p o some_written all written =
         requests = o.asked ++ more.0;
         rest = more.1;
         asked = o.asked;
-        told = end_if told;
+        end_steps = end_if told;
         reads = Reads-after (profile_of r) p.bytes o.units (o.begun ++ kept) more.1 o.asked more.0 o.bytes_are o.are_units o.no_quit more.2;
         is_over = (more.0, refl, some_asked o.asked some, no_quit_last o.asked o.no_quit, refl);
         ends = told_well p.bytes written p.ended (Some faults.Write) o.asked told (λ t. ((o.told_well t).0, o.ended_is ∙ t));
@@ -276,10 +276,10 @@ late_mail p a e = ap (λ c. if c then record p { late_mail = p.late_mail ++ a �
 
 -- the outstanding answer comes, and is handed out
 pub answered : (r : State) (kept : List ℕ) (told waits : Bool) (p : Past) (a : Answer) → IsWaiting r kept told waits p
-    → StandsAt stages.Writing r kept told (with_action (actions.Write a) (with_mail a p))
+    → StandsInStage stages.Writing r kept told (with_action (actions.Write a) (with_mail a p))
 answered r kept told waits p a w =
     let o = w.0 in
-    let P : Past → Type 0 = λ q. StandsAt stages.Writing r kept told (with_action (actions.Write a) q) in
+    let P : Past → Type 0 = λ q. StandsInStage stages.Writing r kept told (with_action (actions.Write a) q) in
     subst P (sym (early_mail p a o.closing_is)) (
       record {
         asked = o.asked;

@@ -1,7 +1,5 @@
 -- What the parts of a seat machine's moves do.
 use Rattle.std.specs.Prelude.{◌≡◌, Bool, true, false, if◌then◌else◌, Some}
-use Rattle.bq_job.specs.declared.answer.Answer.{Answer}
-use Rattle.bq_job.specs.declared.answer.Answer.TheVariants as replies
 use Rattle.bq_job.specs.Reading.{is_quit}
 use Rattle.bq_job.specs.declared.request.Request.{Request}
 use Rattle.bq_job.specs.LineSteps.{is_waiting_request}
@@ -28,10 +26,6 @@ pub record GoesOn (old : SeatMachine) (action : Action) (new : SeatMachine) : Ty
 
 abbrev pub in_stage : Stage → SeatMachine → SeatMachine
 in_stage stage m = record m { stage = stage }
-
-abbrev pub is_closed : Answer → Bool
-is_closed replies.Closed = true
-is_closed _ = false
 
 -- what is awaited once this request was asked
 abbrev pub asking_stage : Request → Stage

@@ -83,24 +83,24 @@ pub record HasAskedQuit (p : Past) : Type 0 where
   pub answered : length p.mail ≡ length asked
   pub no_quit : has_quit asked ≡ false
 
-abbrev pub StandsAt : Stage → State → List ℕ → Bool → Past → Type 0
-StandsAt stages.Between reader kept told p = (end : LineEnd) × ((written : List ℕ) → IsServed (profile_of reader) written end p)
-StandsAt stages.Connecting reader kept told p = IsOpen reader kept told 0 p × (told ≡ false) × (p.steps ≡ steps.Connect ∷ [])
-StandsAt stages.Reading reader kept told p = IsOpen reader kept told 0 p × (kept ≡ []) × (told ≡ false)
-StandsAt (stages.Asking waits) reader kept told p = IsWaiting reader kept told waits p × (told ≡ false)
-StandsAt (stages.Polling waits) reader kept told p = IsWaiting reader kept told waits p
-StandsAt stages.ReadingOn reader kept told p = IsWaiting reader kept told true p × (kept ≡ []) × (told ≡ false)
-StandsAt stages.TellingEnd reader kept told p = IsWaiting reader kept told true p × (told ≡ true)
-StandsAt stages.Writing reader kept told p = IsOpen reader kept told 0 p × (0 < length p.written)
+abbrev pub StandsInStage : Stage → State → List ℕ → Bool → Past → Type 0
+StandsInStage stages.Between reader kept told p = (end : LineEnd) × ((written : List ℕ) → IsServed (profile_of reader) written end p)
+StandsInStage stages.Connecting reader kept told p = IsOpen reader kept told 0 p × (told ≡ false) × (p.steps ≡ steps.Connect ∷ [])
+StandsInStage stages.Reading reader kept told p = IsOpen reader kept told 0 p × (kept ≡ []) × (told ≡ false)
+StandsInStage (stages.Asking waits) reader kept told p = IsWaiting reader kept told waits p × (told ≡ false)
+StandsInStage (stages.Polling waits) reader kept told p = IsWaiting reader kept told waits p
+StandsInStage stages.ReadingOn reader kept told p = IsWaiting reader kept told true p × (kept ≡ []) × (told ≡ false)
+StandsInStage stages.TellingEnd reader kept told p = IsWaiting reader kept told true p × (told ≡ true)
+StandsInStage stages.Writing reader kept told p = IsOpen reader kept told 0 p × (0 < length p.written)
 -- a quit was asked, and a close is right
-StandsAt stages.AskingQuit reader kept told p =
+StandsInStage stages.AskingQuit reader kept told p =
     (p.closing ≡ false) × ((written : List ℕ) → IsServed (profile_of reader) written ends.Quit (with_action (actions.Submit steps.Close) p)) × HasAskedQuit p
-StandsAt (stages.Closing end) reader kept told p = ((written : List ℕ) → IsServed (profile_of reader) written end p) × (p.closing ≡ true)
-StandsAt (stages.Leaving end) reader kept told p = ((written : List ℕ) → IsServed (profile_of reader) written end p) × (p.closing ≡ true)
+StandsInStage (stages.Closing end) reader kept told p = ((written : List ℕ) → IsServed (profile_of reader) written end p) × (p.closing ≡ true)
+StandsInStage (stages.Leaving end) reader kept told p = ((written : List ℕ) → IsServed (profile_of reader) written end p) × (p.closing ≡ true)
 
 -- the machine's fields agree with this past
 abbrev pub StandsFor : SeatMachine → Past → Type 0
-StandsFor m p = StandsAt m.stage m.reader m.kept m.end_told p
+StandsFor m p = StandsInStage m.stage m.reader m.kept m.end_told p
 
 abbrev pub seat_profile : SeatMachine → Profile
 seat_profile m = profile_of m.reader

@@ -89,7 +89,8 @@ impl SeatMachine {
     ghost use Rattle.bq_job.specs.Profile.{profile};
     ghost use Rattle.bq_seat.specs.Past.{Awaited};
     ghost use Rattle.bq_seat.specs.SeatMoves.{FitsPiece, IsMove, LooksOn, reads_on};
-    ghost use Rattle.bq_seat.specs.SeatParts.{GoesOn, asking_stage, in_stage, is_closed};
+    ghost use Rattle.bq_seat.specs.SeatParts.{GoesOn, asking_stage, in_stage};
+    ghost use Rattle.bq_job.specs.OneClient.{is_closed_answer};
     ghost use Rattle.bq_seat.specs.SeatStands.{awaited, seat_profile};
     ghost use Rattle.bq_wire.specs.WordsSoFar.{words_so_far};
 
@@ -319,8 +320,8 @@ impl SeatMachine {
 
     // The close's own answer ends the line. Other mail is thrown away.
     fn mail_after_close(&mut self, end: LineEnd, answer: &Answer) -> Action
-        ensures action { result ≡ (if is_closed answer.now then Action.LineOver end else Action.PollMail) }
-        ensures after { self.new ≡ (if is_closed answer.now then in_stage Stage.Between self.old else self.old) }
+        ensures action { result ≡ (if is_closed_answer answer.now then Action.LineOver end else Action.PollMail) }
+        ensures after { self.new ≡ (if is_closed_answer answer.now then in_stage Stage.Between self.old else self.old) }
     {
         match answer {
             Answer::Closed => {

@@ -4,7 +4,7 @@ use Rattle.std.proofs.lemmas.List.{length-append}
 use Rattle.bq_job.specs.declared.answer.Answer.{Answer}
 use Rattle.bq_job.specs.declared.step.Step.{Step}
 use Rattle.bq_job.specs.declared.step.Step.TheVariants as steps
-use Rattle.bq_job.specs.Dispatch.{Given}
+use Rattle.bq_job.specs.Dispatch.{GivenAnswer}
 use Rattle.bq_job.specs.History.{is_tick, steps_at}
 use Rattle.bq_job.specs.LineSteps.{LineSeen}
 use Rattle.bq_job.specs.Machine.{Machine, Settings}
@@ -27,7 +27,7 @@ turn_of_submit machine p taken step awaits are stands =
     let one : awaited machine ≡ Awaited.ASubmission = cc in in_turn machine.stage machine.reader machine.kept machine.end_told p taken step one are stands
 
 -- where the client stands after the step
-client_after : (step : Step) (taken : List Step) (mail answers : List Answer) (core next : Machine) (given : List Given) → IsInTurn step taken mail → length mail ≤ length answers → IsClientAt taken answers core → GivesClient 0 core step given next → (is_tick step ≡ false) × IsClientAt (taken ++ step ∷ []) (answers ++ answers_to 0 given) next
+client_after : (step : Step) (taken : List Step) (mail answers : List Answer) (core next : Machine) (given : List GivenAnswer) → IsInTurn step taken mail → length mail ≤ length answers → IsClientAt taken answers core → GivesClient 0 core step given next → (is_tick step ≡ false) × IsClientAt (taken ++ step ∷ []) (answers ++ answers_to 0 given) next
 client_after steps.Connect taken mail answers core next given turn few c g =
     let fresh : IsClientAt [] answers core = subst (λ t. IsClientAt t answers core) turn c in
     (refl, subst (λ t. IsClientAt (t ++ steps.Connect ∷ []) (answers ++ answers_to 0 given) next) (sym turn) (client_connects answers core next given fresh g))

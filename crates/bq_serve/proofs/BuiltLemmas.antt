@@ -18,7 +18,7 @@ use Rattle.bq_job.specs.Reading.{AreUnits, IsPutRequest, IsUnit, IsUnitAfter, pu
 use Rattle.bq_job.specs.TubeName.{is_same_name}
 use Rattle.bq_job.specs.Words.{job_id, number, words}
 use Rattle.bq_seat.specs.Past.{Awaited, Past}
-use Rattle.bq_seat.specs.SeatStands.{StandsAt, awaited_at, end_if}
+use Rattle.bq_seat.specs.SeatStands.{StandsInStage, awaited_at, end_if}
 use Rattle.bq_wire.specs.Standing.{profile_of}
 use Rattle.bq_wire.specs.WordsSoFar.{words_so_far}
 use Rattle.bq_wire.specs.declared.state.State.{State}
@@ -166,7 +166,7 @@ asks_built p units (r ∷ asked) taken step known are e =
 
 -- what a line may ask for so far is built
 pub built : (stage : Stage) (reader : State) (kept : List ℕ) (told : Bool) (p : Past) (taken : List Step) (step : Step) → (profile_of reader).known ≡ words_so_far
-    → awaited_at stage ≡ Awaited.ASubmission → p.steps ≡ taken ++ step ∷ [] → StandsAt stage reader kept told p → IsTrue (is_built step)
+    → awaited_at stage ≡ Awaited.ASubmission → p.steps ≡ taken ++ step ∷ [] → StandsInStage stage reader kept told p → IsTrue (is_built step)
 built stages.Between reader kept told p taken step known e are h = cc
 built stages.Connecting reader kept told p taken step known e are h = ends_in taken [] step steps.Connect (sym are ∙ h.2) refl
 built stages.Reading reader kept told p taken step known e are h = cc
@@ -185,5 +185,5 @@ built stages.AskingQuit reader kept told p taken step known e are h =
     ends_in taken (steps.Connect ∷ map steps.Ask q.asked) step (steps.Ask requests.Quit) (sym are ∙ q.steps_are) refl
 built (stages.Closing end) reader kept told p taken step known e are h =
     let line = (h.0 []).line in
-    ends_in taken ((steps.Connect ∷ map steps.Ask line.asked) ++ line.told) step steps.Close (sym are ∙ line.steps_are) refl
+    ends_in taken ((steps.Connect ∷ map steps.Ask line.asked) ++ line.end_steps) step steps.Close (sym are ∙ line.steps_are) refl
 built (stages.Leaving end) reader kept told p taken step known e are h = cc

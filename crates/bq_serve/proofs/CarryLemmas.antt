@@ -23,7 +23,7 @@ use Rattle.bq_serve.specs.LineCalls.{after_read, is_nothing_yet, new_line}
 use Rattle.bq_serve.specs.OneSeat.{IsClientAt, IsClosedClient, IsOpenClient, IsRecord, IsServedAlone}
 use Rattle.bq_seat.specs.Past.{Awaited, Past, answers, awaited_by, first_past, has_close, is_stray}
 use Rattle.bq_seat.specs.SeatMoves.{IsMove}
-use Rattle.bq_seat.specs.SeatStands.{StandsAt, awaited, awaited_at, end_if, seen_line}
+use Rattle.bq_seat.specs.SeatStands.{StandsInStage, awaited, awaited_at, end_if, seen_line}
 use Rattle.bq_serve.specs.ServingOne.{IsNewServing, IsServing, IsSettled, TakesStep}
 use Rattle.bq_serve.specs.Writing.{BreaksOff, with_written}
 use Rattle.bq_serve.specs.declared.run.serving.Serving.{Serving}
@@ -61,7 +61,7 @@ no_ends : (told : Bool) → wanted (end_if told) ≡ 0
 no_ends true = refl
 no_ends false = refl
 
-few_at_look : (stage : Stage) (reader : State) (kept : List ℕ) (told : Bool) (p : Past) → awaited_at stage ≡ Awaited.AMail → StandsAt stage reader kept told p → wanted p.steps ≤ length p.mail + 1
+few_at_look : (stage : Stage) (reader : State) (kept : List ℕ) (told : Bool) (p : Past) → awaited_at stage ≡ Awaited.AMail → StandsInStage stage reader kept told p → wanted p.steps ≤ length p.mail + 1
 few_at_look stages.Between reader kept told p e h = cc
 few_at_look stages.Connecting reader kept told p e h = cc
 few_at_look stages.Reading reader kept told p e h = cc
@@ -76,7 +76,7 @@ few_at_look (stages.Closing end) reader kept told p e h = cc
 few_at_look (stages.Leaving end) reader kept told p e h =
     let line = (h.0 []).line in
     let few = few_missing end line.asked p.mail (h.0 []).answered in
-    few_of_asked line.asked (line.told ++ steps.Close ∷ []) p.steps p.mail (line.steps_are ∙ append_assoc (steps.Connect ∷ map steps.Ask line.asked) line.told (steps.Close ∷ [])) (elim line.ends [ inl none ↦ ap (λ t. wanted (t ++ steps.Close ∷ [])) none | inr one ↦ ap (λ t. wanted (t ++ steps.Close ∷ [])) one.0 ]) (omega (arith, wanted_asks line.asked))
+    few_of_asked line.asked (line.end_steps ++ steps.Close ∷ []) p.steps p.mail (line.steps_are ∙ append_assoc (steps.Connect ∷ map steps.Ask line.asked) line.end_steps (steps.Close ∷ [])) (elim line.ends [ inl none ↦ ap (λ t. wanted (t ++ steps.Close ∷ [])) none | inr one ↦ ap (λ t. wanted (t ++ steps.Close ∷ [])) one.0 ]) (omega (arith, wanted_asks line.asked))
 
 -- more answers than are wanted by one at most
 few_given : (taken : List Step) (answers : List Answer) (core : Machine) → IsClientAt taken answers core → length answers ≤ wanted taken + 1

@@ -13,7 +13,7 @@ use Rattle.bq_job.specs.LineSteps.{IsBeginning, LineSeen, answers_text}
 use Rattle.bq_job.specs.Machine.{Machine, Settings}
 use Rattle.bq_job.specs.OneClient.{has_closed, is_closed_answer}
 use Rattle.bq_job.specs.Runs.{Entry}
-use Rattle.bq_serve.specs.LineCalls.{after_read, first_fault, is_nothing_yet, with_fault as with_line_fault}
+use Rattle.bq_serve.specs.LineCalls.{after_read, first_fault, is_nothing_yet, with_line_fault}
 use Rattle.bq_serve.specs.OneSeat.{IsClientAt, IsRecord, IsWrittenSo}
 use Rattle.bq_seat.specs.Past.{Past, has_close, with_fault, with_mail}
 use Rattle.bq_seat.specs.SeatStands.{seen_line}

@@ -11,7 +11,7 @@ use Rattle.bq_job.specs.Runs.{Entry}
 use Rattle.bq_serve.specs.OneSeat.{IsWrittenSo}
 use Rattle.bq_seat.specs.Past.{Awaited, Past, answers, awaited_by, has_close, is_close, is_stray, past_after, with_action, with_event}
 use Rattle.bq_seat.specs.SeatMoves.{IfLineOver, IsMove}
-use Rattle.bq_seat.specs.SeatStands.{IsServed, StandsAt, StandsFor, awaited, awaited_at, seat_profile}
+use Rattle.bq_seat.specs.SeatStands.{IsServed, StandsInStage, StandsFor, awaited, awaited_at, seat_profile}
 use Rattle.bq_serve.specs.ServingOne.{AreTaken, IsServing, IsSettled, IsWrittenAt}
 use Rattle.bq_seat.specs.declared.machine.Action.{Action}
 use Rattle.bq_seat.specs.declared.machine.Action.TheVariants as actions
@@ -22,7 +22,7 @@ use Rattle.bq_seat.specs.declared.machine.Stage.TheVariants as stages
 use Rattle.bq_wire.specs.declared.state.State.{State}
 
 -- an answer is handed out for writing before any fault
-pub unbroken_at : (stage : Stage) (reader : State) (kept : List ℕ) (told : Bool) (p : Past) → awaited_at stage ≡ Awaited.AWriting → StandsAt stage reader kept told p → p.fault ≡ None
+pub unbroken_at : (stage : Stage) (reader : State) (kept : List ℕ) (told : Bool) (p : Past) → awaited_at stage ≡ Awaited.AWriting → StandsInStage stage reader kept told p → p.fault ≡ None
 unbroken_at stages.Writing reader kept told p e h = h.0.fault_is
 unbroken_at stages.Between reader kept told p e h = cc
 unbroken_at stages.Connecting reader kept told p e h = cc

@@ -14,10 +14,10 @@ use Rattle.bq_job.specs.declared.request.Request.{Request}
 use Rattle.bq_job.specs.declared.request.Request.TheVariants as requests
 use Rattle.bq_job.specs.declared.step.Step.{Step}
 use Rattle.bq_job.specs.declared.step.Step.TheVariants as steps
-use Rattle.bq_job.specs.Dispatch.{Given}
+use Rattle.bq_job.specs.Dispatch.{GivenAnswer}
 use Rattle.bq_job.specs.History.{ArePickedFrom, is_tick, moments_heard, steps_at}
 use Rattle.bq_job.specs.Lawful.{IsLawful}
-use Rattle.bq_job.specs.LineSteps.{AreAllAnswered, AreEnds, IsOverBy, IsStepsOfLine, IsWritten, LineSeen, answered_count, answers_text, ends_by_wait}
+use Rattle.bq_job.specs.LineSteps.{AreAllAnswered, MayTellEnd, IsOverBy, IsStepsOfLine, IsWritten, LineSeen, answered_count, answers_text, ends_by_wait}
 use Rattle.bq_job.specs.Machine.{Machine, Settings, new_machine}
 use Rattle.bq_job.specs.OneClient.{GetsClosed, GetsWhatWaits, GivesClient, answers_wanted, has_closed, is_closed_answer, is_connected_at, owing}
 use Rattle.bq_job.specs.Profile.{Profile}
@@ -57,7 +57,7 @@ alone_more (e ∷ history) at what h =
     and_from (e.seat == 0) (list_all (λ (e : Entry). e.seat == 0) (history ++ entry_at at what ∷ [])) parts.0 (alone_more history at what parts.1)
 
 -- one more step is recorded
-pub record_more : (settings : Settings) (history : List Entry) (readings : List (Option ℕ)) (answers : List Answer) (last next : Machine) (moment : ℕ) (reading : Option ℕ) (what : Step) (outcome : Outcome) (given : List Given) → IsRecord settings history readings answers last moment → IsStep last (moment_heard moment reading) 0 what outcome given next → IsLawful next → IsRecord settings (history ++ entry_at (moment_heard moment reading) what ∷ []) (readings ++ reading ∷ []) (answers ++ answers_to 0 given) next (moment_heard moment reading)
+pub record_more : (settings : Settings) (history : List Entry) (readings : List (Option ℕ)) (answers : List Answer) (last next : Machine) (moment : ℕ) (reading : Option ℕ) (what : Step) (outcome : Outcome) (given : List GivenAnswer) → IsRecord settings history readings answers last moment → IsStep last (moment_heard moment reading) 0 what outcome given next → IsLawful next → IsRecord settings (history ++ entry_at (moment_heard moment reading) what ∷ []) (readings ++ reading ∷ []) (answers ++ answers_to 0 given) next (moment_heard moment reading)
 record_more settings history readings answers last next moment reading what outcome given r step lawful = record {
   given = r.given ++ given;
   runs = run_more (new_machine settings) history r.given last next (entry_at (moment_heard moment reading) what) outcome given r.runs step;
@@ -190,7 +190,7 @@ no_close_end : (told : Bool) → has_close (end_if told) ≡ false
 no_close_end true = refl
 no_close_end false = refl
 
-pub client_ticks : (taken : List Step) (answers : List Answer) (core next : Machine) (given : List Given) → IsClientAt taken answers core → GivesClient 0 core steps.Tick given next → IsClientAt taken (answers ++ answers_to 0 given) next
+pub client_ticks : (taken : List Step) (answers : List Answer) (core next : Machine) (given : List GivenAnswer) → IsClientAt taken answers core → GivesClient 0 core steps.Tick given next → IsClientAt taken (answers ++ answers_to 0 given) next
 client_ticks [] answers core next given c g = fresh_stays answers core next (answers_to 0 given) c g
 client_ticks (step ∷ taken) answers core next given c g =
     elim (cases_Bool (has_close (step ∷ taken))) [
@@ -200,13 +200,13 @@ client_ticks (step ∷ taken) answers core next given c g =
           from_open step taken (answers ++ answers_to 0 given) next e (open_gets (step ∷ taken) (step ∷ taken) answers (answers_to 0 given) core next (open_at step taken answers core e c) refl g)
     ]
 
-pub client_connects : (answers : List Answer) (core next : Machine) (given : List Given) → IsClientAt [] answers core → GivesClient 0 core steps.Connect given next → IsClientAt (steps.Connect ∷ []) (answers ++ answers_to 0 given) next
+pub client_connects : (answers : List Answer) (core next : Machine) (given : List GivenAnswer) → IsClientAt [] answers core → GivesClient 0 core steps.Connect given next → IsClientAt (steps.Connect ∷ []) (answers ++ answers_to 0 given) next
 client_connects answers core next given c g =
     let got = g c.connected in
     let is : answers ++ answers_to 0 given ≡ [] = subst (λ (xs : List Answer). answers ++ xs ≡ []) (sym got.0) (append-nil answers ∙ c.none) in
     subst (λ (xs : List Answer). IsOpenClient (steps.Connect ∷ []) xs next) (sym is) (record { count = omega (arith, got.1); unclosed = refl; connected = got.2 })
 
-asks_then : (asked : List Request) (request : Request) (answers : List Answer) (core next : Machine) (given : List Given) → has_quit asked ≡ false → length asked ≤ length answers → IsClientAt (steps.Connect ∷ map steps.Ask asked) answers core → GivesClient 0 core (steps.Ask request) given next → IsClientAt (steps.Connect ∷ (map steps.Ask asked ++ steps.Ask request ∷ [])) (answers ++ answers_to 0 given) next
+asks_then : (asked : List Request) (request : Request) (answers : List Answer) (core next : Machine) (given : List GivenAnswer) → has_quit asked ≡ false → length asked ≤ length answers → IsClientAt (steps.Connect ∷ map steps.Ask asked) answers core → GivesClient 0 core (steps.Ask request) given next → IsClientAt (steps.Connect ∷ (map steps.Ask asked ++ steps.Ask request ∷ [])) (answers ++ answers_to 0 given) next
 asks_then asked request answers core next given none answered c g =
     let o = open_at steps.Connect (map steps.Ask asked) answers core (no_close_asked asked) c in
     let wants = wanted_of asked none in
@@ -216,17 +216,17 @@ asks_then asked request answers core next given none answered c g =
     (open_then (steps.Connect ∷ map steps.Ask asked) (steps.Connect ∷ (map steps.Ask asked ++ steps.Ask request ∷ [])) answers (answers_to 0 given) core next (answers_wanted request) o (omega (arith, wanted_append (map steps.Ask asked) (steps.Ask request ∷ []))) (omega (arith, got.count)) got.unclosed got.connected)
 
 -- a request, asked once those before it were answered
-pub client_asks : (asked : List Request) (request : Request) (taken : List Step) (answers : List Answer) (core next : Machine) (given : List Given) → taken ≡ steps.Connect ∷ map steps.Ask asked → has_quit asked ≡ false → length asked ≤ length answers → IsClientAt taken answers core → GivesClient 0 core (steps.Ask request) given next → IsClientAt (taken ++ steps.Ask request ∷ []) (answers ++ answers_to 0 given) next
+pub client_asks : (asked : List Request) (request : Request) (taken : List Step) (answers : List Answer) (core next : Machine) (given : List GivenAnswer) → taken ≡ steps.Connect ∷ map steps.Ask asked → has_quit asked ≡ false → length asked ≤ length answers → IsClientAt taken answers core → GivesClient 0 core (steps.Ask request) given next → IsClientAt (taken ++ steps.Ask request ∷ []) (answers ++ answers_to 0 given) next
 client_asks asked request taken answers core next given is none answered c g =
     subst (λ (t : List Step). IsClientAt (t ++ steps.Ask request ∷ []) (answers ++ answers_to 0 given) next) (sym is) (asks_then asked request answers core next given none answered (subst (λ (t : List Step). IsClientAt t answers core) is c) g)
 
-ends_then : (asked : List Request) (answers : List Answer) (core next : Machine) (given : List Given) → IsClientAt (steps.Connect ∷ map steps.Ask asked) answers core → GivesClient 0 core steps.End given next → IsClientAt (steps.Connect ∷ (map steps.Ask asked ++ steps.End ∷ [])) (answers ++ answers_to 0 given) next
+ends_then : (asked : List Request) (answers : List Answer) (core next : Machine) (given : List GivenAnswer) → IsClientAt (steps.Connect ∷ map steps.Ask asked) answers core → GivesClient 0 core steps.End given next → IsClientAt (steps.Connect ∷ (map steps.Ask asked ++ steps.End ∷ [])) (answers ++ answers_to 0 given) next
 ends_then asked answers core next given c g =
     let o = open_at steps.Connect (map steps.Ask asked) answers core (no_close_asked asked) c in
     from_open steps.Connect (map steps.Ask asked ++ steps.End ∷ []) (answers ++ answers_to 0 given) next (no_close_both (map steps.Ask asked) (steps.End ∷ []) (no_close_asked asked) refl)
     (open_gets (steps.Connect ∷ map steps.Ask asked) (steps.Connect ∷ (map steps.Ask asked ++ steps.End ∷ [])) answers (answers_to 0 given) core next o (omega (arith, wanted_append (map steps.Ask asked) (steps.End ∷ []))) g.0)
 
-pub client_ends : (asked : List Request) (taken : List Step) (answers : List Answer) (core next : Machine) (given : List Given) → taken ≡ steps.Connect ∷ map steps.Ask asked → IsClientAt taken answers core → GivesClient 0 core steps.End given next → IsClientAt (taken ++ steps.End ∷ []) (answers ++ answers_to 0 given) next
+pub client_ends : (asked : List Request) (taken : List Step) (answers : List Answer) (core next : Machine) (given : List GivenAnswer) → taken ≡ steps.Connect ∷ map steps.Ask asked → IsClientAt taken answers core → GivesClient 0 core steps.End given next → IsClientAt (taken ++ steps.End ∷ []) (answers ++ answers_to 0 given) next
 client_ends asked taken answers core next given is c g =
     subst (λ (t : List Step). IsClientAt (t ++ steps.End ∷ []) (answers ++ answers_to 0 given) next) (sym is) (ends_then asked answers core next given (subst (λ (t : List Step). IsClientAt t answers core) is c) g)
 
@@ -241,13 +241,13 @@ closed_then taken answers given core next o g = record {
 }
 
 -- the steps after the connect, none of which is a close
-closes_then : (taken : List Step) (answers : List Answer) (core next : Machine) (given : List Given) → has_close taken ≡ false → IsClientAt (steps.Connect ∷ taken) answers core → GivesClient 0 core steps.Close given next → IsClientAt (steps.Connect ∷ (taken ++ steps.Close ∷ [])) (answers ++ answers_to 0 given) next
+closes_then : (taken : List Step) (answers : List Answer) (core next : Machine) (given : List GivenAnswer) → has_close taken ≡ false → IsClientAt (steps.Connect ∷ taken) answers core → GivesClient 0 core steps.Close given next → IsClientAt (steps.Connect ∷ (taken ++ steps.Close ∷ [])) (answers ++ answers_to 0 given) next
 closes_then taken answers core next given none c g =
     let o = open_at steps.Connect taken answers core none c in
     from_closed steps.Connect (taken ++ steps.Close ∷ []) (answers ++ answers_to 0 given) next (close_last taken)
     (closed_then (steps.Connect ∷ taken) answers (answers_to 0 given) core next o (g o.connected))
 
-pub client_closes : (asked : List Request) (told : Bool) (taken : List Step) (answers : List Answer) (core next : Machine) (given : List Given) → taken ≡ (steps.Connect ∷ map steps.Ask asked) ++ end_if told → IsClientAt taken answers core → GivesClient 0 core steps.Close given next → IsClientAt (taken ++ steps.Close ∷ []) (answers ++ answers_to 0 given) next
+pub client_closes : (asked : List Request) (told : Bool) (taken : List Step) (answers : List Answer) (core next : Machine) (given : List GivenAnswer) → taken ≡ (steps.Connect ∷ map steps.Ask asked) ++ end_if told → IsClientAt taken answers core → GivesClient 0 core steps.Close given next → IsClientAt (taken ++ steps.Close ∷ []) (answers ++ answers_to 0 given) next
 client_closes asked told taken answers core next given is c g =
     let none = no_close_both (map steps.Ask asked) (end_if told) (no_close_asked asked) (no_close_end told) in
     subst (λ (t : List Step). IsClientAt (t ++ steps.Close ∷ []) (answers ++ answers_to 0 given) next) (sym is) (closes_then (map steps.Ask asked ++ end_if told) answers core next given none (subst (λ (t : List Step). IsClientAt t answers core) is c) g)
@@ -281,7 +281,7 @@ one_connection [] h = refl
 one_connection (Closed ∷ before) h = cc
 one_connection (a ∷ before) h = ap (begun_with a) (one_connection before h)
 
-line_answers : (given : List Given) (before : List Answer) → answers_to 0 given ≡ before ++ Closed ∷ [] → has_closed before ≡ false → answers_of_line 0 0 given ≡ before
+line_answers : (given : List GivenAnswer) (before : List Answer) → answers_to 0 given ≡ before ++ Closed ∷ [] → has_closed before ≡ false → answers_of_line 0 0 given ≡ before
 line_answers given before e h =
     ap (λ (xs : List Answer). slice_index_or (by_connection xs) 0 []) e ∙ ap (λ (parts : List (List Answer)). slice_index_or parts 0 []) (one_connection before h)
 
@@ -297,7 +297,7 @@ no_more_wanted : (told : List Step) → (told ≡ []) ⊎ (told ≡ steps.End �
 no_more_wanted told (inl e) = ap wanted e
 no_more_wanted told (inr e) = ap wanted e
 
-told_so : (seen : LineSeen) (asked : List Request) (told : List Step) → AreEnds seen asked told → (told ≡ []) ⊎ (told ≡ steps.End ∷ [])
+told_so : (seen : LineSeen) (asked : List Request) (told : List Step) → MayTellEnd seen asked told → (told ≡ []) ⊎ (told ≡ steps.End ∷ [])
 told_so seen asked told (inl e) = inl e
 told_so seen asked told (inr e) = inr e.0
 
@@ -346,23 +346,23 @@ is_done ends.WriteFault asked mail early written fault a i f w =
     (record { answered = a; written_is = (cut.first, cut.last, cut.cut, cut.handed_is, cut.is_beginning, cut.written_is) })
 
 -- what the line tells is what the machine was told of it
-line_of : (profile : Profile) (over : LineEnd) (seen line : LineSeen) (given : List Given) (taken own : List Step) (own_is : IsStepsOfLine profile line over own) → seen ≡ line → taken ≡ own → IsDone over own_is.asked (answers_of_line 0 0 given) line.written → IsLineOf profile seen over given taken
+line_of : (profile : Profile) (over : LineEnd) (seen line : LineSeen) (given : List GivenAnswer) (taken own : List Step) (own_is : IsStepsOfLine profile line over own) → seen ≡ line → taken ≡ own → IsDone over own_is.asked (answers_of_line 0 0 given) line.written → IsLineOf profile seen over given taken
 line_of profile over seen line given taken own l same is done = record {
   steps = record {
     requests = l.requests;
     rest = l.rest;
     asked = l.asked;
-    told = l.told;
+    end_steps = l.end_steps;
     reads = subst (λ (s : LineSeen). Reads profile s.read l.requests l.rest) (sym same) l.reads;
     is_over = subst (λ (s : LineSeen). IsOverBy s over l.requests l.asked) (sym same) l.is_over;
-    ends = subst (λ (s : LineSeen). AreEnds s l.asked l.told) (sym same) l.ends;
+    ends = subst (λ (s : LineSeen). MayTellEnd s l.asked l.end_steps) (sym same) l.ends;
     steps_are = is ∙ l.steps_are;
   };
   answered = done.answered;
   written = subst (λ (s : LineSeen). IsWritten over l.asked (answers_of_line 0 0 given) s.written) (sym same) done.written_is;
 }
 
-done_at : (over : LineEnd) (asked : List Request) (told : List Step) (given : List Given) (mail rest : List Answer) (last : Machine) (written : List ℕ) (fault : Option LineFault) → answers_to 0 given ≡ mail ++ rest → wanted told ≡ 0 → IsClientAt (steps.Connect ∷ (map steps.Ask asked ++ told ++ steps.Close ∷ [])) (mail ++ rest) last → has_closed mail ≡ false → AreAllAnswered over asked mail → IsFaultOf over fault → IsWrittenSo fault mail written → IsDone over asked (answers_of_line 0 0 given) written
+done_at : (over : LineEnd) (asked : List Request) (told : List Step) (given : List GivenAnswer) (mail rest : List Answer) (last : Machine) (written : List ℕ) (fault : Option LineFault) → answers_to 0 given ≡ mail ++ rest → wanted told ≡ 0 → IsClientAt (steps.Connect ∷ (map steps.Ask asked ++ told ++ steps.Close ∷ [])) (mail ++ rest) last → has_closed mail ≡ false → AreAllAnswered over asked mail → IsFaultOf over fault → IsWrittenSo fault mail written → IsDone over asked (answers_of_line 0 0 given) written
 done_at over asked told given mail rest last written fault given_is none client unclosed all f w =
     let c = closed_at steps.Connect (map steps.Ask asked ++ told ++ steps.Close ∷ []) (mail ++ rest) last (close_last (map steps.Ask asked ++ told)) client in
     let first = comes_first mail rest c.before unclosed c.answers_are in
@@ -376,7 +376,7 @@ served_alone settings profile seen over history readings rest last moment p writ
     let s = served written in
     let l = s.line in
     let writes_mail : IsWrittenSo p.fault p.mail written = subst (λ (xs : List Answer). IsWrittenSo p.fault xs written) s.handed_out writes in
-    let none = no_more_wanted l.told (told_so (seen_line written p) l.asked l.told l.ends) in
+    let none = no_more_wanted l.end_steps (told_so (seen_line written p) l.asked l.end_steps l.ends) in
     let there = subst (λ (t : List Step). IsClientAt t (p.mail ++ rest) last) (sym steps_are ∙ l.steps_are) client in
     record {
       history = history;
@@ -385,5 +385,5 @@ served_alone settings profile seen over history readings rest last moment p writ
       runs = r.runs;
       timed = subst (λ (xs : List ℕ). ArePickedFrom xs (moments_heard 0 readings)) (sym r.timed) (picked_itself (moments_heard 0 readings));
       alone = r.alone;
-      line = line_of profile over seen (seen_line written p) r.given (steps_at 0 history) p.steps l told (sym steps_are) (done_at over l.asked l.told r.given p.mail rest last written p.fault r.answers_are none there unclosed s.answered s.fault writes_mail);
+      line = line_of profile over seen (seen_line written p) r.given (steps_at 0 history) p.steps l told (sym steps_are) (done_at over l.asked l.end_steps r.given p.mail rest last written p.fault r.answers_are none there unclosed s.answered s.fault writes_mail);
     }

@@ -4,7 +4,7 @@ use Rattle.std.proofs.lemmas.Grind.{common_steps}
 use Rattle.std.proofs.lemmas.List.{take-append-drop}
 use Rattle.bq_job.specs.LineSteps.{LineSeen, IsBeginning}
 use Rattle.bq_job.specs.declared.line_end.LineFault.TheVariants as faults
-use Rattle.bq_serve.specs.LineCalls.{first_fault, with_fault}
+use Rattle.bq_serve.specs.LineCalls.{first_fault, with_line_fault}
 use Rattle.bq_serve.specs.Writing.{BreaksOff, Writes, with_written}
 
 -- a further part is written
@@ -23,8 +23,8 @@ written_on old mid new bytes rest done n m rest_is h =
 
 -- nothing more was written before the fault
 pub breaks_off : (old mid new : LineSeen) (text cut : List ℕ) → IsBeginning cut text → mid ≡ with_written cut old
-    → new ≡ with_fault faults.Write mid → BreaksOff text old new
-breaks_off old mid new text cut begins m n = record { cut = cut; is_beginning = begins; seen = n ∙ ap (with_fault faults.Write) m }
+    → new ≡ with_line_fault faults.Write mid → BreaksOff text old new
+breaks_off old mid new text cut begins m n = record { cut = cut; is_beginning = begins; seen = n ∙ ap (with_line_fault faults.Write) m }
 
 pub written_nothing : (line : LineSeen) → line ≡ with_written [] line
 written_nothing line = ap (λ w. record line { written = w }) (sym (append-nil line.written))
@@ -51,6 +51,6 @@ writes_more old mid new first more false m w = record {
   cut = first ++ w.cut;
   is_beginning = begins_second w.cut first more w.is_beginning;
   seen =
-      w.seen ∙ ap (λ l. with_fault faults.Write (with_written w.cut l)) m
-      ∙ ap (λ x. with_fault faults.Write (record old { written = x })) (append_assoc old.written first w.cut);
+      w.seen ∙ ap (λ l. with_line_fault faults.Write (with_written w.cut l)) m
+      ∙ ap (λ x. with_line_fault faults.Write (record old { written = x })) (append_assoc old.written first w.cut);
 }

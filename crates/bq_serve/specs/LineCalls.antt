@@ -24,19 +24,19 @@ abbrev pub first_fault : Option LineFault → LineFault → Option LineFault
 first_fault None fault = Some fault
 first_fault (Some first) fault = Some first
 
-abbrev pub with_fault : LineFault → LineSeen → LineSeen
-with_fault fault line = record line { fault = first_fault line.fault fault }
+abbrev pub with_line_fault : LineFault → LineSeen → LineSeen
+with_line_fault fault line = record line { fault = first_fault line.fault fault }
 
 -- A read that gives no bytes says that the line ended.
 abbrev pub after_read : Result ℕ Error → List ℕ → LineSeen → LineSeen
 after_read (Ok n) buf line = record line { read = line.read ++ take n buf; ended = line.ended || n == 0 }
-after_read (Err e) buf line = if is_nothing_yet (error_kind e) then line else with_fault faults.Read line
+after_read (Err e) buf line = if is_nothing_yet (error_kind e) then line else with_line_fault faults.Read line
 
 -- A write that takes no bytes is a fault, and so is any error.
 abbrev pub after_write : Result ℕ Error → List ℕ → LineSeen → LineSeen
-after_write (Ok n) buf line = if n == 0 then with_fault faults.Write line else record line { written = line.written ++ take n buf }
-after_write (Err e) buf line = with_fault faults.Write line
+after_write (Ok n) buf line = if n == 0 then with_line_fault faults.Write line else record line { written = line.written ++ take n buf }
+after_write (Err e) buf line = with_line_fault faults.Write line
 
 abbrev pub after_flush : Result (Unit {0}) Error → LineSeen → LineSeen
 after_flush (Ok done) line = line
-after_flush (Err e) line = with_fault faults.Write line
+after_flush (Err e) line = with_line_fault faults.Write line

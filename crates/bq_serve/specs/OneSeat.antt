@@ -8,7 +8,7 @@ use Rattle.bq_job.specs.declared.line_end.LineFault.TheVariants as faults
 use Rattle.bq_job.specs.declared.line_end.LineEnd.{LineEnd}
 use Rattle.bq_job.specs.declared.step.Step.{Step}
 use Rattle.bq_job.specs.AnswerText.{answer_text}
-use Rattle.bq_job.specs.Dispatch.{Given}
+use Rattle.bq_job.specs.Dispatch.{GivenAnswer}
 use Rattle.bq_job.specs.History.{IsTimedBy, moments_heard, steps_at}
 use Rattle.bq_job.specs.Lawful.{IsLawful}
 use Rattle.bq_job.specs.LineSteps.{AreAllAnswered, IsBeginning, IsStepsOfLine, IsWritten, LineSeen, answers_text}
@@ -32,7 +32,7 @@ last_heard last (reading ∷ readings) = last_heard (moment_heard last reading) 
 -- The machine took the steps of this history, each at the moment of a reading of its own, and gave the
 -- client these answers.
 pub record IsRecord (settings : Settings) (history : List Entry) (readings : List (Option ℕ)) (answers : List Answer) (last : Machine) (moment : ℕ) : Type 0 where
-  pub given : List Given
+  pub given : List GivenAnswer
   pub runs : Run (new_machine settings) history given last
   pub timed : map (λ e. e.moment) history ≡ moments_heard 0 readings
   pub moment_is : moment ≡ last_heard 0 readings
@@ -83,7 +83,7 @@ IsWrittenSo (Some faults.Read) handed written = written ≡ answers_text handed
 IsWrittenSo (Some faults.Write) handed written = IsCutOff handed written
 
 -- The line is written what it is owed for these steps.
-pub record IsLineOf (profile : Profile) (seen : LineSeen) (over : LineEnd) (given : List Given) (taken : List Step) : Type 0 where
+pub record IsLineOf (profile : Profile) (seen : LineSeen) (over : LineEnd) (given : List GivenAnswer) (taken : List Step) : Type 0 where
   pub steps : IsStepsOfLine profile seen over taken
   pub answered : AreAllAnswered over steps.asked (answers_of_line 0 0 given)
   pub written : IsWritten over steps.asked (answers_of_line 0 0 given) seen.written
@@ -94,7 +94,7 @@ pub record IsLineOf (profile : Profile) (seen : LineSeen) (over : LineEnd) (give
 -- owed.
 pub record IsServedAlone (settings : Settings) (profile : Profile) (seen : LineSeen) (over : LineEnd) (readings : List (Option ℕ)) : Type 0 where
   pub history : List Entry
-  pub given : List Given
+  pub given : List GivenAnswer
   pub last : Machine
   pub runs : Run (new_machine settings) history given last
   pub timed : IsTimedBy readings history

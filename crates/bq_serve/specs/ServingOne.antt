@@ -3,7 +3,7 @@
 use Rattle.std.specs.Prelude.{ℕ, Bool, false, ◌≡◌, ◌==◌, ◌&&◌, List, [], ◌∷◌, ◌++◌, Option, Some}
 use Rattle.bq_job.specs.declared.answer.Answer.{Answer}
 use Rattle.bq_job.specs.declared.step.Step.{Step}
-use Rattle.bq_job.specs.Dispatch.{Given}
+use Rattle.bq_job.specs.Dispatch.{GivenAnswer}
 use Rattle.bq_job.specs.History.{steps_at}
 use Rattle.bq_job.specs.Lawful.{IsLawful}
 use Rattle.bq_job.specs.LineSteps.{LineSeen, answers_text}
@@ -27,7 +27,7 @@ use Rattle.bq_seat.specs.declared.machine.SeatMachine.{SeatMachine}
 -- The core took a step at a moment that it read from the clock, and its answers went into the mail.
 pub record TakesStep (core : Machine) (mail : List Answer) (heard : ℕ) (reading : Option ℕ) (what : Step) (next : Machine) (later : List Answer) (now_heard : ℕ) : Type 0 where
   pub outcome : Outcome
-  pub given : List Given
+  pub given : List GivenAnswer
   pub step : IsStep core (moment_heard heard reading) 0 what outcome given next
   pub lawful : IsLawful next
   pub settings : next.settings ≡ core.settings

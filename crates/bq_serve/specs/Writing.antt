@@ -2,7 +2,7 @@
 use Rattle.std.specs.Prelude.{ℕ, ◌≡◌, Bool, MatchBool, List, ◌++◌}
 use Rattle.bq_job.specs.declared.line_end.LineFault.TheVariants as faults
 use Rattle.bq_job.specs.LineSteps.{LineSeen, IsBeginning}
-use Rattle.bq_serve.specs.LineCalls.{with_fault}
+use Rattle.bq_serve.specs.LineCalls.{with_line_fault}
 
 abbrev pub with_written : List ℕ → LineSeen → LineSeen
 with_written bytes line = record line { written = line.written ++ bytes }
@@ -11,7 +11,7 @@ with_written bytes line = record line { written = line.written ++ bytes }
 pub record BreaksOff (text : List ℕ) (old new : LineSeen) : Type 0 where
   pub cut : List ℕ
   pub is_beginning : IsBeginning cut text
-  pub seen : new ≡ with_fault faults.Write (with_written cut old)
+  pub seen : new ≡ with_line_fault faults.Write (with_written cut old)
 
 -- The text was written whole, or not.
 abbrev pub Writes : List ℕ → LineSeen → LineSeen → Bool → Type 0

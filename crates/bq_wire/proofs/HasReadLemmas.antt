@@ -11,7 +11,7 @@ use Rattle.bq_job.specs.Reading.{Reads, BeginsNoUnit, is_quit, ends_by_quit}
 use Rattle.bq_job.specs.declared.request.Request.{Request}
 use Rattle.bq_job.proofs.UnitsLemmas.{AreUnits-append, ends_by_quit-append, quits_last-append}
 use Rattle.bq_wire.specs.HasRead.{HasRead, HasReadText, ReadsOn}
-use Rattle.bq_wire.specs.Standing.{profile_of, Stands, StandsAt, Feeds, FeedsText, Waits, HandsOut}
+use Rattle.bq_wire.specs.Standing.{profile_of, Stands, StandsAt, Feeds, FeedsText, Waits, HandsRequest}
 use Rattle.bq_wire.specs.declared.state.Place.{Place}
 use Rattle.bq_wire.specs.declared.state.Place.TheVariants.{InLine, InLongLine, InBody, Over}
 use Rattle.bq_wire.specs.declared.state.State.{State}
@@ -38,7 +38,7 @@ HasRead-waits old new piece taken count requests same read no_quit waits =
 
 -- a call with one
 HasRead-hands_out : (old new : State) (piece taken : List ℕ) (count : ℕ) (requests : List Request) (r : Request) → profile_of new ≡ profile_of old
-    → (read : HasRead old taken requests) → ends_by_quit requests ≡ false → HandsOut new read.rest piece count r → HasRead new (taken ++ take count piece) (requests ++ r ∷ [])
+    → (read : HasRead old taken requests) → ends_by_quit requests ≡ false → HandsRequest new read.rest piece count r → HasRead new (taken ++ take count piece) (requests ++ r ∷ [])
 HasRead-hands_out old new piece taken count requests r same read no_quit out = record {
   units = read.units ++ (read.rest ++ take count piece);
   rest = [];

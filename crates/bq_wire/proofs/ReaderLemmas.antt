@@ -17,7 +17,7 @@ use Rattle.bq_job.proofs.UnitLemmas.{no_first_unit}
 use Rattle.bq_wire.specs.Asked.{put_line_of}
 use Rattle.bq_wire.specs.LineEnds.{line_end_after, last_is_cr}
 use Rattle.bq_wire.specs.PutBodies.{IsBodySoFar, TakesBytes}
-use Rattle.bq_wire.specs.Standing.{profile_of, Stands, StandsAt, IsPutBegun, IsLineOf, Waits, HandsOut, FeedsText, length_beside_cr, but_last, Keeps}
+use Rattle.bq_wire.specs.Standing.{profile_of, Stands, StandsAt, IsPutBegun, EndsLineAsking, Waits, HandsRequest, FeedsText, length_beside_cr, but_last, Keeps}
 use Rattle.bq_wire.specs.WordsSoFar.{words_so_far}
 use Rattle.bq_wire.specs.declared.put_body.PutBody.{PutBody}
 use Rattle.bq_wire.specs.declared.state.Place.{Place}
@@ -87,11 +87,11 @@ begun_whole m old new text bytes r begun put takes whole request =
     (rw (line, read) (long, is), put_no_quit (profile m words_so_far) (put_line_of new.put) (begun.after ++ bytes) r is)
 
 -- a line that is a whole request is a unit
-pub line_unit : (p : Profile) (text bytes : List ℕ) (r : Request) → p.known ≡ words_so_far → IsLineOf (line_read.Whole r) bytes text → IsUnit p (text ++ bytes) r
+pub line_unit : (p : Profile) (text bytes : List ℕ) (r : Request) → p.known ≡ words_so_far → EndsLineAsking (line_read.Whole r) bytes text → IsUnit p (text ++ bytes) r
 line_unit p text bytes r known line = rw (line.first_line_is, known, line.read_is) (refl, refl)
 
 -- the line of a put begins it
-pub line_begins : (body : PutBody) (text bytes : List ℕ) (asked : line_read.LineRead) → IsLineOf asked bytes text → asked ≡ line_read.PutWaits (put_line_of body.put)
+pub line_begins : (body : PutBody) (text bytes : List ℕ) (asked : line_read.LineRead) → EndsLineAsking asked bytes text → asked ≡ line_read.PutWaits (put_line_of body.put)
     → IsBodySoFar body [] → IsPutBegun body (text ++ bytes)
 line_begins body text bytes asked line is so_far = record {
   line = line.line;
@@ -134,7 +134,7 @@ long_more text (b ∷ piece) long = go (last_is_cr false text) (last_is_cr false
 
 -- a line that is too long is BAD_FORMAT where it ends
 pub long_line_read : (text piece : List ℕ) (e : ℕ) → first_line text ≡ None → 222 < length_beside_cr text → line_end_after (last_is_cr false text) piece ≡ Some e
-    → IsLineOf line_read.bad_format (take e piece) text
+    → EndsLineAsking line_read.bad_format (take e piece) text
 long_line_read text piece e none long here =
     record { line = but_last (text ++ take (e - 1) piece); first_line_is = ends_there text piece e none here; read_is = read }
   where
@@ -166,7 +166,7 @@ in_line m kept = record { max_job_size = m; kept = kept; place = InLine }
 
 -- a request that is no quit is handed out at its end, where nothing is kept
 pub hands_out : (m : ℕ) (kept text piece : List ℕ) (taken : ℕ) (r : Request) → kept ≡ [] → IsUnit (profile m words_so_far) (text ++ take taken piece) r
-    → is_quit r ≡ false → HandsOut (in_line m kept) text piece taken r
+    → is_quit r ≡ false → HandsRequest (in_line m kept) text piece taken r
 hands_out m kept text piece taken r nothing unit no_quit = record { unit = unit; next = rw no_quit (sym nothing, refl) }
 
 -- a line of which there is no room for more is too long
@@ -191,7 +191,7 @@ kept_stands m old new Over text piece is none more keeps = absurd keeps
 -- the kept bytes and those up to the line's end are the line
 pub kept_line : (old text piece : List ℕ) (e : ℕ) (asked : line_read.LineRead) → text ≡ old → first_line text ≡ None
     → line_end_after (last_is_cr false old) piece ≡ Some e → asked ≡ line_read.read_line words_so_far (but_last (old ++ take (e - 1) piece))
-    → IsLineOf asked (take e piece) text
+    → EndsLineAsking asked (take e piece) text
 kept_line old text piece e asked is none here read = record {
   line = but_last (text ++ take (e - 1) piece);
   first_line_is = ends_there text piece e none (rw is here);

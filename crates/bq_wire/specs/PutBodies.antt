@@ -17,7 +17,7 @@ pub record IsBodySoFar (body : PutBody) (after : List ℕ) : Type 0 where
   pub end_is : body.good_end ≡ begins_line_end (drop body.put.bytes after)
 
 -- no more was taken than belongs to the put, and the store has room for what is left of the body
-pub record HasRoom (body : PutBody) : Type 0 where
+pub record HasBodyRoom (body : PutBody) : Type 0 where
   pub within : body.taken ≤ body.put.bytes + 2
   pub room : IfSome body.store (λ s. body.put.bytes ≤ body.taken + s.room)
 

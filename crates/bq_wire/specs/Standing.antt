@@ -7,7 +7,7 @@ use Rattle.bq_job.specs.Reading.{IsUnit, BeginsNoUnit, is_quit}
 use Rattle.bq_job.specs.declared.request.Request.{Request}
 use Rattle.bq_wire.specs.Asked.{put_line_of}
 use Rattle.bq_wire.specs.LineEnds.{last_is_cr}
-use Rattle.bq_wire.specs.PutBodies.{IsBodySoFar, HasRoom}
+use Rattle.bq_wire.specs.PutBodies.{IsBodySoFar, HasBodyRoom}
 use Rattle.bq_wire.specs.WordsSoFar.{words_so_far}
 use Rattle.bq_wire.specs.declared.put_body.PutBody.{PutBody}
 use Rattle.bq_wire.specs.declared.state.Place.{Place}
@@ -50,11 +50,11 @@ IsOver state = state.place ≡ Over
 abbrev pub IsSoundPlace : Place → Type 0
 IsSoundPlace InLine = Unit {0}
 IsSoundPlace (InLongLine after_cr) = Unit {0}
-IsSoundPlace (InBody body) = HasRoom body × (body.taken < body.put.bytes + 2)
+IsSoundPlace (InBody body) = HasBodyRoom body × (body.taken < body.put.bytes + 2)
 IsSoundPlace Over = Unit {0}
 
-abbrev pub IsSound : State → Type 0
-IsSound state = IsSoundPlace state.place
+abbrev pub IsSoundReader : State → Type 0
+IsSoundReader state = IsSoundPlace state.place
 
 -- no request is whole: the piece was taken, and the reader stands for the text that goes on with it
 pub record Waits (new : State) (text piece : List ℕ) (taken : ℕ) : Type 0 where
@@ -64,20 +64,20 @@ pub record Waits (new : State) (text piece : List ℕ) (taken : ℕ) : Type 0 wh
 
 -- the text and the bytes taken are one request: the reader stands for the empty text, or after a quit
 -- for none
-pub record HandsOut (new : State) (text piece : List ℕ) (taken : ℕ) (request : Request) : Type 0 where
+pub record HandsRequest (new : State) (text piece : List ℕ) (taken : ℕ) (request : Request) : Type 0 where
   pub unit : IsUnit (profile_of new) (text ++ take taken piece) request
   pub next : MatchBool (is_quit request) (IsOver new) (Stands new [])
 
 abbrev pub FeedsText : State → List ℕ → List ℕ → ℕ → Option Request → Type 0
 FeedsText new text piece taken None = Waits new text piece taken
-FeedsText new text piece taken (Some request) = HandsOut new text piece taken request
+FeedsText new text piece taken (Some request) = HandsRequest new text piece taken request
 
 -- a piece was fed to a reader that stood for such texts
 abbrev pub Feeds : (List ℕ → Type 0) → State → List ℕ → ℕ → Option Request → Type 0
 Feeds stood new piece taken request = (text : List ℕ) → stood text → FeedsText new text piece taken request
 
 -- the text and these bytes are one line with its CR LF, which asks for this
-pub record IsLineOf (asked : line_read.LineRead) (bytes text : List ℕ) : Type 0 where
+pub record EndsLineAsking (asked : line_read.LineRead) (bytes text : List ℕ) : Type 0 where
   pub line : List ℕ
   pub first_line_is : first_line (text ++ bytes) ≡ Some (line, [])
   pub read_is : line_read.read_line words_so_far line ≡ asked

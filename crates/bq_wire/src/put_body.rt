@@ -3,7 +3,7 @@ ghost use Rattle.std.specs.Option.{ForSome};
 ghost use Rattle.bq_job.specs.Profile.{profile};
 ghost use Rattle.bq_job.specs.Reading.{IsPutRequest};
 ghost use Rattle.bq_wire.specs.Asked.{put_line_of};
-ghost use Rattle.bq_wire.specs.PutBodies.{IsBodySoFar, HasRoom, TakesBytes, Stores};
+ghost use Rattle.bq_wire.specs.PutBodies.{IsBodySoFar, HasBodyRoom, TakesBytes, Stores};
 ghost use Rattle.bq_wire.specs.WordsSoFar.{words_so_far};
 
 use crate::line_read::PutLine;
@@ -27,7 +27,7 @@ impl PutBody {
     pub fn new(alloc: Global, put: PutLine, max_job_size: u32) -> PutBody
         ensures put { result.put ≡ put }
         ensures nothing { IsBodySoFar result [] }
-        ensures room { HasRoom result }
+        ensures room { HasBodyRoom result }
         ensures taken { result.taken ≡ 0 }
     {
         let store = if put.bytes > max_job_size {
@@ -45,8 +45,8 @@ impl PutBody {
 
     // Takes what belongs to the body, and says how many bytes that was.
     fn take_body(&mut self, bytes: &[u8]) -> usize
-        requires { HasRoom self.old }
-        ensures room { HasRoom self.new }
+        requires { HasBodyRoom self.old }
+        ensures room { HasBodyRoom self.new }
         ensures put { self.new.put ≡ self.old.put }
         ensures within { result ≤ length bytes.now }
         ensures taken { self.new.taken ≡ self.old.taken + result }
@@ -62,8 +62,8 @@ impl PutBody {
 
     // Takes the first byte, where it is one of the two behind the body, and says how many bytes that was.
     fn take_end_byte(&mut self, bytes: &[u8]) -> usize
-        requires { HasRoom self.old }
-        ensures room { HasRoom self.new }
+        requires { HasBodyRoom self.old }
+        ensures room { HasBodyRoom self.new }
         ensures put { self.new.put ≡ self.old.put }
         ensures within { result ≤ length bytes.now }
         ensures taken { self.new.taken ≡ self.old.taken + result }
@@ -85,8 +85,8 @@ impl PutBody {
 
     /// Takes what belongs to the put, and says how many bytes that was.
     pub fn take(&mut self, bytes: &[u8]) -> usize
-        requires { HasRoom self.old }
-        ensures room { HasRoom self.new }
+        requires { HasBodyRoom self.old }
+        ensures room { HasBodyRoom self.new }
         ensures put { self.new.put ≡ self.old.put }
         ensures within { result ≤ length bytes.now }
         ensures taken { self.new.taken ≡ self.old.taken + result }

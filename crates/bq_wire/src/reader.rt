@@ -3,8 +3,8 @@ ghost use Rattle.bq_job.specs.LineRead as line_read;
 ghost use Rattle.bq_job.specs.Reading.{is_quit};
 ghost use Rattle.bq_wire.specs.Asked.{asked_by};
 ghost use Rattle.bq_wire.specs.HasRead.{HasRead, ReadsOn};
-ghost use Rattle.bq_wire.specs.PutBodies.{HasRoom};
-ghost use Rattle.bq_wire.specs.Standing.{IsOver, IsSound, Stands, StandsAt, Feeds, Keeps, IsLineOf, Waits, HandsOut, but_last};
+ghost use Rattle.bq_wire.specs.PutBodies.{HasBodyRoom};
+ghost use Rattle.bq_wire.specs.Standing.{IsOver, IsSoundReader, Stands, StandsAt, Feeds, Keeps, EndsLineAsking, Waits, HandsRequest, but_last};
 ghost use Rattle.bq_wire.specs.WordsSoFar.{words_so_far};
 ghost use Rattle.bq_wire.specs.declared.state.Place.TheVariants.{InLine, InLongLine, InBody, Over};
 
@@ -30,11 +30,11 @@ impl Model for RequestReader {
 
     ghost Value = { State };
 
-    ghost use Rattle.bq_wire.specs.Standing.{IsSound};
+    ghost use Rattle.bq_wire.specs.Standing.{IsSoundReader};
 
     ghost view = { λ r. r.state };
 
-    ghost invariant = { λ r. IsSound r.state };
+    ghost invariant = { λ r. IsSoundReader r.state };
 }
 
 impl RequestReader {
@@ -78,7 +78,7 @@ impl RequestReader {
         ensures waits { result.1 ≡ None → (text : List ℕ) → Stands self.old text → Waits self.new text piece.now result.0 }
         // Whatever text it stood for, that text and the bytes taken are this one request, and it stands
         // for the empty text now, or after a quit for none.
-        ensures hands_out { IfSome result.1 (λ request. (text : List ℕ) → Stands self.old text → HandsOut self.new text piece.now result.0 request) }
+        ensures hands_out { IfSome result.1 (λ request. (text : List ℕ) → Stands self.old text → HandsRequest self.new text piece.now result.0 request) }
         // So of all bytes taken since the reader was new or restarted it hands out the requests, however
         // they were cut.
         ensures reads { ReadsOn self.old self.new piece.now result.0 result.1 }
@@ -90,8 +90,8 @@ impl RequestReader {
 }
 
 fn feed_state(alloc: Global, state: &mut State, piece: &[u8]) -> (usize, Option<Request>)
-    requires { IsSound state.old }
-    ensures sound { IsSound state.new }
+    requires { IsSoundReader state.old }
+    ensures sound { IsSoundReader state.new }
     ensures within { result.0 ≤ length piece.now }
     ensures progress { IfSome result.1 (λ _. 0 < result.0) }
     ensures feeds { Feeds (Stands state.old) state.new piece.now result.0 result.1 }
@@ -108,7 +108,7 @@ fn feed_state(alloc: Global, state: &mut State, piece: &[u8]) -> (usize, Option<
 
 // Feeds a line whose bytes are kept.
 fn feed_line(alloc: Global, state: &mut State, piece: &[u8]) -> (usize, Option<Request>)
-    ensures sound { IsSound state.new }
+    ensures sound { IsSoundReader state.new }
     ensures within { result.0 ≤ length piece.now }
     ensures progress { IfSome result.1 (λ _. 0 < result.0) }
     ensures feeds { Feeds (StandsAt state.old InLine) state.new piece.now result.0 result.1 }
@@ -171,10 +171,10 @@ fn after_line(
 ) -> (usize, Option<Request>)
     requires some { 0 < end }
     requires within { end ≤ length piece.now }
-    ensures sound { IsSound state.new }
+    ensures sound { IsSoundReader state.new }
     ensures within { result.0 ≤ length piece.now }
     ensures progress { IfSome result.1 (λ _. 0 < result.0) }
-    ensures feeds { state.old.kept ≡ [] → Feeds (IsLineOf (asked_by read) (take end piece.now)) state.new piece.now result.0 result.1 }
+    ensures feeds { state.old.kept ≡ [] → Feeds (EndsLineAsking (asked_by read) (take end piece.now)) state.new piece.now result.0 result.1 }
     ensures limit { state.new.max_job_size ≡ state.old.max_job_size }
 {
     match read {
@@ -202,7 +202,7 @@ fn place_behind(request: &Request) -> Place
 
 // Feeds a line that is too long.
 fn feed_long_line(state: &mut State, after_cr: bool, piece: &[u8]) -> (usize, Option<Request>)
-    ensures sound { IsSound state.new }
+    ensures sound { IsSoundReader state.new }
     ensures within { result.0 ≤ length piece.now }
     ensures progress { IfSome result.1 (λ _. 0 < result.0) }
     ensures feeds { Feeds (StandsAt state.old (InLongLine after_cr)) state.new piece.now result.0 result.1 }
@@ -222,9 +222,9 @@ fn feed_long_line(state: &mut State, after_cr: bool, piece: &[u8]) -> (usize, Op
 
 // Feeds the body of a put.
 fn feed_body(state: &mut State, body: PutBody, piece: &[u8]) -> (usize, Option<Request>)
-    requires room { HasRoom body }
+    requires room { HasBodyRoom body }
     requires not_whole { body.taken < body.put.bytes + 2 }
-    ensures sound { IsSound state.new }
+    ensures sound { IsSoundReader state.new }
     ensures within { result.0 ≤ length piece.now }
     ensures progress { IfSome result.1 (λ _. 0 < result.0) }
     ensures feeds { Feeds (StandsAt state.old (InBody body)) state.new piece.now result.0 result.1 }

@@ -8,7 +8,7 @@ use std::test::Fail;
 
 // A text and its requests. `~` is CR LF, `^` is CR; the filler stands between head and tail.
 #[derive(Clone, Copy)]
-struct Row {
+struct Example {
     limit: u32,
     head: &'static str,
     filler: u8,
@@ -18,8 +18,8 @@ struct Row {
     wanted: &'static str,
 }
 
-const fn plain(limit: u32, head: &'static str, wanted: &'static str) -> Row {
-    Row {
+const fn plain(limit: u32, head: &'static str, wanted: &'static str) -> Example {
+    Example {
         limit,
         head,
         filler: 0,
@@ -35,8 +35,8 @@ const fn filled(
     count: usize,
     tail: &'static str,
     wanted: &'static str,
-) -> Row {
-    Row {
+) -> Example {
+    Example {
         limit: 65535,
         head,
         filler,
@@ -58,14 +58,14 @@ fn push_text(bytes: &mut Vec<u8>, text: &str) -> Result<(), AllocError> {
     Ok(())
 }
 
-// The bytes of a row.
-fn text_of(alloc: Global, row: &Row) -> Result<Vec<u8>, AllocError> {
+// The bytes of an example.
+fn text_of(alloc: Global, example: &Example) -> Result<Vec<u8>, AllocError> {
     let mut bytes = Vec::new(alloc);
-    push_text(&mut bytes, row.head)?;
-    for _ in 0..row.count {
-        bytes.push(row.filler)?;
+    push_text(&mut bytes, example.head)?;
+    for _ in 0..example.count {
+        bytes.push(example.filler)?;
     }
-    push_text(&mut bytes, row.tail)?;
+    push_text(&mut bytes, example.tail)?;
     Ok(bytes)
 }
 
@@ -116,21 +116,26 @@ fn single_bytes(alloc: Global, text: &[u8]) -> Result<Vec<Vec<u8>>, AllocError> 
     Ok(pieces)
 }
 
-fn check_row(rt: &impl Abort, alloc: Global, row: &Row) -> Result<(), AllocError> {
-    let text = text_of(alloc, row)?;
-    let bytes = read(alloc, row.limit, &single_bytes(alloc, &text)?)?;
-    assert_eq!(rt; bytes.as_str(), row.wanted, "{} by bytes", row.head);
+fn check_example(rt: &impl Abort, alloc: Global, example: &Example) -> Result<(), AllocError> {
+    let text = text_of(alloc, example)?;
+    let bytes = read(alloc, example.limit, &single_bytes(alloc, &text)?)?;
+    assert_eq!(rt; bytes.as_str(), example.wanted, "{} by bytes", example.head);
     // The first of these is the text in one piece.
     for at in 0..=text.len() {
-        let two = read(alloc, row.limit, &two_pieces(alloc, &text, at)?)?;
-        assert_eq!(rt; two.as_str(), row.wanted, "{} cut at {at}", row.head);
+        let two = read(alloc, example.limit, &two_pieces(alloc, &text, at)?)?;
+        assert_eq!(rt;
+            two.as_str(),
+            example.wanted,
+            "{} cut at {at}",
+            example.head
+        );
     }
     Ok(())
 }
 
 #[test]
 fn worked_rows(rt: HostRuntime) -> Result<(), Fail> {
-    let rows = [
+    let examples = [
         plain(65535, "put 0 0 1 2~abXYreserve~", "104;reserve;"),
         plain(
             2,
@@ -155,15 +160,15 @@ fn worked_rows(rt: HostRuntime) -> Result<(), Fail> {
             "101;102;102;102;102;put 0 0 1 [];",
         ),
     ];
-    for row in &rows {
-        check_row(&rt, rt.alloc(), row)?;
+    for example in &examples {
+        check_example(&rt, rt.alloc(), example)?;
     }
     Ok(())
 }
 
 #[test]
 fn long_rows(rt: HostRuntime) -> Result<(), Fail> {
-    let rows = [
+    let examples = [
         filled("put 0 0 1 ", b'0', 211, "3~abc~", "put 0 0 1 [97, 98, 99];"),
         filled("put 0 0 1 ", b'0', 212, "3~abc~", "102;101;"),
         filled("", b'z', 222, "~", "101;"),
@@ -172,15 +177,15 @@ fn long_rows(rt: HostRuntime) -> Result<(), Fail> {
         filled("delete ", b'9', 300, "~reserve~", "102;reserve;"),
         filled("delete ", b'9', 200, "~reserve~", "102;reserve;"),
     ];
-    for row in &rows {
-        check_row(&rt, rt.alloc(), row)?;
+    for example in &examples {
+        check_example(&rt, rt.alloc(), example)?;
     }
     Ok(())
 }
 
 #[test]
 fn hostile_rows(rt: HostRuntime) -> Result<(), Fail> {
-    let rows = [
+    let examples = [
         plain(65535, "quit^~", "101;"),
         plain(65535, "quit\nquit~^^~\n~", "101;101;101;"),
         plain(1, "put 0 0 1 4294967295~abc", ""),
@@ -205,8 +210,8 @@ fn hostile_rows(rt: HostRuntime) -> Result<(), Fail> {
             "104;104;put 0 0 1 [13];",
         ),
     ];
-    for row in &rows {
-        check_row(&rt, rt.alloc(), row)?;
+    for example in &examples {
+        check_example(&rt, rt.alloc(), example)?;
     }
     Ok(())
 }

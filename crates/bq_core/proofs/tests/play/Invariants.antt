@@ -5,5 +5,5 @@ use Rattle.bq_core.proofs.tests.play.Given as goal
 abbrev pub invariant-loop-seat : goal.invariant-loop-seat
 invariant-loop-seat g l = l.core.settings.seats < l.outs.most
 
-abbrev pub invariant-loop-row : goal.invariant-loop-row
-invariant-loop-row g l = l.core.settings.seats < l.outs.most
+abbrev pub invariant-loop-example : goal.invariant-loop-example
+invariant-loop-example g l = l.core.settings.seats < l.outs.most

@@ -14,9 +14,9 @@ use std::test::Fail;
 const ROOM: usize = 1000;
 
 // What the client sends, the bytes that are written to it, and how its line is over.
-type Row = (&'static str, &'static str, LineEnd);
+type Example = (&'static str, &'static str, LineEnd);
 
-static ROWS: [Row; 13] = [
+static EXAMPLES: [Example; 13] = [
     (
         "put 5 0 10 3\r\nabc\r\nreserve\r\ndelete 1\r\nquit\r\n",
         "INSERTED 1\r\nRESERVED 1 3\r\nabc\r\nDELETED\r\n",
@@ -90,7 +90,7 @@ fn client(alloc: Global, sent: &str, room: usize) -> Result<MemLine, Fail>
 #[test]
 fn sessions(rt: HostRuntime) -> Result<(), Fail> {
     let alloc = rt.alloc();
-    for (sent, written, end) in &ROWS {
+    for (sent, written, end) in &EXAMPLES {
         let line = client(alloc, sent, ROOM)?;
         let one = run_one(&rt, alloc, config(65535), line, still(alloc)?)?;
         assert!(rt; one.line.written() == written.as_bytes(), "{sent:?}");
@@ -230,7 +230,7 @@ fn falling_clock(rt: HostRuntime) -> Result<(), Fail> {
 #[test]
 fn unread_clock(rt: HostRuntime) -> Result<(), Fail> {
     let alloc = rt.alloc();
-    let line = client(alloc, ROWS[0].0, ROOM)?;
+    let line = client(alloc, EXAMPLES[0].0, ROOM)?;
     let one = run_one(
         &rt,
         alloc,
@@ -238,7 +238,7 @@ fn unread_clock(rt: HostRuntime) -> Result<(), Fail> {
         line,
         ScriptClock::new(Vec::new(alloc)),
     )?;
-    assert!(rt; one.line.written() == ROWS[0].1.as_bytes());
+    assert!(rt; one.line.written() == EXAMPLES[0].1.as_bytes());
     assert!(rt; one.end == LineEnd::Quit);
     Ok(())
 }

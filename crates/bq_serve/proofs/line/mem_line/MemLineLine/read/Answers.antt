@@ -1,7 +1,7 @@
 use Rattle.std.proofs.Common.{◌≡◌, add-one, refl}
 use Rattle.bq_serve.proofs.PartLemmas.{passed_fault, read_given, some_given, still_open}
 use Rattle.bq_job.specs.declared.line_end.LineFault.TheVariants as faults
-use Rattle.bq_serve.specs.LineCalls.{with_fault}
+use Rattle.bq_serve.specs.LineCalls.{with_line_fault}
 use Rattle.bq_serve.specs.LineParts.{part_bytes}
 use Rattle.bq_serve.proofs.SeenLemmas.{same_seen}
 use Rattle.bq_serve.proofs.line.mem_line.MemLineLine.read.Goals as goal
@@ -24,4 +24,4 @@ returns-in-Some-Fault-clause-seen c =
     let same = rw c.deref.ensures.value at c.next_open-place.ensures.same in
     let passed = passed_fault _ _ c.next_open-place.result.1 _ found.3.0 found.1 c.in-Some-Fault.field-0-is in
     rw c.from-in-Some-Fault.ensures
-    (same_seen _ (with_fault faults.Read _) refl c.note_fault.ensures (rw (add-one c.next_open-place.result.0, passed) same) refl)
+    (same_seen _ (with_line_fault faults.Read _) refl c.note_fault.ensures (rw (add-one c.next_open-place.result.0, passed) same) refl)

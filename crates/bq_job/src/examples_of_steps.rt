@@ -1,0 +1,144 @@
+//! Worked examples of the machine. Each is a clause that holds by evaluating the definitions, and none
+//! runs our code.
+ghost use Rattle.bq_job.specs.declared.answer.Answer.TheVariants.{Closed, DeadlineSoon, Draining, Found, Inserted, NotFound, Ok, Paused, Released, Reserved, TimedOut, Touched, Using, Watching};
+ghost use Rattle.bq_job.specs.declared.request.Request.TheVariants.{Delete, Ignore, PauseTube, Peek, Put, Release, Reserve, ReserveWithTimeout, StatsJob, Touch, Use, Watch};
+ghost use Rattle.bq_job.specs.Examples.{Plays, ask, at, close, drain, end, tick, ◌gives◌};
+ghost use Rattle.std.specs.Prelude.{List, [], ◌∷◌, ◌++◌, ◌≡◌, codes};
+
+/// Of two waiting clients each gets the job of a tube that it watches, whoever has waited longer.
+fn waiters_of_two_tubes()
+    ensures { Plays
+        (ask 1 (Watch (codes "a")) gives ((1, Watching 2) ∷ [])
+        ∷ ask 1 (Ignore (codes "default")) gives ((1, Watching 1) ∷ [])
+        ∷ ask 1 Reserve gives []
+        ∷ ask 2 (Watch (codes "a")) gives ((2, Watching 2) ∷ [])
+        ∷ ask 2 (Watch (codes "b")) gives ((2, Watching 3) ∷ [])
+        ∷ ask 2 (Ignore (codes "default")) gives ((2, Watching 2) ∷ [])
+        ∷ ask 2 Reserve gives []
+        ∷ ask 0 (Use (codes "b")) gives ((0, Using (codes "b")) ∷ [])
+        ∷ ask 0 (Put 0 0 9 (codes "p")) gives ((0, Inserted 1) ∷ (2, Reserved 1 (codes "p")) ∷ [])
+        ∷ ask 0 (Use (codes "a")) gives ((0, Using (codes "a")) ∷ [])
+        ∷ ask 0 (Put 0 0 9 (codes "q")) gives ((0, Inserted 2) ∷ (1, Reserved 2 (codes "q")) ∷ [])
+        ∷ []) }
+{}
+
+/// A waiting client is told DEADLINE_SOON one second before its own lease ends, and no sooner.
+fn deadline_soon_at_one_second()
+    ensures { Plays
+        (ask 0 (Put 0 0 2 (codes "x")) gives ((0, Inserted 1) ∷ [])
+        ∷ ask 0 Reserve gives ((0, Reserved 1 (codes "x")) ∷ [])
+        ∷ at 500 (ask 0 Reserve) gives []
+        ∷ tick 999 gives []
+        ∷ tick 1000 gives ((0, DeadlineSoon) ∷ [])
+        ∷ []) }
+{}
+
+/// A client that waits when its own lease ends gets that job again.
+fn lease_expires_to_its_waiter()
+    ensures { Plays
+        (ask 0 (Put 0 0 2 (codes "x")) gives ((0, Inserted 1) ∷ [])
+        ∷ ask 0 Reserve gives ((0, Reserved 1 (codes "x")) ∷ [])
+        ∷ at 500 (ask 0 Reserve) gives []
+        ∷ tick 2000 gives ((0, Reserved 1 (codes "x")) ∷ [])
+        ∷ at 2500 (ask 0 (StatsJob 1)) gives ((
+          0,
+          Ok
+              (codes "---\nid: 1\ntube: default\nstate: reserved\npri: 0\nage: 2\ndelay: 0\nttr: 2\n"
+              ++ codes "time-left: 1\nreserves: 2\ntimeouts: 1\nreleases: 0\nburies: 0\nkicks: 0\n"),
+        ) ∷ [])
+        ∷ []) }
+{}
+
+/// Where a pause, a delay and a wait end at one moment, the job goes to the waiting client.
+fn pause_and_delay_end_together()
+    ensures { Plays
+        (ask 0 (Put 0 5 9 (codes "x")) gives ((0, Inserted 1) ∷ [])
+        ∷ ask 0 (PauseTube (codes "default") 5) gives ((0, Paused) ∷ [])
+        ∷ ask 1 (ReserveWithTimeout 5) gives []
+        ∷ tick 4999 gives []
+        ∷ tick 5000 gives ((1, Reserved 1 (codes "x")) ∷ [])
+        ∷ []) }
+{}
+
+/// Another client's job can be seen and not deleted. When its client goes, the job goes to who waits.
+fn close_hands_on()
+    ensures { Plays
+        (ask 0 (Put 0 0 9 (codes "x")) gives ((0, Inserted 1) ∷ [])
+        ∷ ask 1 Reserve gives ((1, Reserved 1 (codes "x")) ∷ [])
+        ∷ ask 2 Reserve gives []
+        ∷ ask 0 (Delete 1) gives ((0, NotFound) ∷ [])
+        ∷ ask 0 (Peek 1) gives ((0, Found 1 (codes "x")) ∷ [])
+        ∷ close 1 gives ((1, Closed) ∷ (2, Reserved 1 (codes "x")) ∷ [])
+        ∷ []) }
+{}
+
+/// Once draining, no put is accepted, and jobs are handed out as before.
+fn draining()
+    ensures { Plays
+        (ask 0 (Put 0 0 9 (codes "x")) gives ((0, Inserted 1) ∷ [])
+        ∷ drain gives []
+        ∷ ask 0 (Put 0 0 9 (codes "y")) gives ((0, Draining) ∷ [])
+        ∷ ask 0 Reserve gives ((0, Reserved 1 (codes "x")) ∷ [])
+        ∷ []) }
+{}
+
+/// A touch begins the time to run anew. Once it is over, the client holds the job no more.
+fn touch_moves_the_lease()
+    ensures { Plays
+        (ask 0 (Put 0 0 2 (codes "x")) gives ((0, Inserted 1) ∷ [])
+        ∷ ask 0 Reserve gives ((0, Reserved 1 (codes "x")) ∷ [])
+        ∷ at 1500 (ask 0 (Touch 1)) gives ((0, Touched) ∷ [])
+        ∷ tick 2000 gives []
+        ∷ at 3500 (ask 0 (Touch 1)) gives ((0, NotFound) ∷ [])
+        ∷ []) }
+{}
+
+/// A job that was released with a delay is handed out when the delay is over.
+fn release_with_delay()
+    ensures { Plays
+        (ask 0 (Put 0 0 9 (codes "x")) gives ((0, Inserted 1) ∷ [])
+        ∷ ask 0 Reserve gives ((0, Reserved 1 (codes "x")) ∷ [])
+        ∷ ask 0 (Release 1 7 3) gives ((0, Released) ∷ [])
+        ∷ at 2999 (ask 0 Reserve) gives []
+        ∷ tick 3000 gives ((0, Reserved 1 (codes "x")) ∷ [])
+        ∷ []) }
+{}
+
+/// Waits that end at one moment end in the order in which they began.
+fn timed_waits_by_ticket()
+    ensures { Plays
+        (ask 2 (ReserveWithTimeout 1) gives []
+        ∷ ask 1 (ReserveWithTimeout 1) gives []
+        ∷ tick 1000 gives ((2, TimedOut) ∷ (1, TimedOut) ∷ [])
+        ∷ []) }
+{}
+
+/// A client that sends no more waits no longer.
+fn end_of_a_waiter()
+    ensures { Plays (ask 0 Reserve gives [] ∷ end 0 gives ((0, TimedOut) ∷ []) ∷ []) }
+{}
+
+/// A pause of 0 seconds ends a pause, and the job goes to who waits.
+fn pause_lifted()
+    ensures { Plays
+        (ask 0 (Put 0 0 9 (codes "x")) gives ((0, Inserted 1) ∷ [])
+        ∷ ask 0 (PauseTube (codes "default") 5) gives ((0, Paused) ∷ [])
+        ∷ ask 1 Reserve gives []
+        ∷ at 1000 (ask 0 (PauseTube (codes "default") 0)) gives ((0, Paused) ∷ (1, Reserved 1 (codes "x")) ∷ [])
+        ∷ []) }
+{}
+
+#[test]
+fn examples_of_steps() {
+    waiters_of_two_tubes();
+    deadline_soon_at_one_second();
+    lease_expires_to_its_waiter();
+    pause_and_delay_end_together();
+    close_hands_on();
+    draining();
+    touch_moves_the_lease();
+    release_with_delay();
+    timed_waits_by_ticket();
+    end_of_a_waiter();
+    pause_lifted();
+}
