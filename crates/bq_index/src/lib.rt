@@ -1,0 +1,15 @@
+//! An ordered map whose insertions cannot fail.
+//!
+//! A [`Shelf`] keeps its entries in the order of their keys, each in a box of a balanced search tree,
+//! and beside them the spare boxes of entries to come. Memory is taken by [`Shelf::reserve`] alone, so that who has
+//! reserved first can insert, remove and move entries with no refusal in between. Each call makes few
+//! comparisons of keys, by a bound that its contract states over the counter [`Shelf::comparisons`].
+#![tactic(auto)]
+
+pub use fault::NoMemory;
+pub use shelf::Shelf;
+
+mod descent;
+mod fault;
+mod shelf;
+mod tree;

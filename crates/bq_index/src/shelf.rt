@@ -1,0 +1,174 @@
+// An ordered map whose insertions take no memory.
+ghost use Rattle.std.specs.Prelude.{◌≡◌, ◌+◌, ◌<◌, ◌≤◌, max, [], length, is_some, if◌then◌else◌, None, OnOk, OnErr};
+ghost use Rattle.std.specs.Option.{option_map, option_copied_mut};
+ghost use Rattle.bq_index.specs.Order.{InOrder, entry_from};
+ghost use Rattle.std.specs.Map.{lookup, remove_entry};
+ghost use Rattle.std.specs.BTreeMap.{is_at, insert_entry};
+
+use super::NoMemory;
+use super::descent::{Deepest, Descent};
+use super::tree::{self, Tree};
+use std::alloc::Global;
+use std::marker::Model;
+use std::mem;
+
+pub struct Shelf<K: Ord, V> {
+    tree: Tree<K, V>,
+    len: usize,
+    // A chain of spare boxes.
+    spares: Tree<K, V>,
+    spare: usize,
+    comparisons: u64,
+}
+
+impl<K: Ord, V> Model for Shelf<K, V> {
+    ghost use Rattle.bq_index.specs.Tree.{entries};
+    ghost use Rattle.bq_index.specs.Shelf.{Seen, IsWhole};
+
+    ghost Value = { Seen K V };
+
+    ghost view = { λ s. record { entries = entries s.tree; spare = s.spare; comparisons = s.comparisons } };
+
+    ghost invariant = { λ s. IsWhole K.cmp s.tree s.len s.spares s.spare };
+}
+
+impl<K: Ord + Drop, V: Drop> Drop for Shelf<K, V> {
+    fn drop(self) {
+        let Shelf {
+            tree,
+            len: _,
+            spares,
+            spare: _,
+            comparisons: _,
+        } = self;
+        drop(tree);
+        tree::drop_chain(spares);
+    }
+}
+
+impl<K: Ord + Drop, V: Drop> Shelf<K, V> {
+    ghost use Rattle.std.specs.Borrow.{sem};
+    ghost use Rattle.bq_index.specs.Shelf.{ComparesFew};
+    ghost use Rattle.bq_index.specs.ShelfLent.{LeavesEntries, LendsValue};
+
+    pub fn new() -> Self
+        ensures { result ≡ record { entries = []; spare = 0; comparisons = 0 } }
+    {
+        Shelf {
+            tree: Tree::Leaf,
+            len: 0,
+            spares: Tree::Leaf,
+            spare: 0,
+            comparisons: 0,
+        }
+    }
+
+    pub fn len(&self) -> usize
+        ensures len { result ≡ length self.now.entries }
+        ensures ordered { InOrder K.cmp self.now.entries }
+    {
+        self.len
+    }
+
+    /// The number of spare boxes.
+    pub fn spare(&self) -> usize
+        ensures { result ≡ self.now.spare }
+    {
+        self.spare
+    }
+
+    /// The comparisons of keys so far.
+    pub fn comparisons(&self) -> u64
+        ensures { result ≡ self.now.comparisons }
+    {
+        self.comparisons
+    }
+
+    // One more spare box, where `len` and `spare` stay within `usize` together.
+    fn add_spare(&mut self, alloc: Global) -> Result<(), NoMemory>
+        ensures ok { OnOk result (self.new ≡ record self.old { spare = self.old.spare + 1 }) }
+        ensures err { OnErr result (self.new ≡ self.old) }
+    {
+        if self.len >= usize::MAX - self.spare {
+            return Err(NoMemory);
+        }
+        let node = tree::spare_box(alloc)?;
+        self.spares = tree::link(node, mem::replace(&mut self.spares, Tree::Leaf));
+        self.spare += 1;
+        Ok(())
+    }
+
+    /// Sets aside boxes until `n` are spare: none where there are as many already. They are made one by
+    /// one, and a refusal keeps those that were made before it.
+    pub fn reserve(&mut self, alloc: Global, n: usize) -> Result<(), NoMemory>
+        ensures ok { OnOk result (n ≤ self.new.spare) }
+        ensures refused { OnErr result (self.new.spare < n) }
+        ensures entries { self.new.entries ≡ self.old.entries }
+        ensures not_fewer { self.old.spare ≤ self.new.spare }
+        ensures no_more { self.new.spare ≤ max n self.old.spare }
+        ensures comparisons { self.new.comparisons ≡ self.old.comparisons }
+    {
+        while self.spare() < n {
+            self.add_spare(alloc)?;
+        }
+        Ok(())
+    }
+
+    pub fn insert(&mut self, key: K, value: V)
+        requires spare { 0 < self.old.spare }
+        requires absent { lookup (is_at (K.cmp key)) self.old.entries ≡ None }
+        ensures entries { self.new.entries ≡ insert_entry K.cmp self.old.entries key value }
+        ensures spare { self.new.spare + 1 ≡ self.old.spare }
+        ensures comparisons { ComparesFew self.old self.new }
+    {
+        let (mut node, spares) = tree::unlink(mem::replace(&mut self.spares, Tree::Leaf));
+        self.spares = spares;
+        self.spare -= 1;
+        node.entry = Some((key, value));
+        let tree = mem::replace(&mut self.tree, Tree::Leaf);
+        self.tree = tree::insert(tree, node, &mut self.comparisons);
+        self.len += 1;
+    }
+
+    pub fn remove(&mut self, key: &K) -> Option<V>
+        ensures value { result ≡ lookup (is_at (K.cmp key.now)) self.old.entries }
+        ensures entries { self.new.entries ≡ remove_entry (is_at (K.cmp key.now)) self.old.entries }
+        ensures spare { self.new.spare ≡ self.old.spare + (if is_some result then 1 else 0) }
+        ensures comparisons { ComparesFew self.old self.new }
+    {
+        let tree = mem::replace(&mut self.tree, Tree::Leaf);
+        let (tree, found) = tree::remove(tree, key, &mut self.comparisons);
+        self.tree = tree;
+        let mut node = found?;
+        let entry = mem::replace(&mut node.entry, None);
+        self.len -= 1;
+        self.spares = tree::link(node, mem::replace(&mut self.spares, Tree::Leaf));
+        self.spare += 1;
+        match entry {
+            Some((_, value)) => Some(value),
+            None => unreachable!(),
+        }
+    }
+
+    pub fn get(&mut self, key: &K) -> Option<&V>
+        ensures* after { sem 𝓛 (LeavesEntries K.row V.row K.Ord self.entry) }
+        ensures value { option_map (λ v. v.now) result ≡ lookup (is_at (K.cmp key.now)) self.old.entries }
+    {
+        tree::get(&self.tree, key, &mut self.comparisons)
+    }
+
+    /// The least entry whose key is not below `key`.
+    pub fn next_from(&mut self, key: &K) -> Option<(&K, &V)>
+        ensures* after { sem 𝓛 (LeavesEntries K.row V.row K.Ord self.entry) }
+        ensures entry { option_map (λ p. (p.0.now, p.1.now)) result ≡ entry_from (K.cmp key.now) self.old.entries }
+    {
+        tree::next_from(&self.tree, key, &mut self.comparisons)
+    }
+
+    pub fn get_mut(&mut self, key: &K) -> Option<&mut V>
+        ensures* writes_back { sem 𝓛 (LendsValue K.row V.row K.Ord self.entry (K.cmp key.now) result) }
+        ensures value { option_copied_mut result ≡ lookup (is_at (K.cmp key.now)) self.old.entries }
+    {
+        Deepest::value_mut(&mut self.tree, key, &mut self.comparisons)
+    }
+}
