@@ -9,6 +9,7 @@
 pub use fault::NoMemory;
 pub use shelf::Shelf;
 
+mod boxes;
 mod descent;
 mod fault;
 mod shelf;

@@ -6,6 +6,7 @@ ghost use Rattle.std.specs.Map.{lookup, remove_entry};
 ghost use Rattle.std.specs.BTreeMap.{is_at, insert_entry};
 
 use super::NoMemory;
+use super::boxes::BoxSource;
 use super::descent::{Deepest, Descent};
 use super::tree::{self, Tree};
 use std::alloc::Global;
@@ -84,20 +85,6 @@ impl<K: Ord + Drop, V: Drop> Shelf<K, V> {
         self.comparisons
     }
 
-    // One more spare box, where `len` and `spare` stay within `usize` together.
-    fn add_spare(&mut self, alloc: Global) -> Result<(), NoMemory>
-        ensures ok { OnOk result (self.new ≡ record self.old { spare = self.old.spare + 1 }) }
-        ensures err { OnErr result (self.new ≡ self.old) }
-    {
-        if self.len >= usize::MAX - self.spare {
-            return Err(NoMemory);
-        }
-        let node = tree::spare_box(alloc)?;
-        self.spares = tree::link(node, mem::replace(&mut self.spares, Tree::Leaf));
-        self.spare += 1;
-        Ok(())
-    }
-
     /// Sets aside boxes until `n` are spare: none where there are as many already. They are made one by
     /// one, and a refusal keeps those that were made before it.
     pub fn reserve(&mut self, alloc: Global, n: usize) -> Result<(), NoMemory>
@@ -108,9 +95,40 @@ impl<K: Ord + Drop, V: Drop> Shelf<K, V> {
         ensures no_more { self.new.spare ≤ max n self.old.spare }
         ensures comparisons { self.new.comparisons ≡ self.old.comparisons }
     {
+        let mut heap = alloc;
+        self.reserve_from(&mut heap, n)
+    }
+
+    // Each box is hung into the chain before the next one is asked for.
+    pub(crate) fn reserve_from<S: BoxSource>(
+        &mut self,
+        source: &mut S,
+        n: usize,
+    ) -> Result<(), NoMemory>
+        ensures ok { OnOk result (n ≤ self.new.spare) }
+        ensures refused { OnErr result (self.new.spare < n) }
+        ensures entries { self.new.entries ≡ self.old.entries }
+        ensures not_fewer { self.old.spare ≤ self.new.spare }
+        ensures no_more { self.new.spare ≤ max n self.old.spare }
+        ensures comparisons { self.new.comparisons ≡ self.old.comparisons }
+    {
         while self.spare() < n {
-            self.add_spare(alloc)?;
+            self.add_spare(source)?;
         }
+        Ok(())
+    }
+
+    // One more spare box, where `len` and `spare` stay within `usize` together.
+    fn add_spare<S: BoxSource>(&mut self, source: &mut S) -> Result<(), NoMemory>
+        ensures ok { OnOk result (self.new ≡ record self.old { spare = self.old.spare + 1 }) }
+        ensures err { OnErr result (self.new ≡ self.old) }
+    {
+        if self.len >= usize::MAX - self.spare {
+            return Err(NoMemory);
+        }
+        let node = tree::spare_box(source)?;
+        self.spares = tree::link(node, mem::replace(&mut self.spares, Tree::Leaf));
+        self.spare += 1;
         Ok(())
     }
 

@@ -7,7 +7,7 @@ ghost use Rattle.bq_index.specs.Order.{InOrder, LacksKeyOf, with_entry, entry_fr
 ghost use Rattle.bq_index.specs.Tree.{entries, height, chain_length, IsBalanced, ComesApart, DifferByAtMost, IsRebalanced, RaisedByAtMost, Comparison, ComparisonOfEntries, IsFirstTaken};
 
 use super::NoMemory;
-use std::alloc::Global;
+use super::boxes::BoxSource;
 use std::cmp::Ordering;
 use std::mem;
 
@@ -40,21 +40,17 @@ impl<K, V> Tree<K, V> {
 }
 
 // A box with nothing in it.
-pub(crate) fn spare_box<K, V>(alloc: Global) -> Result<Box<Node<K, V>>, NoMemory>
+pub(crate) fn spare_box<K, V, S: BoxSource>(source: &mut S) -> Result<Box<Node<K, V>>, NoMemory>
 where
     K: Drop,
     V: Drop,
 {
-    let empty = Node {
+    source.box_of(Node {
         left: Tree::Leaf,
         entry: None,
         height: 0,
         right: Tree::Leaf,
-    };
-    match Box::new(alloc, empty) {
-        Ok(node) => Ok(node),
-        Err(_) => Err(NoMemory),
-    }
+    })
 }
 
 // Puts a box before a chain.

@@ -1,13 +1,13 @@
 use Rattle.std.proofs.Common.{◌≡◌, ◌-◌, ◌≤◌, max}
-use Rattle.bq_index.proofs.shelf.Shelf.reserve.Given as goal
+use Rattle.bq_index.proofs.shelf.Shelf.reserve_from.Given as goal
 
-abbrev pub invariant-loop-alloc : goal.invariant-loop-alloc
-invariant-loop-alloc g l = record {
+abbrev pub invariant-loop-self : goal.invariant-loop-self
+invariant-loop-self g l = record {
   entries : l.self.entries ≡ l.fn.self.entries;
   not_fewer : l.fn.self.spare ≤ l.self.spare;
   no_more : l.self.spare ≤ max l.n l.fn.self.spare;
   comparisons : l.self.comparisons ≡ l.fn.self.comparisons;
 }
 
-abbrev pub decreases-loop-alloc : goal.decreases-loop-alloc
-decreases-loop-alloc g l = l.n - l.self.spare
+abbrev pub decreases-loop-self : goal.decreases-loop-self
+decreases-loop-self g l = l.n - l.self.spare
