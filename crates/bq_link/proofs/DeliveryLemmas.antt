@@ -1,0 +1,91 @@
+-- Each step on the intake keeps its rule.
+use Rattle.std.proofs.Common.{◌≡◌, ℕ, ◌<◌, true, List, [], ◌∷◌, ◌++◌, Option, Some, None, refl, sym, ap, ◌∙◌, subst, append_assoc, lt_of_not-le}
+use mathlib.Core.Option.{some, some-ne-none}
+use lib.ListN.{get_elem?}
+use Rattle.crossbeam_queue.specs.Fifo.{Pushes, Pops, Learns}
+use Rattle.bq_job.specs.declared.step.Step.{Step}
+use Rattle.bq_link.specs.declared.delivery.View.{View}
+use Rattle.bq_link.specs.Delivery.{Delivers, IsCorePass, IsSeatPass, WaitsOf, core_view}
+use Rattle.bq_link.specs.Submissions.{AreBelow, Covers, steps_of}
+use Rattle.bq_link.proofs.ViewLemmas.{apart, differ, each_more, each_set, no}
+use Rattle.bq_link.proofs.SubmissionLemmas.{below_at, below_push, covers_push, of_other, of_own}
+
+pub begins : Delivers [] (core_view [] [] 0 ∷ [])
+begins = record {
+  core = 0;
+  owner = λ _. None;
+  history = [];
+  taken = [];
+  whole = refl;
+  seats = each_more (IsSeatPass (λ _. None) []) [] (core_view [] [] 0) (λ j u e. absurd (some-ne-none u (sym e))) (λ e. no e);
+  takes = each_more (IsCorePass 0 (λ _. None) [] []) [] (core_view [] [] 0) (λ j u e. absurd (some-ne-none u (sym e))) (λ _. (refl, refl, (λ _ _. refl), tt, tt));
+}
+
+-- the core's pass, as a step is submitted under a number that is given
+core_grows : (core : ℕ) (owner : ℕ → Option ℕ) (history taken : List (ℕ × Step)) (t : ℕ × Step) (from j : ℕ) (u : View) → owner t.0 ≡ Some from → IsCorePass core owner history taken j u → IsCorePass core owner (history ++ t ∷ []) taken j u
+core_grows core owner history taken t from j u is old may = let o = old may in (
+  o.0,
+  o.1,
+  o.2,
+  below_push u.made history t o.3 (lt_of_not-le (λ le. apart owner t.0 t.0 from is (o.2 t.0 le) refl)),
+  covers_push history t u.told o.4,
+)
+
+pub submits : (n pass : ℕ) (v : View) (step : Step) → v.submits ≡ true → Pushes Delivers n pass v (v.number, step) (λ w. w ≡ record v { submitted = v.submitted ++ step ∷ [] })
+submits n pass v step may items views room h at =
+    let w : View = record v { submitted = v.submitted ++ step ∷ [] } in
+    let t : ℕ × Step = (v.number, step) in
+    let history = h.history ++ t ∷ [] in
+    let mine = h.seats pass v at may in (
+      w,
+      record {
+        core = h.core;
+        owner = h.owner;
+        history = history;
+        taken = h.taken;
+        whole = ap (λ l. l ++ t ∷ []) h.whole ∙ append_assoc h.taken items (t ∷ []);
+        seats = each_set (IsSeatPass h.owner history) views pass w (λ _. (mine.0, of_own v.number step h.history ∙ ap (λ l. l ++ step ∷ []) mine.1))
+            (λ j u other e may'. let theirs = h.seats j u e may' in (theirs.0, of_other u.number v.number step h.history (differ h.owner v.number u.number pass j mine.0 theirs.0 (λ q. other (sym q))) ∙ theirs.1));
+        takes = each_set (IsCorePass h.core h.owner history h.taken) views pass w (core_grows h.core h.owner h.history h.taken t pass pass v mine.0 (h.takes pass v at))
+            (λ j u other e. core_grows h.core h.owner h.history h.taken t pass j u mine.0 (h.takes j u e));
+      },
+      refl,
+    )
+
+-- the same, where the pass's number is known by another name
+pub submits_as : (n pass : ℕ) (v : View) (number : ℕ) (step : Step) → v.submits ≡ true → v.number ≡ number → Pushes Delivers n pass v (number, step) (λ w. w ≡ record v { submitted = v.submitted ++ step ∷ [] })
+submits_as n pass v number step may is = subst (λ k. Pushes Delivers n pass v (k, step) (λ w. w ≡ record v { submitted = v.submitted ++ step ∷ [] })) is (submits n pass v step may)
+
+pub takes : (pass : ℕ) (v : View) → v.takes ≡ true → Pops Delivers pass v (λ x w. (w ≡ record v { taken = v.taken ++ x ∷ [] }) × (x.0 < v.made))
+takes pass v may x items views h at =
+    let w : View = record v { taken = v.taken ++ x ∷ [] } in
+    let taken = h.taken ++ x ∷ [] in
+    let mine = h.takes pass v at may in (
+      w,
+      record {
+        core = h.core;
+        owner = h.owner;
+        history = h.history;
+        taken = taken;
+        whole = h.whole ∙ sym (append_assoc h.taken (x ∷ []) items);
+        seats = each_set (IsSeatPass h.owner h.history) views pass w (h.seats pass v at) (λ j u other e. h.seats j u e);
+        takes = each_set (IsCorePass h.core h.owner h.history taken) views pass w (λ _. (mine.0, ap (λ l. l ++ x ∷ []) mine.1, mine.2, mine.3, mine.4))
+            (λ j u other e may'. absurd (other ((h.takes j u e may').0 ∙ sym mine.0)));
+      },
+      (refl, below_at v.made h.taken items x (subst (AreBelow v.made) h.whole mine.3)),
+    )
+
+-- where the intake is full
+pub waits : (pass : ℕ) (v : View) → v.submits ≡ true → Learns Delivers pass v (WaitsOf v)
+waits pass v may items views h at = (h.taken, ap (steps_of v.number) (sym h.whole) ∙ (h.seats pass v at may).1)
+
+-- what was taken and what waits, as the core's pass sees it
+seen : (pass : ℕ) (v : View) (items : List (ℕ × Step)) (views : List View) → v.takes ≡ true → (h : Delivers items views) → get_elem? views pass ≡ some v → h.history ≡ v.taken ++ items
+seen pass v items views may h at = h.whole ∙ ap (λ l. l ++ items) (sym (h.takes pass v at may).1)
+
+-- where the intake is empty
+pub covered : (pass : ℕ) (v : View) → v.takes ≡ true → Learns Delivers pass v (λ items. Covers (v.taken ++ items) v.told)
+covered pass v may items views h at = subst (λ l. Covers l v.told) (seen pass v items views may h at) (h.takes pass v at may).4
+
+pub compares : (pass : ℕ) (v : View) → v.takes ≡ true → v.submits ≡ true → Learns Delivers pass v (λ items. steps_of v.number (v.taken ++ items) ≡ v.submitted)
+compares pass v may and items views h at = ap (steps_of v.number) (sym (seen pass v items views may h at)) ∙ (h.seats pass v at and).1

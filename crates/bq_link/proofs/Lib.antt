@@ -1,0 +1,6 @@
+pub mod DeliveryLemmas
+pub mod NewLemmas
+pub mod PassLemmas
+pub mod RingLemmas
+pub mod SubmissionLemmas
+pub mod ViewLemmas

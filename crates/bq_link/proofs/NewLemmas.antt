@@ -1,0 +1,58 @@
+-- The ends, as they are made one after the other.
+use Rattle.std.proofs.Common.{◌≡◌, ℕ, zero, suc, ◌+◌, List, [], ◌∷◌, ◌++◌, Some, None, length, refl, slice_get, sym, ap, ◌∙◌, subst, arith}
+use Rattle.std.proofs.lemmas.List.{length-append, replicate_more}
+use Rattle.bq_link.specs.EndStates.{AreNewSeats, CoreState, IsNewCore, IsNewSeat, RingId, SeatState, ring_places}
+
+abbrev pub grown : CoreState → RingId → CoreState
+grown core ring = record core {
+  rings = core.rings ++ ring ∷ [];
+  sent = core.sent ++ [] ∷ [];
+  room = core.room ++ ring_places ∷ [];
+}
+
+get_more : {X : Type 0} (xs ys : List X) (n : ℕ) (x : X) → slice_get xs n ≡ Some x → slice_get (xs ++ ys) n ≡ Some x
+get_more [] ys n x e = absurd (none_some x e)
+  where
+    none_some : {X : Type 0} (x : X) → None ≡ Some x → ⊥
+    none_some x e = grind arith
+get_more (y ∷ xs) ys zero x e = e
+get_more (y ∷ xs) ys (suc n) x e = get_more xs ys n x e
+
+get_last : {X : Type 0} (xs : List X) (x : X) → slice_get (xs ++ x ∷ []) (length xs) ≡ Some x
+get_last [] x = refl
+get_last (y ∷ xs) x = get_last xs x
+
+pub core_more : (n : ℕ) (core next : CoreState) (ring : RingId) → next ≡ grown core ring → IsNewCore n core → IsNewCore (n + 1) next
+core_more n core next ring is new = subst (IsNewCore (n + 1)) (sym is) (record {
+  rings = length-append core.rings (ring ∷ []) ∙ ap (λ k. k + 1) new.rings;
+  taken = new.taken;
+  told = new.told;
+  sent = ap (λ l. l ++ [] ∷ []) new.sent ∙ replicate_more n [];
+  room = ap (λ l. l ++ ring_places ∷ []) new.room ∙ replicate_more n ring_places;
+})
+
+kept : (core next : CoreState) (ring : RingId) (place : ℕ) (seat : SeatState) → next ≡ grown core ring → IsNewSeat core place seat → IsNewSeat next place seat
+kept core next ring place seat is new = record {
+  number = new.number;
+  pair = (ap (λ (c : CoreState). c.intake) is ∙ new.pair.0, ap (λ (c : CoreState). slice_get c.rings seat.number) is ∙ get_more core.rings (ring ∷ []) seat.number seat.ring new.pair.1);
+  submitted = new.submitted;
+  taken = new.taken;
+  waiting = new.waiting;
+}
+
+all_kept : (core next : CoreState) (seat : SeatState) (place : ℕ) (seats : List SeatState) → next ≡ grown core seat.ring → AreNewSeats core place seats → IsNewSeat next (place + length seats) seat → AreNewSeats next place (seats ++ seat ∷ [])
+all_kept core next seat place [] is new last = (subst (λ n. IsNewSeat next n seat) (omega arith) last, tt)
+all_kept core next seat place (s ∷ ss) is new last = (kept core next seat.ring place s is new.0, all_kept core next seat (suc place) ss is new.1 (subst (λ n. IsNewSeat next n seat) (omega arith) last))
+
+pub seats_more : (n : ℕ) (core next : CoreState) (seat : SeatState) (seats : List SeatState) → next ≡ grown core seat.ring
+    → seat ≡ record { number = length core.rings; intake = core.intake; ring = seat.ring; submitted = []; taken = []; waiting = [] }
+    → length seats ≡ n → IsNewCore n core → AreNewSeats core 0 seats → AreNewSeats next 0 (seats ++ seat ∷ [])
+seats_more n core next seat seats is made many new all =
+    let number : seat.number ≡ length core.rings = ap (λ (s : SeatState). s.number) made in
+    all_kept core next seat 0 seats is all (record {
+      number = number ∙ new.rings ∙ sym many ∙ omega arith;
+      pair = (ap (λ (c : CoreState). c.intake) is ∙ ap (λ (s : SeatState). s.intake) (sym made), ap (λ (c : CoreState). slice_get c.rings seat.number) is ∙ ap (slice_get (core.rings ++ seat.ring ∷ [])) number ∙ get_last core.rings seat.ring);
+      submitted = ap (λ (s : SeatState). s.submitted) made;
+      taken = ap (λ (s : SeatState). s.taken) made;
+      waiting = ap (λ (s : SeatState). s.waiting) made;
+    })

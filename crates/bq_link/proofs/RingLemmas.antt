@@ -1,0 +1,107 @@
+-- The rings of the core's end, as one of them is used.
+use Rattle.std.proofs.Common.{◌≡◌, ℕ, zero, suc, ◌+◌, ◌<◌, ◌≤◌, Global, None, Some, is_some, slice_get, true≢false, List, [], ◌∷◌, ◌++◌, map, length, get_or, set, sym, ap, ◌∙◌, subst, arith}
+use Rattle.std.proofs.lemmas.List.{get_or-map, get_or-set_same, length-map, length-set, map-set, set-get_or}
+use Rattle.std.specs.List.{AllByRecursion as All}
+use Rattle.std.specs.Vec.{with_item}
+use Rattle.bq_job.specs.declared.answer.Answer.{Answer}
+use Rattle.rtrb.specs.Ring.{SameProducer, known_free, producer_capacity, sent}
+use Rattle.rtrb.specs.declared.AnyItems.{AnyItems}
+use Rattle.rtrb.specs.declared.producer.Producer.{Producer}
+use Rattle.bq_link.specs.declared.core_end.CoreEnd.TheInside.{Inside as CoreFields}
+use Rattle.bq_link.specs.EndStates.{CoreState, ring_places, room_for, sent_to}
+use Rattle.bq_link.specs.Inside.{core_state, ring_of}
+
+-- an element's image stays
+same_image : {X Y : Type 0} (f : X → Y) (xs : List X) (n : ℕ) (d x : X) → f x ≡ f (get_or xs n d) → map f (set xs n x) ≡ map f xs
+same_image f xs n d x same = map-set f xs n x ∙ ap (set (map f xs) n) same ∙ sym (map-set f xs n (get_or xs n d)) ∙ ap (map f) (set-get_or xs n d)
+
+-- the image of an element that was written
+image_at : {X Y : Type 0} (f : X → Y) (xs : List X) (n : ℕ) (x : X) (e : Y) → n < length xs → get_or (map f (set xs n x)) n e ≡ f x
+image_at f xs n x e within = get_or-map f (set xs n x) n x e (rw (length-set xs n x) within) ∙ ap f (get_or-set_same xs n x x within)
+
+all_at : {X : Type 0} (P : X → Type 0) (xs : List X) (n : ℕ) (d : X) → All P xs → n < length xs → P (get_or xs n d)
+all_at P [] n d all within = absurd (omega arith)
+all_at P (x ∷ xs) zero d all within = all.0
+all_at P (x ∷ xs) (suc n) d all within = all_at P xs n d all.1 (omega arith)
+
+all_set : {X : Type 0} (P : X → Type 0) (xs : List X) (n : ℕ) (x : X) → All P xs → P x → All P (set xs n x)
+all_set P [] n x all new = tt
+all_set P (y ∷ ys) zero x all new = (new, all.1)
+all_set P (y ∷ ys) (suc n) x all new = (all.0, all_set P ys n x all.1 new)
+
+pub all_push : {X : Type 0} (P : X → Type 0) (xs : List X) (x : X) → All P xs → P x → All P (xs ++ x ∷ [])
+all_push P [] x all new = (new, tt)
+all_push P (y ∷ ys) x all new = (all.0, all_push P ys x all.1 new)
+
+abbrev Ring : Type 0
+Ring = Producer Answer Global AnyItems
+
+-- the core's end with another value of one ring
+abbrev pub with_ring : CoreFields → ℕ → Ring → CoreFields
+with_ring c k p = record { pass = c.pass; rings = with_item c.rings k p }
+
+length_rings : (c : CoreFields) → length (core_state c).rings ≡ length c.rings.items
+length_rings c = length-map c.rings.items (λ (r : Ring). ring_of r)
+
+pub within_of : (c : CoreFields) (old : CoreState) (k number : ℕ) → core_state c ≡ old → k ≡ number → number < length old.rings → k < length c.rings.items
+within_of c old k number is at within =
+    let count : length old.rings ≡ length c.rings.items = ap (λ (s : CoreState). length s.rings) (sym is) ∙ length_rings c in
+    subst (λ (n : ℕ × ℕ). n.0 < n.1) (λ i. (sym at i, count i)) within
+
+-- an element that was found is there
+pub found_within : {X : Type 0} (xs : List X) (n : ℕ) (x : X) → slice_get xs n ≡ Some x → n < length xs
+found_within [] n x e = absurd (some_not_none x e)
+  where
+    some_not_none : {X : Type 0} (x : X) → None ≡ Some x → ⊥
+    some_not_none x e = true≢false (ap is_some (sym e))
+found_within (y ∷ ys) zero x e = omega arith
+found_within (y ∷ ys) (suc n) x e = let rest = found_within ys n x e in omega arith
+
+-- a ring that was looked at twice
+pub looked_twice : (a b c : Ring) → SameProducer a b → SameProducer b c → SameProducer a c
+looked_twice a b c first second = ((second.0.0 ∙ first.0.0, second.0.1 ∙ first.0.1, second.0.2 ∙ first.0.2, second.0.3 ∙ first.0.3), second.1 ∙ first.1)
+
+-- what isn't free in a ring is an answer that waits
+pub free_or_waiting : (first free sent places received waiting : ℕ) → first + sent ≡ places + received → received + waiting ≡ sent → first ≤ free → places ≤ free + waiting
+free_or_waiting first free sent places received waiting all parts less = omega arith
+
+module _ (c : CoreFields) (old : CoreState) (k number : ℕ) (d p : Ring) (is : core_state c ≡ old) (at : k ≡ number) (here : d ≡ get_or c.rings.items k d) where
+  same_ring : SameProducer d p → ring_of p ≡ ring_of (get_or c.rings.items k d)
+  same_ring same = (λ i. record { words = same.0.0 i; slots = same.0.1 i; names = same.0.2 i }) ∙ ap (λ (r : Ring). ring_of r) here
+
+  -- something was sent
+  pub changed : SameProducer d p → (xs : List Answer) → sent p ≡ xs → core_state (with_ring c k p) ≡ record old { sent = set old.sent number xs; room = set old.room number (known_free p) }
+  changed same xs e i = record {
+    intake = (is i).intake;
+    rings = (same_image (λ (r : Ring). ring_of r) c.rings.items k d p (same_ring same) ∙ ap (λ (s : CoreState). s.rings) is) i;
+    taken = (is i).taken;
+    told = (is i).told;
+    sent = (map-set (λ (r : Ring). sent r) c.rings.items k p ∙ (λ j. set (is j).sent (at j) (e j))) i;
+    room = (map-set (λ (r : Ring). known_free r) c.rings.items k p ∙ (λ j. set (is j).room (at j) (known_free p))) i;
+  }
+
+  -- nothing was sent
+  pub unsent : SameProducer d p → sent p ≡ sent d → (n : ℕ) → known_free p ≡ n → core_state (with_ring c k p) ≡ record old { room = set old.room number n }
+  unsent same e n free i = record {
+    intake = (is i).intake;
+    rings = (same_image (λ (r : Ring). ring_of r) c.rings.items k d p (same_ring same) ∙ ap (λ (s : CoreState). s.rings) is) i;
+    taken = (is i).taken;
+    told = (is i).told;
+    sent = (same_image (λ (r : Ring). sent r) c.rings.items k d p (e ∙ ap (λ (r : Ring). sent r) here) ∙ ap (λ (s : CoreState). s.sent) is) i;
+    room = (map-set (λ (r : Ring). known_free r) c.rings.items k p ∙ (λ j. set (is j).room (at j) (free j))) i;
+  }
+
+  pub room_now : k < length c.rings.items → room_for (core_state (with_ring c k p)) number ≡ known_free p
+  room_now within = ap (λ n. get_or (map (λ (r : Ring). known_free r) (set c.rings.items k p)) n 0) (sym at) ∙ image_at (λ (r : Ring). known_free r) c.rings.items k p 0 within
+
+  pub sent_now : k < length c.rings.items → sent_to (core_state (with_ring c k p)) number ≡ sent p
+  sent_now within = ap (λ n. get_or (map (λ (r : Ring). sent r) (set c.rings.items k p)) n []) (sym at) ∙ image_at (λ (r : Ring). sent r) c.rings.items k p [] within
+
+  pub room_was : k < length c.rings.items → room_for old number ≡ known_free d
+  room_was within = (λ i. get_or (sym is i).room (sym at i) 0) ∙ get_or-map (λ (r : Ring). known_free r) c.rings.items k d 0 within ∙ ap (λ (r : Ring). known_free r) (sym here)
+
+  pub sent_was : k < length c.rings.items → sent_to old number ≡ sent d
+  sent_was within = (λ i. get_or (sym is i).sent (sym at i) []) ∙ get_or-map (λ (r : Ring). sent r) c.rings.items k d [] within ∙ ap (λ (r : Ring). sent r) (sym here)
+
+  pub places_of : All (λ (r : Ring). producer_capacity r ≡ ring_places) c.rings.items → k < length c.rings.items → producer_capacity d ≡ ring_places
+  places_of all within = ap (λ (r : Ring). producer_capacity r) here ∙ all_at (λ (r : Ring). producer_capacity r ≡ ring_places) c.rings.items k d all within

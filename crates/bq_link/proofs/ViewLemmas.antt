@@ -1,0 +1,54 @@
+-- Lists of views, and the passes that numbers are given to.
+use Rattle.std.proofs.Common.{◌≡◌, ◌≢◌, ℕ, zero, suc, ◌⊎◌, inl, inr, ⊎_elim, Bool, true, false, true≢false, List, [], ◌∷◌, ◌++◌, Option, Some, None, cond, length, set, refl, sym, ap, ◌∙◌, subst, eq-eqb, ne_eqb, eqb}
+use mathlib.Core.Option.{some, some-ne-none, some-injective}
+use lib.ListN.{get_elem?}
+use Rattle.crossbeam_queue.proofs.Lists.{at_set}
+use Rattle.bq_link.specs.declared.delivery.View.{View}
+
+abbrev pub Each : (ℕ → View → Type 0) → List View → Type 0
+Each F views = (pass : ℕ) (v : View) → get_elem? views pass ≡ some v → F pass v
+
+-- one view is changed
+pub each_set : (F : ℕ → View → Type 0) (views : List View) (pass : ℕ) (w : View) → F pass w → ((j : ℕ) (u : View) → j ≢ pass → get_elem? views j ≡ some u → F j u) → Each F (set views pass w)
+each_set F views pass w mine others j u e = ⊎_elim (λ (x : (j ≡ pass) × (w ≡ u)). subst (λ (y : ℕ × View). F y.0 y.1) (λ i. (sym x.0 i, x.1 i)) mine)
+    (λ (x : (j ≢ pass) × (get_elem? views j ≡ some u)). others j u x.0 x.1) (at_set views pass j w u e)
+
+at_new : (views : List View) (v u : View) (j : ℕ) → get_elem? (views ++ v ∷ []) j ≡ some u → (get_elem? views j ≡ some u) ⊎ ((j ≡ length views) × (v ≡ u))
+at_new [] v u zero e = inr (refl, some-injective v u e)
+at_new [] v u (suc j) e = absurd (some-ne-none u (sym e))
+at_new (x ∷ xs) v u zero e = inl e
+at_new (x ∷ xs) v u (suc j) e = ⊎_elim inl (λ t. inr (ap suc t.0, t.1)) (at_new xs v u j e)
+
+-- one view is added
+pub each_more : (F : ℕ → View → Type 0) (views : List View) (v : View) → Each F views → F (length views) v → Each F (views ++ v ∷ [])
+each_more F views v each new j u e = ⊎_elim (λ (x : get_elem? views j ≡ some u). each j u x)
+    (λ (x : (j ≡ length views) × (v ≡ u)). subst (λ (y : ℕ × View). F y.0 y.1) (λ i. (sym x.0 i, x.1 i)) new) (at_new views v u j e)
+
+-- a number is given to a pass
+abbrev pub given : (ℕ → Option ℕ) → ℕ → ℕ → ℕ → Option ℕ
+given owner number pass n = cond (eqb n number) (Some pass) (owner n)
+
+pub given_here : (owner : ℕ → Option ℕ) (number pass : ℕ) → given owner number pass number ≡ Some pass
+given_here owner number pass = ap (λ b. cond b (Some pass) (owner number)) (eq-eqb number number refl)
+
+pub given_else : (owner : ℕ → Option ℕ) (number pass n : ℕ) → n ≢ number → given owner number pass n ≡ owner n
+given_else owner number pass n other = ap (λ b. cond b (Some pass) (owner n)) (ne_eqb n number other)
+
+-- the pass of an Option
+abbrev pub passed : Option ℕ → ℕ
+passed None = 0
+passed (Some n) = n
+
+abbrev pub there : Option ℕ → Bool
+there None = false
+there (Some n) = true
+
+pub apart : (owner : ℕ → Option ℕ) (number n pass : ℕ) → owner number ≡ Some pass → owner n ≡ None → n ≢ number
+apart owner number n pass mine none e = true≢false (ap there (sym mine) ∙ ap (λ k. there (owner k)) (sym e) ∙ ap there none)
+
+-- two passes submit under two numbers
+pub differ : (owner : ℕ → Option ℕ) (a b j k : ℕ) → owner a ≡ Some j → owner b ≡ Some k → j ≢ k → a ≢ b
+differ owner a b j k mine theirs other e = other (ap passed (sym mine ∙ ap owner e ∙ theirs))
+
+pub no : {A : Type 0} → false ≡ true → A
+no e = absurd (true≢false (sym e))

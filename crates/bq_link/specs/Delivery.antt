@@ -1,0 +1,58 @@
+-- The rule of the intake.
+use Rattle.std.specs.Prelude.{ℕ, ◌≡◌, ◌≤◌, ◌++◌, true, false, List, [], Option, Some, None}
+use mathlib.Core.Option.{some}
+use lib.ListN.{get_elem?}
+use Rattle.bq_job.specs.declared.step.Step.{Step}
+use Rattle.bq_link.specs.declared.delivery.View.{View}
+use Rattle.bq_link.specs.Submissions.{AreBelow, Covers, steps_of}
+
+-- what an end's thread knows: the steps that it submitted
+abbrev pub seat_view : ℕ → List Step → View
+seat_view number submitted = record {
+  submits = true;
+  takes = false;
+  number = number;
+  submitted = submitted;
+  taken = [];
+  told = [];
+  made = 0;
+}
+
+-- what the core's thread knows: what it took, what it was told of, and how many ends were made
+abbrev pub core_view : List (ℕ × Step) → List (ℕ × List Step) → ℕ → View
+core_view taken told made = record {
+  submits = false;
+  takes = true;
+  number = 0;
+  submitted = [];
+  taken = taken;
+  told = told;
+  made = made;
+}
+
+-- nothing is known, and nothing may be done
+abbrev pub blank_view : View
+blank_view = record (seat_view 0 []) { submits = false }
+
+-- one pass alone submits under a number, and it knows all steps with it
+abbrev pub IsSeatPass : (ℕ → Option ℕ) → List (ℕ × Step) → ℕ → View → Type 0
+IsSeatPass owner history pass v = v.submits ≡ true → (owner v.number ≡ Some pass) × (steps_of v.number history ≡ v.submitted)
+
+-- one pass alone takes, and it knows all that was taken; nobody has submitted under a number that isn't given
+abbrev pub IsCorePass : ℕ → (ℕ → Option ℕ) → List (ℕ × Step) → List (ℕ × Step) → ℕ → View → Type 0
+IsCorePass core owner history taken pass v = v.takes ≡ true
+    → (pass ≡ core) × (v.taken ≡ taken) × ((number : ℕ) → v.made ≤ number → owner number ≡ None) × AreBelow v.made history × Covers history v.told
+
+-- what was submitted is what was taken and then what waits, and each pass knows its part of it
+pub record Delivers (items : List (ℕ × Step)) (views : List View) : Type 0 where
+  pub core : ℕ
+  pub owner : ℕ → Option ℕ
+  pub history : List (ℕ × Step)
+  pub taken : List (ℕ × Step)
+  pub whole : history ≡ taken ++ items
+  pub seats : (pass : ℕ) (v : View) → get_elem? views pass ≡ some v → IsSeatPass owner history pass v
+  pub takes : (pass : ℕ) (v : View) → get_elem? views pass ≡ some v → IsCorePass core owner history taken pass v
+
+-- some steps were taken, and with those that wait the end's are all that it submitted
+abbrev pub WaitsOf : View → List (ℕ × Step) → Type 0
+WaitsOf v items = (taken : List (ℕ × Step)) × (steps_of v.number (taken ++ items) ≡ v.submitted)

@@ -1,0 +1,86 @@
+-- What contracts see of the ends.
+use Rattle.std.specs.Prelude.{ℕ, suc, ◌≡◌, ◌++◌, List, [], ◌∷◌, length, replicate, slice_get, slice_index_or, Some}
+use denote.RawPtr.{Ptr}
+use Rattle.atomic_table.specs.Seated.{TableId}
+use Rattle.bq_job.specs.declared.answer.Answer.{Answer}
+use Rattle.bq_job.specs.declared.step.Step.{Step}
+use Rattle.bq_link.specs.Submissions.{steps_of}
+
+-- which ring it is
+pub record RingId : Type 0 where
+  pub words : Ptr
+  pub slots : Ptr
+  pub names : ℕ × (ℕ × ℕ)
+
+-- Which intake it is, and how many steps it has room for.
+pub record IntakeState : Type 0 where
+  pub id : TableId
+  pub places : ℕ
+
+-- A seat's end: its number, the intake and the ring that it belongs to, all that it submitted, the answers
+-- that it took, and those that it knows to wait.
+pub record SeatState : Type 0 where
+  pub number : ℕ
+  pub intake : TableId
+  pub ring : RingId
+  pub submitted : List Step
+  pub taken : List Answer
+  pub waiting : List Answer
+
+-- The core's end: the intake and the rings that it belongs to, the steps that it took, those that it was
+-- told of, the answers that it sent to each end, and how many more it knows each ring to have room for.
+pub record CoreState : Type 0 where
+  pub intake : TableId
+  pub rings : List RingId
+  pub taken : List (ℕ × Step)
+  pub told : List (ℕ × List Step)
+  pub sent : List (List Answer)
+  pub room : List ℕ
+
+-- what was sent to the end with this number
+abbrev pub sent_to : CoreState → ℕ → List Answer
+sent_to core number = slice_index_or core.sent number []
+
+-- how many more answers its ring is known to have room for
+abbrev pub room_for : CoreState → ℕ → ℕ
+room_for core number = slice_index_or core.room number 0
+
+-- two values of one end
+abbrev pub IsSameSeat : SeatState → SeatState → Type 0
+IsSameSeat first last = (last.number ≡ first.number) × (last.intake ≡ first.intake) × (last.ring ≡ first.ring)
+
+abbrev pub IsSameCore : CoreState → CoreState → Type 0
+IsSameCore first last = (last.intake ≡ first.intake) × (last.rings ≡ first.rings)
+
+-- the core's end and a seat's come from one `links`
+abbrev pub IsPair : CoreState → SeatState → Type 0
+IsPair core seat = (core.intake ≡ seat.intake) × (slice_get core.rings seat.number ≡ Some seat.ring)
+
+-- at one moment so many steps waited, and all that the end submitted was taken or was one of them
+abbrev pub WasFull : ℕ → SeatState → Type 0
+WasFull places seat = (taken waiting : List (ℕ × Step)) × (length waiting ≡ places) × (steps_of seat.number (taken ++ waiting) ≡ seat.submitted)
+
+-- a ring has room for so many answers
+abbrev pub ring_places : ℕ
+ring_places = 4
+
+-- a core's end for so many seats' ends, before anything was done
+pub record IsNewCore (ends : ℕ) (core : CoreState) : Type 0 where
+  pub rings : length core.rings ≡ ends
+  pub taken : core.taken ≡ []
+  pub told : core.told ≡ []
+  pub sent : core.sent ≡ replicate ends []
+  pub room : core.room ≡ replicate ends ring_places
+
+-- a seat's end beside it, before anything was done
+pub record IsNewSeat (core : CoreState) (place : ℕ) (seat : SeatState) : Type 0 where
+  pub number : seat.number ≡ place
+  pub pair : IsPair core seat
+  pub submitted : seat.submitted ≡ []
+  pub taken : seat.taken ≡ []
+  pub waiting : seat.waiting ≡ []
+
+-- the ends with the numbers from this one on
+abbrev pub AreNewSeats : CoreState → ℕ → List SeatState → Type 0
+AreNewSeats core place [] = Unit {0}
+AreNewSeats core place (seat ∷ seats) = IsNewSeat core place seat × AreNewSeats core (suc place) seats

@@ -1,0 +1,4 @@
+pub mod Submissions
+pub mod EndStates
+pub mod Delivery
+pub mod Inside

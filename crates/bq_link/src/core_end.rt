@@ -1,0 +1,121 @@
+ghost use Rattle.std.specs.Prelude.{◌≡◌, ◌+◌, ◌<◌, ◌≤◌, ◌∷◌, ◌++◌, [], List, IfErr, IfNone, IfOk, IfSome, IsOk, OnErr, OnOk, length, slice_set};
+ghost use Rattle.bq_job.specs.declared.step.Step.{Step as AStep};
+ghost use Rattle.bq_link.specs.EndStates.{IsPair, ring_places, room_for, sent_to};
+ghost use Rattle.bq_link.specs.Submissions.{Covers, steps_of};
+
+use crate::delivery::{Blank, Compares, InHand, NextEnd, Takes, View};
+use crate::intake::Intake;
+use crate::seat_end::SeatEnd;
+use bq_job::{Answer, Seat, Step};
+use crossbeam_queue::Pass;
+use rtrb::{Producer, PushError, RingBuffer};
+use std::alloc::{AllocError, Global};
+use std::marker::Model;
+use std::mem;
+use std::sync::Wait;
+use std::time::Duration;
+
+/// The core's end: it takes the steps that were submitted and sends answers to the seats' ends.
+#[derive(Drop)]
+pub struct CoreEnd {
+    pub(crate) pass: Pass<(Seat, Step), View>,
+    pub(crate) rings: Vec<Producer<Answer>, Global>,
+}
+
+impl Model for CoreEnd {
+    ghost use Rattle.bq_link.specs.EndStates.{CoreState};
+
+    ghost Value = { CoreState };
+
+    ghost use Rattle.bq_link.specs.Inside.{core_state, IsCoreSound};
+
+    ghost view = { core_state };
+
+    ghost invariant = { IsCoreSound };
+}
+
+// So many answers may wait for an end.
+const RING_PLACES: usize = 4;
+
+impl CoreEnd {
+    // Makes the next seat's end, and the ring between the two.
+    pub(crate) fn next_end(&mut self, alloc: Global, intake: &Intake) -> Result<SeatEnd, AllocError>
+        requires intake { self.old.intake ≡ intake.now.id }
+        requires few { length self.old.rings < 65536 }
+        ensures core { IfOk result (λ seat. self.new ≡ record self.old { rings = self.old.rings ++ seat.ring ∷ []; sent = self.old.sent ++ [] ∷ []; room = self.old.room ++ ring_places ∷ [] }) }
+        ensures seat { IfOk result (λ seat. seat ≡ record { number = length self.old.rings; intake = self.old.intake; ring = seat.ring; submitted = []; taken = []; waiting = [] }) }
+    {
+        let number = self.rings.len() as u16;
+        let (ring, mail) = RingBuffer::new(alloc, RING_PLACES)?;
+        self.rings.push(ring)?;
+        let pass = intake.queue.another::<NextEnd>(&mut self.pass);
+        Ok(SeatEnd { number, pass, mail })
+    }
+
+    /// Takes the oldest step that waits, with the number of its end. Where it is told that there is none,
+    /// the intake was empty at some moment of the call: all that the core was told of is taken.
+    pub fn take<R: Wait>(&mut self, rt: &R, intake: &Intake) -> Option<(Seat, Step)>
+        requires { self.old.intake ≡ intake.now.id }
+        ensures taken { IfSome result (λ t. self.new ≡ record self.old { taken = self.old.taken ++ t ∷ [] }) }
+        ensures number { IfSome result (λ t. t.0 < length self.old.rings) }
+        ensures none { IfNone result (self.new ≡ self.old) }
+        ensures empty { IfNone result (Covers self.old.taken self.old.told) }
+    {
+        intake.queue.pop_as::<Takes, R>(rt, &mut self.pass)
+    }
+
+    /// Sends an answer to the end with this number, or hands it back where its ring is full (refusal 402).
+    pub fn send(&mut self, seat: Seat, answer: Answer) -> Result<(), Answer>
+        requires { seat < length self.old.rings }
+        ensures sent { OnOk result (self.new ≡ record self.old { sent = slice_set self.old.sent seat (sent_to self.old seat ++ answer ∷ []); room = slice_set self.old.room seat (room_for self.new seat) }) }
+        ensures handed_back { IfErr result (λ back. back ≡ answer) }
+        ensures unchanged { OnErr result (self.new ≡ record self.old { room = slice_set self.old.room seat 0 }) }
+        ensures room { OnOk result (room_for self.old seat ≤ room_for self.new seat + 1) }
+        ensures succeeds { 0 < room_for self.old seat → IsOk result }
+    {
+        match self.rings[usize::from(seat)].push(answer) {
+            Ok(()) => Ok(()),
+            Err(PushError::Full(back)) => Err(back),
+        }
+    }
+
+    /// With both ends in one hand: how many answers were sent to the end and not taken. The next so many
+    /// calls of `mail` give them, and the ring has room for all but so many.
+    pub fn left(&mut self, seat: &mut SeatEnd) -> usize
+        requires { IsPair self.old seat.old }
+        ensures counted { result ≡ length seat.new.waiting }
+        ensures whole { seat.new.taken ++ seat.new.waiting ≡ sent_to self.new seat.old.number }
+        ensures room { ring_places ≤ room_for self.new seat.old.number + result }
+        ensures seat { seat.new ≡ record seat.old { waiting = seat.new.waiting } }
+        ensures core { self.new ≡ record self.old { room = slice_set self.old.room seat.old.number (room_for self.new seat.old.number) } }
+    {
+        let ring = &mut self.rings[usize::from(seat.number)];
+        ring.slots_beside(&mut seat.mail);
+        seat.mail.slots_beside(ring)
+    }
+
+    /// With both ends in one hand: the core's end is told what the seat's end submitted. What it took of
+    /// that, and then what waits, is all of it.
+    pub fn compare(&mut self, intake: &Intake, seat: &mut SeatEnd)
+        requires core { self.old.intake ≡ intake.now.id }
+        requires seat { seat.old.intake ≡ intake.now.id }
+        ensures waits { (waits : List AStep) × (seat.old.submitted ≡ steps_of seat.old.number self.old.taken ++ waits) }
+        ensures told { self.new ≡ record self.old { told = (seat.old.number, seat.old.submitted) ∷ self.old.told } }
+        ensures seat { seat.new ≡ seat.old }
+    {
+        let queue = &intake.queue;
+        let blank = queue.another::<Blank>(&mut self.pass);
+        let pass = mem::replace(&mut seat.pass, blank);
+        queue.absorb::<InHand>(&mut self.pass, pass);
+        queue.learn_as::<Compares>(&mut self.pass);
+        seat.pass = queue.another::<InHand>(&mut self.pass);
+    }
+
+    /// Waits until a step is submitted, or some time has passed. It may return at once, and says nothing
+    /// of why it returned.
+    pub fn wait<R: Wait>(&mut self, rt: &R, intake: &Intake, most: Duration)
+        ensures { self.new ≡ self.old }
+    {
+        intake.core.park_timeout(rt, most);
+    }
+}

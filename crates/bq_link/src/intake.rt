@@ -1,0 +1,34 @@
+use crate::delivery::{Delivery, View};
+use bq_job::{Seat, Step};
+use crossbeam_queue::RuledArrayQueue;
+use std::marker::Model;
+use std::thread::Parker;
+
+/// What all ends share: the steps that were submitted and not taken, and a bell for each end.
+#[derive(Drop)]
+pub struct Intake {
+    pub(crate) queue: RuledArrayQueue<(Seat, Step), View, Delivery>,
+    pub(crate) core: Parker,
+    pub(crate) seats: Vec<Parker>,
+}
+
+impl Model for Intake {
+    ghost use Rattle.std.specs.Prelude.{ℕ};
+    ghost use Rattle.bq_link.specs.EndStates.{IntakeState};
+
+    ghost Value = { IntakeState };
+
+    ghost use Rattle.crossbeam_queue.specs.Passes.{ruled_capacity};
+
+    ghost view = { λ i. record { id = i.queue.table.shared.table_id; places = ruled_capacity i.queue } };
+}
+
+impl Intake {
+    /// Rings the bell of an end, so that it looks at its mail. An end that doesn't wait now will not wait
+    /// the next time. A number of no end does nothing.
+    pub fn wake(&self, seat: Seat) {
+        if let Some(bell) = self.seats.get(usize::from(seat)) {
+            bell.unpark();
+        }
+    }
+}

@@ -1,0 +1,16 @@
+//! The links between the seats of a server and its core, with no lock.
+//!
+//! Steps go into one intake, a queue that all seats share, and answers come back by a ring for each seat.
+//! Each thread has an end of its own. What an end submitted, took or sent is seen by contracts as lists.
+#![tactic(auto)]
+
+pub use core_end::CoreEnd;
+pub use intake::Intake;
+pub use making::links;
+pub use seat_end::SeatEnd;
+
+mod core_end;
+mod delivery;
+mod intake;
+mod making;
+mod seat_end;

@@ -1,0 +1,80 @@
+ghost use Rattle.std.specs.Prelude.{◌≡◌, ◌+◌, ◌*◌, ◌≤◌, [], IfOk, OnOk, length};
+ghost use Rattle.bq_link.specs.EndStates.{AreNewSeats, IsNewCore};
+
+use crate::core_end::CoreEnd;
+use crate::intake::Intake;
+use crate::seat_end::SeatEnd;
+use bq_job::NoMemory;
+use crossbeam_queue::RuledArrayQueue;
+use std::alloc::{AllocError, Global};
+use std::thread::Parker;
+
+/// Makes an intake for so many seats, and an end for each of them, one for the control line behind them,
+/// and one for the core. All memory that the links ever take is taken here.
+pub fn links(alloc: Global, seats: u16) -> Result<(Intake, CoreEnd, Vec<SeatEnd>), NoMemory>
+    requires { (1 ≤ seats) × (seats ≤ 256) }
+    ensures intake { IfOk result (λ r. r.0.places ≡ 2 * (seats + 1)) }
+    ensures core { IfOk result (λ r. (r.1.intake ≡ r.0.id) × IsNewCore (seats + 1) r.1) }
+    ensures seats { IfOk result (λ r. (length r.2.items ≡ seats + 1) × AreNewSeats r.1 0 r.2.items) }
+{
+    match all_ends(alloc, usize::from(seats) + 1) {
+        Ok(made) => Ok(made),
+        Err(_) => Err(NoMemory),
+    }
+}
+
+fn all_ends(alloc: Global, ends: usize) -> Result<(Intake, CoreEnd, Vec<SeatEnd>), AllocError>
+    requires { (1 ≤ ends) × (ends ≤ 257) }
+    ensures intake { IfOk result (λ r. r.0.places ≡ 2 * ends) }
+    ensures core { IfOk result (λ r. (r.1.intake ≡ r.0.id) × IsNewCore ends r.1) }
+    ensures seats { IfOk result (λ r. (length r.2.items ≡ ends) × AreNewSeats r.1 0 r.2.items) }
+{
+    let (intake, mut core) = no_ends(alloc, ends)?;
+    let seats = seat_ends(alloc, &intake, &mut core, ends)?;
+    Ok((intake, core, seats))
+}
+
+fn seat_ends(
+    alloc: Global,
+    intake: &Intake,
+    core: &mut CoreEnd,
+    ends: usize,
+) -> Result<Vec<SeatEnd>, AllocError>
+    requires intake { core.old.intake ≡ intake.now.id }
+    requires few { ends ≤ 257 }
+    requires new { IsNewCore 0 core.old }
+    ensures core { OnOk result ((core.new.intake ≡ core.old.intake) × IsNewCore ends core.new) }
+    ensures seats { IfOk result (λ seats. (length seats.items ≡ ends) × AreNewSeats core.new 0 seats.items) }
+{
+    let mut seats = Vec::with_capacity(alloc, ends)?;
+    for _number in 0..ends {
+        let seat = core.next_end(alloc, intake)?;
+        seats.push_reserved(seat);
+    }
+    Ok(seats)
+}
+
+// The intake, and the core's end before any seat's is made.
+fn no_ends(alloc: Global, ends: usize) -> Result<(Intake, CoreEnd), AllocError>
+    requires { (1 ≤ ends) × (ends ≤ 257) }
+    ensures intake { IfOk result (λ r. r.0.places ≡ 2 * ends) }
+    ensures core { IfOk result (λ r. (r.1.intake ≡ r.0.id) × IsNewCore 0 r.1) }
+{
+    let seats = bells(alloc, ends)?;
+    let rings = Vec::with_capacity(alloc, ends)?;
+    let (queue, pass) = RuledArrayQueue::ruled(alloc, 2 * ends)?;
+    let intake = Intake {
+        queue,
+        core: Parker::new(),
+        seats,
+    };
+    Ok((intake, CoreEnd { pass, rings }))
+}
+
+fn bells(alloc: Global, ends: usize) -> Result<Vec<Parker>, AllocError> {
+    let mut bells = Vec::with_capacity(alloc, ends)?;
+    for _number in 0..ends {
+        bells.push(Parker::new())?;
+    }
+    Ok(bells)
+}
