@@ -1,9 +1,9 @@
 -- The machine is lawful at the start and after every step, and a step gives few answers.
 use Rattle.std.proofs.Common.{ℕ, zero, suc, ◌≡◌, ◌≤◌, ◌<◌, ◌+◌, true, false, ◌&&◌, ◌||◌, not, cond, List, [], ◌∷◌, map, length, length-append, arith, refl, sym, ap, ◌∙◌, subst, inl, inr, Option, Some, None}
-use Rattle.std.specs.Prelude.{is_some, unwrap_or, MatchOption, ◌==◌}
+use Rattle.std.specs.Prelude.{is_some, nat_le, unwrap_or, MatchOption, ◌==◌}
 use Rattle.std.specs.Cmp.Lexicographic.{bytes_decides}
 use Rattle.std.specs.List.{Contains, list_any, list_all}
-use Rattle.std.proofs.lemmas.Bool.{or_left, or_right, cond_both}
+use Rattle.std.proofs.lemmas.Bool.{or_left, or_right, cond_both, le-leb}
 use Rattle.std.proofs.lemmas.List.{length-map}
 use Rattle.std.proofs.lemmas.List.Sums.{count_by-le-length}
 use Rattle.bq_job.specs.declared.answer.Answer.{Answer}
@@ -13,8 +13,8 @@ use Rattle.bq_job.specs.declared.step.Step.{Step}
 use Rattle.bq_job.specs.Changes.{in_state, is_ready, is_waiting, with_job, with_seat, without_wait}
 use Rattle.bq_job.specs.Computed.{waiting_count}
 use Rattle.bq_job.specs.Dispatch.{DispatchTurn, GivenAnswer, IsHandOut, is_job_before, is_wait_before, is_waiting_for, next_job, next_seat, reserved_by}
-use Rattle.bq_job.specs.Lawful.{IsLawful, has_open_holder}
-use Rattle.bq_job.specs.Limits.{later}
+use Rattle.bq_job.specs.Lawful.{IsLawful, has_open_holder, watches_once}
+use Rattle.bq_job.specs.Limits.{greatest, later}
 use Rattle.bq_job.specs.Machine.{Machine, SeatRecord, Settings, TubeRecord, default_tube, empty_seat, new_machine, numbers}
 use Rattle.bq_job.specs.Steps.{Dispatches, EndsWaits, IsStep, Memory, Outcome, Serves, acted, addressed, granted, growth_refused, share_refused}
 use Rattle.bq_job.specs.Timers.{after_timers, at_moment, is_due, is_expired, job_after_timers, with_timeout}
@@ -27,6 +27,7 @@ use Rattle.bq_job.proofs.ComputedLemmas.{next_end_waits, next_seat_waits, waitin
 use Rattle.bq_job.proofs.DispatchLemmas.{turn_of}
 use Rattle.bq_job.proofs.KeptLemmas.{Keeps, has_holder, is_open_wait, kept_of_job, kept_of_jobs, kept_of_lawful, kept_of_seat, IsMild}
 use Rattle.bq_job.proofs.ListLemmas.{all_always, all_at, all_from_members, all_of_filter, all_of_map, all_weaker, find_in_filter, list_all_from, list_any_not, list_any_with, none_pass}
+use Rattle.bq_job.proofs.RecordLemmas.{Booked, booked_acted, booked_forgetting, booked_of_lawful, booked_served, booked_through, booked_timers}
 
 -- what timers make of a job: ready, ready with one timeout more, or the same
 after_timers_is : (moment : ℕ) (j : Job) (P : Job → Type 0) → P (in_state states.Ready j) → P (record j { state = states.Ready; counts = with_timeout j.counts }) → P j → P (job_after_timers moment j)
@@ -181,9 +182,14 @@ only_tubes m =
     (all_weaker (λ t. Unit {0} × (is_tube t.name m ≡ true)) (λ t. is_tube t.name (forgetting m) ≡ true) (forgetting m).tubes (λ t c. c.1)
     (all_of_filter (λ t. Unit {0}) (λ t. is_tube t.name m) m.tubes (all_always (λ t. Unit {0}) m.tubes (λ t. tt))))
 
+counts_fit : (m : Machine) → Booked m → list_all (λ n. nat_le n greatest) (m.timeouts ∷ m.puts ∷ m.connections ∷ m.burials ∷ m.tickets ∷ []) ≡ true
+counts_fit m b =
+    list_all_from (λ n. nat_le n greatest) (m.timeouts ∷ m.puts ∷ m.connections ∷ m.burials ∷ m.tickets ∷ [])
+    (le-leb m.timeouts greatest b.timeouts_fit, (le-leb m.puts greatest b.puts_fit, (le-leb m.connections greatest b.connections_fit, (le-leb m.burials greatest b.burials_fit, (le-leb m.tickets greatest b.tickets_fit, tt)))))
+
 -- Where no job and no wait is next, the machine is lawful once tubes that are gone are forgotten.
-pub lawful_when_done : (m : Machine) → Keeps m → next_job m ≡ None → next_end m ≡ None → IsLawful (forgetting m)
-lawful_when_done m h jobs ends = record {
+pub lawful_when_done : (m : Machine) → Keeps m → Booked m → next_job m ≡ None → next_end m ≡ None → IsLawful (forgetting m)
+lawful_when_done m h b jobs ends = record {
   ids = h.ids;
   next = h.accepts;
   next_fits = h.fits;
@@ -193,16 +199,19 @@ lawful_when_done m h jobs ends = record {
   dispatched = next_job_as_before m ∙ jobs;
   wait_ends = ends;
   tubes = only_tubes m;
+  tube_order = (booked_forgetting m b).order;
+  watched = list_all_from watches_once m.seats b.watched;
+  counts = counts_fit m b;
 }
 
 -- After dispatch and the ends of waits the machine is lawful.
-pub lawful_when_served : (first : Machine) (handed ended : List GivenAnswer) (last : Machine) → Keeps first → Serves first handed ended last → IsLawful last
-lawful_when_served first handed ended last h s =
+pub lawful_when_served : (first : Machine) (handed ended : List GivenAnswer) (last : Machine) → Keeps first → Booked first → Serves first handed ended last → IsLawful last
+lawful_when_served first handed ended last h b s =
     let d = s.dispatches in
     let e = s.ends_waits in
     let k = served first handed ended last h s in
     subst IsLawful (sym e.forgets)
-    (lawful_when_done e.end (subst Keeps e.forgets k.keeps)
+    (lawful_when_done e.end (subst Keeps e.forgets k.keeps) (booked_served first handed ended last b s)
     (dispatched_through_ends s.between ended e.end (ap next_job d.forgets ∙ next_job_as_before d.end ∙ d.done) e.turns) e.done)
 
 -- what a command leaves, whatever became of the memory that it wanted
@@ -216,7 +225,9 @@ pub step_is_lawful : (first last : Machine) (at seat : ℕ) (what : Step) (outco
 step_is_lawful first last at seat what outcome given h s =
     let before = served (forgetting (after_timers (at_moment at first))) s.handed s.ended s.before (kept_of_timers at first (kept_of_lawful first h)) s.serves in
     let act = leaves_acted s.memory s.before seat what before.keeps in
-    lawful_when_served s.after s.handed_then s.ended_then last (subst Keeps (sym s.acts) act.keeps) s.serves_then
+    let books = booked_through (forgetting (after_timers (at_moment at first))) s.handed s.ended s.before (booked_timers at first (booked_of_lawful first h)) s.serves in
+    lawful_when_served s.after s.handed_then s.ended_then last (subst Keeps (sym s.acts) act.keeps)
+    (subst Booked (sym s.acts) (booked_forgetting (acted s.memory s.before seat what).machine (booked_acted s.memory s.before seat what books))) s.serves_then
 
 numbered : (low n : ℕ) → map (λ s. s.number) (map empty_seat (numbers low n)) ≡ numbers low n
 numbered low zero = refl
@@ -238,6 +249,10 @@ new_is_lawful settings = record {
       (all_of_map (λ s. ends_waiting (new_machine settings) s ≡ false) empty_seat (numbers 0 settings.seats)
       (all_always (λ n. ends_waiting (new_machine settings) (empty_seat n) ≡ false) (numbers 0 settings.seats) (λ n. refl))));
   tubes = refl;
+  tube_order = refl;
+  watched = list_all_from watches_once (map empty_seat (numbers 0 settings.seats))
+      (all_of_map (λ s. watches_once s ≡ true) empty_seat (numbers 0 settings.seats) (all_always (λ n. watches_once (empty_seat n) ≡ true) (numbers 0 settings.seats) (λ n. refl)));
+  counts = refl;
 }
 
 -- as many answers as the act gives

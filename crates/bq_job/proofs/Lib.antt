@@ -12,3 +12,4 @@ pub mod ListLemmas
 pub mod NameOrderLemmas
 pub mod OneClientLemmas
 pub mod RunLemmas
+pub mod RecordLemmas

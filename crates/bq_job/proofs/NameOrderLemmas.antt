@@ -1,7 +1,7 @@
 -- Names in byte order, and the tubes that are listed.
 use Rattle.std.proofs.Common.{◌≡◌, ℕ, Bool, true, false, ◌&&◌, ◌||◌, if◌then◌else◌, List, [], ◌∷◌, ◌++◌, refl, sym, ap, ◌∙◌, map, append_assoc, append-nil}
 use Rattle.std.specs.Prelude.{fold, flat_map}
-use Rattle.std.specs.List.{list_any}
+use Rattle.std.specs.List.{AllByRecursion as All, list_any}
 use Rattle.std.specs.Cmp.Lexicographic.{slice_cmp, bytes_decides}
 use Rattle.std.specs.Ordering.{nat_cmp, is_lt, ordering_reverse}
 use Rattle.std.specs.declared.cmp.Ordering.{Ordering}
@@ -14,6 +14,7 @@ use Rattle.bq_job.specs.NameOrder.{is_in_order}
 use Rattle.bq_job.specs.TubeName.{is_same_name}
 use Rattle.bq_job.specs.TubeOrder.{with_name, seated_tubes, tubes}
 use Rattle.bq_job.specs.Tubes.{is_name_before, is_tube, is_seated_at}
+use Rattle.bq_job.proofs.ListLemmas.{all_weaker}
 
 both : (a b : Bool) → (a && b) ≡ true → (a ≡ true) × (b ≡ true)
 both true b e = (refl, e)
@@ -30,7 +31,7 @@ comes_after a b Less e same before = let h : is_name_before a b ≡ true = ap is
 comes_after a b Equal e same before = let h : is_same_name a b ≡ true = (bytes_decides a b).1 (exact_bytes a b e) in cc
 comes_after a b Greater e same before = ap is_lt (nat_list_cmp_total.antisymm b a ∙ ap ordering_reverse e)
 
-after : (a b : List ℕ) → is_same_name a b ≡ false → is_name_before a b ≡ false → is_name_before b a ≡ true
+pub after : (a b : List ℕ) → is_same_name a b ≡ false → is_name_before a b ≡ false → is_name_before b a ≡ true
 after a b = comes_after a b (slice_cmp nat_cmp a b) refl
 
 before_trans : (a b c : List ℕ) → is_name_before a b ≡ true → is_name_before b c ≡ true → is_name_before a c ≡ true
@@ -78,9 +79,20 @@ first_before : (o n : List ℕ) (names more : List (List ℕ)) → is_in_order (
 first_before o n [] more h = (both _ _ h).0
 first_before o n (x ∷ names) more h = let k = both _ _ h in before_trans o x n k.0 (first_before x n names more k.1)
 
-rest_in_order : (o : List ℕ) (names : List (List ℕ)) → is_in_order (o ∷ names) ≡ true → is_in_order names ≡ true
+pub rest_in_order : (o : List ℕ) (names : List (List ℕ)) → is_in_order (o ∷ names) ≡ true → is_in_order names ≡ true
 rest_in_order o [] h = refl
 rest_in_order o (x ∷ names) h = (both _ _ h).1
+
+-- the first of names in order comes before all others, and a name that does may stand first
+pub first_of_order : (o : List ℕ) (names : List (List ℕ)) → is_in_order (o ∷ names) ≡ true → All (λ n. is_name_before o n ≡ true) names
+first_of_order o [] h = tt
+first_of_order o (x ∷ names) h =
+    let k = both _ _ h in
+    (k.0, all_weaker (λ n. is_name_before x n ≡ true) (λ n. is_name_before o n ≡ true) names (λ n. before_trans o x n k.0) (first_of_order x names k.1))
+
+pub in_order_from : (o : List ℕ) (names : List (List ℕ)) → All (λ n. is_name_before o n ≡ true) names → is_in_order names ≡ true → is_in_order (o ∷ names) ≡ true
+in_order_from o [] first h = refl
+in_order_from o (x ∷ names) first h = rw first.0 h
 
 -- a name that comes after all others is put behind them
 put_last : (n : List ℕ) (names more : List (List ℕ)) → is_in_order (names ++ n ∷ more) ≡ true → with_name names n ≡ names ++ n ∷ []

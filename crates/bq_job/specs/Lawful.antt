@@ -1,12 +1,15 @@
 -- What holds of the machine after every step.
-use Rattle.std.specs.Prelude.{ℕ, suc, Bool, false, ◌≡◌, ◌≤◌, ◌&&◌, ◌||◌, not, None, List, [], ◌∷◌, map, IsTrue}
+use Rattle.std.specs.Prelude.{ℕ, suc, Bool, true, false, ◌≡◌, ◌≤◌, ◌&&◌, ◌||◌, not, nat_le, None, List, [], ◌∷◌, map, IsTrue}
 use Rattle.std.specs.List.{list_all, list_any}
 use Rattle.bq_job.specs.declared.job.Job.{Job}
 use Rattle.bq_job.specs.Changes.{is_held_by, is_waiting}
 use Rattle.bq_job.specs.Dispatch.{next_job}
 use Rattle.bq_job.specs.JobCommands.{last_id}
 use Rattle.bq_job.specs.JobStates.{is_reserved}
-use Rattle.bq_job.specs.Machine.{Machine, numbers}
+use Rattle.bq_job.specs.Limits.{greatest}
+use Rattle.bq_job.specs.Machine.{Machine, SeatRecord, numbers}
+use Rattle.bq_job.specs.NameOrder.{is_in_order}
+use Rattle.bq_job.specs.TubeName.{is_same_name}
 use Rattle.bq_job.specs.Tubes.{is_tube}
 use Rattle.bq_job.specs.Waits.{next_end}
 
@@ -18,6 +21,22 @@ AreIdsWithin low (j ∷ jobs) next = (low ≤ j.id) × AreIdsWithin (suc j.id) j
 -- Who holds the job is connected.
 abbrev pub has_open_holder : Machine → Job → Bool
 has_open_holder m j = not (is_reserved j.state) || list_any (λ s. s.connected && is_held_by s.number j) m.seats
+
+-- the counts that the machine keeps
+abbrev pub counters : Machine → List ℕ
+counters m = m.timeouts ∷ m.puts ∷ m.connections ∷ m.burials ∷ m.tickets ∷ []
+
+abbrev pub has_one : List (List ℕ) → Bool
+has_one [] = false
+has_one (name ∷ names) = true
+
+abbrev pub none_twice : List (List ℕ) → Bool
+none_twice [] = true
+none_twice (name ∷ names) = not (list_any (is_same_name name) names) && none_twice names
+
+-- At least one tube is watched, and none twice.
+abbrev pub watches_once : SeatRecord → Bool
+watches_once s = has_one s.watched && none_twice s.watched
 
 pub record IsLawful (m : Machine) : Type 0 where
   -- A job has one id, which no other has or gets.
@@ -36,3 +55,9 @@ pub record IsLawful (m : Machine) : Type 0 where
   pub wait_ends : next_end m ≡ None
   -- Nothing is kept of tubes that are gone.
   pub tubes : IsTrue (list_all (λ t. is_tube t.name m) m.tubes)
+  -- It stands in the order of the names, so that there is no name twice.
+  pub tube_order : IsTrue (is_in_order (map (λ t. t.name) m.tubes))
+  -- Each seat watches at least one tube, and none twice.
+  pub watched : IsTrue (list_all watches_once m.seats)
+  -- Counts stop at their end.
+  pub counts : IsTrue (list_all (λ n. nat_le n greatest) (counters m))
