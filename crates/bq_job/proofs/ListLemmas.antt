@@ -1,8 +1,9 @@
 -- Facts about lists of any elements: tests, changes of each element, counts.
-use Rattle.std.proofs.Common.{◌≡◌, ◌≤◌, ◌<◌, ◌+◌, Bool, true, false, ◌&&◌, not, cond, List, [], ◌∷◌, ◌++◌, map, arith, refl, ap, subst, inl, inr}
-use Rattle.std.specs.Prelude.{Some, count_by, filter, find}
+use Rattle.std.proofs.Common.{◌≡◌, ◌≤◌, ◌<◌, ◌+◌, Bool, true, false, ◌&&◌, not, cond, List, [], ◌∷◌, ◌++◌, map, arith, refl, ap, ◌∙◌, subst, inl, inr}
+use Rattle.std.specs.Prelude.{Some, count_by, filter, find, flat_map}
 use Rattle.std.specs.List.{AllByRecursion as All, Contains, list_any, list_all}
 use Rattle.std.proofs.lemmas.Bool.{cases_Bool, and_parts, and_from, or_parts, or_from, or_left, or_right, or_cases, both_ways, false_from_ne_true}
+use Rattle.std.proofs.lemmas.List.Concat.{flat_map-cons}
 use Rattle.std.proofs.lemmas.List.Elements.{All-from_recursion, recursion_from_All, All-contains, All-contains_itself, Contains-append_right}
 use Rattle.std.proofs.lemmas.List.Folds.{list_any-from_Any}
 use Rattle.std.proofs.lemmas.List.Sums.{sum_by-cons}
@@ -151,3 +152,26 @@ find_in_filter p q (x ∷ xs) h =
       | inl e ↦ rw e (ap (cond (p x) (Some x)) (find_in_filter p q xs h.1))
       | inr e ↦ let f : p x ≡ false = false_from_ne_true (p x) (λ t. both_ways (q x) e (h.0 t)) in rw (e, f) (find_in_filter p q xs h.1)
     ]
+
+-- where all pass, all are kept
+pub filter_all : {X : Type 0} (p : X → Bool) (xs : List X) → All (λ x. p x ≡ true) xs → filter p xs ≡ xs
+filter_all p [] h = refl
+filter_all p (x ∷ xs) h = rw h.0 (ap (λ ys. x ∷ ys) (filter_all p xs h.1))
+
+-- a change that changes none
+pub map_all_same : {X : Type 0} (f : X → X) (xs : List X) → All (λ x. f x ≡ x) xs → map f xs ≡ xs
+map_all_same f [] h = refl
+map_all_same f (x ∷ xs) h = let here = h.0 in let rest = map_all_same f xs h.1 in cc
+
+pub count_all_not : {X : Type 0} (p : X → Bool) (xs : List X) → All (λ x. p x ≡ false) xs → count_by p xs ≡ 0
+count_all_not p [] h = refl
+count_all_not p (x ∷ xs) h = count_cons p x xs ∙ rw (h.0, count_all_not p xs h.1) refl
+
+pub all_parts : {X : Type 0} (P : X → Type 0) (xs ys : List X) → All P (xs ++ ys) → All P xs × All P ys
+all_parts P [] ys h = (tt, h)
+all_parts P (x ∷ xs) ys h = let rest = all_parts P xs ys h.1 in ((h.0, rest.0), rest.1)
+
+-- what holds of all that is joined holds of each part
+pub all_of_flat_map : {X Y : Type 0} (P : Y → Type 0) (f : X → List Y) (xs : List X) → All P (flat_map f xs) → All (λ x. All P (f x)) xs
+all_of_flat_map P f [] h = tt
+all_of_flat_map P f (x ∷ xs) h = let parts = all_parts P (f x) (flat_map f xs) (subst (All P) (flat_map-cons f x xs) h) in (parts.0, all_of_flat_map P f xs parts.1)

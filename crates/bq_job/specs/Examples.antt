@@ -1,5 +1,5 @@
 -- Short words for worked examples: what the machine answers to a list of steps, by evaluation.
-use Rattle.std.specs.Prelude.{ℕ, ◌≡◌, if◌then◌else◌, List, [], ◌∷◌, ◌++◌, map, flat_map}
+use Rattle.std.specs.Prelude.{ℕ, ◌≡◌, if◌then◌else◌, List, [], ◌∷◌, ◌++◌, map, flat_map, Option}
 use Rattle.bq_job.specs.declared.answer.Answer.{Answer}
 use Rattle.bq_job.specs.declared.request.Request.{Request}
 use Rattle.bq_job.specs.declared.step.Step.{Step}
@@ -10,6 +10,7 @@ use Rattle.bq_job.specs.ComputedReading.{reading}
 use Rattle.bq_job.specs.Dispatch.{GivenAnswer}
 use Rattle.bq_job.specs.LineSteps.{answers_text, ends_by_wait}
 use Rattle.bq_job.specs.Machine.{Machine, new_machine}
+use Rattle.bq_job.specs.NextDue.{next_due}
 use Rattle.bq_job.specs.Profile.{profile}
 use Rattle.bq_job.specs.Runs.{Entry}
 
@@ -58,6 +59,15 @@ server seats max_job_size = new_machine (record { seats = seats; max_job_size = 
 abbrev pub Plays : List (Entry × List GivenAnswer) → Type 0
 Plays play =
     ran (server 3 65535) (connect 0 ∷ connect 1 ∷ connect 2 ∷ map (λ p. p.0) play) ≡ [] ∷ [] ∷ [] ∷ map (λ p. p.1) play
+
+-- the machine after these steps
+abbrev pub played : Machine → List Entry → Machine
+played m [] = m
+played m (e ∷ history) = played (stepped m e.moment e.seat e.what).machine history
+
+-- when something is due, once a client has come to each of three seats at the moment 0 and these steps were taken
+abbrev pub due_after : List Entry → Option ℕ
+due_after history = next_due (played (server 3 65535) (connect 0 ∷ connect 1 ∷ connect 2 ∷ history))
 
 -- The steps of a lone client's line: it connects, asks, tells that it sends no more where it may still
 -- wait for its last answer, and is closed.

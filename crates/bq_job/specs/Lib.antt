@@ -20,6 +20,7 @@ pub mod LineRead
 pub mod Machine
 pub mod NameLaws
 pub mod NameOrder
+pub mod NextDue
 pub mod Profile
 pub mod Reading
 pub mod Runs

@@ -2,8 +2,8 @@
 //! runs our code.
 ghost use Rattle.bq_job.specs.declared.answer.Answer.TheVariants.{Closed, DeadlineSoon, Draining, Found, Inserted, NotFound, Ok, Paused, Released, Reserved, TimedOut, Touched, Using, Watching};
 ghost use Rattle.bq_job.specs.declared.request.Request.TheVariants.{Delete, Ignore, PauseTube, Peek, Put, Release, Reserve, ReserveWithTimeout, StatsJob, Touch, Use, Watch};
-ghost use Rattle.bq_job.specs.Examples.{Plays, ask, at, close, drain, end, tick, ◌gives◌};
-ghost use Rattle.std.specs.Prelude.{List, [], ◌∷◌, ◌++◌, ◌≡◌, codes};
+ghost use Rattle.bq_job.specs.Examples.{Plays, ask, at, close, drain, due_after, end, tick, ◌gives◌};
+ghost use Rattle.std.specs.Prelude.{List, [], ◌∷◌, ◌++◌, ◌≡◌, None, Some, codes};
 
 /// Of two waiting clients each gets the job of a tube that it watches, whoever has waited longer.
 fn waiters_of_two_tubes()
@@ -128,6 +128,24 @@ fn pause_lifted()
         ∷ []) }
 {}
 
+/// What is due next: the end of a lease, and a second before where its client waits; the end of a delay,
+/// of a pause and of a wait.
+fn due_moments()
+    ensures nothing { due_after [] ≡ None }
+    ensures ready { due_after (ask 0 (Put 0 0 2 (codes "x")) ∷ ask 1 Reserve ∷ close 1 ∷ []) ≡ None }
+    ensures lease { due_after (ask 0 (Put 0 0 2 (codes "x")) ∷ ask 0 Reserve ∷ []) ≡ Some 2000 }
+    ensures soon { due_after (ask 0 (Put 0 0 2 (codes "x")) ∷ ask 0 Reserve ∷ at 500 (ask 0 Reserve) ∷ []) ≡ Some 1000 }
+    ensures touched { due_after (ask 0 (Put 0 0 2 (codes "x")) ∷ ask 0 Reserve ∷ at 1500 (ask 0 (Touch 1)) ∷ []) ≡ Some 3500 }
+    ensures released { due_after
+        (ask 0 (Put 0 0 9 (codes "x"))
+        ∷ ask 0 Reserve
+        ∷ ask 0 (Release 1 7 3)
+        ∷ at 2999 (ask 0 Reserve)
+        ∷ []) ≡ Some 3000 }
+    ensures paused { due_after (ask 0 (Put 0 0 9 (codes "x")) ∷ ask 0 (PauseTube (codes "default") 5) ∷ ask 1 Reserve ∷ []) ≡ Some 5000 }
+    ensures waits { due_after (ask 2 Reserve ∷ ask 1 (ReserveWithTimeout 1) ∷ []) ≡ Some 1000 }
+{}
+
 #[test]
 fn examples_of_steps() {
     waiters_of_two_tubes();
@@ -141,4 +159,5 @@ fn examples_of_steps() {
     timed_waits_by_ticket();
     end_of_a_waiter();
     pause_lifted();
+    due_moments();
 }

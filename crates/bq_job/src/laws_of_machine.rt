@@ -1,14 +1,17 @@
 //! Laws of the machine: what holds of every step, whoever takes it.
 ghost use Rattle.bq_job.specs.declared.step.Step.{Step};
+ghost use Rattle.bq_job.specs.declared.step.Step.TheVariants.{Tick};
 ghost use Rattle.bq_job.specs.declared.answer.Answer.TheVariants.{Reserved};
 ghost use Rattle.bq_job.specs.Computed.{ample, stepped};
 ghost use Rattle.bq_job.specs.Dispatch.{DispatchTurn, GivenAnswer};
 ghost use Rattle.bq_job.specs.Lawful.{IsLawful};
 ghost use Rattle.bq_job.specs.LeastJob.{GetsLeast};
 ghost use Rattle.bq_job.specs.Machine.{Machine, Settings, new_machine};
+ghost use Rattle.bq_job.specs.NextDue.{is_before, next_due};
 ghost use Rattle.bq_job.specs.OneClient.{GivesClient};
 ghost use Rattle.bq_job.specs.Steps.{IsStep, Outcome};
-ghost use Rattle.std.specs.Prelude.{ℕ, ◌+◌, ◌<◌, ◌≤◌, List, length};
+ghost use Rattle.bq_job.specs.Timers.{at_moment};
+ghost use Rattle.std.specs.Prelude.{ℕ, ◌≡◌, ◌+◌, ◌<◌, ◌≤◌, IsTrue, List, [], length};
 
 /// From every machine there is a step with enough memory, and it can be computed.
 pub fn computed_is_step()
@@ -48,4 +51,13 @@ pub fn steps_give_clients_their_answers()
     ensures { (first last : Machine) (at seat : ℕ) (what : Step) (outcome : Outcome) (given : List GivenAnswer)
         → IsLawful first → seat < first.settings.seats → IsStep first at seat what outcome given last
         → GivesClient seat first what given last }
+{}
+
+/// Before the next due moment of a lawful machine, and where there is none at any moment, a tick gives no
+/// answer and changes nothing but the moment.
+pub fn nothing_happens_before_it_is_due()
+    ensures { (first last : Machine) (at seat : ℕ) (outcome : Outcome) (given : List GivenAnswer)
+        → IsLawful first → IsTrue (is_before (at_moment at first).moment (next_due first))
+        → IsStep first at seat Tick outcome given last
+        → (given ≡ []) × (last ≡ at_moment at first) }
 {}

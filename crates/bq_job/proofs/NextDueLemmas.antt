@@ -1,0 +1,188 @@
+-- Before the next due moment a tick changes nothing but the moment.
+use Rattle.std.proofs.Common.{ℕ, suc, ◌≡◌, ◌≤◌, ◌<◌, ◌+◌, Bool, true, false, ◌&&◌, ◌||◌, cond, List, [], ◌∷◌, ◌++◌, map, arith, refl, sym, ap, ◌∙◌, subst, inl, inr, Option, Some, None}
+use Rattle.std.specs.Prelude.{◌-◌, ◌==◌, IsTrue, count_by, flat_map, min, nat_le, nat_lt}
+use Rattle.std.specs.List.{AllByRecursion as All, Contains, list_any}
+use Rattle.std.proofs.Math.Nat.{min-eq_left, min-le_left, min-le_right}
+use Rattle.std.proofs.lemmas.Bool.{cases_Bool, and_from, and_parts, or_from, or_parts, eq-eqb, eqb-true, le-leb, leb-true}
+use Rattle.std.proofs.lemmas.Bool.Decides.{leb_tells}
+use Rattle.bq_job.specs.declared.job.Job.{Job}
+use Rattle.bq_job.specs.declared.job.JobState.{JobState}
+use Rattle.bq_job.specs.declared.job.JobState.TheVariants as states
+use Rattle.bq_job.specs.declared.step.Step.TheVariants as steps
+use Rattle.bq_job.specs.Changes.{is_waiting}
+use Rattle.bq_job.specs.Dispatch.{GivenAnswer, is_wait_before, next_job}
+use Rattle.bq_job.specs.Lawful.{IsLawful}
+use Rattle.bq_job.specs.Limits.{greatest, grown}
+use Rattle.bq_job.specs.Machine.{Machine, Pause, SeatRecord, TubeRecord, Wait}
+use Rattle.bq_job.specs.NextDue.{dues, dues_of_pause, dues_of_state, dues_of_until, dues_of_wait, earlier, earliest, is_before, next_due}
+use Rattle.bq_job.specs.OneClient.{is_waiting_at}
+use Rattle.bq_job.specs.Steps.{IsStep, Memory, Outcome, Serves, acted, addressed, granted, growth_refused, is_possible, share_refused}
+use Rattle.bq_job.specs.Timers.{after_timers, at_moment, is_due, is_expired, job_after_timers, pause_after_timers, tube_after_timers}
+use Rattle.bq_job.specs.Tubes.{forgetting}
+use Rattle.bq_job.specs.Waits.{ends_waiting, is_deadline_soon, is_ending_lease, is_past, is_timed_out, is_until_over, next_end}
+use Rattle.bq_job.proofs.ChoiceLemmas.{first_of_none, first_of_none_passes}
+use Rattle.bq_job.proofs.ListLemmas.{all_always, all_at, all_from_members, all_of_flat_map, all_parts, all_weaker, count_all_not, list_any_not, list_any_with, map_all_same, none_pass}
+use Rattle.bq_job.proofs.QuietLemmas.{forgets_nothing, serves_nobody}
+use Rattle.bq_job.proofs.RecordLemmas.{booked_of_lawful}
+
+not_le : (a b : ℕ) → b < a → nat_le a b ≡ false
+not_le a b h = elim (leb_tells a b) [ inl e ↦ absurd (let k = e.1 in omega arith) | inr e ↦ e.0 ]
+
+-- what is before the least is before all
+before_both : (moment due : ℕ) (o : Option ℕ) → nat_lt moment (earlier due o) ≡ true → (moment < due) × (is_before moment o ≡ true)
+before_both moment due None h = let k = leb-true (suc moment) due h in (omega arith, refl)
+before_both moment due (Some other) h =
+    let k = leb-true (suc moment) (min due other) h in
+    let a = min-le_left due other in let b = min-le_right due other in
+    (omega arith, le-leb (suc moment) other (omega arith))
+
+abbrev IsLater : ℕ → ℕ → Type 0
+IsLater moment due = moment < due
+
+before_all : (moment : ℕ) (dues : List ℕ) → is_before moment (earliest dues) ≡ true → All (IsLater moment) dues
+before_all moment [] h = tt
+before_all moment (due ∷ others) h = let both = before_both moment due (earliest others) h in (both.0, before_all moment others both.1)
+
+module _ (m : Machine) (now : ℕ) where
+  lease_later : (waits : Bool) (soon deadline : ℕ) → All (IsLater now) (cond waits (soon ∷ deadline ∷ []) (deadline ∷ [])) → now < deadline
+  lease_later true soon deadline h = h.1.0
+  lease_later false soon deadline h = h.0
+
+  not_due : (state : JobState) → All (IsLater now) (dues_of_state m state) → is_due now state ≡ false
+  not_due states.Ready h = refl
+  not_due (states.Delayed due) h = not_le due now h.0
+  not_due (states.Reserved seat deadline) h = refl
+  not_due (states.Buried number) h = refl
+
+  not_expired : (state : JobState) → All (IsLater now) (dues_of_state m state) → is_expired now state ≡ false
+  not_expired states.Ready h = refl
+  not_expired (states.Delayed due) h = refl
+  not_expired (states.Reserved seat deadline) h = not_le deadline now (lease_later (is_waiting_at seat m) (deadline - 1000) deadline h)
+  not_expired (states.Buried number) h = refl
+
+  job_same : (j : Job) → All (IsLater now) (dues_of_state m j.state) → job_after_timers now j ≡ j
+  job_same j h = rw (not_due j.state h, not_expired j.state h) refl
+
+  pause_same : (o : Option Pause) → All (IsLater now) (dues_of_pause o) → pause_after_timers now o ≡ o
+  pause_same None h = refl
+  pause_same (Some pause) h = rw (not_le pause.until now h.0) refl
+
+  tube_same : (t : TubeRecord) → All (IsLater now) (dues_of_pause t.pause) → tube_after_timers now t ≡ t
+  tube_same t h = ap (λ (p : Option Pause). record t { pause = p }) (pause_same t.pause h)
+
+  lease_not_soon : (number : ℕ) (state : JobState) → is_waiting_at number m ≡ true → All (IsLater now) (dues_of_state m state) → is_ending_lease now number state ≡ false
+  lease_not_soon number states.Ready w h = refl
+  lease_not_soon number (states.Delayed due) w h = refl
+  lease_not_soon number (states.Reserved holder deadline) w h =
+      elim (cases_Bool (holder == number)) [
+        | inl e ↦
+            let at : holder ≡ number = eqb-true holder number e in
+            let waits : is_waiting_at holder m ≡ true = subst (λ n. is_waiting_at n m ≡ true) (sym at) w in
+            let k : All (IsLater now) ((deadline - 1000) ∷ deadline ∷ []) = rw waits at h in
+            rw e (not_le deadline (now + 1000) (let a : now < deadline - 1000 = k.0 in omega arith))
+        | inr e ↦ rw e refl
+      ]
+  lease_not_soon number (states.Buried burial) w h = refl
+
+  not_past : (o : Option ℕ) → All (IsLater now) (dues_of_until o) → is_past now o ≡ false
+  not_past None h = refl
+  not_past (Some until) h = not_le until now h.0
+
+  not_over : (o : Option Wait) → All (IsLater now) (dues_of_wait o) → is_until_over now o ≡ false
+  not_over None h = refl
+  not_over (Some wait) h = not_past wait.until h
+
+module _ (m : Machine) (at : ℕ) (h : IsLawful m) (early : IsTrue (is_before (at_moment at m).moment (next_due m))) where
+  abbrev now : ℕ
+  now = (at_moment at m).moment
+
+  abbrev of_jobs : List ℕ
+  of_jobs = flat_map (λ j. dues_of_state m j.state) m.jobs
+
+  abbrev of_tubes : List ℕ
+  of_tubes = flat_map (λ t. dues_of_pause t.pause) m.tubes
+
+  abbrev of_seats : List ℕ
+  of_seats = flat_map (λ s. dues_of_wait s.wait) m.seats
+
+  all_later : All (IsLater now) ((of_jobs ++ of_tubes) ++ of_seats)
+  all_later = before_all now (dues m) early
+
+  jobs_later : All (λ j. All (IsLater now) (dues_of_state m j.state)) m.jobs
+  jobs_later = all_of_flat_map (IsLater now) (λ j. dues_of_state m j.state) m.jobs (all_parts (IsLater now) of_jobs of_tubes (all_parts (IsLater now) (of_jobs ++ of_tubes) of_seats all_later).0).0
+
+  tubes_later : All (λ t. All (IsLater now) (dues_of_pause t.pause)) m.tubes
+  tubes_later = all_of_flat_map (IsLater now) (λ t. dues_of_pause t.pause) m.tubes (all_parts (IsLater now) of_jobs of_tubes (all_parts (IsLater now) (of_jobs ++ of_tubes) of_seats all_later).0).1
+
+  seats_later : All (λ s. All (IsLater now) (dues_of_wait s.wait)) m.seats
+  seats_later = all_of_flat_map (IsLater now) (λ s. dues_of_wait s.wait) m.seats (all_parts (IsLater now) (of_jobs ++ of_tubes) of_seats all_later).1
+
+  -- no timer fires
+  jobs_same : map (job_after_timers now) m.jobs ≡ m.jobs
+  jobs_same = map_all_same (job_after_timers now) m.jobs (all_weaker (λ j. All (IsLater now) (dues_of_state m j.state)) (λ j. job_after_timers now j ≡ j) m.jobs (λ j k. job_same m now j k) jobs_later)
+
+  tubes_same : map (tube_after_timers now) m.tubes ≡ m.tubes
+  tubes_same = map_all_same (tube_after_timers now) m.tubes (all_weaker (λ t. All (IsLater now) (dues_of_pause t.pause)) (λ t. tube_after_timers now t ≡ t) m.tubes (λ t k. tube_same m now t k) tubes_later)
+
+  timeouts_same : grown (count_by (λ j. is_expired now j.state) m.jobs) m.timeouts ≡ m.timeouts
+  timeouts_same =
+      let none : count_by (λ j. is_expired now j.state) m.jobs ≡ 0 =
+      count_all_not (λ j. is_expired now j.state) m.jobs (all_weaker (λ j. All (IsLater now) (dues_of_state m j.state)) (λ j. is_expired now j.state ≡ false) m.jobs (λ j k. not_expired m now j.state k) jobs_later) in
+      ap (λ n. grown n m.timeouts) none ∙ min-eq_left (let fits = (booked_of_lawful m h).timeouts_fit in omega arith) ∙ add_none m.timeouts
+    where
+      add_none : (n : ℕ) → n + 0 ≡ n
+      add_none n = omega arith
+
+  fired_same : after_timers (at_moment at m) ≡ at_moment at m
+  fired_same =
+      ap (λ (js : List Job). record m { moment = now; jobs = js; tubes = map (tube_after_timers now) m.tubes; timeouts = grown (count_by (λ j. is_expired now j.state) m.jobs) m.timeouts }) jobs_same
+      ∙ ap (λ (ts : List TubeRecord). record m { moment = now; tubes = ts; timeouts = grown (count_by (λ j. is_expired now j.state) m.jobs) m.timeouts }) tubes_same
+      ∙ ap (λ n. record m { moment = now; timeouts = n }) timeouts_same
+
+  forgotten_same : forgetting (at_moment at m) ≡ at_moment at m
+  forgotten_same = forgets_nothing (at_moment at m) h.tubes
+
+  -- no wait ends
+  wait_stays : (s : SeatRecord) → Contains m.seats s → ends_waiting (at_moment at m) s ≡ false
+  wait_stays s there =
+      elim (cases_Bool (is_waiting s)) [
+        | inl w ↦
+            let waits : is_waiting_at s.number m ≡ true = list_any_with (λ t. t.number == s.number && is_waiting t) m.seats s there (and_from (s.number == s.number) (is_waiting s) (eq-eqb s.number s.number refl) w) in
+            let before : ends_waiting m s ≡ false = all_at (λ t. ends_waiting m t ≡ false) m.seats s (none_pass (ends_waiting m) m.seats (first_of_none (ends_waiting m) is_wait_before m.seats h.wait_ends)) there in
+            let kept : (is_deadline_soon m s || is_timed_out m s) ≡ false = rw w at before in
+            let untimed : is_timed_out m s ≡ false = (or_parts (is_deadline_soon m s) (is_timed_out m s) kept).1 in
+            let stays : s.ended ≡ false = (or_parts (is_until_over m.moment s.wait) s.ended untimed).1 in
+            let soon : is_deadline_soon (at_moment at m) s ≡ false =
+            list_any_not (λ j. is_ending_lease now s.number j.state) m.jobs
+            (all_weaker (λ j. All (IsLater now) (dues_of_state m j.state)) (λ j. is_ending_lease now s.number j.state ≡ false) m.jobs (λ j k. lease_not_soon m now s.number j.state waits k) jobs_later) in
+            let over : is_until_over now s.wait ≡ false = not_over m now s.wait (all_at (λ t. All (IsLater now) (dues_of_wait t.wait)) m.seats s seats_later there) in
+            rw (w, soon, over, stays) refl
+        | inr w ↦ rw w refl
+      ]
+
+  no_wait_ends : next_end (at_moment at m) ≡ None
+  no_wait_ends =
+      first_of_none_passes (ends_waiting (at_moment at m)) is_wait_before m.seats
+      (list_any_not (ends_waiting (at_moment at m)) m.seats (all_from_members (λ s. ends_waiting (at_moment at m) s ≡ false) m.seats wait_stays))
+
+  no_job_next : next_job (at_moment at m) ≡ None
+  no_job_next = h.dispatched
+
+  serves_none : (first : Machine) (handed ended : List GivenAnswer) (last : Machine) → first ≡ at_moment at m → Serves first handed ended last → (handed ≡ []) × (ended ≡ []) × (last ≡ at_moment at m)
+  serves_none first handed ended last is s =
+      let q = serves_nobody (at_moment at m) handed ended last no_job_next no_wait_ends forgotten_same (subst (λ (n : Machine). Serves n handed ended last) is s) in
+      (q.none_handed, q.none_ended, q.same)
+
+  granted_here : (memory : Memory) (n : Machine) (seat : ℕ) → IsTrue (is_possible memory n seat steps.Tick) → ((acted memory n seat steps.Tick).machine ≡ n) × (addressed seat (acted memory n seat steps.Tick).answer ≡ [])
+  granted_here granted n seat p = (refl, refl)
+  granted_here growth_refused n seat p = absurd cc
+  granted_here share_refused n seat p = absurd cc
+
+  pub tick_is_idle : (last : Machine) (seat : ℕ) (outcome : Outcome) (given : List GivenAnswer) → IsStep m at seat steps.Tick outcome given last → (given ≡ []) × (last ≡ at_moment at m)
+  tick_is_idle last seat outcome given s =
+      let begin : forgetting (after_timers (at_moment at m)) ≡ at_moment at m = ap forgetting fired_same ∙ forgotten_same in
+      let one = serves_none (forgetting (after_timers (at_moment at m))) s.handed s.ended s.before begin s.serves in
+      let act = granted_here s.memory s.before seat s.possible in
+      let after : s.after ≡ at_moment at m = s.acts ∙ ap forgetting (act.0 ∙ one.2) ∙ forgotten_same in
+      let two = serves_none s.after s.handed_then s.ended_then last after s.serves_then in
+      (s.answers_are ∙ rw (one.0, one.1, act.1, two.0, two.1) refl, two.2)

@@ -1,0 +1,39 @@
+-- Parts of a step in which nothing happens.
+use Rattle.std.proofs.Common.{ℕ, ◌≡◌, Bool, true, List, [], ◌∷◌, refl, sym, ap, ◌∙◌, subst, Option, None}
+use Rattle.std.specs.Prelude.{MatchOption, filter}
+use Rattle.std.specs.List.{AllByRecursion as All, list_all}
+use Rattle.bq_job.specs.declared.job.Job.{Job}
+use Rattle.bq_job.specs.Dispatch.{DispatchTurn, GivenAnswer, next_job}
+use Rattle.bq_job.specs.Machine.{Machine, SeatRecord, TubeRecord}
+use Rattle.bq_job.specs.Steps.{Serves}
+use Rattle.bq_job.specs.Tubes.{forgetting, is_tube}
+use Rattle.bq_job.specs.Waits.{Chain, WaitEndTurn, next_end}
+use Rattle.bq_job.proofs.ListLemmas.{all_pass, filter_all}
+
+-- Where nothing is kept of tubes that are gone, nothing is forgotten.
+pub forgets_nothing : (m : Machine) → list_all (λ t. is_tube t.name m) m.tubes ≡ true → forgetting m ≡ m
+forgets_nothing m h = ap (λ (ts : List TubeRecord). record m { tubes = ts }) (filter_all (λ t. is_tube t.name m) m.tubes (all_pass (λ t. is_tube t.name m) m.tubes h))
+
+no_turn_of : {A : Type 0} (o : Option A) (B : A → Type 0) → o ≡ None → MatchOption o ⊥ B → ⊥
+no_turn_of o B e h = subst (λ (x : Option _). MatchOption x ⊥ B) e h
+
+none_in_chain : (Turns : Machine → GivenAnswer → Machine → Type 0) (first : Machine) (given : List GivenAnswer) (last : Machine) → ((g : GivenAnswer) (n : Machine) → Turns first g n → ⊥) → Chain Turns first given last → (given ≡ []) × (last ≡ first)
+none_in_chain Turns first [] last none chain = (refl, chain)
+none_in_chain Turns first (g ∷ given) last none chain = absurd (none g chain.0 chain.1)
+
+-- nothing was given, and the machine is the same
+pub record IsQuiet (first : Machine) (handed ended : List GivenAnswer) (last : Machine) : Type 0 where
+  pub none_handed : handed ≡ []
+  pub none_ended : ended ≡ []
+  pub same : last ≡ first
+
+-- Where no job and no wait is next, nobody is served.
+pub serves_nobody : (first : Machine) (handed ended : List GivenAnswer) (last : Machine) → next_job first ≡ None → next_end first ≡ None → forgetting first ≡ first → Serves first handed ended last → IsQuiet first handed ended last
+serves_nobody first handed ended last jobs ends kept s =
+    let d = s.dispatches in
+    let e = s.ends_waits in
+    let a = none_in_chain DispatchTurn first handed d.end (λ g n. no_turn_of (next_job first) _ jobs) d.turns in
+    let between : s.between ≡ first = d.forgets ∙ ap forgetting a.1 ∙ kept in
+    let turns : Chain WaitEndTurn first ended e.end = subst (λ (m : Machine). Chain WaitEndTurn m ended e.end) between e.turns in
+    let b = none_in_chain WaitEndTurn first ended e.end (λ g n. no_turn_of (next_end first) _ ends) turns in
+    record { none_handed = a.0; none_ended = b.0; same = e.forgets ∙ ap forgetting b.1 ∙ kept }
