@@ -9,9 +9,11 @@ pub mod ListLemmas
 pub mod NameOrderLemmas
 pub mod NextDueLemmas
 pub mod OneClientLemmas
+pub mod OutcomeLemmas
 pub mod QuietLemmas
 pub mod ReadsLemmas
 pub mod RecordLemmas
+pub mod RefusalLemmas
 pub mod RunLemmas
 pub mod UnitLemmas
 pub mod UnitsLemmas

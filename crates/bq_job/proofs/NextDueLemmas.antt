@@ -1,9 +1,9 @@
 -- Before the next due moment a tick changes nothing but the moment.
-use Rattle.std.proofs.Common.{ℕ, suc, ◌≡◌, ◌≤◌, ◌<◌, ◌+◌, Bool, true, false, ◌&&◌, ◌||◌, cond, List, [], ◌∷◌, ◌++◌, map, arith, refl, sym, ap, ◌∙◌, subst, inl, inr, Option, Some, None}
+use Rattle.std.proofs.Common.{ℕ, suc, ◌≡◌, ◌<◌, ◌+◌, Bool, true, false, ◌&&◌, ◌||◌, cond, List, [], ◌∷◌, ◌++◌, map, arith, refl, sym, ap, ◌∙◌, subst, inl, inr, Option, Some, None}
 use Rattle.std.specs.Prelude.{◌-◌, ◌==◌, IsTrue, count_by, flat_map, min, nat_le, nat_lt}
-use Rattle.std.specs.List.{AllByRecursion as All, Contains, list_any}
+use Rattle.std.specs.List.{AllByRecursion as All, Contains}
 use Rattle.std.proofs.Math.Nat.{min-eq_left, min-le_left, min-le_right}
-use Rattle.std.proofs.lemmas.Bool.{cases_Bool, and_from, and_parts, or_from, or_parts, eq-eqb, eqb-true, le-leb, leb-true}
+use Rattle.std.proofs.lemmas.Bool.{cases_Bool, and_from, or_parts, eq-eqb, eqb-true, le-leb, leb-true}
 use Rattle.std.proofs.lemmas.Bool.Decides.{leb_tells}
 use Rattle.bq_job.specs.declared.job.Job.{Job}
 use Rattle.bq_job.specs.declared.job.JobState.{JobState}
@@ -12,7 +12,7 @@ use Rattle.bq_job.specs.declared.step.Step.TheVariants as steps
 use Rattle.bq_job.specs.Changes.{is_waiting}
 use Rattle.bq_job.specs.Dispatch.{GivenAnswer, is_wait_before, next_job}
 use Rattle.bq_job.specs.Lawful.{IsLawful}
-use Rattle.bq_job.specs.Limits.{greatest, grown}
+use Rattle.bq_job.specs.Limits.{grown}
 use Rattle.bq_job.specs.Machine.{Machine, Pause, SeatRecord, TubeRecord, Wait}
 use Rattle.bq_job.specs.NextDue.{dues, dues_of_pause, dues_of_state, dues_of_until, dues_of_wait, earlier, earliest, is_before, next_due}
 use Rattle.bq_job.specs.OneClient.{is_waiting_at}
@@ -21,7 +21,7 @@ use Rattle.bq_job.specs.Timers.{after_timers, at_moment, is_due, is_expired, job
 use Rattle.bq_job.specs.Tubes.{forgetting}
 use Rattle.bq_job.specs.Waits.{ends_waiting, is_deadline_soon, is_ending_lease, is_past, is_timed_out, is_until_over, next_end}
 use Rattle.bq_job.proofs.ChoiceLemmas.{first_of_none, first_of_none_passes}
-use Rattle.bq_job.proofs.ListLemmas.{all_always, all_at, all_from_members, all_of_flat_map, all_parts, all_weaker, count_all_not, list_any_not, list_any_with, map_all_same, none_pass}
+use Rattle.bq_job.proofs.ListLemmas.{all_at, all_from_members, all_of_flat_map, all_parts, all_weaker, count_all_not, list_any_not, list_any_with, map_all_same, none_pass}
 use Rattle.bq_job.proofs.QuietLemmas.{forgets_nothing, serves_nobody}
 use Rattle.bq_job.proofs.RecordLemmas.{booked_of_lawful}
 

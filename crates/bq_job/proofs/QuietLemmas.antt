@@ -1,10 +1,9 @@
 -- Parts of a step in which nothing happens.
-use Rattle.std.proofs.Common.{ℕ, ◌≡◌, Bool, true, List, [], ◌∷◌, refl, sym, ap, ◌∙◌, subst, Option, None}
-use Rattle.std.specs.Prelude.{MatchOption, filter}
-use Rattle.std.specs.List.{AllByRecursion as All, list_all}
-use Rattle.bq_job.specs.declared.job.Job.{Job}
+use Rattle.std.proofs.Common.{◌≡◌, true, List, [], ◌∷◌, refl, ap, ◌∙◌, subst, Option, None}
+use Rattle.std.specs.Prelude.{MatchOption}
+use Rattle.std.specs.List.{list_all}
 use Rattle.bq_job.specs.Dispatch.{DispatchTurn, GivenAnswer, next_job}
-use Rattle.bq_job.specs.Machine.{Machine, SeatRecord, TubeRecord}
+use Rattle.bq_job.specs.Machine.{Machine, TubeRecord}
 use Rattle.bq_job.specs.Steps.{Serves}
 use Rattle.bq_job.specs.Tubes.{forgetting, is_tube}
 use Rattle.bq_job.specs.Waits.{Chain, WaitEndTurn, next_end}

@@ -23,6 +23,7 @@ pub mod NameOrder
 pub mod NextDue
 pub mod Profile
 pub mod Reading
+pub mod Refusals
 pub mod Runs
 pub mod SameRequests
 pub mod Statistics

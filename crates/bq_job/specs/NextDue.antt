@@ -1,6 +1,5 @@
 -- The moment at which something would happen by itself.
 use Rattle.std.specs.Prelude.{ℕ, Bool, true, ◌-◌, nat_lt, min, if◌then◌else◌, List, [], ◌∷◌, ◌++◌, flat_map, Option, Some, None}
-use Rattle.bq_job.specs.declared.job.Job.{Job}
 use Rattle.bq_job.specs.declared.job.JobState.{JobState}
 use Rattle.bq_job.specs.declared.job.JobState.TheVariants as states
 use Rattle.bq_job.specs.Machine.{Machine, Pause, Wait}

@@ -1,6 +1,7 @@
 //! Laws of the machine: what holds of every step, whoever takes it.
 ghost use Rattle.bq_job.specs.declared.step.Step.{Step};
 ghost use Rattle.bq_job.specs.declared.step.Step.TheVariants.{Tick};
+ghost use Rattle.bq_job.specs.declared.answer.Answer.{Answer};
 ghost use Rattle.bq_job.specs.declared.answer.Answer.TheVariants.{Reserved};
 ghost use Rattle.bq_job.specs.Computed.{ample, stepped};
 ghost use Rattle.bq_job.specs.Dispatch.{DispatchTurn, GivenAnswer};
@@ -9,9 +10,10 @@ ghost use Rattle.bq_job.specs.LeastJob.{GetsLeast};
 ghost use Rattle.bq_job.specs.Machine.{Machine, Settings, new_machine};
 ghost use Rattle.bq_job.specs.NextDue.{is_before, next_due};
 ghost use Rattle.bq_job.specs.OneClient.{GivesClient};
-ghost use Rattle.bq_job.specs.Steps.{IsStep, Outcome};
+ghost use Rattle.bq_job.specs.Refusals.{ChangesNothing, is_refusal};
+ghost use Rattle.bq_job.specs.Steps.{IsStep, Outcome, acted};
 ghost use Rattle.bq_job.specs.Timers.{at_moment};
-ghost use Rattle.std.specs.Prelude.{ℕ, ◌≡◌, ◌+◌, ◌<◌, ◌≤◌, IsTrue, List, [], length};
+ghost use Rattle.std.specs.Prelude.{ℕ, ◌≡◌, ◌+◌, ◌<◌, ◌≤◌, IsTrue, false, List, [], Some, length};
 
 /// From every machine there is a step with enough memory, and it can be computed.
 pub fn computed_is_step()
@@ -60,4 +62,29 @@ pub fn nothing_happens_before_it_is_due()
         → IsLawful first → IsTrue (is_before (at_moment at first).moment (next_due first))
         → IsStep first at seat Tick outcome given last
         → (given ≡ []) × (last ≡ at_moment at first) }
+{}
+
+/// A command whose answer says that it was not carried out leaves the machine as it was, whatever memory
+/// was refused; and nobody is served after it.
+pub fn refused_commands_change_nothing()
+    ensures { (first last : Machine) (at seat : ℕ) (what : Step) (outcome : Outcome) (given : List GivenAnswer) (answer : Answer)
+        → IsLawful first → (step : IsStep first at seat what outcome given last)
+        → (acted step.memory step.before seat what).answer ≡ Some answer → IsTrue (is_refusal answer)
+        → ChangesNothing first at seat what outcome given last answer step }
+{}
+
+/// A step in which no share of a body was refused has one result, be its command left out for want of
+/// memory or not: the same answers and the same machine.
+pub fn steps_have_one_result()
+    ensures { (first last other : Machine) (at seat : ℕ) (what : Step) (outcome : Outcome) (given others : List GivenAnswer)
+        → outcome.unshared ≡ false
+        → IsStep first at seat what outcome given last → IsStep first at seat what outcome others other
+        → (given ≡ others) × (last ≡ other) }
+{}
+
+/// Where no memory is refused, a step is the one that is computed.
+pub fn ample_steps_are_computed()
+    ensures { (first last : Machine) (at seat : ℕ) (what : Step) (given : List GivenAnswer)
+        → IsStep first at seat what ample given last
+        → (given ≡ (stepped first at seat what).given) × (last ≡ (stepped first at seat what).machine) }
 {}

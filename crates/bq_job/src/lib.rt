@@ -10,8 +10,10 @@ pub use body::{Body, BodyBuilder};
 pub use fault::NoMemory;
 pub use job::{Counts, Job, JobState};
 pub use laws_of_machine::{
-    computed_is_step, dispatched_is_least, new_machine_is_lawful, nothing_happens_before_it_is_due,
-    steps_give_clients_their_answers, steps_give_few_answers, steps_keep_lawful,
+    ample_steps_are_computed, computed_is_step, dispatched_is_least, new_machine_is_lawful,
+    nothing_happens_before_it_is_due, refused_commands_change_nothing,
+    steps_give_clients_their_answers, steps_give_few_answers, steps_have_one_result,
+    steps_keep_lawful,
 };
 pub use line_end::{LineEnd, LineFault};
 pub use refusal::Refusal;

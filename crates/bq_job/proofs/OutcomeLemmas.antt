@@ -1,0 +1,125 @@
+-- Where no share of a body is refused, a step has one result.
+use Rattle.std.proofs.Common.{ℕ, ◌≡◌, Bool, true, false, ◌||◌, List, [], ◌∷◌, refl, sym, ap, ◌∙◌, subst, inl, inr, Option, Some, None}
+use Rattle.std.specs.List.{list_any}
+use Rattle.std.proofs.lemmas.Bool.{or_parts}
+use Rattle.bq_job.specs.declared.answer.Answer.TheVariants as answers
+use Rattle.bq_job.specs.declared.job.Job.{Job}
+use Rattle.bq_job.specs.declared.step.Step.{Step}
+use Rattle.bq_job.specs.Acts.{Effect}
+use Rattle.bq_job.specs.Changes.{with_seat, without_wait}
+use Rattle.bq_job.specs.Computed.{ample, stepped}
+use Rattle.bq_job.specs.Dispatch.{DispatchTurn, GivenAnswer, IsHandOut, after_hand_out, next_job, next_seat}
+use Rattle.bq_job.specs.Machine.{Machine, SeatRecord}
+use Rattle.bq_job.specs.Steps.{IsStep, Memory, Outcome, Serves, acted, granted, growth_refused, has_refused_share, is_growth_refused, is_out_of_memory, is_share_refused, share_refused}
+use Rattle.bq_job.specs.Timers.{after_timers, at_moment}
+use Rattle.bq_job.specs.Tubes.{forgetting}
+use Rattle.bq_job.specs.Waits.{Chain, WaitEndTurn, end_of_wait, next_end}
+use Rattle.bq_job.proofs.ComputedLemmas.{stepped_is_step}
+use Rattle.bq_job.proofs.DispatchLemmas.{turn_of}
+use Rattle.bq_job.proofs.LawfulLemmas.{end_of}
+
+-- two turns from one machine: the same answer, and the same machine
+abbrev IsSame : GivenAnswer → GivenAnswer → Machine → Machine → Type 0
+IsSame g h n o = (g ≡ h) × (n ≡ o)
+
+-- a turn of dispatch that gives its job
+hand_out_is : (m : Machine) (j : Job) (s : SeatRecord) (g : GivenAnswer) (n : Machine) → is_out_of_memory g.1 ≡ false → IsHandOut m j s g n → IsSame g (s.number, answers.Reserved j.id j.body) n (after_hand_out m j s)
+hand_out_is m j s g n e (inl h) = h
+hand_out_is m j s g n e (inr h) = absurd (let k : is_out_of_memory g.1 ≡ true = ap (λ (a : GivenAnswer). is_out_of_memory a.1) h.0 in cc)
+
+same_some : {A : Type 0} (o : Option A) (x y : A) → o ≡ Some x → o ≡ Some y → x ≡ y
+same_some o x y e f = let k : Some x ≡ Some y = sym e ∙ f in cc
+
+dispatch_one : (m : Machine) (g h : GivenAnswer) (n o : Machine) → is_out_of_memory g.1 ≡ false → is_out_of_memory h.1 ≡ false → DispatchTurn m g n → DispatchTurn m h o → IsSame g h n o
+dispatch_one m g h n o e f a b =
+    let t = turn_of m g n a in
+    let u = turn_of m h o b in
+    let job : t.job ≡ u.job = same_some (next_job m) t.job u.job t.job_is u.job_is in
+    let other : next_seat m t.job ≡ Some u.client = ap (next_seat m) job ∙ u.client_is in
+    let client : t.client ≡ u.client = same_some (next_seat m t.job) t.client u.client t.client_is other in
+    let x = hand_out_is m t.job t.client g n e t.hands in
+    let y = hand_out_is m u.job u.client h o f u.hands in (
+      x.0 ∙ ap (λ (j : Job). (t.client.number, answers.Reserved j.id j.body)) job ∙ ap (λ (s : SeatRecord). (s.number, answers.Reserved u.job.id u.job.body)) client ∙ sym y.0,
+      x.1 ∙ ap (λ (j : Job). after_hand_out m j t.client) job ∙ ap (after_hand_out m u.job) client ∙ sym y.1,
+    )
+
+wait_end_one : (m : Machine) (g h : GivenAnswer) (n o : Machine) → WaitEndTurn m g n → WaitEndTurn m h o → IsSame g h n o
+wait_end_one m g h n o a b =
+    let t = end_of m g n a in
+    let u = end_of m h o b in
+    let client : t.client ≡ u.client = same_some (next_end m) t.client u.client t.client_is u.client_is in (
+      t.given_is ∙ ap (λ (s : SeatRecord). (s.number, end_of_wait m s)) client ∙ sym u.given_is,
+      t.next_is ∙ ap (λ (s : SeatRecord). with_seat s.number without_wait m) client ∙ sym u.next_is,
+    )
+
+no_dispatch : (m : Machine) (g : GivenAnswer) (n : Machine) → next_job m ≡ None → DispatchTurn m g n → ⊥
+no_dispatch m g n e turn = let t = turn_of m g n turn in let k = t.job_is in absurd (let both : None ≡ Some t.job = sym e ∙ k in cc)
+
+no_wait_end : (m : Machine) (g : GivenAnswer) (n : Machine) → next_end m ≡ None → WaitEndTurn m g n → ⊥
+no_wait_end m g n e turn = let t = end_of m g n turn in let k = t.client_is in absurd (let both : None ≡ Some t.client = sym e ∙ k in cc)
+
+-- Two chains of turns that go on until there is no next one are the same.
+module _ (Turns : Machine → GivenAnswer → Machine → Type 0) (fine : GivenAnswer → Bool) (Done : Machine → Type 0)
+    (one : (m : Machine) (g h : GivenAnswer) (n o : Machine) → fine g ≡ false → fine h ≡ false → Turns m g n → Turns m h o → IsSame g h n o)
+    (none : (m : Machine) (g : GivenAnswer) (n : Machine) → Done m → Turns m g n → ⊥) where
+  chain_one : (first : Machine) (xs ys : List GivenAnswer) (last end : Machine) → list_any fine xs ≡ false → list_any fine ys ≡ false → Done last → Done end → Chain Turns first xs last → Chain Turns first ys end → (xs ≡ ys) × (last ≡ end)
+  chain_one first [] [] last end e f d c a b = (refl, a ∙ sym b)
+  chain_one first [] (y ∷ ys) last end e f d c a b = absurd (none first y b.0 (subst Done a d) b.1)
+  chain_one first (x ∷ xs) [] last end e f d c a b = absurd (none first x a.0 (subst Done b c) a.1)
+  chain_one first (x ∷ xs) (y ∷ ys) last end e f d c a b =
+      let p = or_parts (fine x) (list_any fine xs) e in
+      let q = or_parts (fine y) (list_any fine ys) f in
+      let here = one first x y a.0 b.0 p.0 q.0 a.1 b.1 in
+      let rest = chain_one a.0 xs ys last end p.1 q.1 d c a.2 (subst (λ (m : Machine). Chain Turns m ys end) (sym here.1) b.2) in
+      (ap (λ g. g ∷ xs) here.0 ∙ ap (λ gs. y ∷ gs) rest.0, rest.1)
+
+none_fails : (given : List GivenAnswer) → list_any (λ g. false) given ≡ false
+none_fails [] = refl
+none_fails (g ∷ given) = none_fails given
+
+-- the results of dispatch and of the ends of waits
+record AreSame (handed ended other_handed other_ended : List GivenAnswer) (last other : Machine) : Type 0 where
+  handed_same : handed ≡ other_handed
+  ended_same : ended ≡ other_ended
+  last_same : last ≡ other
+
+serves_one : (first : Machine) (xs ys zs ws : List GivenAnswer) (last other : Machine) → has_refused_share xs ≡ false → has_refused_share zs ≡ false → Serves first xs ys last → Serves first zs ws other → AreSame xs ys zs ws last other
+serves_one first xs ys zs ws last other e f a b =
+    let d = chain_one DispatchTurn (λ g. is_out_of_memory g.1) (λ m. next_job m ≡ None) dispatch_one no_dispatch first xs zs a.dispatches.end b.dispatches.end e f a.dispatches.done b.dispatches.done a.dispatches.turns b.dispatches.turns in
+    let between : a.between ≡ b.between = a.dispatches.forgets ∙ ap forgetting d.1 ∙ sym b.dispatches.forgets in
+    let turns : Chain WaitEndTurn a.between ws b.ends_waits.end = subst (λ (m : Machine). Chain WaitEndTurn m ws b.ends_waits.end) (sym between) b.ends_waits.turns in
+    let w = chain_one WaitEndTurn (λ g. false) (λ m. next_end m ≡ None) (λ m g h n o x y. wait_end_one m g h n o) no_wait_end a.between ys ws a.ends_waits.end b.ends_waits.end (none_fails ys) (none_fails ws) a.ends_waits.done b.ends_waits.done a.ends_waits.turns turns in
+    record { handed_same = d.0; ended_same = w.0; last_same = a.ends_waits.forgets ∙ ap forgetting w.1 ∙ sym b.ends_waits.forgets }
+
+-- The outcome tells what became of the memory, where no share was refused.
+same_memory : (a b : Memory) → is_share_refused a ≡ false → is_share_refused b ≡ false → is_growth_refused a ≡ is_growth_refused b → a ≡ b
+same_memory granted granted x y e = refl
+same_memory granted growth_refused x y e = absurd cc
+same_memory granted share_refused x y e = absurd cc
+same_memory growth_refused granted x y e = absurd cc
+same_memory growth_refused growth_refused x y e = refl
+same_memory growth_refused share_refused x y e = absurd cc
+same_memory share_refused granted x y e = absurd cc
+same_memory share_refused growth_refused x y e = absurd cc
+same_memory share_refused share_refused x y e = refl
+
+pub one_result : (first last other : Machine) (at seat : ℕ) (what : Step) (outcome : Outcome) (given others : List GivenAnswer) → outcome.unshared ≡ false → IsStep first at seat what outcome given last → IsStep first at seat what outcome others other → (given ≡ others) × (last ≡ other)
+one_result first last other at seat what outcome given others shared a b =
+    let p = parts_of_sharing a.memory a.handed a.handed_then (sym a.unshared ∙ shared) in
+    let q = parts_of_sharing b.memory b.handed b.handed_then (sym b.unshared ∙ shared) in
+    let memory : a.memory ≡ b.memory = same_memory a.memory b.memory p.0 q.0 (sym a.left_out ∙ b.left_out) in
+    let one = serves_one (forgetting (after_timers (at_moment at first))) a.handed a.ended b.handed b.ended a.before b.before p.1 q.1 a.serves b.serves in
+    let act : acted a.memory a.before seat what ≡ acted b.memory b.before seat what = ap (λ x. acted x a.before seat what) memory ∙ ap (λ (m : Machine). acted b.memory m seat what) one.last_same in
+    let after : a.after ≡ b.after = a.acts ∙ ap (λ (e : Effect). forgetting e.machine) act ∙ sym b.acts in
+    let two = serves_one a.after a.handed_then a.ended_then b.handed_then b.ended_then last other p.2 q.2 a.serves_then (subst (λ (m : Machine). Serves m b.handed_then b.ended_then other) (sym after) b.serves_then) in
+    (a.answers_are ∙ rw (one.handed_same, one.ended_same, act, two.handed_same, two.ended_same) refl ∙ sym b.answers_are, two.last_same)
+  where
+    parts_of_sharing : (memory : Memory) (handed handed_then : List GivenAnswer) → (is_share_refused memory || has_refused_share handed || has_refused_share handed_then) ≡ false → (is_share_refused memory ≡ false) × (has_refused_share handed ≡ false) × (has_refused_share handed_then ≡ false)
+    parts_of_sharing memory handed handed_then e =
+        let p = or_parts (is_share_refused memory || has_refused_share handed) (has_refused_share handed_then) e in
+        let q = or_parts (is_share_refused memory) (has_refused_share handed) p.0 in
+        (q.0, q.1, p.1)
+
+pub computed_result : (first last : Machine) (at seat : ℕ) (what : Step) (given : List GivenAnswer) → IsStep first at seat what ample given last → (given ≡ (stepped first at seat what).given) × (last ≡ (stepped first at seat what).machine)
+computed_result first last at seat what given s =
+    one_result first last (stepped first at seat what).machine at seat what ample given (stepped first at seat what).given refl s (stepped_is_step first at seat what)
