@@ -13,4 +13,6 @@ mod boxes;
 mod descent;
 mod fault;
 mod shelf;
+#[cfg(test)]
+mod tests;
 mod tree;
