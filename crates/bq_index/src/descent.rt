@@ -8,7 +8,8 @@ ghost use Rattle.bq_index.specs.Lent.{put_value, put_value_at, value_at, value_o
 ghost use Rattle.bq_index.specs.contracts.tree.Tree.{the_row as tree_row};
 ghost use Rattle.bq_index.specs.contracts.tree.Node.{the_row as node_row};
 
-use super::tree::{Node, Tree, compare_to};
+use super::compare::compare_to;
+use super::tree::{Node, Tree};
 use std::cmp::Ordering;
 use std::marker::PhantomData;
 

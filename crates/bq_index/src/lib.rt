@@ -10,8 +10,13 @@ pub use fault::NoMemory;
 pub use shelf::Shelf;
 
 mod boxes;
+mod chain;
+mod change;
+mod compare;
 mod descent;
 mod fault;
+mod find;
+mod rotation;
 mod shelf;
 #[cfg(test)]
 mod tests;

@@ -5,10 +5,10 @@ ghost use Rattle.bq_index.specs.Order.{InOrder, entry_from};
 ghost use Rattle.std.specs.Map.{lookup, remove_entry};
 ghost use Rattle.std.specs.BTreeMap.{is_at, insert_entry};
 
-use super::NoMemory;
 use super::boxes::BoxSource;
 use super::descent::{Deepest, Descent};
-use super::tree::{self, Tree};
+use super::tree::Tree;
+use super::{NoMemory, chain, change, find};
 use std::alloc::Global;
 use std::marker::Model;
 use std::mem;
@@ -43,7 +43,7 @@ impl<K: Ord + Drop, V: Drop> Drop for Shelf<K, V> {
             comparisons: _,
         } = self;
         drop(tree);
-        tree::drop_chain(spares);
+        chain::drop_chain(spares);
     }
 }
 
@@ -126,8 +126,8 @@ impl<K: Ord + Drop, V: Drop> Shelf<K, V> {
         if self.len >= usize::MAX - self.spare {
             return Err(NoMemory);
         }
-        let node = tree::spare_box(source)?;
-        self.spares = tree::link(node, mem::replace(&mut self.spares, Tree::Leaf));
+        let node = chain::spare_box(source)?;
+        self.spares = chain::link(node, mem::replace(&mut self.spares, Tree::Leaf));
         self.spare += 1;
         Ok(())
     }
@@ -139,12 +139,12 @@ impl<K: Ord + Drop, V: Drop> Shelf<K, V> {
         ensures spare { self.new.spare + 1 ≡ self.old.spare }
         ensures comparisons { ComparesFew self.old self.new }
     {
-        let (mut node, spares) = tree::unlink(mem::replace(&mut self.spares, Tree::Leaf));
+        let (mut node, spares) = chain::unlink(mem::replace(&mut self.spares, Tree::Leaf));
         self.spares = spares;
         self.spare -= 1;
         node.entry = Some((key, value));
         let tree = mem::replace(&mut self.tree, Tree::Leaf);
-        self.tree = tree::insert(tree, node, &mut self.comparisons);
+        self.tree = change::insert(tree, node, &mut self.comparisons);
         self.len += 1;
     }
 
@@ -155,12 +155,13 @@ impl<K: Ord + Drop, V: Drop> Shelf<K, V> {
         ensures comparisons { ComparesFew self.old self.new }
     {
         let tree = mem::replace(&mut self.tree, Tree::Leaf);
-        let (tree, found) = tree::remove(tree, key, &mut self.comparisons);
+        let (tree, found) = change::remove(tree, key, &mut self.comparisons);
         self.tree = tree;
         let mut node = found?;
         let entry = mem::replace(&mut node.entry, None);
         self.len -= 1;
-        self.spares = tree::link(node, mem::replace(&mut self.spares, Tree::Leaf));
+        let spares = mem::replace(&mut self.spares, Tree::Leaf);
+        self.spares = chain::link(node, spares);
         self.spare += 1;
         match entry {
             Some((_, value)) => Some(value),
@@ -172,7 +173,7 @@ impl<K: Ord + Drop, V: Drop> Shelf<K, V> {
         ensures* after { sem 𝓛 (LeavesEntries K.row V.row K.Ord self.entry) }
         ensures value { option_map (λ v. v.now) result ≡ lookup (is_at (K.cmp key.now)) self.old.entries }
     {
-        tree::get(&self.tree, key, &mut self.comparisons)
+        find::get(&self.tree, key, &mut self.comparisons)
     }
 
     /// The least entry whose key is not below `key`.
@@ -180,7 +181,7 @@ impl<K: Ord + Drop, V: Drop> Shelf<K, V> {
         ensures* after { sem 𝓛 (LeavesEntries K.row V.row K.Ord self.entry) }
         ensures entry { option_map (λ p. (p.0.now, p.1.now)) result ≡ entry_from (K.cmp key.now) self.old.entries }
     {
-        tree::next_from(&self.tree, key, &mut self.comparisons)
+        find::next_from(&self.tree, key, &mut self.comparisons)
     }
 
     pub fn get_mut(&mut self, key: &K) -> Option<&mut V>

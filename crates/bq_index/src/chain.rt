@@ -1,0 +1,59 @@
+// The chain of the spare boxes, which leads from each to its right.
+ghost use Rattle.std.specs.Prelude.{◌≡◌, ◌+◌, ◌<◌};
+ghost use Rattle.bq_index.specs.Tree.{chain_length};
+
+use super::NoMemory;
+use super::boxes::BoxSource;
+use super::tree::{Node, Tree};
+use std::mem;
+
+// A box with nothing in it.
+pub(crate) fn spare_box<K, V, S: BoxSource>(source: &mut S) -> Result<Box<Node<K, V>>, NoMemory>
+where
+    K: Drop,
+    V: Drop,
+{
+    source.box_of(Node {
+        left: Tree::Leaf,
+        entry: None,
+        height: 0,
+        right: Tree::Leaf,
+    })
+}
+
+// Puts a box before a chain.
+pub(crate) fn link<K, V>(mut node: Box<Node<K, V>>, chain: Tree<K, V>) -> Tree<K, V>
+where
+    K: Drop,
+    V: Drop,
+    ensures { chain_length result ≡ chain_length chain + 1 }
+{
+    node.right = chain;
+    Tree::Fork(node)
+}
+
+// The first box of a chain, and the others.
+pub(crate) fn unlink<K, V>(chain: Tree<K, V>) -> (Box<Node<K, V>>, Tree<K, V>)
+    requires { 0 < chain_length chain }
+    ensures { chain_length chain ≡ chain_length result.1 + 1 }
+{
+    match chain {
+        Tree::Leaf => unreachable!(),
+        Tree::Fork(mut node) => {
+            let rest = mem::replace(&mut node.right, Tree::Leaf);
+            (node, rest)
+        }
+    }
+}
+
+// In a loop, since a chain may be long.
+pub(crate) fn drop_chain<K, V>(chain: Tree<K, V>)
+where
+    K: Drop,
+    V: Drop,
+{
+    let mut chain = chain;
+    while let Tree::Fork(mut node) = chain {
+        chain = mem::replace(&mut node.right, Tree::Leaf);
+    }
+}
