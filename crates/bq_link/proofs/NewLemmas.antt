@@ -1,6 +1,8 @@
 -- The ends, as they are made one after the other.
-use Rattle.std.proofs.Common.{◌≡◌, ℕ, zero, suc, ◌+◌, List, [], ◌∷◌, ◌++◌, Some, None, length, refl, slice_get, sym, ap, ◌∙◌, subst, arith}
-use Rattle.std.proofs.lemmas.List.{length-append, replicate_more}
+use Rattle.std.proofs.Common.{◌≡◌, ℕ, zero, suc, ◌+◌, ◌<◌, ◌≤◌, List, [], ◌∷◌, ◌++◌, Some, None, length, refl, slice_get, sym, ap, ◌∙◌, subst, arith}
+use Rattle.std.proofs.lemmas.List.{get_or_append_left, get_or_push, length-append, replicate_more}
+use mathlib.Core.Logic.{dite}
+use native.Mathlib.Decide.{dec_le}
 use Rattle.bq_link.specs.EndStates.{AreNewSeats, CoreState, IsNewCore, IsNewSeat, RingId, SeatState, ring_places}
 
 abbrev pub grown : CoreState → RingId → CoreState
@@ -40,19 +42,24 @@ kept core next ring place seat is new = record {
   waiting = new.waiting;
 }
 
-all_kept : (core next : CoreState) (seat : SeatState) (place : ℕ) (seats : List SeatState) → next ≡ grown core seat.ring → AreNewSeats core place seats → IsNewSeat next (place + length seats) seat → AreNewSeats next place (seats ++ seat ∷ [])
-all_kept core next seat place [] is new last = (subst (λ n. IsNewSeat next n seat) (omega arith) last, tt)
-all_kept core next seat place (s ∷ ss) is new last = (kept core next seat.ring place s is new.0, all_kept core next seat (suc place) ss is new.1 (subst (λ n. IsNewSeat next n seat) (omega arith) last))
-
 pub seats_more : (n : ℕ) (core next : CoreState) (seat : SeatState) (seats : List SeatState) → next ≡ grown core seat.ring
     → seat ≡ record { number = length core.rings; intake = core.intake; ring = seat.ring; submitted = []; taken = []; waiting = [] }
-    → length seats ≡ n → IsNewCore n core → AreNewSeats core 0 seats → AreNewSeats next 0 (seats ++ seat ∷ [])
-seats_more n core next seat seats is made many new all =
-    let number : seat.number ≡ length core.rings = ap (λ (s : SeatState). s.number) made in
-    all_kept core next seat 0 seats is all (record {
-      number = number ∙ new.rings ∙ sym many ∙ omega arith;
+    → length seats ≡ n → IsNewCore n core → AreNewSeats core seats → AreNewSeats next (seats ++ seat ∷ [])
+seats_more n core next seat seats is made many new all place d within =
+    dite (dec_le (suc place) (length seats))
+    (λ before. subst (IsNewSeat next place) (sym (get_or_append_left seats (seat ∷ []) d place before)) (kept core next seat.ring place _ is (all place d before)))
+    (λ after.
+    let here : length seats ≡ place = last place after within in
+    subst (IsNewSeat next place) (sym (get_or_push seats seat d place here)) (record {
+      number = number ∙ new.rings ∙ sym many ∙ here;
       pair = (ap (λ (c : CoreState). c.intake) is ∙ ap (λ (s : SeatState). s.intake) (sym made), ap (λ (c : CoreState). slice_get c.rings seat.number) is ∙ ap (slice_get (core.rings ++ seat.ring ∷ [])) number ∙ get_last core.rings seat.ring);
       submitted = ap (λ (s : SeatState). s.submitted) made;
       taken = ap (λ (s : SeatState). s.taken) made;
       waiting = ap (λ (s : SeatState). s.waiting) made;
-    })
+    }))
+  where
+    number : seat.number ≡ length core.rings
+    number = ap (λ (s : SeatState). s.number) made
+
+    last : (k : ℕ) → (suc k ≤ length seats → ⊥) → k < length (seats ++ seat ∷ []) → length seats ≡ k
+    last k after within = let count = length-append seats (seat ∷ []) in omega arith

@@ -1,5 +1,5 @@
 -- What contracts see of the ends.
-use Rattle.std.specs.Prelude.{ℕ, suc, ◌≡◌, ◌++◌, List, [], ◌∷◌, length, replicate, slice_get, slice_index_or, Some}
+use Rattle.std.specs.Prelude.{ℕ, ◌≡◌, ◌<◌, ◌++◌, List, [], length, replicate, slice_get, slice_index_or, Some}
 use denote.RawPtr.{Ptr}
 use Rattle.atomic_table.specs.Seated.{TableId}
 use Rattle.bq_job.specs.declared.answer.Answer.{Answer}
@@ -80,7 +80,10 @@ pub record IsNewSeat (core : CoreState) (place : ℕ) (seat : SeatState) : Type 
   pub taken : seat.taken ≡ []
   pub waiting : seat.waiting ≡ []
 
--- the ends with the numbers from this one on
-abbrev pub AreNewSeats : CoreState → ℕ → List SeatState → Type 0
-AreNewSeats core place [] = Unit {0}
-AreNewSeats core place (seat ∷ seats) = IsNewSeat core place seat × AreNewSeats core (suc place) seats
+-- the ends in the order of their numbers
+abbrev pub AreNewSeats : CoreState → List SeatState → Type 0
+AreNewSeats core seats = (place : ℕ) (d : SeatState) → place < length seats → IsNewSeat core place (slice_index_or seats place d)
+
+-- the later values of two ends are still a pair
+abbrev pub PairsStay : Type 0
+PairsStay = (core later : CoreState) (seat last : SeatState) → IsSameCore core later → IsSameSeat seat last → IsPair core seat → IsPair later last

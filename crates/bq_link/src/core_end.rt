@@ -68,6 +68,7 @@ impl CoreEnd {
     pub fn send(&mut self, seat: Seat, answer: Answer) -> Result<(), Answer>
         requires { seat < length self.old.rings }
         ensures sent { OnOk result (self.new ≡ record self.old { sent = slice_set self.old.sent seat (sent_to self.old seat ++ answer ∷ []); room = slice_set self.old.room seat (room_for self.new seat) }) }
+        ensures to { OnOk result (sent_to self.new seat ≡ sent_to self.old seat ++ answer ∷ []) }
         ensures handed_back { IfErr result (λ back. back ≡ answer) }
         ensures unchanged { OnErr result (self.new ≡ record self.old { room = slice_set self.old.room seat 0 }) }
         ensures room { OnOk result (room_for self.old seat ≤ room_for self.new seat + 1) }

@@ -6,11 +6,15 @@
 
 pub use core_end::CoreEnd;
 pub use intake::Intake;
+pub use laws::pairs_stay;
 pub use making::links;
 pub use seat_end::SeatEnd;
 
 mod core_end;
 mod delivery;
 mod intake;
+mod laws;
 mod making;
 mod seat_end;
+#[cfg(test)]
+mod tests;

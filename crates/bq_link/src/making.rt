@@ -15,7 +15,7 @@ pub fn links(alloc: Global, seats: u16) -> Result<(Intake, CoreEnd, Vec<SeatEnd>
     requires { (1 ≤ seats) × (seats ≤ 256) }
     ensures intake { IfOk result (λ r. r.0.places ≡ 2 * (seats + 1)) }
     ensures core { IfOk result (λ r. (r.1.intake ≡ r.0.id) × IsNewCore (seats + 1) r.1) }
-    ensures seats { IfOk result (λ r. (length r.2.items ≡ seats + 1) × AreNewSeats r.1 0 r.2.items) }
+    ensures seats { IfOk result (λ r. (length r.2.items ≡ seats + 1) × AreNewSeats r.1 r.2.items) }
 {
     match all_ends(alloc, usize::from(seats) + 1) {
         Ok(made) => Ok(made),
@@ -27,7 +27,7 @@ fn all_ends(alloc: Global, ends: usize) -> Result<(Intake, CoreEnd, Vec<SeatEnd>
     requires { (1 ≤ ends) × (ends ≤ 257) }
     ensures intake { IfOk result (λ r. r.0.places ≡ 2 * ends) }
     ensures core { IfOk result (λ r. (r.1.intake ≡ r.0.id) × IsNewCore ends r.1) }
-    ensures seats { IfOk result (λ r. (length r.2.items ≡ ends) × AreNewSeats r.1 0 r.2.items) }
+    ensures seats { IfOk result (λ r. (length r.2.items ≡ ends) × AreNewSeats r.1 r.2.items) }
 {
     let (intake, mut core) = no_ends(alloc, ends)?;
     let seats = seat_ends(alloc, &intake, &mut core, ends)?;
@@ -44,7 +44,7 @@ fn seat_ends(
     requires few { ends ≤ 257 }
     requires new { IsNewCore 0 core.old }
     ensures core { OnOk result ((core.new.intake ≡ core.old.intake) × IsNewCore ends core.new) }
-    ensures seats { IfOk result (λ seats. (length seats.items ≡ ends) × AreNewSeats core.new 0 seats.items) }
+    ensures seats { IfOk result (λ seats. (length seats.items ≡ ends) × AreNewSeats core.new seats.items) }
 {
     let mut seats = Vec::with_capacity(alloc, ends)?;
     for _number in 0..ends {

@@ -7,7 +7,7 @@ abbrev pub invariant-loop-number : goal.invariant-loop-number
 invariant-loop-number l = record {
   intake : l.core.intake ≡ l.fn.core.intake;
   core : IsNewCore l._number l.core;
-  seats : AreNewSeats l.core 0 l.seats.items;
+  seats : AreNewSeats l.core l.seats.items;
   many : vec_len l.seats ≡ l._number;
   room : l.ends ≤ vec_capacity l.seats;
 }

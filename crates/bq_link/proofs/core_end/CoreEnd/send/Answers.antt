@@ -1,6 +1,6 @@
 use Rattle.std.proofs.Common.{ℕ, ◌+◌, ◌<◌, ◌≤◌, ◌++◌, [], ◌∷◌, length, set, ap, subst, sym, ◌∙◌}
 use Rattle.bq_link.specs.EndStates.{sent_to}
-use Rattle.bq_link.proofs.RingLemmas.{changed, room_now, room_was, sent_was, unsent, within_of}
+use Rattle.bq_link.proofs.RingLemmas.{changed, room_now, room_was, sent_now, sent_was, unsent, within_of}
 use Rattle.bq_link.proofs.core_end.CoreEnd.send.Goals as goal
 use Rattle.bq_link.proofs.core_end.CoreEnd.send.Goals.{in-Ok, in-Err-Full}
 
@@ -19,6 +19,15 @@ returns-clause-sent c =
           changed c.self.inside old _ _ _ c.push.new.self c.self.view_is c.from.ensures c.index_mut.ensures.value told.ring _ (told.ok.0 ∙ ap (λ l. l ++ c.args.answer ∷ []) (sym was))
           ∙ ap (λ n. record old { sent = set old.sent c.args.seat (sent_to old c.args.seat ++ c.args.answer ∷ []); room = set old.room c.args.seat n }) (sym now)
           )
+      | in-Err-Full w ↦ rw w.result-is tt
+    ]
+
+pub returns-clause-to : goal.returns-clause-to
+returns-clause-to c =
+    let now = sent_now c.self.inside _ _ _ _ c.push.new.self c.self.view_is c.from.ensures c.index_mut.ensures.value (inside c) in
+    let was = sent_was c.self.inside _ _ _ _ c.push.new.self c.self.view_is c.from.ensures c.index_mut.ensures.value (inside c) in
+    elim c.match-push.branch [
+      | in-Ok w ↦ rw w.result-is (now ∙ w.in-Ok.ensures.ok.0 ∙ ap (λ l. l ++ c.args.answer ∷ []) (sym was))
       | in-Err-Full w ↦ rw w.result-is tt
     ]
 
