@@ -30,7 +30,7 @@ use Rattle.bq_job.proofs.ListLemmas.{all_always, all_at, all_from_members, all_o
 use Rattle.bq_job.proofs.RecordLemmas.{Booked, booked_acted, booked_forgetting, booked_of_lawful, booked_served, booked_through, booked_timers}
 
 -- what timers make of a job: ready, ready with one timeout more, or the same
-after_timers_is : (moment : ℕ) (j : Job) (P : Job → Type 0) → P (in_state states.Ready j) → P (record j { state = states.Ready; counts = with_timeout j.counts }) → P j → P (job_after_timers moment j)
+pub after_timers_is : (moment : ℕ) (j : Job) (P : Job → Type 0) → P (in_state states.Ready j) → P (record j { state = states.Ready; counts = with_timeout j.counts }) → P j → P (job_after_timers moment j)
 after_timers_is moment j P due expired same =
     cond_both (is_due moment j.state) (in_state states.Ready j) (cond (is_expired moment j.state) (record j { state = states.Ready; counts = with_timeout j.counts }) j) P (λ e. due)
     (λ e. cond_both (is_expired moment j.state) (record j { state = states.Ready; counts = with_timeout j.counts }) j P (λ f. expired) (λ f. same))
@@ -96,9 +96,9 @@ turn_of_wait_end m given next h turn =
     subst (IsTurn m) (sym e.next_is) (record { keeps = kept_without_wait e.client.number m h; waiting = waiting_falls m e.client w.0 w.1 })
 
 -- Turns one after another keep it, and there are at most as many as clients wait.
-record AreTurns (first : Machine) (given : List GivenAnswer) (last : Machine) : Type 0 where
-  keeps : Keeps last
-  waiting : length given + waiting_count last ≤ waiting_count first
+pub record AreTurns (first : Machine) (given : List GivenAnswer) (last : Machine) : Type 0 where
+  pub keeps : Keeps last
+  pub waiting : length given + waiting_count last ≤ waiting_count first
 
 turns_of_chain : (Turns : Machine → GivenAnswer → Machine → Type 0) (first : Machine) (given : List GivenAnswer) (last : Machine) → ((m : Machine) (g : GivenAnswer) (n : Machine) → Keeps m → Turns m g n → IsTurn m n) → Keeps first → Chain Turns first given last → AreTurns first given last
 turns_of_chain Turns first [] last each h chain = record { keeps = subst Keeps (sym chain) h; waiting = let e : waiting_count last ≡ waiting_count first = ap waiting_count chain in omega arith }
@@ -108,7 +108,7 @@ turns_of_chain Turns first (g ∷ given) last each h chain =
     record { keeps = more.keeps; waiting = let a = one.waiting in let b = more.waiting in omega arith }
 
 -- Dispatch keeps it, and gives at most as many answers as clients wait no more.
-turns_of_dispatches : (first : Machine) (given : List GivenAnswer) (last : Machine) → Keeps first → Dispatches first given last → AreTurns first given last
+pub turns_of_dispatches : (first : Machine) (given : List GivenAnswer) (last : Machine) → Keeps first → Dispatches first given last → AreTurns first given last
 turns_of_dispatches first given last h d =
     let t = turns_of_chain DispatchTurn first given d.end turn_of_dispatch h d.turns in
     subst (AreTurns first given) (sym d.forgets) (record { keeps = t.keeps; waiting = t.waiting })

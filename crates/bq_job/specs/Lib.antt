@@ -41,3 +41,6 @@ pub mod Yaml
 pub mod LineSteps
 pub mod History
 pub mod OneClient
+pub mod Happenings
+pub mod Undisturbed
+pub mod LawsOfRuns

@@ -32,6 +32,7 @@ mod fault;
 mod job;
 mod laws_of_machine;
 pub mod laws_of_reading;
+pub mod laws_of_runs;
 pub mod laws_of_texts;
 mod line_end;
 mod refusal;

@@ -1,0 +1,249 @@
+-- What a command does to the list of jobs, and the happenings that are told of it.
+use Rattle.std.proofs.Common.{ℕ, suc, ◌≡◌, ◌≤◌, ◌<◌, ◌+◌, Bool, true, false, ◌||◌, not, cond, List, [], ◌∷◌, ◌++◌, map, arith, refl, sym, ap, ◌∙◌, subst, inl, inr, ◌⊎◌, Option, Some, None}
+use Rattle.std.specs.Prelude.{filter, flat_map, is_none, option_map, ◌==◌}
+use Rattle.std.specs.List.{AllByRecursion as All, Contains, list_any}
+use Rattle.std.proofs.lemmas.Bool.{cases_Bool, or_left, or_right, or_cases, both_ways, cond_both, eqb-true, eq-eqb, false_from_ne_true}
+use Rattle.bq_job.specs.declared.job.Job.{Job}
+use Rattle.bq_job.specs.declared.job.JobState.{JobState}
+use Rattle.bq_job.specs.declared.job.JobState.TheVariants as states
+use Rattle.bq_job.specs.declared.step.Step.{Step}
+use Rattle.bq_job.specs.declared.step.Step.TheVariants as steps
+use Rattle.bq_job.specs.Changes.{is_ready, is_ready_state, job_with}
+use Rattle.bq_job.specs.Happenings.{Happening, change, change_or_deletion, changes, deleted, given_up, put}
+use Rattle.bq_job.specs.JobStates.{is_reserved}
+use Rattle.bq_job.specs.Lawful.{AreIdsWithin}
+use Rattle.bq_job.specs.Machine.{Machine}
+use Rattle.bq_job.specs.Undisturbed.{disturbs, is_deletion}
+use Rattle.bq_job.proofs.JobMoves.{Fate, GoesOnAs, IsPutMove, IsQuiet, Move, quiet, putting, is_plain}
+use Rattle.bq_job.proofs.ListLemmas.{all_always, all_from_members, all_of_append, all_of_filter, all_of_map, all_weaker, list_any_with}
+use Rattle.bq_job.proofs.LookupLemmas.{found_job, job_found, job_in_map, job_in_more, job_in_rest}
+use Rattle.std.proofs.lemmas.List.Folds.{list_any-append}
+
+-- A job becomes this one: of the same id, tube and body, and if it was ready, it is ready as before or held.
+pub record Becomes (j k : Job) : Type 0 where
+  pub id : k.id ≡ j.id
+  pub tube : k.tube ≡ j.tube
+  pub body : k.body ≡ j.body
+  pub ready : is_ready j ≡ true → ((is_ready k ≡ true) × (k.pri ≡ j.pri)) ⊎ (is_reserved k.state ≡ true)
+
+pub becomes_itself : (j : Job) → Becomes j j
+becomes_itself j = record { id = refl; tube = refl; body = refl; ready = λ h. inl (h, refl) }
+
+-- the jobs and the next id before and after a command: jobs changed, one was removed, or one was added
+pub data JobsAfter (jobs : List Job) (next : ℕ) (later : List Job) (next_then : ℕ) : Type 0 where
+  changed : (f : Job → Job) → later ≡ map f jobs → next_then ≡ next → ((j : Job) → (f j).id ≡ j.id) → ((j : Job) → Contains jobs j → Becomes j (f j)) → JobsAfter jobs next later next_then
+  removed : (id : ℕ) → later ≡ filter (λ k. not (k.id == id)) jobs → next_then ≡ next → JobsAfter jobs next later next_then
+  added : (j : Job) → later ≡ jobs ++ j ∷ [] → next_then ≡ suc next → j.id ≡ next → (j.delay ≡ 0 → is_ready j ≡ true) → JobsAfter jobs next later next_then
+
+map_itself : (jobs : List Job) → map (λ j. j) jobs ≡ jobs
+map_itself [] = refl
+map_itself (j ∷ jobs) = ap (λ ks. j ∷ ks) (map_itself jobs)
+
+pub unchanged : (jobs : List Job) (next : ℕ) → JobsAfter jobs next jobs next
+unchanged jobs next = changed (λ j. j) (sym (map_itself jobs)) refl (λ j. refl) (λ j i. becomes_itself j)
+
+-- the job of one id changes
+pub one_changed : (id : ℕ) (f : Job → Job) (jobs : List Job) (next : ℕ) (j : Job) → AreIdsWithin 1 jobs next → job_with id jobs ≡ Some j → ((k : Job) → (f k).id ≡ k.id) → Becomes j (f j) → JobsAfter jobs next (map (λ k. cond (k.id == id) (f k) k) jobs) next
+one_changed id f jobs next j ids found same becomes =
+    changed (λ k. cond (k.id == id) (f k) k) refl refl (λ k. cond_both (k.id == id) (f k) k (λ l. l.id ≡ k.id) (λ e. same k) (λ e. refl))
+    (λ k i. cond_both (k.id == id) (f k) k (λ l. Becomes k l)
+    (λ e.
+    let both : Some j ≡ Some k = sym found ∙ subst (λ n. job_with n jobs ≡ Some k) (eqb-true k.id id e) (job_found 1 next jobs k ids i).0 in
+    let is : j ≡ k = (cc) in
+    subst (λ l. Becomes l (f l)) is becomes)
+    (λ e. becomes_itself k))
+
+any_in_parts : {X Y : Type 0} (p : Y → Bool) (g : X → List Y) (xs : List X) → list_any (λ x. list_any p (g x)) xs ≡ true → list_any p (flat_map g xs) ≡ true
+any_in_parts p g [] h = h
+any_in_parts p g (x ∷ xs) h =
+    list_any-append p (g x) (flat_map g xs)
+    ∙ elim (or_cases (list_any p (g x)) (list_any (λ x. list_any p (g x)) xs) h) [
+      | inl e ↦ or_left (list_any p (g x)) (list_any p (flat_map g xs)) e
+      | inr e ↦ or_right (list_any p (g x)) (list_any p (flat_map g xs)) (any_in_parts p g xs e)
+    ]
+
+-- what became of one job is told
+told_of_job : (p : Happening → Bool) (what : Step) (before after : List Job) (j : Job) → Contains before j → list_any p (change_or_deletion what j (job_with j.id after)) ≡ true → list_any p (changes what before after) ≡ true
+told_of_job p what before after j i h =
+    list_any-append p (flat_map (λ k. change_or_deletion what k (job_with k.id after)) before) (map put (filter (λ k. is_none (job_with k.id before)) after))
+    ∙ or_left (list_any p (flat_map (λ k. change_or_deletion what k (job_with k.id after)) before)) (list_any p (map put (filter (λ k. is_none (job_with k.id before)) after)))
+    (any_in_parts p (λ k. change_or_deletion what k (job_with k.id after)) before (list_any_with (λ k. list_any p (change_or_deletion what k (job_with k.id after))) before j i h))
+
+disturbed_if_given_up : (what : Step) (id : ℕ) → list_any (disturbs id) (given_up what id ∷ []) ≡ true
+disturbed_if_given_up steps.Connect id = or_left (id == id) false (eq-eqb id id refl)
+disturbed_if_given_up (steps.Ask request) id = or_left (id == id) false (eq-eqb id id refl)
+disturbed_if_given_up steps.End id = or_left (id == id) false (eq-eqb id id refl)
+disturbed_if_given_up steps.Close id = or_left (id == id) false (eq-eqb id id refl)
+disturbed_if_given_up steps.Drain id = or_left (id == id) false (eq-eqb id id refl)
+disturbed_if_given_up steps.Tick id = or_left (id == id) false (eq-eqb id id refl)
+disturbed_if_given_up steps.Gone id = or_left (id == id) false (eq-eqb id id refl)
+
+-- A job that is held no more was disturbed,
+disturbed_if_freed : (what : Step) (id : ℕ) (before after : JobState) → is_reserved before ≡ true → is_reserved after ≡ false → list_any (disturbs id) (change what id before after) ≡ true
+disturbed_if_freed what id states.Ready after h i = absurd cc
+disturbed_if_freed what id (states.Delayed due) after h i = absurd cc
+disturbed_if_freed what id (states.Buried number) after h i = absurd cc
+disturbed_if_freed what id (states.Reserved seat deadline) (states.Reserved holder until) h i = absurd cc
+disturbed_if_freed what id (states.Reserved seat deadline) (states.Buried number) h i = or_left (id == id) false (eq-eqb id id refl)
+disturbed_if_freed what id (states.Reserved seat deadline) states.Ready h i = disturbed_if_given_up what id
+disturbed_if_freed what id (states.Reserved seat deadline) (states.Delayed due) h i = disturbed_if_given_up what id
+
+-- and so was a ready one that is held.
+disturbed_if_taken : (what : Step) (id : ℕ) (before after : JobState) → is_ready_state before ≡ true → is_reserved after ≡ true → list_any (disturbs id) (change what id before after) ≡ true
+disturbed_if_taken what id (states.Delayed due) after h i = absurd cc
+disturbed_if_taken what id (states.Buried number) after h i = absurd cc
+disturbed_if_taken what id (states.Reserved seat deadline) after h i = absurd cc
+disturbed_if_taken what id states.Ready (states.Reserved holder until) h i = or_left (id == id) false (eq-eqb id id refl)
+disturbed_if_taken what id states.Ready (states.Buried number) h i = absurd cc
+disturbed_if_taken what id states.Ready states.Ready h i = absurd cc
+disturbed_if_taken what id states.Ready (states.Delayed due) h i = absurd cc
+
+plain_given_up : (what : Step) (id : ℕ) → is_plain (given_up what id) ≡ true
+plain_given_up steps.Connect id = refl
+plain_given_up (steps.Ask request) id = refl
+plain_given_up steps.End id = refl
+plain_given_up steps.Close id = refl
+plain_given_up steps.Drain id = refl
+plain_given_up steps.Tick id = refl
+plain_given_up steps.Gone id = refl
+
+plain_change : (what : Step) (id : ℕ) (before after : JobState) → All (λ h. is_plain h ≡ true) (change what id before after)
+plain_change what id (states.Reserved seat deadline) (states.Reserved holder until) = tt
+plain_change what id (states.Reserved seat deadline) (states.Buried number) = (refl, tt)
+plain_change what id (states.Reserved seat deadline) states.Ready = (plain_given_up what id, tt)
+plain_change what id (states.Reserved seat deadline) (states.Delayed due) = (plain_given_up what id, tt)
+plain_change what id states.Ready (states.Reserved holder until) = (refl, tt)
+plain_change what id states.Ready states.Ready = tt
+plain_change what id states.Ready (states.Delayed due) = tt
+plain_change what id states.Ready (states.Buried number) = tt
+plain_change what id (states.Delayed moment) (states.Reserved holder until) = (refl, tt)
+plain_change what id (states.Delayed moment) states.Ready = tt
+plain_change what id (states.Delayed moment) (states.Delayed due) = tt
+plain_change what id (states.Delayed moment) (states.Buried number) = tt
+plain_change what id (states.Buried burial) (states.Reserved holder until) = (refl, tt)
+plain_change what id (states.Buried burial) states.Ready = tt
+plain_change what id (states.Buried burial) (states.Delayed due) = tt
+plain_change what id (states.Buried burial) (states.Buried number) = tt
+
+no_change : (what : Step) (id : ℕ) (state : JobState) → change what id state state ≡ []
+no_change what id states.Ready = refl
+no_change what id (states.Delayed due) = refl
+no_change what id (states.Reserved seat deadline) = refl
+no_change what id (states.Buried number) = refl
+
+plain_change_or_deletion : (what : Step) (j : Job) (o : Option Job) → All (λ h. is_plain h ≡ true) (change_or_deletion what j o)
+plain_change_or_deletion what j None = (refl, tt)
+plain_change_or_deletion what j (Some k) = plain_change what j.id j.state k.state
+
+all_of_parts : {X Y : Type 0} (P : Y → Type 0) (g : X → List Y) (xs : List X) → ((x : X) → All P (g x)) → All P (flat_map g xs)
+all_of_parts P g [] h = tt
+all_of_parts P g (x ∷ xs) h = all_of_append P (g x) (flat_map g xs) (h x) (all_of_parts P g xs h)
+
+none_kept : {X : Type 0} (p : X → Bool) (xs : List X) → All (λ x. p x ≡ false) xs → filter p xs ≡ []
+none_kept p [] h = refl
+none_kept p (x ∷ xs) h = rw h.0 (none_kept p xs h.1)
+
+last_kept : {X : Type 0} (p : X → Bool) (xs : List X) (x : X) → All (λ x. p x ≡ false) xs → p x ≡ true → filter p (xs ++ x ∷ []) ≡ x ∷ []
+last_kept p [] x h i = rw i refl
+last_kept p (y ∷ xs) x h i = rw h.0 (last_kept p xs x h.1 i)
+
+none_of_parts : {X Y : Type 0} (g : X → List Y) (xs : List X) → All (λ x. g x ≡ []) xs → flat_map g xs ≡ []
+none_of_parts g [] h = refl
+none_of_parts g (x ∷ xs) h = rw (h.0, none_of_parts g xs h.1) refl
+
+-- each job of the list is one that there was
+were_there : (jobs : List Job) (next : ℕ) → AreIdsWithin 1 jobs next → All (λ j. is_none (job_with j.id jobs) ≡ false) jobs
+were_there jobs next ids = all_from_members (λ j. is_none (job_with j.id jobs) ≡ false) jobs (λ j i. ap is_none (job_found 1 next jobs j ids i).0)
+
+-- Where no job is new, what is told is plain.
+plain_changes : (what : Step) (before after : List Job) → All (λ j. is_none (job_with j.id before) ≡ false) after → All (λ h. is_plain h ≡ true) (changes what before after)
+plain_changes what before after old =
+    all_of_append (λ h. is_plain h ≡ true) (flat_map (λ j. change_or_deletion what j (job_with j.id after)) before) (map put (filter (λ j. is_none (job_with j.id before)) after))
+    (all_of_parts (λ h. is_plain h ≡ true) (λ j. change_or_deletion what j (job_with j.id after)) before (λ j. plain_change_or_deletion what j (job_with j.id after)))
+    (subst (λ ks. All (λ h. is_plain h ≡ true) (map put ks)) (sym (none_kept (λ j. is_none (job_with j.id before)) after old)) tt)
+
+none_at : (low next : ℕ) (jobs : List Job) → AreIdsWithin low jobs next → job_with next jobs ≡ None
+none_at low next [] h = refl
+none_at low next (j ∷ jobs) h =
+    let less = (job_found low next (j ∷ jobs) j h (0, omega arith, refl)).1 in
+    let other : (j.id == next) ≡ false = false_from_ne_true (j.id == next) (λ t. let at = eqb-true j.id next t in absurd (omega arith)) in
+    rw other (none_at (suc j.id) next jobs h.1)
+
+-- the fate of a job that a command changed
+changed_fate : (what : Step) (before after : List Job) (f : Job → Job) (id : ℕ) (o : Option Job) → job_with id before ≡ o → job_with id after ≡ option_map f o → ((j : Job) → Contains before j → Becomes j (f j)) → Fate id (changes what before after) o (option_map f o)
+changed_fate what before after f id None e g becomes = refl
+changed_fate what before after f id (Some j) e g becomes =
+    let found = found_job id before j e in
+    let b = becomes j found.1 in
+    let here : job_with j.id after ≡ Some (f j) = subst (λ n. job_with n after ≡ Some (f j)) (sym found.0) g in
+    let disturbed : list_any (disturbs j.id) (change what j.id j.state (f j).state) ≡ true → list_any (disturbs id) (changes what before after) ≡ true =
+    λ h. subst (λ n. list_any (disturbs n) (changes what before after) ≡ true) found.0 (told_of_job (disturbs j.id) what before after j found.1 (ap (λ o. list_any (disturbs j.id) (change_or_deletion what j o)) here ∙ h)) in
+    record {
+      same = b.id;
+      tube = b.tube;
+      body = b.body;
+      ready = λ h still. elim (b.ready h) [
+        | inl r ↦ r
+        | inr r ↦ absurd (both_ways (list_any (disturbs id) (changes what before after)) still (disturbed (disturbed_if_taken what j.id j.state (f j).state h r)))
+      ];
+      held = λ h still. elim (cases_Bool (is_reserved (f j).state)) [
+        | inl r ↦ r
+        | inr r ↦ absurd (both_ways (list_any (disturbs id) (changes what before after)) still (disturbed (disturbed_if_freed what j.id j.state (f j).state h r)))
+      ];
+    }
+
+goes_on_as_itself : (id : ℕ) (j : Job) (happened : List Happening) → GoesOnAs id j j happened
+goes_on_as_itself id j happened = record { same = refl; tube = refl; body = refl; ready = λ h still. (h, refl); held = λ h still. h }
+
+removed_fate : (what : Step) (before after : List Job) (gone id : ℕ) (o : Option Job) → job_with id before ≡ o → job_with id after ≡ cond (id == gone) None o → Fate id (changes what before after) o (cond (id == gone) None o)
+removed_fate what before after gone id None e g = cond_both (id == gone) None None (λ o. o ≡ None) (λ h. refl) (λ h. refl)
+removed_fate what before after gone id (Some j) e g =
+    let found = found_job id before j e in
+    cond_both (id == gone) None (Some j) (Fate id (changes what before after) (Some j))
+    (λ h.
+    let none : job_with j.id after ≡ None = subst (λ n. job_with n after ≡ None) (sym found.0) (rw h at g) in
+    told_of_job (is_deletion id) what before after j found.1 (ap (λ o. list_any (is_deletion id) (change_or_deletion what j o)) none ∙ or_left (j.id == id) false (eq-eqb j.id id found.0)))
+    (λ h. goes_on_as_itself id j (changes what before after))
+
+-- A command is a move: quiet, or a put.
+pub move_of_jobs : (what : Step) (m n : Machine) → AreIdsWithin 1 m.jobs m.next_id → JobsAfter m.jobs m.next_id n.jobs n.next_id → Move m (changes what m.jobs n.jobs) n
+move_of_jobs what m n ids (changed f after next same becomes) =
+    let lookup : (id : ℕ) → job_with id n.jobs ≡ option_map f (job_with id m.jobs) = λ id. ap (job_with id) after ∙ job_in_map f id m.jobs same in
+    quiet (record {
+      next = next;
+      plain = plain_changes what m.jobs n.jobs
+          (subst (All (λ j. is_none (job_with j.id m.jobs) ≡ false)) (sym after)
+          (all_of_map (λ j. is_none (job_with j.id m.jobs) ≡ false) f m.jobs
+          (all_weaker (λ j. is_none (job_with j.id m.jobs) ≡ false) (λ j. is_none (job_with (f j).id m.jobs) ≡ false) m.jobs (λ j h. subst (λ id. is_none (job_with id m.jobs) ≡ false) (sym (same j)) h) (were_there m.jobs m.next_id ids))));
+      fates = λ id. subst (Fate id (changes what m.jobs n.jobs) (job_with id m.jobs)) (sym (lookup id)) (changed_fate what m.jobs n.jobs f id (job_with id m.jobs) refl (lookup id) becomes);
+    })
+move_of_jobs what m n ids (removed gone after next) =
+    let lookup : (id : ℕ) → job_with id n.jobs ≡ cond (id == gone) None (job_with id m.jobs) = λ id. ap (job_with id) after ∙ job_in_rest gone id m.jobs in
+    quiet (record {
+      next = next;
+      plain = plain_changes what m.jobs n.jobs
+          (subst (All (λ j. is_none (job_with j.id m.jobs) ≡ false)) (sym after)
+          (all_weaker (λ j. (is_none (job_with j.id m.jobs) ≡ false) × (not (j.id == gone) ≡ true)) (λ j. is_none (job_with j.id m.jobs) ≡ false) (filter (λ k. not (k.id == gone)) m.jobs) (λ j c. c.0)
+          (all_of_filter (λ j. is_none (job_with j.id m.jobs) ≡ false) (λ k. not (k.id == gone)) m.jobs (were_there m.jobs m.next_id ids))));
+      fates = λ id. subst (Fate id (changes what m.jobs n.jobs) (job_with id m.jobs)) (sym (lookup id)) (removed_fate what m.jobs n.jobs gone id (job_with id m.jobs) refl (lookup id));
+    })
+move_of_jobs what m n ids (added j after next is at_once) =
+    let silent : All (λ k. change_or_deletion what k (job_with k.id n.jobs) ≡ []) m.jobs =
+    all_from_members (λ k. change_or_deletion what k (job_with k.id n.jobs) ≡ []) m.jobs (λ k i.
+    let found = job_found 1 m.next_id m.jobs k ids i in
+    let less = found.1 in
+    let other : (j.id == k.id) ≡ false = false_from_ne_true (j.id == k.id) (λ t. let at = eqb-true j.id k.id t in absurd (omega arith)) in
+    ap (λ o. change_or_deletion what k o) (ap (job_with k.id) after ∙ job_in_more k.id m.jobs j other ∙ found.0) ∙ no_change what k.id k.state) in
+    let new : filter (λ k. is_none (job_with k.id m.jobs)) n.jobs ≡ j ∷ [] =
+    ap (filter (λ k. is_none (job_with k.id m.jobs))) after
+    ∙ last_kept (λ k. is_none (job_with k.id m.jobs)) m.jobs j (were_there m.jobs m.next_id ids) (ap is_none (ap (λ id. job_with id m.jobs) is ∙ none_at 1 m.next_id m.jobs ids)) in
+    putting (record {
+      job = j;
+      happened_is = ap (λ hs. hs ++ map put (filter (λ k. is_none (job_with k.id m.jobs)) n.jobs)) (none_of_parts (λ k. change_or_deletion what k (job_with k.id n.jobs)) m.jobs silent)
+          ∙ ap (λ ks. map put ks) new;
+      id = is;
+      next = next;
+      jobs = after;
+      ids = subst (AreIdsWithin 1 m.jobs) (sym is) ids;
+      at_once = at_once;
+    })

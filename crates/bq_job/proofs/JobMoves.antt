@@ -1,0 +1,75 @@
+-- What a part of a step may do to jobs, as moves: a quiet one, a put, and a job that dispatch hands out.
+use Rattle.std.proofs.Common.{ℕ, suc, ◌≡◌, ◌≤◌, ◌<◌, Bool, true, false, ◌||◌, cond, List, [], ◌∷◌, ◌++◌, map, refl, sym, ap, ◌∙◌, subst, append_assoc, Option, Some, None}
+use Rattle.std.specs.Prelude.{◌==◌}
+use Rattle.std.specs.List.{AllByRecursion as All, Contains, list_any}
+use Rattle.bq_job.specs.declared.job.Job.{Job}
+use Rattle.bq_job.specs.Changes.{is_ready, job_with}
+use Rattle.bq_job.specs.Dispatch.{is_job_before, reserved_by}
+use Rattle.bq_job.specs.Happenings.{Happening, Part, put, handed_out, happenings}
+use Rattle.bq_job.specs.JobStates.{is_reserved}
+use Rattle.bq_job.specs.Lawful.{AreIdsWithin}
+use Rattle.bq_job.specs.Machine.{Machine}
+use Rattle.bq_job.specs.Undisturbed.{disturbs, is_deletion}
+
+-- neither a put nor a hand-out
+abbrev pub is_plain : Happening → Bool
+is_plain (put j) = false
+is_plain (handed_out id) = false
+is_plain _ = true
+
+-- The job of an id goes on as this one, as far as these happenings do not disturb it.
+pub record GoesOnAs (id : ℕ) (j k : Job) (happened : List Happening) : Type 0 where
+  pub same : k.id ≡ j.id
+  pub tube : k.tube ≡ j.tube
+  pub body : k.body ≡ j.body
+  pub ready : is_ready j ≡ true → list_any (disturbs id) happened ≡ false → (is_ready k ≡ true) × (k.pri ≡ j.pri)
+  pub held : is_reserved j.state ≡ true → list_any (disturbs id) happened ≡ false → is_reserved k.state ≡ true
+
+-- what becomes of the job of an id
+abbrev pub Fate : ℕ → List Happening → Option Job → Option Job → Type 0
+Fate id happened None after = after ≡ None
+Fate id happened (Some j) None = list_any (is_deletion id) happened ≡ true
+Fate id happened (Some j) (Some k) = GoesOnAs id j k happened
+
+pub record IsQuiet (m : Machine) (happened : List Happening) (n : Machine) : Type 0 where
+  pub next : n.next_id ≡ m.next_id
+  pub plain : All (λ h. is_plain h ≡ true) happened
+  pub fates : (id : ℕ) → Fate id happened (job_with id m.jobs) (job_with id n.jobs)
+
+pub record IsPutMove (m : Machine) (happened : List Happening) (n : Machine) : Type 0 where
+  pub job : Job
+  pub happened_is : happened ≡ put job ∷ []
+  pub id : job.id ≡ m.next_id
+  pub next : n.next_id ≡ suc m.next_id
+  pub jobs : n.jobs ≡ m.jobs ++ job ∷ []
+  pub ids : AreIdsWithin 1 m.jobs job.id
+  pub at_once : job.delay ≡ 0 → is_ready job ≡ true
+
+pub record IsHandOutMove (m : Machine) (happened : List Happening) (n : Machine) : Type 0 where
+  pub job : Job
+  pub seat : ℕ
+  pub happened_is : happened ≡ handed_out job.id ∷ []
+  pub next : n.next_id ≡ m.next_id
+  pub jobs : n.jobs ≡ map (λ j. cond (j.id == job.id) (reserved_by m.moment seat j) j) m.jobs
+  pub there : job_with job.id m.jobs ≡ Some job
+  pub below : job.id < m.next_id
+  pub ready : is_ready job ≡ true
+  pub least : (k : Job) → Contains m.jobs k → is_ready k ≡ true → k.tube ≡ job.tube → is_job_before k job ≡ false
+
+pub data Move (m : Machine) (happened : List Happening) (n : Machine) : Type 0 where
+  quiet : IsQuiet m happened n → Move m happened n
+  putting : IsPutMove m happened n → Move m happened n
+  handing : IsHandOutMove m happened n → Move m happened n
+
+-- one move after another
+abbrev pub Moves : Machine → List Part → Machine → Type 0
+Moves m [] n = n ≡ m
+Moves m (p ∷ parts) n = Move m p.happened p.machine × Moves p.machine parts n
+
+pub moves_append : (m k n : Machine) (parts more : List Part) → Moves m parts k → Moves k more n → Moves m (parts ++ more) n
+moves_append m k n [] more h i = subst (λ l. Moves l more n) h i
+moves_append m k n (p ∷ parts) more h i = (h.0, moves_append p.machine k n parts more h.1 i)
+
+pub happenings_append : (parts more : List Part) → happenings (parts ++ more) ≡ happenings parts ++ happenings more
+happenings_append [] more = refl
+happenings_append (p ∷ parts) more = ap (λ hs. p.happened ++ hs) (happenings_append parts more) ∙ sym (append_assoc p.happened (happenings parts) (happenings more))

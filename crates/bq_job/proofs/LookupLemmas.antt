@@ -1,0 +1,91 @@
+-- Jobs looked up by id in a list whose ids grow: after a change of each job, a removal and an addition.
+use Rattle.std.proofs.Common.{ℕ, suc, ◌≡◌, ◌≤◌, ◌<◌, Bool, true, false, not, cond, List, [], ◌∷◌, ◌++◌, map, arith, refl, sym, ap, ◌∙◌, subst, inl, inr, ◌⊎◌, Option, Some, None}
+use Rattle.std.specs.Prelude.{filter, find, option_map, ◌==◌}
+use Rattle.std.specs.List.{AllByRecursion as All, Contains}
+use Rattle.std.proofs.lemmas.Bool.{cases_Bool, eq-eqb, eqb-true, eqb-false, false_from_ne_true, both_ways}
+use Rattle.bq_job.specs.declared.job.Job.{Job}
+use Rattle.bq_job.specs.Changes.{job_with}
+use Rattle.bq_job.specs.Lawful.{AreIdsWithin}
+use Rattle.bq_job.proofs.ListLemmas.{all_at, found_passes, contains_head, contains_tail}
+
+-- what is found is in the list, with the id
+pub found_job : (id : ℕ) (jobs : List Job) (j : Job) → job_with id jobs ≡ Some j → (j.id ≡ id) × Contains jobs j
+found_job id jobs j e = let f = found_passes (λ k. k.id == id) jobs j e in (eqb-true j.id id f.0, f.1)
+
+pub job_in_map : (f : Job → Job) (id : ℕ) (jobs : List Job) → ((j : Job) → (f j).id ≡ j.id) → job_with id (map f jobs) ≡ option_map f (job_with id jobs)
+job_in_map f id [] same = refl
+job_in_map f id (j ∷ jobs) same =
+    elim (cases_Bool (j.id == id)) [
+      | inl e ↦ let b : ((f j).id == id) ≡ true = subst (λ n. (n == id) ≡ true) (sym (same j)) e in rw (b, e) refl
+      | inr e ↦ let b : ((f j).id == id) ≡ false = subst (λ n. (n == id) ≡ false) (sym (same j)) e in rw (b, e) (job_in_map f id jobs same)
+    ]
+
+-- a job that isn't below the first id isn't found below it
+pub none_below : (id low next : ℕ) (jobs : List Job) → id < low → AreIdsWithin low jobs next → job_with id jobs ≡ None
+none_below id low next [] less h = refl
+none_below id low next (j ∷ jobs) less h =
+    elim (cases_Bool (j.id == id)) [
+      | inl e ↦ let at = eqb-true j.id id e in let a = h.0 in absurd (omega arith)
+      | inr e ↦ rw e (none_below id (suc j.id) next jobs (let a = h.0 in omega arith) h.1)
+    ]
+
+-- each job of the list is found by its id
+pub job_found : (low next : ℕ) (jobs : List Job) (j : Job) → AreIdsWithin low jobs next → Contains jobs j → (job_with j.id jobs ≡ Some j) × (j.id < next)
+job_found low next jobs j h i = all_at (λ k. (job_with k.id jobs ≡ Some k) × (k.id < next)) jobs j (all_found low next jobs h) i
+  where
+    up : (low next : ℕ) (jobs : List Job) → AreIdsWithin low jobs next → low ≤ next
+    up low next [] h = h
+    up low next (j ∷ jobs) h = let a = h.0 in let b = up (suc j.id) next jobs h.1 in omega arith
+
+    above : (low next : ℕ) (jobs : List Job) → AreIdsWithin low jobs next → All (λ k. low ≤ k.id) jobs
+    above low next [] h = tt
+    above low next (j ∷ jobs) h = let a = h.0 in (a, higher (suc j.id) low jobs (omega arith) (above (suc j.id) next jobs h.1))
+      where
+        higher : (high low : ℕ) (jobs : List Job) → low ≤ high → All (λ k. high ≤ k.id) jobs → All (λ k. low ≤ k.id) jobs
+        higher high low [] less h = tt
+        higher high low (j ∷ jobs) less h = let a = h.0 in (omega arith, higher high low jobs less h.1)
+
+    behind : (j : Job) (jobs all : List Job) (next : ℕ) → All (λ k. suc j.id ≤ k.id) all → All (λ k. (job_with k.id jobs ≡ Some k) × (k.id < next)) all → All (λ k. (job_with k.id (j ∷ jobs) ≡ Some k) × (k.id < next)) all
+    behind j jobs [] next a h = tt
+    behind j jobs (k ∷ all) next a h =
+        let over = a.0 in
+        let other : (j.id == k.id) ≡ false = false_from_ne_true (j.id == k.id) (λ t. let is = eqb-true j.id k.id t in absurd (omega arith)) in
+        ((rw other h.0.0, h.0.1), behind j jobs all next a.1 h.1)
+
+    all_found : (low next : ℕ) (jobs : List Job) → AreIdsWithin low jobs next → All (λ k. (job_with k.id jobs ≡ Some k) × (k.id < next)) jobs
+    all_found low next [] h = tt
+    all_found low next (j ∷ jobs) h =
+        let rest = up (suc j.id) next jobs h.1 in
+        ((rw (eq-eqb j.id j.id refl) refl, omega arith), behind j jobs jobs next (above (suc j.id) next jobs h.1) (all_found (suc j.id) next jobs h.1))
+
+-- of the jobs but those of one id
+pub job_in_rest : (removed id : ℕ) (jobs : List Job) → job_with id (filter (λ k. not (k.id == removed)) jobs) ≡ cond (id == removed) None (job_with id jobs)
+job_in_rest removed id [] = elim (cases_Bool (id == removed)) [ inl e ↦ rw e refl | inr e ↦ rw e refl ]
+job_in_rest removed id (j ∷ jobs) =
+    elim (cases_Bool (j.id == removed)) [
+      | inl e ↦ rw e (elim (cases_Bool (id == removed)) [
+        | inl f ↦ job_in_rest removed id jobs ∙ rw f refl
+        | inr f ↦
+            let other : (j.id == id) ≡ false = false_from_ne_true (j.id == id) (λ t. let a = eqb-true j.id id t in let b = eqb-true j.id removed e in both_ways (id == removed) f (eq-eqb id removed (sym a ∙ b))) in
+            job_in_rest removed id jobs ∙ rw (f, other) refl
+      ])
+      | inr e ↦ rw e (elim (cases_Bool (j.id == id)) [
+        | inl f ↦
+            let other : (id == removed) ≡ false = subst (λ n. (n == removed) ≡ false) (eqb-true j.id id f) e in
+            rw (f, other) refl
+        | inr f ↦ rw f (job_in_rest removed id jobs)
+      ])
+    ]
+
+-- with one job more at the end
+pub job_in_more : (id : ℕ) (jobs : List Job) (j : Job) → (j.id == id) ≡ false → job_with id (jobs ++ j ∷ []) ≡ job_with id jobs
+job_in_more id [] j e = rw e refl
+job_in_more id (k ∷ jobs) j e = elim (cases_Bool (k.id == id)) [ inl f ↦ rw f refl | inr f ↦ rw f (job_in_more id jobs j e) ]
+
+pub job_at_end : (low : ℕ) (jobs : List Job) (j : Job) → AreIdsWithin low jobs j.id → job_with j.id (jobs ++ j ∷ []) ≡ Some j
+job_at_end low [] j h = rw (eq-eqb j.id j.id refl) refl
+job_at_end low (k ∷ jobs) j h =
+    let found = job_found low j.id (k ∷ jobs) k h (contains_head k jobs) in
+    let less = found.1 in
+    let other : (k.id == j.id) ≡ false = false_from_ne_true (k.id == j.id) (λ t. let is = eqb-true k.id j.id t in absurd (omega arith)) in
+    rw other (job_at_end (suc k.id) jobs j h.1)

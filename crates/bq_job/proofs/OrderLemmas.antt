@@ -1,0 +1,248 @@
+-- Undisturbed jobs of one tube and priority are handed out in the order of their puts.
+use Rattle.std.proofs.Common.{ℕ, suc, ◌≡◌, ◌≤◌, ◌<◌, Bool, true, false, ◌&&◌, ◌||◌, not, cond, List, [], ◌∷◌, ◌++◌, map, arith, refl, sym, ap, ◌∙◌, subst, inl, inr, ◌⊎◌, Option, Some, None}
+use Rattle.std.specs.Prelude.{option_map, ◌==◌}
+use Rattle.std.specs.List.{AllByRecursion as All, Contains, list_any}
+use Rattle.std.proofs.lemmas.Bool.{cases_Bool, or_parts, or_from, or_left, or_cases, both_ways, cond_both, eqb-true, eq-eqb, false_from_ne_true}
+use Rattle.std.proofs.lemmas.Bool.Decides.{nat_tests}
+use Rattle.std.proofs.lemmas.List.Elements.{Contains-append_cases}
+use Rattle.std.proofs.lemmas.List.Folds.{list_any-append}
+use Rattle.bq_job.specs.declared.job.Job.{Job}
+use Rattle.bq_job.specs.Changes.{is_pair_before, is_ready, job_with}
+use Rattle.bq_job.specs.Dispatch.{is_job_before, reserved_by}
+use Rattle.bq_job.specs.Happenings.{Happening, Part, put, handed_out, reserved_by_id, expired, released, buried, given_back, deleted, happenings}
+use Rattle.bq_job.specs.JobStates.{is_reserved}
+use Rattle.bq_job.specs.Machine.{Machine}
+use Rattle.bq_job.specs.Undisturbed.{comes_first, disturbs, is_hand_out, is_put}
+use Rattle.bq_job.proofs.JobMoves.{Fate, GoesOnAs, IsHandOutMove, IsPutMove, IsQuiet, Move, Moves, quiet, putting, handing, is_plain}
+use Rattle.bq_job.proofs.ListLemmas.{all_at}
+use Rattle.bq_job.proofs.LookupLemmas.{found_job, job_at_end}
+use Rattle.bq_job.proofs.SpentLemmas.{IsSpent, IsNotFree, handed_lookup, held_is_not_ready, none_handed, none_more, put_lookup, spent_after, spent_by_hand_out, spent_not_handed, still_parts}
+
+-- What happens in a part that has neither of two things leaves their order.
+comes_behind : (one other : Happening → Bool) (happened more : List Happening) → list_any one happened ≡ false → list_any other happened ≡ false → comes_first one other (happened ++ more) ≡ comes_first one other more
+comes_behind one other [] more h i = refl
+comes_behind one other (x ∷ happened) more h i =
+    let a = or_parts (one x) (list_any one happened) h in
+    let b = or_parts (other x) (list_any other happened) i in
+    rw (a.0, b.0) (comes_behind one other happened more a.1 b.1)
+
+contained_put : (j : Job) (x : Happening) (more : List Happening) → Contains (x ∷ more) (put j) → (x ≡ put j) ⊎ Contains more (put j)
+contained_put j x more h = elim (Contains-append_cases (x ∷ []) more (put j) h) [ inl e ↦ inl (only e) | inr e ↦ inr e ]
+  where
+    only : Contains (x ∷ []) (put j) → x ≡ put j
+    only i = all_at (λ y. x ≡ y) (x ∷ []) (put j) (refl, tt) i
+
+plain_has_no_put : (j : Job) (happened : List Happening) → All (λ h. is_plain h ≡ true) happened → Contains happened (put j) → ⊥
+plain_has_no_put j happened plain i = let e : is_plain (put j) ≡ true = all_at (λ h. is_plain h ≡ true) happened (put j) plain i in absurd cc
+
+plain_puts_none : (id : ℕ) (happened : List Happening) → All (λ h. is_plain h ≡ true) happened → list_any (is_put id) happened ≡ false
+plain_puts_none id [] plain = refl
+plain_puts_none id (h ∷ happened) plain = or_from (is_put id h) (list_any (is_put id) happened) (here h plain.0) (plain_puts_none id happened plain.1)
+  where
+    here : (h : Happening) → is_plain h ≡ true → is_put id h ≡ false
+    here (put j) e = absurd cc
+    here (handed_out other) e = absurd cc
+    here (reserved_by_id other) e = refl
+    here (expired other) e = refl
+    here (released other) e = refl
+    here (buried other) e = refl
+    here (given_back other) e = refl
+    here (deleted other) e = refl
+
+-- a put that comes later, after a move without one
+put_behind : (j : Job) (m n : Machine) (happened more : List Happening) → IsQuiet m happened n ⊎ IsHandOutMove m happened n → Contains (happened ++ more) (put j) → Contains more (put j)
+put_behind j m n happened more move h = elim (Contains-append_cases happened more (put j) h) [ inl e ↦ absurd (of_move move e) | inr e ↦ e ]
+  where
+    of_move : IsQuiet m happened n ⊎ IsHandOutMove m happened n → Contains happened (put j) → ⊥
+    of_move (inl q) i = plain_has_no_put j happened q.plain i
+    of_move (inr g) i =
+        let is : handed_out g.job.id ≡ put j = all_at (λ y. handed_out g.job.id ≡ y) (handed_out g.job.id ∷ []) (put j) (refl, tt) (subst (λ hs. Contains hs (put j)) g.happened_is i) in
+        absurd cc
+
+-- a put that comes with a put, or later
+put_now_or_behind : (j : Job) (m n : Machine) (happened more : List Happening) (p : IsPutMove m happened n) → Contains (happened ++ more) (put j) → (p.job ≡ j) ⊎ Contains more (put j)
+put_now_or_behind j m n happened more p h =
+    elim (contained_put j (put p.job) more (subst (λ hs. Contains (hs ++ more) (put j)) p.happened_is h)) [
+      | inl e ↦ inl (same_job p.job j e)
+      | inr e ↦ inr e
+    ]
+  where
+    same_job : (a b : Job) → put a ≡ put b → a ≡ b
+    same_job a b e = (cc)
+
+-- A job that is put later gets an id that isn't given yet.
+pub put_above : (j : Job) (m n : Machine) (parts : List Part) → Moves m parts n → Contains (happenings parts) (put j) → m.next_id ≤ j.id
+put_above j m n [] moves i = absurd (let less = i.1 in omega arith)
+put_above j m n (p ∷ parts) moves i = at_move (put_above j p.machine n parts moves.1) moves.0
+  where
+    at_move : (Contains (happenings parts) (put j) → p.machine.next_id ≤ j.id) → Move m p.happened p.machine → m.next_id ≤ j.id
+    at_move go (quiet q) = let next = q.next in let rest = go (put_behind j m p.machine p.happened (happenings parts) (inl q) i) in omega arith
+    at_move go (handing h) = let next = h.next in let rest = go (put_behind j m p.machine p.happened (happenings parts) (inr h) i) in omega arith
+    at_move go (putting q) =
+        elim (put_now_or_behind j m p.machine p.happened (happenings parts) q i) [
+          | inl e ↦ let is = q.id in let same : q.job.id ≡ j.id = ap (λ (k : Job). k.id) e in omega arith
+          | inr e ↦ let next = q.next in let rest = go e in omega arith
+        ]
+
+-- Of two jobs that are put, the one that is put first has no greater id.
+pub ids_in_order : (id : ℕ) (b : Job) (m n : Machine) (parts : List Part) → Moves m parts n → comes_first (is_put id) (is_put b.id) (happenings parts) ≡ true → Contains (happenings parts) (put b) → id ≤ b.id
+ids_in_order id b m n [] moves first i = absurd cc
+ids_in_order id b m n (p ∷ parts) moves first i = at_move (ids_in_order id b p.machine n parts moves.1) moves.0
+  where
+    later : (comes_first (is_put id) (is_put b.id) (happenings parts) ≡ true → Contains (happenings parts) (put b) → id ≤ b.id) → list_any (is_put id) p.happened ≡ false → list_any (is_put b.id) p.happened ≡ false → Contains (happenings parts) (put b) → id ≤ b.id
+    later go h j k = go (sym (comes_behind (is_put id) (is_put b.id) p.happened (happenings parts) h j) ∙ first) k
+
+    at_move : (comes_first (is_put id) (is_put b.id) (happenings parts) ≡ true → Contains (happenings parts) (put b) → id ≤ b.id) → Move m p.happened p.machine → id ≤ b.id
+    at_move go (quiet q) = later go (plain_puts_none id p.happened q.plain) (plain_puts_none b.id p.happened q.plain) (put_behind b m p.machine p.happened (happenings parts) (inl q) i)
+    at_move go (handing h) = later go (ap (list_any (is_put id)) h.happened_is) (ap (list_any (is_put b.id)) h.happened_is) (put_behind b m p.machine p.happened (happenings parts) (inr h) i)
+    at_move go (putting q) =
+        elim (cases_Bool (q.job.id == id)) [
+          | inl e ↦
+              let at = eqb-true q.job.id id e in let is = q.id in
+              let above = put_above b m n (p ∷ parts) moves i in
+              omega arith
+          | inr e ↦ elim (cases_Bool (q.job.id == b.id)) [
+            | inl f ↦
+                let never : comes_first (is_put id) (is_put b.id) (put q.job ∷ happenings parts) ≡ false = rw (e, f) refl in
+                let now : comes_first (is_put id) (is_put b.id) (put q.job ∷ happenings parts) ≡ true = subst (λ hs. comes_first (is_put id) (is_put b.id) (hs ++ happenings parts) ≡ true) q.happened_is first in
+                absurd (both_ways (comes_first (is_put id) (is_put b.id) (put q.job ∷ happenings parts)) never now)
+            | inr f ↦ elim (put_now_or_behind b m p.machine p.happened (happenings parts) q i) [
+              | inl g ↦ absurd (both_ways (q.job.id == b.id) f (eq-eqb q.job.id b.id (ap (λ (k : Job). k.id) g)))
+              | inr g ↦ later go (ap (list_any (is_put id)) q.happened_is ∙ rw e refl) (ap (list_any (is_put b.id)) q.happened_is ∙ rw f refl) g
+            ]
+          ]
+        ]
+
+-- the job is ready, as it was put
+pub record IsReadyAs (j : Job) (m : Machine) : Type 0 where
+  pub job : Job
+  pub there : job_with j.id m.jobs ≡ Some job
+  pub below : j.id < m.next_id
+  pub ready : is_ready job ≡ true
+  pub pri : job.pri ≡ j.pri
+  pub tube : job.tube ≡ j.tube
+
+-- where an undisturbed job stands before these happenings: it is held or gone, or ready, or yet to be put
+pub data Stands (j : Job) (m : Machine) (more : List Happening) : Type 0 where
+  spent : IsSpent j.id m → Stands j m more
+  waits : IsReadyAs j m → Stands j m more
+  unborn : m.next_id ≤ j.id → Contains more (put j) → Stands j m more
+
+ready_after_fate : (j : Job) (m n : Machine) (happened more : List Happening) (r : IsReadyAs j m) (o : Option Job) → job_with j.id n.jobs ≡ o → n.next_id ≡ m.next_id → Fate j.id happened (Some r.job) o → list_any (disturbs j.id) happened ≡ false → Stands j n more
+ready_after_fate j m n happened more r None e next fate still = spent (let less = r.below in omega arith, subst IsNotFree (sym e) tt)
+ready_after_fate j m n happened more r (Some k) e next fate still =
+    let on = fate.ready r.ready still in
+    waits (record {
+      job = k;
+      there = e;
+      below = let less = r.below in omega arith;
+      ready = on.0;
+      pri = on.1 ∙ r.pri;
+      tube = fate.tube ∙ r.tube;
+    })
+
+ready_mapped : (j : Job) (m n : Machine) (more : List Happening) (r : IsReadyAs j m) (id moment seat : ℕ) → n.next_id ≡ m.next_id → job_with j.id n.jobs ≡ Some (cond (r.job.id == id) (reserved_by moment seat r.job) r.job) → Stands j n more
+ready_mapped j m n more r id moment seat next e =
+    let less = r.below in
+    elim (cases_Bool (r.job.id == id)) [
+      | inl f ↦ spent (omega arith, subst IsNotFree (sym (rw f at e)) refl)
+      | inr f ↦ waits (record { job = r.job; there = rw f at e; below = omega arith; ready = r.ready; pri = r.pri; tube = r.tube })
+    ]
+
+-- where it stands after a move
+stands_after : (j : Job) (m n k : Machine) (happened : List Happening) (parts : List Part) → Move m happened n → Moves n parts k → j.delay ≡ 0 → list_any (disturbs j.id) happened ≡ false → Stands j m (happened ++ happenings parts) → Stands j n (happenings parts)
+stands_after j m n k happened parts move moves now still (spent s) = spent (spent_after j.id m n happened move still s)
+stands_after j m n k happened parts (quiet q) moves now still (waits r) =
+    ready_after_fate j m n happened (happenings parts) r (job_with j.id n.jobs) refl q.next (subst (λ o. Fate j.id happened o (job_with j.id n.jobs)) r.there (q.fates j.id)) still
+stands_after j m n k happened parts (putting p) moves now still (waits r) =
+    let less = r.below in let next = p.next in
+    waits (record { job = r.job; there = put_lookup j.id m n happened p less ∙ r.there; below = omega arith; ready = r.ready; pri = r.pri; tube = r.tube })
+stands_after j m n k happened parts (handing h) moves now still (waits r) =
+    ready_mapped j m n (happenings parts) r h.job.id m.moment h.seat h.next
+    (handed_lookup j.id m n happened h ∙ ap (option_map (λ i. cond (i.id == h.job.id) (reserved_by m.moment h.seat i) i)) r.there)
+stands_after j m n k happened parts (quiet q) moves now still (unborn above i) =
+    let next = q.next in unborn (omega arith) (put_behind j m n happened (happenings parts) (inl q) i)
+stands_after j m n k happened parts (handing h) moves now still (unborn above i) =
+    let next = h.next in unborn (omega arith) (put_behind j m n happened (happenings parts) (inr h) i)
+stands_after j m n k happened parts (putting p) moves now still (unborn above i) =
+    elim (put_now_or_behind j m n happened (happenings parts) p i) [
+      | inl e ↦ let next = p.next in let is = p.id in
+          let same : p.job.id ≡ j.id = ap (λ (k : Job). k.id) e in
+          waits (record {
+            job = p.job;
+            there = subst (λ id. job_with id n.jobs ≡ Some p.job) same (ap (job_with p.job.id) p.jobs ∙ job_at_end 1 m.jobs p.job p.ids);
+            below = omega arith;
+            ready = p.at_once (ap (λ (k : Job). k.delay) e ∙ now);
+            pri = ap (λ (k : Job). k.pri) e;
+            tube = ap (λ (k : Job). k.tube) e;
+          })
+      | inr e ↦ unborn (put_above j n k parts moves e) e
+    ]
+
+-- The least job of one tube and priority has the least id.
+least_by_id : (a b k job : Job) → k.pri ≡ a.pri → k.id ≡ a.id → job.pri ≡ b.pri → job.id ≡ b.id → a.pri ≡ b.pri → a.id < b.id → is_job_before k job ≡ true
+least_by_id a b k job p q r s same less =
+    let pri : k.pri ≡ job.pri = p ∙ same ∙ sym r in
+    let ids : k.id < job.id = (omega arith) in
+    before k.pri job.pri k.id job.id pri ids
+  where
+    before : (x y i j : ℕ) → x ≡ y → i < j → is_pair_before x i y j ≡ true
+    before x y i j e l = grind (arith, nat_tests)
+
+-- While one job waits, no other of its tube and priority with a greater id is handed out.
+not_before_its_turn : (a b : Job) (m n : Machine) (happened more : List Happening) (h : IsHandOutMove m happened n) → a.pri ≡ b.pri → a.tube ≡ b.tube → a.id < b.id → h.job.id ≡ b.id → Stands b m more → IsReadyAs a m → ⊥
+not_before_its_turn a b m n happened more h pri tube less is (spent s) r =
+    let there : job_with b.id m.jobs ≡ Some h.job = subst (λ id. job_with id m.jobs ≡ Some h.job) is h.there in
+    held_is_not_ready h.job h.ready (subst IsNotFree there s.1)
+not_before_its_turn a b m n happened more h pri tube less is (waits s) r =
+    let there : job_with b.id m.jobs ≡ Some h.job = subst (λ id. job_with id m.jobs ≡ Some h.job) is h.there in
+    let both : Some s.job ≡ Some h.job = sym s.there ∙ there in
+    let same : s.job ≡ h.job = (cc) in
+    let found = found_job a.id m.jobs r.job r.there in
+    let tubes : r.job.tube ≡ h.job.tube = r.tube ∙ tube ∙ sym s.tube ∙ ap (λ (k : Job). k.tube) same in
+    let pris : h.job.pri ≡ b.pri = ap (λ (k : Job). k.pri) (sym same) ∙ s.pri in
+    both_ways (is_job_before r.job h.job) (h.least r.job found.1 r.ready tubes) (least_by_id a b r.job h.job r.pri found.0 pris is pri less)
+not_before_its_turn a b m n happened more h pri tube less is (unborn above i) r = let below = h.below in omega arith
+
+-- of two jobs that stand so, the first is handed out first
+pub handed_in_order : (a b : Job) (m n : Machine) (parts : List Part) → Moves m parts n → a.delay ≡ 0 → b.delay ≡ 0 → a.pri ≡ b.pri → a.tube ≡ b.tube → a.id < b.id
+    → list_any (disturbs a.id) (happenings parts) ≡ false → list_any (disturbs b.id) (happenings parts) ≡ false
+    → Stands a m (happenings parts) → Stands b m (happenings parts)
+    → list_any (is_hand_out a.id) (happenings parts) ≡ true → list_any (is_hand_out b.id) (happenings parts) ≡ true
+    → comes_first (is_hand_out a.id) (is_hand_out b.id) (happenings parts) ≡ true
+handed_in_order a b m n [] moves now_a now_b pri tube less still_a still_b at_a at_b out_a out_b = absurd cc
+handed_in_order a b m n (p ∷ parts) moves now_a now_b pri tube less still_a still_b at_a at_b out_a out_b =
+    at_move
+    (handed_in_order a b p.machine n parts moves.1 now_a now_b pri tube less (still_parts a.id p.happened (happenings parts) still_a).1 (still_parts b.id p.happened (happenings parts) still_b).1)
+    moves.0
+  where
+    later : (Stands a p.machine (happenings parts) → Stands b p.machine (happenings parts) → list_any (is_hand_out a.id) (happenings parts) ≡ true → list_any (is_hand_out b.id) (happenings parts) ≡ true → comes_first (is_hand_out a.id) (is_hand_out b.id) (happenings parts) ≡ true)
+        → list_any (is_hand_out a.id) p.happened ≡ false → list_any (is_hand_out b.id) p.happened ≡ false → comes_first (is_hand_out a.id) (is_hand_out b.id) (p.happened ++ happenings parts) ≡ true
+    later go h i =
+        let ja = still_parts a.id p.happened (happenings parts) still_a in
+        let jb = still_parts b.id p.happened (happenings parts) still_b in
+        let oa : list_any (is_hand_out a.id) (happenings parts) ≡ true = behind (is_hand_out a.id) h out_a in
+        let ob : list_any (is_hand_out b.id) (happenings parts) ≡ true = behind (is_hand_out b.id) i out_b in
+        comes_behind (is_hand_out a.id) (is_hand_out b.id) p.happened (happenings parts) h i
+        ∙ go (stands_after a m p.machine n p.happened parts moves.0 moves.1 now_a ja.0 at_a) (stands_after b m p.machine n p.happened parts moves.0 moves.1 now_b jb.0 at_b) oa ob
+      where
+        behind : (f : Happening → Bool) → list_any f p.happened ≡ false → list_any f (p.happened ++ happenings parts) ≡ true → list_any f (happenings parts) ≡ true
+        behind f none all = let both : (list_any f p.happened || list_any f (happenings parts)) ≡ true = sym (list_any-append f p.happened (happenings parts)) ∙ all in rw none at both
+
+    of_second : (h : IsHandOutMove m p.happened p.machine) → h.job.id ≡ b.id → Stands a m (p.happened ++ happenings parts) → ⊥
+    of_second h is (spent s) = both_ways (list_any (is_hand_out a.id) (p.happened ++ happenings parts)) (none_more a.id m n (p ∷ parts) moves still_a s) out_a
+    of_second h is (waits r) = not_before_its_turn a b m p.machine p.happened (p.happened ++ happenings parts) h pri tube less is at_b r
+    of_second h is (unborn above i) = let below = h.below in omega arith
+
+    at_move : (Stands a p.machine (happenings parts) → Stands b p.machine (happenings parts) → list_any (is_hand_out a.id) (happenings parts) ≡ true → list_any (is_hand_out b.id) (happenings parts) ≡ true → comes_first (is_hand_out a.id) (is_hand_out b.id) (happenings parts) ≡ true)
+        → Move m p.happened p.machine → comes_first (is_hand_out a.id) (is_hand_out b.id) (p.happened ++ happenings parts) ≡ true
+    at_move go (quiet q) = later go (none_handed a.id p.happened q.plain) (none_handed b.id p.happened q.plain)
+    at_move go (putting q) = later go (ap (list_any (is_hand_out a.id)) q.happened_is) (ap (list_any (is_hand_out b.id)) q.happened_is)
+    at_move go (handing h) =
+        elim (cases_Bool (h.job.id == a.id)) [
+          | inl e ↦ subst (λ hs. comes_first (is_hand_out a.id) (is_hand_out b.id) (hs ++ happenings parts) ≡ true) (sym h.happened_is) (rw e refl)
+          | inr e ↦ elim (cases_Bool (h.job.id == b.id)) [
+            | inl f ↦ absurd (of_second h (eqb-true h.job.id b.id f) at_a)
+            | inr f ↦ later go (ap (list_any (is_hand_out a.id)) h.happened_is ∙ rw e refl) (ap (list_any (is_hand_out b.id)) h.happened_is ∙ rw f refl)
+          ]
+        ]

@@ -1,0 +1,152 @@
+-- A job that is held or gone is handed out no more while nothing disturbs it.
+use Rattle.std.proofs.Common.{ℕ, suc, ◌≡◌, ◌≤◌, ◌<◌, ◌+◌, Bool, true, false, ◌||◌, cond, List, [], ◌∷◌, ◌++◌, map, arith, refl, sym, ap, ◌∙◌, subst, inl, inr, ◌⊎◌, Option, Some, None}
+use Rattle.std.specs.Prelude.{option_map, count_by, ◌==◌}
+use Rattle.std.specs.List.{AllByRecursion as All, Contains, list_any}
+use Rattle.std.proofs.lemmas.Bool.{cases_Bool, or_parts, or_from, both_ways, cond_both, eqb-true, eq-eqb, false_from_ne_true}
+use Rattle.std.proofs.lemmas.List.Folds.{list_any-append}
+use Rattle.std.proofs.lemmas.List.Sums.{sum_by-append}
+use Rattle.bq_job.specs.declared.job.Job.{Job}
+use Rattle.bq_job.specs.declared.job.JobState.{JobState}
+use Rattle.bq_job.specs.declared.job.JobState.TheVariants as states
+use Rattle.bq_job.specs.Changes.{is_ready, is_ready_state, job_with}
+use Rattle.bq_job.specs.Dispatch.{reserved_by}
+use Rattle.bq_job.specs.Happenings.{Happening, Part, put, handed_out, reserved_by_id, expired, released, buried, given_back, deleted, happenings}
+use Rattle.bq_job.specs.JobStates.{is_reserved}
+use Rattle.bq_job.specs.Machine.{Machine}
+use Rattle.bq_job.specs.Undisturbed.{disturbs, is_hand_out, is_put}
+use Rattle.bq_job.proofs.JobMoves.{Fate, GoesOnAs, IsHandOutMove, IsPutMove, IsQuiet, Move, Moves, quiet, putting, handing, is_plain}
+use Rattle.bq_job.proofs.ListLemmas.{count_cons}
+use Rattle.bq_job.proofs.LookupLemmas.{job_in_map, job_in_more}
+
+-- held, or not there
+abbrev pub IsNotFree : Option Job → Type 0
+IsNotFree None = Unit {0}
+IsNotFree (Some j) = is_reserved j.state ≡ true
+
+-- The id was given, and its job is held or gone.
+abbrev pub IsSpent : ℕ → Machine → Type 0
+IsSpent id m = (id < m.next_id) × IsNotFree (job_with id m.jobs)
+
+pub held_is_not_ready : (j : Job) → is_ready j ≡ true → is_reserved j.state ≡ true → ⊥
+held_is_not_ready j h i = of_state j.state h i
+  where
+    of_state : (s : JobState) → is_ready_state s ≡ true → is_reserved s ≡ true → ⊥
+    of_state states.Ready h i = absurd cc
+    of_state (states.Delayed due) h i = absurd cc
+    of_state (states.Reserved seat deadline) h i = absurd cc
+    of_state (states.Buried number) h i = absurd cc
+
+plain_hands_none : (id : ℕ) (h : Happening) → is_plain h ≡ true → is_hand_out id h ≡ false
+plain_hands_none id (put j) e = absurd cc
+plain_hands_none id (handed_out other) e = absurd cc
+plain_hands_none id (reserved_by_id other) e = refl
+plain_hands_none id (expired other) e = refl
+plain_hands_none id (released other) e = refl
+plain_hands_none id (buried other) e = refl
+plain_hands_none id (given_back other) e = refl
+plain_hands_none id (deleted other) e = refl
+
+pub none_handed : (id : ℕ) (happened : List Happening) → All (λ h. is_plain h ≡ true) happened → list_any (is_hand_out id) happened ≡ false
+none_handed id [] plain = refl
+none_handed id (h ∷ happened) plain = or_from (is_hand_out id h) (list_any (is_hand_out id) happened) (plain_hands_none id h plain.0) (none_handed id happened plain.1)
+
+not_free_after : (id : ℕ) (happened : List Happening) (before after : Option Job) → Fate id happened before after → list_any (disturbs id) happened ≡ false → IsNotFree before → IsNotFree after
+not_free_after id happened None after fate still held = subst IsNotFree (sym fate) tt
+not_free_after id happened (Some j) None fate still held = tt
+not_free_after id happened (Some j) (Some k) fate still held = fate.held held still
+
+not_free_mapped : (job : Job) (moment seat : ℕ) (o : Option Job) → IsNotFree o → IsNotFree (option_map (λ j. cond (j.id == job.id) (reserved_by moment seat j) j) o)
+not_free_mapped job moment seat None h = tt
+not_free_mapped job moment seat (Some j) h = cond_both (j.id == job.id) (reserved_by moment seat j) j (λ k. is_reserved k.state ≡ true) (λ e. refl) (λ e. h)
+
+-- the jobs after a hand-out, looked up
+pub handed_lookup : (id : ℕ) (m n : Machine) (happened : List Happening) (h : IsHandOutMove m happened n) → job_with id n.jobs ≡ option_map (λ j. cond (j.id == h.job.id) (reserved_by m.moment h.seat j) j) (job_with id m.jobs)
+handed_lookup id m n happened h =
+    ap (job_with id) h.jobs
+    ∙ job_in_map (λ j. cond (j.id == h.job.id) (reserved_by m.moment h.seat j) j) id m.jobs
+    (λ j. cond_both (j.id == h.job.id) (reserved_by m.moment h.seat j) j (λ k. k.id ≡ j.id) (λ e. refl) (λ e. refl))
+
+-- the jobs after a put, looked up by another id
+pub put_lookup : (id : ℕ) (m n : Machine) (happened : List Happening) (h : IsPutMove m happened n) → id < m.next_id → job_with id n.jobs ≡ job_with id m.jobs
+put_lookup id m n happened h less =
+    let is = h.id in
+    ap (job_with id) h.jobs
+    ∙ job_in_more id m.jobs h.job (false_from_ne_true (h.job.id == id) (λ t. let at = eqb-true h.job.id id t in absurd (omega arith)))
+
+pub spent_after : (id : ℕ) (m n : Machine) (happened : List Happening) → Move m happened n → list_any (disturbs id) happened ≡ false → IsSpent id m → IsSpent id n
+spent_after id m n happened (quiet q) still spent =
+    let less = spent.0 in let next = q.next in
+    (omega arith, not_free_after id happened (job_with id m.jobs) (job_with id n.jobs) (q.fates id) still spent.1)
+spent_after id m n happened (putting p) still spent =
+    let less = spent.0 in let next = p.next in
+    (omega arith, subst IsNotFree (sym (put_lookup id m n happened p less)) spent.1)
+spent_after id m n happened (handing h) still spent =
+    let less = spent.0 in let next = h.next in
+    (omega arith, subst IsNotFree (sym (handed_lookup id m n happened h)) (not_free_mapped h.job m.moment h.seat (job_with id m.jobs) spent.1))
+
+pub spent_not_handed : (id : ℕ) (m n : Machine) (happened : List Happening) → Move m happened n → IsSpent id m → list_any (is_hand_out id) happened ≡ false
+spent_not_handed id m n happened (quiet q) spent = none_handed id happened q.plain
+spent_not_handed id m n happened (putting p) spent = ap (list_any (is_hand_out id)) p.happened_is
+spent_not_handed id m n happened (handing h) spent =
+    ap (list_any (is_hand_out id)) h.happened_is
+    ∙ or_from (h.job.id == id) false
+    (false_from_ne_true (h.job.id == id) (λ t.
+    let at = eqb-true h.job.id id t in
+    let there : job_with id m.jobs ≡ Some h.job = subst (λ i. job_with i m.jobs ≡ Some h.job) at h.there in
+    held_is_not_ready h.job h.ready (subst IsNotFree there spent.1)))
+    refl
+
+-- Its job is spent once it is handed out.
+pub spent_by_hand_out : (m n : Machine) (happened : List Happening) (h : IsHandOutMove m happened n) → IsSpent h.job.id n
+spent_by_hand_out m n happened h =
+    let less = h.below in let next = h.next in (
+      omega arith,
+      subst IsNotFree (sym (handed_lookup h.job.id m n happened h ∙ ap (option_map (λ j. cond (j.id == h.job.id) (reserved_by m.moment h.seat j) j)) h.there))
+          (cond_both (h.job.id == h.job.id) (reserved_by m.moment h.seat h.job) h.job (λ k. is_reserved k.state ≡ true) (λ e. refl)
+          (λ e. absurd (both_ways (h.job.id == h.job.id) e (eq-eqb h.job.id h.job.id refl)))),
+    )
+
+-- A move's happenings, and those of the rest, disturb nothing.
+pub still_parts : (id : ℕ) (happened more : List Happening) → list_any (disturbs id) (happened ++ more) ≡ false → (list_any (disturbs id) happened ≡ false) × (list_any (disturbs id) more ≡ false)
+still_parts id happened more h = or_parts (list_any (disturbs id) happened) (list_any (disturbs id) more) (sym (list_any-append (disturbs id) happened more) ∙ h)
+
+pub none_more : (id : ℕ) (m n : Machine) (parts : List Part) → Moves m parts n → list_any (disturbs id) (happenings parts) ≡ false → IsSpent id m → list_any (is_hand_out id) (happenings parts) ≡ false
+none_more id m n [] moves still spent = refl
+none_more id m n (p ∷ parts) moves still spent =
+    let each = still_parts id p.happened (happenings parts) still in
+    list_any-append (is_hand_out id) p.happened (happenings parts)
+    ∙ or_from (list_any (is_hand_out id) p.happened) (list_any (is_hand_out id) (happenings parts)) (spent_not_handed id m p.machine p.happened moves.0 spent)
+    (none_more id p.machine n parts moves.1 each.1 (spent_after id m p.machine p.happened moves.0 each.0 spent))
+
+none_counted : (id : ℕ) (happened : List Happening) → list_any (is_hand_out id) happened ≡ false → count_by (is_hand_out id) happened ≡ 0
+none_counted id [] h = refl
+none_counted id (x ∷ happened) h =
+    let parts = or_parts (is_hand_out id x) (list_any (is_hand_out id) happened) h in
+    count_cons (is_hand_out id) x happened ∙ rw (parts.0, none_counted id happened parts.1) refl
+
+count_append : (id : ℕ) (xs ys : List Happening) → count_by (is_hand_out id) (xs ++ ys) ≡ count_by (is_hand_out id) xs + count_by (is_hand_out id) ys
+count_append id xs ys = sum_by-append (λ h. cond (is_hand_out id h) 1 0) xs ys
+
+-- A job that nothing disturbs is handed out at most once.
+pub handed_once : (id : ℕ) (m n : Machine) (parts : List Part) → Moves m parts n → list_any (disturbs id) (happenings parts) ≡ false → count_by (is_hand_out id) (happenings parts) ≤ 1
+handed_once id m n [] moves still = omega arith
+handed_once id m n (p ∷ parts) moves still =
+    let each = still_parts id p.happened (happenings parts) still in
+    at_move moves.0 each.0 each.1 (handed_once id p.machine n parts moves.1 each.1)
+  where
+    later : list_any (is_hand_out id) p.happened ≡ false → count_by (is_hand_out id) (happenings parts) ≤ 1 → count_by (is_hand_out id) (p.happened ++ happenings parts) ≤ 1
+    later none rest = let a = count_append id p.happened (happenings parts) in let b = none_counted id p.happened none in omega arith
+
+    at_move : Move m p.happened p.machine → list_any (disturbs id) p.happened ≡ false → list_any (disturbs id) (happenings parts) ≡ false → count_by (is_hand_out id) (happenings parts) ≤ 1 → count_by (is_hand_out id) (p.happened ++ happenings parts) ≤ 1
+    at_move (quiet q) still more rest = later (none_handed id p.happened q.plain) rest
+    at_move (putting q) still more rest = later (ap (list_any (is_hand_out id)) q.happened_is) rest
+    at_move (handing h) still more rest =
+        elim (cases_Bool (h.job.id == id)) [
+          | inl e ↦
+              let spent : IsSpent id p.machine = subst (λ i. IsSpent i p.machine) (eqb-true h.job.id id e) (spent_by_hand_out m p.machine p.happened h) in
+              let none = none_counted id (happenings parts) (none_more id p.machine n parts moves.1 more spent) in
+              let one : count_by (is_hand_out id) p.happened ≡ 1 = ap (count_by (is_hand_out id)) h.happened_is ∙ count_cons (is_hand_out id) (handed_out h.job.id) [] ∙ rw e refl in
+              let a = count_append id p.happened (happenings parts) in
+              omega arith
+          | inr e ↦ later (ap (list_any (is_hand_out id)) h.happened_is ∙ rw e refl) rest
+        ]

@@ -1,0 +1,234 @@
+-- Each part of a step, as moves: timers, turns of dispatch, ends of waits, and the command's own effect.
+use Rattle.std.proofs.Common.{ℕ, suc, ◌≡◌, ◌≤◌, ◌<◌, Bool, true, false, ◌&&◌, ◌||◌, not, cond, List, [], ◌∷◌, ◌++◌, map, arith, refl, sym, ap, ◌∙◌, subst, inl, inr, ◌⊎◌, Option, Some, None, append-nil, append_assoc}
+use Rattle.std.specs.Prelude.{filter, option_map, ◌==◌}
+use Rattle.std.specs.List.{AllByRecursion as All, Contains, list_any}
+use Rattle.std.proofs.lemmas.Bool.{cases_Bool, and_parts, and_from, or_left, or_right, both_ways, cond_both, eqb-true, eq-eqb}
+use Rattle.bq_job.specs.declared.answer.Answer.{Answer}
+use Rattle.bq_job.specs.declared.answer.Answer.TheVariants as answers
+use Rattle.bq_job.specs.declared.job.Job.{Job}
+use Rattle.bq_job.specs.declared.job.JobState.{JobState}
+use Rattle.bq_job.specs.declared.job.JobState.TheVariants as states
+use Rattle.bq_job.specs.Changes.{in_state, is_ready, is_ready_state, job_with, with_job, with_seat, without_wait}
+use Rattle.bq_job.specs.Dispatch.{DispatchTurn, GivenAnswer, IsHandOut, is_job_before, may_have, next_job, next_seat, reserved_by}
+use Rattle.bq_job.specs.Happenings.{Happening, Part, changes, expirations, expired, hand_out, hand_outs, happenings, parts_in, parts_of_run}
+use Rattle.bq_job.specs.JobStates.{is_reserved}
+use Rattle.bq_job.specs.Lawful.{AreIdsWithin, IsLawful}
+use Rattle.bq_job.specs.Machine.{Machine, SeatRecord}
+use Rattle.bq_job.specs.Runs.{GoesBy, IsTransition, Parts, Transition, parts_of}
+use Rattle.bq_job.specs.Steps.{Dispatches, EndsWaits, IsStep, acted}
+use Rattle.bq_job.specs.Timers.{after_timers, at_moment, is_due, is_expired, job_after_timers, with_timeout}
+use Rattle.bq_job.specs.Tubes.{forgetting, is_paused, watches}
+use Rattle.bq_job.specs.Undisturbed.{disturbs}
+use Rattle.bq_job.specs.Waits.{Chain, WaitEndTurn}
+use Rattle.bq_job.proofs.ActMoves.{Ids, after_acted}
+use Rattle.bq_job.proofs.ChangeLemmas.{move_of_jobs}
+use Rattle.bq_job.proofs.ChoiceLemmas.{first_of_contains}
+use Rattle.bq_job.proofs.DispatchLemmas.{next_is_least, turn_of}
+use Rattle.bq_job.proofs.JobMoves.{Fate, GoesOnAs, IsHandOutMove, IsQuiet, Move, Moves, quiet, handing, happenings_append, is_plain, moves_append}
+use Rattle.bq_job.proofs.KeptLemmas.{Keeps, ids_of_map, kept_of_lawful}
+use Rattle.bq_job.proofs.LawfulLemmas.{after_timers_is, end_of, kept_of_timers, leaves_acted, served, step_is_lawful, turns_of_dispatches}
+use Rattle.bq_job.proofs.ListLemmas.{all_always, all_of_map, list_any_with}
+use Rattle.bq_job.proofs.LookupLemmas.{found_job, job_found, job_in_map}
+
+-- The machine goes by moves, and this happens to jobs.
+pub record Goes (m : Machine) (happened : List Happening) (n : Machine) : Type 0 where
+  pub parts : List Part
+  pub moves : Moves m parts n
+  pub told : happenings parts ≡ happened
+
+goes_nowhere : (m : Machine) → Goes m [] m
+goes_nowhere m = record { parts = []; moves = refl; told = refl }
+
+pub goes_one : (m : Machine) (happened : List Happening) (n : Machine) → Move m happened n → Goes m happened n
+goes_one m happened n move = record { parts = record { happened = happened; machine = n } ∷ []; moves = (move, refl); told = append-nil happened }
+
+pub goes_then : (m k n : Machine) (xs ys : List Happening) → Goes m xs k → Goes k ys n → Goes m (xs ++ ys) n
+goes_then m k n xs ys h i = record {
+  parts = h.parts ++ i.parts;
+  moves = moves_append m k n h.parts i.parts h.moves i.moves;
+  told = happenings_append h.parts i.parts ∙ ap (λ hs. hs ++ happenings i.parts) h.told ∙ ap (λ hs. xs ++ hs) i.told;
+}
+
+fate_of_itself : (id : ℕ) (happened : List Happening) (o : Option Job) → Fate id happened o o
+fate_of_itself id happened None = refl
+fate_of_itself id happened (Some j) = record { same = refl; tube = refl; body = refl; ready = λ h still. (h, refl); held = λ h still. h }
+
+-- Nothing happens to jobs.
+still_move : (m n : Machine) → n.jobs ≡ m.jobs → n.next_id ≡ m.next_id → Move m [] n
+still_move m n jobs next =
+    quiet (record { next = next; plain = tt; fates = λ id. subst (λ l. Fate id [] (job_with id m.jobs) (job_with id l)) (sym jobs) (fate_of_itself id [] (job_with id m.jobs)) })
+
+-- timers
+plain_expirations : (moment : ℕ) (jobs : List Job) → All (λ h. is_plain h ≡ true) (expirations moment jobs)
+plain_expirations moment jobs = all_of_map (λ h. is_plain h ≡ true) (λ (j : Job). expired j.id) (filter (λ j. is_expired moment j.state) jobs) (all_always (λ (j : Job). is_plain (expired j.id) ≡ true) (filter (λ j. is_expired moment j.state) jobs) (λ j. refl))
+
+told_to_expire : (moment id : ℕ) (jobs : List Job) → list_any (λ j. is_expired moment j.state && j.id == id) jobs ≡ true → list_any (disturbs id) (expirations moment jobs) ≡ true
+told_to_expire moment id [] h = absurd cc
+told_to_expire moment id (j ∷ jobs) h =
+    elim (cases_Bool (is_expired moment j.state)) [
+      | inl e ↦ rw e (elim (cases_Bool (j.id == id)) [
+        | inl f ↦ or_left (j.id == id) (list_any (disturbs id) (expirations moment jobs)) f
+        | inr f ↦ or_right (j.id == id) (list_any (disturbs id) (expirations moment jobs)) (told_to_expire moment id jobs (rw (e, f) at h))
+      ])
+      | inr e ↦ rw e (told_to_expire moment id jobs (rw e at h))
+    ]
+
+not_due_when_ready : (moment : ℕ) (s : JobState) → is_reserved s ≡ true → is_due moment s ≡ false
+not_due_when_ready moment states.Ready h = refl
+not_due_when_ready moment (states.Delayed due) h = absurd cc
+not_due_when_ready moment (states.Reserved seat deadline) h = refl
+not_due_when_ready moment (states.Buried number) h = refl
+
+timed_fate : (moment id : ℕ) (jobs : List Job) (o : Option Job) → job_with id jobs ≡ o → Fate id (expirations moment jobs) o (option_map (job_after_timers moment) o)
+timed_fate moment id jobs None e = refl
+timed_fate moment id jobs (Some j) e = record {
+  same = after_timers_is moment j (λ k. k.id ≡ j.id) refl refl refl;
+  tube = after_timers_is moment j (λ k. k.tube ≡ j.tube) refl refl refl;
+  body = after_timers_is moment j (λ k. k.body ≡ j.body) refl refl refl;
+  ready = λ h still. after_timers_is moment j (λ k. (is_ready k ≡ true) × (k.pri ≡ j.pri)) (refl, refl) (refl, refl) (h, refl);
+  held = λ h still.
+      let due = not_due_when_ready moment j.state h in
+      elim (cases_Bool (is_expired moment j.state)) [
+        | inl f ↦
+            let found = found_job id jobs j e in
+            let told = told_to_expire moment id jobs (list_any_with (λ k. is_expired moment k.state && k.id == id) jobs j found.1 (and_from (is_expired moment j.state) (j.id == id) f (eq-eqb j.id id found.0))) in
+            absurd (both_ways (list_any (disturbs id) (expirations moment jobs)) still told)
+        | inr f ↦ rw (due, f) h
+      ];
+}
+
+goes_by_timers : (at : ℕ) (m : Machine) → Goes m (expirations (at_moment at m).moment m.jobs) (forgetting (after_timers (at_moment at m)))
+goes_by_timers at m =
+    let moment = (at_moment at m).moment in
+    let n = forgetting (after_timers (at_moment at m)) in
+    let lookup : (id : ℕ) → job_with id n.jobs ≡ option_map (job_after_timers moment) (job_with id m.jobs) =
+    λ id. job_in_map (job_after_timers moment) id m.jobs (λ j. after_timers_is moment j (λ k. k.id ≡ j.id) refl refl refl) in
+    goes_one m (expirations moment m.jobs) n (quiet (record {
+      next = refl;
+      plain = plain_expirations moment m.jobs;
+      fates = λ id. subst (Fate id (expirations moment m.jobs) (job_with id m.jobs)) (sym (lookup id)) (timed_fate moment id m.jobs (job_with id m.jobs) refl);
+    }))
+
+-- Who may have a job may have each ready one of its tube.
+may_have_too : (m : Machine) (s : SeatRecord) (j k : Job) → may_have m s j ≡ true → is_ready k ≡ true → k.tube ≡ j.tube → may_have m s k ≡ true
+may_have_too m s j k h ready tube =
+    let parts = and_parts (is_ready j && watches j.tube s) (not (is_paused j.tube m)) h in
+    let first = and_parts (is_ready j) (watches j.tube s) parts.0 in
+    subst (λ t. (is_ready k && watches t s && not (is_paused t m)) ≡ true) (sym tube)
+    (and_from (is_ready k && watches j.tube s) (not (is_paused j.tube m)) (and_from (is_ready k) (watches j.tube s) ready first.1) parts.1)
+
+-- one turn of dispatch
+hand_out_move : (m n : Machine) (j : Job) (s : SeatRecord) (given : GivenAnswer) → Ids m → next_job m ≡ Some j → next_seat m j ≡ Some s → IsHandOut m j s given n → Move m (hand_out given.1) n × Ids n
+hand_out_move m n j s given ids e f (inl h) =
+    let least = next_is_least m j s e f in
+    let found = job_found 1 m.next_id m.jobs j ids least.kept in
+    let jobs : n.jobs ≡ map (λ k. cond (k.id == j.id) (reserved_by m.moment s.number k) k) m.jobs = ap (λ (l : Machine). l.jobs) h.1 in
+    let next : n.next_id ≡ m.next_id = ap (λ (l : Machine). l.next_id) h.1 in (
+      handing (record {
+        job = j;
+        seat = s.number;
+        happened_is = ap (λ (g : GivenAnswer). hand_out g.1) h.0;
+        next = next;
+        jobs = jobs;
+        there = found.0;
+        below = found.1;
+        ready = (and_parts (is_ready j) (watches j.tube s) (and_parts (is_ready j && watches j.tube s) (not (is_paused j.tube m)) least.allowed).0).0;
+        least = λ k i ready tube. least.least k i (may_have_too m s j k least.allowed ready tube);
+      }),
+      subst (λ l. AreIdsWithin 1 l n.next_id) (sym jobs) (subst (AreIdsWithin 1 (map (λ k. cond (k.id == j.id) (reserved_by m.moment s.number k) k) m.jobs)) (sym next)
+          (ids_of_map (λ k. cond (k.id == j.id) (reserved_by m.moment s.number k) k) 1 m.next_id m.jobs (λ k. cond_both (k.id == j.id) (reserved_by m.moment s.number k) k (λ l. l.id ≡ k.id) (λ e. refl) (λ e. refl)) ids)),
+    )
+hand_out_move m n j s given ids e f (inr h) =
+    let told : hand_out given.1 ≡ [] = ap (λ (g : GivenAnswer). hand_out g.1) h.0 in (
+      subst (λ hs. Move m hs n) (sym told) (still_move m n (ap (λ (l : Machine). l.jobs) h.1) (ap (λ (l : Machine). l.next_id) h.1)),
+      subst Ids (sym h.1) ids,
+    )
+
+pub goes_by_turns : (m : Machine) (given : List GivenAnswer) (n : Machine) → Ids m → Chain DispatchTurn m given n → Goes m (hand_outs given) n
+goes_by_turns m [] n ids chain = subst (λ l. Goes m [] l) (sym chain) (goes_nowhere m)
+goes_by_turns m (g ∷ given) n ids chain =
+    let t = turn_of m g chain.0 chain.1 in
+    let one = hand_out_move m chain.0 t.job t.client g ids t.job_is t.client_is t.hands in
+    goes_then m chain.0 n (hand_out g.1) (hand_outs given) (goes_one m (hand_out g.1) chain.0 one.0) (goes_by_turns chain.0 given n one.1 chain.2)
+
+goes_by_dispatch : (m : Machine) (given : List GivenAnswer) (n : Machine) → Ids m → Dispatches m given n → Goes m (hand_outs given) n
+goes_by_dispatch m given n ids d =
+    subst (λ hs. Goes m hs n) (append-nil (hand_outs given))
+    (goes_then m d.end n (hand_outs given) [] (goes_by_turns m given d.end ids d.turns)
+    (goes_one d.end [] n (still_move d.end n (ap (λ (l : Machine). l.jobs) d.forgets) (ap (λ (l : Machine). l.next_id) d.forgets))))
+
+-- the ends of waits
+same_jobs : (m : Machine) (given : List GivenAnswer) (n : Machine) → Chain WaitEndTurn m given n → (n.jobs ≡ m.jobs) × (n.next_id ≡ m.next_id)
+same_jobs m [] n chain = (ap (λ (l : Machine). l.jobs) chain, ap (λ (l : Machine). l.next_id) chain)
+same_jobs m (g ∷ given) n chain =
+    let e = end_of m g chain.0 chain.1 in
+    let rest = same_jobs chain.0 given n chain.2 in
+    (rest.0 ∙ ap (λ (l : Machine). l.jobs) e.next_is, rest.1 ∙ ap (λ (l : Machine). l.next_id) e.next_is)
+
+goes_by_ends : (m : Machine) (given : List GivenAnswer) (n : Machine) → EndsWaits m given n → Goes m [] n
+goes_by_ends m given n w =
+    let same = same_jobs m given w.end w.turns in
+    goes_one m [] n (still_move m n (ap (λ (l : Machine). l.jobs) w.forgets ∙ same.0) (ap (λ (l : Machine). l.next_id) w.forgets ∙ same.1))
+
+-- A part goes by moves, and keeps what every part keeps.
+pub record PartGoes (m : Machine) (p : Part) : Type 0 where
+  pub goes : Goes m p.happened p.machine
+  pub keeps : Keeps p.machine
+
+abbrev pub ArePartsGone : Machine → List Part → Machine → Type 0
+ArePartsGone m [] n = n ≡ m
+ArePartsGone m (p ∷ parts) n = PartGoes m p × ArePartsGone p.machine parts n
+
+pub gone_then : (m k n : Machine) (parts more : List Part) → ArePartsGone m parts k → ArePartsGone k more n → ArePartsGone m (parts ++ more) n
+gone_then m k n [] more h i = subst (λ l. ArePartsGone l more n) h i
+gone_then m k n (p ∷ parts) more h i = (h.0, gone_then p.machine k n parts more h.1 i)
+
+-- the parts of a step
+parts_gone : (t : Transition) → Keeps t.first → IsTransition t → ArePartsGone t.first (parts_in t) t.last
+parts_gone t keeps is =
+    let s = is.step in
+    let m = t.first in
+    let timed = forgetting (after_timers (at_moment t.entry.moment m)) in
+    let k0 = kept_of_timers t.entry.moment m keeps in
+    let k1 = (turns_of_dispatches timed s.handed s.serves.between k0 s.serves.dispatches).keeps in
+    let k2 = (served timed s.handed s.ended s.before k0 s.serves).keeps in
+    let k3 : Keeps s.after = subst Keeps (sym s.acts) (leaves_acted s.memory s.before t.entry.seat t.entry.what k2).keeps in
+    let k4 = (turns_of_dispatches s.after s.handed_then s.serves_then.between k3 s.serves_then.dispatches).keeps in
+    let k5 = (served s.after s.handed_then s.ended_then t.last k3 s.serves_then).keeps in
+    let acts : Move s.before (changes t.entry.what s.before.jobs s.after.jobs) s.after =
+    subst (λ (l : Machine). Move s.before (changes t.entry.what s.before.jobs l.jobs) l) (sym s.acts)
+    (move_of_jobs t.entry.what s.before (forgetting (acted s.memory s.before t.entry.seat t.entry.what).machine) k2.ids (after_acted s.memory s.before t.entry.seat t.entry.what k2.ids)) in
+    let of_step : ArePartsGone m (parts_in (record t { parts = parts_of s })) t.last = (
+      record { goes = goes_by_timers t.entry.moment m; keeps = k0 },
+      (
+        record { goes = goes_by_dispatch timed s.handed s.serves.between k0.ids s.serves.dispatches; keeps = k1 },
+        (
+          record { goes = goes_by_ends s.serves.between s.ended s.before s.serves.ends_waits; keeps = k2 },
+          (
+            record { goes = goes_one s.before (changes t.entry.what s.before.jobs s.after.jobs) s.after acts; keeps = k3 },
+            (
+              record { goes = goes_by_dispatch s.after s.handed_then s.serves_then.between k3.ids s.serves_then.dispatches; keeps = k4 },
+              (
+                record { goes = goes_by_ends s.serves_then.between s.ended_then t.last s.serves_then.ends_waits; keeps = k5 },
+                refl,
+              ),
+            ),
+          ),
+        ),
+      ),
+    ) in
+    subst (λ (ps : Parts). ArePartsGone m (parts_in (record t { parts = ps })) t.last) (sym is.parts_are) of_step
+
+-- the parts of a run
+pub run_gone : (first : Machine) (taken : List Transition) (last : Machine) → IsLawful first → GoesBy first taken last → ArePartsGone first (parts_of_run taken) last
+run_gone first [] last lawful goes = goes
+run_gone first (t ∷ taken) last lawful goes =
+    let here : IsLawful t.first = subst IsLawful (sym goes.0) lawful in
+    let then = step_is_lawful t.first t.last t.entry.moment t.entry.seat t.entry.what t.outcome t.given here goes.1.step in
+    subst (λ m. ArePartsGone m (parts_in t ++ parts_of_run taken) last) goes.0
+    (gone_then t.first t.last last (parts_in t) (parts_of_run taken) (parts_gone t (kept_of_lawful t.first here) goes.1) (run_gone t.last taken last then goes.2))
+
+-- all parts together
+pub parts_go : (m : Machine) (parts : List Part) (n : Machine) → ArePartsGone m parts n → Goes m (happenings parts) n
+parts_go m [] n h = subst (λ l. Goes m [] l) (sym h) (goes_nowhere m)
+parts_go m (p ∷ parts) n h = goes_then m p.machine n p.happened (happenings parts) h.0.goes (parts_go p.machine parts n h.1)
