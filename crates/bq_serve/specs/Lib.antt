@@ -3,6 +3,7 @@ pub mod FaultCodes
 pub mod LineCalls
 pub mod LineParts
 pub mod OneSeat
+pub mod ReadingNumbers
 pub mod ScriptPlace
 pub mod ServingOne
 pub mod Writing

@@ -5,6 +5,7 @@ pub use machine_clock::MachineClock;
 pub use script_clock::ScriptClock;
 
 mod machine_clock;
+mod reading_record;
 mod script_clock;
 
 use bq_job::Moment;
