@@ -1,30 +1,22 @@
 -- The command's own effect, as the core carries it out.
-use Rattle.std.specs.Prelude.{ℕ, Bool, true, false, ◌≡◌, ◌&&◌, ◌||◌, ◌++◌, not, IsTrue, Option, Some, None}
-use Rattle.bq_job.specs.declared.answer.Answer.{Answer}
+use Rattle.std.specs.Prelude.{ℕ, Bool, false, ◌≡◌, ◌&&◌, ◌||◌, ◌++◌, not, IsTrue, Option, Some, None}
 use Rattle.bq_job.specs.declared.request.Request.{Request}
-use Rattle.bq_job.specs.declared.request.Request.TheVariants as requests
 use Rattle.bq_job.specs.declared.step.Step.{Step}
-use Rattle.bq_job.specs.declared.step.Step.TheVariants as steps
 use Rattle.bq_job.specs.Acts.{Effect}
 use Rattle.bq_job.specs.Changes.{is_waiting}
 use Rattle.bq_job.specs.Machine.{Machine, SeatRecord}
+use Rattle.bq_job.specs.SoFar.{is_so_far, is_step_so_far}
 use Rattle.bq_job.specs.Steps.{Memory, acted, addressed, is_growth_refused, is_possible, is_share_refused, may_be_left_out}
 use Rattle.bq_core.specs.declared.acts.Reply.{Reply}
 use Rattle.bq_core.specs.declared.acts.Reply.TheVariants.{Silent, Told, LeftOut}
 use Rattle.bq_core.specs.Outbox.{Outbox}
 
--- the requests that the core can carry out so far
+-- the requests and steps that the core can carry out so far
 abbrev pub is_built_request : Request → Bool
-is_built_request (requests.Put pri delay ttr body) = true
-is_built_request requests.Reserve = true
-is_built_request (requests.Delete id) = true
-is_built_request requests.Quit = true
-is_built_request (requests.Refused why) = true
-is_built_request _ = false
+is_built_request request = is_so_far request
 
 abbrev pub is_built : Step → Bool
-is_built (steps.Ask request) = is_built_request request
-is_built _ = true
+is_built step = is_step_so_far step
 
 -- nobody is connected there
 abbrev pub is_free : Option SeatRecord → Bool

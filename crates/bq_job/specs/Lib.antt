@@ -26,6 +26,7 @@ pub mod Reading
 pub mod Refusals
 pub mod Runs
 pub mod SameRequests
+pub mod SoFar
 pub mod Statistics
 pub mod StatisticsCommands
 pub mod Steps

@@ -43,11 +43,11 @@ pub ends_by : (r : Request) (asked : List Request) → EndsBy (r ∷ asked)
 ends_by r [] = record { before = []; last = r; is = refl }
 ends_by r (s ∷ asked) = let more = ends_by s asked in record { before = r ∷ more.before; last = more.last; is = ap (λ xs. r ∷ xs) more.is }
 
-quit_before : (asked : List Request) (r : Request) → has_quit (asked ++ r ∷ []) ≡ false → has_quit asked ≡ false
+pub quit_before : (asked : List Request) (r : Request) → has_quit (asked ++ r ∷ []) ≡ false → has_quit asked ≡ false
 quit_before [] r e = refl
 quit_before (a ∷ asked) r e = let both = neither (_) (has_quit (asked ++ r ∷ [])) e in rw both.0 (quit_before asked r both.1)
 
-asks_last : (asked : List Request) (q : Request) → map steps.Ask (asked ++ q ∷ []) ≡ map steps.Ask asked ++ steps.Ask q ∷ []
+pub asks_last : (asked : List Request) (q : Request) → map steps.Ask (asked ++ q ∷ []) ≡ map steps.Ask asked ++ steps.Ask q ∷ []
 asks_last [] q = refl
 asks_last (r ∷ asked) q = ap (λ x. steps.Ask r ∷ x) (asks_last asked q)
 
@@ -125,15 +125,15 @@ in_turn stages.Connecting reader kept told p taken step e are h = connects taken
 in_turn stages.Reading reader kept told p taken step e are h = cc
 in_turn (stages.Asking waits) reader kept told p taken step e are h =
     let o = h.0.0 in
-    asks_at o.asked taken p.mail step (sym are ∙ o.steps_are ∙ ap (λ t. (steps.Connect ∷ map steps.Ask o.asked) ++ end_if t) h.1 ∙ append-nil (steps.Connect ∷ map steps.Ask o.asked)) o.answered o.no_quit
+    asks_at o.asked taken p.mail step (sym are ∙ o.stepped.steps_are ∙ ap (λ t. (steps.Connect ∷ map steps.Ask o.asked) ++ end_if t) h.1 ∙ append-nil (steps.Connect ∷ map steps.Ask o.asked)) o.handed.answered o.stepped.no_quit
 in_turn (stages.Polling waits) reader kept told p taken step e are h = cc
 in_turn stages.ReadingOn reader kept told p taken step e are h = cc
 in_turn stages.TellingEnd reader kept told p taken step e are h =
     let o = h.0.0 in
-    tells_at o.asked taken p.mail step (sym are ∙ o.steps_are ∙ ap (λ t. (steps.Connect ∷ map steps.Ask o.asked) ++ end_if t) h.1) o.no_quit o.answered
+    tells_at o.asked taken p.mail step (sym are ∙ o.stepped.steps_are ∙ ap (λ t. (steps.Connect ∷ map steps.Ask o.asked) ++ end_if t) h.1) o.stepped.no_quit o.handed.answered
 in_turn stages.Writing reader kept told p taken step e are h = cc
 in_turn stages.AskingQuit reader kept told p taken step e are h = quits_at taken p step are h.2
 in_turn (stages.Closing end) reader kept told p taken step e are h =
-    let line = (h.0 []).line in
-    closes_at line.asked line.end_steps taken p.mail step (sym are ∙ line.steps_are) (elim line.ends [ inl none ↦ inl none | inr one ↦ inr one.0 ]) (few_missing end line.asked p.mail (h.0 []).answered)
+    let line = (h.served []).line in
+    closes_at line.asked line.end_steps taken p.mail step (sym are ∙ line.steps_are) (elim line.ends [ inl none ↦ inl none | inr one ↦ inr one.0 ]) (few_missing end line.asked p.mail (h.served []).answered)
 in_turn (stages.Leaving end) reader kept told p taken step e are h = cc

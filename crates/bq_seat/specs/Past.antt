@@ -1,5 +1,5 @@
 -- What happened at a connection since its line was opened.
-use Rattle.std.specs.Prelude.{ℕ, Bool, true, false, ◌||◌, if◌then◌else◌, List, [], ◌∷◌, ◌++◌, length, Option, Some, None, is_some}
+use Rattle.std.specs.Prelude.{ℕ, ◌≡◌, Bool, true, false, ◌||◌, if◌then◌else◌, List, [], ◌∷◌, ◌++◌, length, Option, Some, None, is_some}
 use Rattle.std.specs.List.{list_any}
 use Rattle.bq_job.specs.declared.answer.Answer.{Answer}
 use Rattle.bq_job.specs.declared.line_end.LineFault.{LineFault}
@@ -83,6 +83,11 @@ past_after event action p = if is_stray action then p else with_action action (w
 -- a line was opened, and its connect is being submitted
 abbrev pub first_past : Past
 first_past = past_after events.Opened (actions.Submit steps.Connect) no_past
+
+-- The close is among the steps exactly where the past says so, and before it no mail was late.
+pub record IsOrderly (p : Past) : Type 0 where
+  pub closing : p.closing ≡ has_close p.steps
+  pub late : p.closing ≡ false → p.late_mail ≡ []
 
 -- what a machine awaits, once it has given an action
 pub data Awaited : Type 0 where

@@ -1,16 +1,15 @@
 -- What a seat machine does with an event.
-use Rattle.std.specs.Prelude.{ℕ, ◌≡◌, ◌≤◌, Bool, true, false, not, ◌&&◌, ◌==◌, if◌then◌else◌, List, length, Some}
-use Rattle.bq_job.specs.declared.line_end.LineEnd.{LineEnd}
+use Rattle.std.specs.Prelude.{◌≡◌, ◌≤◌, true, false, not, length, Some}
 use Rattle.bq_job.specs.declared.step.Step.TheVariants as steps
-use Rattle.bq_seat.specs.Past.{Past, past_after, first_past, is_stray, awaited_by, answers}
-use Rattle.bq_seat.specs.SeatStands.{StandsFor, IsServed, seat_profile, awaited}
+use Rattle.bq_seat.specs.Finds.{Finds}
+use Rattle.bq_seat.specs.Looks.{LooksOn}
+use Rattle.bq_seat.specs.Past.{Past, past_after, first_past, is_stray, awaited_by, answers, with_event}
+use Rattle.bq_seat.specs.SeatStands.{StandsFor, awaited, kept_bytes, seat_profile}
 use Rattle.bq_seat.specs.declared.machine.Event.{Event}
 use Rattle.bq_seat.specs.declared.machine.Event.TheVariants as events
 use Rattle.bq_seat.specs.declared.machine.Action.{Action}
 use Rattle.bq_seat.specs.declared.machine.Action.TheVariants as actions
 use Rattle.bq_seat.specs.declared.machine.SeatMachine.{SeatMachine}
-use Rattle.bq_seat.specs.declared.machine.Stage.{Stage}
-use Rattle.bq_seat.specs.declared.machine.Stage.TheVariants as stages
 
 -- 4,096 bytes at most are handed in at once.
 abbrev pub FitsPiece : Event → Type 0
@@ -22,10 +21,6 @@ abbrev pub OpensPast : Event → Action → SeatMachine → Type 0
 OpensPast events.Opened action new = is_stray action ≡ false → (action ≡ actions.Submit steps.Connect) × StandsFor new first_past
 OpensPast _ action new = Unit {0}
 
-abbrev pub IfLineOver : Action → (LineEnd → Type 0) → Type 0
-IfLineOver (actions.LineOver end) P = P end
-IfLineOver _ P = Unit {0}
-
 pub record IsMove (old : SeatMachine) (event : Event) (action : Action) (new : SeatMachine) : Type 0 where
   -- an event is stray exactly where it doesn't answer the last action
   pub stray : is_stray action ≡ not (answers event (awaited old))
@@ -36,15 +31,7 @@ pub record IsMove (old : SeatMachine) (event : Event) (action : Action) (new : S
   pub opened : OpensPast event action new
   -- every past that the machine stands for goes on by this event and this action
   pub past : (p : Past) → StandsFor old p → StandsFor new (past_after event action p)
-  -- a line that is over was served, whatever bytes were written to it
-  pub over : IfLineOver action (λ end. (p : Past) → StandsFor old p → (written : List ℕ) → IsServed (seat_profile old) written end (past_after event action p))
-
--- While a reserve waits, the line is read where no bytes are kept and the input goes on.
-abbrev pub reads_on : Bool → SeatMachine → Bool
-reads_on waits m = waits && not m.end_told && (length m.kept == 0)
-
--- While an answer is awaited and none has come, the mail is looked at again; but a line whose reserve
--- waits is read first.
-abbrev pub LooksOn : Event → Stage → SeatMachine → Action → Type 0
-LooksOn events.NothingYet (stages.Polling waits) old action = action ≡ (if reads_on waits old then actions.Read else actions.PollMail)
-LooksOn _ _ old action = Unit {0}
+  -- with the event, it finds the action
+  pub finds : is_stray action ≡ false → (p : Past) → StandsFor old p → Finds (seat_profile old) action (with_event event p)
+  -- what the machine looks at next
+  pub looks : is_stray action ≡ false → (p : Past) → StandsFor old p → LooksOn (awaited old) (kept_bytes old) event p action

@@ -1,28 +1,35 @@
--- What the parts of a seat machine's moves do.
-use Rattle.std.specs.Prelude.{◌≡◌, Bool, true, false, if◌then◌else◌, Some}
-use Rattle.bq_job.specs.Reading.{is_quit}
+-- What the parts of a seat machine's moves do, by its fields.
+use Rattle.std.specs.Prelude.{ℕ, ◌≡◌, ◌==◌, ◌&&◌, Bool, true, false, not, if◌then◌else◌, IsTrue, List, length, Some}
+use Rattle.bq_job.specs.declared.line_end.LineEnd.{LineEnd}
 use Rattle.bq_job.specs.declared.request.Request.{Request}
+use Rattle.bq_job.specs.declared.step.Step.TheVariants as steps
+use Rattle.bq_job.specs.Reading.{is_quit}
 use Rattle.bq_job.specs.LineSteps.{is_waiting_request}
-use Rattle.bq_seat.specs.Past.{Past, with_action, awaited_by}
-use Rattle.bq_seat.specs.SeatStands.{IsOpen, StandsFor, seat_profile, awaited}
+use Rattle.bq_job.specs.SoFar.{is_step_so_far}
+use Rattle.bq_seat.specs.Looks.{GoesFurther, LooksOn}
+use Rattle.bq_seat.specs.Past.{Past, answers, awaited_by, first_past, is_stray, past_after, with_action}
+use Rattle.bq_seat.specs.SeatStands.{AgreesWith, IsOpen, awaited, seat_profile}
+use Rattle.bq_seat.specs.Served.{IsServed}
 use Rattle.bq_seat.specs.declared.machine.Action.{Action}
 use Rattle.bq_seat.specs.declared.machine.Action.TheVariants as actions
+use Rattle.bq_seat.specs.declared.machine.Event.{Event}
+use Rattle.bq_seat.specs.declared.machine.Event.TheVariants as events
 use Rattle.bq_seat.specs.declared.machine.SeatMachine.{SeatMachine}
 use Rattle.bq_seat.specs.declared.machine.Stage.{Stage}
 use Rattle.bq_seat.specs.declared.machine.Stage.TheVariants as stages
 
--- a step is submitted, or the line is read
-abbrev pub is_going_on : Action → Bool
-is_going_on (actions.Submit step) = true
-is_going_on actions.Read = true
-is_going_on _ = false
+-- a step that is submitted is of no command that is missing so far
+abbrev pub IsSoFar : Action → Type 0
+IsSoFar (actions.Submit step) = IsTrue (is_step_so_far step)
+IsSoFar _ = Unit {0}
 
 -- Nothing is outstanding, and the machine goes on with this action.
 pub record GoesOn (old : SeatMachine) (action : Action) (new : SeatMachine) : Type 0 where
-  pub going : is_going_on action ≡ true
+  pub further : GoesFurther action
+  pub so_far : IsSoFar action
   pub awaits : awaited_by action ≡ Some (awaited new)
   pub profile : seat_profile new ≡ seat_profile old
-  pub past : (p : Past) → IsOpen old.reader old.kept old.end_told 0 p → StandsFor new (with_action action p)
+  pub past : (p : Past) → IsOpen old.reader old.kept old.end_told 0 p → AgreesWith new (with_action action p)
 
 abbrev pub in_stage : Stage → SeatMachine → SeatMachine
 in_stage stage m = record m { stage = stage }
@@ -30,3 +37,28 @@ in_stage stage m = record m { stage = stage }
 -- what is awaited once this request was asked
 abbrev pub asking_stage : Request → Stage
 asking_stage request = if is_quit request then stages.AskingQuit else stages.Asking (is_waiting_request request)
+
+-- While a reserve waits, the line is read where no bytes are kept and the input goes on.
+abbrev pub reads_on : Bool → SeatMachine → Bool
+reads_on waits m = waits && not m.end_told && (length m.kept == 0)
+
+-- An opened line that was awaited begins by its connect.
+abbrev pub OpensLine : Event → Action → SeatMachine → Type 0
+OpensLine events.Opened action new = is_stray action ≡ false → (action ≡ actions.Submit steps.Connect) × AgreesWith new first_past
+OpensLine _ action new = Unit {0}
+
+abbrev pub IfLineOver : Action → (LineEnd → Type 0) → Type 0
+IfLineOver (actions.LineOver end) P = P end
+IfLineOver _ P = Unit {0}
+
+-- A move by the machine's fields: the pasts that they agree with go on.
+pub record IsStagedMove (old : SeatMachine) (event : Event) (action : Action) (new : SeatMachine) : Type 0 where
+  pub stray : is_stray action ≡ not (answers event (awaited old))
+  pub unchanged : is_stray action ≡ true → new ≡ old
+  pub so_far : IsSoFar action
+  pub awaits : is_stray action ≡ false → awaited_by action ≡ Some (awaited new)
+  pub profile : seat_profile new ≡ seat_profile old
+  pub opened : OpensLine event action new
+  pub past : (p : Past) → AgreesWith old p → AgreesWith new (past_after event action p)
+  pub over : IfLineOver action (λ end. (p : Past) → AgreesWith old p → (written : List ℕ) → IsServed (seat_profile old) written end (past_after event action p))
+  pub looks : is_stray action ≡ false → (p : Past) → AgreesWith old p → LooksOn (awaited old) old.kept event p action

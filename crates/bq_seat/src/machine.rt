@@ -88,11 +88,11 @@ pub struct SeatMachine {
 impl SeatMachine {
     ghost use Rattle.bq_job.specs.Profile.{profile};
     ghost use Rattle.bq_seat.specs.Past.{Awaited};
-    ghost use Rattle.bq_seat.specs.SeatMoves.{FitsPiece, IsMove, LooksOn, reads_on};
-    ghost use Rattle.bq_seat.specs.SeatParts.{GoesOn, asking_stage, in_stage};
     ghost use Rattle.bq_job.specs.OneClient.{is_closed_answer};
+    ghost use Rattle.bq_seat.specs.SeatMoves.{FitsPiece, IsMove};
+    ghost use Rattle.bq_seat.specs.SeatParts.{GoesOn, IsStagedMove, asking_stage, in_stage, reads_on};
     ghost use Rattle.bq_seat.specs.SeatStands.{awaited, seat_profile};
-    ghost use Rattle.bq_wire.specs.WordsSoFar.{words_so_far};
+    ghost use Rattle.bq_job.specs.SoFar.{words_so_far};
 
     /// A machine that awaits its first line. Bodies of more than `max_job_size` bytes, of 1 to 1,048,576,
     /// are refused. All memory but that for bodies is asked for here.
@@ -118,11 +118,16 @@ impl SeatMachine {
     pub fn on(&mut self, event: Event<'_>) -> Action
         requires { FitsPiece event }
         // It is stray exactly where it doesn't answer the last action, and then nothing changes. Each past
-        // of the line that the machine stands for goes on by this event and this action, and where the
-        // line is over it was served: its steps are the line's, its answers those that came.
-        ensures moves { IsMove self.old event.entry result self.new }
-        // While a reserve waits, the line is read on.
-        ensures looks { LooksOn event.entry self.old.stage self.old result }
+        // of the line that the machine stands for goes on by this event and this action, finds the action
+        // and says what is looked at next; where the line is over it was served.
+        ensures { IsMove self.old event.entry result self.new }
+    {
+        self.answered(event)
+    }
+
+    fn answered(&mut self, event: Event<'_>) -> Action
+        requires { FitsPiece event }
+        ensures { IsStagedMove self.old event.entry result self.new }
     {
         match event {
             Event::Opened => self.opened(),
@@ -138,7 +143,7 @@ impl SeatMachine {
     }
 
     fn opened(&mut self) -> Action
-        ensures { IsMove self.old Event.Opened result self.new }
+        ensures { IsStagedMove self.old Event.Opened result self.new }
     {
         match self.stage {
             Stage::Between => {
@@ -153,7 +158,7 @@ impl SeatMachine {
     }
 
     fn submitted(&mut self) -> Action
-        ensures { IsMove self.old Event.Submitted result self.new }
+        ensures { IsStagedMove self.old Event.Submitted result self.new }
     {
         match self.stage {
             Stage::Connecting => self.go_on(),
@@ -167,7 +172,7 @@ impl SeatMachine {
 
     fn bytes(&mut self, bytes: &[u8]) -> Action
         requires { length bytes.now ≤ 4096 }
-        ensures { IsMove self.old (Event.Bytes bytes.entry) result self.new }
+        ensures { IsStagedMove self.old (Event.Bytes bytes.entry) result self.new }
     {
         match self.stage {
             Stage::Reading => {
@@ -183,8 +188,7 @@ impl SeatMachine {
     }
 
     fn nothing_yet(&mut self) -> Action
-        ensures moves { IsMove self.old Event.NothingYet result self.new }
-        ensures looks { LooksOn Event.NothingYet self.old.stage self.old result }
+        ensures { IsStagedMove self.old Event.NothingYet result self.new }
     {
         match self.stage {
             Stage::Reading => Action::Read,
@@ -196,7 +200,7 @@ impl SeatMachine {
     }
 
     fn end_of_input(&mut self) -> Action
-        ensures { IsMove self.old Event.EndOfInput result self.new }
+        ensures { IsStagedMove self.old Event.EndOfInput result self.new }
     {
         match self.stage {
             Stage::Reading => self.close(LineEnd::EndOfInput),
@@ -210,7 +214,7 @@ impl SeatMachine {
     }
 
     fn read_fault(&mut self) -> Action
-        ensures { IsMove self.old Event.ReadFault result self.new }
+        ensures { IsStagedMove self.old Event.ReadFault result self.new }
     {
         match self.stage {
             Stage::Reading => self.close(LineEnd::ReadFault),
@@ -220,7 +224,7 @@ impl SeatMachine {
     }
 
     fn mail(&mut self, answer: Answer) -> Action
-        ensures { IsMove self.old (Event.Mail answer) result self.new }
+        ensures { IsStagedMove self.old (Event.Mail answer) result self.new }
     {
         match self.stage {
             Stage::Polling { .. } => {
@@ -233,7 +237,7 @@ impl SeatMachine {
     }
 
     fn write_done(&mut self) -> Action
-        ensures { IsMove self.old Event.WriteDone result self.new }
+        ensures { IsStagedMove self.old Event.WriteDone result self.new }
     {
         match self.stage {
             Stage::Writing => self.go_on(),
@@ -242,7 +246,7 @@ impl SeatMachine {
     }
 
     fn write_fault(&mut self) -> Action
-        ensures { IsMove self.old Event.WriteFault result self.new }
+        ensures { IsStagedMove self.old Event.WriteFault result self.new }
     {
         match self.stage {
             Stage::Writing => {

@@ -1,5 +1,5 @@
 -- What each thing that a run does to its line, its core and its mail settles.
-use Rattle.std.proofs.Common.{◌≡◌, ℕ, ◌<◌, ◌≤◌, Bool, false, List, [], ◌∷◌, ◌++◌, Option, Some, length, refl, sym, ap, ◌∙◌, arith, subst, append_assoc, if◌then◌else◌}
+use Rattle.std.proofs.Common.{◌≡◌, ℕ, ◌<◌, ◌≤◌, Bool, false, List, [], ◌∷◌, ◌++◌, Option, length, refl, sym, ap, ◌∙◌, arith, subst, append_assoc, if◌then◌else◌}
 use Rattle.std.proofs.lemmas.List.{length-append}
 use Rattle.bq_job.specs.declared.answer.Answer.{Answer}
 use Rattle.bq_job.specs.declared.step.Step.{Step}
@@ -13,18 +13,19 @@ use Rattle.bq_job.specs.Runs.{Entry, answers_to}
 use Rattle.bq_job.proofs.OneClientLemmas.{step_gives_client}
 use Rattle.bq_seat.specs.InTurn.{IsInTurn}
 use Rattle.bq_serve.specs.OneSeat.{IsClientAt, IsRecord, moment_heard}
-use Rattle.bq_seat.specs.Past.{Awaited, Past, awaited_by}
-use Rattle.bq_seat.specs.SeatStands.{StandsFor, awaited}
+use Rattle.bq_seat.specs.Past.{Past, with_action}
 use Rattle.bq_serve.specs.ServingOne.{IsSettled, TakesStep}
 use Rattle.bq_seat.specs.declared.machine.Action.TheVariants as actions
-use Rattle.bq_seat.specs.declared.machine.SeatMachine.{SeatMachine}
 use Rattle.bq_serve.proofs.HistoryLemmas.{client_asks, client_closes, client_connects, client_ends, client_ticks, entry_at, record_more, steps_more}
-use Rattle.bq_seat.proofs.InTurnLemmas.{in_turn}
+use Rattle.bq_seat.proofs.InTurnLemmas.{last_same}
 
--- the step that is submitted comes in its turn
-turn_of_submit : (machine : SeatMachine) (p : Past) (taken : List Step) (step : Step) → awaited_by (actions.Submit step) ≡ Some (awaited machine) → p.steps ≡ taken ++ step ∷ [] → StandsFor machine p → IsInTurn step taken p.mail
-turn_of_submit machine p taken step awaits are stands =
-    let one : awaited machine ≡ Awaited.ASubmission = cc in in_turn machine.stage machine.reader machine.kept machine.end_told p taken step one are stands
+-- the step that is submitted comes in its turn, behind the steps that were taken
+pub turn_of_submit : (p before : Past) (taken : List Step) (step : Step) → p ≡ with_action (actions.Submit step) before → p.steps ≡ taken ++ step ∷ []
+    → IsInTurn step before.steps before.mail → IsInTurn step taken p.mail
+turn_of_submit p before taken step is are turn =
+    let steps_are : before.steps ++ step ∷ [] ≡ taken ++ step ∷ [] = sym (ap (λ q. q.steps) is) ∙ are in
+    let same = (last_same before.steps taken step step steps_are).0 in
+    subst (λ mail. IsInTurn step taken mail) (sym (ap (λ q. q.mail) is)) (subst (λ t. IsInTurn step t before.mail) same turn)
 
 -- where the client stands after the step
 client_after : (step : Step) (taken : List Step) (mail answers : List Answer) (core next : Machine) (given : List GivenAnswer) → IsInTurn step taken mail → length mail ≤ length answers → IsClientAt taken answers core → GivesClient 0 core step given next → (is_tick step ≡ false) × IsClientAt (taken ++ step ∷ []) (answers ++ answers_to 0 given) next
@@ -78,9 +79,9 @@ module _ (settings : Settings) (core next : Machine) (mail later : List Answer) 
       (settled_after one s t (subst (λ steps. IsClientAt steps ((p.mail ++ (p.late_mail ++ mail)) ++ answers_to 0 t.given) next) (sym same) client), same)
 
   -- the machine's step was taken
-  pub stepped : (machine : SeatMachine) → awaited_by (actions.Submit what) ≡ Some (awaited machine) → StandsFor machine p → p.steps ≡ steps_at 0 history ++ what ∷ [] → core.settings.seats ≡ 1 → (s : IsSettled settings core mail heard seen readings history written p) → (t : TakesStep core mail heard reading what next later now) → IsSettled settings next later now seen (readings ++ reading ∷ []) history_with written p × (p.steps ≡ steps_at 0 history_with)
-  stepped machine awaits stands taken one s t =
-      let turn = turn_of_submit machine p (steps_at 0 history) what awaits taken stands in
+  pub stepped : (before : Past) → p ≡ with_action (actions.Submit what) before → IsInTurn what before.steps before.mail → p.steps ≡ steps_at 0 history ++ what ∷ [] → core.settings.seats ≡ 1 → (s : IsSettled settings core mail heard seen readings history written p) → (t : TakesStep core mail heard reading what next later now) → IsSettled settings next later now seen (readings ++ reading ∷ []) history_with written p × (p.steps ≡ steps_at 0 history_with)
+  stepped before is found taken one s t =
+      let turn = turn_of_submit p before (steps_at 0 history) what is taken found in
       let long = length-append p.mail (p.late_mail ++ mail) in
       let after = client_after what (steps_at 0 history) p.mail (p.mail ++ (p.late_mail ++ mail)) core next t.given turn (omega arith) s.client (gives_here one s t) in
       let same : steps_at 0 history_with ≡ steps_at 0 history ++ what ∷ [] = steps_more history (moment_heard heard reading) what ∙ ap (λ b. if b then steps_at 0 history else steps_at 0 history ++ what ∷ []) after.0 in

@@ -1,5 +1,5 @@
 -- What carrying each action out settles.
-use Rattle.std.proofs.Common.{◌≡◌, ℕ, ◌+◌, ◌≤◌, Bool, true, false, ◌==◌, List, [], ◌∷◌, ◌++◌, Option, Ok, Err, length, take, refl, sym, ap, ◌∙◌, arith, subst, map, inl, inr, MatchBool, Bor, not, append_assoc, append-nil}
+use Rattle.std.proofs.Common.{◌≡◌, ℕ, ◌+◌, ◌≤◌, Bool, true, false, ◌==◌, List, [], ◌∷◌, ◌++◌, Option, Ok, Err, length, take, refl, sym, ap, ◌∙◌, arith, subst, MatchBool, Bor, not, append-nil}
 use Rattle.std.proofs.lemmas.Bool.{eqb-true}
 use Rattle.std.proofs.lemmas.List.{length-append}
 use Rattle.std.specs.declared.io.Error.{Error}
@@ -8,7 +8,6 @@ use Rattle.bq_job.specs.declared.answer.Answer.{Answer}
 use Rattle.bq_job.specs.declared.line_end.LineEnd.{LineEnd}
 use Rattle.bq_job.specs.declared.line_end.LineFault.TheVariants as faults
 use Rattle.bq_job.specs.declared.answer.Answer.TheVariants.{Closed}
-use Rattle.bq_job.specs.declared.request.Request.{Request}
 use Rattle.bq_job.specs.declared.step.Step.{Step}
 use Rattle.bq_job.specs.declared.step.Step.TheVariants as steps
 use Rattle.bq_job.specs.AnswerText.{answer_text}
@@ -21,9 +20,10 @@ use Rattle.bq_job.specs.Runs.{Entry}
 use Rattle.bq_seat.specs.InTurn.{IsInTurn, wanted}
 use Rattle.bq_serve.specs.LineCalls.{after_read, is_nothing_yet, new_line}
 use Rattle.bq_serve.specs.OneSeat.{IsClientAt, IsClosedClient, IsOpenClient, IsRecord, IsServedAlone}
-use Rattle.bq_seat.specs.Past.{Awaited, Past, answers, awaited_by, first_past, has_close, is_stray}
+use Rattle.bq_seat.specs.Past.{Awaited, Past, answers, awaited_by, first_past, has_close, is_stray, no_past}
 use Rattle.bq_seat.specs.SeatMoves.{IsMove}
-use Rattle.bq_seat.specs.SeatStands.{StandsInStage, awaited, awaited_at, end_if, seen_line}
+use Rattle.bq_seat.specs.SeatStands.{awaited}
+use Rattle.bq_seat.specs.Served.{IsServed, seen_line}
 use Rattle.bq_serve.specs.ServingOne.{IsNewServing, IsServing, IsSettled, TakesStep}
 use Rattle.bq_serve.specs.Writing.{BreaksOff, with_written}
 use Rattle.bq_serve.specs.declared.run.serving.Serving.{Serving}
@@ -31,16 +31,12 @@ use Rattle.bq_seat.specs.declared.machine.Action.{Action}
 use Rattle.bq_seat.specs.declared.machine.Action.TheVariants as actions
 use Rattle.bq_seat.specs.declared.machine.Event.TheVariants as events
 use Rattle.bq_seat.specs.declared.machine.SeatMachine.{SeatMachine}
-use Rattle.bq_seat.specs.declared.machine.Stage.{Stage}
-use Rattle.bq_seat.specs.declared.machine.Stage.TheVariants as stages
-use Rattle.bq_wire.specs.declared.state.State.{State}
 use Rattle.bq_job.proofs.LawfulLemmas.{new_is_lawful}
 use Rattle.bq_job.proofs.RunLemmas.{run_none}
-use Rattle.bq_serve.proofs.ArmLemmas.{history_with, stepped, ticked}
+use Rattle.bq_serve.proofs.ArmLemmas.{history_with, stepped, ticked, turn_of_submit}
 use Rattle.bq_serve.proofs.EventLemmas.{cut_off, mailed, read_broken, read_end, read_nothing, read_some, retold, retold_bytes, retold_end, retold_fault, taken_at_fault, taken_at_mail, told_fault, writes_at_mail, writes_still, wrote}
-use Rattle.bq_serve.proofs.GoesOnLemmas.{goes_on, unbroken_at}
+use Rattle.bq_serve.proofs.GoesOnLemmas.{goes_on}
 use Rattle.bq_serve.proofs.HistoryLemmas.{served_alone, wanted_asked}
-use Rattle.bq_seat.proofs.InTurnLemmas.{few_missing, in_turn, wanted_asks, wanted_joined}
 
 -- a step in its turn finds one answer outstanding at most
 few_at_turn : (step : Step) (taken : List Step) (mail : List Answer) → IsInTurn step taken mail → wanted taken ≤ length mail + 1
@@ -52,31 +48,6 @@ few_at_turn steps.Close taken mail h = h.3
 few_at_turn steps.Drain taken mail h = absurd h
 few_at_turn steps.Tick taken mail h = absurd h
 few_at_turn steps.Gone taken mail h = absurd h
-
--- a look at the mail finds one answer outstanding at most
-few_of_asked : (asked : List Request) (more taken : List Step) (mail : List Answer) → taken ≡ (steps.Connect ∷ map steps.Ask asked) ++ more → wanted more ≡ 0 → wanted (map steps.Ask asked) ≤ length mail + 1 → wanted taken ≤ length mail + 1
-few_of_asked asked more taken mail is none few = let same = ap wanted is in let joined = wanted_joined (map steps.Ask asked) more in omega arith
-
-no_ends : (told : Bool) → wanted (end_if told) ≡ 0
-no_ends true = refl
-no_ends false = refl
-
-few_at_look : (stage : Stage) (reader : State) (kept : List ℕ) (told : Bool) (p : Past) → awaited_at stage ≡ Awaited.AMail → StandsInStage stage reader kept told p → wanted p.steps ≤ length p.mail + 1
-few_at_look stages.Between reader kept told p e h = cc
-few_at_look stages.Connecting reader kept told p e h = cc
-few_at_look stages.Reading reader kept told p e h = cc
-few_at_look (stages.Asking waits) reader kept told p e h = cc
-few_at_look (stages.Polling waits) reader kept told p e h =
-    let o = h.0 in few_of_asked o.asked (end_if told) p.steps p.mail o.steps_are (no_ends told) (let all = o.answered in omega (arith, wanted_asked o.asked o.no_quit))
-few_at_look stages.ReadingOn reader kept told p e h = cc
-few_at_look stages.TellingEnd reader kept told p e h = cc
-few_at_look stages.Writing reader kept told p e h = cc
-few_at_look stages.AskingQuit reader kept told p e h = cc
-few_at_look (stages.Closing end) reader kept told p e h = cc
-few_at_look (stages.Leaving end) reader kept told p e h =
-    let line = (h.0 []).line in
-    let few = few_missing end line.asked p.mail (h.0 []).answered in
-    few_of_asked line.asked (line.end_steps ++ steps.Close ∷ []) p.steps p.mail (line.steps_are ∙ append_assoc (steps.Connect ∷ map steps.Ask line.asked) line.end_steps (steps.Close ∷ [])) (elim line.ends [ inl none ↦ ap (λ t. wanted (t ++ steps.Close ∷ [])) none | inr one ↦ ap (λ t. wanted (t ++ steps.Close ∷ [])) one.0 ]) (omega (arith, wanted_asks line.asked))
 
 -- more answers than are wanted by one at most
 few_given : (taken : List Step) (answers : List Answer) (core : Machine) → IsClientAt taken answers core → length answers ≤ wanted taken + 1
@@ -99,16 +70,14 @@ few_mail settings core mail heard seen readings history written p s few =
 pub room_at_submit : (settings : Settings) (profile : Profile) (machine : SeatMachine) (core : Machine) (mail : List Answer) (heard : ℕ) (seen : LineSeen) (readings : List (Option ℕ)) (what : Step)
     → IsServing settings profile machine core mail heard seen readings (actions.Submit what) → length mail ≤ 2
 room_at_submit settings profile machine core mail heard seen readings what s =
-    let awaited_is : awaited machine ≡ Awaited.ASubmission = cc in
-    let turn = in_turn machine.stage machine.reader machine.kept machine.end_told s.past (steps_at 0 s.history) what awaited_is s.taken s.stands in
+    let turn = turn_of_submit s.past s.before (steps_at 0 s.history) what s.past_is s.taken s.found.0 in
     few_mail settings core mail heard seen readings s.history s.written s.past s.settled (few_at_turn what (steps_at 0 s.history) s.past.mail turn)
 
 -- and so does a tick before a look at the mail
 pub room_at_look : (settings : Settings) (profile : Profile) (machine : SeatMachine) (core : Machine) (mail : List Answer) (heard : ℕ) (seen : LineSeen) (readings : List (Option ℕ))
     → IsServing settings profile machine core mail heard seen readings actions.PollMail → length mail ≤ 2
 room_at_look settings profile machine core mail heard seen readings s =
-    let awaited_is : awaited machine ≡ Awaited.AMail = cc in
-    let few = few_at_look machine.stage machine.reader machine.kept machine.end_told s.past awaited_is s.stands in
+    let few : wanted s.past.steps ≤ length s.past.mail + 1 = subst (λ q. wanted q.steps ≤ length q.mail + 1) (sym s.past_is) s.found in
     few_mail settings core mail heard seen readings s.history s.written s.past s.settled (subst (λ t. wanted t ≤ length s.past.mail + 1) s.taken few)
 
 -- the step was submitted
@@ -117,7 +86,7 @@ pub submit_on : (settings : Settings) (profile : Profile) (old new : SeatMachine
     → IsServing settings profile old core mail heard seen readings (actions.Submit what)
     → IsServing settings profile new next later now seen (readings ++ reading ∷ []) action
 submit_on settings profile old new core next mail later heard now seen readings reading what action one t move s =
-    let after = stepped settings core next mail later heard now seen readings reading s.history s.written what s.past old s.awaits s.stands s.taken one s.settled t in
+    let after = stepped settings core next mail later heard now seen readings reading s.history s.written what s.past s.before s.past_is s.found.0 s.taken one s.settled t in
     let awaited_is : awaited old ≡ Awaited.ASubmission = cc in
     goes_on settings profile old new next later now seen (readings ++ reading ∷ []) (history_with settings core next mail later heard now seen readings reading s.history s.written what s.past) s.written events.Submitted action s.past
     move (ap (answers events.Submitted) awaited_is) s.stands s.profile_is after.0 after.1 s.writes
@@ -214,7 +183,7 @@ module _ (settings : Settings) (profile : Profile) (old new : SeatMachine) (core
   write_on_done answer told move s =
       let p = s.past in
       let awaited_is : awaited old ≡ Awaited.AWriting = cc in
-      let whole = unbroken_at old.stage old.reader old.kept old.end_told p awaited_is s.stands in
+      let whole = ap (λ q. q.fault) s.past_is ∙ s.found.1 in
       let text = s.written ++ answer_text answer in
       goes_on settings profile old new core mail heard later readings s.history text events.WriteDone action p
       move (ap (answers events.WriteDone) awaited_is) s.stands s.profile_is
@@ -227,7 +196,7 @@ module _ (settings : Settings) (profile : Profile) (old new : SeatMachine) (core
   write_on_fault answer broken move s =
       let p = s.past in
       let awaited_is : awaited old ≡ Awaited.AWriting = cc in
-      let whole = unbroken_at old.stage old.reader old.kept old.end_told p awaited_is s.stands in
+      let whole = ap (λ q. q.fault) s.past_is ∙ s.found.1 in
       let text = s.written ++ broken.cut in
       let half : (with_written broken.cut seen) ≡ seen_line text p = ap (with_written broken.cut) s.settled.seen_is in
       goes_on settings profile old new core mail heard later readings s.history text events.WriteFault action p
@@ -272,7 +241,9 @@ opened_first settings profile serving new seen action fresh move told =
       stands = opened.1;
       awaits = ap awaited_by (sym opened.0) ∙ move.awaits straight;
       profile_is = move.profile ∙ fresh.profile_is;
-      over = tt;
+      before = no_past;
+      past_is = refl;
+      found = (refl, refl);
     } in
     subst (IsServing settings profile new serving.core serving.mail serving.heard seen []) (sym opened.0) first
 
@@ -281,4 +252,4 @@ pub over_alone : (settings : Settings) (profile : Profile) (machine : SeatMachin
     → IsServing settings profile machine core mail heard seen readings (actions.LineOver end) → IsServedAlone settings profile seen end readings
 over_alone settings profile machine core mail heard seen readings end s =
     served_alone settings profile seen end s.history readings (s.past.late_mail ++ mail) core heard s.past s.written
-    s.settled.recorded s.taken s.settled.client s.settled.unclosed s.over s.settled.seen_is s.writes
+    s.settled.recorded s.taken s.settled.client s.settled.unclosed (subst (λ q. (bytes : List ℕ) → IsServed profile bytes end q) (sym s.past_is) s.found) s.settled.seen_is s.writes

@@ -16,7 +16,7 @@ use Rattle.bq_job.specs.Runs.{Entry}
 use Rattle.bq_serve.specs.LineCalls.{after_read, first_fault, is_nothing_yet, with_line_fault}
 use Rattle.bq_serve.specs.OneSeat.{IsClientAt, IsRecord, IsWrittenSo}
 use Rattle.bq_seat.specs.Past.{Past, has_close, with_fault, with_mail}
-use Rattle.bq_seat.specs.SeatStands.{seen_line}
+use Rattle.bq_seat.specs.Served.{seen_line}
 use Rattle.bq_serve.specs.ServingOne.{IsSettled}
 use Rattle.bq_serve.proofs.SeenLemmas.{same_seen}
 

@@ -10,30 +10,23 @@ use Rattle.bq_job.specs.Profile.{Profile}
 use Rattle.bq_job.specs.Runs.{Entry}
 use Rattle.bq_serve.specs.OneSeat.{IsWrittenSo}
 use Rattle.bq_seat.specs.Past.{Awaited, Past, answers, awaited_by, has_close, is_close, is_stray, past_after, with_action, with_event}
-use Rattle.bq_seat.specs.SeatMoves.{IfLineOver, IsMove}
-use Rattle.bq_seat.specs.SeatStands.{IsServed, StandsInStage, StandsFor, awaited, awaited_at, seat_profile}
+use Rattle.bq_seat.specs.Finds.{Finds}
+use Rattle.bq_seat.specs.SeatMoves.{IsMove}
+use Rattle.bq_seat.specs.SeatStands.{StandsFor, awaited, seat_profile}
 use Rattle.bq_serve.specs.ServingOne.{AreTaken, IsServing, IsSettled, IsWrittenAt}
 use Rattle.bq_seat.specs.declared.machine.Action.{Action}
 use Rattle.bq_seat.specs.declared.machine.Action.TheVariants as actions
 use Rattle.bq_seat.specs.declared.machine.Event.{Event}
 use Rattle.bq_seat.specs.declared.machine.SeatMachine.{SeatMachine}
-use Rattle.bq_seat.specs.declared.machine.Stage.{Stage}
-use Rattle.bq_seat.specs.declared.machine.Stage.TheVariants as stages
-use Rattle.bq_wire.specs.declared.state.State.{State}
 
 -- an answer is handed out for writing before any fault
-pub unbroken_at : (stage : Stage) (reader : State) (kept : List ℕ) (told : Bool) (p : Past) → awaited_at stage ≡ Awaited.AWriting → StandsInStage stage reader kept told p → p.fault ≡ None
-unbroken_at stages.Writing reader kept told p e h = h.0.fault_is
-unbroken_at stages.Between reader kept told p e h = cc
-unbroken_at stages.Connecting reader kept told p e h = cc
-unbroken_at stages.Reading reader kept told p e h = cc
-unbroken_at (stages.Asking waits) reader kept told p e h = cc
-unbroken_at (stages.Polling waits) reader kept told p e h = cc
-unbroken_at stages.ReadingOn reader kept told p e h = cc
-unbroken_at stages.TellingEnd reader kept told p e h = cc
-unbroken_at stages.AskingQuit reader kept told p e h = cc
-unbroken_at (stages.Closing end) reader kept told p e h = cc
-unbroken_at (stages.Leaving end) reader kept told p e h = cc
+pub unbroken_at : (profile : Profile) (action : Action) (p : Past) → Finds profile action p → awaited_by action ≡ Some Awaited.AWriting → p.fault ≡ None
+unbroken_at profile (actions.Write answer) p found e = found.1
+unbroken_at profile (actions.Submit step) p found e = cc
+unbroken_at profile actions.Read p found e = cc
+unbroken_at profile actions.PollMail p found e = cc
+unbroken_at profile (actions.LineOver end) p found e = cc
+unbroken_at profile actions.Stray p found e = cc
 
 closes_joined : (taken : List Step) (step : Step) → has_close (taken ++ step ∷ []) ≡ (has_close taken || is_close step)
 closes_joined [] step = or_false (is_close step)
@@ -87,25 +80,6 @@ writes_with (actions.Write answer) p written unbroken h = (p.written, refl, writ
 writes_with (actions.LineOver end) p written unbroken h = h
 writes_with actions.Stray p written unbroken h = h
 
-fault_kept : (action : Action) (p : Past) → (with_action action p).fault ≡ p.fault
-fault_kept (actions.Submit step) p = refl
-fault_kept actions.Read p = refl
-fault_kept actions.PollMail p = refl
-fault_kept (actions.Write answer) p = refl
-fault_kept (actions.LineOver end) p = refl
-fault_kept actions.Stray p = refl
-
-over_with : (action : Action) (event : Event) (old : SeatMachine) (profile : Profile) (p : Past) → seat_profile old ≡ profile → StandsFor old p → past_after event action p ≡ with_action action (with_event event p)
-    → IfLineOver action (λ end. (q : Past) → StandsFor old q → (written : List ℕ) → IsServed (seat_profile old) written end (past_after event action q))
-    → IfLineOver action (λ end. (written : List ℕ) → IsServed profile written end (with_action action (with_event event p)))
-over_with (actions.Submit step) event old profile p same stands after h = tt
-over_with actions.Read event old profile p same stands after h = tt
-over_with actions.PollMail event old profile p same stands after h = tt
-over_with (actions.Write answer) event old profile p same stands after h = tt
-over_with (actions.LineOver end) event old profile p same stands after h = λ written.
-    subst (λ q. IsServed profile written end q) after (subst (λ x. IsServed x written end (past_after event (actions.LineOver end) p)) same (h p stands written))
-over_with actions.Stray event old profile p same stands after h = tt
-
 -- The event happened, which the last action awaited; the machine goes on by this action.
 pub goes_on : (settings : Settings) (profile : Profile) (old new : SeatMachine) (core : Machine) (mail : List Answer) (heard : ℕ) (seen : LineSeen) (readings : List (Option ℕ)) (history : List Entry) (written : List ℕ) (event : Event) (action : Action) (p : Past)
     → IsMove old event action new → answers event (awaited old) ≡ true → StandsFor old p → seat_profile old ≡ profile
@@ -118,17 +92,18 @@ goes_on settings profile old new core mail heard seen readings history written e
     let after : past_after event action p ≡ with_action action q = ap (λ b. if b then p else with_action action q) straight in
     let stands_new : StandsFor new (with_action action q) = subst (StandsFor new) after (move.past p stands) in
     let awaits_new = move.awaits straight in
-    let unbroken : awaited_by action ≡ Some Awaited.AWriting → q.fault ≡ None =
-    λ e. let one : awaited new ≡ Awaited.AWriting = cc in sym (fault_kept action q) ∙ unbroken_at new.stage new.reader new.kept new.end_told (with_action action q) one stands_new in
+    let found : Finds profile action q = subst (λ x. Finds x action q) same (move.finds straight p stands) in
     record {
       past = with_action action q;
       history = history;
       written = written;
       settled = settled_with settings core mail heard seen readings history written action q settled;
       taken = taken_with action q (steps_at 0 history) taken;
-      writes = writes_with action q written unbroken writes;
+      writes = writes_with action q written (unbroken_at profile action q found) writes;
       stands = stands_new;
       awaits = awaits_new;
       profile_is = move.profile ∙ same;
-      over = over_with action event old profile p same stands after move.over;
+      before = q;
+      past_is = refl;
+      found = found;
     }

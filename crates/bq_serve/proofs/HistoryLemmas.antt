@@ -29,7 +29,8 @@ use Rattle.bq_job.proofs.RunLemmas.{run_more}
 use Rattle.bq_serve.specs.OneSeat.{IsClientAt, IsClosedClient, IsCutOff, IsFresh, IsLineOf, IsOpenClient, IsRecord, IsServedAlone, IsWrittenSo, last_heard, moment_heard}
 use Rattle.bq_seat.specs.InTurn.{wanted}
 use Rattle.bq_seat.specs.Past.{Past, has_close, is_close}
-use Rattle.bq_seat.specs.SeatStands.{IsFaultOf, IsServed, end_if, has_quit, seen_line}
+use Rattle.bq_seat.specs.SeatStands.{end_if, has_quit}
+use Rattle.bq_seat.specs.Served.{IsFaultOf, IsServed, seen_line}
 use Rattle.bq_seat.proofs.ReadingLemmas.{neither}
 
 -- a step at the only seat
@@ -373,7 +374,7 @@ done_at over asked told given mail rest last written fault given_is none client 
 -- A line that is over was served alone: whatever the machine was told of it agrees with the one history.
 pub served_alone : (settings : Settings) (profile : Profile) (seen : LineSeen) (over : LineEnd) (history : List Entry) (readings : List (Option ℕ)) (rest : List Answer) (last : Machine) (moment : ℕ) (p : Past) (written : List ℕ) → IsRecord settings history readings (p.mail ++ rest) last moment → p.steps ≡ steps_at 0 history → IsClientAt (steps_at 0 history) (p.mail ++ rest) last → has_closed p.mail ≡ false → ((bytes : List ℕ) → IsServed profile bytes over p) → seen ≡ seen_line written p → IsWrittenSo p.fault p.written written → IsServedAlone settings profile seen over readings
 served_alone settings profile seen over history readings rest last moment p written r steps_are client unclosed served told writes =
-    let s = served written in
+    let s = (served written).to_close in
     let l = s.line in
     let writes_mail : IsWrittenSo p.fault p.mail written = subst (λ (xs : List Answer). IsWrittenSo p.fault xs written) s.handed_out writes in
     let none = no_more_wanted l.end_steps (told_so (seen_line written p) l.asked l.end_steps l.ends) in

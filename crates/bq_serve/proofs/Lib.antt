@@ -1,5 +1,4 @@
 pub mod ArmLemmas
-pub mod BuiltLemmas
 pub mod CarryLemmas
 pub mod EventLemmas
 pub mod GoesOnLemmas

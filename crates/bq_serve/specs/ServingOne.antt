@@ -15,10 +15,11 @@ use Rattle.bq_job.specs.Profile.{Profile, profile}
 use Rattle.bq_job.specs.Runs.{Entry, answers_to}
 use Rattle.bq_job.specs.Steps.{IsStep, Outcome}
 use Rattle.bq_serve.specs.OneSeat.{IsClientAt, IsRecord, IsWrittenSo, moment_heard}
-use Rattle.bq_seat.specs.Past.{Awaited, Past, awaited_by, has_close}
-use Rattle.bq_seat.specs.SeatMoves.{IfLineOver}
-use Rattle.bq_seat.specs.SeatStands.{IsServed, StandsFor, awaited, seat_profile, seen_line}
-use Rattle.bq_wire.specs.WordsSoFar.{words_so_far}
+use Rattle.bq_seat.specs.Past.{Awaited, Past, awaited_by, has_close, with_action}
+use Rattle.bq_seat.specs.Finds.{Finds}
+use Rattle.bq_seat.specs.SeatStands.{StandsFor, awaited, seat_profile}
+use Rattle.bq_seat.specs.Served.{seen_line}
+use Rattle.bq_job.specs.SoFar.{words_so_far}
 use Rattle.bq_serve.specs.declared.run.serving.Serving.{Serving}
 use Rattle.bq_seat.specs.declared.machine.Action.{Action}
 use Rattle.bq_seat.specs.declared.machine.Action.TheVariants as actions
@@ -64,8 +65,10 @@ pub record IsServing (settings : Settings) (profile : Profile) (machine : SeatMa
   pub stands : StandsFor machine past
   pub awaits : awaited_by action ≡ Some (awaited machine)
   pub profile_is : seat_profile machine ≡ profile
-  -- a line that is over was served
-  pub over : IfLineOver action (λ end. (bytes : List ℕ) → IsServed profile bytes end past)
+  -- the past before the action found it
+  pub before : Past
+  pub past_is : past ≡ with_action action before
+  pub found : Finds profile action before
 
 -- What carrying an action out comes to, for what the line tells before and after, and these readings of the
 -- clock meanwhile: whatever the run was, it goes on by the next action.

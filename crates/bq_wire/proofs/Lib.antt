@@ -1,6 +1,8 @@
+pub mod CommandLemmas
 pub mod HasReadLemmas
 pub mod LineEndLemmas
 pub mod NumberLemmas
 pub mod PutBodyLemmas
 pub mod ReaderLemmas
 pub mod WordLemmas
+pub mod SoFarLemmas

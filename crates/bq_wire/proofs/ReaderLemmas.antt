@@ -18,7 +18,7 @@ use Rattle.bq_wire.specs.Asked.{put_line_of}
 use Rattle.bq_wire.specs.LineEnds.{line_end_after, last_is_cr}
 use Rattle.bq_wire.specs.PutBodies.{IsBodySoFar, TakesBytes}
 use Rattle.bq_wire.specs.Standing.{profile_of, Stands, StandsAt, IsPutBegun, EndsLineAsking, Waits, HandsRequest, FeedsText, length_beside_cr, but_last, Keeps}
-use Rattle.bq_wire.specs.WordsSoFar.{words_so_far}
+use Rattle.bq_job.specs.SoFar.{words_so_far}
 use Rattle.bq_wire.specs.declared.put_body.PutBody.{PutBody}
 use Rattle.bq_wire.specs.declared.state.Place.{Place}
 use Rattle.bq_wire.specs.declared.state.Place.TheVariants.{InLine, InLongLine, InBody, Over}

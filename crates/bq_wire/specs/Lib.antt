@@ -4,4 +4,3 @@ pub mod LineEnds
 pub mod PutBodies
 pub mod Standing
 pub mod WordsLeft
-pub mod WordsSoFar

@@ -8,7 +8,7 @@ use Rattle.bq_job.specs.declared.request.Request.{Request}
 use Rattle.bq_wire.specs.Asked.{put_line_of}
 use Rattle.bq_wire.specs.LineEnds.{last_is_cr}
 use Rattle.bq_wire.specs.PutBodies.{IsBodySoFar, HasBodyRoom}
-use Rattle.bq_wire.specs.WordsSoFar.{words_so_far}
+use Rattle.bq_job.specs.SoFar.{words_so_far}
 use Rattle.bq_wire.specs.declared.put_body.PutBody.{PutBody}
 use Rattle.bq_wire.specs.declared.state.Place.{Place}
 use Rattle.bq_wire.specs.declared.state.Place.TheVariants.{InLine, InLongLine, InBody, Over}

@@ -5,6 +5,7 @@ pub use pieces::{requests_of, what_was_read_is_a_reading};
 pub use reader::RequestReader;
 pub use texts::{HeadBuf, answer_body, answer_head, answer_tail};
 
+mod command;
 mod kept_line;
 mod line_end;
 mod line_read;

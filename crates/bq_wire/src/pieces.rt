@@ -4,7 +4,7 @@ ghost use Rattle.bq_job.specs.Profile.{profile};
 ghost use Rattle.bq_job.specs.Reading.{Reads};
 ghost use Rattle.bq_wire.specs.HasRead.{HasRead, HasReadText};
 ghost use Rattle.bq_wire.specs.Standing.{IsOver};
-ghost use Rattle.bq_wire.specs.WordsSoFar.{words_so_far};
+ghost use Rattle.bq_job.specs.SoFar.{words_so_far};
 ghost use Rattle.bq_wire.specs.declared.state.State.{State};
 
 use crate::RequestReader;

@@ -1,10 +1,10 @@
-ghost use Rattle.std.specs.Prelude.{◌≡◌, ◌≤◌, ◌<◌, ◌+◌, ℕ, List, [], length, take, nat_le};
+ghost use Rattle.std.specs.Prelude.{IsTrue, ◌≡◌, ◌≤◌, ◌<◌, ◌+◌, ℕ, List, [], length, take, nat_le};
 ghost use Rattle.std.specs.Option.{ForSome};
 ghost use Rattle.bq_job.specs.Profile.{profile};
 ghost use Rattle.bq_job.specs.Reading.{IsPutRequest};
 ghost use Rattle.bq_wire.specs.Asked.{put_line_of};
 ghost use Rattle.bq_wire.specs.PutBodies.{IsBodySoFar, HasBodyRoom, TakesBytes, Stores};
-ghost use Rattle.bq_wire.specs.WordsSoFar.{words_so_far};
+ghost use Rattle.bq_job.specs.SoFar.{is_so_far, words_so_far};
 
 use crate::line_read::PutLine;
 use bq_job::{BodyBuilder, Refusal, Request};
@@ -109,7 +109,8 @@ impl PutBody {
     /// The request of a put, all of which has come. It takes no memory.
     pub fn into_request(self, max_job_size: u32) -> Request
         requires { self.taken ≡ self.put.bytes + 2 }
-        ensures { (after : List ℕ) → IsBodySoFar self after → IsPutRequest (profile max_job_size words_so_far) (put_line_of self.put) after result }
+        ensures so_far { IsTrue (is_so_far result) }
+        ensures request { (after : List ℕ) → IsBodySoFar self after → IsPutRequest (profile max_job_size words_so_far) (put_line_of self.put) after result }
     {
         if self.put.bytes > max_job_size {
             return refused(Refusal::JobTooBig);

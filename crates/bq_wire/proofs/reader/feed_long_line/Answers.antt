@@ -1,6 +1,6 @@
 use Rattle.std.proofs.Common.{refl, sym, take, length}
 use Rattle.bq_job.specs.Profile.{profile}
-use Rattle.bq_wire.specs.WordsSoFar.{words_so_far}
+use Rattle.bq_job.specs.SoFar.{words_so_far}
 use Rattle.bq_wire.proofs.ReaderLemmas.{waits_by, long_stands, long_line_read, line_unit, hands_out}
 use Rattle.bq_wire.proofs.reader.feed_long_line.Goals as goal
 

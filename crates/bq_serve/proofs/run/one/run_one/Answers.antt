@@ -9,7 +9,7 @@ loop-init g c =
     let made = c.in_ok-serving.ensures.made in
     record {
       iterator = (tt, tt);
-      goes_on = ([], g.met.C.Clock.none_given c.args.clock, opened_first (settings_of c.args.config) (profile_so_far c.args.config) c.in_ok-serving.serving c.on-action.new.self (g.L.Line.seen c.args.line) c.on-action.result made c.on-action.ensures.moves c.requires.new);
+      goes_on = ([], g.met.C.Clock.none_given c.args.clock, opened_first (settings_of c.args.config) (profile_so_far c.args.config) c.in_ok-serving.serving c.on-action.new.self (g.L.Line.seen c.args.line) c.on-action.result made c.on-action.ensures c.requires.new);
       roomy = record { one = ap (λ m. m.settings.seats) made.core_is ∙ made.one; most = made.most };
     }
 

@@ -16,7 +16,7 @@ returns-in-Some-clause-on g c =
     let new = c.take_step.new.self in
     let taken = c.take_step.ensures.taken in
     let event = events.Mail c.in-Some.answer in
-    let move : IsMove old.machine event c.on.result c.on.new.self = subst (λ m. IsMove m event c.on.result c.on.new.self) c.take_step.ensures.machine c.on.ensures.moves in (
+    let move : IsMove old.machine event c.on.result c.on.new.self = subst (λ m. IsMove m event c.on.result c.on.new.self) c.take_step.ensures.machine c.on.ensures in (
       taken.0 ∷ [],
       taken.2,
       λ seen settings profile readings s.
@@ -28,7 +28,7 @@ returns-in-None-clause-on g c =
     let old = c.args.self.now in
     let new = c.take_step.new.self in
     let taken = c.take_step.ensures.taken in
-    let move : IsMove old.machine events.NothingYet c.on-in-None.result c.on-in-None.new.self = subst (λ m. IsMove m events.NothingYet c.on-in-None.result c.on-in-None.new.self) c.take_step.ensures.machine c.on-in-None.ensures.moves in (
+    let move : IsMove old.machine events.NothingYet c.on-in-None.result c.on-in-None.new.self = subst (λ m. IsMove m events.NothingYet c.on-in-None.result c.on-in-None.new.self) c.take_step.ensures.machine c.on-in-None.ensures in (
       taken.0 ∷ [],
       taken.2,
       λ seen settings profile readings s.

@@ -1,19 +1,11 @@
-use Rattle.std.proofs.Common.{◌≡◌, ◌∷◌, [], ◌∙◌, ap, subst}
-use Rattle.bq_seat.specs.Past.{Awaited}
+use Rattle.std.proofs.Common.{◌∷◌, [], subst}
 use Rattle.bq_seat.specs.SeatMoves.{IsMove}
-use Rattle.bq_seat.specs.SeatStands.{awaited}
 use Rattle.bq_seat.specs.declared.machine.Event.TheVariants as events
-use Rattle.bq_serve.proofs.BuiltLemmas.{built}
 use Rattle.bq_serve.proofs.CarryLemmas.{room_at_submit, submit_on}
 use Rattle.bq_serve.proofs.run.serving.Serving.submit.Goals as goal
 
 pub take_step-requires-clause-built : goal.take_step-requires-clause-built
-take_step-requires-clause-built g c =
-    let u = c.requires.under_way in
-    let s = u.serves in
-    let machine = c.args.self.now.machine in
-    let awaited_is : awaited machine ≡ Awaited.ASubmission = cc in
-    built machine.stage machine.reader machine.kept machine.end_told s.past _ c.args.what (ap (λ p. p.known) s.profile_is ∙ u.known) awaited_is s.taken s.stands
+take_step-requires-clause-built g c = c.requires.under_way.serves.found.1
 
 pub take_step-requires-clause-room : goal.take_step-requires-clause-room
 take_step-requires-clause-room g c =
@@ -26,7 +18,7 @@ returns-clause-on g c =
     let old = c.args.self.now in
     let new = c.take_step.new.self in
     let taken = c.take_step.ensures.taken in
-    let move : IsMove old.machine events.Submitted c.on.result c.on.new.self = subst (λ m. IsMove m events.Submitted c.on.result c.on.new.self) c.take_step.ensures.machine c.on.ensures.moves in (
+    let move : IsMove old.machine events.Submitted c.on.result c.on.new.self = subst (λ m. IsMove m events.Submitted c.on.result c.on.new.self) c.take_step.ensures.machine c.on.ensures in (
       taken.0 ∷ [],
       taken.2,
       λ seen settings profile readings s.

@@ -1,0 +1,183 @@
+-- A move by the machine's fields is a move: what the pasts that it stands for find.
+use Rattle.std.proofs.Common.{◌≡◌, ◌≤◌, ◌+◌, Bool, true, false, ◌||◌, List, [], ◌∷◌, ◌++◌, Some, None, is_some, map, length, inl, inr, refl, sym, ap, ◌∙◌, arith, subst, append_assoc, ℕ, if◌then◌else◌}
+use Rattle.bq_job.specs.declared.answer.Answer.{Answer}
+use Rattle.bq_job.specs.declared.line_end.LineFault.{LineFault}
+use Rattle.bq_job.specs.declared.step.Step.{Step}
+use Rattle.bq_job.specs.declared.step.Step.TheVariants as steps
+use Rattle.bq_job.specs.Profile.{Profile}
+use Rattle.bq_seat.specs.Finds.{Finds}
+use Rattle.bq_seat.specs.InTurn.{wanted}
+use Rattle.bq_seat.specs.Past.{Awaited, IsOrderly, Past, awaited_by, has_close, is_close, is_stray, past_after, with_action, with_event, with_fault, with_mail}
+use Rattle.bq_seat.specs.SeatMoves.{IsMove, OpensPast}
+use Rattle.bq_seat.specs.SeatParts.{IfLineOver, IsSoFar, IsStagedMove, OpensLine}
+use Rattle.bq_seat.specs.SeatStands.{AgreesWith, StandsInStage, StandsFor, awaited, awaited_at, seat_profile}
+use Rattle.bq_seat.specs.Served.{IsServed}
+use Rattle.bq_wire.specs.declared.state.State.{State}
+use Rattle.bq_seat.specs.declared.machine.Action.{Action}
+use Rattle.bq_seat.specs.declared.machine.Action.TheVariants as actions
+use Rattle.bq_seat.specs.declared.machine.Event.{Event}
+use Rattle.bq_seat.specs.declared.machine.Event.TheVariants as events
+use Rattle.bq_seat.specs.declared.machine.SeatMachine.{SeatMachine}
+use Rattle.bq_seat.specs.declared.machine.Stage.{Stage}
+use Rattle.bq_seat.specs.declared.machine.Stage.TheVariants as stages
+use Rattle.bq_seat.proofs.InTurnLemmas.{few_missing, in_turn, wanted_asks, wanted_joined}
+use Rattle.bq_seat.proofs.LooksLemmas.{wanted_open}
+
+-- a look at the mail finds one answer outstanding at most
+few_at_look : (stage : Stage) (reader : State) (kept : List ℕ) (told : Bool) (p : Past) → awaited_at stage ≡ Awaited.AMail → StandsInStage stage reader kept told p → wanted p.steps ≤ length p.mail + 1
+few_at_look (stages.Polling waits) reader kept told p e h = let w = wanted_open reader kept told 1 p h.0 in omega arith
+few_at_look (stages.Leaving end) reader kept told p e h =
+    let served = h.served [] in
+    let line = served.line in
+    let few = few_missing end line.asked p.mail served.answered in
+    let more : List Step = line.end_steps ++ steps.Close ∷ [] in
+    let none : wanted more ≡ 0 = elim line.ends [ inl none ↦ ap (λ t. wanted (t ++ steps.Close ∷ [])) none | inr one ↦ ap (λ t. wanted (t ++ steps.Close ∷ [])) one.0 ] in
+    let same = ap wanted (line.steps_are ∙ append_assoc (steps.Connect ∷ map steps.Ask line.asked) line.end_steps (steps.Close ∷ [])) in
+    let joined = wanted_joined (map steps.Ask line.asked) more in
+    omega (arith, wanted_asks line.asked)
+few_at_look stages.Between reader kept told p e h = cc
+few_at_look stages.Connecting reader kept told p e h = cc
+few_at_look stages.Reading reader kept told p e h = cc
+few_at_look (stages.Asking waits) reader kept told p e h = cc
+few_at_look stages.ReadingOn reader kept told p e h = cc
+few_at_look stages.TellingEnd reader kept told p e h = cc
+few_at_look stages.Writing reader kept told p e h = cc
+few_at_look stages.AskingQuit reader kept told p e h = cc
+few_at_look (stages.Closing end) reader kept told p e h = cc
+
+-- a read finds a line that goes on
+goes_on_at_read : (stage : Stage) (reader : State) (kept : List ℕ) (told : Bool) (p : Past) → awaited_at stage ≡ Awaited.AReading → StandsInStage stage reader kept told p → (p.closing ≡ false) × (p.ended ≡ false) × (p.fault ≡ None)
+goes_on_at_read stages.Reading reader kept told p e h = (h.0.stepped.closing_is, h.0.stepped.ended_is ∙ h.2, h.0.handed.fault_is)
+goes_on_at_read stages.ReadingOn reader kept told p e h = (h.0.0.stepped.closing_is, h.0.0.stepped.ended_is ∙ h.2, h.0.0.handed.fault_is)
+goes_on_at_read stages.Between reader kept told p e h = cc
+goes_on_at_read stages.Connecting reader kept told p e h = cc
+goes_on_at_read (stages.Asking waits) reader kept told p e h = cc
+goes_on_at_read (stages.Polling waits) reader kept told p e h = cc
+goes_on_at_read stages.TellingEnd reader kept told p e h = cc
+goes_on_at_read stages.Writing reader kept told p e h = cc
+goes_on_at_read stages.AskingQuit reader kept told p e h = cc
+goes_on_at_read (stages.Closing end) reader kept told p e h = cc
+goes_on_at_read (stages.Leaving end) reader kept told p e h = cc
+
+-- a write finds no fault
+unbroken_at : (stage : Stage) (reader : State) (kept : List ℕ) (told : Bool) (p : Past) → awaited_at stage ≡ Awaited.AWriting → StandsInStage stage reader kept told p → (p.closing ≡ false) × (p.fault ≡ None)
+unbroken_at stages.Writing reader kept told p e h = (h.0.stepped.closing_is, h.0.handed.fault_is)
+unbroken_at stages.Between reader kept told p e h = cc
+unbroken_at stages.Connecting reader kept told p e h = cc
+unbroken_at stages.Reading reader kept told p e h = cc
+unbroken_at (stages.Asking waits) reader kept told p e h = cc
+unbroken_at (stages.Polling waits) reader kept told p e h = cc
+unbroken_at stages.ReadingOn reader kept told p e h = cc
+unbroken_at stages.TellingEnd reader kept told p e h = cc
+unbroken_at stages.AskingQuit reader kept told p e h = cc
+unbroken_at (stages.Closing end) reader kept told p e h = cc
+unbroken_at (stages.Leaving end) reader kept told p e h = cc
+
+-- the past with the event finds the action
+found : (profile : Profile) (action : Action) (new : SeatMachine) (q : Past) → awaited_by action ≡ Some (awaited new) → AgreesWith new (with_action action q)
+    → IfLineOver action (λ end. (written : List ℕ) → IsServed profile written end q) → IsSoFar action → Finds profile action q
+found profile (actions.Submit step) new q awaits stands over known =
+    let one : awaited new ≡ Awaited.ASubmission = cc in (in_turn new.stage new.reader new.kept new.end_told (with_action (actions.Submit step) q) q.steps step one refl stands, known)
+found profile actions.Read new q awaits stands over known = let one : awaited new ≡ Awaited.AReading = cc in goes_on_at_read new.stage new.reader new.kept new.end_told q one stands
+found profile actions.PollMail new q awaits stands over known = let one : awaited new ≡ Awaited.AMail = cc in few_at_look new.stage new.reader new.kept new.end_told q one stands
+found profile (actions.Write answer) new q awaits stands over known =
+    let one : awaited new ≡ Awaited.AWriting = cc in unbroken_at new.stage new.reader new.kept new.end_told (with_action (actions.Write answer) q) one stands
+found profile (actions.LineOver end) new q awaits stands over known = over
+found profile actions.Stray new q awaits stands over known = tt
+
+-- pasts stay orderly
+
+none_of_both : (a b : Bool) → (a || b) ≡ false → a ≡ false
+none_of_both true b e = cc
+none_of_both false b e = refl
+
+closes_joined : (taken : List Step) (step : Step) → has_close (taken ++ step ∷ []) ≡ (has_close taken || is_close step)
+closes_joined [] step = or_false (is_close step)
+  where
+    or_false : (b : Bool) → (b || false) ≡ b
+    or_false true = refl
+    or_false false = refl
+closes_joined (s ∷ taken) step = ap (λ b. is_close s || b) (closes_joined taken step) ∙ or_assoc (is_close s) (has_close taken) (is_close step)
+  where
+    or_assoc : (a b c : Bool) → (a || (b || c)) ≡ ((a || b) || c)
+    or_assoc true b c = refl
+    or_assoc false b c = refl
+
+orderly_with_mail : (answer : Answer) (p : Past) → IsOrderly p → IsOrderly (with_mail answer p)
+orderly_with_mail answer p o = go p.closing refl
+  where
+    go : (b : Bool) → p.closing ≡ b → IsOrderly (if b then record p { late_mail = p.late_mail ++ answer ∷ [] } else record p { mail = p.mail ++ answer ∷ [] })
+    go true e = record { closing = o.closing; late = λ f. absurd (let g : true ≡ false = sym e ∙ f in cc) }
+    go false e = record { closing = o.closing; late = o.late }
+
+orderly_with_fault : (fault : LineFault) (p : Past) → IsOrderly p → IsOrderly (with_fault fault p)
+orderly_with_fault fault p o = go (is_some p.fault)
+  where
+    go : (b : Bool) → IsOrderly (if b then p else record p { fault = Some fault; written_at_fault = length p.written })
+    go true = o
+    go false = record { closing = o.closing; late = o.late }
+
+orderly_with_event : (event : Event) (p : Past) → IsOrderly p → IsOrderly (with_event event p)
+orderly_with_event events.Opened p o = record { closing = refl; late = λ e. refl }
+orderly_with_event events.Submitted p o = o
+orderly_with_event (events.Bytes bytes) p o = record { closing = o.closing; late = o.late }
+orderly_with_event events.NothingYet p o = o
+orderly_with_event events.EndOfInput p o = record { closing = o.closing; late = o.late }
+orderly_with_event events.ReadFault p o = orderly_with_fault _ p o
+orderly_with_event (events.Mail answer) p o = orderly_with_mail answer p o
+orderly_with_event events.WriteDone p o = o
+orderly_with_event events.WriteFault p o = orderly_with_fault _ p o
+
+orderly_with_action : (action : Action) (p : Past) → IsOrderly p → IsOrderly (with_action action p)
+orderly_with_action (actions.Submit step) p o = record {
+  closing = ap (λ b. b || is_close step) o.closing ∙ sym (closes_joined p.steps step);
+  late = λ e. o.late (none_of_both p.closing (is_close step) e);
+}
+orderly_with_action actions.Read p o = o
+orderly_with_action actions.PollMail p o = o
+orderly_with_action (actions.Write answer) p o = record { closing = o.closing; late = o.late }
+orderly_with_action (actions.LineOver end) p o = o
+orderly_with_action actions.Stray p o = o
+
+orderly_after : (event : Event) (action : Action) (p : Past) → IsOrderly p → IsOrderly (past_after event action p)
+orderly_after event action p o = go (is_stray action)
+  where
+    go : (b : Bool) → IsOrderly (if b then p else with_action action (with_event event p))
+    go true = o
+    go false = orderly_with_action action (with_event event p) (orderly_with_event event p o)
+
+opens : (event : Event) (action : Action) (new : SeatMachine) → OpensLine event action new → OpensPast event action new
+unfolding StandsFor
+opens events.Opened action new h = λ e. ((h e).0, ((h e).1, record { closing = refl; late = λ f. refl }))
+opens events.Submitted action new h = tt
+opens (events.Bytes bytes) action new h = tt
+opens events.NothingYet action new h = tt
+opens events.EndOfInput action new h = tt
+opens events.ReadFault action new h = tt
+opens (events.Mail answer) action new h = tt
+opens events.WriteDone action new h = tt
+opens events.WriteFault action new h = tt
+
+over_at : (old : SeatMachine) (event : Event) (action : Action) (p : Past) → AgreesWith old p
+    → IfLineOver action (λ end. (q : Past) → AgreesWith old q → (written : List ℕ) → IsServed (seat_profile old) written end (past_after event action q))
+    → IfLineOver action (λ end. (written : List ℕ) → IsServed (seat_profile old) written end (with_event event p))
+over_at old event (actions.Submit step) p h over = tt
+over_at old event actions.Read p h over = tt
+over_at old event actions.PollMail p h over = tt
+over_at old event (actions.Write answer) p h over = tt
+over_at old event (actions.LineOver end) p h over = over p h
+over_at old event actions.Stray p h over = tt
+
+pub is_move : (old : SeatMachine) (event : Event) (action : Action) (new : SeatMachine) → IsStagedMove old event action new → IsMove old event action new
+unfolding StandsFor
+is_move old event action new m = record {
+  stray = m.stray;
+  unchanged = m.unchanged;
+  awaits = m.awaits;
+  profile = m.profile;
+  opened = opens event action new m.opened;
+  past = λ p h. (m.past p h.0, orderly_after event action p h.1);
+  finds = λ e p h. found (seat_profile old) action new (with_event event p) (m.awaits e)
+      (subst (λ b. AgreesWith new (if b then p else with_action action (with_event event p))) e (m.past p h.0)) (over_at old event action p h.0 m.over) m.so_far;
+  looks = λ e p h. m.looks e p h.0;
+}

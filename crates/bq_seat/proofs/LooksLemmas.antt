@@ -1,0 +1,132 @@
+-- What the steps and the mail of a line say of the machine's next look.
+use Rattle.std.proofs.Common.{◌≡◌, ℕ, suc, ◌+◌, ◌<◌, Bool, true, false, ◌&&◌, ◌==◌, not, List, [], ◌∷◌, ◌++◌, Some, map, length, refl, sym, ap, ◌∙◌, arith, subst, append-nil}
+use Rattle.std.proofs.lemmas.Bool.Decides.{nat_tests}
+use Rattle.bq_job.specs.declared.request.Request.{Request}
+use Rattle.bq_job.specs.declared.request.Request.TheVariants as requests
+use Rattle.bq_job.specs.declared.step.Step.{Step}
+use Rattle.bq_job.specs.declared.step.Step.TheVariants as steps
+use Rattle.bq_job.specs.Reading.{is_quit}
+use Rattle.bq_job.specs.LineSteps.{ends_by_wait}
+use Rattle.bq_job.specs.declared.line_end.LineEnd.{LineEnd}
+use Rattle.bq_job.specs.Profile.{Profile}
+use Rattle.bq_wire.specs.declared.state.State.{State}
+use Rattle.bq_seat.specs.InTurn.{wanted}
+use Rattle.bq_seat.specs.Looks.{GoesFurther, LooksBehindStep, asked_in, is_read_on, is_unanswered, last_step}
+use Rattle.bq_seat.specs.Past.{Past}
+use Rattle.bq_seat.specs.SeatStands.{HasAskedQuit, IsClosing, IsOpen, IsWaiting, end_if, has_quit}
+use Rattle.bq_seat.specs.declared.machine.Action.{Action}
+use Rattle.bq_seat.specs.declared.machine.Action.TheVariants as actions
+use Rattle.bq_seat.proofs.InTurnLemmas.{asks_last, ends_by, wanted_asks, wanted_joined}
+use Rattle.bq_seat.proofs.ReadingLemmas.{neither}
+use Rattle.bq_seat.proofs.StepLemmas.{answered_count-asked}
+
+last_step-append : (taken : List Step) (step : Step) → last_step (taken ++ step ∷ []) ≡ Some step
+last_step-append [] step = refl
+last_step-append (a ∷ []) step = refl
+last_step-append (a ∷ b ∷ taken) step = last_step-append (b ∷ taken) step
+
+-- behind the connect
+pub behind_connect : (p : Past) (action : Action) → p.steps ≡ steps.Connect ∷ [] → GoesFurther action → LooksBehindStep (last_step p.steps) action
+behind_connect p action is g = rw is g
+
+-- behind a quit
+pub behind_quit : (p : Past) → HasAskedQuit p → LooksBehindStep (last_step p.steps) (actions.Submit steps.Close)
+behind_quit p q =
+    let is = ap last_step q.steps_are ∙ last_step-append (steps.Connect ∷ map steps.Ask q.asked) (steps.Ask requests.Quit) in
+    rw is refl
+
+no_quit_behind : (last : Request) → is_quit last ≡ false → LooksBehindStep (Some (steps.Ask last)) actions.PollMail
+no_quit_behind requests.Quit e = cc
+no_quit_behind _ e = refl
+
+last_no_quit : (before : List Request) (last : Request) → has_quit (before ++ last ∷ []) ≡ false → is_quit last ≡ false
+last_no_quit [] last e = (neither (is_quit last) false e).0
+last_no_quit (r ∷ before) last e = last_no_quit before last (neither (is_quit r) (has_quit (before ++ last ∷ [])) e).1
+
+behind_asked : (asked : List Request) (taken : List Step) → taken ≡ steps.Connect ∷ map steps.Ask asked → 0 < length asked → has_quit asked ≡ false → LooksBehindStep (last_step taken) actions.PollMail
+behind_asked [] taken is some none = absurd (omega arith)
+behind_asked (r ∷ asked) taken is some none =
+    let ends = ends_by r asked in
+    let whole : taken ≡ (steps.Connect ∷ map steps.Ask ends.before) ++ steps.Ask ends.last ∷ [] =
+    is ∙ ap (λ rs. steps.Connect ∷ map steps.Ask rs) ends.is ∙ ap (λ xs. steps.Connect ∷ xs) (asks_last ends.before ends.last) in
+    let last = ap last_step whole ∙ last_step-append (steps.Connect ∷ map steps.Ask ends.before) (steps.Ask ends.last) in
+    subst (λ s. LooksBehindStep s actions.PollMail) (sym last) (no_quit_behind ends.last (last_no_quit ends.before ends.last (ap has_quit (sym ends.is) ∙ none)))
+
+-- behind a request that is answered
+pub behind_request : (r : State) (kept : List ℕ) (told : Bool) (p : Past) → IsOpen r kept told 1 p → told ≡ false → LooksBehindStep (last_step p.steps) actions.PollMail
+behind_request r kept told p o untold =
+    behind_asked o.asked p.steps (o.stepped.steps_are ∙ ap (λ t. (steps.Connect ∷ map steps.Ask o.asked) ++ end_if t) untold ∙ append-nil (steps.Connect ∷ map steps.Ask o.asked))
+    (let all = o.handed.answered in omega arith) o.stepped.no_quit
+
+-- behind the end that was told
+pub behind_end : (r : State) (kept : List ℕ) (told : Bool) (p : Past) → IsOpen r kept told 1 p → told ≡ true → LooksBehindStep (last_step p.steps) actions.PollMail
+behind_end r kept told p o was_told =
+    let is = ap last_step (o.stepped.steps_are ∙ ap (λ t. (steps.Connect ∷ map steps.Ask o.asked) ++ end_if t) was_told) ∙ last_step-append (steps.Connect ∷ map steps.Ask o.asked) steps.End in
+    subst (λ s. LooksBehindStep s actions.PollMail) (sym is) refl
+
+-- behind the close
+pub behind_close : (profile : Profile) (end : LineEnd) (p : Past) → IsClosing profile end p → LooksBehindStep (last_step p.steps) actions.PollMail
+behind_close profile end p c =
+    let line = (c.served []).line in
+    let is = ap last_step line.steps_are ∙ last_step-append ((steps.Connect ∷ map steps.Ask line.asked) ++ line.end_steps) steps.Close in
+    subst (λ s. LooksBehindStep s actions.PollMail) (sym is) refl
+
+no_ends : (told : Bool) → wanted (end_if told) ≡ 0
+no_ends true = refl
+no_ends false = refl
+
+pub wanted_open : (r : State) (kept : List ℕ) (told : Bool) (out : ℕ) (p : Past) → IsOpen r kept told out p → wanted p.steps ≡ length p.mail + out
+wanted_open r kept told out p o =
+    let same = ap wanted o.stepped.steps_are in
+    let joined = wanted_joined (map steps.Ask o.asked) (end_if told) in
+    let asks = wanted_asks o.asked in
+    let all = answered_count-asked o.asked o.stepped.no_quit in
+    let out_is = o.handed.answered in
+    omega (arith, no_ends told)
+
+-- nothing is outstanding
+pub answered_all : (r : State) (kept : List ℕ) (told : Bool) (p : Past) → IsOpen r kept told 0 p → is_unanswered p ≡ false
+answered_all r kept told p o = let w = wanted_open r kept told 0 p o in at (is_unanswered p) refl w
+  where
+    at : (b : Bool) → is_unanswered p ≡ b → wanted p.steps ≡ length p.mail + 0 → b ≡ false
+    at false e w = refl
+    at true e w = absurd (grind (arith, nat_tests))
+
+-- an answer is outstanding
+pub one_unanswered : (r : State) (kept : List ℕ) (told : Bool) (p : Past) → IsOpen r kept told 1 p → is_unanswered p ≡ true
+one_unanswered r kept told p o = let w = wanted_open r kept told 1 p o in at (is_unanswered p) refl w
+  where
+    at : (b : Bool) → is_unanswered p ≡ b → wanted p.steps ≡ length p.mail + 1 → b ≡ true
+    at true e w = refl
+    at false e w = absurd (grind (arith, nat_tests))
+
+asked_in-ends : (asked : List Request) (told : Bool) → asked_in (map steps.Ask asked ++ end_if told) ≡ asked
+asked_in-ends [] true = refl
+asked_in-ends [] false = refl
+asked_in-ends (r ∷ asked) told = ap (λ rs. r ∷ rs) (asked_in-ends asked told)
+
+-- whether the line is read on, while an answer is outstanding
+pub read_on_is : (r : State) (kept : List ℕ) (told waits : Bool) (p : Past) → IsWaiting r kept told waits p → is_read_on kept p ≡ (waits && not told && (length kept == 0))
+read_on_is r [] told waits p w =
+    let o = w.0 in
+    let may_wait = ap (λ s. ends_by_wait (asked_in s)) o.stepped.steps_are ∙ ap ends_by_wait (asked_in-ends o.asked told) ∙ w.1 in
+    let t = o.stepped.ended_is in
+    rw may_wait (rw t (last waits told))
+  where
+    last : (a b : Bool) → (a && not b) ≡ (a && not b && true)
+    last true true = refl
+    last true false = refl
+    last false b = refl
+read_on_is r (b ∷ kept) told waits p w = none waits told
+  where
+    some : (n : ℕ) → (suc n == 0) ≡ false
+    some n = at (suc n == 0) refl
+      where
+        at : (t : Bool) → (suc n == 0) ≡ t → t ≡ false
+        at false e = refl
+        at true e = absurd (grind (arith, nat_tests))
+
+    none : (x y : Bool) → false ≡ (x && not y && (length (b ∷ kept) == 0))
+    none true true = refl
+    none true false = sym (some (length kept))
+    none false y = refl

@@ -1,0 +1,72 @@
+-- What a seat machine does next, by what happened and by the line's past alone.
+use Rattle.std.specs.Prelude.{ℕ, ◌≡◌, Bool, false, not, ◌&&◌, MatchBool, nat_lt, if◌then◌else◌, List, [], ◌∷◌, length, Option, Some, None}
+use Rattle.bq_job.specs.declared.request.Request.{Request}
+use Rattle.bq_job.specs.declared.request.Request.TheVariants as requests
+use Rattle.bq_job.specs.declared.step.Step.{Step}
+use Rattle.bq_job.specs.declared.step.Step.TheVariants as steps
+use Rattle.bq_job.specs.LineSteps.{ends_by_wait}
+use Rattle.bq_job.specs.OneClient.{is_closed_answer}
+use Rattle.bq_seat.specs.InTurn.{wanted}
+use Rattle.bq_seat.specs.Past.{Awaited, Past}
+use Rattle.bq_seat.specs.declared.machine.Action.{Action}
+use Rattle.bq_seat.specs.declared.machine.Action.TheVariants as actions
+use Rattle.bq_seat.specs.declared.machine.Event.{Event}
+use Rattle.bq_seat.specs.declared.machine.Event.TheVariants as events
+
+-- the requests that were asked
+abbrev pub asked_in : List Step → List Request
+asked_in [] = []
+asked_in (steps.Ask request ∷ taken) = request ∷ asked_in taken
+asked_in (_ ∷ taken) = asked_in taken
+
+abbrev pub last_step : List Step → Option Step
+last_step [] = None
+last_step (step ∷ []) = Some step
+last_step (step ∷ next ∷ taken) = last_step (next ∷ taken)
+
+-- an answer is outstanding
+abbrev pub is_unanswered : Past → Bool
+is_unanswered p = nat_lt (length p.mail) (wanted p.steps)
+
+-- The answer to a request that may wait is outstanding, the input goes on, and no bytes are kept.
+abbrev pub is_read_on : List ℕ → Past → Bool
+is_read_on [] p = ends_by_wait (asked_in p.steps) && not p.ended
+is_read_on (_ ∷ _) p = false
+
+-- Nothing is outstanding: a further request is asked, or the line is read, or it is closed.
+abbrev pub GoesFurther : Action → Type 0
+GoesFurther (actions.Submit (steps.Ask request)) = Unit {0}
+GoesFurther (actions.Submit steps.Close) = Unit {0}
+GoesFurther actions.Read = Unit {0}
+GoesFurther _ = ⊥
+
+abbrev pub IsLineOver : Action → Type 0
+IsLineOver (actions.LineOver end) = Unit {0}
+IsLineOver _ = ⊥
+
+-- Behind a quit the line is closed. Behind any other step but the connect its answer is looked for.
+abbrev pub LooksBehindStep : Option Step → Action → Type 0
+LooksBehindStep (Some steps.Connect) action = GoesFurther action
+LooksBehindStep (Some (steps.Ask requests.Quit)) action = action ≡ actions.Submit steps.Close
+LooksBehindStep _ action = action ≡ actions.PollMail
+
+-- There was nothing to read: the mail is looked at where an answer is outstanding. There was no mail: it is
+-- looked at again, but the line is read first while a reserve waits.
+abbrev pub LooksForMore : Awaited → List ℕ → Past → Action → Type 0
+LooksForMore Awaited.AReading kept p action = action ≡ (if is_unanswered p then actions.PollMail else actions.Read)
+LooksForMore Awaited.AMail kept p action = action ≡ (if not p.closing && is_read_on kept p then actions.Read else actions.PollMail)
+LooksForMore _ kept p action = ⊥
+
+-- The event, which was awaited, happened to a line of this past, while these bytes were kept. After the
+-- close the mail is looked at until the close's own answer ends the line; other mail is thrown away.
+abbrev pub LooksOn : Awaited → List ℕ → Event → Past → Action → Type 0
+LooksOn what kept events.Opened p action = action ≡ actions.Submit steps.Connect
+LooksOn what kept events.Submitted p action = LooksBehindStep (last_step p.steps) action
+LooksOn what kept (events.Bytes bytes) p action = MatchBool (is_unanswered p) (action ≡ actions.PollMail) (GoesFurther action)
+LooksOn what kept events.NothingYet p action = LooksForMore what kept p action
+LooksOn what kept events.EndOfInput p action = action ≡ actions.Submit (if is_unanswered p then steps.End else steps.Close)
+LooksOn what kept events.ReadFault p action = action ≡ actions.Submit steps.Close
+LooksOn what kept (events.Mail answer) p action =
+    MatchBool p.closing (MatchBool (is_closed_answer answer) (IsLineOver action) (action ≡ actions.PollMail)) (action ≡ actions.Write answer)
+LooksOn what kept events.WriteDone p action = GoesFurther action
+LooksOn what kept events.WriteFault p action = action ≡ actions.Submit steps.Close

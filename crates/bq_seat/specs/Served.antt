@@ -1,0 +1,49 @@
+-- A line that was served.
+use Rattle.std.specs.Prelude.{ℕ, ◌≡◌, false, List, [], ◌∷◌, ◌++◌, length, Option, Some, None}
+use Rattle.bq_job.specs.declared.answer.Answer.{Answer}
+use Rattle.bq_job.specs.declared.answer.Answer.TheVariants.{Closed}
+use Rattle.bq_job.specs.declared.line_end.LineEnd.{LineEnd}
+use Rattle.bq_job.specs.declared.line_end.LineEnd.TheVariants as ends
+use Rattle.bq_job.specs.declared.line_end.LineFault.{LineFault}
+use Rattle.bq_job.specs.declared.line_end.LineFault.TheVariants as faults
+use Rattle.bq_job.specs.LineSteps.{LineSeen, IsStepsOfLine, AreAllAnswered}
+use Rattle.bq_job.specs.OneClient.{has_closed}
+use Rattle.bq_job.specs.Profile.{Profile}
+use Rattle.bq_seat.specs.Past.{Past}
+
+-- the line, as far as the machine has seen it, if these bytes were written to it
+abbrev pub seen_line : List ℕ → Past → LineSeen
+seen_line bytes p = record { read = p.bytes; written = bytes; ended = p.ended; fault = p.fault }
+
+-- A write fault came on the last answer that was handed out.
+abbrev pub IsLastBroken : LineEnd → Past → Type 0
+IsLastBroken ends.WriteFault p = p.written_at_fault ≡ length p.written
+IsLastBroken _ p = Unit {0}
+
+-- the fault that a line has that is over so
+abbrev pub IsFaultOf : LineEnd → Option LineFault → Type 0
+IsFaultOf ends.Quit fault = fault ≡ None
+IsFaultOf ends.EndOfInput fault = fault ≡ None
+IsFaultOf ends.ReadFault fault = fault ≡ Some faults.Read
+IsFaultOf ends.WriteFault fault = fault ≡ Some faults.Write
+
+-- A line was served from its opening to its close, which was submitted: its steps are those of the line.
+-- The answers that were handed out for writing are those that came before the close, in their order: one
+-- for each request but quit, of which after a read fault that to a last request that may wait can be missing.
+pub record IsServedToClose (profile : Profile) (written : List ℕ) (end : LineEnd) (p : Past) : Type 0 where
+  pub line : IsStepsOfLine profile (seen_line written p) end p.steps
+  pub handed_out : p.written ≡ p.mail
+  pub answered : AreAllAnswered end line.asked p.mail
+  pub broken : IsLastBroken end p
+  pub fault : IsFaultOf end p.fault
+
+-- What came behind the close ends by the close's own answer, the first of its kind.
+pub record EndsByClosed (late : List Answer) : Type 0 where
+  pub others : List Answer
+  pub late_is : late ≡ others ++ Closed ∷ []
+  pub none_closed : has_closed others ≡ false
+
+-- A line that is over was served to its close, and the close was answered.
+pub record IsServed (profile : Profile) (written : List ℕ) (end : LineEnd) (p : Past) : Type 0 where
+  pub to_close : IsServedToClose profile written end p
+  pub late : EndsByClosed p.late_mail
