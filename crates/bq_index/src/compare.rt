@@ -1,15 +1,16 @@
 // The comparisons of keys, and their count.
-ghost use Rattle.std.specs.Prelude.{◌≡◌, IsSome};
+ghost use Rattle.std.specs.Prelude.{◌≡◌, ◌+◌, ◌-◌, ◌^◌, min, IsSome};
 ghost use Rattle.bq_index.specs.Tree.{RaisedByAtMost, Comparison, ComparisonOfEntries};
 
 use super::tree::Node;
 use std::cmp::Ordering;
 
-// One comparison of keys, and the only place where two keys meet. The count stops at 2^64 - 1. That it is
-// raised by no more than one follows from the clause; that it is raised at all does not, since a body that
-// counted nothing would stay within every bound. So who adds a comparison makes it here.
+// One comparison of keys, and the only place where two keys meet: it raises the count by one, which stops
+// at 2^64 - 1. No clause above tells that every comparison is made here. A call that compared keys without
+// this function would stay within all bounds, so who needs a comparison makes it by this function.
 pub(crate) fn compare<K: Ord>(key: &K, other: &K, count: &mut u64) -> Ordering
     ensures answer { result ≡ K.cmp key.now other.now }
+    ensures counts_one { count.new ≡ min (count.old + 1) (2 ^ 64 - 1) }
     ensures counted { RaisedByAtMost 1 count.old count.new }
 {
     *count = count.saturating_add(1);
