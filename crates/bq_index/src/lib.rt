@@ -1,9 +1,9 @@
 //! An ordered map whose insertions cannot fail.
 //!
-//! A [`Shelf`] keeps its entries in the order of their keys, each in a box of a balanced search tree,
-//! and beside them the spare boxes of entries to come. Memory is taken by [`Shelf::reserve`] alone, so that who has
-//! reserved first can insert, remove and move entries with no refusal in between. Each call makes few
-//! comparisons of keys, by a bound that its contract states over the counter [`Shelf::comparisons`].
+//! A [`Shelf`] keeps its entries in the order of their keys, each in a box of a balanced search tree, and
+//! beside them the spare boxes of entries to come. Memory is asked for by [`Shelf::reserve`] alone, so
+//! that who has reserved first can insert, remove and move entries with no refusal in between. Each call
+//! compares few keys, by a bound that its contract states over the count [`Shelf::comparisons`].
 #![tactic(auto)]
 
 pub use fault::NoMemory;

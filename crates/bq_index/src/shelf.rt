@@ -13,10 +13,16 @@ use std::alloc::Global;
 use std::marker::Model;
 use std::mem;
 
+/// An ordered map whose insertions take no memory, as long as there are spare boxes.
+///
+/// Contracts see three things: the entries in the order of their keys, the number of spare boxes, and how
+/// often two keys were compared. There is no walk over a shelf; [`Shelf::next_from`] finds the next entry.
+/// Every call but `reserve` looks at few entries: `insert`, `remove`, `get`, `get_mut` and `next_from` make
+/// at most two comparisons for each binary digit of one more than the entries that there were.
 pub struct Shelf<K: Ord, V> {
     tree: Tree<K, V>,
     len: usize,
-    // A chain of spare boxes.
+    // The chain of the spare boxes.
     spares: Tree<K, V>,
     spare: usize,
     comparisons: u64,
@@ -52,6 +58,7 @@ impl<K: Ord + Drop, V: Drop> Shelf<K, V> {
     ghost use Rattle.bq_index.specs.Shelf.{ComparesFew};
     ghost use Rattle.bq_index.specs.ShelfLent.{LeavesEntries, LendsValue};
 
+    /// A shelf with no entries and no spare boxes. It takes no memory.
     pub fn new() -> Self
         ensures { result ≡ record { entries = []; spare = 0; comparisons = 0 } }
     {
@@ -64,6 +71,7 @@ impl<K: Ord + Drop, V: Drop> Shelf<K, V> {
         }
     }
 
+    /// The number of entries. The contract tells besides that their keys ascend.
     pub fn len(&self) -> usize
         ensures len { result ≡ length self.now.entries }
         ensures ordered { InOrder K.cmp self.now.entries }
@@ -71,22 +79,24 @@ impl<K: Ord + Drop, V: Drop> Shelf<K, V> {
         self.len
     }
 
-    /// The number of spare boxes.
+    /// The number of spare boxes: so many insertions take no memory.
     pub fn spare(&self) -> usize
         ensures { result ≡ self.now.spare }
     {
         self.spare
     }
 
-    /// The comparisons of keys so far.
+    /// The comparisons of two keys so far. The count stops at 2^64 - 1.
     pub fn comparisons(&self) -> u64
         ensures { result ≡ self.now.comparisons }
     {
         self.comparisons
     }
 
-    /// Sets aside boxes until `n` are spare: none where there are as many already. They are made one by
-    /// one, and a refusal keeps those that were made before it.
+    /// Sets aside boxes until `n` are spare: none where there are as many already.
+    ///
+    /// # Errors
+    /// `NoMemory` where a box is refused. The boxes are made one by one, and those before it are kept.
     pub fn reserve(&mut self, alloc: Global, n: usize) -> Result<(), NoMemory>
         ensures ok { OnOk result (n ≤ self.new.spare) }
         ensures refused { OnErr result (self.new.spare < n) }
@@ -132,6 +142,7 @@ impl<K: Ord + Drop, V: Drop> Shelf<K, V> {
         Ok(())
     }
 
+    /// Adds an entry whose key is not there yet. Its box is a spare one.
     pub fn insert(&mut self, key: K, value: V)
         requires spare { 0 < self.old.spare }
         requires absent { lookup (is_at (K.cmp key)) self.old.entries ≡ None }
@@ -148,6 +159,7 @@ impl<K: Ord + Drop, V: Drop> Shelf<K, V> {
         self.len += 1;
     }
 
+    /// Takes out the entry of a key, whose box becomes spare; `None` where there is none.
     pub fn remove(&mut self, key: &K) -> Option<V>
         ensures value { result ≡ lookup (is_at (K.cmp key.now)) self.old.entries }
         ensures entries { self.new.entries ≡ remove_entry (is_at (K.cmp key.now)) self.old.entries }
@@ -169,6 +181,7 @@ impl<K: Ord + Drop, V: Drop> Shelf<K, V> {
         }
     }
 
+    /// The value at a key. Nothing changes but the count of comparisons.
     pub fn get(&mut self, key: &K) -> Option<&V>
         ensures* after { sem 𝓛 (LeavesEntries K.row V.row K.Ord self.entry) }
         ensures value { option_map (λ v. v.now) result ≡ lookup (is_at (K.cmp key.now)) self.old.entries }
@@ -176,7 +189,7 @@ impl<K: Ord + Drop, V: Drop> Shelf<K, V> {
         find::get(&self.tree, key, &mut self.comparisons)
     }
 
-    /// The least entry whose key is not below `key`.
+    /// The least entry whose key is not below `key`. Nothing changes but the count of comparisons.
     pub fn next_from(&mut self, key: &K) -> Option<(&K, &V)>
         ensures* after { sem 𝓛 (LeavesEntries K.row V.row K.Ord self.entry) }
         ensures entry { option_map (λ p. (p.0.now, p.1.now)) result ≡ entry_from (K.cmp key.now) self.old.entries }
@@ -184,6 +197,7 @@ impl<K: Ord + Drop, V: Drop> Shelf<K, V> {
         find::next_from(&self.tree, key, &mut self.comparisons)
     }
 
+    /// The value at a key, to be changed in its place.
     pub fn get_mut(&mut self, key: &K) -> Option<&mut V>
         ensures* writes_back { sem 𝓛 (LendsValue K.row V.row K.Ord self.entry (K.cmp key.now) result) }
         ensures value { option_copied_mut result ≡ lookup (is_at (K.cmp key.now)) self.old.entries }

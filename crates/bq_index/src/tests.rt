@@ -1,9 +1,11 @@
 //! Each call of a shelf, against values found by hand and against the standard library's map.
+ghost use Rattle.std.specs.Prelude.{◌≡◌};
+ghost use Rattle.bq_index.specs.Digits.{binary_digits};
+
 use crate::boxes::BoxSource;
 use crate::{NoMemory, Shelf};
 use std::alloc::Global;
 use std::collections::BTreeMap;
-use std::process::Abort;
 use std::test::Fail;
 
 /// Puts an entry where there is a spare box and no such key, whatever the type of the keys is.
@@ -39,6 +41,21 @@ fn shelf_by_hand(rt: HostRuntime) -> Result<(), Fail> {
     assert_eq!(rt; shelf.get(&5), Some(&'c'));
     assert_eq!(rt; shelf.get(&3), None);
     Ok(())
+}
+
+/// Numbers of binary digits, evaluated by the definition.
+fn digits_by_hand()
+    ensures none { binary_digits 0 ≡ 0 }
+    ensures one { binary_digits 1 ≡ 1 }
+    ensures three { binary_digits 3 ≡ 2 }
+    ensures below { binary_digits 1023 ≡ 10 }
+    ensures above { binary_digits 1024 ≡ 11 }
+    ensures many { binary_digits 10001 ≡ 14 }
+{}
+
+#[test]
+fn digits() {
+    digits_by_hand();
 }
 
 #[test]
