@@ -174,7 +174,7 @@ impl<K: Ord + Drop, V: Drop> Shelf<K, V> {
         self.len -= 1;
         let spares = mem::replace(&mut self.spares, Tree::Leaf);
         self.spares = chain::link(node, spares);
-        self.spare += 1;
+        self.spare += 1; // the box of the entry
         match entry {
             Some((_, value)) => Some(value),
             None => unreachable!(),
