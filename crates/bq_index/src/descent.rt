@@ -44,13 +44,10 @@ impl Descent for Bottom {
     ghost depth = { 0 };
 
     fn value_mut<'a, K: Ord, V>(
-        tree: &'a mut Tree<K, V>,
-        key: &K,
-        count: &mut u64,
+        _tree: &'a mut Tree<K, V>,
+        _key: &K,
+        _count: &mut u64,
     ) -> Option<&'a mut V> {
-        if let Tree::Fork(node) = tree {
-            return value_mut(node);
-        }
         None
     }
 }
