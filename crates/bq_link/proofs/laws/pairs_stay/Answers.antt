@@ -1,4 +1,4 @@
-use Rattle.std.proofs.Common.{◌≡◌, Some, ap, slice_get, sym, ◌∙◌}
+use Rattle.std.proofs.Common.{Some, ap, slice_get, sym, ◌∙◌}
 use Rattle.bq_link.proofs.laws.pairs_stay.Goals as goal
 
 pub returns : goal.returns
