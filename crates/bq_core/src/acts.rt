@@ -191,7 +191,7 @@ fn answer(state: &mut State, seat: Seat, request: Request) -> Reply
         }
         Request::Delete { id } => Reply::Told(delete(state, seat, id)),
         Request::Quit => Reply::Silent,
-        Request::Refused { why } => Reply::Told(refusal_answer(why)),
+        Request::Refused(why) => Reply::Told(refusal_answer(why)),
         _ => unreachable!(),
     }
 }

@@ -54,7 +54,7 @@ fn step_of(alloc: Global, what: Do) -> Result<Step, NoMemory>
         Do::Reserve => Step::Ask(Request::Reserve),
         Do::Delete(id) => Step::Ask(Request::Delete { id }),
         Do::Quit => Step::Ask(Request::Quit),
-        Do::Refused(why) => Step::Ask(Request::Refused { why }),
+        Do::Refused(why) => Step::Ask(Request::Refused(why)),
         Do::End => Step::End,
         Do::Close => Step::Close,
         Do::Drain => Step::Drain,

@@ -18,7 +18,6 @@ pub mod Limits
 pub mod Line
 pub mod LineRead
 pub mod Machine
-pub mod NameLaws
 pub mod NameOrder
 pub mod NextDue
 pub mod Profile

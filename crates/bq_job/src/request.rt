@@ -93,7 +93,5 @@ pub enum Request {
     /// `quit`: close the connection.
     Quit,
     /// Bytes that are no request, or a put that can't be taken.
-    Refused {
-        why: Refusal,
-    },
+    Refused(Refusal),
 }

@@ -19,7 +19,9 @@ pub struct TubeName {
 impl Model for TubeName {
     ghost use Rattle.std.specs.Prelude.{List, ℕ, ◌≡◌, ◌≤◌, take, length, IsTrue};
     ghost use Rattle.bq_job.specs.TubeName.{is_tube_name, filled_up};
-    ghost use Rattle.bq_job.specs.NameLaws.{name_given_back};
+    ghost use Rattle.std.specs.Prelude.{◌-◌, replicate};
+    ghost use Rattle.std.proofs.Common.{sym, ap, arith};
+    ghost use Rattle.std.proofs.lemmas.List.{length-take, length-append, length-replicate};
 
     ghost Value = { List ℕ };
 
@@ -30,7 +32,13 @@ impl Model for TubeName {
 
     ghost inverse = { λ bytes. record { bytes = filled_up bytes; len = length bytes } };
 
-    ghost inverse_ok = { λ n h. name_given_back n h.0 h.2 };
+    // The name gives the array and its length back.
+    ghost inverse_ok = { λ n h.
+        let name : List ℕ = take n.len n.bytes in
+        let whole : filled_up name ≡ n.bytes = sym h.2 in
+        let len : length name ≡ n.len =
+        omega (arith, h.0, length-take n.len n.bytes, ap length h.2, length-append name (replicate (200 - length name) 0), length-replicate {A = ℕ} (200 - length name) 0)
+        in λ i. record { bytes = whole i; len = len i } };
 }
 
 impl TubeName {

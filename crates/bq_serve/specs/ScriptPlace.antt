@@ -1,6 +1,5 @@
 -- A script of readings, and the place in it.
-use Rattle.std.specs.Prelude.{ℕ, ◌≡◌, ◌≤◌, ◌+◌, ◌-◌, ◌⊎◌, List, [], ◌++◌, length, take, drop, replicate, Option, None, unwrap_or, slice_get}
-use Rattle.std.proofs.Common.{refl, inl, arith}
+use Rattle.std.specs.Prelude.{ℕ, ◌≡◌, ◌≤◌, ◌+◌, ◌-◌, ◌⊎◌, List, ◌++◌, length, take, drop, replicate, Option, None, unwrap_or, slice_get}
 
 pub record ScriptPlace : Type 0 where
   pub script : List (Option ℕ)
@@ -20,14 +19,3 @@ pub record IsRead (before : ScriptPlace) (readings : List (Option ℕ)) (after :
   pub place_is : after.place ≡ before.place + count
   pub readings_are : readings ≡ take count (drop before.place before.script) ++ replicate again (last_reading before.script)
   pub at_end : (again ≡ 0) ⊎ (length after.script ≤ after.place)
-
-pub none_read : (clock : ScriptPlace) → IsRead clock [] clock
-none_read clock = record {
-  count = 0;
-  again = 0;
-  script_is = refl;
-  within = omega arith;
-  place_is = omega arith;
-  readings_are = grind arith;
-  at_end = inl refl;
-}

@@ -220,5 +220,5 @@ pub fn read_line(line: &[u8]) -> LineRead
 fn refused(why: Refusal) -> LineRead
     ensures { asked_by result ≡ spec.Whole (Request.Refused why) }
 {
-    LineRead::Whole(Request::Refused { why })
+    LineRead::Whole(Request::Refused(why))
 }

@@ -147,5 +147,5 @@ fn store_bytes(store: &mut Option<BodyBuilder>, bytes: &[u8])
 fn refused(why: Refusal) -> Request
     ensures { result ≡ Request.Refused why }
 {
-    Request::Refused { why }
+    Request::Refused(why)
 }

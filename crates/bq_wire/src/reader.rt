@@ -253,7 +253,5 @@ fn feed_body(state: &mut State, body: PutBody, piece: &[u8]) -> (usize, Option<R
 fn bad_format() -> Request
     ensures { result ≡ Request.Refused Refusal.BadFormat }
 {
-    Request::Refused {
-        why: Refusal::BadFormat,
-    }
+    Request::Refused(Refusal::BadFormat)
 }

@@ -81,7 +81,7 @@ fn noted(alloc: Global, request: &Request) -> Result<String, AllocError> {
         Request::Reserve => String::from_str(alloc, "reserve;"),
         Request::Delete { id } => format!(in alloc; "delete {id};"),
         Request::Quit => String::from_str(alloc, "quit;"),
-        Request::Refused { why } => format!(in alloc; "{};", why.code()),
+        Request::Refused(why) => format!(in alloc; "{};", why.code()),
         _ => String::from_str(alloc, "another;"),
     }
 }
@@ -231,12 +231,7 @@ fn restarts(rt: HostRuntime) -> Result<(), Fail> {
     assert!(rt;
         matches!(
             reader.feed(b"erve\r\n"),
-            (
-                6,
-                Some(Request::Refused {
-                    why: Refusal::UnknownCommand
-                })
-            )
+            (6, Some(Request::Refused(Refusal::UnknownCommand)))
         )
     );
     Ok(())
@@ -255,12 +250,7 @@ fn bodies_without_memory(rt: HostRuntime) -> Result<(), Fail> {
         assert!(rt;
             matches!(
                 request,
-                Some(
-                    Request::Put { .. }
-                        | Request::Refused {
-                            why: Refusal::OutOfMemory
-                        }
-                )
+                Some(Request::Put { .. } | Request::Refused(Refusal::OutOfMemory))
             )
         );
         assert!(rt; matches!(reader.feed(b"reserve\r\n"), (9, Some(Request::Reserve))));

@@ -1,5 +1,5 @@
 ghost use Rattle.std.specs.Prelude.{◌≡◌, ◌<◌, ◌≤◌, length, slice_get};
-ghost use Rattle.bq_serve.specs.ScriptPlace.{IsRead, last_reading, none_read};
+ghost use Rattle.bq_serve.specs.ScriptPlace.{IsRead, last_reading};
 
 use super::Clock;
 use bq_job::Moment;
@@ -35,9 +35,19 @@ impl ScriptClock {
 }
 
 impl Clock for ScriptClock {
+    ghost use Rattle.std.proofs.Common.{refl, inl, arith};
+
     ghost given = { λ before readings after. IsRead before readings after };
 
-    ghost none_given = { λ clock. none_read clock };
+    ghost none_given = { λ clock. record {
+      count = 0;
+      again = 0;
+      script_is = refl;
+      within = omega arith;
+      place_is = omega arith;
+      readings_are = refl;
+      at_end = inl refl;
+    } };
 
     fn now(&mut self) -> Option<Moment> {
         let reading = reading_at(&self.script, self.place);
