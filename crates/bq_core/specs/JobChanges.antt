@@ -1,16 +1,12 @@
 -- What happens to jobs, one by one.
 use Rattle.std.specs.Prelude.{ℕ, Bool, false, ◌==◌, ◌||◌, not, if◌then◌else◌, Option, Some, None}
 use Rattle.bq_job.specs.declared.job.Job.{Job}
-use Rattle.bq_job.specs.declared.job.JobState.TheVariants as states
-use Rattle.bq_job.specs.Changes.{in_state, is_held_by}
+use Rattle.bq_job.specs.Changes.{given_back, is_held_by}
 use Rattle.bq_job.specs.Dispatch.{reserved_by}
 use Rattle.bq_job.specs.JobStates.{is_reserved}
 use Rattle.bq_job.specs.Timers.{job_after_timers}
 use Rattle.bq_core.specs.declared.job_list.JobChange.{JobChange}
 use Rattle.bq_core.specs.declared.job_list.JobChange.TheVariants.{FireTimers, HandOut, GiveBack}
-
-abbrev pub given_back : ℕ → Job → Job
-given_back seat j = if is_held_by seat j then in_state states.Ready j else j
 
 abbrev pub changed : JobChange → Job → Job
 changed (FireTimers moment) j = job_after_timers moment j

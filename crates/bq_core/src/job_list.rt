@@ -1,6 +1,6 @@
 ghost use Rattle.std.specs.Prelude.{◌≡◌, ◌<◌, ◌==◌, not, filter, map, count_by, length, IfSome, if◌then◌else◌};
 ghost use Rattle.std.specs.Option.{option_copied};
-ghost use Rattle.bq_job.specs.Changes.{better_of, first_of, is_ready, job_with};
+ghost use Rattle.bq_job.specs.Changes.{better_of, first_of, given_back, is_ready, job_with};
 ghost use Rattle.bq_job.specs.Dispatch.{is_job_before};
 ghost use Rattle.bq_job.specs.Changes.{is_held_by as held_by};
 ghost use Rattle.bq_job.specs.Dispatch.{reserved_by};
@@ -9,7 +9,7 @@ ghost use Rattle.bq_job.specs.Timers.{is_expired, job_after_timers};
 ghost use Rattle.bq_job.specs.Waits.{is_ending_lease};
 ghost use Rattle.std.specs.List.{AllByRecursion, list_any};
 ghost use Rattle.bq_core.specs.Plain.{IsInDefault};
-ghost use Rattle.bq_core.specs.JobChanges.{changed, given_back, is_free_job};
+ghost use Rattle.bq_core.specs.JobChanges.{changed, is_free_job};
 ghost use Rattle.bq_core.specs.Places.{item_at, better_at};
 
 use bq_job::{Job, JobId, JobState, Moment, Seat};

@@ -5,7 +5,7 @@ use Rattle.std.specs.List.{AllByRecursion as All, list_any}
 use Rattle.std.proofs.lemmas.Bool.{cases_Bool, and_parts, and_from, or_parts, or_left, or_right, or_cases, both_ways, cond_both, eqb-true, eqb-false, leb-false}
 use Rattle.bq_job.specs.declared.job.Job.{Job}
 use Rattle.bq_job.specs.declared.job.JobState.TheVariants as states
-use Rattle.bq_job.specs.Changes.{in_state, is_held_by, is_waiting}
+use Rattle.bq_job.specs.Changes.{given_back, in_state, is_held_by, is_waiting}
 use Rattle.bq_job.specs.JobCommands.{last_id}
 use Rattle.bq_job.specs.JobStates.{is_reserved}
 use Rattle.bq_job.specs.Lawful.{AreIdsWithin, IsLawful}
@@ -151,9 +151,6 @@ only_seat low (suc n) number (t ∷ seats) s e f =
 abbrev emptied : ℕ → SeatRecord → SeatRecord
 emptied seat s = cond (s.number == seat) (empty_seat s.number) s
 
-abbrev given_back : ℕ → Job → Job
-given_back seat j = cond (is_held_by seat j) (in_state states.Ready j) j
-
 -- Who holds a job that isn't given back stays.
 holder_stays : (seat : ℕ) (j : Job) (s : SeatRecord) → is_held_by seat j ≡ false → (s.connected && is_held_by s.number j) ≡ true → ((emptied seat s).connected && is_held_by (emptied seat s).number j) ≡ true
 holder_stays seat j s e h =
@@ -175,7 +172,7 @@ held_elsewhere seat seats j e h =
     ]
 
 -- A client goes: the jobs that it holds are ready, and its seat is empty.
-pub kept_of_close : {places next : ℕ} {jobs : List Job} {seats : List SeatRecord} {draining : Bool} (seat : ℕ) → Kept places jobs seats next draining → Kept places (map (λ j. cond (is_held_by seat j) (in_state states.Ready j) j) jobs) (map (λ s. cond (s.number == seat) (empty_seat s.number) s) seats) next draining
+pub kept_of_close : {places next : ℕ} {jobs : List Job} {seats : List SeatRecord} {draining : Bool} (seat : ℕ) → Kept places jobs seats next draining → Kept places (map (given_back seat) jobs) (map (λ s. cond (s.number == seat) (empty_seat s.number) s) seats) next draining
 kept_of_close {next = next} {jobs = jobs} {seats = seats} seat h = record {
   ids = ids_of_map (given_back seat) 1 next jobs (λ j. cond_both (is_held_by seat j) (in_state states.Ready j) j (λ k. k.id ≡ j.id) (λ e. refl) (λ e. refl)) h.ids;
   accepts = h.accepts;

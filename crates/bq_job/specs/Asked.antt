@@ -2,7 +2,6 @@
 use Rattle.std.specs.Prelude.{ℕ, true, ◌&&◌, not, if◌then◌else◌, Option, Some, None, map}
 use Rattle.bq_job.specs.declared.answer.Answer.{Answer}
 use Rattle.bq_job.specs.declared.answer.Answer.TheVariants as answers
-use Rattle.bq_job.specs.declared.job.JobState.TheVariants as states
 use Rattle.bq_job.specs.declared.refusal.Refusal.{Refusal}
 use Rattle.bq_job.specs.declared.refusal.Refusal.TheVariants as refusals
 use Rattle.bq_job.specs.declared.request.Request.{Request}
@@ -10,7 +9,7 @@ use Rattle.bq_job.specs.declared.request.Request.TheVariants as requests
 use Rattle.bq_job.specs.declared.step.Step.{Step}
 use Rattle.bq_job.specs.declared.step.Step.TheVariants as steps
 use Rattle.bq_job.specs.Acts.{Effect, telling, silent}
-use Rattle.bq_job.specs.Changes.{in_state, is_held_by, is_waiting, seat_with, with_seat}
+use Rattle.bq_job.specs.Changes.{given_back, is_waiting, seat_with, with_seat}
 use Rattle.bq_job.specs.JobCommands.{bury_effect, delete_effect, kick_effect, kick_job_effect, put_effect, release_effect, reserve_effect, reserve_job_effect, touch_effect}
 use Rattle.bq_job.specs.Limits.{raised, later}
 use Rattle.bq_job.specs.Machine.{Machine, SeatRecord, empty_seat}
@@ -65,7 +64,7 @@ with_end s = record s { ended = true }
 -- The client is gone: the jobs that it holds become ready.
 abbrev pub after_close : Machine → ℕ → Machine
 after_close m seat =
-    record (with_seat seat (λ s. empty_seat s.number) m) { jobs = map (λ j. if is_held_by seat j then in_state states.Ready j else j) m.jobs }
+    record (with_seat seat (λ s. empty_seat s.number) m) { jobs = map (given_back seat) m.jobs }
 
 abbrev pub at_seat : Step → Machine → SeatRecord → Effect
 at_seat steps.Connect m s = if s.connected then silent m else silent (after_connect m s.number)
