@@ -5,6 +5,8 @@
 pub enum Program {
     /// Serves one client over its standard input and output.
     Bq,
+    /// Serves many clients, each over a connection.
+    Bqd,
 }
 
 /// What is chosen for a program. A program that doesn't take an option has its default.
@@ -14,11 +16,11 @@ pub struct Options {
     pub listen: Option<String>,
     /// Whether the clock stands at 0.
     pub still: bool,
-    /// How many clients can be connected at a time.
+    /// How many clients can be connected at a time, 1 to 256.
     pub seats: u16,
     /// How many bytes a job's body may have, 1 to 1,048,576.
     pub max_job_size: u32,
-    /// How many connections each seat serves. None: without end.
+    /// How many connections each seat serves, 1 or more. None: without end.
     pub sessions: Option<u32>,
 }
 
