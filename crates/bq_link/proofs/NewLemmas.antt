@@ -3,14 +3,8 @@ use Rattle.std.proofs.Common.{◌≡◌, ℕ, zero, suc, ◌+◌, ◌<◌, ◌�
 use Rattle.std.proofs.lemmas.List.{get_or_append_left, get_or_push, length-append, replicate_more}
 use mathlib.Core.Logic.{dite}
 use native.Mathlib.Decide.{dec_le}
-use Rattle.bq_link.specs.EndStates.{AreNewSeats, CoreState, IsNewCore, IsNewSeat, RingId, SeatState, ring_places}
-
-abbrev pub grown : CoreState → RingId → CoreState
-grown core ring = record core {
-  rings = core.rings ++ ring ∷ [];
-  sent = core.sent ++ [] ∷ [];
-  room = core.room ++ ring_places ∷ [];
-}
+use Rattle.bq_link.specs.EndStates.{CoreState, RingId, SeatState, ring_places}
+use Rattle.bq_link.specs.NewEnds.{AreNewSeats, IsNewCore, IsNewSeat, next_seat, with_ring}
 
 get_more : {X : Type 0} (xs ys : List X) (n : ℕ) (x : X) → slice_get xs n ≡ Some x → slice_get (xs ++ ys) n ≡ Some x
 get_more [] ys n x e = absurd (none_some x e)
@@ -24,7 +18,7 @@ get_last : {X : Type 0} (xs : List X) (x : X) → slice_get (xs ++ x ∷ []) (le
 get_last [] x = refl
 get_last (y ∷ xs) x = get_last xs x
 
-pub core_more : (n : ℕ) (core next : CoreState) (ring : RingId) → next ≡ grown core ring → IsNewCore n core → IsNewCore (n + 1) next
+pub core_more : (n : ℕ) (core next : CoreState) (ring : RingId) → next ≡ with_ring core ring → IsNewCore n core → IsNewCore (n + 1) next
 core_more n core next ring is new = subst (IsNewCore (n + 1)) (sym is) (record {
   rings = length-append core.rings (ring ∷ []) ∙ ap (λ k. k + 1) new.rings;
   taken = new.taken;
@@ -33,7 +27,7 @@ core_more n core next ring is new = subst (IsNewCore (n + 1)) (sym is) (record {
   room = ap (λ l. l ++ ring_places ∷ []) new.room ∙ replicate_more n ring_places;
 })
 
-kept : (core next : CoreState) (ring : RingId) (place : ℕ) (seat : SeatState) → next ≡ grown core ring → IsNewSeat core place seat → IsNewSeat next place seat
+kept : (core next : CoreState) (ring : RingId) (place : ℕ) (seat : SeatState) → next ≡ with_ring core ring → IsNewSeat core place seat → IsNewSeat next place seat
 kept core next ring place seat is new = record {
   number = new.number;
   pair = (ap (λ (c : CoreState). c.intake) is ∙ new.pair.0, ap (λ (c : CoreState). slice_get c.rings seat.number) is ∙ get_more core.rings (ring ∷ []) seat.number seat.ring new.pair.1);
@@ -42,8 +36,8 @@ kept core next ring place seat is new = record {
   waiting = new.waiting;
 }
 
-pub seats_more : (n : ℕ) (core next : CoreState) (seat : SeatState) (seats : List SeatState) → next ≡ grown core seat.ring
-    → seat ≡ record { number = length core.rings; intake = core.intake; ring = seat.ring; submitted = []; taken = []; waiting = [] }
+pub seats_more : (n : ℕ) (core next : CoreState) (seat : SeatState) (seats : List SeatState) → next ≡ with_ring core seat.ring
+    → seat ≡ next_seat core seat.ring
     → length seats ≡ n → IsNewCore n core → AreNewSeats core seats → AreNewSeats next (seats ++ seat ∷ [])
 seats_more n core next seat seats is made many new all place d within =
     dite (dec_le (suc place) (length seats))

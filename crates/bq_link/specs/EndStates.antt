@@ -1,5 +1,5 @@
 -- What contracts see of the ends.
-use Rattle.std.specs.Prelude.{ℕ, ◌≡◌, ◌<◌, ◌++◌, List, [], length, replicate, slice_get, slice_index_or, Some}
+use Rattle.std.specs.Prelude.{ℕ, ◌≡◌, ◌++◌, List, [], length, slice_get, slice_index_or, Some}
 use denote.RawPtr.{Ptr}
 use Rattle.atomic_table.specs.Seated.{TableId}
 use Rattle.bq_job.specs.declared.answer.Answer.{Answer}
@@ -63,26 +63,6 @@ WasFull places seat = (taken waiting : List (ℕ × Step)) × (length waiting �
 -- a ring has room for so many answers
 abbrev pub ring_places : ℕ
 ring_places = 4
-
--- a core's end for so many seats' ends, before anything was done
-pub record IsNewCore (ends : ℕ) (core : CoreState) : Type 0 where
-  pub rings : length core.rings ≡ ends
-  pub taken : core.taken ≡ []
-  pub told : core.told ≡ []
-  pub sent : core.sent ≡ replicate ends []
-  pub room : core.room ≡ replicate ends ring_places
-
--- a seat's end beside it, before anything was done
-pub record IsNewSeat (core : CoreState) (place : ℕ) (seat : SeatState) : Type 0 where
-  pub number : seat.number ≡ place
-  pub pair : IsPair core seat
-  pub submitted : seat.submitted ≡ []
-  pub taken : seat.taken ≡ []
-  pub waiting : seat.waiting ≡ []
-
--- the ends in the order of their numbers
-abbrev pub AreNewSeats : CoreState → List SeatState → Type 0
-AreNewSeats core seats = (place : ℕ) (d : SeatState) → place < length seats → IsNewSeat core place (slice_index_or seats place d)
 
 -- the later values of two ends are still a pair
 abbrev pub PairsStay : Type 0

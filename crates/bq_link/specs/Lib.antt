@@ -1,4 +1,6 @@
-pub mod Submissions
-pub mod EndStates
 pub mod Delivery
+pub mod EndChanges
+pub mod EndStates
 pub mod Inside
+pub mod NewEnds
+pub mod Submissions

@@ -1,6 +1,8 @@
-ghost use Rattle.std.specs.Prelude.{◌≡◌, ◌+◌, ◌<◌, ◌≤◌, ◌∷◌, ◌++◌, [], List, IfErr, IfNone, IfOk, IfSome, IsOk, OnErr, OnOk, length, slice_set};
+ghost use Rattle.std.specs.Prelude.{◌≡◌, ◌+◌, ◌<◌, ◌≤◌, ◌∷◌, ◌++◌, [], List, IfErr, IfNone, IfOk, IfSome, IsOk, OnErr, OnOk, length};
 ghost use Rattle.bq_job.specs.declared.step.Step.{Step as AStep};
+ghost use Rattle.bq_link.specs.EndChanges.{with_room, with_sent, with_told};
 ghost use Rattle.bq_link.specs.EndStates.{IsPair, ring_places, room_for, sent_to};
+ghost use Rattle.bq_link.specs.NewEnds.{next_seat, with_ring};
 ghost use Rattle.bq_link.specs.Submissions.{Covers, steps_of};
 
 use crate::delivery::{Blank, Compares, InHand, NextEnd, Takes, View};
@@ -42,8 +44,8 @@ impl CoreEnd {
     pub(crate) fn next_end(&mut self, alloc: Global, intake: &Intake) -> Result<SeatEnd, AllocError>
         requires intake { self.old.intake ≡ intake.now.id }
         requires few { length self.old.rings < 65536 }
-        ensures core { IfOk result (λ seat. self.new ≡ record self.old { rings = self.old.rings ++ seat.ring ∷ []; sent = self.old.sent ++ [] ∷ []; room = self.old.room ++ ring_places ∷ [] }) }
-        ensures seat { IfOk result (λ seat. seat ≡ record { number = length self.old.rings; intake = self.old.intake; ring = seat.ring; submitted = []; taken = []; waiting = [] }) }
+        ensures core { IfOk result (λ seat. self.new ≡ with_ring self.old seat.ring) }
+        ensures seat { IfOk result (λ seat. seat ≡ next_seat self.old seat.ring) }
     {
         let number = self.rings.len() as u16;
         let (ring, mail) = RingBuffer::new(alloc, RING_PLACES)?;
@@ -67,10 +69,10 @@ impl CoreEnd {
     /// Sends an answer to the end with this number, or hands it back where its ring is full (refusal 402).
     pub fn send(&mut self, seat: Seat, answer: Answer) -> Result<(), Answer>
         requires { seat < length self.old.rings }
-        ensures sent { OnOk result (self.new ≡ record self.old { sent = slice_set self.old.sent seat (sent_to self.old seat ++ answer ∷ []); room = slice_set self.old.room seat (room_for self.new seat) }) }
+        ensures sent { OnOk result (self.new ≡ with_room (with_sent self.old seat answer) seat (room_for self.new seat)) }
         ensures to { OnOk result (sent_to self.new seat ≡ sent_to self.old seat ++ answer ∷ []) }
         ensures handed_back { IfErr result (λ back. back ≡ answer) }
-        ensures unchanged { OnErr result (self.new ≡ record self.old { room = slice_set self.old.room seat 0 }) }
+        ensures unchanged { OnErr result (self.new ≡ with_room self.old seat 0) }
         ensures room { OnOk result (room_for self.old seat ≤ room_for self.new seat + 1) }
         ensures succeeds { 0 < room_for self.old seat → IsOk result }
     {
@@ -88,7 +90,7 @@ impl CoreEnd {
         ensures whole { seat.new.taken ++ seat.new.waiting ≡ sent_to self.new seat.old.number }
         ensures room { ring_places ≤ room_for self.new seat.old.number + result }
         ensures seat { seat.new ≡ record seat.old { waiting = seat.new.waiting } }
-        ensures core { self.new ≡ record self.old { room = slice_set self.old.room seat.old.number (room_for self.new seat.old.number) } }
+        ensures core { self.new ≡ with_room self.old seat.old.number (room_for self.new seat.old.number) }
     {
         let ring = &mut self.rings[usize::from(seat.number)];
         ring.slots_beside(&mut seat.mail);
@@ -101,7 +103,7 @@ impl CoreEnd {
         requires core { self.old.intake ≡ intake.now.id }
         requires seat { seat.old.intake ≡ intake.now.id }
         ensures waits { (waits : List AStep) × (seat.old.submitted ≡ steps_of seat.old.number self.old.taken ++ waits) }
-        ensures told { self.new ≡ record self.old { told = (seat.old.number, seat.old.submitted) ∷ self.old.told } }
+        ensures told { self.new ≡ with_told self.old seat.old }
         ensures seat { seat.new ≡ seat.old }
     {
         let queue = &intake.queue;

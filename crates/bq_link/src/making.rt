@@ -1,5 +1,5 @@
 ghost use Rattle.std.specs.Prelude.{◌≡◌, ◌+◌, ◌*◌, ◌≤◌, [], IfOk, OnOk, length};
-ghost use Rattle.bq_link.specs.EndStates.{AreNewSeats, IsNewCore};
+ghost use Rattle.bq_link.specs.NewEnds.{AreNewSeats, IsNewCore};
 
 use crate::core_end::CoreEnd;
 use crate::intake::Intake;

@@ -1,15 +1,17 @@
 //! Steps and answers through links, by hand and between threads.
-ghost use Rattle.std.specs.Prelude.{◌≡◌, ◌+◌, ◌<◌, All, IfOk, length};
+ghost use Rattle.std.specs.Prelude.{◌≡◌, ◌+◌, ◌<◌, ◌∷◌, ◌++◌, [], All, IfOk, length};
+ghost use Rattle.bq_job.specs.declared.step.Step.TheVariants.{Tick};
 ghost use Rattle.bq_link.specs.EndStates.{IsPair, IsSameCore, IsSameSeat};
 
 use crate::{CoreEnd, Intake, SeatEnd, links};
 use bq_job::{Answer, NoMemory, Request, Seat, Step};
-use std::alloc::Global;
+use std::alloc::{AllocError, Global};
 use std::ops::Range;
+use std::snapshot::Snapshot;
 use std::sync::Wait;
 use std::test::Fail;
 use std::thread;
-use std::thread::Threads;
+use std::thread::{Promise, Threads};
 use std::time::{Clock, Duration, Instant};
 
 // The links of one seat: the intake, the core's end, the seat's and the control line's.
@@ -277,6 +279,65 @@ fn four_seats_in_order(rt: HostRuntime) -> Result<(), Fail> {
     );
     assert!(rt; in_order);
     assert_eq!(rt; next, [STEPS + 1; 4]);
+    Ok(())
+}
+
+/// An end that a thread was given comes back with one step more.
+#[derive(Drop)]
+struct OneTickMore {
+    end: Snapshot<SeatEnd>,
+}
+
+impl Promise<SeatEnd> for OneTickMore {
+    ghost kept_by = { λ p r. IsSameSeat p.end.value r × (r.submitted ≡ p.end.value.submitted ++ Tick ∷ []) };
+}
+
+fn tick_here<R: Wait>(rt: &R, intake: &Intake, end: SeatEnd) -> SeatEnd
+    requires { end.intake ≡ intake.now.id }
+    ensures { IsSameSeat end result × (result.submitted ≡ end.submitted ++ Tick ∷ []) }
+{
+    let mut end = end;
+    for _ in rt.forever() {
+        if end.submit(rt, intake, Step::Tick).is_ok() {
+            return end;
+        }
+    }
+    unreachable!()
+}
+
+fn tick_there<R: Threads + Wait + Sync>(
+    rt: &R,
+    intake: &Intake,
+    end: SeatEnd,
+) -> Result<SeatEnd, AllocError>
+    requires { end.intake ≡ intake.now.id }
+    ensures { IfOk result (λ r. IsSameSeat end r × (r.submitted ≡ end.submitted ++ Tick ∷ [])) }
+{
+    thread::scope(
+        thread::scope_env(),
+        rt,
+        |scope| -> Result<SeatEnd, AllocError>
+            requires { end.intake ≡ intake.now.id }
+            ensures { IfOk result (λ r. IsSameSeat end r × (r.submitted ≡ end.submitted ++ Tick ∷ [])) }
+        {
+            let promise = OneTickMore {
+                end: Snapshot::of(&end),
+            };
+            let child = scope.spawn_with(promise, move || tick_here(rt, intake, end))?;
+            Ok(child.join(rt))
+        },
+    )
+}
+
+// What a thread did with an end is compared with the core's end once it has come back.
+#[test]
+fn an_end_comes_back(rt: HostRuntime) -> Result<(), Fail> {
+    let (intake, mut core, first, _second) = links_of_one(rt.alloc())?;
+    let mut back = tick_there(&rt, &intake, first)?;
+    core.compare(&intake, &mut back);
+    assert_eq!(rt; core.left(&mut back), 0);
+    assert!(rt; is_step(core.take(&rt, &intake), 0, Did::Tick));
+    assert!(rt; back.submit(&rt, &intake, Step::Tick).is_ok());
     Ok(())
 }
 

@@ -1,5 +1,5 @@
 use Rattle.std.proofs.Common.{ap, subst, sym, ◌∙◌, arith, rules}
-use Rattle.bq_link.specs.EndStates.{AreNewSeats}
+use Rattle.bq_link.specs.NewEnds.{AreNewSeats}
 use Rattle.bq_link.proofs.NewLemmas.{core_more, seats_more}
 use Rattle.bq_link.proofs.making.seat_ends.Goals as goal
 
