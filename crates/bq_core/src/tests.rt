@@ -8,6 +8,8 @@ use std::alloc::Global;
 use std::process::Abort;
 use std::test::Fail;
 
+mod large_bodies;
+
 #[derive(Clone, Copy, Debug)]
 enum Do {
     Connect,
