@@ -3,7 +3,6 @@ use Rattle.std.specs.Prelude.{ℕ, ◌≡◌, ◌==◌, List, [], ◌∷◌, ◌
 use Rattle.bq_job.specs.declared.answer.Answer.{Answer}
 use Rattle.bq_job.specs.declared.answer.Answer.TheVariants as answers
 use Rattle.bq_job.specs.declared.step.Step.{Step}
-use Rattle.bq_job.specs.AnswerText.{answer_text}
 use Rattle.bq_job.specs.Dispatch.{GivenAnswer}
 use Rattle.bq_job.specs.Machine.{Machine}
 use Rattle.bq_job.specs.Steps.{IsStep, Memory, Outcome}
@@ -91,7 +90,3 @@ by_connection (answer ∷ more) = begun_with answer (by_connection more)
 -- the answers to the nth connection at the seat, counted from 0
 abbrev pub answers_of_line : ℕ → ℕ → List GivenAnswer → List Answer
 answers_of_line seat n given = slice_index_or (by_connection (answers_to seat given)) n []
-
--- what the nth client at the seat is owed
-abbrev pub owed : ℕ → ℕ → List GivenAnswer → List ℕ
-owed seat n given = flat_map answer_text (answers_of_line seat n given)
