@@ -15,6 +15,7 @@ pub use laws_of_machine::{
     steps_give_clients_their_answers, steps_give_few_answers, steps_have_one_result,
     steps_keep_lawful,
 };
+pub use limits::{LARGEST_BODY, MOST_SEATS, USUAL_BODY};
 pub use line_end::{LineEnd, LineFault};
 pub use refusal::Refusal;
 pub use request::Request;
@@ -34,6 +35,7 @@ mod laws_of_machine;
 pub mod laws_of_reading;
 pub mod laws_of_runs;
 pub mod laws_of_texts;
+mod limits;
 mod line_end;
 mod refusal;
 mod request;

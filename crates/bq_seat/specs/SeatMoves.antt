@@ -10,10 +10,11 @@ use Rattle.bq_seat.specs.declared.machine.Event.TheVariants as events
 use Rattle.bq_seat.specs.declared.machine.Action.{Action}
 use Rattle.bq_seat.specs.declared.machine.Action.TheVariants as actions
 use Rattle.bq_seat.specs.declared.machine.SeatMachine.{SeatMachine}
+use Rattle.bq_seat.specs.declared.kept.TheConstants.{PIECE_ROOM}
 
--- 4,096 bytes at most are handed in at once.
+-- No more bytes are handed in at once than there is room for.
 abbrev pub FitsPiece : Event → Type 0
-FitsPiece (events.Bytes bytes) = length bytes.now ≤ 4096
+FitsPiece (events.Bytes bytes) = length bytes.now ≤ PIECE_ROOM
 FitsPiece _ = Unit {0}
 
 -- An opened line that was awaited begins by its connect, and has a past of its own.

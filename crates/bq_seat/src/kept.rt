@@ -17,12 +17,13 @@ pub struct Kept {
 
 impl Model for Kept {
     ghost use Rattle.std.specs.Prelude.{◌≡◌, ◌≤◌, List, ℕ, take, drop, length};
+    ghost use Rattle.bq_seat.specs.declared.kept.TheConstants.{PIECE_ROOM};
 
     ghost Value = { List ℕ };
 
     ghost view = { λ k. drop k.from (take k.to k.room.items) };
 
-    ghost invariant = { λ k. (k.from ≤ k.to) × (k.to ≤ length k.room.items) × (length k.room.items ≡ 4096) };
+    ghost invariant = { λ k. (k.from ≤ k.to) × (k.to ≤ length k.room.items) × (length k.room.items ≡ PIECE_ROOM) };
 }
 
 impl Kept {
@@ -61,7 +62,7 @@ impl Kept {
 
     /// Keeps this piece in place of what was kept.
     pub fn replace(&mut self, piece: &[u8])
-        requires { length piece.now ≤ 4096 }
+        requires { length piece.now ≤ PIECE_ROOM }
         ensures { self.new ≡ piece.now }
     {
         write_front(&mut self.room, piece);

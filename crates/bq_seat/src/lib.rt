@@ -4,7 +4,10 @@
 #![tactic(auto)]
 
 pub use bq_job::LineEnd;
+pub use kept::PIECE_ROOM;
+pub use laws::pasts_are_orderly;
 pub use machine::{Action, Event, SeatMachine};
 
 mod kept;
+mod laws;
 mod machine;

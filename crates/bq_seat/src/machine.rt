@@ -1,9 +1,9 @@
 ghost use Rattle.std.specs.Prelude.{◌≡◌, ◌≤◌, [], length, IfOk, if◌then◌else◌};
 ghost use Rattle.bq_seat.specs.SeatParts.{asking_stage};
 
-use crate::kept::Kept;
+use crate::kept::{Kept, PIECE_ROOM};
 use bq_job::laws_of_reading::every_text_is_read;
-use bq_job::{Answer, LineEnd, NoMemory, Request, Step};
+use bq_job::{Answer, LARGEST_BODY, LineEnd, NoMemory, Request, Step};
 use bq_wire::RequestReader;
 use std::alloc::Global;
 
@@ -97,7 +97,7 @@ impl SeatMachine {
     /// A machine that awaits its first line. Bodies of more than `max_job_size` bytes, of 1 to 1,048,576,
     /// are refused. All memory but that for bodies is asked for here.
     pub fn new(alloc: Global, max_job_size: u32) -> Result<SeatMachine, NoMemory>
-        requires { (1 ≤ max_job_size) × (max_job_size ≤ 1048576) }
+        requires { (1 ≤ max_job_size) × (max_job_size ≤ LARGEST_BODY) }
         ensures awaits { IfOk result (λ machine. awaited machine ≡ Awaited.ALine) }
         ensures profile { IfOk result (λ machine. seat_profile machine ≡ profile max_job_size words_so_far) }
     {
@@ -171,7 +171,7 @@ impl SeatMachine {
     }
 
     fn bytes(&mut self, bytes: &[u8]) -> Action
-        requires { length bytes.now ≤ 4096 }
+        requires { length bytes.now ≤ PIECE_ROOM }
         ensures { IsStagedMove self.old (Event.Bytes bytes.entry) result self.new }
     {
         match self.stage {

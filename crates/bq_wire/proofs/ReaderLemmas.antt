@@ -4,6 +4,7 @@ use Rattle.std.proofs.lemmas.Bool.Decides.{nat_tests}
 use Rattle.std.proofs.lemmas.List.{length-take-le}
 use Rattle.bq_job.specs.Line.{first_line}
 use Rattle.bq_job.specs.LineRead as line_read
+use Rattle.bq_job.specs.LineRead.{longest_line}
 use Rattle.bq_job.specs.Profile.{Profile, profile}
 use Rattle.bq_job.specs.Reading.{IsUnit, IsPutRequest, BeginsNoUnit, is_quit, put_with_body}
 use Rattle.bq_job.specs.ComputedReading.{unit_after}
@@ -122,18 +123,18 @@ feeds_behind new text piece rest end taken r within is fed = go r fed
     go (Some request) fed = record { unit = rw parts at fed.unit; next = fed.next }
 
 -- a line that is too long stays so
-pub long_more : (text piece : List ℕ) → 222 < length_beside_cr text → 222 < length_beside_cr (text ++ piece)
+pub long_more : (text piece : List ℕ) → longest_line < length_beside_cr text → longest_line < length_beside_cr (text ++ piece)
 long_more text [] long = rw append-nil long
 long_more text (b ∷ piece) long = go (last_is_cr false text) (last_is_cr false (text ++ b ∷ piece)) long
   where
-    go : (t u : Bool) → 222 < length text - (if t then 1 else 0) → 222 < length (text ++ b ∷ piece) - (if u then 1 else 0)
+    go : (t u : Bool) → longest_line < length text - (if t then 1 else 0) → longest_line < length (text ++ b ∷ piece) - (if u then 1 else 0)
     go true true long = omega (arith, length-append text (b ∷ piece))
     go true false long = omega (arith, length-append text (b ∷ piece))
     go false true long = omega (arith, length-append text (b ∷ piece))
     go false false long = omega (arith, length-append text (b ∷ piece))
 
 -- a line that is too long is BAD_FORMAT where it ends
-pub long_line_read : (text piece : List ℕ) (e : ℕ) → first_line text ≡ None → 222 < length_beside_cr text → line_end_after (last_is_cr false text) piece ≡ Some e
+pub long_line_read : (text piece : List ℕ) (e : ℕ) → first_line text ≡ None → longest_line < length_beside_cr text → line_end_after (last_is_cr false text) piece ≡ Some e
     → EndsLineAsking line_read.bad_format (take e piece) text
 long_line_read text piece e none long here =
     record { line = but_last (text ++ take (e - 1) piece); first_line_is = ends_there text piece e none here; read_is = read }
@@ -144,16 +145,16 @@ long_line_read text piece e none long here =
     length_is : length (text ++ take (e - 1) piece) ≡ length text + (e - 1)
     length_is = omega (arith, length-append text (take (e - 1) piece), length-take-le (e - 1) piece (omega (arith, within.1)))
 
-    line_length : (t : Bool) → last_is_cr false text ≡ t → 222 < length text - (if t then 1 else 0) → 222 < length text + (e - 1) - 1
+    line_length : (t : Bool) → last_is_cr false text ≡ t → longest_line < length text - (if t then 1 else 0) → longest_line < length text + (e - 1) - 1
     line_length true is long = omega (arith, within.0)
     line_length false is long = go e refl
       where
-        go : (n : ℕ) → e ≡ n → 222 < length text + (e - 1) - 1
+        go : (n : ℕ) → e ≡ n → longest_line < length text + (e - 1) - 1
         go zero is_n = absurd (omega (arith, within.0))
         go (suc zero) is_n = let cr : last_is_cr false text ≡ true = line_end_one (last_is_cr false text) piece (rw is_n at here) in cc
         go (suc (suc n)) is_n = omega arith
 
-    too_long : nat_lt 222 (length (but_last (text ++ take (e - 1) piece))) ≡ true
+    too_long : nat_lt longest_line (length (but_last (text ++ take (e - 1) piece))) ≡ true
     too_long =
         let count : length (but_last (text ++ take (e - 1) piece)) ≡ length text + (e - 1) - 1 = rw (← length_is) (length-take-le (length (text ++ take (e - 1) piece) - 1) (text ++ take (e - 1) piece) (omega arith)) in
         grind (arith, nat_tests, line_length (last_is_cr false text) refl long)
@@ -171,7 +172,7 @@ hands_out m kept text piece taken r nothing unit no_quit = record { unit = unit;
 
 -- a line of which there is no room for more is too long
 pub keep_long : (kept piece : List ℕ) (room : ℕ) (last : Bool) → room + length kept ≡ 223 → last_is_cr false (kept ++ piece) ≡ last
-    → room ≤ length piece → (length piece ≡ room → last ≡ false) → 222 < length_beside_cr (kept ++ piece)
+    → room ≤ length piece → (length piece ≡ room → last ≡ false) → longest_line < length_beside_cr (kept ++ piece)
 keep_long kept piece room true most is long exact = rw is (omega (arith, length-append kept piece, go))
   where
     go : length piece ≡ room → ⊥
@@ -200,7 +201,7 @@ kept_line old text piece e asked is none here read = record {
 
 -- what stands for a line that is too long and goes on
 pub long_stands : (m : ℕ) (kept text piece : List ℕ) (last after_cr : Bool) → kept ≡ [] → first_line text ≡ None → last_is_cr false text ≡ after_cr
-    → 222 < length_beside_cr text → line_end_after after_cr piece ≡ None → last ≡ last_is_cr after_cr piece
+    → longest_line < length_beside_cr text → line_end_after after_cr piece ≡ None → last ≡ last_is_cr after_cr piece
     → StandsAt (record { max_job_size = m; kept = kept; place = InLongLine last }) (InLongLine last) (text ++ piece)
 long_stands m kept text piece last after_cr nothing none cr long more last_is =
     (nothing, goes_on text piece none (rw cr more), rw (last_is_cr-append false text piece, cr) (sym last_is), long_more text piece long)

@@ -2,6 +2,7 @@
 use Rattle.std.specs.Prelude.{ℕ, ◌≡◌, ◌<◌, ◌+◌, ◌-◌, false, MatchBool, List, [], ◌++◌, length, take, Option, Some, None, if◌then◌else◌}
 use Rattle.bq_job.specs.Line.{first_line}
 use Rattle.bq_job.specs.LineRead as line_read
+use Rattle.bq_job.specs.LineRead.{longest_line}
 use Rattle.bq_job.specs.Profile.{Profile, profile}
 use Rattle.bq_job.specs.Reading.{IsUnit, BeginsNoUnit, is_quit}
 use Rattle.bq_job.specs.declared.request.Request.{Request}
@@ -35,7 +36,7 @@ pub record IsPutBegun (body : PutBody) (text : List ℕ) : Type 0 where
 abbrev pub StandsAt : State → Place → List ℕ → Type 0
 StandsAt state InLine text = (text ≡ state.kept) × (first_line text ≡ None)
 StandsAt state (InLongLine after_cr) text =
-    (state.kept ≡ []) × (first_line text ≡ None) × (last_is_cr false text ≡ after_cr) × (222 < length_beside_cr text)
+    (state.kept ≡ []) × (first_line text ≡ None) × (last_is_cr false text ≡ after_cr) × (longest_line < length_beside_cr text)
 StandsAt state (InBody body) text = (state.kept ≡ []) × IsPutBegun body text
 StandsAt state Over text = ⊥
 
@@ -90,5 +91,5 @@ but_last bytes = take (length bytes - 1) bytes
 abbrev pub Keeps : List ℕ → List ℕ → Place → List ℕ → Type 0
 Keeps old new InLine piece = new ≡ old ++ piece
 Keeps old new (InLongLine after_cr) piece =
-    (new ≡ []) × (last_is_cr false (old ++ piece) ≡ after_cr) × (222 < length_beside_cr (old ++ piece))
+    (new ≡ []) × (last_is_cr false (old ++ piece) ≡ after_cr) × (longest_line < length_beside_cr (old ++ piece))
 Keeps old new _ piece = ⊥

@@ -98,8 +98,8 @@ impl Command {
     }
 }
 
-// The command that a word names.
-fn command_of_word(word: &[u8]) -> Option<Command>
+/// The command that a word names, whether the core can carry it out or not.
+pub fn command_of_word(word: &[u8]) -> Option<Command>
     ensures { result ≡ find (λ c. is_same_name word.now (spec.word_of (command_of c))) ALL }
 {
     ALL.iter().copied().find(|command| word == command.word())

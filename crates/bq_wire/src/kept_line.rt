@@ -1,11 +1,12 @@
 ghost use Rattle.std.specs.Prelude.{◌≡◌, ◌≤◌, ◌+◌, ◌++◌, [], length, IfOk};
 
+use crate::line_read::LONGEST_LINE;
 use bq_job::NoMemory;
 use std::alloc::Global;
 use std::marker::Model;
 
 /// How many bytes are kept of a line at most: the longest line, and a CR.
-pub const MOST_KEPT: usize = 223;
+pub const MOST_KEPT: usize = LONGEST_LINE + 1;
 
 /// The bytes of a line that isn't whole. Its memory is given when it is made.
 #[derive(Debug, Drop)]
@@ -16,12 +17,13 @@ pub struct KeptLine {
 impl Model for KeptLine {
     ghost use Rattle.std.specs.Prelude.{List, ℕ, ◌≤◌, vec_len};
     ghost use Rattle.std.specs.Vec.{vec_capacity};
+    ghost use Rattle.bq_wire.specs.declared.kept_line.TheConstants.{MOST_KEPT};
 
     ghost Value = { List ℕ };
 
     ghost view = { λ k. k.bytes.items };
 
-    ghost invariant = { λ k. (223 ≤ vec_capacity k.bytes) × (vec_len k.bytes ≤ 223) };
+    ghost invariant = { λ k. (MOST_KEPT ≤ vec_capacity k.bytes) × (vec_len k.bytes ≤ MOST_KEPT) };
 }
 
 impl KeptLine {
@@ -36,7 +38,7 @@ impl KeptLine {
 
     /// How many bytes more can be kept.
     pub fn room(&self) -> usize
-        ensures { result + length self.now ≡ 223 }
+        ensures { result + length self.now ≡ MOST_KEPT }
     {
         MOST_KEPT - self.bytes.len()
     }
@@ -49,7 +51,7 @@ impl KeptLine {
 
     /// Puts these bytes at the end. Takes no memory.
     pub fn push_slice(&mut self, bytes: &[u8])
-        requires { length self.old + length bytes.now ≤ 223 }
+        requires { length self.old + length bytes.now ≤ MOST_KEPT }
         ensures { self.new ≡ self.old ++ bytes.now }
     {
         let _fits = self.bytes.extend_from_slice(bytes);

@@ -222,3 +222,6 @@ fn refused(why: Refusal) -> LineRead
 {
     LineRead::Whole(Request::Refused(why))
 }
+
+#[cfg(test)]
+mod tests;

@@ -8,7 +8,7 @@ ghost use Rattle.bq_job.specs.SoFar.{words_so_far};
 ghost use Rattle.bq_wire.specs.declared.state.State.{State};
 
 use crate::RequestReader;
-use bq_job::{NoMemory, Request};
+use bq_job::{LARGEST_BODY, NoMemory, Request};
 use std::alloc::Global;
 
 /// The requests of a text that comes in these pieces: those of the whole text, however it was cut.
@@ -17,7 +17,7 @@ pub fn requests_of(
     max_job_size: u32,
     pieces: &[Vec<u8, Global>],
 ) -> Result<Vec<Request, Global>, NoMemory>
-    requires { (1 ≤ max_job_size) × (max_job_size ≤ 1048576) }
+    requires { (1 ≤ max_job_size) × (max_job_size ≤ LARGEST_BODY) }
     ensures { IfOk result (λ requests. (rest : List ℕ)
         × Reads (profile max_job_size words_so_far) (flat_map (λ piece. piece.items) pieces.now) requests.items rest) }
 {

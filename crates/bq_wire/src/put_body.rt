@@ -1,4 +1,4 @@
-ghost use Rattle.std.specs.Prelude.{IsTrue, ◌≡◌, ◌≤◌, ◌<◌, ◌+◌, ℕ, List, [], length, take, nat_le};
+ghost use Rattle.std.specs.Prelude.{IsTrue, ◌≡◌, ◌≤◌, ◌<◌, ◌+◌, ℕ, List, [], None, length, take, nat_le};
 ghost use Rattle.std.specs.Option.{ForSome};
 ghost use Rattle.bq_job.specs.Profile.{profile};
 ghost use Rattle.bq_job.specs.Reading.{IsPutRequest};
@@ -24,21 +24,32 @@ pub struct PutBody {
 
 impl PutBody {
     /// A body of which nothing has come. Its memory is asked for here, and nowhere else.
-    pub fn new(alloc: Global, put: PutLine, max_job_size: u32) -> PutBody
+    pub fn new(alloc: Global, put: PutLine) -> PutBody
         ensures put { result.put ≡ put }
         ensures nothing { IsBodySoFar result [] }
         ensures room { HasBodyRoom result }
         ensures taken { result.taken ≡ 0 }
     {
-        let store = if put.bytes > max_job_size {
-            None
-        } else {
-            BodyBuilder::new(alloc, put.bytes as usize).ok()
-        };
         PutBody {
             put,
             taken: 0,
-            store,
+            store: BodyBuilder::new(alloc, put.bytes as usize).ok(),
+            good_end: true,
+        }
+    }
+
+    /// A body that is too big, of which nothing has come. It is taken without memory.
+    pub fn too_big(put: PutLine) -> PutBody
+        ensures put { result.put ≡ put }
+        ensures nothing { IsBodySoFar result [] }
+        ensures room { HasBodyRoom result }
+        ensures taken { result.taken ≡ 0 }
+        ensures unstored { result.store ≡ None }
+    {
+        PutBody {
+            put,
+            taken: 0,
+            store: None,
             good_end: true,
         }
     }
@@ -110,6 +121,8 @@ impl PutBody {
     pub fn into_request(self, max_job_size: u32) -> Request
         requires { self.taken ≡ self.put.bytes + 2 }
         ensures so_far { IsTrue (is_so_far result) }
+        // Where its memory was refused, that is the answer, whatever the bytes are.
+        ensures refused { self.store ≡ None → self.put.bytes ≤ max_job_size → result ≡ Request.Refused Refusal.OutOfMemory }
         ensures request { (after : List ℕ) → IsBodySoFar self after → IsPutRequest (profile max_job_size words_so_far) (put_line_of self.put) after result }
     {
         if self.put.bytes > max_job_size {

@@ -3,17 +3,17 @@ ghost use Rattle.bq_job.specs.LineRead as line_read;
 ghost use Rattle.bq_job.specs.Reading.{is_quit};
 ghost use Rattle.bq_wire.specs.Asked.{asked_by, IsReadSoFar};
 ghost use Rattle.bq_wire.specs.HasRead.{HasRead, ReadsOn};
-ghost use Rattle.bq_wire.specs.PutBodies.{HasBodyRoom};
+ghost use Rattle.bq_wire.specs.PutBodies.{HasBodyRoom, IsBodySoFar};
 ghost use Rattle.bq_wire.specs.Standing.{IsOver, IsSoundReader, Stands, StandsAt, Feeds, Keeps, EndsLineAsking, Waits, HandsRequest, but_last};
 ghost use Rattle.bq_job.specs.SoFar.{is_so_far, words_so_far};
 ghost use Rattle.bq_wire.specs.declared.state.Place.TheVariants.{InLine, InLongLine, InBody, Over};
 
 use crate::kept_line::KeptLine;
 use crate::line_end::{ends_in_cr, line_end_after};
-use crate::line_read::{LineRead, read_line};
+use crate::line_read::{LineRead, PutLine, read_line};
 use crate::put_body::PutBody;
 use crate::state::{Place, State};
-use bq_job::{NoMemory, Refusal, Request};
+use bq_job::{LARGEST_BODY, NoMemory, Refusal, Request};
 use std::alloc::Global;
 use std::marker::Model;
 use std::mem;
@@ -41,7 +41,7 @@ impl RequestReader {
     /// A reader that stands for the empty text. A job may have as many bytes as is told. The memory for
     /// lines is asked for here.
     pub fn new(alloc: Global, max_job_size: u32) -> Result<RequestReader, NoMemory>
-        requires { (1 ≤ max_job_size) × (max_job_size ≤ 1048576) }
+        requires { (1 ≤ max_job_size) × (max_job_size ≤ LARGEST_BODY) }
         ensures stands { IfOk result (λ reader. Stands reader []) }
         ensures reads { IfOk result (λ reader. HasRead reader [] []) }
         ensures limit { IfOk result (λ reader. reader.max_job_size ≡ max_job_size) }
@@ -190,10 +190,25 @@ fn after_line(
             (end, Some(request))
         }
         LineRead::PutWaits(put) => {
-            let body = PutBody::new(alloc, put, state.max_job_size);
+            let body = begun_body(alloc, put, state.max_job_size);
             let (taken, request) = feed_body(state, body, &piece[end..]);
             (end + taken, request)
         }
+    }
+}
+
+// The body of a put whose line is whole. No memory is asked for where it is too big.
+fn begun_body(alloc: Global, put: PutLine, max_job_size: u32) -> PutBody
+    ensures put { result.put ≡ put }
+    ensures nothing { IsBodySoFar result [] }
+    ensures room { HasBodyRoom result }
+    ensures taken { result.taken ≡ 0 }
+    ensures unstored { max_job_size < put.bytes → result.store ≡ None }
+{
+    if put.bytes > max_job_size {
+        PutBody::too_big(put)
+    } else {
+        PutBody::new(alloc, put)
     }
 }
 

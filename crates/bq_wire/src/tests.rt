@@ -1,7 +1,10 @@
 //! Worked readings, in one piece, cut at every byte, and cut in two at every place.
 
+pub mod noted;
+
 use crate::{RequestReader, requests_of};
 use bq_job::{Refusal, Request};
+use noted::noted;
 use std::alloc::{AllocError, Global};
 use std::process::Abort;
 use std::test::Fail;
@@ -69,23 +72,6 @@ fn text_of(alloc: Global, example: &Example) -> Result<Vec<u8>, AllocError> {
     Ok(bytes)
 }
 
-// A request in short: a refusal is its number.
-fn noted(alloc: Global, request: &Request) -> Result<String, AllocError> {
-    match request {
-        Request::Put {
-            pri,
-            delay,
-            ttr,
-            body,
-        } => format!(in alloc; "put {pri} {delay} {ttr} {:?};", body.as_slice()),
-        Request::Reserve => String::from_str(alloc, "reserve;"),
-        Request::Delete { id } => format!(in alloc; "delete {id};"),
-        Request::Quit => String::from_str(alloc, "quit;"),
-        Request::Refused(why) => format!(in alloc; "{};", why.code()),
-        _ => String::from_str(alloc, "another;"),
-    }
-}
-
 // The requests of a text in pieces, in short.
 fn read(alloc: Global, limit: u32, pieces: &[Vec<u8>]) -> Result<String, AllocError> {
     let Ok(requests) = requests_of(alloc, limit.max(1).min(1_048_576), pieces) else {
@@ -94,6 +80,7 @@ fn read(alloc: Global, limit: u32, pieces: &[Vec<u8>]) -> Result<String, AllocEr
     let mut notes = String::new(alloc);
     for request in &requests {
         notes.push_str(noted(alloc, request)?.as_str())?;
+        notes.push(';')?;
     }
     Ok(notes)
 }
@@ -187,6 +174,19 @@ fn long_rows(rt: HostRuntime) -> Result<(), Fail> {
 fn hostile_rows(rt: HostRuntime) -> Result<(), Fail> {
     let examples = [
         plain(65535, "quit^~", "101;"),
+        plain(65535, "put 0 0 1 2^~", "102;"),
+        plain(65535, "put 0 0 1 4294967296~reserve~", "102;reserve;"),
+        plain(65535, "put 0 0 1 0~~put 0 0 1 0~x~", "put 0 0 1 [];104;"),
+        plain(
+            65535,
+            "put 0 0 9 10~reserve~quit~~delete 3~",
+            "104;101;delete 3;",
+        ),
+        plain(
+            2,
+            "put 0 0 1 2~ab~put 0 0 1 3~quit~~delete 1~",
+            "put 0 0 1 [97, 98];103;101;delete 1;",
+        ),
         plain(65535, "quit\nquit~^^~\n~", "101;101;101;"),
         plain(1, "put 0 0 1 4294967295~abc", ""),
         plain(
@@ -254,6 +254,80 @@ fn bodies_without_memory(rt: HostRuntime) -> Result<(), Fail> {
             )
         );
         assert!(rt; matches!(reader.feed(b"reserve\r\n"), (9, Some(Request::Reserve))));
+    }
+    Ok(())
+}
+
+// A body of so many letters x, with its line and its end.
+fn put_text(alloc: Global, size: usize) -> Result<Vec<u8>, AllocError> {
+    let mut text = Vec::new(alloc);
+    text.extend_from_slice(format!(in alloc; "put 0 0 1 {size}\r\n")?.as_bytes())?;
+    for _ in 0..size {
+        text.push(b'x')?;
+    }
+    text.extend_from_slice(b"\r\n")?;
+    Ok(text)
+}
+
+// The only request of a text, which comes in pieces of 4,096 bytes.
+fn only_request(alloc: Global, limit: u32, text: &[u8]) -> Result<Option<Request>, Fail> {
+    let mut reader = RequestReader::new(alloc, limit.max(1).min(1_048_576))?;
+    let mut found = None;
+    for piece in text.chunks(4096) {
+        let (_, request) = reader.feed(piece);
+        if request.is_some() {
+            found = request;
+        }
+    }
+    Ok(found)
+}
+
+// The largest bodies that are usual and that can be chosen come out whole, and one byte more is refused.
+#[test]
+fn large_bodies(rt: HostRuntime) -> Result<(), Fail> {
+    let alloc = rt.alloc();
+    let table = [
+        (1, 0, true),
+        (1, 1, true),
+        (1, 2, false),
+        (65_535, 65_535, true),
+        (65_535, 65_536, false),
+        (1_048_576, 1_048_576, true),
+        (1_048_576, 1_048_577, false),
+    ];
+    for (limit, size, fits) in &table {
+        let text = put_text(alloc, *size)?;
+        match only_request(alloc, *limit, text.as_slice())? {
+            Some(Request::Put { body, .. }) => {
+                assert!(rt; *fits && body.as_slice().len() == *size);
+                assert!(rt; body.as_slice().iter().all(|b| *b == b'x'));
+            }
+            Some(Request::Refused(why)) => assert!(rt; !*fits && why == Refusal::JobTooBig),
+            _ => assert!(rt; false, "no request of {size} bytes"),
+        }
+    }
+    Ok(())
+}
+
+// A thousand requests in one piece, and in a thousand.
+#[test]
+fn a_thousand_requests(rt: HostRuntime) -> Result<(), Fail> {
+    let alloc = rt.alloc();
+    let mut text = Vec::new(alloc);
+    let mut pieces: Vec<Vec<u8>> = Vec::new(alloc);
+    for id in 0..1000 {
+        let line = format!(in alloc; "delete {id}\r\n")?;
+        text.extend_from_slice(line.as_bytes())?;
+        pieces.push(Vec::from_slice(alloc, line.as_bytes())?)?;
+    }
+    let mut whole: Vec<Vec<u8>> = Vec::new(alloc);
+    whole.push(text)?;
+    for cut in [&whole, &pieces] {
+        let requests = requests_of(alloc, 1, cut.as_slice())?;
+        assert!(rt; requests.len() == 1000);
+        for (place, request) in requests.iter().enumerate() {
+            assert!(rt; matches!(request, Request::Delete { id } if *id == place as u64));
+        }
     }
     Ok(())
 }

@@ -1,20 +1,75 @@
-//! What the machine does with whole lines, event by event.
+//! What the machine does with whole lines, event by event. Between any two of them it is given every event
+//! that doesn't answer its last action: each is stray, and what follows is the same.
 
 ghost use Rattle.bq_seat.specs.SeatMoves.{FitsPiece};
 
 use super::{Action, Event, SeatMachine};
+use crate::kept::PIECE_ROOM;
 use bq_job::{Answer, LineEnd, Request, Step};
 use std::process::Abort;
 use std::test::Fail;
 
+// An event of a session.
+#[derive(Clone, Copy, Debug, PartialEq, Eq)]
+enum Cue {
+    Opened,
+    Submitted,
+    Bytes(&'static str),
+    NothingYet,
+    EndOfInput,
+    ReadFault,
+    NotFound,
+    Closed,
+    WriteDone,
+    WriteFault,
+}
+
+const ALL_CUES: [Cue; 10] = [
+    Cue::Opened,
+    Cue::Submitted,
+    Cue::Bytes("delete 1\r\n"),
+    Cue::NothingYet,
+    Cue::EndOfInput,
+    Cue::ReadFault,
+    Cue::NotFound,
+    Cue::Closed,
+    Cue::WriteDone,
+    Cue::WriteFault,
+];
+
+fn event_of(cue: Cue) -> Event<'static>
+    ensures { FitsPiece result }
+{
+    match cue {
+        Cue::Opened => Event::Opened,
+        Cue::Submitted => Event::Submitted,
+        Cue::Bytes(text) => {
+            let bytes = text.as_bytes();
+            if bytes.len() <= PIECE_ROOM {
+                Event::Bytes(bytes)
+            } else {
+                Event::NothingYet
+            }
+        }
+        Cue::NothingYet => Event::NothingYet,
+        Cue::EndOfInput => Event::EndOfInput,
+        Cue::ReadFault => Event::ReadFault,
+        Cue::NotFound => Event::Mail(Answer::NotFound),
+        Cue::Closed => Event::Mail(Answer::Closed),
+        Cue::WriteDone => Event::WriteDone,
+        Cue::WriteFault => Event::WriteFault,
+    }
+}
+
 // A word for each kind of action.
-fn name_of(action: &Action) -> &str {
+fn name_of(action: &Action) -> &'static str {
     match action {
         Action::Submit(Step::Connect) => "connect",
         Action::Submit(Step::Ask(Request::Put { .. })) => "put",
         Action::Submit(Step::Ask(Request::Reserve)) => "reserve",
         Action::Submit(Step::Ask(Request::Delete { .. })) => "delete",
         Action::Submit(Step::Ask(Request::Quit)) => "quit",
+        Action::Submit(Step::Ask(Request::Refused(..))) => "refused",
         Action::Submit(Step::Ask(_)) => "other request",
         Action::Submit(Step::End) => "end",
         Action::Submit(Step::Close) => "close",
@@ -30,95 +85,138 @@ fn name_of(action: &Action) -> &str {
     }
 }
 
-fn expect(rt: &impl Abort, machine: &mut SeatMachine, event: Event<'_>, want: &str)
-    requires { FitsPiece event }
-{
-    let action = machine.on(event);
-    assert_eq!(rt; name_of(&action), want);
+// Whether the event answers an action of this name.
+fn answers(cue: Cue, last: &str) -> bool {
+    match last {
+        "read" => matches!(
+            cue,
+            Cue::Bytes(_) | Cue::NothingYet | Cue::EndOfInput | Cue::ReadFault
+        ),
+        "poll" => matches!(cue, Cue::NothingYet | Cue::NotFound | Cue::Closed),
+        "write" => matches!(cue, Cue::WriteDone | Cue::WriteFault),
+        over if over.starts_with("over") => cue == Cue::Opened,
+        _ => cue == Cue::Submitted,
+    }
 }
 
-// A line is opened, its client asks for a job and then no more, and its own close ends it.
+// Lines, one behind another: each event, and the action that answers it.
+fn play(rt: &impl Abort, machine: &mut SeatMachine, session: &[(Cue, &'static str)], strays: bool) {
+    let mut last = "over";
+    for (cue, want) in session {
+        if strays {
+            for other in ALL_CUES {
+                if !answers(other, last) {
+                    let action = machine.on(event_of(other));
+                    assert_eq!(rt; name_of(&action), "stray", "{other:?} after {last}");
+                }
+            }
+        }
+        let action = machine.on(event_of(*cue));
+        assert_eq!(rt; name_of(&action), *want, "{cue:?} after {last}");
+        last = name_of(&action);
+    }
+}
+
+// A line with commands behind a wait, and then one that comes in pieces and quits inside a body first.
+const WAITS: [(Cue, &str); 33] = [
+    (Cue::Opened, "connect"),
+    (Cue::Submitted, "read"),
+    (Cue::NothingYet, "read"),
+    (Cue::Bytes("put 0 0 1 1\r"), "read"),
+    (Cue::Bytes("\na\r\nreserve\r\n"), "put"),
+    (Cue::Submitted, "poll"),
+    (Cue::NothingYet, "poll"),
+    (Cue::NotFound, "write"),
+    (Cue::WriteDone, "reserve"),
+    (Cue::Submitted, "poll"),
+    (Cue::NothingYet, "read"),
+    (Cue::NothingYet, "poll"),
+    (Cue::NothingYet, "read"),
+    (Cue::Bytes("delete 1\r\nquit\r\nreserve\r\n"), "poll"),
+    (Cue::NothingYet, "poll"),
+    (Cue::NotFound, "write"),
+    (Cue::WriteDone, "delete"),
+    (Cue::Submitted, "poll"),
+    (Cue::NotFound, "write"),
+    (Cue::WriteDone, "quit"),
+    (Cue::Submitted, "close"),
+    (Cue::Submitted, "poll"),
+    (Cue::NothingYet, "poll"),
+    (Cue::NotFound, "poll"),
+    (Cue::Closed, "over by quit"),
+    (Cue::Opened, "connect"),
+    (Cue::Submitted, "read"),
+    (Cue::Bytes("put 0 0 9 6\r\nquit\r\n"), "read"),
+    (Cue::Bytes("\r\nquit\r\n"), "put"),
+    (Cue::Submitted, "poll"),
+    (Cue::NotFound, "write"),
+    (Cue::WriteDone, "quit"),
+    (Cue::Submitted, "close"),
+];
+
+// Ends of the input: behind a wait it is told, and the line is closed after the answer.
+const ENDS: [(Cue, &str); 18] = [
+    (Cue::Opened, "connect"),
+    (Cue::Submitted, "read"),
+    (Cue::Bytes("reserve\r\n"), "reserve"),
+    (Cue::Submitted, "poll"),
+    (Cue::NothingYet, "read"),
+    (Cue::EndOfInput, "end"),
+    (Cue::Submitted, "poll"),
+    (Cue::NothingYet, "poll"),
+    (Cue::NotFound, "write"),
+    (Cue::WriteDone, "close"),
+    (Cue::Submitted, "poll"),
+    (Cue::Closed, "over by end of input"),
+    (Cue::Opened, "connect"),
+    (Cue::Submitted, "read"),
+    (Cue::EndOfInput, "close"),
+    (Cue::Submitted, "poll"),
+    (Cue::Closed, "over by end of input"),
+    (Cue::Opened, "connect"),
+];
+
+// Faults: a line is closed after one, and the next line begins anew.
+const FAULTS: [(Cue, &str); 23] = [
+    (Cue::Opened, "connect"),
+    (Cue::Submitted, "read"),
+    (Cue::Bytes("reserve\r\n"), "reserve"),
+    (Cue::Submitted, "poll"),
+    (Cue::NothingYet, "read"),
+    (Cue::ReadFault, "close"),
+    (Cue::Submitted, "poll"),
+    (Cue::NotFound, "poll"),
+    (Cue::Closed, "over by read fault"),
+    (Cue::Opened, "connect"),
+    (Cue::Submitted, "read"),
+    (Cue::Bytes("delete 7\r\ndelete 8\r\n"), "delete"),
+    (Cue::Submitted, "poll"),
+    (Cue::NotFound, "write"),
+    (Cue::WriteFault, "close"),
+    (Cue::Submitted, "poll"),
+    (Cue::NothingYet, "poll"),
+    (Cue::Closed, "over by write fault"),
+    (Cue::Opened, "connect"),
+    (Cue::Submitted, "read"),
+    (Cue::Bytes("PUT\r\n"), "refused"),
+    (Cue::Submitted, "poll"),
+    (Cue::NothingYet, "poll"),
+];
+
 #[test]
-fn a_wait_with_commands_behind_it(rt: HostRuntime) -> Result<(), Fail> {
-    let mut machine = SeatMachine::new(rt.alloc(), 65535)?;
-    let m = &mut machine;
-    expect(&rt, m, Event::Mail(Answer::Closed), "stray");
-    expect(&rt, m, Event::Opened, "connect");
-    expect(&rt, m, Event::Opened, "stray");
-    expect(&rt, m, Event::Submitted, "read");
-    expect(&rt, m, Event::NothingYet, "read");
-    expect(&rt, m, Event::Bytes(b"put 0 0 1 1\r"), "read");
-    expect(&rt, m, Event::Bytes(b"\na\r\nreserve\r\n"), "put");
-    expect(&rt, m, Event::Submitted, "poll");
-    expect(&rt, m, Event::NothingYet, "poll");
-    expect(&rt, m, Event::Mail(Answer::Inserted(1)), "write");
-    expect(&rt, m, Event::WriteDone, "reserve");
-    expect(&rt, m, Event::Submitted, "poll");
-    expect(&rt, m, Event::NothingYet, "read");
-    expect(
-        &rt,
-        m,
-        Event::Bytes(b"delete 1\r\nquit\r\nreserve\r\n"),
-        "poll",
-    );
-    expect(&rt, m, Event::NothingYet, "poll");
-    expect(&rt, m, Event::Mail(Answer::TimedOut), "write");
-    expect(&rt, m, Event::WriteDone, "delete");
-    expect(&rt, m, Event::Submitted, "poll");
-    expect(&rt, m, Event::Mail(Answer::NotFound), "write");
-    expect(&rt, m, Event::WriteDone, "quit");
-    expect(&rt, m, Event::Submitted, "close");
-    expect(&rt, m, Event::Submitted, "poll");
-    expect(&rt, m, Event::Mail(Answer::TimedOut), "poll");
-    expect(&rt, m, Event::Mail(Answer::Closed), "over by quit");
-    expect(&rt, m, Event::NothingYet, "stray");
-    expect(&rt, m, Event::Opened, "connect");
+fn whole_lines(rt: HostRuntime) -> Result<(), Fail> {
+    for session in [WAITS.as_slice(), ENDS.as_slice(), FAULTS.as_slice()] {
+        let mut machine = SeatMachine::new(rt.alloc(), 65535)?;
+        play(&rt, &mut machine, session, false);
+    }
     Ok(())
 }
 
-// The end of the input behind a wait is told, and the line is closed after the answer.
 #[test]
-fn end_behind_a_wait(rt: HostRuntime) -> Result<(), Fail> {
-    let mut machine = SeatMachine::new(rt.alloc(), 65535)?;
-    let m = &mut machine;
-    expect(&rt, m, Event::Opened, "connect");
-    expect(&rt, m, Event::Submitted, "read");
-    expect(&rt, m, Event::Bytes(b"reserve\r\n"), "reserve");
-    expect(&rt, m, Event::Submitted, "poll");
-    expect(&rt, m, Event::NothingYet, "read");
-    expect(&rt, m, Event::NothingYet, "poll");
-    expect(&rt, m, Event::NothingYet, "read");
-    expect(&rt, m, Event::EndOfInput, "end");
-    expect(&rt, m, Event::Submitted, "poll");
-    expect(&rt, m, Event::NothingYet, "poll");
-    expect(&rt, m, Event::Mail(Answer::TimedOut), "write");
-    expect(&rt, m, Event::WriteDone, "close");
-    expect(&rt, m, Event::Submitted, "poll");
-    expect(&rt, m, Event::Mail(Answer::Closed), "over by end of input");
-    Ok(())
-}
-
-// A line is closed after a fault, and the next one begins anew.
-#[test]
-fn faults(rt: HostRuntime) -> Result<(), Fail> {
-    let mut machine = SeatMachine::new(rt.alloc(), 65535)?;
-    let m = &mut machine;
-    expect(&rt, m, Event::Opened, "connect");
-    expect(&rt, m, Event::Submitted, "read");
-    expect(&rt, m, Event::Bytes(b"reserve\r\n"), "reserve");
-    expect(&rt, m, Event::Submitted, "poll");
-    expect(&rt, m, Event::NothingYet, "read");
-    expect(&rt, m, Event::ReadFault, "close");
-    expect(&rt, m, Event::Submitted, "poll");
-    expect(&rt, m, Event::Mail(Answer::Closed), "over by read fault");
-    expect(&rt, m, Event::Opened, "connect");
-    expect(&rt, m, Event::Submitted, "read");
-    expect(&rt, m, Event::Bytes(b"delete 7\r\ndelete 8\r\n"), "delete");
-    expect(&rt, m, Event::Submitted, "poll");
-    expect(&rt, m, Event::Mail(Answer::NotFound), "write");
-    expect(&rt, m, Event::WriteFault, "close");
-    expect(&rt, m, Event::Submitted, "poll");
-    expect(&rt, m, Event::NothingYet, "poll");
-    expect(&rt, m, Event::Mail(Answer::Closed), "over by write fault");
+fn stray_events(rt: HostRuntime) -> Result<(), Fail> {
+    for session in [WAITS.as_slice(), ENDS.as_slice(), FAULTS.as_slice()] {
+        let mut machine = SeatMachine::new(rt.alloc(), 65535)?;
+        play(&rt, &mut machine, session, true);
+    }
     Ok(())
 }

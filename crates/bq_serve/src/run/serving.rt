@@ -8,14 +8,11 @@ use crate::clock::Clock;
 use crate::line::{Line, is_nothing_yet};
 use bq_core::{Config, Core, CoreFault, Outs};
 use bq_job::{Answer, Moment, Seat, Step, steps_give_few_answers};
-use bq_seat::{Action, Event, SeatMachine};
+use bq_seat::{Action, Event, PIECE_ROOM, SeatMachine};
 use std::alloc::Global;
 
 /// The seat of a lone client.
 const ONLY_SEAT: Seat = 0;
-
-/// How many bytes are read at once at most.
-const PIECE_ROOM: usize = 4096;
 
 /// What serves a lone client, beside its line and the clock.
 #[derive(Drop)]

@@ -8,7 +8,7 @@ use Rattle.bq_wire.proofs.reader.after_line.Goals as goal
 pub returns-in-PutWaits-clause-feeds : goal.returns-in-PutWaits-clause-feeds
 returns-in-PutWaits-clause-feeds c = λ nothing text line.
     let rest : take (length c.args.piece.now - c.args.end) (drop c.args.end c.args.piece.now) ≡ drop c.args.end c.args.piece.now = grind (arith, common_steps) in
-    let body = c.new-body in
+    let body = c.begun_body-body in
     let fed = c.feed_body-taken in
     let asked : asked_by c.args.read ≡ line_read.PutWaits (put_line_of body.result.put) = rw (c.in-PutWaits.is, body.ensures.put) in
     feeds_behind fed.new.state text c.args.piece.now (take (length c.args.piece.now - c.args.end) (drop c.args.end c.args.piece.now)) c.args.end fed.result.0 fed.result.1
