@@ -1,10 +1,13 @@
 pub mod ActLemmas
 pub mod ActMoves
+pub mod AnswerPlaces
 pub mod ChangeLemmas
 pub mod ChoiceLemmas
 pub mod ComputedLemmas
+pub mod ComputedRunLemmas
 pub mod DispatchLemmas
 pub mod JobMoves
+pub mod KeptJobLemmas
 pub mod KeptLemmas
 pub mod LawfulLemmas
 pub mod LineLemmas
@@ -15,6 +18,7 @@ pub mod NextDueLemmas
 pub mod OneClientLemmas
 pub mod OrderLemmas
 pub mod OutcomeLemmas
+pub mod OwnAnswerLemmas
 pub mod QuietLemmas
 pub mod ReadsLemmas
 pub mod RecordLemmas

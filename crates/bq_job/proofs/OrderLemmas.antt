@@ -50,7 +50,7 @@ plain_puts_none id (h ∷ happened) plain = or_from (is_put id h) (list_any (is_
     here (deleted other) e = refl
 
 -- a put that comes later, after a move without one
-put_behind : (j : Job) (m n : Machine) (happened more : List Happening) → IsQuiet m happened n ⊎ IsHandOutMove m happened n → Contains (happened ++ more) (put j) → Contains more (put j)
+pub put_behind : (j : Job) (m n : Machine) (happened more : List Happening) → IsQuiet m happened n ⊎ IsHandOutMove m happened n → Contains (happened ++ more) (put j) → Contains more (put j)
 put_behind j m n happened more move h = elim (Contains-append_cases happened more (put j) h) [ inl e ↦ absurd (of_move move e) | inr e ↦ e ]
   where
     of_move : IsQuiet m happened n ⊎ IsHandOutMove m happened n → Contains happened (put j) → ⊥
@@ -60,7 +60,7 @@ put_behind j m n happened more move h = elim (Contains-append_cases happened mor
         absurd cc
 
 -- a put that comes with a put, or later
-put_now_or_behind : (j : Job) (m n : Machine) (happened more : List Happening) (p : IsPutMove m happened n) → Contains (happened ++ more) (put j) → (p.job ≡ j) ⊎ Contains more (put j)
+pub put_now_or_behind : (j : Job) (m n : Machine) (happened more : List Happening) (p : IsPutMove m happened n) → Contains (happened ++ more) (put j) → (p.job ≡ j) ⊎ Contains more (put j)
 put_now_or_behind j m n happened more p h =
     elim (contained_put j (put p.job) more (subst (λ hs. Contains (hs ++ more) (put j)) p.happened_is h)) [
       | inl e ↦ inl (same_job p.job j e)

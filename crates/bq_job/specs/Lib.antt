@@ -8,6 +8,7 @@ pub mod Codes
 pub mod CommandWords
 pub mod Computed
 pub mod ComputedReading
+pub mod ComputedRuns
 pub mod Dispatch
 pub mod Examples
 pub mod JobCommands
@@ -23,6 +24,7 @@ pub mod NextDue
 pub mod Profile
 pub mod Reading
 pub mod Refusals
+pub mod RunExamples
 pub mod Runs
 pub mod SameRequests
 pub mod SoFar

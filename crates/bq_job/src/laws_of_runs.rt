@@ -1,10 +1,25 @@
-//! Laws of runs: what holds of every run of the machine from the start, whatever its clients ask.
+//! Laws of runs: what holds of every run of the machine, whatever its clients ask, and however its steps
+//! come out for want of memory.
+ghost use Rattle.bq_job.specs.declared.answer.Answer.TheVariants.{Deleted, Inserted};
 ghost use Rattle.bq_job.specs.declared.job.Job.{Job};
-ghost use Rattle.bq_job.specs.Happenings.{happenings, parts_of_run};
+ghost use Rattle.bq_job.specs.declared.step.Step.TheVariants.{Drain};
+ghost use Rattle.bq_job.specs.ComputedRuns.{machine_after, transitions};
+ghost use Rattle.bq_job.specs.Dispatch.{GivenAnswer};
+ghost use Rattle.bq_job.specs.Happenings.{Part, happenings, parts_of_run, put};
+ghost use Rattle.bq_job.specs.JobCommands.{last_id};
+ghost use Rattle.bq_job.specs.LawsOfRuns.{GivesLeast, IsDeletion, IsHeldByOne, IsKept, has_inserted};
 ghost use Rattle.bq_job.specs.Machine.{Machine, Settings, new_machine};
-ghost use Rattle.bq_job.specs.Runs.{GoesBy, Transition};
-ghost use Rattle.bq_job.specs.Undisturbed.{IsHandedOut, IsHandedOutBefore, IsPutBefore, IsUndisturbed, is_hand_out};
-ghost use Rattle.std.specs.Prelude.{◌≡◌, ◌≤◌, List, count_by};
+ghost use Rattle.bq_job.specs.Runs.{Entry, GoesBy, Transition};
+ghost use Rattle.bq_job.specs.Undisturbed.{IsHandedOut, IsHandedOutBefore, IsPutBefore, IsUndisturbed, is_deletion, is_hand_out};
+ghost use Rattle.std.specs.Prelude.{ℕ, ◌≡◌, ◌≤◌, false, List, [], ◌∷◌, ◌++◌, Contains, count_by, flat_map};
+ghost use Rattle.std.specs.List.{list_any};
+
+/// Each RESERVED of a run is the command's own answer to a reserve-job, or dispatch gave the client the
+/// least job, by priority and then by id, that it might have at that moment.
+pub fn reserved_jobs_are_least()
+    ensures { (first last : Machine) (taken : List Transition) (t : Transition)
+        → GoesBy first taken last → Contains taken t → GivesLeast t }
+{}
 
 /// A job that was put without a delay and that nothing disturbs is handed out at most once.
 pub fn undisturbed_jobs_are_handed_out_once()
@@ -23,4 +38,42 @@ pub fn undisturbed_jobs_are_handed_out_in_order()
         → a.pri ≡ b.pri → a.tube ≡ b.tube → IsPutBefore a.id b.id (happenings (parts_of_run taken))
         → IsHandedOut a.id (happenings (parts_of_run taken)) → IsHandedOut b.id (happenings (parts_of_run taken))
         → IsHandedOutBefore a.id b.id (happenings (parts_of_run taken)) }
+{}
+
+/// From the step that begins to drain on no answer is INSERTED, and none is after the last id was given.
+pub fn no_put_is_accepted_once_draining()
+    ensures drained { (first last : Machine) (early more : List Transition) (t : Transition)
+        → GoesBy first (early ++ t ∷ more) last → t.entry.what ≡ Drain
+        → has_inserted (flat_map (λ (u : Transition). u.given) (t ∷ more)) ≡ false }
+    ensures last_id_given { (first last : Machine) (taken : List Transition) (early more : List GivenAnswer) (seat : ℕ)
+        → GoesBy first taken last
+        → flat_map (λ (u : Transition). u.given) taken ≡ early ++ (seat, Inserted last_id) ∷ more
+        → has_inserted more ≡ false }
+{}
+
+/// A job that was accepted is there, once and in its tube and with its body, after each part of a step
+/// until it is deleted.
+pub fn accepted_jobs_stay_until_deleted()
+    ensures { (settings : Settings) (taken : List Transition) (last : Machine) (early late : List Part) (p : Part) (j : Job)
+        → GoesBy (new_machine settings) taken last → parts_of_run taken ≡ early ++ p ∷ late
+        → Contains (happenings (early ++ p ∷ [])) (put j)
+        → list_any (is_deletion j.id) (happenings (early ++ p ∷ [])) ≡ false → IsKept j p.machine }
+{}
+
+/// After each part of a step one client at most holds a job, and it is connected.
+pub fn jobs_are_held_by_one_client()
+    ensures { (settings : Settings) (taken : List Transition) (last : Machine) (p : Part)
+        → GoesBy (new_machine settings) taken last → Contains (parts_of_run taken) p → IsHeldByOne p.machine }
+{}
+
+/// DELETED goes to who asked for it, and only where the job was there and nobody else held it.
+pub fn deleted_answers_its_asker()
+    ensures { (first last : Machine) (taken : List Transition) (t : Transition) (seat : ℕ)
+        → GoesBy first taken last → Contains taken t → Contains t.given (seat, Deleted) → IsDeletion t seat }
+{}
+
+/// Over every history there is a run with enough memory, and it can be computed.
+pub fn computed_is_run()
+    ensures { (first : Machine) (history : List Entry)
+        → GoesBy first (transitions first history) (machine_after first history) }
 {}

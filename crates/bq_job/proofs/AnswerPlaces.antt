@@ -1,0 +1,466 @@
+-- Where in a step's answers each RESERVED, INSERTED and DELETED stands, and what is so then.
+use Rattle.std.proofs.Common.{ℕ, suc, ◌≡◌, ◌≤◌, ◌<◌, Bool, true, false, ◌&&◌, ◌||◌, not, cond, List, [], ◌∷◌, ◌++◌, map, arith, refl, sym, ap, ◌∙◌, subst, inl, inr, ◌⊎◌, Option, Some, None, append-nil}
+use Rattle.std.specs.Prelude.{IsTrue, filter, flat_map, nat_le, ◌==◌}
+use Rattle.std.specs.List.{AllByRecursion as All, Contains, list_any}
+use Rattle.std.proofs.lemmas.Bool.{cases_Bool, or_parts, or_from, both_ways, cond_both}
+use Rattle.std.proofs.lemmas.Bool.Decides.{nat_tests}
+use Rattle.std.proofs.lemmas.List.Elements.{Contains-append_cases}
+use Rattle.std.proofs.lemmas.List.Folds.{list_any-append}
+use Rattle.bq_job.specs.declared.answer.Answer.{Answer}
+use Rattle.bq_job.specs.declared.answer.Answer.TheVariants as answers
+use Rattle.bq_job.specs.declared.job.Job.{Job}
+use Rattle.bq_job.specs.declared.request.Request.TheVariants as requests
+use Rattle.bq_job.specs.declared.step.Step.{Step}
+use Rattle.bq_job.specs.declared.step.Step.TheVariants as steps
+use Rattle.bq_job.specs.Acts.{Effect}
+use Rattle.bq_job.specs.Asked.{effect}
+use Rattle.bq_job.specs.Changes.{is_held_by, job_with}
+use Rattle.bq_job.specs.Dispatch.{DispatchTurn, GivenAnswer, IsHandOut, next_seat}
+use Rattle.bq_job.specs.JobCommands.{last_id}
+use Rattle.bq_job.specs.JobStates.{is_reserved}
+use Rattle.bq_job.specs.LawsOfRuns.{GivesLeast, IsDeletion, IsDispatchedLeast, IsReservedById, has_inserted, is_inserted}
+use Rattle.bq_job.specs.Machine.{Machine, SeatRecord}
+use Rattle.bq_job.specs.Runs.{GoesBy, IsTransition, Parts, Transition, parts_of}
+use Rattle.bq_job.specs.Steps.{Dispatches, EndsWaits, IsStep, Memory, Outcome, Serves, acted, addressed, granted, growth_refused, share_refused, is_possible}
+use Rattle.bq_job.specs.Timers.{after_timers, at_moment}
+use Rattle.bq_job.specs.Tubes.{forgetting}
+use Rattle.bq_job.specs.Waits.{Chain, WaitEndTurn, end_of_wait, is_deadline_soon}
+use Rattle.bq_job.proofs.DispatchLemmas.{reserved_is_least, turn_of}
+use Rattle.bq_job.proofs.LawfulLemmas.{end_of}
+use Rattle.bq_job.proofs.ListLemmas.{all_always, all_at, all_of_filter, contains_head}
+use Rattle.bq_job.proofs.LookupLemmas.{found_job}
+use Rattle.bq_job.proofs.OwnAnswerLemmas.{Tells, commonly, deleting, drains_acted, inserting, is_common, reserving, tells_acted}
+
+-- an element of two lists that are joined: in the first, or in the second
+pub record InFirst {X : Type 0} (xs ys early : List X) (x : X) (more : List X) : Type 0 where
+  pub rest : List X
+  pub first_is : xs ≡ early ++ x ∷ rest
+  pub more_is : more ≡ rest ++ ys
+
+pub record InSecond {X : Type 0} (xs ys early : List X) (x : X) (more : List X) : Type 0 where
+  pub begin : List X
+  pub early_is : early ≡ xs ++ begin
+  pub second_is : ys ≡ begin ++ x ∷ more
+
+pub split_at : {X : Type 0} (xs ys early : List X) (x : X) (more : List X) → xs ++ ys ≡ early ++ x ∷ more → InFirst xs ys early x more ⊎ InSecond xs ys early x more
+split_at [] ys early x more e = inr (record { begin = early; early_is = refl; second_is = e })
+split_at (z ∷ xs) ys [] x more e = inl (record { rest = xs; first_is = (let same : z ≡ x = (cc) in ap (λ y. y ∷ xs) same); more_is = (cc) })
+split_at (z ∷ xs) ys (w ∷ early) x more e =
+    let same : z ≡ w = (cc) in
+    let rest : xs ++ ys ≡ early ++ x ∷ more = (cc) in
+    elim (split_at xs ys early x more rest) [
+      | inl i ↦ inl (record { rest = i.rest; first_is = subst (λ v. z ∷ xs ≡ v ∷ (early ++ x ∷ i.rest)) same (ap (λ ys. z ∷ ys) i.first_is); more_is = i.more_is })
+      | inr i ↦ inr (record { begin = i.begin; early_is = subst (λ v. v ∷ early ≡ z ∷ (xs ++ i.begin)) same (ap (λ ys. z ∷ ys) i.early_is); second_is = i.second_is })
+    ]
+
+all_in_place : {X : Type 0} (P : X → Type 0) (xs early : List X) (x : X) (more : List X) → xs ≡ early ++ x ∷ more → All P xs → P x
+all_in_place {X = X} P xs early x more e h = go early (subst (All P) e h)
+  where
+    go : (early : List X) → All P (early ++ x ∷ more) → P x
+    go [] h = h.0
+    go (y ∷ early) h = go early h.1
+
+-- A wait that ends gives none of these answers,
+abbrev AreCommon : List GivenAnswer → Type 0
+AreCommon given = All (λ g. is_common (Some g.1) ≡ true) given
+
+common_end : (m : Machine) (s : SeatRecord) → is_common (Some (end_of_wait m s)) ≡ true
+common_end m s = cond_both (is_deadline_soon m s) answers.DeadlineSoon answers.TimedOut (λ a. is_common (Some a) ≡ true) (λ e. refl) (λ e. refl)
+
+ends_are_common : (m : Machine) (given : List GivenAnswer) (n : Machine) → Chain WaitEndTurn m given n → AreCommon given
+ends_are_common m [] n chain = tt
+ends_are_common m (g ∷ given) n chain =
+    let e = end_of m g chain.0 chain.1 in
+    (subst (λ (a : Answer). is_common (Some a) ≡ true) (sym (ap (λ (g : GivenAnswer). g.1) e.given_is)) (common_end m e.client), ends_are_common chain.0 given n chain.2)
+
+-- and dispatch only RESERVED and OUT_OF_MEMORY.
+abbrev is_of_dispatch : Answer → Bool
+is_of_dispatch (answers.Reserved id body) = true
+is_of_dispatch answers.OutOfMemory = true
+is_of_dispatch _ = false
+
+abbrev AreOfDispatch : List GivenAnswer → Type 0
+AreOfDispatch given = All (λ g. is_of_dispatch g.1 ≡ true) given
+
+hand_out_answers : (m : Machine) (j : Job) (s : SeatRecord) (g : GivenAnswer) (n : Machine) → IsHandOut m j s g n → (is_of_dispatch g.1 ≡ true) × (n.draining ≡ m.draining)
+hand_out_answers m j s g n (inl h) = (ap (λ (g : GivenAnswer). is_of_dispatch g.1) h.0, ap (λ (l : Machine). l.draining) h.1)
+hand_out_answers m j s g n (inr h) = (ap (λ (g : GivenAnswer). is_of_dispatch g.1) h.0, ap (λ (l : Machine). l.draining) h.1)
+
+turns_answer : (m : Machine) (given : List GivenAnswer) (n : Machine) → Chain DispatchTurn m given n → AreOfDispatch given × (n.draining ≡ m.draining)
+turns_answer m [] n chain = (tt, ap (λ (l : Machine). l.draining) chain)
+turns_answer m (g ∷ given) n chain =
+    let t = turn_of m g chain.0 chain.1 in
+    let one = hand_out_answers m t.job t.client g chain.0 t.hands in
+    let rest = turns_answer chain.0 given n chain.2 in
+    ((one.0, rest.0), rest.1 ∙ one.1)
+
+ends_keep_draining : (m : Machine) (given : List GivenAnswer) (n : Machine) → Chain WaitEndTurn m given n → n.draining ≡ m.draining
+ends_keep_draining m [] n chain = ap (λ (l : Machine). l.draining) chain
+ends_keep_draining m (g ∷ given) n chain =
+    let e = end_of m g chain.0 chain.1 in
+    ends_keep_draining chain.0 given n chain.2 ∙ ap (λ (l : Machine). l.draining) e.next_is
+
+-- the answers of dispatch and of the ends of waits
+record AnswersSo (first : Machine) (handed ended : List GivenAnswer) (last : Machine) : Type 0 where
+  by_dispatch : AreOfDispatch handed
+  by_ends : AreCommon ended
+  draining : last.draining ≡ first.draining
+
+serves_answers : (first : Machine) (handed ended : List GivenAnswer) (last : Machine) → Serves first handed ended last → AnswersSo first handed ended last
+serves_answers first handed ended last s =
+    let d = turns_answer first handed s.dispatches.end s.dispatches.turns in
+    record {
+      by_dispatch = d.0;
+      by_ends = ends_are_common s.between ended s.ends_waits.end s.ends_waits.turns;
+      draining = ap (λ (l : Machine). l.draining) s.ends_waits.forgets ∙ ends_keep_draining s.between ended s.ends_waits.end s.ends_waits.turns ∙ ap (λ (l : Machine). l.draining) s.dispatches.forgets ∙ d.1;
+    }
+
+turn_in_chain : (m : Machine) (given : List GivenAnswer) (g : GivenAnswer) (more : List GivenAnswer) (n : Machine) → Chain DispatchTurn m (given ++ g ∷ more) n → (at : Machine) × (next : Machine) × Chain DispatchTurn m given at × DispatchTurn at g next
+turn_in_chain m [] g more n chain = (m, chain.0, refl, chain.1)
+turn_in_chain m (h ∷ given) g more n chain =
+    let rest = turn_in_chain chain.0 given g more n chain.2 in
+    (rest.0, rest.1, (chain.0, chain.1, rest.2), rest.3)
+
+dispatched_least : (first : Machine) (before handed given more early : List GivenAnswer) (seat id : ℕ) (body : List ℕ) (last : Machine) → Dispatches first handed last → handed ≡ given ++ (seat, answers.Reserved id body) ∷ more → early ≡ before ++ given → IsDispatchedLeast first before handed early seat id body
+dispatched_least first before handed given more early seat id body last d is place =
+    let t = turn_in_chain first given (seat, answers.Reserved id body) more d.end (subst (λ gs. Chain DispatchTurn first gs d.end) is d.turns) in
+    record { given = given; more = more; place = place; handed_is = is; moment = t.0; turns = t.2; least = reserved_is_least t.0 t.1 seat id body t.3 }
+
+-- the command's own answer
+own_place : (seat : ℕ) (o : Option Answer) (early : List GivenAnswer) (g : GivenAnswer) (more : List GivenAnswer) → addressed seat o ≡ early ++ g ∷ more → (early ≡ []) × (more ≡ []) × (g.0 ≡ seat) × (o ≡ Some g.1)
+own_place seat None [] g more e = absurd cc
+own_place seat None (x ∷ early) g more e = absurd cc
+own_place seat (Some answer) [] g more e =
+    let same : (seat, answer) ≡ g = (cc) in
+    let rest : [] ≡ more = (cc) in
+    (refl, sym rest, ap (λ (h : GivenAnswer). h.0) (sym same), ap (λ (h : GivenAnswer). Some h.1) same)
+own_place seat (Some answer) (x ∷ []) g more e = absurd cc
+own_place seat (Some answer) (x ∷ y ∷ early) g more e = absurd cc
+
+common_not : (answer : Answer) → is_common (Some answer) ≡ false → is_common (Some answer) ≡ true → ⊥
+common_not answer h i = both_ways (is_common (Some answer)) h i
+
+reserves_by_id : (m : Machine) (seat : ℕ) (what : Step) (e : Effect) (id : ℕ) (body : List ℕ) → Tells m seat what e → e.answer ≡ Some (answers.Reserved id body) → what ≡ steps.Ask (requests.ReserveJob id)
+reserves_by_id m seat what e id body (commonly c) is = absurd (common_not (answers.Reserved id body) refl (ap is_common (sym is) ∙ c))
+reserves_by_id m seat what e id body (reserving other text asks told) is =
+    let same : Some (answers.Reserved other text) ≡ Some (answers.Reserved id body) = sym told ∙ is in
+    let ids : other ≡ id = (cc) in
+    asks ∙ ap (λ n. steps.Ask (requests.ReserveJob n)) ids
+reserves_by_id m seat what e id body (inserting told d last) is = absurd (let same : Some (answers.Inserted m.next_id) ≡ Some (answers.Reserved id body) = sym told ∙ is in cc)
+reserves_by_id m seat what e id body (deleting other j asks found free told jobs) is = absurd (let same : Some answers.Deleted ≡ Some (answers.Reserved id body) = sym told ∙ is in cc)
+
+-- the part of a step in which an answer stands
+data Place (handed ended own handed_then ended_then early : List GivenAnswer) (x : GivenAnswer) (more : List GivenAnswer) : Type 0 where
+  in_handed : (rest : List GivenAnswer) → handed ≡ early ++ x ∷ rest → Place handed ended own handed_then ended_then early x more
+  in_ended : (begin rest : List GivenAnswer) → ended ≡ begin ++ x ∷ rest → Place handed ended own handed_then ended_then early x more
+  in_own : (begin rest : List GivenAnswer) → early ≡ handed ++ ended ++ begin → own ≡ begin ++ x ∷ rest → more ≡ rest ++ handed_then ++ ended_then → Place handed ended own handed_then ended_then early x more
+  in_handed_then : (begin rest : List GivenAnswer) → early ≡ handed ++ ended ++ own ++ begin → handed_then ≡ begin ++ x ∷ rest → Place handed ended own handed_then ended_then early x more
+  in_ended_then : (begin rest : List GivenAnswer) → ended_then ≡ begin ++ x ∷ rest → Place handed ended own handed_then ended_then early x more
+
+place_of : (handed ended own handed_then ended_then early : List GivenAnswer) (x : GivenAnswer) (more : List GivenAnswer) → handed ++ ended ++ own ++ handed_then ++ ended_then ≡ early ++ x ∷ more → Place handed ended own handed_then ended_then early x more
+place_of handed ended own handed_then ended_then early x more e = of_four (split_at (handed ++ ended ++ own ++ handed_then) ended_then early x more e)
+  where
+    of_one : (rest : List GivenAnswer) → InFirst handed ended early x rest ⊎ InSecond handed ended early x rest → Place handed ended own handed_then ended_then early x more
+    of_one rest (inl i) = in_handed i.rest i.first_is
+    of_one rest (inr i) = in_ended i.begin rest i.second_is
+
+    of_two : (rest : List GivenAnswer) → more ≡ rest ++ handed_then ++ ended_then → InFirst (handed ++ ended) own early x rest ⊎ InSecond (handed ++ ended) own early x rest → Place handed ended own handed_then ended_then early x more
+    of_two rest m (inl i) = of_one i.rest (split_at handed ended early x i.rest i.first_is)
+    of_two rest m (inr i) = in_own i.begin rest i.early_is i.second_is m
+
+    of_three : (rest : List GivenAnswer) → more ≡ rest ++ ended_then → InFirst (handed ++ ended ++ own) handed_then early x rest ⊎ InSecond (handed ++ ended ++ own) handed_then early x rest → Place handed ended own handed_then ended_then early x more
+    of_three rest m (inl i) = of_two i.rest (m ∙ ap (λ xs. xs ++ ended_then) i.more_is) (split_at (handed ++ ended) own early x i.rest i.first_is)
+    of_three rest m (inr i) = in_handed_then i.begin rest i.early_is i.second_is
+
+    of_four : InFirst (handed ++ ended ++ own ++ handed_then) ended_then early x more ⊎ InSecond (handed ++ ended ++ own ++ handed_then) ended_then early x more → Place handed ended own handed_then ended_then early x more
+    of_four (inl i) = of_three i.rest i.more_is (split_at (handed ++ ended ++ own) handed_then early x i.rest i.first_is)
+    of_four (inr i) = in_ended_then i.begin more i.second_is
+
+-- the command's own answers in a step
+abbrev own_answers : (t : Transition) (memory : Memory) (before : Machine) → List GivenAnswer
+own_answers t memory before = addressed t.entry.seat (acted memory before t.entry.seat t.entry.what).answer
+
+-- Each RESERVED of a step is one of these three.
+least_at : (t : Transition) (s : IsStep t.first t.entry.moment t.entry.seat t.entry.what t.outcome t.given t.last) (early more : List GivenAnswer) (seat id : ℕ) (body : List ℕ)
+    → Place s.handed s.ended (own_answers t s.memory s.before) s.handed_then s.ended_then early (seat, answers.Reserved id body) more
+    → IsReservedById (record t { parts = parts_of s }) early seat id
+    ⊎ IsDispatchedLeast (forgetting (after_timers (at_moment t.entry.moment t.first))) [] s.handed early seat id body
+    ⊎ IsDispatchedLeast s.after (s.handed ++ s.ended ++ own_answers t s.memory s.before) s.handed_then early seat id body
+least_at t s early more seat id body (in_handed rest e) =
+    inr (inl (dispatched_least (forgetting (after_timers (at_moment t.entry.moment t.first))) [] s.handed early rest early seat id body s.serves.between s.serves.dispatches e refl))
+least_at t s early more seat id body (in_ended begin rest e) =
+    absurd (common_not (answers.Reserved id body) refl (all_in_place (λ g. is_common (Some g.1) ≡ true) s.ended begin (seat, answers.Reserved id body) rest e
+    (serves_answers (forgetting (after_timers (at_moment t.entry.moment t.first))) s.handed s.ended s.before s.serves).by_ends))
+least_at t s early more seat id body (in_own begin rest place e more_is) =
+    let o = own_place t.entry.seat (acted s.memory s.before t.entry.seat t.entry.what).answer begin (seat, answers.Reserved id body) rest e in
+    inl (record {
+      asks = reserves_by_id s.before t.entry.seat t.entry.what (acted s.memory s.before t.entry.seat t.entry.what) id body (tells_acted s.memory s.before t.entry.seat t.entry.what) o.3;
+      by = sym o.2;
+      place = place ∙ ap (λ xs. s.handed ++ s.ended ++ xs) o.0 ∙ append-nil (s.handed ++ s.ended);
+    })
+least_at t s early more seat id body (in_handed_then begin rest place e) =
+    inr (inr (dispatched_least s.after (s.handed ++ s.ended ++ own_answers t s.memory s.before) s.handed_then begin rest early seat id body s.serves_then.between s.serves_then.dispatches e place))
+least_at t s early more seat id body (in_ended_then begin rest e) =
+    absurd (common_not (answers.Reserved id body) refl (all_in_place (λ g. is_common (Some g.1) ≡ true) s.ended_then begin (seat, answers.Reserved id body) rest e
+    (serves_answers s.after s.handed_then s.ended_then t.last s.serves_then).by_ends))
+
+pub transition_gives_least : (t : Transition) → IsTransition t → GivesLeast t
+transition_gives_least t is =
+    let s = is.step in
+    let of_step : GivesLeast (record t { parts = parts_of s }) =
+    λ early more seat id body split. least_at t s early more seat id body (place_of s.handed s.ended (own_answers t s.memory s.before) s.handed_then s.ended_then early (seat, answers.Reserved id body) more (sym s.answers_are ∙ split)) in
+    subst (λ (ps : Parts). GivesLeast (record t { parts = ps })) (sym is.parts_are) of_step
+
+-- each step of a run
+pub step_of_run : (first : Machine) (taken : List Transition) (last : Machine) → GoesBy first taken last → All IsTransition taken
+step_of_run first [] last goes = tt
+step_of_run first (t ∷ taken) last goes = (goes.1, step_of_run t.last taken last goes.2)
+
+pub run_gives_least : (first : Machine) (taken : List Transition) (last : Machine) (t : Transition) → GoesBy first taken last → Contains taken t → GivesLeast t
+run_gives_least first taken last t goes i = transition_gives_least t (all_at IsTransition taken t (step_of_run first taken last goes) i)
+
+-- Once draining no answer is INSERTED.
+none_in_dispatch : (given : List GivenAnswer) → AreOfDispatch given → has_inserted given ≡ false
+none_in_dispatch [] h = refl
+none_in_dispatch (g ∷ given) h = or_from (is_inserted g.1) (has_inserted given) (here g.1 h.0) (none_in_dispatch given h.1)
+  where
+    here : (a : Answer) → is_of_dispatch a ≡ true → is_inserted a ≡ false
+    here (answers.Reserved id body) e = refl
+    here answers.OutOfMemory e = refl
+    here (answers.Inserted id) e = absurd cc
+    here (answers.Found id body) e = refl
+    here (answers.Ok text) e = refl
+    here (answers.Using tube) e = refl
+    here (answers.Watching count) e = refl
+    here (answers.KickedCount count) e = refl
+    here answers.Kicked e = refl
+    here answers.Deleted e = refl
+    here answers.Released e = refl
+    here answers.Buried e = refl
+    here answers.Touched e = refl
+    here answers.Paused e = refl
+    here answers.NotFound e = refl
+    here answers.NotIgnored e = refl
+    here answers.Draining e = refl
+    here answers.TimedOut e = refl
+    here answers.DeadlineSoon e = refl
+    here answers.UnknownCommand e = refl
+    here answers.BadFormat e = refl
+    here answers.JobTooBig e = refl
+    here answers.ExpectedCrlf e = refl
+    here answers.Closed e = refl
+
+common_not_inserted : (a : Answer) → is_common (Some a) ≡ true → is_inserted a ≡ false
+common_not_inserted (answers.Reserved id body) e = refl
+common_not_inserted answers.OutOfMemory e = refl
+common_not_inserted (answers.Inserted id) e = absurd cc
+common_not_inserted (answers.Found id body) e = refl
+common_not_inserted (answers.Ok text) e = refl
+common_not_inserted (answers.Using tube) e = refl
+common_not_inserted (answers.Watching count) e = refl
+common_not_inserted (answers.KickedCount count) e = refl
+common_not_inserted answers.Kicked e = refl
+common_not_inserted answers.Deleted e = refl
+common_not_inserted answers.Released e = refl
+common_not_inserted answers.Buried e = refl
+common_not_inserted answers.Touched e = refl
+common_not_inserted answers.Paused e = refl
+common_not_inserted answers.NotFound e = refl
+common_not_inserted answers.NotIgnored e = refl
+common_not_inserted answers.Draining e = refl
+common_not_inserted answers.TimedOut e = refl
+common_not_inserted answers.DeadlineSoon e = refl
+common_not_inserted answers.UnknownCommand e = refl
+common_not_inserted answers.BadFormat e = refl
+common_not_inserted answers.JobTooBig e = refl
+common_not_inserted answers.ExpectedCrlf e = refl
+common_not_inserted answers.Closed e = refl
+
+none_in_ends : (given : List GivenAnswer) → AreCommon given → has_inserted given ≡ false
+none_in_ends [] h = refl
+none_in_ends (g ∷ given) h = or_from (is_inserted g.1) (has_inserted given) (common_not_inserted g.1 h.0) (none_in_ends given h.1)
+
+none_joined : (xs ys : List GivenAnswer) → has_inserted xs ≡ false → has_inserted ys ≡ false → has_inserted (xs ++ ys) ≡ false
+none_joined xs ys h i = list_any-append (λ (g : GivenAnswer). is_inserted g.1) xs ys ∙ or_from (has_inserted xs) (has_inserted ys) h i
+
+own_none : (m : Machine) (seat : ℕ) (what : Step) (e : Effect) → Tells m seat what e → m.draining ≡ true → has_inserted (addressed seat e.answer) ≡ false
+own_none m seat what e tells d = of_answer e.answer refl tells
+  where
+    of_answer : (o : Option Answer) → e.answer ≡ o → Tells m seat what e → has_inserted (addressed seat o) ≡ false
+    of_answer None is t = refl
+    of_answer (Some a) is (commonly c) = or_from (is_inserted a) false (common_not_inserted a (ap is_common (sym is) ∙ c)) refl
+    of_answer (Some a) is (reserving id body asks told) =
+        or_from (is_inserted a) false (let same : Some (answers.Reserved id body) ≡ Some a = sym told ∙ is in let it : answers.Reserved id body ≡ a = (cc) in ap is_inserted (sym it)) refl
+    of_answer (Some a) is (inserting told free last) = absurd (both_ways m.draining free d)
+    of_answer (Some a) is (deleting id j asks found free told jobs) =
+        or_from (is_inserted a) false (let same : Some answers.Deleted ≡ Some a = sym told ∙ is in let it : answers.Deleted ≡ a = (cc) in ap is_inserted (sym it)) refl
+
+-- what is so of a step that begins while draining, and of one whose command begins it
+pub record StaysDraining (given : List GivenAnswer) (last : Machine) : Type 0 where
+  pub draining : last.draining ≡ true
+  pub none : has_inserted given ≡ false
+
+drained_step : (first last : Machine) (at seat : ℕ) (what : Step) (outcome : Outcome) (given : List GivenAnswer) (s : IsStep first at seat what outcome given last)
+    → (acted s.memory s.before seat what).machine.draining ≡ true → has_inserted (addressed seat (acted s.memory s.before seat what).answer) ≡ false → StaysDraining given last
+drained_step first last at seat what outcome given s drains own =
+    let a = serves_answers (forgetting (after_timers (at_moment at first))) s.handed s.ended s.before s.serves in
+    let b = serves_answers s.after s.handed_then s.ended_then last s.serves_then in
+    let none : has_inserted (s.handed ++ s.ended ++ addressed seat (acted s.memory s.before seat what).answer ++ s.handed_then ++ s.ended_then) ≡ false =
+    none_joined (s.handed ++ s.ended ++ addressed seat (acted s.memory s.before seat what).answer ++ s.handed_then) s.ended_then
+    (none_joined (s.handed ++ s.ended ++ addressed seat (acted s.memory s.before seat what).answer) s.handed_then
+    (none_joined (s.handed ++ s.ended) (addressed seat (acted s.memory s.before seat what).answer)
+    (none_joined s.handed s.ended (none_in_dispatch s.handed a.by_dispatch) (none_in_ends s.ended a.by_ends)) own)
+    (none_in_dispatch s.handed_then b.by_dispatch)) (none_in_ends s.ended_then b.by_ends) in
+    record { draining = b.draining ∙ ap (λ (l : Machine). l.draining) s.acts ∙ drains; none = ap has_inserted s.answers_are ∙ none }
+
+stays_draining : (first last : Machine) (at seat : ℕ) (what : Step) (outcome : Outcome) (given : List GivenAnswer) → IsStep first at seat what outcome given last → first.draining ≡ true → StaysDraining given last
+stays_draining first last at seat what outcome given s d =
+    let before : s.before.draining ≡ true = (serves_answers (forgetting (after_timers (at_moment at first))) s.handed s.ended s.before s.serves).draining ∙ d in
+    drained_step first last at seat what outcome given s (drains_acted s.memory s.before seat what before)
+    (own_none s.before seat what (acted s.memory s.before seat what) (tells_acted s.memory s.before seat what) before)
+
+begins_draining : (first last : Machine) (at seat : ℕ) (outcome : Outcome) (given : List GivenAnswer) → IsStep first at seat steps.Drain outcome given last → StaysDraining given last
+begins_draining first last at seat outcome given s =
+    let so = of_memory s.memory s.possible in
+    drained_step first last at seat steps.Drain outcome given s so.0 (ap (λ (o : Option Answer). has_inserted (addressed seat o)) so.1)
+  where
+    of_memory : (memory : Memory) → IsTrue (is_possible memory s.before seat steps.Drain) → ((acted memory s.before seat steps.Drain).machine.draining ≡ true) × ((acted memory s.before seat steps.Drain).answer ≡ None)
+    of_memory granted p = (refl, refl)
+    of_memory growth_refused p = absurd cc
+    of_memory share_refused p = absurd cc
+
+pub none_while_draining : (first : Machine) (taken : List Transition) (last : Machine) → GoesBy first taken last → first.draining ≡ true → has_inserted (flat_map (λ (t : Transition). t.given) taken) ≡ false
+none_while_draining first [] last goes d = refl
+none_while_draining first (t ∷ taken) last goes d =
+    let s = stays_draining t.first t.last t.entry.moment t.entry.seat t.entry.what t.outcome t.given goes.1.step (ap (λ (l : Machine). l.draining) goes.0 ∙ d) in
+    none_joined t.given (flat_map (λ (t : Transition). t.given) taken) s.none (none_while_draining t.last taken last goes.2 s.draining)
+
+pub none_after_drain : (first : Machine) (early : List Transition) (t : Transition) (more : List Transition) (last : Machine) → GoesBy first (early ++ t ∷ more) last → t.entry.what ≡ steps.Drain → has_inserted (flat_map (λ (t : Transition). t.given) (t ∷ more)) ≡ false
+none_after_drain first [] t more last goes drains =
+    let s = begins_draining t.first t.last t.entry.moment t.entry.seat t.outcome t.given (subst (λ (w : Step). IsStep t.first t.entry.moment t.entry.seat w t.outcome t.given t.last) drains goes.1.step) in
+    none_joined t.given (flat_map (λ (t : Transition). t.given) more) s.none (none_while_draining t.last more last goes.2 s.draining)
+none_after_drain first (u ∷ early) t more last goes drains = none_after_drain u.last early t more last goes.2 drains
+
+-- the answers of a step after the last id
+last_id_drains : (m : Machine) (seat : ℕ) (what : Step) (e : Effect) → Tells m seat what e → e.answer ≡ Some (answers.Inserted last_id) → e.machine.draining ≡ true
+last_id_drains m seat what e (commonly c) is = absurd (common_not (answers.Inserted last_id) refl (ap is_common (sym is) ∙ c))
+last_id_drains m seat what e (reserving id body asks told) is = absurd (let same : Some (answers.Reserved id body) ≡ Some (answers.Inserted last_id) = sym told ∙ is in cc)
+last_id_drains m seat what e (inserting told free last) is =
+    let same : Some (answers.Inserted m.next_id) ≡ Some (answers.Inserted last_id) = sym told ∙ is in
+    let ids : m.next_id ≡ last_id = (cc) in
+    last (reached m.next_id ids)
+  where
+    reached : (n : ℕ) → n ≡ last_id → nat_le last_id n ≡ true
+    reached n e = grind (arith, nat_tests)
+last_id_drains m seat what e (deleting id j asks found free told jobs) is = absurd (let same : Some answers.Deleted ≡ Some (answers.Inserted last_id) = sym told ∙ is in cc)
+
+dispatch_not_inserted : (id : ℕ) → is_of_dispatch (answers.Inserted id) ≡ true → ⊥
+dispatch_not_inserted id e = cc
+
+after_last_at : (first last : Machine) (at seat : ℕ) (what : Step) (outcome : Outcome) (given : List GivenAnswer) (s : IsStep first at seat what outcome given last) (early : List GivenAnswer) (by : ℕ) (more : List GivenAnswer)
+    → Place s.handed s.ended (addressed seat (acted s.memory s.before seat what).answer) s.handed_then s.ended_then early (by, answers.Inserted last_id) more → StaysDraining more last
+after_last_at first last at seat what outcome given s early by more (in_handed rest e) =
+    absurd (dispatch_not_inserted last_id (all_in_place (λ g. is_of_dispatch g.1 ≡ true) s.handed early (by, answers.Inserted last_id) rest e (serves_answers (forgetting (after_timers (at_moment at first))) s.handed s.ended s.before s.serves).by_dispatch))
+after_last_at first last at seat what outcome given s early by more (in_ended begin rest e) =
+    absurd (common_not (answers.Inserted last_id) refl (all_in_place (λ g. is_common (Some g.1) ≡ true) s.ended begin (by, answers.Inserted last_id) rest e (serves_answers (forgetting (after_timers (at_moment at first))) s.handed s.ended s.before s.serves).by_ends))
+after_last_at first last at seat what outcome given s early by more (in_own begin rest place e more_is) =
+    let o = own_place seat (acted s.memory s.before seat what).answer begin (by, answers.Inserted last_id) rest e in
+    let b = serves_answers s.after s.handed_then s.ended_then last s.serves_then in
+    let drains = last_id_drains s.before seat what (acted s.memory s.before seat what) (tells_acted s.memory s.before seat what) o.3 in
+    record {
+      draining = b.draining ∙ ap (λ (l : Machine). l.draining) s.acts ∙ drains;
+      none = ap has_inserted more_is
+          ∙ none_joined (rest ++ s.handed_then) s.ended_then (none_joined rest s.handed_then (ap has_inserted o.1) (none_in_dispatch s.handed_then b.by_dispatch)) (none_in_ends s.ended_then b.by_ends);
+    }
+after_last_at first last at seat what outcome given s early by more (in_handed_then begin rest place e) =
+    absurd (dispatch_not_inserted last_id (all_in_place (λ g. is_of_dispatch g.1 ≡ true) s.handed_then begin (by, answers.Inserted last_id) rest e (serves_answers s.after s.handed_then s.ended_then last s.serves_then).by_dispatch))
+after_last_at first last at seat what outcome given s early by more (in_ended_then begin rest e) =
+    absurd (common_not (answers.Inserted last_id) refl (all_in_place (λ g. is_common (Some g.1) ≡ true) s.ended_then begin (by, answers.Inserted last_id) rest e (serves_answers s.after s.handed_then s.ended_then last s.serves_then).by_ends))
+
+pub none_after_last_id : (first : Machine) (taken : List Transition) (last : Machine) (early : List GivenAnswer) (seat : ℕ) (more : List GivenAnswer) → GoesBy first taken last → flat_map (λ (t : Transition). t.given) taken ≡ early ++ (seat, answers.Inserted last_id) ∷ more → has_inserted more ≡ false
+none_after_last_id first [] last [] seat more goes e = absurd cc
+none_after_last_id first [] last (g ∷ early) seat more goes e = absurd cc
+none_after_last_id first (t ∷ taken) last early seat more goes e =
+    elim (split_at t.given (flat_map (λ (t : Transition). t.given) taken) early (seat, answers.Inserted last_id) more e) [
+      | inl i ↦
+          let s = goes.1.step in
+          let a = after_last_at t.first t.last t.entry.moment t.entry.seat t.entry.what t.outcome t.given s early seat i.rest
+          (place_of s.handed s.ended (addressed t.entry.seat (acted s.memory s.before t.entry.seat t.entry.what).answer) s.handed_then s.ended_then early (seat, answers.Inserted last_id) i.rest (sym s.answers_are ∙ i.first_is)) in
+          ap has_inserted i.more_is ∙ none_joined i.rest (flat_map (λ (t : Transition). t.given) taken) a.none (none_while_draining t.last taken last goes.2 a.draining)
+      | inr i ↦ none_after_last_id t.last taken last i.begin seat more goes.2 i.second_is
+    ]
+
+-- a job that its client may delete, and does
+record Deletes (m : Machine) (seat : ℕ) (what : Step) (e : Effect) : Type 0 where
+  id : ℕ
+  job : Job
+  asks : what ≡ steps.Ask (requests.Delete id)
+  found : job_with id m.jobs ≡ Some job
+  free : (is_reserved job.state ≡ false) ⊎ (is_held_by seat job ≡ true)
+  jobs : e.machine.jobs ≡ filter (λ k. not (k.id == job.id)) m.jobs
+
+-- DELETED answers a delete.
+deletes : (m : Machine) (seat : ℕ) (what : Step) (e : Effect) → Tells m seat what e → e.answer ≡ Some answers.Deleted → Deletes m seat what e
+deletes m seat what e (commonly c) is = absurd (common_not answers.Deleted refl (ap is_common (sym is) ∙ c))
+deletes m seat what e (reserving id body asks told) is = absurd (let same : Some (answers.Reserved id body) ≡ Some answers.Deleted = sym told ∙ is in cc)
+deletes m seat what e (inserting told free last) is = absurd (let same : Some (answers.Inserted m.next_id) ≡ Some answers.Deleted = sym told ∙ is in cc)
+deletes m seat what e (deleting id j asks found free told jobs) is = record { id = id; job = j; asks = asks; found = found; free = free; jobs = jobs }
+
+of_dispatch_not_deleted : is_of_dispatch answers.Deleted ≡ true → ⊥
+of_dispatch_not_deleted e = cc
+
+own_contains : (seat by : ℕ) (answer : Answer) (o : Option Answer) → Contains (addressed seat o) (by, answer) → (seat ≡ by) × (o ≡ Some answer)
+own_contains seat by answer None i = absurd (let less = i.1 in omega arith)
+own_contains seat by answer (Some given) i =
+    let same : (seat, given) ≡ (by, answer) = all_at (λ g. (seat, given) ≡ g) ((seat, given) ∷ []) (by, answer) (refl, tt) i in
+    (ap (λ (g : GivenAnswer). g.0) same, ap (λ (g : GivenAnswer). Some g.1) same)
+
+deletion_at : (t : Transition) (s : IsStep t.first t.entry.moment t.entry.seat t.entry.what t.outcome t.given t.last) (seat : ℕ)
+    → Contains (own_answers t s.memory s.before) (seat, answers.Deleted) → IsDeletion (record t { parts = parts_of s }) seat
+deletion_at t s seat i =
+    let own = own_contains t.entry.seat seat answers.Deleted (acted s.memory s.before t.entry.seat t.entry.what).answer i in
+    let d = deletes s.before t.entry.seat t.entry.what (acted s.memory s.before t.entry.seat t.entry.what) (tells_acted s.memory s.before t.entry.seat t.entry.what) own.1 in
+    let found = found_job d.id s.before.jobs d.job d.found in
+    let jobs : s.after.jobs ≡ filter (λ k. not (k.id == d.job.id)) s.before.jobs = ap (λ (l : Machine). l.jobs) s.acts ∙ d.jobs in
+    record {
+      id = d.id;
+      job = d.job;
+      asks = d.asks;
+      by = own.0;
+      there = found.1;
+      id_is = found.0;
+      free = subst (λ n. (is_reserved d.job.state ≡ false) ⊎ (is_held_by n d.job ≡ true)) own.0 d.free;
+      gone = λ k j.
+          subst (λ id. not (k.id == id) ≡ true) found.0
+          (all_at (λ l. Unit {0} × (not (l.id == d.job.id) ≡ true)) (filter (λ k. not (k.id == d.job.id)) s.before.jobs) k
+          (all_of_filter (λ l. Unit {0}) (λ k. not (k.id == d.job.id)) s.before.jobs (all_always (λ (l : Job). Unit {0}) s.before.jobs (λ l. tt))) (subst (λ l. Contains l k) jobs j)).1;
+    }
+
+deletion_of : (t : Transition) → IsTransition t → (seat : ℕ) → Contains t.given (seat, answers.Deleted) → IsDeletion t seat
+deletion_of t is seat i =
+    let s = is.step in
+    let own = own_answers t s.memory s.before in
+    let a = serves_answers (forgetting (after_timers (at_moment t.entry.moment t.first))) s.handed s.ended s.before s.serves in
+    let b = serves_answers s.after s.handed_then s.ended_then t.last s.serves_then in
+    let dispatched : (given : List GivenAnswer) → AreOfDispatch given → Contains given (seat, answers.Deleted) → ⊥ =
+    λ given h c. of_dispatch_not_deleted (all_at (λ g. is_of_dispatch g.1 ≡ true) given (seat, answers.Deleted) h c) in
+    let ended : (given : List GivenAnswer) → AreCommon given → Contains given (seat, answers.Deleted) → ⊥ =
+    λ given h c. common_not answers.Deleted refl (all_at (λ g. is_common (Some g.1) ≡ true) given (seat, answers.Deleted) h c) in
+    let at : Contains own (seat, answers.Deleted) =
+    elim (Contains-append_cases (s.handed ++ s.ended ++ own ++ s.handed_then) s.ended_then (seat, answers.Deleted) (subst (λ gs. Contains gs (seat, answers.Deleted)) s.answers_are i)) [
+      | inl c ↦ elim (Contains-append_cases (s.handed ++ s.ended ++ own) s.handed_then (seat, answers.Deleted) c) [
+        | inl d ↦ elim (Contains-append_cases (s.handed ++ s.ended) own (seat, answers.Deleted) d) [
+          | inl e ↦ elim (Contains-append_cases s.handed s.ended (seat, answers.Deleted) e) [
+            | inl f ↦ absurd (dispatched s.handed a.by_dispatch f)
+            | inr f ↦ absurd (ended s.ended a.by_ends f)
+          ]
+          | inr e ↦ e
+        ]
+        | inr d ↦ absurd (dispatched s.handed_then b.by_dispatch d)
+      ]
+      | inr c ↦ absurd (ended s.ended_then b.by_ends c)
+    ] in
+    subst (λ (ps : Parts). IsDeletion (record t { parts = ps }) seat) (sym is.parts_are) (deletion_at t s seat at)
+
+pub run_deletes : (first : Machine) (taken : List Transition) (last : Machine) (t : Transition) (seat : ℕ) → GoesBy first taken last → Contains taken t → Contains t.given (seat, answers.Deleted) → IsDeletion t seat
+run_deletes first taken last t seat goes i c = deletion_of t (all_at IsTransition taken t (step_of_run first taken last goes) i) seat c

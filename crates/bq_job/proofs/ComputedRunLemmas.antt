@@ -1,0 +1,48 @@
+-- What is computed over a history is a run.
+use Rattle.std.proofs.Common.{ℕ, ◌≡◌, List, [], ◌∷◌, refl}
+use Rattle.bq_job.specs.Asked.{effect}
+use Rattle.bq_job.specs.Computed.{after_dispatch, after_wait_ends, waiting_count}
+use Rattle.bq_job.specs.ComputedRuns.{machine_after, transition, transitions}
+use Rattle.bq_job.specs.Machine.{Machine}
+use Rattle.bq_job.specs.Runs.{Entry, GoesBy, IsTransition}
+use Rattle.bq_job.specs.Steps.{IsStep, Serves, granted}
+use Rattle.bq_job.specs.Timers.{after_timers, at_moment}
+use Rattle.bq_job.specs.Tubes.{forgetting}
+use Rattle.bq_job.proofs.ComputedLemmas.{computed_dispatches, computed_ends_waits, dispatched_shared}
+
+serves_so : (m : Machine) → Serves m (after_dispatch m).given (after_wait_ends (after_dispatch m).machine).given (after_wait_ends (after_dispatch m).machine).machine
+serves_so m = record {
+  between = (after_dispatch m).machine;
+  dispatches = computed_dispatches m;
+  ends_waits = computed_ends_waits (after_dispatch m).machine;
+}
+
+transition_is_one : (m : Machine) (e : Entry) → IsTransition (transition m e)
+unfolding serves_so
+transition_is_one m e =
+    let begin : Machine = forgetting (after_timers (at_moment e.moment m)) in
+    let before : Machine = (after_wait_ends (after_dispatch begin).machine).machine in
+    let after : Machine = forgetting (effect before e.seat e.what).machine in
+    record {
+      step = record {
+        memory = granted;
+        before = before;
+        after = after;
+        handed = (after_dispatch begin).given;
+        ended = (after_wait_ends (after_dispatch begin).machine).given;
+        handed_then = (after_dispatch after).given;
+        ended_then = (after_wait_ends (after_dispatch after).machine).given;
+        serves = serves_so begin;
+        possible = refl;
+        acts = refl;
+        serves_then = serves_so after;
+        answers_are = refl;
+        left_out = refl;
+        unshared = rw (dispatched_shared (waiting_count begin) begin, dispatched_shared (waiting_count after) after) refl;
+      };
+      parts_are = refl;
+    }
+
+pub computed_goes : (m : Machine) (history : List Entry) → GoesBy m (transitions m history) (machine_after m history)
+computed_goes m [] = refl
+computed_goes m (e ∷ history) = (refl, transition_is_one m e, computed_goes (transition m e).last history)

@@ -1,0 +1,159 @@
+-- A job that was put is there until it is deleted, and one client at most holds it.
+use Rattle.std.proofs.Common.{ℕ, suc, ◌≡◌, ◌≤◌, ◌<◌, Bool, true, false, ◌&&◌, ◌||◌, not, cond, List, [], ◌∷◌, ◌++◌, map, arith, refl, sym, ap, ◌∙◌, subst, inl, inr, ◌⊎◌, Option, Some, None}
+use Rattle.std.specs.Prelude.{option_map, ◌==◌}
+use Rattle.std.specs.List.{AllByRecursion as All, Contains, list_any}
+use Rattle.std.proofs.lemmas.Bool.{cases_Bool, and_parts, and_from, or_parts, or_cases, both_ways, cond_both, eqb-true, eq-eqb}
+use Rattle.std.proofs.lemmas.List.Folds.{list_any-append}
+use Rattle.bq_job.specs.declared.job.Job.{Job}
+use Rattle.bq_job.specs.declared.job.JobState.{JobState}
+use Rattle.bq_job.specs.declared.job.JobState.TheVariants as states
+use Rattle.bq_job.specs.Changes.{is_held_by, is_holder, job_with}
+use Rattle.bq_job.specs.Dispatch.{reserved_by}
+use Rattle.bq_job.specs.Happenings.{Happening, Part, happenings, parts_of_run, put}
+use Rattle.bq_job.specs.JobStates.{is_reserved}
+use Rattle.bq_job.specs.LawsOfRuns.{Holds, IsHeldByOne, IsKept}
+use Rattle.bq_job.specs.Machine.{Machine, SeatRecord, Settings, new_machine}
+use Rattle.bq_job.specs.OneClient.{is_connected_at}
+use Rattle.bq_job.specs.Runs.{GoesBy, Transition}
+use Rattle.bq_job.specs.Undisturbed.{is_deletion}
+use Rattle.bq_job.proofs.ActMoves.{Ids}
+use Rattle.bq_job.proofs.JobMoves.{Fate, GoesOnAs, IsHandOutMove, IsPutMove, IsQuiet, Move, Moves, quiet, putting, handing}
+use Rattle.bq_job.proofs.KeptLemmas.{Keeps}
+use Rattle.bq_job.proofs.LawfulLemmas.{new_is_lawful}
+use Rattle.bq_job.proofs.ListLemmas.{all_at, all_pass, list_any_of_map}
+use Rattle.bq_job.proofs.LookupLemmas.{found_job, job_at_end, job_found}
+use Rattle.bq_job.proofs.OrderLemmas.{put_behind, put_now_or_behind}
+use Rattle.bq_job.proofs.SpentLemmas.{handed_lookup, put_lookup}
+use Rattle.bq_job.proofs.StepMoves.{ArePartsGone, Goes, PartGoes, parts_go, run_gone}
+
+-- The job is there, in its tube and with its body.
+pub record IsThere (j : Job) (m : Machine) : Type 0 where
+  pub job : Job
+  pub found : job_with j.id m.jobs ≡ Some job
+  pub below : j.id < m.next_id
+  pub tube : job.tube ≡ j.tube
+  pub body : job.body ≡ j.body
+
+there_by_fate : (j : Job) (m n : Machine) (happened : List Happening) (h : IsThere j m) (o : Option Job) → job_with j.id n.jobs ≡ o → n.next_id ≡ m.next_id → Fate j.id happened (Some h.job) o → list_any (is_deletion j.id) happened ≡ false → IsThere j n
+there_by_fate j m n happened h None e next fate none = absurd (both_ways (list_any (is_deletion j.id) happened) none fate)
+there_by_fate j m n happened h (Some k) e next fate none = record { job = k; found = e; below = let less = h.below in omega arith; tube = fate.tube ∙ h.tube; body = fate.body ∙ h.body }
+
+there_after : (j : Job) (m n : Machine) (happened : List Happening) → Move m happened n → list_any (is_deletion j.id) happened ≡ false → IsThere j m → IsThere j n
+there_after j m n happened (quiet q) none h =
+    there_by_fate j m n happened h (job_with j.id n.jobs) refl q.next (subst (λ o. Fate j.id happened o (job_with j.id n.jobs)) h.found (q.fates j.id)) none
+there_after j m n happened (putting p) none h =
+    let less = h.below in let next = p.next in
+    record { job = h.job; found = put_lookup j.id m n happened p less ∙ h.found; below = omega arith; tube = h.tube; body = h.body }
+there_after j m n happened (handing g) none h =
+    let less = h.below in let next = g.next in
+    let seen = handed_lookup j.id m n happened g ∙ ap (option_map (λ i. cond (i.id == g.job.id) (reserved_by m.moment g.seat i) i)) h.found in
+    record {
+      job = cond (h.job.id == g.job.id) (reserved_by m.moment g.seat h.job) h.job;
+      found = seen;
+      below = omega arith;
+      tube = cond_both (h.job.id == g.job.id) (reserved_by m.moment g.seat h.job) h.job (λ k. k.tube ≡ j.tube) (λ e. h.tube) (λ e. h.tube);
+      body = cond_both (h.job.id == g.job.id) (reserved_by m.moment g.seat h.job) h.job (λ k. k.body ≡ j.body) (λ e. h.body) (λ e. h.body);
+    }
+
+-- there now, or put by a move that comes
+there_or_to_come : (j : Job) (m n : Machine) (happened more : List Happening) → Move m happened n → list_any (is_deletion j.id) happened ≡ false → IsThere j m ⊎ Contains (happened ++ more) (put j) → IsThere j n ⊎ Contains more (put j)
+there_or_to_come j m n happened more move none (inl h) = inl (there_after j m n happened move none h)
+there_or_to_come j m n happened more (quiet q) none (inr i) = inr (put_behind j m n happened more (inl q) i)
+there_or_to_come j m n happened more (handing h) none (inr i) = inr (put_behind j m n happened more (inr h) i)
+there_or_to_come j m n happened more (putting p) none (inr i) =
+    elim (put_now_or_behind j m n happened more p i) [
+      | inl e ↦ let next = p.next in let is = p.id in let same : p.job.id ≡ j.id = ap (λ (k : Job). k.id) e in
+          inl (record {
+            job = p.job;
+            found = subst (λ id. job_with id n.jobs ≡ Some p.job) same (ap (job_with p.job.id) p.jobs ∙ job_at_end 1 m.jobs p.job p.ids);
+            below = omega arith;
+            tube = ap (λ (k : Job). k.tube) e;
+            body = ap (λ (k : Job). k.body) e;
+          })
+      | inr e ↦ inr e
+    ]
+
+there_at_end : (j : Job) (m n : Machine) (parts : List Part) → Moves m parts n → list_any (is_deletion j.id) (happenings parts) ≡ false → IsThere j m ⊎ Contains (happenings parts) (put j) → IsThere j n
+there_at_end j m n [] moves none (inl h) = subst (IsThere j) (sym moves) h
+there_at_end j m n [] moves none (inr i) = absurd (let less = i.1 in omega arith)
+there_at_end j m n (p ∷ parts) moves none h =
+    let each = or_parts (list_any (is_deletion j.id) p.happened) (list_any (is_deletion j.id) (happenings parts)) (sym (list_any-append (is_deletion j.id) p.happened (happenings parts)) ∙ none) in
+    there_at_end j p.machine n parts moves.1 each.1 (there_or_to_come j m p.machine p.happened (happenings parts) moves.0 each.0 h)
+
+-- the parts up to one of them
+pub record UpTo (m : Machine) (parts : List Part) (p : Part) : Type 0 where
+  pub gone : ArePartsGone m parts p.machine
+  pub keeps : Keeps p.machine
+
+up_to : (m n : Machine) (early late : List Part) (p : Part) → ArePartsGone m (early ++ p ∷ late) n → UpTo m (early ++ p ∷ []) p
+up_to m n [] late p h = record { gone = (h.0, refl); keeps = h.0.keeps }
+up_to m n (q ∷ early) late p h = let rest = up_to q.machine n early late p h.1 in record { gone = (h.0, rest.gone); keeps = rest.keeps }
+
+pub accepted_is_kept : (settings : Settings) (taken : List Transition) (last : Machine) (early late : List Part) (p : Part) (j : Job) → GoesBy (new_machine settings) taken last
+    → parts_of_run taken ≡ early ++ p ∷ late → Contains (happenings (early ++ p ∷ [])) (put j) → list_any (is_deletion j.id) (happenings (early ++ p ∷ [])) ≡ false → IsKept j p.machine
+accepted_is_kept settings taken last early late p j goes split accepted none =
+    let m = new_machine settings in
+    let u = up_to m last early late p (subst (λ parts. ArePartsGone m parts last) split (run_gone m taken last (new_is_lawful settings) goes)) in
+    let g = parts_go m (early ++ p ∷ []) p.machine u.gone in
+    let t = there_at_end j m p.machine g.parts g.moves (subst (λ hs. list_any (is_deletion j.id) hs ≡ false) (sym g.told) none) (inr (subst (λ hs. Contains hs (put j)) (sym g.told) accepted)) in
+    let found = found_job j.id p.machine.jobs t.job t.found in
+    record {
+      job = t.job;
+      there = found.1;
+      id_is = found.0;
+      tube_is = t.tube;
+      body_is = t.body;
+      alone = λ k i e.
+          let both : Some k ≡ Some t.job = sym (job_found 1 p.machine.next_id p.machine.jobs k u.keeps.ids i).0 ∙ ap (λ id. job_with id p.machine.jobs) e ∙ t.found in
+          (cc);
+    }
+
+one_holder : (seat other : ℕ) (s : JobState) → is_holder seat s ≡ true → is_holder other s ≡ true → seat ≡ other
+one_holder seat other states.Ready h i = absurd cc
+one_holder seat other (states.Delayed due) h i = absurd cc
+one_holder seat other (states.Reserved holder deadline) h i = sym (eqb-true holder seat h) ∙ eqb-true holder other i
+one_holder seat other (states.Buried number) h i = absurd cc
+
+held_is_reserved : (seat : ℕ) (s : JobState) → is_holder seat s ≡ true → is_reserved s ≡ true
+held_is_reserved seat states.Ready h = absurd cc
+held_is_reserved seat (states.Delayed due) h = absurd cc
+held_is_reserved seat (states.Reserved holder deadline) h = refl
+held_is_reserved seat (states.Buried number) h = absurd cc
+
+map_same : (seats : List SeatRecord) → map (λ (s : SeatRecord). s) seats ≡ seats
+map_same [] = refl
+map_same (s ∷ seats) = ap (λ ss. s ∷ ss) (map_same seats)
+
+holder_connected : (seat : ℕ) (m : Machine) (j : Job) → Keeps m → Contains m.jobs j → is_held_by seat j ≡ true → is_connected_at seat m ≡ true
+holder_connected seat m j keeps i h =
+    let open_one : (not (is_reserved j.state) || list_any (λ s. s.connected && is_held_by s.number j) m.seats) ≡ true = all_at (λ k. (not (is_reserved k.state) || list_any (λ s. s.connected && is_held_by s.number k) m.seats) ≡ true) m.jobs j keeps.holders i in
+    let reserved = held_is_reserved seat j.state h in
+    let one : list_any (λ s. s.connected && is_held_by s.number j) m.seats ≡ true = (rw reserved at open_one) in
+    subst (λ seats. list_any (λ s. s.number == seat && s.connected) seats ≡ true) (map_same m.seats)
+    (list_any_of_map (λ s. s.connected && is_held_by s.number j) (λ s. s.number == seat && s.connected) (λ (s : SeatRecord). s) m.seats (each m.seats) one)
+  where
+    each : (seats : List SeatRecord) → All (λ s. (s.connected && is_held_by s.number j) ≡ true → (s.number == seat && s.connected) ≡ true) seats
+    each [] = tt
+    each (s ∷ seats) = (
+      λ p. let parts = and_parts s.connected (is_held_by s.number j) p in
+          and_from (s.number == seat) s.connected (eq-eqb s.number seat (one_holder s.number seat j.state parts.1 h)) parts.0,
+      each seats,
+    )
+
+held_by_one : (m : Machine) → Keeps m → IsHeldByOne m
+held_by_one m keeps seat other id h i =
+    let a = job_found 1 m.next_id m.jobs h.0 keeps.ids h.1 in
+    let b = job_found 1 m.next_id m.jobs i.0 keeps.ids i.1 in
+    let ids : h.0.id ≡ i.0.id = h.2 ∙ sym i.2 in
+    let both : Some i.0 ≡ Some h.0 = sym b.0 ∙ ap (λ n. job_with n m.jobs) (sym ids) ∙ a.0 in
+    let same : i.0 ≡ h.0 = (cc) in
+    (one_holder seat other h.0.state h.3 (subst (λ (k : Job). is_held_by other k ≡ true) same i.3), holder_connected seat m h.0 keeps h.1 h.3)
+
+part_keeps : (m n : Machine) (parts : List Part) → ArePartsGone m parts n → All (λ p. Keeps p.machine) parts
+part_keeps m n [] h = tt
+part_keeps m n (p ∷ parts) h = (h.0.keeps, part_keeps p.machine n parts h.1)
+
+pub held_by_one_always : (settings : Settings) (taken : List Transition) (last : Machine) (p : Part) → GoesBy (new_machine settings) taken last → Contains (parts_of_run taken) p → IsHeldByOne p.machine
+held_by_one_always settings taken last p goes i =
+    let m = new_machine settings in
+    held_by_one p.machine (all_at (λ q. Keeps q.machine) (parts_of_run taken) p (part_keeps m last (parts_of_run taken) (run_gone m taken last (new_is_lawful settings) goes)) i)

@@ -1,0 +1,134 @@
+//! Worked examples of whole runs, by which the laws of runs say something: each is a clause that holds by
+//! evaluating the definitions, and none runs our code.
+ghost use Rattle.bq_job.specs.declared.answer.Answer.TheVariants.{Deleted, Draining, Inserted, NotFound, Reserved};
+ghost use Rattle.bq_job.specs.declared.request.Request.TheVariants.{Bury, Delete, Kick, PauseTube, Put, Release, Reserve, ReserveJob};
+ghost use Rattle.bq_job.specs.ComputedRuns.{transitions};
+ghost use Rattle.bq_job.specs.Examples.{Plays, ask, at, close, connect, drain, server, tick, ◌gives◌};
+ghost use Rattle.bq_job.specs.JobCommands.{last_id};
+ghost use Rattle.bq_job.specs.RunExamples.{HandsOutDisturbed, HandsOutUndisturbed};
+ghost use Rattle.std.specs.Prelude.{List, [], ◌∷◌, ◌≡◌, codes, map};
+
+/// Two undisturbed jobs go out in the order of their puts, whichever client has waited longer.
+fn two_jobs_in_order()
+    ensures { HandsOutUndisturbed (1 ∷ 2 ∷ [])
+        (ask 0 (PauseTube (codes "default") 5)
+        ∷ ask 0 (Put 7 0 9 (codes "x"))
+        ∷ ask 0 (Put 7 0 9 (codes "y"))
+        ∷ ask 2 Reserve
+        ∷ ask 1 Reserve
+        ∷ tick 5000
+        ∷ []) }
+{}
+
+/// A job whose time to run was over is handed out again, and is no undisturbed one.
+fn expired_job_goes_out_twice()
+    ensures { HandsOutDisturbed (1 ∷ 1 ∷ [])
+        (ask 0 (Put 0 0 1 (codes "x"))
+        ∷ ask 1 Reserve
+        ∷ tick 1000
+        ∷ at 1000 (ask 2 Reserve)
+        ∷ []) }
+{}
+
+/// A job that was released is handed out again, and is no undisturbed one.
+fn released_job_goes_out_twice()
+    ensures { HandsOutDisturbed (1 ∷ 1 ∷ [])
+        (ask 0 (Put 0 0 9 (codes "x"))
+        ∷ ask 1 Reserve
+        ∷ ask 1 (Release 1 0 0)
+        ∷ ask 2 Reserve
+        ∷ []) }
+{}
+
+/// A job that was buried and kicked is handed out again, and is no undisturbed one.
+fn buried_job_goes_out_twice()
+    ensures { HandsOutDisturbed (1 ∷ 1 ∷ [])
+        (ask 0 (Put 0 0 9 (codes "x"))
+        ∷ ask 1 Reserve
+        ∷ ask 1 (Bury 1 0)
+        ∷ ask 0 (Kick 1)
+        ∷ ask 2 Reserve
+        ∷ []) }
+{}
+
+/// A job goes to a client in the very step that closes its connection, and in the same step to another
+/// one: it is no undisturbed one.
+fn job_goes_out_in_the_close_of_its_client()
+    ensures { HandsOutDisturbed (1 ∷ 1 ∷ [])
+        (ask 0 (PauseTube (codes "default") 5)
+        ∷ ask 0 (Put 0 0 9 (codes "x"))
+        ∷ ask 1 Reserve
+        ∷ ask 2 Reserve
+        ∷ at 5000 (close 1)
+        ∷ []) }
+{}
+
+/// A job that was reserved by reserve-job was not handed out, and is no undisturbed one.
+fn job_reserved_by_id()
+    ensures { HandsOutDisturbed []
+        (ask 0 (Put 0 0 9 (codes "x"))
+        ∷ ask 1 (ReserveJob 1)
+        ∷ []) }
+{}
+
+/// A job that was put with a delay is no undisturbed one.
+fn job_put_with_a_delay()
+    ensures { HandsOutDisturbed (1 ∷ [])
+        (ask 0 (Put 0 5 9 (codes "x"))
+        ∷ ask 1 Reserve
+        ∷ tick 5000
+        ∷ []) }
+{}
+
+/// The most urgent job goes first, in whichever tube it is that the client watches, and of two that are
+/// as urgent the one with the lower id.
+fn least_job_first()
+    ensures { Plays
+        (ask 0 (Put 7 0 9 (codes "x")) gives ((0, Inserted 1) ∷ [])
+        ∷ ask 0 (Put 3 0 9 (codes "y")) gives ((0, Inserted 2) ∷ [])
+        ∷ ask 0 (Put 3 0 9 (codes "z")) gives ((0, Inserted 3) ∷ [])
+        ∷ ask 1 Reserve gives ((1, Reserved 2 (codes "y")) ∷ [])
+        ∷ ask 2 Reserve gives ((2, Reserved 3 (codes "z")) ∷ [])
+        ∷ []) }
+{}
+
+/// A put before the draining begins is accepted, and none after it.
+fn put_before_and_after_the_drain()
+    ensures { Plays
+        (ask 0 (Put 0 0 9 (codes "x")) gives ((0, Inserted 1) ∷ [])
+        ∷ drain gives []
+        ∷ ask 0 (Put 0 0 9 (codes "y")) gives ((0, Draining) ∷ [])
+        ∷ []) }
+{}
+
+/// A put that gets the last id is accepted, and none after it.
+fn put_of_the_last_id()
+    ensures { map (λ t. t.given) (transitions (record (server 1 65535) { next_id = last_id })
+        (connect 0 ∷ ask 0 (Put 0 0 9 (codes "x")) ∷ ask 0 (Put 0 0 9 (codes "y")) ∷ []))
+        ≡ [] ∷ ((0, Inserted last_id) ∷ []) ∷ ((0, Draining) ∷ []) ∷ [] }
+{}
+
+/// A held job is deleted by its holder alone.
+fn delete_of_a_held_job()
+    ensures { Plays
+        (ask 0 (Put 0 0 9 (codes "x")) gives ((0, Inserted 1) ∷ [])
+        ∷ ask 1 Reserve gives ((1, Reserved 1 (codes "x")) ∷ [])
+        ∷ ask 0 (Delete 1) gives ((0, NotFound) ∷ [])
+        ∷ ask 1 (Delete 1) gives ((1, Deleted) ∷ [])
+        ∷ []) }
+{}
+
+#[test]
+fn examples_of_runs() {
+    two_jobs_in_order();
+    expired_job_goes_out_twice();
+    released_job_goes_out_twice();
+    buried_job_goes_out_twice();
+    job_goes_out_in_the_close_of_its_client();
+    job_reserved_by_id();
+    job_put_with_a_delay();
+    least_job_first();
+    put_before_and_after_the_drain();
+    put_of_the_last_id();
+    delete_of_a_held_job();
+}
