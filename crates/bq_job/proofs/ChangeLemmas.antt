@@ -6,10 +6,11 @@ use Rattle.std.proofs.lemmas.Bool.{cases_Bool, or_left, or_right, or_cases, both
 use Rattle.bq_job.specs.declared.job.Job.{Job}
 use Rattle.bq_job.specs.declared.job.JobState.{JobState}
 use Rattle.bq_job.specs.declared.job.JobState.TheVariants as states
+use Rattle.bq_job.specs.declared.request.Request.TheVariants as requests
 use Rattle.bq_job.specs.declared.step.Step.{Step}
 use Rattle.bq_job.specs.declared.step.Step.TheVariants as steps
 use Rattle.bq_job.specs.Changes.{is_ready, is_ready_state, job_with}
-use Rattle.bq_job.specs.Happenings.{Happening, change, change_or_deletion, changes, deleted, given_up, put}
+use Rattle.bq_job.specs.Happenings.{Happening, change, change_or_removal, changes, deleted, given_up, put, removed, taken_up}
 use Rattle.bq_job.specs.JobStates.{is_reserved}
 use Rattle.bq_job.specs.Lawful.{AreIdsWithin}
 use Rattle.bq_job.specs.Machine.{Machine}
@@ -19,39 +20,41 @@ use Rattle.bq_job.proofs.ListLemmas.{all_always, all_from_members, all_of_append
 use Rattle.bq_job.proofs.LookupLemmas.{found_job, job_found, job_in_map, job_in_more, job_in_rest}
 use Rattle.std.proofs.lemmas.List.Folds.{list_any-append}
 
--- A job becomes this one: of the same id, tube and body, and if it was ready, it is ready as before or held.
-pub record Becomes (j k : Job) : Type 0 where
+-- By the command a job becomes this one: of the same id, tube and body. If it was ready, it is ready as
+-- before, and if it was held, it is held, or else what happened to it is told.
+pub record Becomes (what : Step) (j k : Job) : Type 0 where
   pub id : k.id ≡ j.id
   pub tube : k.tube ≡ j.tube
   pub body : k.body ≡ j.body
-  pub ready : is_ready j ≡ true → ((is_ready k ≡ true) × (k.pri ≡ j.pri)) ⊎ (is_reserved k.state ≡ true)
+  pub ready : is_ready j ≡ true → ((is_ready k ≡ true) × (k.pri ≡ j.pri)) ⊎ (list_any (disturbs j.id) (change what j.id j.state k.state) ≡ true)
+  pub held : is_reserved j.state ≡ true → (is_reserved k.state ≡ true) ⊎ (list_any (disturbs j.id) (change what j.id j.state k.state) ≡ true)
 
-pub becomes_itself : (j : Job) → Becomes j j
-becomes_itself j = record { id = refl; tube = refl; body = refl; ready = λ h. inl (h, refl) }
+pub becomes_itself : (what : Step) (j : Job) → Becomes what j j
+becomes_itself what j = record { id = refl; tube = refl; body = refl; ready = λ h. inl (h, refl); held = λ h. inl h }
 
 -- the jobs and the next id before and after a command: jobs changed, one was removed, or one was added
-pub data JobsAfter (jobs : List Job) (next : ℕ) (later : List Job) (next_then : ℕ) : Type 0 where
-  changed : (f : Job → Job) → later ≡ map f jobs → next_then ≡ next → ((j : Job) → (f j).id ≡ j.id) → ((j : Job) → Contains jobs j → Becomes j (f j)) → JobsAfter jobs next later next_then
-  removed : (id : ℕ) → later ≡ filter (λ k. not (k.id == id)) jobs → next_then ≡ next → JobsAfter jobs next later next_then
-  added : (j : Job) → later ≡ jobs ++ j ∷ [] → next_then ≡ suc next → j.id ≡ next → (j.delay ≡ 0 → is_ready j ≡ true) → JobsAfter jobs next later next_then
+pub data JobsAfter (what : Step) (jobs : List Job) (next : ℕ) (later : List Job) (next_then : ℕ) : Type 0 where
+  changed : (f : Job → Job) → later ≡ map f jobs → next_then ≡ next → ((j : Job) → (f j).id ≡ j.id) → ((j : Job) → Contains jobs j → Becomes what j (f j)) → JobsAfter what jobs next later next_then
+  removed_one : (id : ℕ) → ((other : ℕ) → removed what other ≡ deleted other ∷ []) → later ≡ filter (λ k. not (k.id == id)) jobs → next_then ≡ next → JobsAfter what jobs next later next_then
+  added : (j : Job) → later ≡ jobs ++ j ∷ [] → next_then ≡ suc next → j.id ≡ next → (j.delay ≡ 0 → is_ready j ≡ true) → JobsAfter what jobs next later next_then
 
 map_itself : (jobs : List Job) → map (λ j. j) jobs ≡ jobs
 map_itself [] = refl
 map_itself (j ∷ jobs) = ap (λ ks. j ∷ ks) (map_itself jobs)
 
-pub unchanged : (jobs : List Job) (next : ℕ) → JobsAfter jobs next jobs next
-unchanged jobs next = changed (λ j. j) (sym (map_itself jobs)) refl (λ j. refl) (λ j i. becomes_itself j)
+pub unchanged : (what : Step) (jobs : List Job) (next : ℕ) → JobsAfter what jobs next jobs next
+unchanged what jobs next = changed (λ j. j) (sym (map_itself jobs)) refl (λ j. refl) (λ j i. becomes_itself what j)
 
 -- the job of one id changes
-pub one_changed : (id : ℕ) (f : Job → Job) (jobs : List Job) (next : ℕ) (j : Job) → AreIdsWithin 1 jobs next → job_with id jobs ≡ Some j → ((k : Job) → (f k).id ≡ k.id) → Becomes j (f j) → JobsAfter jobs next (map (λ k. cond (k.id == id) (f k) k) jobs) next
-one_changed id f jobs next j ids found same becomes =
+pub one_changed : (what : Step) (id : ℕ) (f : Job → Job) (jobs : List Job) (next : ℕ) (j : Job) → AreIdsWithin 1 jobs next → job_with id jobs ≡ Some j → ((k : Job) → (f k).id ≡ k.id) → Becomes what j (f j) → JobsAfter what jobs next (map (λ k. cond (k.id == id) (f k) k) jobs) next
+one_changed what id f jobs next j ids found same becomes =
     changed (λ k. cond (k.id == id) (f k) k) refl refl (λ k. cond_both (k.id == id) (f k) k (λ l. l.id ≡ k.id) (λ e. same k) (λ e. refl))
-    (λ k i. cond_both (k.id == id) (f k) k (λ l. Becomes k l)
+    (λ k i. cond_both (k.id == id) (f k) k (λ l. Becomes what k l)
     (λ e.
     let both : Some j ≡ Some k = sym found ∙ subst (λ n. job_with n jobs ≡ Some k) (eqb-true k.id id e) (job_found 1 next jobs k ids i).0 in
     let is : j ≡ k = (cc) in
-    subst (λ l. Becomes l (f l)) is becomes)
-    (λ e. becomes_itself k))
+    subst (λ l. Becomes what l (f l)) is becomes)
+    (λ e. becomes_itself what k))
 
 any_in_parts : {X Y : Type 0} (p : Y → Bool) (g : X → List Y) (xs : List X) → list_any (λ x. list_any p (g x)) xs ≡ true → list_any p (flat_map g xs) ≡ true
 any_in_parts p g [] h = h
@@ -63,66 +66,130 @@ any_in_parts p g (x ∷ xs) h =
     ]
 
 -- what became of one job is told
-told_of_job : (p : Happening → Bool) (what : Step) (before after : List Job) (j : Job) → Contains before j → list_any p (change_or_deletion what j (job_with j.id after)) ≡ true → list_any p (changes what before after) ≡ true
+told_of_job : (p : Happening → Bool) (what : Step) (before after : List Job) (j : Job) → Contains before j → list_any p (change_or_removal what j (job_with j.id after)) ≡ true → list_any p (changes what before after) ≡ true
 told_of_job p what before after j i h =
-    list_any-append p (flat_map (λ k. change_or_deletion what k (job_with k.id after)) before) (map put (filter (λ k. is_none (job_with k.id before)) after))
-    ∙ or_left (list_any p (flat_map (λ k. change_or_deletion what k (job_with k.id after)) before)) (list_any p (map put (filter (λ k. is_none (job_with k.id before)) after)))
-    (any_in_parts p (λ k. change_or_deletion what k (job_with k.id after)) before (list_any_with (λ k. list_any p (change_or_deletion what k (job_with k.id after))) before j i h))
+    list_any-append p (flat_map (λ k. change_or_removal what k (job_with k.id after)) before) (map put (filter (λ k. is_none (job_with k.id before)) after))
+    ∙ or_left (list_any p (flat_map (λ k. change_or_removal what k (job_with k.id after)) before)) (list_any p (map put (filter (λ k. is_none (job_with k.id before)) after)))
+    (any_in_parts p (λ k. change_or_removal what k (job_with k.id after)) before (list_any_with (λ k. list_any p (change_or_removal what k (job_with k.id after))) before j i h))
 
-disturbed_if_given_up : (what : Step) (id : ℕ) → list_any (disturbs id) (given_up what id ∷ []) ≡ true
-disturbed_if_given_up steps.Connect id = or_left (id == id) false (eq-eqb id id refl)
-disturbed_if_given_up (steps.Ask request) id = or_left (id == id) false (eq-eqb id id refl)
-disturbed_if_given_up steps.End id = or_left (id == id) false (eq-eqb id id refl)
-disturbed_if_given_up steps.Close id = or_left (id == id) false (eq-eqb id id refl)
-disturbed_if_given_up steps.Drain id = or_left (id == id) false (eq-eqb id id refl)
-disturbed_if_given_up steps.Tick id = or_left (id == id) false (eq-eqb id id refl)
-disturbed_if_given_up steps.Gone id = or_left (id == id) false (eq-eqb id id refl)
+plain_given_up : (what : Step) (id : ℕ) → All (λ h. is_plain h ≡ true) (given_up what id)
+plain_given_up steps.Connect id = tt
+plain_given_up (steps.Ask (requests.Put pri delay ttr body)) id = tt
+plain_given_up (steps.Ask requests.Reserve) id = tt
+plain_given_up (steps.Ask (requests.ReserveWithTimeout seconds)) id = tt
+plain_given_up (steps.Ask (requests.ReserveJob other)) id = tt
+plain_given_up (steps.Ask (requests.Delete other)) id = tt
+plain_given_up (steps.Ask (requests.Release other pri delay)) id = (refl, tt)
+plain_given_up (steps.Ask (requests.Bury other pri)) id = (refl, tt)
+plain_given_up (steps.Ask (requests.Touch other)) id = tt
+plain_given_up (steps.Ask (requests.Kick bound)) id = tt
+plain_given_up (steps.Ask (requests.KickJob other)) id = tt
+plain_given_up (steps.Ask (requests.Use tube)) id = tt
+plain_given_up (steps.Ask requests.ListTubeUsed) id = tt
+plain_given_up (steps.Ask (requests.Watch tube)) id = tt
+plain_given_up (steps.Ask (requests.Ignore tube)) id = tt
+plain_given_up (steps.Ask (requests.Peek other)) id = tt
+plain_given_up (steps.Ask requests.PeekReady) id = tt
+plain_given_up (steps.Ask requests.PeekDelayed) id = tt
+plain_given_up (steps.Ask requests.PeekBuried) id = tt
+plain_given_up (steps.Ask (requests.PauseTube tube delay)) id = tt
+plain_given_up (steps.Ask (requests.StatsJob other)) id = tt
+plain_given_up (steps.Ask (requests.StatsTube tube)) id = tt
+plain_given_up (steps.Ask requests.Stats) id = tt
+plain_given_up (steps.Ask requests.ListTubes) id = tt
+plain_given_up (steps.Ask requests.ListTubesWatched) id = tt
+plain_given_up (steps.Ask requests.Quit) id = tt
+plain_given_up (steps.Ask (requests.Refused why)) id = tt
+plain_given_up steps.End id = tt
+plain_given_up steps.Close id = (refl, tt)
+plain_given_up steps.Drain id = tt
+plain_given_up steps.Tick id = tt
+plain_given_up steps.Gone id = tt
 
--- A job that is held no more was disturbed,
-disturbed_if_freed : (what : Step) (id : ℕ) (before after : JobState) → is_reserved before ≡ true → is_reserved after ≡ false → list_any (disturbs id) (change what id before after) ≡ true
-disturbed_if_freed what id states.Ready after h i = absurd cc
-disturbed_if_freed what id (states.Delayed due) after h i = absurd cc
-disturbed_if_freed what id (states.Buried number) after h i = absurd cc
-disturbed_if_freed what id (states.Reserved seat deadline) (states.Reserved holder until) h i = absurd cc
-disturbed_if_freed what id (states.Reserved seat deadline) (states.Buried number) h i = or_left (id == id) false (eq-eqb id id refl)
-disturbed_if_freed what id (states.Reserved seat deadline) states.Ready h i = disturbed_if_given_up what id
-disturbed_if_freed what id (states.Reserved seat deadline) (states.Delayed due) h i = disturbed_if_given_up what id
+plain_taken_up : (what : Step) (id : ℕ) → All (λ h. is_plain h ≡ true) (taken_up what id)
+plain_taken_up steps.Connect id = tt
+plain_taken_up (steps.Ask (requests.Put pri delay ttr body)) id = tt
+plain_taken_up (steps.Ask requests.Reserve) id = tt
+plain_taken_up (steps.Ask (requests.ReserveWithTimeout seconds)) id = tt
+plain_taken_up (steps.Ask (requests.ReserveJob other)) id = (refl, tt)
+plain_taken_up (steps.Ask (requests.Delete other)) id = tt
+plain_taken_up (steps.Ask (requests.Release other pri delay)) id = tt
+plain_taken_up (steps.Ask (requests.Bury other pri)) id = tt
+plain_taken_up (steps.Ask (requests.Touch other)) id = tt
+plain_taken_up (steps.Ask (requests.Kick bound)) id = tt
+plain_taken_up (steps.Ask (requests.KickJob other)) id = tt
+plain_taken_up (steps.Ask (requests.Use tube)) id = tt
+plain_taken_up (steps.Ask requests.ListTubeUsed) id = tt
+plain_taken_up (steps.Ask (requests.Watch tube)) id = tt
+plain_taken_up (steps.Ask (requests.Ignore tube)) id = tt
+plain_taken_up (steps.Ask (requests.Peek other)) id = tt
+plain_taken_up (steps.Ask requests.PeekReady) id = tt
+plain_taken_up (steps.Ask requests.PeekDelayed) id = tt
+plain_taken_up (steps.Ask requests.PeekBuried) id = tt
+plain_taken_up (steps.Ask (requests.PauseTube tube delay)) id = tt
+plain_taken_up (steps.Ask (requests.StatsJob other)) id = tt
+plain_taken_up (steps.Ask (requests.StatsTube tube)) id = tt
+plain_taken_up (steps.Ask requests.Stats) id = tt
+plain_taken_up (steps.Ask requests.ListTubes) id = tt
+plain_taken_up (steps.Ask requests.ListTubesWatched) id = tt
+plain_taken_up (steps.Ask requests.Quit) id = tt
+plain_taken_up (steps.Ask (requests.Refused why)) id = tt
+plain_taken_up steps.End id = tt
+plain_taken_up steps.Close id = tt
+plain_taken_up steps.Drain id = tt
+plain_taken_up steps.Tick id = tt
+plain_taken_up steps.Gone id = tt
 
--- and so was a ready one that is held.
-disturbed_if_taken : (what : Step) (id : ℕ) (before after : JobState) → is_ready_state before ≡ true → is_reserved after ≡ true → list_any (disturbs id) (change what id before after) ≡ true
-disturbed_if_taken what id (states.Delayed due) after h i = absurd cc
-disturbed_if_taken what id (states.Buried number) after h i = absurd cc
-disturbed_if_taken what id (states.Reserved seat deadline) after h i = absurd cc
-disturbed_if_taken what id states.Ready (states.Reserved holder until) h i = or_left (id == id) false (eq-eqb id id refl)
-disturbed_if_taken what id states.Ready (states.Buried number) h i = absurd cc
-disturbed_if_taken what id states.Ready states.Ready h i = absurd cc
-disturbed_if_taken what id states.Ready (states.Delayed due) h i = absurd cc
-
-plain_given_up : (what : Step) (id : ℕ) → is_plain (given_up what id) ≡ true
-plain_given_up steps.Connect id = refl
-plain_given_up (steps.Ask request) id = refl
-plain_given_up steps.End id = refl
-plain_given_up steps.Close id = refl
-plain_given_up steps.Drain id = refl
-plain_given_up steps.Tick id = refl
-plain_given_up steps.Gone id = refl
+plain_removed : (what : Step) (id : ℕ) → All (λ h. is_plain h ≡ true) (removed what id)
+plain_removed steps.Connect id = tt
+plain_removed (steps.Ask (requests.Put pri delay ttr body)) id = tt
+plain_removed (steps.Ask requests.Reserve) id = tt
+plain_removed (steps.Ask (requests.ReserveWithTimeout seconds)) id = tt
+plain_removed (steps.Ask (requests.ReserveJob other)) id = tt
+plain_removed (steps.Ask (requests.Delete other)) id = (refl, tt)
+plain_removed (steps.Ask (requests.Release other pri delay)) id = tt
+plain_removed (steps.Ask (requests.Bury other pri)) id = tt
+plain_removed (steps.Ask (requests.Touch other)) id = tt
+plain_removed (steps.Ask (requests.Kick bound)) id = tt
+plain_removed (steps.Ask (requests.KickJob other)) id = tt
+plain_removed (steps.Ask (requests.Use tube)) id = tt
+plain_removed (steps.Ask requests.ListTubeUsed) id = tt
+plain_removed (steps.Ask (requests.Watch tube)) id = tt
+plain_removed (steps.Ask (requests.Ignore tube)) id = tt
+plain_removed (steps.Ask (requests.Peek other)) id = tt
+plain_removed (steps.Ask requests.PeekReady) id = tt
+plain_removed (steps.Ask requests.PeekDelayed) id = tt
+plain_removed (steps.Ask requests.PeekBuried) id = tt
+plain_removed (steps.Ask (requests.PauseTube tube delay)) id = tt
+plain_removed (steps.Ask (requests.StatsJob other)) id = tt
+plain_removed (steps.Ask (requests.StatsTube tube)) id = tt
+plain_removed (steps.Ask requests.Stats) id = tt
+plain_removed (steps.Ask requests.ListTubes) id = tt
+plain_removed (steps.Ask requests.ListTubesWatched) id = tt
+plain_removed (steps.Ask requests.Quit) id = tt
+plain_removed (steps.Ask (requests.Refused why)) id = tt
+plain_removed steps.End id = tt
+plain_removed steps.Close id = tt
+plain_removed steps.Drain id = tt
+plain_removed steps.Tick id = tt
+plain_removed steps.Gone id = tt
 
 plain_change : (what : Step) (id : ℕ) (before after : JobState) → All (λ h. is_plain h ≡ true) (change what id before after)
-plain_change what id (states.Reserved seat deadline) (states.Reserved holder until) = tt
-plain_change what id (states.Reserved seat deadline) (states.Buried number) = (refl, tt)
-plain_change what id (states.Reserved seat deadline) states.Ready = (plain_given_up what id, tt)
-plain_change what id (states.Reserved seat deadline) (states.Delayed due) = (plain_given_up what id, tt)
-plain_change what id states.Ready (states.Reserved holder until) = (refl, tt)
 plain_change what id states.Ready states.Ready = tt
 plain_change what id states.Ready (states.Delayed due) = tt
+plain_change what id states.Ready (states.Reserved holder until) = plain_taken_up what id
 plain_change what id states.Ready (states.Buried number) = tt
-plain_change what id (states.Delayed moment) (states.Reserved holder until) = (refl, tt)
 plain_change what id (states.Delayed moment) states.Ready = tt
 plain_change what id (states.Delayed moment) (states.Delayed due) = tt
+plain_change what id (states.Delayed moment) (states.Reserved holder until) = plain_taken_up what id
 plain_change what id (states.Delayed moment) (states.Buried number) = tt
-plain_change what id (states.Buried burial) (states.Reserved holder until) = (refl, tt)
+plain_change what id (states.Reserved seat deadline) states.Ready = plain_given_up what id
+plain_change what id (states.Reserved seat deadline) (states.Delayed due) = plain_given_up what id
+plain_change what id (states.Reserved seat deadline) (states.Reserved holder until) = tt
+plain_change what id (states.Reserved seat deadline) (states.Buried number) = plain_given_up what id
 plain_change what id (states.Buried burial) states.Ready = tt
 plain_change what id (states.Buried burial) (states.Delayed due) = tt
+plain_change what id (states.Buried burial) (states.Reserved holder until) = plain_taken_up what id
 plain_change what id (states.Buried burial) (states.Buried number) = tt
 
 no_change : (what : Step) (id : ℕ) (state : JobState) → change what id state state ≡ []
@@ -131,9 +198,9 @@ no_change what id (states.Delayed due) = refl
 no_change what id (states.Reserved seat deadline) = refl
 no_change what id (states.Buried number) = refl
 
-plain_change_or_deletion : (what : Step) (j : Job) (o : Option Job) → All (λ h. is_plain h ≡ true) (change_or_deletion what j o)
-plain_change_or_deletion what j None = (refl, tt)
-plain_change_or_deletion what j (Some k) = plain_change what j.id j.state k.state
+plain_change_or_removal : (what : Step) (j : Job) (o : Option Job) → All (λ h. is_plain h ≡ true) (change_or_removal what j o)
+plain_change_or_removal what j None = plain_removed what j.id
+plain_change_or_removal what j (Some k) = plain_change what j.id j.state k.state
 
 all_of_parts : {X Y : Type 0} (P : Y → Type 0) (g : X → List Y) (xs : List X) → ((x : X) → All P (g x)) → All P (flat_map g xs)
 all_of_parts P g [] h = tt
@@ -158,8 +225,8 @@ were_there jobs next ids = all_from_members (λ j. is_none (job_with j.id jobs) 
 -- Where no job is new, what is told is plain.
 plain_changes : (what : Step) (before after : List Job) → All (λ j. is_none (job_with j.id before) ≡ false) after → All (λ h. is_plain h ≡ true) (changes what before after)
 plain_changes what before after old =
-    all_of_append (λ h. is_plain h ≡ true) (flat_map (λ j. change_or_deletion what j (job_with j.id after)) before) (map put (filter (λ j. is_none (job_with j.id before)) after))
-    (all_of_parts (λ h. is_plain h ≡ true) (λ j. change_or_deletion what j (job_with j.id after)) before (λ j. plain_change_or_deletion what j (job_with j.id after)))
+    all_of_append (λ h. is_plain h ≡ true) (flat_map (λ j. change_or_removal what j (job_with j.id after)) before) (map put (filter (λ j. is_none (job_with j.id before)) after))
+    (all_of_parts (λ h. is_plain h ≡ true) (λ j. change_or_removal what j (job_with j.id after)) before (λ j. plain_change_or_removal what j (job_with j.id after)))
     (subst (λ ks. All (λ h. is_plain h ≡ true) (map put ks)) (sym (none_kept (λ j. is_none (job_with j.id before)) after old)) tt)
 
 none_at : (low next : ℕ) (jobs : List Job) → AreIdsWithin low jobs next → job_with next jobs ≡ None
@@ -170,43 +237,43 @@ none_at low next (j ∷ jobs) h =
     rw other (none_at (suc j.id) next jobs h.1)
 
 -- the fate of a job that a command changed
-changed_fate : (what : Step) (before after : List Job) (f : Job → Job) (id : ℕ) (o : Option Job) → job_with id before ≡ o → job_with id after ≡ option_map f o → ((j : Job) → Contains before j → Becomes j (f j)) → Fate id (changes what before after) o (option_map f o)
+changed_fate : (what : Step) (before after : List Job) (f : Job → Job) (id : ℕ) (o : Option Job) → job_with id before ≡ o → job_with id after ≡ option_map f o → ((j : Job) → Contains before j → Becomes what j (f j)) → Fate id (changes what before after) o (option_map f o)
 changed_fate what before after f id None e g becomes = refl
 changed_fate what before after f id (Some j) e g becomes =
     let found = found_job id before j e in
     let b = becomes j found.1 in
     let here : job_with j.id after ≡ Some (f j) = subst (λ n. job_with n after ≡ Some (f j)) (sym found.0) g in
     let disturbed : list_any (disturbs j.id) (change what j.id j.state (f j).state) ≡ true → list_any (disturbs id) (changes what before after) ≡ true =
-    λ h. subst (λ n. list_any (disturbs n) (changes what before after) ≡ true) found.0 (told_of_job (disturbs j.id) what before after j found.1 (ap (λ o. list_any (disturbs j.id) (change_or_deletion what j o)) here ∙ h)) in
+    λ h. subst (λ n. list_any (disturbs n) (changes what before after) ≡ true) found.0 (told_of_job (disturbs j.id) what before after j found.1 (ap (λ o. list_any (disturbs j.id) (change_or_removal what j o)) here ∙ h)) in
     record {
       same = b.id;
       tube = b.tube;
       body = b.body;
       ready = λ h still. elim (b.ready h) [
         | inl r ↦ r
-        | inr r ↦ absurd (both_ways (list_any (disturbs id) (changes what before after)) still (disturbed (disturbed_if_taken what j.id j.state (f j).state h r)))
+        | inr r ↦ absurd (both_ways (list_any (disturbs id) (changes what before after)) still (disturbed r))
       ];
-      held = λ h still. elim (cases_Bool (is_reserved (f j).state)) [
+      held = λ h still. elim (b.held h) [
         | inl r ↦ r
-        | inr r ↦ absurd (both_ways (list_any (disturbs id) (changes what before after)) still (disturbed (disturbed_if_freed what j.id j.state (f j).state h r)))
+        | inr r ↦ absurd (both_ways (list_any (disturbs id) (changes what before after)) still (disturbed r))
       ];
     }
 
 goes_on_as_itself : (id : ℕ) (j : Job) (happened : List Happening) → GoesOnAs id j j happened
 goes_on_as_itself id j happened = record { same = refl; tube = refl; body = refl; ready = λ h still. (h, refl); held = λ h still. h }
 
-removed_fate : (what : Step) (before after : List Job) (gone id : ℕ) (o : Option Job) → job_with id before ≡ o → job_with id after ≡ cond (id == gone) None o → Fate id (changes what before after) o (cond (id == gone) None o)
-removed_fate what before after gone id None e g = cond_both (id == gone) None None (λ o. o ≡ None) (λ h. refl) (λ h. refl)
-removed_fate what before after gone id (Some j) e g =
+removed_fate : (what : Step) (before after : List Job) (gone id : ℕ) (o : Option Job) → ((other : ℕ) → removed what other ≡ deleted other ∷ []) → job_with id before ≡ o → job_with id after ≡ cond (id == gone) None o → Fate id (changes what before after) o (cond (id == gone) None o)
+removed_fate what before after gone id None told e g = cond_both (id == gone) None None (λ o. o ≡ None) (λ h. refl) (λ h. refl)
+removed_fate what before after gone id (Some j) told e g =
     let found = found_job id before j e in
     cond_both (id == gone) None (Some j) (Fate id (changes what before after) (Some j))
     (λ h.
     let none : job_with j.id after ≡ None = subst (λ n. job_with n after ≡ None) (sym found.0) (rw h at g) in
-    told_of_job (is_deletion id) what before after j found.1 (ap (λ o. list_any (is_deletion id) (change_or_deletion what j o)) none ∙ or_left (j.id == id) false (eq-eqb j.id id found.0)))
+    told_of_job (is_deletion id) what before after j found.1 (ap (λ o. list_any (is_deletion id) (change_or_removal what j o)) none ∙ ap (list_any (is_deletion id)) (told j.id) ∙ or_left (j.id == id) false (eq-eqb j.id id found.0)))
     (λ h. goes_on_as_itself id j (changes what before after))
 
 -- A command is a move: quiet, or a put.
-pub move_of_jobs : (what : Step) (m n : Machine) → AreIdsWithin 1 m.jobs m.next_id → JobsAfter m.jobs m.next_id n.jobs n.next_id → Move m (changes what m.jobs n.jobs) n
+pub move_of_jobs : (what : Step) (m n : Machine) → AreIdsWithin 1 m.jobs m.next_id → JobsAfter what m.jobs m.next_id n.jobs n.next_id → Move m (changes what m.jobs n.jobs) n
 move_of_jobs what m n ids (changed f after next same becomes) =
     let lookup : (id : ℕ) → job_with id n.jobs ≡ option_map f (job_with id m.jobs) = λ id. ap (job_with id) after ∙ job_in_map f id m.jobs same in
     quiet (record {
@@ -217,7 +284,7 @@ move_of_jobs what m n ids (changed f after next same becomes) =
           (all_weaker (λ j. is_none (job_with j.id m.jobs) ≡ false) (λ j. is_none (job_with (f j).id m.jobs) ≡ false) m.jobs (λ j h. subst (λ id. is_none (job_with id m.jobs) ≡ false) (sym (same j)) h) (were_there m.jobs m.next_id ids))));
       fates = λ id. subst (Fate id (changes what m.jobs n.jobs) (job_with id m.jobs)) (sym (lookup id)) (changed_fate what m.jobs n.jobs f id (job_with id m.jobs) refl (lookup id) becomes);
     })
-move_of_jobs what m n ids (removed gone after next) =
+move_of_jobs what m n ids (removed_one gone told after next) =
     let lookup : (id : ℕ) → job_with id n.jobs ≡ cond (id == gone) None (job_with id m.jobs) = λ id. ap (job_with id) after ∙ job_in_rest gone id m.jobs in
     quiet (record {
       next = next;
@@ -225,21 +292,21 @@ move_of_jobs what m n ids (removed gone after next) =
           (subst (All (λ j. is_none (job_with j.id m.jobs) ≡ false)) (sym after)
           (all_weaker (λ j. (is_none (job_with j.id m.jobs) ≡ false) × (not (j.id == gone) ≡ true)) (λ j. is_none (job_with j.id m.jobs) ≡ false) (filter (λ k. not (k.id == gone)) m.jobs) (λ j c. c.0)
           (all_of_filter (λ j. is_none (job_with j.id m.jobs) ≡ false) (λ k. not (k.id == gone)) m.jobs (were_there m.jobs m.next_id ids))));
-      fates = λ id. subst (Fate id (changes what m.jobs n.jobs) (job_with id m.jobs)) (sym (lookup id)) (removed_fate what m.jobs n.jobs gone id (job_with id m.jobs) refl (lookup id));
+      fates = λ id. subst (Fate id (changes what m.jobs n.jobs) (job_with id m.jobs)) (sym (lookup id)) (removed_fate what m.jobs n.jobs gone id (job_with id m.jobs) told refl (lookup id));
     })
 move_of_jobs what m n ids (added j after next is at_once) =
-    let silent : All (λ k. change_or_deletion what k (job_with k.id n.jobs) ≡ []) m.jobs =
-    all_from_members (λ k. change_or_deletion what k (job_with k.id n.jobs) ≡ []) m.jobs (λ k i.
+    let silent : All (λ k. change_or_removal what k (job_with k.id n.jobs) ≡ []) m.jobs =
+    all_from_members (λ k. change_or_removal what k (job_with k.id n.jobs) ≡ []) m.jobs (λ k i.
     let found = job_found 1 m.next_id m.jobs k ids i in
     let less = found.1 in
     let other : (j.id == k.id) ≡ false = false_from_ne_true (j.id == k.id) (λ t. let at = eqb-true j.id k.id t in absurd (omega arith)) in
-    ap (λ o. change_or_deletion what k o) (ap (job_with k.id) after ∙ job_in_more k.id m.jobs j other ∙ found.0) ∙ no_change what k.id k.state) in
+    ap (λ o. change_or_removal what k o) (ap (job_with k.id) after ∙ job_in_more k.id m.jobs j other ∙ found.0) ∙ no_change what k.id k.state) in
     let new : filter (λ k. is_none (job_with k.id m.jobs)) n.jobs ≡ j ∷ [] =
     ap (filter (λ k. is_none (job_with k.id m.jobs))) after
     ∙ last_kept (λ k. is_none (job_with k.id m.jobs)) m.jobs j (were_there m.jobs m.next_id ids) (ap is_none (ap (λ id. job_with id m.jobs) is ∙ none_at 1 m.next_id m.jobs ids)) in
     putting (record {
       job = j;
-      happened_is = ap (λ hs. hs ++ map put (filter (λ k. is_none (job_with k.id m.jobs)) n.jobs)) (none_of_parts (λ k. change_or_deletion what k (job_with k.id n.jobs)) m.jobs silent)
+      happened_is = ap (λ hs. hs ++ map put (filter (λ k. is_none (job_with k.id m.jobs)) n.jobs)) (none_of_parts (λ k. change_or_removal what k (job_with k.id n.jobs)) m.jobs silent)
           ∙ ap (λ ks. map put ks) new;
       id = is;
       next = next;

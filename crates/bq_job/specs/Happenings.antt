@@ -6,6 +6,7 @@ use Rattle.bq_job.specs.declared.answer.Answer.TheVariants as answers
 use Rattle.bq_job.specs.declared.job.Job.{Job}
 use Rattle.bq_job.specs.declared.job.JobState.{JobState}
 use Rattle.bq_job.specs.declared.job.JobState.TheVariants as states
+use Rattle.bq_job.specs.declared.request.Request.TheVariants as requests
 use Rattle.bq_job.specs.declared.step.Step.{Step}
 use Rattle.bq_job.specs.declared.step.Step.TheVariants as steps
 use Rattle.bq_job.specs.Changes.{job_with}
@@ -41,28 +42,39 @@ hand_out _ = []
 abbrev pub hand_outs : List GivenAnswer → List Happening
 hand_outs given = flat_map (λ g. hand_out g.1) given
 
--- A job that is held no more was given back by a close, or else released.
-abbrev pub given_up : Step → ℕ → Happening
-given_up steps.Close id = given_back id
-given_up _ id = released id
+-- A job that is held no more was given back by a close, or released or buried by the command of that name.
+abbrev pub given_up : Step → ℕ → List Happening
+given_up steps.Close id = given_back id ∷ []
+given_up (steps.Ask (requests.Release other pri delay)) id = released id ∷ []
+given_up (steps.Ask (requests.Bury other pri)) id = buried id ∷ []
+given_up _ id = []
+
+-- A job that is held now was reserved by reserve-job.
+abbrev pub taken_up : Step → ℕ → List Happening
+taken_up (steps.Ask (requests.ReserveJob other)) id = reserved_by_id id ∷ []
+taken_up _ id = []
+
+-- A job that is there no more was deleted by a delete.
+abbrev pub removed : Step → ℕ → List Happening
+removed (steps.Ask (requests.Delete other)) id = deleted id ∷ []
+removed _ id = []
 
 -- by a command, to a job that was in the first state and is in the second
 abbrev pub change : Step → ℕ → JobState → JobState → List Happening
 change what id (states.Reserved seat deadline) (states.Reserved holder until) = []
-change what id (states.Reserved seat deadline) (states.Buried number) = buried id ∷ []
-change what id (states.Reserved seat deadline) state = given_up what id ∷ []
-change what id before (states.Reserved seat deadline) = reserved_by_id id ∷ []
+change what id (states.Reserved seat deadline) state = given_up what id
+change what id before (states.Reserved seat deadline) = taken_up what id
 change what id before state = []
 
--- by a command, to a job that there was: where it is there no more, it was deleted
-abbrev pub change_or_deletion : Step → Job → Option Job → List Happening
-change_or_deletion what j None = deleted j.id ∷ []
-change_or_deletion what j (Some k) = change what j.id j.state k.state
+-- by a command, to a job that there was
+abbrev pub change_or_removal : Step → Job → Option Job → List Happening
+change_or_removal what j None = removed what j.id
+change_or_removal what j (Some k) = change what j.id j.state k.state
 
 -- by a command: what became of each job that there was, and each job that is new
 abbrev pub changes : Step → List Job → List Job → List Happening
 changes what before after =
-    flat_map (λ j. change_or_deletion what j (job_with j.id after)) before
+    flat_map (λ j. change_or_removal what j (job_with j.id after)) before
     ++ map put (filter (λ j. is_none (job_with j.id before)) after)
 
 -- a part of a step: what happened to jobs in it, and the machine after it
