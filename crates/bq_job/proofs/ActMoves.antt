@@ -24,12 +24,12 @@ use Rattle.bq_job.specs.StatisticsCommands.{job_statistics_or_not}
 use Rattle.bq_job.specs.Steps.{Memory, acted, granted, growth_refused, share_refused}
 use Rattle.bq_job.specs.TubeCommands.{watching_or_refused}
 use Rattle.bq_job.specs.Tubes.{is_tube}
-use Rattle.bq_job.specs.Happenings.{change, given_up, taken_up}
+use Rattle.bq_job.specs.Happenings.{Happening, buried as happens_buried, change, given_up, named, released as happens_released, reserved_by_id, taken_up}
 use Rattle.bq_job.specs.TubeName.{is_same_name}
 use Rattle.bq_job.specs.Undisturbed.{disturbs}
 use Rattle.bq_job.proofs.ChangeLemmas.{Becomes, JobsAfter, becomes_itself, changed, removed_one, added, one_changed, unchanged}
 use Rattle.bq_job.proofs.ListLemmas.{all_from_members, all_of_filter, all_weaker}
-use Rattle.bq_job.proofs.LookupLemmas.{job_found}
+use Rattle.bq_job.proofs.LookupLemmas.{found_job, job_found}
 
 -- the ids of a machine's jobs
 abbrev pub Ids : Machine → Type 0
@@ -94,6 +94,9 @@ told_if_taken what id (states.Buried number) seat deadline h told = absurd cc
 
 itself_told : (id : ℕ) → ((id == id) || false) ≡ true
 itself_told id = or_left (id == id) false (eq-eqb id id refl)
+
+told_by_name : (other id : ℕ) (h : Happening) → other ≡ id → disturbs id h ≡ true → list_any (disturbs id) (named other id h) ≡ true
+told_by_name other id h e d = rw (eq-eqb other id e) (or_left (disturbs id h) false d)
 
 -- what holds of all holds of all in order, and of the first of them
 all_put_in_order : (P : Job → Type 0) (before : Job → Job → Bool) (j : Job) (jobs : List Job) → P j → All P jobs → All P (put_in_order before j jobs)
@@ -166,15 +169,15 @@ after_asked requests.Reserve m s ids = after_itself (steps.Ask requests.Reserve)
 after_asked (requests.ReserveWithTimeout seconds) m s ids = after_itself (steps.Ask (requests.ReserveWithTimeout seconds)) m
 after_asked (requests.ReserveJob id) m s ids =
     after_on_job (steps.Ask (requests.ReserveJob id)) id (λ j. not (is_reserved j.state)) (λ j. telling (answers.Reserved j.id j.body) (with_job id (reserved_by m.moment s.number) m)) m
-    (λ j e p. one_changed (steps.Ask (requests.ReserveJob id)) id (reserved_by m.moment s.number) m.jobs m.next_id j ids e (λ k. refl) (record { id = refl; tube = refl; body = refl; ready = λ h. inr (told_if_taken (steps.Ask (requests.ReserveJob id)) j.id j.state s.number (later m.moment j.ttr) h (itself_told j.id)); held = λ h. inl refl }))
+    (λ j e p. one_changed (steps.Ask (requests.ReserveJob id)) id (reserved_by m.moment s.number) m.jobs m.next_id j ids e (λ k. refl) (record { id = refl; tube = refl; body = refl; ready = λ h. inr (told_if_taken (steps.Ask (requests.ReserveJob id)) j.id j.state s.number (later m.moment j.ttr) h (told_by_name id j.id (reserved_by_id j.id) (sym (found_job id m.jobs j e).0) (eq-eqb j.id j.id refl))); held = λ h. inl refl }))
 after_asked (requests.Delete id) m s ids =
-    after_on_job (steps.Ask (requests.Delete id)) id (is_free_for s) _ m (λ j e p. removed_one j.id (λ other. refl) refl refl)
+    after_on_job (steps.Ask (requests.Delete id)) id (is_free_for s) _ m (λ j e p. removed_one j.id (rw (eq-eqb id j.id (sym (found_job id m.jobs j e).0)) refl) refl refl)
 after_asked (requests.Release id pri delay) m s ids =
     after_on_job (steps.Ask (requests.Release id pri delay)) id (is_held_by s.number) (λ j. telling answers.Released (with_job id (released m.moment pri delay) m)) m
-    (λ j e p. one_changed (steps.Ask (requests.Release id pri delay)) id (released m.moment pri delay) m.jobs m.next_id j ids e (λ k. refl) (record { id = refl; tube = refl; body = refl; ready = λ h. absurd (held_not_ready s.number j p h); held = λ h. inr (told_if_given_up (steps.Ask (requests.Release id pri delay)) j.id j.state delay m.moment h (itself_told j.id)) }))
+    (λ j e p. one_changed (steps.Ask (requests.Release id pri delay)) id (released m.moment pri delay) m.jobs m.next_id j ids e (λ k. refl) (record { id = refl; tube = refl; body = refl; ready = λ h. absurd (held_not_ready s.number j p h); held = λ h. inr (told_if_given_up (steps.Ask (requests.Release id pri delay)) j.id j.state delay m.moment h (told_by_name id j.id (happens_released j.id) (sym (found_job id m.jobs j e).0) (eq-eqb j.id j.id refl))) }))
 after_asked (requests.Bury id pri) m s ids =
     after_on_job (steps.Ask (requests.Bury id pri)) id (is_held_by s.number) (λ j. telling answers.Buried (record (with_job id (buried (raised m.burials) pri) m) { burials = raised m.burials })) m
-    (λ j e p. one_changed (steps.Ask (requests.Bury id pri)) id (buried (raised m.burials) pri) m.jobs m.next_id j ids e (λ k. refl) (record { id = refl; tube = refl; body = refl; ready = λ h. absurd (held_not_ready s.number j p h); held = λ h. inr (told_if_buried (steps.Ask (requests.Bury id pri)) j.id j.state (raised m.burials) h (itself_told j.id)) }))
+    (λ j e p. one_changed (steps.Ask (requests.Bury id pri)) id (buried (raised m.burials) pri) m.jobs m.next_id j ids e (λ k. refl) (record { id = refl; tube = refl; body = refl; ready = λ h. absurd (held_not_ready s.number j p h); held = λ h. inr (told_if_buried (steps.Ask (requests.Bury id pri)) j.id j.state (raised m.burials) h (told_by_name id j.id (happens_buried j.id) (sym (found_job id m.jobs j e).0) (eq-eqb j.id j.id refl))) }))
 after_asked (requests.Touch id) m s ids =
     after_on_job (steps.Ask (requests.Touch id)) id (is_held_by s.number) (λ j. telling answers.Touched (with_job id (in_state (states.Reserved s.number (later m.moment j.ttr))) m)) m
     (λ j e p. one_changed (steps.Ask (requests.Touch id)) id (in_state (states.Reserved s.number (later m.moment j.ttr))) m.jobs m.next_id j ids e (λ k. refl)

@@ -10,7 +10,7 @@ use Rattle.bq_job.specs.declared.request.Request.TheVariants as requests
 use Rattle.bq_job.specs.declared.step.Step.{Step}
 use Rattle.bq_job.specs.declared.step.Step.TheVariants as steps
 use Rattle.bq_job.specs.Changes.{is_ready, is_ready_state, job_with}
-use Rattle.bq_job.specs.Happenings.{Happening, change, change_or_removal, changes, deleted, given_up, put, removed, taken_up}
+use Rattle.bq_job.specs.Happenings.{Happening, buried, change, change_or_removal, changes, deleted, given_up, named, put, released, removed, reserved_by_id, taken_up}
 use Rattle.bq_job.specs.JobStates.{is_reserved}
 use Rattle.bq_job.specs.Lawful.{AreIdsWithin}
 use Rattle.bq_job.specs.Machine.{Machine}
@@ -35,7 +35,7 @@ becomes_itself what j = record { id = refl; tube = refl; body = refl; ready = λ
 -- the jobs and the next id before and after a command: jobs changed, one was removed, or one was added
 pub data JobsAfter (what : Step) (jobs : List Job) (next : ℕ) (later : List Job) (next_then : ℕ) : Type 0 where
   changed : (f : Job → Job) → later ≡ map f jobs → next_then ≡ next → ((j : Job) → (f j).id ≡ j.id) → ((j : Job) → Contains jobs j → Becomes what j (f j)) → JobsAfter what jobs next later next_then
-  removed_one : (id : ℕ) → ((other : ℕ) → removed what other ≡ deleted other ∷ []) → later ≡ filter (λ k. not (k.id == id)) jobs → next_then ≡ next → JobsAfter what jobs next later next_then
+  removed_one : (id : ℕ) → removed what id ≡ deleted id ∷ [] → later ≡ filter (λ k. not (k.id == id)) jobs → next_then ≡ next → JobsAfter what jobs next later next_then
   added : (j : Job) → later ≡ jobs ++ j ∷ [] → next_then ≡ suc next → j.id ≡ next → (j.delay ≡ 0 → is_ready j ≡ true) → JobsAfter what jobs next later next_then
 
 map_itself : (jobs : List Job) → map (λ j. j) jobs ≡ jobs
@@ -72,6 +72,9 @@ told_of_job p what before after j i h =
     ∙ or_left (list_any p (flat_map (λ k. change_or_removal what k (job_with k.id after)) before)) (list_any p (map put (filter (λ k. is_none (job_with k.id before)) after)))
     (any_in_parts p (λ k. change_or_removal what k (job_with k.id after)) before (list_any_with (λ k. list_any p (change_or_removal what k (job_with k.id after))) before j i h))
 
+plain_named : (other id : ℕ) (h : Happening) → is_plain h ≡ true → All (λ h. is_plain h ≡ true) (named other id h)
+plain_named other id h p = cond_both (other == id) (h ∷ []) [] (All (λ h. is_plain h ≡ true)) (λ e. (p, tt)) (λ e. tt)
+
 plain_given_up : (what : Step) (id : ℕ) → All (λ h. is_plain h ≡ true) (given_up what id)
 plain_given_up steps.Connect id = tt
 plain_given_up (steps.Ask (requests.Put pri delay ttr body)) id = tt
@@ -79,8 +82,8 @@ plain_given_up (steps.Ask requests.Reserve) id = tt
 plain_given_up (steps.Ask (requests.ReserveWithTimeout seconds)) id = tt
 plain_given_up (steps.Ask (requests.ReserveJob other)) id = tt
 plain_given_up (steps.Ask (requests.Delete other)) id = tt
-plain_given_up (steps.Ask (requests.Release other pri delay)) id = (refl, tt)
-plain_given_up (steps.Ask (requests.Bury other pri)) id = (refl, tt)
+plain_given_up (steps.Ask (requests.Release other pri delay)) id = plain_named other id (released id) refl
+plain_given_up (steps.Ask (requests.Bury other pri)) id = plain_named other id (buried id) refl
 plain_given_up (steps.Ask (requests.Touch other)) id = tt
 plain_given_up (steps.Ask (requests.Kick bound)) id = tt
 plain_given_up (steps.Ask (requests.KickJob other)) id = tt
@@ -111,7 +114,7 @@ plain_taken_up steps.Connect id = tt
 plain_taken_up (steps.Ask (requests.Put pri delay ttr body)) id = tt
 plain_taken_up (steps.Ask requests.Reserve) id = tt
 plain_taken_up (steps.Ask (requests.ReserveWithTimeout seconds)) id = tt
-plain_taken_up (steps.Ask (requests.ReserveJob other)) id = (refl, tt)
+plain_taken_up (steps.Ask (requests.ReserveJob other)) id = plain_named other id (reserved_by_id id) refl
 plain_taken_up (steps.Ask (requests.Delete other)) id = tt
 plain_taken_up (steps.Ask (requests.Release other pri delay)) id = tt
 plain_taken_up (steps.Ask (requests.Bury other pri)) id = tt
@@ -146,7 +149,7 @@ plain_removed (steps.Ask (requests.Put pri delay ttr body)) id = tt
 plain_removed (steps.Ask requests.Reserve) id = tt
 plain_removed (steps.Ask (requests.ReserveWithTimeout seconds)) id = tt
 plain_removed (steps.Ask (requests.ReserveJob other)) id = tt
-plain_removed (steps.Ask (requests.Delete other)) id = (refl, tt)
+plain_removed (steps.Ask (requests.Delete other)) id = plain_named other id (deleted id) refl
 plain_removed (steps.Ask (requests.Release other pri delay)) id = tt
 plain_removed (steps.Ask (requests.Bury other pri)) id = tt
 plain_removed (steps.Ask (requests.Touch other)) id = tt
@@ -262,14 +265,14 @@ changed_fate what before after f id (Some j) e g becomes =
 goes_on_as_itself : (id : ℕ) (j : Job) (happened : List Happening) → GoesOnAs id j j happened
 goes_on_as_itself id j happened = record { same = refl; tube = refl; body = refl; ready = λ h still. (h, refl); held = λ h still. h }
 
-removed_fate : (what : Step) (before after : List Job) (gone id : ℕ) (o : Option Job) → ((other : ℕ) → removed what other ≡ deleted other ∷ []) → job_with id before ≡ o → job_with id after ≡ cond (id == gone) None o → Fate id (changes what before after) o (cond (id == gone) None o)
+removed_fate : (what : Step) (before after : List Job) (gone id : ℕ) (o : Option Job) → removed what gone ≡ deleted gone ∷ [] → job_with id before ≡ o → job_with id after ≡ cond (id == gone) None o → Fate id (changes what before after) o (cond (id == gone) None o)
 removed_fate what before after gone id None told e g = cond_both (id == gone) None None (λ o. o ≡ None) (λ h. refl) (λ h. refl)
 removed_fate what before after gone id (Some j) told e g =
     let found = found_job id before j e in
     cond_both (id == gone) None (Some j) (Fate id (changes what before after) (Some j))
     (λ h.
     let none : job_with j.id after ≡ None = subst (λ n. job_with n after ≡ None) (sym found.0) (rw h at g) in
-    told_of_job (is_deletion id) what before after j found.1 (ap (λ o. list_any (is_deletion id) (change_or_removal what j o)) none ∙ ap (list_any (is_deletion id)) (told j.id) ∙ or_left (j.id == id) false (eq-eqb j.id id found.0)))
+    told_of_job (is_deletion id) what before after j found.1 (ap (λ o. list_any (is_deletion id) (change_or_removal what j o)) none ∙ ap (list_any (is_deletion id)) (subst (λ n. removed what n ≡ deleted n ∷ []) (sym (found.0 ∙ eqb-true id gone h)) told) ∙ or_left (j.id == id) false (eq-eqb j.id id found.0)))
     (λ h. goes_on_as_itself id j (changes what before after))
 
 -- A command is a move: quiet, or a put.

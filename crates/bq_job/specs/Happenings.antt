@@ -1,6 +1,6 @@
 -- What happens to jobs in a run: one list of happenings in their order, and the machine after each part
 -- of a step.
-use Rattle.std.specs.Prelude.{ℕ, is_none, Option, Some, None, List, [], ◌∷◌, ◌++◌, map, filter, flat_map}
+use Rattle.std.specs.Prelude.{ℕ, ◌==◌, if◌then◌else◌, is_none, Option, Some, None, List, [], ◌∷◌, ◌++◌, map, filter, flat_map}
 use Rattle.bq_job.specs.declared.answer.Answer.{Answer}
 use Rattle.bq_job.specs.declared.answer.Answer.TheVariants as answers
 use Rattle.bq_job.specs.declared.job.Job.{Job}
@@ -42,21 +42,25 @@ hand_out _ = []
 abbrev pub hand_outs : List GivenAnswer → List Happening
 hand_outs given = flat_map (λ g. hand_out g.1) given
 
+-- It happens to the job that the command names, and to no other.
+abbrev pub named : ℕ → ℕ → Happening → List Happening
+named other id happening = if other == id then happening ∷ [] else []
+
 -- A job that is held no more was given back by a close, or released or buried by the command of that name.
 abbrev pub given_up : Step → ℕ → List Happening
 given_up steps.Close id = given_back id ∷ []
-given_up (steps.Ask (requests.Release other pri delay)) id = released id ∷ []
-given_up (steps.Ask (requests.Bury other pri)) id = buried id ∷ []
+given_up (steps.Ask (requests.Release other pri delay)) id = named other id (released id)
+given_up (steps.Ask (requests.Bury other pri)) id = named other id (buried id)
 given_up _ id = []
 
 -- A job that is held now was reserved by reserve-job.
 abbrev pub taken_up : Step → ℕ → List Happening
-taken_up (steps.Ask (requests.ReserveJob other)) id = reserved_by_id id ∷ []
+taken_up (steps.Ask (requests.ReserveJob other)) id = named other id (reserved_by_id id)
 taken_up _ id = []
 
 -- A job that is there no more was deleted by a delete.
 abbrev pub removed : Step → ℕ → List Happening
-removed (steps.Ask (requests.Delete other)) id = deleted id ∷ []
+removed (steps.Ask (requests.Delete other)) id = named other id (deleted id)
 removed _ id = []
 
 -- by a command, to a job that was in the first state and is in the second

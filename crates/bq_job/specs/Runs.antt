@@ -28,7 +28,8 @@ pub record Parts : Type 0 where
   pub between_then : Machine
   pub ended_then : List GivenAnswer
 
-abbrev pub parts_of : {first last : Machine} {at seat : ℕ} {what : Step} {outcome : Outcome} {answers : List GivenAnswer} → IsStep first at seat what outcome answers last → Parts
+abbrev pub parts_of : {first last : Machine} {at seat : ℕ} {what : Step} {outcome : Outcome} {answers : List GivenAnswer}
+    → IsStep first at seat what outcome answers last → Parts
 parts_of step = record {
   handed = step.handed;
   between = step.serves.between;

@@ -5,8 +5,10 @@ ghost use Rattle.bq_job.specs.declared.request.Request.TheVariants.{Bury, Delete
 ghost use Rattle.bq_job.specs.ComputedRuns.{transitions};
 ghost use Rattle.bq_job.specs.Examples.{Plays, ask, at, close, connect, drain, server, tick, ◌gives◌};
 ghost use Rattle.bq_job.specs.JobCommands.{last_id};
-ghost use Rattle.bq_job.specs.RunExamples.{HandsOutDisturbed, HandsOutUndisturbed};
-ghost use Rattle.std.specs.Prelude.{List, [], ◌∷◌, ◌≡◌, codes, map};
+ghost use Rattle.bq_job.specs.RunExamples.{HandsOutDisturbed, HandsOutUndisturbed, happening_in};
+ghost use Rattle.bq_job.specs.Undisturbed.{IsHandedOutBefore, IsPutBefore, is_deletion};
+ghost use Rattle.std.specs.Prelude.{List, [], ◌∷◌, ◌≡◌, codes, false, map, true};
+ghost use Rattle.std.specs.List.{list_any};
 
 /// Two undisturbed jobs go out in the order of their puts, whichever client has waited longer.
 fn two_jobs_in_order()
@@ -18,6 +20,16 @@ fn two_jobs_in_order()
         ∷ ask 1 Reserve
         ∷ tick 5000
         ∷ []) }
+{}
+
+/// The one that was put first is put, and handed out, before the other, and not behind it.
+fn order_of_two_jobs()
+    ensures put_first { let happened = happening_in
+        (ask 0 (Put 7 0 9 (codes "x")) ∷ ask 0 (Put 7 0 9 (codes "y")) ∷ ask 2 Reserve ∷ ask 1 Reserve ∷ [])
+        in IsPutBefore 1 2 happened × IsHandedOutBefore 1 2 happened }
+    ensures not_behind { let happened = happening_in
+        (ask 0 (Put 7 0 9 (codes "x")) ∷ ask 0 (Put 7 0 9 (codes "y")) ∷ ask 2 Reserve ∷ ask 1 Reserve ∷ [])
+        in (IsPutBefore 2 1 happened → ⊥) × (IsHandedOutBefore 2 1 happened → ⊥) }
 {}
 
 /// A job whose time to run was over is handed out again, and is no undisturbed one.
@@ -108,6 +120,14 @@ fn put_of_the_last_id()
         ≡ [] ∷ ((0, Inserted last_id) ∷ []) ∷ ((0, Draining) ∷ []) ∷ [] }
 {}
 
+/// A delete of a job that another client holds deletes nothing, and its holder's does.
+fn deletion_is_told()
+    ensures none { list_any (is_deletion 1) (happening_in
+        (ask 0 (Put 0 0 9 (codes "x")) ∷ ask 1 Reserve ∷ ask 0 (Delete 1) ∷ [])) ≡ false }
+    ensures one { list_any (is_deletion 1) (happening_in
+        (ask 0 (Put 0 0 9 (codes "x")) ∷ ask 1 Reserve ∷ ask 1 (Delete 1) ∷ [])) ≡ true }
+{}
+
 /// A held job is deleted by its holder alone.
 fn delete_of_a_held_job()
     ensures { Plays
@@ -121,6 +141,7 @@ fn delete_of_a_held_job()
 #[test]
 fn examples_of_runs() {
     two_jobs_in_order();
+    order_of_two_jobs();
     expired_job_goes_out_twice();
     released_job_goes_out_twice();
     buried_job_goes_out_twice();
@@ -130,5 +151,6 @@ fn examples_of_runs() {
     least_job_first();
     put_before_and_after_the_drain();
     put_of_the_last_id();
+    deletion_is_told();
     delete_of_a_held_job();
 }
