@@ -1,0 +1,233 @@
+-- Lists of jobs in the order of their ids: what additions and removals do.
+use Rattle.std.proofs.Common.{◌≡◌, ℕ, suc, ◌+◌, ◌<◌, ◌≤◌, Bool, true, false, cond, not, List, [], ◌∷◌, ◌++◌, Option, Some, None, map, length, arith, refl, sym, ap, ◌∙◌, subst, inl, inr}
+use Rattle.std.specs.Prelude.{◌==◌, nat_lt, count_by, filter, find, if◌then◌else◌}
+use Rattle.std.specs.List.{AllByRecursion as All, Contains}
+use Rattle.std.proofs.lemmas.Bool.{cases_Bool, eqb-true}
+use Rattle.std.proofs.lemmas.Bool.Decides.{nat_tests}
+use Rattle.bq_job.specs.declared.job.Job.{Job}
+use Rattle.bq_job.specs.Changes.{first_of, job_with, with_job}
+use Rattle.bq_job.specs.Lawful.{AreIdsWithin}
+use Rattle.bq_job.specs.Machine.{Machine}
+use Rattle.bq_job.proofs.ChoiceLemmas.{first_of_contains}
+use Rattle.bq_job.proofs.ListLemmas.{all_at, all_weaker, count_cons}
+use Rattle.bq_jobs.specs.Kept.{is_id_before, with_added, without}
+use Rattle.bq_jobs.specs.Laws.{AddsAtTheEnd, ChangesById, ChosenHasItsId, NextIsFree}
+
+-- the lowest id is below the next one
+pub low_below : (low next : ℕ) (jobs : List Job) → AreIdsWithin low jobs next → low ≤ next
+low_below low next [] h = h
+low_below low next (j ∷ jobs) h = let i = low_below (suc j.id) next jobs h.1 in omega (arith, i, h.0)
+
+-- all ids are at least the lowest, and below the next one
+pub all_from_low : (low next : ℕ) (jobs : List Job) → AreIdsWithin low jobs next → All (λ j. low ≤ j.id) jobs
+all_from_low low next [] h = tt
+all_from_low low next (j ∷ jobs) h =
+    (h.0, all_weaker (λ k. suc j.id ≤ k.id) (λ k. low ≤ k.id) jobs (λ k l. let g = h.0 in omega arith) (all_from_low (suc j.id) next jobs h.1))
+
+pub all_below_next : (low next : ℕ) (jobs : List Job) → AreIdsWithin low jobs next → All (λ j. j.id < next) jobs
+all_below_next low next [] h = tt
+all_below_next low next (j ∷ jobs) h = (let i = low_below (suc j.id) next jobs h.1 in omega arith, all_below_next (suc j.id) next jobs h.1)
+
+-- no job has an id that is none of theirs
+pub not_found : (id : ℕ) (jobs : List Job) → All (λ j. (j.id == id) ≡ false) jobs → job_with id jobs ≡ None
+not_found id [] h = refl
+not_found id (j ∷ jobs) h = rw h.0 (not_found id jobs h.1)
+
+all_kept : (id : ℕ) (jobs : List Job) → All (λ j. (j.id == id) ≡ false) jobs → without id jobs ≡ jobs
+all_kept id [] h = refl
+all_kept id (j ∷ jobs) h = rw h.0 (ap (λ ks. j ∷ ks) (all_kept id jobs h.1))
+
+none_changed : (id : ℕ) (f : Job → Job) (jobs : List Job) → All (λ j. (j.id == id) ≡ false) jobs → map (λ k. if k.id == id then f k else k) jobs ≡ jobs
+none_changed id f [] h = refl
+none_changed id f (j ∷ jobs) h = rw h.0 (ap (λ ks. j ∷ ks) (none_changed id f jobs h.1))
+
+others_above : (id low next : ℕ) (jobs : List Job) → id < low → AreIdsWithin low jobs next → All (λ j. (j.id == id) ≡ false) jobs
+others_above id low next jobs l h = all_weaker (λ j. low ≤ j.id) (λ j. (j.id == id) ≡ false) jobs (λ j m. grind (arith, nat_tests)) (all_from_low low next jobs h)
+
+pub next_is_free : NextIsFree
+next_is_free low next jobs h =
+    not_found next jobs (all_weaker (λ j. j.id < next) (λ j. (j.id == next) ≡ false) jobs (λ j m. grind (arith, nat_tests)) (all_below_next low next jobs h))
+
+-- a job that is found has the id
+pub found_id : (id : ℕ) (jobs : List Job) (j : Job) → job_with id jobs ≡ Some j → j.id ≡ id
+found_id id [] j h = absurd cc
+found_id id (k ∷ jobs) j h =
+    elim (cases_Bool (k.id == id)) [
+      | inl e ↦
+          let same : Some k ≡ Some j = rw e at h in
+          let is : k ≡ j = (cc) in
+          subst (λ z. z.id ≡ id) is (eqb-true k.id id e)
+      | inr e ↦ found_id id jobs j (rw e at h)
+    ]
+
+-- a job is found by its id
+all_found : (low next : ℕ) (jobs : List Job) → AreIdsWithin low jobs next → All (λ j. job_with j.id jobs ≡ Some j) jobs
+all_found low next [] h = tt
+all_found low next (j ∷ jobs) h =
+    let here : (j.id == j.id) ≡ true = grind (arith, nat_tests) in
+    (rw here refl, all_past j jobs (all_from_low (suc j.id) next jobs h.1) (all_found (suc j.id) next jobs h.1))
+  where
+    past : (j k : Job) (jobs : List Job) → suc j.id ≤ k.id → job_with k.id jobs ≡ Some k → job_with k.id (j ∷ jobs) ≡ Some k
+    past j k jobs l h = let other : (j.id == k.id) ≡ false = grind (arith, nat_tests) in rw other h
+    all_past_in : (j : Job) (jobs ks : List Job) → All (λ k. suc j.id ≤ k.id) ks → All (λ k. job_with k.id jobs ≡ Some k) ks → All (λ k. job_with k.id (j ∷ jobs) ≡ Some k) ks
+    all_past_in j jobs [] l h = tt
+    all_past_in j jobs (k ∷ ks) l h = (past j k jobs l.0 h.0, all_past_in j jobs ks l.1 h.1)
+    all_past : (j : Job) (jobs : List Job) → All (λ k. suc j.id ≤ k.id) jobs → All (λ k. job_with k.id jobs ≡ Some k) jobs → All (λ k. job_with k.id (j ∷ jobs) ≡ Some k) jobs
+    all_past j jobs l h = all_past_in j jobs jobs l h
+
+pub found_by_id : (low next : ℕ) (jobs : List Job) (j : Job) → AreIdsWithin low jobs next → Contains jobs j → job_with j.id jobs ≡ Some j
+found_by_id low next jobs j h i = all_at (λ k. job_with k.id jobs ≡ Some k) jobs j (all_found low next jobs h) i
+
+pub chosen_has_its_id : ChosenHasItsId
+chosen_has_its_id low next jobs passes before j h chosen = found_by_id low next jobs j h (first_of_contains passes before jobs j chosen)
+
+-- an addition
+added_at_end : (jobs : List Job) (j : Job) → All (λ k. k.id < j.id) jobs → with_added j jobs ≡ jobs ++ j ∷ []
+added_at_end [] j h = refl
+added_at_end (k ∷ jobs) j h =
+    let before : nat_lt k.id j.id ≡ true = (let l = h.0 in grind (arith, nat_tests)) in
+    rw before (ap (λ ks. k ∷ ks) (added_at_end jobs j h.1))
+
+pub adds_at_the_end : AddsAtTheEnd
+adds_at_the_end low jobs j h = added_at_end jobs j (all_below_next low j.id jobs h)
+
+added_first : (j : Job) (low next : ℕ) (jobs : List Job) → j.id < low → AreIdsWithin low jobs next → with_added j jobs ≡ j ∷ jobs
+added_first j low next [] l h = refl
+added_first j low next (k ∷ jobs) l h = let after : nat_lt k.id j.id ≡ false = (let m = h.0 in grind (arith, nat_tests)) in rw after refl
+
+pub found_among_added : (q : ℕ) (j : Job) (jobs : List Job) → job_with q (with_added j jobs) ≡ cond (j.id == q) (Some j) (job_with q jobs)
+found_among_added q j [] = refl
+found_among_added q j (k ∷ jobs) =
+    elim (cases_Bool (nat_lt k.id j.id)) [
+      | inr after ↦ rw after refl
+      | inl before ↦ rw before (elim (cases_Bool (k.id == q)) [
+          | inl here ↦ let other : (j.id == q) ≡ false = grind (arith, nat_tests) in rw (here, other) refl
+          | inr there ↦ rw there (found_among_added q j jobs)
+        ])
+    ]
+
+pub added_within : (low next : ℕ) (j : Job) (jobs : List Job) → low ≤ j.id → j.id < next → job_with j.id jobs ≡ None → AreIdsWithin low jobs next → AreIdsWithin low (with_added j jobs) next
+added_within low next j [] l u free h = (l, u)
+added_within low next j (k ∷ jobs) l u free h =
+    elim (cases_Bool (k.id == j.id)) [
+      | inl same ↦ absurd (let g = rw same at free in cc)
+      | inr other ↦
+          let rest : job_with j.id jobs ≡ None = rw other at free in
+          elim (cases_Bool (nat_lt k.id j.id)) [
+            | inl before ↦ rw before (h.0, added_within (suc k.id) next j jobs (grind (arith, nat_tests)) u rest h.1)
+            | inr after ↦ rw after (l, (grind (arith, nat_tests), h.1))
+          ]
+    ]
+
+pub count_added : (p : Job → Bool) (j : Job) (jobs : List Job) → count_by p (with_added j jobs) ≡ cond (p j) 1 0 + count_by p jobs
+count_added p j [] = count_cons p j []
+count_added p j (k ∷ jobs) =
+    elim (cases_Bool (nat_lt k.id j.id)) [
+      | inr after ↦ rw after (count_cons p j (k ∷ jobs))
+      | inl before ↦ rw before (rw (count_cons p k (with_added j jobs), count_cons p k jobs) (omega (arith, count_added p j jobs)))
+    ]
+
+pub length_added : (j : Job) (jobs : List Job) → length (with_added j jobs) ≡ suc (length jobs)
+length_added j [] = refl
+length_added j (k ∷ jobs) =
+    elim (cases_Bool (nat_lt k.id j.id)) [
+      | inr after ↦ rw after refl
+      | inl before ↦ rw before (ap suc (length_added j jobs))
+    ]
+
+-- a removal
+pub found_without : (q id : ℕ) (jobs : List Job) → job_with q (without id jobs) ≡ cond (id == q) None (job_with q jobs)
+found_without q id [] = elim (cases_Bool (id == q)) [ inl e ↦ rw e refl | inr e ↦ rw e refl ]
+found_without q id (k ∷ jobs) =
+    elim (cases_Bool (k.id == id)) [
+      | inl out ↦ rw out (found_without q id jobs ∙ elim (cases_Bool (id == q)) [
+          | inl e ↦ rw e refl
+          | inr e ↦ let other : (k.id == q) ≡ false = grind (arith, nat_tests) in rw (e, other) refl
+        ])
+      | inr kept ↦ rw kept (elim (cases_Bool (k.id == q)) [
+          | inl here ↦ let other : (id == q) ≡ false = grind (arith, nat_tests) in rw (here, other) refl
+          | inr there ↦ rw there (found_without q id jobs)
+        ])
+    ]
+
+within_more : (low lower next : ℕ) (jobs : List Job) → lower ≤ low → AreIdsWithin low jobs next → AreIdsWithin lower jobs next
+within_more low lower next [] l h = omega arith
+within_more low lower next (j ∷ jobs) l h = (let m = h.0 in omega arith, h.1)
+
+pub without_within : (low next id : ℕ) (jobs : List Job) → AreIdsWithin low jobs next → AreIdsWithin low (without id jobs) next
+without_within low next id [] h = h
+without_within low next id (k ∷ jobs) h =
+    elim (cases_Bool (k.id == id)) [
+      | inl out ↦ rw out (within_more (suc k.id) low next (without id jobs) (let m = h.0 in omega arith) (without_within (suc k.id) next id jobs h.1))
+      | inr kept ↦ rw kept (h.0, without_within (suc k.id) next id jobs h.1)
+    ]
+
+-- without the job of this id, which comes first
+without_first : (low next : ℕ) (k : Job) (jobs : List Job) → AreIdsWithin low (k ∷ jobs) next → without k.id jobs ≡ jobs
+without_first low next k jobs h = all_kept k.id jobs (others_above k.id (suc k.id) next jobs (omega arith) h.1)
+
+pub count_without : (p : Job → Bool) (low next id : ℕ) (j : Job) (jobs : List Job) → AreIdsWithin low jobs next → job_with id jobs ≡ Some j → cond (p j) 1 0 + count_by p (without id jobs) ≡ count_by p jobs
+count_without p low next id j [] h found = absurd cc
+count_without p low next id j (k ∷ jobs) h found =
+    elim (cases_Bool (k.id == id)) [
+      | inl out ↦
+          let same : Some k ≡ Some j = rw out at found in
+          let is : k ≡ j = (cc) in
+          let at : k.id ≡ id = eqb-true k.id id out in
+          let rest : without id jobs ≡ jobs = subst (λ n. without n jobs ≡ jobs) at (without_first low next k jobs h) in
+          rw out (rw (rest, ← is) (sym (count_cons p k jobs)))
+      | inr kept ↦
+          let i = count_without p (suc k.id) next id j jobs h.1 (rw kept at found) in
+          rw kept (rw (count_cons p k (without id jobs), count_cons p k jobs) (omega (arith, i)))
+    ]
+
+pub length_without : (low next id : ℕ) (j : Job) (jobs : List Job) → AreIdsWithin low jobs next → job_with id jobs ≡ Some j → suc (length (without id jobs)) ≡ length jobs
+length_without low next id j [] h found = absurd cc
+length_without low next id j (k ∷ jobs) h found =
+    elim (cases_Bool (k.id == id)) [
+      | inl out ↦
+          let at : k.id ≡ id = eqb-true k.id id out in
+          let rest : without id jobs ≡ jobs = subst (λ n. without n jobs ≡ jobs) at (without_first low next k jobs h) in
+          rw out (rw rest refl)
+      | inr kept ↦ rw kept (ap suc (length_without (suc k.id) next id j jobs h.1 (rw kept at found)))
+    ]
+
+pub without_none : (id : ℕ) (jobs : List Job) → job_with id jobs ≡ None → without id jobs ≡ jobs
+without_none id [] h = refl
+without_none id (k ∷ jobs) h =
+    elim (cases_Bool (k.id == id)) [
+      | inl out ↦ absurd (let g = rw out at h in cc)
+      | inr kept ↦ rw kept (ap (λ ks. k ∷ ks) (without_none id jobs (rw kept at h)))
+    ]
+
+-- a removal, and an addition of the changed job
+changed : (low next id : ℕ) (f : Job → Job) (j : Job) (jobs : List Job) → AreIdsWithin low jobs next → job_with id jobs ≡ Some j → (f j).id ≡ id → with_added (f j) (without id jobs) ≡ map (λ k. if k.id == id then f k else k) jobs
+changed low next id f j [] h found same = absurd cc
+changed low next id f j (k ∷ jobs) h found same =
+    elim (cases_Bool (k.id == id)) [
+      | inl out ↦
+          let is : k ≡ j = (let e : Some k ≡ Some j = rw out at found in cc) in
+          let at : k.id ≡ id = eqb-true k.id id out in
+          let others = subst (λ n. All (λ i. (i.id == n) ≡ false) jobs) at (others_above k.id (suc k.id) next jobs (omega arith) h.1) in
+          let rest = all_kept id jobs others in
+          let below : (f j).id < suc k.id = omega (arith, same, at) in
+          let left : with_added (f j) jobs ≡ f j ∷ jobs = added_first (f j) (suc k.id) next jobs below h.1 in
+          let right = none_changed id f jobs others in
+          rw (out, rest, right, left) (ap (λ z. f z ∷ jobs) (sym is))
+      | inr kept ↦
+          let found_then : job_with id jobs ≡ Some j = rw kept at found in
+          let above : nat_lt k.id (f j).id ≡ true = is_above k id next jobs j (f j) h.1 found_then same in
+          rw kept (rw above (ap (λ ks. k ∷ ks) (changed (suc k.id) next id f j jobs h.1 found_then same)))
+    ]
+  where
+    is_above : (k : Job) (id next : ℕ) (jobs : List Job) (j new : Job) → AreIdsWithin (suc k.id) jobs next → job_with id jobs ≡ Some j → new.id ≡ id → nat_lt k.id new.id ≡ true
+    is_above k id next jobs j new h found same =
+        elim (cases_Bool (nat_lt k.id new.id)) [
+          | inl e ↦ e
+          | inr e ↦
+              let none = not_found id jobs (others_above id (suc k.id) next jobs (grind (arith, nat_tests)) h) in
+              absurd (cc)
+        ]
+
+pub changes_by_id : ChangesById
+changes_by_id m low next id f j h found same = ap (λ jobs. record m { jobs = jobs }) (changed low next id f j m.jobs h found same)

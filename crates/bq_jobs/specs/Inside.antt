@@ -1,0 +1,56 @@
+-- How the jobs are kept: by id with all that is known of them, and by id alone in three more orders.
+use Rattle.std.specs.Prelude.{◌≡◌, ℕ, Bool, false, ◌+◌, ◌^◌, ◌≤◌, min, List, Option, Some, None, map, length, is_some, count_by}
+use Rattle.std.specs.declared.cmp.Ordering.{Ordering}
+use Rattle.std.specs.Ordering.{is_eq, nat_cmp}
+use Rattle.bq_index.specs.Shelf.{Seen}
+use Rattle.bq_job.specs.declared.job.Job.{Job}
+use Rattle.bq_job.specs.Changes.{job_with}
+use Rattle.bq_job.specs.Lawful.{AreIdsWithin}
+use Rattle.bq_job.specs.Limits.{greatest}
+use Rattle.bq_jobs.specs.declared.place.Place.{Place}
+use Rattle.bq_jobs.specs.declared.place.TubeList.{TubeList}
+use Rattle.bq_jobs.specs.declared.place.Timer.{Timer}
+use Rattle.bq_jobs.specs.Kept.{Kept}
+use Rattle.bq_jobs.specs.PlaceOrder.{place_cmp, holds_place}
+use Rattle.bq_jobs.specs.Places.{tube_place, timer_place, lease_place}
+
+abbrev pub ById : Type 0
+ById = Seen ℕ Job
+
+abbrev pub Order : Type 0 → Type 0
+Order G = Seen (Place G) (Unit {0})
+
+abbrev pub jobs_of : List (ℕ × Job) → List Job
+jobs_of es = map (λ e. e.1) es
+
+abbrev pub with_id : Job → ℕ × Job
+with_id j = (j.id, j)
+
+abbrev pub kept_in : ById → Order TubeList → Order Timer → Order ℕ → Kept
+kept_in by_id by_tube timers leases = record {
+  jobs = jobs_of by_id.entries;
+  room = by_id.spare;
+  comparisons = min (by_id.comparisons + by_tube.comparisons + timers.comparisons + leases.comparisons) greatest;
+}
+
+-- whether the job has this place
+abbrev pub is_place : {G : Type 0} → (G → G → Ordering) → Place G → Option (Place G) → Bool
+is_place compare p None = false
+is_place compare p (Some q) = is_eq (place_cmp compare p q)
+
+abbrev pub has_place : {G : Type 0} → (G → G → Ordering) → (Job → Option (Place G)) → Place G → Option Job → Bool
+has_place compare place_of p None = false
+has_place compare place_of p (Some j) = is_place compare p (place_of j)
+
+-- An order has the places of all jobs and no others, and boxes for those of the jobs to come.
+pub record IsOrderOf {G : Type 0} (compare : G → G → Ordering) (place_of : Job → Option (Place G)) (jobs : List Job) (room : ℕ) (order : Order G) : Type 0 where
+  pub places : (p : Place G) → is_some (holds_place compare p order.entries) ≡ has_place compare place_of p (job_with p.id jobs)
+  pub counted : length order.entries ≡ count_by (λ j. is_some (place_of j)) jobs
+  pub roomy : length jobs + room ≤ length order.entries + order.spare
+
+pub record IsShelved (list_cmp : TubeList → TubeList → Ordering) (timer_cmp : Timer → Timer → Ordering) (by_id : ById) (by_tube : Order TubeList) (timers : Order Timer) (leases : Order ℕ) : Type 0 where
+  pub by_own_id : by_id.entries ≡ map with_id (jobs_of by_id.entries)
+  pub ids : AreIdsWithin 0 (jobs_of by_id.entries) (2 ^ 64)
+  pub in_tubes : IsOrderOf list_cmp tube_place (jobs_of by_id.entries) by_id.spare by_tube
+  pub in_timers : IsOrderOf timer_cmp timer_place (jobs_of by_id.entries) by_id.spare timers
+  pub in_leases : IsOrderOf nat_cmp lease_place (jobs_of by_id.entries) by_id.spare leases

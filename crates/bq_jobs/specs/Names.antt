@@ -1,0 +1,9 @@
+-- An order of tubes' names that is quickly told.
+use Rattle.std.specs.Prelude.{ℕ, Bool, List, length}
+use Rattle.std.specs.declared.cmp.Ordering.{Ordering}
+use Rattle.std.specs.Cmp.Lexicographic.{slice_cmp}
+use Rattle.std.specs.Ordering.{nat_cmp, on, then_cmp}
+
+-- by length, and where that is equal by bytes
+abbrev pub name_cmp : List ℕ → List ℕ → Ordering
+name_cmp = then_cmp (on length nat_cmp) (slice_cmp nat_cmp)

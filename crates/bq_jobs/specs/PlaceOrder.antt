@@ -1,0 +1,36 @@
+-- The order of places, and lists of them in it.
+use Rattle.std.specs.Prelude.{◌≡◌, ℕ, Bool, if◌then◌else◌, List, Option, Some, None}
+use Rattle.std.specs.declared.cmp.Ordering.{Ordering}
+use Rattle.std.specs.Ordering.{is_eq, nat_cmp, on, then_cmp}
+use Rattle.std.specs.Option.{option_and_then}
+use Rattle.std.specs.Map.{lookup, remove_entry}
+use Rattle.std.specs.BTreeMap.{is_at, insert_entry}
+use Rattle.bq_index.specs.Order.{entry_from}
+use Rattle.bq_jobs.specs.declared.place.Place.{Place}
+
+module _ {G : Type 0} (compare : G → G → Ordering) where
+  -- by group, by number, by id
+  abbrev pub place_cmp : Place G → Place G → Ordering
+  place_cmp = then_cmp (on (λ p. p.group) compare) (then_cmp (on (λ p. p.at) nat_cmp) (on (λ p. p.id) nat_cmp))
+
+  -- the first place that a group can have
+  abbrev pub front : G → Place G
+  front group = record { group = group; at = 0; id = 0 }
+
+  abbrev pub id_in_group : G → Place G × Unit {0} → Option ℕ
+  id_in_group group e = if is_eq (compare group e.0.group) then Some e.0.id else None
+
+  -- the id at the first place of the group
+  abbrev pub first_in_group : G → List (Place G × Unit {0}) → Option ℕ
+  first_in_group group es = option_and_then (id_in_group group) (entry_from (place_cmp (front group)) es)
+
+  abbrev pub holds_place : Place G → List (Place G × Unit {0}) → Option (Unit {0})
+  holds_place p es = lookup (is_at (place_cmp p)) es
+
+  abbrev pub with_place : Option (Place G) → List (Place G × Unit {0}) → List (Place G × Unit {0})
+  with_place None es = es
+  with_place (Some p) es = insert_entry place_cmp es p tt
+
+  abbrev pub without_place : Option (Place G) → List (Place G × Unit {0}) → List (Place G × Unit {0})
+  without_place None es = es
+  without_place (Some p) es = remove_entry (is_at (place_cmp p)) es

@@ -1,0 +1,82 @@
+//! Lists of places in their order.
+ghost use Rattle.std.specs.Prelude.{◌≡◌, ◌+◌, ◌<◌, ◌≤◌, length, is_some, if◌then◌else◌, IsSome, OnOk};
+ghost use Rattle.bq_index.specs.Order.{InOrder};
+ghost use Rattle.bq_index.specs.Shelf.{ComparesFew};
+ghost use Rattle.bq_jobs.specs.PlaceOrder.{first_in_group, holds_place, place_cmp, with_place, without_place};
+ghost use Rattle.std.specs.Option.{ForSome};
+ghost use Rattle.std.specs.Prelude.{None};
+
+use super::place::Place;
+use bq_index::Shelf;
+use bq_job::{JobId, NoMemory};
+use std::alloc::Global;
+
+/// Sets boxes aside for so many places, those that are taken included.
+pub(crate) fn make_room<G: Ord + Drop>(
+    order: &mut Shelf<Place<G>, ()>,
+    alloc: Global,
+    places: usize,
+) -> Result<(), NoMemory>
+    ensures ok { OnOk result (places ≤ length order.new.entries + order.new.spare) }
+    ensures entries { order.new.entries ≡ order.old.entries }
+    ensures not_fewer { order.old.spare ≤ order.new.spare }
+    ensures comparisons { order.new.comparisons ≡ order.old.comparisons }
+{
+    let more = places.saturating_sub(order.len());
+    match order.reserve(alloc, more) {
+        Ok(()) => Ok(()),
+        Err(_) => Err(NoMemory),
+    }
+}
+
+/// Puts a place in, if there is one.
+pub(crate) fn enter<G: Ord + Drop>(order: &mut Shelf<Place<G>, ()>, place: Option<Place<G>>)
+    requires spare { ForSome place (λ _. 0 < order.old.spare) }
+    requires absent { ForSome place (λ p. holds_place G.cmp p order.old.entries ≡ None) }
+    ensures entries { order.new.entries ≡ with_place G.cmp place order.old.entries }
+    ensures spare { order.new.spare + (if is_some place then 1 else 0) ≡ order.old.spare }
+    ensures comparisons { ComparesFew order.old order.new }
+{
+    if let Some(place) = place {
+        order.insert(place, ());
+    }
+}
+
+/// Takes a place out, if there is one.
+pub(crate) fn leave<G: Ord + Drop>(order: &mut Shelf<Place<G>, ()>, place: Option<Place<G>>)
+    requires held { ForSome place (λ p. IsSome (holds_place G.cmp p order.old.entries)) }
+    ensures entries { order.new.entries ≡ without_place G.cmp place order.old.entries }
+    ensures spare { order.new.spare ≡ order.old.spare + (if is_some place then 1 else 0) }
+    ensures ordered { InOrder (place_cmp G.cmp) order.old.entries }
+    ensures comparisons { ComparesFew order.old order.new }
+{
+    let _places = order.len();
+    if let Some(place) = place {
+        let _held = order.remove(&place);
+    }
+}
+
+/// The id at the first place of a group.
+pub(crate) fn first_in_group<G: Ord + Drop + Copy>(
+    order: &mut Shelf<Place<G>, ()>,
+    group: G,
+) -> Option<JobId>
+    ensures id { result ≡ first_in_group G.cmp group order.old.entries }
+    ensures ordered { InOrder (place_cmp G.cmp) order.old.entries }
+    ensures entries { order.new.entries ≡ order.old.entries }
+    ensures spare { order.new.spare ≡ order.old.spare }
+    ensures comparisons { ComparesFew order.old order.new }
+{
+    let _places = order.len();
+    let front = Place {
+        group,
+        at: 0,
+        id: 0,
+    };
+    let (place, ()) = order.next_from(&front)?;
+    if group.cmp(&place.group).is_eq() {
+        Some(place.id)
+    } else {
+        None
+    }
+}
