@@ -69,9 +69,11 @@ all_found low next (j ∷ jobs) h =
   where
     past : (j k : Job) (jobs : List Job) → suc j.id ≤ k.id → job_with k.id jobs ≡ Some k → job_with k.id (j ∷ jobs) ≡ Some k
     past j k jobs l h = let other : (j.id == k.id) ≡ false = grind (arith, nat_tests) in rw other h
+
     all_past_in : (j : Job) (jobs ks : List Job) → All (λ k. suc j.id ≤ k.id) ks → All (λ k. job_with k.id jobs ≡ Some k) ks → All (λ k. job_with k.id (j ∷ jobs) ≡ Some k) ks
     all_past_in j jobs [] l h = tt
     all_past_in j jobs (k ∷ ks) l h = (past j k jobs l.0 h.0, all_past_in j jobs ks l.1 h.1)
+
     all_past : (j : Job) (jobs : List Job) → All (λ k. suc j.id ≤ k.id) jobs → All (λ k. job_with k.id jobs ≡ Some k) jobs → All (λ k. job_with k.id (j ∷ jobs) ≡ Some k) jobs
     all_past j jobs l h = all_past_in j jobs jobs l h
 
@@ -101,9 +103,9 @@ found_among_added q j (k ∷ jobs) =
     elim (cases_Bool (nat_lt k.id j.id)) [
       | inr after ↦ rw after refl
       | inl before ↦ rw before (elim (cases_Bool (k.id == q)) [
-          | inl here ↦ let other : (j.id == q) ≡ false = grind (arith, nat_tests) in rw (here, other) refl
-          | inr there ↦ rw there (found_among_added q j jobs)
-        ])
+        | inl here ↦ let other : (j.id == q) ≡ false = grind (arith, nat_tests) in rw (here, other) refl
+        | inr there ↦ rw there (found_among_added q j jobs)
+      ])
     ]
 
 pub added_within : (low next : ℕ) (j : Job) (jobs : List Job) → low ≤ j.id → j.id < next → job_with j.id jobs ≡ None → AreIdsWithin low jobs next → AreIdsWithin low (with_added j jobs) next
@@ -141,13 +143,13 @@ found_without q id [] = elim (cases_Bool (id == q)) [ inl e ↦ rw e refl | inr 
 found_without q id (k ∷ jobs) =
     elim (cases_Bool (k.id == id)) [
       | inl out ↦ rw out (found_without q id jobs ∙ elim (cases_Bool (id == q)) [
-          | inl e ↦ rw e refl
-          | inr e ↦ let other : (k.id == q) ≡ false = grind (arith, nat_tests) in rw (e, other) refl
-        ])
+        | inl e ↦ rw e refl
+        | inr e ↦ let other : (k.id == q) ≡ false = grind (arith, nat_tests) in rw (e, other) refl
+      ])
       | inr kept ↦ rw kept (elim (cases_Bool (k.id == q)) [
-          | inl here ↦ let other : (id == q) ≡ false = grind (arith, nat_tests) in rw (here, other) refl
-          | inr there ↦ rw there (found_without q id jobs)
-        ])
+        | inl here ↦ let other : (id == q) ≡ false = grind (arith, nat_tests) in rw (here, other) refl
+        | inr there ↦ rw there (found_without q id jobs)
+      ])
     ]
 
 within_more : (low lower next : ℕ) (jobs : List Job) → lower ≤ low → AreIdsWithin low jobs next → AreIdsWithin lower jobs next
@@ -163,7 +165,7 @@ without_within low next id (k ∷ jobs) h =
     ]
 
 -- without the job of this id, which comes first
-without_first : (low next : ℕ) (k : Job) (jobs : List Job) → AreIdsWithin low (k ∷ jobs) next → without k.id jobs ≡ jobs
+pub without_first : (low next : ℕ) (k : Job) (jobs : List Job) → AreIdsWithin low (k ∷ jobs) next → without k.id jobs ≡ jobs
 without_first low next k jobs h = all_kept k.id jobs (others_above k.id (suc k.id) next jobs (omega arith) h.1)
 
 pub count_without : (p : Job → Bool) (low next id : ℕ) (j : Job) (jobs : List Job) → AreIdsWithin low jobs next → job_with id jobs ≡ Some j → cond (p j) 1 0 + count_by p (without id jobs) ≡ count_by p jobs

@@ -1,1 +1,9 @@
+pub mod ById
 pub mod Changes
+pub mod Choice
+pub mod Counting
+pub mod FirstJobs
+pub mod FirstOfGroup
+pub mod Firsts
+pub mod Orders
+pub mod Shelved

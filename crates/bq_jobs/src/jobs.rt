@@ -1,6 +1,6 @@
 //! The jobs of a work queue.
 ghost use Rattle.std.specs.Option.{option_map};
-ghost use Rattle.std.specs.Prelude.{◌≡◌, ◌+◌, ◌<◌, ◌^◌, if◌then◌else◌, [], length, max, is_some, None, OnOk, OnErr};
+ghost use Rattle.std.specs.Prelude.{◌≡◌, ◌+◌, ◌<◌, ◌^◌, if◌then◌else◌, [], length, max, is_some, IfSome, None, OnOk, OnErr};
 ghost use Rattle.bq_job.specs.Changes.{first_of, is_held_by, job_with};
 ghost use Rattle.bq_job.specs.Dispatch.{is_job_before};
 ghost use Rattle.bq_job.specs.JobCommands.{is_buried_in, is_delayed_in};
@@ -88,12 +88,12 @@ impl Jobs {
         ensures refused { OnErr result (self.old.room ≡ 0) }
         ensures same { OnErr result (self.new ≡ self.old) }
     {
-        let Some(places) = self.by_id.len().checked_add(1) else {
-            return Err(NoMemory);
-        };
         if self.by_id.spare() > 0 {
             return Ok(());
         }
+        let Some(places) = self.by_id.len().checked_add(1) else {
+            return Err(NoMemory);
+        };
         order::make_room(&mut self.by_tube, alloc, places)?;
         order::make_room(&mut self.timers, alloc, places)?;
         order::make_room(&mut self.leases, alloc, places)?;
@@ -114,7 +114,7 @@ impl Jobs {
         order::enter(&mut self.by_tube, place::tube_place(&job));
         order::enter(&mut self.timers, place::timer_place(&job));
         order::enter(&mut self.leases, place::lease_place(&job));
-        self.by_id.insert(job.id, job);
+        self.by_id.insert(id_of(&job), job);
     }
 
     /// Takes the job of this id out, if there is one. Its room comes back.
@@ -122,6 +122,7 @@ impl Jobs {
         ensures job { result ≡ job_with id self.old.jobs }
         ensures jobs { self.new.jobs ≡ without id self.old.jobs }
         ensures room { self.new.room ≡ self.old.room + (if is_some result then 1 else 0) }
+        ensures id { IfSome result (λ job. job.id ≡ id) }
         ensures gone { job_with id self.new.jobs ≡ None }
         ensures comparisons { ComparesAtMost 4 self.old self.new }
     {
@@ -193,4 +194,11 @@ impl Jobs {
     {
         order::first_in_group(&mut self.leases, seat)
     }
+}
+
+// The id of a job.
+fn id_of(job: &Job) -> JobId
+    ensures { result ≡ job.now.id }
+{
+    job.id
 }

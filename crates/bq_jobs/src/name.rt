@@ -49,8 +49,6 @@ impl Ord for OrderedName {
 
     fn cmp(&self, other: &OrderedName) -> Ordering {
         let (mine, theirs) = (self.0.as_slice(), other.0.as_slice());
-        mine.len()
-            .cmp(&theirs.len())
-            .then_with(|| mine.cmp(theirs))
+        mine.len().cmp(&theirs.len()).then_with(|| mine.cmp(theirs))
     }
 }

@@ -1,0 +1,62 @@
+-- The jobs by their ids.
+use Rattle.std.proofs.Common.{◌≡◌, ℕ, suc, ◌<◌, Bool, true, false, cond, List, [], ◌∷◌, Option, Some, None, map, arith, refl, sym, ap, ◌∙◌, subst, inl, inr}
+use Rattle.std.specs.Prelude.{◌==◌, nat_lt}
+use Rattle.std.specs.Ordering.{is_eq, nat_cmp}
+use Rattle.std.specs.Map.{lookup, remove_entry}
+use Rattle.std.specs.BTreeMap.{is_at, insert_entry}
+use Rattle.std.proofs.lemmas.Bool.{cases_Bool}
+use Rattle.std.proofs.lemmas.Bool.Decides.{nat_tests}
+use Rattle.bq_job.specs.declared.job.Job.{Job}
+use Rattle.bq_job.specs.Changes.{job_with}
+use Rattle.bq_job.specs.Lawful.{AreIdsWithin}
+use Rattle.bq_jobs.specs.Inside.{jobs_of, with_id}
+use Rattle.bq_jobs.specs.Kept.{with_added, without}
+use Rattle.bq_jobs.proofs.Changes.{without_first}
+
+-- a comparison of numbers tells whether they are the same
+pub is_eq_nat : (a b : ℕ) → is_eq (nat_cmp a b) ≡ (b == a)
+is_eq_nat a b =
+    elim (cases_Bool (nat_lt a b)) [
+      | inl less ↦ let other : (b == a) ≡ false = grind (arith, nat_tests) in rw (less, other) refl
+      | inr e ↦ elim (cases_Bool (a == b)) [
+        | inl same ↦ let back : (b == a) ≡ true = grind (arith, nat_tests) in rw (e, same, back) refl
+        | inr apart ↦ let other : (b == a) ≡ false = grind (arith, nat_tests) in rw (e, apart, other) refl
+      ]
+    ]
+
+pub same_jobs : (jobs : List Job) → jobs_of (map with_id jobs) ≡ jobs
+same_jobs [] = refl
+same_jobs (j ∷ jobs) = ap (λ ks. j ∷ ks) (same_jobs jobs)
+
+pub lookup_by_id : (id : ℕ) (jobs : List Job) → lookup (is_at (nat_cmp id)) (map with_id jobs) ≡ job_with id jobs
+lookup_by_id id [] = refl
+lookup_by_id id (j ∷ jobs) = rw (is_eq_nat id j.id) (ap (λ o. cond (j.id == id) (Some j) o) (lookup_by_id id jobs))
+
+pub insert_by_id : (j : Job) (jobs : List Job) → job_with j.id jobs ≡ None → insert_entry nat_cmp (map with_id jobs) j.id j ≡ map with_id (with_added j jobs)
+insert_by_id j [] free = refl
+insert_by_id j (k ∷ jobs) free =
+    elim (cases_Bool (k.id == j.id)) [
+      | inl same ↦ absurd (let g = rw same at free in cc)
+      | inr other ↦
+          let rest : job_with j.id jobs ≡ None = rw other at free in
+          elim (cases_Bool (nat_lt j.id k.id)) [
+            | inl before ↦
+                let after : nat_lt k.id j.id ≡ false = grind (arith, nat_tests) in
+                rw (before, after) refl
+            | inr e ↦
+                let apart : (j.id == k.id) ≡ false = grind (arith, nat_tests) in
+                let above : nat_lt k.id j.id ≡ true = grind (arith, nat_tests) in
+                rw (e, apart, above) (ap (λ es. with_id k ∷ es) (insert_by_id j jobs rest))
+          ]
+    ]
+
+pub remove_by_id : (low next id : ℕ) (jobs : List Job) → AreIdsWithin low jobs next → remove_entry (is_at (nat_cmp id)) (map with_id jobs) ≡ map with_id (without id jobs)
+remove_by_id low next id [] h = refl
+remove_by_id low next id (k ∷ jobs) h =
+    elim (cases_Bool (k.id == id)) [
+      | inl out ↦
+          let at : k.id ≡ id = grind (arith, nat_tests) in
+          let rest : without id jobs ≡ jobs = subst (λ n. without n jobs ≡ jobs) at (without_first low next k jobs h) in
+          rw (is_eq_nat id k.id, out) (ap (map with_id) (sym rest))
+      | inr kept ↦ rw (is_eq_nat id k.id, kept) (ap (λ es. with_id k ∷ es) (remove_by_id (suc k.id) next id jobs h.1))
+    ]

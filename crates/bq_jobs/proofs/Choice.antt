@@ -1,0 +1,177 @@
+-- Entries in the order of their keys: look-ups after a change, and the first entry from a key on.
+use Rattle.std.proofs.Common.{◌≡◌, ℕ, Bool, true, false, cond, List, [], ◌∷◌, Option, Some, None, arith, refl, sym, ap, ◌∙◌, subst, inl, inr}
+use Rattle.std.specs.Prelude.{is_some, ◌==◌, nat_lt}
+use Rattle.std.specs.declared.cmp.Ordering.{Ordering}
+use Rattle.std.specs.declared.cmp.Ordering.TheVariants.{Less, Equal, Greater}
+use Rattle.std.specs.Cmp.{IsTotalOrder, eq_by_cmp_equiv}
+use Rattle.std.specs.Ordering.{is_eq, is_gt, match_ordering, nat_cmp, ordering_then}
+use Rattle.std.specs.List.{AllByRecursion as All}
+use Rattle.std.specs.List.Sorted.{IsStrictlySortedBy}
+use Rattle.std.specs.Map.{keys_of, lookup, remove_entry}
+use Rattle.std.specs.BTreeMap.{is_at, insert_entry}
+use Rattle.std.proofs.lemmas.Bool.{cases_Bool}
+use Rattle.std.proofs.lemmas.Bool.Decides.{nat_tests}
+use Rattle.std.proofs.lemmas.Cmp.{alike_right, tied_back, tied_itself}
+use Rattle.std.proofs.lemmas.Map.{lookup-remove_entry}
+use Rattle.std.proofs.lemmas.Map.Keys.{IsDistinct-from_sorted}
+use Rattle.bq_index.specs.Order.{InOrder, entry_from}
+use Rattle.bq_job.specs.Changes.{is_pair_before}
+
+-- what a test of an answer tells
+pub equal_from : (a : Ordering) → is_eq a ≡ true → a ≡ Equal
+equal_from Less h = absurd cc
+equal_from Equal h = refl
+equal_from Greater h = absurd cc
+
+pub greater_from : (a : Ordering) → is_gt a ≡ true → a ≡ Greater
+greater_from Less h = absurd cc
+greater_from Equal h = absurd cc
+greater_from Greater h = refl
+
+-- two comparisons, one after the other
+pub then_equal_first : (a b : Ordering) → ordering_then a b ≡ Equal → a ≡ Equal
+then_equal_first Less b h = absurd cc
+then_equal_first Equal b h = refl
+then_equal_first Greater b h = absurd cc
+
+pub then_equal_second : (a b : Ordering) → ordering_then a b ≡ Equal → b ≡ Equal
+then_equal_second Less b h = absurd cc
+then_equal_second Equal b h = h
+then_equal_second Greater b h = absurd cc
+
+pub numbers_tie : (a b : ℕ) → nat_cmp a b ≡ Equal → a ≡ b
+numbers_tie a b h =
+    elim (cases_Bool (nat_lt a b)) [
+      | inl less ↦ absurd (let g = rw less at h in cc)
+      | inr e ↦ elim (cases_Bool (a == b)) [
+        | inl same ↦ grind (arith, nat_tests)
+        | inr other ↦ absurd (let g = rw (e, other) at h in cc)
+      ]
+    ]
+
+pub none_below : (a : ℕ) → is_gt (nat_cmp 0 a) ≡ false
+none_below a =
+    elim (cases_Bool (nat_lt 0 a)) [
+      | inl less ↦ rw less refl
+      | inr e ↦ let same : (0 == a) ≡ true = grind (arith, nat_tests) in rw (e, same) refl
+    ]
+
+pub then_not_greater : (a b : Ordering) → is_gt a ≡ false → is_gt b ≡ false → is_gt (ordering_then a b) ≡ false
+then_not_greater Less b h i = refl
+then_not_greater Equal b h i = i
+then_not_greater Greater b h i = h
+
+-- The order of pairs of numbers is the one that they are compared by.
+pub pair_not_after : (a i b j : ℕ) → is_gt (ordering_then (nat_cmp a b) (nat_cmp i j)) ≡ false → is_pair_before b j a i ≡ false
+pair_not_after a i b j h =
+    elim (cases_Bool (nat_lt a b)) [
+      | inl less ↦ grind (arith, nat_tests)
+      | inr e ↦ elim (cases_Bool (a == b)) [
+        | inr other ↦ absurd (let g = rw (e, other) at h in cc)
+        | inl same ↦ elim (cases_Bool (nat_lt i j)) [
+          | inl less ↦ grind (arith, nat_tests)
+          | inr f ↦ elim (cases_Bool (i == j)) [
+            | inl tie ↦ grind (arith, nat_tests)
+            | inr apart ↦ absurd (let g = rw (e, same, f, apart) at h in cc)
+          ]
+        ]
+      ]
+    ]
+
+module _ {K V : Type 0} {R : K → K → Ordering} (o : IsTotalOrder R) where
+  -- both tests of two keys that don't tie
+  swapped : (q p x : K) (v w : V) (rest : Option V) → is_eq (R p x) ≡ false → cond (is_eq (R q x)) (Some w) (cond (is_eq (R q p)) (Some v) rest) ≡ cond (is_eq (R q p)) (Some v) (cond (is_eq (R q x)) (Some w) rest)
+  swapped q p x v w rest apart =
+      elim (cases_Bool (is_eq (R q p))) [
+        | inr e ↦ rw e refl
+        | inl e ↦
+            let tie = equal_from (R q p) e in
+            let f : is_eq (R q x) ≡ false = ap is_eq (o.congr q p x tie) ∙ apart in
+            rw f refl
+      ]
+
+  inserted_cases : (q p : K) (v : V) (e : K × V) (es : List (K × V)) (a : Ordering) → R p e.0 ≡ a
+      → (lookup (is_at (R p)) es ≡ None → lookup (is_at (R q)) (insert_entry R es p v) ≡ cond (is_eq (R q p)) (Some v) (lookup (is_at (R q)) es))
+      → cond (is_eq a) (Some e.1) (lookup (is_at (R p)) es) ≡ None
+      → lookup (is_at (R q)) (match_ordering a ((p, v) ∷ e ∷ es) ((e.0, v) ∷ es) (e ∷ insert_entry R es p v)) ≡ cond (is_eq (R q p)) (Some v) (cond (is_eq (R q e.0)) (Some e.1) (lookup (is_at (R q)) es))
+  inserted_cases q p v e es Less h i absent = refl
+  inserted_cases q p v e es Equal h i absent = absurd cc
+  inserted_cases q p v e es Greater h i absent =
+      ap (λ z. cond (is_eq (R q e.0)) (Some e.1) z) (i absent) ∙ swapped q p e.0 v e.1 (lookup (is_at (R q)) es) (ap is_eq h)
+
+  -- a look-up after an insertion
+  pub lookup_inserted : (q p : K) (v : V) (es : List (K × V)) → lookup (is_at (R p)) es ≡ None → lookup (is_at (R q)) (insert_entry R es p v) ≡ cond (is_eq (R q p)) (Some v) (lookup (is_at (R q)) es)
+  lookup_inserted q p v [] absent = refl
+  lookup_inserted q p v (e ∷ es) absent = inserted_cases q p v e es (R p e.0) refl (lookup_inserted q p v es) absent
+
+  -- and after a removal
+  pub lookup_removed : (q p : K) (es : List (K × V)) → InOrder R es → lookup (is_at (R q)) (remove_entry (is_at (R p)) es) ≡ cond (is_eq (R p q)) None (lookup (is_at (R q)) es)
+  lookup_removed q p es s =
+      let laws = eq_by_cmp_equiv o in
+      lookup-remove_entry laws (is_at (R p)) (λ x y h. laws.congr p x y h) q es (IsDistinct-from_sorted R (keys_of es) s)
+
+  -- Where all keys are above x, so is one that is found.
+  found_above : (x q : K) (es : List (K × V)) → All (λ k. R x k ≡ Less) (keys_of es) → is_some (lookup (is_at (R q)) es) ≡ true → R x q ≡ Less
+  found_above x q [] a h = absurd cc
+  found_above x q (e ∷ es) a h =
+      elim (cases_Bool (is_eq (R q e.0))) [
+        | inl t ↦ alike_right o q e.0 x (equal_from (R q e.0) t) ∙ a.0
+        | inr t ↦ found_above x q es a.1 (rw t at h)
+      ]
+
+  -- where there is no entry from f on, what is found is below f
+  pub found_below : (f q : K) (es : List (K × V)) → entry_from (R f) es ≡ None → is_some (lookup (is_at (R q)) es) ≡ true → is_gt (R f q) ≡ true
+  found_below f q [] n h = absurd cc
+  found_below f q (e ∷ es) n h =
+      elim (cases_Bool (is_gt (R f e.0))) [
+        | inr g ↦ absurd (let m = rw g at n in cc)
+        | inl g ↦ elim (cases_Bool (is_eq (R q e.0))) [
+          | inl t ↦ ap is_gt (alike_right o q e.0 f (equal_from (R q e.0) t)) ∙ g
+          | inr t ↦ found_below f q es (rw g at n) (rw t at h)
+        ]
+      ]
+
+  -- The first entry from f on is not below f, it is found, and nothing that is found from f on is below it.
+  pub from_not_below : (f : K) (e : K × V) (es : List (K × V)) → entry_from (R f) es ≡ Some e → is_gt (R f e.0) ≡ false
+  from_not_below f e [] h = absurd cc
+  from_not_below f e (x ∷ es) h =
+      elim (cases_Bool (is_gt (R f x.0))) [
+        | inl g ↦ from_not_below f e es (rw g at h)
+        | inr g ↦
+            let same : Some x ≡ Some e = rw g at h in
+            let is : x ≡ e = (cc) in
+            subst (λ z. is_gt (R f z.0) ≡ false) is g
+      ]
+
+  pub from_found : (f : K) (e : K × V) (es : List (K × V)) → entry_from (R f) es ≡ Some e → is_some (lookup (is_at (R e.0)) es) ≡ true
+  from_found f e [] h = absurd cc
+  from_found f e (x ∷ es) h =
+      elim (cases_Bool (is_gt (R f x.0))) [
+        | inl g ↦ elim (cases_Bool (is_eq (R e.0 x.0))) [
+          | inl t ↦ rw t refl
+          | inr t ↦ rw t (from_found f e es (rw g at h))
+        ]
+        | inr g ↦
+            let same : Some x ≡ Some e = rw g at h in
+            let is : x ≡ e = (cc) in
+            let tie : is_eq (R e.0 x.0) ≡ true = subst (λ z. is_eq (R z.0 x.0) ≡ true) is (ap is_eq (tied_itself o x.0)) in
+            rw tie refl
+      ]
+
+  pub from_least : (f q : K) (e : K × V) (es : List (K × V)) → InOrder R es → entry_from (R f) es ≡ Some e → is_some (lookup (is_at (R q)) es) ≡ true → is_gt (R f q) ≡ false → is_gt (R e.0 q) ≡ false
+  unfolding IsStrictlySortedBy
+  from_least f q e [] s n h l = absurd cc
+  from_least f q e (x ∷ es) s n h l =
+      elim (cases_Bool (is_gt (R f x.0))) [
+        | inl g ↦ elim (cases_Bool (is_eq (R q x.0))) [
+          | inl t ↦ absurd (let same = ap is_gt (alike_right o q x.0 f (equal_from (R q x.0) t)) ∙ g in cc)
+          | inr t ↦ from_least f q e es s.1 (rw g at n) (rw t at h) l
+        ]
+        | inr g ↦
+            let same : Some x ≡ Some e = rw g at n in
+            let is : x ≡ e = (cc) in
+            subst (λ z. is_gt (R z.0 q) ≡ false) is (elim (cases_Bool (is_eq (R q x.0))) [
+              | inl t ↦ ap is_gt (tied_back o q x.0 (equal_from (R q x.0) t))
+              | inr t ↦ ap is_gt (found_above x.0 q es s.0 (rw t at h))
+            ])
+      ]

@@ -1,0 +1,38 @@
+-- How many comparisons there are.
+use Rattle.std.proofs.Common.{◌≡◌, ℕ, zero, suc, ◌+◌, ◌*◌, ◌/◌, ◌<◌, ◌≤◌, Bool, true, false, cond, List, min, length, arith, refl, subst, inl, inr}
+use Rattle.std.specs.Prelude.{◌==◌}
+use Rattle.std.proofs.lemmas.Bool.{cases_Bool}
+use Rattle.std.proofs.lemmas.Bool.Decides.{nat_tests}
+use Rattle.bq_index.specs.Digits.{binary_digits, digits_up_to}
+use Rattle.bq_job.specs.declared.job.Job.{Job}
+use Rattle.bq_job.specs.Limits.{greatest}
+use Rattle.bq_jobs.specs.Kept.{Kept, search_bound}
+
+-- a smaller number has no more digits
+digits_rise : (most more n m : ℕ) → n ≤ m → m ≤ more → digits_up_to most n ≤ digits_up_to more m
+digits_rise zero more n m l u = omega arith
+digits_rise (suc most) zero n m l u = let e : (n == 0) ≡ true = grind (arith, nat_tests) in rw e (omega arith)
+digits_rise (suc most) (suc more) n m l u =
+    elim (cases_Bool (n == 0)) [
+      | inl e ↦ rw e (omega arith)
+      | inr e ↦
+          let f : (m == 0) ≡ false = grind (arith, nat_tests) in
+          let i = digits_rise most more (n / 2) (m / 2) (omega arith) (omega arith) in
+          rw (e, f) (omega (arith, i))
+    ]
+
+-- a search among no more entries than there are jobs
+pub search_is_bounded : (jobs : List Job) (n : ℕ) → n ≤ length jobs → 2 * binary_digits (n + 1) ≤ search_bound jobs
+unfolding binary_digits
+search_is_bounded jobs n l =
+    omega (arith, digits_rise (n + 1) (2 * length jobs + 2) (n + 1) (2 * length jobs + 2) (omega arith) (omega arith))
+
+-- A sum that stops at its end rises by no more than what is added.
+pub sum_rises : (a b by : ℕ) → a ≤ b → b ≤ a + by → (min a greatest ≤ min b greatest) × (min b greatest ≤ min a greatest + by)
+sum_rises a b by l u = (omega arith, omega arith)
+
+-- a call that makes no more comparisons than n searches
+pub few_more : (n : ℕ) (seen old : Kept) (sum new : ℕ) → seen ≡ old → seen.comparisons ≡ min sum greatest → sum ≤ new → new ≤ sum + n * search_bound seen.jobs
+    → (old.comparisons ≤ min new greatest) × (min new greatest ≤ old.comparisons + n * search_bound old.jobs)
+few_more n seen old sum new e is l u =
+    subst (λ (m : Kept). (m.comparisons ≤ min new greatest) × (min new greatest ≤ m.comparisons + n * search_bound m.jobs)) e (rw is (sum_rises sum new (n * search_bound seen.jobs) l u))

@@ -1,0 +1,181 @@
+-- The first place of a group is that of the first job.
+use Rattle.std.proofs.Common.{◌≡◌, ℕ, Bool, true, false, cond, List, Option, Some, None, arith, refl, sym, ap, ◌∙◌, subst, inl, inr}
+use Rattle.std.specs.Prelude.{is_some, ◌==◌, find, nat_lt}
+use Rattle.std.specs.declared.cmp.Ordering.{Ordering}
+use Rattle.std.specs.declared.cmp.Ordering.TheVariants.{Less, Equal, Greater}
+use Rattle.std.specs.Cmp.{IsTotalOrder}
+use Rattle.std.specs.Ordering.{is_eq, is_gt, nat_cmp, ordering_reverse, ordering_then}
+use Rattle.std.specs.Option.{IfSome, option_map, option_and_then}
+use Rattle.std.specs.List.{Contains, list_any}
+use Rattle.std.specs.Map.{lookup}
+use Rattle.std.specs.BTreeMap.{is_at}
+use Rattle.std.proofs.lemmas.Bool.{cases_Bool}
+use Rattle.std.proofs.lemmas.Bool.Decides.{nat_tests}
+use Rattle.std.proofs.lemmas.Cmp.{tied_back, tied_itself}
+use Rattle.bq_index.specs.Order.{InOrder, entry_from}
+use Rattle.bq_job.specs.declared.job.Job.{Job}
+use Rattle.bq_job.specs.Changes.{first_of, is_pair_before, job_with}
+use Rattle.bq_job.specs.Lawful.{AreIdsWithin}
+use Rattle.bq_job.proofs.ChoiceLemmas.{first_of_is, first_of_none_passes, pair_order}
+use Rattle.bq_job.proofs.ListLemmas.{all_from_members, found_passes, list_any_not}
+use Rattle.bq_jobs.specs.declared.place.Place.{Place}
+use Rattle.bq_jobs.specs.Inside.{IsOrderOf, Order, has_place, is_place}
+use Rattle.bq_jobs.specs.PlaceOrder.{front, first_in_group, holds_place, id_in_group, place_cmp}
+use Rattle.bq_jobs.proofs.Changes.{found_by_id, found_id}
+use Rattle.bq_jobs.proofs.Choice.{equal_from, found_below, from_found, from_least, from_not_below, none_below, numbers_tie, pair_not_after, then_equal_first, then_equal_second, then_not_greater}
+use Rattle.bq_jobs.proofs.Orders.{held_place, place_total}
+
+-- whether a place is of the group
+abbrev pub in_group : {G : Type 0} → (G → G → Ordering) → G → Option (Place G) → Bool
+in_group C g None = false
+in_group C g (Some p) = is_eq (C g p.group)
+
+false_or : (b : Bool) → (b ≡ true → ⊥) → b ≡ false
+false_or true h = absurd (h refl)
+false_or false h = refl
+
+-- one group is below another where the first place of it is not above the other's places
+then_less : (a b : Ordering) → is_gt (ordering_then a b) ≡ false → is_eq a ≡ false → a ≡ Less
+then_less Less b h n = refl
+then_less Equal b h n = absurd cc
+then_less Greater b h n = absurd cc
+
+then_tied : (a b : Ordering) → a ≡ Equal → is_gt (ordering_then a b) ≡ false → is_gt b ≡ false
+then_tied Less b e h = absurd cc
+then_tied Equal b e h = h
+then_tied Greater b e h = absurd cc
+
+same_pairs : (a i b j c k d l : ℕ) → a ≡ c → i ≡ k → b ≡ d → j ≡ l → is_pair_before a i b j ≡ false → is_pair_before c k d l ≡ false
+same_pairs a i b j c k d l e f g h is = grind (arith, nat_tests)
+
+module _ {G : Type 0} {C : G → G → Ordering} (o : IsTotalOrder C) (g : G) where
+  -- no place of the group is below its front
+  front_first : (p : Place G) → is_eq (C g p.group) ≡ true → is_gt (place_cmp C (front C g) p) ≡ false
+  front_first p h =
+      then_not_greater (C g p.group) (ordering_then (nat_cmp 0 p.at) (nat_cmp 0 p.id)) (ap is_gt (equal_from (C g p.group) h))
+      (then_not_greater (nat_cmp 0 p.at) (nat_cmp 0 p.id) (none_below p.at) (none_below p.id))
+
+  -- a place between the front and a place of the group is of the group
+  between : (k q : Place G) → is_gt (place_cmp C (front C g) k) ≡ false → is_gt (place_cmp C k q) ≡ false → is_eq (C g q.group) ≡ true → is_eq (C g k.group) ≡ true
+  between k q l u h =
+      elim (cases_Bool (is_eq (C g k.group))) [
+        | inl e ↦ e
+        | inr e ↦
+            let low = then_less (C g k.group) (ordering_then (nat_cmp 0 k.at) (nat_cmp 0 k.id)) l e in
+            let tie = equal_from (C g q.group) h in
+            let less : C q.group k.group ≡ Less = sym (o.congr g q.group k.group tie) ∙ low in
+            let more : C k.group q.group ≡ Greater = o.antisymm k.group q.group ∙ ap ordering_reverse less in
+            absurd (let m = rw more at u in cc)
+      ]
+
+  module _ (place_of : Job → Option (Place G)) (own : (j : Job) → IfSome (place_of j) (λ p. p.id ≡ j.id))
+      (passes : Job → Bool) (number : Job → ℕ)
+      (grouped : (j : Job) → passes j ≡ in_group C g (place_of j))
+      (numbered : (j : Job) (p : Place G) → place_of j ≡ Some p → passes j ≡ true → p.at ≡ number j) where
+    -- what a job that passes has
+    record Placed (j : Job) : Type 0 where
+      place : Place G
+      is : place_of j ≡ Some place
+      group : is_eq (C g place.group) ≡ true
+      at : place.at ≡ number j
+      id : place.id ≡ j.id
+
+    placed_in : (j : Job) (place : Option (Place G)) → place_of j ≡ place → passes j ≡ true → Placed j
+    placed_in j None e h = absurd (let i = sym (grouped j) ∙ h in let k = ap (in_group C g) e in cc)
+    placed_in j (Some p) e h = record {
+      place = p;
+      is = e;
+      group = sym (ap (in_group C g) e) ∙ sym (grouped j) ∙ h;
+      at = numbered j p e h;
+      id = subst (λ z. IfSome z (λ p. p.id ≡ j.id)) e (own j);
+    }
+
+    placed : (j : Job) → passes j ≡ true → Placed j
+    placed j h = placed_in j (place_of j) refl h
+
+    abbrev before : Job → Job → Bool
+    before a b = is_pair_before (number a) a.id (number b) b.id
+
+    module _ (low next : ℕ) (jobs : List Job) (room : ℕ) (order : Order G) (h : IsOrderOf C place_of jobs room order)
+        (ids : AreIdsWithin low jobs next) (s : InOrder (place_cmp C) order.entries) where
+      held : (j : Job) → Contains jobs j → (p : Place G) → place_of j ≡ Some p → is_some (holds_place C p order.entries) ≡ true
+      held j i p e = held_place o place_of own j.id j jobs room order h (found_by_id low next jobs j ids i) p e
+
+      none_passes : ((j : Job) → Contains jobs j → Placed j → ⊥) → first_of passes before jobs ≡ None
+      none_passes never =
+          first_of_none_passes passes before jobs (list_any_not passes jobs (all_from_members (λ j. passes j ≡ false) jobs (λ j i. false_or (passes j) (λ t. never j i (placed j t)))))
+
+      -- no place from the front on
+      none_first : entry_from (place_cmp C (front C g)) order.entries ≡ None → first_of passes before jobs ≡ None
+      none_first n = none_passes (λ j i p.
+          let below = found_below (place_total o) (front C g) p.place order.entries n (held j i p.place p.is) in
+          let from = front_first p.place p.group in
+          absurd (cc))
+
+      -- the first place from the front on is that of another group
+      none_of_group : (e : Place G × Unit {0}) → entry_from (place_cmp C (front C g)) order.entries ≡ Some e → is_eq (C g e.0.group) ≡ false → first_of passes before jobs ≡ None
+      none_of_group e n apart = none_passes (λ j i p.
+          let above = from_least (place_total o) (front C g) p.place e order.entries s n (held j i p.place p.is) (front_first p.place p.group) in
+          let same = between e.0 p.place (from_not_below (place_total o) (front C g) e order.entries n) above p.group in
+          absurd (cc))
+
+      -- the job whose place is held
+      record Standing (q : Place G) : Type 0 where
+        job : Job
+        found : job_with q.id jobs ≡ Some job
+        place : Place G
+        is : place_of job ≡ Some place
+        ties : place_cmp C q place ≡ Equal
+
+      standing_at : (q : Place G) (j : Job) (p : Option (Place G)) → job_with q.id jobs ≡ Some j → place_of j ≡ p → is_place C q p ≡ true → Standing q
+      standing_at q j None found e t = absurd cc
+      standing_at q j (Some p) found e t = record { job = j; found = found; place = p; is = e; ties = equal_from (place_cmp C q p) t }
+
+      standing_in : (q : Place G) (u : Option Job) → job_with q.id jobs ≡ u → has_place C place_of q u ≡ true → Standing q
+      standing_in q None found t = absurd cc
+      standing_in q (Some j) found t = standing_at q j (place_of j) found refl t
+
+      standing : (q : Place G) → is_some (holds_place C q order.entries) ≡ true → Standing q
+      standing q t = standing_in q (job_with q.id jobs) refl (sym (h.places q) ∙ t)
+
+      tied_group : (k q : Place G) → is_eq (C g k.group) ≡ true → is_eq (C g q.group) ≡ true → C k.group q.group ≡ Equal
+      tied_group k q a b = sym (o.congr g k.group q.group (equal_from (C g k.group) a)) ∙ equal_from (C g q.group) b
+
+      same_job : (x y : Job) → job_with x.id jobs ≡ Some x → Contains jobs y → before x y ≡ false → before y x ≡ false → y ≡ x
+      same_job x y found i a b =
+          let same : y.id ≡ x.id = grind (arith, nat_tests) in
+          let found_then : job_with x.id jobs ≡ Some y = subst (λ n. job_with n jobs ≡ Some y) same (found_by_id low next jobs y ids i) in
+          cc
+
+      one_of_group : (e : Place G × Unit {0}) → entry_from (place_cmp C (front C g)) order.entries ≡ Some e → is_eq (C g e.0.group) ≡ true → option_map (λ j. j.id) (first_of passes before jobs) ≡ Some e.0.id
+      one_of_group e n t =
+          let st = standing e.0 (from_found (place_total o) (front C g) e order.entries n) in
+          let x = st.job in
+          let id : x.id ≡ e.0.id = found_id e.0.id jobs x st.found in
+          let rest = ordering_then (nat_cmp e.0.at st.place.at) (nat_cmp e.0.id st.place.id) in
+          let group : C e.0.group st.place.group ≡ Equal = then_equal_first (C e.0.group st.place.group) rest st.ties in
+          let within : is_eq (C g st.place.group) ≡ true = ap is_eq (o.congr g e.0.group st.place.group (equal_from (C g e.0.group) t) ∙ group) in
+          let pass : passes x ≡ true = grouped x ∙ ap (in_group C g) st.is ∙ within in
+          let at : e.0.at ≡ number x =
+          numbers_tie e.0.at st.place.at (then_equal_first (nat_cmp e.0.at st.place.at) (nat_cmp e.0.id st.place.id) (then_equal_second (C e.0.group st.place.group) rest st.ties))
+          ∙ numbered x st.place st.is pass in
+          let found : job_with x.id jobs ≡ Some x = subst (λ m. job_with m jobs ≡ Some x) (sym id) st.found in
+          let least : (y : Job) → Contains jobs y → passes y ≡ true → before y x ≡ false = λ y i u.
+          let p = placed y u in
+          let above = from_least (place_total o) (front C g) p.place e order.entries s n (held y i p.place p.is) (front_first p.place p.group) in
+          let pairs = pair_not_after e.0.at e.0.id p.place.at p.place.id (then_tied (C e.0.group p.place.group) (ordering_then (nat_cmp e.0.at p.place.at) (nat_cmp e.0.id p.place.id)) (tied_group e.0 p.place t p.group) above) in
+          same_pairs p.place.at p.place.id e.0.at e.0.id (number y) y.id (number x) x.id p.at p.id at (sym id) pairs in
+          ap (option_map (λ j. j.id)) (first_of_is passes (pair_order number (λ j. j.id)) jobs x ((found_passes (λ j. j.id == e.0.id) jobs x st.found).1) pass least (λ y i a b. same_job x y found i a b))
+          ∙ ap Some id
+
+      first_by : (u : Option (Place G × Unit {0})) → entry_from (place_cmp C (front C g)) order.entries ≡ u → option_and_then (id_in_group C g) u ≡ option_map (λ j. j.id) (first_of passes before jobs)
+      first_by None n = sym (ap (option_map (λ j. j.id)) (none_first n))
+      first_by (Some e) n =
+          elim (cases_Bool (is_eq (C g e.0.group))) [
+            | inl t ↦ rw t (sym (one_of_group e n t))
+            | inr t ↦ rw t (sym (ap (option_map (λ j. j.id)) (none_of_group e n t)))
+          ]
+
+      -- the id at the first place of the group is that of the first job that passes
+      pub first_is : first_in_group C g order.entries ≡ option_map (λ j. j.id) (first_of passes (λ a b. is_pair_before (number a) a.id (number b) b.id) jobs)
+      first_is = first_by (entry_from (place_cmp C (front C g)) order.entries) refl

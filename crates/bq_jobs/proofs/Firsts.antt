@@ -1,0 +1,175 @@
+-- The orders of places, and what passes in each.
+use Rattle.std.proofs.Common.{◌≡◌, ℕ, suc, Bool, true, false, ◌&&◌, List, [], ◌∷◌, Option, Some, None, length, arith, refl, sym, ap, ◌∙◌, inl, inr}
+use Rattle.std.specs.Prelude.{◌==◌, nat_lt, option_map, unwrap_or}
+use Rattle.std.specs.Option.{IfSome}
+use Rattle.std.specs.declared.cmp.Ordering.{Ordering}
+use Rattle.std.specs.declared.cmp.Ordering.TheVariants.{Less, Equal, Greater}
+use Rattle.std.specs.Cmp.{IsTotalOrder}
+use Rattle.std.specs.Cmp.Lexicographic.{slice_cmp, texts_ties}
+use Rattle.std.specs.Ordering.{is_eq, nat_cmp, ordering_then}
+use Rattle.std.proofs.lemmas.Bool.{cases_Bool, and_parts}
+use Rattle.std.proofs.lemmas.Bool.Decides.{nat_tests}
+use Rattle.bq_job.specs.declared.job.Job.{Job}
+use Rattle.bq_job.specs.declared.job.JobState.{JobState}
+use Rattle.bq_job.specs.declared.job.JobState.TheVariants as states
+use Rattle.bq_job.specs.Changes.{is_holder, is_ready_state}
+use Rattle.bq_job.specs.JobStates.{burial_of, due_of, is_buried, is_delayed, is_reserved}
+use Rattle.bq_job.specs.TubeName.{is_same_name}
+use Rattle.bq_jobs.specs.contracts.place.TubeListOrd.TheImpl as tube_list_ord
+use Rattle.bq_jobs.specs.contracts.place.TimerOrd.TheImpl as timer_ord
+use Rattle.bq_jobs.specs.declared.place.Place.{Place}
+use Rattle.bq_jobs.specs.declared.place.TubeList.{TubeList}
+use Rattle.bq_jobs.specs.declared.place.JobList.TheVariants as lists
+use Rattle.bq_jobs.specs.declared.place.Timer.{Timer}
+use Rattle.bq_jobs.specs.declared.place.Timer.TheVariants as timers
+use Rattle.bq_jobs.specs.Leases.{deadline_of}
+use Rattle.bq_jobs.specs.Names.{name_cmp}
+use Rattle.bq_jobs.specs.Places.{in_leases, in_timers, in_tube, lease_place, list_of, timer_place, tube_place}
+use Rattle.bq_jobs.proofs.ById.{is_eq_nat}
+use Rattle.bq_jobs.proofs.FirstOfGroup.{in_group}
+
+abbrev pub list_cmp : TubeList → TubeList → Ordering
+list_cmp = tube_list_ord.ghosts.cmp
+
+abbrev pub timer_cmp : Timer → Timer → Ordering
+timer_cmp = timer_ord.ghosts.cmp
+
+-- names of other lengths are other names
+same_length : (a b : List ℕ) → is_same_name a b ≡ true → length a ≡ length b
+same_length [] [] h = refl
+same_length [] (y ∷ b) h = absurd cc
+same_length (x ∷ a) [] h = absurd cc
+same_length (x ∷ a) (y ∷ b) h = ap suc (same_length a b ((and_parts (x == y) (is_same_name a b) h).1))
+
+then_apart : (a b : Ordering) → is_eq a ≡ false → is_eq (ordering_then a b) ≡ false
+then_apart Less b h = refl
+then_apart Equal b h = absurd cc
+then_apart Greater b h = refl
+
+then_on : (a b : Ordering) → is_eq a ≡ true → is_eq (ordering_then a b) ≡ is_eq b
+then_on Less b h = absurd cc
+then_on Equal b h = refl
+then_on Greater b h = absurd cc
+
+-- names tie where they are the same
+pub name_ties : (a b : List ℕ) → is_same_name a b ≡ is_eq (name_cmp a b)
+name_ties a b =
+    elim (cases_Bool (length b == length a)) [
+      | inl e ↦ texts_ties a b ∙ sym (then_on (nat_cmp (length a) (length b)) (slice_cmp nat_cmp a b) (is_eq_nat (length a) (length b) ∙ e))
+      | inr e ↦ elim (cases_Bool (is_same_name a b)) [
+        | inl same ↦ absurd (let l = same_length a b same in grind (arith, nat_tests))
+        | inr other ↦ other ∙ sym (then_apart (nat_cmp (length a) (length b)) (slice_cmp nat_cmp a b) (is_eq_nat (length a) (length b) ∙ e))
+      ]
+    ]
+
+-- a place has the id of its job
+own_tube : (s : JobState) (j : Job) → IfSome (in_tube s j) (λ p. p.id ≡ j.id)
+own_tube states.Ready j = refl
+own_tube (states.Delayed due) j = refl
+own_tube (states.Reserved seat deadline) j = tt
+own_tube (states.Buried number) j = refl
+
+own_timer : (s : JobState) (j : Job) → IfSome (in_timers s j) (λ p. p.id ≡ j.id)
+own_timer states.Ready j = tt
+own_timer (states.Delayed due) j = refl
+own_timer (states.Reserved seat deadline) j = refl
+own_timer (states.Buried number) j = tt
+
+own_lease : (s : JobState) (j : Job) → IfSome (in_leases s j) (λ p. p.id ≡ j.id)
+own_lease states.Ready j = tt
+own_lease (states.Delayed due) j = tt
+own_lease (states.Reserved seat deadline) j = refl
+own_lease (states.Buried number) j = tt
+
+pub tube_own : (j : Job) → IfSome (tube_place j) (λ p. p.id ≡ j.id)
+tube_own j = own_tube j.state j
+
+pub timer_own : (j : Job) → IfSome (timer_place j) (λ p. p.id ≡ j.id)
+timer_own j = own_timer j.state j
+
+pub lease_own : (j : Job) → IfSome (lease_place j) (λ p. p.id ≡ j.id)
+lease_own j = own_lease j.state j
+
+-- what passes is of the group
+pub ready_grouped : (tube : List ℕ) (s : JobState) (j : Job) → (is_ready_state s && is_same_name tube j.tube) ≡ in_group list_cmp (list_of tube lists.Ready) (in_tube s j)
+ready_grouped tube states.Ready j = name_ties tube j.tube
+ready_grouped tube (states.Delayed due) j = refl
+ready_grouped tube (states.Reserved seat deadline) j = refl
+ready_grouped tube (states.Buried number) j = refl
+
+pub delayed_grouped : (tube : List ℕ) (s : JobState) (j : Job) → (is_delayed s && is_same_name tube j.tube) ≡ in_group list_cmp (list_of tube lists.Delayed) (in_tube s j)
+delayed_grouped tube states.Ready j = refl
+delayed_grouped tube (states.Delayed due) j = name_ties tube j.tube
+delayed_grouped tube (states.Reserved seat deadline) j = refl
+delayed_grouped tube (states.Buried number) j = refl
+
+pub buried_grouped : (tube : List ℕ) (s : JobState) (j : Job) → (is_buried s && is_same_name tube j.tube) ≡ in_group list_cmp (list_of tube lists.Buried) (in_tube s j)
+buried_grouped tube states.Ready j = refl
+buried_grouped tube (states.Delayed due) j = refl
+buried_grouped tube (states.Reserved seat deadline) j = refl
+buried_grouped tube (states.Buried number) j = name_ties tube j.tube
+
+pub due_grouped : (s : JobState) (j : Job) → is_delayed s ≡ in_group timer_cmp timers.Due (in_timers s j)
+due_grouped states.Ready j = refl
+due_grouped (states.Delayed due) j = refl
+due_grouped (states.Reserved seat deadline) j = refl
+due_grouped (states.Buried number) j = refl
+
+pub lease_grouped : (s : JobState) (j : Job) → is_reserved s ≡ in_group timer_cmp timers.Lease (in_timers s j)
+lease_grouped states.Ready j = refl
+lease_grouped (states.Delayed due) j = refl
+lease_grouped (states.Reserved seat deadline) j = refl
+lease_grouped (states.Buried number) j = refl
+
+pub held_grouped : (seat : ℕ) (s : JobState) (j : Job) → is_holder seat s ≡ in_group nat_cmp seat (in_leases s j)
+held_grouped seat states.Ready j = refl
+held_grouped seat (states.Delayed due) j = refl
+held_grouped seat (states.Reserved holder deadline) j = sym (is_eq_nat seat holder)
+held_grouped seat (states.Buried number) j = refl
+
+-- by which number
+at_of : {G : Type 0} → Option (Place G) → ℕ
+at_of None = 0
+at_of (Some p) = p.at
+
+pub ready_numbered : (tube : List ℕ) (s : JobState) (j : Job) (p : Place TubeList) → in_tube s j ≡ Some p → (is_ready_state s && is_same_name tube j.tube) ≡ true → p.at ≡ j.pri
+unfolding at_of
+ready_numbered tube states.Ready j p e h = sym (ap at_of e)
+ready_numbered tube (states.Delayed due) j p e h = absurd cc
+ready_numbered tube (states.Reserved seat deadline) j p e h = absurd cc
+ready_numbered tube (states.Buried number) j p e h = absurd cc
+
+pub delayed_numbered : (tube : List ℕ) (s : JobState) (j : Job) (p : Place TubeList) → in_tube s j ≡ Some p → (is_delayed s && is_same_name tube j.tube) ≡ true → p.at ≡ due_of s
+unfolding at_of
+delayed_numbered tube states.Ready j p e h = absurd cc
+delayed_numbered tube (states.Delayed due) j p e h = sym (ap at_of e)
+delayed_numbered tube (states.Reserved seat deadline) j p e h = absurd cc
+delayed_numbered tube (states.Buried number) j p e h = absurd cc
+
+pub buried_numbered : (tube : List ℕ) (s : JobState) (j : Job) (p : Place TubeList) → in_tube s j ≡ Some p → (is_buried s && is_same_name tube j.tube) ≡ true → p.at ≡ burial_of s
+unfolding at_of
+buried_numbered tube states.Ready j p e h = absurd cc
+buried_numbered tube (states.Delayed due) j p e h = absurd cc
+buried_numbered tube (states.Reserved seat deadline) j p e h = absurd cc
+buried_numbered tube (states.Buried number) j p e h = sym (ap at_of e)
+
+pub due_numbered : (s : JobState) (j : Job) (p : Place Timer) → in_timers s j ≡ Some p → is_delayed s ≡ true → p.at ≡ due_of s
+unfolding at_of
+due_numbered states.Ready j p e h = absurd cc
+due_numbered (states.Delayed due) j p e h = sym (ap at_of e)
+due_numbered (states.Reserved seat deadline) j p e h = absurd cc
+due_numbered (states.Buried number) j p e h = absurd cc
+
+pub lease_numbered : (s : JobState) (j : Job) (p : Place Timer) → in_timers s j ≡ Some p → is_reserved s ≡ true → p.at ≡ deadline_of s
+unfolding at_of
+lease_numbered states.Ready j p e h = absurd cc
+lease_numbered (states.Delayed due) j p e h = absurd cc
+lease_numbered (states.Reserved seat deadline) j p e h = sym (ap at_of e)
+lease_numbered (states.Buried number) j p e h = absurd cc
+
+pub held_numbered : (seat : ℕ) (s : JobState) (j : Job) (p : Place ℕ) → in_leases s j ≡ Some p → is_holder seat s ≡ true → p.at ≡ deadline_of s
+unfolding at_of
+held_numbered seat states.Ready j p e h = absurd cc
+held_numbered seat (states.Delayed due) j p e h = absurd cc
+held_numbered seat (states.Reserved holder deadline) j p e h = sym (ap at_of e)
+held_numbered seat (states.Buried number) j p e h = absurd cc

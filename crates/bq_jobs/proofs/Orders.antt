@@ -1,0 +1,186 @@
+-- What additions and removals of jobs do to an order of places.
+use Rattle.std.proofs.Common.{◌≡◌, ℕ, suc, ◌+◌, ◌*◌, ◌<◌, ◌≤◌, Bool, true, false, cond, List, [], ◌∷◌, Option, Some, None, IsSome, length, arith, refl, sym, ap, ◌∙◌, subst, inl, inr}
+use Rattle.std.specs.Prelude.{is_some, ◌==◌, count_by, if◌then◌else◌}
+use Rattle.std.specs.declared.cmp.Ordering.{Ordering}
+use Rattle.std.specs.declared.cmp.Ordering.TheVariants.{Less, Equal, Greater}
+use Rattle.std.specs.Cmp.{IsTotalOrder, nat_cmp_total, on_total, then_total}
+use Rattle.std.specs.Ordering.{is_eq, nat_cmp, ordering_then}
+use Rattle.std.specs.Option.{IfSome, ForSome}
+use Rattle.std.specs.BTreeMap.{is_at}
+use Rattle.std.proofs.lemmas.Bool.{cases_Bool, eqb-true}
+use Rattle.std.proofs.lemmas.Bool.Decides.{nat_tests}
+use Rattle.std.proofs.lemmas.Cmp.{tied_back, tied_itself}
+use Rattle.bq_index.specs.Digits.{binary_digits}
+use Rattle.bq_index.specs.Order.{InOrder}
+use Rattle.bq_index.specs.Shelf.{Seen}
+use Rattle.bq_index.proofs.Order.{length_inserted, length_removed}
+use Rattle.bq_job.specs.declared.job.Job.{Job}
+use Rattle.bq_job.specs.Changes.{job_with}
+use Rattle.bq_job.specs.Lawful.{AreIdsWithin}
+use Rattle.bq_job.proofs.ListLemmas.{count_cons}
+use Rattle.bq_jobs.specs.declared.place.Place.{Place}
+use Rattle.bq_jobs.specs.Inside.{IsOrderOf, Order, has_place, is_place}
+use Rattle.bq_jobs.specs.Kept.{search_bound, with_added, without}
+use Rattle.bq_jobs.specs.PlaceOrder.{place_cmp, holds_place, with_place, without_place}
+use Rattle.bq_jobs.proofs.Changes.{count_added, count_without, found_among_added, found_id, found_without, length_added, length_without}
+use Rattle.bq_jobs.proofs.Counting.{search_is_bounded}
+use Rattle.bq_jobs.proofs.Choice.{equal_from, lookup_inserted, lookup_removed, numbers_tie, then_equal_second}
+
+-- no more are counted than there are
+pub count_few : (p : Job → Bool) (jobs : List Job) → count_by p jobs ≤ length jobs
+count_few p [] = omega arith
+count_few p (j ∷ jobs) = rw (count_cons p j jobs) (elim (cases_Bool (p j)) [
+  | inl e ↦ rw e (omega (arith, count_few p jobs))
+  | inr e ↦ rw e (omega (arith, count_few p jobs))
+])
+
+-- a search in an order of places
+pub order_search : {G : Type 0} (C : G → G → Ordering) (place_of : Job → Option (Place G)) (jobs : List Job) (room : ℕ) (order : Order G) → IsOrderOf C place_of jobs room order → 2 * binary_digits (length order.entries + 1) ≤ search_bound jobs
+order_search C place_of jobs room order h = search_is_bounded jobs (length order.entries) (omega (arith, h.counted, count_few (λ j. is_some (place_of j)) jobs))
+
+some_unit : (u : Option (Unit {0})) → is_some u ≡ true → u ≡ Some tt
+some_unit None h = absurd cc
+some_unit (Some tt) h = refl
+
+none_from : {X : Type 0} (u : Option X) → is_some u ≡ false → u ≡ None
+none_from None h = refl
+none_from (Some x) h = absurd cc
+
+module _ {G : Type 0} {C : G → G → Ordering} (o : IsTotalOrder C) where
+  pub place_total : IsTotalOrder (place_cmp C)
+  place_total = then_total (on_total (λ p. p.group) o) (then_total (on_total (λ p. p.at) nat_cmp_total) (on_total (λ p. p.id) nat_cmp_total))
+
+  -- places that tie are of one job
+  pub same_id : (p q : Place G) → is_eq (place_cmp C p q) ≡ true → p.id ≡ q.id
+  same_id p q h = numbers_tie p.id q.id (then_equal_second (nat_cmp p.at q.at) (nat_cmp p.id q.id) (then_equal_second (C p.group q.group) (ordering_then (nat_cmp p.at q.at) (nat_cmp p.id q.id)) (equal_from (place_cmp C p q) h)))
+
+  other_id : (p q : Place G) → (p.id == q.id) ≡ false → is_eq (place_cmp C p q) ≡ false
+  other_id p q h =
+      elim (cases_Bool (is_eq (place_cmp C p q))) [
+        | inr e ↦ e
+        | inl e ↦ absurd (let same = same_id p q e in grind (arith, nat_tests))
+      ]
+
+  tie_back : (p q : Place G) → is_eq (place_cmp C p q) ≡ is_eq (place_cmp C q p)
+  tie_back p q =
+      elim (cases_Bool (is_eq (place_cmp C p q))) [
+        | inl e ↦ e ∙ sym (ap is_eq (tied_back place_total p q (equal_from (place_cmp C p q) e)))
+        | inr e ↦ e ∙ sym (elim (cases_Bool (is_eq (place_cmp C q p))) [
+          | inr f ↦ f
+          | inl f ↦ absurd (let g = ap is_eq (tied_back place_total q p (equal_from (place_cmp C q p) f)) in cc)
+        ])
+      ]
+
+  module _ (place_of : Job → Option (Place G)) (own : (j : Job) → IfSome (place_of j) (λ p. p.id ≡ j.id)) where
+    -- there is a box for a place, where there is room for a job
+    pub has_spare : (jobs : List Job) (room : ℕ) (order : Order G) → IsOrderOf C place_of jobs room order → 0 < room → 0 < order.spare
+    has_spare jobs room order h r = omega (arith, h.roomy, h.counted, count_few (λ j. is_some (place_of j)) jobs, r)
+
+    -- the places of a job that is not there are free
+    pub absent_place : (j : Job) (jobs : List Job) (room : ℕ) (order : Order G) → IsOrderOf C place_of jobs room order → job_with j.id jobs ≡ None → (p : Place G) → p.id ≡ j.id → holds_place C p order.entries ≡ None
+    absent_place j jobs room order h free p same =
+        let found : job_with p.id jobs ≡ None = rw same free in
+        none_from (holds_place C p order.entries) (h.places p ∙ ap (has_place C place_of p) found)
+
+    -- the place of a job that is there is taken
+    pub held_place : (id : ℕ) (j : Job) (jobs : List Job) (room : ℕ) (order : Order G) → IsOrderOf C place_of jobs room order → job_with id jobs ≡ Some j → (p : Place G) → place_of j ≡ Some p → is_some (holds_place C p order.entries) ≡ true
+    held_place id j jobs room order h found p e =
+        let same : p.id ≡ id = own_id j (place_of j) (own j) p e ∙ found_id id jobs j found in
+        let found_then : job_with p.id jobs ≡ Some j = rw same found in
+        h.places p ∙ ap (has_place C place_of p) found_then ∙ ap (is_place C p) e ∙ ap is_eq (tied_itself place_total p)
+      where
+        own_id : (j : Job) (o : Option (Place G)) → IfSome o (λ p. p.id ≡ j.id) → (p : Place G) → o ≡ Some p → p.id ≡ j.id
+        own_id j None h p e = absurd cc
+        own_id j (Some q) h p e = let is : q ≡ p = (cc) in subst (λ z. z.id ≡ j.id) is h
+
+    -- after an addition
+    added_places : (j : Job) (place : Option (Place G)) (jobs : List Job) (room : ℕ) (order : Order G) → place_of j ≡ place → IfSome place (λ p. p.id ≡ j.id) → IsOrderOf C place_of jobs room order → job_with j.id jobs ≡ None
+        → (q : Place G) → is_some (holds_place C q (with_place C place order.entries)) ≡ has_place C place_of q (cond (j.id == q.id) (Some j) (job_with q.id jobs))
+    added_places j None jobs room order e own h free q =
+        elim (cases_Bool (j.id == q.id)) [
+          | inr other ↦ rw other (h.places q)
+          | inl here ↦
+              let same : j.id ≡ q.id = eqb-true j.id q.id here in
+              let found : job_with q.id jobs ≡ None = rw (← same) free in
+              rw here (h.places q ∙ ap (has_place C place_of q) found ∙ sym (ap (is_place C q) e))
+        ]
+    added_places j (Some p) jobs room order e own h free q =
+        let gone = absent_place j jobs room order h free p own in
+        let after = ap is_some (lookup_inserted place_total q p tt order.entries gone) in
+        elim (cases_Bool (j.id == q.id)) [
+          | inl here ↦
+              let same : j.id ≡ q.id = eqb-true j.id q.id here in
+              let found : job_with q.id jobs ≡ None = rw (← same) free in
+              let was = h.places q ∙ ap (has_place C place_of q) found in
+              rw here (after ∙ here_only (is_eq (place_cmp C q p)) (holds_place C q order.entries) was ∙ sym (ap (is_place C q) e))
+          | inr other ↦
+              let apart : is_eq (place_cmp C q p) ≡ false = other_id q p (rw own (grind (arith, nat_tests))) in
+              rw other (after ∙ (rw apart (h.places q)))
+        ]
+      where
+        here_only : (b : Bool) (u : Option (Unit {0})) → is_some u ≡ false → is_some (cond b (Some tt) u) ≡ b
+        here_only true u h = refl
+        here_only false u h = h
+
+    added_length : (j : Job) (place : Option (Place G)) (jobs : List Job) (room : ℕ) (order : Order G) → IfSome place (λ p. p.id ≡ j.id) → IsOrderOf C place_of jobs room order → job_with j.id jobs ≡ None
+        → length (with_place C place order.entries) ≡ cond (is_some place) 1 0 + length order.entries
+    added_length j None jobs room order own h free = omega arith
+    added_length j (Some p) jobs room order own h free =
+        omega (arith, length_inserted (place_cmp C) p tt order.entries (absent_place j jobs room order h free p own))
+
+    pub order_added : (j : Job) (jobs : List Job) (room less : ℕ) (order new : Order G) → IsOrderOf C place_of jobs room order → job_with j.id jobs ≡ None → less + 1 ≡ room
+        → new.entries ≡ with_place C (place_of j) order.entries → new.spare + cond (is_some (place_of j)) 1 0 ≡ order.spare → IsOrderOf C place_of (with_added j jobs) less new
+    order_added j jobs room less order new h free l entries spare =
+        let long = ap length entries ∙ added_length j (place_of j) jobs room order (own j) h free in
+        record {
+          places = λ q. ap (λ es. is_some (holds_place C q es)) entries ∙ added_places j (place_of j) jobs room order refl (own j) h free q ∙ sym (ap (has_place C place_of q) (found_among_added q.id j jobs));
+          counted = omega (arith, long, h.counted, count_added (λ k. is_some (place_of k)) j jobs);
+          roomy = omega (arith, long, spare, h.roomy, length_added j jobs, l);
+        }
+
+    -- after a removal
+    removed_places : (id : ℕ) (j : Job) (place : Option (Place G)) (jobs : List Job) (room : ℕ) (order : Order G) → place_of j ≡ place → IfSome place (λ p. p.id ≡ j.id) → IsOrderOf C place_of jobs room order → job_with id jobs ≡ Some j → InOrder (place_cmp C) order.entries
+        → (q : Place G) → is_some (holds_place C q (without_place C place order.entries)) ≡ has_place C place_of q (cond (id == q.id) None (job_with q.id jobs))
+    removed_places id j None jobs room order e own h found s q =
+        elim (cases_Bool (id == q.id)) [
+          | inr other ↦ rw other (h.places q)
+          | inl here ↦
+              let same : id ≡ q.id = eqb-true id q.id here in
+              let found_then : job_with q.id jobs ≡ Some j = rw (← same) found in
+              rw here (h.places q ∙ ap (has_place C place_of q) found_then ∙ ap (is_place C q) e)
+        ]
+    removed_places id j (Some p) jobs room order e own h found s q =
+        let after = ap is_some (lookup_removed place_total q p order.entries s) in
+        let mine = own ∙ found_id id jobs j found in
+        elim (cases_Bool (id == q.id)) [
+          | inl here ↦
+              let same : id ≡ q.id = eqb-true id q.id here in
+              let found_then : job_with q.id jobs ≡ Some j = rw (← same) found in
+              let was = h.places q ∙ ap (has_place C place_of q) found_then ∙ ap (is_place C q) e ∙ tie_back q p in
+              rw here (after ∙ gone_now (is_eq (place_cmp C p q)) (holds_place C q order.entries) was)
+          | inr other ↦
+              let apart : is_eq (place_cmp C p q) ≡ false = other_id p q (rw mine other) in
+              rw other (after ∙ (rw apart (h.places q)))
+        ]
+      where
+        gone_now : (b : Bool) (u : Option (Unit {0})) → is_some u ≡ b → is_some (cond b None u) ≡ false
+        gone_now true u h = refl
+        gone_now false u h = h
+
+    removed_length : (id : ℕ) (j : Job) (place : Option (Place G)) (jobs : List Job) (room : ℕ) (order : Order G) → place_of j ≡ place → IsOrderOf C place_of jobs room order → job_with id jobs ≡ Some j
+        → cond (is_some place) 1 0 + length (without_place C place order.entries) ≡ length order.entries
+    removed_length id j None jobs room order e h found = omega arith
+    removed_length id j (Some p) jobs room order e h found =
+        let held = some_unit (holds_place C p order.entries) (held_place id j jobs room order h found p e) in
+        omega (arith, length_removed (is_at (place_cmp C p)) order.entries (Some (p, tt)) refl (sym held))
+
+    pub order_removed : (low next id : ℕ) (j : Job) (jobs : List Job) (room more : ℕ) (order new : Order G) → IsOrderOf C place_of jobs room order → AreIdsWithin low jobs next → job_with id jobs ≡ Some j → InOrder (place_cmp C) order.entries → more ≡ room + 1
+        → new.entries ≡ without_place C (place_of j) order.entries → new.spare ≡ order.spare + cond (is_some (place_of j)) 1 0 → IsOrderOf C place_of (without id jobs) more new
+    order_removed low next id j jobs room more order new h ids found s m entries spare =
+        let long = removed_length id j (place_of j) jobs room order refl h found in
+        let now = ap length entries in
+        record {
+          places = λ q. ap (λ es. is_some (holds_place C q es)) entries ∙ removed_places id j (place_of j) jobs room order refl (own j) h found s q ∙ sym (ap (has_place C place_of q) (found_without q.id id jobs));
+          counted = omega (arith, long, now, h.counted, count_without (λ k. is_some (place_of k)) low next id j jobs ids found);
+          roomy = omega (arith, long, now, spare, h.roomy, length_without low next id j jobs ids found, m);
+        }

@@ -1,0 +1,128 @@
+-- What additions, removals and growths leave of what is kept.
+use Rattle.std.proofs.Common.{◌≡◌, ℕ, suc, ◌+◌, ◌<◌, ◌≤◌, ◌^◌, ◌*◌, List, [], ◌∷◌, Option, Some, None, map, length, cond, arith, refl, sym, ap, ◌∙◌, subst}
+use Rattle.std.specs.Prelude.{is_some}
+use Rattle.std.specs.Cmp.{nat_cmp_total}
+use Rattle.std.specs.Ordering.{nat_cmp}
+use Rattle.std.specs.Map.{lookup, remove_entry}
+use Rattle.std.specs.BTreeMap.{is_at, insert_entry}
+use Rattle.bq_index.specs.Digits.{binary_digits}
+use Rattle.bq_index.specs.Order.{InOrder}
+use Rattle.bq_job.specs.declared.job.Job.{Job}
+use Rattle.bq_job.specs.Changes.{job_with}
+use Rattle.bq_job.specs.Lawful.{AreIdsWithin}
+use Rattle.bq_jobs.specs.contracts.place.TubeListOrd.TheImpl.Laws as tube_list_laws
+use Rattle.bq_jobs.specs.contracts.place.TimerOrd.TheImpl.Laws as timer_laws
+use Rattle.bq_jobs.specs.declared.jobs.Jobs.TheInside.{Inside as Parts}
+use Rattle.bq_jobs.specs.Inside.{ById, IsOrderOf, IsShelved, jobs_of, with_id}
+use Rattle.bq_jobs.specs.Kept.{search_bound, with_added, without}
+use Rattle.bq_jobs.specs.PlaceOrder.{place_cmp, with_place, without_place}
+use Rattle.bq_jobs.specs.Places.{lease_place, timer_place, tube_place}
+use Rattle.bq_jobs.proofs.ById.{insert_by_id, lookup_by_id, remove_by_id, same_jobs}
+use Rattle.bq_jobs.proofs.Changes.{added_within, without_within}
+use Rattle.bq_jobs.proofs.Counting.{search_is_bounded}
+use Rattle.bq_jobs.proofs.Firsts.{lease_own, list_cmp, timer_cmp, timer_own, tube_own}
+use Rattle.bq_jobs.proofs.Orders.{order_added, order_removed, order_search}
+
+abbrev pub AreShelved : Parts → Type 0
+AreShelved s = IsShelved list_cmp timer_cmp s.by_id s.by_tube s.timers s.leases
+
+-- the same, for the jobs of a list
+record HoldJobs (s : Parts) (jobs : List Job) : Type 0 where
+  own : s.by_id.entries ≡ map with_id jobs
+  ids : AreIdsWithin 0 jobs (2 ^ 64)
+  tubes : IsOrderOf list_cmp tube_place jobs s.by_id.spare s.by_tube
+  timed : IsOrderOf timer_cmp timer_place jobs s.by_id.spare s.timers
+  leased : IsOrderOf nat_cmp lease_place jobs s.by_id.spare s.leases
+
+shelved_from : (s : Parts) (jobs : List Job) → HoldJobs s jobs → AreShelved s
+shelved_from s jobs h =
+    let same : jobs ≡ jobs_of s.by_id.entries = sym (ap jobs_of h.own ∙ same_jobs jobs) in
+    record {
+      by_own_id = h.own ∙ ap (map with_id) same;
+      ids = subst (λ js. AreIdsWithin 0 js (2 ^ 64)) same h.ids;
+      in_tubes = subst (λ js. IsOrderOf list_cmp tube_place js s.by_id.spare s.by_tube) same h.tubes;
+      in_timers = subst (λ js. IsOrderOf timer_cmp timer_place js s.by_id.spare s.timers) same h.timed;
+      in_leases = subst (λ js. IsOrderOf nat_cmp lease_place js s.by_id.spare s.leases) same h.leased;
+    }
+
+length_jobs : (es : List (ℕ × Job)) → length (jobs_of es) ≡ length es
+length_jobs [] = refl
+length_jobs (e ∷ es) = ap suc (length_jobs es)
+
+-- a search among the jobs by their ids
+pub id_search : (by_id : ById) → 2 * binary_digits (length by_id.entries + 1) ≤ search_bound (jobs_of by_id.entries)
+id_search by_id = search_is_bounded (jobs_of by_id.entries) (length by_id.entries) (omega (arith, length_jobs by_id.entries))
+
+-- what is found by an id
+pub found_in : (id : ℕ) (s : Parts) → AreShelved s → lookup (is_at (nat_cmp id)) s.by_id.entries ≡ job_with id (jobs_of s.by_id.entries)
+found_in id s h = ap (lookup (is_at (nat_cmp id))) h.by_own_id ∙ lookup_by_id id (jobs_of s.by_id.entries)
+
+pub entries_added : (j : Job) (s : Parts) → AreShelved s → job_with j.id (jobs_of s.by_id.entries) ≡ None → insert_entry nat_cmp s.by_id.entries j.id j ≡ map with_id (with_added j (jobs_of s.by_id.entries))
+entries_added j s h free = ap (λ es. insert_entry nat_cmp es j.id j) h.by_own_id ∙ insert_by_id j (jobs_of s.by_id.entries) free
+
+pub jobs_added : (j : Job) (s : Parts) → AreShelved s → job_with j.id (jobs_of s.by_id.entries) ≡ None → jobs_of (insert_entry nat_cmp s.by_id.entries j.id j) ≡ with_added j (jobs_of s.by_id.entries)
+jobs_added j s h free = ap jobs_of (entries_added j s h free) ∙ same_jobs (with_added j (jobs_of s.by_id.entries))
+
+pub entries_removed : (id : ℕ) (s : Parts) → AreShelved s → remove_entry (is_at (nat_cmp id)) s.by_id.entries ≡ map with_id (without id (jobs_of s.by_id.entries))
+entries_removed id s h = ap (remove_entry (is_at (nat_cmp id))) h.by_own_id ∙ remove_by_id 0 (2 ^ 64) id (jobs_of s.by_id.entries) h.ids
+
+pub jobs_removed : (id : ℕ) (s : Parts) → AreShelved s → jobs_of (remove_entry (is_at (nat_cmp id)) s.by_id.entries) ≡ without id (jobs_of s.by_id.entries)
+jobs_removed id s h = ap jobs_of (entries_removed id s h) ∙ same_jobs (without id (jobs_of s.by_id.entries))
+
+-- after an addition
+pub record Added (j : Job) (s n : Parts) : Type 0 where
+  pub by_id : n.by_id.entries ≡ insert_entry nat_cmp s.by_id.entries j.id j
+  pub room : n.by_id.spare + 1 ≡ s.by_id.spare
+  pub by_tube : n.by_tube.entries ≡ with_place list_cmp (tube_place j) s.by_tube.entries
+  pub tube_spare : n.by_tube.spare + cond (is_some (tube_place j)) 1 0 ≡ s.by_tube.spare
+  pub timers : n.timers.entries ≡ with_place timer_cmp (timer_place j) s.timers.entries
+  pub timer_spare : n.timers.spare + cond (is_some (timer_place j)) 1 0 ≡ s.timers.spare
+  pub leases : n.leases.entries ≡ with_place nat_cmp (lease_place j) s.leases.entries
+  pub lease_spare : n.leases.spare + cond (is_some (lease_place j)) 1 0 ≡ s.leases.spare
+
+pub shelved_added : (j : Job) (s n : Parts) → AreShelved s → j.id < 2 ^ 64 → job_with j.id (jobs_of s.by_id.entries) ≡ None → Added j s n → AreShelved n
+shelved_added j s n h l free a =
+    let jobs = jobs_of s.by_id.entries in
+    shelved_from n (with_added j jobs) (record {
+      own = a.by_id ∙ entries_added j s h free;
+      ids = added_within 0 (2 ^ 64) j jobs (omega arith) l free h.ids;
+      tubes = order_added tube_list_laws.total-law tube_place tube_own j jobs s.by_id.spare n.by_id.spare s.by_tube n.by_tube h.in_tubes free a.room a.by_tube a.tube_spare;
+      timed = order_added timer_laws.total-law timer_place timer_own j jobs s.by_id.spare n.by_id.spare s.timers n.timers h.in_timers free a.room a.timers a.timer_spare;
+      leased = order_added nat_cmp_total lease_place lease_own j jobs s.by_id.spare n.by_id.spare s.leases n.leases h.in_leases free a.room a.leases a.lease_spare;
+    })
+
+-- after a removal
+pub record Removed (id : ℕ) (j : Job) (s n : Parts) : Type 0 where
+  pub by_id : n.by_id.entries ≡ remove_entry (is_at (nat_cmp id)) s.by_id.entries
+  pub room : n.by_id.spare ≡ s.by_id.spare + 1
+  pub by_tube : n.by_tube.entries ≡ without_place list_cmp (tube_place j) s.by_tube.entries
+  pub tube_order : InOrder (place_cmp list_cmp) s.by_tube.entries
+  pub tube_spare : n.by_tube.spare ≡ s.by_tube.spare + cond (is_some (tube_place j)) 1 0
+  pub timers : n.timers.entries ≡ without_place timer_cmp (timer_place j) s.timers.entries
+  pub timer_order : InOrder (place_cmp timer_cmp) s.timers.entries
+  pub timer_spare : n.timers.spare ≡ s.timers.spare + cond (is_some (timer_place j)) 1 0
+  pub leases : n.leases.entries ≡ without_place nat_cmp (lease_place j) s.leases.entries
+  pub lease_order : InOrder (place_cmp nat_cmp) s.leases.entries
+  pub lease_spare : n.leases.spare ≡ s.leases.spare + cond (is_some (lease_place j)) 1 0
+
+pub shelved_removed : (id : ℕ) (j : Job) (s n : Parts) → AreShelved s → job_with id (jobs_of s.by_id.entries) ≡ Some j → Removed id j s n → AreShelved n
+shelved_removed id j s n h found a =
+    let jobs = jobs_of s.by_id.entries in
+    shelved_from n (without id jobs) (record {
+      own = a.by_id ∙ entries_removed id s h;
+      ids = without_within 0 (2 ^ 64) id jobs h.ids;
+      tubes = order_removed tube_list_laws.total-law tube_place tube_own 0 (2 ^ 64) id j jobs s.by_id.spare n.by_id.spare s.by_tube n.by_tube h.in_tubes h.ids found a.tube_order a.room a.by_tube a.tube_spare;
+      timed = order_removed timer_laws.total-law timer_place timer_own 0 (2 ^ 64) id j jobs s.by_id.spare n.by_id.spare s.timers n.timers h.in_timers h.ids found a.timer_order a.room a.timers a.timer_spare;
+      leased = order_removed nat_cmp_total lease_place lease_own 0 (2 ^ 64) id j jobs s.by_id.spare n.by_id.spare s.leases n.leases h.in_leases h.ids found a.lease_order a.room a.leases a.lease_spare;
+    })
+
+-- a search in each order
+module _ (s : Parts) (h : AreShelved s) where
+  pub tube_search : 2 * binary_digits (length s.by_tube.entries + 1) ≤ search_bound (jobs_of s.by_id.entries)
+  tube_search = order_search list_cmp tube_place (jobs_of s.by_id.entries) s.by_id.spare s.by_tube h.in_tubes
+
+  pub timer_search : 2 * binary_digits (length s.timers.entries + 1) ≤ search_bound (jobs_of s.by_id.entries)
+  timer_search = order_search timer_cmp timer_place (jobs_of s.by_id.entries) s.by_id.spare s.timers h.in_timers
+
+  pub lease_search : 2 * binary_digits (length s.leases.entries + 1) ≤ search_bound (jobs_of s.by_id.entries)
+  lease_search = order_search nat_cmp lease_place (jobs_of s.by_id.entries) s.by_id.spare s.leases h.in_leases
