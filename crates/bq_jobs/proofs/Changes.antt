@@ -1,16 +1,15 @@
 -- Lists of jobs in the order of their ids: what additions and removals do.
-use Rattle.std.proofs.Common.{◌≡◌, ℕ, suc, ◌+◌, ◌<◌, ◌≤◌, Bool, true, false, cond, not, List, [], ◌∷◌, ◌++◌, Option, Some, None, map, length, arith, refl, sym, ap, ◌∙◌, subst, inl, inr}
-use Rattle.std.specs.Prelude.{◌==◌, nat_lt, count_by, filter, find, if◌then◌else◌}
+use Rattle.std.proofs.Common.{◌≡◌, ℕ, suc, ◌+◌, ◌<◌, ◌≤◌, Bool, true, false, cond, List, [], ◌∷◌, ◌++◌, Some, None, map, length, arith, refl, sym, ap, ◌∙◌, subst, inl, inr}
+use Rattle.std.specs.Prelude.{◌==◌, nat_lt, count_by, if◌then◌else◌}
 use Rattle.std.specs.List.{AllByRecursion as All, Contains}
 use Rattle.std.proofs.lemmas.Bool.{cases_Bool, eqb-true}
 use Rattle.std.proofs.lemmas.Bool.Decides.{nat_tests}
 use Rattle.bq_job.specs.declared.job.Job.{Job}
-use Rattle.bq_job.specs.Changes.{first_of, job_with, with_job}
+use Rattle.bq_job.specs.Changes.{job_with}
 use Rattle.bq_job.specs.Lawful.{AreIdsWithin}
-use Rattle.bq_job.specs.Machine.{Machine}
 use Rattle.bq_job.proofs.ChoiceLemmas.{first_of_contains}
 use Rattle.bq_job.proofs.ListLemmas.{all_at, all_weaker, count_cons}
-use Rattle.bq_jobs.specs.Kept.{is_id_before, with_added, without}
+use Rattle.bq_jobs.specs.Kept.{with_added, without}
 use Rattle.bq_jobs.specs.Laws.{AddsAtTheEnd, ChangesById, ChosenHasItsId, NextIsFree}
 
 -- the lowest id is below the next one
@@ -233,3 +232,7 @@ changed low next id f j (k ∷ jobs) h found same =
 
 pub changes_by_id : ChangesById
 changes_by_id m low next id f j h found same = ap (λ jobs. record m { jobs = jobs }) (changed low next id f j m.jobs h found same)
+
+-- no job has an id after its removal
+pub not_there : (id : ℕ) (jobs : List Job) → job_with id (without id jobs) ≡ None
+not_there id jobs = let same : (id == id) ≡ true = grind (arith, nat_tests) in found_without id id jobs ∙ rw same refl

@@ -1,5 +1,5 @@
 -- Entries in the order of their keys: look-ups after a change, and the first entry from a key on.
-use Rattle.std.proofs.Common.{◌≡◌, ℕ, Bool, true, false, cond, List, [], ◌∷◌, Option, Some, None, arith, refl, sym, ap, ◌∙◌, subst, inl, inr}
+use Rattle.std.proofs.Common.{◌≡◌, ℕ, true, false, cond, List, [], ◌∷◌, Option, Some, None, arith, refl, ap, ◌∙◌, subst, inl, inr}
 use Rattle.std.specs.Prelude.{is_some, ◌==◌, nat_lt}
 use Rattle.std.specs.declared.cmp.Ordering.{Ordering}
 use Rattle.std.specs.declared.cmp.Ordering.TheVariants.{Less, Equal, Greater}

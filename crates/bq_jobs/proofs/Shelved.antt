@@ -1,5 +1,5 @@
 -- What additions, removals and growths leave of what is kept.
-use Rattle.std.proofs.Common.{◌≡◌, ℕ, suc, ◌+◌, ◌<◌, ◌≤◌, ◌^◌, ◌*◌, List, [], ◌∷◌, Option, Some, None, map, length, cond, arith, refl, sym, ap, ◌∙◌, subst}
+use Rattle.std.proofs.Common.{◌≡◌, ℕ, suc, ◌+◌, ◌<◌, ◌≤◌, ◌^◌, ◌*◌, List, [], ◌∷◌, Some, None, map, length, cond, arith, refl, sym, ap, ◌∙◌, subst}
 use Rattle.std.specs.Prelude.{is_some}
 use Rattle.std.specs.Cmp.{nat_cmp_total}
 use Rattle.std.specs.Ordering.{nat_cmp}
@@ -18,7 +18,7 @@ use Rattle.bq_jobs.specs.Kept.{search_bound, with_added, without}
 use Rattle.bq_jobs.specs.PlaceOrder.{place_cmp, with_place, without_place}
 use Rattle.bq_jobs.specs.Places.{lease_place, timer_place, tube_place}
 use Rattle.bq_jobs.proofs.ById.{insert_by_id, lookup_by_id, remove_by_id, same_jobs}
-use Rattle.bq_jobs.proofs.Changes.{added_within, without_within}
+use Rattle.bq_jobs.proofs.Changes.{added_within, not_there, without_none, without_within}
 use Rattle.bq_jobs.proofs.Counting.{search_is_bounded}
 use Rattle.bq_jobs.proofs.Firsts.{lease_own, list_cmp, timer_cmp, timer_own, tube_own}
 use Rattle.bq_jobs.proofs.Orders.{order_added, order_removed, order_search}
@@ -126,3 +126,20 @@ module _ (s : Parts) (h : AreShelved s) where
 
   pub lease_search : 2 * binary_digits (length s.leases.entries + 1) ≤ search_bound (jobs_of s.by_id.entries)
   lease_search = order_search nat_cmp lease_place (jobs_of s.by_id.entries) s.by_id.spare s.leases h.in_leases
+
+-- where nothing is found, nothing is taken out
+pub shelved_same : (id : ℕ) (s : Parts) (by_id : ById) → AreShelved s → lookup (is_at (nat_cmp id)) s.by_id.entries ≡ None → by_id.entries ≡ remove_entry (is_at (nat_cmp id)) s.by_id.entries → by_id.spare ≡ s.by_id.spare → AreShelved (record s { by_id = by_id })
+shelved_same id s by_id h none entries spare =
+    let jobs = jobs_of s.by_id.entries in
+    let same = without_none id jobs (sym (found_in id s h) ∙ none) in
+    shelved_from (record s { by_id = by_id }) jobs (record {
+      own = entries ∙ entries_removed id s h ∙ ap (map with_id) same;
+      ids = h.ids;
+      tubes = subst (λ room. IsOrderOf list_cmp tube_place jobs room s.by_tube) (sym spare) h.in_tubes;
+      timed = subst (λ room. IsOrderOf timer_cmp timer_place jobs room s.timers) (sym spare) h.in_timers;
+      leased = subst (λ room. IsOrderOf nat_cmp lease_place jobs room s.leases) (sym spare) h.in_leases;
+    })
+
+-- no job has an id after its removal
+pub gone_after : (id : ℕ) (s : Parts) → AreShelved s → job_with id (jobs_of (remove_entry (is_at (nat_cmp id)) s.by_id.entries)) ≡ None
+gone_after id s h = ap (job_with id) (jobs_removed id s h) ∙ not_there id (jobs_of s.by_id.entries)

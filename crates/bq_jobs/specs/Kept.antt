@@ -1,5 +1,5 @@
 -- What the jobs are seen as.
-use Rattle.std.specs.Prelude.{◌≡◌, ℕ, Bool, ◌+◌, ◌*◌, ◌≤◌, ◌==◌, not, nat_lt, List, filter, length}
+use Rattle.std.specs.Prelude.{ℕ, Bool, ◌+◌, ◌*◌, ◌≤◌, ◌==◌, not, nat_lt, List, filter, length}
 use Rattle.bq_index.specs.Digits.{binary_digits}
 use Rattle.bq_job.specs.declared.job.Job.{Job}
 use Rattle.bq_job.specs.JobCommands.{put_in_order}

@@ -1,5 +1,5 @@
 -- How removals and additions make up the changes that the machine's definitions speak of.
-use Rattle.std.specs.Prelude.{◌≡◌, ℕ, ◌++◌, ◌∷◌, [], Bool, List, Option, Some, None}
+use Rattle.std.specs.Prelude.{◌≡◌, ℕ, ◌++◌, ◌∷◌, [], Bool, List, Some, None}
 use Rattle.bq_job.specs.declared.job.Job.{Job}
 use Rattle.bq_job.specs.Changes.{first_of, job_with, with_job}
 use Rattle.bq_job.specs.Lawful.{AreIdsWithin}

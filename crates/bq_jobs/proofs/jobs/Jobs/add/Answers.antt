@@ -1,4 +1,4 @@
-use Rattle.std.proofs.Common.{arith, ◌≡◌, ◌+◌, cond, None, refl, sym, ap, ◌∙◌}
+use Rattle.std.proofs.Common.{arith, ◌+◌, cond, refl, sym, ap, ◌∙◌}
 use Rattle.std.specs.Prelude.{is_some}
 use Rattle.std.specs.Ordering.{nat_cmp}
 use Rattle.std.specs.Map.{lookup}
@@ -6,12 +6,9 @@ use Rattle.std.specs.BTreeMap.{is_at, insert_entry}
 use Rattle.bq_job.specs.Changes.{job_with}
 use Rattle.bq_jobs.specs.Inside.{jobs_of, kept_in}
 use Rattle.bq_jobs.specs.Kept.{Kept, with_added}
-use Rattle.bq_jobs.specs.Places.{lease_place, timer_place, tube_place}
 use Rattle.bq_jobs.proofs.Counting.{few_more}
-use Rattle.bq_jobs.proofs.FirstJobs.{ready_is}
 use Rattle.bq_jobs.proofs.Firsts.{list_cmp, timer_cmp}
 use Rattle.bq_jobs.specs.PlaceOrder.{with_place}
-use Rattle.bq_jobs.proofs.Orders.{order_search}
 use Rattle.bq_jobs.proofs.Shelved.{found_in, id_search, jobs_added, shelved_added, tube_search, timer_search, lease_search}
 use Rattle.bq_jobs.proofs.jobs.Jobs.add.Goals as goal
 
