@@ -5,7 +5,7 @@ use super::NoMemory;
 use std::alloc::Global;
 
 /// Who gives boxes, one at a time: the heap, or in a test somebody who refuses some of them.
-pub(crate) trait BoxSource {
+pub trait BoxSource {
     fn box_of<T: Drop>(&mut self, value: T) -> Result<Box<T>, NoMemory>
         ensures { IfOk result (λ b. b.value ≡ value) };
 }

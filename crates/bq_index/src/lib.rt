@@ -6,6 +6,7 @@
 //! compares few keys, by a bound that its contract states over the count [`Shelf::comparisons`].
 #![tactic(auto)]
 
+pub use boxes::BoxSource;
 pub use fault::NoMemory;
 pub use shelf::Shelf;
 

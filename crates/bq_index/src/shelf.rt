@@ -109,8 +109,8 @@ impl<K: Ord + Drop, V: Drop> Shelf<K, V> {
         self.reserve_from(&mut heap, n)
     }
 
-    // Each box is hung into the chain before the next one is asked for.
-    pub(crate) fn reserve_from<S: BoxSource>(
+    /// The same, out of boxes of a source: each is hung into the chain before the next one is asked for.
+    pub fn reserve_from<S: BoxSource>(
         &mut self,
         source: &mut S,
         n: usize,
