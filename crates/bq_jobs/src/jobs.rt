@@ -12,7 +12,7 @@ ghost use Rattle.bq_jobs.specs.Leases.{is_lease_before};
 
 use super::order;
 use super::place::{self, JobList, Place, Timer, TubeList};
-use bq_index::Shelf;
+use bq_index::{BoxSource, Shelf};
 use bq_job::{Job, JobId, NoMemory, Seat, TubeName};
 use std::alloc::Global;
 use std::marker::Model;
@@ -88,16 +88,26 @@ impl Jobs {
         ensures refused { OnErr result (self.old.room ≡ 0) }
         ensures same { OnErr result (self.new ≡ self.old) }
     {
+        let mut heap = alloc;
+        self.reserve_one_from(&mut heap)
+    }
+
+    // The boxes of the other orders come first, so that room for a job is only told where all are there.
+    pub(crate) fn reserve_one_from<S: BoxSource>(&mut self, source: &mut S) -> Result<(), NoMemory>
+        ensures ok { OnOk result (self.new ≡ record self.old { room = max self.old.room 1 }) }
+        ensures refused { OnErr result (self.old.room ≡ 0) }
+        ensures same { OnErr result (self.new ≡ self.old) }
+    {
         if self.by_id.spare() > 0 {
             return Ok(());
         }
         let Some(places) = self.by_id.len().checked_add(1) else {
             return Err(NoMemory);
         };
-        order::make_room(&mut self.by_tube, alloc, places)?;
-        order::make_room(&mut self.timers, alloc, places)?;
-        order::make_room(&mut self.leases, alloc, places)?;
-        match self.by_id.reserve(alloc, 1) {
+        order::make_room(&mut self.by_tube, source, places)?;
+        order::make_room(&mut self.timers, source, places)?;
+        order::make_room(&mut self.leases, source, places)?;
+        match self.by_id.reserve_from(source, 1) {
             Ok(()) => Ok(()),
             Err(_) => Err(NoMemory),
         }

@@ -7,14 +7,13 @@ ghost use Rattle.std.specs.Option.{ForSome};
 ghost use Rattle.std.specs.Prelude.{None};
 
 use super::place::Place;
-use bq_index::Shelf;
+use bq_index::{BoxSource, Shelf};
 use bq_job::{JobId, NoMemory};
-use std::alloc::Global;
 
 /// Sets boxes aside for so many places, those that are taken included.
-pub(crate) fn make_room<G: Ord + Drop>(
+pub(crate) fn make_room<G: Ord + Drop, S: BoxSource>(
     order: &mut Shelf<Place<G>, ()>,
-    alloc: Global,
+    source: &mut S,
     places: usize,
 ) -> Result<(), NoMemory>
     ensures ok { OnOk result (places ≤ length order.new.entries + order.new.spare) }
@@ -23,7 +22,7 @@ pub(crate) fn make_room<G: Ord + Drop>(
     ensures comparisons { order.new.comparisons ≡ order.old.comparisons }
 {
     let more = places.saturating_sub(order.len());
-    match order.reserve(alloc, more) {
+    match order.reserve_from(source, more) {
         Ok(()) => Ok(()),
         Err(_) => Err(NoMemory),
     }
