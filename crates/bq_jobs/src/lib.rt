@@ -1,4 +1,19 @@
 //! The jobs of a work queue, kept so that each is found quickly and no change of one takes memory.
+//!
+//! A [`Jobs`] has four shelves: the jobs by their ids, and places of jobs by tube and state, by moment,
+//! and by holder. A job has a box in each, used or spare, and so it can go from any state to any other.
+//! What a job with a body of 64 bytes costs of the heap:
+//!
+//! | piece | bytes |
+//! |---|---|
+//! | its box by id | 336 |
+//! | its place in its tube | 256 |
+//! | its place among delays and leases | 56 |
+//! | its place among the leases of its holder | 56 |
+//! | the vector of its body and the count of its owners | 48 at most |
+//! | the bytes of its body | 64 |
+//! | what a heap keeps beside each of these six pieces | 96 at most |
+//! | together | 912 at most |
 #![tactic(auto)]
 
 pub use jobs::Jobs;
@@ -8,3 +23,5 @@ pub mod laws;
 mod name;
 mod order;
 mod place;
+#[cfg(test)]
+mod tests;
