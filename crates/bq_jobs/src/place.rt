@@ -48,6 +48,19 @@ impl TubeList {
     }
 }
 
+impl<G> Place<G> {
+    /// The place of a job in a group.
+    fn of(group: G, at: u64, job: &Job) -> Place<G>
+        ensures { result ≡ record { group = group; at = at; id = job.now.id } }
+    {
+        Place {
+            group,
+            at,
+            id: job.id,
+        }
+    }
+}
+
 /// The place of a job among those of its tube.
 pub(crate) fn tube_place(job: &Job) -> Option<Place<TubeList>>
     ensures { result ≡ tube_place job.now }
@@ -58,27 +71,18 @@ pub(crate) fn tube_place(job: &Job) -> Option<Place<TubeList>>
         JobState::Buried(number) => (JobList::Buried, number),
         JobState::Reserved(..) => return None,
     };
-    Some(Place {
-        group: TubeList::new(list, job.tube),
-        at,
-        id: job.id,
-    })
+    Some(Place::of(TubeList::new(list, job.tube), at, job))
 }
 
 /// The place of a job among all delays and leases.
 pub(crate) fn timer_place(job: &Job) -> Option<Place<Timer>>
     ensures { result ≡ timer_place job.now }
 {
-    let (group, at) = match job.state {
-        JobState::Delayed(due) => (Timer::Due, due),
-        JobState::Reserved(_, deadline) => (Timer::Lease, deadline),
-        JobState::Ready | JobState::Buried(_) => return None,
-    };
-    Some(Place {
-        group,
-        at,
-        id: job.id,
-    })
+    match job.state {
+        JobState::Delayed(due) => Some(Place::of(Timer::Due, due, job)),
+        JobState::Reserved(_, deadline) => Some(Place::of(Timer::Lease, deadline, job)),
+        JobState::Ready | JobState::Buried(_) => None,
+    }
 }
 
 /// The place of a job among the leases of its holder.
@@ -86,11 +90,7 @@ pub(crate) fn lease_place(job: &Job) -> Option<Place<Seat>>
     ensures { result ≡ lease_place job.now }
 {
     match job.state {
-        JobState::Reserved(seat, deadline) => Some(Place {
-            group: seat,
-            at: deadline,
-            id: job.id,
-        }),
+        JobState::Reserved(seat, deadline) => Some(Place::of(seat, deadline, job)),
         _ => None,
     }
 }
