@@ -43,12 +43,15 @@ has_place compare place_of p None = false
 has_place compare place_of p (Some j) = is_place compare p (place_of j)
 
 -- An order has the places of all jobs and no others, and boxes for those of the jobs to come.
-pub record IsOrderOf {G : Type 0} (compare : G → G → Ordering) (place_of : Job → Option (Place G)) (jobs : List Job) (room : ℕ) (order : Order G) : Type 0 where
+pub record IsOrderOf {G : Type 0} (compare : G → G → Ordering) (place_of : Job → Option (Place G))
+    (jobs : List Job) (room : ℕ) (order : Order G) : Type 0 where
   pub places : (p : Place G) → is_some (holds_place compare p order.entries) ≡ has_place compare place_of p (job_with p.id jobs)
   pub counted : length order.entries ≡ count_by (λ j. is_some (place_of j)) jobs
   pub roomy : length jobs + room ≤ length order.entries + order.spare
 
-pub record IsShelved (list_cmp : TubeList → TubeList → Ordering) (timer_cmp : Timer → Timer → Ordering) (by_id : ById) (by_tube : Order TubeList) (timers : Order Timer) (leases : Order ℕ) : Type 0 where
+-- The jobs stand by their own ids, which ascend, and each order is that of these jobs.
+pub record IsShelved (list_cmp : TubeList → TubeList → Ordering) (timer_cmp : Timer → Timer → Ordering)
+    (by_id : ById) (by_tube : Order TubeList) (timers : Order Timer) (leases : Order ℕ) : Type 0 where
   pub by_own_id : by_id.entries ≡ map with_id (jobs_of by_id.entries)
   pub ids : AreIdsWithin 0 (jobs_of by_id.entries) (2 ^ 64)
   pub in_tubes : IsOrderOf list_cmp tube_place (jobs_of by_id.entries) by_id.spare by_tube

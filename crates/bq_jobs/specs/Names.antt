@@ -1,9 +1,13 @@
 -- An order of tubes' names that is quickly told.
 use Rattle.std.specs.Prelude.{ℕ, List, length}
 use Rattle.std.specs.declared.cmp.Ordering.{Ordering}
-use Rattle.std.specs.Cmp.Lexicographic.{slice_cmp}
+use Rattle.std.specs.Cmp.{IsTotalOrder, nat_cmp_total, on_total, then_total}
+use Rattle.std.specs.Cmp.Lexicographic.{nat_list_cmp_total, slice_cmp}
 use Rattle.std.specs.Ordering.{nat_cmp, on, then_cmp}
 
 -- by length, and where that is equal by bytes
 abbrev pub name_cmp : List ℕ → List ℕ → Ordering
 name_cmp = then_cmp (on length nat_cmp) (slice_cmp nat_cmp)
+
+pub name_total : IsTotalOrder name_cmp
+name_total = then_total (on_total length nat_cmp_total) nat_list_cmp_total

@@ -1,10 +1,8 @@
 //! The order of tubes' names inside keys.
-ghost use Rattle.bq_jobs.specs.Names.{name_cmp};
+ghost use Rattle.bq_jobs.specs.Names.{name_cmp, name_total};
 ghost use Rattle.std.proofs.Common.{refl};
 ghost use Rattle.std.specs.Cmp as Cmp;
-ghost use Rattle.std.specs.Cmp.Lexicographic.{nat_list_cmp_total};
 ghost use Rattle.std.specs.Ordering.{as_partial_cmp, eq_by_cmp, on};
-ghost use Rattle.std.specs.Prelude.{length};
 
 use bq_job::TubeName;
 use std::cmp::Ordering;
@@ -17,7 +15,7 @@ pub struct OrderedName(pub TubeName);
 impl PartialEq for OrderedName {
     ghost eq = { on (λ n. n.0) (eq_by_cmp name_cmp) };
 
-    ghost laws = { Cmp.partial_equiv_from_equiv (Cmp.on_equiv (λ n. n.0) (Cmp.eq_by_cmp_equiv (Cmp.then_total (Cmp.on_total length Cmp.nat_cmp_total) nat_list_cmp_total))) };
+    ghost laws = { Cmp.partial_equiv_from_equiv (Cmp.on_equiv (λ n. n.0) (Cmp.eq_by_cmp_equiv name_total)) };
 
     fn eq(&self, other: &OrderedName) -> bool {
         self.cmp(other).is_eq()
@@ -25,13 +23,13 @@ impl PartialEq for OrderedName {
 }
 
 impl Eq for OrderedName {
-    ghost laws = { Cmp.on_equiv (λ n. n.0) (Cmp.eq_by_cmp_equiv (Cmp.then_total (Cmp.on_total length Cmp.nat_cmp_total) nat_list_cmp_total)) };
+    ghost laws = { Cmp.on_equiv (λ n. n.0) (Cmp.eq_by_cmp_equiv name_total) };
 }
 
 impl PartialOrd for OrderedName {
     ghost partial_cmp = { as_partial_cmp (on (λ n. n.0) name_cmp) };
 
-    ghost laws = { Cmp.partial_order_from_agreeing_total (on (λ n. n.0) name_cmp) (Cmp.on_total (λ n. n.0) (Cmp.then_total (Cmp.on_total length Cmp.nat_cmp_total) nat_list_cmp_total)) (λ a b. refl) (λ a b. refl) };
+    ghost laws = { Cmp.partial_order_from_agreeing_total (on (λ n. n.0) name_cmp) (Cmp.on_total (λ n. n.0) name_total) (λ a b. refl) (λ a b. refl) };
 
     fn partial_cmp(&self, other: &OrderedName) -> Option<Ordering> {
         Some(self.cmp(other))
@@ -41,7 +39,7 @@ impl PartialOrd for OrderedName {
 impl Ord for OrderedName {
     ghost cmp = { on (λ n. n.0) name_cmp };
 
-    ghost total = { Cmp.on_total (λ n. n.0) (Cmp.then_total (Cmp.on_total length Cmp.nat_cmp_total) nat_list_cmp_total) };
+    ghost total = { Cmp.on_total (λ n. n.0) name_total };
 
     ghost matches_partial_cmp = { λ a b. refl };
 
