@@ -110,11 +110,7 @@ impl<K: Ord + Drop, V: Drop> Shelf<K, V> {
     }
 
     /// The same, out of boxes of a source: each is hung into the chain before the next one is asked for.
-    pub fn reserve_from<S: BoxSource>(
-        &mut self,
-        source: &mut S,
-        n: usize,
-    ) -> Result<(), NoMemory>
+    pub fn reserve_from<S: BoxSource>(&mut self, source: &mut S, n: usize) -> Result<(), NoMemory>
         ensures ok { OnOk result (n ≤ self.new.spare) }
         ensures refused { OnErr result (self.new.spare < n) }
         ensures entries { self.new.entries ≡ self.old.entries }
