@@ -1,7 +1,7 @@
 -- What the ends' fields mean.
 use Rattle.std.specs.Prelude.{◌≡◌, true, [], map, length}
 use Rattle.crossbeam_queue.specs.Passes.{view}
-use Rattle.std.specs.List.{AllByRecursion as All}
+use Rattle.std.specs.List.{AllByRecursion}
 use Rattle.rtrb.specs.Ring.{known_free, known_items, producer_capacity, received, sent}
 use Rattle.rtrb.specs.declared.producer.Producer.{Producer}
 use Rattle.bq_link.specs.EndStates.{CoreState, RingId, SeatState, ring_places}
@@ -42,4 +42,4 @@ pub record IsCoreSound (c : CoreFields) : Type 0 where
   pub takes : (view c.pass).takes ≡ true
   pub made : (view c.pass).made ≡ length c.rings.items
   pub free : c.pass.me.1 ≡ []
-  pub places : All (λ r. producer_capacity r ≡ ring_places) c.rings.items
+  pub places : AllByRecursion (λ r. producer_capacity r ≡ ring_places) c.rings.items
