@@ -176,7 +176,7 @@ dispatched_through_ends first (g ∷ given) last h chain =
     dispatched_through_ends chain.0 given last (ap next_job e.next_is ∙ still_dispatched e.client.number first h) chain.2
 
 -- what is kept of tubes is of tubes that exist, once the others are forgotten
-only_tubes : (m : Machine) → list_all (λ t. is_tube t.name (forgetting m)) (forgetting m).tubes ≡ true
+pub only_tubes : (m : Machine) → list_all (λ t. is_tube t.name (forgetting m)) (forgetting m).tubes ≡ true
 only_tubes m =
     list_all_from (λ t. is_tube t.name (forgetting m)) (forgetting m).tubes
     (all_weaker (λ t. Unit {0} × (is_tube t.name m ≡ true)) (λ t. is_tube t.name (forgetting m) ≡ true) (forgetting m).tubes (λ t c. c.1)

@@ -34,13 +34,13 @@ comes_after a b Greater e same before = ap is_lt (nat_list_cmp_total.antisymm b 
 pub after : (a b : List ℕ) → is_same_name a b ≡ false → is_name_before a b ≡ false → is_name_before b a ≡ true
 after a b = comes_after a b (slice_cmp nat_cmp a b) refl
 
-before_trans : (a b c : List ℕ) → is_name_before a b ≡ true → is_name_before b c ≡ true → is_name_before a c ≡ true
+pub before_trans : (a b c : List ℕ) → is_name_before a b ≡ true → is_name_before b c ≡ true → is_name_before a c ≡ true
 before_trans a b c h k = ap is_lt (nat_list_cmp_total.trans a b c (is_Less _ h) (is_Less _ k))
 
-not_before : (a b : List ℕ) → is_name_before a b ≡ true → is_name_before b a ≡ false
+pub not_before : (a b : List ℕ) → is_name_before a b ≡ true → is_name_before b a ≡ false
 not_before a b h = ap is_lt (nat_list_cmp_total.antisymm b a ∙ ap ordering_reverse (is_Less _ h))
 
-not_same : (a b : List ℕ) (same : Bool) → is_same_name b a ≡ same → is_name_before a b ≡ true → same ≡ false
+pub not_same : (a b : List ℕ) (same : Bool) → is_same_name b a ≡ same → is_name_before a b ≡ true → same ≡ false
 not_same a b false e h = refl
 not_same a b true e h =
     let is : b ≡ a = (bytes_decides b a).0 e in
