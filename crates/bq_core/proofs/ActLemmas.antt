@@ -1,38 +1,34 @@
 -- What each event at a seat does, where its seat is known.
-use Rattle.std.proofs.Common.{◌≡◌, ℕ, suc, Bool, true, false, ◌+◌, ◌≤◌, ◌<◌, ◌&&◌, ◌||◌, ◌==◌, not, cond, List, [], ◌∷◌, ◌++◌, Option, Some, None, map, filter, refl, sym, ap, ◌∙◌, if◌then◌else◌, nat_eq, nat_le, unwrap_or, arith, inl, inr, eq-eqb, subst, append-nil, ◌⊎◌}
-use Rattle.std.specs.List.{AllByRecursion, find}
+use Rattle.std.proofs.Common.{◌≡◌, ℕ, suc, Bool, true, false, ◌+◌, ◌≤◌, ◌<◌, ◌&&◌, ◌||◌, ◌==◌, not, List, [], ◌∷◌, ◌++◌, Option, Some, None, map, filter, refl, sym, ap, ◌∙◌, if◌then◌else◌, nat_eq, nat_le, unwrap_or, arith, inl, inr, eq-eqb, subst, append-nil, ◌⊎◌, length, set, slice_get, zero}
+use Rattle.std.specs.List.{find, list_any}
 use Rattle.std.proofs.lemmas.Bool.{and_parts, cases_Bool, eqb-true}
-use Rattle.std.proofs.lemmas.Bool.Decides.{nat_tests}
 use Rattle.bq_job.specs.declared.answer.Answer.{Answer}
 use Rattle.bq_job.specs.declared.answer.Answer.TheVariants as answers
 use Rattle.bq_job.specs.declared.job.Job.{Job}
 use Rattle.bq_job.specs.declared.step.Step.{Step}
 use Rattle.bq_job.specs.declared.step.Step.TheVariants as steps
 use Rattle.bq_job.specs.declared.request.Request.{Request}
-use Rattle.bq_job.specs.Acts.{Effect, on_found, silent, telling}
+use Rattle.bq_job.specs.Acts.{Effect, on_job, silent, telling}
 use Rattle.bq_job.specs.Asked.{after_close, after_connect, asked, at_found, at_seat, effect, with_end}
-use Rattle.bq_job.specs.Changes.{is_held_by, is_waiting, job_with, seat_with, with_seat}
-use Rattle.bq_job.specs.JobCommands.{after_delete, delete_effect, is_free_for, last_id, new_job, put_effect, with_delete, with_put}
+use Rattle.bq_job.specs.Changes.{is_held_by, is_waiting, job_with, seat_with, with_job, with_seat}
+use Rattle.bq_job.specs.JobCommands.{after_delete, delete_effect, is_free_for, last_id, new_job, put_effect, reserve_job_effect, with_delete, with_put}
+use Rattle.bq_job.specs.Dispatch.{reserved_by}
+use Rattle.bq_job.specs.JobStates.{is_reserved}
+use Rattle.bq_job.specs.TubeCommands.{ignore_effect, watch_effect, watching, watching_or_refused}
+use Rattle.bq_job.specs.Tubes.{watches, with_tube}
 use Rattle.bq_job.specs.Limits.{raised}
-use Rattle.bq_job.specs.Machine.{Machine, SeatRecord, TubeRecord, default_tube}
-use Rattle.bq_job.specs.Steps.{granted, growth_refused}
-use Rattle.bq_job.specs.Tubes.{fresh_tube, tube_record, with_record}
+use Rattle.bq_job.specs.Machine.{Machine, SeatRecord}
+use Rattle.bq_job.specs.Steps.{granted, growth_refused, share_refused, shares_body, step_takes_memory, may_be_left_out}
 use Rattle.bq_job.specs.TubeName.{is_same_name}
-use Rattle.bq_core.specs.declared.state.State.{State}
 use Rattle.bq_core.specs.Acting.{Acts, is_asking, is_connected, is_free}
 use Rattle.bq_core.specs.Outbox.{Outbox}
-use Rattle.bq_core.specs.JobChanges.{is_free_job}
-use Rattle.bq_core.specs.Plain.{IsAtDefault, IsInDefault}
-use Rattle.bq_core.specs.State.{default_record, machine_of, tubes_of}
+use Rattle.bq_core.proofs.StateLemmas.{AreNumbered, changed_there, seat_there}
+use Rattle.bq_core.proofs.TubeLemmas.{some_left}
 
 -- what is found passes
 found_passes : {A : Type 0} (p : A → Bool) (xs : List A) (x : A) → find p xs ≡ Some x → p x ≡ true
 found_passes p [] x h = absurd cc
 found_passes p (y ∷ ys) x h = elim (cases_Bool (p y)) [ inl passes ↦ let e : Some y ≡ Some x = rw passes at h in let same : y ≡ x = cc in rw same at passes | inr fails ↦ let e = rw fails at h in found_passes p ys x e ]
-
-found_has : {A : Type 0} (P : A → Type 0) (p : A → Bool) (xs : List A) (x : A) → AllByRecursion P xs → find p xs ≡ Some x → P x
-found_has P p [] x all h = absurd cc
-found_has P p (y ∷ ys) x all h = elim (cases_Bool (p y)) [ inl passes ↦ let e : Some y ≡ Some x = rw passes at h in let same : y ≡ x = cc in subst P same all.0 | inr fails ↦ let e = rw fails at h in found_has P p ys x all.1 e ]
 
 pub number_found : (n : ℕ) (seats : List SeatRecord) (s : SeatRecord) → seat_with n seats ≡ Some s → s.number ≡ n
 number_found n seats s h = eqb-true s.number n (found_passes (λ s. s.number == n) seats s h)
@@ -64,93 +60,83 @@ close_at m seat (Some s) e there = rw (there, number_found seat m.seats s e) ref
 pub closed_connected : (m : Machine) (seat : ℕ) → is_connected (seat_with seat m.seats) ≡ true → effect m seat steps.Close ≡ telling answers.Closed (after_close m seat)
 closed_connected m seat there = close_at m seat (seat_with seat m.seats) refl there
 
-raised_is_some : (n : ℕ) → (raised n == 0) ≡ false
-raised_is_some n = grind (arith, nat_tests)
+-- what a command comes to that finds its job, and one that doesn't
+pub on_job_found : (id : ℕ) (passes : Job → Bool) (act : Job → Effect) (m : Machine) (j : Job) → job_with id m.jobs ≡ Some j → passes j ≡ true → on_job id passes act m ≡ act j
+on_job_found id passes act m j found pass = rw (found, pass) refl
 
-empty_or_not : (puts deletes : ℕ) → ((puts ≡ 0) × (deletes ≡ 0)) ⊎ (tubes_of puts deletes ≡ default_record puts deletes ∷ [])
-empty_or_not puts deletes =
-    elim (cases_Bool (puts == 0 && deletes == 0)) [
-      | inl both ↦ let parts = and_parts (puts == 0) (deletes == 0) both in inl (eqb-true puts 0 parts.0, eqb-true deletes 0 parts.1)
-      | inr one ↦ inr (ap (λ b. if b then [] else default_record puts deletes ∷ []) one)
-    ]
+pub reserve_job_done : (m : Machine) (s : SeatRecord) (seat id : ℕ) (j : Job) → s.number ≡ seat → job_with id m.jobs ≡ Some j → is_reserved j.state ≡ false → reserve_job_effect id m s ≡ telling (answers.Reserved id j.body) (with_job id (reserved_by m.moment seat) m)
+reserve_job_done m s seat id j at found free =
+    on_job_found id (λ j. not (is_reserved j.state)) (λ j. telling (answers.Reserved j.id j.body) (with_job id (reserved_by m.moment s.number) m)) m j found (ap not free)
+    ∙ ap (λ n. telling (answers.Reserved n j.body) (with_job id (reserved_by m.moment s.number) m)) (id_found id m.jobs j found)
+    ∙ ap (λ n. telling (answers.Reserved id j.body) (with_job id (reserved_by m.moment n) m)) at
 
--- what is kept of the default tube, changed
-abbrev pub tubes_with : (TubeRecord → TubeRecord) → ℕ → ℕ → List TubeRecord
-tubes_with f puts deletes =
-    with_record (f (unwrap_or (find (λ t. is_same_name default_tube t.name) (tubes_of puts deletes)) (fresh_tube default_tube))) (tubes_of puts deletes)
-
-some_puts : (puts deletes : ℕ) → tubes_of (raised puts) deletes ≡ default_record (raised puts) deletes ∷ []
-some_puts puts deletes = ap (λ b. if b && deletes == 0 then [] else default_record (raised puts) deletes ∷ []) (raised_is_some puts)
-
-some_deletes : (puts deletes : ℕ) → tubes_of puts (raised deletes) ≡ default_record puts (raised deletes) ∷ []
-some_deletes puts deletes =
-    ap (λ b. if puts == 0 && b then [] else default_record puts (raised deletes) ∷ []) (raised_is_some deletes)
-    ∙ ap (λ b. if b then [] else default_record puts (raised deletes) ∷ []) (and_false (puts == 0))
-  where
-    and_false : (b : Bool) → (b && false) ≡ false
-    and_false true = refl
-    and_false false = refl
-
--- a put is counted
-pub put_counted : (puts deletes : ℕ) → tubes_with with_put puts deletes ≡ tubes_of (raised puts) deletes
-put_counted puts deletes =
-    elim (empty_or_not puts deletes) [
-      | inl none ↦ rw (none.0, none.1) refl
-      | inr one ↦ rw one (sym (some_puts puts deletes))
-    ]
-
--- a deletion is counted
-pub delete_counted : (puts deletes : ℕ) → tubes_with with_delete puts deletes ≡ tubes_of puts (raised deletes)
-delete_counted puts deletes =
-    elim (empty_or_not puts deletes) [
-      | inl none ↦ rw (none.0, none.1) refl
-      | inr one ↦ rw one (sym (some_deletes puts deletes))
-    ]
+pub delete_done : (m : Machine) (s : SeatRecord) (seat id : ℕ) (j : Job) → s.number ≡ seat → job_with id m.jobs ≡ Some j → (not (is_reserved j.state) || is_held_by seat j) ≡ true → delete_effect id m s ≡ telling answers.Deleted (record (with_tube j.tube with_delete m) { jobs = filter (λ k. not (k.id == id)) m.jobs })
+delete_done m s seat id j at found free =
+    on_job_found id (is_free_for s) (λ j. telling answers.Deleted (after_delete m j)) m j found (ap (λ n. not (is_reserved j.state) || is_held_by n j) at ∙ free)
+    ∙ ap (λ n. telling answers.Deleted (record (with_tube j.tube with_delete m) { jobs = filter (λ k. not (k.id == n)) m.jobs })) (id_found id m.jobs j found)
 
 -- what a put comes to that is accepted
-pub put_done : (st : State) (s : SeatRecord) (pri delay ttr : ℕ) (body : List ℕ) (j : Job) → IsAtDefault s → st.draining ≡ false → j ≡ new_job (machine_of st) s pri delay ttr body → put_effect pri delay ttr body (machine_of st) s ≡ telling (answers.Inserted st.next_id) (record (machine_of st) { jobs = st.jobs.items ++ j ∷ []; tubes = tubes_of (raised st.tube_puts) st.tube_deletes; next_id = st.next_id + 1; puts = raised st.puts; draining = nat_le last_id st.next_id })
-put_done st s pri delay ttr body j at accepts is =
-    let counted = put_counted st.tube_puts st.tube_deletes in
-    let name : s.used ≡ default_tube = at.0 in
-    rw (accepts, is, name) (ap (λ tubes. telling (answers.Inserted st.next_id) (record (machine_of st) {
-      jobs = st.jobs.items ++ record (new_job (machine_of st) s pri delay ttr body) { tube = default_tube } ∷ [];
-      tubes = tubes;
-      next_id = st.next_id + 1;
-      puts = raised st.puts;
-      draining = nat_le last_id st.next_id;
-    })) counted)
+pub put_done : (m : Machine) (s : SeatRecord) (pri delay ttr : ℕ) (body tube : List ℕ) (j : Job) → s.used ≡ tube → m.draining ≡ false → j ≡ new_job m s pri delay ttr body → put_effect pri delay ttr body m s ≡ telling (answers.Inserted m.next_id) (record (with_tube tube with_put m) { jobs = m.jobs ++ j ∷ []; next_id = m.next_id + 1; puts = raised m.puts; draining = nat_le last_id m.next_id })
+put_done m s pri delay ttr body tube j used accepts is = rw (accepts, is, used) refl
 
-deleted_at : (st : State) (s : SeatRecord) (id : ℕ) (o : Option Job) → job_with id st.jobs.items ≡ o → is_free_job s.number o ≡ true → AllByRecursion IsInDefault st.jobs.items → on_found (is_free_for s) (λ j. telling answers.Deleted (after_delete (machine_of st) j)) (machine_of st) o ≡ telling answers.Deleted (record (machine_of st) { jobs = filter (λ k. not (k.id == id)) st.jobs.items; tubes = tubes_of st.tube_puts (raised st.tube_deletes) })
-deleted_at st s id None e free all = absurd cc
-deleted_at st s id (Some j) e free all =
-    let counted = delete_counted st.tube_puts st.tube_deletes in
-    let name : j.tube ≡ default_tube = found_has IsInDefault (λ j. j.id == id) st.jobs.items j all e in
-    let number : j.id ≡ id = id_found id st.jobs.items j e in
-    rw (free, name, number) (ap (λ tubes. telling answers.Deleted (record (machine_of st) { jobs = filter (λ k. not (k.id == id)) st.jobs.items; tubes = tubes })) counted)
+-- a tube that is watched already
+same_set : {A : Type 0} (xs : List A) (i : ℕ) (x : A) → slice_get xs i ≡ Some x → set xs i x ≡ xs
+same_set [] i x h = refl
+same_set (y ∷ xs) zero x h = let e : y ≡ x = cc in ap (λ z. z ∷ xs) (sym e)
+same_set (y ∷ xs) (suc i) x h = ap (λ ys. y ∷ ys) (same_set xs i x h)
 
--- what a delete comes to that finds a job that the client may delete
-pub delete_done : (st : State) (s : SeatRecord) (seat id : ℕ) → s.number ≡ seat → is_free_job seat (job_with id st.jobs.items) ≡ true → AllByRecursion IsInDefault st.jobs.items → delete_effect id (machine_of st) s ≡ telling answers.Deleted (record (machine_of st) { jobs = filter (λ k. not (k.id == id)) st.jobs.items; tubes = tubes_of st.tube_puts (raised st.tube_deletes) })
-delete_done st s seat id at free all =
-    deleted_at st s id (job_with id st.jobs.items) refl (ap (λ n. is_free_job n (job_with id st.jobs.items)) at ∙ free) all
+pub watched_already : (m : Machine) (s : SeatRecord) (seat : ℕ) (tube : List ℕ) → AreNumbered m.seats → seat_with seat m.seats ≡ Some s → watches tube s ≡ true → watch_effect tube m s ≡ telling (answers.Watching (length s.watched)) m
+watched_already m s seat tube numbered found h =
+    let at : s.number ≡ seat = number_found seat m.seats s found in
+    let there = seat_there m.seats seat s numbered found in
+    let same : map (λ t. if t.number == seat then watching s.watched t else t) m.seats ≡ m.seats =
+    changed_there m.seats seat s (watching s.watched) numbered there ∙ same_set m.seats seat s there in
+    rw (h, at) (ap (λ seats. telling (answers.Watching (length s.watched)) (record m { seats = seats })) same)
+
+pub watched_now : (m : Machine) (s : SeatRecord) (seat : ℕ) (tube : List ℕ) → seat_with seat m.seats ≡ Some s → watches tube s ≡ false → watch_effect tube m s ≡ telling (answers.Watching (length (s.watched ++ tube ∷ []))) (with_seat seat (watching (s.watched ++ tube ∷ [])) m)
+watched_now m s seat tube found h =
+    let at : s.number ≡ seat = number_found seat m.seats s found in
+    rw (h, at) refl
+
+-- a tube that isn't watched any more
+none_left : {A : Type 0} (p : A → Bool) (xs : List A) → list_any p xs ≡ false → filter p xs ≡ []
+none_left p [] h = refl
+none_left p (x ∷ xs) h = elim (cases_Bool (p x)) [
+  | inl pass ↦ absurd (let e : (true || list_any p xs) ≡ false = rw pass at h in cc)
+  | inr fail ↦ let rest : list_any p xs ≡ false = rw fail at h in rw fail (none_left p xs rest)
+]
+
+pub not_ignored : (m : Machine) (s : SeatRecord) (tube : List ℕ) → list_any (λ name. not (is_same_name tube name)) s.watched ≡ false → ignore_effect tube m s ≡ telling answers.NotIgnored m
+not_ignored m s tube h = rw (none_left (λ name. not (is_same_name tube name)) s.watched h) refl
+
+some_watched : (names : List (List ℕ)) (m : Machine) (s : SeatRecord) → 0 < length names → watching_or_refused names m s ≡ telling (answers.Watching (length names)) (with_seat s.number (watching names) m)
+some_watched [] m s h = absurd (omega arith)
+some_watched (name ∷ names) m s h = refl
+
+pub ignored_now : (m : Machine) (s : SeatRecord) (seat : ℕ) (tube : List ℕ) → seat_with seat m.seats ≡ Some s → list_any (λ name. not (is_same_name tube name)) s.watched ≡ true → ignore_effect tube m s ≡ telling (answers.Watching (length (filter (λ name. not (is_same_name tube name)) s.watched))) (with_seat seat (watching (filter (λ name. not (is_same_name tube name)) s.watched)) m)
+ignored_now m s seat tube found h =
+    let names = filter (λ name. not (is_same_name tube name)) s.watched in
+    some_watched names m s (some_left (λ name. not (is_same_name tube name)) s.watched h)
+    ∙ ap (λ n. telling (answers.Watching (length names)) (with_seat n (watching names) m)) (number_found seat m.seats s found)
 
 -- the client who asks
-pub record Asks (st : State) (seat : ℕ) (request : Request) : Type 0 where
+pub record Asks (m : Machine) (seat : ℕ) (request : Request) : Type 0 where
   pub asker : SeatRecord
-  pub at_default : IsAtDefault asker
-  pub number : asker.number ≡ seat
-  pub asks : at_found (steps.Ask request) (machine_of st) (seat_with seat st.seats.items) ≡ asked request (machine_of st) asker
+  pub found : seat_with seat m.seats ≡ Some asker
+  pub asks : at_found (steps.Ask request) m (seat_with seat m.seats) ≡ asked request m asker
 
-asks_at : (st : State) (seat : ℕ) (request : Request) → AllByRecursion IsAtDefault st.seats.items → (o : Option SeatRecord) → seat_with seat st.seats.items ≡ o → is_asking o ≡ true → Asks st seat request
-asks_at st seat request all None e asking = absurd cc
-asks_at st seat request all (Some s) e asking = record {
-  asker = s;
-  at_default = found_has IsAtDefault (λ s. s.number == seat) st.seats.items s all e;
-  number = number_found seat st.seats.items s e;
-  asks = rw (e, asking) refl;
-}
+asks_at : (m : Machine) (seat : ℕ) (request : Request) (o : Option SeatRecord) → seat_with seat m.seats ≡ o → is_asking o ≡ true → Asks m seat request
+asks_at m seat request None e asking = absurd cc
+asks_at m seat request (Some s) e asking = record { asker = s; found = e; asks = rw (e, asking) refl }
 
-pub ask_at : (st : State) (seat : ℕ) (request : Request) → AllByRecursion IsAtDefault st.seats.items → is_asking (seat_with seat st.seats.items) ≡ true → Asks st seat request
-ask_at st seat request all asking = asks_at st seat request all (seat_with seat st.seats.items) refl asking
+pub ask_at : (m : Machine) (seat : ℕ) (request : Request) → is_asking (seat_with seat m.seats) ≡ true → Asks m seat request
+ask_at m seat request asking = asks_at m seat request (seat_with seat m.seats) refl asking
+
+-- who asks is connected
+pub asker_connected : (seat : ℕ) (seats : List SeatRecord) (s : SeatRecord) → seat_with seat seats ≡ Some s → is_asking (seat_with seat seats) ≡ true → s.connected ≡ true
+asker_connected seat seats s found asking =
+    let here : (s.connected && not (is_waiting s)) ≡ true = rw found at asking in
+    (and_parts s.connected (not (is_waiting s)) here).0
 
 or_false : (b : Bool) → b ≡ (b || false)
 or_false true = refl
@@ -177,3 +163,19 @@ acts_told m seat what answer old new last is adds = record {
   left_out = ap (λ o. o.left_out) adds ∙ or_false old.left_out;
   unshared = ap (λ o. o.unshared) adds ∙ or_false old.unshared;
 }
+
+-- a share was refused
+pub acts_unshared : (m : Machine) (seat : ℕ) (what : Step) (old new : Outbox) (last : Machine) → (last ≡ m) × (shares_body (effect m seat what).answer ≡ true) → new ≡ record old { given = old.given ++ (seat, answers.OutOfMemory) ∷ []; unshared = true } → Acts m seat what old new last
+acts_unshared m seat what old new last is adds = record {
+  memory = share_refused;
+  possible = is.1;
+  after = is.0;
+  added = ap (λ o. o.given) adds;
+  most = ap (λ o. o.most) adds;
+  left_out = ap (λ o. o.left_out) adds ∙ or_false old.left_out;
+  unshared = ap (λ o. o.unshared) adds ∙ or_true old.unshared;
+}
+  where
+    or_true : (b : Bool) → true ≡ (b || true)
+    or_true true = refl
+    or_true false = refl

@@ -1,5 +1,6 @@
 pub mod ActLemmas
 pub mod LoopLemmas
-pub mod PlainLemmas
+pub mod StateLemmas
 pub mod StepLemmas
+pub mod TubeLemmas
 pub mod TurnLemmas

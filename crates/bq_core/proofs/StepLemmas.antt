@@ -1,39 +1,138 @@
 -- A whole step out of its parts.
-use Rattle.std.proofs.Common.{◌≡◌, ℕ, zero, suc, Bool, true, false, ◌+◌, ◌≤◌, ◌<◌, ◌&&◌, ◌||◌, ◌==◌, List, [], ◌∷◌, ◌++◌, map, length, refl, sym, ap, ◌∙◌, subst, if◌then◌else◌, arith, add-one, None}
+use Rattle.std.proofs.Common.{◌≡◌, ℕ, zero, suc, Bool, true, false, ◌+◌, ◌≤◌, ◌<◌, ◌&&◌, ◌||◌, ◌==◌, List, [], ◌∷◌, ◌++◌, map, length, refl, sym, ap, ◌∙◌, subst, if◌then◌else◌, arith, add-one, None, inl, inr}
 use Rattle.std.specs.Prelude.{filter}
 use Rattle.std.proofs.lemmas.List.{length-append, map-append}
 use Rattle.std.proofs.lemmas.List.Sums.{count_by-le-length}
-use Rattle.std.specs.List.{AllByRecursion}
+use Rattle.std.specs.List.{list_all, list_any}
+use Rattle.std.proofs.lemmas.Bool.{and_parts}
 use Rattle.bq_job.specs.declared.step.Step.{Step}
-use Rattle.bq_job.specs.Changes.{is_waiting}
+use Rattle.bq_job.specs.declared.job.Job.{Job}
+use Rattle.bq_job.specs.declared.job.JobState.TheVariants as states
+use Rattle.bq_job.specs.Changes.{in_state, is_waiting, with_seat, without_wait}
 use Rattle.bq_job.specs.Computed.{waiting_count}
-use Rattle.bq_job.specs.Dispatch.{DispatchTurn}
+use Rattle.bq_job.specs.Dispatch.{DispatchTurn, GivenAnswer, IsHandOut, after_hand_out, reserved_by}
 use Rattle.bq_job.specs.Lawful.{IsLawful}
-use Rattle.bq_job.specs.Machine.{Machine, empty_seat, numbers}
+use Rattle.bq_job.specs.Machine.{Machine, SeatRecord, TubeRecord, default_tube, empty_seat, numbers}
 use Rattle.bq_job.specs.Steps.{IsStep, acted, addressed, has_refused_share, is_growth_refused, is_share_refused}
-use Rattle.bq_job.specs.Timers.{after_timers, at_moment}
-use Rattle.bq_job.specs.Tubes.{forgetting, is_tube}
-use Rattle.bq_job.specs.Waits.{WaitEndTurn, next_end}
+use Rattle.bq_job.specs.Timers.{after_timers, at_moment, is_due, is_expired, job_after_timers, tube_after_timers, with_timeout}
+use Rattle.bq_job.specs.Tubes.{forgetting, is_seated_at, is_tube}
+use Rattle.bq_job.specs.Waits.{Chain, WaitEndTurn, next_end}
 use Rattle.bq_job.specs.Dispatch.{next_job}
+use Rattle.bq_job.specs.TubeName.{is_same_name}
 use Rattle.bq_job.proofs.ActLemmas.{answer_count}
+use Rattle.bq_job.proofs.DispatchLemmas.{turn_of}
 use Rattle.bq_job.proofs.KeptLemmas.{Keeps, kept_of_lawful}
-use Rattle.bq_job.proofs.LawfulLemmas.{kept_of_timers, leaves_acted, length_addressed, seats_many, served}
+use Rattle.bq_job.proofs.LawfulLemmas.{end_of, kept_of_timers, only_tubes, leaves_acted, length_addressed, seats_many, served}
 use Rattle.bq_core.specs.declared.state.State.{State}
 use Rattle.bq_core.specs.Acting.{Acts}
 use Rattle.bq_core.specs.Outbox.{Outbox}
-use Rattle.bq_core.specs.Plain.{IsAtDefault}
-use Rattle.bq_core.specs.Serving.{ServesInto}
-use Rattle.bq_core.specs.State.{default_record, machine_of, tubes_of}
+use Rattle.bq_core.specs.Serving.{NoneIsGone, ServesInto}
+use Rattle.bq_core.specs.State.{machine_of}
 use Rattle.bq_core.specs.Turns.{Gives, HasRoom, none_refused}
 use Rattle.bq_core.proofs.TurnLemmas.{room_kept}
 
--- what is kept of the default tube is never forgotten
-pub nothing_forgotten : (s : State) → forgetting (machine_of s) ≡ machine_of s
-nothing_forgotten s = ap (λ tubes. record (machine_of s) { tubes = tubes }) (same (s.tube_puts == 0 && s.tube_deletes == 0))
+-- where nothing is kept of tubes that are gone, nothing is forgotten
+all_stay : {A : Type 0} (p : A → Bool) (xs : List A) → list_all p xs ≡ true → filter p xs ≡ xs
+all_stay p [] h = refl
+all_stay p (x ∷ xs) h = let parts = and_parts (p x) (list_all p xs) h in rw parts.0 (ap (λ ys. x ∷ ys) (all_stay p xs parts.1))
+
+pub nothing_forgotten : (m : Machine) → NoneIsGone m → forgetting m ≡ m
+nothing_forgotten m h = ap (λ tubes. record m { tubes = tubes }) (all_stay (λ t. is_tube t.name m) m.tubes h)
+
+-- the same tubes have jobs, and the same are used and watched
+record SameTubes (m n : Machine) : Type 0 where
+  tubes : n.tubes ≡ m.tubes
+  exist : (name : List ℕ) → is_tube name n ≡ is_tube name m
+
+agree_all : {A : Type 0} (p q : A → Bool) → ((x : A) → p x ≡ q x) → (xs : List A) → list_all p xs ≡ list_all q xs
+agree_all p q same [] = refl
+agree_all p q same (x ∷ xs) = rw (same x, agree_all p q same xs) refl
+
+agree_any : {A : Type 0} (p : A → Bool) (f : A → A) → ((x : A) → p (f x) ≡ p x) → (xs : List A) → list_any p (map f xs) ≡ list_any p xs
+agree_any p f same [] = refl
+agree_any p f same (x ∷ xs) = rw (same x, agree_any p f same xs) refl
+
+none_gone_after : (m n : Machine) → SameTubes m n → NoneIsGone m → NoneIsGone n
+none_gone_after m n same h =
+    ap (list_all (λ t. is_tube t.name n)) same.tubes
+    ∙ agree_all (λ t. is_tube t.name n) (λ t. is_tube t.name m) (λ t. same.exist t.name) m.tubes
+    ∙ h
+
+-- changes of jobs that leave them in their tubes, and of seats that leave them at theirs
+changed_alike : (m : Machine) (f : Job → Job) (g : SeatRecord → SeatRecord) → ((j : Job) → (f j).tube ≡ j.tube) → ((name : List ℕ) (s : SeatRecord) → is_seated_at name (g s) ≡ is_seated_at name s) → (name : List ℕ) → is_tube name (record m { jobs = map f m.jobs; seats = map g m.seats }) ≡ is_tube name m
+changed_alike m f g in_tube at name =
+    ap (λ b. is_same_name name default_tube || b || list_any (is_seated_at name) (map g m.seats)) (agree_any (λ j. is_same_name name j.tube) f (λ j. ap (is_same_name name) (in_tube j)) m.jobs)
+    ∙ ap (λ b. is_same_name name default_tube || list_any (λ j. is_same_name name j.tube) m.jobs || b) (agree_any (is_seated_at name) g (at name) m.seats)
+
+one_tube : (b : Bool) (x y : Job) → x.tube ≡ y.tube → (if b then x else y).tube ≡ y.tube
+one_tube true x y h = h
+one_tube false x y h = refl
+
+one_seat : (b : Bool) (x y : SeatRecord) (name : List ℕ) → is_seated_at name x ≡ is_seated_at name y → is_seated_at name (if b then x else y) ≡ is_seated_at name y
+one_seat true x y name h = h
+one_seat false x y name h = refl
+
+map_same : {A : Type 0} (xs : List A) → map (λ x. x) xs ≡ xs
+map_same [] = refl
+map_same (x ∷ xs) = ap (λ ys. x ∷ ys) (map_same xs)
+
+waits_alike : (m : Machine) (number : ℕ) → SameTubes m (with_seat number without_wait m)
+waits_alike m number = record {
+  tubes = refl;
+  exist = λ name.
+      ap (λ jobs. is_tube name (record (with_seat number without_wait m) { jobs = jobs })) (sym (map_same m.jobs))
+      ∙ changed_alike m (λ j. j) (λ s. if s.number == number then without_wait s else s) (λ j. refl) (λ n s. one_seat (s.number == number) (without_wait s) s n refl) name;
+}
+
+hand_out_alike : (m : Machine) (j : Job) (s : SeatRecord) → SameTubes m (after_hand_out m j s)
+hand_out_alike m j s = record {
+  tubes = refl;
+  exist = λ name.
+      changed_alike m (λ k. if k.id == j.id then reserved_by m.moment s.number k else k) (λ t. if t.number == s.number then without_wait t else t)
+      (λ k. one_tube (k.id == j.id) (reserved_by m.moment s.number k) k refl) (λ n t. one_seat (t.number == s.number) (without_wait t) t n refl) name;
+}
+
+given_alike : (m : Machine) (j : Job) (s : SeatRecord) (g : GivenAnswer) (next : Machine) → IsHandOut m j s g next → NoneIsGone m → NoneIsGone next
+given_alike m j s g next (inl h) none = subst NoneIsGone (sym h.1) (none_gone_after m (after_hand_out m j s) (hand_out_alike m j s) none)
+given_alike m j s g next (inr h) none = subst NoneIsGone (sym h.1) (none_gone_after m (with_seat s.number without_wait m) (waits_alike m s.number) none)
+
+dispatch_turn_alike : (m : Machine) (g : GivenAnswer) (next : Machine) → DispatchTurn m g next → NoneIsGone m → NoneIsGone next
+dispatch_turn_alike m g next turn none = let t = turn_of m g next turn in given_alike m t.job t.client g next t.hands none
+
+wait_turn_alike : (m : Machine) (g : GivenAnswer) (next : Machine) → WaitEndTurn m g next → NoneIsGone m → NoneIsGone next
+wait_turn_alike m g next turn none =
+    let e = end_of m g next turn in
+    subst NoneIsGone (sym e.next_is) (none_gone_after m (with_seat e.client.number without_wait m) (waits_alike m e.client.number) none)
+
+chain_alike : (Turn : Machine → GivenAnswer → Machine → Type 0) → ((m : Machine) (g : GivenAnswer) (next : Machine) → Turn m g next → NoneIsGone m → NoneIsGone next) → (first : Machine) (given : List GivenAnswer) (last : Machine) → Chain Turn first given last → NoneIsGone first → NoneIsGone last
+chain_alike Turn keeps first [] last chain none = subst NoneIsGone (sym chain) none
+chain_alike Turn keeps first (g ∷ given) last chain none = chain_alike Turn keeps chain.0 given last chain.2 (keeps first g chain.0 chain.1 none)
+
+-- timers leave jobs in their tubes
+timer_tube : (moment : ℕ) (j : Job) → (job_after_timers moment j).tube ≡ j.tube
+timer_tube moment j = go (is_due moment j.state) (is_expired moment j.state)
   where
-    same : (b : Bool) → filter (λ t. is_tube t.name (machine_of s)) (if b then [] else default_record s.tube_puts s.tube_deletes ∷ []) ≡ (if b then [] else default_record s.tube_puts s.tube_deletes ∷ [])
-    same true = refl
-    same false = refl
+    go : (b c : Bool) → (if b then in_state states.Ready j else (if c then record j { state = states.Ready; counts = with_timeout j.counts } else j)).tube ≡ j.tube
+    go true c = refl
+    go false true = refl
+    go false false = refl
+
+names_alike : (p : List ℕ → Bool) (f : TubeRecord → TubeRecord) → ((t : TubeRecord) → (f t).name ≡ t.name) → (ts : List TubeRecord) → list_all (λ t. p t.name) (map f ts) ≡ list_all (λ t. p t.name) ts
+names_alike p f keeps [] = refl
+names_alike p f keeps (t ∷ ts) = rw (keeps t, names_alike p f keeps ts) refl
+
+pub timers_alike : (at : ℕ) (m : Machine) → NoneIsGone m → NoneIsGone (after_timers (at_moment at m))
+timers_alike at m none =
+    let now = (at_moment at m).moment in
+    let n = after_timers (at_moment at m) in
+    names_alike (λ name. is_tube name n) (tube_after_timers now) (λ t. refl) m.tubes
+    ∙ agree_all (λ t. is_tube t.name n) (λ t. is_tube t.name m) (λ t.
+    ap (λ seats. is_tube t.name (record n { seats = seats })) (sym (map_same m.seats))
+    ∙ changed_alike m (job_after_timers now) (λ s. s) (timer_tube now) (λ name s. refl) t.name) m.tubes
+    ∙ none
+
+pub forgotten_none : (m : Machine) → NoneIsGone (forgetting m)
+forgotten_none m = only_tubes m
 
 pub numbers_more : (low n : ℕ) → numbers low (suc n) ≡ numbers low n ++ (low + n) ∷ []
 numbers_more low zero = ap (λ k. k ∷ []) (omega arith)
@@ -46,33 +145,33 @@ places_more n =
     ∙ map-append empty_seat (numbers 0 n) ((0 + n) ∷ [])
     ∙ ap (λ k. map empty_seat (numbers 0 n) ++ empty_seat k ∷ []) (omega arith)
 
-pub free_at_default : (ns : List ℕ) → AllByRecursion IsAtDefault (map empty_seat ns)
-free_at_default [] = tt
-free_at_default (n ∷ ns) = ((refl, refl), free_at_default ns)
-
 -- dispatch and the ends of waits, one after the other
-pub serves_into : (first between last : State) (old middle new : Outbox) → Gives DispatchTurn has_refused_share (machine_of first) (machine_of between) old middle → next_job (machine_of between) ≡ None → Gives WaitEndTurn none_refused (machine_of between) (machine_of last) middle new → next_end (machine_of last) ≡ None → ServesInto (machine_of first) old new (machine_of last)
-serves_into first between last old middle new d dispatched w ended = record {
-  handed = d.given;
-  ended = w.given;
-  serves = record {
-    between = machine_of between;
-    dispatches = record { end = machine_of between; turns = d.turns; done = dispatched; forgets = sym (nothing_forgotten between) };
-    ends_waits = record { end = machine_of last; turns = w.turns; done = ended; forgets = sym (nothing_forgotten last) };
-  };
-  added = w.added ∙ ap (λ given. given ++ w.given) d.added;
-  most = w.most ∙ d.most;
-  left_out = w.left_out ∙ d.left_out;
-  unshared = w.unshared ∙ or_false middle.unshared ∙ d.unshared;
-  room = λ more h. room_kept WaitEndTurn none_refused more (machine_of between) (machine_of last) middle new w (room_kept DispatchTurn has_refused_share more (machine_of first) (machine_of between) old middle d h);
-}
+pub serves_into : (first between last : State) (old middle new : Outbox) → Gives DispatchTurn has_refused_share (machine_of first) (machine_of between) old middle → next_job (machine_of between) ≡ None → Gives WaitEndTurn none_refused (machine_of between) (machine_of last) middle new → next_end (machine_of last) ≡ None → NoneIsGone (machine_of first) → ServesInto (machine_of first) old new (machine_of last)
+serves_into first between last old middle new d dispatched w ended none =
+    let then_none = chain_alike DispatchTurn dispatch_turn_alike (machine_of first) d.given (machine_of between) d.turns none in
+    let last_none = chain_alike WaitEndTurn wait_turn_alike (machine_of between) w.given (machine_of last) w.turns then_none in
+    record {
+      handed = d.given;
+      ended = w.given;
+      serves = record {
+        between = machine_of between;
+        dispatches = record { end = machine_of between; turns = d.turns; done = dispatched; forgets = sym (nothing_forgotten (machine_of between) then_none) };
+        ends_waits = record { end = machine_of last; turns = w.turns; done = ended; forgets = sym (nothing_forgotten (machine_of last) last_none) };
+      };
+      added = w.added ∙ ap (λ given. given ++ w.given) d.added;
+      most = w.most ∙ d.most;
+      left_out = w.left_out ∙ d.left_out;
+      unshared = w.unshared ∙ or_false middle.unshared ∙ d.unshared;
+      tubes = last_none;
+      room = λ more h. room_kept WaitEndTurn none_refused more (machine_of between) (machine_of last) middle new w (room_kept DispatchTurn has_refused_share more (machine_of first) (machine_of between) old middle d h);
+    }
   where
     or_false : (b : Bool) → (b || false) ≡ b
     or_false true = refl
     or_false false = refl
 
-begins : (first fired : State) (at : ℕ) → machine_of fired ≡ after_timers (at_moment at (machine_of first)) → forgetting (after_timers (at_moment at (machine_of first))) ≡ machine_of fired
-begins first fired at fires = ap forgetting (sym fires) ∙ nothing_forgotten fired
+begins : (first fired : State) (at : ℕ) → IsLawful (machine_of first) → machine_of fired ≡ after_timers (at_moment at (machine_of first)) → forgetting (after_timers (at_moment at (machine_of first))) ≡ machine_of fired
+begins first fired at lawful fires = nothing_forgotten (after_timers (at_moment at (machine_of first))) (timers_alike at (machine_of first) lawful.tubes) ∙ sym fires
 
 -- at the beginning of a step there is room for an answer to each waiting client, and one more
 pub first_room : (first fired : State) (at : ℕ) (begun : Outbox) → IsLawful (machine_of first) → machine_of fired ≡ after_timers (at_moment at (machine_of first)) → begun.given ≡ [] → first.config.seats < begun.most → HasRoom 1 (machine_of fired) begun
@@ -88,47 +187,48 @@ pub less_room : (m : Machine) (o : Outbox) → HasRoom 1 m o → HasRoom 0 m o
 less_room m o h = omega arith
 
 -- the parts of a step up to and with the command's own effect
-pub record Begun (first : State) (at seat : ℕ) (what : Step) (begun between asked : Outbox) (acted_state : State) : Type 0 where
+pub record Begun (first : State) (at seat : ℕ) (what : Step) (begun between asked : Outbox) (acted_state left : State) : Type 0 where
   pub fired : State
   pub served_state : State
   pub lawful : IsLawful (machine_of first)
   pub fires : machine_of fired ≡ after_timers (at_moment at (machine_of first))
   pub serves : ServesInto (machine_of fired) begun between (machine_of served_state)
   pub acts : Acts (machine_of served_state) seat what between asked (machine_of acted_state)
+  pub forgotten : machine_of left ≡ forgetting (machine_of acted_state)
 
-keeps : (first : State) (at seat : ℕ) (what : Step) (begun between asked : Outbox) (acted_state : State) (b : Begun first at seat what begun between asked acted_state) → Keeps (machine_of b.served_state)
-keeps first at seat what begun between asked acted_state b =
+keeps : (first : State) (at seat : ℕ) (what : Step) (begun between asked : Outbox) (acted_state left : State) (b : Begun first at seat what begun between asked acted_state left) → Keeps (machine_of b.served_state)
+keeps first at seat what begun between asked acted_state left b =
     let h = kept_of_timers at (machine_of first) (kept_of_lawful (machine_of first) b.lawful) in
-    (served (machine_of b.fired) b.serves.handed b.serves.ended (machine_of b.served_state) (subst Keeps (begins first b.fired at b.fires) h) b.serves.serves).keeps
+    (served (machine_of b.fired) b.serves.handed b.serves.ended (machine_of b.served_state) (subst Keeps (begins first b.fired at b.lawful b.fires) h) b.serves.serves).keeps
 
 -- the command's own effect leaves room for an answer to each waiting client
-pub room_after_act : (first : State) (at seat : ℕ) (what : Step) (begun between asked : Outbox) (acted_state : State) (b : Begun first at seat what begun between asked acted_state) → HasRoom 1 (machine_of b.served_state) between → HasRoom 0 (machine_of acted_state) asked
-room_after_act first at seat what begun between asked acted_state b h =
+pub room_after_act : (first : State) (at seat : ℕ) (what : Step) (begun between asked : Outbox) (acted_state left : State) (b : Begun first at seat what begun between asked acted_state left) → HasRoom 1 (machine_of b.served_state) between → HasRoom 0 (machine_of left) asked
+room_after_act first at seat what begun between asked acted_state left b h =
     let a = b.acts in
     let e = acted a.memory (machine_of b.served_state) seat what in
-    let leaves = (leaves_acted a.memory (machine_of b.served_state) seat what (keeps first at seat what begun between asked acted_state b)).waiting in
-    let same : waiting_count (machine_of acted_state) ≡ waiting_count e.machine = ap waiting_count a.after in
+    let leaves = (leaves_acted a.memory (machine_of b.served_state) seat what (keeps first at seat what begun between asked acted_state left b)).waiting in
+    let same : waiting_count (machine_of left) ≡ waiting_count e.machine = ap waiting_count b.forgotten ∙ ap waiting_count a.after in
     let long : length asked.given ≡ length between.given + length (addressed seat e.answer) = ap length a.added ∙ length-append between.given (addressed seat e.answer) in
     let one = length_addressed seat e.answer in
     let most = a.most in
     omega arith
 
-pub whole_step : (first : State) (at seat : ℕ) (what : Step) (begun between asked new : Outbox) (acted_state last : State) → begun.given ≡ [] → begun.left_out ≡ false → begun.unshared ≡ false → Begun first at seat what begun between asked acted_state → ServesInto (machine_of acted_state) asked new (machine_of last) → IsStep (machine_of first) at seat what (record { left_out = new.left_out; unshared = new.unshared }) new.given (machine_of last)
-whole_step first at seat what begun between asked new acted_state last empty in_it shared b y =
+pub whole_step : (first : State) (at seat : ℕ) (what : Step) (begun between asked new : Outbox) (acted_state left last : State) → begun.given ≡ [] → begun.left_out ≡ false → begun.unshared ≡ false → Begun first at seat what begun between asked acted_state left → ServesInto (machine_of left) asked new (machine_of last) → IsStep (machine_of first) at seat what (record { left_out = new.left_out; unshared = new.unshared }) new.given (machine_of last)
+whole_step first at seat what begun between asked new acted_state left last empty in_it shared b y =
     let x = b.serves in
     let a = b.acts in
     let e = acted a.memory (machine_of b.served_state) seat what in
     record {
       memory = a.memory;
       before = machine_of b.served_state;
-      after = machine_of acted_state;
+      after = machine_of left;
       handed = x.handed;
       ended = x.ended;
       handed_then = y.handed;
       ended_then = y.ended;
-      serves = rw (begins first b.fired at b.fires) x.serves;
+      serves = rw (begins first b.fired at b.lawful b.fires) x.serves;
       possible = a.possible;
-      acts = sym (nothing_forgotten acted_state) ∙ ap forgetting a.after;
+      acts = b.forgotten ∙ ap forgetting a.after;
       serves_then = y.serves;
       answers_are =
           let start : between.given ≡ x.handed ++ x.ended = x.added ∙ ap (λ given. given ++ x.handed ++ x.ended) empty in

@@ -1,35 +1,25 @@
 -- A turn of dispatch or of the ends of waits, and chains of them.
-use Rattle.std.proofs.Common.{◌≡◌, ℕ, Bool, true, false, ◌+◌, ◌<◌, ◌≤◌, ◌||◌, List, [], ◌∷◌, ◌++◌, Option, Some, None, length, refl, sym, ap, ◌∙◌, arith, slice_get, append_assoc, append-nil, is_some, get_or, inl, inr}
-use Rattle.std.proofs.lemmas.Option.{slice_get-get_or}
+use Rattle.std.proofs.Common.{◌≡◌, ℕ, Bool, true, false, ◌+◌, ◌<◌, ◌≤◌, ◌||◌, List, [], ◌∷◌, ◌++◌, Option, Some, None, length, refl, sym, ap, ◌∙◌, arith, slice_get, append_assoc, append-nil, get_or, inl, inr}
+use Rattle.std.proofs.lemmas.Option.{slice_get-get_or, slice_get_read}
 use Rattle.std.proofs.lemmas.List.{length-append}
-use Rattle.std.specs.List.{AllByRecursion, Contains, list_any}
-use Rattle.bq_job.proofs.ListLemmas.{all_at}
+use Rattle.std.specs.List.{Contains, list_any}
+use Rattle.bq_job.specs.declared.answer.Answer.{Answer}
+use Rattle.bq_job.specs.declared.answer.Answer.TheVariants as answers
 use Rattle.bq_job.specs.declared.job.Job.{Job}
-use Rattle.bq_job.specs.Changes.{first_of, is_ready, is_waiting, with_seat, without_wait}
+use Rattle.bq_job.specs.Changes.{first_of, is_waiting, with_job, with_seat, without_wait}
 use Rattle.bq_job.specs.Computed.{waiting_count}
-use Rattle.bq_job.specs.Dispatch.{DispatchTurn, GivenAnswer, IsHandOut, is_job_before, is_wait_before, next_job, next_seat}
+use Rattle.bq_job.specs.Dispatch.{DispatchTurn, GivenAnswer, IsHandOut, is_job_before, is_wait_before, is_waiting_for, next_job, next_seat, reserved_by}
 use Rattle.bq_job.specs.Machine.{Machine, SeatRecord}
 use Rattle.bq_job.specs.Steps.{has_refused_share, is_out_of_memory}
 use Rattle.bq_job.specs.Waits.{Chain, WaitEndTurn, end_of_wait, ends_waiting, next_end}
-use Rattle.bq_job.proofs.ChoiceLemmas.{first_of_contains, first_of_passes, first_of_is_some}
-use Rattle.bq_job.proofs.ComputedLemmas.{next_end_waits, waiting_falls}
+use Rattle.bq_job.proofs.ChoiceLemmas.{first_of_none_passes}
+use Rattle.bq_job.proofs.ComputedLemmas.{next_end_waits, next_has_seat, next_seat_waits, waiting_falls}
 use Rattle.bq_core.specs.declared.state.State.{State}
 use Rattle.bq_core.specs.HandOuts.{AddsHandOut, HandsOut}
 use Rattle.bq_core.specs.Outbox.{Outbox}
-use Rattle.bq_core.specs.Plain.{IsInDefault}
-use Rattle.bq_core.specs.Places.{item_at}
-use Rattle.bq_core.specs.State.{IsSound, machine_of}
+use Rattle.bq_core.specs.State.{machine_of}
 use Rattle.bq_core.specs.Turns.{Gives, HasRoom, none_refused}
 use Rattle.bq_core.specs.WaitEnds.{AddsWaitEnd, EndsWait}
-use Rattle.bq_core.proofs.PlainLemmas.{next_job_where_waiting, next_seat_of_ready}
-
--- whoever is chosen of those that wait is there and waits
-pub chosen_waits : (seats : List SeatRecord) (s : SeatRecord) → first_of is_waiting is_wait_before seats ≡ Some s → Contains seats s × (is_waiting s ≡ true) × (list_any is_waiting seats ≡ true)
-chosen_waits seats s h = (
-  first_of_contains is_waiting is_wait_before seats s h,
-  first_of_passes is_waiting is_wait_before seats s h,
-  sym (first_of_is_some is_waiting is_wait_before seats) ∙ ap is_some h,
-)
 
 -- a hand-out takes the client away, whether the share was given or not
 hand_out_falls : (m : Machine) (j : Job) (s : SeatRecord) (g : GivenAnswer) (next : Machine) → Contains m.seats s → is_waiting s ≡ true → IsHandOut m j s g next → waiting_count next < waiting_count m
@@ -39,7 +29,7 @@ hand_out_falls m j s g next here waits h =
       | inr refused ↦ rw refused.1 (waiting_falls m s here waits)
     ]
 
-some_at : {A : Type 0} (xs : List A) (i : ℕ) → i < length xs → (x : A) × (slice_get xs i ≡ Some x)
+pub some_at : {A : Type 0} (xs : List A) (i : ℕ) → i < length xs → (x : A) × (slice_get xs i ≡ Some x)
 some_at [] i h = absurd (omega arith)
 some_at (x ∷ xs) i h = (get_or (x ∷ xs) i x, slice_get-get_or (x ∷ xs) i x h)
 
@@ -62,44 +52,58 @@ one_turn m next old new j s job seat here waits adds =
       taken = omega (arith, hand_out_falls m j s g next here waits adds.hand_out);
     }
 
-module _ (st : State) (sound : IsSound st) (k : ℕ) (seat_there : k < length st.seats.items) (seat_is : slice_get st.seats.items k ≡ first_of is_waiting is_wait_before st.seats.items) where
-  -- the client at place k waits
-  waiter : (s : SeatRecord) × (slice_get st.seats.items k ≡ Some s) × Contains st.seats.items s × (is_waiting s ≡ true) × (list_any is_waiting st.seats.items ≡ true)
-  waiter =
-      let here = some_at st.seats.items k seat_there in
-      let chosen = chosen_waits st.seats.items here.0 (sym seat_is ∙ here.1) in
-      (here.0, here.1, chosen.0, chosen.1, chosen.2)
+-- nobody waits: there is no next job
+unwanted_at : (m : Machine) (s : SeatRecord) (seats : List SeatRecord) (j : Job) (b : Bool) → is_waiting s ≡ b → (list_any is_waiting seats ≡ false → list_any (is_waiting_for m j) seats ≡ false) → list_any is_waiting (s ∷ seats) ≡ false → list_any (is_waiting_for m j) (s ∷ seats) ≡ false
+unwanted_at m s seats j true e rest h = absurd (let x : (true || list_any is_waiting seats) ≡ false = rw e at h in cc)
+unwanted_at m s seats j false e rest h = rw e (rest (rw e at h))
 
-  pub somebody_waits : 0 < waiting_count (machine_of st)
-  somebody_waits = omega (arith, waiting_falls (machine_of st) waiter.0 waiter.2 waiter.3)
+unwanted : (m : Machine) (seats : List SeatRecord) (j : Job) → list_any is_waiting seats ≡ false → list_any (is_waiting_for m j) seats ≡ false
+unwanted m [] j h = refl
+unwanted m (s ∷ seats) j h = unwanted_at m s seats j (is_waiting s) refl (unwanted m seats j) h
 
-  pub no_job_to_give : None ≡ first_of is_ready is_job_before st.jobs.items → next_job (machine_of st) ≡ None
-  no_job_to_give none = next_job_where_waiting st sound waiter.4 ∙ sym none
+none_wanted : (m : Machine) (jobs : List Job) → list_any is_waiting m.seats ≡ false → list_any (λ j. list_any (is_waiting_for m j) m.seats) jobs ≡ false
+none_wanted m [] h = refl
+none_wanted m (j ∷ jobs) h = rw (unwanted m m.seats j h) (none_wanted m jobs h)
 
-  -- the job at place i, the least ready one, went to that client
-  module _ (i : ℕ) (job_there : i < length st.jobs.items) (job_is : slice_get st.jobs.items i ≡ first_of is_ready is_job_before st.jobs.items) (old new : Outbox) (last : Machine) (given : HandsOut (machine_of st) i k old new last) where
-    ready : (j : Job) × (slice_get st.jobs.items i ≡ Some j) × (first_of is_ready is_job_before st.jobs.items ≡ Some j) × IsInDefault j × (is_ready j ≡ true)
-    ready =
-        let here = some_at st.jobs.items i job_there in
-        let first : first_of is_ready is_job_before st.jobs.items ≡ Some here.0 = sym job_is ∙ here.1 in (
-          here.0,
-          here.1,
-          first,
-          all_at IsInDefault st.jobs.items here.0 sound.jobs (first_of_contains is_ready is_job_before st.jobs.items here.0 first),
-          first_of_passes is_ready is_job_before st.jobs.items here.0 first,
-        )
+pub no_next_job : (m : Machine) → list_any is_waiting m.seats ≡ false → next_job m ≡ None
+no_next_job m h = first_of_none_passes (λ j. list_any (is_waiting_for m j) m.seats) is_job_before m.jobs (none_wanted m m.jobs h)
 
-    is_next_job : next_job (machine_of st) ≡ Some ready.0
-    is_next_job = next_job_where_waiting st sound waiter.4 ∙ ready.2
+-- the job at place i is the next one
+module _ (st : State) (i : ℕ) (job_there : i < length st.jobs.items) (job_is : slice_get st.jobs.items i ≡ next_job (machine_of st)) where
+  the_job : (j : Job) × (slice_get st.jobs.items i ≡ Some j) × (next_job (machine_of st) ≡ Some j)
+  the_job = let here = some_at st.jobs.items i job_there in (here.0, here.1, sym job_is ∙ here.1)
 
-    is_next_seat : next_seat (machine_of st) ready.0 ≡ Some waiter.0
-    is_next_seat = next_seat_of_ready st sound ready.0 ready.3 ready.4 ∙ sym seat_is ∙ waiter.1
+  -- what the code read at this place
+  read_job : (x : Job) → x ≡ get_or st.jobs.items i x → the_job.0 ≡ x
+  read_job x read = let same = slice_get_read st.jobs.items (length st.jobs.items) i x refl job_there read in let other = the_job.1 in cc
 
-    pub turn_given : Gives DispatchTurn has_refused_share (machine_of st) last old new
-    turn_given = one_turn (machine_of st) last old new ready.0 waiter.0 is_next_job is_next_seat waiter.2 waiter.3 (given ready.0 waiter.0 ready.1 waiter.1)
+  -- and some client waits for it
+  pub has_next_seat : (x : Job) → x ≡ get_or st.jobs.items i x → None ≡ next_seat (machine_of st) x → ⊥
+  has_next_seat x read none =
+      let same = read_job x read in
+      let seat = next_has_seat (machine_of st) the_job.0 the_job.2 in
+      let there : next_seat (machine_of st) x ≡ Some seat.0 = ap (next_seat (machine_of st)) (sym same) ∙ seat.1 in
+      cc
 
-    pub turn_falls : waiting_count last < waiting_count (machine_of st)
-    turn_falls = hand_out_falls (machine_of st) ready.0 waiter.0 _ last waiter.2 waiter.3 (given ready.0 waiter.0 ready.1 waiter.1).hand_out
+  -- the client at place k is the one that it goes to
+  module _ (x : Job) (read : x ≡ get_or st.jobs.items i x) (k : ℕ) (seat_there : k < length st.seats.items) (seat_is : slice_get st.seats.items k ≡ next_seat (machine_of st) x) where
+    the_seat : (s : SeatRecord) × (slice_get st.seats.items k ≡ Some s) × (next_seat (machine_of st) the_job.0 ≡ Some s)
+    the_seat =
+        let here = some_at st.seats.items k seat_there in
+        (here.0, here.1, ap (next_seat (machine_of st)) (read_job x read) ∙ sym seat_is ∙ here.1)
+
+    waits : Contains st.seats.items the_seat.0 × (is_waiting the_seat.0 ≡ true)
+    waits = let w = next_seat_waits (machine_of st) the_job.0 the_seat.0 the_seat.2 in (w.0, w.1)
+
+    pub somebody_waits : 0 < waiting_count (machine_of st)
+    somebody_waits = omega (arith, waiting_falls (machine_of st) the_seat.0 waits.0 waits.1)
+
+    module _ (old new : Outbox) (last : Machine) (given : HandsOut (machine_of st) i k old new last) where
+      pub turn_given : Gives DispatchTurn has_refused_share (machine_of st) last old new
+      turn_given = one_turn (machine_of st) last old new the_job.0 the_seat.0 the_job.2 the_seat.2 waits.0 waits.1 (given the_job.0 the_seat.0 the_job.1 the_seat.1)
+
+      pub turn_falls : waiting_count last < waiting_count (machine_of st)
+      turn_falls = hand_out_falls (machine_of st) the_job.0 the_seat.0 _ last waits.0 waits.1 (given the_job.0 the_seat.0 the_job.1 the_seat.1).hand_out
 
 pub refused_joined : (xs ys : List GivenAnswer) → has_refused_share (xs ++ ys) ≡ (has_refused_share xs || has_refused_share ys)
 refused_joined [] ys = refl
@@ -181,3 +185,54 @@ module _ (st : State) (k : ℕ) (seat_there : k < length st.seats.items) (seat_i
     end_falls =
         let waits = next_end_waits (machine_of st) ending.0 ending.2 in
         rw (given ending.0 ending.1).ended (waiting_falls (machine_of st) ending.0 waits.0 waits.1)
+
+-- what was read at a place
+same_read : {A : Type 0} (xs : List A) (i : ℕ) (x y : A) → i < length xs → y ≡ get_or xs i y → slice_get xs i ≡ Some x → y ≡ x
+same_read xs i x y there read is = let here = slice_get_read xs (length xs) i y refl there read in cc
+
+pub shared_given : (m last : Machine) (i k number : ℕ) (j y : Job) (s t : SeatRecord) (body : List ℕ) (old new : Outbox) → i < length m.jobs → y ≡ get_or m.jobs i y → slice_get m.jobs i ≡ Some j → k < length m.seats → t ≡ get_or m.seats k t → slice_get m.seats k ≡ Some s → number ≡ t.number → body ≡ y.body → last ≡ with_seat number without_wait (with_job y.id (reserved_by m.moment number) m) → new ≡ record old { given = old.given ++ (number, answers.Reserved y.id body) ∷ [] } → AddsHandOut m j s old new last
+shared_given m last i k number j y s t body old new job_there job_read job seat_there seat_read seat number_is body_is after told =
+    let e : y ≡ j = same_read m.jobs i j y job_there job_read job in
+    let f : t ≡ s = same_read m.seats k s t seat_there seat_read seat in
+    let n : number ≡ s.number = number_is ∙ ap (λ r. r.number) f in
+    let b : body ≡ j.body = body_is ∙ ap (λ k. k.body) e in
+    let i : y.id ≡ j.id = ap (λ k. k.id) e in
+    record {
+      given = (s.number, answers.Reserved j.id j.body);
+      hand_out = inl (refl, after ∙ ap (λ a. with_seat a without_wait (with_job y.id (reserved_by m.moment a) m)) n ∙ ap (λ a. with_seat s.number without_wait (with_job a (reserved_by m.moment s.number) m)) i);
+      added =
+          told
+          ∙ ap (λ a. record old { given = old.given ++ (a, answers.Reserved y.id body) ∷ [] }) n
+          ∙ ap (λ a. record old { given = old.given ++ (s.number, answers.Reserved a body) ∷ [] }) i
+          ∙ ap (λ a. record old { given = old.given ++ (s.number, answers.Reserved j.id a) ∷ [] }) b
+          ∙ ap (λ u. record old { given = old.given ++ (s.number, answers.Reserved j.id j.body) ∷ []; unshared = u }) (sym (or_false old.unshared));
+    }
+
+pub refused_given : (m last : Machine) (k number : ℕ) (j : Job) (s t : SeatRecord) (old new : Outbox) → k < length m.seats → t ≡ get_or m.seats k t → slice_get m.seats k ≡ Some s → number ≡ t.number → last ≡ with_seat number without_wait m → new ≡ record old { given = old.given ++ (number, answers.OutOfMemory) ∷ []; unshared = true } → AddsHandOut m j s old new last
+refused_given m last k number j s t old new seat_there seat_read seat number_is after told =
+    let f : t ≡ s = same_read m.seats k s t seat_there seat_read seat in
+    let n : number ≡ s.number = number_is ∙ ap (λ r. r.number) f in
+    record {
+      given = (s.number, answers.OutOfMemory);
+      hand_out = inr (refl, after ∙ ap (λ a. with_seat a without_wait m) n);
+      added =
+          told
+          ∙ ap (λ a. record old { given = old.given ++ (a, answers.OutOfMemory) ∷ []; unshared = true }) n
+          ∙ ap (λ u. record old { given = old.given ++ (s.number, answers.OutOfMemory) ∷ []; unshared = u }) (sym (or_true old.unshared));
+    }
+  where
+    or_true : (b : Bool) → (b || true) ≡ true
+    or_true true = refl
+    or_true false = refl
+
+pub ended_given : (m last : Machine) (k number : ℕ) (s t : SeatRecord) (answer : Answer) (old new : Outbox) → k < length m.seats → t ≡ get_or m.seats k t → slice_get m.seats k ≡ Some s → number ≡ t.number → (number ≡ s.number → answer ≡ end_of_wait m s) → last ≡ with_seat number without_wait m → new ≡ record old { given = old.given ++ (number, answer) ∷ [] } → AddsWaitEnd m s old new last
+ended_given m last k number s t answer old new seat_there seat_read seat number_is answer_is after told =
+    let f : t ≡ s = same_read m.seats k s t seat_there seat_read seat in
+    let n : number ≡ s.number = number_is ∙ ap (λ r. r.number) f in
+    record {
+      ended = after ∙ ap (λ a. with_seat a without_wait m) n;
+      added =
+          told
+          ∙ ap (λ a. record old { given = old.given ++ (a, answer) ∷ [] }) n
+          ∙ ap (λ a. record old { given = old.given ++ (s.number, a) ∷ [] }) (answer_is n);
+    }

@@ -1,14 +1,15 @@
 -- The command's own effect, as the core carries it out.
 use Rattle.std.specs.Prelude.{ℕ, Bool, false, ◌≡◌, ◌&&◌, ◌||◌, ◌++◌, not, IsTrue, Option, Some, None}
+use Rattle.bq_job.specs.declared.answer.Answer.{Answer}
 use Rattle.bq_job.specs.declared.request.Request.{Request}
 use Rattle.bq_job.specs.declared.step.Step.{Step}
 use Rattle.bq_job.specs.Acts.{Effect}
 use Rattle.bq_job.specs.Changes.{is_waiting}
 use Rattle.bq_job.specs.Machine.{Machine, SeatRecord}
 use Rattle.bq_job.specs.SoFar.{is_so_far, is_step_so_far}
-use Rattle.bq_job.specs.Steps.{Memory, acted, addressed, is_growth_refused, is_possible, is_share_refused, may_be_left_out}
-use Rattle.bq_core.specs.declared.acts.Reply.{Reply}
-use Rattle.bq_core.specs.declared.acts.Reply.TheVariants.{Silent, Told, LeftOut}
+use Rattle.bq_job.specs.Steps.{Memory, acted, addressed, is_growth_refused, is_possible, is_share_refused, shares_body, may_be_left_out}
+use Rattle.bq_core.specs.declared.reply.Reply.{Reply}
+use Rattle.bq_core.specs.declared.reply.Reply.TheVariants.{Silent, Told, LeftOut, Unshared}
 use Rattle.bq_core.specs.Outbox.{Outbox}
 
 -- the requests and steps that the core can carry out so far
@@ -33,11 +34,12 @@ is_asking None = false
 is_asking (Some s) = s.connected && not (is_waiting s)
 
 -- What a request came to: it had this effect, or it takes memory and was left out because a growth was
--- refused.
+-- refused, or it would show a body, of which one more owner was refused.
 abbrev pub Replies : Bool → Machine → Effect → Reply → Machine → Type 0
 Replies takes m e Silent next = e ≡ record { machine = next; answer = None }
 Replies takes m e (Told answer) next = e ≡ record { machine = next; answer = Some answer }
 Replies takes m e LeftOut next = (next ≡ m) × IsTrue (takes && may_be_left_out e.answer)
+Replies takes m e Unshared next = (next ≡ m) × IsTrue (shares_body e.answer)
 
 -- The command's own effect was carried out, and its answer added.
 pub record Acts (m : Machine) (seat : ℕ) (what : Step) (old new : Outbox) (last : Machine) : Type 0 where

@@ -1,14 +1,15 @@
 pub mod Acting
 pub mod Codes
 pub mod EndingWaits
+pub mod HandOuts
 pub mod JobChanges
+pub mod JobKinds
 pub mod Limits
 pub mod Outbox
-pub mod HandOuts
 pub mod Places
-pub mod Plain
 pub mod SeatChanges
 pub mod Serving
 pub mod State
+pub mod TubeEntries
 pub mod Turns
 pub mod WaitEnds

@@ -1,11 +1,13 @@
 -- What happens at seats, one by one.
-use Rattle.std.specs.Prelude.{ℕ, true, ◌==◌, if◌then◌else◌}
+use Rattle.std.specs.Prelude.{ℕ, Bool, true, ◌==◌, if◌then◌else◌, List}
 use Rattle.bq_job.specs.Asked.{with_end}
 use Rattle.bq_job.specs.Changes.{without_wait}
 use Rattle.bq_job.specs.JobCommands.{waiting_from}
-use Rattle.bq_job.specs.Machine.{SeatRecord, empty_seat}
+use Rattle.bq_job.specs.Machine.{SeatRecord, TubeRecord, empty_seat}
+use Rattle.bq_job.specs.TubeCommands.{using}
+use Rattle.bq_core.specs.TubeEntries.{has_entry}
 use Rattle.bq_core.specs.declared.seat_list.SeatChange.{SeatChange}
-use Rattle.bq_core.specs.declared.seat_list.SeatChange.TheVariants.{StopWaiting, Wait, Connect, Clear, End}
+use Rattle.bq_core.specs.declared.seat_list.SeatChange.TheVariants.{StopWaiting, Wait, Connect, Clear, End, Use}
 
 abbrev pub seat_changed : SeatChange → SeatRecord → SeatRecord
 seat_changed StopWaiting s = without_wait s
@@ -13,6 +15,12 @@ seat_changed (Wait ticket until) s = waiting_from ticket until s
 seat_changed Connect s = record (empty_seat s.number) { connected = true }
 seat_changed Clear s = empty_seat s.number
 seat_changed End s = with_end s
+seat_changed (Use tube) s = using tube s
 
 abbrev pub seat_changed_at : ℕ → SeatChange → SeatRecord → SeatRecord
 seat_changed_at number change s = if s.number == number then seat_changed change s else s
+
+-- the tube that the seat comes to use has an entry
+abbrev pub has_tube_of : SeatChange → List TubeRecord → Bool
+has_tube_of (Use tube) entries = has_entry tube entries
+has_tube_of _ entries = true

@@ -1,31 +1,23 @@
 -- The machine that a core stands for.
-use Rattle.std.specs.Prelude.{ℕ, Bool, false, ◌≡◌, ◌≤◌, ◌&&◌, ◌==◌, if◌then◌else◌, List, [], ◌∷◌, None}
-use Rattle.std.specs.List.{AllByRecursion}
+use Rattle.std.specs.Prelude.{ℕ, Bool, false, ◌≡◌, ◌≤◌, map, length}
 use Rattle.bq_job.specs.JobCommands.{last_id}
-use Rattle.bq_job.specs.Machine.{Machine, Settings, TubeRecord, default_tube}
-use Rattle.bq_core.specs.Plain.{IsAtDefault, IsInDefault}
+use Rattle.bq_job.specs.Machine.{Machine, Settings, numbers}
+use Rattle.bq_core.specs.TubeEntries.{AreEntries, counted}
 use Rattle.bq_core.specs.declared.config.Config.{Config}
 use Rattle.bq_core.specs.declared.state.State.{State}
 
 abbrev pub settings_of : Config → Settings
 settings_of config = record { seats = config.seats; max_job_size = config.max_job_size }
 
-abbrev pub default_record : ℕ → ℕ → TubeRecord
-default_record puts deletes = record { name = default_tube; pause = None; puts = puts; deletes = deletes; pauses = 0 }
-
--- what is kept of tubes where all jobs are in the default tube
-abbrev pub tubes_of : ℕ → ℕ → List TubeRecord
-tubes_of puts deletes = if puts == 0 && deletes == 0 then [] else default_record puts deletes ∷ []
-
 abbrev pub machine_of : State → Machine
 machine_of s = record {
   settings = settings_of s.config;
   jobs = s.jobs.items;
   seats = s.seats.items;
-  tubes = tubes_of s.tube_puts s.tube_deletes;
+  tubes = counted s.tubes.items;
   moment = s.moment;
   next_id = s.next_id;
-  burials = 0;
+  burials = s.burials;
   tickets = s.tickets;
   draining = s.draining;
   timeouts = s.timeouts;
@@ -35,8 +27,8 @@ machine_of s = record {
 
 -- what the functions of this crate keep
 pub record IsSound (s : State) : Type 0 where
-  pub name : s.default_tube ≡ default_tube
-  pub jobs : AllByRecursion IsInDefault s.jobs.items
-  pub seats : AllByRecursion IsAtDefault s.seats.items
+  pub entries : AreEntries s.jobs.items s.seats.items s.tubes.items
+  -- Seats are numbered in order.
+  pub numbered : map (λ r. r.number) s.seats.items ≡ numbers 0 (length s.seats.items)
   -- Before the ids run out the machine drains.
   pub next : s.draining ≡ false → s.next_id ≤ last_id

@@ -1,7 +1,8 @@
-ghost use Rattle.std.specs.Prelude.{◌≡◌, ◌<◌, ◌++◌, ◌∷◌, [], None, Some, true, false, length, slice_get};
-ghost use Rattle.bq_job.specs.Changes.{first_of, is_ready, is_waiting};
+ghost use Rattle.std.specs.Prelude.{◌≡◌, ◌<◌, ◌++◌, ◌∷◌, [], None, true, false, length};
+ghost use Rattle.bq_job.specs.declared.answer.Answer.TheVariants as answers;
+ghost use Rattle.bq_job.specs.Changes.{with_job, with_seat, without_wait};
 ghost use Rattle.bq_job.specs.Computed.{waiting_count};
-ghost use Rattle.bq_job.specs.Dispatch.{DispatchTurn, IsHandOut, is_job_before, is_wait_before, next_job};
+ghost use Rattle.bq_job.specs.Dispatch.{DispatchTurn, next_job, reserved_by};
 ghost use Rattle.bq_job.specs.Steps.{has_refused_share};
 ghost use Rattle.bq_core.specs.State.{machine_of, IsSound};
 ghost use Rattle.bq_core.specs.Turns.{Gives, HasRoom};
@@ -10,9 +11,38 @@ ghost use Rattle.bq_core.specs.HandOuts.{HandsOut};
 use crate::job_list::JobChange;
 use crate::outs::Outs;
 use crate::seat_list::SeatChange;
+use crate::state;
 use crate::state::State;
-use crate::{job_list, seat_list};
-use bq_job::Answer;
+use bq_job::{Answer, Body, JobId, Seat};
+
+// The client at the seat gets the job, with this share of its body.
+fn give(state: &mut State, outs: &mut Outs, number: Seat, id: JobId, body: Body)
+    requires sound { IsSound state.old }
+    requires room { length outs.old.given < outs.old.most }
+    ensures after { machine_of state.new ≡ with_seat number without_wait (with_job id (reserved_by (machine_of state.old).moment number) (machine_of state.old)) }
+    ensures told { outs.new ≡ record outs.old { given = outs.old.given ++ (number, answers.Reserved id body) ∷ [] } }
+    ensures sound { IsSound state.new }
+    ensures config { state.new.config ≡ state.old.config }
+{
+    let change = JobChange::HandOut(id, number, state.moment);
+    state::change_jobs(state, &change);
+    state::change_seat(state, number, &SeatChange::StopWaiting);
+    outs.push(number, Answer::Reserved(id, body));
+}
+
+// One more owner of the body was refused: the client is told so, and waits no longer.
+fn refuse(state: &mut State, outs: &mut Outs, number: Seat)
+    requires sound { IsSound state.old }
+    requires room { length outs.old.given < outs.old.most }
+    ensures after { machine_of state.new ≡ with_seat number without_wait (machine_of state.old) }
+    ensures told { outs.new ≡ record outs.old { given = outs.old.given ++ (number, answers.OutOfMemory) ∷ []; unshared = true } }
+    ensures sound { IsSound state.new }
+    ensures config { state.new.config ≡ state.old.config }
+{
+    state::change_seat(state, number, &SeatChange::StopWaiting);
+    outs.set_unshared();
+    outs.push(number, Answer::OutOfMemory);
+}
 
 // The job at place i goes to the client at place k.
 fn hand_out(state: &mut State, outs: &mut Outs, i: usize, k: usize)
@@ -28,17 +58,9 @@ fn hand_out(state: &mut State, outs: &mut Outs, i: usize, k: usize)
     let job = &state.jobs[i];
     let id = job.id;
     match job.body.share() {
-        Ok(body) => {
-            let change = JobChange::HandOut(id, number, state.moment);
-            job_list::change_all(&mut state.jobs, &change);
-            outs.push(number, Answer::Reserved(id, body));
-        }
-        Err(_) => {
-            outs.set_unshared();
-            outs.push(number, Answer::OutOfMemory);
-        }
+        Ok(body) => give(state, outs, number, id, body),
+        Err(_) => refuse(state, outs, number),
     }
-    seat_list::change_at(&mut state.seats, number, &SeatChange::StopWaiting);
 }
 
 // Hands one job out, if there is one that a waiting client may have.
@@ -51,10 +73,13 @@ fn turn(state: &mut State, outs: &mut Outs) -> bool
     ensures sound { IsSound state.new }
     ensures config { state.new.config ≡ state.old.config }
 {
-    let Some(k) = state.first_waiter() else {
+    if !state.has_waiter() {
+        return false;
+    }
+    let Some(i) = state.next_job() else {
         return false;
     };
-    let Some(i) = state.first_ready() else {
+    let Some(k) = state.next_seat(&state.jobs[i]) else {
         return false;
     };
     hand_out(state, outs, i, k);

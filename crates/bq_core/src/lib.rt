@@ -1,7 +1,7 @@
 //! The core of the work queue: it takes one step after another, and each of them is a step of the
 //! one-list machine that `bq_job` defines.
 //!
-//! This is its plain body: one vector of jobs, searched in full, and all clients in the default tube.
+//! This is its plain body: one vector of jobs, searched in full.
 #![tactic(auto)]
 
 pub use config::{Config, CoreFault};
@@ -11,12 +11,17 @@ pub use outs::Outs;
 mod acts;
 mod config;
 mod dispatch;
+mod job_acts;
 mod job_list;
 mod machine;
 mod outs;
 mod place;
+mod reply;
 mod seat_list;
 mod state;
 #[cfg(test)]
 mod tests;
+mod tube_acts;
+mod tube_list;
 mod waits;
+mod watch_list;

@@ -5,14 +5,14 @@ ghost use Rattle.bq_job.specs.Steps.{IsStep};
 ghost use Rattle.bq_core.specs.Acting.{is_built};
 ghost use Rattle.bq_core.specs.Limits.{is_body_size, is_seat_count};
 ghost use Rattle.bq_core.specs.State.{machine_of, settings_of, IsSound};
-ghost use Rattle.bq_core.specs.Serving.{ServesInto};
+ghost use Rattle.bq_core.specs.Serving.{NoneIsGone, ServesInto};
 ghost use Rattle.bq_core.specs.Turns.{HasRoom};
 
 use crate::config::{Config, CoreFault};
 use crate::outs::Outs;
 use crate::state::State;
-use crate::{acts, dispatch, seat_list, state, waits};
-use bq_job::{Moment, Seat, Step, TubeName};
+use crate::{acts, dispatch, seat_list, state, tube_list, waits};
+use bq_job::{Moment, Seat, Step};
 use std::alloc::Global;
 use std::marker::Model;
 
@@ -43,6 +43,7 @@ impl Model for Core {
 // Jobs are dispatched, and then waits end.
 fn serve(state: &mut State, outs: &mut Outs)
     requires sound { IsSound state.old }
+    requires tubes { NoneIsGone (machine_of state.old) }
     requires room { HasRoom 0 (machine_of state.old) outs.old }
     ensures served { ServesInto (machine_of state.old) outs.old outs.new (machine_of state.new) }
     ensures sound { IsSound state.new }
@@ -68,6 +69,7 @@ fn take_step(state: &mut State, at: Moment, seat: Seat, what: Step, outs: &mut O
     state::fire_timers(state);
     serve(state, outs);
     acts::act(state, seat, what, outs);
+    state::forget_tubes(state);
     serve(state, outs);
 }
 
@@ -99,14 +101,17 @@ impl Core {
         let Ok(seats) = seat_list::new_places(alloc, config.seats) else {
             return Err(CoreFault::NoMemory);
         };
+        let Ok(tubes) = tube_list::first_entries(alloc) else {
+            return Err(CoreFault::NoMemory);
+        };
         Ok(Core {
-            state: state::first_state(alloc, config, seats),
+            state: state::first_state(alloc, config, seats, tubes),
         })
     }
 
     /// Takes a step: what happens at a seat, at a moment in milliseconds. `outs` then holds the answers in
-    /// their order. Any moment, seat and step is accepted; the requests that are built so far are `put`,
-    /// `reserve`, `delete`, `quit` and whatever the reader refused.
+    /// their order. Any moment, seat and step is accepted; the requests that aren't built yet are the five
+    /// of statistics and lists.
     pub fn step(&mut self, at: Moment, seat: Seat, what: Step, outs: &mut Outs)
         requires built { IsTrue (is_built what) }
         requires room { self.old.settings.seats < outs.old.most }

@@ -1,12 +1,18 @@
-ghost use Rattle.std.specs.Prelude.{◌≡◌, true};
+ghost use Rattle.std.specs.Prelude.{◌≡◌, ◌++◌, ◌∷◌, [], true, filter, length, not, IfOk, OnErr};
+ghost use Rattle.std.specs.List.{list_any};
 ghost use Rattle.bq_job.specs.Asked.{with_end};
 ghost use Rattle.bq_job.specs.Changes.{is_waiting, without_wait};
 ghost use Rattle.bq_job.specs.Dispatch.{is_wait_before, ticket_of};
 ghost use Rattle.bq_job.specs.JobCommands.{waiting_from};
 ghost use Rattle.bq_job.specs.Machine.{empty_seat};
+ghost use Rattle.bq_job.specs.TubeCommands.{using, watching};
+ghost use Rattle.bq_job.specs.TubeName.{is_same_name};
+ghost use Rattle.bq_job.specs.Tubes.{is_seated_at, watches};
 ghost use Rattle.bq_job.specs.Waits.{is_timed_out_at};
 
-use bq_job::{Moment, Seat};
+use crate::watch_list::{WatchList, default_tube};
+use bq_job::{Moment, NoMemory, Seat, TubeName};
+use std::alloc::Global;
 use std::marker::Model;
 
 /// A client that waits for a job.
@@ -26,34 +32,38 @@ impl Model for Waiting {
     ghost inverse = { λ w. record { ticket = w.ticket; until = w.until } };
 }
 
-/// A place for one connection at a time. Who sits there uses and watches the default tube.
+/// A place for one connection at a time. Who comes there uses and watches the default tube alone.
 #[derive(Debug, Drop)]
 pub(crate) struct Place {
     number: Seat,
     connected: bool,
+    used: TubeName,
+    watched: WatchList,
     wait: Option<Waiting>,
     ended: bool,
 }
 
 impl Model for Place {
-    ghost use Rattle.std.specs.Prelude.{◌∷◌, []};
-    ghost use Rattle.bq_job.specs.Machine.{SeatRecord, default_tube};
+    ghost use Rattle.bq_job.specs.Machine.{SeatRecord};
 
     ghost Value = { SeatRecord };
 
-    ghost view = { λ p. record { number = p.number; connected = p.connected; used = default_tube; watched = default_tube ∷ []; wait = p.wait; ended = p.ended } };
+    ghost view = { λ p. record { number = p.number; connected = p.connected; used = p.used; watched = p.watched; wait = p.wait; ended = p.ended } };
 }
 
 impl Place {
-    pub(crate) fn new(number: Seat) -> Place
-        ensures { result ≡ empty_seat number }
+    pub(crate) fn new(alloc: Global, number: Seat) -> Result<Place, NoMemory>
+        ensures { IfOk result (λ place. place ≡ empty_seat number) }
     {
-        Place {
+        let watched = WatchList::new(alloc)?;
+        Ok(Place {
             number,
             connected: false,
+            used: default_tube(),
+            watched,
             wait: None,
             ended: false,
-        }
+        })
     }
 
     pub(crate) fn number(&self) -> Seat
@@ -66,6 +76,40 @@ impl Place {
         ensures { result ≡ self.now.connected }
     {
         self.connected
+    }
+
+    /// The tube that the client's jobs go into.
+    pub(crate) fn used(&self) -> &TubeName
+        ensures { result.now ≡ self.now.used }
+    {
+        &self.used
+    }
+
+    /// How many tubes are watched.
+    pub(crate) fn watch_count(&self) -> usize
+        ensures { result ≡ length self.now.watched }
+    {
+        self.watched.len()
+    }
+
+    pub(crate) fn watches(&self, name: &TubeName) -> bool
+        ensures { result ≡ watches name.now self.now }
+    {
+        self.watched.has(name)
+    }
+
+    /// Whether another tube than this one is watched.
+    pub(crate) fn watches_other(&self, name: &TubeName) -> bool
+        ensures { result ≡ list_any (λ other. not (is_same_name name.now other)) self.now.watched }
+    {
+        self.watched.has_other(name)
+    }
+
+    /// Whether an open seat uses or watches the tube, and this is it.
+    pub(crate) fn is_seated_at(&self, name: &TubeName) -> bool
+        ensures { result ≡ is_seated_at name.now self.now }
+    {
+        self.connected && (name == &self.used || self.watches(name))
     }
 
     pub(crate) fn is_waiting(&self) -> bool
@@ -121,14 +165,37 @@ impl Place {
     pub(crate) fn connect(&mut self)
         ensures { self.new ≡ record (empty_seat self.old.number) { connected = true } }
     {
-        self.wait = None;
-        self.ended = false;
+        self.clear();
         self.connected = true;
+    }
+
+    pub(crate) fn use_tube(&mut self, name: &TubeName)
+        ensures { self.new ≡ using name.now self.old }
+    {
+        self.used = *name;
+    }
+
+    /// Watches one more tube.
+    pub(crate) fn watch(&mut self, name: &TubeName) -> Result<(), NoMemory>
+        ensures watched { IfOk result (λ _. self.new ≡ watching (self.old.watched ++ name.now ∷ []) self.old) }
+        ensures same { OnErr result (self.new ≡ self.old) }
+    {
+        self.watched.push(*name)
+    }
+
+    /// Watches a tube no longer, where another one is still watched.
+    pub(crate) fn ignore(&mut self, name: &TubeName)
+        requires { list_any (λ other. not (is_same_name name.now other)) self.old.watched ≡ true }
+        ensures { self.new ≡ watching (filter (λ other. not (is_same_name name.now other)) self.old.watched) self.old }
+    {
+        self.watched.remove(name);
     }
 
     pub(crate) fn clear(&mut self)
         ensures { self.new ≡ empty_seat self.old.number }
     {
+        self.used = default_tube();
+        self.watched.reset();
         self.wait = None;
         self.ended = false;
         self.connected = false;

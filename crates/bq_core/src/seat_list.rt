@@ -1,18 +1,19 @@
-ghost use Rattle.std.specs.Prelude.{◌≡◌, ◌<◌, map, length, IfSome, IfOk};
-ghost use Rattle.std.specs.List.{AllByRecursion};
+ghost use Rattle.std.specs.Prelude.{◌≡◌, ◌<◌, ◌++◌, ◌∷◌, [], true, filter, map, length, not, set, slice_get, IfSome, IfOk, OnErr, Some};
+ghost use Rattle.std.specs.List.{list_any};
 ghost use Rattle.std.specs.Option.{option_copied};
-ghost use Rattle.bq_core.specs.Plain.{IsAtDefault};
-ghost use Rattle.bq_job.specs.Changes.{first_of, is_waiting, seat_with};
+ghost use Rattle.bq_job.specs.Changes.{first_of, seat_with};
 ghost use Rattle.bq_job.specs.Dispatch.{is_wait_before};
-ghost use Rattle.bq_job.specs.Machine.{empty_seat, numbers};
+ghost use Rattle.bq_job.specs.Machine.{SeatRecord, empty_seat, numbers};
+ghost use Rattle.bq_job.specs.TubeCommands.{watching};
+ghost use Rattle.bq_job.specs.TubeName.{is_same_name};
 ghost use Rattle.bq_core.specs.SeatChanges.{seat_changed, seat_changed_at};
 ghost use Rattle.bq_core.specs.Places.{item_at, better_if};
 ghost use Rattle.bq_core.specs.EndingWaits.{ends_waiting_among};
 
 use crate::job_list;
 use crate::place::Place;
-use bq_job::{Job, Moment, Seat};
-use std::alloc::{AllocError, Global};
+use bq_job::{Job, Moment, NoMemory, Seat, TubeName};
+use std::alloc::Global;
 
 /// What happens at a seat.
 #[derive(Clone, Copy, Debug)]
@@ -27,6 +28,8 @@ pub(crate) enum SeatChange {
     Clear,
     /// The client sends no more.
     End,
+    /// Its jobs go into this tube.
+    Use(TubeName),
 }
 
 fn change(place: &mut Place, what: &SeatChange)
@@ -38,6 +41,7 @@ fn change(place: &mut Place, what: &SeatChange)
         SeatChange::Connect => place.connect(),
         SeatChange::Clear => place.clear(),
         SeatChange::End => place.end(),
+        SeatChange::Use(tube) => place.use_tube(&tube),
     }
 }
 
@@ -49,7 +53,8 @@ fn change_if(place: &mut Place, number: Seat, what: &SeatChange)
     }
 }
 
-fn change_each(seats: &mut Vec<Place, Global>, number: Seat, what: &SeatChange)
+/// Changes the seat of this number.
+pub(crate) fn change_at(seats: &mut Vec<Place, Global>, number: Seat, what: &SeatChange)
     ensures { seats.new.items ≡ map (seat_changed_at number what.now) seats.old.items }
 {
     for place in seats.iter_mut() {
@@ -57,12 +62,33 @@ fn change_each(seats: &mut Vec<Place, Global>, number: Seat, what: &SeatChange)
     }
 }
 
-/// Changes the seat of this number. Every client uses and watches the default tube, as before.
-pub(crate) fn change_at(seats: &mut Vec<Place, Global>, number: Seat, what: &SeatChange)
-    ensures after { seats.new.items ≡ map (seat_changed_at number what.now) seats.old.items }
-    ensures tubes { AllByRecursion IsAtDefault seats.old.items → AllByRecursion IsAtDefault seats.new.items }
+/// The client at the seat of this number watches one more tube. Tells how many it watches then.
+pub(crate) fn watch(
+    seats: &mut Vec<Place, Global>,
+    number: Seat,
+    name: &TubeName,
+) -> Result<u64, NoMemory>
+    requires { number < length seats.old.items }
+    ensures count { IfOk result (λ n. (s : SeatRecord) → slice_get seats.old.items number ≡ Some s → n ≡ length (s.watched ++ name.now ∷ [])) }
+    ensures watched { IfOk result (λ _. (s : SeatRecord) → slice_get seats.old.items number ≡ Some s → seats.new.items ≡ set seats.old.items number (watching (s.watched ++ name.now ∷ []) s)) }
+    ensures same { OnErr result (seats.new.items ≡ seats.old.items) }
 {
-    change_each(seats, number, what);
+    let place = &mut seats[usize::from(number)];
+    place.watch(name)?;
+    Ok(place.watch_count() as u64)
+}
+
+/// The client at the seat of this number watches a tube no longer, where another one is still watched. Tells
+/// how many it watches then.
+pub(crate) fn ignore(seats: &mut Vec<Place, Global>, number: Seat, name: &TubeName) -> u64
+    requires there { number < length seats.old.items }
+    requires other { (s : SeatRecord) → slice_get seats.old.items number ≡ Some s → list_any (λ other. not (is_same_name name.now other)) s.watched ≡ true }
+    ensures count { (s : SeatRecord) → slice_get seats.old.items number ≡ Some s → result ≡ length (filter (λ other. not (is_same_name name.now other)) s.watched) }
+    ensures ignored { (s : SeatRecord) → slice_get seats.old.items number ≡ Some s → seats.new.items ≡ set seats.old.items number (watching (filter (λ other. not (is_same_name name.now other)) s.watched) s) }
+{
+    let place = &mut seats[usize::from(number)];
+    place.ignore(name);
+    place.watch_count() as u64
 }
 
 /// The seat of this number.
@@ -73,7 +99,7 @@ pub(crate) fn find(seats: &[Place], number: Seat) -> Option<&Place>
 }
 
 // The place of the client that has waited longest, once this one is looked at.
-fn better(seats: &[Place], best: Option<usize>, i: usize, passes: bool) -> Option<usize>
+pub(crate) fn better(seats: &[Place], best: Option<usize>, i: usize, passes: bool) -> Option<usize>
     requires best { IfSome best (λ k. k < length seats.now) }
     requires next { i < length seats.now }
     ensures bound { IfSome result (λ k. k < length seats.now) }
@@ -84,18 +110,6 @@ fn better(seats: &[Place], best: Option<usize>, i: usize, passes: bool) -> Optio
         Some(k) => passes && seats[i].is_before(&seats[k]),
     };
     if is_better { Some(i) } else { best }
-}
-
-/// The place of the client that has waited longest.
-pub(crate) fn first_waiter(seats: &[Place]) -> Option<usize>
-    ensures bound { IfSome result (λ i. i < length seats.now) }
-    ensures least { item_at seats.now result ≡ first_of is_waiting is_wait_before seats.now }
-{
-    let mut best = None;
-    for i in 0..seats.len() {
-        best = better(seats, best, i, seats[i].is_waiting());
-    }
-    best
 }
 
 /// Whether the client waits, and its wait ends at this moment.
@@ -119,12 +133,17 @@ pub(crate) fn first_ending(seats: &[Place], jobs: &[Job], moment: Moment) -> Opt
 }
 
 /// So many seats, with nobody there.
-pub(crate) fn new_places(alloc: Global, count: u16) -> Result<Vec<Place, Global>, AllocError>
+pub(crate) fn new_places(alloc: Global, count: u16) -> Result<Vec<Place, Global>, NoMemory>
     ensures { IfOk result (λ seats. seats.items ≡ map empty_seat (numbers 0 count)) }
 {
-    let mut seats = Vec::with_capacity(alloc, usize::from(count))?;
+    let Ok(mut seats) = Vec::with_capacity(alloc, usize::from(count)) else {
+        return Err(NoMemory);
+    };
     for number in 0..count {
-        seats.push_reserved(Place::new(number));
+        match Place::new(alloc, number) {
+            Ok(place) => seats.push_reserved(place),
+            Err(fault) => return Err(fault),
+        }
     }
     Ok(seats)
 }

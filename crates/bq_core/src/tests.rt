@@ -1,9 +1,9 @@
 //! Steps of a core, with the answers that the rules of the queue give them, found by hand.
-ghost use Rattle.std.specs.Prelude.{◌≡◌, IsTrue, IfOk};
-ghost use Rattle.bq_core.specs.Acting.{is_built};
+ghost use Rattle.std.specs.Prelude.{◌≡◌, IsTrue, IfOk, IfSome};
+ghost use Rattle.bq_core.specs.Acting.{is_built, is_built_request};
 
 use crate::{Config, Core, CoreFault, Outs};
-use bq_job::{Answer, Body, JobId, Moment, NoMemory, Pri, Refusal, Request, Seat, Step};
+use bq_job::{Answer, Body, JobId, Moment, NoMemory, Pri, Refusal, Request, Seat, Step, TubeName};
 use std::alloc::Global;
 use std::process::Abort;
 use std::test::Fail;
@@ -16,7 +16,25 @@ enum Do {
     /// Priority, delay and time to run in seconds, and the body.
     Put(Pri, u32, u32, &'static [u8]),
     Reserve,
+    /// Seconds.
+    ReserveWithTimeout(u32),
+    ReserveJob(JobId),
     Delete(JobId),
+    /// Id, priority and delay in seconds.
+    Release(JobId, Pri, u32),
+    Bury(JobId, Pri),
+    Touch(JobId),
+    KickJob(JobId),
+    Use(&'static [u8]),
+    ListTubeUsed,
+    Watch(&'static [u8]),
+    Ignore(&'static [u8]),
+    Peek(JobId),
+    PeekReady,
+    PeekDelayed,
+    PeekBuried,
+    /// Seconds.
+    PauseTube(&'static [u8], u32),
     Quit,
     Refused(Refusal),
     End,
@@ -30,8 +48,17 @@ enum Do {
 enum Want {
     Inserted(JobId),
     Reserved(JobId, &'static [u8]),
+    Found(JobId, &'static [u8]),
+    Using(&'static [u8]),
+    Watching(u64),
+    Kicked,
     Deleted,
+    Released,
+    Buried,
+    Touched,
+    Paused,
     NotFound,
+    NotIgnored,
     Draining,
     TimedOut,
     DeadlineSoon,
@@ -42,27 +69,66 @@ enum Want {
 /// A moment, a seat, what happens there, and the answers that it gives.
 type Example = (Moment, Seat, Do, &'static [(Seat, Want)]);
 
-fn step_of(alloc: Global, what: Do) -> Result<Step, NoMemory>
-    ensures { IfOk result (λ step. IsTrue (is_built step)) }
+fn request_of(rt: &impl Abort, alloc: Global, what: Do) -> Result<Option<Request>, NoMemory>
+    ensures { IfOk result (λ asked. IfSome asked (λ request. IsTrue (is_built_request request))) }
 {
-    Ok(match what {
-        Do::Connect => Step::Connect,
-        Do::Put(pri, delay, ttr, bytes) => Step::Ask(Request::Put {
+    Ok(Some(match what {
+        Do::Put(pri, delay, ttr, bytes) => Request::Put {
             pri,
             delay,
             ttr,
             body: Body::new(alloc, bytes)?,
-        }),
-        Do::Reserve => Step::Ask(Request::Reserve),
-        Do::Delete(id) => Step::Ask(Request::Delete { id }),
-        Do::Quit => Step::Ask(Request::Quit),
-        Do::Refused(why) => Step::Ask(Request::Refused(why)),
+        },
+        Do::Reserve => Request::Reserve,
+        Do::ReserveWithTimeout(seconds) => Request::ReserveWithTimeout { seconds },
+        Do::ReserveJob(id) => Request::ReserveJob { id },
+        Do::Delete(id) => Request::Delete { id },
+        Do::Release(id, pri, delay) => Request::Release { id, pri, delay },
+        Do::Bury(id, pri) => Request::Bury { id, pri },
+        Do::Touch(id) => Request::Touch { id },
+        Do::KickJob(id) => Request::KickJob { id },
+        Do::Use(name) => Request::Use {
+            tube: tube(rt, name),
+        },
+        Do::ListTubeUsed => Request::ListTubeUsed,
+        Do::Watch(name) => Request::Watch {
+            tube: tube(rt, name),
+        },
+        Do::Ignore(name) => Request::Ignore {
+            tube: tube(rt, name),
+        },
+        Do::Peek(id) => Request::Peek { id },
+        Do::PeekReady => Request::PeekReady,
+        Do::PeekDelayed => Request::PeekDelayed,
+        Do::PeekBuried => Request::PeekBuried,
+        Do::PauseTube(name, delay) => Request::PauseTube {
+            tube: tube(rt, name),
+            delay,
+        },
+        Do::Quit => Request::Quit,
+        Do::Refused(why) => Request::Refused(why),
+        Do::Connect | Do::End | Do::Close | Do::Drain | Do::Tick | Do::Gone => return Ok(None),
+    }))
+}
+
+fn step_of(rt: &impl Abort, alloc: Global, what: Do) -> Result<Step, NoMemory>
+    ensures { IfOk result (λ step. IsTrue (is_built step)) }
+{
+    if let Some(request) = request_of(rt, alloc, what)? {
+        return Ok(Step::Ask(request));
+    }
+    Ok(match what {
+        Do::Connect => Step::Connect,
         Do::End => Step::End,
         Do::Close => Step::Close,
         Do::Drain => Step::Drain,
-        Do::Tick => Step::Tick,
         Do::Gone => Step::Gone,
+        _ => Step::Tick,
     })
+}
+
+fn tube(rt: &impl Abort, name: &[u8]) -> TubeName {
+    TubeName::new(name).expect(rt, "a tube's name")
 }
 
 fn is_wanted(answer: &Answer, want: Want) -> bool {
@@ -71,8 +137,19 @@ fn is_wanted(answer: &Answer, want: Want) -> bool {
         (Answer::Reserved(id, body), Want::Reserved(wanted, bytes)) => {
             *id == wanted && body.as_slice() == bytes
         }
+        (Answer::Found(id, body), Want::Found(wanted, bytes)) => {
+            *id == wanted && body.as_slice() == bytes
+        }
+        (Answer::Using(tube), Want::Using(name)) => tube.as_slice() == name,
+        (Answer::Watching(count), Want::Watching(wanted)) => *count == wanted,
+        (Answer::Kicked, Want::Kicked) => true,
         (Answer::Deleted, Want::Deleted) => true,
+        (Answer::Released, Want::Released) => true,
+        (Answer::Buried, Want::Buried) => true,
+        (Answer::Touched, Want::Touched) => true,
+        (Answer::Paused, Want::Paused) => true,
         (Answer::NotFound, Want::NotFound) => true,
+        (Answer::NotIgnored, Want::NotIgnored) => true,
         (Answer::Draining, Want::Draining) => true,
         (Answer::TimedOut, Want::TimedOut) => true,
         (Answer::DeadlineSoon, Want::DeadlineSoon) => true,
@@ -117,7 +194,7 @@ fn play(rt: &impl Abort, alloc: Global, name: &str, examples: &[Example]) -> Res
     }
     for example in examples {
         let (at, seat, what, _) = *example;
-        let step = step_of(alloc, what)?;
+        let step = step_of(rt, alloc, what)?;
         core.step(at, seat, step, &mut outs);
         expect(rt, &mut outs, name, example);
         assert!(rt;
@@ -253,6 +330,153 @@ const END_OF_A_WAITER: &[Example] = &[
     (0, 0, Do::End, &[(0, Want::TimedOut)]),
 ];
 
+const WAITERS_OF_TWO_TUBES: &[Example] = &[
+    (0, 1, Do::Watch(b"a"), &[(1, Want::Watching(2))]),
+    (0, 1, Do::Ignore(b"default"), &[(1, Want::Watching(1))]),
+    (0, 1, Do::Reserve, &[]),
+    (0, 2, Do::Watch(b"a"), &[(2, Want::Watching(2))]),
+    (0, 2, Do::Watch(b"b"), &[(2, Want::Watching(3))]),
+    (0, 2, Do::Ignore(b"default"), &[(2, Want::Watching(2))]),
+    (0, 2, Do::Reserve, &[]),
+    (0, 0, Do::Use(b"b"), &[(0, Want::Using(b"b"))]),
+    (
+        0,
+        0,
+        Do::Put(0, 0, 9, b"p"),
+        &[(0, Want::Inserted(1)), (2, Want::Reserved(1, b"p"))],
+    ),
+    (0, 0, Do::Use(b"a"), &[(0, Want::Using(b"a"))]),
+    (
+        0,
+        0,
+        Do::Put(0, 0, 9, b"q"),
+        &[(0, Want::Inserted(2)), (1, Want::Reserved(2, b"q"))],
+    ),
+];
+
+const PAUSE_AND_DELAY_END_TOGETHER: &[Example] = &[
+    (0, 0, Do::Put(0, 5, 9, b"x"), &[(0, Want::Inserted(1))]),
+    (0, 0, Do::PauseTube(b"default", 5), &[(0, Want::Paused)]),
+    (0, 1, Do::ReserveWithTimeout(5), &[]),
+    (4999, 0, Do::Tick, &[]),
+    (5000, 0, Do::Tick, &[(1, Want::Reserved(1, b"x"))]),
+];
+
+const TOUCH_MOVES_THE_LEASE: &[Example] = &[
+    (0, 0, Do::Put(0, 0, 2, b"x"), &[(0, Want::Inserted(1))]),
+    (0, 0, Do::Reserve, &[(0, Want::Reserved(1, b"x"))]),
+    (0, 1, Do::Touch(1), &[(1, Want::NotFound)]),
+    (1500, 0, Do::Touch(1), &[(0, Want::Touched)]),
+    (2000, 0, Do::Tick, &[]),
+    (3500, 0, Do::Touch(1), &[(0, Want::NotFound)]),
+];
+
+const RELEASE_WITH_DELAY: &[Example] = &[
+    (0, 0, Do::Put(0, 0, 9, b"x"), &[(0, Want::Inserted(1))]),
+    (0, 0, Do::Reserve, &[(0, Want::Reserved(1, b"x"))]),
+    (0, 1, Do::Release(1, 7, 3), &[(1, Want::NotFound)]),
+    (0, 0, Do::Release(1, 7, 3), &[(0, Want::Released)]),
+    (2999, 0, Do::Reserve, &[]),
+    (3000, 0, Do::Tick, &[(0, Want::Reserved(1, b"x"))]),
+];
+
+const RELEASE_KEEPS_THE_ID: &[Example] = &[
+    (0, 0, Do::Put(4, 0, 9, b"x"), &[(0, Want::Inserted(1))]),
+    (0, 0, Do::Put(4, 0, 9, b"y"), &[(0, Want::Inserted(2))]),
+    (0, 0, Do::Reserve, &[(0, Want::Reserved(1, b"x"))]),
+    (0, 0, Do::Release(1, 5, 0), &[(0, Want::Released)]),
+    (0, 0, Do::Reserve, &[(0, Want::Reserved(2, b"y"))]),
+    (0, 0, Do::Release(1, 0, 0), &[(0, Want::NotFound)]),
+    (0, 0, Do::Delete(1), &[(0, Want::Deleted)]),
+];
+
+const TIMED_WAITS_BY_TICKET: &[Example] = &[
+    (0, 2, Do::ReserveWithTimeout(1), &[]),
+    (0, 1, Do::ReserveWithTimeout(1), &[]),
+    (
+        1000,
+        0,
+        Do::Tick,
+        &[(2, Want::TimedOut), (1, Want::TimedOut)],
+    ),
+];
+
+const PAUSE_LIFTED: &[Example] = &[
+    (0, 0, Do::Put(0, 0, 9, b"x"), &[(0, Want::Inserted(1))]),
+    (0, 0, Do::PauseTube(b"default", 5), &[(0, Want::Paused)]),
+    (0, 1, Do::Reserve, &[]),
+    (
+        1000,
+        0,
+        Do::PauseTube(b"default", 0),
+        &[(0, Want::Paused), (1, Want::Reserved(1, b"x"))],
+    ),
+];
+
+const PAUSED_TUBE: &[Example] = &[
+    (0, 0, Do::Put(2, 0, 9, b"x"), &[(0, Want::Inserted(1))]),
+    (0, 0, Do::PauseTube(b"default", 60), &[(0, Want::Paused)]),
+    (0, 0, Do::ReserveWithTimeout(0), &[(0, Want::TimedOut)]),
+    (0, 0, Do::PeekReady, &[(0, Want::Found(1, b"x"))]),
+    (0, 0, Do::ReserveJob(1), &[(0, Want::Reserved(1, b"x"))]),
+    (0, 0, Do::ReserveJob(1), &[(0, Want::NotFound)]),
+    (0, 0, Do::PauseTube(b"b", 1), &[(0, Want::NotFound)]),
+    (0, 0, Do::PeekReady, &[(0, Want::NotFound)]),
+];
+
+const LEAST_ACROSS_TUBES: &[Example] = &[
+    (0, 0, Do::Watch(b"a"), &[(0, Want::Watching(2))]),
+    (0, 0, Do::Put(7, 0, 9, b"x"), &[(0, Want::Inserted(1))]),
+    (0, 0, Do::Use(b"a"), &[(0, Want::Using(b"a"))]),
+    (0, 0, Do::Put(3, 0, 9, b"y"), &[(0, Want::Inserted(2))]),
+    (0, 0, Do::Use(b"default"), &[(0, Want::Using(b"default"))]),
+    (0, 0, Do::Put(3, 0, 9, b"z"), &[(0, Want::Inserted(3))]),
+    (0, 0, Do::Reserve, &[(0, Want::Reserved(2, b"y"))]),
+    (0, 0, Do::Reserve, &[(0, Want::Reserved(3, b"z"))]),
+    (0, 0, Do::Reserve, &[(0, Want::Reserved(1, b"x"))]),
+];
+
+const WATCH_LISTS: &[Example] = &[
+    (0, 0, Do::Ignore(b"default"), &[(0, Want::NotIgnored)]),
+    (0, 0, Do::Ignore(b"b"), &[(0, Want::Watching(1))]),
+    (0, 0, Do::Watch(b"b"), &[(0, Want::Watching(2))]),
+    (0, 0, Do::Watch(b"b"), &[(0, Want::Watching(2))]),
+    (0, 0, Do::Ignore(b"default"), &[(0, Want::Watching(1))]),
+    (0, 0, Do::ListTubeUsed, &[(0, Want::Using(b"default"))]),
+    (0, 0, Do::Close, &[(0, Want::Closed)]),
+    (0, 0, Do::Connect, &[]),
+    (0, 0, Do::Ignore(b"default"), &[(0, Want::NotIgnored)]),
+];
+
+const SINGLE_JOBS: &[Example] = &[
+    (0, 0, Do::Put(0, 9, 9, b"x"), &[(0, Want::Inserted(1))]),
+    (0, 0, Do::Put(0, 5, 9, b"y"), &[(0, Want::Inserted(2))]),
+    (0, 0, Do::PeekDelayed, &[(0, Want::Found(2, b"y"))]),
+    (0, 0, Do::PeekBuried, &[(0, Want::NotFound)]),
+    (0, 0, Do::KickJob(2), &[(0, Want::Kicked)]),
+    (0, 0, Do::KickJob(2), &[(0, Want::NotFound)]),
+    (0, 0, Do::ReserveJob(1), &[(0, Want::Reserved(1, b"x"))]),
+    (0, 1, Do::Bury(1, 3), &[(1, Want::NotFound)]),
+    (0, 0, Do::Bury(1, 3), &[(0, Want::Buried)]),
+    (0, 1, Do::PeekBuried, &[(1, Want::Found(1, b"x"))]),
+    (0, 1, Do::Peek(2), &[(1, Want::Found(2, b"y"))]),
+    (0, 1, Do::Peek(3), &[(1, Want::NotFound)]),
+    (0, 1, Do::ReserveJob(3), &[(1, Want::NotFound)]),
+    (0, 1, Do::KickJob(1), &[(1, Want::Kicked)]),
+    (0, 1, Do::PeekDelayed, &[(1, Want::NotFound)]),
+];
+
+const A_TUBE_IS_FORGOTTEN: &[Example] = &[
+    (0, 0, Do::Use(b"a"), &[(0, Want::Using(b"a"))]),
+    (0, 0, Do::PauseTube(b"a", 60), &[(0, Want::Paused)]),
+    (0, 0, Do::Use(b"default"), &[(0, Want::Using(b"default"))]),
+    (0, 0, Do::PauseTube(b"a", 60), &[(0, Want::NotFound)]),
+    (0, 0, Do::Use(b"a"), &[(0, Want::Using(b"a"))]),
+    (0, 0, Do::Put(0, 0, 9, b"x"), &[(0, Want::Inserted(1))]),
+    (0, 1, Do::Watch(b"a"), &[(1, Want::Watching(2))]),
+    (0, 1, Do::Reserve, &[(1, Want::Reserved(1, b"x"))]),
+];
+
 #[test]
 fn examples_of_steps(rt: HostRuntime) -> Result<(), Fail> {
     play(&rt, rt.alloc(), "first_cycle", FIRST_CYCLE)?;
@@ -293,6 +517,27 @@ fn examples_of_steps(rt: HostRuntime) -> Result<(), Fail> {
     play(&rt, rt.alloc(), "falling_moment", FALLING_MOMENT)?;
     play(&rt, rt.alloc(), "no_such_seat", NO_SUCH_SEAT)?;
     play(&rt, rt.alloc(), "end_of_a_waiter", END_OF_A_WAITER)
+}
+
+#[test]
+fn rows_of_tubes(rt: HostRuntime) -> Result<(), Fail> {
+    for (name, examples) in [
+        ("waiters_of_two_tubes", WAITERS_OF_TWO_TUBES),
+        ("pause_and_delay_end_together", PAUSE_AND_DELAY_END_TOGETHER),
+        ("touch_moves_the_lease", TOUCH_MOVES_THE_LEASE),
+        ("release_with_delay", RELEASE_WITH_DELAY),
+        ("release_keeps_the_id", RELEASE_KEEPS_THE_ID),
+        ("timed_waits_by_ticket", TIMED_WAITS_BY_TICKET),
+        ("pause_lifted", PAUSE_LIFTED),
+        ("paused_tube", PAUSED_TUBE),
+        ("least_across_tubes", LEAST_ACROSS_TUBES),
+        ("watch_lists", WATCH_LISTS),
+        ("single_jobs", SINGLE_JOBS),
+        ("a_tube_is_forgotten", A_TUBE_IS_FORGOTTEN),
+    ] {
+        play(&rt, rt.alloc(), name, examples)?;
+    }
+    Ok(())
 }
 
 #[test]

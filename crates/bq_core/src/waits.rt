@@ -1,6 +1,7 @@
-ghost use Rattle.std.specs.Prelude.{◌≡◌, ◌<◌, ◌++◌, ◌∷◌, [], None, true, false, length};
+ghost use Rattle.std.specs.Prelude.{◌≡◌, ◌<◌, None, true, false, length};
 ghost use Rattle.bq_job.specs.Computed.{waiting_count};
-ghost use Rattle.bq_job.specs.Waits.{WaitEndTurn, next_end};
+ghost use Rattle.bq_job.specs.Waits.{WaitEndTurn, end_of_wait, next_end};
+ghost use Rattle.bq_job.specs.Machine.{SeatRecord};
 ghost use Rattle.bq_core.specs.State.{machine_of, IsSound};
 ghost use Rattle.bq_core.specs.Turns.{Gives, HasRoom, none_refused};
 ghost use Rattle.bq_core.specs.WaitEnds.{EndsWait};
@@ -8,8 +9,19 @@ ghost use Rattle.bq_core.specs.WaitEnds.{EndsWait};
 use crate::outs::Outs;
 use crate::seat_list::SeatChange;
 use crate::state::State;
-use crate::{job_list, seat_list};
-use bq_job::Answer;
+use crate::{job_list, state};
+use bq_job::{Answer, Seat};
+
+// What a client is told whose wait ends now.
+fn end_of_wait(state: &State, number: Seat) -> Answer
+    ensures { (s : SeatRecord) → s.number ≡ number → result ≡ end_of_wait (machine_of state.now) s }
+{
+    if job_list::is_deadline_soon(state.jobs.as_slice(), number, state.moment) {
+        Answer::DeadlineSoon
+    } else {
+        Answer::TimedOut
+    }
+}
 
 // The wait of the client at place k ends.
 fn end_wait(state: &mut State, outs: &mut Outs, k: usize)
@@ -21,13 +33,9 @@ fn end_wait(state: &mut State, outs: &mut Outs, k: usize)
     ensures config { state.new.config ≡ state.old.config }
 {
     let number = state.seats[k].number();
-    let answer = if job_list::is_deadline_soon(state.jobs.as_slice(), number, state.moment) {
-        Answer::DeadlineSoon
-    } else {
-        Answer::TimedOut
-    };
+    let answer = end_of_wait(state, number);
+    state::change_seat(state, number, &SeatChange::StopWaiting);
     outs.push(number, answer);
-    seat_list::change_at(&mut state.seats, number, &SeatChange::StopWaiting);
 }
 
 // Ends one wait, if there is one that ends now.

@@ -5,5 +5,5 @@ use Rattle.bq_core.proofs.acts.ask.Goals as goal
 
 pub returns-then-is_asking-clause-reply : goal.returns-then-is_asking-clause-reply
 returns-then-is_asking-clause-reply c =
-    let asks = ask_at c.args.state.now c.args.seat c.args.request c.requires.sound.seats (sym c.if-is_asking.ensures) in
-    rw asks.asks (c.answer.ensures.reply asks.asker asks.at_default asks.number)
+    let asks = ask_at (machine_of c.args.state.now) c.args.seat c.args.request (sym c.if-is_asking.ensures) in
+    rw asks.asks (c.answer.ensures.reply asks.asker asks.found)

@@ -1,5 +1,5 @@
 use Rattle.std.proofs.Common.{◌∙◌, ap, ◌++◌, ◌∷◌, [], arith, map, sym}
-use Rattle.bq_job.specs.Machine.{empty_seat, numbers}
+use Rattle.bq_job.specs.Machine.{SeatRecord, empty_seat, numbers}
 use Rattle.bq_core.proofs.StepLemmas.{places_more}
 use Rattle.bq_core.proofs.seat_list.new_places.Goals as goal
 
@@ -7,8 +7,8 @@ pub loop-number-preserved : goal.loop-number-preserved
 loop-number-preserved c = record {
   seats =
       c.push_reserved.ensures.items
-      ∙ ap (λ seats. seats ++ c.new.result ∷ []) c.loop-number.invariant.seats
-      ∙ ap (λ s. map empty_seat (numbers 0 c.loop-number.number) ++ s ∷ []) c.new.ensures
+      ∙ ap (λ seats. seats ++ c.in-Ok-new.place ∷ []) c.loop-number.invariant.seats
+      ∙ ap (λ (s : SeatRecord). map empty_seat (numbers 0 c.loop-number.number) ++ s ∷ []) c.in-Ok-new.ensures
       ∙ sym (places_more c.loop-number.number);
   len = omega arith;
   room = omega arith;

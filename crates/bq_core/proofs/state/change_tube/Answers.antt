@@ -1,0 +1,23 @@
+use Rattle.std.proofs.Common.{◌∙◌, ap, sym}
+use Rattle.bq_core.specs.State.{machine_of}
+use Rattle.bq_core.specs.TubeEntries.{counted, tube_changed}
+use Rattle.bq_core.proofs.StateLemmas.{entries_of_tube, tube_counts, tube_name_kept}
+use Rattle.bq_core.proofs.TubeLemmas.{record_changed}
+use Rattle.bq_core.proofs.state.change_tube.Goals as goal
+
+pub returns-clause-after : goal.returns-clause-after
+returns-clause-after c =
+    let s = c.args.state.now in
+    let e = c.requires.sound.entries in
+    ap (λ tubes. record (machine_of s) { tubes = tubes })
+    (ap counted c.change_at.ensures
+    ∙ sym (record_changed c.args.tube.now (tube_changed c.args.what) (tube_counts c.args.what) (tube_name_kept c.args.what) s.tubes.items e.order e.fresh c.requires.entry))
+
+pub returns-clause-sound : goal.returns-clause-sound
+returns-clause-sound c =
+    let was = c.requires.sound in
+    record {
+      entries = rw c.change_at.ensures (entries_of_tube c.args.tube.now c.args.what c.args.state.now.jobs.items c.args.state.now.seats.items c.args.state.now.tubes.items was.entries);
+      numbered = was.numbered;
+      next = was.next;
+    }

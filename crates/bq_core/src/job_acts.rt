@@ -1,0 +1,221 @@
+ghost use Rattle.std.specs.Prelude.{◌≡◌, ◌==◌, ◌+◌, ◌++◌, ◌∷◌, [], true, false, Some, None, nat_le};
+ghost use Rattle.bq_job.specs.Acts.{silent, telling};
+ghost use Rattle.bq_job.specs.Changes.{is_held_by, job_with, seat_with};
+ghost use Rattle.bq_job.specs.JobCommands.{bury_effect, delete_effect, kick_job_effect, last_id, new_job as job_of_put, put_effect, release_effect, reserve_effect, reserve_job_effect, touch_effect};
+ghost use Rattle.bq_job.specs.Limits.{later as later_by, raised};
+ghost use Rattle.bq_job.specs.Machine.{SeatRecord};
+ghost use Rattle.bq_core.specs.Acting.{Replies, is_asking};
+ghost use Rattle.bq_core.specs.JobChanges.{is_passed_by};
+ghost use Rattle.bq_core.specs.State.{machine_of, IsSound};
+ghost use Rattle.bq_core.specs.TubeEntries.{has_entry};
+
+use crate::job_list::JobChange;
+use crate::reply::Reply;
+use crate::seat_list::SeatChange;
+use crate::state::State;
+use crate::tube_list::TubeChange;
+use crate::{job_list, seat_list, state};
+use bq_job::{Answer, Body, Counts, Job, JobId, JobState, Moment, Pri, Seat, TubeName};
+
+// The last id that is given: with it the core begins to drain, so that the next id always fits.
+const LAST_ID: JobId = u64::MAX - 1;
+
+/// A new job, as its client wants it.
+#[derive(Debug, Drop)]
+pub(crate) struct NewJob {
+    pub(crate) pri: Pri,
+    pub(crate) delay: u32,
+    pub(crate) ttr: u32,
+    pub(crate) body: Body,
+}
+
+/// What a released job gets.
+#[derive(Clone, Copy, Debug)]
+pub(crate) struct NewTurn {
+    pub(crate) pri: Pri,
+    pub(crate) delay: u32,
+}
+
+// The job that a put makes; its time to run is at least a second.
+fn new_job(state: &State, tube: TubeName, new: NewJob) -> Job
+    ensures { (s : SeatRecord) → s.used ≡ tube → result ≡ job_of_put (machine_of state.now) s new.pri new.delay new.ttr new.body }
+{
+    Job {
+        id: state.next_id,
+        tube,
+        pri: new.pri,
+        delay: new.delay,
+        ttr: new.ttr.max(1),
+        body: new.body,
+        put_at: state.moment,
+        counts: Counts::default(),
+        state: job_list::delayed_by(new.delay, state.moment),
+    }
+}
+
+/// Puts a job. The one growth that it needs comes before any change.
+pub(crate) fn put(state: &mut State, seat: Seat, new: NewJob) -> Reply
+    requires sound { IsSound state.old }
+    requires asks { is_asking (seat_with seat state.old.seats.items) ≡ true }
+    ensures reply { (s : SeatRecord) → seat_with seat (machine_of state.old).seats ≡ Some s → Replies true (machine_of state.old) (put_effect new.pri new.delay new.ttr new.body (machine_of state.old) s) result (machine_of state.new) }
+    ensures sound { IsSound state.new }
+    ensures config { state.new.config ≡ state.old.config }
+{
+    if state.draining {
+        return Reply::Told(Answer::Draining);
+    }
+    let Some(place) = seat_list::find(state.seats.as_slice(), seat) else {
+        return Reply::Silent;
+    };
+    let tube = *place.used();
+    let Ok(()) = state.jobs.reserve(1) else {
+        return Reply::LeftOut;
+    };
+    let id = state.next_id;
+    state::change_tube(state, &tube, TubeChange::CountPut);
+    let job = new_job(state, tube, new);
+    state.jobs.push_reserved(job);
+    state.next_id = id + 1;
+    state.puts = state.puts.saturating_add(1);
+    state.draining = id >= LAST_ID;
+    Reply::Told(Answer::Inserted(id))
+}
+
+/// The client waits, until this moment if there is one.
+pub(crate) fn reserve(state: &mut State, seat: Seat, until: Option<Moment>)
+    requires { IsSound state.old }
+    ensures reply { (s : SeatRecord) → s.number ≡ seat → reserve_effect until (machine_of state.old) s ≡ silent (machine_of state.new) }
+    ensures sound { IsSound state.new }
+    ensures config { state.new.config ≡ state.old.config }
+{
+    state.tickets = state.tickets.saturating_add(1);
+    let change = SeatChange::Wait(state.tickets, until);
+    state::change_seat(state, seat, &change);
+}
+
+/// The client waits, for so many seconds at most.
+pub(crate) fn reserve_until(state: &mut State, seat: Seat, seconds: u32)
+    requires { IsSound state.old }
+    ensures reply { (s : SeatRecord) → s.number ≡ seat → reserve_effect (Some (later_by (machine_of state.old).moment seconds)) (machine_of state.old) s ≡ silent (machine_of state.new) }
+    ensures sound { IsSound state.new }
+    ensures config { state.new.config ≡ state.old.config }
+{
+    let until = job_list::later(state.moment, seconds);
+    reserve(state, seat, Some(until));
+}
+
+/// Reserves a job that nobody holds, in whatever tube.
+pub(crate) fn reserve_job(state: &mut State, seat: Seat, id: JobId) -> Reply
+    requires { IsSound state.old }
+    ensures reply { (s : SeatRecord) → s.number ≡ seat → Replies false (machine_of state.old) (reserve_job_effect id (machine_of state.old) s) result (machine_of state.new) }
+    ensures sound { IsSound state.new }
+    ensures config { state.new.config ≡ state.old.config }
+{
+    let Some(job) = state.job(id) else {
+        return Reply::Told(Answer::NotFound);
+    };
+    if job_list::is_reserved(job) {
+        return Reply::Told(Answer::NotFound);
+    }
+    let Ok(body) = job.body.share() else {
+        return Reply::Unshared;
+    };
+    let change = JobChange::HandOut(id, seat, state.moment);
+    state::change_jobs(state, &change);
+    Reply::Told(Answer::Reserved(id, body))
+}
+
+/// Takes out a job that nobody holds, or that the client holds itself.
+pub(crate) fn delete(state: &mut State, seat: Seat, id: JobId) -> Answer
+    requires { IsSound state.old }
+    ensures reply { (s : SeatRecord) → s.number ≡ seat → delete_effect id (machine_of state.old) s ≡ telling result (machine_of state.new) }
+    ensures sound { IsSound state.new }
+    ensures config { state.new.config ≡ state.old.config }
+{
+    let Some(job) = state.job(id) else {
+        return Answer::NotFound;
+    };
+    if !job_list::is_free_for(job, seat) {
+        return Answer::NotFound;
+    }
+    let tube = job.tube;
+    state::change_tube(state, &tube, TubeChange::CountDelete);
+    state::take_out(state, id);
+    Answer::Deleted
+}
+
+// Whether the client at the seat holds the job of this id.
+fn holds(state: &State, seat: Seat, id: JobId) -> bool
+    ensures { result ≡ is_passed_by (is_held_by seat) (job_with id (machine_of state.now).jobs) }
+{
+    match state.job(id) {
+        None => false,
+        Some(job) => job_list::is_held_by(job, seat),
+    }
+}
+
+/// Gives a job back that the client holds.
+pub(crate) fn release(state: &mut State, seat: Seat, id: JobId, with: NewTurn) -> Answer
+    requires { IsSound state.old }
+    ensures reply { (s : SeatRecord) → s.number ≡ seat → release_effect id with.pri with.delay (machine_of state.old) s ≡ telling result (machine_of state.new) }
+    ensures sound { IsSound state.new }
+    ensures config { state.new.config ≡ state.old.config }
+{
+    if !holds(state, seat, id) {
+        return Answer::NotFound;
+    }
+    let change = JobChange::Release(id, with.pri, with.delay, state.moment);
+    state::change_jobs(state, &change);
+    Answer::Released
+}
+
+/// Puts a job aside that the client holds.
+pub(crate) fn bury(state: &mut State, seat: Seat, id: JobId, pri: Pri) -> Answer
+    requires { IsSound state.old }
+    ensures reply { (s : SeatRecord) → s.number ≡ seat → bury_effect id pri (machine_of state.old) s ≡ telling result (machine_of state.new) }
+    ensures sound { IsSound state.new }
+    ensures config { state.new.config ≡ state.old.config }
+{
+    if !holds(state, seat, id) {
+        return Answer::NotFound;
+    }
+    state.burials = state.burials.saturating_add(1);
+    let change = JobChange::Bury(id, state.burials, pri);
+    state::change_jobs(state, &change);
+    Answer::Buried
+}
+
+/// The time to run of a job that the client holds begins anew.
+pub(crate) fn touch(state: &mut State, seat: Seat, id: JobId) -> Answer
+    requires { IsSound state.old }
+    ensures reply { (s : SeatRecord) → s.number ≡ seat → touch_effect id (machine_of state.old) s ≡ telling result (machine_of state.new) }
+    ensures sound { IsSound state.new }
+    ensures config { state.new.config ≡ state.old.config }
+{
+    let Some(job) = state.job(id) else {
+        return Answer::NotFound;
+    };
+    if !job_list::is_held_by(job, seat) {
+        return Answer::NotFound;
+    }
+    let change = JobChange::Touch(id, seat, job_list::later(state.moment, job.ttr));
+    state::change_jobs(state, &change);
+    Answer::Touched
+}
+
+/// A buried or delayed job becomes ready.
+pub(crate) fn kick_job(state: &mut State, id: JobId) -> Answer
+    requires { IsSound state.old }
+    ensures reply { (s : SeatRecord) → kick_job_effect id (machine_of state.old) s ≡ telling result (machine_of state.new) }
+    ensures sound { IsSound state.new }
+    ensures config { state.new.config ≡ state.old.config }
+{
+    let Some(job) = state.job(id) else {
+        return Answer::NotFound;
+    };
+    if !job_list::is_kickable(job) {
+        return Answer::NotFound;
+    }
+    state::change_jobs(state, &JobChange::Kick(id));
+    Answer::Kicked
+}

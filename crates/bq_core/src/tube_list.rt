@@ -1,0 +1,239 @@
+ghost use Rattle.std.specs.Prelude.{◌≡◌, ◌&&◌, ◌∷◌, [], IfOk, filter, map, is_some, is_ok, not, if◌then◌else◌};
+ghost use Rattle.std.specs.List.{list_any, position, prefix_len};
+ghost use Rattle.bq_job.specs.Machine.{default_tube};
+ghost use Rattle.bq_job.specs.TubeCommands.{with_pause};
+ghost use Rattle.bq_job.specs.TubeName.{is_same_name};
+ghost use Rattle.bq_job.specs.Tubes.{fresh_tube, is_name_before, is_seated_at as seated_at};
+ghost use Rattle.bq_job.specs.Timers.{tube_after_timers};
+ghost use Rattle.bq_core.specs.TubeEntries.{has_entry, is_tube_of, provided, tube_changed, tube_changed_at};
+
+use crate::job_list::later;
+use crate::place::Place;
+use crate::watch_list::default_tube;
+use bq_job::{Job, Moment, NoMemory, TubeName};
+use std::alloc::Global;
+use std::marker::Model;
+
+/// A pause of a tube.
+#[derive(Clone, Copy, Debug)]
+pub(crate) struct Pausing {
+    seconds: u32,
+    until: Moment,
+}
+
+impl Model for Pausing {
+    ghost use Rattle.bq_job.specs.Machine.{Pause};
+
+    ghost Value = { Pause };
+
+    ghost view = { λ p. record { seconds = p.seconds; until = p.until } };
+
+    ghost inverse = { λ p. record { seconds = p.seconds; until = p.until } };
+}
+
+/// What is kept of a tube that exists.
+#[derive(Debug, Drop)]
+pub(crate) struct TubeEntry {
+    name: TubeName,
+    pause: Option<Pausing>,
+    puts: u64,
+    deletes: u64,
+    pauses: u64,
+}
+
+impl Model for TubeEntry {
+    ghost use Rattle.bq_job.specs.Machine.{TubeRecord};
+
+    ghost Value = { TubeRecord };
+
+    ghost view = { λ t. record { name = t.name; pause = t.pause; puts = t.puts; deletes = t.deletes; pauses = t.pauses } };
+}
+
+/// What happens to a tube.
+#[derive(Clone, Copy, Debug)]
+pub(crate) enum TubeChange {
+    CountPut,
+    CountDelete,
+    /// It is paused so many seconds from this moment on.
+    Pause(u32, Moment),
+}
+
+impl TubeEntry {
+    fn new(name: TubeName) -> TubeEntry
+        ensures { result ≡ fresh_tube name }
+    {
+        TubeEntry {
+            name,
+            pause: None,
+            puts: 0,
+            deletes: 0,
+            pauses: 0,
+        }
+    }
+
+    pub(crate) fn name(&self) -> &TubeName
+        ensures { result.now ≡ self.now.name }
+    {
+        &self.name
+    }
+
+    fn is_paused(&self) -> bool
+        ensures { result ≡ is_some self.now.pause }
+    {
+        self.pause.is_some()
+    }
+
+    fn is_named(&self, name: &TubeName) -> bool
+        ensures { result ≡ is_same_name name.now self.now.name }
+    {
+        name == &self.name
+    }
+
+    fn is_before(&self, name: &TubeName) -> bool
+        ensures { result ≡ is_name_before self.now.name name.now }
+    {
+        self.name.as_slice().cmp(name.as_slice()).is_lt()
+    }
+
+    fn set_pause(&mut self, seconds: u32, moment: Moment)
+        ensures { self.new ≡ with_pause seconds moment self.old }
+    {
+        self.pauses = self.pauses.saturating_add(1);
+        self.pause = if seconds == 0 {
+            None
+        } else {
+            Some(Pausing {
+                seconds,
+                until: later(moment, seconds),
+            })
+        };
+    }
+
+    fn change(&mut self, what: TubeChange)
+        ensures { self.new ≡ tube_changed what self.old }
+    {
+        match what {
+            TubeChange::CountPut => self.puts = self.puts.saturating_add(1),
+            TubeChange::CountDelete => self.deletes = self.deletes.saturating_add(1),
+            TubeChange::Pause(seconds, moment) => self.set_pause(seconds, moment),
+        }
+    }
+
+    fn change_if(&mut self, name: &TubeName, what: TubeChange)
+        ensures { self.new ≡ tube_changed_at name.now what self.old }
+    {
+        if self.is_named(name) {
+            self.change(what);
+        }
+    }
+
+    fn fire_timer(&mut self, moment: Moment)
+        ensures { self.new ≡ tube_after_timers moment self.old }
+    {
+        let Some(pause) = self.pause else {
+            return;
+        };
+        if pause.until <= moment {
+            self.pause = None;
+        }
+    }
+}
+
+/// Changes the tube of this name.
+pub(crate) fn change_at(tubes: &mut Vec<TubeEntry, Global>, name: &TubeName, what: TubeChange)
+    ensures { tubes.new.items ≡ map (tube_changed_at name.now what) tubes.old.items }
+{
+    for entry in tubes.iter_mut() {
+        entry.change_if(name, what);
+    }
+}
+
+/// Pauses that are over end.
+pub(crate) fn fire_timers(tubes: &mut Vec<TubeEntry, Global>, moment: Moment)
+    ensures { tubes.new.items ≡ map (tube_after_timers moment) tubes.old.items }
+{
+    for entry in tubes.iter_mut() {
+        entry.fire_timer(moment);
+    }
+}
+
+pub(crate) fn has(tubes: &[TubeEntry], name: &TubeName) -> bool
+    ensures { result ≡ has_entry name.now tubes.now }
+{
+    tubes.iter().any(|entry| entry.is_named(name))
+}
+
+pub(crate) fn is_paused(tubes: &[TubeEntry], name: &TubeName) -> bool
+    ensures { result ≡ list_any (λ t. is_same_name name.now t.name && is_some t.pause) tubes.now }
+{
+    tubes
+        .iter()
+        .any(|entry| entry.is_named(name) && entry.is_paused())
+}
+
+// The place of the first entry that doesn't come before this name.
+fn first_after(tubes: &[TubeEntry], name: &TubeName) -> Option<usize>
+    ensures { result ≡ position (λ t. not (is_name_before t.name name.now)) tubes.now }
+{
+    tubes.iter().position(|entry| !entry.is_before(name))
+}
+
+// Where an entry of this name would stand.
+fn place_of(tubes: &[TubeEntry], name: &TubeName) -> usize
+    ensures { result ≡ prefix_len (λ t. is_name_before t.name name.now) tubes.now }
+{
+    first_after(tubes, name).unwrap_or(tubes.len())
+}
+
+/// Sees to it that a tube has an entry.
+pub(crate) fn provide(tubes: &mut Vec<TubeEntry, Global>, name: &TubeName) -> Result<(), NoMemory>
+    ensures { tubes.new.items ≡ (if is_ok result then provided name.now tubes.old.items else tubes.old.items) }
+{
+    if has(tubes.as_slice(), name) {
+        return Ok(());
+    }
+    let i = place_of(tubes.as_slice(), name);
+    match tubes.insert(i, TubeEntry::new(*name)) {
+        Ok(()) => Ok(()),
+        Err(_) => Err(NoMemory),
+    }
+}
+
+/// The default tube's entry.
+pub(crate) fn first_entries(alloc: Global) -> Result<Vec<TubeEntry, Global>, NoMemory>
+    ensures { IfOk result (λ tubes. tubes.items ≡ fresh_tube default_tube ∷ []) }
+{
+    let mut tubes = Vec::new(alloc);
+    match tubes.push(TubeEntry::new(default_tube())) {
+        Ok(()) => Ok(tubes),
+        Err(_) => Err(NoMemory),
+    }
+}
+
+// Whether a job is in the tube.
+fn has_job_in(jobs: &[Job], name: &TubeName) -> bool
+    ensures { result ≡ list_any (λ j. is_same_name name.now j.tube) jobs.now }
+{
+    jobs.iter().any(|job| name == &job.tube)
+}
+
+// Whether an open seat uses or watches the tube.
+fn is_seated_at(seats: &[Place], name: &TubeName) -> bool
+    ensures { result ≡ list_any (seated_at name.now) seats.now }
+{
+    seats.iter().any(|place| place.is_seated_at(name))
+}
+
+/// Whether the tube exists.
+pub(crate) fn is_tube(jobs: &[Job], seats: &[Place], name: &TubeName) -> bool
+    ensures { result ≡ is_tube_of jobs.now seats.now name.now }
+{
+    *name == default_tube() || has_job_in(jobs, name) || is_seated_at(seats, name)
+}
+
+/// Drops the entries of tubes that are gone.
+pub(crate) fn forget(tubes: &mut Vec<TubeEntry, Global>, jobs: &[Job], seats: &[Place])
+    ensures { tubes.new.items ≡ filter (λ t. is_tube_of jobs.now seats.now t.name) tubes.old.items }
+{
+    tubes.retain(|entry| is_tube(jobs, seats, entry.name()));
+}

@@ -1,0 +1,99 @@
+ghost use Rattle.std.specs.Prelude.{◌≡◌, ◌++◌, ◌∷◌, [], true, filter, not, length, IfOk, OnErr};
+ghost use Rattle.std.specs.List.{list_any};
+ghost use Rattle.bq_job.specs.Machine.{default_tube};
+ghost use Rattle.bq_job.specs.TubeName.{is_same_name};
+
+use bq_job::{NoMemory, TubeName};
+use std::alloc::Global;
+use std::marker::Model;
+
+/// The tubes that a client watches, in the order in which they were watched. There is one at least.
+#[derive(Debug, Drop)]
+pub(crate) struct WatchList {
+    names: Vec<TubeName, Global>,
+}
+
+impl Model for WatchList {
+    ghost use Rattle.std.specs.Prelude.{List, ℕ, ◌<◌, length};
+
+    ghost Value = { List (List ℕ) };
+
+    ghost view = { λ w. w.names.items };
+
+    ghost invariant = { λ w. 0 < length w.names.items };
+}
+
+/// The tube that a new client uses and watches.
+pub(crate) fn default_tube() -> TubeName
+    ensures { result ≡ default_tube }
+{
+    let Some(name) = TubeName::new(b"default") else {
+        unreachable!();
+    };
+    name
+}
+
+fn keep_others(names: &mut Vec<TubeName, Global>, name: &TubeName)
+    ensures { names.new.items ≡ filter (λ other. not (is_same_name name.now other)) names.old.items }
+{
+    names.retain(|other| name != other);
+}
+
+impl WatchList {
+    /// The default tube alone.
+    pub(crate) fn new(alloc: Global) -> Result<WatchList, NoMemory>
+        ensures { IfOk result (λ list. list ≡ default_tube ∷ []) }
+    {
+        let mut names = Vec::new(alloc);
+        match names.push(default_tube()) {
+            Ok(()) => Ok(WatchList { names }),
+            Err(_) => Err(NoMemory),
+        }
+    }
+
+    pub(crate) fn len(&self) -> usize
+        ensures { result ≡ length self.now }
+    {
+        self.names.len()
+    }
+
+    pub(crate) fn has(&self, name: &TubeName) -> bool
+        ensures { result ≡ list_any (is_same_name name.now) self.now }
+    {
+        self.names.iter().any(|other| name == other)
+    }
+
+    /// Whether another tube than this one is watched.
+    pub(crate) fn has_other(&self, name: &TubeName) -> bool
+        ensures { result ≡ list_any (λ other. not (is_same_name name.now other)) self.now }
+    {
+        self.names.iter().any(|other| name != other)
+    }
+
+    /// Adds a tube at the end.
+    pub(crate) fn push(&mut self, name: TubeName) -> Result<(), NoMemory>
+        ensures pushed { IfOk result (λ _. self.new ≡ self.old ++ name ∷ []) }
+        ensures same { OnErr result (self.new ≡ self.old) }
+    {
+        match self.names.push(name) {
+            Ok(()) => Ok(()),
+            Err(_) => Err(NoMemory),
+        }
+    }
+
+    /// Takes a tube out, where another one stays.
+    pub(crate) fn remove(&mut self, name: &TubeName)
+        requires { list_any (λ other. not (is_same_name name.now other)) self.old ≡ true }
+        ensures { self.new ≡ filter (λ other. not (is_same_name name.now other)) self.old }
+    {
+        keep_others(&mut self.names, name);
+    }
+
+    /// The default tube alone. It takes no memory.
+    pub(crate) fn reset(&mut self)
+        ensures { self.new ≡ default_tube ∷ [] }
+    {
+        self.names.truncate(1);
+        self.names[0] = default_tube();
+    }
+}
