@@ -8,22 +8,7 @@ use Rattle.bq_job.specs.CommandWords.{Command, all_commands, word_of}
 
 -- The one list of what is missing. A word of it names no command.
 abbrev pub is_missing : Command → Bool
-is_missing Command.ReserveWithTimeout = true
-is_missing Command.ReserveJob = true
-is_missing Command.Release = true
-is_missing Command.Bury = true
-is_missing Command.Touch = true
 is_missing Command.Kick = true
-is_missing Command.KickJob = true
-is_missing Command.Use = true
-is_missing Command.ListTubeUsed = true
-is_missing Command.Watch = true
-is_missing Command.Ignore = true
-is_missing Command.Peek = true
-is_missing Command.PeekReady = true
-is_missing Command.PeekDelayed = true
-is_missing Command.PeekBuried = true
-is_missing Command.PauseTube = true
 is_missing Command.StatsJob = true
 is_missing Command.StatsTube = true
 is_missing Command.Stats = true

@@ -111,22 +111,7 @@ fn is_missing(command: Command) -> bool
 {
     matches!(
         command,
-        Command::ReserveWithTimeout
-            | Command::ReserveJob
-            | Command::Release
-            | Command::Bury
-            | Command::Touch
-            | Command::Kick
-            | Command::KickJob
-            | Command::Use
-            | Command::ListTubeUsed
-            | Command::Watch
-            | Command::Ignore
-            | Command::Peek
-            | Command::PeekReady
-            | Command::PeekDelayed
-            | Command::PeekBuried
-            | Command::PauseTube
+        Command::Kick
             | Command::StatsJob
             | Command::StatsTube
             | Command::Stats
