@@ -29,3 +29,6 @@ pub mod SpentLemmas
 pub mod StepMoves
 pub mod UnitLemmas
 pub mod UnitsLemmas
+pub mod CutLemmas
+pub mod GivenLemmas
+pub mod JoinLemmas

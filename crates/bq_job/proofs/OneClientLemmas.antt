@@ -25,10 +25,10 @@ use Rattle.bq_job.specs.Lawful.{IsLawful}
 use Rattle.bq_job.specs.LineSteps.{is_waiting_request}
 use Rattle.bq_job.specs.Limits.{later, raised}
 use Rattle.bq_job.specs.Machine.{Machine, SeatRecord, empty_seat, numbers}
-use Rattle.bq_job.specs.OneClient.{GetsAnswer, GetsClosed, GetsWhatWaits, GivesClient, answers_wanted, has_closed, is_closed_answer, is_connected_at, owing}
+use Rattle.bq_job.specs.OneClient.{GetsAnswer, GetsAtMost, GetsClosed, GetsWhatWaits, GivesClient, answers_wanted, has_closed, is_closed_answer, is_connected_at, owing}
 use Rattle.bq_job.specs.Runs.{answers_to}
 use Rattle.bq_job.specs.StatisticsCommands.{job_statistics_or_not}
-use Rattle.bq_job.specs.Steps.{IsStep, Memory, Outcome, Serves, acted, addressed, granted, growth_refused, is_possible, share_refused, shares_body, step_takes_memory}
+use Rattle.bq_job.specs.Steps.{IsStep, Memory, Outcome, Serves, acted, addressed, granted, growth_refused, is_possible, share_refused, shares_body, step_takes_memory, may_be_left_out}
 use Rattle.bq_job.specs.TubeCommands.{using, watched_with, watching, watching_or_refused}
 use Rattle.bq_job.specs.Timers.{after_timers, at_moment}
 use Rattle.bq_job.specs.Tubes.{forgetting, is_tube}
@@ -648,3 +648,201 @@ step_gives_client first last at seat steps.Drain outcome given h there s =
 step_gives_client first last at seat steps.Tick outcome given h there s = tick_gives_client first last at seat seat outcome given s
 step_gives_client first last at seat steps.Gone outcome given h there s =
     gets_quiet seat first last seat steps.Gone given (parts_of seat first last at seat steps.Gone outcome given s) refl (λ m. refl) (λ m. refl) (λ m. refl)
+
+-- A client that asks while it waits changes nothing.
+silent_asked : (memory : Memory) (m : Machine) (seat : ℕ) (request : Request) → effect m seat (steps.Ask request) ≡ silent m → IsTrue (is_possible memory m seat (steps.Ask request)) → acted memory m seat (steps.Ask request) ≡ silent m
+silent_asked granted m seat request e p = e
+silent_asked growth_refused m seat request e p =
+    absurd (both_ways (may_be_left_out (effect m seat (steps.Ask request)).answer) (ap (λ (x : Effect). may_be_left_out x.answer) e) ((and_parts _ _ p).1))
+silent_asked share_refused m seat request e p = absurd (both_ways (shares_body (effect m seat (steps.Ask request)).answer) (ap (λ (x : Effect). shares_body x.answer) e) p)
+
+asks_in_vain : (m : Machine) (seat : ℕ) (request : Request) (f : Found seat m.seats) → waits_in seat m.seats ≡ true → effect m seat (steps.Ask request) ≡ silent m
+asks_in_vain m seat request f w =
+    let s = f.client in
+    let waits : is_waiting s ≡ true = sym f.waits ∙ w in
+    ap (λ o. at_found (steps.Ask request) m o) f.found ∙ ap (λ b. cond b (asked request m s) (silent m)) (and_right s.connected (not (is_waiting s)) (ap not waits))
+
+-- A connected client that asks, whether it waits or not.
+pub asks_at_most : (first last : Machine) (at seat : ℕ) (request : Request) (outcome : Outcome) (given : List GivenAnswer) → IsLawful first → seat < first.settings.seats → is_connected_at seat first ≡ true → IsStep first at seat (steps.Ask request) outcome given last → GetsAtMost first last seat request (answers_to seat given)
+asks_at_most first last at seat request outcome given h there c step =
+    let p : Parts seat first last seat (steps.Ask request) given = parts_of seat first last at seat (steps.Ask request) outcome given step in
+    let m = p.before in
+    let f = found_before first last seat (steps.Ask request) given h there p in
+    let o = (acted p.memory m seat (steps.Ask request)).answer in
+    let all : answers_to seat given ≡ answers_to seat p.early ++ (told o ++ answers_to seat p.late) = answers_of_parts seat o p.early p.late given p.given_is in
+    elim (cases_Bool (waits_in seat m.seats)) [
+      | inl w ↦
+          let e = silent_asked p.memory m seat request (asks_in_vain m seat request f w) p.possible in
+          let goes : Passes seat m.seats last.seats p.late = subst (λ (x : Effect). Passes seat (x.machine).seats last.seats p.late) e p.goes in
+          let less : answers_to seat given ≡ answers_to seat p.early ++ answers_to seat p.late =
+          all ∙ ap (λ (x : Effect). answers_to seat p.early ++ (told x.answer ++ answers_to seat p.late)) e in
+          record {
+            count = let long : length (answers_to seat given) ≡ length (answers_to seat p.early) + length (answers_to seat p.late) = ap length less ∙ simp length-append in
+                let a = p.comes.count in let b = goes.count in omega arith;
+            unclosed = ap has_closed less ∙ unclosed_append (answers_to seat p.early) (answers_to seat p.late) p.comes.unclosed goes.unclosed;
+            connected = goes.connected ∙ p.comes.connected ∙ c;
+          }
+      | inr w ↦
+          let reply = replies_acted p.memory m seat request w p.possible (replies_effect m seat request f (p.comes.connected ∙ c) w) in
+          let before : one_for (waits_in seat m.seats) ≡ 0 = ap one_for w in
+          record {
+            count = let long : length (answers_to seat given) ≡ length (answers_to seat p.early) + (length (told o) + length (answers_to seat p.late)) = ap length all ∙ simp length-append in
+                let a = p.comes.count in let b = p.goes.count in let d = reply.count in omega arith;
+            unclosed = ap has_closed all ∙ unclosed_append (answers_to seat p.early) (told o ++ answers_to seat p.late) p.comes.unclosed (unclosed_append (told o) (answers_to seat p.late) reply.unclosed p.goes.unclosed);
+            connected = p.goes.connected ∙ reply.connected ∙ p.comes.connected ∙ c;
+          }
+    ]
+
+-- What a command at a seat leaves to the client of another.
+pub record Stays (client number : ℕ) (m : Machine) (e : Effect) : Type 0 where
+  pub settings : (e.machine).settings ≡ m.settings
+  pub waits : (number == client) ≡ false → waits_in client (e.machine).seats ≡ waits_in client m.seats
+  pub connected : (number == client) ≡ false → connected_in client (e.machine).seats ≡ connected_in client m.seats
+
+stays_same : (client number : ℕ) (m : Machine) (e : Effect) → (e.machine).settings ≡ m.settings → (e.machine).seats ≡ m.seats → Stays client number m e
+stays_same client number m e same seats = record { settings = same; waits = λ d. ap (waits_in client) seats; connected = λ d. ap (connected_in client) seats }
+
+changed_elsewhere : (client number : ℕ) (f : SeatRecord → SeatRecord) (q : SeatRecord → Bool) (seats : List SeatRecord) → (number == client) ≡ false → ((s : SeatRecord) → (f s).number ≡ s.number) → list_any (λ s. s.number == client && q s) (changed number f seats) ≡ list_any (λ s. s.number == client && q s) seats
+changed_elsewhere client number f q seats other same =
+    any_of_map (λ s. s.number == client && q s) (λ s. s.number == client && q s) (λ s. cond (s.number == number) (f s) s) seats
+    (λ s. cond_both (s.number == number) (f s) s (λ t. (t.number == client && q t) ≡ (s.number == client && q s))
+    (λ e.
+    let elsewhere : (s.number == client) ≡ false = subst (λ n. (n == client) ≡ false) (sym (eqb-true s.number number e)) other in
+    let there : ((f s).number == client) ≡ false = subst (λ n. (n == client) ≡ false) (sym (same s)) elsewhere in
+    rw (elsewhere, there) refl)
+    (λ e. refl))
+
+stays_seat : (client number : ℕ) (f : SeatRecord → SeatRecord) (m : Machine) (e : Effect) → ((s : SeatRecord) → (f s).number ≡ s.number) → (e.machine).settings ≡ m.settings → (e.machine).seats ≡ changed number f m.seats → Stays client number m e
+stays_seat client number f m e same settings seats = record {
+  settings = settings;
+  waits = λ d. ap (waits_in client) seats ∙ changed_elsewhere client number f is_waiting m.seats d same;
+  connected = λ d. ap (connected_in client) seats ∙ changed_elsewhere client number f (λ s. s.connected) m.seats d same;
+}
+
+stays_found : (client number : ℕ) (passes : Job → Bool) (act : Job → Effect) (m : Machine) (o : Option Job) → ((j : Job) → Stays client number m (act j)) → Stays client number m (on_found passes act m o)
+stays_found client number passes act m None goes = stays_same client number m (telling answers.NotFound m) refl refl
+stays_found client number passes act m (Some j) goes =
+    cond_both (passes j) (act j) (telling answers.NotFound m) (Stays client number m) (λ e. goes j) (λ e. stays_same client number m (telling answers.NotFound m) refl refl)
+
+stays_showing : (client number : ℕ) (m : Machine) (o : Option Job) → Stays client number m (showing m o)
+stays_showing client number m None = stays_same client number m _ refl refl
+stays_showing client number m (Some j) = stays_same client number m _ refl refl
+
+stays_statistics : (client number : ℕ) (m : Machine) (o : Option Job) → Stays client number m (job_statistics_or_not m o)
+stays_statistics client number m None = stays_same client number m _ refl refl
+stays_statistics client number m (Some j) = stays_same client number m _ refl refl
+
+stays_watching : (client : ℕ) (tubes : List (List ℕ)) (m : Machine) (s : SeatRecord) → Stays client s.number m (watching_or_refused tubes m s)
+stays_watching client [] m s = stays_same client s.number m (telling answers.NotIgnored m) refl refl
+stays_watching client (tube ∷ tubes) m s = stays_seat client s.number (watching (tube ∷ tubes)) m (watching_or_refused (tube ∷ tubes) m s) (λ t. refl) refl refl
+
+stays_asked : (client : ℕ) (request : Request) (m : Machine) (s : SeatRecord) → Stays client s.number m (asked request m s)
+stays_asked client (requests.Put pri delay ttr body) m s =
+    cond_both m.draining (telling answers.Draining m) (telling (answers.Inserted m.next_id) (after_put m (new_job m s pri delay ttr body))) (Stays client s.number m)
+    (λ e. stays_same client s.number m (telling answers.Draining m) refl refl)
+    (λ e. stays_same client s.number m (telling (answers.Inserted m.next_id) (after_put m (new_job m s pri delay ttr body))) refl refl)
+stays_asked client requests.Reserve m s = stays_seat client s.number (waiting_from (raised m.tickets) None) m (reserve_effect None m s) (λ t. refl) refl refl
+stays_asked client (requests.ReserveWithTimeout seconds) m s = stays_seat client s.number (waiting_from (raised m.tickets) (Some (later m.moment seconds))) m (reserve_effect (Some (later m.moment seconds)) m s) (λ t. refl) refl refl
+stays_asked client (requests.ReserveJob id) m s =
+    stays_found client s.number (λ j. not (is_reserved j.state)) (λ j. telling (answers.Reserved j.id j.body) (with_job id (reserved_by m.moment s.number) m)) m (job_with id m.jobs) (λ j. stays_same client s.number m _ refl refl)
+stays_asked client (requests.Delete id) m s = stays_found client s.number (is_free_for s) (λ j. telling answers.Deleted (after_delete m j)) m (job_with id m.jobs) (λ j. stays_same client s.number m _ refl refl)
+stays_asked client (requests.Release id pri delay) m s =
+    stays_found client s.number (is_held_by s.number) (λ j. telling answers.Released (with_job id (released m.moment pri delay) m)) m (job_with id m.jobs) (λ j. stays_same client s.number m _ refl refl)
+stays_asked client (requests.Bury id pri) m s =
+    stays_found client s.number (is_held_by s.number) (λ j. telling answers.Buried (record (with_job id (buried (raised m.burials) pri) m) { burials = raised m.burials })) m (job_with id m.jobs) (λ j. stays_same client s.number m _ refl refl)
+stays_asked client (requests.Touch id) m s =
+    stays_found client s.number (is_held_by s.number) (λ j. telling answers.Touched (with_job id (in_state (states.Reserved s.number (later m.moment j.ttr))) m)) m (job_with id m.jobs) (λ j. stays_same client s.number m _ refl refl)
+stays_asked client (requests.Kick bound) m s = stays_same client s.number m _ refl refl
+stays_asked client (requests.KickJob id) m s = stays_found client s.number _ (λ j. telling answers.Kicked (with_job id kicked m)) m (job_with id m.jobs) (λ j. stays_same client s.number m _ refl refl)
+stays_asked client (requests.Use tube) m s = stays_seat client s.number (using tube) m _ (λ t. refl) refl refl
+stays_asked client requests.ListTubeUsed m s = stays_same client s.number m _ refl refl
+stays_asked client (requests.Watch tube) m s = stays_seat client s.number (watching (watched_with tube s)) m _ (λ t. refl) refl refl
+stays_asked client (requests.Ignore tube) m s = stays_watching client _ m s
+stays_asked client (requests.Peek id) m s = stays_showing client s.number m (job_with id m.jobs)
+stays_asked client requests.PeekReady m s = stays_showing client s.number m _
+stays_asked client requests.PeekDelayed m s = stays_showing client s.number m _
+stays_asked client requests.PeekBuried m s = stays_showing client s.number m _
+stays_asked client (requests.PauseTube tube delay) m s = cond_both (is_tube tube m) _ _ (Stays client s.number m) (λ e. stays_same client s.number m _ refl refl) (λ e. stays_same client s.number m _ refl refl)
+stays_asked client (requests.StatsJob id) m s = stays_statistics client s.number m (job_with id m.jobs)
+stays_asked client (requests.StatsTube tube) m s = cond_both (is_tube tube m) _ _ (Stays client s.number m) (λ e. stays_same client s.number m _ refl refl) (λ e. stays_same client s.number m _ refl refl)
+stays_asked client requests.Stats m s = stays_same client s.number m _ refl refl
+stays_asked client requests.ListTubes m s = stays_same client s.number m _ refl refl
+stays_asked client requests.ListTubesWatched m s = stays_same client s.number m _ refl refl
+stays_asked client requests.Quit m s = stays_same client s.number m _ refl refl
+stays_asked client (requests.Refused why) m s = stays_same client s.number m _ refl refl
+
+stays_at : (client : ℕ) (what : Step) (m : Machine) (s : SeatRecord) → Stays client s.number m (at_found what m (Some s))
+stays_at client steps.Connect m s = cond_both s.connected (silent m) (silent (after_connect m s.number)) (Stays client s.number m)
+    (λ e. stays_same client s.number m (silent m) refl refl)
+    (λ e. stays_seat client s.number (λ t. record (empty_seat t.number) { connected = true }) m (silent (after_connect m s.number)) (λ t. refl) refl refl)
+stays_at client (steps.Ask request) m s = cond_both (s.connected && not (is_waiting s)) (asked request m s) (silent m) (Stays client s.number m) (λ e. stays_asked client request m s) (λ e. stays_same client s.number m (silent m) refl refl)
+stays_at client steps.End m s = cond_both s.connected (silent (with_seat s.number with_end m)) (silent m) (Stays client s.number m)
+    (λ e. stays_seat client s.number with_end m (silent (with_seat s.number with_end m)) (λ t. refl) refl refl) (λ e. stays_same client s.number m (silent m) refl refl)
+stays_at client steps.Close m s = cond_both s.connected (telling answers.Closed (after_close m s.number)) (silent m) (Stays client s.number m)
+    (λ e. stays_seat client s.number (λ t. empty_seat t.number) m (telling answers.Closed (after_close m s.number)) (λ t. refl) refl refl) (λ e. stays_same client s.number m (silent m) refl refl)
+stays_at client steps.Drain m s = stays_same client s.number m _ refl refl
+stays_at client steps.Tick m s = stays_same client s.number m (silent m) refl refl
+stays_at client steps.Gone m s = stays_same client s.number m (silent m) refl refl
+
+stays_at_found : (client seat : ℕ) (what : Step) (m : Machine) (o : Option SeatRecord) → seat_with seat m.seats ≡ o → Stays client seat m (at_found what m o)
+stays_at_found client seat what m None e = stays_same client seat m (silent m) refl refl
+stays_at_found client seat what m (Some s) e =
+    let p = found_passes (λ t. t.number == seat) m.seats s e in
+    subst (λ n. Stays client n m (at_found what m (Some s))) (eqb-true s.number seat p.0) (stays_at client what m s)
+
+stays_effect : (client : ℕ) (m : Machine) (seat : ℕ) (what : Step) → Stays client seat m (effect m seat what)
+stays_effect client m seat steps.Drain = stays_same client seat m _ refl refl
+stays_effect client m seat steps.Connect = stays_at_found client seat steps.Connect m (seat_with seat m.seats) refl
+stays_effect client m seat (steps.Ask request) = stays_at_found client seat (steps.Ask request) m (seat_with seat m.seats) refl
+stays_effect client m seat steps.End = stays_at_found client seat steps.End m (seat_with seat m.seats) refl
+stays_effect client m seat steps.Close = stays_at_found client seat steps.Close m (seat_with seat m.seats) refl
+stays_effect client m seat steps.Tick = stays_same client seat m (silent m) refl refl
+stays_effect client m seat steps.Gone = stays_same client seat m (silent m) refl refl
+
+stays_acted : (client : ℕ) (memory : Memory) (m : Machine) (seat : ℕ) (what : Step) → Stays client seat m (acted memory m seat what)
+stays_acted client granted m seat what = stays_effect client m seat what
+stays_acted client growth_refused m seat what = stays_same client seat m (telling answers.OutOfMemory m) refl refl
+stays_acted client share_refused m seat what = stays_same client seat m (telling answers.OutOfMemory m) refl refl
+
+told_elsewhere : (client seat : ℕ) (o : Option Answer) → (seat == client) ≡ false → answers_to client (addressed seat o) ≡ []
+told_elsewhere client seat None d = refl
+told_elsewhere client seat (Some answer) d = rw d refl
+
+-- A step of another seat gives the client what it waits for, and nothing else.
+pub others_give : (first last : Machine) (at seat client : ℕ) (what : Step) (outcome : Outcome) (given : List GivenAnswer) → (seat == client) ≡ false → IsStep first at seat what outcome given last → GetsWhatWaits first last client (answers_to client given)
+others_give first last at seat client what outcome given other step =
+    let p : Parts client first last seat what given = parts_of client first last at seat what outcome given step in
+    let m = p.before in
+    let s = stays_acted client p.memory m seat what in
+    let o = (acted p.memory m seat what).answer in
+    let all : answers_to client given ≡ answers_to client p.early ++ answers_to client p.late =
+    ap (answers_to client) p.given_is ∙ answers_append client p.early (addressed seat o ++ p.late)
+    ∙ ap (λ xs. answers_to client p.early ++ xs) (answers_append client (addressed seat o) p.late ∙ ap (λ xs. xs ++ answers_to client p.late) (told_elsewhere client seat o other)) in
+    let same : one_for (waits_in client ((acted p.memory m seat what).machine).seats) ≡ one_for (waits_in client m.seats) = ap one_for (s.waits other) in
+    record {
+      count = let long : length (answers_to client given) ≡ length (answers_to client p.early) + length (answers_to client p.late) = ap length all ∙ simp length-append in
+          let a = p.comes.count in let b = p.goes.count in omega arith;
+      unclosed = ap has_closed all ∙ unclosed_append (answers_to client p.early) (answers_to client p.late) p.comes.unclosed p.goes.unclosed;
+      connected = p.goes.connected ∙ s.connected other ∙ p.comes.connected;
+    }
+
+-- settings stay in turns
+chain_settings : (Turns : Machine → GivenAnswer → Machine → Type 0) (first : Machine) (given : List GivenAnswer) (last : Machine) → ((m : Machine) (g : GivenAnswer) (n : Machine) → Turns m g n → n.settings ≡ m.settings) → Chain Turns first given last → last.settings ≡ first.settings
+chain_settings Turns first [] last each chain = ap (λ (n : Machine). n.settings) chain
+chain_settings Turns first (g ∷ given) last each chain = chain_settings Turns chain.0 given last each chain.2 ∙ each first g chain.0 chain.1
+
+hand_out_settings : (m : Machine) (j : Job) (s : SeatRecord) (given : GivenAnswer) (next : Machine) → IsHandOut m j s given next → next.settings ≡ m.settings
+hand_out_settings m j s given next (inl h) = ap (λ (n : Machine). n.settings) h.1
+hand_out_settings m j s given next (inr h) = ap (λ (n : Machine). n.settings) h.1
+
+serves_settings : (first : Machine) (handed ended : List GivenAnswer) (last : Machine) → Serves first handed ended last → last.settings ≡ first.settings
+serves_settings first handed ended last s =
+    let d = s.dispatches in
+    let e = s.ends_waits in
+    ap (λ (n : Machine). n.settings) e.forgets ∙ chain_settings WaitEndTurn s.between ended e.end (λ m g n turn. ap (λ (x : Machine). x.settings) (end_of m g n turn).next_is) e.turns
+    ∙ ap (λ (n : Machine). n.settings) d.forgets ∙ chain_settings DispatchTurn first handed d.end (λ m g n turn. let t = turn_of m g n turn in hand_out_settings m t.job t.client g n t.hands) d.turns
+
+pub step_settings : (first last : Machine) (at seat : ℕ) (what : Step) (outcome : Outcome) (given : List GivenAnswer) → IsStep first at seat what outcome given last → last.settings ≡ first.settings
+step_settings first last at seat what outcome given s =
+    serves_settings s.after s.handed_then s.ended_then last s.serves_then ∙ ap (λ (n : Machine). n.settings) s.acts ∙ (stays_acted 0 s.memory s.before seat what).settings
+    ∙ serves_settings (forgetting (after_timers (at_moment at first))) s.handed s.ended s.before s.serves

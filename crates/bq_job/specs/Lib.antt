@@ -46,3 +46,8 @@ pub mod OneClient
 pub mod Happenings
 pub mod Undisturbed
 pub mod LawsOfRuns
+pub mod ControlDid
+pub mod CoreDid
+pub mod Headline
+pub mod LineOwed
+pub mod SeatDid

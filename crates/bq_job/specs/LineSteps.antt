@@ -21,6 +21,15 @@ pub record LineSeen : Type 0 where
   pub ended : Bool
   pub fault : Option LineFault
 
+-- what was heard of a line: all that it tells but the bytes written
+pub record LineHeard : Type 0 where
+  pub read : List ℕ
+  pub ended : Bool
+  pub fault : Option LineFault
+
+abbrev pub heard : LineSeen → LineHeard
+heard line = record { read = line.read; ended = line.ended; fault = line.fault }
+
 abbrev pub is_waiting_request : Request → Bool
 is_waiting_request requests.Reserve = true
 is_waiting_request (requests.ReserveWithTimeout seconds) = true
@@ -36,7 +45,7 @@ ends_by_wait (request ∷ next ∷ requests) = ends_by_wait (next ∷ requests)
 -- request. One that is over by the end of its input has none, and says that it ended. One that is over by
 -- a read fault says so, and everything read before was asked. One that is over by a write fault says so,
 -- and what was asked is a beginning of what was read.
-abbrev pub IsOverBy : LineSeen → LineEnd → List Request → List Request → Type 0
+abbrev pub IsOverBy : LineHeard → LineEnd → List Request → List Request → Type 0
 IsOverBy line ends.Quit read asked = (asked ≡ read) × IsTrue (ends_by_quit read)
 IsOverBy line ends.EndOfInput read asked = (asked ≡ read) × IsTrue (not (ends_by_quit read)) × IsTrue line.ended
 IsOverBy line ends.ReadFault read asked = (asked ≡ read) × IsTrue (not (ends_by_quit read)) × (line.fault ≡ Some faults.Read)
@@ -44,11 +53,11 @@ IsOverBy line ends.WriteFault read asked =
     (more : List Request) × (read ≡ asked ++ more) × (asked ≢ []) × IsTrue (not (ends_by_quit asked)) × (line.fault ≡ Some faults.Write)
 
 -- An end may be told just before the close, where the last request may wait and the line says that it ended.
-abbrev pub MayTellEnd : LineSeen → List Request → List Step → Type 0
+abbrev pub MayTellEnd : LineHeard → List Request → List Step → Type 0
 MayTellEnd line asked end_steps = (end_steps ≡ []) ⊎ ((end_steps ≡ steps.End ∷ []) × IsTrue (ends_by_wait asked) × IsTrue line.ended)
 
 -- The steps of a line that is over: it connects, asks its requests in their order, and is closed.
-pub record IsStepsOfLine (p : Profile) (line : LineSeen) (over : LineEnd) (taken : List Step) : Type 0 where
+pub record IsStepsOfLine (p : Profile) (line : LineHeard) (over : LineEnd) (taken : List Step) : Type 0 where
   pub requests : List Request
   pub rest : List ℕ
   pub asked : List Request
@@ -66,11 +75,29 @@ answers_text answers = flat_map answer_text answers
 abbrev pub IsBeginning : List ℕ → List ℕ → Type 0
 IsBeginning bytes text = (rest : List ℕ) × (text ≡ bytes ++ rest)
 
+-- all of these answers but the last, and a beginning of that one
+pub record IsCutOff (answers : List Answer) (written : List ℕ) : Type 0 where
+  pub first : List Answer
+  pub last : Answer
+  pub cut : List ℕ
+  pub answers_are : answers ≡ first ++ last ∷ []
+  pub is_beginning : IsBeginning cut (answer_text last)
+  pub written_is : written ≡ answers_text first ++ cut
+
 -- how many requests there are but for a quit
 abbrev pub answered_count : List Request → ℕ
 answered_count [] = 0
 answered_count (requests.Quit ∷ more) = answered_count more
 answered_count (request ∷ more) = answered_count more + 1
+
+-- Every request but a quit has its answer, and the last one, which may wait, came too late to be written.
+pub record IsLastUnwritten (asked : List Request) (answers : List Answer) (written : List ℕ) : Type 0 where
+  pub first : List Answer
+  pub last : Answer
+  pub waits : IsTrue (ends_by_wait asked)
+  pub all : length answers ≡ answered_count asked
+  pub answers_are : answers ≡ first ++ last ∷ []
+  pub written_is : written ≡ answers_text first
 
 -- What is written to a line that is over, of the answers that it is owed: all of them, to the byte. After
 -- a write fault all but the last, and a beginning of that one. After a read fault the answer to a last
@@ -78,12 +105,8 @@ answered_count (request ∷ more) = answered_count more + 1
 abbrev pub IsWritten : LineEnd → List Request → List Answer → List ℕ → Type 0
 IsWritten ends.Quit asked answers written = written ≡ answers_text answers
 IsWritten ends.EndOfInput asked answers written = written ≡ answers_text answers
-IsWritten ends.ReadFault asked answers written =
-    (written ≡ answers_text answers)
-    ⊎ (IsTrue (ends_by_wait asked) × (length answers ≡ answered_count asked) × (first : List Answer) × (last : Answer) × (answers ≡ first ++ last ∷ []) × (written ≡ answers_text first))
-IsWritten ends.WriteFault asked answers written =
-    (first : List Answer) × (last : Answer) × (cut : List ℕ)
-    × (answers ≡ first ++ last ∷ []) × IsBeginning cut (answer_text last) × (written ≡ answers_text first ++ cut)
+IsWritten ends.ReadFault asked answers written = (written ≡ answers_text answers) ⊎ IsLastUnwritten asked answers written
+IsWritten ends.WriteFault asked answers written = IsCutOff answers written
 
 -- Each request but a quit was answered. After a read fault that of a last request that may wait may not be.
 abbrev pub AreAllAnswered : LineEnd → List Request → List Answer → Type 0

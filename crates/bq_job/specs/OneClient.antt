@@ -49,6 +49,13 @@ pub record GetsAnswer (first last : Machine) (seat : ℕ) (request : Request) (g
   pub unclosed : has_closed given ≡ false
   pub connected : is_connected_at seat last ≡ true
 
+-- The client asks, whether it waits or not: it is given, with what it then waits for, no more than it waited
+-- for and one answer more.
+pub record GetsAtMost (first last : Machine) (seat : ℕ) (request : Request) (given : List Answer) : Type 0 where
+  pub count : length given + owing seat last ≤ owing seat first + answers_wanted request
+  pub unclosed : has_closed given ≡ false
+  pub connected : is_connected_at seat last ≡ true
+
 -- The client is gone. What it waited for may just have come; the last answer says that it is gone.
 pub record GetsClosed (first last : Machine) (seat : ℕ) (given : List Answer) : Type 0 where
   pub early : List Answer

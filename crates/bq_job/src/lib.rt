@@ -9,6 +9,9 @@ pub use answer::Answer;
 pub use body::{Body, BodyBuilder};
 pub use fault::NoMemory;
 pub use job::{Counts, Job, JobState};
+pub use laws_of_clients::{
+    asks_give_at_most, line_joins, others_give_what_waits, parts_join, steps_keep_settings,
+};
 pub use laws_of_machine::{
     ample_steps_are_computed, computed_is_step, dispatched_is_least, new_machine_is_lawful,
     nothing_happens_before_it_is_due, refused_commands_change_nothing,
@@ -33,6 +36,7 @@ mod examples_of_sessions;
 mod examples_of_steps;
 mod fault;
 mod job;
+mod laws_of_clients;
 mod laws_of_machine;
 pub mod laws_of_reading;
 pub mod laws_of_runs;

@@ -211,7 +211,7 @@ all_read r kept told out p o none =
 
 -- the end is told only behind a reserve, and if the line says that it ended
 told_well : (bytes written : List ℕ) (ended : Bool) (fault : Option LineFault) (asked : List Request) (told : Bool)
-    → (told ≡ true → (ends_by_wait asked ≡ true) × (ended ≡ true)) → MayTellEnd (record { read = bytes; written = written; ended = ended; fault = fault }) asked (end_if told)
+    → (told ≡ true → (ends_by_wait asked ≡ true) × (ended ≡ true)) → MayTellEnd (record { read = bytes; ended = ended; fault = fault }) asked (end_if told)
 told_well bytes written ended fault asked true h = inr (refl, (h refl).0, (h refl).1)
 told_well bytes written ended fault asked false h = inl refl
 

@@ -6,7 +6,7 @@ use Rattle.bq_job.specs.declared.line_end.LineEnd.{LineEnd}
 use Rattle.bq_job.specs.declared.line_end.LineEnd.TheVariants as ends
 use Rattle.bq_job.specs.declared.line_end.LineFault.{LineFault}
 use Rattle.bq_job.specs.declared.line_end.LineFault.TheVariants as faults
-use Rattle.bq_job.specs.LineSteps.{LineSeen, IsStepsOfLine, AreAllAnswered}
+use Rattle.bq_job.specs.LineSteps.{LineSeen, IsStepsOfLine, AreAllAnswered, heard}
 use Rattle.bq_job.specs.OneClient.{has_closed}
 use Rattle.bq_job.specs.Profile.{Profile}
 use Rattle.bq_seat.specs.Past.{Past}
@@ -31,7 +31,7 @@ IsFaultOf ends.WriteFault fault = fault ≡ Some faults.Write
 -- The answers that were handed out for writing are those that came before the close, in their order: one
 -- for each request but quit, of which after a read fault that to a last request that may wait can be missing.
 pub record IsServedToClose (profile : Profile) (written : List ℕ) (end : LineEnd) (p : Past) : Type 0 where
-  pub line : IsStepsOfLine profile (seen_line written p) end p.steps
+  pub line : IsStepsOfLine profile (heard (seen_line written p)) end p.steps
   pub handed_out : p.written ≡ p.mail
   pub answered : AreAllAnswered end line.asked p.mail
   pub broken : IsLastBroken end p

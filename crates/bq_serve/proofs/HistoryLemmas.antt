@@ -17,7 +17,7 @@ use Rattle.bq_job.specs.declared.step.Step.TheVariants as steps
 use Rattle.bq_job.specs.Dispatch.{GivenAnswer}
 use Rattle.bq_job.specs.History.{ArePickedFrom, is_tick, moments_heard, steps_at}
 use Rattle.bq_job.specs.Lawful.{IsLawful}
-use Rattle.bq_job.specs.LineSteps.{AreAllAnswered, MayTellEnd, IsOverBy, IsStepsOfLine, IsWritten, LineSeen, answered_count, answers_text, ends_by_wait}
+use Rattle.bq_job.specs.LineSteps.{AreAllAnswered, IsOverBy, IsStepsOfLine, IsWritten, LineHeard, LineSeen, MayTellEnd, answered_count, answers_text, ends_by_wait, heard}
 use Rattle.bq_job.specs.Machine.{Machine, Settings, new_machine}
 use Rattle.bq_job.specs.OneClient.{GetsClosed, GetsWhatWaits, GivesClient, answers_wanted, has_closed, is_closed_answer, is_connected_at, owing}
 use Rattle.bq_job.specs.Profile.{Profile}
@@ -298,7 +298,7 @@ no_more_wanted : (told : List Step) → (told ≡ []) ⊎ (told ≡ steps.End �
 no_more_wanted told (inl e) = ap wanted e
 no_more_wanted told (inr e) = ap wanted e
 
-told_so : (seen : LineSeen) (asked : List Request) (told : List Step) → MayTellEnd seen asked told → (told ≡ []) ⊎ (told ≡ steps.End ∷ [])
+told_so : (seen : LineHeard) (asked : List Request) (told : List Step) → MayTellEnd seen asked told → (told ≡ []) ⊎ (told ≡ steps.End ∷ [])
 told_so seen asked told (inl e) = inl e
 told_so seen asked told (inr e) = inr e.0
 
@@ -324,7 +324,7 @@ late_one asked mail [] written waits h i w =
     subst (λ (xs : List Answer). IsDone ends.ReadFault asked xs written) same (record { answered = inr (waits, h); written_is = inl w })
 late_one asked mail (a ∷ []) written waits h i w =
     let all : length (mail ++ a ∷ []) ≡ answered_count asked = omega (arith, length-append mail (a ∷ [])) in
-    record { answered = inl all; written_is = inr (waits, all, mail, a, refl, w) }
+    record { answered = inl all; written_is = inr (record { first = mail; last = a; waits = waits; all = all; answers_are = refl; written_is = w }) }
 late_one asked mail (a ∷ b ∷ early) written waits h i w = absurd (omega (arith, length-append mail (a ∷ b ∷ early)))
 
 after_read_fault : (asked : List Request) (mail early : List Answer) (written : List ℕ) → AreAllAnswered ends.ReadFault asked mail → length (mail ++ early) ≤ answered_count asked → written ≡ answers_text mail → IsDone ends.ReadFault asked (mail ++ early) written
@@ -344,10 +344,10 @@ is_done ends.ReadFault asked mail early written fault a i f w =
 is_done ends.WriteFault asked mail early written fault a i f w =
     let cut : IsCutOff mail written = subst (λ (o : Option LineFault). IsWrittenSo o mail written) f w in
     subst (λ (xs : List Answer). IsDone ends.WriteFault asked xs written) (nothing_after mail early (answered_count asked) a i)
-    (record { answered = a; written_is = (cut.first, cut.last, cut.cut, cut.handed_is, cut.is_beginning, cut.written_is) })
+    (record { answered = a; written_is = record { first = cut.first; last = cut.last; cut = cut.cut; answers_are = cut.handed_is; is_beginning = cut.is_beginning; written_is = cut.written_is } })
 
 -- what the line tells is what the machine was told of it
-line_of : (profile : Profile) (over : LineEnd) (seen line : LineSeen) (given : List GivenAnswer) (taken own : List Step) (own_is : IsStepsOfLine profile line over own) → seen ≡ line → taken ≡ own → IsDone over own_is.asked (answers_of_line 0 0 given) line.written → IsLineOf profile seen over given taken
+line_of : (profile : Profile) (over : LineEnd) (seen line : LineSeen) (given : List GivenAnswer) (taken own : List Step) (own_is : IsStepsOfLine profile (heard line) over own) → seen ≡ line → taken ≡ own → IsDone over own_is.asked (answers_of_line 0 0 given) line.written → IsLineOf profile seen over given taken
 line_of profile over seen line given taken own l same is done = record {
   steps = record {
     requests = l.requests;
@@ -355,8 +355,8 @@ line_of profile over seen line given taken own l same is done = record {
     asked = l.asked;
     end_steps = l.end_steps;
     reads = subst (λ (s : LineSeen). Reads profile s.read l.requests l.rest) (sym same) l.reads;
-    is_over = subst (λ (s : LineSeen). IsOverBy s over l.requests l.asked) (sym same) l.is_over;
-    ends = subst (λ (s : LineSeen). MayTellEnd s l.asked l.end_steps) (sym same) l.ends;
+    is_over = subst (λ (s : LineSeen). IsOverBy (heard s) over l.requests l.asked) (sym same) l.is_over;
+    ends = subst (λ (s : LineSeen). MayTellEnd (heard s) l.asked l.end_steps) (sym same) l.ends;
     steps_are = is ∙ l.steps_are;
   };
   answered = done.answered;
@@ -377,7 +377,7 @@ served_alone settings profile seen over history readings rest last moment p writ
     let s = (served written).to_close in
     let l = s.line in
     let writes_mail : IsWrittenSo p.fault p.mail written = subst (λ (xs : List Answer). IsWrittenSo p.fault xs written) s.handed_out writes in
-    let none = no_more_wanted l.end_steps (told_so (seen_line written p) l.asked l.end_steps l.ends) in
+    let none = no_more_wanted l.end_steps (told_so (heard (seen_line written p)) l.asked l.end_steps l.ends) in
     let there = subst (λ (t : List Step). IsClientAt t (p.mail ++ rest) last) (sym steps_are ∙ l.steps_are) client in
     record {
       history = history;

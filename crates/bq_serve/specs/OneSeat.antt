@@ -11,7 +11,7 @@ use Rattle.bq_job.specs.AnswerText.{answer_text}
 use Rattle.bq_job.specs.Dispatch.{GivenAnswer}
 use Rattle.bq_job.specs.History.{IsTimedBy, moments_heard, steps_at}
 use Rattle.bq_job.specs.Lawful.{IsLawful}
-use Rattle.bq_job.specs.LineSteps.{AreAllAnswered, IsBeginning, IsStepsOfLine, IsWritten, LineSeen, answers_text}
+use Rattle.bq_job.specs.LineSteps.{AreAllAnswered, IsBeginning, IsStepsOfLine, IsWritten, LineSeen, answers_text, heard}
 use Rattle.bq_job.specs.Machine.{Machine, Settings, new_machine}
 use Rattle.bq_job.specs.OneClient.{has_closed, is_connected_at, owing}
 use Rattle.bq_job.specs.Profile.{Profile}
@@ -84,7 +84,7 @@ IsWrittenSo (Some faults.Write) handed written = IsCutOff handed written
 
 -- The line is written what it is owed for these steps.
 pub record IsLineOf (profile : Profile) (seen : LineSeen) (over : LineEnd) (given : List GivenAnswer) (taken : List Step) : Type 0 where
-  pub steps : IsStepsOfLine profile seen over taken
+  pub steps : IsStepsOfLine profile (heard seen) over taken
   pub answered : AreAllAnswered over steps.asked (answers_of_line 0 0 given)
   pub written : IsWritten over steps.asked (answers_of_line 0 0 given) seen.written
 

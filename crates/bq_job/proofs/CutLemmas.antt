@@ -1,0 +1,61 @@
+-- Answers line by line: where a list of them is cut.
+use Rattle.std.proofs.Common.{◌≡◌, ℕ, suc, ◌+◌, ◌≤◌, Bool, true, false, List, [], ◌∷◌, ◌++◌, length, refl, ap, ◌∙◌, arith}
+use Rattle.bq_job.specs.declared.answer.Answer.{Answer}
+use Rattle.bq_job.specs.declared.answer.Answer.TheVariants as answers
+use Rattle.bq_job.specs.declared.step.Step.{Step}
+use Rattle.bq_job.specs.History.{LineOver}
+use Rattle.bq_job.specs.OneClient.{has_closed}
+use Rattle.bq_job.specs.Profile.{Profile}
+use Rattle.bq_job.specs.SeatDid.{AreLinesServed}
+use Rattle.bq_job.proofs.GivenLemmas.{AreParts, most_of_lines}
+
+-- how many `Closed` there are
+abbrev pub closes : List Answer → ℕ
+closes [] = 0
+closes (answers.Closed ∷ given) = suc (closes given)
+closes (answer ∷ given) = closes given
+
+pub closes_append : (xs ys : List Answer) → closes (xs ++ ys) ≡ closes xs + closes ys
+closes_append [] ys = omega arith
+closes_append (answers.Closed ∷ xs) ys = omega (arith, closes_append xs ys)
+closes_append (x ∷ xs) ys = closes_append xs ys
+
+pub unclosed_closes : (xs : List Answer) → has_closed xs ≡ false → closes xs ≡ 0
+unclosed_closes [] h = refl
+unclosed_closes (answers.Closed ∷ xs) h = absurd cc
+unclosed_closes (x ∷ xs) h = unclosed_closes xs h
+
+pub closes_unclosed : (xs : List Answer) → closes xs ≡ 0 → has_closed xs ≡ false
+closes_unclosed [] h = refl
+closes_unclosed (answers.Closed ∷ xs) h = absurd (omega arith)
+closes_unclosed (x ∷ xs) h = closes_unclosed xs h
+
+-- as many `Closed` as lines are given, and no fewer were taken
+pub parts_close : (mosts : List ℕ) (given : List Answer) → AreParts mosts given → closes given ≡ length mosts
+parts_close [] given h = ap closes h
+parts_close (most ∷ mosts) given h =
+    ap closes h.4 ∙ (let a = closes_append h.0 (answers.Closed ∷ h.1) in let b = unclosed_closes h.0 h.2 in let c = parts_close mosts h.1 h.5 in omega arith)
+
+pub lines_close : (p : Profile) (lines : List LineOver) (own : List Step) (taken : List Answer) (h : AreLinesServed p lines own taken) → length (most_of_lines p lines own taken h) ≤ closes taken
+lines_close p [] own taken h = omega arith
+lines_close p (line ∷ lines) own taken h =
+    let l = h.4 in
+    let a : closes taken ≡ closes h.2 + closes h.3 = ap closes h.6 ∙ closes_append h.2 h.3 in
+    let b : closes h.2 ≡ closes l.own + closes (l.others ++ answers.Closed ∷ []) = ap closes l.taken_is ∙ closes_append l.own (l.others ++ answers.Closed ∷ []) in
+    let c = closes_append l.others (answers.Closed ∷ []) in
+    let d = lines_close p lines h.1 h.3 h.7 in
+    omega arith
+
+-- A list is cut at its first `Closed` in one way.
+pub same_cut : (xs ys later rest : List Answer) → has_closed xs ≡ false → has_closed ys ≡ false → xs ++ answers.Closed ∷ later ≡ ys ++ answers.Closed ∷ rest → (xs ≡ ys) × (later ≡ rest)
+same_cut [] [] later rest h i e = (refl, cc)
+same_cut [] (answers.Closed ∷ ys) later rest h i e = absurd cc
+same_cut [] (y ∷ ys) later rest h i e = absurd cc
+same_cut (answers.Closed ∷ xs) ys later rest h i e = absurd cc
+same_cut (x ∷ xs) [] later rest h i e = absurd cc
+same_cut (x ∷ xs) (answers.Closed ∷ ys) later rest h i e = absurd cc
+same_cut (x ∷ xs) (y ∷ ys) later rest h i e =
+    let first : x ≡ y = cc in
+    let tail : xs ++ answers.Closed ∷ later ≡ ys ++ answers.Closed ∷ rest = cc in
+    let r = same_cut xs ys later rest h i tail in
+    let same = r.0 in (cc, r.1)

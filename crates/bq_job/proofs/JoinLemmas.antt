@@ -1,0 +1,148 @@
+-- What the seats and the core did joins.
+use Rattle.std.proofs.Common.{Option, ◌≡◌, ℕ, suc, ◌+◌, ◌≤◌, ◌<◌, Bool, true, false, ◌&&◌, List, [], ◌∷◌, ◌++◌, map, length, refl, sym, ap, ◌∙◌, arith, subst, inl, inr, append-nil, append_assoc}
+use Rattle.std.specs.Prelude.{IsTrue, ◌==◌}
+use Rattle.std.specs.List.{list_any}
+use Rattle.std.proofs.lemmas.Bool.{and_right}
+use Rattle.std.proofs.lemmas.List.{length-append}
+use Rattle.bq_job.specs.declared.answer.Answer.{Answer}
+use Rattle.bq_job.specs.declared.answer.Answer.TheVariants as answers
+use Rattle.bq_job.specs.declared.line_end.LineEnd.{LineEnd}
+use Rattle.bq_job.specs.declared.line_end.LineEnd.TheVariants as ends
+use Rattle.bq_job.specs.declared.request.Request.{Request}
+use Rattle.bq_job.specs.declared.step.Step.{Step}
+use Rattle.bq_job.specs.declared.step.Step.TheVariants as steps
+use Rattle.bq_job.specs.Changes.{is_waiting}
+use Rattle.bq_job.specs.Dispatch.{GivenAnswer}
+use Rattle.bq_job.specs.Headline.{AreDoorsOwed, AreTied, IsDoorOwed, IsHistoryOf, IsHistoryOfLine, IsJoined, IsLineJoined}
+use Rattle.bq_job.specs.History.{LineOver, steps_at}
+use Rattle.bq_job.specs.LineOwed.{AreLinesOwed, IsLineOwed}
+use Rattle.bq_job.specs.LineSteps.{AreAllAnswered, IsWritten, answered_count, answers_text, ends_by_wait}
+use Rattle.bq_job.specs.Machine.{Machine, SeatRecord, Settings, empty_seat, new_machine, numbers}
+use Rattle.bq_job.specs.OneClient.{has_closed, is_connected_at, owing}
+use Rattle.bq_job.specs.Profile.{Profile}
+use Rattle.bq_job.specs.Runs.{Entry, Run, answers_to}
+use Rattle.bq_job.specs.SeatDid.{AreLinesServed, IsLineServed, IsNoneUnwritten, IsSeatDone}
+use Rattle.bq_job.proofs.CutLemmas.{closes, closes_append, closes_unclosed, lines_close, parts_close, same_cut}
+use Rattle.bq_job.proofs.GivenLemmas.{AreParts, Serves, are_gone, gives_parts, most_of_lines, none_in, unclosed_both}
+use Rattle.bq_job.proofs.LawfulLemmas.{new_is_lawful}
+
+-- where all is answered, nothing comes after it
+nothing_after : (own others : List Answer) (n : ℕ) → length own ≡ n → length (own ++ others) ≤ n → own ≡ own ++ others
+nothing_after own others n h i =
+    let none : others ≡ [] = none_in others (omega (arith, length-append own others)) in
+    subst (λ (xs : List Answer). own ≡ own ++ xs) (sym none) (sym (append-nil own))
+
+-- what came and what was written agree with what was asked
+pub record IsDone (over : LineEnd) (asked : List Request) (given : List Answer) (written : List ℕ) : Type 0 where
+  pub answered : AreAllAnswered over asked given
+  pub written_is : IsWritten over asked given written
+
+-- the answer to the last reserve came too late to be written
+late_one : (asked : List Request) (own others : List Answer) (written : List ℕ) → IsTrue (ends_by_wait asked) → length own + 1 ≡ answered_count asked → length (own ++ others) ≤ answered_count asked → written ≡ answers_text own → IsDone ends.ReadFault asked (own ++ others) written
+late_one asked own [] written waits h i w =
+    subst (λ (xs : List Answer). IsDone ends.ReadFault asked xs written) (sym (append-nil own)) (record { answered = inr (waits, h); written_is = inl w })
+late_one asked own (a ∷ []) written waits h i w =
+    let all : length (own ++ a ∷ []) ≡ answered_count asked = omega (arith, length-append own (a ∷ [])) in
+    record { answered = inl all; written_is = inr (record { first = own; last = a; waits = waits; all = all; answers_are = refl; written_is = w }) }
+late_one asked own (a ∷ b ∷ others) written waits h i w = absurd (omega (arith, length-append own (a ∷ b ∷ others)))
+
+is_done : (over : LineEnd) (asked : List Request) (own others : List Answer) (written : List ℕ) → AreAllAnswered over asked own → length (own ++ others) ≤ answered_count asked → IsWritten over asked own written → IsNoneUnwritten over own written → IsDone over asked (own ++ others) written
+is_done ends.Quit asked own others written a i w none =
+    subst (λ (xs : List Answer). IsDone ends.Quit asked xs written) (nothing_after own others (answered_count asked) a i) (record { answered = a; written_is = w })
+is_done ends.EndOfInput asked own others written a i w none =
+    subst (λ (xs : List Answer). IsDone ends.EndOfInput asked xs written) (nothing_after own others (answered_count asked) a i) (record { answered = a; written_is = w })
+is_done ends.ReadFault asked own others written (inl all) i w none =
+    subst (λ (xs : List Answer). IsDone ends.ReadFault asked xs written) (nothing_after own others (answered_count asked) all i) (record { answered = inl all; written_is = inl none })
+is_done ends.ReadFault asked own others written (inr h) i w none = late_one asked own others written h.0 h.1 i none
+is_done ends.WriteFault asked own others written a i w none =
+    subst (λ (xs : List Answer). IsDone ends.WriteFault asked xs written) (nothing_after own others (answered_count asked) a i) (record { answered = a; written_is = w })
+
+-- A line that was given so much, no more than it asked for, is owed just what it took and was written.
+line_owed : (p : Profile) (line : LineOver) (own : List Step) (got part : List Answer) (l : IsLineServed p line own got) → part ≡ l.own ++ l.others → length part ≤ answered_count l.line_owed.steps.asked → IsLineOwed p line own part
+line_owed p line own got part l is few =
+    let done = is_done line.over l.line_owed.steps.asked l.own l.others line.seen.written l.line_owed.answered (let e = ap length is in omega arith) l.line_owed.written l.none_unwritten in
+    let done' = subst (λ (xs : List Answer). IsDone line.over l.line_owed.steps.asked xs line.seen.written) (sym is) done in
+    record { steps = l.line_owed.steps; answered = done'.answered; written = done'.written_is }
+
+-- Lines that took a beginning of what was given them took all of it, and each is owed just that.
+pub lines_owed : (p : Profile) (lines : List LineOver) (own : List Step) (taken waiting given : List Answer) (h : AreLinesServed p lines own taken)
+    → AreParts (most_of_lines p lines own taken h) given → given ≡ taken ++ waiting → AreLinesOwed p lines own given × (waiting ≡ [])
+lines_owed p [] own taken waiting given h parts is =
+    let none : waiting ≡ [] = sym (is ∙ ap (λ (xs : List Answer). xs ++ waiting) h.1) ∙ parts in
+    ((h.0, parts), none)
+lines_owed p (line ∷ lines) own taken waiting given h parts is =
+    let l = h.4 in
+    let count = parts_close (most_of_lines p (line ∷ lines) own taken h) given parts in
+    let took : closes given ≡ closes taken + closes waiting = ap closes is ∙ closes_append taken waiting in
+    let a : closes taken ≡ closes h.2 + closes h.3 = ap closes h.6 ∙ closes_append h.2 h.3 in
+    let b : closes h.2 ≡ closes l.own + closes (l.others ++ answers.Closed ∷ []) = ap closes l.taken_is ∙ closes_append l.own (l.others ++ answers.Closed ∷ []) in
+    let c = closes_append l.others (answers.Closed ∷ []) in
+    let d = lines_close p lines h.1 h.3 h.7 in
+    let none : closes l.own ≡ 0 = omega arith in
+    let unclosed : has_closed (l.own ++ l.others) ≡ false = unclosed_both l.own l.others (closes_unclosed l.own none) l.none_closed in
+    let whole : given ≡ (l.own ++ l.others) ++ answers.Closed ∷ (h.3 ++ waiting) =
+    is ∙ ap (λ (xs : List Answer). xs ++ waiting) h.6 ∙ append_assoc h.2 h.3 waiting ∙ ap (λ (xs : List Answer). xs ++ (h.3 ++ waiting)) l.taken_is
+    ∙ shift l.own l.others (h.3 ++ waiting) in
+    let cut = same_cut parts.0 (l.own ++ l.others) parts.1 (h.3 ++ waiting) parts.2 unclosed (sym parts.4 ∙ whole) in
+    let rest = lines_owed p lines h.1 h.3 waiting parts.1 h.7 parts.5 cut.1 in
+    ((h.0, h.1, parts.0, parts.1, line_owed p line h.0 h.2 parts.0 l cut.0 parts.3, parts.2, h.5, parts.4, rest.0), rest.1)
+  where
+    shift : (xs ys zs : List Answer) → (xs ++ (ys ++ answers.Closed ∷ [])) ++ zs ≡ (xs ++ ys) ++ answers.Closed ∷ zs
+    shift xs ys zs = ap (λ (us : List Answer). us ++ zs) (sym (append_assoc xs ys (answers.Closed ∷ []))) ∙ append_assoc (xs ++ ys) (answers.Closed ∷ []) zs
+
+-- At the start no seat is taken, and nobody waits.
+none_such : (t : ℕ) (q : SeatRecord → Bool) (xs : List ℕ) → ((n : ℕ) → q (empty_seat n) ≡ false) → list_any (λ (s : SeatRecord). s.number == t && q s) (map empty_seat xs) ≡ false
+none_such t q [] h = refl
+none_such t q (n ∷ xs) h = rw (and_right (n == t) (q (empty_seat n)) (h n)) (none_such t q xs h)
+
+starts_free : (t : ℕ) (settings : Settings) → is_connected_at t (new_machine settings) ≡ false
+starts_free t settings = none_such t (λ s. s.connected) (numbers 0 settings.seats) (λ n. refl)
+
+starts_quiet : (t : ℕ) (settings : Settings) → owing t (new_machine settings) ≡ 0
+starts_quiet t settings = let h = none_such t is_waiting (numbers 0 settings.seats) (λ n. refl) in rw h refl
+
+-- What the run gave the seat is what its lines are owed, and nothing waits any more.
+seat_owed : (settings : Settings) (p : Profile) (t : ℕ) (lines : List LineOver) (own tail : List Step) (taken waiting : List Answer) (history : List Entry) (all : List GivenAnswer) (last : Machine)
+    → t < settings.seats → are_gone tail ≡ true → Run (new_machine settings) history all last → steps_at t history ≡ own ++ tail → answers_to t all ≡ taken ++ waiting → AreLinesServed p lines own taken
+    → AreLinesOwed p lines own (answers_to t all)
+seat_owed settings p t lines own tail taken waiting history all last within gone runs steps_are answers_are served =
+    let serves : Serves t (new_machine settings) = record { lawful = new_is_lawful settings; within = within } in
+    let parts = gives_parts t p lines own taken served (new_machine settings) last history all serves (starts_free t settings) (starts_quiet t settings) tail gone runs steps_are in
+    (lines_owed p lines own taken waiting (answers_to t all) served parts answers_are).0
+
+doors_owed : (settings : Settings) (p : Profile) (seat : ℕ) (doors : List (List LineOver)) (submitted : ℕ → List Step) (taken waiting : ℕ → List Answer) (history : List Entry) (all : List GivenAnswer) (last : Machine)
+    → seat + length doors ≤ settings.seats → Run (new_machine settings) history all last → AreTied p seat doors submitted taken waiting history all → AreDoorsOwed p seat doors history all
+doors_owed settings p seat [] submitted taken waiting history all last few runs tied = tt
+doors_owed settings p seat (lines ∷ doors) submitted taken waiting history all last few runs tied =
+    let done = tied.2 in
+    let steps_are = tied.0 ∙ done.submitted_is in (
+      record {
+        own = done.own;
+        of_lines = seat_owed settings p seat lines done.own (steps.Gone ∷ []) (taken seat) (waiting seat) history all last (omega arith) refl runs steps_are tied.1 done.of_lines;
+        taken_is = steps_are;
+      },
+      doors_owed settings p (suc seat) doors submitted taken waiting history all last (omega arith) runs tied.3,
+    )
+
+pub joined : (settings : Settings) (p : Profile) (doors : List (List LineOver)) (control : List ℕ) (failed : Bool) (readings : List (Option ℕ)) (history : List Entry) (given : List GivenAnswer) (last : Machine)
+    → IsJoined settings p doors control failed readings history given last → IsHistoryOf settings p doors control failed readings last
+joined settings p doors control failed readings history given last j = record {
+  history = history;
+  given = given;
+  run = j.run;
+  many = j.many;
+  of_doors = doors_owed settings p 0 doors j.submitted j.taken j.waiting history given last (let a = j.many in omega arith) j.run.runs j.tied;
+  of_control = j.control_tied ∙ j.control_done;
+  of_nobody_else = j.of_nobody_else;
+}
+
+pub line_joined : (settings : Settings) (p : Profile) (seat : ℕ) (line : LineOver) (readings : List (Option ℕ)) (history : List Entry) (given : List GivenAnswer) (last : Machine)
+    → IsLineJoined settings p seat line readings history given last → IsHistoryOfLine settings p seat line readings
+line_joined settings p seat line readings history given last j = record {
+  history = history;
+  given = given;
+  last = last;
+  run = j.run;
+  of_line = seat_owed settings p seat (line ∷ []) (steps_at seat history) [] j.taken j.waiting history given last j.within refl j.run.runs (sym (append-nil (steps_at seat history))) j.answers_are j.served;
+  of_nobody_else = j.of_nobody_else;
+}

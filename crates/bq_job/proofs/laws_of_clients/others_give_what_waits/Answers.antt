@@ -1,0 +1,14 @@
+use Rattle.std.proofs.Common.{◌≡◌, ◌≢◌, ℕ, Bool, true, false, inl, inr}
+use Rattle.std.specs.Prelude.{◌==◌}
+use Rattle.std.proofs.lemmas.Bool.{cases_Bool, eqb-true}
+use Rattle.bq_job.proofs.OneClientLemmas.{others_give}
+use Rattle.bq_job.proofs.laws_of_clients.others_give_what_waits.Goals as goal
+
+differs : (a b : ℕ) → a ≢ b → (a == b) ≡ false
+differs a b other = elim (cases_Bool (a == b)) [
+  | inl e ↦ absurd (other (eqb-true a b e))
+  | inr e ↦ e
+]
+
+pub returns : goal.returns
+returns c first last at seat client what outcome given other step = others_give first last at seat client what outcome given (differs seat client other) step

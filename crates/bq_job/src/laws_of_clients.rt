@@ -1,0 +1,52 @@
+//! Laws of clients: what a step gives to each of them, and what a whole run does.
+ghost use Rattle.std.specs.Prelude.{ℕ, Bool, List, Option, ◌≡◌, ◌≢◌, ◌<◌, true};
+ghost use Rattle.bq_job.specs.declared.request.Request.{Request};
+ghost use Rattle.bq_job.specs.declared.step.Step.{Step};
+ghost use Rattle.bq_job.specs.declared.step.Step.TheVariants.{Ask};
+ghost use Rattle.bq_job.specs.Dispatch.{GivenAnswer};
+ghost use Rattle.bq_job.specs.Headline.{IsHistoryOf, IsHistoryOfLine, IsJoined, IsLineJoined};
+ghost use Rattle.bq_job.specs.History.{LineOver};
+ghost use Rattle.bq_job.specs.Lawful.{IsLawful};
+ghost use Rattle.bq_job.specs.Machine.{Machine, Settings};
+ghost use Rattle.bq_job.specs.OneClient.{GetsAtMost, GetsWhatWaits, is_connected_at};
+ghost use Rattle.bq_job.specs.Profile.{Profile};
+ghost use Rattle.bq_job.specs.Runs.{Entry, answers_to};
+ghost use Rattle.bq_job.specs.Steps.{IsStep, Outcome};
+
+/// A step of another seat gives a client at most the answer that it waits for, and nothing else.
+pub fn others_give_what_waits()
+    ensures { (first last : Machine) (at seat client : ℕ) (what : Step) (outcome : Outcome) (given : List GivenAnswer)
+        → seat ≢ client → IsStep first at seat what outcome given last
+        → GetsWhatWaits first last client (answers_to client given) }
+{}
+
+/// A connected client that asks, even while it waits, is given no more than it waits for and one answer.
+pub fn asks_give_at_most()
+    ensures { (first last : Machine) (at seat : ℕ) (request : Request) (outcome : Outcome) (given : List GivenAnswer)
+        → IsLawful first → seat < first.settings.seats → is_connected_at seat first ≡ true
+        → IsStep first at seat (Ask request) outcome given last
+        → GetsAtMost first last seat request (answers_to seat given) }
+{}
+
+/// A step keeps the settings.
+pub fn steps_keep_settings()
+    ensures { (first last : Machine) (at seat : ℕ) (what : Step) (outcome : Outcome) (given : List GivenAnswer)
+        → IsStep first at seat what outcome given last → last.settings ≡ first.settings }
+{}
+
+/// What the seats, the core and the control line did, each by itself, joins to one history, along which each
+/// line was written exactly what it is owed.
+pub fn parts_join()
+    ensures { (settings : Settings) (p : Profile) (doors : List (List LineOver)) (control : List ℕ) (failed : Bool)
+        (readings : List (Option ℕ)) (history : List Entry) (given : List GivenAnswer) (last : Machine)
+        → IsJoined settings p doors control failed readings history given last
+        → IsHistoryOf settings p doors control failed readings last }
+{}
+
+/// The same for a lone line.
+pub fn line_joins()
+    ensures { (settings : Settings) (p : Profile) (seat : ℕ) (line : LineOver) (readings : List (Option ℕ))
+        (history : List Entry) (given : List GivenAnswer) (last : Machine)
+        → IsLineJoined settings p seat line readings history given last
+        → IsHistoryOfLine settings p seat line readings }
+{}
