@@ -1,9 +1,11 @@
-pub mod ArmLemmas
-pub mod CarryLemmas
+pub mod AloneLemmas
+pub mod CarriedLemmas
+pub mod DeskLemmas
+pub mod DeskSeatLemmas
 pub mod EventLemmas
-pub mod GoesOnLemmas
-pub mod HistoryLemmas
+pub mod MailLemmas
 pub mod PartLemmas
 pub mod ReadingsLemmas
+pub mod SeatLemmas
 pub mod SeenLemmas
 pub mod WritingLemmas

@@ -1,9 +1,14 @@
+pub mod Attending
+pub mod Carried
+pub mod DeskOf
+pub mod DeskState
+pub mod DeskWent
 pub mod Doors
 pub mod FaultCodes
 pub mod LineCalls
 pub mod LineParts
-pub mod OneSeat
+pub mod Links
 pub mod ReadingNumbers
+pub mod RunSettings
 pub mod ScriptPlace
-pub mod ServingOne
 pub mod Writing

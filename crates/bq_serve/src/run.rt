@@ -3,7 +3,10 @@
 pub use one::{One, run_one};
 
 mod answer_write;
+mod client;
+mod desk;
+mod desk_seat;
 mod joined;
+mod link;
 mod mail;
 mod one;
-mod serving;

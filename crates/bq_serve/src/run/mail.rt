@@ -1,17 +1,15 @@
-ghost use Rattle.std.specs.Prelude.{◌≡◌, ◌<◌, ◌≤◌, ◌+◌, ◌++◌, ◌∷◌, [], length, IfOk, IsNone, ◌↔◌};
+ghost use Rattle.std.specs.Prelude.{◌≡◌, ◌≤◌, ◌++◌, ◌∷◌, [], length, IfOk, IsErr, IsNone, MatchResult, ◌↔◌};
 ghost use Rattle.std.specs.Option.{option_to_list};
-ghost use Rattle.bq_job.specs.Runs.{answers_to};
 
-use bq_core::Outs;
-use bq_job::{Answer, NoMemory, Seat};
+use bq_job::{Answer, NoMemory};
 use std::alloc::Global;
 use std::collections::VecDeque;
 use std::marker::Model;
 
-/// How many answers can lie in the mail.
+/// How many answers can lie in the mail of a seat.
 const MAIL_ROOM: usize = 4;
 
-/// Answers that were given to a client, and that its seat machine hasn't been told of, in their order.
+/// Answers that were given to a seat, and that it hasn't taken yet, in their order.
 #[derive(Drop)]
 pub struct Mail {
     answers: VecDeque<Answer, Global>,
@@ -48,23 +46,15 @@ impl Mail {
         self.answers.pop_front()
     }
 
-    fn push(&mut self, answer: Answer)
-        requires { length self.old < 4 }
-        ensures { self.new ≡ self.old ++ answer ∷ [] }
+    /// Puts an answer behind the others, or hands it back where there is no room.
+    pub fn put(&mut self, answer: Answer) -> Result<(), Answer>
+        ensures put { MatchResult result (λ done. self.new ≡ self.old ++ answer ∷ []) (λ back. (back ≡ answer) × (self.new ≡ self.old)) }
+        ensures full { IsErr result ↔ (4 ≤ length self.old) }
     {
-        self.answers.push_back(answer).unwrap();
-    }
-}
-
-/// The answers to the seat go into the mail, behind those that are there; others are dropped.
-pub fn post(outs: &mut Outs, seat: Seat, mail: &mut Mail)
-    requires { length mail.old + length outs.old.given ≤ 4 }
-    ensures mail { mail.new ≡ mail.old ++ answers_to seat outs.old.given }
-    ensures most { outs.new.most ≡ outs.old.most }
-{
-    while let Some((to, answer)) = outs.take_first() {
-        if to == seat {
-            mail.push(answer);
+        if self.answers.len() >= MAIL_ROOM {
+            return Err(answer);
         }
+        self.answers.push_back(answer).unwrap();
+        Ok(())
     }
 }

@@ -1,18 +1,22 @@
-ghost use Rattle.std.specs.Prelude.{◌≡◌, ◌↔◌, List, Option, ℕ, IfOk, IsErrOf, IsTrue, not};
+ghost use Rattle.std.specs.Prelude.{◌↔◌, ◌≡◌, List, Option, ℕ, IfOk, IsErrOf, IsTrue, not};
 ghost use Rattle.bq_core.specs.State.{settings_of};
+ghost use Rattle.bq_job.specs.Headline.{IsHistoryOfLine};
 ghost use Rattle.bq_serve.specs.LineCalls.{new_line};
-ghost use Rattle.bq_serve.specs.OneSeat.{IsServedAlone};
-ghost use Rattle.bq_serve.specs.ServingOne.{is_lone, profile_so_far};
+ghost use Rattle.bq_serve.specs.RunSettings.{is_lone, profile_so_far};
 
-use super::serving::Serving;
+use super::desk::Desk;
+use super::desk_seat::act;
 use crate::RunFault;
 use crate::clock::Clock;
 use crate::line::Line;
 use bq_core::Config;
-use bq_job::LineEnd;
-use bq_seat::{Action, Event};
+use bq_job::{LineEnd, Seat, line_joins};
+use bq_seat::{Action, Event, SeatMachine};
 use std::alloc::Global;
 use std::sync::Wait;
+
+/// The seat of a lone client.
+const ONLY_SEAT: Seat = 0;
 
 /// A line that is over: the line itself, how it was over, and the clock as it was left.
 #[derive(Drop)]
@@ -32,23 +36,35 @@ pub fn run_one<R: Wait, L: Line + Drop, C: Clock + Drop>(
     alloc: Global,
     config: Config,
     mut line: L,
-    mut clock: C,
+    clock: C,
 ) -> Result<One<L, C>, RunFault>
     // Nothing was done on the line yet.
     requires new { L.seen line ≡ new_line }
     // There is one history of the client's steps, each at the moment of a reading of the clock. The
-    // one-list machine takes it; its steps are those of the bytes that were read, each request was
-    // answered, and the line was written exactly what the client is owed.
-    ensures served { IfOk result (λ one. (readings : List (Option ℕ)) × C.given clock readings one.clock × IsServedAlone (settings_of config) (profile_so_far config) (L.seen one.line) one.end readings) }
+    // one-list machine takes it, and the line was written exactly what it is owed along it.
+    ensures served { IfOk result (λ one. (readings : List (Option ℕ)) × C.given clock readings one.clock × IsHistoryOfLine (settings_of config) (profile_so_far config) 0 (record { seen = L.seen one.line; over = one.end }) readings) }
     ensures bad_configuration { IsErrOf result RunFault.BadConfiguration ↔ IsTrue (not (is_lone config)) }
     ensures no_thread { IsErrOf result RunFault.ThreadRefused ↔ ⊥ }
 {
-    let mut serving = Serving::new(alloc, config)?;
-    let mut action = serving.machine.on(Event::Opened);
+    if config.seats != 1 {
+        return Err(RunFault::BadConfiguration);
+    }
+    let mut desk = Desk::new(alloc, config, clock)?;
+    let Ok(mut machine) = SeatMachine::new(alloc, config.max_job_size) else {
+        return Err(RunFault::NoMemory);
+    };
+    let mut action = machine.on(Event::Opened);
     for _ in rt.forever() {
         match action {
-            Action::LineOver(end) => return Ok(One { line, end, clock }),
-            other => action = serving.carry_out(other, &mut line, &mut clock),
+            Action::LineOver(end) => {
+                line_joins();
+                return Ok(One {
+                    line,
+                    end,
+                    clock: desk.clock,
+                });
+            }
+            other => action = act(&mut machine, other, &mut line, &mut desk, ONLY_SEAT),
         }
     }
     unreachable!()

@@ -1,0 +1,41 @@
+-- What lies on a desk beside its clock.
+use Rattle.std.specs.Prelude.{ℕ, ◌≡◌, ◌<◌, List, [], ◌++◌, length, replicate, slice_index_or}
+use Rattle.bq_job.specs.declared.answer.Answer.{Answer}
+use Rattle.bq_job.specs.Dispatch.{GivenAnswer}
+use Rattle.bq_job.specs.Machine.{Machine, Settings, new_machine}
+use Rattle.bq_job.specs.Runs.{answers_to}
+
+pub record DeskState : Type 0 where
+  pub core : Machine
+  -- the mail of each seat, and the answers that are not in it yet
+  pub mails : List (List Answer)
+  pub pending : List GivenAnswer
+  -- the moment heard last
+  pub heard : ℕ
+  -- how many answers a step can give
+  pub most : ℕ
+
+-- what waits for a seat
+abbrev pub waiting : ℕ → DeskState → List Answer
+waiting seat d = slice_index_or d.mails seat [] ++ answers_to seat d.pending
+
+-- a desk at which nothing was done
+pub record IsNewDesk (settings : Settings) (d : DeskState) : Type 0 where
+  pub core : d.core ≡ new_machine settings
+  pub mails : d.mails ≡ replicate settings.seats []
+  pub pending : d.pending ≡ []
+  pub heard : d.heard ≡ 0
+  pub room : settings.seats < d.most
+
+-- Each seat has its mail, and there is room for the answers of a step.
+pub record HasMails (d : DeskState) : Type 0 where
+  pub many : length d.mails ≡ d.core.settings.seats
+  pub room : d.core.settings.seats < d.most
+
+-- Answers went from one place on the desk to another, and no seat sees it.
+pub record IsSorted (first last : DeskState) : Type 0 where
+  pub core : last.core ≡ first.core
+  pub heard : last.heard ≡ first.heard
+  pub most : last.most ≡ first.most
+  pub many : length last.mails ≡ length first.mails
+  pub waiting_is : (seat : ℕ) → seat < length first.mails → waiting seat last ≡ waiting seat first

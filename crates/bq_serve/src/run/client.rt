@@ -1,0 +1,70 @@
+//! A seat's machine at work on a line.
+ghost use Rattle.std.specs.Prelude.{◌≡◌, ◌++◌, [], ℕ, List, IsTrue};
+ghost use Rattle.bq_job.specs.declared.answer.Answer.{Answer};
+ghost use Rattle.bq_job.specs.declared.step.Step.{Step};
+ghost use Rattle.bq_serve.specs.Carried.{Carried, HasGone, IsBuilt};
+
+use super::answer_write::write_answer;
+use super::link::Link;
+use crate::line::{Line, is_nothing_yet};
+use bq_job::Answer;
+use bq_seat::{Action, Event, SeatMachine};
+
+/// How many bytes are read at once at most.
+const PIECE_ROOM: usize = 4096;
+
+/// Carries out one action of a seat's machine, and says what the machine does next. Where a line is over,
+/// nothing is done.
+pub fn carry_out<L: Line, K: Link>(
+    machine: &mut SeatMachine,
+    action: Action,
+    line: &mut L,
+    link: &mut K,
+) -> Action
+    requires built { IsBuilt action }
+    requires ready { K.is_ready link.old }
+    ensures ready { K.is_ready link.new }
+    ensures carried { (submitted : List Step) × (taken : List Answer) × HasGone K.went link.old action submitted taken link.new × Carried machine.old (L.seen line.old) action machine.new (L.seen line.new) result submitted taken }
+{
+    match action {
+        Action::Submit(step) => match link.submit(step) {
+            Ok(()) => machine.on(Event::Submitted),
+            Err(step) => Action::Submit(step),
+        },
+        Action::Read => read(machine, line),
+        Action::PollMail => match link.mail() {
+            Some(answer) => machine.on(Event::Mail(answer)),
+            None => machine.on(Event::NothingYet),
+        },
+        Action::Write(answer) => write(machine, &answer, line),
+        Action::LineOver(end) => Action::LineOver(end),
+        Action::Stray => Action::Stray,
+    }
+}
+
+fn read<L: Line>(machine: &mut SeatMachine, line: &mut L) -> Action
+    ensures { Carried machine.old (L.seen line.old) Action.Read machine.new (L.seen line.new) result [] [] }
+{
+    let mut room = [0; PIECE_ROOM];
+    match line.read(&mut room) {
+        Ok(0) => machine.on(Event::EndOfInput),
+        Ok(count) => machine.on(Event::Bytes(&room[..count])),
+        Err(e) => {
+            if is_nothing_yet(&e) {
+                machine.on(Event::NothingYet)
+            } else {
+                machine.on(Event::ReadFault)
+            }
+        }
+    }
+}
+
+fn write<L: Line>(machine: &mut SeatMachine, answer: &Answer, line: &mut L) -> Action
+    ensures { Carried machine.old (L.seen line.old) (Action.Write answer.now) machine.new (L.seen line.new) result [] [] }
+{
+    if write_answer(line, answer) {
+        machine.on(Event::WriteDone)
+    } else {
+        machine.on(Event::WriteFault)
+    }
+}

@@ -1,0 +1,55 @@
+//! The link of a seat to a desk in the same hand.
+ghost use Rattle.std.specs.Prelude.{◌≡◌, ◌<◌, ℕ, List, length};
+ghost use Rattle.bq_job.specs.declared.answer.Answer.{Answer};
+ghost use Rattle.bq_job.specs.declared.step.Step.{Step};
+ghost use Rattle.bq_serve.specs.Carried.{Carried, IsBuilt};
+ghost use Rattle.bq_serve.specs.DeskOf.{WentAt, state_of};
+ghost use Rattle.bq_serve.specs.DeskState.{HasMails};
+
+use super::client::carry_out;
+use super::desk::Desk;
+use super::link::Link;
+use crate::clock::Clock;
+use crate::line::Line;
+use bq_job::{Answer, Seat, Step};
+use bq_seat::{Action, SeatMachine};
+
+/// A seat's link to the desk at which it is served.
+#[derive(Drop)]
+pub struct DeskSeat<'a, C> {
+    desk: &'a mut Desk<C>,
+    seat: Seat,
+}
+
+impl<'a, C: Clock + Drop> Link for DeskSeat<'a, C> {
+    ghost is_ready = { λ l. HasMails (state_of l.desk.now) × (l.seat < length (state_of l.desk.now).mails) };
+
+    // Who drops the link knows the desk by it.
+    ghost went = { λ first submitted taken last. (last.desk.ghost_name ≡ first.desk.ghost_name) × (last.seat ≡ first.seat) × WentAt C.given first.seat first.desk.now submitted taken last.desk.now };
+
+    fn submit(&mut self, step: Step) -> Result<(), Step> {
+        self.desk.submit(self.seat, step)
+    }
+
+    fn mail(&mut self) -> Option<Answer> {
+        self.desk.mail(self.seat)
+    }
+}
+
+/// Carries out one action of a seat's machine at the desk.
+pub fn act<L: Line, C: Clock + Drop>(
+    machine: &mut SeatMachine,
+    action: Action,
+    line: &mut L,
+    desk: &mut Desk<C>,
+    seat: Seat,
+) -> Action
+    requires built { IsBuilt action }
+    requires mails { HasMails (state_of desk.old) }
+    requires within { seat < length (state_of desk.old).mails }
+    ensures mails { HasMails (state_of desk.new) }
+    ensures carried { (submitted : List Step) × (taken : List Answer) × WentAt C.given seat desk.old submitted taken desk.new × Carried machine.old (L.seen line.old) action machine.new (L.seen line.new) result submitted taken }
+{
+    let mut link = DeskSeat { desk, seat };
+    carry_out(machine, action, line, &mut link)
+}
