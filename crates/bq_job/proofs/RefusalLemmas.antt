@@ -19,6 +19,7 @@ use Rattle.bq_job.specs.Lawful.{IsLawful}
 use Rattle.bq_job.specs.Limits.{later, raised}
 use Rattle.bq_job.specs.Machine.{Machine, SeatRecord}
 use Rattle.bq_job.specs.Refusals.{ChangesNothing, is_refusal}
+use Rattle.bq_job.specs.Runs.{parts_of}
 use Rattle.bq_job.specs.Statistics.{tube_statistics}
 use Rattle.bq_job.specs.StatisticsCommands.{job_statistics_or_not}
 use Rattle.bq_job.specs.Steps.{IsStep, Memory, Outcome, Serves, acted, granted, growth_refused, share_refused}
@@ -134,7 +135,7 @@ honest_acted growth_refused m seat what = unchanged m answers.OutOfMemory
 honest_acted share_refused m seat what = unchanged m answers.OutOfMemory
 
 -- Nobody is served after it, since everybody was before.
-pub refused_is_tick : (first last : Machine) (at seat : ℕ) (what : Step) (outcome : Outcome) (given : List GivenAnswer) (answer : Answer) → IsLawful first → (step : IsStep first at seat what outcome given last) → (acted step.memory step.before seat what).answer ≡ Some answer → IsTrue (is_refusal answer) → ChangesNothing first at seat what outcome given last answer step
+pub refused_is_tick : (first last : Machine) (at seat : ℕ) (what : Step) (outcome : Outcome) (given : List GivenAnswer) (answer : Answer) → IsLawful first → (step : IsStep first at seat what outcome given last) → (acted step.memory step.before seat what).answer ≡ Some answer → IsTrue (is_refusal answer) → ChangesNothing (parts_of step) seat what answer given last
 refused_is_tick first last at seat what outcome given answer h s e r =
     let before = lawful_when_served (forgetting (after_timers (at_moment at first))) s.handed s.ended s.before
     (kept_of_timers at first (kept_of_lawful first h)) (booked_timers at first (booked_of_lawful first h)) s.serves in

@@ -5,7 +5,8 @@ use Rattle.bq_job.specs.declared.answer.Answer.TheVariants as answers
 use Rattle.bq_job.specs.declared.step.Step.{Step}
 use Rattle.bq_job.specs.Dispatch.{GivenAnswer}
 use Rattle.bq_job.specs.Machine.{Machine}
-use Rattle.bq_job.specs.Steps.{IsStep, Outcome, acted}
+use Rattle.bq_job.specs.Runs.{Parts}
+use Rattle.bq_job.specs.Steps.{acted}
 
 abbrev pub is_refusal : Answer → Bool
 is_refusal answers.UnknownCommand = true
@@ -18,8 +19,8 @@ is_refusal answers.NotIgnored = true
 is_refusal answers.Draining = true
 is_refusal _ = false
 
--- The command changed nothing: the step is what a tick is, and its last answer is this one.
-pub record ChangesNothing (first : Machine) (at seat : ℕ) (what : Step) (outcome : Outcome) (given : List GivenAnswer) (last : Machine) (answer : Answer) (step : IsStep first at seat what outcome given last) : Type 0 where
-  pub machine : (acted step.memory step.before seat what).machine ≡ step.before
-  pub last_is : last ≡ step.before
-  pub given_is : given ≡ step.handed ++ step.ended ++ (seat, answer) ∷ []
+-- The command changed nothing: the step with these parts is what a tick is, but for its last answer.
+pub record ChangesNothing (parts : Parts) (seat : ℕ) (what : Step) (answer : Answer) (given : List GivenAnswer) (last : Machine) : Type 0 where
+  pub machine : (acted parts.memory parts.before seat what).machine ≡ parts.before
+  pub last_is : last ≡ parts.before
+  pub given_is : given ≡ parts.handed ++ parts.ended ++ (seat, answer) ∷ []

@@ -11,6 +11,7 @@ ghost use Rattle.bq_job.specs.Machine.{Machine, Settings, new_machine};
 ghost use Rattle.bq_job.specs.NextDue.{is_before, next_due};
 ghost use Rattle.bq_job.specs.OneClient.{GivesClient};
 ghost use Rattle.bq_job.specs.Refusals.{ChangesNothing, is_refusal};
+ghost use Rattle.bq_job.specs.Runs.{parts_of};
 ghost use Rattle.bq_job.specs.Steps.{IsStep, Outcome, acted};
 ghost use Rattle.bq_job.specs.Timers.{at_moment};
 ghost use Rattle.std.specs.Prelude.{ℕ, ◌≡◌, ◌+◌, ◌<◌, ◌≤◌, IsTrue, false, List, [], Some, length};
@@ -70,7 +71,7 @@ pub fn refused_commands_change_nothing()
     ensures { (first last : Machine) (at seat : ℕ) (what : Step) (outcome : Outcome) (given : List GivenAnswer) (answer : Answer)
         → IsLawful first → (step : IsStep first at seat what outcome given last)
         → (acted step.memory step.before seat what).answer ≡ Some answer → IsTrue (is_refusal answer)
-        → ChangesNothing first at seat what outcome given last answer step }
+        → ChangesNothing (parts_of step) seat what answer given last }
 {}
 
 /// A step in which no share of a body was refused has one result, be its command left out for want of
