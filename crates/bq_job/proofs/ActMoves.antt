@@ -1,8 +1,8 @@
 -- The command's own effect, as a move: what each request and each other event does to jobs.
-use Rattle.std.proofs.Common.{ℕ, zero, suc, ◌≡◌, ◌≤◌, ◌<◌, ◌+◌, Bool, true, false, ◌&&◌, ◌||◌, not, cond, List, [], ◌∷◌, ◌++◌, map, arith, refl, sym, ap, ◌∙◌, subst, inl, inr, ◌⊎◌, Option, Some, None}
+use Rattle.std.proofs.Common.{ℕ, zero, suc, ◌≡◌, Bool, true, false, ◌&&◌, ◌||◌, not, cond, List, [], ◌∷◌, arith, refl, sym, ap, ◌∙◌, subst, inl, inr, Option, Some, None}
 use Rattle.std.specs.Prelude.{filter, take, ◌==◌}
-use Rattle.std.specs.List.{AllByRecursion as All, Contains, list_any}
-use Rattle.std.proofs.lemmas.Bool.{cases_Bool, and_parts, or_cases, or_left, or_right, both_ways, cond_both, eqb-true, eq-eqb}
+use Rattle.std.specs.List.{AllByRecursion as All, list_any}
+use Rattle.std.proofs.lemmas.Bool.{and_parts, or_cases, or_left, or_right, cond_both, eqb-true, eq-eqb}
 use Rattle.bq_job.specs.declared.answer.Answer.TheVariants as answers
 use Rattle.bq_job.specs.declared.job.Job.{Job}
 use Rattle.bq_job.specs.declared.job.JobState.{JobState}
@@ -15,7 +15,7 @@ use Rattle.bq_job.specs.Acts.{Effect, on_found, on_job, showing, silent, telling
 use Rattle.bq_job.specs.Asked.{after_close, after_connect, asked, at_found, at_seat, effect, with_end}
 use Rattle.bq_job.specs.Changes.{in_state, is_held_by, is_holder, is_ready, is_ready_state, is_waiting, job_with, seat_with, with_job, with_seat}
 use Rattle.bq_job.specs.Dispatch.{reserved_by}
-use Rattle.bq_job.specs.JobCommands.{after_kick, after_put, bury_effect, buried, delayed_by, delete_effect, is_free_for, kick_effect, in_order, is_buried_in, is_delayed_in, kick_job_effect, kickable, kicked, kicked_first, put_in_order, new_job, put_effect, release_effect, released, reserve_effect, reserve_job_effect, touch_effect}
+use Rattle.bq_job.specs.JobCommands.{after_put, buried, delayed_by, is_free_for, in_order, is_buried_in, is_delayed_in, kickable, kicked, kicked_first, put_in_order, new_job, put_effect, released}
 use Rattle.bq_job.specs.JobStates.{is_buried, is_buried_before, is_delayed, is_due_before, is_reserved}
 use Rattle.bq_job.specs.Lawful.{AreIdsWithin}
 use Rattle.bq_job.specs.Limits.{later, raised}

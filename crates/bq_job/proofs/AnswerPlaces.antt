@@ -1,8 +1,8 @@
 -- Where in a step's answers each RESERVED, INSERTED and DELETED stands, and what is so then.
-use Rattle.std.proofs.Common.{ℕ, suc, ◌≡◌, ◌≤◌, ◌<◌, Bool, true, false, ◌&&◌, ◌||◌, not, cond, List, [], ◌∷◌, ◌++◌, map, arith, refl, sym, ap, ◌∙◌, subst, inl, inr, ◌⊎◌, Option, Some, None, append-nil}
+use Rattle.std.proofs.Common.{ℕ, ◌≡◌, Bool, true, false, not, List, [], ◌∷◌, ◌++◌, arith, refl, sym, ap, ◌∙◌, subst, inl, inr, ◌⊎◌, Option, Some, None, append-nil}
 use Rattle.std.specs.Prelude.{IsTrue, filter, flat_map, nat_le, ◌==◌}
-use Rattle.std.specs.List.{AllByRecursion as All, Contains, list_any}
-use Rattle.std.proofs.lemmas.Bool.{cases_Bool, or_parts, or_from, both_ways, cond_both}
+use Rattle.std.specs.List.{AllByRecursion as All, Contains}
+use Rattle.std.proofs.lemmas.Bool.{or_from, both_ways, cond_both}
 use Rattle.std.proofs.lemmas.Bool.Decides.{nat_tests}
 use Rattle.std.proofs.lemmas.List.Elements.{Contains-append_cases}
 use Rattle.std.proofs.lemmas.List.Folds.{list_any-append}
@@ -13,21 +13,20 @@ use Rattle.bq_job.specs.declared.request.Request.TheVariants as requests
 use Rattle.bq_job.specs.declared.step.Step.{Step}
 use Rattle.bq_job.specs.declared.step.Step.TheVariants as steps
 use Rattle.bq_job.specs.Acts.{Effect}
-use Rattle.bq_job.specs.Asked.{effect}
 use Rattle.bq_job.specs.Changes.{is_held_by, job_with}
-use Rattle.bq_job.specs.Dispatch.{DispatchTurn, GivenAnswer, IsHandOut, next_seat}
+use Rattle.bq_job.specs.Dispatch.{DispatchTurn, GivenAnswer, IsHandOut}
 use Rattle.bq_job.specs.JobCommands.{last_id}
 use Rattle.bq_job.specs.JobStates.{is_reserved}
 use Rattle.bq_job.specs.LawsOfRuns.{GivesLeast, IsDeletion, IsDispatchedLeast, IsReservedById, has_inserted, is_inserted}
 use Rattle.bq_job.specs.Machine.{Machine, SeatRecord}
 use Rattle.bq_job.specs.Runs.{GoesBy, IsTransition, Parts, Transition, parts_of}
-use Rattle.bq_job.specs.Steps.{Dispatches, EndsWaits, IsStep, Memory, Outcome, Serves, acted, addressed, granted, growth_refused, share_refused, is_possible}
+use Rattle.bq_job.specs.Steps.{Dispatches, IsStep, Memory, Outcome, Serves, acted, addressed, granted, growth_refused, share_refused, is_possible}
 use Rattle.bq_job.specs.Timers.{after_timers, at_moment}
 use Rattle.bq_job.specs.Tubes.{forgetting}
 use Rattle.bq_job.specs.Waits.{Chain, WaitEndTurn, end_of_wait, is_deadline_soon}
 use Rattle.bq_job.proofs.DispatchLemmas.{reserved_is_least, turn_of}
 use Rattle.bq_job.proofs.LawfulLemmas.{end_of}
-use Rattle.bq_job.proofs.ListLemmas.{all_always, all_at, all_of_filter, contains_head}
+use Rattle.bq_job.proofs.ListLemmas.{all_always, all_at, all_of_filter}
 use Rattle.bq_job.proofs.LookupLemmas.{found_job}
 use Rattle.bq_job.proofs.OwnAnswerLemmas.{Tells, commonly, deleting, drains_acted, inserting, is_common, reserving, tells_acted}
 

@@ -1,22 +1,22 @@
 -- What a command does to the list of jobs, and the happenings that are told of it.
-use Rattle.std.proofs.Common.{ℕ, suc, ◌≡◌, ◌≤◌, ◌<◌, ◌+◌, Bool, true, false, ◌||◌, not, cond, List, [], ◌∷◌, ◌++◌, map, arith, refl, sym, ap, ◌∙◌, subst, inl, inr, ◌⊎◌, Option, Some, None}
+use Rattle.std.proofs.Common.{ℕ, suc, ◌≡◌, Bool, true, false, not, cond, List, [], ◌∷◌, ◌++◌, map, arith, refl, sym, ap, ◌∙◌, subst, inl, inr, ◌⊎◌, Option, Some, None}
 use Rattle.std.specs.Prelude.{filter, flat_map, is_none, option_map, ◌==◌}
 use Rattle.std.specs.List.{AllByRecursion as All, Contains, list_any}
-use Rattle.std.proofs.lemmas.Bool.{cases_Bool, or_left, or_right, or_cases, both_ways, cond_both, eqb-true, eq-eqb, false_from_ne_true}
+use Rattle.std.proofs.lemmas.Bool.{or_left, or_right, or_cases, both_ways, cond_both, eqb-true, eq-eqb, false_from_ne_true}
 use Rattle.bq_job.specs.declared.job.Job.{Job}
 use Rattle.bq_job.specs.declared.job.JobState.{JobState}
 use Rattle.bq_job.specs.declared.job.JobState.TheVariants as states
 use Rattle.bq_job.specs.declared.request.Request.TheVariants as requests
 use Rattle.bq_job.specs.declared.step.Step.{Step}
 use Rattle.bq_job.specs.declared.step.Step.TheVariants as steps
-use Rattle.bq_job.specs.Changes.{is_ready, is_ready_state, job_with}
+use Rattle.bq_job.specs.Changes.{is_ready, job_with}
 use Rattle.bq_job.specs.Happenings.{Happening, buried, change, change_or_removal, changes, deleted, given_up, named, put, released, removed, reserved_by_id, taken_up}
 use Rattle.bq_job.specs.JobStates.{is_reserved}
 use Rattle.bq_job.specs.Lawful.{AreIdsWithin}
 use Rattle.bq_job.specs.Machine.{Machine}
 use Rattle.bq_job.specs.Undisturbed.{disturbs, is_deletion}
-use Rattle.bq_job.proofs.JobMoves.{Fate, GoesOnAs, IsPutMove, IsQuiet, Move, quiet, putting, is_plain}
-use Rattle.bq_job.proofs.ListLemmas.{all_always, all_from_members, all_of_append, all_of_filter, all_of_map, all_weaker, list_any_with}
+use Rattle.bq_job.proofs.JobMoves.{Fate, GoesOnAs, Move, quiet, putting, is_plain}
+use Rattle.bq_job.proofs.ListLemmas.{all_from_members, all_of_append, all_of_filter, all_of_map, all_weaker, list_any_with}
 use Rattle.bq_job.proofs.LookupLemmas.{found_job, job_found, job_in_map, job_in_more, job_in_rest}
 use Rattle.std.proofs.lemmas.List.Folds.{list_any-append}
 

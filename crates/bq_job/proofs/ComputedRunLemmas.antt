@@ -1,11 +1,11 @@
 -- What is computed over a history is a run.
-use Rattle.std.proofs.Common.{ℕ, ◌≡◌, List, [], ◌∷◌, refl}
+use Rattle.std.proofs.Common.{List, [], ◌∷◌, refl}
 use Rattle.bq_job.specs.Asked.{effect}
 use Rattle.bq_job.specs.Computed.{after_dispatch, after_wait_ends, waiting_count}
 use Rattle.bq_job.specs.ComputedRuns.{machine_after, transition, transitions}
 use Rattle.bq_job.specs.Machine.{Machine}
 use Rattle.bq_job.specs.Runs.{Entry, GoesBy, IsTransition}
-use Rattle.bq_job.specs.Steps.{IsStep, Serves, granted}
+use Rattle.bq_job.specs.Steps.{Serves, granted}
 use Rattle.bq_job.specs.Timers.{after_timers, at_moment}
 use Rattle.bq_job.specs.Tubes.{forgetting}
 use Rattle.bq_job.proofs.ComputedLemmas.{computed_dispatches, computed_ends_waits, dispatched_shared}

@@ -1,8 +1,8 @@
 -- A job that was put is there until it is deleted, and one client at most holds it.
-use Rattle.std.proofs.Common.{ℕ, suc, ◌≡◌, ◌≤◌, ◌<◌, Bool, true, false, ◌&&◌, ◌||◌, not, cond, List, [], ◌∷◌, ◌++◌, map, arith, refl, sym, ap, ◌∙◌, subst, inl, inr, ◌⊎◌, Option, Some, None}
+use Rattle.std.proofs.Common.{ℕ, ◌≡◌, ◌<◌, true, false, ◌&&◌, ◌||◌, not, cond, List, [], ◌∷◌, ◌++◌, map, arith, refl, sym, ap, ◌∙◌, subst, inl, inr, ◌⊎◌, Option, Some, None}
 use Rattle.std.specs.Prelude.{option_map, ◌==◌}
 use Rattle.std.specs.List.{AllByRecursion as All, Contains, list_any}
-use Rattle.std.proofs.lemmas.Bool.{cases_Bool, and_parts, and_from, or_parts, or_cases, both_ways, cond_both, eqb-true, eq-eqb}
+use Rattle.std.proofs.lemmas.Bool.{and_parts, and_from, or_parts, both_ways, cond_both, eqb-true, eq-eqb}
 use Rattle.std.proofs.lemmas.List.Folds.{list_any-append}
 use Rattle.bq_job.specs.declared.job.Job.{Job}
 use Rattle.bq_job.specs.declared.job.JobState.{JobState}
@@ -11,20 +11,19 @@ use Rattle.bq_job.specs.Changes.{is_held_by, is_holder, job_with}
 use Rattle.bq_job.specs.Dispatch.{reserved_by}
 use Rattle.bq_job.specs.Happenings.{Happening, Part, happenings, parts_of_run, put}
 use Rattle.bq_job.specs.JobStates.{is_reserved}
-use Rattle.bq_job.specs.LawsOfRuns.{Holds, IsHeldByOne, IsKept}
+use Rattle.bq_job.specs.LawsOfRuns.{IsHeldByOne, IsKept}
 use Rattle.bq_job.specs.Machine.{Machine, SeatRecord, Settings, new_machine}
 use Rattle.bq_job.specs.OneClient.{is_connected_at}
 use Rattle.bq_job.specs.Runs.{GoesBy, Transition}
 use Rattle.bq_job.specs.Undisturbed.{is_deletion}
-use Rattle.bq_job.proofs.ActMoves.{Ids}
-use Rattle.bq_job.proofs.JobMoves.{Fate, GoesOnAs, IsHandOutMove, IsPutMove, IsQuiet, Move, Moves, quiet, putting, handing}
+use Rattle.bq_job.proofs.JobMoves.{Fate, Move, Moves, quiet, putting, handing}
 use Rattle.bq_job.proofs.KeptLemmas.{Keeps}
 use Rattle.bq_job.proofs.LawfulLemmas.{new_is_lawful}
-use Rattle.bq_job.proofs.ListLemmas.{all_at, all_pass, list_any_of_map}
+use Rattle.bq_job.proofs.ListLemmas.{all_at, list_any_of_map}
 use Rattle.bq_job.proofs.LookupLemmas.{found_job, job_at_end, job_found}
 use Rattle.bq_job.proofs.OrderLemmas.{put_behind, put_now_or_behind}
 use Rattle.bq_job.proofs.SpentLemmas.{handed_lookup, put_lookup}
-use Rattle.bq_job.proofs.StepMoves.{ArePartsGone, Goes, PartGoes, parts_go, run_gone}
+use Rattle.bq_job.proofs.StepMoves.{ArePartsGone, parts_go, run_gone}
 
 -- The job is there, in its tube and with its body.
 pub record IsThere (j : Job) (m : Machine) : Type 0 where

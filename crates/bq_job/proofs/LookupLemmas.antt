@@ -1,12 +1,12 @@
 -- Jobs looked up by id in a list whose ids grow: after a change of each job, a removal and an addition.
-use Rattle.std.proofs.Common.{ℕ, suc, ◌≡◌, ◌≤◌, ◌<◌, Bool, true, false, not, cond, List, [], ◌∷◌, ◌++◌, map, arith, refl, sym, ap, ◌∙◌, subst, inl, inr, ◌⊎◌, Option, Some, None}
-use Rattle.std.specs.Prelude.{filter, find, option_map, ◌==◌}
+use Rattle.std.proofs.Common.{ℕ, suc, ◌≡◌, ◌≤◌, ◌<◌, true, false, not, cond, List, [], ◌∷◌, ◌++◌, map, arith, refl, sym, ◌∙◌, subst, inl, inr, Some, None}
+use Rattle.std.specs.Prelude.{filter, option_map, ◌==◌}
 use Rattle.std.specs.List.{AllByRecursion as All, Contains}
-use Rattle.std.proofs.lemmas.Bool.{cases_Bool, eq-eqb, eqb-true, eqb-false, false_from_ne_true, both_ways}
+use Rattle.std.proofs.lemmas.Bool.{cases_Bool, eq-eqb, eqb-true, false_from_ne_true, both_ways}
 use Rattle.bq_job.specs.declared.job.Job.{Job}
 use Rattle.bq_job.specs.Changes.{job_with}
 use Rattle.bq_job.specs.Lawful.{AreIdsWithin}
-use Rattle.bq_job.proofs.ListLemmas.{all_at, found_passes, contains_head, contains_tail}
+use Rattle.bq_job.proofs.ListLemmas.{all_at, found_passes, contains_head}
 
 -- what is found is in the list, with the id
 pub found_job : (id : ℕ) (jobs : List Job) (j : Job) → job_with id jobs ≡ Some j → (j.id ≡ id) × Contains jobs j

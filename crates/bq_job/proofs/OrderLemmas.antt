@@ -1,8 +1,8 @@
 -- Undisturbed jobs of one tube and priority are handed out in the order of their puts.
-use Rattle.std.proofs.Common.{ℕ, suc, ◌≡◌, ◌≤◌, ◌<◌, Bool, true, false, ◌&&◌, ◌||◌, not, cond, List, [], ◌∷◌, ◌++◌, map, arith, refl, sym, ap, ◌∙◌, subst, inl, inr, ◌⊎◌, Option, Some, None}
+use Rattle.std.proofs.Common.{ℕ, ◌≡◌, ◌≤◌, ◌<◌, Bool, true, false, ◌||◌, cond, List, [], ◌∷◌, ◌++◌, arith, refl, sym, ap, ◌∙◌, subst, inl, inr, ◌⊎◌, Option, Some, None}
 use Rattle.std.specs.Prelude.{option_map, ◌==◌}
 use Rattle.std.specs.List.{AllByRecursion as All, Contains, list_any}
-use Rattle.std.proofs.lemmas.Bool.{cases_Bool, or_parts, or_from, or_left, or_cases, both_ways, cond_both, eqb-true, eq-eqb, false_from_ne_true}
+use Rattle.std.proofs.lemmas.Bool.{cases_Bool, or_parts, or_from, both_ways, eqb-true, eq-eqb}
 use Rattle.std.proofs.lemmas.Bool.Decides.{nat_tests}
 use Rattle.std.proofs.lemmas.List.Elements.{Contains-append_cases}
 use Rattle.std.proofs.lemmas.List.Folds.{list_any-append}
@@ -10,13 +10,12 @@ use Rattle.bq_job.specs.declared.job.Job.{Job}
 use Rattle.bq_job.specs.Changes.{is_pair_before, is_ready, job_with}
 use Rattle.bq_job.specs.Dispatch.{is_job_before, reserved_by}
 use Rattle.bq_job.specs.Happenings.{Happening, Part, put, handed_out, reserved_by_id, expired, released, buried, given_back, deleted, happenings}
-use Rattle.bq_job.specs.JobStates.{is_reserved}
 use Rattle.bq_job.specs.Machine.{Machine}
 use Rattle.bq_job.specs.Undisturbed.{comes_first, disturbs, is_hand_out, is_put}
-use Rattle.bq_job.proofs.JobMoves.{Fate, GoesOnAs, IsHandOutMove, IsPutMove, IsQuiet, Move, Moves, quiet, putting, handing, is_plain}
+use Rattle.bq_job.proofs.JobMoves.{Fate, IsHandOutMove, IsPutMove, IsQuiet, Move, Moves, quiet, putting, handing, is_plain}
 use Rattle.bq_job.proofs.ListLemmas.{all_at}
 use Rattle.bq_job.proofs.LookupLemmas.{found_job, job_at_end}
-use Rattle.bq_job.proofs.SpentLemmas.{IsSpent, IsNotFree, handed_lookup, held_is_not_ready, none_handed, none_more, put_lookup, spent_after, spent_by_hand_out, spent_not_handed, still_parts}
+use Rattle.bq_job.proofs.SpentLemmas.{IsSpent, IsNotFree, handed_lookup, held_is_not_ready, none_handed, none_more, put_lookup, spent_after, still_parts}
 
 -- What happens in a part that has neither of two things leaves their order.
 comes_behind : (one other : Happening → Bool) (happened more : List Happening) → list_any one happened ≡ false → list_any other happened ≡ false → comes_first one other (happened ++ more) ≡ comes_first one other more

@@ -1,7 +1,7 @@
 -- The answers of a step: which part gives RESERVED, INSERTED and DELETED, and that draining never ends.
-use Rattle.std.proofs.Common.{ℕ, suc, ◌≡◌, ◌≤◌, ◌<◌, Bool, true, false, ◌&&◌, ◌||◌, not, cond, List, [], ◌∷◌, ◌++◌, map, refl, sym, ap, ◌∙◌, subst, inl, inr, ◌⊎◌, Option, Some, None}
+use Rattle.std.proofs.Common.{ℕ, ◌≡◌, Bool, true, false, ◌&&◌, ◌||◌, not, List, [], ◌∷◌, refl, ap, subst, inl, inr, ◌⊎◌, Option, Some, None}
 use Rattle.std.specs.Prelude.{filter, nat_le, ◌==◌}
-use Rattle.std.proofs.lemmas.Bool.{cond_both, eqb-true, or_left, or_right, and_parts}
+use Rattle.std.proofs.lemmas.Bool.{cond_both, eqb-true, or_left, or_right}
 use Rattle.bq_job.specs.declared.answer.Answer.{Answer}
 use Rattle.bq_job.specs.declared.answer.Answer.TheVariants as answers
 use Rattle.bq_job.specs.declared.job.Job.{Job}

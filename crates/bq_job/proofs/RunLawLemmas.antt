@@ -1,16 +1,13 @@
 -- The laws of whole runs.
-use Rattle.std.proofs.Common.{ℕ, suc, ◌≡◌, ◌≤◌, ◌<◌, Bool, true, false, ◌&&◌, ◌||◌, not, cond, List, [], ◌∷◌, ◌++◌, map, arith, refl, sym, ap, ◌∙◌, subst, inl, inr, ◌⊎◌, Option, Some, None, append_assoc}
-use Rattle.std.specs.Prelude.{count_by, IsTrue, ◌==◌}
+use Rattle.std.proofs.Common.{ℕ, ◌≡◌, ◌≤◌, ◌<◌, Bool, true, false, not, List, [], ◌∷◌, arith, refl, sym, subst, inl, inr}
+use Rattle.std.specs.Prelude.{count_by, ◌==◌}
 use Rattle.std.specs.List.{Contains, list_any}
-use Rattle.std.proofs.lemmas.Bool.{cases_Bool, or_parts, both_ways, eqb-true, eq-eqb, false_from_ne_true}
-use Rattle.std.proofs.lemmas.List.Folds.{list_any-append}
+use Rattle.std.proofs.lemmas.Bool.{cases_Bool, both_ways, eqb-true, eq-eqb}
 use Rattle.bq_job.specs.declared.job.Job.{Job}
-use Rattle.bq_job.specs.Changes.{job_with}
-use Rattle.bq_job.specs.Happenings.{Happening, Part, happenings, parts_of_run, put}
+use Rattle.bq_job.specs.Happenings.{Happening, happenings, parts_of_run, put}
 use Rattle.bq_job.specs.Machine.{Machine, Settings, new_machine}
 use Rattle.bq_job.specs.Runs.{GoesBy, Transition}
 use Rattle.bq_job.specs.Undisturbed.{IsHandedOut, IsHandedOutBefore, IsPutBefore, IsUndisturbed, comes_first, disturbs, is_hand_out, is_put}
-use Rattle.bq_job.proofs.JobMoves.{Moves}
 use Rattle.bq_job.proofs.LawfulLemmas.{new_is_lawful}
 use Rattle.bq_job.proofs.OrderLemmas.{handed_in_order, ids_in_order, put_above, unborn}
 use Rattle.bq_job.proofs.SpentLemmas.{handed_once}

@@ -1,30 +1,27 @@
 -- Each part of a step, as moves: timers, turns of dispatch, ends of waits, and the command's own effect.
-use Rattle.std.proofs.Common.{ℕ, suc, ◌≡◌, ◌≤◌, ◌<◌, Bool, true, false, ◌&&◌, ◌||◌, not, cond, List, [], ◌∷◌, ◌++◌, map, arith, refl, sym, ap, ◌∙◌, subst, inl, inr, ◌⊎◌, Option, Some, None, append-nil, append_assoc}
+use Rattle.std.proofs.Common.{ℕ, ◌≡◌, true, false, ◌&&◌, not, cond, List, [], ◌∷◌, ◌++◌, map, refl, sym, ap, ◌∙◌, subst, inl, inr, Option, Some, None, append-nil}
 use Rattle.std.specs.Prelude.{filter, option_map, ◌==◌}
-use Rattle.std.specs.List.{AllByRecursion as All, Contains, list_any}
-use Rattle.std.proofs.lemmas.Bool.{cases_Bool, and_parts, and_from, or_left, or_right, both_ways, cond_both, eqb-true, eq-eqb}
-use Rattle.bq_job.specs.declared.answer.Answer.{Answer}
-use Rattle.bq_job.specs.declared.answer.Answer.TheVariants as answers
+use Rattle.std.specs.List.{AllByRecursion as All, list_any}
+use Rattle.std.proofs.lemmas.Bool.{cases_Bool, and_parts, and_from, or_left, or_right, both_ways, cond_both, eq-eqb}
 use Rattle.bq_job.specs.declared.job.Job.{Job}
 use Rattle.bq_job.specs.declared.job.JobState.{JobState}
 use Rattle.bq_job.specs.declared.job.JobState.TheVariants as states
-use Rattle.bq_job.specs.Changes.{in_state, is_ready, is_ready_state, job_with, with_job, with_seat, without_wait}
-use Rattle.bq_job.specs.Dispatch.{DispatchTurn, GivenAnswer, IsHandOut, is_job_before, may_have, next_job, next_seat, reserved_by}
+use Rattle.bq_job.specs.Changes.{is_ready, job_with}
+use Rattle.bq_job.specs.Dispatch.{DispatchTurn, GivenAnswer, IsHandOut, may_have, next_job, next_seat, reserved_by}
 use Rattle.bq_job.specs.Happenings.{Happening, Part, changes, expirations, expired, hand_out, hand_outs, happenings, parts_in, parts_of_run}
 use Rattle.bq_job.specs.JobStates.{is_reserved}
 use Rattle.bq_job.specs.Lawful.{AreIdsWithin, IsLawful}
 use Rattle.bq_job.specs.Machine.{Machine, SeatRecord}
 use Rattle.bq_job.specs.Runs.{GoesBy, IsTransition, Parts, Transition, parts_of}
-use Rattle.bq_job.specs.Steps.{Dispatches, EndsWaits, IsStep, acted}
-use Rattle.bq_job.specs.Timers.{after_timers, at_moment, is_due, is_expired, job_after_timers, with_timeout}
+use Rattle.bq_job.specs.Steps.{Dispatches, EndsWaits, acted}
+use Rattle.bq_job.specs.Timers.{after_timers, at_moment, is_due, is_expired, job_after_timers}
 use Rattle.bq_job.specs.Tubes.{forgetting, is_paused, watches}
 use Rattle.bq_job.specs.Undisturbed.{disturbs}
 use Rattle.bq_job.specs.Waits.{Chain, WaitEndTurn}
 use Rattle.bq_job.proofs.ActMoves.{Ids, after_acted}
 use Rattle.bq_job.proofs.ChangeLemmas.{move_of_jobs}
-use Rattle.bq_job.proofs.ChoiceLemmas.{first_of_contains}
 use Rattle.bq_job.proofs.DispatchLemmas.{next_is_least, turn_of}
-use Rattle.bq_job.proofs.JobMoves.{Fate, GoesOnAs, IsHandOutMove, IsQuiet, Move, Moves, quiet, handing, happenings_append, is_plain, moves_append}
+use Rattle.bq_job.proofs.JobMoves.{Fate, Move, Moves, quiet, handing, happenings_append, is_plain, moves_append}
 use Rattle.bq_job.proofs.KeptLemmas.{Keeps, ids_of_map, kept_of_lawful}
 use Rattle.bq_job.proofs.LawfulLemmas.{after_timers_is, end_of, kept_of_timers, leaves_acted, served, step_is_lawful, turns_of_dispatches}
 use Rattle.bq_job.proofs.ListLemmas.{all_always, all_of_map, list_any_with}

@@ -1,11 +1,10 @@
 -- A run as a function: the steps that the machine takes over a history where no memory is refused. It
 -- computes, so that worked examples are checked by evaluation; that it is a run is a law.
 use Rattle.std.specs.Prelude.{List, [], ◌∷◌, ◌++◌}
-use Rattle.bq_job.specs.Asked.{effect}
 use Rattle.bq_job.specs.Computed.{after_act, after_dispatch, after_wait_ends, ample}
 use Rattle.bq_job.specs.Machine.{Machine}
 use Rattle.bq_job.specs.Runs.{Entry, Transition}
-use Rattle.bq_job.specs.Steps.{addressed, granted}
+use Rattle.bq_job.specs.Steps.{granted}
 use Rattle.bq_job.specs.Timers.{after_timers, at_moment}
 use Rattle.bq_job.specs.Tubes.{forgetting}
 

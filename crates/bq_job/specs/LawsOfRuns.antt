@@ -6,7 +6,7 @@ use Rattle.bq_job.specs.declared.answer.Answer.TheVariants as answers
 use Rattle.bq_job.specs.declared.job.Job.{Job}
 use Rattle.bq_job.specs.declared.request.Request.TheVariants as requests
 use Rattle.bq_job.specs.declared.step.Step.TheVariants as steps
-use Rattle.bq_job.specs.Changes.{is_held_by, job_with}
+use Rattle.bq_job.specs.Changes.{is_held_by}
 use Rattle.bq_job.specs.Dispatch.{DispatchTurn, GivenAnswer}
 use Rattle.bq_job.specs.JobStates.{is_reserved}
 use Rattle.bq_job.specs.LeastJob.{GetsLeast}

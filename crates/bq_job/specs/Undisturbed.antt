@@ -1,5 +1,5 @@
 -- Undisturbed jobs, and the order in which jobs are handed out.
-use Rattle.std.specs.Prelude.{ℕ, Bool, true, false, ◌≡◌, ◌==◌, ◌&&◌, ◌||◌, not, IsTrue, List, [], ◌∷◌, Contains}
+use Rattle.std.specs.Prelude.{ℕ, Bool, false, ◌≡◌, ◌==◌, ◌&&◌, ◌||◌, not, IsTrue, List, [], ◌∷◌, Contains}
 use Rattle.std.specs.List.{list_any}
 use Rattle.bq_job.specs.declared.job.Job.{Job}
 use Rattle.bq_job.specs.Happenings.{Happening, put, handed_out, reserved_by_id, expired, released, buried, given_back, deleted}
