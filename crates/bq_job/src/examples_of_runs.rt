@@ -2,10 +2,11 @@
 //! evaluating the definitions, and none runs our code.
 ghost use Rattle.bq_job.specs.declared.answer.Answer.TheVariants.{Deleted, Draining, Inserted, NotFound, Reserved};
 ghost use Rattle.bq_job.specs.declared.request.Request.TheVariants.{Bury, Delete, Kick, PauseTube, Put, Release, Reserve, ReserveJob};
-ghost use Rattle.bq_job.specs.ComputedRuns.{transitions};
+ghost use Rattle.bq_job.specs.ComputedRuns.{machine_after, transitions};
 ghost use Rattle.bq_job.specs.Examples.{Plays, ask, at, close, connect, drain, server, tick, ◌gives◌};
 ghost use Rattle.bq_job.specs.JobCommands.{last_id};
-ghost use Rattle.bq_job.specs.RunExamples.{HandsOutDisturbed, HandsOutUndisturbed, happening_in};
+ghost use Rattle.bq_job.specs.RunExamples.{HandsOutDisturbed, HandsOutUndisturbed, happening_in, played};
+ghost use Rattle.bq_job.specs.LawsOfRuns.{Holds, has_inserted};
 ghost use Rattle.bq_job.specs.Undisturbed.{IsHandedOutBefore, IsPutBefore, is_deletion};
 ghost use Rattle.std.specs.Prelude.{List, [], ◌∷◌, ◌≡◌, codes, false, map, true};
 ghost use Rattle.std.specs.List.{list_any};
@@ -113,6 +114,18 @@ fn put_before_and_after_the_drain()
         ∷ []) }
 {}
 
+/// Of the steps of three connections, a put, the drain and a put the one before the drain gives INSERTED.
+fn inserted_before_the_drain()
+    ensures { map (λ t. has_inserted t.given) (played
+        (ask 0 (Put 0 0 9 (codes "x")) ∷ drain ∷ ask 0 (Put 0 0 9 (codes "y")) ∷ []))
+        ≡ false ∷ false ∷ false ∷ true ∷ false ∷ false ∷ [] }
+{}
+
+/// The client that reserved a job holds it.
+fn holder_of_a_job()
+    ensures { Holds (machine_after (server 1 65535) (connect 0 ∷ ask 0 (Put 0 0 9 (codes "x")) ∷ ask 0 Reserve ∷ [])) 0 1 }
+{}
+
 /// A put that gets the last id is accepted, and none after it.
 fn put_of_the_last_id()
     ensures { map (λ t. t.given) (transitions (record (server 1 65535) { next_id = last_id })
@@ -150,6 +163,8 @@ fn examples_of_runs() {
     job_put_with_a_delay();
     least_job_first();
     put_before_and_after_the_drain();
+    inserted_before_the_drain();
+    holder_of_a_job();
     put_of_the_last_id();
     deletion_is_told();
     delete_of_a_held_job();
