@@ -180,7 +180,7 @@ fn hostile_rows(rt: HostRuntime) -> Result<(), Fail> {
         plain(
             65535,
             "put 0 0 9 10~reserve~quit~~delete 3~",
-            "104;101;delete 3;",
+            "104;101;101;delete 3;",
         ),
         plain(
             2,
