@@ -99,7 +99,7 @@ watched_now m s seat tube found h =
     rw (h, at) refl
 
 -- a tube that isn't watched any more
-none_left : {A : Type 0} (p : A → Bool) (xs : List A) → list_any p xs ≡ false → filter p xs ≡ []
+pub none_left : {A : Type 0} (p : A → Bool) (xs : List A) → list_any p xs ≡ false → filter p xs ≡ []
 none_left p [] h = refl
 none_left p (x ∷ xs) h = elim (cases_Bool (p x)) [
   | inl pass ↦ absurd (let e : (true || list_any p xs) ≡ false = rw pass at h in cc)

@@ -1,4 +1,5 @@
 pub mod ActLemmas
+pub mod KickLemmas
 pub mod LoopLemmas
 pub mod StateLemmas
 pub mod StepLemmas

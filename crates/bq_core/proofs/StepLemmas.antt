@@ -11,7 +11,7 @@ use Rattle.bq_job.specs.declared.job.JobState.TheVariants as states
 use Rattle.bq_job.specs.Changes.{in_state, is_waiting, with_seat, without_wait}
 use Rattle.bq_job.specs.Computed.{waiting_count}
 use Rattle.bq_job.specs.Dispatch.{DispatchTurn, GivenAnswer, IsHandOut, after_hand_out, reserved_by}
-use Rattle.bq_job.specs.Lawful.{IsLawful}
+use Rattle.bq_job.specs.Lawful.{AreIdsWithin, IsLawful}
 use Rattle.bq_job.specs.Machine.{Machine, SeatRecord, TubeRecord, default_tube, empty_seat, numbers}
 use Rattle.bq_job.specs.Steps.{IsStep, acted, addressed, has_refused_share, is_growth_refused, is_share_refused}
 use Rattle.bq_job.specs.Timers.{after_timers, at_moment, is_due, is_expired, job_after_timers, tube_after_timers, with_timeout}
@@ -248,3 +248,9 @@ whole_step first at seat what begun between asked new acted_state left last empt
     or_comm true false = refl
     or_comm false true = refl
     or_comm false false = refl
+
+-- before the command's own effect each job has its id
+pub ids_before_act : (first fired served_state : State) (at : ℕ) (begun between : Outbox) → IsLawful (machine_of first) → machine_of fired ≡ after_timers (at_moment at (machine_of first)) → ServesInto (machine_of fired) begun between (machine_of served_state) → AreIdsWithin 1 (machine_of served_state).jobs (machine_of served_state).next_id
+ids_before_act first fired served_state at begun between lawful fires serves =
+    let h = kept_of_timers at (machine_of first) (kept_of_lawful (machine_of first) lawful) in
+    (served (machine_of fired) serves.handed serves.ended (machine_of served_state) (subst Keeps (begins first fired at lawful fires) h) serves.serves).keeps.ids

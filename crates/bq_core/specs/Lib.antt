@@ -4,6 +4,7 @@ pub mod EndingWaits
 pub mod HandOuts
 pub mod JobChanges
 pub mod JobKinds
+pub mod Kicking
 pub mod Limits
 pub mod Outbox
 pub mod Places

@@ -2,6 +2,7 @@ ghost use Rattle.std.specs.Prelude.{◌≡◌, Some, true, IsTrue};
 ghost use Rattle.bq_job.specs.declared.step.Step.TheVariants as steps;
 ghost use Rattle.bq_job.specs.Asked.{asked, effect, refusal_answer as answer_of_refusal};
 ghost use Rattle.bq_job.specs.Changes.{seat_with};
+ghost use Rattle.bq_job.specs.Lawful.{AreIdsWithin};
 ghost use Rattle.bq_job.specs.Machine.{SeatRecord};
 ghost use Rattle.bq_job.specs.Steps.{step_takes_memory, takes_memory};
 ghost use Rattle.bq_core.specs.Acting.{Acts, Replies, is_asking, is_built, is_built_request};
@@ -14,7 +15,7 @@ use crate::outs::Outs;
 use crate::reply::Reply;
 use crate::seat_list::SeatChange;
 use crate::state::State;
-use crate::{job_acts, state, tube_acts};
+use crate::{job_acts, kicks, state, tube_acts};
 use bq_job::{Answer, Refusal, Request, Seat, Step};
 
 fn connect(state: &mut State, seat: Seat)
@@ -70,6 +71,7 @@ fn refusal_answer(why: Refusal) -> Answer
 // Carries a request out that an open seat may ask.
 fn answer(state: &mut State, seat: Seat, request: Request) -> Reply
     requires sound { IsSound state.old }
+    requires ids { AreIdsWithin 1 (machine_of state.old).jobs (machine_of state.old).next_id }
     requires asks { is_asking (seat_with seat state.old.seats.items) ≡ true }
     requires built { IsTrue (is_built_request request) }
     ensures reply { (s : SeatRecord) → seat_with seat (machine_of state.old).seats ≡ Some s → Replies (takes_memory request) (machine_of state.old) (asked request (machine_of state.old) s) result (machine_of state.new) }
@@ -110,6 +112,7 @@ fn answer(state: &mut State, seat: Seat, request: Request) -> Reply
         )),
         Request::Bury { id, pri } => Reply::Told(job_acts::bury(state, seat, id, pri)),
         Request::Touch { id } => Reply::Told(job_acts::touch(state, seat, id)),
+        Request::Kick { bound } => kicks::kick(state, seat, bound),
         Request::KickJob { id } => Reply::Told(job_acts::kick_job(state, id)),
         Request::Use { tube } => tube_acts::use_tube(state, seat, &tube),
         Request::ListTubeUsed => tube_acts::list_tube_used(state, seat),
@@ -128,6 +131,7 @@ fn answer(state: &mut State, seat: Seat, request: Request) -> Reply
 
 fn ask(state: &mut State, seat: Seat, request: Request) -> Reply
     requires sound { IsSound state.old }
+    requires ids { AreIdsWithin 1 (machine_of state.old).jobs (machine_of state.old).next_id }
     requires built { IsTrue (is_built_request request) }
     ensures reply { Replies (takes_memory request) (machine_of state.old) (effect (machine_of state.old) seat (steps.Ask request)) result (machine_of state.new) }
     ensures sound { IsSound state.new }
@@ -142,6 +146,7 @@ fn ask(state: &mut State, seat: Seat, request: Request) -> Reply
 
 fn reply_to(state: &mut State, seat: Seat, what: Step) -> Reply
     requires sound { IsSound state.old }
+    requires ids { AreIdsWithin 1 (machine_of state.old).jobs (machine_of state.old).next_id }
     requires built { IsTrue (is_built what) }
     ensures reply { Replies (step_takes_memory what) (machine_of state.old) (effect (machine_of state.old) seat what) result (machine_of state.new) }
     ensures sound { IsSound state.new }
@@ -172,6 +177,7 @@ fn reply_to(state: &mut State, seat: Seat, what: Step) -> Reply
 /// Carries out the command's own effect, and adds its answer.
 pub(crate) fn act(state: &mut State, seat: Seat, what: Step, outs: &mut Outs)
     requires sound { IsSound state.old }
+    requires ids { AreIdsWithin 1 (machine_of state.old).jobs (machine_of state.old).next_id }
     requires built { IsTrue (is_built what) }
     requires room { HasRoom 1 (machine_of state.old) outs.old }
     ensures acts { Acts (machine_of state.old) seat what outs.old outs.new (machine_of state.new) }

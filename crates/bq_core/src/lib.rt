@@ -13,6 +13,7 @@ mod config;
 mod dispatch;
 mod job_acts;
 mod job_list;
+mod kicks;
 mod machine;
 mod outs;
 mod place;

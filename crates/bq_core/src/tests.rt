@@ -24,6 +24,8 @@ enum Do {
     Release(JobId, Pri, u32),
     Bury(JobId, Pri),
     Touch(JobId),
+    /// How many at most.
+    Kick(u32),
     KickJob(JobId),
     Use(&'static [u8]),
     ListTubeUsed,
@@ -51,6 +53,7 @@ enum Want {
     Found(JobId, &'static [u8]),
     Using(&'static [u8]),
     Watching(u64),
+    KickedCount(u64),
     Kicked,
     Deleted,
     Released,
@@ -86,6 +89,7 @@ fn request_of(rt: &impl Abort, alloc: Global, what: Do) -> Result<Option<Request
         Do::Release(id, pri, delay) => Request::Release { id, pri, delay },
         Do::Bury(id, pri) => Request::Bury { id, pri },
         Do::Touch(id) => Request::Touch { id },
+        Do::Kick(bound) => Request::Kick { bound },
         Do::KickJob(id) => Request::KickJob { id },
         Do::Use(name) => Request::Use {
             tube: tube(rt, name),
@@ -142,6 +146,7 @@ fn is_wanted(answer: &Answer, want: Want) -> bool {
         }
         (Answer::Using(tube), Want::Using(name)) => tube.as_slice() == name,
         (Answer::Watching(count), Want::Watching(wanted)) => *count == wanted,
+        (Answer::KickedCount(count), Want::KickedCount(wanted)) => *count == wanted,
         (Answer::Kicked, Want::Kicked) => true,
         (Answer::Deleted, Want::Deleted) => true,
         (Answer::Released, Want::Released) => true,
@@ -466,6 +471,20 @@ const SINGLE_JOBS: &[Example] = &[
     (0, 1, Do::PeekDelayed, &[(1, Want::NotFound)]),
 ];
 
+const KICK_IN_TURNS: &[Example] = &[
+    (0, 0, Do::Put(0, 0, 9, b"x"), &[(0, Want::Inserted(1))]),
+    (0, 0, Do::Put(0, 0, 9, b"y"), &[(0, Want::Inserted(2))]),
+    (0, 0, Do::Put(0, 100, 9, b"z"), &[(0, Want::Inserted(3))]),
+    (0, 0, Do::Reserve, &[(0, Want::Reserved(1, b"x"))]),
+    (0, 0, Do::Reserve, &[(0, Want::Reserved(2, b"y"))]),
+    (0, 0, Do::Bury(2, 0), &[(0, Want::Buried)]),
+    (0, 0, Do::Bury(1, 0), &[(0, Want::Buried)]),
+    (0, 0, Do::PeekBuried, &[(0, Want::Found(2, b"y"))]),
+    (0, 0, Do::Kick(5), &[(0, Want::KickedCount(2))]),
+    (0, 0, Do::Kick(5), &[(0, Want::KickedCount(1))]),
+    (0, 0, Do::Kick(5), &[(0, Want::KickedCount(0))]),
+];
+
 const A_TUBE_IS_FORGOTTEN: &[Example] = &[
     (0, 0, Do::Use(b"a"), &[(0, Want::Using(b"a"))]),
     (0, 0, Do::PauseTube(b"a", 60), &[(0, Want::Paused)]),
@@ -533,6 +552,7 @@ fn rows_of_tubes(rt: HostRuntime) -> Result<(), Fail> {
         ("least_across_tubes", LEAST_ACROSS_TUBES),
         ("watch_lists", WATCH_LISTS),
         ("single_jobs", SINGLE_JOBS),
+        ("kick_in_turns", KICK_IN_TURNS),
         ("a_tube_is_forgotten", A_TUBE_IS_FORGOTTEN),
     ] {
         play(&rt, rt.alloc(), name, examples)?;

@@ -34,3 +34,6 @@ returns-in-ListTubeUsed-clause-reply c s found = rw c.in-ListTubeUsed.is (c.list
 
 pub returns-in-Ignore-clause-reply : goal.returns-in-Ignore-clause-reply
 returns-in-Ignore-clause-reply c s found = rw c.in-Ignore.is (c.ignore.ensures.reply s found)
+
+pub returns-in-Kick-clause-reply : goal.returns-in-Kick-clause-reply
+returns-in-Kick-clause-reply c s found = rw c.in-Kick.is (c.kick.ensures.reply s found)

@@ -3,7 +3,7 @@ use Rattle.bq_job.specs.Timers.{after_timers}
 use Rattle.bq_core.specs.Serving.{NoneIsGone}
 use Rattle.bq_core.specs.Turns.{HasRoom}
 use Rattle.bq_core.specs.State.{machine_of}
-use Rattle.bq_core.proofs.StepLemmas.{first_room, forgotten_none, less_room, room_after_act, timers_alike, whole_step}
+use Rattle.bq_core.proofs.StepLemmas.{first_room, forgotten_none, ids_before_act, less_room, room_after_act, timers_alike, whole_step}
 use Rattle.bq_core.proofs.machine.take_step.Goals as goal
 
 pub serve-requires-clause-tubes : goal.serve-requires-clause-tubes
@@ -22,6 +22,11 @@ act-requires-clause-room c =
     let fires = c.fire_timers.ensures.after ∙ ap after_timers c.raise_moment.ensures.after in
     let most : c.args.state.now.config.seats < c.begin.new.self.most = rw c.begin.ensures c.requires.room in
     c.serve.ensures.served.room 1 (first_room c.args.state.now c.fire_timers.new.state c.args.at c.begin.new.self c.requires.lawful fires (ap (λ o. o.given) c.begin.ensures) most)
+
+pub act-requires-clause-ids : goal.act-requires-clause-ids
+act-requires-clause-ids c =
+    let fires = c.fire_timers.ensures.after ∙ ap after_timers c.raise_moment.ensures.after in
+    ids_before_act c.args.state.now c.fire_timers.new.state c.serve.new.state c.args.at c.begin.new.self c.serve.new.outs c.requires.lawful fires c.serve.ensures.served
 
 pub serve-requires-2-clause-tubes : goal.serve-requires-2-clause-tubes
 serve-requires-2-clause-tubes c = subst NoneIsGone (sym c.forget_tubes.ensures.after) (forgotten_none (machine_of c.act.new.state))

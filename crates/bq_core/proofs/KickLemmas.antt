@@ -1,0 +1,257 @@
+-- Kicking the first job of a kind again and again kicks the first ones in their order.
+use Rattle.std.proofs.Common.{◌≡◌, ℕ, zero, suc, Bool, true, false, ◌&&◌, ◌||◌, ◌==◌, ◌+◌, ◌≤◌, ◌<◌, not, List, [], ◌∷◌, Option, Some, None, map, filter, refl, sym, ap, ◌∙◌, if◌then◌else◌, inl, inr, arith, eq-eqb, length, take, is_some}
+use Rattle.std.specs.List.{AllByRecursion as All, Contains, list_any}
+use Rattle.std.proofs.lemmas.Bool.{and_from, cases_Bool, eqb-true, ne_eqb}
+use Rattle.std.proofs.lemmas.Bool.Decides.{nat_tests}
+use Rattle.bq_job.specs.declared.job.Job.{Job}
+use Rattle.bq_job.specs.Changes.{first_of, is_pair_before, job_with}
+use Rattle.bq_job.specs.JobCommands.{in_order, is_buried_in, kickable, kicked, kicked_first, put_in_order}
+use Rattle.bq_job.specs.JobStates.{is_buried_before}
+use Rattle.bq_job.specs.Lawful.{AreIdsWithin}
+use Rattle.bq_job.proofs.ChoiceLemmas.{first_of_contains, first_of_is_least, first_of_is_some, first_of_none, first_of_passes, pair_order}
+use Rattle.bq_job.proofs.KeptLemmas.{ids_from_below, ids_of_filter}
+use Rattle.bq_job.proofs.ListLemmas.{all_at, all_from_members, list_any_with}
+use Rattle.bq_core.specs.declared.job_list.JobKind.{JobKind}
+use Rattle.bq_core.specs.declared.job_list.JobKind.TheVariants.{Ready, Delayed, Buried}
+use Rattle.bq_core.specs.declared.job_list.JobChange.TheVariants.{Kick}
+use Rattle.bq_core.specs.JobChanges.{changed}
+use Rattle.bq_core.specs.JobKinds.{is_before_of, is_of, rank_of}
+use Rattle.bq_core.specs.Kicking.{KicksFirst, all_kicked, jobs_of}
+use Rattle.bq_core.proofs.ActLemmas.{none_left}
+use Rattle.bq_core.proofs.TubeLemmas.{some_left}
+
+-- later ids are above
+ids_above : (low next : ℕ) (jobs : List Job) → AreIdsWithin low jobs next → All (λ j. low ≤ j.id) jobs
+ids_above low next [] h = tt
+ids_above low next (j ∷ jobs) h = (h.0, ids_above low next jobs (ids_from_below low (suc j.id) next jobs (let a = h.0 in omega arith) h.1))
+
+none_with : (low id next : ℕ) (jobs : List Job) → id < low → AreIdsWithin low jobs next → All (λ j. (j.id == id) ≡ false) jobs
+none_with low id next [] less h = tt
+none_with low id next (j ∷ jobs) less h =
+    (ne_eqb j.id id (λ e. absurd (let a = h.0 in omega arith)), none_with (suc j.id) id next jobs (let a = h.0 in omega arith) h.1)
+
+-- a job is the only one of its id
+one_of_id : (id low next : ℕ) (jobs : List Job) (j : Job) → AreIdsWithin low jobs next → job_with id jobs ≡ Some j → All (λ x. (x.id == id) ≡ true → x ≡ j) jobs
+one_of_id id low next [] j h found = tt
+one_of_id id low next (y ∷ jobs) j h found = elim (cases_Bool (y.id == id)) [
+  | inl same ↦
+      let first : Some y ≡ Some j = rw same at found in
+      let is : y ≡ j = cc in
+      let at : y.id ≡ id = eqb-true y.id id same in
+      (λ _. is, others jobs (none_with (suc y.id) id next jobs (omega arith) h.1))
+  | inr other ↦
+      let rest : job_with id jobs ≡ Some j = rw other at found in
+      (λ e. absurd (let f : false ≡ true = sym other ∙ e in cc), one_of_id id (suc y.id) next jobs j h.1 rest)
+]
+  where
+    others : (js : List Job) → All (λ x. (x.id == id) ≡ false) js → All (λ x. (x.id == id) ≡ true → x ≡ j) js
+    others [] all = tt
+    others (x ∷ js) all = (λ e. absurd (let f : false ≡ true = sym all.0 ∙ e in cc), others js all.1)
+
+-- a job of the list is found by its id
+finds_each : (low next : ℕ) (jobs : List Job) → AreIdsWithin low jobs next → All (λ j. job_with j.id jobs ≡ Some j) jobs
+finds_each low next [] h = tt
+finds_each low next (y ∷ jobs) h =
+    (rw (eq-eqb y.id y.id refl) refl, later jobs (ids_above (suc y.id) next jobs h.1) (finds_each (suc y.id) next jobs h.1))
+  where
+    later : (js : List Job) → All (λ j. suc y.id ≤ j.id) js → All (λ j. job_with j.id jobs ≡ Some j) js → All (λ j. job_with j.id (y ∷ jobs) ≡ Some j) js
+    later [] above all = tt
+    later (j ∷ js) above all =
+        let other : (y.id == j.id) ≡ false = ne_eqb y.id j.id (λ e. absurd (let a = above.0 in omega arith)) in
+        (rw other all.0, later js above.1 all.1)
+
+-- What comes before all others stands first.
+at_head : (before : Job → Job → Bool) (j : Job) (ks : List Job) → All (λ y. before y j ≡ false) ks → put_in_order before j ks ≡ j ∷ ks
+at_head before j [] all = refl
+at_head before j (k ∷ ks) all = rw all.0 refl
+
+all_put : (P : Job → Type 0) (before : Job → Job → Bool) (j : Job) (ks : List Job) → P j → All P ks → All P (put_in_order before j ks)
+all_put P before j [] h all = (h, tt)
+all_put P before j (k ∷ ks) h all = go (before k j) (all_put P before j ks h all.1)
+  where
+    go : (b : Bool) → All P (put_in_order before j ks) → All P (if b then k ∷ put_in_order before j ks else j ∷ k ∷ ks)
+    go true rest = (all.0, rest)
+    go false rest = (h, all)
+
+all_ordered : (P : Job → Type 0) (before : Job → Job → Bool) (js : List Job) → All P js → All P (in_order before js)
+all_ordered P before [] all = tt
+all_ordered P before (j ∷ js) all = all_put P before j (in_order before js) all.0 (all_ordered P before js all.1)
+
+-- what is known of each job beside the first one
+record Beside (before : Job → Job → Bool) (j x : Job) : Type 0 where
+  not_before : before x j ≡ false
+  after : (x.id == j.id) ≡ false → before j x ≡ true
+  one : (x.id == j.id) ≡ true → x ≡ j
+
+none_taken : (id : ℕ) (js : List Job) → All (λ x. (x.id == id) ≡ false) js → filter (λ x. not (x.id == id)) js ≡ js
+none_taken id [] all = refl
+none_taken id (x ∷ js) all = rw all.0 (ap (λ ys. x ∷ ys) (none_taken id js all.1))
+
+all_not_before : (before : Job → Job → Bool) (j : Job) (js : List Job) → All (Beside before j) js → All (λ y. before y j ≡ false) js
+all_not_before before j [] all = tt
+all_not_before before j (x ∷ js) all = (all.0.not_before, all_not_before before j js all.1)
+
+-- the first one stands at the head of the order of all
+first_ordered : (before : Job → Job → Bool) (j : Job) (low next : ℕ) (js : List Job) → AreIdsWithin low js next → All (Beside before j) js → list_any (λ x. x.id == j.id) js ≡ true → in_order before js ≡ j ∷ in_order before (filter (λ x. not (x.id == j.id)) js)
+first_ordered before j low next [] ids all here = absurd cc
+first_ordered before j low next (x ∷ js) ids all here = elim (cases_Bool (x.id == j.id)) [
+  | inl same ↦
+      let is : x ≡ j = all.0.one same in
+      let at : x.id ≡ j.id = eqb-true x.id j.id same in
+      let others = none_taken j.id js (none_with (suc x.id) j.id next js (omega arith) ids.1) in
+      rw (same, others, is) (at_head before j (in_order before js) (all_ordered (λ y. before y j ≡ false) before js (all_not_before before j js all.1)))
+  | inr other ↦
+      let rest = first_ordered before j (suc x.id) next js ids.1 all.1 (rw other at here) in
+      rw (other, rest, all.0.after other) refl
+]
+
+-- what is kicked is of the kind no longer
+kicked_are_out : (p : Job → Bool) (id : ℕ) → ((k : Job) → p (kicked k) ≡ false) → (js : List Job) → filter p (map (λ k. if k.id == id then kicked k else k) js) ≡ filter (λ k. not (k.id == id)) (filter p js)
+kicked_are_out p id out [] = refl
+kicked_are_out p id out (x ∷ js) = go (x.id == id) (p x) refl refl (kicked_are_out p id out js)
+  where
+    go : (b c : Bool) → (x.id == id) ≡ b → p x ≡ c → filter p (map (λ k. if k.id == id then kicked k else k) js) ≡ filter (λ k. not (k.id == id)) (filter p js)
+        → filter p ((if b then kicked x else x) ∷ map (λ k. if k.id == id then kicked k else k) js) ≡ filter (λ k. not (k.id == id)) (if c then x ∷ filter p js else filter p js)
+    go true true e f rest = rw (out x, e) rest
+    go true false e f rest = rw (out x) rest
+    go false true e f rest = rw (f, e) (ap (λ ys. x ∷ ys) rest)
+    go false false e f rest = rw f rest
+
+-- those that are left are others
+left_are_others : (p : Job → Bool) (id : ℕ) → ((k : Job) → p (kicked k) ≡ false) → (js : List Job) → All (λ x. (x.id == id) ≡ false) (filter p (map (λ k. if k.id == id then kicked k else k) js))
+left_are_others p id out [] = tt
+left_are_others p id out (x ∷ js) = go (x.id == id) refl (left_are_others p id out js)
+  where
+    rest_of : List Job
+    rest_of = filter p (map (λ k. if k.id == id then kicked k else k) js)
+
+    keep : (c : Bool) → (x.id == id) ≡ false → All (λ y. (y.id == id) ≡ false) rest_of → All (λ y. (y.id == id) ≡ false) (if c then x ∷ rest_of else rest_of)
+    keep true e rest = (e, rest)
+    keep false e rest = rest
+
+    go : (b : Bool) → (x.id == id) ≡ b → All (λ y. (y.id == id) ≡ false) rest_of → All (λ y. (y.id == id) ≡ false) (filter p ((if b then kicked x else x) ∷ map (λ k. if k.id == id then kicked k else k) js))
+    go true e rest = rw (out x) rest
+    go false e rest = keep (p x) e rest
+
+all_taken : (P : Job → Type 0) (n : ℕ) (js : List Job) → All P js → All P (take n js)
+all_taken P zero js all = tt
+all_taken P (suc n) [] all = tt
+all_taken P (suc n) (j ∷ js) all = (all.0, all_taken P n js all.1)
+
+not_chosen : (id : ℕ) (chosen : List Job) → All (λ k. (k.id == id) ≡ false) chosen → list_any (λ k. k.id == id) chosen ≡ false
+not_chosen id [] all = refl
+not_chosen id (k ∷ chosen) all = rw all.0 (not_chosen id chosen all.1)
+
+-- kicking the first one and then the others is kicking all of them
+kicked_in_turn : (j : Job) (chosen : List Job) → All (λ k. (k.id == j.id) ≡ false) chosen → (js : List Job) → all_kicked (j ∷ chosen) js ≡ all_kicked chosen (map (λ k. if k.id == j.id then kicked k else k) js)
+kicked_in_turn j chosen others [] = refl
+kicked_in_turn j chosen others (x ∷ js) = go (x.id == j.id) refl (kicked_in_turn j chosen others js)
+  where
+    go : (b : Bool) → (x.id == j.id) ≡ b → all_kicked (j ∷ chosen) js ≡ all_kicked chosen (map (λ k. if k.id == j.id then kicked k else k) js) → all_kicked (j ∷ chosen) (x ∷ js) ≡ all_kicked chosen ((if b then kicked x else x) ∷ map (λ k. if k.id == j.id then kicked k else k) js)
+    go true e rest =
+        let at : x.id ≡ j.id = eqb-true x.id j.id e in
+        let first : (j.id == x.id) ≡ true = eq-eqb j.id x.id (sym at) in
+        let none : list_any (λ k. k.id == x.id) chosen ≡ false = rw at (not_chosen j.id chosen others) in
+        rw (first, none) (ap (λ ys. kicked x ∷ ys) rest)
+    go false e rest =
+        let first : (j.id == x.id) ≡ false = ne_eqb j.id x.id (λ h. absurd (let f : (x.id == j.id) ≡ true = eq-eqb x.id j.id (sym h) in cc)) in
+        rw first (ap (λ ys. (if list_any (λ k. k.id == x.id) chosen then kicked x else x) ∷ ys) rest)
+
+pair_total : (a i b k : ℕ) → is_pair_before b k a i ≡ false → (k == i) ≡ false → is_pair_before a i b k ≡ true
+pair_total a i b k h other = grind (arith, nat_tests)
+
+those_at : (P : Job → Type 0) (q : Job → Bool) (x : Job) (js : List Job) (b : Bool) → q x ≡ b → (q x ≡ true → P x) → All P (filter q js) → All P (if b then x ∷ filter q js else filter q js)
+those_at P q x js true e h more = (h e, more)
+those_at P q x js false e h more = more
+
+those : (P : Job → Type 0) (q : Job → Bool) (js : List Job) → All (λ x. q x ≡ true → P x) js → All P (filter q js)
+those P q [] all = tt
+those P q (x ∷ js) all = those_at P q x js (q x) refl all.0 (those P q js all.1)
+
+-- a job that passes is among those that do
+some_at : (q : Job → Bool) (id : ℕ) (x : Job) (js : List Job) (b : Bool) → q x ≡ b → list_any (λ y. (y.id == id) && q y) (x ∷ js) ≡ true → (list_any (λ y. (y.id == id) && q y) js ≡ true → list_any (λ y. y.id == id) (filter q js) ≡ true) → list_any (λ y. y.id == id) (if b then x ∷ filter q js else filter q js) ≡ true
+some_at q id x js true e h rest = elim (cases_Bool (x.id == id)) [
+  | inl same ↦ rw same refl
+  | inr other ↦ rw other (rest (rw other at h))
+]
+some_at q id x js false e h rest = elim (cases_Bool (x.id == id)) [
+  | inl same ↦ rest (rw (same, e) at h)
+  | inr other ↦ rest (rw other at h)
+]
+
+some_there_at : (q : Job → Bool) (id : ℕ) (js : List Job) → list_any (λ y. (y.id == id) && q y) js ≡ true → list_any (λ y. y.id == id) (filter q js) ≡ true
+some_there_at q id [] h = absurd cc
+some_there_at q id (x ∷ js) h = some_at q id x js (q x) refl h (some_there_at q id js)
+
+some_there : (q : Job → Bool) (js : List Job) (x : Job) → Contains js x → q x ≡ true → list_any (λ y. y.id == x.id) (filter q js) ≡ true
+some_there q js x here pass =
+    some_there_at q x.id js (list_any_with (λ y. (y.id == x.id) && q y) js x here (and_from (x.id == x.id) (q x) (eq-eqb x.id x.id refl) pass))
+
+-- one of them is kicked, the first one
+pub kicks_first : (kind : JobKind) (tube : List ℕ) (low next : ℕ) (jobs : List Job) (j : Job) → ((k : Job) → is_of kind tube (kicked k) ≡ false) → AreIdsWithin low jobs next → first_of (is_of kind tube) (is_before_of kind) jobs ≡ Some j → KicksFirst kind tube jobs (map (λ k. if k.id == j.id then kicked k else k) jobs)
+kicks_first kind tube low next jobs j out ids first =
+    let p = is_of kind tube in
+    let before = is_before_of kind in
+    let order = pair_order (rank_of kind) (λ (k : Job). k.id) in
+    let here = first_of_contains p before jobs j first in
+    let passes = first_of_passes p before jobs j first in
+    let found = all_at (λ x. job_with x.id jobs ≡ Some x) jobs j (finds_each low next jobs ids) here in
+    let one = one_of_id j.id low next jobs j ids found in
+    let beside : All (λ x. p x ≡ true → Beside before j x) jobs =
+    all_from_members (λ x. p x ≡ true → Beside before j x) jobs (λ x there pass.
+    let late = first_of_is_least p order jobs j x first there pass in
+    record {
+      not_before = late;
+      after = λ other. pair_total (rank_of kind j) j.id (rank_of kind x) x.id late other;
+      one = all_at (λ x. (x.id == j.id) ≡ true → x ≡ j) jobs x one there;
+    }) in
+    let rest = map (λ k. if k.id == j.id then kicked k else k) jobs in
+    let ordered : jobs_of kind tube jobs ≡ j ∷ jobs_of kind tube rest =
+    first_ordered before j low next (filter p jobs) (ids_of_filter p low next jobs ids) (those (Beside before j) p jobs beside) (some_there p jobs j here passes)
+    ∙ ap (λ js. j ∷ in_order before js) (sym (kicked_are_out p j.id out jobs)) in
+    record {
+      jobs = λ n.
+          ap (λ js. all_kicked (take (suc n) js) jobs) ordered
+          ∙ kicked_in_turn j (take n (jobs_of kind tube rest)) (all_taken (λ k. (k.id == j.id) ≡ false) n (jobs_of kind tube rest) (all_ordered (λ k. (k.id == j.id) ≡ false) before (filter p rest) (left_are_others p j.id out jobs))) jobs;
+      count = λ n. ap (λ js. length (take (suc n) js)) ordered;
+    }
+
+-- which jobs a kick makes ready
+some_buried : (tube : List ℕ) (jobs js : List Job) → 0 < length js → in_order is_buried_before js ≡ kicked_first tube jobs js
+some_buried tube jobs [] h = absurd (omega arith)
+some_buried tube jobs (j ∷ js) h = refl
+
+pub kickable_buried : (tube : List ℕ) (jobs : List Job) (o : Option Job) → o ≡ first_of (is_of Buried tube) (is_before_of Buried) jobs → is_some o ≡ true → jobs_of Buried tube jobs ≡ kickable tube jobs
+kickable_buried tube jobs o first some =
+    let any : list_any (is_of Buried tube) jobs ≡ true = sym (first_of_is_some (is_of Buried tube) (is_before_of Buried) jobs) ∙ ap is_some (sym first) ∙ some in
+    some_buried tube jobs (filter (is_buried_in tube) jobs) (some_left (is_buried_in tube) jobs any)
+
+pub kickable_delayed : (tube : List ℕ) (jobs : List Job) → None ≡ first_of (is_of Buried tube) (is_before_of Buried) jobs → jobs_of Delayed tube jobs ≡ kickable tube jobs
+kickable_delayed tube jobs none =
+    let empty : filter (is_buried_in tube) jobs ≡ [] = none_left (is_buried_in tube) jobs (first_of_none (is_of Buried tube) (is_before_of Buried) jobs (sym none)) in
+    ap (kicked_first tube jobs) (sym empty)
+
+pub none_of_kind : (kind : JobKind) (tube : List ℕ) (jobs : List Job) → None ≡ first_of (is_of kind tube) (is_before_of kind) jobs → jobs_of kind tube jobs ≡ []
+none_of_kind kind tube jobs none = ap (in_order (is_before_of kind)) (none_left (is_of kind tube) jobs (first_of_none (is_of kind tube) (is_before_of kind) jobs (sym none)))
+
+pub kick_keeps_id : (id : ℕ) (j : Job) → (changed (Kick id) j).id ≡ j.id
+kick_keeps_id id j = go (j.id == id)
+  where
+    go : (b : Bool) → (if b then kicked j else j).id ≡ j.id
+    go true = refl
+    go false = refl
+
+-- steps of counting
+pub zero_more : (n : ℕ) → 0 + n ≡ n
+zero_more n = omega arith
+
+pub one_on : (d n : ℕ) → (d + 1) + n ≡ d + suc n
+one_on d n = omega arith
+
+pub take_none : (n : ℕ) → take {A = Job} n [] ≡ []
+take_none zero = refl
+take_none (suc n) = refl
+
+pub none_kicked : (jobs : List Job) → all_kicked [] jobs ≡ jobs
+none_kicked [] = refl
+none_kicked (j ∷ jobs) = ap (λ js. j ∷ js) (none_kicked jobs)

@@ -1,0 +1,66 @@
+use Rattle.std.proofs.Common.{◌≡◌, ◌∙◌, ◌+◌, ◌-◌, suc, ap, arith, length, refl, sym, take}
+use Rattle.bq_job.specs.Machine.{Machine}
+use Rattle.bq_core.specs.Kicking.{all_kicked, jobs_of}
+use Rattle.bq_core.specs.State.{machine_of}
+use Rattle.bq_core.proofs.KickLemmas.{none_kicked, one_on, take_none, zero_more}
+use Rattle.bq_core.proofs.kicks.kick_some.Goals as goal
+
+pub loop-done-init : goal.loop-done-init
+loop-done-init c =
+    let jobs = (machine_of c.args.state.now).jobs in
+    let first = jobs_of c.args.kind c.args.tube.now jobs in
+    record {
+      kicked = λ n. ap (λ k. all_kicked (take k first) jobs) (zero_more n);
+      count = λ n. ap (λ k. length (take k first)) (zero_more n) ∙ sym (zero_more (length (take n first)));
+      others = refl;
+      ids = c.requires.ids;
+      sound = c.requires.sound;
+      config = refl;
+    }
+
+pub loop-done-preserved : goal.loop-done-preserved
+loop-done-preserved c =
+    let was = c.loop-done.invariant in
+    let one = c.kick_first.ensures.kicked c.if-not-kick_first.false in
+    let start = (machine_of c.args.state.now).jobs in
+    let first = jobs_of c.args.kind c.args.tube.now start in
+    let d = c.loop-done.done in
+    record {
+      kicked = λ n. ap (λ k. all_kicked (take k first) start) (one_on d n) ∙ was.kicked (suc n) ∙ one.jobs n;
+      count = λ n. ap (λ k. length (take k first)) (one_on d n) ∙ was.count (suc n) ∙ (let e = one.count n in omega (arith, e));
+      others = c.kick_first.ensures.others ∙ ap (λ (x : Machine). record x { jobs = (machine_of c.kick_first.new.state).jobs }) was.others;
+      ids = c.kick_first.ensures.ids;
+      sound = c.kick_first.ensures.sound;
+      config = c.kick_first.ensures.config ∙ was.config;
+    }
+
+pub returns-then-not-kick_first-clause-kicked : goal.returns-then-not-kick_first-clause-kicked
+returns-then-not-kick_first-clause-kicked c =
+    let was = c.loop-done.invariant in
+    let none = c.kick_first.ensures.none c.if-not-kick_first.true in
+    let m = machine_of c.args.state.now in
+    let start = m.jobs in
+    let first = jobs_of c.args.kind c.args.tube.now start in
+    let d = c.loop-done.done in
+    let left = c.args.bound - d in
+    let jobs = (machine_of c.loop-done.state).jobs in
+    let whole : c.args.bound ≡ d + left = omega arith in
+    let kicked : all_kicked (take c.args.bound first) start ≡ jobs =
+    ap (λ k. all_kicked (take k first) start) whole
+    ∙ was.kicked left
+    ∙ ap (λ js. all_kicked (take left js) jobs) none.0
+    ∙ ap (λ js. all_kicked js jobs) (take_none left)
+    ∙ none_kicked jobs in
+    none.1 ∙ was.others ∙ ap (λ js. record m { jobs = js }) (sym kicked)
+
+pub returns-clause-kicked : goal.returns-clause-kicked
+returns-clause-kicked c =
+    let was = c.loop-done.invariant in
+    let m = machine_of c.args.state.now in
+    let start = m.jobs in
+    let first = jobs_of c.args.kind c.args.tube.now start in
+    let d = c.loop-done.done in
+    let jobs = (machine_of c.loop-done.state).jobs in
+    let whole : c.args.bound ≡ d + 0 = omega arith in
+    let kicked : all_kicked (take c.args.bound first) start ≡ jobs = ap (λ k. all_kicked (take k first) start) whole ∙ was.kicked 0 ∙ none_kicked jobs in
+    was.others ∙ ap (λ js. record m { jobs = js }) (sym kicked)

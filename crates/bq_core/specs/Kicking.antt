@@ -1,0 +1,20 @@
+-- Kicking the jobs of a kind, the first ones first.
+use Rattle.std.specs.Prelude.{ℕ, suc, ◌≡◌, ◌==◌, if◌then◌else◌, List, filter, length, map, take}
+use Rattle.std.specs.List.{list_any}
+use Rattle.bq_job.specs.declared.job.Job.{Job}
+use Rattle.bq_job.specs.JobCommands.{in_order, kicked}
+use Rattle.bq_core.specs.declared.job_list.JobKind.{JobKind}
+use Rattle.bq_core.specs.JobKinds.{is_before_of, is_of}
+
+-- the jobs of this kind in this tube, in their order
+abbrev pub jobs_of : JobKind → List ℕ → List Job → List Job
+jobs_of kind tube jobs = in_order (is_before_of kind) (filter (is_of kind tube) jobs)
+
+-- these jobs, once the chosen ones are kicked
+abbrev pub all_kicked : List Job → List Job → List Job
+all_kicked chosen jobs = map (λ j. if list_any (λ k. k.id == j.id) chosen then kicked j else j) jobs
+
+-- Kicking the first so many of old, one of which is kicked in new, is kicking the first of those left.
+pub record KicksFirst (kind : JobKind) (tube : List ℕ) (old new : List Job) : Type 0 where
+  pub jobs : (n : ℕ) → all_kicked (take (suc n) (jobs_of kind tube old)) old ≡ all_kicked (take n (jobs_of kind tube new)) new
+  pub count : (n : ℕ) → length (take (suc n) (jobs_of kind tube old)) ≡ suc (length (take n (jobs_of kind tube new)))

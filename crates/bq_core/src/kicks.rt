@@ -1,0 +1,82 @@
+ghost use Rattle.std.specs.Prelude.{◌≡◌, [], Some, false, length, take, true};
+ghost use Rattle.bq_job.specs.declared.job.Job.{Job};
+ghost use Rattle.bq_job.specs.Changes.{seat_with};
+ghost use Rattle.bq_job.specs.JobCommands.{kick_effect, kickable, kicked};
+ghost use Rattle.bq_job.specs.Lawful.{AreIdsWithin};
+ghost use Rattle.bq_job.specs.Machine.{SeatRecord};
+ghost use Rattle.bq_core.specs.Acting.{Replies};
+ghost use Rattle.bq_core.specs.JobKinds.{is_of};
+ghost use Rattle.bq_core.specs.Kicking.{KicksFirst, all_kicked, jobs_of};
+ghost use Rattle.bq_core.specs.State.{machine_of, IsSound};
+
+use crate::job_list::{JobChange, JobKind};
+use crate::reply::Reply;
+use crate::state::State;
+use crate::{job_list, seat_list, state};
+use bq_job::{Answer, Job, Seat, TubeName};
+
+// Which jobs of a tube a kick makes ready: the buried ones, or where there are none, the delayed ones.
+fn kind_to_kick(jobs: &[Job], tube: &TubeName) -> JobKind
+    ensures order { jobs_of result tube.now jobs.now ≡ kickable tube.now jobs.now }
+    ensures out { (k : Job) → is_of result tube.now (kicked k) ≡ false }
+{
+    match job_list::first_place(jobs, JobKind::Buried, tube) {
+        Some(_) => JobKind::Buried,
+        None => JobKind::Delayed,
+    }
+}
+
+// Kicks the first job of this kind, if there is one.
+fn kick_first(state: &mut State, kind: JobKind, tube: &TubeName) -> bool
+    requires sound { IsSound state.old }
+    requires ids { AreIdsWithin 1 (machine_of state.old).jobs (machine_of state.old).next_id }
+    requires out { (k : Job) → is_of kind tube.now (kicked k) ≡ false }
+    ensures none { result ≡ false → (jobs_of kind tube.now (machine_of state.old).jobs ≡ []) × (machine_of state.new ≡ machine_of state.old) }
+    ensures kicked { result ≡ true → KicksFirst kind tube.now (machine_of state.old).jobs (machine_of state.new).jobs }
+    ensures others { machine_of state.new ≡ record (machine_of state.old) { jobs = (machine_of state.new).jobs } }
+    ensures ids { AreIdsWithin 1 (machine_of state.new).jobs (machine_of state.new).next_id }
+    ensures sound { IsSound state.new }
+    ensures config { state.new.config ≡ state.old.config }
+{
+    let Some(job) = job_list::first(state.jobs.as_slice(), kind, tube) else {
+        return false;
+    };
+    let id = job.id;
+    state::change_jobs(state, &JobChange::Kick(id));
+    true
+}
+
+// Kicks the first jobs of this kind, so many at most. Tells how many there were.
+fn kick_some(state: &mut State, kind: JobKind, tube: &TubeName, bound: u32) -> u64
+    requires sound { IsSound state.old }
+    requires ids { AreIdsWithin 1 (machine_of state.old).jobs (machine_of state.old).next_id }
+    requires out { (k : Job) → is_of kind tube.now (kicked k) ≡ false }
+    ensures kicked { machine_of state.new ≡ record (machine_of state.old) { jobs = all_kicked (take bound (jobs_of kind tube.now (machine_of state.old).jobs)) (machine_of state.old).jobs } }
+    ensures count { result ≡ length (take bound (jobs_of kind tube.now (machine_of state.old).jobs)) }
+    ensures sound { IsSound state.new }
+    ensures config { state.new.config ≡ state.old.config }
+{
+    for done in 0..bound {
+        if !kick_first(state, kind, tube) {
+            return u64::from(done);
+        }
+    }
+    u64::from(bound)
+}
+
+/// Kicks jobs of the tube that the client uses, so many at most.
+pub(crate) fn kick(state: &mut State, seat: Seat, bound: u32) -> Reply
+    requires sound { IsSound state.old }
+    requires ids { AreIdsWithin 1 (machine_of state.old).jobs (machine_of state.old).next_id }
+    ensures reply { (s : SeatRecord) → seat_with seat (machine_of state.old).seats ≡ Some s → Replies false (machine_of state.old) (kick_effect bound (machine_of state.old) s) result (machine_of state.new) }
+    ensures sound { IsSound state.new }
+    ensures config { state.new.config ≡ state.old.config }
+{
+    let Some(place) = seat_list::find(state.seats.as_slice(), seat) else {
+        return Reply::Silent;
+    };
+    let tube = *place.used();
+    let kind = kind_to_kick(state.jobs.as_slice(), &tube);
+    let count = kick_some(state, kind, &tube, bound);
+    Reply::Told(Answer::KickedCount(count))
+}
