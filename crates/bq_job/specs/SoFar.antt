@@ -8,7 +8,6 @@ use Rattle.bq_job.specs.CommandWords.{Command, all_commands, word_of}
 
 -- The one list of what is missing. A word of it names no command.
 abbrev pub is_missing : Command → Bool
-is_missing Command.Kick = true
 is_missing Command.StatsJob = true
 is_missing Command.StatsTube = true
 is_missing Command.Stats = true

@@ -111,8 +111,7 @@ fn is_missing(command: Command) -> bool
 {
     matches!(
         command,
-        Command::Kick
-            | Command::StatsJob
+        Command::StatsJob
             | Command::StatsTube
             | Command::Stats
             | Command::ListTubes
