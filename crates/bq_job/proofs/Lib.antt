@@ -32,3 +32,4 @@ pub mod UnitsLemmas
 pub mod CutLemmas
 pub mod GivenLemmas
 pub mod JoinLemmas
+pub mod HistoryLemmas

@@ -49,5 +49,6 @@ pub mod LawsOfRuns
 pub mod ControlDid
 pub mod CoreDid
 pub mod Headline
+pub mod HistoryExamples
 pub mod LineOwed
 pub mod SeatDid

@@ -29,6 +29,8 @@ pub use tube_name::TubeName;
 mod answer;
 mod body;
 #[cfg(test)]
+mod examples_of_histories;
+#[cfg(test)]
 mod examples_of_runs;
 #[cfg(test)]
 mod examples_of_sessions;

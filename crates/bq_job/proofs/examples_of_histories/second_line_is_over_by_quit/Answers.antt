@@ -1,0 +1,80 @@
+use Rattle.std.proofs.Common.{List, [], ◌∷◌, refl, inl}
+use Rattle.std.specs.Prelude.{codes, replicate}
+use Rattle.std.specs.Fmt.{digits}
+use Rattle.bq_job.specs.declared.answer.Answer.TheVariants.{Inserted, Reserved as HandedOut}
+use Rattle.bq_job.specs.declared.answer.Answer.TheVariants as answers
+use Rattle.bq_job.specs.declared.request.Request.TheVariants.{Put, Quit, Reserve}
+use Rattle.bq_job.specs.declared.step.Step.TheVariants as steps
+use Rattle.bq_job.specs.Examples.{ask, close, connect}
+use Rattle.bq_job.specs.HistoryExamples.{given_over, gone, readings_of, seated, usual}
+use Rattle.bq_job.specs.Runs.{Entry}
+use Rattle.bq_job.proofs.HistoryLemmas.{computed_IsRun, picked_all}
+use Rattle.bq_job.proofs.ReadsLemmas.{reading-Reads}
+use Rattle.bq_job.proofs.examples_of_histories.second_line_is_over_by_quit.Goals as goal
+
+pub returns : goal.returns
+unfolding digits
+returns c =
+    let history : List Entry = connect 0 ∷ ask 0 (Put 0 0 9 (codes "x")) ∷ ask 0 Reserve ∷ close 0 ∷ connect 0 ∷ ask 0 Reserve ∷ ask 0 Quit ∷ close 0 ∷ gone 0 ∷ gone 1 ∷ [] in
+    record {
+      history = history;
+      given = given_over (seated 1) history;
+      run = computed_IsRun (seated 1) (readings_of history) history (picked_all (replicate 10 0));
+      many = refl;
+      of_doors = (
+        record {
+          own = steps.Connect ∷ steps.Ask (Put 0 0 9 (codes "x")) ∷ steps.Ask Reserve ∷ steps.Close ∷ steps.Connect ∷ steps.Ask Reserve ∷ steps.Ask Quit ∷ steps.Close ∷ [];
+          of_lines = (
+            steps.Connect ∷ steps.Ask (Put 0 0 9 (codes "x")) ∷ steps.Ask Reserve ∷ steps.Close ∷ [],
+            steps.Connect ∷ steps.Ask Reserve ∷ steps.Ask Quit ∷ steps.Close ∷ [],
+            Inserted 1 ∷ HandedOut 1 (codes "x") ∷ [],
+            HandedOut 1 (codes "x") ∷ answers.Closed ∷ [],
+            record {
+              steps = record {
+                requests = Put 0 0 9 (codes "x") ∷ Reserve ∷ [];
+                rest = [];
+                asked = Put 0 0 9 (codes "x") ∷ Reserve ∷ [];
+                end_steps = [];
+                reads = reading-Reads usual (codes "put 0 0 9 1\r\nx\r\nreserve\r\n");
+                is_over = (refl, refl, refl);
+                ends = inl refl;
+                steps_are = refl;
+              };
+              answered = refl;
+              written = refl;
+            },
+            refl,
+            refl,
+            refl,
+            (
+              steps.Connect ∷ steps.Ask Reserve ∷ steps.Ask Quit ∷ steps.Close ∷ [],
+              [],
+              HandedOut 1 (codes "x") ∷ [],
+              [],
+              record {
+                steps = record {
+                  requests = Reserve ∷ Quit ∷ [];
+                  rest = [];
+                  asked = Reserve ∷ Quit ∷ [];
+                  end_steps = [];
+                  reads = reading-Reads usual (codes "reserve\r\nquit\r\n");
+                  is_over = (refl, refl);
+                  ends = inl refl;
+                  steps_are = refl;
+                };
+                answered = refl;
+                written = refl;
+              },
+              refl,
+              refl,
+              refl,
+              (refl, refl),
+            ),
+          );
+          taken_is = refl;
+        },
+        tt,
+      );
+      of_control = refl;
+      of_nobody_else = refl;
+    }
