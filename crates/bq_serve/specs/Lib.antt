@@ -8,6 +8,7 @@ pub mod FaultCodes
 pub mod LineCalls
 pub mod LineParts
 pub mod Links
+pub mod MemDoors
 pub mod ReadingNumbers
 pub mod RunSettings
 pub mod ScriptPlace

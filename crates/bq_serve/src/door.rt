@@ -3,6 +3,10 @@ ghost use Rattle.std.specs.Prelude.{◌≡◌, Bool, List, Option, true, false};
 ghost use Rattle.bq_job.specs.History.{LineOver};
 ghost use Rattle.bq_serve.specs.Doors.{IsLeftBy, IsOpened};
 
+pub use mem_door::MemDoor;
+
+mod mem_door;
+
 use crate::line::Line;
 use bq_job::LineEnd;
 use thiserror::Error;
@@ -23,7 +27,7 @@ impl DoorFault {
 
 /// A door, which opens one line after another, one at a time.
 pub trait Door {
-    type Line: Line;
+    type Line: Line + Drop + Send;
 
     /// Whether a line is out: it was opened, and isn't shut yet.
     ghost is_out: { Self → Bool };

@@ -1,7 +1,7 @@
 //! Serving clients over lines of bytes.
 #![tactic(auto)]
 
-pub use door::{Door, DoorFault};
+pub use door::{Door, DoorFault, MemDoor};
 pub use fault::RunFault;
 pub use run::{One, run_one};
 

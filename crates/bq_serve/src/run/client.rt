@@ -8,10 +8,7 @@ use super::answer_write::write_answer;
 use super::link::Link;
 use crate::line::{Line, is_nothing_yet};
 use bq_job::Answer;
-use bq_seat::{Action, Event, SeatMachine};
-
-/// How many bytes are read at once at most.
-const PIECE_ROOM: usize = 4096;
+use bq_seat::{Action, Event, PIECE_ROOM, SeatMachine};
 
 /// Carries out one action of a seat's machine, and says what the machine does next. Where a line is over,
 /// nothing is done.
