@@ -11,58 +11,11 @@ use std::alloc::Global;
 use std::collections::VecDeque;
 use std::test::Fail;
 
+mod examples;
+
+use examples::EXAMPLES;
+
 const ROOM: usize = 1000;
-
-// What the client sends, the bytes that are written to it, and how its line is over.
-type Example = (&'static str, &'static str, LineEnd);
-
-static EXAMPLES: [Example; 13] = [
-    (
-        "put 5 0 10 3\r\nabc\r\nreserve\r\ndelete 1\r\nquit\r\n",
-        "INSERTED 1\r\nRESERVED 1 3\r\nabc\r\nDELETED\r\n",
-        LineEnd::Quit,
-    ),
-    ("", "", LineEnd::EndOfInput),
-    (
-        "put 0 0 1 0\r\n\r\nput 0 0 1 1\r\na\r\nreserve\r\nreserve\r\nreserve\r\n",
-        "INSERTED 1\r\nINSERTED 2\r\nRESERVED 1 0\r\n\r\nRESERVED 2 1\r\na\r\nDEADLINE_SOON\r\n",
-        LineEnd::EndOfInput,
-    ),
-    (
-        "PUT\r\nput 1\r\ndelete 4294967296\r\n",
-        "UNKNOWN_COMMAND\r\nBAD_FORMAT\r\nNOT_FOUND\r\n",
-        LineEnd::EndOfInput,
-    ),
-    (
-        "put 4 0 9 1\r\nx\r\nput 3 0 9 1\r\ny\r\nreserve\r\nreserve\r\n",
-        "INSERTED 1\r\nINSERTED 2\r\nRESERVED 2 1\r\ny\r\nRESERVED 1 1\r\nx\r\n",
-        LineEnd::EndOfInput,
-    ),
-    ("put 0 0 1 5\r\nab", "", LineEnd::EndOfInput),
-    ("list-tube-used", "", LineEnd::EndOfInput),
-    ("quit\r\nstats\r\n", "", LineEnd::Quit),
-    ("reserve\r\n", "TIMED_OUT\r\n", LineEnd::EndOfInput),
-    (
-        "\r\nreserve \r\n reserve\r\nput 0 0 4294967296 1\r\n",
-        "UNKNOWN_COMMAND\r\nBAD_FORMAT\r\nUNKNOWN_COMMAND\r\nBAD_FORMAT\r\n",
-        LineEnd::EndOfInput,
-    ),
-    (
-        "put 0 0 1 2\r\nabXYreserve\r\n",
-        "EXPECTED_CRLF\r\nTIMED_OUT\r\n",
-        LineEnd::EndOfInput,
-    ),
-    (
-        "put 0 0 1 1\r\na\r\ndelete 2\r\ndelete 1\r\ndelete 1\r\n",
-        "INSERTED 1\r\nNOT_FOUND\r\nDELETED\r\nNOT_FOUND\r\n",
-        LineEnd::EndOfInput,
-    ),
-    (
-        "put 0 5 1 0\r\n\r\nreserve\r\n",
-        "INSERTED 1\r\nTIMED_OUT\r\n",
-        LineEnd::EndOfInput,
-    ),
-];
 
 fn config(max_job_size: u32) -> Config {
     Config {
@@ -87,15 +40,95 @@ fn client(alloc: Global, sent: &str, room: usize) -> Result<MemLine, Fail>
     Ok(MemLine::new(alloc, parts, room)?)
 }
 
+// A clock that stands still, one that can't be read, and one that falls: each gives one moment.
+static CLOCKS: [&[Option<Moment>]; 3] = [&[Some(0)], &[None], &[Some(9000), Some(4000)]];
+
 #[test]
 fn sessions(rt: HostRuntime) -> Result<(), Fail> {
     let alloc = rt.alloc();
+    for readings in &CLOCKS {
+        for (sent, written, end) in &EXAMPLES {
+            let line = client(alloc, sent, ROOM)?;
+            let clock = ScriptClock::new(Vec::from_slice(alloc, readings)?);
+            let one = run_one(&rt, alloc, config(65535), line, clock)?;
+            assert!(rt; one.line.written() == written.as_bytes(), "{sent:?}");
+            assert!(rt; one.end == *end, "{sent:?}");
+        }
+    }
+    Ok(())
+}
+
+// A client that sends this text byte by byte.
+fn slow_client(alloc: Global, sent: &str) -> Result<MemLine, Fail>
+    ensures { IfOk result (λ line. ⟦<MemLine as Line>⟧.seen line ≡ new_line) }
+{
+    let mut parts: Vec<Part> = Vec::new(alloc);
+    for byte in sent.as_bytes() {
+        parts.push(Part::Bytes(vec![in alloc; *byte]?))?;
+    }
+    Ok(MemLine::new(alloc, parts, ROOM)?)
+}
+
+#[test]
+fn sessions_cut_at_every_byte(rt: HostRuntime) -> Result<(), Fail> {
+    let alloc = rt.alloc();
     for (sent, written, end) in &EXAMPLES {
-        let line = client(alloc, sent, ROOM)?;
+        let line = slow_client(alloc, sent)?;
         let one = run_one(&rt, alloc, config(65535), line, still(alloc)?)?;
         assert!(rt; one.line.written() == written.as_bytes(), "{sent:?}");
         assert!(rt; one.end == *end, "{sent:?}");
     }
+    Ok(())
+}
+
+// The first line that is too long has one digit more than the longest one.
+#[test]
+fn longest_line(rt: HostRuntime) -> Result<(), Fail> {
+    let alloc = rt.alloc();
+    for (zeros, written) in [(216, "NOT_FOUND\r\n"), (217, "BAD_FORMAT\r\n")] {
+        let mut sent = String::from_str(alloc, "peek ")?;
+        for _zero in 0..zeros {
+            sent.push('0')?;
+        }
+        sent.push_str("1\r\n")?;
+        let line = client(alloc, sent.as_str(), ROOM)?;
+        let one = run_one(&rt, alloc, config(65535), line, still(alloc)?)?;
+        assert!(rt; one.line.written() == written.as_bytes());
+    }
+    Ok(())
+}
+
+// A body that is too big is swallowed, and the next line is read.
+#[test]
+fn body_too_big(rt: HostRuntime) -> Result<(), Fail> {
+    let alloc = rt.alloc();
+    for (size, written) in [
+        (65_536, "JOB_TOO_BIG\r\nUSING default\r\n"),
+        (65_535, "INSERTED 1\r\nUSING default\r\n"),
+    ] {
+        let mut parts: Vec<Part> = Vec::new(alloc);
+        let head = format!(in alloc; "put 0 0 1 {size}\r\n")?;
+        parts.push(Part::Bytes(Vec::from_slice(alloc, head.as_bytes())?))?;
+        parts.push(Part::Bytes(vec![in alloc; b'x'; size]?))?;
+        parts.push(Part::Bytes(Vec::from_slice(alloc, b"\r\nlist-tube-used\r\n")?))?;
+        let line = MemLine::new(alloc, parts, ROOM)?;
+        let one = run_one(&rt, alloc, config(65535), line, still(alloc)?)?;
+        assert!(rt; one.line.written() == written.as_bytes());
+    }
+    Ok(())
+}
+
+// A wait of a second ends by the clock, though a further command is there.
+#[test]
+fn timed_wait_by_the_clock(rt: HostRuntime) -> Result<(), Fail> {
+    let alloc = rt.alloc();
+    let mut script: Vec<Option<Moment>> = Vec::new(alloc);
+    for second in 0..21 {
+        script.push(Some(second * 1000))?;
+    }
+    let line = client(alloc, "reserve-with-timeout 1\r\nlist-tube-used\r\n", ROOM)?;
+    let one = run_one(&rt, alloc, config(65535), line, ScriptClock::new(script))?;
+    assert!(rt; one.line.written() == b"TIMED_OUT\r\nUSING default\r\n".as_slice());
     Ok(())
 }
 
@@ -223,23 +256,6 @@ fn falling_clock(rt: HostRuntime) -> Result<(), Fail> {
     let one = run_one(&rt, alloc, config(65535), line, ScriptClock::new(script))?;
     assert!(rt; one.line.written() == b"INSERTED 1\r\nTIMED_OUT\r\n".as_slice());
     assert!(rt; one.end == LineEnd::EndOfInput);
-    Ok(())
-}
-
-// A clock that can't be read stands at 0.
-#[test]
-fn unread_clock(rt: HostRuntime) -> Result<(), Fail> {
-    let alloc = rt.alloc();
-    let line = client(alloc, EXAMPLES[0].0, ROOM)?;
-    let one = run_one(
-        &rt,
-        alloc,
-        config(65535),
-        line,
-        ScriptClock::new(Vec::new(alloc)),
-    )?;
-    assert!(rt; one.line.written() == EXAMPLES[0].1.as_bytes());
-    assert!(rt; one.end == LineEnd::Quit);
     Ok(())
 }
 
