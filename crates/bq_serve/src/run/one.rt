@@ -14,9 +14,14 @@ use bq_job::{LineEnd, Seat, line_joins};
 use bq_seat::{Action, Event, SeatMachine};
 use std::alloc::Global;
 use std::sync::Wait;
+use std::thread::Parker;
+use std::time::Duration;
 
 /// The seat of a lone client.
 const ONLY_SEAT: Seat = 0;
+
+/// How long a run rests between two looks at the mail, in milliseconds.
+const REST: u64 = 1;
 
 /// A line that is over: the line itself, how it was over, and the clock as it was left.
 #[derive(Drop)]
@@ -53,6 +58,7 @@ pub fn run_one<R: Wait, L: Line + Drop, C: Clock + Drop>(
     let Ok(mut machine) = SeatMachine::new(alloc, config.max_job_size) else {
         return Err(RunFault::NoMemory);
     };
+    let bell = Parker::new();
     let mut action = machine.on(Event::Opened);
     for _ in rt.forever() {
         match action {
@@ -64,10 +70,26 @@ pub fn run_one<R: Wait, L: Line + Drop, C: Clock + Drop>(
                     clock: desk.clock,
                 });
             }
-            other => action = act(&mut machine, other, &mut line, &mut desk, ONLY_SEAT),
+            other => {
+                let looked = is_look(&other);
+                action = act(&mut machine, other, &mut line, &mut desk, ONLY_SEAT);
+                rest_between_looks(rt, &bell, looked, &action);
+            }
         }
     }
     unreachable!()
+}
+
+fn is_look(action: &Action) -> bool {
+    matches!(action, Action::PollMail)
+}
+
+// A look at the mail that found nothing, where the line isn't to be read: nothing can come before time has
+// passed.
+fn rest_between_looks<R: Wait>(rt: &R, bell: &Parker, looked: bool, next: &Action) {
+    if looked && is_look(next) {
+        bell.park_timeout(rt, Duration::from_millis(REST));
+    }
 }
 
 #[cfg(test)]
