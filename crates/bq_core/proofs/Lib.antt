@@ -1,4 +1,5 @@
 pub mod ActLemmas
+pub mod DueLemmas
 pub mod KickLemmas
 pub mod LoopLemmas
 pub mod StateLemmas

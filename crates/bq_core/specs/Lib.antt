@@ -1,5 +1,6 @@
 pub mod Acting
 pub mod Codes
+pub mod Dues
 pub mod EndingWaits
 pub mod HandOuts
 pub mod JobChanges

@@ -11,6 +11,7 @@ pub use outs::Outs;
 mod acts;
 mod config;
 mod dispatch;
+mod dues;
 mod job_acts;
 mod job_list;
 mod kicks;

@@ -1,6 +1,7 @@
 ghost use Rattle.std.specs.Prelude.{◌≡◌, ◌<◌, ◌↔◌, not, IsTrue, IfOk, IsErrOf};
 ghost use Rattle.bq_job.specs.Lawful.{IsLawful};
 ghost use Rattle.bq_job.specs.Machine.{new_machine};
+ghost use Rattle.bq_job.specs.NextDue.{next_due};
 ghost use Rattle.bq_job.specs.Steps.{IsStep};
 ghost use Rattle.bq_core.specs.Acting.{is_built};
 ghost use Rattle.bq_core.specs.Limits.{is_body_size, is_seat_count};
@@ -11,7 +12,7 @@ ghost use Rattle.bq_core.specs.Turns.{HasRoom};
 use crate::config::{Config, CoreFault};
 use crate::outs::Outs;
 use crate::state::State;
-use crate::{acts, dispatch, seat_list, state, tube_list, waits};
+use crate::{acts, dispatch, dues, seat_list, state, tube_list, waits};
 use bq_job::{Moment, Seat, Step};
 use std::alloc::Global;
 use std::marker::Model;
@@ -121,5 +122,14 @@ impl Core {
         ensures settings { self.new.settings ≡ self.old.settings }
     {
         take_step(&mut self.state, at, seat, what, outs);
+    }
+
+    /// The least moment at which something happens by itself: a delay, a time to run or a pause ends, a
+    /// client gives up, or is told that a time to run ends soon. A tick below it changes the moment alone.
+    pub fn next_due(&mut self) -> Option<Moment>
+        ensures due { result ≡ next_due self.old }
+        ensures same { self.new ≡ self.old }
+    {
+        dues::next_due(&self.state)
     }
 }

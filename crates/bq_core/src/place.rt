@@ -5,6 +5,7 @@ ghost use Rattle.bq_job.specs.Changes.{is_waiting, without_wait};
 ghost use Rattle.bq_job.specs.Dispatch.{is_wait_before, ticket_of};
 ghost use Rattle.bq_job.specs.JobCommands.{waiting_from};
 ghost use Rattle.bq_job.specs.Machine.{empty_seat};
+ghost use Rattle.bq_job.specs.NextDue.{dues_of_wait, earliest};
 ghost use Rattle.bq_job.specs.TubeCommands.{using, watching};
 ghost use Rattle.bq_job.specs.TubeName.{is_same_name};
 ghost use Rattle.bq_job.specs.Tubes.{is_seated_at, watches};
@@ -124,6 +125,16 @@ impl Place {
         match &self.wait {
             None => 0,
             Some(wait) => wait.ticket,
+        }
+    }
+
+    /// When the client gives up waiting.
+    pub(crate) fn gives_up_at(&self) -> Option<Moment>
+        ensures { result ≡ earliest (dues_of_wait self.now.wait) }
+    {
+        match &self.wait {
+            None => None,
+            Some(wait) => wait.until,
         }
     }
 

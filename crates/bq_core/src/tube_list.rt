@@ -1,6 +1,7 @@
 ghost use Rattle.std.specs.Prelude.{◌≡◌, ◌&&◌, ◌∷◌, [], IfOk, filter, map, is_some, is_ok, not, if◌then◌else◌};
 ghost use Rattle.std.specs.List.{list_any, position, prefix_len};
 ghost use Rattle.bq_job.specs.Machine.{default_tube};
+ghost use Rattle.bq_job.specs.NextDue.{dues_of_pause, earliest};
 ghost use Rattle.bq_job.specs.TubeCommands.{with_pause};
 ghost use Rattle.bq_job.specs.TubeName.{is_same_name};
 ghost use Rattle.bq_job.specs.Tubes.{fresh_tube, is_name_before, is_seated_at as seated_at};
@@ -75,6 +76,16 @@ impl TubeEntry {
         ensures { result.now ≡ self.now.name }
     {
         &self.name
+    }
+
+    /// When its pause ends.
+    pub(crate) fn pause_end(&self) -> Option<Moment>
+        ensures { result ≡ earliest (dues_of_pause self.now.pause) }
+    {
+        match &self.pause {
+            None => None,
+            Some(pause) => Some(pause.until),
+        }
     }
 
     fn is_paused(&self) -> bool

@@ -1,6 +1,6 @@
 -- the answers of each step find room
 use Rattle.std.proofs.Common.{◌<◌}
-use Rattle.bq_core.proofs.tests.play.Given as goal
+use Rattle.bq_core.proofs.tests.played.Given as goal
 
 abbrev pub invariant-loop-seat : goal.invariant-loop-seat
 invariant-loop-seat g l = l.core.settings.seats < l.outs.most

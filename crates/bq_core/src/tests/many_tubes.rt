@@ -1,0 +1,236 @@
+//! Steps of clients at several tubes, with delays, pauses and jobs that are chosen by their id.
+use super::{Do, Example, Want, play, played};
+use std::test::Fail;
+
+const WAITERS_OF_TWO_TUBES: &[Example] = &[
+    (0, 1, Do::Watch(b"a"), &[(1, Want::Watching(2))]),
+    (0, 1, Do::Ignore(b"default"), &[(1, Want::Watching(1))]),
+    (0, 1, Do::Reserve, &[]),
+    (0, 2, Do::Watch(b"a"), &[(2, Want::Watching(2))]),
+    (0, 2, Do::Watch(b"b"), &[(2, Want::Watching(3))]),
+    (0, 2, Do::Ignore(b"default"), &[(2, Want::Watching(2))]),
+    (0, 2, Do::Reserve, &[]),
+    (0, 0, Do::Use(b"b"), &[(0, Want::Using(b"b"))]),
+    (
+        0,
+        0,
+        Do::Put(0, 0, 9, b"p"),
+        &[(0, Want::Inserted(1)), (2, Want::Reserved(1, b"p"))],
+    ),
+    (0, 0, Do::Use(b"a"), &[(0, Want::Using(b"a"))]),
+    (
+        0,
+        0,
+        Do::Put(0, 0, 9, b"q"),
+        &[(0, Want::Inserted(2)), (1, Want::Reserved(2, b"q"))],
+    ),
+];
+
+const PAUSE_AND_DELAY_END_TOGETHER: &[Example] = &[
+    (0, 0, Do::Put(0, 5, 9, b"x"), &[(0, Want::Inserted(1))]),
+    (0, 0, Do::PauseTube(b"default", 5), &[(0, Want::Paused)]),
+    (0, 1, Do::ReserveWithTimeout(5), &[]),
+    (4999, 0, Do::Tick, &[]),
+    (5000, 0, Do::Tick, &[(1, Want::Reserved(1, b"x"))]),
+];
+
+const TOUCH_MOVES_THE_LEASE: &[Example] = &[
+    (0, 0, Do::Put(0, 0, 2, b"x"), &[(0, Want::Inserted(1))]),
+    (0, 0, Do::Reserve, &[(0, Want::Reserved(1, b"x"))]),
+    (0, 1, Do::Touch(1), &[(1, Want::NotFound)]),
+    (1500, 0, Do::Touch(1), &[(0, Want::Touched)]),
+    (2000, 0, Do::Tick, &[]),
+    (3500, 0, Do::Touch(1), &[(0, Want::NotFound)]),
+];
+
+const RELEASE_WITH_DELAY: &[Example] = &[
+    (0, 0, Do::Put(0, 0, 9, b"x"), &[(0, Want::Inserted(1))]),
+    (0, 0, Do::Reserve, &[(0, Want::Reserved(1, b"x"))]),
+    (0, 1, Do::Release(1, 7, 3), &[(1, Want::NotFound)]),
+    (0, 0, Do::Release(1, 7, 3), &[(0, Want::Released)]),
+    (2999, 0, Do::Reserve, &[]),
+    (3000, 0, Do::Tick, &[(0, Want::Reserved(1, b"x"))]),
+];
+
+const RELEASE_KEEPS_THE_ID: &[Example] = &[
+    (0, 0, Do::Put(4, 0, 9, b"x"), &[(0, Want::Inserted(1))]),
+    (0, 0, Do::Put(4, 0, 9, b"y"), &[(0, Want::Inserted(2))]),
+    (0, 0, Do::Reserve, &[(0, Want::Reserved(1, b"x"))]),
+    (0, 0, Do::Release(1, 5, 0), &[(0, Want::Released)]),
+    (0, 0, Do::Reserve, &[(0, Want::Reserved(2, b"y"))]),
+    (0, 0, Do::Release(1, 0, 0), &[(0, Want::NotFound)]),
+    (0, 0, Do::Delete(1), &[(0, Want::Deleted)]),
+];
+
+const TIMED_WAITS_BY_TICKET: &[Example] = &[
+    (0, 2, Do::ReserveWithTimeout(1), &[]),
+    (0, 1, Do::ReserveWithTimeout(1), &[]),
+    (
+        1000,
+        0,
+        Do::Tick,
+        &[(2, Want::TimedOut), (1, Want::TimedOut)],
+    ),
+];
+
+const PAUSE_LIFTED: &[Example] = &[
+    (0, 0, Do::Put(0, 0, 9, b"x"), &[(0, Want::Inserted(1))]),
+    (0, 0, Do::PauseTube(b"default", 5), &[(0, Want::Paused)]),
+    (0, 1, Do::Reserve, &[]),
+    (
+        1000,
+        0,
+        Do::PauseTube(b"default", 0),
+        &[(0, Want::Paused), (1, Want::Reserved(1, b"x"))],
+    ),
+];
+
+const PAUSED_TUBE: &[Example] = &[
+    (0, 0, Do::Put(2, 0, 9, b"x"), &[(0, Want::Inserted(1))]),
+    (0, 0, Do::PauseTube(b"default", 60), &[(0, Want::Paused)]),
+    (0, 0, Do::ReserveWithTimeout(0), &[(0, Want::TimedOut)]),
+    (0, 0, Do::PeekReady, &[(0, Want::Found(1, b"x"))]),
+    (0, 0, Do::ReserveJob(1), &[(0, Want::Reserved(1, b"x"))]),
+    (0, 0, Do::ReserveJob(1), &[(0, Want::NotFound)]),
+    (0, 0, Do::PauseTube(b"b", 1), &[(0, Want::NotFound)]),
+    (0, 0, Do::PeekReady, &[(0, Want::NotFound)]),
+];
+
+const LEAST_ACROSS_TUBES: &[Example] = &[
+    (0, 0, Do::Watch(b"a"), &[(0, Want::Watching(2))]),
+    (0, 0, Do::Put(7, 0, 9, b"x"), &[(0, Want::Inserted(1))]),
+    (0, 0, Do::Use(b"a"), &[(0, Want::Using(b"a"))]),
+    (0, 0, Do::Put(3, 0, 9, b"y"), &[(0, Want::Inserted(2))]),
+    (0, 0, Do::Use(b"default"), &[(0, Want::Using(b"default"))]),
+    (0, 0, Do::Put(3, 0, 9, b"z"), &[(0, Want::Inserted(3))]),
+    (0, 0, Do::Reserve, &[(0, Want::Reserved(2, b"y"))]),
+    (0, 0, Do::Reserve, &[(0, Want::Reserved(3, b"z"))]),
+    (0, 0, Do::Reserve, &[(0, Want::Reserved(1, b"x"))]),
+];
+
+const WATCH_LISTS: &[Example] = &[
+    (0, 0, Do::Ignore(b"default"), &[(0, Want::NotIgnored)]),
+    (0, 0, Do::Ignore(b"b"), &[(0, Want::Watching(1))]),
+    (0, 0, Do::Watch(b"b"), &[(0, Want::Watching(2))]),
+    (0, 0, Do::Watch(b"b"), &[(0, Want::Watching(2))]),
+    (0, 0, Do::Ignore(b"default"), &[(0, Want::Watching(1))]),
+    (0, 0, Do::ListTubeUsed, &[(0, Want::Using(b"default"))]),
+    (0, 0, Do::Close, &[(0, Want::Closed)]),
+    (0, 0, Do::Connect, &[]),
+    (0, 0, Do::Ignore(b"default"), &[(0, Want::NotIgnored)]),
+];
+
+const SINGLE_JOBS: &[Example] = &[
+    (0, 0, Do::Put(0, 9, 9, b"x"), &[(0, Want::Inserted(1))]),
+    (0, 0, Do::Put(0, 5, 9, b"y"), &[(0, Want::Inserted(2))]),
+    (0, 0, Do::PeekDelayed, &[(0, Want::Found(2, b"y"))]),
+    (0, 0, Do::PeekBuried, &[(0, Want::NotFound)]),
+    (0, 0, Do::KickJob(2), &[(0, Want::Kicked)]),
+    (0, 0, Do::KickJob(2), &[(0, Want::NotFound)]),
+    (0, 0, Do::ReserveJob(1), &[(0, Want::Reserved(1, b"x"))]),
+    (0, 1, Do::Bury(1, 3), &[(1, Want::NotFound)]),
+    (0, 0, Do::Bury(1, 3), &[(0, Want::Buried)]),
+    (0, 1, Do::PeekBuried, &[(1, Want::Found(1, b"x"))]),
+    (0, 1, Do::Peek(2), &[(1, Want::Found(2, b"y"))]),
+    (0, 1, Do::Peek(3), &[(1, Want::NotFound)]),
+    (0, 1, Do::ReserveJob(3), &[(1, Want::NotFound)]),
+    (0, 1, Do::KickJob(1), &[(1, Want::Kicked)]),
+    (0, 1, Do::PeekDelayed, &[(1, Want::NotFound)]),
+];
+
+const DUE_BY_A_LEASE: &[Example] = &[
+    (0, 0, Do::Put(0, 0, 2, b"x"), &[(0, Want::Inserted(1))]),
+    (0, 0, Do::Reserve, &[(0, Want::Reserved(1, b"x"))]),
+    (1500, 0, Do::Touch(1), &[(0, Want::Touched)]),
+];
+
+const DUE_BY_A_WAITER: &[Example] = &[
+    (0, 0, Do::Put(0, 0, 2, b"x"), &[(0, Want::Inserted(1))]),
+    (0, 0, Do::Reserve, &[(0, Want::Reserved(1, b"x"))]),
+    (500, 0, Do::Reserve, &[]),
+];
+
+const DUE_BY_A_DELAY: &[Example] = &[
+    (0, 0, Do::Put(0, 0, 9, b"x"), &[(0, Want::Inserted(1))]),
+    (0, 0, Do::Reserve, &[(0, Want::Reserved(1, b"x"))]),
+    (0, 0, Do::Release(1, 7, 3), &[(0, Want::Released)]),
+    (2999, 0, Do::Reserve, &[]),
+];
+
+const DUE_BY_A_PAUSE: &[Example] = &[
+    (0, 0, Do::Put(0, 0, 9, b"x"), &[(0, Want::Inserted(1))]),
+    (0, 0, Do::PauseTube(b"default", 5), &[(0, Want::Paused)]),
+    (0, 1, Do::Reserve, &[]),
+];
+
+const DUE_BY_A_TIMEOUT: &[Example] = &[(1500, 0, Do::ReserveWithTimeout(1), &[])];
+
+const NOTHING_DUE: &[Example] = &[
+    (0, 0, Do::Put(0, 0, 9, b"x"), &[(0, Want::Inserted(1))]),
+    (0, 1, Do::ReserveJob(1), &[(1, Want::Reserved(1, b"x"))]),
+    (0, 1, Do::Bury(1, 0), &[(1, Want::Buried)]),
+    (0, 1, Do::Reserve, &[]),
+];
+
+const KICK_IN_TURNS: &[Example] = &[
+    (0, 0, Do::Put(0, 0, 9, b"x"), &[(0, Want::Inserted(1))]),
+    (0, 0, Do::Put(0, 0, 9, b"y"), &[(0, Want::Inserted(2))]),
+    (0, 0, Do::Put(0, 100, 9, b"z"), &[(0, Want::Inserted(3))]),
+    (0, 0, Do::Reserve, &[(0, Want::Reserved(1, b"x"))]),
+    (0, 0, Do::Reserve, &[(0, Want::Reserved(2, b"y"))]),
+    (0, 0, Do::Bury(2, 0), &[(0, Want::Buried)]),
+    (0, 0, Do::Bury(1, 0), &[(0, Want::Buried)]),
+    (0, 0, Do::PeekBuried, &[(0, Want::Found(2, b"y"))]),
+    (0, 0, Do::Kick(5), &[(0, Want::KickedCount(2))]),
+    (0, 0, Do::Kick(5), &[(0, Want::KickedCount(1))]),
+    (0, 0, Do::Kick(5), &[(0, Want::KickedCount(0))]),
+];
+
+const A_TUBE_IS_FORGOTTEN: &[Example] = &[
+    (0, 0, Do::Use(b"a"), &[(0, Want::Using(b"a"))]),
+    (0, 0, Do::PauseTube(b"a", 60), &[(0, Want::Paused)]),
+    (0, 0, Do::Use(b"default"), &[(0, Want::Using(b"default"))]),
+    (0, 0, Do::PauseTube(b"a", 60), &[(0, Want::NotFound)]),
+    (0, 0, Do::Use(b"a"), &[(0, Want::Using(b"a"))]),
+    (0, 0, Do::Put(0, 0, 9, b"x"), &[(0, Want::Inserted(1))]),
+    (0, 1, Do::Watch(b"a"), &[(1, Want::Watching(2))]),
+    (0, 1, Do::Reserve, &[(1, Want::Reserved(1, b"x"))]),
+];
+
+#[test]
+fn examples_of_tubes(rt: HostRuntime) -> Result<(), Fail> {
+    for (name, examples) in [
+        ("waiters_of_two_tubes", WAITERS_OF_TWO_TUBES),
+        ("pause_and_delay_end_together", PAUSE_AND_DELAY_END_TOGETHER),
+        ("touch_moves_the_lease", TOUCH_MOVES_THE_LEASE),
+        ("release_with_delay", RELEASE_WITH_DELAY),
+        ("release_keeps_the_id", RELEASE_KEEPS_THE_ID),
+        ("timed_waits_by_ticket", TIMED_WAITS_BY_TICKET),
+        ("pause_lifted", PAUSE_LIFTED),
+        ("paused_tube", PAUSED_TUBE),
+        ("least_across_tubes", LEAST_ACROSS_TUBES),
+        ("watch_lists", WATCH_LISTS),
+        ("single_jobs", SINGLE_JOBS),
+        ("kick_in_turns", KICK_IN_TURNS),
+        ("a_tube_is_forgotten", A_TUBE_IS_FORGOTTEN),
+    ] {
+        play(&rt, rt.alloc(), name, examples)?;
+    }
+    Ok(())
+}
+
+#[test]
+fn next_due_moments(rt: HostRuntime) -> Result<(), Fail> {
+    for (name, examples, due) in [
+        ("due_by_a_lease", DUE_BY_A_LEASE, Some(3500)),
+        ("due_by_a_waiter", DUE_BY_A_WAITER, Some(1000)),
+        ("due_by_a_delay", DUE_BY_A_DELAY, Some(3000)),
+        ("due_by_a_pause", DUE_BY_A_PAUSE, Some(5000)),
+        ("due_by_a_timeout", DUE_BY_A_TIMEOUT, Some(2500)),
+        ("nothing_due", NOTHING_DUE, None),
+    ] {
+        let mut core = played(&rt, rt.alloc(), name, examples)?;
+        assert_eq!(rt; core.next_due(), due, "{name}");
+    }
+    Ok(())
+}
