@@ -146,3 +146,19 @@ line_joined settings p seat line readings history given last j = record {
   of_line = seat_owed settings p seat (line ∷ []) (steps_at seat history) [] j.taken j.waiting history given last j.within refl j.run.runs (sym (append-nil (steps_at seat history))) j.answers_are j.served;
   of_nobody_else = j.of_nobody_else;
 }
+
+-- one line more is over
+pub lines_more : (p : Profile) (lines : List LineOver) (line : LineOver) (submitted more : List Step) (taken got : List Answer) → AreLinesServed p lines submitted taken → IsLineServed p line more got
+    → AreLinesServed p (lines ++ line ∷ []) (submitted ++ more) (taken ++ got)
+lines_more p [] line submitted more taken got h l =
+    (more, [], got, [], l, ap (λ (xs : List Step). xs ++ more) h.0 ∙ sym (append-nil more), ap (λ (xs : List Answer). xs ++ got) h.1 ∙ sym (append-nil got), (refl, refl))
+lines_more p (first ∷ lines) line submitted more taken got h l = (
+  h.0,
+  h.1 ++ more,
+  h.2,
+  h.3 ++ got,
+  h.4,
+  ap (λ (xs : List Step). xs ++ more) h.5 ∙ append_assoc h.0 h.1 more,
+  ap (λ (xs : List Answer). xs ++ got) h.6 ∙ append_assoc h.2 h.3 got,
+  lines_more p lines line h.1 more h.3 got h.7 l,
+)

@@ -1,5 +1,6 @@
 //! Laws of clients: what a step gives to each of them, and what a whole run does.
-ghost use Rattle.std.specs.Prelude.{ℕ, Bool, List, Option, ◌≡◌, ◌≢◌, ◌<◌, true};
+ghost use Rattle.std.specs.Prelude.{ℕ, Bool, List, Option, [], ◌∷◌, ◌++◌, ◌≡◌, ◌≢◌, ◌<◌, true};
+ghost use Rattle.bq_job.specs.declared.answer.Answer.{Answer};
 ghost use Rattle.bq_job.specs.declared.request.Request.{Request};
 ghost use Rattle.bq_job.specs.declared.step.Step.{Step};
 ghost use Rattle.bq_job.specs.declared.step.Step.TheVariants.{Ask};
@@ -11,6 +12,7 @@ ghost use Rattle.bq_job.specs.Machine.{Machine, Settings};
 ghost use Rattle.bq_job.specs.OneClient.{GetsAtMost, GetsWhatWaits, is_connected_at};
 ghost use Rattle.bq_job.specs.Profile.{Profile};
 ghost use Rattle.bq_job.specs.Runs.{Entry, answers_to};
+ghost use Rattle.bq_job.specs.SeatDid.{AreLinesServed, IsLineServed};
 ghost use Rattle.bq_job.specs.Steps.{IsStep, Outcome};
 
 /// A step of another seat gives a client at most the answer that it waits for, and nothing else.
@@ -49,4 +51,11 @@ pub fn line_joins()
         (history : List Entry) (given : List GivenAnswer) (last : Machine)
         → IsLineJoined settings p seat line readings history given last
         → IsHistoryOfLine settings p seat line readings }
+{}
+
+/// Behind the lines that were served so far one line more was served.
+pub fn one_line_more()
+    ensures { (p : Profile) (lines : List LineOver) (line : LineOver) (submitted more : List Step) (taken got : List Answer)
+        → AreLinesServed p lines submitted taken → IsLineServed p line more got
+        → AreLinesServed p (lines ++ line ∷ []) (submitted ++ more) (taken ++ got) }
 {}
