@@ -142,6 +142,28 @@ one_step d n seat what reading outcome given step heard mails empty full =
     neither : (if is_tick what then no_steps else no_steps) ≡ no_steps
     neither = elim (cases_Bool (is_tick what)) [ inl e ↦ rw e refl | inr e ↦ rw e refl ]
 
+-- The clock was read, and no step was taken.
+pub seat_heard : (d n : DeskState) (seat : ℕ) (reading : Option ℕ) → n.core ≡ d.core → n.heard ≡ moment_heard d.heard reading → n.mails ≡ d.mails → n.pending ≡ d.pending
+    → SeatWent seat d (reading ∷ []) [] [] n
+seat_heard d n seat reading core heard mails pending = record {
+  history = [];
+  took = λ t. [];
+  went = record {
+    given = [];
+    runs = subst (λ (m : Machine). Run d.core [] [] m) (sym core) (run_none d.core);
+    timed = record { picked = tt; last_is = heard };
+    many = ap length mails;
+    tied = λ t below.
+        append-nil (waiting t d)
+        ∙ ap (λ (ms : List (List Answer)). slice_index_or ms t [] ++ answers_to t d.pending) (sym mails)
+        ∙ ap (λ (xs : List GivenAnswer). slice_index_or n.mails t [] ++ answers_to t xs) (sym pending);
+  };
+  submitted_is = refl;
+  taken_is = refl;
+  others_still = λ t differs. refl;
+  others_took = λ t differs. refl;
+}
+
 -- A seat did nothing, or one thing after the other.
 pub seat_none : (d : DeskState) (seat : ℕ) → SeatWent seat d [] [] [] d
 seat_none d seat = record {

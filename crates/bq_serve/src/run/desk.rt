@@ -91,7 +91,7 @@ impl<C: Clock + Drop> Desk<C> {
         self.take_mail(seat)
     }
 
-    // A tick is made where all answers so far are in the mail.
+    // Time passes where all answers so far are in the mail.
     fn pass_time(&mut self, seat: Seat)
         requires mails { HasMails (state_of self.old) }
         ensures mails { HasMails (state_of self.new) }
@@ -99,8 +99,26 @@ impl<C: Clock + Drop> Desk<C> {
         ensures went { WentAt C.given seat self.old [] [] self.new }
     {
         if self.deliver() {
-            self.take_step(seat, Step::Tick);
+            self.tick_if_due(seat);
             let _all = self.deliver();
+        }
+    }
+
+    // The clock is read where the core is ever due. The reading that finds it due is the tick's.
+    fn tick_if_due(&mut self, seat: Seat)
+        requires mails { HasMails (state_of self.old) }
+        requires empty { (state_of self.old).pending ≡ [] }
+        ensures mails { HasMails (state_of self.new) }
+        ensures many { length (state_of self.new).mails ≡ length (state_of self.old).mails }
+        ensures went { WentAt C.given seat self.old [] [] self.new }
+    {
+        let Some(due) = self.core.next_due() else {
+            return;
+        };
+        let reading = self.clock.now();
+        self.heard = moment_heard(self.heard, reading);
+        if due <= self.heard {
+            self.core.step(self.heard, seat, Step::Tick, &mut self.outs);
         }
     }
 
