@@ -24,6 +24,10 @@ seated seats = record { seats = seats; max_job_size = 65535 }
 abbrev pub ended_line : List ℕ → List ℕ → LineOver
 ended_line read written = record { seen = record { read = read; written = written; ended = true; fault = None }; over = ends.EndOfInput }
 
+-- as by the end of the input, though no read answered that no more comes,
+abbrev pub shut_line : List ℕ → List ℕ → LineOver
+shut_line read written = record { seen = record { read = read; written = written; ended = false; fault = None }; over = ends.EndOfInput }
+
 -- by a quit,
 abbrev pub quit_line : List ℕ → List ℕ → LineOver
 quit_line read written = record { seen = record { read = read; written = written; ended = false; fault = None }; over = ends.Quit }

@@ -1,9 +1,18 @@
 //! Worked examples of whole histories: what was read and written at each door, and whether one history of
 //! everybody's steps explains it. Each is a clause on the definitions, and none runs our code.
+ghost use Rattle.bq_job.specs.declared.answer.Answer.{Answer};
+ghost use Rattle.bq_job.specs.declared.answer.Answer.TheVariants.{Closed, Deleted, Inserted, Kicked};
 ghost use Rattle.bq_job.specs.declared.request.Request.TheVariants.{Put, Quit, Reserve};
-ghost use Rattle.bq_job.specs.Examples.{ask, close, connect};
-ghost use Rattle.bq_job.specs.HistoryExamples.{AreServedOver, drain_at, ended_line, gone, quit_line};
-ghost use Rattle.std.specs.Prelude.{[], ◌∷◌, codes};
+ghost use Rattle.bq_job.specs.declared.step.Step.{Step};
+ghost use Rattle.bq_job.specs.declared.step.Step.TheVariants.{Ask, Close, Connect, Drain, Gone};
+ghost use Rattle.bq_job.specs.ControlDid.{IsControlDone};
+ghost use Rattle.bq_job.specs.Examples.{ask, at, close, connect};
+ghost use Rattle.bq_job.specs.Headline.{IsDoorOwed, IsHistoryOf};
+ghost use Rattle.bq_job.specs.History.{IsTimedBy, LineOver};
+ghost use Rattle.bq_job.specs.HistoryExamples.{AreServedOver, drain_at, ended_line, gone, quit_line, seated, shut_line, unread_line, unwritten_line, usual};
+ghost use Rattle.bq_job.specs.LineOwed.{IsLineOwed};
+ghost use Rattle.bq_job.specs.Machine.{Machine};
+ghost use Rattle.std.specs.Prelude.{ℕ, Bool, false, ◌≡◌, List, [], ◌∷◌, Option, Some, codes};
 
 /// Two doors with one line each: a put answers the reserve of the other's client.
 fn put_answers_a_reserve()
@@ -28,8 +37,75 @@ fn second_line_is_over_by_quit()
         [] }
 {}
 
+/// One door with two lines: a write breaks off within INSERTED, and then a read fails behind a reserve that
+/// waits, since the job is delayed.
+fn faults_of_a_write_and_of_a_read()
+    ensures { AreServedOver
+        (connect 0 ∷ ask 0 (Put 0 100 9 (codes "x")) ∷ close 0
+        ∷ connect 0 ∷ ask 0 Reserve ∷ close 0 ∷ gone 0 ∷ gone 1 ∷ [])
+        ((unwritten_line (codes "put 0 100 9 1\r\nx\r\nreserve\r\n") (codes "INSE")
+        ∷ unread_line (codes "reserve\r\n") []
+        ∷ [])
+        ∷ [])
+        [] }
+{}
+
+/// A reading that falls counts as the last one, so a step at the smaller moment is refused.
+fn moments_never_fall()
+    ensures kept { IsTimedBy (Some 5 ∷ Some 3 ∷ []) (at 5 (connect 0) ∷ at 5 (close 0) ∷ []) }
+    ensures fallen { IsTimedBy (Some 5 ∷ Some 3 ∷ []) (at 5 (connect 0) ∷ at 3 (close 0) ∷ []) → ⊥ }
+{}
+
+/// No reading of the clock makes two steps.
+fn reading_used_twice()
+    ensures { IsTimedBy (Some 5 ∷ []) (at 5 (connect 0) ∷ at 5 (close 0) ∷ []) → ⊥ }
+{}
+
+/// Steps without a command that the client sent are none of its line, whatever was answered and written.
+fn command_missing()
+    ensures { (written : List ℕ) (given : List Answer)
+        → IsLineOwed usual (ended_line (codes "delete 1\r\nreserve\r\n") written) (Connect ∷ Ask Reserve ∷ Close ∷ []) given → ⊥ }
+{}
+
+/// A line of which no end was read is not over by the end of its input.
+fn unread_line_shut_as_ended()
+    ensures { (taken : List Step) (given : List Answer) → IsLineOwed usual (shut_line [] []) taken given → ⊥ }
+{}
+
+/// Whoever is owed INSERTED is not written what another is owed.
+fn bytes_owed_to_another()
+    ensures { IsDoorOwed usual (ended_line (codes "put 5 0 10 3\r\nabc\r\n") (codes "RESERVED 1 3\r\nabc\r\n") ∷ [])
+        (Connect ∷ Ask (Put 5 0 10 (codes "abc")) ∷ Close ∷ Gone ∷ []) (Inserted 1 ∷ Closed ∷ []) → ⊥ }
+{}
+
+/// A door at which a line was opened and never shut is not done, whatever its lines are said to be.
+fn line_dropped()
+    ensures { (lines : List LineOver) (given : List Answer)
+        → IsDoorOwed usual lines (Connect ∷ Ask Reserve ∷ Gone ∷ []) given → ⊥ }
+{}
+
+/// A door that was never opened has not been done by two drains alone, which the control line must have
+/// said, and there are no answers at it.
+fn door_never_opened()
+    ensures steps { (control : List ℕ) (failed : Bool) (readings : List (Option ℕ)) (last : Machine)
+        (h : IsHistoryOf (seated 1) usual ([] ∷ []) control failed readings last)
+        → h.history ≡ drain_at 1 ∷ drain_at 1 ∷ [] → ⊥ }
+    ensures answers { (control : List ℕ) (failed : Bool) (readings : List (Option ℕ)) (last : Machine)
+        (h : IsHistoryOf (seated 1) usual ([] ∷ []) control failed readings last)
+        → h.given ≡ (0, Kicked) ∷ (5, Deleted) ∷ [] → ⊥ }
+    ensures drains { IsControlDone [] false (Drain ∷ Drain ∷ []) → ⊥ }
+{}
+
 #[test]
 fn examples_of_histories() {
     put_answers_a_reserve();
     second_line_is_over_by_quit();
+    faults_of_a_write_and_of_a_read();
+    moments_never_fall();
+    reading_used_twice();
+    command_missing();
+    unread_line_shut_as_ended();
+    bytes_owed_to_another();
+    line_dropped();
+    door_never_opened();
 }
