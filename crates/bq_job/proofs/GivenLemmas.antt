@@ -14,9 +14,9 @@ use Rattle.bq_job.specs.declared.step.Step.TheVariants as steps
 use Rattle.bq_job.specs.Dispatch.{GivenAnswer}
 use Rattle.bq_job.specs.History.{LineOver, is_tick, steps_at}
 use Rattle.bq_job.specs.Lawful.{IsLawful}
-use Rattle.bq_job.specs.LineSteps.{LineHeard, heard, MayTellEnd, answered_count}
+use Rattle.bq_job.specs.LineSteps.{LineHeard, heard, MayTellEnd, answered_count, wanted}
 use Rattle.bq_job.specs.Machine.{Machine, Settings}
-use Rattle.bq_job.specs.OneClient.{GetsAtMost, GetsClosed, GetsWhatWaits, answers_wanted, has_closed, is_closed_answer, is_connected_at, owing}
+use Rattle.bq_job.specs.OneClient.{GetsAtMost, GetsClosed, GetsWhatWaits, has_closed, is_closed_answer, is_connected_at, owing}
 use Rattle.bq_job.specs.Profile.{Profile}
 use Rattle.bq_job.specs.Runs.{Entry, Run, answers_to}
 use Rattle.bq_job.specs.Steps.{IsStep, Outcome}
@@ -65,12 +65,6 @@ elsewhere t m next at seat what outcome given s h step =
       | inl y ↦ absurd cc
       | inr y ↦ others_give m next at seat t what outcome given y step
     ]
-
--- how many answers these steps want
-abbrev pub wanted : List Step → ℕ
-wanted [] = 0
-wanted (steps.Ask request ∷ taken) = answers_wanted request + wanted taken
-wanted (step ∷ taken) = wanted taken
 
 -- a request, or that the client sends no more
 abbrev pub is_within : Step → Bool
@@ -319,14 +313,6 @@ wanted_append [] ys = omega arith
 wanted_append (steps.Ask r ∷ xs) ys = omega (arith, wanted_append xs ys)
 wanted_append (step ∷ xs) ys = wanted_append xs ys
 
-count_one : (r : Request) (asked : List Request) → answered_count (r ∷ asked) ≡ answers_wanted r + answered_count asked
-count_one requests.Quit asked = omega arith
-count_one r asked = omega arith
-
-wanted_count : (asked : List Request) → wanted (map steps.Ask asked) ≡ answered_count asked
-wanted_count [] = refl
-wanted_count (r ∷ asked) = omega (arith, count_one r asked, wanted_count asked)
-
 -- what an open line asks: it is within the line, and wants so much
 within_asked : (asked : List Request) (told : List Step) → are_within told ≡ true → are_within (map steps.Ask asked ++ told) ≡ true
 within_asked [] told h = h
@@ -341,7 +327,7 @@ told_wants seen asked told (inl e) = ap wanted e
 told_wants seen asked told (inr e) = ap wanted e.0
 
 line_wants : (seen : LineHeard) (asked : List Request) (told : List Step) → MayTellEnd seen asked told → wanted (map steps.Ask asked ++ told) ≡ answered_count asked
-line_wants seen asked told e = omega (arith, wanted_append (map steps.Ask asked) told, wanted_count asked, told_wants seen asked told e)
+line_wants seen asked told e = omega (arith, wanted_append (map steps.Ask asked) told, told_wants seen asked told e)
 
 -- the steps of a line, and those behind it
 line_then : (ss more rest : List Step) → ((ss ++ steps.Close ∷ []) ++ more) ++ rest ≡ ss ++ steps.Close ∷ (more ++ rest)

@@ -22,10 +22,10 @@ use Rattle.bq_job.specs.Dispatch.{DispatchTurn, GivenAnswer, IsHandOut, is_wait_
 use Rattle.bq_job.specs.JobCommands.{after_delete, after_put, buried, is_free_for, kicked, new_job, released, reserve_effect, waiting_from}
 use Rattle.bq_job.specs.JobStates.{is_reserved}
 use Rattle.bq_job.specs.Lawful.{IsLawful}
-use Rattle.bq_job.specs.LineSteps.{is_waiting_request}
+use Rattle.bq_job.specs.LineSteps.{answers_wanted, is_waiting_request}
 use Rattle.bq_job.specs.Limits.{later, raised}
 use Rattle.bq_job.specs.Machine.{Machine, SeatRecord, empty_seat, numbers}
-use Rattle.bq_job.specs.OneClient.{GetsAnswer, GetsAtMost, GetsClosed, GetsWhatWaits, GivesClient, answers_wanted, has_closed, is_closed_answer, is_connected_at, owing}
+use Rattle.bq_job.specs.OneClient.{GetsAnswer, GetsAtMost, GetsClosed, GetsWhatWaits, GivesClient, has_closed, is_closed_answer, is_connected_at, owing}
 use Rattle.bq_job.specs.Runs.{answers_to}
 use Rattle.bq_job.specs.StatisticsCommands.{job_statistics_or_not}
 use Rattle.bq_job.specs.Steps.{IsStep, Memory, Outcome, Serves, acted, addressed, granted, growth_refused, is_possible, share_refused, shares_body, step_takes_memory, may_be_left_out}

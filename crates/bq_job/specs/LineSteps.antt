@@ -84,11 +84,20 @@ pub record IsCutOff (answers : List Answer) (written : List ℕ) : Type 0 where
   pub is_beginning : IsBeginning cut (answer_text last)
   pub written_is : written ≡ answers_text first ++ cut
 
+-- a request that is answered, now or later
+abbrev pub answers_wanted : Request → ℕ
+answers_wanted requests.Quit = 0
+answers_wanted _ = 1
+
+-- how many answers these steps want
+abbrev pub wanted : List Step → ℕ
+wanted [] = 0
+wanted (steps.Ask request ∷ taken) = answers_wanted request + wanted taken
+wanted (step ∷ taken) = wanted taken
+
 -- how many requests there are but for a quit
 abbrev pub answered_count : List Request → ℕ
-answered_count [] = 0
-answered_count (requests.Quit ∷ more) = answered_count more
-answered_count (request ∷ more) = answered_count more + 1
+answered_count asked = wanted (map steps.Ask asked)
 
 -- Every request but a quit has its answer, and the last one, which may wait, came too late to be written.
 pub record IsLastUnwritten (asked : List Request) (answers : List Answer) (written : List ℕ) : Type 0 where

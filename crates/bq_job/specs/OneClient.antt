@@ -4,12 +4,11 @@ use Rattle.std.specs.List.{list_any}
 use Rattle.bq_job.specs.declared.answer.Answer.{Answer}
 use Rattle.bq_job.specs.declared.answer.Answer.TheVariants as answers
 use Rattle.bq_job.specs.declared.request.Request.{Request}
-use Rattle.bq_job.specs.declared.request.Request.TheVariants as requests
 use Rattle.bq_job.specs.declared.step.Step.{Step}
 use Rattle.bq_job.specs.declared.step.Step.TheVariants as steps
 use Rattle.bq_job.specs.Changes.{is_waiting}
 use Rattle.bq_job.specs.Dispatch.{GivenAnswer}
-use Rattle.bq_job.specs.LineSteps.{is_waiting_request}
+use Rattle.bq_job.specs.LineSteps.{answers_wanted, is_waiting_request}
 use Rattle.bq_job.specs.Machine.{Machine}
 use Rattle.bq_job.specs.Runs.{answers_to}
 
@@ -22,11 +21,6 @@ is_waiting_at seat m = list_any (λ s. s.number == seat && is_waiting s) m.seats
 -- how many answers the client waits for: one, or none
 abbrev pub owing : ℕ → Machine → ℕ
 owing seat m = if is_waiting_at seat m then 1 else 0
-
--- a request that is answered, now or later
-abbrev pub answers_wanted : Request → ℕ
-answers_wanted requests.Quit = 0
-answers_wanted _ = 1
 
 abbrev pub is_closed_answer : Answer → Bool
 is_closed_answer answers.Closed = true

@@ -6,7 +6,7 @@ use Rattle.bq_job.specs.declared.step.Step.{Step}
 use Rattle.bq_job.specs.declared.step.Step.TheVariants as steps
 use Rattle.bq_job.specs.Profile.{Profile}
 use Rattle.bq_seat.specs.Finds.{Finds}
-use Rattle.bq_seat.specs.InTurn.{wanted}
+use Rattle.bq_job.specs.LineSteps.{wanted}
 use Rattle.bq_seat.specs.Past.{Awaited, IsOrderly, Past, awaited_by, has_close, is_close, is_stray, past_after, with_action, with_event, with_fault, with_mail}
 use Rattle.bq_seat.specs.SeatMoves.{IsMove, OpensPast}
 use Rattle.bq_seat.specs.SeatParts.{IfLineOver, IsSoFar, IsStagedMove, OpensLine}
@@ -20,7 +20,7 @@ use Rattle.bq_seat.specs.declared.machine.Event.TheVariants as events
 use Rattle.bq_seat.specs.declared.machine.SeatMachine.{SeatMachine}
 use Rattle.bq_seat.specs.declared.machine.Stage.{Stage}
 use Rattle.bq_seat.specs.declared.machine.Stage.TheVariants as stages
-use Rattle.bq_seat.proofs.InTurnLemmas.{few_missing, in_turn, wanted_asks, wanted_joined}
+use Rattle.bq_seat.proofs.InTurnLemmas.{few_missing, in_turn, wanted_joined}
 use Rattle.bq_seat.proofs.LooksLemmas.{wanted_open}
 
 -- a look at the mail finds one answer outstanding at most
@@ -34,7 +34,7 @@ few_at_look (stages.Leaving end) reader kept told p e h =
     let none : wanted more ≡ 0 = elim line.ends [ inl none ↦ ap (λ t. wanted (t ++ steps.Close ∷ [])) none | inr one ↦ ap (λ t. wanted (t ++ steps.Close ∷ [])) one.0 ] in
     let same = ap wanted (line.steps_are ∙ append_assoc (steps.Connect ∷ map steps.Ask line.asked) line.end_steps (steps.Close ∷ [])) in
     let joined = wanted_joined (map steps.Ask line.asked) more in
-    omega (arith, wanted_asks line.asked)
+    omega arith
 few_at_look stages.Between reader kept told p e h = cc
 few_at_look stages.Connecting reader kept told p e h = cc
 few_at_look stages.Reading reader kept told p e h = cc

@@ -8,9 +8,8 @@ use Rattle.bq_job.specs.declared.step.Step.{Step}
 use Rattle.bq_job.specs.declared.step.Step.TheVariants as steps
 use Rattle.bq_job.specs.declared.answer.Answer.{Answer}
 use Rattle.bq_job.specs.declared.line_end.LineEnd.TheVariants as ends
-use Rattle.bq_job.specs.LineSteps.{AreAllAnswered, answered_count}
-use Rattle.bq_job.specs.OneClient.{answers_wanted}
-use Rattle.bq_seat.specs.InTurn.{IsInTurn, wanted}
+use Rattle.bq_job.specs.LineSteps.{AreAllAnswered, answered_count, wanted}
+use Rattle.bq_seat.specs.InTurn.{IsInTurn}
 use Rattle.bq_seat.proofs.StepLemmas.{answered_count-asked}
 use Rattle.bq_seat.specs.Past.{Awaited, Past}
 use Rattle.bq_seat.specs.SeatStands.{HasAskedQuit, StandsInStage, awaited_at, end_if, has_quit}
@@ -56,19 +55,6 @@ wanted_joined [] ys = omega arith
 wanted_joined (steps.Ask r ∷ xs) ys = omega (arith, wanted_joined xs ys)
 wanted_joined (_ ∷ xs) ys = wanted_joined xs ys
 
-wanted_one : (r : Request) → answers_wanted r ≡ answered_count (r ∷ [])
-wanted_one requests.Quit = refl
-wanted_one _ = refl
-
-answered_first : (r : Request) (asked : List Request) → answered_count (r ∷ asked) ≡ answered_count (r ∷ []) + answered_count asked
-answered_first requests.Quit asked = omega arith
-answered_first _ asked = omega arith
-
--- requests want as many answers as there are, but for quits
-pub wanted_asks : (asked : List Request) → wanted (map steps.Ask asked) ≡ answered_count asked
-wanted_asks [] = refl
-wanted_asks (r ∷ asked) = omega (arith, wanted_one r, wanted_asks asked, answered_first r asked)
-
 in_place : {step other : Step} (taken : List Step) (mail : List Answer) → step ≡ other → IsInTurn other taken mail → IsInTurn step taken mail
 in_place taken mail e h = subst (λ s. IsInTurn s taken mail) (sym e) h
 
@@ -90,7 +76,7 @@ asks_at (r ∷ asked) taken mail step e count none =
 tells_at : (asked : List Request) (taken : List Step) (mail : List Answer) (step : Step) → taken ++ step ∷ [] ≡ (steps.Connect ∷ map steps.Ask asked) ++ steps.End ∷ [] → has_quit asked ≡ false → length mail + 1 ≡ length asked → IsInTurn step taken mail
 tells_at asked taken mail step e none count =
     let last = last_same taken (steps.Connect ∷ map steps.Ask asked) step steps.End e in
-    in_place taken mail last.1 (asked, record { steps_are = last.0; no_quit = none }, let same = ap wanted last.0 in omega (arith, same, wanted_asks asked, answered_count-asked asked none))
+    in_place taken mail last.1 (asked, record { steps_are = last.0; no_quit = none }, let same = ap wanted last.0 in omega (arith, same, answered_count-asked asked none))
 
 quits_at : (taken : List Step) (p : Past) (step : Step) → p.steps ≡ taken ++ step ∷ [] → HasAskedQuit p → IsInTurn step taken p.mail
 quits_at taken p step are q =
@@ -103,7 +89,6 @@ closes_at asked told taken mail step e ends count =
     let last = last_same taken ((steps.Connect ∷ map steps.Ask asked) ++ told) step steps.Close e in
     let joined = wanted_joined (steps.Connect ∷ map steps.Ask asked) told in
     let same = ap wanted last.0 in
-    let asks = wanted_asks asked in
     let few : told ≡ [] → wanted taken ≤ length mail + 1 = λ none. let zero_more : wanted told ≡ 0 = ap wanted none in omega arith in
     let few_told : told ≡ steps.End ∷ [] → wanted taken ≤ length mail + 1 = λ one. let zero_more : wanted told ≡ 0 = ap wanted one in omega arith in
     in_place taken mail last.1 (elim ends [

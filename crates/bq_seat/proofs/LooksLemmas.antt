@@ -6,17 +6,16 @@ use Rattle.bq_job.specs.declared.request.Request.TheVariants as requests
 use Rattle.bq_job.specs.declared.step.Step.{Step}
 use Rattle.bq_job.specs.declared.step.Step.TheVariants as steps
 use Rattle.bq_job.specs.Reading.{is_quit}
-use Rattle.bq_job.specs.LineSteps.{ends_by_wait}
+use Rattle.bq_job.specs.LineSteps.{ends_by_wait, wanted}
 use Rattle.bq_job.specs.declared.line_end.LineEnd.{LineEnd}
 use Rattle.bq_job.specs.Profile.{Profile}
 use Rattle.bq_wire.specs.declared.state.State.{State}
-use Rattle.bq_seat.specs.InTurn.{wanted}
 use Rattle.bq_seat.specs.Looks.{GoesFurther, LooksBehindStep, asked_in, is_read_on, is_unanswered, last_step}
 use Rattle.bq_seat.specs.Past.{Past}
 use Rattle.bq_seat.specs.SeatStands.{HasAskedQuit, IsClosing, IsOpen, IsWaiting, end_if, has_quit}
 use Rattle.bq_seat.specs.declared.machine.Action.{Action}
 use Rattle.bq_seat.specs.declared.machine.Action.TheVariants as actions
-use Rattle.bq_seat.proofs.InTurnLemmas.{asks_last, ends_by, wanted_asks, wanted_joined}
+use Rattle.bq_seat.proofs.InTurnLemmas.{asks_last, ends_by, wanted_joined}
 use Rattle.bq_seat.proofs.ReadingLemmas.{neither}
 use Rattle.bq_seat.proofs.StepLemmas.{answered_count-asked}
 
@@ -79,7 +78,6 @@ pub wanted_open : (r : State) (kept : List ℕ) (told : Bool) (out : ℕ) (p : P
 wanted_open r kept told out p o =
     let same = ap wanted o.stepped.steps_are in
     let joined = wanted_joined (map steps.Ask o.asked) (end_if told) in
-    let asks = wanted_asks o.asked in
     let all = answered_count-asked o.asked o.stepped.no_quit in
     let out_is = o.handed.answered in
     omega (arith, no_ends told)

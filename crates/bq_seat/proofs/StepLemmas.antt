@@ -10,7 +10,7 @@ use Rattle.bq_seat.proofs.ReadingLemmas.{neither}
 
 answered_count-one : (r : Request) (asked : List Request) → is_quit r ≡ false → answered_count (r ∷ asked) ≡ answered_count asked + 1
 answered_count-one requests.Quit asked q = cc
-answered_count-one r asked q = refl
+answered_count-one r asked q = omega arith
 
 -- each of these requests is answered
 pub answered_count-asked : (asked : List Request) → has_quit asked ≡ false → answered_count asked ≡ length asked

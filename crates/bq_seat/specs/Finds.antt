@@ -2,7 +2,8 @@
 use Rattle.std.specs.Prelude.{ℕ, ◌≡◌, ◌≤◌, ◌+◌, false, List, length, None, IsTrue}
 use Rattle.bq_job.specs.Profile.{Profile}
 use Rattle.bq_job.specs.SoFar.{is_step_so_far}
-use Rattle.bq_seat.specs.InTurn.{IsInTurn, wanted}
+use Rattle.bq_job.specs.LineSteps.{wanted}
+use Rattle.bq_seat.specs.InTurn.{IsInTurn}
 use Rattle.bq_seat.specs.Past.{Past}
 use Rattle.bq_seat.specs.Served.{IsServed}
 use Rattle.bq_seat.specs.declared.machine.Action.{Action}

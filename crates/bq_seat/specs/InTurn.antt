@@ -4,14 +4,8 @@ use Rattle.bq_job.specs.declared.answer.Answer.{Answer}
 use Rattle.bq_job.specs.declared.request.Request.{Request}
 use Rattle.bq_job.specs.declared.step.Step.{Step}
 use Rattle.bq_job.specs.declared.step.Step.TheVariants as steps
-use Rattle.bq_job.specs.OneClient.{answers_wanted}
+use Rattle.bq_job.specs.LineSteps.{wanted}
 use Rattle.bq_seat.specs.SeatStands.{end_if, has_quit}
-
--- how many answers these steps want
-abbrev pub wanted : List Step → ℕ
-wanted [] = 0
-wanted (steps.Ask request ∷ taken) = answers_wanted request + wanted taken
-wanted (step ∷ taken) = wanted taken
 
 -- a client that has connected and asked these requests, none of them quit
 pub record HasAsked (asked : List Request) (taken : List Step) : Type 0 where
