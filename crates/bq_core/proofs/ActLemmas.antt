@@ -1,5 +1,6 @@
 -- What each event at a seat does, where its seat is known.
 use Rattle.std.proofs.Common.{◌≡◌, ℕ, suc, Bool, true, false, ◌+◌, ◌≤◌, ◌<◌, ◌&&◌, ◌||◌, ◌==◌, not, List, [], ◌∷◌, ◌++◌, Option, Some, None, map, filter, refl, sym, ap, ◌∙◌, if◌then◌else◌, nat_eq, nat_le, unwrap_or, arith, inl, inr, eq-eqb, subst, append-nil, ◌⊎◌, length, set, slice_get, zero}
+use Rattle.std.proofs.Math.Bool.{or-false, or-true}
 use Rattle.std.specs.List.{find, list_any}
 use Rattle.std.proofs.lemmas.Bool.{and_parts, cases_Bool, eqb-true}
 use Rattle.bq_job.specs.declared.answer.Answer.{Answer}
@@ -138,10 +139,6 @@ asker_connected seat seats s found asking =
     let here : (s.connected && not (is_waiting s)) ≡ true = rw found at asking in
     (and_parts s.connected (not (is_waiting s)) here).0
 
-or_false : (b : Bool) → b ≡ (b || false)
-or_false true = refl
-or_false false = refl
-
 pub acts_silent : (m : Machine) (seat : ℕ) (what : Step) (outs : Outbox) (last : Machine) → effect m seat what ≡ record { machine = last; answer = None } → Acts m seat what outs outs last
 acts_silent m seat what outs last is = record {
   memory = granted;
@@ -149,8 +146,8 @@ acts_silent m seat what outs last is = record {
   after = sym (ap (λ e. e.machine) is);
   added = rw (ap (λ e. e.answer) is) (sym (append-nil outs.given));
   most = refl;
-  left_out = or_false outs.left_out;
-  unshared = or_false outs.unshared;
+  left_out = sym (or-false outs.left_out);
+  unshared = sym (or-false outs.unshared);
 }
 
 pub acts_told : (m : Machine) (seat : ℕ) (what : Step) (answer : Answer) (old new : Outbox) (last : Machine) → effect m seat what ≡ record { machine = last; answer = Some answer } → new ≡ record old { given = old.given ++ (seat, answer) ∷ [] } → Acts m seat what old new last
@@ -160,8 +157,8 @@ acts_told m seat what answer old new last is adds = record {
   after = sym (ap (λ e. e.machine) is);
   added = rw (ap (λ e. e.answer) is) (ap (λ o. o.given) adds);
   most = ap (λ o. o.most) adds;
-  left_out = ap (λ o. o.left_out) adds ∙ or_false old.left_out;
-  unshared = ap (λ o. o.unshared) adds ∙ or_false old.unshared;
+  left_out = ap (λ o. o.left_out) adds ∙ sym (or-false old.left_out);
+  unshared = ap (λ o. o.unshared) adds ∙ sym (or-false old.unshared);
 }
 
 -- a share was refused
@@ -172,10 +169,6 @@ acts_unshared m seat what old new last is adds = record {
   after = is.0;
   added = ap (λ o. o.given) adds;
   most = ap (λ o. o.most) adds;
-  left_out = ap (λ o. o.left_out) adds ∙ or_false old.left_out;
-  unshared = ap (λ o. o.unshared) adds ∙ or_true old.unshared;
+  left_out = ap (λ o. o.left_out) adds ∙ sym (or-false old.left_out);
+  unshared = ap (λ o. o.unshared) adds ∙ sym (or-true old.unshared);
 }
-  where
-    or_true : (b : Bool) → true ≡ (b || true)
-    or_true true = refl
-    or_true false = refl

@@ -1,5 +1,6 @@
 -- What changes of the state keep.
 use Rattle.std.proofs.Common.{◌≡◌, ℕ, zero, suc, Bool, true, false, ◌&&◌, ◌||◌, ◌==◌, not, List, [], ◌∷◌, ◌++◌, Option, Some, None, is_some, map, refl, sym, ap, ◌∙◌, if◌then◌else◌, subst, inl, inr, length, ◌≤◌, ◌<◌, ◌+◌, arith, cond, set, slice_get}
+use Rattle.std.proofs.Math.Bool.{and-false}
 use Rattle.std.proofs.lemmas.Bool.Decides.{nat_tests}
 use Rattle.std.proofs.lemmas.List.{length-map}
 use Rattle.std.specs.Prelude.{filter, find}
@@ -144,14 +145,10 @@ raised_some n = omega arith
 not_zero : (n : ℕ) → (1 ≤ n) → (n == 0) ≡ false
 not_zero n h = grind (arith, nat_tests)
 
-and_false : (b : Bool) → (b && false) ≡ false
-and_false true = refl
-and_false false = refl
-
 pub tube_counts : (what : TubeChange) (t : TubeRecord) → is_counted (tube_changed what t) ≡ true
 tube_counts CountPut t = rw (not_zero (raised t.puts) (raised_some t.puts)) refl
-tube_counts CountDelete t = rw (not_zero (raised t.deletes) (raised_some t.deletes), and_false (t.puts == 0)) refl
-tube_counts (Pause seconds moment) t = rw (not_zero (raised t.pauses) (raised_some t.pauses), and_false (t.puts == 0 && t.deletes == 0)) refl
+tube_counts CountDelete t = rw (not_zero (raised t.deletes) (raised_some t.deletes), and-false (t.puts == 0)) refl
+tube_counts (Pause seconds moment) t = rw (not_zero (raised t.pauses) (raised_some t.pauses), and-false (t.puts == 0 && t.deletes == 0)) refl
 
 name_kept_at : (name : List ℕ) (what : TubeChange) (t : TubeRecord) → (tube_changed_at name what t).name ≡ t.name
 name_kept_at name what t = go (is_same_name name t.name)

@@ -1,5 +1,6 @@
 -- A whole step out of its parts.
 use Rattle.std.proofs.Common.{◌≡◌, ℕ, zero, suc, Bool, true, false, ◌+◌, ◌≤◌, ◌<◌, ◌&&◌, ◌||◌, ◌==◌, List, [], ◌∷◌, ◌++◌, map, length, refl, sym, ap, ◌∙◌, subst, if◌then◌else◌, arith, add-one, None, inl, inr}
+use Rattle.std.proofs.Math.Bool.{or-false}
 use Rattle.std.specs.Prelude.{filter}
 use Rattle.std.proofs.lemmas.List.{length-append, map-append}
 use Rattle.std.proofs.lemmas.List.Sums.{count_by-le-length}
@@ -161,14 +162,10 @@ serves_into first between last old middle new d dispatched w ended none =
       added = w.added ∙ ap (λ given. given ++ w.given) d.added;
       most = w.most ∙ d.most;
       left_out = w.left_out ∙ d.left_out;
-      unshared = w.unshared ∙ or_false middle.unshared ∙ d.unshared;
+      unshared = w.unshared ∙ or-false middle.unshared ∙ d.unshared;
       tubes = last_none;
       room = λ more h. room_kept WaitEndTurn none_refused more (machine_of between) (machine_of last) middle new w (room_kept DispatchTurn has_refused_share more (machine_of first) (machine_of between) old middle d h);
     }
-  where
-    or_false : (b : Bool) → (b || false) ≡ b
-    or_false true = refl
-    or_false false = refl
 
 begins : (first fired : State) (at : ℕ) → IsLawful (machine_of first) → machine_of fired ≡ after_timers (at_moment at (machine_of first)) → forgetting (after_timers (at_moment at (machine_of first))) ≡ machine_of fired
 begins first fired at lawful fires = nothing_forgotten (after_timers (at_moment at (machine_of first))) (timers_alike at (machine_of first) lawful.tubes) ∙ sym fires

@@ -1,5 +1,6 @@
 -- What is kept of tubes: the entries and the machine's records of them.
 use Rattle.std.proofs.Common.{◌≡◌, ℕ, zero, suc, Bool, true, false, ◌&&◌, ◌||◌, ◌==◌, not, List, [], ◌∷◌, ◌++◌, Option, Some, None, is_some, map, refl, sym, ap, ◌∙◌, if◌then◌else◌, subst, inl, inr, length, ◌≤◌, ◌<◌, ◌⊎◌, ◌+◌, arith, cond}
+use Rattle.std.proofs.Math.Bool.{or-false, or-true}
 use Rattle.std.specs.Prelude.{filter, find, unwrap_or}
 use Rattle.std.specs.List.{AllByRecursion as All, insert, list_any, position, position_or_len, prefix_len}
 use Rattle.std.specs.Cmp.Lexicographic.{bytes_decides}
@@ -84,11 +85,7 @@ paused_at : (name : List ℕ) (t : TubeRecord) (entries : List TubeRecord) (same
 paused_at name t entries true true e k fresh later rest =
     let is : name ≡ t.name = same_name name t.name e in
     let none : has_entry name entries ≡ false = ap (λ n. has_entry n entries) is ∙ none_later t.name entries later in
-    rw (k, e, no_pause_there name entries none) (or_false (is_some t.pause))
-  where
-    or_false : (b : Bool) → b ≡ (b || false)
-    or_false true = refl
-    or_false false = refl
+    rw (k, e, no_pause_there name entries none) (sym (or-false (is_some t.pause)))
 paused_at name t entries true false e k fresh later rest =
     let is : name ≡ t.name = same_name name t.name e in
     let none : has_entry name entries ≡ false = ap (λ n. has_entry n entries) is ∙ none_later t.name entries later in
@@ -219,12 +216,8 @@ entry_filtered p name passes (t ∷ entries) h =
       | inr more ↦ go (p t) (entry_filtered p name passes entries more)
     ]
   where
-    or_true : (b : Bool) → (b || true) ≡ true
-    or_true true = refl
-    or_true false = refl
-
     go : (b : Bool) → has_entry name (filter p entries) ≡ true → has_entry name (if b then t ∷ filter p entries else filter p entries) ≡ true
-    go true rest = rw rest (or_true (is_same_name name t.name))
+    go true rest = rw rest (or-true (is_same_name name t.name))
     go false rest = rest
 
 one_more : (n : ℕ) → 1 + n ≡ suc n
@@ -322,14 +315,10 @@ pub has_inserted : (x : TubeRecord) (entries : List TubeRecord) → has_entry x.
 has_inserted x [] = rw (same_itself x.name) refl
 has_inserted x (t ∷ entries) = go (is_same_name x.name t.name) (is_name_before x.name t.name) (has_inserted x entries)
   where
-    or_true : (b : Bool) → (b || true) ≡ true
-    or_true true = refl
-    or_true false = refl
-
     go : (same before : Bool) → has_entry x.name (with_record x entries) ≡ true → has_entry x.name (if same then x ∷ entries else (if before then x ∷ t ∷ entries else t ∷ with_record x entries)) ≡ true
     go true before rest = rw (same_itself x.name) refl
     go false true rest = rw (same_itself x.name) refl
-    go false false rest = rw rest (or_true (is_same_name x.name t.name))
+    go false false rest = rw rest (or-true (is_same_name x.name t.name))
 
 pub still_has : (x : TubeRecord) (name : List ℕ) (entries : List TubeRecord) → has_entry x.name entries ≡ false → has_entry name entries ≡ true → has_entry name (with_record x entries) ≡ true
 still_has x name [] none h = absurd cc
@@ -337,15 +326,11 @@ still_has x name (t ∷ entries) none h =
     let parts = head_differs (is_same_name x.name t.name) (has_entry x.name entries) none in
     rw parts.0 (go (is_name_before x.name t.name) (λ more. still_has x name entries parts.1 more))
   where
-    or_true : (b : Bool) → (b || true) ≡ true
-    or_true true = refl
-    or_true false = refl
-
     go : (b : Bool) → (has_entry name entries ≡ true → has_entry name (with_record x entries) ≡ true) → has_entry name (if b then x ∷ t ∷ entries else t ∷ with_record x entries) ≡ true
-    go true rest = ap (λ b. is_same_name name x.name || b) h ∙ or_true (is_same_name name x.name)
+    go true rest = ap (λ b. is_same_name name x.name || b) h ∙ or-true (is_same_name name x.name)
     go false rest = elim (or_cases (is_same_name name t.name) (has_entry name entries) h) [
       | inl same ↦ rw same refl
-      | inr more ↦ ap (λ b. is_same_name name t.name || b) (rest more) ∙ or_true (is_same_name name t.name)
+      | inr more ↦ ap (λ b. is_same_name name t.name || b) (rest more) ∙ or-true (is_same_name name t.name)
     ]
 
 pub provided_new : (name : List ℕ) (entries : List TubeRecord) → has_entry name entries ≡ false → insert entries (prefix_len (λ t. is_name_before t.name name) entries) (fresh_tube name) ≡ provided name entries

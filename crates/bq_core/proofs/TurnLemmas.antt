@@ -1,5 +1,6 @@
 -- A turn of dispatch or of the ends of waits, and chains of them.
 use Rattle.std.proofs.Common.{◌≡◌, ℕ, Bool, true, false, ◌+◌, ◌<◌, ◌≤◌, ◌||◌, List, [], ◌∷◌, ◌++◌, Option, Some, None, length, refl, sym, ap, ◌∙◌, arith, slice_get, append_assoc, append-nil, get_or, inl, inr}
+use Rattle.std.proofs.Math.Bool.{or-false, or-true}
 use Rattle.std.proofs.lemmas.Option.{slice_get-get_or, slice_get_read}
 use Rattle.std.proofs.lemmas.List.{length-append}
 use Rattle.std.specs.List.{Contains, list_any}
@@ -33,10 +34,6 @@ pub some_at : {A : Type 0} (xs : List A) (i : ℕ) → i < length xs → (x : A)
 some_at [] i h = absurd (omega arith)
 some_at (x ∷ xs) i h = (get_or (x ∷ xs) i x, slice_get-get_or (x ∷ xs) i x h)
 
-or_false : (b : Bool) → (b || false) ≡ b
-or_false true = refl
-or_false false = refl
-
 -- one turn is a chain of turns
 one_turn : (m next : Machine) (old new : Outbox) (j : Job) (s : SeatRecord) → next_job m ≡ Some j → next_seat m j ≡ Some s → Contains m.seats s → is_waiting s ≡ true → AddsHandOut m j s old new next → Gives DispatchTurn has_refused_share m next old new
 one_turn m next old new j s job seat here waits adds =
@@ -48,7 +45,7 @@ one_turn m next old new j s job seat here waits adds =
       added = ap (λ o. o.given) adds.added;
       most = ap (λ o. o.most) adds.added;
       left_out = ap (λ o. o.left_out) adds.added;
-      unshared = ap (λ o. o.unshared) adds.added ∙ ap (λ b. old.unshared || b) (sym (or_false (is_out_of_memory g.1)));
+      unshared = ap (λ o. o.unshared) adds.added ∙ ap (λ b. old.unshared || b) (sym (or-false (is_out_of_memory g.1)));
       taken = omega (arith, hand_out_falls m j s g next here waits adds.hand_out);
     }
 
@@ -125,7 +122,7 @@ gives_nothing Turn refused none m o = record {
   added = sym (append-nil o.given);
   most = refl;
   left_out = refl;
-  unshared = sym (ap (λ b. o.unshared || b) none ∙ or_false o.unshared);
+  unshared = sym (ap (λ b. o.unshared || b) none ∙ or-false o.unshared);
   taken = omega arith;
 }
 
@@ -161,7 +158,7 @@ one_end m next old new s is here waits adds =
       added = ap (λ o. o.given) adds.added;
       most = ap (λ o. o.most) adds.added;
       left_out = ap (λ o. o.left_out) adds.added;
-      unshared = ap (λ o. o.unshared) adds.added ∙ sym (or_false old.unshared);
+      unshared = ap (λ o. o.unshared) adds.added ∙ sym (or-false old.unshared);
       taken = rw adds.ended (omega (arith, waiting_falls m s here waits));
     }
 
@@ -205,7 +202,7 @@ shared_given m last i k number j y s t body old new job_there job_read job seat_
           ∙ ap (λ a. record old { given = old.given ++ (a, answers.Reserved y.id body) ∷ [] }) n
           ∙ ap (λ a. record old { given = old.given ++ (s.number, answers.Reserved a body) ∷ [] }) i
           ∙ ap (λ a. record old { given = old.given ++ (s.number, answers.Reserved j.id a) ∷ [] }) b
-          ∙ ap (λ u. record old { given = old.given ++ (s.number, answers.Reserved j.id j.body) ∷ []; unshared = u }) (sym (or_false old.unshared));
+          ∙ ap (λ u. record old { given = old.given ++ (s.number, answers.Reserved j.id j.body) ∷ []; unshared = u }) (sym (or-false old.unshared));
     }
 
 pub refused_given : (m last : Machine) (k number : ℕ) (j : Job) (s t : SeatRecord) (old new : Outbox) → k < length m.seats → t ≡ get_or m.seats k t → slice_get m.seats k ≡ Some s → number ≡ t.number → last ≡ with_seat number without_wait m → new ≡ record old { given = old.given ++ (number, answers.OutOfMemory) ∷ []; unshared = true } → AddsHandOut m j s old new last
@@ -218,12 +215,8 @@ refused_given m last k number j s t old new seat_there seat_read seat number_is 
       added =
           told
           ∙ ap (λ a. record old { given = old.given ++ (a, answers.OutOfMemory) ∷ []; unshared = true }) n
-          ∙ ap (λ u. record old { given = old.given ++ (s.number, answers.OutOfMemory) ∷ []; unshared = u }) (sym (or_true old.unshared));
+          ∙ ap (λ u. record old { given = old.given ++ (s.number, answers.OutOfMemory) ∷ []; unshared = u }) (sym (or-true old.unshared));
     }
-  where
-    or_true : (b : Bool) → (b || true) ≡ true
-    or_true true = refl
-    or_true false = refl
 
 pub ended_given : (m last : Machine) (k number : ℕ) (s t : SeatRecord) (answer : Answer) (old new : Outbox) → k < length m.seats → t ≡ get_or m.seats k t → slice_get m.seats k ≡ Some s → number ≡ t.number → (number ≡ s.number → answer ≡ end_of_wait m s) → last ≡ with_seat number without_wait m → new ≡ record old { given = old.given ++ (number, answer) ∷ [] } → AddsWaitEnd m s old new last
 ended_given m last k number s t answer old new seat_there seat_read seat number_is answer_is after told =
