@@ -6,7 +6,6 @@ mod answer_write;
 mod client;
 mod desk;
 mod desk_seat;
-mod joined;
 mod link;
 mod mail;
 mod one;

@@ -1,119 +1,74 @@
-ghost use Rattle.std.specs.Prelude.{◌≡◌, ◌+◌, ◌≤◌, [], ◌++◌, length, codes, decimal};
+ghost use Rattle.std.specs.Prelude.{◌≡◌, ◌+◌, ◌≤◌, ◌++◌, length, codes, decimal};
 ghost use Rattle.bq_job.specs.AnswerText as spec;
 ghost use Rattle.bq_job.specs.Line.{line_end};
 
+use crate::bytes::push_bytes;
+use arrayvec::ArrayVec;
 use bq_job::Answer;
 use itoa::Buffer;
-use std::marker::Model;
 
 /// How many bytes the head of an answer has at most.
 const HEAD_ROOM: usize = 256;
 
-/// Room for the head of an answer, in a fixed array. Contracts see it as the bytes that it holds.
-#[derive(Debug, Drop)]
-pub struct HeadBuf {
-    bytes: [u8; HEAD_ROOM],
-    len: usize,
-}
+/// Room for the head of an answer, in a fixed array. Contracts see what it holds as its items.
+pub type HeadBuf = ArrayVec<u8, HEAD_ROOM>;
 
-impl Model for HeadBuf {
-    ghost use Rattle.std.specs.Prelude.{List, ℕ, ◌≤◌, take};
-
-    ghost Value = { List ℕ };
-
-    ghost view = { λ b. take b.len b.bytes };
-
-    ghost invariant = { λ b. b.len ≤ 256 };
-}
-
-impl HeadBuf {
-    /// Room that holds nothing yet.
-    pub fn new() -> HeadBuf
-        ensures { result ≡ [] }
-    {
-        HeadBuf {
-            bytes: [0; HEAD_ROOM],
-            len: 0,
-        }
-    }
-
-    pub fn as_slice(&self) -> &[u8]
-        ensures { result.now ≡ self.now }
-    {
-        &self.bytes[..self.len]
-    }
-
-    fn clear(&mut self)
-        ensures { self.new ≡ [] }
-    {
-        self.len = 0;
-    }
-
-    fn push(&mut self, more: &[u8])
-        requires { length self.old + length more.now ≤ 256 }
-        ensures { self.new ≡ self.old ++ more.now }
-    {
-        let end = self.len + more.len();
-        self.bytes[self.len..end].copy_from_slice(more);
-        self.len = end;
-    }
-
-    fn push_number(&mut self, n: u64)
-        requires { length self.old + 20 ≤ 256 }
-        ensures text { self.new ≡ self.old ++ decimal n }
-        ensures short { length self.new ≤ length self.old + 20 }
-    {
-        let mut digits = Buffer::new();
-        self.push(digits.format(n).as_bytes());
-    }
+// The digits of a number, behind what the head holds.
+fn push_number(head: &mut HeadBuf, n: u64)
+    requires { length head.old.items + 20 ≤ 256 }
+    ensures text { head.new.items ≡ head.old.items ++ decimal n }
+    ensures short { length head.new.items ≤ length head.old.items + 20 }
+{
+    let mut digits = Buffer::new();
+    push_bytes(head, digits.format(n).as_bytes());
 }
 
 // A word, a number and the end of the line.
 fn number_head(head: &mut HeadBuf, word: &[u8], n: u64)
     requires { length word.now ≤ 16 }
-    ensures { head.new ≡ word.now ++ decimal n ++ line_end }
+    ensures { head.new.items ≡ word.now ++ decimal n ++ line_end }
 {
     head.clear();
-    head.push(word);
-    head.push_number(n);
-    head.push(b"\r\n");
+    push_bytes(head, word);
+    push_number(head, n);
+    push_bytes(head, b"\r\n");
 }
 
 // A word, the id of a job, how many bytes its body has, and the end of the line.
 fn job_head(head: &mut HeadBuf, word: &[u8], id: u64, size: usize)
     requires { length word.now ≤ 16 }
-    ensures { head.new ≡ word.now ++ decimal id ++ codes " " ++ decimal size ++ line_end }
+    ensures { head.new.items ≡ word.now ++ decimal id ++ codes " " ++ decimal size ++ line_end }
 {
     head.clear();
-    head.push(word);
-    head.push_number(id);
-    head.push(b" ");
-    head.push_number(size as u64);
-    head.push(b"\r\n");
+    push_bytes(head, word);
+    push_number(head, id);
+    push_bytes(head, b" ");
+    push_number(head, size as u64);
+    push_bytes(head, b"\r\n");
 }
 
 // A word and the end of the line, which the word brings with it.
 fn word_head(head: &mut HeadBuf, line: &[u8])
     requires { length line.now ≤ 256 }
-    ensures { head.new ≡ line.now }
+    ensures { head.new.items ≡ line.now }
 {
     head.clear();
-    head.push(line);
+    push_bytes(head, line);
 }
 
 fn using_head(head: &mut HeadBuf, tube: &[u8])
     requires { length tube.now ≤ 200 }
-    ensures { head.new ≡ codes "USING " ++ tube.now ++ line_end }
+    ensures { head.new.items ≡ codes "USING " ++ tube.now ++ line_end }
 {
     head.clear();
-    head.push(b"USING ");
-    head.push(tube);
-    head.push(b"\r\n");
+    push_bytes(head, b"USING ");
+    push_bytes(head, tube);
+    push_bytes(head, b"\r\n");
 }
 
 /// Makes `head` hold the head of the answer alone. Takes no memory.
 pub fn answer_head(answer: &Answer, head: &mut HeadBuf)
-    ensures { head.new ≡ spec.answer_head answer.now }
+    ensures { head.new.items ≡ spec.answer_head answer.now }
 {
     match answer {
         Answer::Inserted(id) => number_head(head, b"INSERTED ", *id),

@@ -2,10 +2,13 @@ ghost use Rattle.std.specs.Prelude.{◌≡◌, ◌≤◌, ◌+◌, ◌++◌, tru
 ghost use Rattle.bq_job.specs.AnswerText.{answer_text};
 ghost use Rattle.bq_serve.specs.Writing.{Writes};
 
-use super::joined::{JOINED_ROOM, Joined};
 use crate::line::Line;
+use arrayvec::ArrayVec;
 use bq_job::Answer;
-use bq_wire::{HeadBuf, answer_body, answer_head, answer_tail};
+use bq_wire::{HeadBuf, answer_body, answer_head, answer_tail, push_bytes};
+
+/// How many bytes a text has at most, whose parts are joined to go out in one write.
+const JOINED_ROOM: usize = 4096;
 
 /// How many bytes the head and the tail of an answer have at most, where they are joined.
 const END_ROOM: usize = 256;
@@ -50,10 +53,10 @@ fn write_joined<L: Line>(line: &mut L, head: &[u8], body: &[u8], tail: &[u8]) ->
     requires { length head.now + length body.now + length tail.now ≤ 4096 }
     ensures { Writes (head.now ++ body.now ++ tail.now) (L.seen line.old) (L.seen line.new) result }
 {
-    let mut joined = Joined::new();
-    joined.push(head);
-    joined.push(body);
-    joined.push(tail);
+    let mut joined: ArrayVec<u8, JOINED_ROOM> = ArrayVec::new();
+    push_bytes(&mut joined, head);
+    push_bytes(&mut joined, body);
+    push_bytes(&mut joined, tail);
     write_all(line, joined.as_slice())
 }
 
