@@ -1,5 +1,6 @@
 -- Names in byte order, and the tubes that are listed.
 use Rattle.std.proofs.Common.{◌≡◌, ℕ, Bool, true, false, ◌&&◌, ◌||◌, if◌then◌else◌, List, [], ◌∷◌, ◌++◌, refl, sym, ap, ◌∙◌, map, append_assoc, append-nil}
+use Rattle.std.proofs.Math.Bool.{or-false}
 use Rattle.std.specs.Prelude.{fold, flat_map}
 use Rattle.std.specs.List.{AllByRecursion as All, list_any}
 use Rattle.std.specs.Cmp.Lexicographic.{slice_cmp, bytes_decides}
@@ -118,10 +119,6 @@ or_twice : (a c : Bool) → (a || c) ≡ (a || (a || c))
 or_twice true c = refl
 or_twice false c = refl
 
-or_false : (a : Bool) → (a || false) ≡ a
-or_false true = refl
-or_false false = refl
-
 or_middle : (a b c : Bool) → ((a || b) || c) ≡ (b || (a || c))
 or_middle true true c = refl
 or_middle true false c = refl
@@ -144,7 +141,7 @@ any_with p n (o ∷ names) = go (any_with p n names) (is_same_name n o) (is_name
     go more false false e = ap (λ b. p o || b) more ∙ or_swap (p o) (p n) (list_any p names)
 
 any_fold : (p : List ℕ → Bool) (names so_far : List (List ℕ)) → list_any p (fold with_name so_far names) ≡ (list_any p so_far || list_any p names)
-any_fold p [] so_far = sym (or_false (list_any p so_far))
+any_fold p [] so_far = sym (or-false (list_any p so_far))
 any_fold p (n ∷ names) so_far =
     any_fold p names (with_name so_far n) ∙ ap (λ b. b || list_any p names) (any_with p n so_far) ∙ or_middle (p n) (list_any p so_far) (list_any p names)
 
