@@ -1,5 +1,6 @@
 -- A move by the machine's fields is a move: what the pasts that it stands for find.
 use Rattle.std.proofs.Common.{◌≡◌, ◌≤◌, ◌+◌, Bool, true, false, ◌||◌, List, [], ◌∷◌, ◌++◌, Some, None, is_some, map, length, inl, inr, refl, sym, ap, ◌∙◌, arith, subst, append_assoc, ℕ, if◌then◌else◌}
+use Rattle.std.proofs.Math.Bool.{or-false}
 use Rattle.bq_job.specs.declared.answer.Answer.{Answer}
 use Rattle.bq_job.specs.declared.line_end.LineFault.{LineFault}
 use Rattle.bq_job.specs.declared.step.Step.{Step}
@@ -92,11 +93,7 @@ none_of_both true b e = cc
 none_of_both false b e = refl
 
 closes_joined : (taken : List Step) (step : Step) → has_close (taken ++ step ∷ []) ≡ (has_close taken || is_close step)
-closes_joined [] step = or_false (is_close step)
-  where
-    or_false : (b : Bool) → (b || false) ≡ b
-    or_false true = refl
-    or_false false = refl
+closes_joined [] step = or-false (is_close step)
 closes_joined (s ∷ taken) step = ap (λ b. is_close s || b) (closes_joined taken step) ∙ or_assoc (is_close s) (has_close taken) (is_close step)
   where
     or_assoc : (a b c : Bool) → (a || (b || c)) ≡ ((a || b) || c)

@@ -1,5 +1,6 @@
 -- What happens to a line that is open.
 use Rattle.std.proofs.Common.{◌≡◌, ℕ, ◌<◌, Bool, true, false, ◌||◌, if◌then◌else◌, is_some, List, [], ◌∷◌, ◌++◌, ◌⊎◌, inl, inr, Option, Some, None, refl, sym, ap, subst, ◌∙◌, append_assoc, append-nil, map, length, arith, length-append, take, drop, take-append-drop}
+use Rattle.std.proofs.Math.Bool.{or-true}
 use Rattle.bq_job.specs.declared.answer.Answer.{Answer}
 use Rattle.bq_job.specs.declared.answer.Answer.TheVariants.{Closed}
 use Rattle.bq_job.specs.declared.line_end.LineEnd.{LineEnd}
@@ -23,10 +24,6 @@ use Rattle.bq_seat.specs.declared.machine.Action.TheVariants as actions
 use Rattle.bq_seat.specs.declared.machine.Stage.TheVariants as stages
 use Rattle.bq_seat.proofs.ReadingLemmas.{BeginsNoUnit-[], AreUnits-append, one_unit, Reads-after, Reads-begun, Reads-quit, ends_by_quit-append, neither}
 use Rattle.bq_seat.proofs.StepLemmas.{answered_count-asked, answered_count-quit, ends_by_wait-asked, has_quit-asked, map-asked, no_quit_last, some_asked}
-
-pub or_true : (b : Bool) → (b || true) ≡ true
-or_true true = refl
-or_true false = refl
 
 -- a line is opened
 pub opened : (r : State) → Stands r [] → StandsInStage stages.Connecting r [] false first_past
@@ -186,7 +183,7 @@ quits r next kept n p o same unit =
           broken = tt;
           fault = o.handed.fault_is;
         };
-        closing_is = or_true (p.closing || false);
+        closing_is = or-true (p.closing || false);
         unclosed = ap has_closed o.handed.late_is;
       },
       record {
@@ -238,7 +235,7 @@ served_at_end r kept told ended p o none e written = record {
 -- The line is closed: nothing came behind the close yet.
 closed : (profile : Profile) (end : LineEnd) (p : Past) → p.late_mail ≡ [] → ((written : List ℕ) → IsServedToClose profile written end (with_action (actions.Submit steps.Close) p))
     → IsClosing profile end (with_action (actions.Submit steps.Close) p)
-closed profile end p none served = record { served = served; closing_is = or_true p.closing; unclosed = ap has_closed none }
+closed profile end p none served = record { served = served; closing_is = or-true p.closing; unclosed = ap has_closed none }
 
 pub ends_line : (r : State) (kept : List ℕ) (told ended : Bool) (p : Past) → IsOpen r kept told 0 p → kept ≡ [] → ended ≡ true
     → IsClosing (profile_of r) ends.EndOfInput (with_action (actions.Submit steps.Close) (record p { ended = ended }))
