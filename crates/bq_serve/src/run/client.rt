@@ -10,13 +10,17 @@ use crate::line::{Line, is_nothing_yet};
 use bq_job::Answer;
 use bq_seat::{Action, Event, PIECE_ROOM, SeatMachine};
 
+/// Room for one read of a line. It is made once a run, since a new one would be filled with zeros first.
+pub type Room = [u8; PIECE_ROOM];
+
 /// Carries out one action of a seat's machine, and says what the machine does next. Where a line is over,
-/// nothing is done.
+/// nothing is done. What lies in the room before and after has no meaning.
 pub fn carry_out<L: Line, K: Link>(
     machine: &mut SeatMachine,
     action: Action,
     line: &mut L,
     link: &mut K,
+    room: &mut Room,
 ) -> Action
     requires built { IsBuilt action }
     requires ready { K.is_ready link.old }
@@ -28,7 +32,7 @@ pub fn carry_out<L: Line, K: Link>(
             Ok(()) => machine.on(Event::Submitted),
             Err(step) => Action::Submit(step),
         },
-        Action::Read => read(machine, line),
+        Action::Read => read(machine, line, room),
         Action::PollMail => match link.mail() {
             Some(answer) => machine.on(Event::Mail(answer)),
             None => machine.on(Event::NothingYet),
@@ -39,11 +43,10 @@ pub fn carry_out<L: Line, K: Link>(
     }
 }
 
-fn read<L: Line>(machine: &mut SeatMachine, line: &mut L) -> Action
+fn read<L: Line>(machine: &mut SeatMachine, line: &mut L, room: &mut Room) -> Action
     ensures { Carried machine.old (L.seen line.old) Action.Read machine.new (L.seen line.new) result [] [] }
 {
-    let mut room = [0; PIECE_ROOM];
-    match line.read(&mut room) {
+    match line.read(room) {
         Ok(0) => machine.on(Event::EndOfInput),
         Ok(count) => machine.on(Event::Bytes(&room[..count])),
         Err(e) => {

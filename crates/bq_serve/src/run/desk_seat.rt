@@ -6,7 +6,7 @@ ghost use Rattle.bq_serve.specs.Carried.{Carried, IsBuilt};
 ghost use Rattle.bq_serve.specs.DeskOf.{WentAt, state_of};
 ghost use Rattle.bq_serve.specs.DeskState.{HasMails};
 
-use super::client::carry_out;
+use super::client::{Room, carry_out};
 use super::desk::Desk;
 use super::link::Link;
 use crate::clock::Clock;
@@ -43,6 +43,7 @@ pub fn act<L: Line, C: Clock + Drop>(
     line: &mut L,
     desk: &mut Desk<C>,
     seat: Seat,
+    room: &mut Room,
 ) -> Action
     requires built { IsBuilt action }
     requires mails { HasMails (state_of desk.old) }
@@ -51,5 +52,5 @@ pub fn act<L: Line, C: Clock + Drop>(
     ensures carried { (submitted : List Step) × (taken : List Answer) × WentAt C.given seat desk.old submitted taken desk.new × Carried machine.old (L.seen line.old) action machine.new (L.seen line.new) result submitted taken }
 {
     let mut link = DeskSeat { desk, seat };
-    carry_out(machine, action, line, &mut link)
+    carry_out(machine, action, line, &mut link, room)
 }

@@ -4,6 +4,7 @@ ghost use Rattle.bq_job.specs.Headline.{IsHistoryOfLine};
 ghost use Rattle.bq_serve.specs.LineCalls.{new_line};
 ghost use Rattle.bq_serve.specs.RunSettings.{is_lone, profile_so_far};
 
+use super::client::Room;
 use super::desk::Desk;
 use super::desk_seat::act;
 use crate::RunFault;
@@ -11,7 +12,7 @@ use crate::clock::Clock;
 use crate::line::Line;
 use bq_core::Config;
 use bq_job::{LineEnd, Seat, line_joins};
-use bq_seat::{Action, Event, SeatMachine};
+use bq_seat::{Action, Event, PIECE_ROOM, SeatMachine};
 use std::alloc::Global;
 use std::sync::Wait;
 use std::thread::Parker;
@@ -59,6 +60,7 @@ pub fn run_one<R: Wait, L: Line + Drop, C: Clock + Drop>(
         return Err(RunFault::NoMemory);
     };
     let bell = Parker::new();
+    let room: &mut Room = &mut [0; PIECE_ROOM];
     let mut action = machine.on(Event::Opened);
     for _ in rt.forever() {
         match action {
@@ -72,7 +74,7 @@ pub fn run_one<R: Wait, L: Line + Drop, C: Clock + Drop>(
             }
             other => {
                 let looked = is_look(&other);
-                action = act(&mut machine, other, &mut line, &mut desk, ONLY_SEAT);
+                action = act(&mut machine, other, &mut line, &mut desk, ONLY_SEAT, room);
                 rest_between_looks(rt, &bell, looked, &action);
             }
         }
