@@ -143,6 +143,11 @@ fn worked_rows(rt: HostRuntime) -> Result<(), Fail> {
         plain(65535, "quit~reserve~", "quit;"),
         plain(
             65535,
+            "PUT~put 1~use -a~peek 4294967296~",
+            "101;102;102;peek 4294967296;",
+        ),
+        plain(
+            65535,
             "PUT~put 1~delete -1~delete +1~delete~put 0 0 1 0~~",
             "101;102;102;102;102;put 0 0 1 [];",
         ),
@@ -161,6 +166,16 @@ fn long_rows(rt: HostRuntime) -> Result<(), Fail> {
         filled("", b'z', 222, "~", "101;"),
         filled("", b'z', 223, "~", "102;"),
         filled("", b'z', 223, "^~reserve~", "102;reserve;"),
+        filled("peek ", b'0', 216, "1~", "peek 1;"),
+        filled("peek ", b'0', 217, "1~", "102;"),
+        filled(
+            "use ",
+            b'a',
+            200,
+            "~",
+            "use aaaaaaaaaaaaaaaaaaaaaaaaaaaaaaaaaaaaaaaaaaaaaaaaaaaaaaaaaaaaaaaaaaaaaaaaaaaaaaaaaaaaaaaaaaaaaaaaaaaaaaaaaaaaaaaaaaaaaaaaaaaaaaaaaaaaaaaaaaaaaaaaaaaaaaaaaaaaaaaaaaaaaaaaaaaaaaaaaaaaaaaaaaaaaaaaaaaaaaaa;",
+        ),
+        filled("use ", b'a', 201, "~", "102;"),
         filled("delete ", b'9', 300, "~reserve~", "102;reserve;"),
         filled("delete ", b'9', 200, "~reserve~", "102;reserve;"),
     ];
@@ -174,6 +189,17 @@ fn long_rows(rt: HostRuntime) -> Result<(), Fail> {
 fn hostile_rows(rt: HostRuntime) -> Result<(), Fail> {
     let examples = [
         plain(65535, "quit^~", "101;"),
+        plain(65535, "use a^b~", "102;"),
+        plain(
+            65535,
+            "peek 18446744073709551615~peek 18446744073709551616~",
+            "peek 18446744073709551615;102;",
+        ),
+        plain(
+            65535,
+            "put 0 0 1 4294967296~list-tube-used~",
+            "102;list-tube-used;",
+        ),
         plain(65535, "put 0 0 1 2^~", "102;"),
         plain(65535, "put 0 0 1 4294967296~reserve~", "102;reserve;"),
         plain(65535, "put 0 0 1 0~~put 0 0 1 0~x~", "put 0 0 1 [];104;"),
