@@ -1,5 +1,6 @@
 -- Where lines end.
 use Rattle.std.proofs.Common.{◌≡◌, ◌<◌, ◌≤◌, ℕ, ◌+◌, ◌-◌, zero, suc, Bool, true, false, ◌&&◌, ◌==◌, List, [], ◌∷◌, ◌++◌, ◌⊎◌, inl, inr, Option, Some, None, add-one, refl, sym, ap, arith, length, length-append, take, drop, get_or, MatchOption, option_map, if◌then◌else◌}
+use Rattle.std.proofs.Math.Bool.{and-false, and-true}
 use Rattle.std.proofs.lemmas.Bool.Decides.{nat_tests}
 use Rattle.std.proofs.lemmas.Grind.{common_steps}
 use Rattle.std.proofs.lemmas.List.{take-take, length-take-le}
@@ -7,14 +8,6 @@ use Rattle.std.proofs.Math.Seq.{drop-append-add, take-append-add}
 use Rattle.bq_job.specs.Line.{first_line}
 use Rattle.bq_wire.specs.LineEnds.{line_end_after, last_is_cr, later_by}
 use Rattle.memchr.specs.Find.{IsFirstByte, is_byte}
-
-and_false : (c : Bool) → (c && false) ≡ false
-and_false true = refl
-and_false false = refl
-
-and_true : (c : Bool) → (c && true) ≡ c
-and_true true = refl
-and_true false = refl
 
 pub option_map-same : (f g : ℕ → ℕ) → ((n : ℕ) → f n ≡ g n) → (o : Option ℕ) → option_map f o ≡ option_map g o
 option_map-same f g same None = refl
@@ -26,7 +19,7 @@ line_end_none c [] none = refl
 line_end_none c (b ∷ bytes) none =
     let not_here : (b == 10) ≡ false = grind (arith, nat_tests, none 0) in
     let later : line_end_after (b == 13) bytes ≡ None = line_end_none (b == 13) bytes (λ k low. none (suc k) (omega arith)) in
-    rw (not_here, and_false c, later)
+    rw (not_here, and-false c, later)
 
 -- one byte further
 one_more : (t : Bool) (k : ℕ) (o : Option ℕ)
@@ -41,11 +34,11 @@ pub line_end_at : (c : Bool) (bytes : List ℕ) (k : ℕ) → k < length bytes �
 line_end_at c [] k low here before = absurd (omega arith)
 line_end_at c (b ∷ bytes) zero low here before =
     let no_cr : (b == 13) ≡ false = grind (arith, nat_tests) in
-    rw (here, and_true c, no_cr, option_map-same suc (λ n. 1 + n) (λ n. omega arith) (line_end_after false bytes))
+    rw (here, and-true c, no_cr, option_map-same suc (λ n. 1 + n) (λ n. omega arith) (line_end_after false bytes))
 line_end_at c (b ∷ bytes) (suc k) low here before =
     let not_here : (b == 10) ≡ false = grind (arith, nat_tests, before 0) in
     let later = line_end_at (b == 13) bytes k (omega arith) here (λ j less. before (suc j) (omega arith)) in
-    rw (not_here, and_false c, later) (one_more (last_is_cr (b == 13) (take k bytes)) k (line_end_after false (drop (suc k) bytes)))
+    rw (not_here, and-false c, later) (one_more (last_is_cr (b == 13) (take k bytes)) k (line_end_after false (drop (suc k) bytes)))
 
 -- the first line feed, as it is searched for
 pub first_feed : (c : Bool) (bytes : List ℕ) (r : Option ℕ) → IsFirstByte (is_byte 10) bytes r
