@@ -1,5 +1,6 @@
 pub mod Acting
 pub mod Codes
+pub mod CoreState
 pub mod Dues
 pub mod EndingWaits
 pub mod HandOuts

@@ -31,12 +31,12 @@ pub struct Core {
 
 impl Model for Core {
     ghost use Rattle.bq_job.specs.Lawful.{IsLawful};
-    ghost use Rattle.bq_job.specs.Machine.{Machine};
+    ghost use Rattle.bq_core.specs.CoreState.{CoreState};
     ghost use Rattle.bq_core.specs.State.{machine_of, IsSound};
 
-    ghost Value = { Machine };
+    ghost Value = { CoreState };
 
-    ghost view = { λ c. machine_of c.state };
+    ghost view = { λ c. record { machine = machine_of c.state; comparisons = 0 } };
 
     ghost invariant = { λ c. IsLawful (machine_of c.state) × IsSound c.state };
 }
@@ -89,7 +89,7 @@ fn is_body_size(bytes: u32) -> bool
 impl Core {
     /// A core with no jobs and all seats free.
     pub fn new(alloc: Global, config: Config) -> Result<Core, CoreFault>
-        ensures made { IfOk result (λ core. core ≡ new_machine (settings_of config)) }
+        ensures made { IfOk result (λ core. core ≡ record { machine = new_machine (settings_of config); comparisons = 0 }) }
         ensures bad_seats { IsErrOf result CoreFault.BadSeats ↔ IsTrue (not (is_seat_count config.seats)) }
         ensures bad_max_job_size { IsErrOf result CoreFault.BadMaxJobSize ↔ (IsTrue (is_seat_count config.seats) × IsTrue (not (is_body_size config.max_job_size))) }
     {
@@ -115,11 +115,11 @@ impl Core {
     /// of statistics and lists.
     pub fn step(&mut self, at: Moment, seat: Seat, what: Step, outs: &mut Outs)
         requires built { IsTrue (is_built what) }
-        requires room { self.old.settings.seats < outs.old.most }
-        ensures step { IsStep self.old at seat what (record { left_out = outs.new.left_out; unshared = outs.new.unshared }) outs.new.given self.new }
-        ensures lawful { IsLawful self.new }
+        requires room { self.old.machine.settings.seats < outs.old.most }
+        ensures step { IsStep self.old.machine at seat what (record { left_out = outs.new.left_out; unshared = outs.new.unshared }) outs.new.given self.new.machine }
+        ensures lawful { IsLawful self.new.machine }
         ensures most { outs.new.most ≡ outs.old.most }
-        ensures settings { self.new.settings ≡ self.old.settings }
+        ensures settings { self.new.machine.settings ≡ self.old.machine.settings }
     {
         take_step(&mut self.state, at, seat, what, outs);
     }
@@ -127,8 +127,8 @@ impl Core {
     /// The least moment at which something happens by itself: a delay, a time to run or a pause ends, a
     /// client gives up, or is told that a time to run ends soon. A tick below it changes the moment alone.
     pub fn next_due(&mut self) -> Option<Moment>
-        ensures due { result ≡ next_due self.old }
-        ensures same { self.new ≡ self.old }
+        ensures due { result ≡ next_due self.old.machine }
+        ensures same { self.new.machine ≡ self.old.machine }
     {
         dues::next_due(&self.state)
     }

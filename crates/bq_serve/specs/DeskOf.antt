@@ -9,7 +9,7 @@ use Rattle.bq_serve.specs.declared.run.desk.Desk.{Desk}
 
 abbrev pub state_of : {C : Type 0} → Desk C → DeskState
 state_of d = record {
-  core = d.core;
+  core = d.core.machine;
   mails = d.mails.items;
   pending = option_to_list d.held ++ d.outs.given;
   heard = d.heard;

@@ -3,7 +3,7 @@ use Rattle.std.proofs.Common.{◌<◌}
 use Rattle.bq_core.proofs.tests.played.Given as goal
 
 abbrev pub invariant-loop-seat : goal.invariant-loop-seat
-invariant-loop-seat g l = l.core.settings.seats < l.outs.most
+invariant-loop-seat g l = l.core.machine.settings.seats < l.outs.most
 
 abbrev pub invariant-loop-example : goal.invariant-loop-example
-invariant-loop-example g l = l.core.settings.seats < l.outs.most
+invariant-loop-example g l = l.core.machine.settings.seats < l.outs.most

@@ -60,6 +60,6 @@ returns-in-LineOver-clause-served g c =
     let seats : c.args.config.seats ≡ 1 = c.if-config-ne1.false in (
       i.0,
       i.1,
-      c.line_joins.ensures (settings_of c.args.config) (profile_so_far c.args.config) 0 (record { seen = g.L.Line.seen c.loop.line; over = c.in-LineOver.end }) i.0 s.went.history s.went.went.given c.loop.desk.core
+      c.line_joins.ensures (settings_of c.args.config) (profile_so_far c.args.config) 0 (record { seen = g.L.Line.seen c.loop.line; over = c.in-LineOver.end }) i.0 s.went.history s.went.went.given c.loop.desk.core.machine
           (over_alone (settings_of c.args.config) (profile_so_far c.args.config) 0 i.0 (state_of c.loop.desk) c.loop.machine (g.L.Line.seen c.loop.line) c.in-LineOver.end s (omega (arith, seats)) (new_mails_are (settings_of c.args.config) s.first s.new)),
     )

@@ -12,8 +12,8 @@ returns-clause-went g c =
     let held = option_to_list c.args.self.now.held in
     let none = none_held held c.args.self.now.outs.given c.requires.empty in
     let outcome : Outcome = record { left_out = c.step.new.outs.left_out; unshared = c.step.new.outs.unshared } in
-    let next : DeskState = record { core = c.step.new.self; mails = c.args.self.now.mails.items; pending = held ++ c.step.new.outs.given; heard = c.moment_heard-self.result; most = c.step.new.outs.most } in
-    let step = subst (λ (n : ℕ). IsStep c.args.self.now.core n c.args.seat c.args.what outcome c.step.new.outs.given c.step.new.self) c.moment_heard-self.ensures c.step.ensures.step in (
+    let next : DeskState = record { core = c.step.new.self.machine; mails = c.args.self.now.mails.items; pending = held ++ c.step.new.outs.given; heard = c.moment_heard-self.result; most = c.step.new.outs.most } in
+    let step = subst (λ (n : ℕ). IsStep c.args.self.now.core.machine n c.args.seat c.args.what outcome c.step.new.outs.given c.step.new.self.machine) c.moment_heard-self.ensures c.step.ensures.step in (
       c.now.result ∷ [],
       c.now.ensures,
       one_step (state_of c.args.self.now) next c.args.seat c.args.what c.now.result outcome c.step.new.outs.given step c.moment_heard-self.ensures refl c.requires.empty

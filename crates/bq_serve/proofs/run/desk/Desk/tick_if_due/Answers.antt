@@ -24,9 +24,9 @@ returns-then-due-self-clause-went g c =
     let held = option_to_list c.args.self.now.held in
     let none = none_held held c.args.self.now.outs.given c.requires.empty in
     let outcome : Outcome = record { left_out = c.step.new.outs.left_out; unshared = c.step.new.outs.unshared } in
-    let next : DeskState = record { core = c.step.new.self; mails = c.args.self.now.mails.items; pending = held ++ c.step.new.outs.given; heard = c.moment_heard-self.result; most = c.step.new.outs.most } in
-    let there = subst (λ (m : Machine). IsStep m c.moment_heard-self.result c.args.seat Tick outcome c.step.new.outs.given c.step.new.self) c.next_due.ensures.same c.step.ensures.step in
-    let step = subst (λ (n : ℕ). IsStep c.args.self.now.core n c.args.seat Tick outcome c.step.new.outs.given c.step.new.self) c.moment_heard-self.ensures there in (
+    let next : DeskState = record { core = c.step.new.self.machine; mails = c.args.self.now.mails.items; pending = held ++ c.step.new.outs.given; heard = c.moment_heard-self.result; most = c.step.new.outs.most } in
+    let there = subst (λ (m : Machine). IsStep m c.moment_heard-self.result c.args.seat Tick outcome c.step.new.outs.given c.step.new.self.machine) c.next_due.ensures.same c.step.ensures.step in
+    let step = subst (λ (n : ℕ). IsStep c.args.self.now.core.machine n c.args.seat Tick outcome c.step.new.outs.given c.step.new.self.machine) c.moment_heard-self.ensures there in (
       c.now-reading.result ∷ [],
       c.now-reading.ensures,
       one_step (state_of c.args.self.now) next c.args.seat Tick c.now-reading.result outcome c.step.new.outs.given step c.moment_heard-self.ensures refl c.requires.empty
@@ -36,7 +36,7 @@ returns-then-due-self-clause-went g c =
 pub returns-else-due-self-clause-went : goal.returns-else-due-self-clause-went
 returns-else-due-self-clause-went g c =
     let old = state_of c.args.self.now in
-    let next : DeskState = record { core = c.next_due.new.self; mails = old.mails; pending = old.pending; heard = c.moment_heard-self.result; most = old.most } in (
+    let next : DeskState = record { core = c.next_due.new.self.machine; mails = old.mails; pending = old.pending; heard = c.moment_heard-self.result; most = old.most } in (
       c.now-reading.result ∷ [],
       c.now-reading.ensures,
       seat_heard old next c.args.seat c.now-reading.result c.next_due.ensures.same c.moment_heard-self.ensures refl refl,
