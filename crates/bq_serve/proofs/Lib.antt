@@ -8,4 +8,5 @@ pub mod PartLemmas
 pub mod ReadingsLemmas
 pub mod SeatLemmas
 pub mod SeenLemmas
+pub mod TendingLemmas
 pub mod WritingLemmas

@@ -15,6 +15,8 @@ use Rattle.bq_seat.specs.SeatStands.{StandsFor, awaited, seat_profile}
 use Rattle.bq_seat.specs.Served.{seen_line}
 use Rattle.bq_seat.specs.declared.machine.Action.{Action}
 use Rattle.bq_seat.specs.declared.machine.SeatMachine.{SeatMachine}
+use Rattle.bq_serve.specs.declared.run.attendant.Place.{Place}
+use Rattle.bq_serve.specs.declared.run.attendant.Place.TheVariants as places
 
 -- what was written of the answers that were handed out for writing: all of it, but after a write fault
 abbrev pub IsWrittenSo : Option LineFault → List Answer → List ℕ → Type 0
@@ -36,21 +38,12 @@ pub record IsOnLine (p : Profile) (machine : SeatMachine) (seen : LineSeen) (act
   pub awaits : awaited_by action ≡ Some (awaited machine)
   pub profile_is : seat_profile machine ≡ p
 
--- where a seat is with its door
-pub data Place (L : Type 0) : Type 0 where
-  -- the next line is to be opened
-  Between : Place L
-  On : L → Action → Place L
-  -- no more lines come, and that is to be said
-  Leaving : Place L
-  Done : Place L
-
 -- what was done for the line that is out
 abbrev pub IsAt : {L : Type 0} → (L → LineSeen) → Profile → SeatMachine → Place L → List Step → List Answer → Type 0
-IsAt seen p machine Between submitted taken = (submitted ≡ []) × (taken ≡ []) × (awaited machine ≡ Awaited.ALine) × (seat_profile machine ≡ p)
-IsAt seen p machine (On line action) submitted taken = IsOnLine p machine (seen line) action submitted taken
-IsAt seen p machine Leaving submitted taken = (submitted ≡ []) × (taken ≡ [])
-IsAt seen p machine Done submitted taken = (submitted ≡ Gone ∷ []) × (taken ≡ [])
+IsAt seen p machine places.Between submitted taken = (submitted ≡ []) × (taken ≡ []) × (awaited machine ≡ Awaited.ALine) × (seat_profile machine ≡ p)
+IsAt seen p machine (places.On line action) submitted taken = IsOnLine p machine (seen line) action submitted taken
+IsAt seen p machine places.Leaving submitted taken = (submitted ≡ []) × (taken ≡ [])
+IsAt seen p machine places.Done submitted taken = (submitted ≡ Gone ∷ []) × (taken ≡ [])
 
 -- What a seat did: its lines that are over, and then the one that is out.
 pub record IsAttending {L : Type 0} (seen : L → LineSeen) (p : Profile) (machine : SeatMachine) (place : Place L) (lines : List LineOver) (submitted : List Step) (taken : List Answer) : Type 0 where

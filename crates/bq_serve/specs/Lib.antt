@@ -12,4 +12,5 @@ pub mod MemDoors
 pub mod ReadingNumbers
 pub mod RunSettings
 pub mod ScriptPlace
+pub mod Tending
 pub mod Writing

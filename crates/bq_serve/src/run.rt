@@ -3,6 +3,7 @@
 pub use one::{One, run_one};
 
 mod answer_write;
+mod attendant;
 mod client;
 mod desk;
 mod desk_seat;

@@ -36,7 +36,8 @@ impl<'a, C: Clock + Drop> Link for DeskSeat<'a, C> {
     }
 }
 
-/// Carries out one action of a seat's machine at the desk.
+/// Carries out one action of a seat's machine at the desk, and says what the machine does next and whether
+/// something moved.
 pub fn act<L: Line, C: Clock + Drop>(
     machine: &mut SeatMachine,
     action: Action,
@@ -44,12 +45,12 @@ pub fn act<L: Line, C: Clock + Drop>(
     desk: &mut Desk<C>,
     seat: Seat,
     room: &mut Room,
-) -> Action
+) -> (Action, bool)
     requires built { IsBuilt action }
     requires mails { HasMails (state_of desk.old) }
     requires within { seat < length (state_of desk.old).mails }
     ensures mails { HasMails (state_of desk.new) }
-    ensures carried { (submitted : List Step) × (taken : List Answer) × WentAt C.given seat desk.old submitted taken desk.new × Carried machine.old (L.seen line.old) action machine.new (L.seen line.new) result submitted taken }
+    ensures carried { (submitted : List Step) × (taken : List Answer) × WentAt C.given seat desk.old submitted taken desk.new × Carried machine.old (L.seen line.old) action machine.new (L.seen line.new) result.0 submitted taken }
 {
     let mut link = DeskSeat { desk, seat };
     carry_out(machine, action, line, &mut link, room)

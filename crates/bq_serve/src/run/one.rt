@@ -74,7 +74,15 @@ pub fn run_one<R: Wait, L: Line + Drop, C: Clock + Drop>(
             }
             other => {
                 let looked = is_look(&other);
-                action = act(&mut machine, other, &mut line, &mut desk, ONLY_SEAT, room);
+                let (next, _moved) = act(
+                    &mut machine,
+                    other,
+                    &mut line,
+                    &mut desk,
+                    ONLY_SEAT,
+                    room,
+                );
+                action = next;
                 rest_between_looks(rt, &bell, looked, &action);
             }
         }

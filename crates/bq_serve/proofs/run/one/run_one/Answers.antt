@@ -26,8 +26,8 @@ loop-init g c =
       within = omega (arith, many, seats);
     }
 
-pub act-action-requires : goal.act-action-requires
-act-action-requires g c =
+pub act-next-requires : goal.act-next-requires
+act-next-requires g c =
     let s = c.loop.invariant.serves.2 in
     record {
       built = submits_built (profile_so_far c.args.config) c.loop.machine (g.L.Line.seen c.loop.line) c.loop.action s.submitted s.taken s.on_line;
@@ -38,17 +38,17 @@ act-action-requires g c =
 pub loop-preserved : goal.loop-preserved
 loop-preserved g c =
     let i = c.loop.invariant.serves in
-    let h = c.act-action.ensures.carried in
+    let h = c.act-next.ensures.carried in
     let w = h.2 in
-    let next = state_of c.act-action.new.desk in
+    let next = state_of c.act-next.new.desk in
     record {
       iterator = (tt, tt);
       serves = (
         i.0 ++ w.0,
         w.1 c.args.clock i.0 i.1,
-        goes_on_alone (settings_of c.args.config) (profile_so_far c.args.config) 0 i.0 w.0 (state_of c.loop.desk) next c.loop.machine c.act-action.new.machine (g.L.Line.seen c.loop.line) (g.L.Line.seen c.act-action.new.line) c.loop.action c.act-action.result h.0 h.1 i.2 w.2 h.3,
+        goes_on_alone (settings_of c.args.config) (profile_so_far c.args.config) 0 i.0 w.0 (state_of c.loop.desk) next c.loop.machine c.act-next.new.machine (g.L.Line.seen c.loop.line) (g.L.Line.seen c.act-next.new.line) c.loop.action c.act-next.result.0 h.0 h.1 i.2 w.2 h.3,
       );
-      mails = c.act-action.ensures.mails;
+      mails = c.act-next.ensures.mails;
       within = omega (arith, w.2.went.many, c.loop.invariant.within);
     }
 
