@@ -30,6 +30,7 @@ pub mod SameRequests
 pub mod SoFar
 pub mod Statistics
 pub mod StatisticsCommands
+pub mod StepBody
 pub mod Steps
 pub mod TextExamples
 pub mod Timers

@@ -1,4 +1,7 @@
-use super::{Body, JobId, Pri, Refusal, TubeName};
+ghost use Rattle.std.specs.Prelude.{◌≡◌, IfOk, IsErr, IsTrue};
+ghost use Rattle.bq_job.specs.StepBody.{request_has_body};
+
+use super::{Body, JobId, NoMemory, Pri, Refusal, TubeName};
 
 /// A request of a client, as the reader hands it out. Delays, times to run and timeouts are seconds.
 #[derive(Debug, Drop)]
@@ -94,4 +97,55 @@ pub enum Request {
     Quit,
     /// Bytes that are no request, or a put that can't be taken.
     Refused(Refusal),
+}
+
+impl Request {
+    /// The same request once more. It takes no memory, and is refused only where a put's body is given no
+    /// further owner.
+    pub fn share(&self) -> Result<Request, NoMemory>
+        ensures same { IfOk result (λ request. request ≡ self.now) }
+        ensures refused { IsErr result → IsTrue (request_has_body self.now) }
+    {
+        Ok(match *self {
+            Request::Put {
+                pri,
+                delay,
+                ttr,
+                ref body,
+            } => {
+                let body = body.share()?;
+                Request::Put {
+                    pri,
+                    delay,
+                    ttr,
+                    body,
+                }
+            }
+            Request::Reserve => Request::Reserve,
+            Request::ReserveWithTimeout { seconds } => Request::ReserveWithTimeout { seconds },
+            Request::ReserveJob { id } => Request::ReserveJob { id },
+            Request::Delete { id } => Request::Delete { id },
+            Request::Release { id, pri, delay } => Request::Release { id, pri, delay },
+            Request::Bury { id, pri } => Request::Bury { id, pri },
+            Request::Touch { id } => Request::Touch { id },
+            Request::Kick { bound } => Request::Kick { bound },
+            Request::KickJob { id } => Request::KickJob { id },
+            Request::Use { tube } => Request::Use { tube },
+            Request::ListTubeUsed => Request::ListTubeUsed,
+            Request::Watch { tube } => Request::Watch { tube },
+            Request::Ignore { tube } => Request::Ignore { tube },
+            Request::Peek { id } => Request::Peek { id },
+            Request::PeekReady => Request::PeekReady,
+            Request::PeekDelayed => Request::PeekDelayed,
+            Request::PeekBuried => Request::PeekBuried,
+            Request::PauseTube { tube, delay } => Request::PauseTube { tube, delay },
+            Request::StatsJob { id } => Request::StatsJob { id },
+            Request::StatsTube { tube } => Request::StatsTube { tube },
+            Request::Stats => Request::Stats,
+            Request::ListTubes => Request::ListTubes,
+            Request::ListTubesWatched => Request::ListTubesWatched,
+            Request::Quit => Request::Quit,
+            Request::Refused(refusal) => Request::Refused(refusal),
+        })
+    }
 }

@@ -1,5 +1,5 @@
 //! Each public call once, with ample memory.
-use crate::{Answer, Body, BodyBuilder, NoMemory, Refusal, Text, TubeName};
+use crate::{Answer, Body, BodyBuilder, NoMemory, Refusal, Request, Step, Text, TubeName};
 use std::test::Fail;
 
 #[test]
@@ -52,6 +52,49 @@ fn a_body_is_filled(rt: HostRuntime) -> Result<(), Fail> {
     builder.push_slice(b"ab");
     let body = builder.finish()?;
     assert_eq!(rt; body.as_slice(), b"ab".as_slice());
+    Ok(())
+}
+
+#[test]
+fn shared_steps(rt: HostRuntime) -> Result<(), Fail> {
+    let body = Body::new(rt.alloc(), b"abc")?;
+    let put = Step::Ask(Request::Put {
+        pri: 1,
+        delay: 2,
+        ttr: 3,
+        body,
+    });
+    let share = put.share()?;
+    drop(put);
+    let Step::Ask(
+        Request::Put {
+            pri,
+            delay,
+            ttr,
+            body,
+        },
+    ) = share
+    else {
+        panic!(rt; "a put is shared as a put");
+    };
+    assert_eq!(rt; (pri, delay, ttr), (1, 2, 3));
+    assert_eq!(rt; body.as_slice(), b"abc".as_slice());
+    let release = Request::Release {
+        id: 4,
+        pri: 5,
+        delay: 6,
+    };
+    assert!(rt;
+        matches!(
+            release.share()?,
+            Request::Release {
+                id: 4,
+                pri: 5,
+                delay: 6
+            }
+        )
+    );
+    assert!(rt; matches!(Step::Gone.share()?, Step::Gone));
     Ok(())
 }
 
