@@ -23,6 +23,7 @@ pub mod QuietLemmas
 pub mod ReadsLemmas
 pub mod RecordLemmas
 pub mod RefusalLemmas
+pub mod ReplayLemmas
 pub mod RunLawLemmas
 pub mod RunLemmas
 pub mod SpentLemmas

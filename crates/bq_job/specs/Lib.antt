@@ -24,6 +24,7 @@ pub mod NextDue
 pub mod Profile
 pub mod Reading
 pub mod Refusals
+pub mod Replay
 pub mod RunExamples
 pub mod Runs
 pub mod SameRequests

@@ -9,6 +9,7 @@ pub use answer::Answer;
 pub use body::{Body, BodyBuilder};
 pub use fault::NoMemory;
 pub use job::{Counts, Job, JobState};
+pub use journal::Entry;
 pub use laws_of_clients::{
     asks_give_at_most, line_joins, one_line_more, others_give_what_waits, parts_join,
     steps_keep_settings,
@@ -39,9 +40,11 @@ mod examples_of_sessions;
 mod examples_of_steps;
 mod fault;
 mod job;
+mod journal;
 mod laws_of_clients;
 mod laws_of_machine;
 pub mod laws_of_reading;
+pub mod laws_of_replays;
 pub mod laws_of_runs;
 pub mod laws_of_texts;
 mod limits;

@@ -1,0 +1,74 @@
+-- Replays: how one begins and goes on, and that a journal has one at most.
+use Rattle.std.proofs.Common.{◌≡◌, List, [], ◌∷◌, ◌++◌, map, refl, sym, ap, ◌∙◌, subst, append-nil}
+use Rattle.std.specs.Prelude.{flat_map}
+use Rattle.std.proofs.lemmas.Grind.{flat_map-append}
+use Rattle.std.proofs.lemmas.List.{map-append}
+use Rattle.bq_job.specs.declared.journal.Entry.{Entry as JournalEntry}
+use Rattle.bq_job.specs.Dispatch.{GivenAnswer}
+use Rattle.bq_job.specs.Machine.{Machine, Settings, new_machine}
+use Rattle.bq_job.specs.Replay.{Replay, entry_of, outcome_of}
+use Rattle.bq_job.specs.Runs.{Entry, GoesBy, IsTransition, Transition}
+use Rattle.bq_job.specs.Steps.{IsStep, Outcome}
+use Rattle.bq_job.proofs.OutcomeLemmas.{one_result}
+use Rattle.bq_job.proofs.RunLemmas.{taken_as}
+
+pub replay_none : (settings : Settings) → Replay settings [] [] (new_machine settings)
+replay_none settings = record { taken = []; goes = refl; history_is = refl; outcomes_are = refl; given_is = refl }
+
+-- the steps of a run, and one step more
+goes_more : (first next last : Machine) (taken : List Transition) (t : Transition) → GoesBy first taken next → t.first ≡ next → IsTransition t → last ≡ t.last → GoesBy first (taken ++ t ∷ []) last
+goes_more first next last [] t goes starts is ends = (starts ∙ goes, is, ends)
+goes_more first next last (u ∷ taken) t goes starts is ends = (goes.0, goes.1, goes_more u.last next last taken t goes.2 starts is ends)
+
+pub replay_more : (settings : Settings) (journal : List JournalEntry) (entry : JournalEntry) (given more : List GivenAnswer) (next last : Machine)
+    → Replay settings journal given next → IsStep next entry.moment entry.seat entry.step (outcome_of entry) more last
+    → Replay settings (journal ++ entry ∷ []) (given ++ more) last
+replay_more settings journal entry given more next last r step =
+    let t : Transition = taken_as next (entry_of entry) (outcome_of entry) more last step in
+    record {
+      taken = r.taken ++ t ∷ [];
+      goes = goes_more (new_machine settings) next last r.taken t r.goes refl (record { step = step; parts_are = refl }) refl;
+      history_is =
+          map-append (λ (u : Transition). u.entry) r.taken (t ∷ [])
+          ∙ ap (λ (xs : List Entry). xs ++ entry_of entry ∷ []) r.history_is
+          ∙ sym (map-append entry_of journal (entry ∷ []));
+      outcomes_are =
+          map-append (λ (u : Transition). u.outcome) r.taken (t ∷ [])
+          ∙ ap (λ (xs : List Outcome). xs ++ outcome_of entry ∷ []) r.outcomes_are
+          ∙ sym (map-append outcome_of journal (entry ∷ []));
+      given_is =
+          flat_map-append (λ (u : Transition). u.given) r.taken (t ∷ [])
+          ∙ ap (λ (xs : List GivenAnswer). xs ++ (more ++ [])) r.given_is
+          ∙ ap (λ (xs : List GivenAnswer). given ++ xs) (append-nil more);
+    }
+
+-- a step that was taken, at the entry and the outcome that a journal names
+step_at : (first : Machine) (entry : JournalEntry) (t : Transition) → t.first ≡ first → t.entry ≡ entry_of entry → t.outcome ≡ outcome_of entry → IsTransition t
+    → IsStep first entry.moment entry.seat entry.step (outcome_of entry) t.given t.last
+step_at first entry t starts is came_out taken =
+    subst (λ (m : Machine). IsStep m entry.moment entry.seat entry.step (outcome_of entry) t.given t.last) starts
+    (subst (λ (e : Entry). IsStep t.first e.moment e.seat e.what (outcome_of entry) t.given t.last) is
+    (subst (λ (o : Outcome). IsStep t.first t.entry.moment t.entry.seat t.entry.what o t.given t.last) came_out taken.step))
+
+-- Two runs from one machine over one journal give the same answers and end alike.
+one_run : (first last other : Machine) (journal : List JournalEntry) (taken others : List Transition)
+    → GoesBy first taken last → map (λ t. t.entry) taken ≡ map entry_of journal → map (λ t. t.outcome) taken ≡ map outcome_of journal
+    → GoesBy first others other → map (λ t. t.entry) others ≡ map entry_of journal → map (λ t. t.outcome) others ≡ map outcome_of journal
+    → (flat_map (λ t. t.given) taken ≡ flat_map (λ t. t.given) others) × (last ≡ other)
+one_run first last other [] [] [] g h o g' h' o' = (refl, g ∙ sym g')
+one_run first last other [] [] (u ∷ others) g h o g' h' o' = absurd cc
+one_run first last other [] (t ∷ taken) others g h o g' h' o' = absurd cc
+one_run first last other (entry ∷ journal) [] others g h o g' h' o' = absurd cc
+one_run first last other (entry ∷ journal) (t ∷ taken) [] g h o g' h' o' = absurd cc
+one_run first last other (entry ∷ journal) (t ∷ taken) (u ∷ others) g h o g' h' o' =
+    let step : IsStep first entry.moment entry.seat entry.step (outcome_of entry) t.given t.last = step_at first entry t g.0 (cc) (cc) g.1 in
+    let step' : IsStep first entry.moment entry.seat entry.step (outcome_of entry) u.given u.last = step_at first entry u g'.0 (cc) (cc) g'.1 in
+    let one = one_result first t.last u.last entry.moment entry.seat entry.step (outcome_of entry) t.given u.given refl step step' in
+    let rest = one_run t.last last other journal taken others g.2 (cc) (cc) (subst (λ (m : Machine). GoesBy m others other) (sym one.1) g'.2) (cc) (cc) in
+    (ap (λ (xs : List GivenAnswer). xs ++ flat_map (λ (v : Transition). v.given) taken) one.0 ∙ ap (λ (xs : List GivenAnswer). u.given ++ xs) rest.0, rest.1)
+
+pub one_replay : (settings : Settings) (journal : List JournalEntry) (given others : List GivenAnswer) (last other : Machine)
+    → Replay settings journal given last → Replay settings journal others other → (given ≡ others) × (last ≡ other)
+one_replay settings journal given others last other r s =
+    let one = one_run (new_machine settings) last other journal r.taken s.taken r.goes r.history_is r.outcomes_are s.goes s.history_is s.outcomes_are in
+    (sym r.given_is ∙ one.0 ∙ s.given_is, one.1)

@@ -1,0 +1,27 @@
+//! Laws of replays: a journal has one replay at most, and how it goes on with the next entry.
+ghost use Rattle.bq_job.specs.declared.journal.Entry.{Entry};
+ghost use Rattle.bq_job.specs.Dispatch.{GivenAnswer};
+ghost use Rattle.bq_job.specs.Machine.{Machine, Settings, new_machine};
+ghost use Rattle.bq_job.specs.Replay.{Replay, outcome_of};
+ghost use Rattle.bq_job.specs.Steps.{IsStep};
+ghost use Rattle.std.specs.Prelude.{◌≡◌, List, [], ◌∷◌, ◌++◌};
+
+/// The replay of an empty journal gives no answer, and leads to the machine as it is at the start.
+pub fn replays_begin()
+    ensures { (settings : Settings) → Replay settings [] [] (new_machine settings) }
+{}
+
+/// With an entry more, a replay goes on by that entry's step.
+pub fn replays_go_on()
+    ensures { (settings : Settings) (journal : List Entry) (entry : Entry) (given more : List GivenAnswer) (next last : Machine)
+        → Replay settings journal given next
+        → IsStep next entry.moment entry.seat entry.step (outcome_of entry) more last
+        → Replay settings (journal ++ entry ∷ []) (given ++ more) last }
+{}
+
+/// A journal has one replay at most: the same answers and the same machine.
+pub fn journals_have_one_replay()
+    ensures { (settings : Settings) (journal : List Entry) (given others : List GivenAnswer) (last other : Machine)
+        → Replay settings journal given last → Replay settings journal others other
+        → (given ≡ others) × (last ≡ other) }
+{}
