@@ -1,5 +1,7 @@
 pub mod AloneLemmas
 pub mod CarriedLemmas
+pub mod ControlLemmas
+pub mod DeskControlLemmas
 pub mod DeskLemmas
 pub mod DeskSeatLemmas
 pub mod EventLemmas

@@ -1,5 +1,6 @@
 pub mod Attending
 pub mod Carried
+pub mod ControlRead
 pub mod DeskOf
 pub mod DeskState
 pub mod DeskWent

@@ -5,6 +5,7 @@ pub use one::{One, run_one};
 mod answer_write;
 mod attendant;
 mod client;
+mod control;
 mod desk;
 mod desk_seat;
 mod link;
