@@ -1,6 +1,6 @@
 //! Steps of a core, with the answers that the rules of the queue give them, found by hand.
-ghost use Rattle.std.specs.Prelude.{◌≡◌, IsTrue, IfOk, IfSome};
-ghost use Rattle.bq_core.specs.Acting.{is_built, is_built_request};
+ghost use Rattle.std.specs.Prelude.{◌≡◌, ◌<◌, IfOk};
+ghost use Rattle.bq_core.specs.Acting.{is_built};
 
 use crate::{Config, Core, CoreFault, Outs};
 use bq_job::{Answer, Body, JobId, Moment, NoMemory, Pri, Refusal, Request, Seat, Step, TubeName};
@@ -8,6 +8,7 @@ use std::alloc::Global;
 use std::process::Abort;
 use std::test::Fail;
 
+mod each_answer;
 mod large_bodies;
 mod many_tubes;
 mod one_tube;
@@ -39,6 +40,11 @@ enum Do {
     PeekBuried,
     /// Seconds.
     PauseTube(&'static [u8], u32),
+    StatsJob(JobId),
+    StatsTube(&'static [u8]),
+    Stats,
+    ListTubes,
+    ListTubesWatched,
     Quit,
     Refused(Refusal),
     End,
@@ -46,6 +52,8 @@ enum Do {
     Drain,
     Tick,
     Gone,
+    /// No step: the next due moment is this one.
+    Due(Option<Moment>),
 }
 
 #[derive(Clone, Copy, Debug)]
@@ -67,16 +75,34 @@ enum Want {
     Draining,
     TimedOut,
     DeadlineSoon,
+    UnknownCommand,
     BadFormat,
+    JobTooBig,
+    ExpectedCrlf,
+    OutOfMemory,
     Closed,
 }
 
 /// A moment, a seat, what happens there, and the answers that it gives.
 type Example = (Moment, Seat, Do, &'static [(Seat, Want)]);
 
-fn request_of(rt: &impl Abort, alloc: Global, what: Do) -> Result<Option<Request>, NoMemory>
-    ensures { IfOk result (λ asked. IfSome asked (λ request. IsTrue (is_built_request request))) }
+// Whether the core can carry the step out so far.
+fn is_built(what: &Step) -> bool
+    ensures { result ≡ is_built what.now }
 {
+    !matches!(
+        what,
+        Step::Ask(
+            Request::StatsJob { .. }
+                | Request::StatsTube { .. }
+                | Request::Stats
+                | Request::ListTubes
+                | Request::ListTubesWatched
+        )
+    )
+}
+
+fn request_of(rt: &impl Abort, alloc: Global, what: Do) -> Result<Option<Request>, NoMemory> {
     Ok(Some(match what {
         Do::Put(pri, delay, ttr, bytes) => Request::Put {
             pri,
@@ -111,15 +137,21 @@ fn request_of(rt: &impl Abort, alloc: Global, what: Do) -> Result<Option<Request
             tube: tube(rt, name),
             delay,
         },
+        Do::StatsJob(id) => Request::StatsJob { id },
+        Do::StatsTube(name) => Request::StatsTube {
+            tube: tube(rt, name),
+        },
+        Do::Stats => Request::Stats,
+        Do::ListTubes => Request::ListTubes,
+        Do::ListTubesWatched => Request::ListTubesWatched,
         Do::Quit => Request::Quit,
         Do::Refused(why) => Request::Refused(why),
-        Do::Connect | Do::End | Do::Close | Do::Drain | Do::Tick | Do::Gone => return Ok(None),
+        Do::Connect | Do::End | Do::Close | Do::Drain | Do::Tick | Do::Gone | Do::Due(_) =>
+            return Ok(None),
     }))
 }
 
-fn step_of(rt: &impl Abort, alloc: Global, what: Do) -> Result<Step, NoMemory>
-    ensures { IfOk result (λ step. IsTrue (is_built step)) }
-{
+fn step_of(rt: &impl Abort, alloc: Global, what: Do) -> Result<Step, NoMemory> {
     if let Some(request) = request_of(rt, alloc, what)? {
         return Ok(Step::Ask(request));
     }
@@ -160,13 +192,17 @@ fn is_wanted(answer: &Answer, want: Want) -> bool {
         (Answer::Draining, Want::Draining) => true,
         (Answer::TimedOut, Want::TimedOut) => true,
         (Answer::DeadlineSoon, Want::DeadlineSoon) => true,
+        (Answer::UnknownCommand, Want::UnknownCommand) => true,
         (Answer::BadFormat, Want::BadFormat) => true,
+        (Answer::JobTooBig, Want::JobTooBig) => true,
+        (Answer::ExpectedCrlf, Want::ExpectedCrlf) => true,
+        (Answer::OutOfMemory, Want::OutOfMemory) => true,
         (Answer::Closed, Want::Closed) => true,
         _ => false,
     }
 }
 
-// The step's answers are those wanted, in their order, and no others.
+// The step's answers are those wanted, in their order, and no others, and memory was ample.
 fn expect(rt: &impl Abort, outs: &mut Outs, name: &str, example: &Example)
     ensures { outs.new.most ≡ outs.old.most }
 {
@@ -186,10 +222,16 @@ fn expect(rt: &impl Abort, outs: &mut Outs, name: &str, example: &Example)
         outs.take_first().is_none(),
         "{name}: {example:?} answered too much"
     );
+    assert!(rt;
+        !outs.left_out() && !outs.unshared(),
+        "{name}: {example:?} was refused memory"
+    );
 }
 
-// The steps of an example of the table, on a core with four seats, of which the first three are connected.
-fn played(rt: &impl Abort, alloc: Global, name: &str, examples: &[Example]) -> Result<Core, Fail> {
+// A core with four seats, of which the first three are connected.
+fn start(alloc: Global) -> Result<(Core, Outs), Fail>
+    ensures { IfOk result (λ made. made.0.machine.settings.seats < made.1.most) }
+{
     let config = Config {
         seats: 4,
         max_job_size: 10,
@@ -199,22 +241,38 @@ fn played(rt: &impl Abort, alloc: Global, name: &str, examples: &[Example]) -> R
     for seat in 0..3 {
         core.step(0, seat, Step::Connect, &mut outs);
     }
+    Ok((core, outs))
+}
+
+// The steps of the table are taken, and answered as it says.
+fn take_all(
+    rt: &impl Abort,
+    alloc: Global,
+    core: &mut Core,
+    outs: &mut Outs,
+    name: &str,
+    examples: &[Example],
+) -> Result<(), Fail>
+    requires { core.old.machine.settings.seats < outs.old.most }
+    ensures { core.new.machine.settings.seats < outs.new.most }
+{
     for example in examples {
         let (at, seat, what, _) = *example;
-        let step = step_of(rt, alloc, what)?;
-        core.step(at, seat, step, &mut outs);
-        expect(rt, &mut outs, name, example);
-        assert!(rt;
-            !outs.left_out() && !outs.unshared(),
-            "{name}: {example:?} was refused memory"
-        );
+        if let Do::Due(due) = what {
+            assert_eq!(rt; core.next_due(), due, "{name}: {example:?}");
+        } else {
+            let step = step_of(rt, alloc, what)?;
+            assert!(rt; is_built(&step), "{name}: {example:?} isn't built");
+            core.step(at, seat, step, outs);
+            expect(rt, outs, name, example);
+        }
     }
-    Ok(core)
+    Ok(())
 }
 
 fn play(rt: &impl Abort, alloc: Global, name: &str, examples: &[Example]) -> Result<(), Fail> {
-    played(rt, alloc, name, examples)?;
-    Ok(())
+    let (mut core, mut outs) = start(alloc)?;
+    take_all(rt, alloc, &mut core, &mut outs, name, examples)
 }
 
 #[test]

@@ -1,5 +1,5 @@
 //! Steps of clients at several tubes, with delays, pauses and jobs that are chosen by their id.
-use super::{Do, Example, Want, play, played};
+use super::{Do, Example, Want, play};
 use std::test::Fail;
 
 const WAITERS_OF_TWO_TUBES: &[Example] = &[
@@ -39,6 +39,7 @@ const TOUCH_MOVES_THE_LEASE: &[Example] = &[
     (0, 0, Do::Reserve, &[(0, Want::Reserved(1, b"x"))]),
     (0, 1, Do::Touch(1), &[(1, Want::NotFound)]),
     (1500, 0, Do::Touch(1), &[(0, Want::Touched)]),
+    (1500, 0, Do::Due(Some(3500)), &[]),
     (2000, 0, Do::Tick, &[]),
     (3500, 0, Do::Touch(1), &[(0, Want::NotFound)]),
 ];
@@ -49,6 +50,7 @@ const RELEASE_WITH_DELAY: &[Example] = &[
     (0, 1, Do::Release(1, 7, 3), &[(1, Want::NotFound)]),
     (0, 0, Do::Release(1, 7, 3), &[(0, Want::Released)]),
     (2999, 0, Do::Reserve, &[]),
+    (2999, 0, Do::Due(Some(3000)), &[]),
     (3000, 0, Do::Tick, &[(0, Want::Reserved(1, b"x"))]),
 ];
 
@@ -77,6 +79,7 @@ const PAUSE_LIFTED: &[Example] = &[
     (0, 0, Do::Put(0, 0, 9, b"x"), &[(0, Want::Inserted(1))]),
     (0, 0, Do::PauseTube(b"default", 5), &[(0, Want::Paused)]),
     (0, 1, Do::Reserve, &[]),
+    (0, 0, Do::Due(Some(5000)), &[]),
     (
         1000,
         0,
@@ -138,41 +141,20 @@ const SINGLE_JOBS: &[Example] = &[
     (0, 1, Do::PeekDelayed, &[(1, Want::NotFound)]),
 ];
 
-const DUE_BY_A_LEASE: &[Example] = &[
-    (0, 0, Do::Put(0, 0, 2, b"x"), &[(0, Want::Inserted(1))]),
-    (0, 0, Do::Reserve, &[(0, Want::Reserved(1, b"x"))]),
-    (1500, 0, Do::Touch(1), &[(0, Want::Touched)]),
+const DUE_BY_A_TIMEOUT: &[Example] = &[
+    (1500, 0, Do::ReserveWithTimeout(1), &[]),
+    (1500, 0, Do::Due(Some(2500)), &[]),
 ];
-
-const DUE_BY_A_WAITER: &[Example] = &[
-    (0, 0, Do::Put(0, 0, 2, b"x"), &[(0, Want::Inserted(1))]),
-    (0, 0, Do::Reserve, &[(0, Want::Reserved(1, b"x"))]),
-    (500, 0, Do::Reserve, &[]),
-];
-
-const DUE_BY_A_DELAY: &[Example] = &[
-    (0, 0, Do::Put(0, 0, 9, b"x"), &[(0, Want::Inserted(1))]),
-    (0, 0, Do::Reserve, &[(0, Want::Reserved(1, b"x"))]),
-    (0, 0, Do::Release(1, 7, 3), &[(0, Want::Released)]),
-    (2999, 0, Do::Reserve, &[]),
-];
-
-const DUE_BY_A_PAUSE: &[Example] = &[
-    (0, 0, Do::Put(0, 0, 9, b"x"), &[(0, Want::Inserted(1))]),
-    (0, 0, Do::PauseTube(b"default", 5), &[(0, Want::Paused)]),
-    (0, 1, Do::Reserve, &[]),
-];
-
-const DUE_BY_A_TIMEOUT: &[Example] = &[(1500, 0, Do::ReserveWithTimeout(1), &[])];
 
 const NOTHING_DUE: &[Example] = &[
     (0, 0, Do::Put(0, 0, 9, b"x"), &[(0, Want::Inserted(1))]),
     (0, 1, Do::ReserveJob(1), &[(1, Want::Reserved(1, b"x"))]),
     (0, 1, Do::Bury(1, 0), &[(1, Want::Buried)]),
     (0, 1, Do::Reserve, &[]),
+    (0, 0, Do::Due(None), &[]),
 ];
 
-const KICK_IN_TURNS: &[Example] = &[
+const BURY_AND_KICK_ORDER: &[Example] = &[
     (0, 0, Do::Put(0, 0, 9, b"x"), &[(0, Want::Inserted(1))]),
     (0, 0, Do::Put(0, 0, 9, b"y"), &[(0, Want::Inserted(2))]),
     (0, 0, Do::Put(0, 100, 9, b"z"), &[(0, Want::Inserted(3))]),
@@ -183,7 +165,25 @@ const KICK_IN_TURNS: &[Example] = &[
     (0, 0, Do::PeekBuried, &[(0, Want::Found(2, b"y"))]),
     (0, 0, Do::Kick(5), &[(0, Want::KickedCount(2))]),
     (0, 0, Do::Kick(5), &[(0, Want::KickedCount(1))]),
+];
+
+const KICK_IN_TURNS: &[Example] = &[
+    (0, 0, Do::Put(0, 0, 9, b"x"), &[(0, Want::Inserted(1))]),
+    (0, 0, Do::Put(0, 0, 9, b"y"), &[(0, Want::Inserted(2))]),
+    (0, 0, Do::Put(0, 100, 9, b"z"), &[(0, Want::Inserted(3))]),
+    (0, 0, Do::Reserve, &[(0, Want::Reserved(1, b"x"))]),
+    (0, 0, Do::Reserve, &[(0, Want::Reserved(2, b"y"))]),
+    (0, 0, Do::Bury(2, 0), &[(0, Want::Buried)]),
+    (0, 0, Do::Bury(1, 0), &[(0, Want::Buried)]),
+    (0, 0, Do::Kick(5), &[(0, Want::KickedCount(2))]),
+    (0, 0, Do::Kick(5), &[(0, Want::KickedCount(1))]),
     (0, 0, Do::Kick(5), &[(0, Want::KickedCount(0))]),
+];
+
+const PEEK_DELAYED_FIRST_DUE: &[Example] = &[
+    (0, 0, Do::Put(0, 9, 9, b"x"), &[(0, Want::Inserted(1))]),
+    (0, 0, Do::Put(0, 5, 9, b"y"), &[(0, Want::Inserted(2))]),
+    (0, 0, Do::PeekDelayed, &[(0, Want::Found(2, b"y"))]),
 ];
 
 const A_TUBE_IS_FORGOTTEN: &[Example] = &[
@@ -211,26 +211,14 @@ fn examples_of_tubes(rt: HostRuntime) -> Result<(), Fail> {
         ("least_across_tubes", LEAST_ACROSS_TUBES),
         ("watch_lists", WATCH_LISTS),
         ("single_jobs", SINGLE_JOBS),
+        ("bury_and_kick_order", BURY_AND_KICK_ORDER),
         ("kick_in_turns", KICK_IN_TURNS),
+        ("peek_delayed_first_due", PEEK_DELAYED_FIRST_DUE),
+        ("due_by_a_timeout", DUE_BY_A_TIMEOUT),
+        ("nothing_due", NOTHING_DUE),
         ("a_tube_is_forgotten", A_TUBE_IS_FORGOTTEN),
     ] {
         play(&rt, rt.alloc(), name, examples)?;
-    }
-    Ok(())
-}
-
-#[test]
-fn next_due_moments(rt: HostRuntime) -> Result<(), Fail> {
-    for (name, examples, due) in [
-        ("due_by_a_lease", DUE_BY_A_LEASE, Some(3500)),
-        ("due_by_a_waiter", DUE_BY_A_WAITER, Some(1000)),
-        ("due_by_a_delay", DUE_BY_A_DELAY, Some(3000)),
-        ("due_by_a_pause", DUE_BY_A_PAUSE, Some(5000)),
-        ("due_by_a_timeout", DUE_BY_A_TIMEOUT, Some(2500)),
-        ("nothing_due", NOTHING_DUE, None),
-    ] {
-        let mut core = played(&rt, rt.alloc(), name, examples)?;
-        assert_eq!(rt; core.next_due(), due, "{name}");
     }
     Ok(())
 }

@@ -31,6 +31,7 @@ const DEADLINE_SOON_AT_ONE_SECOND: &[Example] = &[
     (0, 0, Do::Put(0, 0, 2, b"x"), &[(0, Want::Inserted(1))]),
     (0, 0, Do::Reserve, &[(0, Want::Reserved(1, b"x"))]),
     (500, 0, Do::Reserve, &[]),
+    (500, 0, Do::Due(Some(1000)), &[]),
     (999, 0, Do::Tick, &[]),
     (1000, 0, Do::Tick, &[(0, Want::DeadlineSoon)]),
 ];
@@ -50,6 +51,7 @@ const CLOSE_HANDS_ON: &[Example] = &[
     (0, 1, Do::Reserve, &[(1, Want::Reserved(1, b"x"))]),
     (0, 2, Do::Reserve, &[]),
     (0, 0, Do::Delete(1), &[(0, Want::NotFound)]),
+    (0, 0, Do::Peek(1), &[(0, Want::Found(1, b"x"))]),
     (
         0,
         1,
