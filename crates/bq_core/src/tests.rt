@@ -11,6 +11,7 @@ use std::test::Fail;
 mod each_answer;
 mod large_bodies;
 mod many_tubes;
+mod no_memory;
 mod one_tube;
 
 #[derive(Clone, Copy, Debug)]
