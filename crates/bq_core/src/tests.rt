@@ -13,6 +13,8 @@ mod large_bodies;
 mod many_tubes;
 mod no_memory;
 mod one_tube;
+mod plain;
+mod random_steps;
 
 #[derive(Clone, Copy, Debug)]
 enum Do {
