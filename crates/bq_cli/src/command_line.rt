@@ -3,22 +3,14 @@ ghost use Rattle.std.specs.Prelude.{◌≤◌, IfOk, IfSome};
 ghost use Rattle.bq_cli.specs.Ranges.{AreInRange};
 
 use crate::chosen::{OptionFault, Options, Program};
+use bq_job::{LARGEST_BODY, MOST_SEATS, USUAL_BODY};
 use clap::error::ErrorKind;
 use clap::{Arg, ArgAction, ArgMatches, Command};
 use std::alloc::{AllocError, Global};
 use std::convert::AsStr;
 
-/// How many bytes a job's body may have, where nothing else is chosen.
-const USUAL_BODY: u32 = 65_535;
-
-/// How many bytes a job's body can have at most.
-const LARGEST_BODY: u32 = 1_048_576;
-
 /// How many seats a server has, where nothing else is chosen.
 const USUAL_SEATS: u16 = 16;
-
-/// How many seats a server can have at most.
-const MOST_SEATS: u16 = 256;
 
 const LISTEN: &str = "listen";
 
@@ -82,7 +74,7 @@ fn bqd_options<'a, S: AsStr>(alloc: Global, words: &'a [S]) -> Result<Options, O
         .long(SEATS)
         .value_name("N")
         .help("How many clients can be connected at a time, 1 to 256; 16 unless chosen")
-        .value_parser(clap::value_parser!(u16).range(1..=256));
+        .value_parser(clap::value_parser!(u16).range(1..=i64::from(MOST_SEATS)));
     let sessions = Arg::new(alloc, SESSIONS)
         .long(SESSIONS)
         .value_name("K")
@@ -105,14 +97,14 @@ fn max_job_size_arg<'a>(alloc: Global) -> Arg<'a> {
         .long(MAX_JOB_SIZE)
         .value_name("B")
         .help("How many bytes a job's body may have, 1 to 1048576; 65535 unless chosen")
-        .value_parser(clap::value_parser!(u32).range(1..=1_048_576))
+        .value_parser(clap::value_parser!(u32).range(1..=i64::from(LARGEST_BODY)))
 }
 
 // The parser has refused numbers that are out of range; the bounds here say so where they are read.
 
 fn max_job_size(matches: &ArgMatches<'_>) -> u32
     ensures least { 1 ≤ result }
-    ensures most { result ≤ 1048576 }
+    ensures most { result ≤ LARGEST_BODY }
 {
     matches
         .get_one::<u32>(MAX_JOB_SIZE)
@@ -122,7 +114,7 @@ fn max_job_size(matches: &ArgMatches<'_>) -> u32
 
 fn seats(matches: &ArgMatches<'_>) -> u16
     ensures least { 1 ≤ result }
-    ensures most { result ≤ 256 }
+    ensures most { result ≤ MOST_SEATS }
 {
     matches
         .get_one::<u16>(SEATS)
