@@ -149,9 +149,9 @@ fn take_steps(rt: &impl Abort, alloc: Global, run: &Run) -> Result<(), Fail> {
 
 #[test]
 fn random_steps(rt: HostRuntime) -> Result<(), Fail> {
-    for seed in [1, 20] {
+    for seed in 1..=12 {
         let run = Run {
-            seed,
+            seed: seed * 1000,
             drains: false,
             ends: false,
         };
@@ -163,7 +163,7 @@ fn random_steps(rt: HostRuntime) -> Result<(), Fail> {
 #[test]
 fn random_steps_that_drain(rt: HostRuntime) -> Result<(), Fail> {
     let run = Run {
-        seed: 300,
+        seed: 20_001,
         drains: true,
         ends: false,
     };
@@ -173,7 +173,7 @@ fn random_steps_that_drain(rt: HostRuntime) -> Result<(), Fail> {
 #[test]
 fn random_steps_to_the_end_of_time(rt: HostRuntime) -> Result<(), Fail> {
     let run = Run {
-        seed: 4000,
+        seed: 20_002,
         drains: false,
         ends: true,
     };
