@@ -1,6 +1,6 @@
 -- A lone line is served at a desk.
-use Rattle.std.proofs.Common.{◌≡◌, ◌≢◌, ℕ, zero, suc, ◌<◌, Bool, true, false, ◌&&◌, not, List, [], ◌∷◌, ◌++◌, Option, length, replicate, refl, sym, ap, ◌∙◌, arith, subst, inl, inr, append-nil, map}
-use Rattle.std.specs.Prelude.{◌==◌, IsTrue, slice_index_or}
+use Rattle.std.proofs.Common.{◌≡◌, ◌≢◌, ℕ, zero, suc, ◌<◌, true, false, List, [], ◌∷◌, ◌++◌, Option, length, replicate, refl, sym, ap, ◌∙◌, arith, subst, inl, inr, append-nil, map}
+use Rattle.std.specs.Prelude.{◌==◌, slice_index_or}
 use Rattle.std.specs.List.{list_all}
 use Rattle.std.proofs.lemmas.Bool.{cases_Bool, eq-eqb, eqb-true, eqb-false}
 use Rattle.std.proofs.lemmas.List.{length-replicate}
@@ -8,12 +8,11 @@ use Rattle.bq_job.specs.declared.answer.Answer.{Answer}
 use Rattle.bq_job.specs.declared.line_end.LineEnd.{LineEnd}
 use Rattle.bq_job.specs.declared.step.Step.{Step}
 use Rattle.bq_job.specs.Headline.{IsLineJoined}
-use Rattle.bq_job.specs.History.{ArePickedFrom, LineOver, is_tick, moments_heard, steps_at, without_ticks}
+use Rattle.bq_job.specs.History.{ArePickedFrom, is_tick, moments_heard, steps_at, without_ticks}
 use Rattle.bq_job.specs.LineSteps.{LineSeen}
-use Rattle.bq_job.specs.Machine.{Machine, Settings, new_machine}
+use Rattle.bq_job.specs.Machine.{Machine, Settings}
 use Rattle.bq_job.specs.Profile.{Profile}
 use Rattle.bq_job.specs.Runs.{Entry, Run, answers_to}
-use Rattle.bq_job.specs.SeatDid.{AreLinesServed, IsLineServed}
 use Rattle.bq_seat.specs.declared.machine.Action.{Action}
 use Rattle.bq_seat.specs.declared.machine.Action.TheVariants as actions
 use Rattle.bq_seat.specs.declared.machine.SeatMachine.{SeatMachine}
@@ -60,6 +59,13 @@ no_mail (suc n) (suc t) = no_mail n t
 pub new_mails_are : (settings : Settings) (d : DeskState) → IsNewDesk settings d → length d.mails ≡ settings.seats
 new_mails_are settings d new = ap length new.mails ∙ length-replicate settings.seats the_empty
 
+-- Nothing waits at a new desk.
+pub none_waits : (settings : Settings) (d : DeskState) (seat : ℕ) → IsNewDesk settings d → waiting seat d ≡ []
+none_waits settings d seat new =
+    ap (λ (ms : List (List Answer)). slice_index_or ms seat [] ++ answers_to seat d.pending) new.mails
+    ∙ ap (λ (xs : List Answer). xs ++ answers_to seat d.pending) (no_mail settings.seats seat)
+    ∙ ap (answers_to seat) new.pending
+
 -- steps at one seat alone
 alone_there : (seat : ℕ) (history : List Entry) → ((other : ℕ) → other ≢ seat → steps_at other history ≡ []) → list_all (λ (e : Entry). e.seat == seat) (without_ticks history) ≡ true
 alone_there seat [] h = refl
@@ -94,8 +100,7 @@ over_alone settings p seat readings desk machine seen end s within many =
     let w = s.went in
     let d = w.went in
     let line = line_served p machine seen end s.submitted s.taken s.on_line in
-    let none : waiting seat s.first ≡ [] =
-    ap (λ (ms : List (List Answer)). slice_index_or ms seat [] ++ answers_to seat s.first.pending) s.new.mails ∙ ap (λ (xs : List Answer). xs ++ answers_to seat s.first.pending) (no_mail settings.seats seat) ∙ ap (answers_to seat) s.new.pending in
+    let none = none_waits settings s.first seat s.new in
     record {
       taken = s.taken;
       waiting = waiting seat desk;

@@ -10,5 +10,7 @@ pub mod PartLemmas
 pub mod ReadingsLemmas
 pub mod SeatLemmas
 pub mod SeenLemmas
+pub mod SessionsLemmas
 pub mod TendingLemmas
+pub mod TurnsLemmas
 pub mod WritingLemmas

@@ -1,5 +1,5 @@
 -- A seat goes on with its door, by each thing that it does.
-use Rattle.std.proofs.Common.{◌≡◌, Bool, true, false, List, [], ◌∷◌, ◌++◌, Option, Some, None, refl, sym, ap, ◌∙◌, subst, append-nil, append_assoc, inl, inr}
+use Rattle.std.proofs.Common.{◌≡◌, true, false, List, [], ◌∷◌, ◌++◌, Option, Some, None, refl, sym, ap, ◌∙◌, subst, append-nil, append_assoc, inl, inr}
 use Rattle.bq_job.specs.declared.answer.Answer.{Answer}
 use Rattle.bq_job.specs.declared.line_end.LineEnd.{LineEnd}
 use Rattle.bq_job.specs.declared.step.Step.{Step}
@@ -10,17 +10,16 @@ use Rattle.bq_job.specs.Profile.{Profile}
 use Rattle.bq_job.specs.SeatDid.{AreLinesServed, IsLineServed, IsSeatDone}
 use Rattle.bq_seat.specs.Past.{Awaited}
 use Rattle.bq_seat.specs.SeatMoves.{IsMove}
-use Rattle.bq_seat.specs.SeatStands.{awaited, seat_profile}
+use Rattle.bq_seat.specs.SeatStands.{awaited}
 use Rattle.bq_seat.specs.declared.machine.Action.{Action}
 use Rattle.bq_seat.specs.declared.machine.Action.TheVariants as actions
 use Rattle.bq_seat.specs.declared.machine.Event.TheVariants as events
 use Rattle.bq_seat.specs.declared.machine.SeatMachine.{SeatMachine}
-use Rattle.bq_serve.specs.Attending.{IsAttending}
 use Rattle.bq_serve.specs.Carried.{Carried, HasGone}
 use Rattle.bq_serve.specs.Doors.{IsLeftBy}
 use Rattle.bq_serve.specs.LineCalls.{new_line}
 use Rattle.bq_serve.specs.Links.{Calls}
-use Rattle.bq_serve.specs.Tending.{AreKept, DoorSeen, GoesOn, IsNewDoor, IsPlaceBuilt, IsTended, Tends, attendant}
+use Rattle.bq_serve.specs.Tending.{AreKept, DoorSeen, GoesOn, IsNewDoor, IsNewSeat, IsPlaceBuilt, IsTended, Tends, attendant}
 use Rattle.bq_serve.specs.declared.run.attendant.Attendant.{Attendant}
 use Rattle.bq_serve.specs.declared.run.attendant.Place.{Place}
 use Rattle.bq_serve.specs.declared.run.attendant.Place.TheVariants as places
@@ -169,23 +168,23 @@ tends_gone seen machine door p before got t =
     }
 
 -- A seat that has done nothing, at a new door.
-pub tended_new : {L : Type 0} (seen : L → LineSeen) (p : Profile) (machine : SeatMachine) (door : DoorSeen)
-    → awaited machine ≡ Awaited.ALine → seat_profile machine ≡ p → IsNewDoor door → IsTended seen p (attendant machine places.Between) door [] []
-tended_new seen p machine door waits same new = record {
-  lines = [];
-  attends = record {
-    before = [];
-    now = [];
-    got = [];
-    getting = [];
-    of_lines = (refl, refl);
-    at_place = (refl, refl, waits, same);
-    submitted_is = refl;
-    taken_is = refl;
-  };
-  kept = new.none_over;
-  placed = (new.inside, new.more);
-}
+pub tended_new : {L : Type 0} (seen : L → LineSeen) (p : Profile) (a : Attendant L) (door : DoorSeen) → IsNewSeat p a → IsNewDoor door → IsTended seen p a door [] []
+tended_new {L} seen p a door seat new =
+    subst (λ (q : Place L). IsTended seen p (attendant a.machine q) door [] []) (sym seat.place) (record {
+      lines = [];
+      attends = record {
+        before = [];
+        now = [];
+        got = [];
+        getting = [];
+        of_lines = (refl, refl);
+        at_place = (refl, refl, seat.awaits, seat.profile);
+        submitted_is = refl;
+        taken_is = refl;
+      };
+      kept = new.none_over;
+      placed = (new.inside, new.more);
+    })
 
 -- A seat that is done.
 pub tended_done : {L : Type 0} (seen : L → LineSeen) (p : Profile) (machine : SeatMachine) (door : DoorSeen) (submitted : List Step) (taken : List Answer)

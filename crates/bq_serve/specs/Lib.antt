@@ -13,5 +13,7 @@ pub mod MemDoors
 pub mod ReadingNumbers
 pub mod RunSettings
 pub mod ScriptPlace
+pub mod Sessions
 pub mod Tending
+pub mod Turns
 pub mod Writing

@@ -5,7 +5,8 @@ use Rattle.bq_job.specs.declared.step.Step.{Step}
 use Rattle.bq_job.specs.History.{LineOver}
 use Rattle.bq_job.specs.LineSteps.{LineSeen}
 use Rattle.bq_job.specs.Profile.{Profile}
-use Rattle.bq_seat.specs.declared.machine.Action.{Action}
+use Rattle.bq_seat.specs.Past.{Awaited}
+use Rattle.bq_seat.specs.SeatStands.{awaited, seat_profile}
 use Rattle.bq_seat.specs.declared.machine.SeatMachine.{SeatMachine}
 use Rattle.bq_serve.specs.Attending.{IsAttending}
 use Rattle.bq_serve.specs.Carried.{IsBuilt}
@@ -66,3 +67,9 @@ Tends seen old at_old submitted taken new at_new =
 abbrev pub GoesOn : {K L : Type 0} → (K → List Step → List Answer → K → Type 0) → K → K → (L → LineSeen) → Attendant L → DoorSeen → Attendant L → DoorSeen → Type 0
 GoesOn went first last seen old at_old new at_new =
     (submitted : List Step) × (taken : List Answer) × Calls went first submitted taken last × Tends seen old at_old submitted taken new at_new
+
+-- A seat that has done nothing.
+pub record IsNewSeat {L : Type 0} (p : Profile) (a : Attendant L) : Type 0 where
+  pub place : a.place ≡ places.Between
+  pub awaits : awaited a.machine ≡ Awaited.ALine
+  pub profile : seat_profile a.machine ≡ p

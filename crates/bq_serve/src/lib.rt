@@ -3,7 +3,7 @@
 
 pub use door::{Door, DoorFault, MemDoor};
 pub use fault::RunFault;
-pub use run::{One, run_one};
+pub use run::{One, Run, run_one, run_sessions};
 
 pub mod clock;
 mod door;

@@ -1,6 +1,7 @@
 //! Runs, in which clients are served.
 
 pub use one::{One, run_one};
+pub use sessions::{Run, run_sessions};
 
 mod answer_write;
 mod attendant;
@@ -11,3 +12,4 @@ mod desk_seat;
 mod link;
 mod mail;
 mod one;
+mod sessions;

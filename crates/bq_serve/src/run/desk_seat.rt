@@ -5,10 +5,13 @@ ghost use Rattle.bq_job.specs.declared.step.Step.{Step};
 ghost use Rattle.bq_serve.specs.Carried.{Carried, IsBuilt};
 ghost use Rattle.bq_serve.specs.DeskOf.{WentAt, state_of};
 ghost use Rattle.bq_serve.specs.DeskState.{HasMails};
+ghost use Rattle.bq_serve.specs.Tending.{GoesOn, IsPlaceBuilt, IsPlaced, door_seen};
 
+use super::attendant::Attendant;
 use super::client::{Room, carry_out};
 use super::desk::Desk;
 use super::link::Link;
+use crate::Door;
 use crate::clock::Clock;
 use crate::line::Line;
 use bq_job::{Answer, Seat, Step};
@@ -54,4 +57,27 @@ pub fn act<L: Line, C: Clock + Drop>(
 {
     let mut link = DeskSeat { desk, seat };
     carry_out(machine, action, line, &mut link, room)
+}
+
+/// One turn of a seat that attends to a door, at the desk. Says whether something moved.
+pub fn attend<L: Line + Drop, D: Door<Line = L>, C: Clock + Drop>(
+    attendant: &mut Attendant<L>,
+    door: &mut D,
+    desk: &mut Desk<C>,
+    seat: Seat,
+    room: &mut Room,
+) -> bool
+    requires placed { IsPlaced attendant.old.place (door_seen D.is_out D.is_at_end D.lines_over door.old) }
+    requires built { IsPlaceBuilt attendant.old.place }
+    requires mails { HasMails (state_of desk.old) }
+    requires within { seat < length (state_of desk.old).mails }
+    ensures mails { HasMails (state_of desk.new) }
+    ensures went { let at = door_seen D.is_out D.is_at_end D.lines_over in
+        GoesOn (WentAt C.given seat) desk.old desk.new L.seen attendant.old (at door.old) attendant.new (at door.new) }
+{
+    if attendant.is_done() {
+        return false;
+    }
+    let mut link = DeskSeat { desk, seat };
+    attendant.go_on(door, &mut link, room)
 }

@@ -1,0 +1,171 @@
+-- A run over doors, from its first desk to the end.
+use Rattle.std.proofs.Common.{◌≡◌, ◌≢◌, ℕ, zero, suc, ◌+◌, ◌<◌, Bool, true, false, List, [], ◌∷◌, ◌++◌, Option, map, length, refl, sym, ap, ◌∙◌, arith, subst, inl, inr, add-zero, slice_index_or, nat_le}
+use Rattle.std.specs.Prelude.{◌==◌}
+use Rattle.std.specs.List.{All, list_all}
+use Rattle.std.proofs.lemmas.Bool.{cases_Bool, eq-eqb, leb-false}
+use Rattle.bq_job.specs.declared.answer.Answer.{Answer}
+use Rattle.bq_job.specs.declared.step.Step.{Step}
+use Rattle.bq_job.specs.ControlDid.{IsControlDone}
+use Rattle.bq_job.specs.Dispatch.{GivenAnswer}
+use Rattle.bq_job.specs.Headline.{AreTied, IsJoined}
+use Rattle.bq_job.specs.History.{ArePickedFrom, LineOver, is_tick, moments_heard, steps_at, without_ticks}
+use Rattle.bq_job.specs.LineSteps.{LineSeen}
+use Rattle.bq_job.specs.Machine.{Machine, Settings}
+use Rattle.bq_job.specs.Profile.{Profile}
+use Rattle.bq_job.specs.Runs.{Entry, GoesBy, Run, Transition, answers_to}
+use Rattle.bq_job.specs.SeatDid.{IsSeatDone}
+use Rattle.bq_job.specs.Steps.{IsStep, Outcome}
+use Rattle.bq_serve.specs.DeskState.{DeskState, IsNewDesk, waiting}
+use Rattle.bq_serve.specs.DeskWent.{SeatWent}
+use Rattle.bq_serve.specs.Sessions.{AreAllKept}
+use Rattle.bq_serve.specs.Tending.{AreKept, DoorSeen, IsNewDoor, IsNewSeat, IsTended, attendant}
+use Rattle.bq_serve.specs.Turns.{AreDone, AreServed}
+use Rattle.bq_serve.specs.declared.run.attendant.Attendant.{Attendant}
+use Rattle.bq_serve.specs.declared.run.attendant.Place.{Place}
+use Rattle.bq_serve.specs.declared.run.attendant.Place.TheVariants.{Done}
+use Rattle.bq_serve.proofs.AloneLemmas.{new_mails_are, none_waits}
+use Rattle.bq_serve.proofs.TendingLemmas.{tended_done, tended_new}
+
+-- A further element passes too.
+pub all_more : {X : Type 0} (P : X → Type 0) (xs : List X) (x : X) → All P xs → P x → All P (xs ++ x ∷ [])
+all_more P [] x h p zero d below = p
+all_more P [] x h p (suc k) d below = absurd (omega arith)
+all_more P (y ∷ xs) x h p zero d below = h 0 d (omega arith)
+all_more P (y ∷ xs) x h p (suc k) d below = all_more P xs x (λ j e there. h (suc j) e (omega (arith, there))) p k d (omega (arith, below))
+
+abbrev pub StepsKeepSettings : Type 0
+StepsKeepSettings = (first last : Machine) (at seat : ℕ) (what : Step) (outcome : Outcome) (given : List GivenAnswer) → IsStep first at seat what outcome given last → last.settings ≡ first.settings
+
+-- A run keeps the settings.
+run_keeps : StepsKeepSettings → (first : Machine) (taken : List Transition) (last : Machine) → GoesBy first taken last → last.settings ≡ first.settings
+run_keeps law first [] last e = ap (λ (m : Machine). m.settings) e
+run_keeps law first (t ∷ taken) last g =
+    run_keeps law t.last taken last g.2 ∙ law t.first t.last t.entry.moment t.entry.seat t.entry.what t.outcome t.given g.1.step ∙ ap (λ (m : Machine). m.settings) g.0
+
+-- no step is at a seat above this one
+up_to : (seat : ℕ) (history : List Entry) → ((t : ℕ) → seat < t → steps_at t history ≡ []) → list_all (λ (e : Entry). nat_le e.seat seat) (without_ticks history) ≡ true
+up_to seat [] h = refl
+up_to seat (e ∷ history) h =
+    elim (cases_Bool (is_tick e.what)) [
+      | inl x ↦ rw x (up_to seat history (λ t above. tick_none t x (h t above)))
+      | inr x ↦ elim (cases_Bool (nat_le e.seat seat)) [
+        | inl y ↦ rw (x, y) (up_to seat history (λ t above. own_none t x (h t above)))
+        | inr y ↦ absurd (some_there x (h e.seat (let lt = leb-false e.seat seat y in omega arith)))
+      ]
+    ]
+  where
+    tick_none : (t : ℕ) → is_tick e.what ≡ true → steps_at t (e ∷ history) ≡ [] → steps_at t history ≡ []
+    tick_none t x g = rw x at g
+
+    own_none : (t : ℕ) → is_tick e.what ≡ false → steps_at t (e ∷ history) ≡ [] → steps_at t history ≡ []
+    own_none t x g =
+        elim (cases_Bool (e.seat == t)) [
+          | inl z ↦ absurd (let no : e.what ∷ steps_at t history ≡ [] = rw (x, z) at g in cc)
+          | inr z ↦ rw (x, z) at g
+        ]
+
+    some_there : is_tick e.what ≡ false → steps_at e.seat (e ∷ history) ≡ [] → ⊥
+    some_there x g =
+        let same : (e.seat == e.seat) ≡ true = eq-eqb e.seat e.seat refl in
+        let no : e.what ∷ steps_at e.seat history ≡ [] = rw (x, same) at g in cc
+
+module _ {L D : Type 0} (seen : L → LineSeen) (at : D → DoorSeen) (p : Profile) (settings : Settings) (first : DeskState) where
+  -- The control line was served, and no seat yet.
+  pub begins_served : (control : List Step) (readings : List (Option ℕ)) (desk : DeskState) (seats : List (Attendant L)) (doors : List D)
+      → IsNewDesk settings first → SeatWent settings.seats first readings control [] desk → length seats ≡ settings.seats → length doors ≡ settings.seats
+      → All (IsNewSeat p) seats → All (λ d. IsNewDoor (at d)) doors → AreServed seen at p control first readings desk seats doors
+  begins_served control readings desk seats doors new w many doored seats_new doors_new = record {
+    history = w.history;
+    took = w.took;
+    went = w.went;
+    mailed = new_mails_are settings first new ∙ sym many;
+    doored = doored ∙ sym many;
+    each = λ t below a d.
+        let differs : t ≢ settings.seats = λ e. omega arith in
+        let at_door : t < length doors = omega arith in
+        subst (λ (xs : List Step). IsTended seen p (slice_index_or seats t a) (at (slice_index_or doors t d)) xs (w.took t)) (sym (w.others_still t differs))
+        (subst (λ (ys : List Answer). IsTended seen p (slice_index_or seats t a) (at (slice_index_or doors t d)) [] ys) (sym (w.others_took t differs))
+        (tended_new seen p (slice_index_or seats t a) (at (slice_index_or doors t d)) (seats_new t a below) (doors_new t d at_door)));
+    control_is = ap (λ n. steps_at n w.history) many ∙ w.submitted_is;
+    nobody_else = λ t above. w.others_still t (λ e. omega arith);
+  }
+
+  -- a door whose seat is done, and its answers
+  record IsDoorDone (history : List Entry) (took : ℕ → List Answer) (given : List GivenAnswer) (desk : DeskState) (t : ℕ) (door : DoorSeen) : Type 0 where
+    lines : List LineOver
+    kept : AreKept door.lines_over lines
+    done : IsSeatDone p lines (steps_at t history) (took t)
+    answers_are : answers_to t given ≡ took t ++ waiting t desk
+    at_end : (door.is_out ≡ false) × (door.is_at_end ≡ true)
+
+  -- a seat that is done, with its door
+  seat_done : (a : Attendant L) (door : DoorSeen) (submitted : List Step) (taken : List Answer) → a.place ≡ Done → IsTended seen p a door submitted taken
+      → (lines : List LineOver) × AreKept door.lines_over lines × IsSeatDone p lines submitted taken × ((door.is_out ≡ false) × (door.is_at_end ≡ true))
+  seat_done a door submitted taken e t =
+      let s : IsTended seen p (attendant a.machine Done) door submitted taken = subst (λ (q : Place L). IsTended seen p (attendant a.machine q) door submitted taken) e t in
+      (s.lines, s.kept, tended_done seen p a.machine door submitted taken s, s.placed)
+
+  module _ (control : List Step) (readings : List (Option ℕ)) (desk : DeskState) (seats : List (Attendant L)) (doors : List D) (new : IsNewDesk settings first) (many : length seats ≡ settings.seats)
+      (s : AreServed seen at p control first readings desk seats doors) (all_done : AreDone seats) where
+    door_done : (t : ℕ) → t < length doors → (d : D) → IsDoorDone s.history s.took s.went.given desk t (at (slice_index_or doors t d))
+    door_done t below d =
+        let here : t < length seats = let e = s.doored in omega arith in
+        let mailed : t < length first.mails = let e = s.mailed in omega arith in
+        let some : Attendant L = slice_index_or seats t (first_of seats here) in
+        let h = seat_done (slice_index_or seats t some) (at (slice_index_or doors t d)) (steps_at t s.history) (s.took t) (all_done t here some) (s.each t here some d) in
+        record {
+          lines = h.0;
+          kept = h.1;
+          done = h.2;
+          answers_are = ap (λ (xs : List Answer). xs ++ answers_to t s.went.given) (sym (none_waits settings first t new)) ∙ s.went.tied t mailed;
+          at_end = h.3;
+        }
+      where
+        first_of : (xs : List (Attendant L)) → t < length xs → Attendant L
+        first_of [] h = absurd (omega arith)
+        first_of (x ∷ xs) h = x
+
+    -- the doors from this seat on
+    doors_tied : (k : ℕ) (rest : List D) → ((j : ℕ) → j < length rest → (d : D) → IsDoorDone s.history s.took s.went.given desk (k + j) (at (slice_index_or rest j d)))
+        → (lines : List (List LineOver)) × (length lines ≡ length rest) × AreAllKept (λ (d : D). (at d).lines_over) rest lines
+        × AreTied p k lines (λ t. steps_at t s.history) s.took (λ t. waiting t desk) s.history s.went.given
+    doors_tied k [] h = ([], refl, tt, tt)
+    doors_tied k (d ∷ rest) h =
+        let more = doors_tied (suc k) rest (λ j below e. subst (λ (n : ℕ). IsDoorDone s.history s.took s.went.given desk n (at (slice_index_or rest j e))) (let e : k + suc j ≡ suc k + j = omega arith in e) (h (suc j) (omega (arith, below)) e)) in
+        let here : IsDoorDone s.history s.took s.went.given desk k (at d) = subst (λ (n : ℕ). IsDoorDone s.history s.took s.went.given desk n (at d)) (add-zero k) (h 0 (omega arith) d) in (
+          here.lines ∷ more.0,
+          ap suc more.1,
+          (here.kept, more.2),
+          (refl, here.answers_are, here.done, more.3),
+        )
+
+    -- All doors are at their end.
+    pub ends_closed : All (λ (d : D). ((at d).is_out ≡ false) × ((at d).is_at_end ≡ true)) doors
+    ends_closed t d below = (door_done t below d).at_end
+
+    pub ends_settings : StepsKeepSettings → desk.core.settings ≡ settings
+    ends_settings law = run_keeps law first.core s.went.runs.1.taken desk.core s.went.runs.1.goes ∙ ap (λ (m : Machine). m.settings) new.core
+
+    -- The parts, tied.
+    pub ends_joined : (text : List ℕ) (failed : Bool) → IsControlDone text failed control
+        → (lines : List (List LineOver)) × AreAllKept (λ (d : D). (at d).lines_over) doors lines × IsJoined settings p lines text failed readings s.history s.went.given desk.core
+    ends_joined text failed said =
+        let t = doors_tied 0 doors (λ j below d. subst (λ (n : ℕ). IsDoorDone s.history s.took s.went.given desk n (at (slice_index_or doors j d))) (let e : j ≡ 0 + j = omega arith in e) (door_done j below d)) in
+        let control_is : steps_at settings.seats s.history ≡ control = ap (λ n. steps_at n s.history) (sym many) ∙ s.control_is in (
+          t.0,
+          t.2,
+          record {
+            submitted = λ n. steps_at n s.history;
+            taken = s.took;
+            waiting = λ n. waiting n desk;
+            run = record {
+              runs = subst (λ (m : Machine). Run m s.history s.went.given desk.core) new.core s.went.runs;
+              timed = subst (λ (n : ℕ). ArePickedFrom (map (λ (e : Entry). e.moment) s.history) (moments_heard n readings)) new.heard s.went.timed.picked;
+            };
+            many = t.1 ∙ s.doored ∙ many;
+            tied = t.3;
+            control_tied = refl;
+            control_done = subst (λ (xs : List Step). IsControlDone text failed xs) (sym control_is) said;
+            of_nobody_else = up_to settings.seats s.history (λ n above. s.nobody_else n (omega arith));
+          },
+        )

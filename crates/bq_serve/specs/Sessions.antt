@@ -1,0 +1,29 @@
+-- What a run over doors comes to.
+use Rattle.std.specs.Prelude.{ℕ, Bool, List, [], ◌∷◌, Option}
+use Rattle.bq_core.specs.State.{settings_of}
+use Rattle.bq_core.specs.declared.config.Config.{Config}
+use Rattle.bq_job.specs.Headline.{IsHistoryOf}
+use Rattle.bq_job.specs.History.{LineOver}
+use Rattle.bq_serve.specs.ControlRead.{IsReadToEnd}
+use Rattle.bq_serve.specs.RunSettings.{profile_so_far}
+use Rattle.bq_serve.specs.Tending.{AreKept}
+use Rattle.bq_serve.specs.declared.run.sessions.Run.{Run}
+
+-- these lines are over at each door, where it keeps them
+abbrev pub AreAllKept : {D : Type 0} → (D → Option (List LineOver)) → List D → List (List LineOver) → Type 0
+AreAllKept lines_over [] [] = Unit {0}
+AreAllKept lines_over (door ∷ doors) (lines ∷ more) = AreKept (lines_over door) lines × AreAllKept lines_over doors more
+AreAllKept lines_over _ _ = ⊥
+
+-- The run came from this clock and this control line. The clock gave these readings. These lines are over at
+-- the doors, where they keep them. This text was read of the control line to its end, where it tells it. And
+-- one history of them all leads to the machine that the core stands for.
+pub record IsRunOf {D C I : Type 0} (given : C → List (Option ℕ) → C → Type 0) (lines_over : D → Option (List LineOver)) (left : I → Option (List ℕ)) (config : Config) (clock : C) (control : I) (run : Run D C I) : Type 0 where
+  pub readings : List (Option ℕ)
+  pub lines : List (List LineOver)
+  pub text : List ℕ
+  pub failed : Bool
+  pub gave : given clock readings run.clock
+  pub kept : AreAllKept lines_over run.doors.items lines
+  pub read : IsReadToEnd (left control) (left run.control) text failed
+  pub history : IsHistoryOf (settings_of config) (profile_so_far config) lines text failed readings run.core.machine
