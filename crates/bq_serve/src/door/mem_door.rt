@@ -21,6 +21,7 @@ pub struct MemDoor {
     // There is room for each line that is out or comes.
     ghost room: { vec_len over + (length coming.items + (if is_out then 1 else 0)) ≤ vec_capacity over },
     ghost fresh: { All IsFresh coming.items },
+    ghost end: { is_at_end ≡ true → coming.items ≡ [] },
 }
 
 impl MemDoor {
@@ -51,9 +52,10 @@ impl MemDoor {
         self.over.as_slice()
     }
 
-    /// How many lines are still to come.
+    /// How many lines are still to come: none at a door that is at its end.
     pub fn left(&self) -> usize
-        ensures { result ≡ length self.now.coming.items }
+        ensures left { result ≡ length self.now.coming.items }
+        ensures end { self.now.is_at_end ≡ true → result ≡ 0 }
     {
         self.coming.len()
     }

@@ -17,4 +17,5 @@ invariant_of-self c =
     record {
       room = omega (arith, ap length c.in-Some.ensures.items, room);
       fresh = behind IsFresh c.in-Some.line c.pop_front.new.self.items door.coming.items c.in-Some.ensures.items door.fresh;
+      end = λ at_end. let more = c.requires.more in cc;
     }
