@@ -5,7 +5,7 @@ ghost use Rattle.bq_job.specs.declared.answer.Answer.{Answer};
 ghost use Rattle.bq_job.specs.History.{moment_heard};
 ghost use Rattle.bq_job.specs.Runs.{answers_to};
 
-use super::mail::Mail;
+use super::mail::{Mail, new_mails};
 use crate::RunFault;
 use crate::clock::Clock;
 use bq_core::{Config, Core, CoreFault, Outs};
@@ -174,22 +174,6 @@ impl<C: Clock + Drop> Desk<C> {
         self.heard = moment_heard(self.heard, self.clock.now());
         self.core.step(self.heard, seat, what, &mut self.outs);
     }
-}
-
-// A mail for each seat.
-fn new_mails(alloc: Global, seats: u16) -> Result<Vec<Mail, Global>, NoMemory>
-    ensures { IfOk result (λ mails. mails.items ≡ replicate seats []) }
-{
-    let Ok(mut mails) = Vec::with_capacity(alloc, usize::from(seats)) else {
-        return Err(NoMemory);
-    };
-    for _ in 0..seats {
-        let mail = Mail::new(alloc)?;
-        if mails.push(mail).is_err() {
-            return Err(NoMemory);
-        }
-    }
-    Ok(mails)
 }
 
 // Puts an answer into the mail of its seat, or hands it back where that is full. Without such a seat it

@@ -1,4 +1,4 @@
-ghost use Rattle.std.specs.Prelude.{◌≡◌, ◌≤◌, ◌++◌, ◌∷◌, [], length, IfOk, IsErr, IsNone, MatchResult, ◌↔◌};
+ghost use Rattle.std.specs.Prelude.{◌≡◌, ◌≤◌, ◌++◌, ◌∷◌, [], length, IfOk, IsErr, IsNone, MatchResult, ◌↔◌, replicate};
 ghost use Rattle.std.specs.Option.{option_to_list};
 
 use bq_job::{Answer, NoMemory};
@@ -57,4 +57,20 @@ impl Mail {
         self.answers.push_back(answer).unwrap();
         Ok(())
     }
+}
+
+/// A mail for each seat. All memory is asked for here.
+pub fn new_mails(alloc: Global, seats: u16) -> Result<Vec<Mail, Global>, NoMemory>
+    ensures { IfOk result (λ mails. mails.items ≡ replicate seats []) }
+{
+    let Ok(mut mails) = Vec::with_capacity(alloc, usize::from(seats)) else {
+        return Err(NoMemory);
+    };
+    for _ in 0..seats {
+        let mail = Mail::new(alloc)?;
+        if mails.push(mail).is_err() {
+            return Err(NoMemory);
+        }
+    }
+    Ok(mails)
 }

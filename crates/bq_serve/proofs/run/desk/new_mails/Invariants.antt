@@ -1,9 +1,0 @@
-use Rattle.std.proofs.Common.{◌≡◌, ◌≤◌, ℕ, List, [], replicate}
-use Rattle.bq_job.specs.declared.answer.Answer.{Answer}
-use Rattle.bq_serve.proofs.run.desk.new_mails.Given as goal
-
-abbrev pub invariant-loop : goal.invariant-loop
-invariant-loop l = record {
-  made : l.mails.items ≡ replicate l.counter [];
-  within : l.counter ≤ l.fn.seats;
-}
