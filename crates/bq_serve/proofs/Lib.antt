@@ -1,10 +1,13 @@
 pub mod AloneLemmas
 pub mod CarriedLemmas
 pub mod ControlLemmas
+pub mod DeliveryLemmas
 pub mod DeskControlLemmas
 pub mod DeskLemmas
 pub mod DeskSeatLemmas
 pub mod EventLemmas
+pub mod LastPartLemmas
+pub mod LockedLemmas
 pub mod MailLemmas
 pub mod PartLemmas
 pub mod ReadingsLemmas

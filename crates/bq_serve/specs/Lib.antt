@@ -6,9 +6,12 @@ pub mod DeskState
 pub mod DeskWent
 pub mod Doors
 pub mod FaultCodes
+pub mod LastParts
 pub mod LineCalls
 pub mod LineParts
 pub mod Links
+pub mod LockedState
+pub mod LockedSteps
 pub mod MemDoors
 pub mod ReadingNumbers
 pub mod RunSettings

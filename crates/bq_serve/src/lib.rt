@@ -3,10 +3,12 @@
 
 pub use door::{Door, DoorFault, MemDoor};
 pub use fault::RunFault;
+pub use locked::Locked;
 pub use run::{One, Run, run_one, run_sessions};
 
 pub mod clock;
 mod door;
 mod fault;
 pub mod line;
+mod locked;
 mod run;

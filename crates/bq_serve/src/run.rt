@@ -10,6 +10,6 @@ mod control;
 mod desk;
 mod desk_seat;
 mod link;
-mod mail;
+pub mod mail;
 mod one;
 mod sessions;

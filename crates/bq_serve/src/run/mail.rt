@@ -1,5 +1,6 @@
 ghost use Rattle.std.specs.Prelude.{◌≡◌, ◌≤◌, ◌++◌, ◌∷◌, [], length, IfOk, IsErr, IsNone, MatchResult, ◌↔◌, replicate};
 ghost use Rattle.std.specs.Option.{option_to_list};
+ghost use Rattle.bq_serve.specs.LastParts.{last_part};
 
 use bq_job::{Answer, NoMemory};
 use std::alloc::Global;
@@ -16,7 +17,7 @@ pub struct Mail {
 }
 
 impl Model for Mail {
-    ghost use Rattle.std.specs.Prelude.{List, ◌≤◌};
+    ghost use Rattle.std.specs.Prelude.{List, ◌≤◌, length};
     ghost use Rattle.std.specs.VecDeque.{deque_capacity};
     ghost use Rattle.bq_job.specs.declared.answer.Answer.{Answer};
 
@@ -24,7 +25,7 @@ impl Model for Mail {
 
     ghost view = { λ m. m.answers.items };
 
-    ghost invariant = { λ m. 4 ≤ deque_capacity m.answers };
+    ghost invariant = { λ m. (length m.answers.items ≤ 4) × (4 ≤ deque_capacity m.answers) };
 }
 
 impl Mail {
@@ -56,6 +57,16 @@ impl Mail {
         }
         self.answers.push_back(answer).unwrap();
         Ok(())
+    }
+
+    /// Puts an answer behind the others. Where there is no room, the oldest is pushed out.
+    pub fn put_newest(&mut self, answer: Answer)
+        ensures { self.new ≡ last_part 4 (self.old ++ answer ∷ []) }
+    {
+        if self.answers.len() == MAIL_ROOM {
+            let _oldest = self.take_first();
+        }
+        self.answers.push_back(answer).unwrap();
     }
 }
 

@@ -1,0 +1,58 @@
+-- What the lock holds, and what is true of it at every hold.
+use Rattle.std.specs.Prelude.{ℕ, Bool, true, ◌≡◌, ◌≤◌, List, [], length, replicate, slice_index_or}
+use Rattle.bq_job.specs.declared.answer.Answer.{Answer}
+use Rattle.bq_job.specs.declared.journal.Entry.{Entry}
+use Rattle.bq_job.specs.Dispatch.{GivenAnswer}
+use Rattle.bq_job.specs.Lawful.{IsLawful}
+use Rattle.bq_job.specs.Machine.{Machine, Settings, new_machine}
+use Rattle.bq_job.specs.Replay.{Replay}
+use Rattle.bq_job.specs.Runs.{answers_to}
+use Rattle.bq_serve.specs.LastParts.{EndsWith}
+
+-- the entries of a journal, for how many it has room in all, and whether it tells all that happened
+pub record JournalState : Type 0 where
+  pub entries : List Entry
+  pub room : ℕ
+  pub whole : Bool
+
+pub record LockedState : Type 0 where
+  pub machine : Machine
+  -- the outbox of each seat
+  pub outboxes : List (List Answer)
+  -- the seats that the last step answered
+  pub answered : List ℕ
+  pub journal : JournalState
+
+abbrev pub locked_of : Machine → List (List Answer) → List ℕ → JournalState → LockedState
+locked_of machine outboxes answered journal = record { machine = machine; outboxes = outboxes; answered = answered; journal = journal }
+
+-- what lies in the outbox of a seat, nothing where there is no such seat
+abbrev pub outbox_at : ℕ → List (List Answer) → List Answer
+outbox_at seat outboxes = slice_index_or outboxes seat []
+
+-- Each outbox holds four answers at most.
+abbrev pub AreFew : List (List Answer) → Type 0
+AreFew outboxes = (seat : ℕ) → length (outbox_at seat outboxes) ≤ 4
+
+-- Nothing was done yet.
+abbrev pub new_locked : Settings → ℕ → LockedState
+new_locked settings room = record {
+  machine = new_machine settings;
+  outboxes = replicate settings.seats [];
+  answered = [];
+  journal = record { entries = []; room = room; whole = true };
+}
+
+-- The replay of the journal leads to the machine, and each outbox is a last part of the answers that it
+-- gives to the seat.
+pub record IsReplayed (l : LockedState) : Type 0 where
+  pub given : List GivenAnswer
+  pub replay : Replay l.machine.settings l.journal.entries given l.machine
+  pub last_parts : (seat : ℕ) → EndsWith (answers_to seat given) (outbox_at seat l.outboxes)
+
+-- what is true at every hold of the lock
+pub record IsLawfulHold (l : LockedState) : Type 0 where
+  pub lawful : IsLawful l.machine
+  pub many : length l.outboxes ≡ l.machine.settings.seats
+  pub few : AreFew l.outboxes
+  pub replayed : l.journal.whole ≡ true → IsReplayed l
