@@ -186,3 +186,6 @@ fn round_after(round: Round, moved: bool, is_done: bool) -> Round
         Round::Still
     }
 }
+
+#[cfg(test)]
+mod tests;
