@@ -17,7 +17,8 @@ use Rattle.bq_job.proofs.ChoiceLemmas.{first_of_is, first_of_none_passes, pair_o
 use Rattle.bq_job.proofs.ListLemmas.{all_from_members, found_passes, list_any_not}
 use Rattle.bq_jobs.specs.declared.place.Place.{Place}
 use Rattle.bq_jobs.specs.Inside.{IsOrderOf, Order, has_place, is_place}
-use Rattle.bq_jobs.specs.PlaceOrder.{front, first_in_group, holds_place, id_in_group, place_cmp}
+use Rattle.bq_jobs.specs.Kept.{ranked}
+use Rattle.bq_jobs.specs.PlaceOrder.{front, first_in_group, first_rank, holds_place, place_cmp, rank_in_group}
 use Rattle.bq_jobs.proofs.Changes.{found_by_id, found_id}
 use Rattle.bq_jobs.proofs.Choice.{equal_from, found_below, from_found, from_least, from_not_below, none_below, numbers_tie, pair_not_after, then_equal_first, then_equal_second, then_not_greater}
 use Rattle.bq_jobs.proofs.Orders.{held_place, place_total}
@@ -26,6 +27,10 @@ use Rattle.bq_jobs.proofs.Orders.{held_place, place_total}
 abbrev pub in_group : {G : Type 0} → (G → G → Ordering) → G → Option (Place G) → Bool
 in_group C g None = false
 in_group C g (Some p) = is_eq (C g p.group)
+
+-- the number and the id of a place
+abbrev rank_at : {G : Type 0} → Place G × Unit {0} → ℕ × ℕ
+rank_at e = (e.0.at, e.0.id)
 
 false_or : (b : Bool) → (b ≡ true → ⊥) → b ≡ false
 false_or true h = absurd (h refl)
@@ -144,7 +149,7 @@ module _ {G : Type 0} {C : G → G → Ordering} (o : IsTotalOrder C) (g : G) wh
           let found_then : job_with x.id jobs ≡ Some y = subst (λ n. job_with n jobs ≡ Some y) same (found_by_id low next jobs y ids i) in
           cc
 
-      one_of_group : (e : Place G × Unit {0}) → entry_from (place_cmp C (front C g)) order.entries ≡ Some e → is_eq (C g e.0.group) ≡ true → option_map (λ j. j.id) (first_of passes before jobs) ≡ Some e.0.id
+      one_of_group : (e : Place G × Unit {0}) → entry_from (place_cmp C (front C g)) order.entries ≡ Some e → is_eq (C g e.0.group) ≡ true → option_map (ranked number) (first_of passes before jobs) ≡ Some (rank_at e)
       one_of_group e n t =
           let st = standing e.0 (from_found (place_total o) (front C g) e order.entries n) in
           let x = st.job in
@@ -162,17 +167,26 @@ module _ {G : Type 0} {C : G → G → Ordering} (o : IsTotalOrder C) (g : G) wh
           let above = from_least (place_total o) (front C g) p.place e order.entries s n (held y i p.place p.is) (front_first p.place p.group) in
           let pairs = pair_not_after e.0.at e.0.id p.place.at p.place.id (then_tied (C e.0.group p.place.group) (ordering_then (nat_cmp e.0.at p.place.at) (nat_cmp e.0.id p.place.id)) (tied_group e.0 p.place t p.group) above) in
           same_pairs p.place.at p.place.id e.0.at e.0.id (number y) y.id (number x) x.id p.at p.id at (sym id) pairs in
-          ap (option_map (λ j. j.id)) (first_of_is passes (pair_order number (λ j. j.id)) jobs x ((found_passes (λ j. j.id == e.0.id) jobs x st.found).1) pass least (λ y i a b. same_job x y found i a b))
-          ∙ ap Some id
+          let pair : ranked number x ≡ rank_at e = cc in
+          ap (option_map (ranked number)) (first_of_is passes (pair_order number (λ j. j.id)) jobs x ((found_passes (λ j. j.id == e.0.id) jobs x st.found).1) pass least (λ y i a b. same_job x y found i a b))
+          ∙ ap Some pair
 
-      first_by : (u : Option (Place G × Unit {0})) → entry_from (place_cmp C (front C g)) order.entries ≡ u → option_and_then (id_in_group C g) u ≡ option_map (λ j. j.id) (first_of passes before jobs)
-      first_by None n = sym (ap (option_map (λ j. j.id)) (none_first n))
-      first_by (Some e) n =
+      rank_by : (u : Option (Place G × Unit {0})) → entry_from (place_cmp C (front C g)) order.entries ≡ u → option_and_then (rank_in_group C g) u ≡ option_map (ranked number) (first_of passes before jobs)
+      rank_by None n = sym (ap (option_map (ranked number)) (none_first n))
+      rank_by (Some e) n =
           elim (cases_Bool (is_eq (C g e.0.group))) [
             | inl t ↦ rw t (sym (one_of_group e n t))
-            | inr t ↦ rw t (sym (ap (option_map (λ j. j.id)) (none_of_group e n t)))
+            | inr t ↦ rw t (sym (ap (option_map (ranked number)) (none_of_group e n t)))
           ]
 
-      -- the id at the first place of the group is that of the first job that passes
+      -- the number and the id at the first place of the group are those of the first job that passes
+      pub rank_is : first_rank C g order.entries ≡ option_map (ranked number) (first_of passes (λ a b. is_pair_before (number a) a.id (number b) b.id) jobs)
+      rank_is = rank_by (entry_from (place_cmp C (front C g)) order.entries) refl
+
+      second_of : (o : Option Job) → option_map (λ (p : ℕ × ℕ). p.1) (option_map (ranked number) o) ≡ option_map (λ j. j.id) o
+      second_of None = refl
+      second_of (Some j) = refl
+
+      -- so is the id alone
       pub first_is : first_in_group C g order.entries ≡ option_map (λ j. j.id) (first_of passes (λ a b. is_pair_before (number a) a.id (number b) b.id) jobs)
-      first_is = first_by (entry_from (place_cmp C (front C g)) order.entries) refl
+      first_is = ap (option_map (λ (p : ℕ × ℕ). p.1)) rank_is ∙ second_of (first_of passes before jobs)

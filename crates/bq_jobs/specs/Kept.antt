@@ -29,3 +29,7 @@ search_bound jobs = 2 * binary_digits (2 * length jobs + 2)
 -- the comparisons of a call: no more than those of n searches
 abbrev pub ComparesAtMost : ℕ → Kept → Kept → Type 0
 ComparesAtMost n old new = (old.comparisons ≤ new.comparisons) × (new.comparisons ≤ old.comparisons + n * search_bound old.jobs)
+
+-- a number that orders jobs, and the id of the job
+abbrev pub ranked : (Job → ℕ) → Job → ℕ × ℕ
+ranked number j = (number j, j.id)

@@ -2,7 +2,7 @@
 use Rattle.std.specs.Prelude.{ℕ, if◌then◌else◌, List, Option, Some, None}
 use Rattle.std.specs.declared.cmp.Ordering.{Ordering}
 use Rattle.std.specs.Ordering.{is_eq, nat_cmp, on, then_cmp}
-use Rattle.std.specs.Option.{option_and_then}
+use Rattle.std.specs.Option.{option_and_then, option_map}
 use Rattle.std.specs.Map.{lookup, remove_entry}
 use Rattle.std.specs.BTreeMap.{is_at, insert_entry}
 use Rattle.bq_index.specs.Order.{entry_from}
@@ -17,12 +17,16 @@ module _ {G : Type 0} (compare : G → G → Ordering) where
   abbrev pub front : G → Place G
   front group = record { group = group; at = 0; id = 0 }
 
-  abbrev pub id_in_group : G → Place G × Unit {0} → Option ℕ
-  id_in_group group e = if is_eq (compare group e.0.group) then Some e.0.id else None
+  abbrev pub rank_in_group : G → Place G × Unit {0} → Option (ℕ × ℕ)
+  rank_in_group group e = if is_eq (compare group e.0.group) then Some (e.0.at, e.0.id) else None
 
-  -- the id at the first place of the group
+  -- the number and the id at the first place of the group
+  abbrev pub first_rank : G → List (Place G × Unit {0}) → Option (ℕ × ℕ)
+  first_rank group es = option_and_then (rank_in_group group) (entry_from (place_cmp (front group)) es)
+
+  -- the id there
   abbrev pub first_in_group : G → List (Place G × Unit {0}) → Option ℕ
-  first_in_group group es = option_and_then (id_in_group group) (entry_from (place_cmp (front group)) es)
+  first_in_group group es = option_map (λ p. p.1) (first_rank group es)
 
   abbrev pub holds_place : Place G → List (Place G × Unit {0}) → Option (Unit {0})
   holds_place p es = lookup (is_at (place_cmp p)) es

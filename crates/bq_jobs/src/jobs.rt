@@ -4,16 +4,16 @@ ghost use Rattle.std.specs.Prelude.{◌≡◌, ◌+◌, ◌<◌, ◌^◌, if◌t
 ghost use Rattle.bq_job.specs.Changes.{first_of, is_held_by, job_with};
 ghost use Rattle.bq_job.specs.Dispatch.{is_job_before};
 ghost use Rattle.bq_job.specs.JobCommands.{is_buried_in, is_delayed_in};
-ghost use Rattle.bq_job.specs.JobStates.{is_buried_before, is_delayed, is_due_before, is_reserved};
+ghost use Rattle.bq_job.specs.JobStates.{due_of, is_buried_before, is_delayed, is_due_before, is_reserved};
 ghost use Rattle.bq_job.specs.Lawful.{AreIdsWithin};
 ghost use Rattle.bq_job.specs.TubeCommands.{is_ready_in};
-ghost use Rattle.bq_jobs.specs.Kept.{ComparesAtMost, with_added, without};
-ghost use Rattle.bq_jobs.specs.Leases.{is_lease_before};
+ghost use Rattle.bq_jobs.specs.Kept.{ComparesAtMost, ranked, with_added, without};
+ghost use Rattle.bq_jobs.specs.Leases.{deadline_of, is_lease_before};
 
 use super::order;
 use super::place::{self, JobList, Place, Timer, TubeList};
 use bq_index::{BoxSource, Shelf};
-use bq_job::{Job, JobId, NoMemory, Seat, TubeName};
+use bq_job::{Job, JobId, Moment, NoMemory, Seat, TubeName};
 use std::alloc::Global;
 use std::marker::Model;
 
@@ -203,6 +203,43 @@ impl Jobs {
         ensures comparisons { ComparesAtMost 1 self.old self.new }
     {
         order::first_in_group(&mut self.leases, seat)
+    }
+
+    /// The priority and the id of the most urgent ready job of a tube: by priority, then by id.
+    pub fn most_urgent(&mut self, tube: &TubeName) -> Option<(u64, JobId)>
+        ensures rank { result ≡ option_map (ranked (λ j. j.pri)) (first_of (is_ready_in tube.now) is_job_before self.old.jobs) }
+        ensures same { self.new ≡ record self.old { comparisons = self.new.comparisons } }
+        ensures comparisons { ComparesAtMost 1 self.old self.new }
+    {
+        let ready = JobList::Ready;
+        order::first_rank(&mut self.by_tube, TubeList::new(ready, *tube))
+    }
+
+    /// The due moment and the id of the delayed job that is due first, in whatever tube.
+    pub fn next_due(&mut self) -> Option<(Moment, JobId)>
+        ensures rank { result ≡ option_map (ranked (λ j. due_of j.state)) (first_of (λ j. is_delayed j.state) is_due_before self.old.jobs) }
+        ensures same { self.new ≡ record self.old { comparisons = self.new.comparisons } }
+        ensures comparisons { ComparesAtMost 1 self.old self.new }
+    {
+        order::first_rank(&mut self.timers, Timer::Due)
+    }
+
+    /// The deadline and the id of the reserved job whose time to run ends first, whoever holds it.
+    pub fn next_deadline(&mut self) -> Option<(Moment, JobId)>
+        ensures rank { result ≡ option_map (ranked (λ j. deadline_of j.state)) (first_of (λ j. is_reserved j.state) is_lease_before self.old.jobs) }
+        ensures same { self.new ≡ record self.old { comparisons = self.new.comparisons } }
+        ensures comparisons { ComparesAtMost 1 self.old self.new }
+    {
+        order::first_rank(&mut self.timers, Timer::Lease)
+    }
+
+    /// The deadline and the id of the job of the client at a seat whose time to run ends first.
+    pub fn next_deadline_of(&mut self, seat: Seat) -> Option<(Moment, JobId)>
+        ensures rank { result ≡ option_map (ranked (λ j. deadline_of j.state)) (first_of (is_held_by seat) is_lease_before self.old.jobs) }
+        ensures same { self.new ≡ record self.old { comparisons = self.new.comparisons } }
+        ensures comparisons { ComparesAtMost 1 self.old self.new }
+    {
+        order::first_rank(&mut self.leases, seat)
     }
 }
 

@@ -2,7 +2,7 @@
 ghost use Rattle.std.specs.Prelude.{◌≡◌, ◌+◌, ◌<◌, ◌≤◌, length, is_some, if◌then◌else◌, IsSome, OnOk};
 ghost use Rattle.bq_index.specs.Order.{InOrder};
 ghost use Rattle.bq_index.specs.Shelf.{ComparesFew};
-ghost use Rattle.bq_jobs.specs.PlaceOrder.{first_in_group, holds_place, place_cmp, with_place, without_place};
+ghost use Rattle.bq_jobs.specs.PlaceOrder.{first_in_group, first_rank, holds_place, place_cmp, with_place, without_place};
 ghost use Rattle.std.specs.Option.{ForSome};
 ghost use Rattle.std.specs.Prelude.{None};
 
@@ -55,12 +55,12 @@ pub(crate) fn leave<G: Ord + Drop>(order: &mut Shelf<Place<G>, ()>, place: Optio
     }
 }
 
-/// The id at the first place of a group.
-pub(crate) fn first_in_group<G: Ord + Drop + Copy>(
+/// The number and the id at the first place of a group.
+pub(crate) fn first_rank<G: Ord + Drop + Copy>(
     order: &mut Shelf<Place<G>, ()>,
     group: G,
-) -> Option<JobId>
-    ensures id { result ≡ first_in_group G.cmp group order.old.entries }
+) -> Option<(u64, JobId)>
+    ensures rank { result ≡ first_rank G.cmp group order.old.entries }
     ensures ordered { InOrder (place_cmp G.cmp) order.old.entries }
     ensures entries { order.new.entries ≡ order.old.entries }
     ensures spare { order.new.spare ≡ order.old.spare }
@@ -74,8 +74,23 @@ pub(crate) fn first_in_group<G: Ord + Drop + Copy>(
     };
     let (place, ()) = order.next_from(&front)?;
     if group.cmp(&place.group).is_eq() {
-        Some(place.id)
+        Some((place.at, place.id))
     } else {
         None
     }
+}
+
+/// The id at the first place of a group.
+pub(crate) fn first_in_group<G: Ord + Drop + Copy>(
+    order: &mut Shelf<Place<G>, ()>,
+    group: G,
+) -> Option<JobId>
+    ensures id { result ≡ first_in_group G.cmp group order.old.entries }
+    ensures ordered { InOrder (place_cmp G.cmp) order.old.entries }
+    ensures entries { order.new.entries ≡ order.old.entries }
+    ensures spare { order.new.spare ≡ order.old.spare }
+    ensures comparisons { ComparesFew order.old order.new }
+{
+    let (_, id) = first_rank(order, group)?;
+    Some(id)
 }
