@@ -1,5 +1,5 @@
 -- What each event at a seat does, where its seat is known.
-use Rattle.std.proofs.Common.{◌≡◌, ℕ, suc, Bool, true, false, ◌+◌, ◌≤◌, ◌<◌, ◌&&◌, ◌||◌, ◌==◌, not, List, [], ◌∷◌, ◌++◌, Option, Some, None, map, filter, refl, sym, ap, ◌∙◌, if◌then◌else◌, nat_eq, nat_le, unwrap_or, arith, inl, inr, eq-eqb, subst, append-nil, ◌⊎◌, length, set, slice_get, zero}
+use Rattle.std.proofs.Common.{◌≡◌, ℕ, suc, Bool, true, false, ◌+◌, ◌≤◌, ◌<◌, ◌&&◌, ◌||◌, ◌==◌, not, List, [], ◌∷◌, ◌++◌, Option, Some, None, is_some, map, filter, refl, sym, ap, ◌∙◌, if◌then◌else◌, nat_eq, nat_le, unwrap_or, arith, inl, inr, eq-eqb, subst, append-nil, ◌⊎◌, length, set, slice_get, zero}
 use Rattle.std.proofs.Math.Bool.{or-false, or-true}
 use Rattle.std.specs.List.{find, list_any}
 use Rattle.std.proofs.lemmas.Bool.{and_parts, cases_Bool, eqb-true}
@@ -22,6 +22,7 @@ use Rattle.bq_job.specs.Machine.{Machine, SeatRecord}
 use Rattle.bq_job.specs.Steps.{granted, growth_refused, share_refused, shares_body, step_takes_memory, may_be_left_out}
 use Rattle.bq_job.specs.TubeName.{is_same_name}
 use Rattle.bq_core.specs.Acting.{Acts, is_asking, is_connected, is_free}
+use Rattle.bq_core.specs.JobChanges.{is_passed_by}
 use Rattle.bq_core.specs.Outbox.{Outbox}
 use Rattle.bq_core.proofs.StateLemmas.{AreNumbered, changed_there, seat_there}
 use Rattle.bq_core.proofs.TubeLemmas.{some_left}
@@ -172,3 +173,16 @@ acts_unshared m seat what old new last is adds = record {
   left_out = ap (λ o. o.left_out) adds ∙ sym (or-false old.left_out);
   unshared = ap (λ o. o.unshared) adds ∙ sym (or-true old.unshared);
 }
+
+-- there is a job that passes
+pub passed_by : (p : Job → Bool) (o : Option Job) → is_passed_by p o ≡ true → (j : Job) × (o ≡ Some j) × (p j ≡ true)
+passed_by p None h = absurd cc
+passed_by p (Some j) h = (j, refl, h)
+
+pub not_true : (b : Bool) → not b ≡ true → b ≡ false
+not_true true h = absurd cc
+not_true false h = refl
+
+pub some_there : (o : Option Job) → is_some o ≡ true → (j : Job) × (o ≡ Some j)
+some_there None h = absurd cc
+some_there (Some j) h = (j, refl)

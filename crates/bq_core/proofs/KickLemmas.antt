@@ -1,5 +1,6 @@
 -- Kicking the first job of a kind again and again kicks the first ones in their order.
 use Rattle.std.proofs.Common.{◌≡◌, ℕ, zero, suc, Bool, true, false, ◌&&◌, ◌||◌, ◌==◌, ◌+◌, ◌≤◌, ◌<◌, not, List, [], ◌∷◌, Option, Some, None, map, filter, refl, sym, ap, ◌∙◌, if◌then◌else◌, inl, inr, arith, eq-eqb, length, take, is_some}
+use Rattle.std.specs.Prelude.{option_map}
 use Rattle.std.specs.List.{AllByRecursion as All, Contains, list_any}
 use Rattle.std.proofs.lemmas.Bool.{and_from, cases_Bool, eqb-true, ne_eqb}
 use Rattle.std.proofs.lemmas.Bool.Decides.{nat_tests}
@@ -13,8 +14,6 @@ use Rattle.bq_job.proofs.KeptLemmas.{ids_from_below, ids_of_filter}
 use Rattle.bq_job.proofs.ListLemmas.{all_at, all_from_members, list_any_with}
 use Rattle.bq_core.specs.declared.job_list.JobKind.{JobKind}
 use Rattle.bq_core.specs.declared.job_list.JobKind.TheVariants.{Ready, Delayed, Buried}
-use Rattle.bq_core.specs.declared.job_list.JobChange.TheVariants.{Kick}
-use Rattle.bq_core.specs.JobChanges.{changed}
 use Rattle.bq_core.specs.JobKinds.{is_before_of, is_of, rank_of}
 use Rattle.bq_core.specs.Kicking.{KicksFirst, all_kicked, jobs_of}
 use Rattle.bq_core.proofs.ActLemmas.{none_left}
@@ -25,13 +24,13 @@ ids_above : (low next : ℕ) (jobs : List Job) → AreIdsWithin low jobs next �
 ids_above low next [] h = tt
 ids_above low next (j ∷ jobs) h = (h.0, ids_above low next jobs (ids_from_below low (suc j.id) next jobs (let a = h.0 in omega arith) h.1))
 
-none_with : (low id next : ℕ) (jobs : List Job) → id < low → AreIdsWithin low jobs next → All (λ j. (j.id == id) ≡ false) jobs
+pub none_with : (low id next : ℕ) (jobs : List Job) → id < low → AreIdsWithin low jobs next → All (λ j. (j.id == id) ≡ false) jobs
 none_with low id next [] less h = tt
 none_with low id next (j ∷ jobs) less h =
     (ne_eqb j.id id (λ e. absurd (let a = h.0 in omega arith)), none_with (suc j.id) id next jobs (let a = h.0 in omega arith) h.1)
 
 -- a job is the only one of its id
-one_of_id : (id low next : ℕ) (jobs : List Job) (j : Job) → AreIdsWithin low jobs next → job_with id jobs ≡ Some j → All (λ x. (x.id == id) ≡ true → x ≡ j) jobs
+pub one_of_id : (id low next : ℕ) (jobs : List Job) (j : Job) → AreIdsWithin low jobs next → job_with id jobs ≡ Some j → All (λ x. (x.id == id) ≡ true → x ≡ j) jobs
 one_of_id id low next [] j h found = tt
 one_of_id id low next (y ∷ jobs) j h found = elim (cases_Bool (y.id == id)) [
   | inl same ↦
@@ -49,7 +48,7 @@ one_of_id id low next (y ∷ jobs) j h found = elim (cases_Bool (y.id == id)) [
     others (x ∷ js) all = (λ e. absurd (let f : false ≡ true = sym all.0 ∙ e in cc), others js all.1)
 
 -- a job of the list is found by its id
-finds_each : (low next : ℕ) (jobs : List Job) → AreIdsWithin low jobs next → All (λ j. job_with j.id jobs ≡ Some j) jobs
+pub finds_each : (low next : ℕ) (jobs : List Job) → AreIdsWithin low jobs next → All (λ j. job_with j.id jobs ≡ Some j) jobs
 finds_each low next [] h = tt
 finds_each low next (y ∷ jobs) h =
     (rw (eq-eqb y.id y.id refl) refl, later jobs (ids_above (suc y.id) next jobs h.1) (finds_each (suc y.id) next jobs h.1))
@@ -221,25 +220,28 @@ some_buried : (tube : List ℕ) (jobs js : List Job) → 0 < length js → in_or
 some_buried tube jobs [] h = absurd (omega arith)
 some_buried tube jobs (j ∷ js) h = refl
 
-pub kickable_buried : (tube : List ℕ) (jobs : List Job) (o : Option Job) → o ≡ first_of (is_of Buried tube) (is_before_of Buried) jobs → is_some o ≡ true → jobs_of Buried tube jobs ≡ kickable tube jobs
-kickable_buried tube jobs o first some =
-    let any : list_any (is_of Buried tube) jobs ≡ true = sym (first_of_is_some (is_of Buried tube) (is_before_of Buried) jobs) ∙ ap is_some (sym first) ∙ some in
+pub kickable_buried : (tube : List ℕ) (jobs : List Job) (id : ℕ) → Some id ≡ option_map (λ j. j.id) (first_of (is_buried_in tube) is_buried_before jobs) → jobs_of Buried tube jobs ≡ kickable tube jobs
+kickable_buried tube jobs id first =
+    let some : is_some (first_of (is_buried_in tube) is_buried_before jobs) ≡ true = found (first_of (is_buried_in tube) is_buried_before jobs) first in
+    let any : list_any (is_buried_in tube) jobs ≡ true = sym (first_of_is_some (is_buried_in tube) is_buried_before jobs) ∙ some in
     some_buried tube jobs (filter (is_buried_in tube) jobs) (some_left (is_buried_in tube) jobs any)
+  where
+    found : (o : Option Job) → Some id ≡ option_map (λ j. j.id) o → is_some o ≡ true
+    found None e = absurd cc
+    found (Some j) e = refl
 
-pub kickable_delayed : (tube : List ℕ) (jobs : List Job) → None ≡ first_of (is_of Buried tube) (is_before_of Buried) jobs → jobs_of Delayed tube jobs ≡ kickable tube jobs
+-- no id, no job
+pub no_id : (o : Option Job) → None ≡ option_map (λ j. j.id) o → o ≡ None
+no_id None e = refl
+no_id (Some j) e = absurd cc
+
+pub kickable_delayed : (tube : List ℕ) (jobs : List Job) → None ≡ option_map (λ j. j.id) (first_of (is_buried_in tube) is_buried_before jobs) → jobs_of Delayed tube jobs ≡ kickable tube jobs
 kickable_delayed tube jobs none =
-    let empty : filter (is_buried_in tube) jobs ≡ [] = none_left (is_buried_in tube) jobs (first_of_none (is_of Buried tube) (is_before_of Buried) jobs (sym none)) in
+    let empty : filter (is_buried_in tube) jobs ≡ [] = none_left (is_buried_in tube) jobs (first_of_none (is_buried_in tube) is_buried_before jobs (no_id (first_of (is_buried_in tube) is_buried_before jobs) none)) in
     ap (kicked_first tube jobs) (sym empty)
 
 pub none_of_kind : (kind : JobKind) (tube : List ℕ) (jobs : List Job) → None ≡ first_of (is_of kind tube) (is_before_of kind) jobs → jobs_of kind tube jobs ≡ []
 none_of_kind kind tube jobs none = ap (in_order (is_before_of kind)) (none_left (is_of kind tube) jobs (first_of_none (is_of kind tube) (is_before_of kind) jobs (sym none)))
-
-pub kick_keeps_id : (id : ℕ) (j : Job) → (changed (Kick id) j).id ≡ j.id
-kick_keeps_id id j = go (j.id == id)
-  where
-    go : (b : Bool) → (if b then kicked j else j).id ≡ j.id
-    go true = refl
-    go false = refl
 
 -- steps of counting
 pub zero_more : (n : ℕ) → 0 + n ≡ n

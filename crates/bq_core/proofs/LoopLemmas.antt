@@ -1,5 +1,6 @@
 -- What loops over lists keep from turn to turn.
 use Rattle.std.proofs.Common.{◌≡◌, ℕ, zero, suc, ◌+◌, ◌<◌, Bool, List, [], ◌∷◌, ◌++◌, Option, length, get_or, set, take, drop, map, refl, sym, ap, ◌∙◌, slice_get, cond, ◌&&◌, None, Some, arith, add-one}
+use Rattle.std.specs.Prelude.{fold}
 use Rattle.std.proofs.lemmas.List.{length-append, length-map, length-take, length-drop}
 use Rattle.std.proofs.lemmas.List.Sums.{fold_more}
 use Rattle.std.proofs.lemmas.Option.{slice_get-get_or, slice_get_read}
@@ -58,3 +59,8 @@ first_of_more_if {A = A} passes before xs i x best b fits read found so_far =
     same : (best : Option A) → better_of (λ _. b) before best x ≡ better_of passes before best x
     same None = ap (λ t. cond t (Some x) None) found
     same (Some y) = ap (λ t. cond (t && before x y) (Some x) (Some y)) found
+
+-- a turn of a loop that folds one element after another
+pub folded_more : {A B : Type 0} (step : B → A → B) (init : B) (xs : List A) (i : ℕ) (x : A) (best new : B) → i < length xs → x ≡ get_or xs i x → best ≡ fold step init (take i xs) → new ≡ step best x → new ≡ fold step init (take (i + 1) xs)
+folded_more step init xs i x best new fits read so_far made =
+    made ∙ ap (λ b. step b x) so_far ∙ ap (step (fold step init (take i xs))) read ∙ sym (fold_more step init xs i x fits)

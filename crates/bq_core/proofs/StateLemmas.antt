@@ -3,18 +3,21 @@ use Rattle.std.proofs.Common.{◌≡◌, ℕ, zero, suc, Bool, true, false, ◌&
 use Rattle.std.proofs.Math.Bool.{and-false}
 use Rattle.std.proofs.lemmas.Bool.Decides.{nat_tests}
 use Rattle.std.proofs.lemmas.List.{length-map}
-use Rattle.std.specs.Prelude.{filter, find}
+use Rattle.std.specs.Prelude.{filter, find, nat_lt, IfSome}
 use Rattle.std.specs.List.{AllByRecursion as All, Contains, list_any, list_all}
 use Rattle.std.proofs.lemmas.Bool.{cases_Bool, eq-eqb, ne_eqb, or_cases, or_left, or_right, and_parts, and_from}
 use Rattle.bq_job.specs.declared.job.Job.{Job}
-use Rattle.bq_job.specs.Changes.{is_held_by, seat_with}
+use Rattle.bq_job.specs.Changes.{job_with, seat_with}
+use Rattle.bq_job.specs.Lawful.{AreIdsWithin}
 use Rattle.bq_job.specs.Machine.{SeatRecord, TubeRecord, default_tube, empty_seat, numbers}
 use Rattle.bq_job.specs.TubeName.{is_same_name}
 use Rattle.bq_job.specs.Timers.{is_due, is_expired, tube_after_timers}
 use Rattle.bq_job.specs.TubeCommands.{watching}
 use Rattle.bq_job.specs.Limits.{raised}
 use Rattle.bq_job.specs.Tubes.{fresh_tube, is_seated_at, watches, with_record}
-use Rattle.bq_job.proofs.ListLemmas.{all_at, all_from_members, all_weaker, list_any_with}
+use Rattle.bq_job.proofs.ListLemmas.{all_at, all_from_members, all_weaker, found_passes, list_any_with}
+use Rattle.bq_jobs.specs.Kept.{with_added, without}
+use Rattle.bq_core.specs.declared.state.State.{State}
 use Rattle.bq_core.specs.declared.job_list.JobChange.{JobChange}
 use Rattle.bq_core.specs.declared.job_list.JobChange.TheVariants.{FireTimers, HandOut, GiveBack, Release, Bury, Touch, Kick}
 use Rattle.bq_core.specs.declared.seat_list.SeatChange.{SeatChange}
@@ -22,6 +25,7 @@ use Rattle.bq_core.specs.declared.seat_list.SeatChange.TheVariants.{StopWaiting,
 use Rattle.bq_core.specs.declared.tube_list.TubeChange.{TubeChange}
 use Rattle.bq_core.specs.declared.tube_list.TubeChange.TheVariants.{CountPut, CountDelete, Pause}
 use Rattle.bq_core.specs.JobChanges.{changed}
+use Rattle.bq_core.specs.State.{IsSound, OnlyCompares}
 use Rattle.bq_core.specs.SeatChanges.{has_tube_of, seat_changed, seat_changed_at}
 use Rattle.bq_core.specs.TubeEntries.{AreEntries, AreInOrder, HasTubes, IsFreshUnlessCounted, counted, has_entry, is_counted, is_tube_of, provided, tube_changed, tube_changed_at}
 use Rattle.bq_core.proofs.TubeLemmas.{counted_inserted, entry_filtered, fresh_inserted, has_inserted, order_filtered, order_inserted, order_kept, same_entries, same_itself, same_name, still_has}
@@ -51,21 +55,26 @@ same_tube false x y tube h i = i
 -- no change moves a job to another tube
 pub tube_kept : (change : JobChange) (j : Job) → (changed change j).tube ≡ j.tube
 tube_kept (FireTimers moment) j = same_tube (is_due moment j.state) _ _ j.tube refl (same_tube (is_expired moment j.state) _ _ j.tube refl refl)
-tube_kept (HandOut id seat moment) j = same_tube (j.id == id) _ _ j.tube refl refl
-tube_kept (GiveBack seat) j = same_tube (is_held_by seat j) _ _ j.tube refl refl
-tube_kept (Release id pri delay moment) j = same_tube (j.id == id) _ _ j.tube refl refl
-tube_kept (Bury id number pri) j = same_tube (j.id == id) _ _ j.tube refl refl
-tube_kept (Touch id seat deadline) j = same_tube (j.id == id) _ _ j.tube refl refl
-tube_kept (Kick id) j = same_tube (j.id == id) _ _ j.tube refl refl
+tube_kept (HandOut seat moment) j = refl
+tube_kept GiveBack j = refl
+tube_kept (Release pri delay moment) j = refl
+tube_kept (Bury number pri) j = refl
+tube_kept (Touch seat deadline) j = refl
+tube_kept Kick j = refl
 
-pub entries_of_jobs : (what : JobChange) (jobs : List Job) (seats : List SeatRecord) (entries : List TubeRecord) → AreEntries jobs seats entries → AreEntries (map (changed what) jobs) seats entries
-entries_of_jobs what jobs seats entries e = record {
-  order = e.order;
-  fresh = e.fresh;
-  of_default = e.of_default;
-  of_jobs = all_kept (λ j. has_entry j.tube entries ≡ true) (changed what) (λ j h. ap (λ n. has_entry n entries) (tube_kept what j) ∙ h) jobs e.of_jobs;
-  of_seats = e.of_seats;
-}
+same_id : (b : Bool) (x y : Job) (id : ℕ) → x.id ≡ id → y.id ≡ id → (if b then x else y).id ≡ id
+same_id true x y id h i = h
+same_id false x y id h i = i
+
+-- nor gives it another id
+pub id_kept : (change : JobChange) (j : Job) → (changed change j).id ≡ j.id
+id_kept (FireTimers moment) j = same_id (is_due moment j.state) _ _ j.id refl (same_id (is_expired moment j.state) _ _ j.id refl refl)
+id_kept (HandOut seat moment) j = refl
+id_kept GiveBack j = refl
+id_kept (Release pri delay moment) j = refl
+id_kept (Bury number pri) j = refl
+id_kept (Touch seat deadline) j = refl
+id_kept Kick j = refl
 
 pub entries_of_fewer : (p : Job → Bool) (jobs : List Job) (seats : List SeatRecord) (entries : List TubeRecord) → AreEntries jobs seats entries → AreEntries (filter p jobs) seats entries
 entries_of_fewer p jobs seats entries e = record {
@@ -76,14 +85,87 @@ entries_of_fewer p jobs seats entries e = record {
   of_seats = e.of_seats;
 }
 
-pub entries_of_more : (j : Job) (jobs : List Job) (seats : List SeatRecord) (entries : List TubeRecord) → has_entry j.tube entries ≡ true → AreEntries jobs seats entries → AreEntries (jobs ++ j ∷ []) seats entries
-entries_of_more j jobs seats entries h e = record {
+all_added : (P : Job → Type 0) (j : Job) (jobs : List Job) → P j → All P jobs → All P (with_added j jobs)
+all_added P j [] h all = (h, tt)
+all_added P j (k ∷ jobs) h all = go (nat_lt k.id j.id) (all_added P j jobs h all.1)
+  where
+    go : (b : Bool) → All P (with_added j jobs) → All P (if b then k ∷ with_added j jobs else j ∷ k ∷ jobs)
+    go true rest = (all.0, rest)
+    go false rest = (h, all)
+
+pub entries_of_added : (j : Job) (jobs : List Job) (seats : List SeatRecord) (entries : List TubeRecord) → has_entry j.tube entries ≡ true → AreEntries jobs seats entries → AreEntries (with_added j jobs) seats entries
+entries_of_added j jobs seats entries h e = record {
   order = e.order;
   fresh = e.fresh;
   of_default = e.of_default;
-  of_jobs = all_with (λ j. has_entry j.tube entries ≡ true) jobs j e.of_jobs h;
+  of_jobs = all_added (λ j. has_entry j.tube entries ≡ true) j jobs h e.of_jobs;
   of_seats = e.of_seats;
 }
+
+-- an id that no job has is given to one
+pub ids_of_added : (low next : ℕ) (j : Job) (jobs : List Job) → AreIdsWithin low jobs next → job_with j.id jobs ≡ None → low ≤ j.id → j.id < next → AreIdsWithin low (with_added j jobs) next
+ids_of_added low next j [] ids free above below = (above, omega arith)
+ids_of_added low next j (k ∷ jobs) ids free above below = elim (cases_Bool (k.id == j.id)) [
+  | inl same ↦ absurd (let e : Some k ≡ None = rw same at free in cc)
+  | inr other ↦
+      let rest : job_with j.id jobs ≡ None = rw other at free in
+      elim (cases_Bool (nat_lt k.id j.id)) [
+        | inl before ↦ let less : k.id < j.id = grind (arith, nat_tests) in rw before (ids.0, ids_of_added (suc k.id) next j jobs ids.1 rest (omega arith) below)
+        | inr after ↦ let more : j.id < k.id = grind (arith, nat_tests) in rw after (above, (omega arith, ids.1))
+      ]
+]
+
+-- a job that is there has an entry, and its id was given
+pub has_of_job : (jobs : List Job) (seats : List SeatRecord) (entries : List TubeRecord) (id : ℕ) (j : Job) → AreEntries jobs seats entries → job_with id jobs ≡ Some j → has_entry j.tube entries ≡ true
+has_of_job jobs seats entries id j e found =
+    all_at (λ k. has_entry k.tube entries ≡ true) jobs j e.of_jobs ((found_passes (λ k. k.id == id) jobs j found).1)
+
+pub ids_below : (low next : ℕ) (jobs : List Job) → AreIdsWithin low jobs next → All (λ k. (low ≤ k.id) × (k.id < next)) jobs
+ids_below low next [] h = tt
+ids_below low next (k ∷ jobs) h =
+    ((h.0, at_most (suc k.id) next jobs h.1), all_weaker (λ i. (suc k.id ≤ i.id) × (i.id < next)) (λ i. (low ≤ i.id) × (i.id < next)) jobs (λ i b. (let a = h.0 in let c = b.0 in omega arith, b.1)) (ids_below (suc k.id) next jobs h.1))
+  where
+    at_most : (low next : ℕ) (jobs : List Job) → AreIdsWithin low jobs next → low ≤ next
+    at_most low next [] h = h
+    at_most low next (k ∷ jobs) h = let a = h.0 in let b = at_most (suc k.id) next jobs h.1 in omega arith
+
+pub given_of_job : (next id : ℕ) (jobs : List Job) (j : Job) → AreIdsWithin 1 jobs next → job_with id jobs ≡ Some j → (1 ≤ j.id) × (j.id < next)
+given_of_job next id jobs j ids found =
+    all_at (λ k. (1 ≤ k.id) × (k.id < next)) jobs j (ids_below 1 next jobs ids) ((found_passes (λ k. k.id == id) jobs j found).1)
+
+pub ids_further : (low next further : ℕ) (jobs : List Job) → next ≤ further → AreIdsWithin low jobs next → AreIdsWithin low jobs further
+ids_further low next further [] le h = omega arith
+ids_further low next further (k ∷ jobs) le h = (h.0, ids_further (suc k.id) next further jobs le h.1)
+
+pub some_next : (low next : ℕ) (jobs : List Job) → AreIdsWithin low jobs next → low ≤ next
+some_next low next [] h = h
+some_next low next (k ∷ jobs) h = let a = h.0 in let b = some_next (suc k.id) next jobs h.1 in omega arith
+
+-- where there is no job of the id, nothing is taken out or changed
+pub none_out : (id : ℕ) (jobs : List Job) → job_with id jobs ≡ None → without id jobs ≡ jobs
+none_out id [] h = refl
+none_out id (k ∷ jobs) h = elim (cases_Bool (k.id == id)) [
+  | inl same ↦ absurd (let e : Some k ≡ None = rw same at h in cc)
+  | inr other ↦ let rest : job_with id jobs ≡ None = rw other at h in rw other (ap (λ ks. k ∷ ks) (none_out id jobs rest))
+]
+
+pub no_job_changed : (id : ℕ) (f : Job → Job) (jobs : List Job) → job_with id jobs ≡ None → map (λ j. if j.id == id then f j else j) jobs ≡ jobs
+no_job_changed id f [] h = refl
+no_job_changed id f (k ∷ jobs) h = elim (cases_Bool (k.id == id)) [
+  | inl same ↦ absurd (let e : Some k ≡ None = rw same at h in cc)
+  | inr other ↦ let rest : job_with id jobs ≡ None = rw other at h in rw other (ap (λ ks. k ∷ ks) (no_job_changed id f jobs rest))
+]
+
+-- what is told of a thing if there is one
+pub if_some : {A : Type 0} (o : Option A) (P : A → Type 0) → ((x : A) → o ≡ Some x → P x) → IfSome o P
+if_some None P h = tt
+if_some (Some x) P h = h x refl
+
+-- comparisons change nothing else
+pub compared_sound : (old new : State) → OnlyCompares old new → IsSound old → IsSound new
+compared_sound old new same s =
+    let was : IsSound (record old { jobs = record old.jobs { comparisons = new.jobs.comparisons } }) = record { entries = s.entries; numbered = s.numbered; next = s.next; ids = s.ids } in
+    subst IsSound (sym same) was
 
 -- a change of a seat leaves it at tubes with entries
 seat_has : (entries : List TubeRecord) → has_entry default_tube entries ≡ true → (what : SeatChange) → has_tube_of what entries ≡ true → (s : SeatRecord) → HasTubes entries s → HasTubes entries (seat_changed what s)
@@ -462,13 +544,13 @@ watching_fewer p i s jobs seats entries found e =
     (record { used = has.used; watched = λ c. all_filtered (λ n. has_entry n entries ≡ true) p s.watched (has.watched c) })
     e
 
-pub entries_of_timers : (moment : ℕ) (jobs : List Job) (seats : List SeatRecord) (entries : List TubeRecord) → AreEntries jobs seats entries → AreEntries (map (changed (FireTimers moment)) jobs) seats (map (tube_after_timers moment) entries)
+pub entries_of_timers : (moment : ℕ) (jobs : List Job) (seats : List SeatRecord) (entries : List TubeRecord) → AreEntries jobs seats entries → AreEntries jobs seats (map (tube_after_timers moment) entries)
 entries_of_timers moment jobs seats entries e =
-    entries_of_other (map (changed (FireTimers moment)) jobs) seats entries (map (tube_after_timers moment) entries)
+    entries_of_other jobs seats entries (map (tube_after_timers moment) entries)
     (order_kept (tube_after_timers moment) (λ t. refl) entries e.order)
     (all_kept IsFreshUnlessCounted (tube_after_timers moment) (fresh_timer moment) entries e.fresh)
     (λ n h. same_entries (tube_after_timers moment) (λ t. refl) n entries ∙ h)
-    (entries_of_jobs (FireTimers moment) jobs seats entries e)
+    e
   where
     fresh_timer : (moment : ℕ) (t : TubeRecord) → IsFreshUnlessCounted t → IsFreshUnlessCounted (tube_after_timers moment t)
     fresh_timer moment t fresh none =

@@ -1,9 +1,11 @@
 -- A turn of dispatch or of the ends of waits, and chains of them.
-use Rattle.std.proofs.Common.{◌≡◌, ℕ, Bool, true, false, ◌+◌, ◌<◌, ◌≤◌, ◌||◌, List, [], ◌∷◌, ◌++◌, Option, Some, None, length, refl, sym, ap, ◌∙◌, arith, slice_get, append_assoc, append-nil, get_or, inl, inr}
+use Rattle.std.proofs.Common.{◌≡◌, ℕ, Bool, true, false, ◌+◌, ◌<◌, ◌≤◌, ◌||◌, List, [], ◌∷◌, ◌++◌, Option, Some, None, length, refl, sym, ap, ◌∙◌, arith, slice_get, append_assoc, append-nil, get_or, inl, inr, subst}
 use Rattle.std.proofs.Math.Bool.{or-false, or-true}
 use Rattle.std.proofs.lemmas.Option.{slice_get-get_or, slice_get_read}
 use Rattle.std.proofs.lemmas.List.{length-append}
+use Rattle.std.specs.Prelude.{Result, Ok, Err, IfOk, option_map}
 use Rattle.std.specs.List.{Contains, list_any}
+use Rattle.bq_job.specs.declared.fault.NoMemory.{NoMemory}
 use Rattle.bq_job.specs.declared.answer.Answer.{Answer}
 use Rattle.bq_job.specs.declared.answer.Answer.TheVariants as answers
 use Rattle.bq_job.specs.declared.job.Job.{Job}
@@ -65,42 +67,47 @@ none_wanted m (j ∷ jobs) h = rw (unwanted m m.seats j h) (none_wanted m jobs h
 pub no_next_job : (m : Machine) → list_any is_waiting m.seats ≡ false → next_job m ≡ None
 no_next_job m h = first_of_none_passes (λ j. list_any (is_waiting_for m j) m.seats) is_job_before m.jobs (none_wanted m m.jobs h)
 
--- the job at place i is the next one
-module _ (st : State) (i : ℕ) (job_there : i < length st.jobs.items) (job_is : slice_get st.jobs.items i ≡ next_job (machine_of st)) where
-  the_job : (j : Job) × (slice_get st.jobs.items i ≡ Some j) × (next_job (machine_of st) ≡ Some j)
-  the_job = let here = some_at st.jobs.items i job_there in (here.0, here.1, sym job_is ∙ here.1)
+-- what is told of a value that was had
+pub ok_weaker : (r : Result (List ℕ) NoMemory) (P Q : List ℕ → Type 0) → ((x : List ℕ) → P x → Q x) → IfOk r P → IfOk r Q
+ok_weaker (Ok x) P Q h p = h x p
+ok_weaker (Err e) P Q h p = tt
 
-  -- what the code read at this place
-  read_job : (x : Job) → x ≡ get_or st.jobs.items i x → the_job.0 ≡ x
-  read_job x read = let same = slice_get_read st.jobs.items (length st.jobs.items) i x refl job_there read in let other = the_job.1 in cc
+pub if_ok : (r : Result (List ℕ) NoMemory) (x : List ℕ) (P : List ℕ → Type 0) → r ≡ Ok x → IfOk r P → P x
+if_ok r x P e p = subst (λ z. IfOk z P) e p
 
-  -- and some client waits for it
-  pub has_next_seat : (x : Job) → x ≡ get_or st.jobs.items i x → None ≡ next_seat (machine_of st) x → ⊥
-  has_next_seat x read none =
-      let same = read_job x read in
-      let seat = next_has_seat (machine_of st) the_job.0 the_job.2 in
-      let there : next_seat (machine_of st) x ≡ Some seat.0 = ap (next_seat (machine_of st)) (sym same) ∙ seat.1 in
-      cc
+-- the job of this id is the next one
+module _ (st : State) (id : ℕ) (job_is : Some id ≡ option_map (λ j. j.id) (next_job (machine_of st))) where
+  the_job : (j : Job) × (next_job (machine_of st) ≡ Some j) × (id ≡ j.id)
+  the_job = some_of (next_job (machine_of st)) job_is
+    where
+      some_of : (o : Option Job) → Some id ≡ option_map (λ j. j.id) o → (j : Job) × (o ≡ Some j) × (id ≡ j.id)
+      some_of None e = absurd cc
+      some_of (Some j) e = (j, refl, cc)
 
-  -- the client at place k is the one that it goes to
-  module _ (x : Job) (read : x ≡ get_or st.jobs.items i x) (k : ℕ) (seat_there : k < length st.seats.items) (seat_is : slice_get st.seats.items k ≡ next_seat (machine_of st) x) where
-    the_seat : (s : SeatRecord) × (slice_get st.seats.items k ≡ Some s) × (next_seat (machine_of st) the_job.0 ≡ Some s)
-    the_seat =
-        let here = some_at st.seats.items k seat_there in
-        (here.0, here.1, ap (next_seat (machine_of st)) (read_job x read) ∙ sym seat_is ∙ here.1)
+  -- and some client waits for it: the one at the seat of this number
+  module _ (number : ℕ) (seat_is : (j : Job) → next_job (machine_of st) ≡ Some j → Some number ≡ option_map (λ s. s.number) (next_seat (machine_of st) j)) where
+    the_seat : (s : SeatRecord) × (next_seat (machine_of st) the_job.0 ≡ Some s) × (number ≡ s.number)
+    the_seat = some_of (next_seat (machine_of st) the_job.0) (seat_is the_job.0 the_job.1)
+      where
+        some_of : (o : Option SeatRecord) → Some number ≡ option_map (λ s. s.number) o → (s : SeatRecord) × (o ≡ Some s) × (number ≡ s.number)
+        some_of None e = absurd cc
+        some_of (Some s) e = (s, refl, cc)
 
     waits : Contains st.seats.items the_seat.0 × (is_waiting the_seat.0 ≡ true)
-    waits = let w = next_seat_waits (machine_of st) the_job.0 the_seat.0 the_seat.2 in (w.0, w.1)
+    waits = let w = next_seat_waits (machine_of st) the_job.0 the_seat.0 the_seat.1 in (w.0, w.1)
 
     pub somebody_waits : 0 < waiting_count (machine_of st)
     somebody_waits = omega (arith, waiting_falls (machine_of st) the_seat.0 waits.0 waits.1)
 
-    module _ (old new : Outbox) (last : Machine) (given : HandsOut (machine_of st) i k old new last) where
+    module _ (shared : Result (List ℕ) NoMemory) (body_is : IfOk shared (λ body. (j : Job) → next_job (machine_of st) ≡ Some j → body ≡ j.body)) (old new : Outbox) (last : Machine) (given : HandsOut (machine_of st) id number shared old new last) where
+      hands : AddsHandOut (machine_of st) the_job.0 the_seat.0 old new last
+      hands = given the_job.0 the_seat.0 the_job.2 the_seat.2 (ok_weaker shared _ _ (λ body told. told the_job.0 the_job.1) body_is)
+
       pub turn_given : Gives DispatchTurn has_refused_share (machine_of st) last old new
-      turn_given = one_turn (machine_of st) last old new the_job.0 the_seat.0 the_job.2 the_seat.2 waits.0 waits.1 (given the_job.0 the_seat.0 the_job.1 the_seat.1)
+      turn_given = one_turn (machine_of st) last old new the_job.0 the_seat.0 the_job.1 the_seat.1 waits.0 waits.1 hands
 
       pub turn_falls : waiting_count last < waiting_count (machine_of st)
-      turn_falls = hand_out_falls (machine_of st) the_job.0 the_seat.0 _ last waits.0 waits.1 (given the_job.0 the_seat.0 the_job.1 the_seat.1).hand_out
+      turn_falls = hand_out_falls (machine_of st) the_job.0 the_seat.0 _ last waits.0 waits.1 hands.hand_out
 
 pub refused_joined : (xs ys : List GivenAnswer) → has_refused_share (xs ++ ys) ≡ (has_refused_share xs || has_refused_share ys)
 refused_joined [] ys = refl
@@ -187,36 +194,27 @@ module _ (st : State) (k : ℕ) (seat_there : k < length st.seats.items) (seat_i
 same_read : {A : Type 0} (xs : List A) (i : ℕ) (x y : A) → i < length xs → y ≡ get_or xs i y → slice_get xs i ≡ Some x → y ≡ x
 same_read xs i x y there read is = let here = slice_get_read xs (length xs) i y refl there read in cc
 
-pub shared_given : (m last : Machine) (i k number : ℕ) (j y : Job) (s t : SeatRecord) (body : List ℕ) (old new : Outbox) → i < length m.jobs → y ≡ get_or m.jobs i y → slice_get m.jobs i ≡ Some j → k < length m.seats → t ≡ get_or m.seats k t → slice_get m.seats k ≡ Some s → number ≡ t.number → body ≡ y.body → last ≡ with_seat number without_wait (with_job y.id (reserved_by m.moment number) m) → new ≡ record old { given = old.given ++ (number, answers.Reserved y.id body) ∷ [] } → AddsHandOut m j s old new last
-shared_given m last i k number j y s t body old new job_there job_read job seat_there seat_read seat number_is body_is after told =
-    let e : y ≡ j = same_read m.jobs i j y job_there job_read job in
-    let f : t ≡ s = same_read m.seats k s t seat_there seat_read seat in
-    let n : number ≡ s.number = number_is ∙ ap (λ r. r.number) f in
-    let b : body ≡ j.body = body_is ∙ ap (λ k. k.body) e in
-    let i : y.id ≡ j.id = ap (λ k. k.id) e in
-    record {
-      given = (s.number, answers.Reserved j.id j.body);
-      hand_out = inl (refl, after ∙ ap (λ a. with_seat a without_wait (with_job y.id (reserved_by m.moment a) m)) n ∙ ap (λ a. with_seat s.number without_wait (with_job a (reserved_by m.moment s.number) m)) i);
-      added =
-          told
-          ∙ ap (λ a. record old { given = old.given ++ (a, answers.Reserved y.id body) ∷ [] }) n
-          ∙ ap (λ a. record old { given = old.given ++ (s.number, answers.Reserved a body) ∷ [] }) i
-          ∙ ap (λ a. record old { given = old.given ++ (s.number, answers.Reserved j.id a) ∷ [] }) b
-          ∙ ap (λ u. record old { given = old.given ++ (s.number, answers.Reserved j.id j.body) ∷ []; unshared = u }) (sym (or-false old.unshared));
-    }
+pub shared_given : (m last : Machine) (id number : ℕ) (body : List ℕ) (j : Job) (s : SeatRecord) (old new : Outbox) → id ≡ j.id → number ≡ s.number → body ≡ j.body → last ≡ with_seat number without_wait (with_job id (reserved_by m.moment number) m) → new ≡ record old { given = old.given ++ (number, answers.Reserved id body) ∷ [] } → AddsHandOut m j s old new last
+shared_given m last id number body j s old new i n b after told = record {
+  given = (s.number, answers.Reserved j.id j.body);
+  hand_out = inl (refl, after ∙ ap (λ a. with_seat a without_wait (with_job id (reserved_by m.moment a) m)) n ∙ ap (λ a. with_seat s.number without_wait (with_job a (reserved_by m.moment s.number) m)) i);
+  added =
+      told
+      ∙ ap (λ a. record old { given = old.given ++ (a, answers.Reserved id body) ∷ [] }) n
+      ∙ ap (λ a. record old { given = old.given ++ (s.number, answers.Reserved a body) ∷ [] }) i
+      ∙ ap (λ a. record old { given = old.given ++ (s.number, answers.Reserved j.id a) ∷ [] }) b
+      ∙ ap (λ u. record old { given = old.given ++ (s.number, answers.Reserved j.id j.body) ∷ []; unshared = u }) (sym (or-false old.unshared));
+}
 
-pub refused_given : (m last : Machine) (k number : ℕ) (j : Job) (s t : SeatRecord) (old new : Outbox) → k < length m.seats → t ≡ get_or m.seats k t → slice_get m.seats k ≡ Some s → number ≡ t.number → last ≡ with_seat number without_wait m → new ≡ record old { given = old.given ++ (number, answers.OutOfMemory) ∷ []; unshared = true } → AddsHandOut m j s old new last
-refused_given m last k number j s t old new seat_there seat_read seat number_is after told =
-    let f : t ≡ s = same_read m.seats k s t seat_there seat_read seat in
-    let n : number ≡ s.number = number_is ∙ ap (λ r. r.number) f in
-    record {
-      given = (s.number, answers.OutOfMemory);
-      hand_out = inr (refl, after ∙ ap (λ a. with_seat a without_wait m) n);
-      added =
-          told
-          ∙ ap (λ a. record old { given = old.given ++ (a, answers.OutOfMemory) ∷ []; unshared = true }) n
-          ∙ ap (λ u. record old { given = old.given ++ (s.number, answers.OutOfMemory) ∷ []; unshared = u }) (sym (or-true old.unshared));
-    }
+pub refused_given : (m last : Machine) (number : ℕ) (j : Job) (s : SeatRecord) (old new : Outbox) → number ≡ s.number → last ≡ with_seat number without_wait m → new ≡ record old { given = old.given ++ (number, answers.OutOfMemory) ∷ []; unshared = true } → AddsHandOut m j s old new last
+refused_given m last number j s old new n after told = record {
+  given = (s.number, answers.OutOfMemory);
+  hand_out = inr (refl, after ∙ ap (λ a. with_seat a without_wait m) n);
+  added =
+      told
+      ∙ ap (λ a. record old { given = old.given ++ (a, answers.OutOfMemory) ∷ []; unshared = true }) n
+      ∙ ap (λ u. record old { given = old.given ++ (s.number, answers.OutOfMemory) ∷ []; unshared = u }) (sym (or-true old.unshared));
+}
 
 pub ended_given : (m last : Machine) (k number : ℕ) (s t : SeatRecord) (answer : Answer) (old new : Outbox) → k < length m.seats → t ≡ get_or m.seats k t → slice_get m.seats k ≡ Some s → number ≡ t.number → (number ≡ s.number → answer ≡ end_of_wait m s) → last ≡ with_seat number without_wait m → new ≡ record old { given = old.given ++ (number, answer) ∷ [] } → AddsWaitEnd m s old new last
 ended_given m last k number s t answer old new seat_there seat_read seat number_is answer_is after told =

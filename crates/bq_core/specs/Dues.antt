@@ -1,19 +1,37 @@
 -- The least of moments, where there are any.
-use Rattle.std.specs.Prelude.{ℕ, Option, Some, None}
+use Rattle.std.specs.Prelude.{ℕ, ◌-◌, if◌then◌else◌, List, Option, Some, None, fold}
+use Rattle.std.specs.Option.{option_map}
 use Rattle.bq_job.specs.declared.job.Job.{Job}
-use Rattle.bq_job.specs.Machine.{Machine, SeatRecord, TubeRecord}
-use Rattle.bq_job.specs.NextDue.{dues_of_pause, dues_of_state, dues_of_wait, earlier, earliest}
+use Rattle.bq_job.specs.Changes.{first_of, is_held_by, is_waiting}
+use Rattle.bq_job.specs.JobStates.{due_of, is_delayed, is_due_before, is_reserved}
+use Rattle.bq_job.specs.Machine.{SeatRecord, TubeRecord}
+use Rattle.bq_job.specs.NextDue.{dues_of_pause, dues_of_wait, earlier, earliest}
+use Rattle.bq_jobs.specs.Leases.{deadline_of, is_lease_before}
 
 abbrev pub earlier_of_both : Option ℕ → Option ℕ → Option ℕ
 earlier_of_both None other = other
 earlier_of_both (Some due) other = Some (earlier due other)
 
--- the least so far, once this job, this tube or this seat is looked at
-abbrev pub with_job_due : Machine → Option ℕ → Job → Option ℕ
-with_job_due m best j = earlier_of_both best (earliest (dues_of_state m j.state))
+-- a second before the first of the deadlines of the jobs that a waiting client holds
+abbrev pub warning_due : List Job → SeatRecord → Option ℕ
+warning_due jobs s =
+    if is_waiting s then option_map (λ j. deadline_of j.state - 1000) (first_of (is_held_by s.number) is_lease_before jobs) else None
+
+-- the least so far, once this seat or this tube is looked at
+abbrev pub with_warning_due : List Job → Option ℕ → SeatRecord → Option ℕ
+with_warning_due jobs best s = earlier_of_both best (warning_due jobs s)
 
 abbrev pub with_tube_due : Option ℕ → TubeRecord → Option ℕ
 with_tube_due best t = earlier_of_both best (earliest (dues_of_pause t.pause))
 
 abbrev pub with_seat_due : Option ℕ → SeatRecord → Option ℕ
 with_seat_due best s = earlier_of_both best (earliest (dues_of_wait s.wait))
+
+-- the first due moment, the first deadline, or what comes a second before it
+abbrev pub jobs_due : List Job → List SeatRecord → Option ℕ
+jobs_due jobs seats =
+    earlier_of_both
+    (earlier_of_both
+    (option_map (λ j. due_of j.state) (first_of (λ j. is_delayed j.state) is_due_before jobs))
+    (option_map (λ j. deadline_of j.state) (first_of (λ j. is_reserved j.state) is_lease_before jobs)))
+    (fold (with_warning_due jobs) None seats)

@@ -1,5 +1,6 @@
 -- One job is handed out.
-use Rattle.std.specs.Prelude.{ℕ, Bool, false, true, ◌≡◌, ◌||◌, ◌++◌, List, [], ◌∷◌, Option, Some, None, MatchOption, slice_get}
+use Rattle.std.specs.Prelude.{ℕ, ◌≡◌, ◌||◌, ◌++◌, List, [], ◌∷◌, Result, IfOk}
+use Rattle.bq_job.specs.declared.fault.NoMemory.{NoMemory}
 use Rattle.bq_job.specs.declared.job.Job.{Job}
 use Rattle.bq_job.specs.Dispatch.{GivenAnswer, IsHandOut}
 use Rattle.bq_job.specs.Machine.{Machine, SeatRecord}
@@ -12,7 +13,7 @@ pub record AddsHandOut (m : Machine) (j : Job) (s : SeatRecord) (old new : Outbo
   pub hand_out : IsHandOut m j s given last
   pub added : new ≡ record old { given = old.given ++ given ∷ []; unshared = old.unshared || is_out_of_memory given.1 }
 
--- the job at place i goes to the client at place k
-abbrev pub HandsOut : Machine → ℕ → ℕ → Outbox → Outbox → Machine → Type 0
-HandsOut m i k old new last =
-    (j : Job) (s : SeatRecord) → slice_get m.jobs i ≡ Some j → slice_get m.seats k ≡ Some s → AddsHandOut m j s old new last
+-- the job of this id goes to the client at this seat, with this share of its body unless it was refused
+abbrev pub HandsOut : Machine → ℕ → ℕ → Result (List ℕ) NoMemory → Outbox → Outbox → Machine → Type 0
+HandsOut m id number shared old new last =
+    (j : Job) (s : SeatRecord) → id ≡ j.id → number ≡ s.number → IfOk shared (λ body. body ≡ j.body) → AddsHandOut m j s old new last

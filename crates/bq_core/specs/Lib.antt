@@ -3,13 +3,16 @@ pub mod Codes
 pub mod CoreState
 pub mod Dues
 pub mod EndingWaits
+pub mod Firing
 pub mod HandOuts
 pub mod JobChanges
 pub mod JobKinds
 pub mod Kicking
 pub mod Limits
+pub mod Offers
 pub mod Outbox
 pub mod Places
+pub mod Putting
 pub mod SeatChanges
 pub mod Serving
 pub mod State

@@ -1,6 +1,7 @@
 -- The machine that a core stands for.
 use Rattle.std.specs.Prelude.{ℕ, Bool, false, ◌≡◌, ◌≤◌, map, length}
 use Rattle.bq_job.specs.JobCommands.{last_id}
+use Rattle.bq_job.specs.Lawful.{AreIdsWithin}
 use Rattle.bq_job.specs.Machine.{Machine, Settings, numbers}
 use Rattle.bq_core.specs.TubeEntries.{AreEntries, counted}
 use Rattle.bq_core.specs.declared.config.Config.{Config}
@@ -12,7 +13,7 @@ settings_of config = record { seats = config.seats; max_job_size = config.max_jo
 abbrev pub machine_of : State → Machine
 machine_of s = record {
   settings = settings_of s.config;
-  jobs = s.jobs.items;
+  jobs = s.jobs.jobs;
   seats = s.seats.items;
   tubes = counted s.tubes.items;
   moment = s.moment;
@@ -27,8 +28,14 @@ machine_of s = record {
 
 -- what the functions of this crate keep
 pub record IsSound (s : State) : Type 0 where
-  pub entries : AreEntries s.jobs.items s.seats.items s.tubes.items
+  pub entries : AreEntries s.jobs.jobs s.seats.items s.tubes.items
   -- Seats are numbered in order.
   pub numbered : map (λ r. r.number) s.seats.items ≡ numbers 0 (length s.seats.items)
   -- Before the ids run out the machine drains.
   pub next : s.draining ≡ false → s.next_id ≤ last_id
+  -- Each id was given once.
+  pub ids : AreIdsWithin 1 s.jobs.jobs s.next_id
+
+-- It is the same but for the count of comparisons.
+abbrev pub OnlyCompares : State → State → Type 0
+OnlyCompares old new = new ≡ record old { jobs = record old.jobs { comparisons = new.jobs.comparisons } }

@@ -2,7 +2,6 @@ ghost use Rattle.std.specs.Prelude.{◌≡◌, Some, true, IsTrue};
 ghost use Rattle.bq_job.specs.declared.step.Step.TheVariants as steps;
 ghost use Rattle.bq_job.specs.Asked.{asked, effect, refusal_answer as answer_of_refusal};
 ghost use Rattle.bq_job.specs.Changes.{seat_with};
-ghost use Rattle.bq_job.specs.Lawful.{AreIdsWithin};
 ghost use Rattle.bq_job.specs.Machine.{SeatRecord};
 ghost use Rattle.bq_job.specs.Steps.{step_takes_memory, takes_memory};
 ghost use Rattle.bq_core.specs.Acting.{Acts, Replies, is_asking, is_built, is_built_request};
@@ -10,13 +9,14 @@ ghost use Rattle.bq_core.specs.State.{machine_of, IsSound};
 ghost use Rattle.bq_core.specs.Turns.{HasRoom};
 
 use crate::job_acts::{NewJob, NewTurn};
-use crate::job_list::{JobChange, JobKind};
+use crate::job_list::JobKind;
 use crate::outs::Outs;
 use crate::reply::Reply;
 use crate::seat_list::SeatChange;
 use crate::state::State;
-use crate::{job_acts, kicks, state, tube_acts};
+use crate::{job_acts, kicks, leases, state, tube_acts};
 use bq_job::{Answer, Refusal, Request, Seat, Step};
+use std::alloc::Global;
 
 fn connect(state: &mut State, seat: Seat)
     requires { IsSound state.old }
@@ -51,7 +51,7 @@ fn close(state: &mut State, seat: Seat) -> Option<Answer>
     if !state.is_connected(seat) {
         return None;
     }
-    state::change_jobs(state, &JobChange::GiveBack(seat));
+    leases::give_back_all(state, seat);
     state::change_seat(state, seat, &SeatChange::Clear);
     Some(Answer::Closed)
 }
@@ -69,9 +69,8 @@ fn refusal_answer(why: Refusal) -> Answer
 }
 
 // Carries a request out that an open seat may ask.
-fn answer(state: &mut State, seat: Seat, request: Request) -> Reply
+fn answer(state: &mut State, alloc: Global, seat: Seat, request: Request) -> Reply
     requires sound { IsSound state.old }
-    requires ids { AreIdsWithin 1 (machine_of state.old).jobs (machine_of state.old).next_id }
     requires asks { is_asking (seat_with seat state.old.seats.items) ≡ true }
     requires built { IsTrue (is_built_request request) }
     ensures reply { (s : SeatRecord) → seat_with seat (machine_of state.old).seats ≡ Some s → Replies (takes_memory request) (machine_of state.old) (asked request (machine_of state.old) s) result (machine_of state.new) }
@@ -86,6 +85,7 @@ fn answer(state: &mut State, seat: Seat, request: Request) -> Reply
             body,
         } => job_acts::put(
             state,
+            alloc,
             seat,
             NewJob {
                 pri,
@@ -129,24 +129,22 @@ fn answer(state: &mut State, seat: Seat, request: Request) -> Reply
     }
 }
 
-fn ask(state: &mut State, seat: Seat, request: Request) -> Reply
+fn ask(state: &mut State, alloc: Global, seat: Seat, request: Request) -> Reply
     requires sound { IsSound state.old }
-    requires ids { AreIdsWithin 1 (machine_of state.old).jobs (machine_of state.old).next_id }
     requires built { IsTrue (is_built_request request) }
     ensures reply { Replies (takes_memory request) (machine_of state.old) (effect (machine_of state.old) seat (steps.Ask request)) result (machine_of state.new) }
     ensures sound { IsSound state.new }
     ensures config { state.new.config ≡ state.old.config }
 {
     if state.is_asking(seat) {
-        answer(state, seat, request)
+        answer(state, alloc, seat, request)
     } else {
         Reply::Silent
     }
 }
 
-fn reply_to(state: &mut State, seat: Seat, what: Step) -> Reply
+fn reply_to(state: &mut State, alloc: Global, seat: Seat, what: Step) -> Reply
     requires sound { IsSound state.old }
-    requires ids { AreIdsWithin 1 (machine_of state.old).jobs (machine_of state.old).next_id }
     requires built { IsTrue (is_built what) }
     ensures reply { Replies (step_takes_memory what) (machine_of state.old) (effect (machine_of state.old) seat what) result (machine_of state.new) }
     ensures sound { IsSound state.new }
@@ -157,7 +155,7 @@ fn reply_to(state: &mut State, seat: Seat, what: Step) -> Reply
             connect(state, seat);
             Reply::Silent
         }
-        Step::Ask(request) => ask(state, seat, request),
+        Step::Ask(request) => ask(state, alloc, seat, request),
         Step::End => {
             end(state, seat);
             Reply::Silent
@@ -175,16 +173,15 @@ fn reply_to(state: &mut State, seat: Seat, what: Step) -> Reply
 }
 
 /// Carries out the command's own effect, and adds its answer.
-pub(crate) fn act(state: &mut State, seat: Seat, what: Step, outs: &mut Outs)
+pub(crate) fn act(state: &mut State, alloc: Global, seat: Seat, what: Step, outs: &mut Outs)
     requires sound { IsSound state.old }
-    requires ids { AreIdsWithin 1 (machine_of state.old).jobs (machine_of state.old).next_id }
     requires built { IsTrue (is_built what) }
     requires room { HasRoom 1 (machine_of state.old) outs.old }
     ensures acts { Acts (machine_of state.old) seat what outs.old outs.new (machine_of state.new) }
     ensures sound { IsSound state.new }
     ensures config { state.new.config ≡ state.old.config }
 {
-    match reply_to(state, seat, what) {
+    match reply_to(state, alloc, seat, what) {
         Reply::Silent => {}
         Reply::Told(answer) => outs.push(seat, answer),
         Reply::LeftOut => {

@@ -1,19 +1,138 @@
-ghost use Rattle.std.specs.Prelude.{◌≡◌, ◌<◌, ◌++◌, ◌∷◌, [], None, true, false, length};
+//! Ready jobs go to the clients that wait for them.
+ghost use Rattle.std.specs.Prelude.{◌≡◌, ◌<◌, ◌++◌, ◌∷◌, [], None, Some, true, false, fold, is_some, length, IfSome, IfOk};
+ghost use Rattle.std.specs.Option.{option_map};
 ghost use Rattle.bq_job.specs.declared.answer.Answer.TheVariants as answers;
+ghost use Rattle.bq_job.specs.declared.job.Job.{Job};
 ghost use Rattle.bq_job.specs.Changes.{with_job, with_seat, without_wait};
 ghost use Rattle.bq_job.specs.Computed.{waiting_count};
-ghost use Rattle.bq_job.specs.Dispatch.{DispatchTurn, next_job, reserved_by};
+ghost use Rattle.bq_job.specs.Dispatch.{DispatchTurn, next_job, next_seat, reserved_by};
+ghost use Rattle.bq_job.specs.Machine.{SeatRecord};
 ghost use Rattle.bq_job.specs.Steps.{has_refused_share};
-ghost use Rattle.bq_core.specs.State.{machine_of, IsSound};
-ghost use Rattle.bq_core.specs.Turns.{Gives, HasRoom};
 ghost use Rattle.bq_core.specs.HandOuts.{HandsOut};
+ghost use Rattle.bq_core.specs.Offers.{better_rank, offered, with_offer, with_offers};
+ghost use Rattle.bq_core.specs.State.{machine_of, IsSound, OnlyCompares};
+ghost use Rattle.bq_core.specs.Turns.{Gives, HasRoom};
 
 use crate::job_list::JobChange;
 use crate::outs::Outs;
+use crate::place::Place;
 use crate::seat_list::SeatChange;
-use crate::state;
 use crate::state::State;
-use bq_job::{Answer, Body, JobId, Seat};
+use crate::tube_list::TubeEntry;
+use crate::{seat_list, state, tube_list};
+use bq_job::{Answer, Body, JobId, NoMemory, Seat, TubeName};
+use bq_jobs::Jobs;
+
+/// A ready job, by its priority and its id.
+type Offer = (u64, JobId);
+
+// Of two ready jobs, the one that goes first.
+fn better(best: Option<Offer>, other: Option<Offer>) -> Option<Offer>
+    ensures { result ≡ better_rank best other }
+{
+    match (best, other) {
+        (None, other) => other,
+        (Some(best), None) => Some(best),
+        (Some((pri, id)), Some((other_pri, other_id))) => {
+            if other_pri < pri || (other_pri == pri && other_id < id) {
+                Some((other_pri, other_id))
+            } else {
+                Some((pri, id))
+            }
+        }
+    }
+}
+
+// The most urgent ready job of the tube, unless it is paused.
+fn offer_of(jobs: &mut Jobs, tubes: &[TubeEntry], tube: &TubeName) -> Option<Offer>
+    ensures offer { result ≡ offered jobs.old.jobs tubes.now tube.now }
+    ensures same { jobs.new ≡ record jobs.old { comparisons = jobs.new.comparisons } }
+{
+    if tube_list::is_paused(tubes, tube) {
+        None
+    } else {
+        jobs.most_urgent(tube)
+    }
+}
+
+// The best of this job and those that the tubes of these names offer.
+fn best_among(
+    jobs: &mut Jobs,
+    tubes: &[TubeEntry],
+    names: &[TubeName],
+    first: Option<Offer>,
+) -> Option<Offer>
+    ensures best { result ≡ fold (with_offer jobs.old.jobs tubes.now) first names.now }
+    ensures same { jobs.new ≡ record jobs.old { comparisons = jobs.new.comparisons } }
+{
+    let mut best = first;
+    for i in 0..names.len() {
+        best = better(best, offer_of(jobs, tubes, &names[i]));
+    }
+    best
+}
+
+// The best of this job and those that the client waits for.
+fn best_for(
+    jobs: &mut Jobs,
+    tubes: &[TubeEntry],
+    place: &Place,
+    first: Option<Offer>,
+) -> Option<Offer>
+    ensures best { result ≡ with_offers jobs.old.jobs tubes.now first place.now }
+    ensures same { jobs.new ≡ record jobs.old { comparisons = jobs.new.comparisons } }
+{
+    if place.is_waiting() {
+        best_among(jobs, tubes, place.watched(), first)
+    } else {
+        first
+    }
+}
+
+// The best of the jobs that waiting clients may have.
+fn best_offer(jobs: &mut Jobs, tubes: &[TubeEntry], seats: &[Place]) -> Option<Offer>
+    ensures best { result ≡ fold (with_offers jobs.old.jobs tubes.now) None seats.now }
+    ensures same { jobs.new ≡ record jobs.old { comparisons = jobs.new.comparisons } }
+{
+    let mut best = None;
+    for i in 0..seats.len() {
+        best = best_for(jobs, tubes, &seats[i], best);
+    }
+    best
+}
+
+// The id of the job that is handed out next.
+fn next_job(state: &mut State) -> Option<JobId>
+    requires { IsSound state.old }
+    ensures id { result ≡ option_map (λ j. j.id) (next_job (machine_of state.old)) }
+    ensures same { OnlyCompares state.old state.new }
+    ensures sound { IsSound state.new }
+{
+    let best = best_offer(
+        &mut state.jobs,
+        state.tubes.as_slice(),
+        state.seats.as_slice(),
+    );
+    match best {
+        None => None,
+        Some((_, id)) => Some(id),
+    }
+}
+
+// The client that gets the next job, and one more owner of the job's body, unless it is refused.
+fn pick(state: &mut State, id: JobId) -> Option<(Seat, Result<Body, NoMemory>)>
+    requires sound { IsSound state.old }
+    requires next { Some id ≡ option_map (λ j. j.id) (next_job (machine_of state.old)) }
+    ensures some { is_some result ≡ true }
+    ensures picked { IfSome result (λ p. (j : Job) → next_job (machine_of state.old) ≡ Some j → Some p.0 ≡ option_map (λ s. s.number) (next_seat (machine_of state.old) j)) }
+    ensures share { IfSome result (λ p. IfOk p.1 (λ body. (j : Job) → next_job (machine_of state.old) ≡ Some j → body ≡ j.body)) }
+    ensures same { OnlyCompares state.old state.new }
+    ensures sound { IsSound state.new }
+{
+    let job = state.jobs.get(id)?;
+    let seat = seat_list::first_waiting(state.seats.as_slice(), &job.tube)?;
+    Some((seat, job.body.share()))
+}
 
 // The client at the seat gets the job, with this share of its body.
 fn give(state: &mut State, outs: &mut Outs, number: Seat, id: JobId, body: Body)
@@ -24,8 +143,8 @@ fn give(state: &mut State, outs: &mut Outs, number: Seat, id: JobId, body: Body)
     ensures sound { IsSound state.new }
     ensures config { state.new.config ≡ state.old.config }
 {
-    let change = JobChange::HandOut(id, number, state.moment);
-    state::change_jobs(state, &change);
+    let change = JobChange::HandOut(number, state.moment);
+    state::change_job(state, id, &change);
     state::change_seat(state, number, &SeatChange::StopWaiting);
     outs.push(number, Answer::Reserved(id, body));
 }
@@ -44,20 +163,21 @@ fn refuse(state: &mut State, outs: &mut Outs, number: Seat)
     outs.push(number, Answer::OutOfMemory);
 }
 
-// The job at place i goes to the client at place k.
-fn hand_out(state: &mut State, outs: &mut Outs, i: usize, k: usize)
+// The job of this id goes to the client at the seat, unless the share of its body was refused.
+fn hand_out(
+    state: &mut State,
+    outs: &mut Outs,
+    id: JobId,
+    number: Seat,
+    shared: Result<Body, NoMemory>,
+)
     requires sound { IsSound state.old }
-    requires job { i < length state.old.jobs.items }
-    requires seat { k < length state.old.seats.items }
     requires room { length outs.old.given < outs.old.most }
-    ensures given { HandsOut (machine_of state.old) i k outs.old outs.new (machine_of state.new) }
+    ensures given { HandsOut (machine_of state.old) id number shared outs.old outs.new (machine_of state.new) }
     ensures sound { IsSound state.new }
     ensures config { state.new.config ≡ state.old.config }
 {
-    let number = state.seats[k].number();
-    let job = &state.jobs[i];
-    let id = job.id;
-    match job.body.share() {
+    match shared {
         Ok(body) => give(state, outs, number, id, body),
         Err(_) => refuse(state, outs, number),
     }
@@ -76,13 +196,13 @@ fn turn(state: &mut State, outs: &mut Outs) -> bool
     if !state.has_waiter() {
         return false;
     }
-    let Some(i) = state.next_job() else {
+    let Some(id) = next_job(state) else {
         return false;
     };
-    let Some(k) = state.next_seat(&state.jobs[i]) else {
+    let Some((number, shared)) = pick(state, id) else {
         return false;
     };
-    hand_out(state, outs, i, k);
+    hand_out(state, outs, id, number, shared);
     true
 }
 

@@ -1,14 +1,14 @@
-ghost use Rattle.std.specs.Prelude.{◌≡◌, ◌==◌, ◌&&◌, None, fold, ℕ};
-ghost use Rattle.std.specs.List.{list_any};
-ghost use Rattle.bq_job.specs.NextDue.{dues_of_pause, dues_of_state, dues_of_wait, earliest, next_due as next_due_of};
-ghost use Rattle.bq_job.specs.OneClient.{is_waiting_at};
-ghost use Rattle.bq_core.specs.Dues.{earlier_of_both, with_job_due, with_seat_due, with_tube_due};
-ghost use Rattle.bq_core.specs.State.{machine_of, IsSound};
+ghost use Rattle.std.specs.Prelude.{◌≡◌, None, fold, ℕ};
+ghost use Rattle.std.specs.Option.{option_map};
+ghost use Rattle.bq_job.specs.NextDue.{next_due as next_due_of};
+ghost use Rattle.bq_core.specs.Dues.{earlier_of_both, jobs_due, warning_due, with_seat_due, with_tube_due, with_warning_due};
+ghost use Rattle.bq_core.specs.State.{machine_of, IsSound, OnlyCompares};
 
 use crate::place::Place;
 use crate::state::State;
 use crate::tube_list::TubeEntry;
-use bq_job::{Job, JobState, Moment, Seat};
+use bq_job::{JobId, Moment};
+use bq_jobs::Jobs;
 
 fn earlier_of(a: Option<Moment>, b: Option<Moment>) -> Option<Moment>
     ensures { result ≡ earlier_of_both a b }
@@ -20,41 +20,48 @@ fn earlier_of(a: Option<Moment>, b: Option<Moment>) -> Option<Moment>
     }
 }
 
-fn is_waiting_at(state: &State, seat: Seat) -> bool
-    ensures { result ≡ is_waiting_at seat (machine_of state.now) }
+fn moment_of(found: Option<(Moment, JobId)>) -> Option<Moment>
+    ensures { result ≡ option_map (λ p. p.0) found }
 {
-    state
-        .seats
-        .iter()
-        .any(|place| place.number() == seat && place.is_waiting())
-}
-
-// When something is due of this job.
-fn job_due(state: &State, job: &Job) -> Option<Moment>
-    ensures { result ≡ earliest (dues_of_state (machine_of state.now) job.now.state) }
-{
-    match job.state {
-        JobState::Delayed(due) => Some(due),
-        JobState::Reserved(seat, deadline) => {
-            if is_waiting_at(state, seat) {
-                Some(deadline.saturating_sub(1000).min(deadline))
-            } else {
-                Some(deadline)
-            }
-        }
-        JobState::Ready | JobState::Buried(_) => None,
+    match found {
+        None => None,
+        Some((moment, _)) => Some(moment),
     }
 }
 
-fn jobs_due(state: &State) -> Option<Moment>
-    ensures { result ≡ fold (with_job_due (machine_of state.now)) None state.now.jobs.items }
+// When the client, if it waits, is told that the time to run of a job that it holds ends soon.
+fn warning_due(jobs: &mut Jobs, place: &Place) -> Option<Moment>
+    ensures due { result ≡ warning_due jobs.old.jobs place.now }
+    ensures same { jobs.new ≡ record jobs.old { comparisons = jobs.new.comparisons } }
 {
-    let jobs = state.jobs.as_slice();
+    if !place.is_waiting() {
+        return None;
+    }
+    match jobs.next_deadline_of(place.number()) {
+        None => None,
+        Some((deadline, _)) => Some(deadline.saturating_sub(1000)),
+    }
+}
+
+fn warnings_due(jobs: &mut Jobs, seats: &[Place]) -> Option<Moment>
+    ensures due { result ≡ fold (with_warning_due jobs.old.jobs) None seats.now }
+    ensures same { jobs.new ≡ record jobs.old { comparisons = jobs.new.comparisons } }
+{
     let mut best = None;
-    for i in 0..jobs.len() {
-        best = earlier_of(best, job_due(state, &jobs[i]));
+    for i in 0..seats.len() {
+        best = earlier_of(best, warning_due(jobs, &seats[i]));
     }
     best
+}
+
+// When something is due of a job.
+fn jobs_due(jobs: &mut Jobs, seats: &[Place]) -> Option<Moment>
+    ensures due { result ≡ jobs_due jobs.old.jobs seats.now }
+    ensures same { jobs.new ≡ record jobs.old { comparisons = jobs.new.comparisons } }
+{
+    let due = moment_of(jobs.next_due());
+    let deadline = moment_of(jobs.next_deadline());
+    earlier_of(earlier_of(due, deadline), warnings_due(jobs, seats))
 }
 
 fn tubes_due(tubes: &[TubeEntry]) -> Option<Moment>
@@ -78,11 +85,13 @@ fn seats_due(seats: &[Place]) -> Option<Moment>
 }
 
 /// The least moment at which something happens by itself, if there is any.
-pub(crate) fn next_due(state: &State) -> Option<Moment>
-    requires { IsSound state.now }
-    ensures { result ≡ next_due_of (machine_of state.now) }
+pub(crate) fn next_due(state: &mut State) -> Option<Moment>
+    requires { IsSound state.old }
+    ensures due { result ≡ next_due_of (machine_of state.old) }
+    ensures same { OnlyCompares state.old state.new }
+    ensures sound { IsSound state.new }
 {
-    let jobs = jobs_due(state);
+    let jobs = jobs_due(&mut state.jobs, state.seats.as_slice());
     let tubes = tubes_due(state.tubes.as_slice());
     let seats = seats_due(state.seats.as_slice());
     earlier_of(jobs, earlier_of(tubes, seats))

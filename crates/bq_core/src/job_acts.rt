@@ -1,21 +1,23 @@
 ghost use Rattle.std.specs.Prelude.{◌≡◌, ◌==◌, ◌+◌, ◌++◌, ◌∷◌, [], true, false, Some, None, nat_le};
 ghost use Rattle.bq_job.specs.Acts.{silent, telling};
-ghost use Rattle.bq_job.specs.Changes.{is_held_by, job_with, seat_with};
+ghost use Rattle.bq_job.specs.Changes.{seat_with};
 ghost use Rattle.bq_job.specs.JobCommands.{bury_effect, delete_effect, kick_job_effect, last_id, new_job as job_of_put, put_effect, release_effect, reserve_effect, reserve_job_effect, touch_effect};
 ghost use Rattle.bq_job.specs.Limits.{later as later_by, raised};
 ghost use Rattle.bq_job.specs.Machine.{SeatRecord};
 ghost use Rattle.bq_core.specs.Acting.{Replies, is_asking};
-ghost use Rattle.bq_core.specs.JobChanges.{is_passed_by};
+ghost use Rattle.bq_core.specs.Putting.{after_given};
 ghost use Rattle.bq_core.specs.State.{machine_of, IsSound};
 ghost use Rattle.bq_core.specs.TubeEntries.{has_entry};
 
-use crate::job_list::JobChange;
+use crate::job_list::{JobChange, JobTest};
 use crate::reply::Reply;
 use crate::seat_list::SeatChange;
 use crate::state::State;
 use crate::tube_list::TubeChange;
 use crate::{job_list, seat_list, state};
-use bq_job::{Answer, Body, Counts, Job, JobId, JobState, Moment, Pri, Seat, TubeName};
+use bq_job::{Answer, Body, Counts, Job, JobId, Moment, Pri, Seat, TubeName};
+use bq_jobs::laws;
+use std::alloc::Global;
 
 // The last id that is given: with it the core begins to drain, so that the next id always fits.
 const LAST_ID: JobId = u64::MAX - 1;
@@ -53,8 +55,21 @@ fn new_job(state: &State, tube: TubeName, new: NewJob) -> Job
     }
 }
 
+// An id is given.
+fn count_put(state: &mut State)
+    requires sound { IsSound state.old }
+    requires accepts { state.old.draining ≡ false }
+    ensures after { machine_of state.new ≡ after_given (machine_of state.old) }
+    ensures same { state.new ≡ record state.old { next_id = state.new.next_id; puts = state.new.puts; draining = state.new.draining } }
+    ensures sound { IsSound state.new }
+{
+    state.draining = state.next_id >= LAST_ID;
+    state.next_id += 1;
+    state.puts = state.puts.saturating_add(1);
+}
+
 /// Puts a job. The one growth that it needs comes before any change.
-pub(crate) fn put(state: &mut State, seat: Seat, new: NewJob) -> Reply
+pub(crate) fn put(state: &mut State, alloc: Global, seat: Seat, new: NewJob) -> Reply
     requires sound { IsSound state.old }
     requires asks { is_asking (seat_with seat state.old.seats.items) ≡ true }
     ensures reply { (s : SeatRecord) → seat_with seat (machine_of state.old).seats ≡ Some s → Replies true (machine_of state.old) (put_effect new.pri new.delay new.ttr new.body (machine_of state.old) s) result (machine_of state.new) }
@@ -68,16 +83,16 @@ pub(crate) fn put(state: &mut State, seat: Seat, new: NewJob) -> Reply
         return Reply::Silent;
     };
     let tube = *place.used();
-    let Ok(()) = state.jobs.reserve(1) else {
+    let Ok(()) = state::make_room(state, alloc) else {
         return Reply::LeftOut;
     };
-    let id = state.next_id;
     state::change_tube(state, &tube, TubeChange::CountPut);
     let job = new_job(state, tube, new);
-    state.jobs.push_reserved(job);
-    state.next_id = id + 1;
-    state.puts = state.puts.saturating_add(1);
-    state.draining = id >= LAST_ID;
+    let id = job.id;
+    laws::next_is_free();
+    laws::adds_at_the_end();
+    count_put(state);
+    state::add(state, job);
     Reply::Told(Answer::Inserted(id))
 }
 
@@ -111,17 +126,17 @@ pub(crate) fn reserve_job(state: &mut State, seat: Seat, id: JobId) -> Reply
     ensures sound { IsSound state.new }
     ensures config { state.new.config ≡ state.old.config }
 {
-    let Some(job) = state.job(id) else {
-        return Reply::Told(Answer::NotFound);
-    };
-    if job_list::is_reserved(job) {
+    if !state.has_job(id, JobTest::Free) {
         return Reply::Told(Answer::NotFound);
     }
-    let Ok(body) = job.body.share() else {
+    let Some(shared) = state.share(id) else {
+        return Reply::Told(Answer::NotFound);
+    };
+    let Ok(body) = shared else {
         return Reply::Unshared;
     };
-    let change = JobChange::HandOut(id, seat, state.moment);
-    state::change_jobs(state, &change);
+    let change = JobChange::HandOut(seat, state.moment);
+    state::change_job(state, id, &change);
     Reply::Told(Answer::Reserved(id, body))
 }
 
@@ -132,26 +147,14 @@ pub(crate) fn delete(state: &mut State, seat: Seat, id: JobId) -> Answer
     ensures sound { IsSound state.new }
     ensures config { state.new.config ≡ state.old.config }
 {
-    let Some(job) = state.job(id) else {
+    if !state.has_job(id, JobTest::FreeFor(seat)) {
+        return Answer::NotFound;
+    }
+    let Some(job) = state::take(state, id) else {
         return Answer::NotFound;
     };
-    if !job_list::is_free_for(job, seat) {
-        return Answer::NotFound;
-    }
-    let tube = job.tube;
-    state::change_tube(state, &tube, TubeChange::CountDelete);
-    state::take_out(state, id);
+    state::change_tube(state, &job.tube, TubeChange::CountDelete);
     Answer::Deleted
-}
-
-// Whether the client at the seat holds the job of this id.
-fn holds(state: &State, seat: Seat, id: JobId) -> bool
-    ensures { result ≡ is_passed_by (is_held_by seat) (job_with id (machine_of state.now).jobs) }
-{
-    match state.job(id) {
-        None => false,
-        Some(job) => job_list::is_held_by(job, seat),
-    }
 }
 
 /// Gives a job back that the client holds.
@@ -161,11 +164,11 @@ pub(crate) fn release(state: &mut State, seat: Seat, id: JobId, with: NewTurn) -
     ensures sound { IsSound state.new }
     ensures config { state.new.config ≡ state.old.config }
 {
-    if !holds(state, seat, id) {
+    if !state.has_job(id, JobTest::HeldBy(seat)) {
         return Answer::NotFound;
     }
-    let change = JobChange::Release(id, with.pri, with.delay, state.moment);
-    state::change_jobs(state, &change);
+    let change = JobChange::Release(with.pri, with.delay, state.moment);
+    state::change_job(state, id, &change);
     Answer::Released
 }
 
@@ -176,12 +179,12 @@ pub(crate) fn bury(state: &mut State, seat: Seat, id: JobId, pri: Pri) -> Answer
     ensures sound { IsSound state.new }
     ensures config { state.new.config ≡ state.old.config }
 {
-    if !holds(state, seat, id) {
+    if !state.has_job(id, JobTest::HeldBy(seat)) {
         return Answer::NotFound;
     }
     state.burials = state.burials.saturating_add(1);
-    let change = JobChange::Bury(id, state.burials, pri);
-    state::change_jobs(state, &change);
+    let change = JobChange::Bury(state.burials, pri);
+    state::change_job(state, id, &change);
     Answer::Buried
 }
 
@@ -192,14 +195,11 @@ pub(crate) fn touch(state: &mut State, seat: Seat, id: JobId) -> Answer
     ensures sound { IsSound state.new }
     ensures config { state.new.config ≡ state.old.config }
 {
-    let Some(job) = state.job(id) else {
+    let Some(ttr) = state.time_to_run(id, seat) else {
         return Answer::NotFound;
     };
-    if !job_list::is_held_by(job, seat) {
-        return Answer::NotFound;
-    }
-    let change = JobChange::Touch(id, seat, job_list::later(state.moment, job.ttr));
-    state::change_jobs(state, &change);
+    let change = JobChange::Touch(seat, job_list::later(state.moment, ttr));
+    state::change_job(state, id, &change);
     Answer::Touched
 }
 
@@ -210,12 +210,9 @@ pub(crate) fn kick_job(state: &mut State, id: JobId) -> Answer
     ensures sound { IsSound state.new }
     ensures config { state.new.config ≡ state.old.config }
 {
-    let Some(job) = state.job(id) else {
-        return Answer::NotFound;
-    };
-    if !job_list::is_kickable(job) {
+    if !state.has_job(id, JobTest::Kickable) {
         return Answer::NotFound;
     }
-    state::change_jobs(state, &JobChange::Kick(id));
+    state::change_job(state, id, &JobChange::Kick);
     Answer::Kicked
 }

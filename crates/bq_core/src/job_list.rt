@@ -1,38 +1,40 @@
-ghost use Rattle.std.specs.Prelude.{◌≡◌, ◌<◌, ◌==◌, ◌||◌, not, filter, map, count_by, length, IfSome, if◌then◌else◌};
-ghost use Rattle.std.specs.Option.{option_copied};
-ghost use Rattle.bq_job.specs.Changes.{first_of, given_back, in_state, is_ready, job_with};
+ghost use Rattle.std.specs.Prelude.{◌≡◌, ◌||◌, not, Some, is_some, IfSome, IfOk};
+ghost use Rattle.std.specs.Option.{option_map};
+ghost use Rattle.bq_job.specs.Changes.{first_of, job_with};
 ghost use Rattle.bq_job.specs.Changes.{is_held_by as held_by};
 ghost use Rattle.bq_job.specs.Dispatch.{reserved_by};
 ghost use Rattle.bq_job.specs.JobStates.{is_buried, is_delayed, is_reserved};
 ghost use Rattle.bq_job.specs.Limits.{later as later_by};
-ghost use Rattle.bq_job.specs.Timers.{is_expired, job_after_timers};
-ghost use Rattle.bq_job.specs.Waits.{is_ending_lease};
 ghost use Rattle.std.specs.List.{list_any};
+ghost use Rattle.bq_job.specs.declared.job.Job.{Job};
+ghost use Rattle.bq_job.specs.Waits.{is_ending_lease};
+ghost use Rattle.bq_job.specs.Timers.{job_after_timers};
+ghost use Rattle.bq_job.specs.TubeName.{is_same_name};
 ghost use Rattle.bq_job.specs.JobCommands.{buried, delayed_by as delayed_for, kicked, released};
-ghost use Rattle.bq_core.specs.JobChanges.{changed};
-ghost use Rattle.bq_core.specs.JobKinds.{is_before_of, is_of, rank_of};
-ghost use Rattle.bq_core.specs.Places.{item_at, better_if};
+ghost use Rattle.bq_jobs.specs.Kept.{ComparesAtMost};
+ghost use Rattle.bq_core.specs.JobChanges.{changed, is_passed_by, passes, ttr_held_by};
+ghost use Rattle.bq_core.specs.JobKinds.{is_before_of, is_of};
 
-use bq_job::{Job, JobId, JobState, Moment, Pri, Seat, TubeName};
-use std::alloc::Global;
+use bq_job::{Body, Job, JobId, JobState, Moment, NoMemory, Pri, Seat, TubeName};
+use bq_jobs::Jobs;
 
-/// What happens to jobs.
+/// What happens to a job.
 #[derive(Clone, Copy, Debug)]
 pub(crate) enum JobChange {
     /// Timers fire at this moment.
     FireTimers(Moment),
-    /// The job of this id goes to the client at this seat, at this moment.
-    HandOut(JobId, Seat, Moment),
-    /// The client at this seat is gone: the jobs that it holds become ready.
-    GiveBack(Seat),
-    /// The job of this id gets this priority and this delay, counted from this moment.
-    Release(JobId, Pri, u32, Moment),
-    /// The job of this id is buried, with this burial number and this priority.
-    Bury(JobId, u64, Pri),
-    /// The client at this seat holds the job of this id until this deadline.
-    Touch(JobId, Seat, Moment),
-    /// The job of this id becomes ready.
-    Kick(JobId),
+    /// It goes to the client at this seat, at this moment.
+    HandOut(Seat, Moment),
+    /// The client that holds it is gone: it becomes ready.
+    GiveBack,
+    /// It gets this priority and this delay, counted from this moment.
+    Release(Pri, u32, Moment),
+    /// It is buried, with this burial number and this priority.
+    Bury(u64, Pri),
+    /// The client at this seat holds it until this deadline.
+    Touch(Seat, Moment),
+    /// It becomes ready.
+    Kick,
 }
 
 /// The jobs of a tube that a client can choose the first of.
@@ -107,14 +109,6 @@ pub(crate) fn is_kickable(job: &Job) -> bool
     matches!(job.state, JobState::Buried(_) | JobState::Delayed(_))
 }
 
-fn give_back(job: &mut Job, seat: Seat)
-    ensures { job.new ≡ given_back seat job.old }
-{
-    if is_held_by(job, seat) {
-        job.state = JobState::Ready;
-    }
-}
-
 /// Ready, or delayed so many seconds from this moment on.
 pub(crate) fn delayed_by(delay: u32, moment: Moment) -> JobState
     ensures { result ≡ delayed_for delay moment }
@@ -150,178 +144,120 @@ fn kick(job: &mut Job)
     job.counts.kicks = job.counts.kicks.saturating_add(1);
 }
 
-fn change(job: &mut Job, change: &JobChange)
+/// Changes a job.
+pub(crate) fn change(job: &mut Job, change: &JobChange)
     ensures { job.new ≡ changed change.now job.old }
 {
     match *change {
         JobChange::FireTimers(moment) => fire_timers(job, moment),
-        JobChange::HandOut(id, seat, moment) => {
-            if job.id == id {
-                hand_out(job, seat, moment);
-            }
-        }
-        JobChange::GiveBack(seat) => give_back(job, seat),
-        JobChange::Release(id, pri, delay, moment) => {
-            if job.id == id {
-                release(job, pri, delay, moment);
-            }
-        }
-        JobChange::Bury(id, number, pri) => {
-            if job.id == id {
-                bury(job, number, pri);
-            }
-        }
-        JobChange::Touch(id, seat, deadline) => {
-            if job.id == id {
-                job.state = JobState::Reserved(seat, deadline);
-            }
-        }
-        JobChange::Kick(id) => {
-            if job.id == id {
-                kick(job);
-            }
-        }
+        JobChange::HandOut(seat, moment) => hand_out(job, seat, moment),
+        JobChange::GiveBack => job.state = JobState::Ready,
+        JobChange::Release(pri, delay, moment) => release(job, pri, delay, moment),
+        JobChange::Bury(number, pri) => bury(job, number, pri),
+        JobChange::Touch(seat, deadline) => job.state = JobState::Reserved(seat, deadline),
+        JobChange::Kick => kick(job),
     }
 }
 
-/// Changes each job.
-pub(crate) fn change_all(jobs: &mut Vec<Job, Global>, what: &JobChange)
-    ensures { jobs.new.items ≡ map (changed what.now) jobs.old.items }
-{
-    for job in jobs.iter_mut() {
-        change(job, what);
-    }
-}
-
-fn is_expired(job: &Job, moment: Moment) -> bool
-    ensures { result ≡ is_expired moment job.now.state }
-{
-    match job.state {
-        JobState::Reserved(_, deadline) => deadline <= moment,
-        _ => false,
-    }
-}
-
-/// How many reservations expire at this moment.
-pub(crate) fn expired_count(jobs: &[Job], moment: Moment) -> u64
-    ensures { result ≡ count_by (λ j. is_expired moment j.state) jobs.now }
-{
-    jobs.iter().filter(|job| is_expired(job, moment)).count() as u64
-}
-
-pub(crate) fn is_ready(job: &Job) -> bool
-    ensures { result ≡ is_ready job.now }
-{
-    matches!(job.state, JobState::Ready)
-}
-
-/// Whether the job is of this kind, and in this tube.
-fn is_of(job: &Job, kind: JobKind, tube: &TubeName) -> bool
-    ensures { result ≡ is_of kind tube.now job.now }
-{
-    let is_kind = match (kind, job.state) {
-        (JobKind::Ready, JobState::Ready) => true,
-        (JobKind::Delayed, JobState::Delayed(_)) => true,
-        (JobKind::Buried, JobState::Buried(_)) => true,
-        _ => false,
-    };
-    is_kind && tube == &job.tube
-}
-
-// The number by which jobs of a kind are ordered: their priority, due moment or burial number.
-fn rank(job: &Job, kind: JobKind) -> u64
-    ensures { result ≡ rank_of kind job.now }
+/// The id of the first job of this kind in this tube.
+pub(crate) fn first(jobs: &mut Jobs, kind: JobKind, tube: &TubeName) -> Option<JobId>
+    ensures id { result ≡ option_map (λ j. j.id) (first_of (is_of kind tube.now) (is_before_of kind) jobs.old.jobs) }
+    ensures same { jobs.new ≡ record jobs.old { comparisons = jobs.new.comparisons } }
+    ensures comparisons { ComparesAtMost 1 jobs.old jobs.new }
 {
     match kind {
-        JobKind::Ready => u64::from(job.pri),
-        JobKind::Delayed => match job.state {
-            JobState::Delayed(due) => due,
-            _ => 0,
-        },
-        JobKind::Buried => match job.state {
-            JobState::Buried(number) => number,
-            _ => 0,
-        },
+        JobKind::Ready => jobs.first_ready(tube),
+        JobKind::Delayed => jobs.first_delayed(tube),
+        JobKind::Buried => jobs.first_buried(tube),
     }
 }
 
-fn is_before(a: &Job, b: &Job, kind: JobKind) -> bool
-    ensures { result ≡ is_before_of kind a.now b.now }
-{
-    let x = rank(a, kind);
-    let y = rank(b, kind);
-    x < y || (x == y && a.id < b.id)
+/// What a command asks of a job.
+#[derive(Clone, Copy, Debug)]
+pub(crate) enum JobTest {
+    /// The client at this seat holds it.
+    HeldBy(Seat),
+    /// Nobody holds it, or the client at this seat does.
+    FreeFor(Seat),
+    /// Nobody holds it.
+    Free,
+    /// It is buried or delayed.
+    Kickable,
 }
 
-/// The place of the best job, once the one at this place is looked at.
-pub(crate) fn better(
-    jobs: &[Job],
-    best: Option<usize>,
-    i: usize,
-    passes: bool,
-    kind: JobKind,
-) -> Option<usize>
-    requires best { IfSome best (λ k. k < length jobs.now) }
-    requires next { i < length jobs.now }
-    ensures bound { IfSome result (λ k. k < length jobs.now) }
-    ensures better { item_at jobs.now result ≡ better_if passes (is_before_of kind) jobs.now (item_at jobs.now best) i }
+fn passes(job: &Job, test: JobTest) -> bool
+    ensures { result ≡ passes test job.now }
 {
-    let is_better = match best {
-        None => passes,
-        Some(k) => passes && is_before(&jobs[i], &jobs[k], kind),
-    };
-    if is_better { Some(i) } else { best }
-}
-
-/// The place of the first job of this kind in this tube.
-pub(crate) fn first_place(jobs: &[Job], kind: JobKind, tube: &TubeName) -> Option<usize>
-    ensures bound { IfSome result (λ i. i < length jobs.now) }
-    ensures least { item_at jobs.now result ≡ first_of (is_of kind tube.now) (is_before_of kind) jobs.now }
-{
-    let mut best = None;
-    for i in 0..jobs.len() {
-        best = better(jobs, best, i, is_of(&jobs[i], kind, tube), kind);
+    match test {
+        JobTest::HeldBy(seat) => is_held_by(job, seat),
+        JobTest::FreeFor(seat) => is_free_for(job, seat),
+        JobTest::Free => !is_reserved(job),
+        JobTest::Kickable => is_kickable(job),
     }
-    best
 }
 
-/// The first job of this kind in this tube.
-pub(crate) fn first<'a>(jobs: &'a [Job], kind: JobKind, tube: &TubeName) -> Option<&'a Job>
-    ensures { option_copied result ≡ first_of (is_of kind tube.now) (is_before_of kind) jobs.now }
+/// Whether there is a job of this id, and it passes.
+pub(crate) fn has(jobs: &mut Jobs, id: JobId, test: JobTest) -> bool
+    ensures has { result ≡ is_passed_by (passes test) (job_with id jobs.old.jobs) }
+    ensures same { jobs.new ≡ record jobs.old { comparisons = jobs.new.comparisons } }
+    ensures comparisons { ComparesAtMost 1 jobs.old jobs.new }
 {
-    match first_place(jobs, kind, tube) {
+    match jobs.get(id) {
+        None => false,
+        Some(job) => passes(job, test),
+    }
+}
+
+/// Whether the job of this id is in the tube.
+pub(crate) fn is_in(jobs: &mut Jobs, id: JobId, tube: &TubeName) -> bool
+    ensures is { result ≡ is_passed_by (λ j. is_same_name tube.now j.tube) (job_with id jobs.old.jobs) }
+    ensures same { jobs.new ≡ record jobs.old { comparisons = jobs.new.comparisons } }
+    ensures comparisons { ComparesAtMost 1 jobs.old jobs.new }
+{
+    match jobs.get(id) {
+        None => false,
+        Some(job) => tube == &job.tube,
+    }
+}
+
+/// How long the client at the seat may hold the job of this id, in seconds, if it holds it.
+pub(crate) fn time_to_run(jobs: &mut Jobs, id: JobId, seat: Seat) -> Option<u32>
+    ensures ttr { result ≡ ttr_held_by seat (job_with id jobs.old.jobs) }
+    ensures same { jobs.new ≡ record jobs.old { comparisons = jobs.new.comparisons } }
+    ensures comparisons { ComparesAtMost 1 jobs.old jobs.new }
+{
+    match jobs.get(id) {
         None => None,
-        Some(i) => Some(&jobs[i]),
+        Some(job) => if is_held_by(job, seat) {
+            Some(job.ttr)
+        } else {
+            None
+        },
     }
 }
 
-/// The job of this id.
-pub(crate) fn find(jobs: &[Job], id: JobId) -> Option<&Job>
-    ensures { option_copied result ≡ job_with id jobs.now }
+/// One more owner of the body of the job of this id, unless it is refused; None where there is no job.
+pub(crate) fn share(jobs: &mut Jobs, id: JobId) -> Option<Result<Body, NoMemory>>
+    ensures none { is_some result ≡ is_some (job_with id jobs.old.jobs) }
+    ensures share { IfSome result (λ shared. IfOk shared (λ body. (j : Job) → job_with id jobs.old.jobs ≡ Some j → body ≡ j.body)) }
+    ensures same { jobs.new ≡ record jobs.old { comparisons = jobs.new.comparisons } }
+    ensures comparisons { ComparesAtMost 1 jobs.old jobs.new }
 {
-    jobs.iter().find(|job| job.id == id)
-}
-
-/// Takes the job of this id out.
-pub(crate) fn take_out(jobs: &mut Vec<Job, Global>, id: JobId)
-    ensures { jobs.new.items ≡ filter (λ k. not (k.id == id)) jobs.old.items }
-{
-    jobs.retain(|job| job.id != id);
-}
-
-fn is_ending(job: &Job, seat: Seat, moment: Moment) -> bool
-    ensures { result ≡ is_ending_lease moment seat job.now.state }
-{
-    match job.state {
-        JobState::Reserved(holder, deadline) => holder == seat
-            && deadline <= moment.saturating_add(1000),
-        _ => false,
+    match jobs.get(id) {
+        None => None,
+        Some(job) => Some(job.body.share()),
     }
 }
 
 /// Whether the client at the seat holds a job whose time to run ends within a second.
-pub(crate) fn is_deadline_soon(jobs: &[Job], seat: Seat, moment: Moment) -> bool
-    ensures { result ≡ list_any (λ j. is_ending_lease moment seat j.state) jobs.now }
+pub(crate) fn is_deadline_soon(jobs: &mut Jobs, seat: Seat, moment: Moment) -> bool
+    ensures soon { result ≡ list_any (λ j. is_ending_lease moment seat j.state) jobs.old.jobs }
+    ensures same { jobs.new ≡ record jobs.old { comparisons = jobs.new.comparisons } }
+    ensures comparisons { ComparesAtMost 1 jobs.old jobs.new }
 {
-    jobs.iter().any(|job| is_ending(job, seat, moment))
+    let _jobs = jobs.len();
+    match jobs.next_deadline_of(seat) {
+        None => false,
+        Some((deadline, _)) => deadline.saturating_sub(1000) <= moment,
+    }
 }

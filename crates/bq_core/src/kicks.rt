@@ -1,8 +1,7 @@
 ghost use Rattle.std.specs.Prelude.{◌≡◌, [], Some, false, length, take, true};
 ghost use Rattle.bq_job.specs.declared.job.Job.{Job};
 ghost use Rattle.bq_job.specs.Changes.{seat_with};
-ghost use Rattle.bq_job.specs.JobCommands.{kick_effect, kickable, kicked};
-ghost use Rattle.bq_job.specs.Lawful.{AreIdsWithin};
+ghost use Rattle.bq_job.specs.JobCommands.{after_kick, kick_effect, kickable, kicked};
 ghost use Rattle.bq_job.specs.Machine.{SeatRecord};
 ghost use Rattle.bq_core.specs.Acting.{Replies};
 ghost use Rattle.bq_core.specs.JobKinds.{is_of};
@@ -12,15 +11,17 @@ ghost use Rattle.bq_core.specs.State.{machine_of, IsSound};
 use crate::job_list::{JobChange, JobKind};
 use crate::reply::Reply;
 use crate::state::State;
-use crate::{job_list, seat_list, state};
-use bq_job::{Answer, Job, Seat, TubeName};
+use crate::{seat_list, state};
+use bq_job::{Answer, Seat, TubeName};
+use bq_jobs::Jobs;
 
 // Which jobs of a tube a kick makes ready: the buried ones, or where there are none, the delayed ones.
-fn kind_to_kick(jobs: &[Job], tube: &TubeName) -> JobKind
-    ensures order { jobs_of result tube.now jobs.now ≡ kickable tube.now jobs.now }
+fn kind_to_kick(jobs: &mut Jobs, tube: &TubeName) -> JobKind
+    ensures order { jobs_of result tube.now jobs.old.jobs ≡ kickable tube.now jobs.old.jobs }
     ensures out { (k : Job) → is_of result tube.now (kicked k) ≡ false }
+    ensures same { jobs.new ≡ record jobs.old { comparisons = jobs.new.comparisons } }
 {
-    match job_list::first_place(jobs, JobKind::Buried, tube) {
+    match jobs.first_buried(tube) {
         Some(_) => JobKind::Buried,
         None => JobKind::Delayed,
     }
@@ -29,27 +30,23 @@ fn kind_to_kick(jobs: &[Job], tube: &TubeName) -> JobKind
 // Kicks the first job of this kind, if there is one.
 fn kick_first(state: &mut State, kind: JobKind, tube: &TubeName) -> bool
     requires sound { IsSound state.old }
-    requires ids { AreIdsWithin 1 (machine_of state.old).jobs (machine_of state.old).next_id }
     requires out { (k : Job) → is_of kind tube.now (kicked k) ≡ false }
     ensures none { result ≡ false → (jobs_of kind tube.now (machine_of state.old).jobs ≡ []) × (machine_of state.new ≡ machine_of state.old) }
     ensures kicked { result ≡ true → KicksFirst kind tube.now (machine_of state.old).jobs (machine_of state.new).jobs }
     ensures others { machine_of state.new ≡ record (machine_of state.old) { jobs = (machine_of state.new).jobs } }
-    ensures ids { AreIdsWithin 1 (machine_of state.new).jobs (machine_of state.new).next_id }
     ensures sound { IsSound state.new }
     ensures config { state.new.config ≡ state.old.config }
 {
-    let Some(job) = job_list::first(state.jobs.as_slice(), kind, tube) else {
+    let Some(id) = state.first(kind, tube) else {
         return false;
     };
-    let id = job.id;
-    state::change_jobs(state, &JobChange::Kick(id));
+    state::change_job(state, id, &JobChange::Kick);
     true
 }
 
 // Kicks the first jobs of this kind, so many at most. Tells how many there were.
 fn kick_some(state: &mut State, kind: JobKind, tube: &TubeName, bound: u32) -> u64
     requires sound { IsSound state.old }
-    requires ids { AreIdsWithin 1 (machine_of state.old).jobs (machine_of state.old).next_id }
     requires out { (k : Job) → is_of kind tube.now (kicked k) ≡ false }
     ensures kicked { machine_of state.new ≡ record (machine_of state.old) { jobs = all_kicked (take bound (jobs_of kind tube.now (machine_of state.old).jobs)) (machine_of state.old).jobs } }
     ensures count { result ≡ length (take bound (jobs_of kind tube.now (machine_of state.old).jobs)) }
@@ -64,10 +61,21 @@ fn kick_some(state: &mut State, kind: JobKind, tube: &TubeName, bound: u32) -> u
     u64::from(bound)
 }
 
+// Kicks jobs of the tube, so many at most. Tells how many there were.
+fn kick_in(state: &mut State, tube: &TubeName, bound: u32) -> u64
+    requires { IsSound state.old }
+    ensures kicked { machine_of state.new ≡ after_kick (take bound (kickable tube.now (machine_of state.old).jobs)) (machine_of state.old) }
+    ensures count { result ≡ length (take bound (kickable tube.now (machine_of state.old).jobs)) }
+    ensures sound { IsSound state.new }
+    ensures config { state.new.config ≡ state.old.config }
+{
+    let kind = kind_to_kick(&mut state.jobs, tube);
+    kick_some(state, kind, tube, bound)
+}
+
 /// Kicks jobs of the tube that the client uses, so many at most.
 pub(crate) fn kick(state: &mut State, seat: Seat, bound: u32) -> Reply
     requires sound { IsSound state.old }
-    requires ids { AreIdsWithin 1 (machine_of state.old).jobs (machine_of state.old).next_id }
     ensures reply { (s : SeatRecord) → seat_with seat (machine_of state.old).seats ≡ Some s → Replies false (machine_of state.old) (kick_effect bound (machine_of state.old) s) result (machine_of state.new) }
     ensures sound { IsSound state.new }
     ensures config { state.new.config ≡ state.old.config }
@@ -76,7 +84,6 @@ pub(crate) fn kick(state: &mut State, seat: Seat, bound: u32) -> Reply
         return Reply::Silent;
     };
     let tube = *place.used();
-    let kind = kind_to_kick(state.jobs.as_slice(), &tube);
-    let count = kick_some(state, kind, &tube, bound);
+    let count = kick_in(state, &tube, bound);
     Reply::Told(Answer::KickedCount(count))
 }

@@ -1,7 +1,7 @@
 //! The core of the work queue: it takes one step after another, and each of them is a step of the
 //! one-list machine that `bq_job` defines.
 //!
-//! This is its plain body: one vector of jobs, searched in full.
+//! It keeps the jobs so that the first of each kind is found at once.
 #![tactic(auto)]
 
 pub use config::{Config, CoreFault};
@@ -15,6 +15,7 @@ mod dues;
 mod job_acts;
 mod job_list;
 mod kicks;
+mod leases;
 mod machine;
 mod outs;
 mod place;
@@ -23,6 +24,7 @@ mod seat_list;
 mod state;
 #[cfg(test)]
 mod tests;
+mod timers;
 mod tube_acts;
 mod tube_list;
 mod waits;

@@ -12,7 +12,7 @@ ghost use Rattle.bq_core.specs.Turns.{HasRoom};
 use crate::config::{Config, CoreFault};
 use crate::outs::Outs;
 use crate::state::State;
-use crate::{acts, dispatch, dues, seat_list, state, tube_list, waits};
+use crate::{acts, dispatch, dues, seat_list, state, timers, tube_list, waits};
 use bq_job::{Moment, Seat, Step};
 use std::alloc::Global;
 use std::marker::Model;
@@ -24,9 +24,10 @@ const MOST_SEATS: u16 = 256;
 const LARGEST_BODY: u32 = 1_048_576;
 
 /// The core: it stands for the one-list machine, and takes its steps.
-#[derive(Debug, Drop)]
+#[derive(Drop)]
 pub struct Core {
     state: State,
+    alloc: Global,
 }
 
 impl Model for Core {
@@ -36,7 +37,7 @@ impl Model for Core {
 
     ghost Value = { CoreState };
 
-    ghost view = { λ c. record { machine = machine_of c.state; comparisons = 0 } };
+    ghost view = { λ c. record { machine = machine_of c.state; comparisons = c.state.jobs.comparisons } };
 
     ghost invariant = { λ c. IsLawful (machine_of c.state) × IsSound c.state };
 }
@@ -55,7 +56,7 @@ fn serve(state: &mut State, outs: &mut Outs)
 }
 
 // One step.
-fn take_step(state: &mut State, at: Moment, seat: Seat, what: Step, outs: &mut Outs)
+fn take_step(state: &mut State, alloc: Global, at: Moment, seat: Seat, what: Step, outs: &mut Outs)
     requires lawful { IsLawful (machine_of state.old) }
     requires sound { IsSound state.old }
     requires built { IsTrue (is_built what) }
@@ -67,9 +68,9 @@ fn take_step(state: &mut State, at: Moment, seat: Seat, what: Step, outs: &mut O
 {
     outs.begin();
     state::raise_moment(state, at);
-    state::fire_timers(state);
+    timers::fire(state);
     serve(state, outs);
-    acts::act(state, seat, what, outs);
+    acts::act(state, alloc, seat, what, outs);
     state::forget_tubes(state);
     serve(state, outs);
 }
@@ -106,7 +107,8 @@ impl Core {
             return Err(CoreFault::NoMemory);
         };
         Ok(Core {
-            state: state::first_state(alloc, config, seats, tubes),
+            state: state::first_state(config, seats, tubes),
+            alloc,
         })
     }
 
@@ -121,7 +123,14 @@ impl Core {
         ensures most { outs.new.most ≡ outs.old.most }
         ensures settings { self.new.machine.settings ≡ self.old.machine.settings }
     {
-        take_step(&mut self.state, at, seat, what, outs);
+        take_step(&mut self.state, self.alloc, at, seat, what, outs);
+    }
+
+    /// The comparisons of keys among the jobs so far. The count stops at 2^64 - 1.
+    pub fn comparisons(&self) -> u64
+        ensures { result ≡ self.now.comparisons }
+    {
+        self.state.jobs.comparisons()
     }
 
     /// The least moment at which something happens by itself: a delay, a time to run or a pause ends, a
@@ -130,6 +139,6 @@ impl Core {
         ensures due { result ≡ next_due self.old.machine }
         ensures same { self.new.machine ≡ self.old.machine }
     {
-        dues::next_due(&self.state)
+        dues::next_due(&mut self.state)
     }
 }

@@ -93,6 +93,13 @@ impl Place {
         self.watched.len()
     }
 
+    /// The tubes that are watched, in the order in which they were watched.
+    pub(crate) fn watched(&self) -> &[TubeName]
+        ensures { result.now ≡ self.now.watched }
+    {
+        self.watched.as_slice()
+    }
+
     pub(crate) fn watches(&self, name: &TubeName) -> bool
         ensures { result ≡ watches name.now self.now }
     {

@@ -1,6 +1,6 @@
 ghost use Rattle.std.specs.Prelude.{◌≡◌, ◌<◌, ◌++◌, ◌∷◌, [], true, filter, map, length, not, set, slice_get, IfSome, IfOk, OnErr, Some};
 ghost use Rattle.std.specs.List.{list_any};
-ghost use Rattle.std.specs.Option.{option_copied};
+ghost use Rattle.std.specs.Option.{option_copied, option_map};
 ghost use Rattle.bq_job.specs.Changes.{first_of, seat_with};
 ghost use Rattle.bq_job.specs.Dispatch.{is_wait_before};
 ghost use Rattle.bq_job.specs.Machine.{SeatRecord, empty_seat, numbers};
@@ -9,10 +9,12 @@ ghost use Rattle.bq_job.specs.TubeName.{is_same_name};
 ghost use Rattle.bq_core.specs.SeatChanges.{seat_changed, seat_changed_at};
 ghost use Rattle.bq_core.specs.Places.{item_at, better_if};
 ghost use Rattle.bq_core.specs.EndingWaits.{ends_waiting_among};
+ghost use Rattle.bq_core.specs.Offers.{waits_at};
 
 use crate::job_list;
 use crate::place::Place;
-use bq_job::{Job, Moment, NoMemory, Seat, TubeName};
+use bq_job::{Moment, NoMemory, Seat, TubeName};
+use bq_jobs::Jobs;
 use std::alloc::Global;
 
 /// What happens at a seat.
@@ -112,22 +114,54 @@ pub(crate) fn better(seats: &[Place], best: Option<usize>, i: usize, passes: boo
     if is_better { Some(i) } else { best }
 }
 
+// Whether the client waits at this tube.
+fn waits_at(place: &Place, tube: &TubeName) -> bool
+    ensures { result ≡ waits_at tube.now place.now }
+{
+    place.is_waiting() && place.watches(tube)
+}
+
+// The place of the client that has waited longest of those that wait at this tube.
+fn place_waiting(seats: &[Place], tube: &TubeName) -> Option<usize>
+    ensures bound { IfSome result (λ i. i < length seats.now) }
+    ensures least { item_at seats.now result ≡ first_of (waits_at tube.now) is_wait_before seats.now }
+{
+    let mut best = None;
+    for i in 0..seats.len() {
+        best = better(seats, best, i, waits_at(&seats[i], tube));
+    }
+    best
+}
+
+/// The seat of the client that has waited longest of those that wait at this tube.
+pub(crate) fn first_waiting(seats: &[Place], tube: &TubeName) -> Option<Seat>
+    ensures { result ≡ option_map (λ s. s.number) (first_of (waits_at tube.now) is_wait_before seats.now) }
+{
+    match place_waiting(seats, tube) {
+        None => None,
+        Some(i) => Some(seats[i].number()),
+    }
+}
+
 /// Whether the client waits, and its wait ends at this moment.
-fn ends_waiting(jobs: &[Job], place: &Place, moment: Moment) -> bool
-    ensures { result ≡ ends_waiting_among jobs.now moment place.now }
+fn ends_waiting(jobs: &mut Jobs, place: &Place, moment: Moment) -> bool
+    ensures ends { result ≡ ends_waiting_among jobs.old.jobs moment place.now }
+    ensures same { jobs.new ≡ record jobs.old { comparisons = jobs.new.comparisons } }
 {
     place.is_waiting()
         && (job_list::is_deadline_soon(jobs, place.number(), moment) || place.is_timed_out(moment))
 }
 
 /// The place of the client that has waited longest of those whose wait ends at this moment.
-pub(crate) fn first_ending(seats: &[Place], jobs: &[Job], moment: Moment) -> Option<usize>
+pub(crate) fn first_ending(seats: &[Place], jobs: &mut Jobs, moment: Moment) -> Option<usize>
     ensures bound { IfSome result (λ i. i < length seats.now) }
-    ensures least { item_at seats.now result ≡ first_of (ends_waiting_among jobs.now moment) is_wait_before seats.now }
+    ensures least { item_at seats.now result ≡ first_of (ends_waiting_among jobs.old.jobs moment) is_wait_before seats.now }
+    ensures same { jobs.new ≡ record jobs.old { comparisons = jobs.new.comparisons } }
 {
     let mut best = None;
     for i in 0..seats.len() {
-        best = better(seats, best, i, ends_waiting(jobs, &seats[i], moment));
+        let ends = ends_waiting(jobs, &seats[i], moment);
+        best = better(seats, best, i, ends);
     }
     best
 }

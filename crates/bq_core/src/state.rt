@@ -1,30 +1,32 @@
-ghost use Rattle.std.specs.Prelude.{◌≡◌, ◌<◌, ◌==◌, ◌++◌, ◌∷◌, [], OnErr, Some, true, length, map, filter, not, IfSome, IfOk};
+ghost use Rattle.std.specs.Prelude.{◌≡◌, ◌<◌, ◌≤◌, ◌==◌, ◌++◌, ◌∷◌, [], OnErr, Some, None, true, length, map, max, filter, not, IfSome, IfOk};
 ghost use Rattle.std.specs.List.{list_any};
-ghost use Rattle.bq_job.specs.Changes.{seat_with, with_seat};
+ghost use Rattle.bq_job.specs.Changes.{job_with, seat_with, with_job, with_seat};
 ghost use Rattle.bq_job.specs.Machine.{SeatRecord, default_tube, empty_seat, new_machine, numbers};
-ghost use Rattle.bq_job.specs.Timers.{at_moment, after_timers};
+ghost use Rattle.bq_job.specs.Timers.{at_moment};
 ghost use Rattle.bq_job.specs.TubeCommands.{watching};
 ghost use Rattle.bq_job.specs.TubeName.{is_same_name};
 ghost use Rattle.bq_job.specs.Tubes.{forgetting, fresh_tube, with_tube};
+ghost use Rattle.bq_jobs.specs.Kept.{with_added, without};
 ghost use Rattle.bq_core.specs.JobChanges.{changed};
 ghost use Rattle.bq_core.specs.SeatChanges.{seat_changed, has_tube_of};
-ghost use Rattle.bq_core.specs.State.{machine_of, settings_of, IsSound};
-ghost use Rattle.bq_core.specs.TubeEntries.{has_entry, tube_changed};
+ghost use Rattle.bq_core.specs.State.{machine_of, settings_of, IsSound, OnlyCompares};
+ghost use Rattle.bq_core.specs.TubeEntries.{has_entry, is_tube_of, tube_changed};
 
 use crate::config::Config;
-use crate::job_list::{JobChange, JobKind};
+use crate::job_list::{JobChange, JobKind, JobTest};
 use crate::place::Place;
 use crate::seat_list::SeatChange;
 use crate::tube_list::{TubeChange, TubeEntry};
 use crate::{job_list, seat_list, tube_list};
-use bq_job::{Job, JobId, Moment, NoMemory, Seat, TubeName};
+use bq_job::{Body, Job, JobId, Moment, NoMemory, Seat, TubeName};
+use bq_jobs::{Jobs, laws};
 use std::alloc::Global;
 
 /// What a core holds.
-#[derive(Debug, Drop)]
+#[derive(Drop)]
 pub(crate) struct State {
     pub(crate) config: Config,
-    pub(crate) jobs: Vec<Job, Global>,
+    pub(crate) jobs: Jobs,
     pub(crate) seats: Vec<Place, Global>,
     /// An entry for each tube that exists.
     pub(crate) tubes: Vec<TubeEntry, Global>,
@@ -39,13 +41,13 @@ pub(crate) struct State {
 }
 
 impl State {
-    ghost use Rattle.std.specs.Option.{option_copied};
-    ghost use Rattle.bq_job.specs.Changes.{first_of, is_waiting, job_with};
-    ghost use Rattle.bq_job.specs.Dispatch.{is_wait_before, is_waiting_for, next_job, next_seat};
-    ghost use Rattle.bq_job.specs.Tubes.{is_paused};
+    ghost use Rattle.std.specs.Prelude.{is_some};
+    ghost use Rattle.std.specs.Option.{option_map};
+    ghost use Rattle.bq_job.specs.declared.job.Job.{Job};
+    ghost use Rattle.bq_job.specs.Changes.{first_of, is_waiting};
+    ghost use Rattle.bq_core.specs.JobKinds.{is_before_of, is_of};
     ghost use Rattle.bq_core.specs.Acting.{is_asking, is_connected, is_free};
-    ghost use Rattle.bq_core.specs.EndingWaits.{ends_waiting_among};
-    ghost use Rattle.bq_core.specs.Places.{item_at};
+    ghost use Rattle.bq_core.specs.JobChanges.{is_passed_by, passes, ttr_held_by};
 
     /// Whether there is a seat of this number, and nobody is connected there.
     pub(crate) fn is_free(&self, seat: Seat) -> bool
@@ -77,19 +79,45 @@ impl State {
         }
     }
 
-    /// The job of this id.
-    pub(crate) fn job(&self, id: JobId) -> Option<&Job>
-        ensures { option_copied result ≡ job_with id self.now.jobs.items }
+    /// Whether there is a job of this id, and it passes.
+    pub(crate) fn has_job(&mut self, id: JobId, test: JobTest) -> bool
+        requires { IsSound self.old }
+        ensures has { result ≡ is_passed_by (passes test) (job_with id (machine_of self.old).jobs) }
+        ensures same { OnlyCompares self.old self.new }
+        ensures sound { IsSound self.new }
     {
-        job_list::find(self.jobs.as_slice(), id)
+        job_list::has(&mut self.jobs, id, test)
     }
 
-    /// Whether the tube is paused.
-    pub(crate) fn is_paused(&self, tube: &TubeName) -> bool
-        requires { IsSound self.now }
-        ensures { result ≡ is_paused tube.now (machine_of self.now) }
+    /// How long the client at the seat may hold the job of this id, in seconds, if it holds it.
+    pub(crate) fn time_to_run(&mut self, id: JobId, seat: Seat) -> Option<u32>
+        requires { IsSound self.old }
+        ensures ttr { result ≡ ttr_held_by seat (job_with id (machine_of self.old).jobs) }
+        ensures same { OnlyCompares self.old self.new }
+        ensures sound { IsSound self.new }
     {
-        tube_list::is_paused(self.tubes.as_slice(), tube)
+        job_list::time_to_run(&mut self.jobs, id, seat)
+    }
+
+    /// One more owner of the body of the job of this id, unless it is refused; None where there is no job.
+    pub(crate) fn share(&mut self, id: JobId) -> Option<Result<Body, NoMemory>>
+        requires { IsSound self.old }
+        ensures none { is_some result ≡ is_some (job_with id (machine_of self.old).jobs) }
+        ensures share { IfSome result (λ shared. IfOk shared (λ body. (j : Job) → job_with id (machine_of self.old).jobs ≡ Some j → body ≡ j.body)) }
+        ensures same { OnlyCompares self.old self.new }
+        ensures sound { IsSound self.new }
+    {
+        job_list::share(&mut self.jobs, id)
+    }
+
+    /// The id of the first job of this kind in this tube.
+    pub(crate) fn first(&mut self, kind: JobKind, tube: &TubeName) -> Option<JobId>
+        requires { IsSound self.old }
+        ensures id { result ≡ option_map (λ j. j.id) (first_of (is_of kind tube.now) (is_before_of kind) (machine_of self.old).jobs) }
+        ensures same { OnlyCompares self.old self.new }
+        ensures sound { IsSound self.new }
+    {
+        job_list::first(&mut self.jobs, kind, tube)
     }
 
     /// Whether somebody waits.
@@ -98,79 +126,63 @@ impl State {
     {
         self.seats.iter().any(|place| place.is_waiting())
     }
-
-    // Whether the client waits for this job.
-    fn waits_for(&self, place: &Place, job: &Job) -> bool
-        requires { IsSound self.now }
-        ensures { result ≡ is_waiting_for (machine_of self.now) job.now place.now }
-    {
-        place.is_waiting()
-            && (job_list::is_ready(job) && place.watches(&job.tube) && !self.is_paused(&job.tube))
-    }
-
-    // Whether some client waits for this job.
-    fn is_wanted(&self, job: &Job) -> bool
-        requires { IsSound self.now }
-        ensures { result ≡ list_any (is_waiting_for (machine_of self.now) job.now) self.now.seats.items }
-    {
-        self.seats.iter().any(|place| self.waits_for(place, job))
-    }
-
-    /// The place of the job that is handed out next.
-    pub(crate) fn next_job(&self) -> Option<usize>
-        requires { IsSound self.now }
-        ensures bound { IfSome result (λ i. i < length self.now.jobs.items) }
-        ensures least { item_at self.now.jobs.items result ≡ next_job (machine_of self.now) }
-    {
-        let jobs = self.jobs.as_slice();
-        let mut best = None;
-        for i in 0..jobs.len() {
-            best = job_list::better(jobs, best, i, self.is_wanted(&jobs[i]), JobKind::Ready);
-        }
-        best
-    }
-
-    /// The place of the client that has waited longest of those that wait for this job.
-    pub(crate) fn next_seat(&self, job: &Job) -> Option<usize>
-        requires { IsSound self.now }
-        ensures bound { IfSome result (λ i. i < length self.now.seats.items) }
-        ensures least { item_at self.now.seats.items result ≡ next_seat (machine_of self.now) job.now }
-    {
-        let seats = self.seats.as_slice();
-        let mut best = None;
-        for i in 0..seats.len() {
-            best = seat_list::better(seats, best, i, self.waits_for(&seats[i], job));
-        }
-        best
-    }
-
-    /// The place of the client that has waited longest of those whose wait ends now.
-    pub(crate) fn first_ending(&self) -> Option<usize>
-        ensures bound { IfSome result (λ i. i < length self.now.seats.items) }
-        ensures least { item_at self.now.seats.items result ≡ first_of (ends_waiting_among self.now.jobs.items self.now.moment) is_wait_before self.now.seats.items }
-    {
-        seat_list::first_ending(self.seats.as_slice(), self.jobs.as_slice(), self.moment)
-    }
 }
 
-/// Changes jobs.
-pub(crate) fn change_jobs(state: &mut State, what: &JobChange)
+/// Makes room for a job, where there is none.
+pub(crate) fn make_room(state: &mut State, alloc: Global) -> Result<(), NoMemory>
     requires { IsSound state.old }
-    ensures after { machine_of state.new ≡ record (machine_of state.old) { jobs = map (changed what.now) (machine_of state.old).jobs } }
+    ensures room { IfOk result (λ _. 0 < state.new.jobs.room) }
+    ensures after { machine_of state.new ≡ machine_of state.old }
+    ensures seats { state.new.seats ≡ state.old.seats }
+    ensures tubes { state.new.tubes ≡ state.old.tubes }
     ensures sound { IsSound state.new }
     ensures config { state.new.config ≡ state.old.config }
 {
-    job_list::change_all(&mut state.jobs, what);
+    state.jobs.reserve_one(alloc)
 }
 
-/// Takes the job of this id out.
-pub(crate) fn take_out(state: &mut State, id: JobId)
-    requires { IsSound state.old }
-    ensures after { machine_of state.new ≡ record (machine_of state.old) { jobs = filter (λ k. not (k.id == id)) (machine_of state.old).jobs } }
+/// Puts a job in, where there is room for it. Its id is one that was given, and its tube has an entry.
+pub(crate) fn add(state: &mut State, job: Job)
+    requires sound { IsSound state.old }
+    requires room { 0 < state.old.jobs.room }
+    requires given { (1 ≤ job.id) × (job.id < state.old.next_id) }
+    requires free { job_with job.id (machine_of state.old).jobs ≡ None }
+    requires entry { has_entry job.tube state.old.tubes.items ≡ true }
+    ensures after { machine_of state.new ≡ record (machine_of state.old) { jobs = with_added job (machine_of state.old).jobs } }
     ensures sound { IsSound state.new }
     ensures config { state.new.config ≡ state.old.config }
 {
-    job_list::take_out(&mut state.jobs, id);
+    state.jobs.add(job);
+}
+
+/// Takes the job of this id out, if there is one. Its room is kept.
+pub(crate) fn take(state: &mut State, id: JobId) -> Option<Job>
+    requires { IsSound state.old }
+    ensures job { result ≡ job_with id (machine_of state.old).jobs }
+    ensures after { machine_of state.new ≡ record (machine_of state.old) { jobs = without id (machine_of state.old).jobs } }
+    ensures id { IfSome result (λ job. job.id ≡ id) }
+    ensures gone { job_with id (machine_of state.new).jobs ≡ None }
+    ensures given { IfSome result (λ job. (1 ≤ job.id) × (job.id < state.new.next_id)) }
+    ensures room { IfSome result (λ job. 0 < state.new.jobs.room) }
+    ensures entry { IfSome result (λ job. has_entry job.tube state.new.tubes.items ≡ true) }
+    ensures sound { IsSound state.new }
+    ensures config { state.new.config ≡ state.old.config }
+{
+    state.jobs.remove(id)
+}
+
+/// Changes the job of this id, if there is one.
+pub(crate) fn change_job(state: &mut State, id: JobId, what: &JobChange)
+    requires { IsSound state.old }
+    ensures after { machine_of state.new ≡ with_job id (changed what.now) (machine_of state.old) }
+    ensures sound { IsSound state.new }
+    ensures config { state.new.config ≡ state.old.config }
+{
+    laws::changes_by_id();
+    if let Some(mut job) = take(state, id) {
+        job_list::change(&mut job, what);
+        add(state, job);
+    }
 }
 
 /// Changes the seat of this number. A tube that it uses then has an entry already.
@@ -248,6 +260,16 @@ pub(crate) fn ignore_tube(state: &mut State, seat: Seat, tube: &TubeName) -> u64
     }
 }
 
+/// Whether the tube exists.
+pub(crate) fn is_tube(state: &mut State, tube: &TubeName) -> bool
+    requires { IsSound state.old }
+    ensures is { result ≡ is_tube_of (machine_of state.old).jobs (machine_of state.old).seats tube.now }
+    ensures same { OnlyCompares state.old state.new }
+    ensures sound { IsSound state.new }
+{
+    tube_list::is_tube(&mut state.jobs, state.next_id, state.seats.as_slice(), tube)
+}
+
 /// Drops the entries of tubes that are gone.
 pub(crate) fn forget_tubes(state: &mut State)
     requires { IsSound state.old }
@@ -257,7 +279,8 @@ pub(crate) fn forget_tubes(state: &mut State)
 {
     tube_list::forget(
         &mut state.tubes,
-        state.jobs.as_slice(),
+        &mut state.jobs,
+        state.next_id,
         state.seats.as_slice(),
     );
 }
@@ -272,22 +295,8 @@ pub(crate) fn raise_moment(state: &mut State, at: Moment)
     state.moment = state.moment.max(at);
 }
 
-/// Timers that are due fire.
-pub(crate) fn fire_timers(state: &mut State)
-    requires { IsSound state.old }
-    ensures after { machine_of state.new ≡ after_timers (machine_of state.old) }
-    ensures sound { IsSound state.new }
-    ensures config { state.new.config ≡ state.old.config }
-{
-    let expired = job_list::expired_count(state.jobs.as_slice(), state.moment);
-    state.timeouts = state.timeouts.saturating_add(expired);
-    job_list::change_all(&mut state.jobs, &JobChange::FireTimers(state.moment));
-    tube_list::fire_timers(&mut state.tubes, state.moment);
-}
-
 /// No jobs, and nobody at the seats.
 pub(crate) fn first_state(
-    alloc: Global,
     config: Config,
     seats: Vec<Place, Global>,
     tubes: Vec<TubeEntry, Global>,
@@ -295,11 +304,12 @@ pub(crate) fn first_state(
     requires free { seats.items ≡ map empty_seat (numbers 0 config.seats) }
     requires entries { tubes.items ≡ fresh_tube default_tube ∷ [] }
     ensures empty { machine_of result ≡ new_machine (settings_of config) }
+    ensures comparisons { result.jobs.comparisons ≡ 0 }
     ensures sound { IsSound result }
 {
     State {
         config,
-        jobs: Vec::new(alloc),
+        jobs: Jobs::new(),
         seats,
         tubes,
         moment: 0,

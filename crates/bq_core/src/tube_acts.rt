@@ -1,20 +1,21 @@
 ghost use Rattle.std.specs.Prelude.{◌≡◌, true, false, Some};
+ghost use Rattle.std.specs.Option.{option_map};
 ghost use Rattle.bq_job.specs.Acts.{showing, telling};
 ghost use Rattle.bq_job.specs.declared.answer.Answer.TheVariants as answers;
-ghost use Rattle.bq_job.specs.Changes.{first_of, seat_with};
-ghost use Rattle.bq_job.specs.Machine.{Machine, SeatRecord};
+ghost use Rattle.bq_job.specs.Changes.{first_of, job_with, seat_with};
+ghost use Rattle.bq_job.specs.Machine.{SeatRecord};
 ghost use Rattle.bq_job.specs.TubeCommands.{ignore_effect, pause_effect, peek_effect, use_effect, watch_effect};
 ghost use Rattle.bq_core.specs.Acting.{Replies};
 ghost use Rattle.bq_core.specs.JobKinds.{is_before_of, is_of};
-ghost use Rattle.bq_core.specs.State.{machine_of, IsSound};
+ghost use Rattle.bq_core.specs.State.{machine_of, IsSound, OnlyCompares};
 
 use crate::job_list::JobKind;
 use crate::reply::Reply;
 use crate::seat_list::SeatChange;
 use crate::state::State;
 use crate::tube_list::TubeChange;
-use crate::{job_list, seat_list, state, tube_list};
-use bq_job::{Answer, Job, JobId, Seat, TubeName};
+use crate::{job_list, seat_list, state};
+use bq_job::{Answer, JobId, Seat, TubeName};
 
 /// The client's jobs go into this tube from now on. The growth that a new tube needs comes before any
 /// change.
@@ -84,7 +85,7 @@ pub(crate) fn pause(state: &mut State, tube: &TubeName, seconds: u32) -> Answer
     ensures sound { IsSound state.new }
     ensures config { state.new.config ≡ state.old.config }
 {
-    if !tube_list::is_tube(state.jobs.as_slice(), state.seats.as_slice(), tube) {
+    if !state::is_tube(state, tube) {
         return Answer::NotFound;
     }
     let change = TubeChange::Pause(seconds, state.moment);
@@ -92,35 +93,50 @@ pub(crate) fn pause(state: &mut State, tube: &TubeName, seconds: u32) -> Answer
     Answer::Paused
 }
 
-// Shows a job.
-fn show(job: &Job) -> Reply
-    ensures { (m : Machine) → Replies false m (showing m (Some job.now)) result m }
+// Shows the job of this id.
+fn show(state: &mut State, id: JobId) -> Reply
+    requires { IsSound state.old }
+    ensures reply { Replies false (machine_of state.old) (showing (machine_of state.old) (job_with id (machine_of state.old).jobs)) result (machine_of state.new) }
+    ensures sound { IsSound state.new }
+    ensures config { state.new.config ≡ state.old.config }
 {
-    match job.body.share() {
-        Ok(body) => Reply::Told(Answer::Found(job.id, body)),
-        Err(_) => Reply::Unshared,
+    match state.share(id) {
+        None => Reply::Told(Answer::NotFound),
+        Some(Ok(body)) => Reply::Told(Answer::Found(id, body)),
+        Some(Err(_)) => Reply::Unshared,
     }
 }
 
 /// Shows the job of this id.
-pub(crate) fn peek(state: &State, id: JobId) -> Reply
-    ensures { Replies false (machine_of state.now) (peek_effect id (machine_of state.now)) result (machine_of state.now) }
+pub(crate) fn peek(state: &mut State, id: JobId) -> Reply
+    requires { IsSound state.old }
+    ensures reply { Replies false (machine_of state.old) (peek_effect id (machine_of state.old)) result (machine_of state.new) }
+    ensures sound { IsSound state.new }
+    ensures config { state.new.config ≡ state.old.config }
 {
-    match state.job(id) {
-        None => Reply::Told(Answer::NotFound),
-        Some(job) => show(job),
-    }
+    show(state, id)
+}
+
+// The id of the first job of this kind in the tube that the client uses.
+fn first_used(state: &mut State, seat: Seat, kind: JobKind) -> Option<JobId>
+    requires { IsSound state.old }
+    ensures id { (s : SeatRecord) → seat_with seat (machine_of state.old).seats ≡ Some s → result ≡ option_map (λ j. j.id) (first_of (is_of kind s.used) (is_before_of kind) (machine_of state.old).jobs) }
+    ensures same { OnlyCompares state.old state.new }
+    ensures sound { IsSound state.new }
+{
+    let place = seat_list::find(state.seats.as_slice(), seat)?;
+    job_list::first(&mut state.jobs, kind, place.used())
 }
 
 /// Shows the first job of this kind in the tube that the client uses.
-pub(crate) fn peek_first(state: &State, seat: Seat, kind: JobKind) -> Reply
-    ensures { (s : SeatRecord) → seat_with seat (machine_of state.now).seats ≡ Some s → Replies false (machine_of state.now) (showing (machine_of state.now) (first_of (is_of kind s.used) (is_before_of kind) (machine_of state.now).jobs)) result (machine_of state.now) }
+pub(crate) fn peek_first(state: &mut State, seat: Seat, kind: JobKind) -> Reply
+    requires { IsSound state.old }
+    ensures reply { (s : SeatRecord) → seat_with seat (machine_of state.old).seats ≡ Some s → Replies false (machine_of state.old) (showing (machine_of state.old) (first_of (is_of kind s.used) (is_before_of kind) (machine_of state.old).jobs)) result (machine_of state.new) }
+    ensures sound { IsSound state.new }
+    ensures config { state.new.config ≡ state.old.config }
 {
-    let Some(place) = seat_list::find(state.seats.as_slice(), seat) else {
-        return Reply::Silent;
-    };
-    match job_list::first(state.jobs.as_slice(), kind, place.used()) {
+    match first_used(state, seat, kind) {
         None => Reply::Told(Answer::NotFound),
-        Some(job) => show(job),
+        Some(id) => show(state, id),
     }
 }

@@ -1,17 +1,20 @@
-ghost use Rattle.std.specs.Prelude.{◌≡◌, ◌&&◌, ◌∷◌, [], IfOk, filter, map, is_some, is_ok, not, if◌then◌else◌};
+ghost use Rattle.std.specs.Prelude.{◌≡◌, ◌<◌, ◌&&◌, ◌∷◌, [], IfOk, filter, length, map, is_some, is_ok, not, slice_get, if◌then◌else◌};
 ghost use Rattle.std.specs.List.{list_any, position, prefix_len};
+ghost use Rattle.bq_job.specs.Lawful.{AreIdsWithin};
 ghost use Rattle.bq_job.specs.Machine.{default_tube};
 ghost use Rattle.bq_job.specs.NextDue.{dues_of_pause, earliest};
 ghost use Rattle.bq_job.specs.TubeCommands.{with_pause};
 ghost use Rattle.bq_job.specs.TubeName.{is_same_name};
 ghost use Rattle.bq_job.specs.Tubes.{fresh_tube, is_name_before, is_seated_at as seated_at};
 ghost use Rattle.bq_job.specs.Timers.{tube_after_timers};
-ghost use Rattle.bq_core.specs.TubeEntries.{has_entry, is_tube_of, provided, tube_changed, tube_changed_at};
+ghost use Rattle.bq_core.specs.TubeEntries.{has_entry, is_tube_of, kept_if, provided, tube_changed, tube_changed_at};
 
+use crate::job_list;
 use crate::job_list::later;
 use crate::place::Place;
 use crate::watch_list::default_tube;
-use bq_job::{Job, Moment, NoMemory, TubeName};
+use bq_job::{JobId, Moment, NoMemory, TubeName};
+use bq_jobs::Jobs;
 use std::alloc::Global;
 use std::marker::Model;
 
@@ -221,11 +224,18 @@ pub(crate) fn first_entries(alloc: Global) -> Result<Vec<TubeEntry, Global>, NoM
     }
 }
 
-// Whether a job is in the tube.
-fn has_job_in(jobs: &[Job], name: &TubeName) -> bool
-    ensures { result ≡ list_any (λ j. is_same_name name.now j.tube) jobs.now }
+// Whether a job is in the tube. It asks for each id that was given.
+fn has_job_in(jobs: &mut Jobs, next_id: JobId, name: &TubeName) -> bool
+    requires { AreIdsWithin 1 jobs.old.jobs next_id }
+    ensures is { result ≡ list_any (λ j. is_same_name name.now j.tube) jobs.old.jobs }
+    ensures same { jobs.new ≡ record jobs.old { comparisons = jobs.new.comparisons } }
 {
-    jobs.iter().any(|job| name == &job.tube)
+    for id in 1..next_id {
+        if job_list::is_in(jobs, id, name) {
+            return true;
+        }
+    }
+    false
 }
 
 // Whether an open seat uses or watches the tube.
@@ -236,15 +246,46 @@ fn is_seated_at(seats: &[Place], name: &TubeName) -> bool
 }
 
 /// Whether the tube exists.
-pub(crate) fn is_tube(jobs: &[Job], seats: &[Place], name: &TubeName) -> bool
-    ensures { result ≡ is_tube_of jobs.now seats.now name.now }
+pub(crate) fn is_tube(jobs: &mut Jobs, next_id: JobId, seats: &[Place], name: &TubeName) -> bool
+    requires { AreIdsWithin 1 jobs.old.jobs next_id }
+    ensures is { result ≡ is_tube_of jobs.old.jobs seats.now name.now }
+    ensures same { jobs.new ≡ record jobs.old { comparisons = jobs.new.comparisons } }
 {
-    *name == default_tube() || has_job_in(jobs, name) || is_seated_at(seats, name)
+    *name == default_tube() || is_seated_at(seats, name) || has_job_in(jobs, next_id, name)
+}
+
+// Drops the entry at place i where its tube is gone.
+fn forget_at(
+    tubes: &mut Vec<TubeEntry, Global>,
+    i: usize,
+    jobs: &mut Jobs,
+    next_id: JobId,
+    seats: &[Place],
+)
+    requires there { i < length tubes.old.items }
+    requires ids { AreIdsWithin 1 jobs.old.jobs next_id }
+    ensures after { tubes.new.items ≡ kept_if (λ t. is_tube_of jobs.old.jobs seats.now t.name) tubes.old.items i (slice_get tubes.old.items i) }
+    ensures same { jobs.new ≡ record jobs.old { comparisons = jobs.new.comparisons } }
+{
+    if !is_tube(jobs, next_id, seats, tubes[i].name()) {
+        tubes.remove(i);
+    }
 }
 
 /// Drops the entries of tubes that are gone.
-pub(crate) fn forget(tubes: &mut Vec<TubeEntry, Global>, jobs: &[Job], seats: &[Place])
-    ensures { tubes.new.items ≡ filter (λ t. is_tube_of jobs.now seats.now t.name) tubes.old.items }
+pub(crate) fn forget(
+    tubes: &mut Vec<TubeEntry, Global>,
+    jobs: &mut Jobs,
+    next_id: JobId,
+    seats: &[Place],
+)
+    requires { AreIdsWithin 1 jobs.old.jobs next_id }
+    ensures after { tubes.new.items ≡ filter (λ t. is_tube_of jobs.old.jobs seats.now t.name) tubes.old.items }
+    ensures same { jobs.new ≡ record jobs.old { comparisons = jobs.new.comparisons } }
 {
-    tubes.retain(|entry| is_tube(jobs, seats, entry.name()));
+    let mut i = tubes.len();
+    while i > 0 {
+        i -= 1;
+        forget_at(tubes, i, jobs, next_id, seats);
+    }
 }

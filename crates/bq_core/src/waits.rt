@@ -1,22 +1,26 @@
-ghost use Rattle.std.specs.Prelude.{◌≡◌, ◌<◌, None, true, false, length};
+ghost use Rattle.std.specs.Prelude.{◌≡◌, ◌<◌, None, true, false, length, IfSome};
+ghost use Rattle.bq_core.specs.Places.{item_at};
 ghost use Rattle.bq_job.specs.Computed.{waiting_count};
 ghost use Rattle.bq_job.specs.Waits.{WaitEndTurn, end_of_wait, next_end};
 ghost use Rattle.bq_job.specs.Machine.{SeatRecord};
-ghost use Rattle.bq_core.specs.State.{machine_of, IsSound};
+ghost use Rattle.bq_core.specs.State.{machine_of, IsSound, OnlyCompares};
 ghost use Rattle.bq_core.specs.Turns.{Gives, HasRoom, none_refused};
 ghost use Rattle.bq_core.specs.WaitEnds.{EndsWait};
 
 use crate::outs::Outs;
 use crate::seat_list::SeatChange;
 use crate::state::State;
-use crate::{job_list, state};
+use crate::{job_list, seat_list, state};
 use bq_job::{Answer, Seat};
 
 // What a client is told whose wait ends now.
-fn end_of_wait(state: &State, number: Seat) -> Answer
-    ensures { (s : SeatRecord) → s.number ≡ number → result ≡ end_of_wait (machine_of state.now) s }
+fn end_of_wait(state: &mut State, number: Seat) -> Answer
+    requires { IsSound state.old }
+    ensures answer { (s : SeatRecord) → s.number ≡ number → result ≡ end_of_wait (machine_of state.old) s }
+    ensures same { OnlyCompares state.old state.new }
+    ensures sound { IsSound state.new }
 {
-    if job_list::is_deadline_soon(state.jobs.as_slice(), number, state.moment) {
+    if job_list::is_deadline_soon(&mut state.jobs, number, state.moment) {
         Answer::DeadlineSoon
     } else {
         Answer::TimedOut
@@ -38,6 +42,17 @@ fn end_wait(state: &mut State, outs: &mut Outs, k: usize)
     outs.push(number, answer);
 }
 
+// The place of the client that has waited longest of those whose wait ends now.
+fn first_ending(state: &mut State) -> Option<usize>
+    requires { IsSound state.old }
+    ensures bound { IfSome result (λ i. i < length state.new.seats.items) }
+    ensures least { item_at state.new.seats.items result ≡ next_end (machine_of state.old) }
+    ensures same { OnlyCompares state.old state.new }
+    ensures sound { IsSound state.new }
+{
+    seat_list::first_ending(state.seats.as_slice(), &mut state.jobs, state.moment)
+}
+
 // Ends one wait, if there is one that ends now.
 fn turn(state: &mut State, outs: &mut Outs) -> bool
     requires sound { IsSound state.old }
@@ -48,7 +63,7 @@ fn turn(state: &mut State, outs: &mut Outs) -> bool
     ensures sound { IsSound state.new }
     ensures config { state.new.config ≡ state.old.config }
 {
-    let Some(k) = state.first_ending() else {
+    let Some(k) = first_ending(state) else {
         return false;
     };
     end_wait(state, outs, k);

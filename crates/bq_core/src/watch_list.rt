@@ -57,6 +57,12 @@ impl WatchList {
         self.names.len()
     }
 
+    pub(crate) fn as_slice(&self) -> &[TubeName]
+        ensures { result.now ≡ self.now }
+    {
+        self.names.as_slice()
+    }
+
     pub(crate) fn has(&self, name: &TubeName) -> bool
         ensures { result ≡ list_any (is_same_name name.now) self.now }
     {

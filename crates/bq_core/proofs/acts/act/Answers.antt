@@ -1,4 +1,3 @@
-use Rattle.std.proofs.Common.{◌∙◌, ap}
 use Rattle.bq_core.proofs.ActLemmas.{acts_silent, acts_told}
 use Rattle.bq_core.proofs.acts.act.Goals as goal
 

@@ -1,4 +1,3 @@
-use Rattle.bq_core.specs.State.{machine_of}
 use Rattle.bq_core.proofs.ActLemmas.{number_found}
 use Rattle.bq_core.proofs.acts.answer.Goals as goal
 

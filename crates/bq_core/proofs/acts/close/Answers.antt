@@ -11,4 +11,4 @@ use Rattle.bq_core.proofs.acts.close.Goals as goal
 pub returns-clause-reply : goal.returns-clause-reply
 returns-clause-reply c =
     closed_connected (machine_of c.args.state.now) c.args.seat (sym c.if-not-is_connected.ensures)
-    ∙ ap (telling answers.Closed) (sym (c.change_seat.ensures.after ∙ ap (with_seat c.args.seat (seat_changed Clear)) c.change_jobs.ensures.after))
+    ∙ ap (telling answers.Closed) (sym (c.change_seat.ensures.after ∙ ap (with_seat c.args.seat (seat_changed Clear)) c.give_back_all.ensures.after))

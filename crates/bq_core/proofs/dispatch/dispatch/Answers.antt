@@ -2,7 +2,7 @@ use Rattle.std.proofs.Common.{refl, ◌∙◌}
 use Rattle.bq_job.specs.Dispatch.{DispatchTurn}
 use Rattle.bq_job.specs.Steps.{has_refused_share}
 use Rattle.bq_core.specs.State.{machine_of}
-use Rattle.bq_core.proofs.TurnLemmas.{gives_joined, gives_nothing, refused_joined, room_kept}
+use Rattle.bq_core.proofs.TurnLemmas.{gives_joined, refused_joined, room_kept}
 use Rattle.bq_core.proofs.dispatch.dispatch.Goals as goal
 
 pub loop-preserved : goal.loop-preserved

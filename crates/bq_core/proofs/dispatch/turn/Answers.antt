@@ -1,33 +1,40 @@
-use Rattle.std.proofs.Common.{sym, arith, refl}
+use Rattle.std.proofs.Common.{◌≡◌, ◌∙◌, Some, ap, arith, refl, subst, sym}
+use Rattle.std.specs.Prelude.{IfOk, option_map}
+use Rattle.bq_job.specs.declared.job.Job.{Job}
+use Rattle.bq_job.specs.Dispatch.{next_job, next_seat}
+use Rattle.bq_job.specs.Machine.{Machine, SeatRecord}
+use Rattle.bq_core.specs.HandOuts.{HandsOut}
 use Rattle.bq_core.specs.State.{machine_of}
-use Rattle.bq_core.proofs.TurnLemmas.{has_next_seat, no_next_job, somebody_waits, turn_falls, turn_given}
+use Rattle.bq_core.proofs.TurnLemmas.{no_next_job, somebody_waits, turn_falls, turn_given}
 use Rattle.bq_core.proofs.dispatch.turn.Goals as goal
 
 pub returns-then-not-has_waiter-clause-done : goal.returns-then-not-has_waiter-clause-done
 returns-then-not-has_waiter-clause-done c _ = (no_next_job (machine_of c.args.state.now) (sym c.if-not-has_waiter.ensures), refl, refl)
 
-pub returns-in_default-clause-done : goal.returns-in_default-clause-done
-returns-in_default-clause-done c _ = (sym c.in_default.ensures.least, refl, refl)
-
-pub returns-in_default-next_seat-clause-done : goal.returns-in_default-next_seat-clause-done
-returns-in_default-next_seat-clause-done c _ =
-    let next = c.in-Some.ensures in
-    absurd (has_next_seat c.args.state.now c.in-Some.i next.bound next.least c.index.result.now c.index.ensures c.in_default-next_seat.ensures.least)
-
 pub hand_out-requires-clause-room : goal.hand_out-requires-clause-room
 hand_out-requires-clause-room c =
-    let next = c.in-Some.ensures in
-    let seat = c.in-Some-next_seat.ensures in
-    omega (arith, somebody_waits c.args.state.now c.in-Some.i next.bound next.least c.index.result.now c.index.ensures c.in-Some-next_seat.k seat.bound seat.least, c.requires.room)
+    let number = c.in-Some-pick.number in
+    let picked = subst (λ (x : Machine). (j : Job) → next_job x ≡ Some j → Some number ≡ option_map (λ (s : SeatRecord). s.number) (next_seat x j)) (ap machine_of c.in-Some.ensures.same) c.in-Some-pick.ensures.picked in
+    omega (arith, somebody_waits c.args.state.now c.in-Some.id c.in-Some.ensures.id number picked, c.requires.room)
 
 pub returns-clause-given : goal.returns-clause-given
 returns-clause-given c _ =
-    let next = c.in-Some.ensures in
-    let seat = c.in-Some-next_seat.ensures in
-    turn_given c.args.state.now c.in-Some.i next.bound next.least c.index.result.now c.index.ensures c.in-Some-next_seat.k seat.bound seat.least _ _ _ c.hand_out.ensures.given
+    let number = c.in-Some-pick.number in
+    let shared = c.in-Some-pick.shared in
+    let first = ap machine_of c.in-Some.ensures.same in
+    let second = ap machine_of c.in-Some-pick.ensures.same in
+    let picked = subst (λ (x : Machine). (j : Job) → next_job x ≡ Some j → Some number ≡ option_map (λ (s : SeatRecord). s.number) (next_seat x j)) first c.in-Some-pick.ensures.picked in
+    let body = subst (λ (x : Machine). IfOk shared (λ body. (j : Job) → next_job x ≡ Some j → body ≡ j.body)) first c.in-Some-pick.ensures.share in
+    turn_given c.args.state.now c.in-Some.id c.in-Some.ensures.id number picked shared body c.args.outs.now c.hand_out.new.outs (machine_of c.hand_out.new.state)
+    (subst (λ (x : Machine). HandsOut x c.in-Some.id number shared c.args.outs.now c.hand_out.new.outs (machine_of c.hand_out.new.state)) (second ∙ first) c.hand_out.ensures.given)
 
 pub returns-clause-fewer : goal.returns-clause-fewer
 returns-clause-fewer c _ =
-    let next = c.in-Some.ensures in
-    let seat = c.in-Some-next_seat.ensures in
-    turn_falls c.args.state.now c.in-Some.i next.bound next.least c.index.result.now c.index.ensures c.in-Some-next_seat.k seat.bound seat.least _ _ _ c.hand_out.ensures.given
+    let number = c.in-Some-pick.number in
+    let shared = c.in-Some-pick.shared in
+    let first = ap machine_of c.in-Some.ensures.same in
+    let second = ap machine_of c.in-Some-pick.ensures.same in
+    let picked = subst (λ (x : Machine). (j : Job) → next_job x ≡ Some j → Some number ≡ option_map (λ (s : SeatRecord). s.number) (next_seat x j)) first c.in-Some-pick.ensures.picked in
+    let body = subst (λ (x : Machine). IfOk shared (λ body. (j : Job) → next_job x ≡ Some j → body ≡ j.body)) first c.in-Some-pick.ensures.share in
+    turn_falls c.args.state.now c.in-Some.id c.in-Some.ensures.id number picked shared body c.args.outs.now c.hand_out.new.outs (machine_of c.hand_out.new.state)
+    (subst (λ (x : Machine). HandsOut x c.in-Some.id number shared c.args.outs.now c.hand_out.new.outs (machine_of c.hand_out.new.state)) (second ∙ first) c.hand_out.ensures.given)

@@ -1,18 +1,19 @@
-use Rattle.std.proofs.Common.{◌≡◌, ◌∙◌, ◌==◌, ◌+◌, ◌++◌, ◌∷◌, [], List, ap, arith, nat_le, sym, true, Some}
-use Rattle.std.proofs.lemmas.Bool.{leb-false}
+use Rattle.std.proofs.Common.{◌≡◌, ◌∙◌, ◌==◌, ◌+◌, ◌++◌, ◌∷◌, [], ap, arith, subst, sym, Some}
 use Rattle.bq_job.specs.declared.answer.Answer.TheVariants as answers
 use Rattle.bq_job.specs.declared.job.Job.{Job}
 use Rattle.bq_job.specs.Acts.{telling}
-use Rattle.bq_job.specs.Changes.{seat_with}
-use Rattle.bq_job.specs.JobCommands.{last_id, new_job, with_put}
-use Rattle.bq_job.specs.Limits.{raised}
+use Rattle.bq_job.specs.Changes.{job_with, seat_with}
+use Rattle.bq_job.specs.JobCommands.{new_job, with_put}
+use Rattle.bq_job.specs.Lawful.{AreIdsWithin}
 use Rattle.bq_job.specs.Machine.{Machine, SeatRecord}
 use Rattle.bq_job.specs.Tubes.{with_tube}
 use Rattle.bq_job.proofs.ListLemmas.{all_at, found_passes}
+use Rattle.bq_jobs.specs.Kept.{with_added}
+use Rattle.bq_core.specs.Putting.{after_given}
 use Rattle.bq_core.specs.State.{machine_of}
 use Rattle.bq_core.specs.TubeEntries.{HasTubes, has_entry}
 use Rattle.bq_core.proofs.ActLemmas.{asker_connected, put_done}
-use Rattle.bq_core.proofs.StateLemmas.{entries_of_more}
+use Rattle.bq_core.proofs.StateLemmas.{some_next}
 use Rattle.bq_core.proofs.job_acts.put.Goals as goal
 
 pub change_tube-requires-clause-entry : goal.change_tube-requires-clause-entry
@@ -22,49 +23,57 @@ change_tube-requires-clause-entry c =
     let found : seat_with c.args.seat st.seats.items ≡ Some s = ap (seat_with c.args.seat) (sym c.as_slice.ensures.value) ∙ sym c.in-Some.ensures in
     let here = found_passes (λ s. s.number == c.args.seat) st.seats.items s found in
     let has : HasTubes st.tubes.items s = all_at (HasTubes st.tubes.items) st.seats.items s c.requires.sound.entries.of_seats here.1 in
-    ap (λ n. has_entry n st.tubes.items) c.used.ensures ∙ has.used (asker_connected c.args.seat st.seats.items s found c.requires.asks)
+    ap (λ tubes. has_entry c.used.result.now tubes.items) c.in-Ok.ensures.tubes
+    ∙ ap (λ n. has_entry n st.tubes.items) c.used.ensures ∙ has.used (asker_connected c.args.seat st.seats.items s found c.requires.asks)
 
-pub push_reserved-requires : goal.push_reserved-requires
-push_reserved-requires c = rw c.change_tube.ensures.jobs (omega (arith, c.in-Ok.ensures.ok))
+pub add-requires-clause-given : goal.add-requires-clause-given
+add-requires-clause-given c =
+    let made = c.new_job-job.ensures c.in-Some.place.now (sym c.used.ensures) in
+    let id : c.new_job-job.result.id ≡ c.change_tube.new.state.next_id = ap (λ (j : Job). j.id) made in
+    let next : c.count_put.new.state.next_id ≡ c.change_tube.new.state.next_id + 1 = ap (λ (x : Machine). x.next_id) c.count_put.ensures.after in
+    let some = some_next 1 c.change_tube.new.state.next_id c.change_tube.new.state.jobs.jobs c.change_tube.ensures.sound.ids in
+    (omega arith, omega arith)
+
+pub add-requires-clause-free : goal.add-requires-clause-free
+add-requires-clause-free c =
+    let made = c.new_job-job.ensures c.in-Some.place.now (sym c.used.ensures) in
+    let id : c.new_job-job.result.id ≡ c.change_tube.new.state.next_id = ap (λ (j : Job). j.id) made in
+    let jobs : (machine_of c.count_put.new.state).jobs ≡ (machine_of c.change_tube.new.state).jobs = ap (λ (x : Machine). x.jobs) c.count_put.ensures.after in
+    ap (λ n. job_with n (machine_of c.count_put.new.state).jobs) id
+    ∙ ap (job_with c.change_tube.new.state.next_id) jobs
+    ∙ c.next_is_free.ensures 1 c.change_tube.new.state.next_id c.change_tube.new.state.jobs.jobs c.change_tube.ensures.sound.ids
+
+pub add-requires-clause-entry : goal.add-requires-clause-entry
+add-requires-clause-entry c =
+    let st = c.args.state.now in
+    let mid = c.change_tube.new.state in
+    let s = c.in-Some.place.now in
+    let found : seat_with c.args.seat st.seats.items ≡ Some s = ap (seat_with c.args.seat) (sym c.as_slice.ensures.value) ∙ sym c.in-Some.ensures in
+    let connected = asker_connected c.args.seat st.seats.items s found c.requires.asks in
+    let still : seat_with c.args.seat mid.seats.items ≡ Some s = ap (λ (x : Machine). seat_with c.args.seat x.seats) c.change_tube.ensures.after ∙ ap (λ seats. seat_with c.args.seat seats.items) c.in-Ok.ensures.seats ∙ found in
+    let here = found_passes (λ s. s.number == c.args.seat) mid.seats.items s still in
+    let has : HasTubes mid.tubes.items s = all_at (HasTubes mid.tubes.items) mid.seats.items s c.change_tube.ensures.sound.entries.of_seats here.1 in
+    let made = c.new_job-job.ensures s (sym c.used.ensures) in
+    ap (λ state. has_entry c.new_job-job.result.tube state.tubes.items) c.count_put.ensures.same
+    ∙ ap (λ (j : Job). has_entry j.tube mid.tubes.items) made ∙ has.used connected
 
 pub returns-clause-reply : goal.returns-clause-reply
 returns-clause-reply c s found =
     let m = machine_of c.args.state.now in
-    let mid = c.change_tube.new.state in
-    let after = c.change_tube.ensures.after in
     let tube = c.used.result.now in
-    let n = m.next_id in
     let job = c.new_job-job.result in
+    let after : machine_of c.change_tube.new.state ≡ with_tube tube with_put m = c.change_tube.ensures.after ∙ ap (with_tube tube with_put) c.in-Ok.ensures.after in
     let here : seat_with c.args.seat m.seats ≡ Some c.in-Some.place.now = ap (seat_with c.args.seat) (sym c.as_slice.ensures.value) ∙ sym c.in-Some.ensures in
     let same : c.in-Some.place.now ≡ s = cc in
     let used : s.used ≡ tube = sym (c.used.ensures ∙ ap (λ (r : SeatRecord). r.used) same) in
     let is : job ≡ new_job m s c.args.new.pri c.args.new.delay c.args.new.ttr c.args.new.body =
     c.new_job-job.ensures s used ∙ ap (λ (x : Machine). new_job x s c.args.new.pri c.args.new.delay c.args.new.ttr c.args.new.body) after in
-    let jobs : c.push_reserved.new.self.items ≡ m.jobs ++ job ∷ [] = c.push_reserved.ensures.items ∙ ap (λ (x : Machine). x.jobs ++ job ∷ []) after ∙ ap (λ js. js ++ job ∷ []) c.reserve.ensures.items in
-    let puts : c.saturating_add-state.result ≡ raised m.puts = c.saturating_add-state.ensures ∙ ap (λ (x : Machine). raised x.puts) after in
+    let id : job.id ≡ m.next_id = ap (λ (j : Job). j.id) is in
     let W = with_tube tube with_put m in
+    let given : machine_of c.count_put.new.state ≡ after_given W = c.count_put.ensures.after ∙ ap after_given after in
+    let last : with_added job m.jobs ≡ m.jobs ++ job ∷ [] = c.adds_at_the_end.ensures 1 m.jobs job (subst (AreIdsWithin 1 m.jobs) (sym id) c.requires.sound.ids) in
+    let done : machine_of c.add.new.state ≡ record (after_given W) { jobs = m.jobs ++ job ∷ [] } =
+    c.add.ensures.after ∙ ap (λ (x : Machine). record x { jobs = with_added job x.jobs }) given ∙ ap (λ js. record (after_given W) { jobs = js }) last in
     put_done m s c.args.new.pri c.args.new.delay c.args.new.ttr c.args.new.body tube job used c.if-state.false is
-    ∙ ap (telling (answers.Inserted n)) (sym (
-    ap (λ (x : Machine). record x { jobs = c.push_reserved.new.self.items; next_id = n + 1; puts = c.saturating_add-state.result; draining = nat_le last_id n }) after
-    ∙ ap (λ js. record W { jobs = js; next_id = n + 1; puts = c.saturating_add-state.result; draining = nat_le last_id n }) jobs
-    ∙ ap (λ p. record W { jobs = m.jobs ++ job ∷ []; next_id = n + 1; puts = p; draining = nat_le last_id n }) puts
-    ))
-
-pub returns-clause-sound : goal.returns-clause-sound
-returns-clause-sound c =
-    let st = c.args.state.now in
-    let mid = c.change_tube.new.state in
-    let sound = c.change_tube.ensures.sound in
-    let s = c.in-Some.place.now in
-    let found : seat_with c.args.seat st.seats.items ≡ Some s = ap (seat_with c.args.seat) (sym c.as_slice.ensures.value) ∙ sym c.in-Some.ensures in
-    let connected = asker_connected c.args.seat st.seats.items s found c.requires.asks in
-    let still : seat_with c.args.seat mid.seats.items ≡ Some s = ap (λ (x : Machine). seat_with c.args.seat x.seats) c.change_tube.ensures.after ∙ found in
-    let here = found_passes (λ s. s.number == c.args.seat) mid.seats.items s still in
-    let has : HasTubes mid.tubes.items s = all_at (HasTubes mid.tubes.items) mid.seats.items s sound.entries.of_seats here.1 in
-    let made = c.new_job-job.ensures s (sym c.used.ensures) in
-    let there : has_entry c.new_job-job.result.tube mid.tubes.items ≡ true = ap (λ (j : Job). has_entry j.tube mid.tubes.items) made ∙ has.used connected in
-    record {
-      entries = rw c.push_reserved.ensures.items (entries_of_more c.new_job-job.result mid.jobs.items mid.seats.items mid.tubes.items there sound.entries);
-      numbered = sound.numbered;
-      next = λ d. let h = leb-false 18446744073709551614 st.next_id d in omega arith;
-    }
+    ∙ ap (λ n. telling (answers.Inserted n) (record (after_given W) { jobs = m.jobs ++ job ∷ [] })) (sym id)
+    ∙ ap (telling (answers.Inserted job.id)) (sym done)

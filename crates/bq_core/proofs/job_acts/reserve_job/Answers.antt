@@ -1,10 +1,30 @@
-use Rattle.std.proofs.Common.{sym, ap}
+use Rattle.std.proofs.Common.{◌≡◌, ◌∙◌, ap, false, sym}
+use Rattle.bq_job.specs.declared.answer.Answer.TheVariants as answers
+use Rattle.bq_job.specs.Acts.{telling}
+use Rattle.bq_job.specs.Changes.{job_with, with_job}
+use Rattle.bq_job.specs.Dispatch.{reserved_by}
+use Rattle.bq_job.specs.JobStates.{is_reserved}
+use Rattle.bq_job.specs.Machine.{Machine}
+use Rattle.bq_core.specs.declared.job_list.JobTest.TheVariants.{Free}
+use Rattle.bq_core.specs.JobChanges.{passes}
 use Rattle.bq_core.specs.State.{machine_of}
-use Rattle.bq_core.proofs.ActLemmas.{reserve_job_done}
+use Rattle.bq_core.proofs.ActLemmas.{not_true, passed_by, reserve_job_done}
+use Rattle.bq_core.proofs.TurnLemmas.{if_ok}
 use Rattle.bq_core.proofs.job_acts.reserve_job.Goals as goal
 
 pub returns-clause-reply : goal.returns-clause-reply
 returns-clause-reply c s at =
-    let e = reserve_job_done (machine_of c.args.state.now) s c.args.seat c.args.id c.in-Some.job.now at (sym c.in-Some.ensures) (sym c.if-is_reserved.ensures) in
-    let body = c.in-Ok.ensures in
-    cc
+    let m = machine_of c.args.state.now in
+    let seat = c.args.seat in
+    let id = c.args.id in
+    let there = passed_by (passes Free) (job_with id m.jobs) (sym c.if-not-has_job.ensures.has) in
+    let j = there.0 in
+    let first : machine_of c.has_job.new.self ≡ m = ap machine_of c.if-not-has_job.ensures.same in
+    let second : machine_of c.share.new.self ≡ m = ap machine_of c.in-Some.ensures.same ∙ first in
+    let told = if_ok c.in-Some.shared c.in-Ok.body _ c.in-Ok.is c.in-Some.ensures.share in
+    let body : c.in-Ok.body ≡ j.body = told j (ap (λ (x : Machine). job_with id x.jobs) first ∙ there.1) in
+    let free : is_reserved j.state ≡ false = not_true (is_reserved j.state) there.2 in
+    let done : machine_of c.change_job.new.state ≡ with_job id (reserved_by m.moment seat) m = c.change_job.ensures.after ∙ ap (λ (x : Machine). with_job id (reserved_by x.moment seat) x) second in
+    reserve_job_done m s seat id j at there.1 free
+    ∙ ap (λ b. telling (answers.Reserved id b) (with_job id (reserved_by m.moment seat) m)) (sym body)
+    ∙ ap (telling (answers.Reserved id c.in-Ok.body)) (sym done)

@@ -4,7 +4,6 @@ use Rattle.bq_job.specs.Acts.{telling}
 use Rattle.bq_job.specs.Changes.{seat_with}
 use Rattle.bq_job.specs.JobCommands.{after_kick, kickable}
 use Rattle.bq_job.specs.Machine.{SeatRecord}
-use Rattle.bq_core.specs.Kicking.{jobs_of}
 use Rattle.bq_core.specs.State.{machine_of}
 use Rattle.bq_core.proofs.kicks.kick.Goals as goal
 
@@ -12,13 +11,10 @@ pub returns-clause-reply : goal.returns-clause-reply
 returns-clause-reply c s found =
     let m = machine_of c.args.state.now in
     let tube = c.used.result.now in
-    let kind = c.kind_to_kick-kind.result in
     let bound = c.args.bound in
     let here : seat_with c.args.seat m.seats ≡ Some c.in-Some.place.now = ap (seat_with c.args.seat) (sym c.as_slice.ensures.value) ∙ sym c.in-Some.ensures in
     let same : c.in-Some.place.now ≡ s = cc in
     let used : tube ≡ s.used = c.used.ensures ∙ ap (λ (r : SeatRecord). r.used) same in
-    let order : jobs_of kind tube m.jobs ≡ kickable s.used m.jobs =
-    ap (jobs_of kind tube) (sym c.as_slice-2.ensures.value) ∙ c.kind_to_kick-kind.ensures.order ∙ ap (kickable tube) c.as_slice-2.ensures.value ∙ ap (λ n. kickable n m.jobs) used in
-    ap (λ js. telling (answers.KickedCount (length (take bound js))) (after_kick (take bound js) m)) (sym order)
-    ∙ ap (λ n. telling (answers.KickedCount n) (after_kick (take bound (jobs_of kind tube m.jobs)) m)) (sym c.kick_some-count.ensures.count)
-    ∙ ap (telling (answers.KickedCount c.kick_some-count.result)) (sym c.kick_some-count.ensures.kicked)
+    ap (λ n. telling (answers.KickedCount (length (take bound (kickable n m.jobs)))) (after_kick (take bound (kickable n m.jobs)) m)) (sym used)
+    ∙ ap (λ n. telling (answers.KickedCount n) (after_kick (take bound (kickable tube m.jobs)) m)) (sym c.kick_in-count.ensures.count)
+    ∙ ap (telling (answers.KickedCount c.kick_in-count.result)) (sym c.kick_in-count.ensures.kicked)

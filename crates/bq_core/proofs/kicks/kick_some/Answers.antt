@@ -13,7 +13,6 @@ loop-done-init c =
       kicked = λ n. ap (λ k. all_kicked (take k first) jobs) (zero_more n);
       count = λ n. ap (λ k. length (take k first)) (zero_more n) ∙ sym (zero_more (length (take n first)));
       others = refl;
-      ids = c.requires.ids;
       sound = c.requires.sound;
       config = refl;
     }
@@ -29,7 +28,6 @@ loop-done-preserved c =
       kicked = λ n. ap (λ k. all_kicked (take k first) start) (one_on d n) ∙ was.kicked (suc n) ∙ one.jobs n;
       count = λ n. ap (λ k. length (take k first)) (one_on d n) ∙ was.count (suc n) ∙ (let e = one.count n in omega (arith, e));
       others = c.kick_first.ensures.others ∙ ap (λ (x : Machine). record x { jobs = (machine_of c.kick_first.new.state).jobs }) was.others;
-      ids = c.kick_first.ensures.ids;
       sound = c.kick_first.ensures.sound;
       config = c.kick_first.ensures.config ∙ was.config;
     }

@@ -9,5 +9,6 @@ use Rattle.bq_core.proofs.seat_list.first_ending.Given as goal
 abbrev pub invariant-loop-i : goal.invariant-loop-i
 invariant-loop-i l = record {
   bound : IfSome l.best (λ i. i < length l.seats);
-  least : item_at l.seats l.best ≡ first_of (ends_waiting_among l.jobs l.moment) is_wait_before (take l.i l.seats);
+  least : item_at l.seats l.best ≡ first_of (ends_waiting_among l.fn.jobs.jobs l.moment) is_wait_before (take l.i l.seats);
+  same : l.jobs ≡ record l.fn.jobs { comparisons = l.jobs.comparisons };
 }

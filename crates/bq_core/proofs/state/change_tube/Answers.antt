@@ -17,7 +17,8 @@ pub returns-clause-sound : goal.returns-clause-sound
 returns-clause-sound c =
     let was = c.requires.sound in
     record {
-      entries = rw c.change_at.ensures (entries_of_tube c.args.tube.now c.args.what c.args.state.now.jobs.items c.args.state.now.seats.items c.args.state.now.tubes.items was.entries);
+      entries = rw c.change_at.ensures (entries_of_tube c.args.tube.now c.args.what c.args.state.now.jobs.jobs c.args.state.now.seats.items c.args.state.now.tubes.items was.entries);
       numbered = was.numbered;
       next = was.next;
+      ids = was.ids;
     }

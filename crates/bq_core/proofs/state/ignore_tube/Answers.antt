@@ -1,4 +1,4 @@
-use Rattle.std.proofs.Common.{◌≡◌, ◌∙◌, ap, sym, arith, slice_get, Some, not, filter}
+use Rattle.std.proofs.Common.{◌∙◌, ap, sym, arith, not, filter}
 use Rattle.std.proofs.lemmas.Option.{slice_get_within}
 use Rattle.bq_job.specs.TubeCommands.{watching}
 use Rattle.bq_job.specs.TubeName.{is_same_name}
@@ -26,9 +26,10 @@ returns-then-from-len-clause-sound c =
     let s = some_at old.seats.items c.args.seat (omega arith) in
     let seats = c.ignore.ensures.ignored s.0 s.1 in
     record {
-      entries = rw seats (watching_fewer (λ other. not (is_same_name c.args.tube.now other)) c.args.seat s.0 old.jobs.items old.seats.items old.tubes.items s.1 was.entries);
+      entries = rw seats (watching_fewer (λ other. not (is_same_name c.args.tube.now other)) c.args.seat s.0 old.jobs.jobs old.seats.items old.tubes.items s.1 was.entries);
       numbered = rw seats (watching_numbered (filter (λ other. not (is_same_name c.args.tube.now other)) s.0.watched) c.args.seat s.0 old.seats.items s.1 was.numbered);
       next = was.next;
+      ids = was.ids;
     }
 
 pub returns-else-from-len-clause-after : goal.returns-else-from-len-clause-after

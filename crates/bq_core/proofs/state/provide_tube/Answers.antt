@@ -15,9 +15,10 @@ pub returns-in-Ok-clause-sound : goal.returns-in-Ok-clause-sound
 returns-in-Ok-clause-sound c =
     let was = c.requires in
     record {
-      entries = rw c.in-Ok.ensures (entries_provided c.args.tube.now c.args.state.now.jobs.items c.args.state.now.seats.items c.args.state.now.tubes.items was.entries);
+      entries = rw c.in-Ok.ensures (entries_provided c.args.tube.now c.args.state.now.jobs.jobs c.args.state.now.seats.items c.args.state.now.tubes.items was.entries);
       numbered = was.numbered;
       next = was.next;
+      ids = was.ids;
     }
 
 pub returns-in-Err-clause-after : goal.returns-in-Err-clause-after
@@ -26,4 +27,4 @@ returns-in-Err-clause-after c = ap (λ tubes. record (machine_of c.args.state.no
 pub returns-in-Err-clause-sound : goal.returns-in-Err-clause-sound
 returns-in-Err-clause-sound c =
     let was = c.requires in
-    record { entries = rw c.in-Err.ensures was.entries; numbered = was.numbered; next = was.next }
+    record { entries = rw c.in-Err.ensures was.entries; numbered = was.numbered; next = was.next; ids = was.ids }

@@ -1,6 +1,6 @@
 use Rattle.std.proofs.Common.{◌≡◌, ◌∙◌, ap, sym, false}
 use Rattle.std.specs.List.{insert, prefix_len}
-use Rattle.bq_job.specs.Tubes.{fresh_tube, is_name_before}
+use Rattle.bq_job.specs.Tubes.{is_name_before}
 use Rattle.bq_core.specs.TubeEntries.{has_entry}
 use Rattle.bq_core.proofs.TubeLemmas.{place_within, provided_new}
 use Rattle.bq_core.proofs.tube_list.provide.Goals as goal

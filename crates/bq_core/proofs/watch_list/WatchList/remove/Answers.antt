@@ -1,4 +1,4 @@
-use Rattle.std.proofs.Common.{not, true, ◌∙◌, ap, sym}
+use Rattle.std.proofs.Common.{not, ◌∙◌, ap}
 use Rattle.std.specs.List.{list_any}
 use Rattle.bq_job.specs.TubeName.{is_same_name}
 use Rattle.bq_core.proofs.TubeLemmas.{some_left}

@@ -1,0 +1,224 @@
+-- Which job is handed out next, found tube by tube.
+use Rattle.std.proofs.Common.{◌≡◌, ℕ, Bool, true, false, ◌==◌, ◌||◌, ◌&&◌, not, List, [], ◌∷◌, Option, Some, None, is_some, refl, sym, ap, ◌∙◌, arith, inl, inr, if◌then◌else◌}
+use Rattle.std.specs.Prelude.{fold, option_map}
+use Rattle.std.specs.List.{AllByRecursion as All, Contains, list_any}
+use Rattle.std.proofs.lemmas.Bool.{cases_Bool, or_cases, or_left, or_right}
+use Rattle.std.proofs.lemmas.Bool.Decides.{nat_tests}
+use Rattle.bq_job.specs.declared.job.Job.{Job}
+use Rattle.bq_job.specs.Changes.{first_of, is_pair_before, is_ready, is_waiting, job_with}
+use Rattle.bq_job.specs.Dispatch.{is_job_before, is_wait_before, is_waiting_for, may_have, next_job, next_seat}
+use Rattle.bq_job.specs.Lawful.{AreIdsWithin}
+use Rattle.bq_job.specs.Machine.{Machine, SeatRecord, TubeRecord}
+use Rattle.bq_job.specs.TubeCommands.{is_ready_in}
+use Rattle.bq_job.specs.TubeName.{is_same_name}
+use Rattle.bq_job.specs.Tubes.{is_paused}
+use Rattle.bq_job.proofs.ChoiceLemmas.{first_of_agrees, first_of_contains, first_of_is, first_of_is_least, first_of_none, first_of_none_passes, first_of_passes, pair_order}
+use Rattle.bq_job.proofs.ListLemmas.{all_always, all_at, all_weaker, list_any_not, none_pass}
+use Rattle.bq_jobs.specs.Kept.{ranked}
+use Rattle.bq_core.specs.Offers.{better_rank, earlier_of_ranks, is_paused_among, offered, waits_at, with_offer, with_offers}
+use Rattle.bq_core.proofs.FiringLemmas.{chosen}
+use Rattle.bq_core.proofs.KickLemmas.{finds_each}
+use Rattle.bq_core.proofs.TubeLemmas.{same_itself, same_name}
+
+module _ (next : ℕ) (jobs : List Job) (ids : AreIdsWithin 1 jobs next) where
+  -- the best of the jobs that pass, by its priority and its id
+  abbrev pub best_of : (Job → Bool) → Option (ℕ × ℕ)
+  best_of p = option_map (ranked (λ j. j.pri)) (first_of p is_job_before jobs)
+
+  same_job : (x y : Job) → Contains jobs x → Contains jobs y → is_job_before x y ≡ false → is_job_before y x ≡ false → y ≡ x
+  same_job x y i k a b =
+      let same : y.id ≡ x.id = grind (arith, nat_tests) in
+      let found = all_at (λ j. job_with j.id jobs ≡ Some j) jobs x (finds_each 1 next jobs ids) i in
+      let found_then : job_with x.id jobs ≡ Some y = ap (λ n. job_with n jobs) (sym same) ∙ all_at (λ j. job_with j.id jobs ≡ Some j) jobs y (finds_each 1 next jobs ids) k in
+      cc
+
+  from_second : (x y z : Job) → is_job_before y x ≡ true → is_job_before z x ≡ false → is_job_before z y ≡ false
+  from_second x y z a b = grind (arith, nat_tests)
+
+  from_first : (x y z : Job) → is_job_before y x ≡ false → is_job_before z y ≡ false → is_job_before z x ≡ false
+  from_first x y z a b = grind (arith, nat_tests)
+
+  module _ (p q : Job → Bool) where
+    either : Job → Bool
+    either j = p j || q j
+
+    -- of two that are chosen by one test each, the better one is chosen by both
+    first_better : (x y : Job) → first_of p is_job_before jobs ≡ Some x → first_of q is_job_before jobs ≡ Some y → (b : Bool) → is_job_before y x ≡ b → first_of (λ j. p j || q j) is_job_before jobs ≡ (if b then Some y else Some x)
+    first_better x y e f true h =
+        let order = pair_order (λ (j : Job). j.pri) (λ (j : Job). j.id) in
+        let here = first_of_contains q is_job_before jobs y f in
+        first_of_is (λ j. p j || q j) order jobs y here (or_right (p y) (q y) (first_of_passes q is_job_before jobs y f))
+        (λ z there pass. elim (or_cases (p z) (q z) pass) [
+          | inl a ↦ from_second x y z h (first_of_is_least p order jobs x z e there a)
+          | inr a ↦ first_of_is_least q order jobs y z f there a
+        ])
+        (λ z there a b. same_job y z here there a b)
+    first_better x y e f false h =
+        let order = pair_order (λ (j : Job). j.pri) (λ (j : Job). j.id) in
+        let here = first_of_contains p is_job_before jobs x e in
+        first_of_is (λ j. p j || q j) order jobs x here (or_left (p x) (q x) (first_of_passes p is_job_before jobs x e))
+        (λ z there pass. elim (or_cases (p z) (q z) pass) [
+          | inl a ↦ first_of_is_least p order jobs x z e there a
+          | inr a ↦ from_first x y z h (first_of_is_least q order jobs y z f there a)
+        ])
+        (λ z there a b. same_job x z here there a b)
+
+    if_rank : (b : Bool) (x y : Job) → (if b then Some (ranked (λ j. j.pri) y) else Some (ranked (λ j. j.pri) x)) ≡ option_map (ranked (λ j. j.pri)) (if b then Some y else Some x)
+    if_rank true x y = refl
+    if_rank false x y = refl
+
+    joined_at : (o u : Option Job) → first_of p is_job_before jobs ≡ o → first_of q is_job_before jobs ≡ u → better_rank (option_map (ranked (λ j. j.pri)) o) (option_map (ranked (λ j. j.pri)) u) ≡ best_of (λ j. p j || q j)
+    joined_at None u e f =
+        ap (option_map (ranked (λ j. j.pri))) (sym f ∙ first_of_agrees q (λ j. p j || q j) is_job_before jobs (all_weaker (λ j. p j ≡ false) (λ j. q j ≡ (p j || q j)) jobs (λ j none. rw none refl) (none_pass p jobs (first_of_none p is_job_before jobs e))))
+    joined_at (Some x) None e f =
+        ap (option_map (ranked (λ j. j.pri))) (sym e ∙ first_of_agrees p (λ j. p j || q j) is_job_before jobs (all_weaker (λ j. q j ≡ false) (λ j. p j ≡ (p j || q j)) jobs (λ j none. rw none (or_none (p j))) (none_pass q jobs (first_of_none q is_job_before jobs f))))
+      where
+        or_none : (b : Bool) → b ≡ (b || false)
+        or_none true = refl
+        or_none false = refl
+    joined_at (Some x) (Some y) e f =
+        if_rank (is_job_before y x) x y ∙ ap (option_map (ranked (λ j. j.pri))) (sym (first_better x y e f (is_job_before y x) refl))
+
+    pub joined : better_rank (best_of p) (best_of q) ≡ best_of (λ j. p j || q j)
+    joined = joined_at (first_of p is_job_before jobs) (first_of q is_job_before jobs) refl refl
+
+  agreed : (p q : Job → Bool) → ((j : Job) → p j ≡ q j) → best_of p ≡ best_of q
+  agreed p q same = ap (option_map (ranked (λ j. j.pri))) (first_of_agrees p q is_job_before jobs (all_always (λ j. p j ≡ q j) jobs same))
+
+  module _ (entries : List TubeRecord) (paused : List ℕ → Bool) (paused_is : (name : List ℕ) → is_paused_among entries name ≡ paused name) where
+    -- what a tube offers
+    abbrev offers : List ℕ → Job → Bool
+    offers name j = is_ready_in name j && not (paused name)
+
+    offered_is : (name : List ℕ) → offered jobs entries name ≡ best_of (offers name)
+    offered_is name = ap (λ b. if b then None else best_of (is_ready_in name)) (paused_is name) ∙ go (paused name) refl
+      where
+        with_true : (b : Bool) → (b && true) ≡ b
+        with_true true = refl
+        with_true false = refl
+
+        with_false : (b : Bool) → (b && false) ≡ false
+        with_false true = refl
+        with_false false = refl
+
+        go : (b : Bool) → paused name ≡ b → (if b then None else best_of (is_ready_in name)) ≡ best_of (offers name)
+        go true e = sym (ap (option_map (ranked (λ j. j.pri))) (first_of_none_passes (offers name) is_job_before jobs (list_any_not (offers name) jobs (all_always (λ j. offers name j ≡ false) jobs (λ j. rw e (with_false (is_ready_in name j)))))))
+        go false e = agreed (is_ready_in name) (offers name) (λ j. rw e (sym (with_true (is_ready_in name j))))
+
+    -- ready in one of these tubes, which isn't paused
+    abbrev ready_among : List (List ℕ) → Job → Bool
+    ready_among names j = is_ready j && list_any (is_same_name j.tube) names && not (paused j.tube)
+
+    one_more_name : (name : List ℕ) (names : List (List ℕ)) (p : Job → Bool) (j : Job) → ((p j || offers name j) || ready_among names j) ≡ (p j || ready_among (name ∷ names) j)
+    one_more_name name names p j = elim (cases_Bool (is_same_name name j.tube)) [
+      | inl same ↦
+          let is : name ≡ j.tube = same_name name j.tube same in
+          let back : is_same_name j.tube name ≡ true = ap (is_same_name j.tube) is ∙ same_itself j.tube in
+          rw (same, back, ap paused is) (bools (p j) (is_ready j) (list_any (is_same_name j.tube) names) (paused j.tube))
+      | inr other ↦
+          let apart : is_same_name j.tube name ≡ false = not_back name j.tube other in
+          rw (other, apart) (bools' (p j) (is_ready j) (paused name) (list_any (is_same_name j.tube) names) (paused j.tube))
+    ]
+      where
+        not_back : (a b : List ℕ) → is_same_name a b ≡ false → is_same_name b a ≡ false
+        not_back a b h = elim (cases_Bool (is_same_name b a)) [
+          | inl same ↦ absurd (let e : b ≡ a = same_name b a same in let k : is_same_name a b ≡ true = ap (is_same_name a) e ∙ same_itself a in cc)
+          | inr other ↦ other
+        ]
+
+        bools : (p r n d : Bool) → ((p || ((r && true) && not d)) || ((r && n) && not d)) ≡ (p || ((r && (true || n)) && not d))
+        bools true r n d = refl
+        bools false false n d = refl
+        bools false true true true = refl
+        bools false true true false = refl
+        bools false true false true = refl
+        bools false true false false = refl
+
+        bools' : (p r c n d : Bool) → ((p || ((r && false) && not c)) || ((r && n) && not d)) ≡ (p || ((r && (false || n)) && not d))
+        bools' true r c n d = refl
+        bools' false false c n d = refl
+        bools' false true c n d = refl
+
+    with_names : (names : List (List ℕ)) (p : Job → Bool) → fold (with_offer jobs entries) (best_of p) names ≡ best_of (λ j. p j || ready_among names j)
+    with_names [] p = agreed p (λ j. p j || ready_among [] j) (λ j. none (p j) (is_ready j) (paused j.tube))
+      where
+        none : (p r d : Bool) → p ≡ (p || ((r && false) && not d))
+        none true r d = refl
+        none false true d = refl
+        none false false d = refl
+    with_names (name ∷ names) p =
+        ap (λ b. fold (with_offer jobs entries) b names) (ap (better_rank (best_of p)) (offered_is name) ∙ joined p (offers name))
+        ∙ with_names names (λ j. p j || offers name j)
+        ∙ agreed (λ j. (p j || offers name j) || ready_among names j) (λ j. p j || ready_among (name ∷ names) j) (one_more_name name names p)
+
+    module _ (m : Machine) (paused_in : (name : List ℕ) → paused name ≡ is_paused name m) where
+      one_more_seat : (s : SeatRecord) (seats : List SeatRecord) (p : Job → Bool) (b : Bool) → is_waiting s ≡ b
+          → ((q : Job → Bool) → fold (with_offers jobs entries) (best_of q) seats ≡ best_of (λ j. q j || list_any (is_waiting_for m j) seats))
+          → fold (with_offers jobs entries) (if b then fold (with_offer jobs entries) (best_of p) s.watched else best_of p) seats ≡ best_of (λ j. p j || list_any (is_waiting_for m j) (s ∷ seats))
+      one_more_seat s seats p true e rest =
+          ap (λ o. fold (with_offers jobs entries) o seats) (with_names s.watched p)
+          ∙ rest (λ j. p j || ready_among s.watched j)
+          ∙ agreed (λ j. (p j || ready_among s.watched j) || list_any (is_waiting_for m j) seats) (λ j. p j || list_any (is_waiting_for m j) (s ∷ seats)) (λ j. rw (e, paused_in j.tube) (or_thrice (p j) (may_have m s j) (list_any (is_waiting_for m j) seats)))
+        where
+          or_thrice : (a b c : Bool) → ((a || b) || c) ≡ (a || (b || c))
+          or_thrice true b c = refl
+          or_thrice false b c = refl
+      one_more_seat s seats p false e rest =
+          rest p
+          ∙ agreed (λ j. p j || list_any (is_waiting_for m j) seats) (λ j. p j || list_any (is_waiting_for m j) (s ∷ seats)) (λ j. rw e refl)
+
+      with_seats : (seats : List SeatRecord) (p : Job → Bool) → fold (with_offers jobs entries) (best_of p) seats ≡ best_of (λ j. p j || list_any (is_waiting_for m j) seats)
+      with_seats [] p = agreed p (λ j. p j || false) (λ j. none (p j))
+        where
+          none : (b : Bool) → b ≡ (b || false)
+          none true = refl
+          none false = refl
+      with_seats (s ∷ seats) p = one_more_seat s seats p (is_waiting s) refl (with_seats seats)
+
+      pub next_offer : (seats : List SeatRecord) → fold (with_offers jobs entries) None seats ≡ best_of (λ j. list_any (is_waiting_for m j) seats)
+      next_offer seats =
+          ap (λ o. fold (with_offers jobs entries) o seats) (sym (ap (option_map (ranked (λ j. j.pri))) (first_of_none_passes (λ _. false) is_job_before jobs (list_any_not (λ _. false) jobs (all_always (λ _. false ≡ false) jobs (λ _. refl))))))
+          ∙ with_seats seats (λ _. false)
+
+-- the id of the best one
+pub id_of_best : (o : Option Job) → option_map (λ (r : ℕ × ℕ). r.1) (option_map (ranked (λ j. j.pri)) o) ≡ option_map (λ j. j.id) o
+id_of_best None = refl
+id_of_best (Some j) = refl
+
+-- who gets the next job waits at its tube, and has waited longest of those
+pub seat_at_tube : (m : Machine) (j : Job) → next_job m ≡ Some j → first_of (waits_at j.tube) is_wait_before m.seats ≡ next_seat m j
+seat_at_tube m j e =
+    let wanted = first_of_passes (λ j. list_any (is_waiting_for m j) m.seats) is_job_before m.jobs j e in
+    let free = may_go m.seats wanted in
+    first_of_agrees (waits_at j.tube) (is_waiting_for m j) is_wait_before m.seats (all_always (λ s. waits_at j.tube s ≡ is_waiting_for m j s) m.seats (λ s. rw (free.0, free.1) (bools (is_waiting s) (list_any (is_same_name j.tube) s.watched))))
+  where
+    bools : (w n : Bool) → (w && n) ≡ (w && ((true && n) && not false))
+    bools true true = refl
+    bools true false = refl
+    bools false n = refl
+
+    parts : (w r n d : Bool) → (w && ((r && n) && not d)) ≡ true → (r ≡ true) × (d ≡ false)
+    parts true true true false h = (refl, refl)
+    parts true true true true h = absurd cc
+    parts true true false d h = absurd cc
+    parts true false n d h = absurd cc
+    parts false r n d h = absurd cc
+
+    may_go : (seats : List SeatRecord) → list_any (is_waiting_for m j) seats ≡ true → (is_ready j ≡ true) × (is_paused j.tube m ≡ false)
+    may_go [] h = absurd cc
+    may_go (s ∷ seats) h = elim (or_cases (is_waiting_for m j s) (list_any (is_waiting_for m j) seats) h) [
+      | inl here ↦ parts (is_waiting s) (is_ready j) (list_any (is_same_name j.tube) s.watched) (is_paused j.tube m) here
+      | inr more ↦ may_go seats more
+    ]
+
+-- the job of this id is the next one
+pub next_is : (m : Machine) (id : ℕ) (x : Job) → AreIdsWithin 1 m.jobs m.next_id → Some id ≡ option_map (λ j. j.id) (next_job m) → job_with id m.jobs ≡ Some x → next_job m ≡ Some x
+next_is m id x ids first found =
+    let one = chosen (λ j. list_any (is_waiting_for m j) m.seats) is_job_before 1 m.next_id m.jobs id ids first in
+    let same : one.job ≡ x = let f = one.found in cc in
+    one.first ∙ ap Some same
+
+pub next_there : (m : Machine) (id : ℕ) → AreIdsWithin 1 m.jobs m.next_id → Some id ≡ option_map (λ j. j.id) (next_job m) → None ≡ job_with id m.jobs → ⊥
+next_there m id ids first none =
+    let one = chosen (λ j. list_any (is_waiting_for m j) m.seats) is_job_before 1 m.next_id m.jobs id ids first in
+    let f = one.found in cc

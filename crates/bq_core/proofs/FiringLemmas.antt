@@ -1,0 +1,309 @@
+-- Timers of jobs fire one after another, and jobs are given back one after another.
+use Rattle.std.proofs.Common.{◌≡◌, ℕ, suc, Bool, true, false, ◌≤◌, ◌<◌, ◌+◌, ◌-◌, ◌==◌, ◌||◌, ◌&&◌, ◌^◌, List, [], ◌∷◌, Option, Some, None, cond, map, refl, sym, ap, ◌∙◌, arith, inl, inr, min, if◌then◌else◌}
+use Rattle.std.specs.Prelude.{IsTrue, count_by, nat_le, option_map}
+use Rattle.std.specs.List.{AllByRecursion as All, list_any}
+use Rattle.std.proofs.lemmas.Bool.{cases_Bool, eqb-true, or_left, or_right}
+use Rattle.std.proofs.lemmas.Bool.Decides.{nat_tests}
+use Rattle.bq_job.specs.declared.job.Job.{Job}
+use Rattle.bq_job.specs.declared.job.JobState.{JobState}
+use Rattle.bq_job.specs.declared.job.JobState.TheVariants as states
+use Rattle.bq_job.specs.Changes.{first_of, given_back, in_state, is_held_by, is_holder, is_pair_before, job_with, with_job}
+use Rattle.bq_job.specs.JobStates.{due_of, is_delayed, is_due_before, is_reserved}
+use Rattle.bq_job.specs.Lawful.{AreIdsWithin}
+use Rattle.bq_job.specs.Limits.{greatest, grown, raised}
+use Rattle.bq_job.specs.Machine.{Machine}
+use Rattle.bq_job.specs.Timers.{is_due, is_expired, job_after_timers, with_timeout}
+use Rattle.bq_job.specs.Waits.{is_ending_lease}
+use Rattle.bq_job.proofs.ChoiceLemmas.{first_of_contains, first_of_is_least, first_of_none, first_of_passes, pair_order}
+use Rattle.bq_job.proofs.ListLemmas.{all_always, all_at, all_from_members, all_weaker, count_all_not, count_cons, list_any_not, list_any_with, map_all_same, none_pass}
+use Rattle.bq_jobs.specs.Kept.{ranked}
+use Rattle.bq_jobs.specs.Leases.{deadline_of, is_lease_before}
+use Rattle.bq_core.specs.Firing.{ExpiresOne, IsOne, after_giving_back, after_job_timers, is_ripe}
+use Rattle.bq_core.proofs.KickLemmas.{finds_each, none_with, one_of_id}
+
+-- changing one job and then all is changing all, where the second change makes up for the first
+absorbed : (f g : Job → Job) (id : ℕ) (jobs : List Job) → All (λ k. (k.id == id) ≡ true → f (g k) ≡ f k) jobs → map f (map (λ k. if k.id == id then g k else k) jobs) ≡ map f jobs
+absorbed f g id [] all = refl
+absorbed f g id (k ∷ jobs) all = go (k.id == id) refl (absorbed f g id jobs all.1)
+  where
+    go : (b : Bool) → (k.id == id) ≡ b → map f (map (λ k. if k.id == id then g k else k) jobs) ≡ map f jobs → f (if b then g k else k) ∷ map f (map (λ k. if k.id == id then g k else k) jobs) ≡ f k ∷ map f jobs
+    go true e rest = ap (λ y. y ∷ map f (map (λ k. if k.id == id then g k else k) jobs)) (all.0 e) ∙ ap (λ ys. f k ∷ ys) rest
+    go false e rest = ap (λ ys. f k ∷ ys) rest
+
+not_there : (id : ℕ) (g : Job → Job) (jobs : List Job) → All (λ k. (k.id == id) ≡ false) jobs → map (λ k. if k.id == id then g k else k) jobs ≡ jobs
+not_there id g [] all = refl
+not_there id g (k ∷ jobs) all = rw all.0 (ap (λ ks. k ∷ ks) (not_there id g jobs all.1))
+
+-- one job less passes, once the one of this id is changed
+pub one_fewer : (p : Job → Bool) (g : Job → Job) (id low next : ℕ) (jobs : List Job) (j : Job) → AreIdsWithin low jobs next → job_with id jobs ≡ Some j → p j ≡ true → p (g j) ≡ false → count_by p (map (λ k. if k.id == id then g k else k) jobs) + 1 ≡ count_by p jobs
+one_fewer p g id low next [] j ids found was is = absurd cc
+one_fewer p g id low next (k ∷ jobs) j ids found was is = elim (cases_Bool (k.id == id)) [
+  | inl same ↦
+      let e : Some k ≡ Some j = rw same at found in
+      let one : k ≡ j = cc in
+      let at : k.id ≡ id = eqb-true k.id id same in
+      let rest = not_there id g jobs (none_with (suc k.id) id next jobs (omega arith) ids.1) in
+      let out : p (g k) ≡ false = ap (λ x. p (g x)) one ∙ is in
+      let in_it : p k ≡ true = ap p one ∙ was in
+      rw (same, rest, count_cons p (g k) jobs, count_cons p k jobs, out, in_it) (omega arith)
+  | inr other ↦
+      let there : job_with id jobs ≡ Some j = rw other at found in
+      let rest = one_fewer p g id (suc k.id) next jobs j ids.1 there was is in
+      rw (other, count_cons p k (map (λ k. if k.id == id then g k else k) jobs), count_cons p k jobs) (omega (arith, rest))
+]
+
+as_many : (p : Job → Bool) (g : Job → Job) (id : ℕ) (jobs : List Job) → All (λ k. (k.id == id) ≡ true → p (g k) ≡ p k) jobs → count_by p (map (λ k. if k.id == id then g k else k) jobs) ≡ count_by p jobs
+as_many p g id [] all = refl
+as_many p g id (k ∷ jobs) all = go (k.id == id) refl (as_many p g id jobs all.1)
+  where
+    rest_of : List Job
+    rest_of = map (λ k. if k.id == id then g k else k) jobs
+
+    go : (b : Bool) → (k.id == id) ≡ b → count_by p rest_of ≡ count_by p jobs → count_by p ((if b then g k else k) ∷ rest_of) ≡ count_by p (k ∷ jobs)
+    go true e rest = rw (count_cons p (g k) rest_of, count_cons p k jobs, all.0 e, rest) refl
+    go false e rest = rw (count_cons p k rest_of, count_cons p k jobs, rest) refl
+
+-- what a job becomes whose timer has come
+ripened : (moment : ℕ) (j : Job) → is_due moment j.state ≡ true → job_after_timers moment j ≡ in_state states.Ready j
+ripened moment j h = rw h refl
+
+expired : (moment : ℕ) (j : Job) → is_expired moment j.state ≡ true → job_after_timers moment j ≡ record j { state = states.Ready; counts = with_timeout j.counts }
+expired moment j h = rw (not_due j.state h, h) refl
+  where
+    not_due : (s : JobState) → is_expired moment s ≡ true → is_due moment s ≡ false
+    not_due states.Ready e = refl
+    not_due (states.Delayed due) e = absurd cc
+    not_due (states.Reserved seat deadline) e = refl
+    not_due (states.Buried number) e = refl
+
+not_expired : (moment : ℕ) (s : JobState) → is_due moment s ≡ true → is_expired moment s ≡ false
+not_expired moment states.Ready e = refl
+not_expired moment (states.Delayed due) e = refl
+not_expired moment (states.Reserved seat deadline) e = absurd cc
+not_expired moment (states.Buried number) e = refl
+
+fired_once : (moment : ℕ) (j : Job) → job_after_timers moment (job_after_timers moment j) ≡ job_after_timers moment j
+fired_once moment j = elim (cases_Bool (is_due moment j.state)) [
+  | inl due ↦ ap (job_after_timers moment) (ripened moment j due) ∙ sym (ripened moment j due)
+  | inr none ↦ elim (cases_Bool (is_expired moment j.state)) [
+    | inl over ↦ ap (job_after_timers moment) (expired moment j over) ∙ sym (expired moment j over)
+    | inr held ↦ let same : job_after_timers moment j ≡ j = rw (none, held) refl in ap (job_after_timers moment) same
+  ]
+]
+
+-- one delayed job that is due becomes ready
+pub fired_due : (m : Machine) (id : ℕ) → AreIdsWithin 1 m.jobs m.next_id → IsOne (λ j. is_due m.moment j.state) m.jobs id → after_job_timers (with_job id (job_after_timers m.moment) m) ≡ after_job_timers m
+fired_due m id ids one =
+    let f = job_after_timers m.moment in
+    let p = λ (j : Job). is_expired m.moment j.state in
+    let jobs = absorbed f f id m.jobs (all_always (λ k. (k.id == id) ≡ true → f (f k) ≡ f k) m.jobs (λ k e. fired_once m.moment k)) in
+    let single = one_of_id id 1 m.next_id m.jobs one.job ids one.found in
+    let same = all_weaker (λ k. (k.id == id) ≡ true → k ≡ one.job) (λ k. (k.id == id) ≡ true → p (f k) ≡ p k) m.jobs (λ k is e.
+    let due : is_due m.moment k.state ≡ true = ap (λ (j : Job). is_due m.moment j.state) (is e) ∙ one.passes_is in
+    ap p (ripened m.moment k due) ∙ sym (not_expired m.moment k.state due)) single in
+    let counted = as_many p f id m.jobs same in
+    ap (λ js. record m { jobs = js; timeouts = grown (count_by p (with_job id f m).jobs) m.timeouts }) jobs
+    ∙ ap (λ n. record m { jobs = map f m.jobs; timeouts = grown n m.timeouts }) counted
+
+stops_once : (t c d : ℕ) → d + 1 ≡ c → min (min (t + 1) greatest + d) greatest ≡ min (t + c) greatest
+stops_once t c d e = omega arith
+
+-- one reservation ends
+pub fired_expired : (m : Machine) (id : ℕ) → AreIdsWithin 1 m.jobs m.next_id → IsOne (λ j. is_expired m.moment j.state) m.jobs id → after_job_timers (record (with_job id (job_after_timers m.moment) m) { timeouts = raised m.timeouts }) ≡ after_job_timers m
+fired_expired m id ids one =
+    let f = job_after_timers m.moment in
+    let p = λ (j : Job). is_expired m.moment j.state in
+    let jobs = absorbed f f id m.jobs (all_always (λ k. (k.id == id) ≡ true → f (f k) ≡ f k) m.jobs (λ k e. fired_once m.moment k)) in
+    let fewer = one_fewer p f id 1 m.next_id m.jobs one.job ids one.found one.passes_is (ap p (expired m.moment one.job one.passes_is)) in
+    ap (λ js. record m { jobs = js; timeouts = grown (count_by p (with_job id f m).jobs) (raised m.timeouts) }) jobs
+    ∙ ap (λ n. record m { jobs = map f m.jobs; timeouts = n }) (stops_once m.timeouts (count_by p m.jobs) (count_by p (with_job id f m).jobs) fewer)
+
+none_more : (t c : ℕ) → min (min (t + 0) greatest + c) greatest ≡ min (t + c) greatest
+none_more t c = omega arith
+
+-- one reservation ended and was counted, or none
+pub counted_fired : (m next : Machine) (t : ℕ) (b : Bool) → AreIdsWithin 1 m.jobs m.next_id → (b ≡ false → (list_any (λ j. is_expired m.moment j.state) m.jobs ≡ false) × (next ≡ m)) → (b ≡ true → ExpiresOne m next) → t ≡ grown (if b then 1 else 0) next.timeouts → after_job_timers (record next { timeouts = t }) ≡ after_job_timers m
+counted_fired m next t true ids none one e =
+    let x = one refl in
+    ap (λ n. after_job_timers (record next { timeouts = n })) e
+    ∙ ap (λ (n : Machine). after_job_timers (record n { timeouts = raised n.timeouts })) x.after
+    ∙ fired_expired m x.id ids x.one
+counted_fired m next t false ids none one e =
+    ap (λ n. after_job_timers (record next { timeouts = n })) e
+    ∙ ap (λ (n : Machine). after_job_timers (record n { timeouts = grown 0 n.timeouts })) (none refl).1
+    ∙ ap (λ n. record m { jobs = map (job_after_timers m.moment) m.jobs; timeouts = n }) (none_more m.timeouts (count_by (λ j. is_expired m.moment j.state) m.jobs))
+
+-- one timer less is to fire
+fewer_ripe : (m : Machine) (id : ℕ) (one : Job) → AreIdsWithin 1 m.jobs m.next_id → job_with id m.jobs ≡ Some one → is_ripe m.moment one ≡ true → is_ripe m.moment (job_after_timers m.moment one) ≡ false → count_by (is_ripe m.moment) (with_job id (job_after_timers m.moment) m).jobs < count_by (is_ripe m.moment) m.jobs
+fewer_ripe m id one ids found was is =
+    let fewer = one_fewer (is_ripe m.moment) (job_after_timers m.moment) id 1 m.next_id m.jobs one ids found was is in omega (arith, fewer)
+
+pub fewer_due : (m : Machine) (id : ℕ) → AreIdsWithin 1 m.jobs m.next_id → IsOne (λ j. is_due m.moment j.state) m.jobs id → count_by (is_ripe m.moment) (with_job id (job_after_timers m.moment) m).jobs < count_by (is_ripe m.moment) m.jobs
+fewer_due m id ids one = fewer_ripe m id one.job ids one.found (or_left (is_due m.moment one.job.state) (is_expired m.moment one.job.state) one.passes_is) (ap (is_ripe m.moment) (ripened m.moment one.job one.passes_is))
+
+pub fewer_expired : (m : Machine) (id : ℕ) → AreIdsWithin 1 m.jobs m.next_id → IsOne (λ j. is_expired m.moment j.state) m.jobs id → count_by (is_ripe m.moment) (with_job id (job_after_timers m.moment) m).jobs < count_by (is_ripe m.moment) m.jobs
+fewer_expired m id ids one = fewer_ripe m id one.job ids one.found (or_right (is_due m.moment one.job.state) (is_expired m.moment one.job.state) one.passes_is) (ap (is_ripe m.moment) (expired m.moment one.job one.passes_is))
+
+-- no timer has come
+pub none_fires : (m : Machine) → list_any (λ j. is_due m.moment j.state) m.jobs ≡ false → list_any (λ j. is_expired m.moment j.state) m.jobs ≡ false → record m { timeouts = grown 0 m.timeouts } ≡ after_job_timers m
+none_fires m due over =
+    let f = job_after_timers m.moment in
+    let not_due = none_pass (λ j. is_due m.moment j.state) m.jobs due in
+    let held = none_pass (λ j. is_expired m.moment j.state) m.jobs over in
+    let jobs : map f m.jobs ≡ m.jobs = map_all_same f m.jobs (stays m.jobs not_due held) in
+    let count : count_by (λ j. is_expired m.moment j.state) m.jobs ≡ 0 = count_all_not (λ j. is_expired m.moment j.state) m.jobs held in
+    ap (λ js. record m { jobs = js; timeouts = grown 0 m.timeouts }) (sym jobs) ∙ ap (λ n. record m { jobs = map f m.jobs; timeouts = grown n m.timeouts }) (sym count)
+  where
+    stays : (jobs : List Job) → All (λ j. is_due m.moment j.state ≡ false) jobs → All (λ j. is_expired m.moment j.state ≡ false) jobs → All (λ j. job_after_timers m.moment j ≡ j) jobs
+    stays [] a b = tt
+    stays (j ∷ jobs) a b = (rw (a.0, b.0) refl, stays jobs a.1 b.1)
+
+-- the first job by a number: what is known of it
+pub record Chosen (p : Job → Bool) (before : Job → Job → Bool) (jobs : List Job) (id : ℕ) : Type 0 where
+  pub job : Job
+  pub first : first_of p before jobs ≡ Some job
+  pub id_is : id ≡ job.id
+  pub found : job_with id jobs ≡ Some job
+  pub passes_is : p job ≡ true
+
+pub chosen : (p : Job → Bool) (before : Job → Job → Bool) (low next : ℕ) (jobs : List Job) (id : ℕ) → AreIdsWithin low jobs next → Some id ≡ option_map (λ j. j.id) (first_of p before jobs) → Chosen p before jobs id
+chosen p before low next jobs id ids e = go (first_of p before jobs) refl e
+  where
+    go : (o : Option Job) → first_of p before jobs ≡ o → Some id ≡ option_map (λ j. j.id) o → Chosen p before jobs id
+    go None f h = absurd cc
+    go (Some j) f h =
+        let is : id ≡ j.id = cc in
+        record {
+          job = j;
+          first = f;
+          id_is = is;
+          found = ap (λ n. job_with n jobs) is ∙ all_at (λ k. job_with k.id jobs ≡ Some k) jobs j (finds_each low next jobs ids) (first_of_contains p before jobs j f);
+          passes_is = first_of_passes p before jobs j f;
+        }
+
+-- the first by a number, told with that number
+pub record ChosenAt (p : Job → Bool) (number : Job → ℕ) (jobs : List Job) (at id : ℕ) : Type 0 where
+  pub chosen_is : Chosen p (λ a b. is_pair_before (number a) a.id (number b) b.id) jobs id
+  pub at_is : at ≡ number chosen_is.job
+  pub least : All (λ k. p k ≡ true → at ≤ number k) jobs
+
+pub chosen_at : (p : Job → Bool) (number : Job → ℕ) (low next : ℕ) (jobs : List Job) (at id : ℕ) → AreIdsWithin low jobs next → Some (at, id) ≡ option_map (ranked number) (first_of p (λ a b. is_pair_before (number a) a.id (number b) b.id) jobs) → ChosenAt p number jobs at id
+chosen_at p number low next jobs at id ids e =
+    let c = chosen p (λ a b. is_pair_before (number a) a.id (number b) b.id) low next jobs id ids (second (first_of p (λ a b. is_pair_before (number a) a.id (number b) b.id) jobs) e) in
+    let n : at ≡ number c.job = first_is (first_of p (λ a b. is_pair_before (number a) a.id (number b) b.id) jobs) c.job e c.first in
+    record {
+      chosen_is = c;
+      at_is = n;
+      least = all_from_members (λ k. p k ≡ true → at ≤ number k) jobs (λ k here pass. late at id k n c.id_is (first_of_is_least p (pair_order number (λ j. j.id)) jobs c.job k c.first here pass));
+    }
+  where
+    second : (o : Option Job) → Some (at, id) ≡ option_map (ranked number) o → Some id ≡ option_map (λ j. j.id) o
+    second None h = absurd cc
+    second (Some j) h = let q : (at, id) ≡ ranked number j = cc in ap (λ (r : ℕ × ℕ). Some r.1) q
+
+    first_is : (o : Option Job) (j : Job) → Some (at, id) ≡ option_map (ranked number) o → o ≡ Some j → at ≡ number j
+    first_is None j h f = absurd cc
+    first_is (Some k) j h f = let q : (at, id) ≡ ranked number k = cc in let s : k ≡ j = cc in ap (λ (r : ℕ × ℕ). r.0) q ∙ ap number s
+
+    late : (at id : ℕ) (k : Job) {j : Job} → at ≡ number j → id ≡ j.id → is_pair_before (number k) k.id (number j) j.id ≡ false → at ≤ number k
+    late at id k n i h = grind (arith, nat_tests)
+
+-- the delayed job that is due first, at this moment
+due_is : (moment : ℕ) (s : JobState) → is_due moment s ≡ (is_delayed s && nat_le (due_of s) moment)
+due_is moment states.Ready = refl
+due_is moment (states.Delayed due) = refl
+due_is moment (states.Reserved seat deadline) = refl
+due_is moment (states.Buried number) = refl
+
+expired_is : (moment : ℕ) (s : JobState) → is_expired moment s ≡ (is_reserved s && nat_le (deadline_of s) moment)
+expired_is moment states.Ready = refl
+expired_is moment (states.Delayed due) = refl
+expired_is moment (states.Reserved seat deadline) = refl
+expired_is moment (states.Buried number) = refl
+
+ending_is : (moment seat : ℕ) (s : JobState) → is_ending_lease moment seat s ≡ (is_holder seat s && nat_le (deadline_of s) (moment + 1000))
+ending_is moment seat states.Ready = refl
+ending_is moment seat (states.Delayed due) = refl
+ending_is moment seat (states.Reserved holder deadline) = refl
+ending_is moment seat (states.Buried number) = refl
+
+module _ (p : Job → Bool) (number : Job → ℕ) (q : ℕ → Job → Bool) (q_is : (t : ℕ) (j : Job) → q t j ≡ (p j && nat_le (number j) t)) (low next : ℕ) (jobs : List Job) (ids : AreIdsWithin low jobs next) where
+  -- the first one is before the moment
+  pub first_past : (t at id : ℕ) → Some (at, id) ≡ option_map (ranked number) (first_of p (λ a b. is_pair_before (number a) a.id (number b) b.id) jobs) → at ≤ t → IsOne (q t) jobs id
+  first_past t at id e past =
+      let c = chosen_at p number low next jobs at id ids e in
+      let j = c.chosen_is.job in
+      let past_it : nat_le (number j) t ≡ true = let n = c.at_is in grind (arith, nat_tests) in
+      record { job = j; found = c.chosen_is.found; passes_is = q_is t j ∙ rw (c.chosen_is.passes_is, past_it) refl }
+
+  pub any_past : (t at id : ℕ) → Some (at, id) ≡ option_map (ranked number) (first_of p (λ a b. is_pair_before (number a) a.id (number b) b.id) jobs) → at ≤ t → list_any (q t) jobs ≡ true
+  any_past t at id e past =
+      let c = chosen_at p number low next jobs at id ids e in
+      let one = first_past t at id e past in
+      list_any_with (q t) jobs c.chosen_is.job (first_of_contains p (λ a b. is_pair_before (number a) a.id (number b) b.id) jobs c.chosen_is.job c.chosen_is.first)
+      (let j = c.chosen_is.job in let past_it : nat_le (number j) t ≡ true = let n = c.at_is in grind (arith, nat_tests) in q_is t j ∙ rw (c.chosen_is.passes_is, past_it) refl)
+
+  -- the first one is after the moment
+  pub none_past : (t at id : ℕ) → Some (at, id) ≡ option_map (ranked number) (first_of p (λ a b. is_pair_before (number a) a.id (number b) b.id) jobs) → t < at → list_any (q t) jobs ≡ false
+  none_past t at id e later =
+      let c = chosen_at p number low next jobs at id ids e in
+      list_any_not (q t) jobs (all_weaker (λ k. p k ≡ true → at ≤ number k) (λ k. q t k ≡ false) jobs (λ k least. q_is t k ∙ elim (cases_Bool (p k)) [
+        | inl pass ↦ let l = least pass in let past : nat_le (number k) t ≡ false = grind (arith, nat_tests) in rw (pass, past) refl
+        | inr fail ↦ rw fail refl
+      ]) c.least)
+
+  -- there is none at all
+  pub none_there : (t : ℕ) → None ≡ option_map (ranked number) (first_of p (λ a b. is_pair_before (number a) a.id (number b) b.id) jobs) → list_any (q t) jobs ≡ false
+  none_there t e =
+      let none = none_pass p jobs (first_of_none p (λ a b. is_pair_before (number a) a.id (number b) b.id) jobs (no_rank (first_of p (λ a b. is_pair_before (number a) a.id (number b) b.id) jobs) e)) in
+      list_any_not (q t) jobs (all_weaker (λ k. p k ≡ false) (λ k. q t k ≡ false) jobs (λ k fail. q_is t k ∙ rw fail refl) none)
+    where
+      no_rank : (o : Option Job) → None ≡ option_map (ranked number) o → o ≡ None
+      no_rank None h = refl
+      no_rank (Some j) h = absurd cc
+
+pub dues_are : (t : ℕ) (j : Job) → is_due t j.state ≡ (is_delayed j.state && nat_le (due_of j.state) t)
+dues_are t j = due_is t j.state
+
+pub expiries_are : (t : ℕ) (j : Job) → is_expired t j.state ≡ (is_reserved j.state && nat_le (deadline_of j.state) t)
+expiries_are t j = expired_is t j.state
+
+pub endings_are : (seat t : ℕ) (j : Job) → is_ending_lease t seat j.state ≡ (is_held_by seat j && nat_le (deadline_of j.state) (t + 1000))
+endings_are seat t j = ending_is t seat j.state
+
+-- one job is given back
+held_back : (seat : ℕ) (j : Job) → is_held_by seat j ≡ true → given_back seat j ≡ in_state states.Ready j
+held_back seat j h = rw h refl
+
+pub given_one : (seat : ℕ) (m : Machine) (id : ℕ) → AreIdsWithin 1 m.jobs m.next_id → Some id ≡ option_map (λ j. j.id) (first_of (is_held_by seat) is_lease_before m.jobs) → after_giving_back seat (with_job id (in_state states.Ready) m) ≡ after_giving_back seat m
+given_one seat m id ids first =
+    let one = chosen (is_held_by seat) is_lease_before 1 m.next_id m.jobs id ids first in
+    let single = one_of_id id 1 m.next_id m.jobs one.job ids one.found in
+    ap (λ js. record m { jobs = js })
+    (absorbed (given_back seat) (in_state states.Ready) id m.jobs (all_weaker (λ k. (k.id == id) ≡ true → k ≡ one.job) (λ k. (k.id == id) ≡ true → given_back seat (in_state states.Ready k) ≡ given_back seat k) m.jobs (λ k is e.
+    sym (held_back seat k (ap (is_held_by seat) (is e) ∙ one.passes_is))) single))
+
+pub given_fewer : (seat : ℕ) (m : Machine) (id : ℕ) → AreIdsWithin 1 m.jobs m.next_id → Some id ≡ option_map (λ j. j.id) (first_of (is_held_by seat) is_lease_before m.jobs) → count_by (is_held_by seat) (with_job id (in_state states.Ready) m).jobs < count_by (is_held_by seat) m.jobs
+given_fewer seat m id ids first =
+    let one = chosen (is_held_by seat) is_lease_before 1 m.next_id m.jobs id ids first in
+    omega (arith, one_fewer (is_held_by seat) (in_state states.Ready) id 1 m.next_id m.jobs one.job ids one.found one.passes_is refl)
+
+pub given_none : (seat : ℕ) (m : Machine) → None ≡ option_map (λ j. j.id) (first_of (is_held_by seat) is_lease_before m.jobs) → m ≡ after_giving_back seat m
+given_none seat m e =
+    let none = none_pass (is_held_by seat) m.jobs (first_of_none (is_held_by seat) is_lease_before m.jobs (no_id (first_of (is_held_by seat) is_lease_before m.jobs) e)) in
+    ap (λ js. record m { jobs = js }) (sym (map_all_same (given_back seat) m.jobs (all_weaker (λ k. is_held_by seat k ≡ false) (λ k. given_back seat k ≡ k) m.jobs (λ k h. rw h refl) none)))
+  where
+    no_id : (o : Option Job) → None ≡ option_map (λ j. j.id) o → o ≡ None
+    no_id None h = refl
+    no_id (Some j) h = absurd cc
+
+-- the first lease of a client ends within a second
+pub endings_told : (seat moment : ℕ) (jobs : List Job) → list_any (λ j. is_ending_lease moment seat j.state) jobs ≡ list_any (λ j. is_held_by seat j && nat_le (deadline_of j.state) (moment + 1000)) jobs
+endings_told seat moment [] = refl
+endings_told seat moment (j ∷ jobs) = rw (ending_is moment seat j.state, endings_told seat moment jobs) refl
+
+pub soon_told : (d m s : ℕ) → s ≡ d - 1000 → nat_le s m ≡ nat_le d (m + 1000)
+soon_told d m s e = elim (cases_Bool (nat_le d (m + 1000))) [
+  | inl x ↦ let y : nat_le s m ≡ true = grind (arith, nat_tests) in y ∙ sym x
+  | inr x ↦ let y : nat_le s m ≡ false = grind (arith, nat_tests) in y ∙ sym x
+]

@@ -1,0 +1,11 @@
+-- the best of the seats so far
+use Rattle.std.proofs.Common.{◌≡◌, None, take}
+use Rattle.std.specs.Prelude.{fold}
+use Rattle.bq_core.specs.Offers.{with_offers}
+use Rattle.bq_core.proofs.dispatch.best_offer.Given as goal
+
+abbrev pub invariant-loop-i : goal.invariant-loop-i
+invariant-loop-i l = record {
+  best : l.best ≡ fold (with_offers l.fn.jobs.jobs l.tubes) None (take l.i l.seats);
+  same : l.jobs ≡ record l.fn.jobs { comparisons = l.jobs.comparisons };
+}

@@ -1,0 +1,11 @@
+-- the least moment so far
+use Rattle.std.proofs.Common.{◌≡◌, None, take}
+use Rattle.std.specs.Prelude.{fold}
+use Rattle.bq_core.specs.Dues.{with_warning_due}
+use Rattle.bq_core.proofs.dues.warnings_due.Given as goal
+
+abbrev pub invariant-loop-i : goal.invariant-loop-i
+invariant-loop-i l = record {
+  best : l.best ≡ fold (with_warning_due l.fn.jobs.jobs) None (take l.i l.seats);
+  same : l.jobs ≡ record l.fn.jobs { comparisons = l.jobs.comparisons };
+}

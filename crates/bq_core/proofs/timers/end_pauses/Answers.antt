@@ -1,0 +1,23 @@
+use Rattle.std.proofs.Common.{◌∙◌, ap, refl}
+use Rattle.bq_job.specs.Timers.{tube_after_timers}
+use Rattle.bq_core.specs.State.{machine_of}
+use Rattle.bq_core.specs.TubeEntries.{counted, is_counted}
+use Rattle.bq_core.proofs.StateLemmas.{entries_of_timers}
+use Rattle.bq_core.proofs.TubeLemmas.{filter_of_map}
+use Rattle.bq_core.proofs.timers.end_pauses.Goals as goal
+
+pub returns-clause-after : goal.returns-clause-after
+returns-clause-after c =
+    let s = c.args.state.now in
+    ap (λ tubes. record (machine_of s) { tubes = tubes }) (ap counted c.fire_timers.ensures ∙ filter_of_map is_counted (tube_after_timers s.moment) (λ t. refl) s.tubes.items)
+
+pub returns-clause-sound : goal.returns-clause-sound
+returns-clause-sound c =
+    let s = c.args.state.now in
+    let was = c.requires in
+    record {
+      entries = rw c.fire_timers.ensures (entries_of_timers s.moment s.jobs.jobs s.seats.items s.tubes.items was.entries);
+      numbered = was.numbered;
+      next = was.next;
+      ids = was.ids;
+    }

@@ -1,0 +1,28 @@
+use Rattle.std.proofs.Common.{◌∙◌, ap, if◌then◌else◌, sym, subst, ◌<◌}
+use Rattle.std.specs.Prelude.{count_by}
+use Rattle.bq_job.specs.Limits.{grown}
+use Rattle.bq_job.specs.Machine.{Machine}
+use Rattle.bq_core.specs.Firing.{is_ripe}
+use Rattle.bq_core.specs.State.{machine_of}
+use Rattle.bq_core.proofs.FiringLemmas.{counted_fired, fewer_expired, none_fires}
+use Rattle.bq_core.proofs.timers.expire.Goals as goal
+
+pub returns-clause-done : goal.returns-clause-done
+returns-clause-done c e due =
+    let m = machine_of c.args.state.now in
+    let none = c.expire_first-expired.ensures.none e in
+    ap (λ (x : Machine). record x { timeouts = c.saturating_add-state.result }) none.1
+    ∙ ap (λ n. record m { timeouts = n }) (c.saturating_add-state.ensures ∙ ap (λ (x : Machine). grown c.times.result x.timeouts) none.1 ∙ ap (λ n. grown n m.timeouts) (c.times.ensures ∙ ap (λ b. if b then 1 else 0) e))
+    ∙ none_fires m due none.0
+
+pub returns-clause-fired : goal.returns-clause-fired
+returns-clause-fired c =
+    let m = machine_of c.args.state.now in
+    counted_fired m (machine_of c.expire_first-expired.new.state) c.saturating_add-state.result c.expire_first-expired.result c.requires.ids c.expire_first-expired.ensures.none c.expire_first-expired.ensures.one
+    (c.saturating_add-state.ensures ∙ ap (λ n. grown n c.expire_first-expired.new.state.timeouts) c.times.ensures)
+
+pub returns-clause-fewer : goal.returns-clause-fewer
+returns-clause-fewer c e =
+    let m = machine_of c.args.state.now in
+    let x = c.expire_first-expired.ensures.one e in
+    subst (λ (n : Machine). count_by (is_ripe m.moment) n.jobs < count_by (is_ripe m.moment) m.jobs) (sym x.after) (fewer_expired m x.id c.requires.ids x.one)

@@ -1,0 +1,16 @@
+-- what the turns so far left to fire
+use Rattle.std.proofs.Common.{◌≡◌}
+use Rattle.std.specs.Prelude.{count_by}
+use Rattle.bq_core.specs.Firing.{after_job_timers, is_ripe}
+use Rattle.bq_core.specs.State.{IsSound, machine_of}
+use Rattle.bq_core.proofs.timers.fire_jobs.Given as goal
+
+abbrev pub invariant-loop : goal.invariant-loop
+invariant-loop l = record {
+  left : after_job_timers (machine_of l.state) ≡ after_job_timers (machine_of l.fn.state);
+  sound : IsSound l.state;
+  config : l.state.config ≡ l.fn.state.config;
+}
+
+abbrev pub decreases-loop : goal.decreases-loop
+decreases-loop l = count_by (is_ripe l.fn.state.moment) (machine_of l.state).jobs

@@ -1,0 +1,14 @@
+-- the entries from place i on were looked at
+use Rattle.std.proofs.Common.{◌≡◌, ◌≤◌, ◌++◌, take, drop, filter, length}
+use Rattle.bq_core.specs.TubeEntries.{is_tube_of}
+use Rattle.bq_core.proofs.tube_list.forget.Given as goal
+
+abbrev pub invariant-loop-i : goal.invariant-loop-i
+invariant-loop-i l = record {
+  within : l.i ≤ length l.fn.tubes.items;
+  left : l.tubes.items ≡ take l.i l.fn.tubes.items ++ filter (λ t. is_tube_of l.fn.jobs.jobs l.seats t.name) (drop l.i l.fn.tubes.items);
+  same : l.jobs ≡ record l.fn.jobs { comparisons = l.jobs.comparisons };
+}
+
+abbrev pub decreases-loop-i : goal.decreases-loop-i
+decreases-loop-i l = l.i

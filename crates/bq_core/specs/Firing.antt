@@ -1,0 +1,38 @@
+-- Timers of jobs fire, one job after another.
+use Rattle.std.specs.Prelude.{ℕ, Bool, ◌≡◌, ◌||◌, IsTrue, List, Some, count_by, map}
+use Rattle.bq_job.specs.declared.job.Job.{Job}
+use Rattle.bq_job.specs.Changes.{given_back, job_with, with_job}
+use Rattle.bq_job.specs.Limits.{grown}
+use Rattle.bq_job.specs.Machine.{Machine}
+use Rattle.bq_job.specs.Timers.{is_due, is_expired, job_after_timers, tube_after_timers}
+
+-- the machine once all timers of jobs have fired
+abbrev pub after_job_timers : Machine → Machine
+after_job_timers m = record m {
+  jobs = map (job_after_timers m.moment) m.jobs;
+  timeouts = grown (count_by (λ j. is_expired m.moment j.state) m.jobs) m.timeouts;
+}
+
+-- a timer of the job has come
+abbrev pub is_ripe : ℕ → Job → Bool
+is_ripe moment j = is_due moment j.state || is_expired moment j.state
+
+-- the machine once pauses have ended
+abbrev pub with_pauses_ended : Machine → Machine
+with_pauses_ended m = record m { tubes = map (tube_after_timers m.moment) m.tubes }
+
+-- the machine once the client at the seat has given back all that it holds
+abbrev pub after_giving_back : ℕ → Machine → Machine
+after_giving_back seat m = record m { jobs = map (given_back seat) m.jobs }
+
+-- There is a job of this id, and it passes.
+pub record IsOne (passes : Job → Bool) (jobs : List Job) (id : ℕ) : Type 0 where
+  pub job : Job
+  pub found : job_with id jobs ≡ Some job
+  pub passes_is : IsTrue (passes job)
+
+-- One reservation ended, whose time to run was over.
+pub record ExpiresOne (old new : Machine) : Type 0 where
+  pub id : ℕ
+  pub one : IsOne (λ j. is_expired old.moment j.state) old.jobs id
+  pub after : new ≡ with_job id (job_after_timers old.moment) old

@@ -1,0 +1,9 @@
+-- A put gives an id.
+use Rattle.std.specs.Prelude.{◌+◌, nat_le}
+use Rattle.bq_job.specs.JobCommands.{last_id}
+use Rattle.bq_job.specs.Limits.{raised}
+use Rattle.bq_job.specs.Machine.{Machine}
+
+-- the next id was given to a job that was put
+abbrev pub after_given : Machine → Machine
+after_given m = record m { next_id = m.next_id + 1; puts = raised m.puts; draining = nat_le last_id m.next_id }

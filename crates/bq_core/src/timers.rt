@@ -1,0 +1,132 @@
+//! Timers that are due fire.
+ghost use Rattle.std.specs.Prelude.{◌≡◌, ◌<◌, true, false, IfSome, None, count_by, if◌then◌else◌};
+ghost use Rattle.std.specs.List.{list_any};
+ghost use Rattle.bq_job.specs.Timers.{after_timers, is_due, is_expired};
+ghost use Rattle.bq_core.specs.Firing.{ExpiresOne, IsOne, after_job_timers, is_ripe, with_pauses_ended};
+ghost use Rattle.bq_core.specs.State.{machine_of, IsSound};
+
+use crate::job_list::JobChange;
+use crate::state::State;
+use crate::{state, tube_list};
+use bq_job::{JobId, Moment};
+use bq_jobs::Jobs;
+
+// The delayed job that is due first, if its moment has come.
+fn first_ripe(jobs: &mut Jobs, moment: Moment) -> Option<JobId>
+    ensures found { IfSome result (λ id. IsOne (λ j. is_due moment j.state) jobs.old.jobs id) }
+    ensures none { result ≡ None → list_any (λ j. is_due moment j.state) jobs.old.jobs ≡ false }
+    ensures same { jobs.new ≡ record jobs.old { comparisons = jobs.new.comparisons } }
+{
+    let _jobs = jobs.len();
+    let (due, id) = jobs.next_due()?;
+    if due <= moment { Some(id) } else { None }
+}
+
+// The job whose time to run is over first, if that moment has come.
+fn first_expired(jobs: &mut Jobs, moment: Moment) -> Option<JobId>
+    ensures found { IfSome result (λ id. IsOne (λ j. is_expired moment j.state) jobs.old.jobs id) }
+    ensures none { result ≡ None → list_any (λ j. is_expired moment j.state) jobs.old.jobs ≡ false }
+    ensures same { jobs.new ≡ record jobs.old { comparisons = jobs.new.comparisons } }
+{
+    let _jobs = jobs.len();
+    let (deadline, id) = jobs.next_deadline()?;
+    if deadline <= moment { Some(id) } else { None }
+}
+
+// One delayed job becomes ready, if one is due.
+fn ripen(state: &mut State) -> bool
+    requires { IsSound state.old }
+    ensures done { result ≡ false → list_any (λ j. is_due state.old.moment j.state) (machine_of state.old).jobs ≡ false }
+    ensures same { result ≡ false → machine_of state.new ≡ machine_of state.old }
+    ensures fired { after_job_timers (machine_of state.new) ≡ after_job_timers (machine_of state.old) }
+    ensures fewer { result ≡ true → count_by (is_ripe state.old.moment) (machine_of state.new).jobs < count_by (is_ripe state.old.moment) (machine_of state.old).jobs }
+    ensures sound { IsSound state.new }
+    ensures config { state.new.config ≡ state.old.config }
+{
+    let moment = state.moment;
+    let Some(id) = first_ripe(&mut state.jobs, moment) else {
+        return false;
+    };
+    state::change_job(state, id, &JobChange::FireTimers(moment));
+    true
+}
+
+// One reservation ends, if its time to run is over.
+fn expire_first(state: &mut State) -> bool
+    requires { IsSound state.old }
+    ensures none { result ≡ false → (list_any (λ j. is_expired state.old.moment j.state) (machine_of state.old).jobs ≡ false) × (machine_of state.new ≡ machine_of state.old) }
+    ensures one { result ≡ true → ExpiresOne (machine_of state.old) (machine_of state.new) }
+    ensures sound { IsSound state.new }
+    ensures config { state.new.config ≡ state.old.config }
+{
+    let moment = state.moment;
+    let Some(id) = first_expired(&mut state.jobs, moment) else {
+        return false;
+    };
+    state::change_job(state, id, &JobChange::FireTimers(moment));
+    true
+}
+
+// How often something happened, that did or did not.
+fn times(happened: bool) -> u64
+    ensures { result ≡ (if happened then 1 else 0) }
+{
+    if happened { 1 } else { 0 }
+}
+
+// One reservation ends, if its time to run is over, and is counted.
+fn expire(state: &mut State) -> bool
+    requires { IsSound state.old }
+    ensures done { result ≡ false → list_any (λ j. is_due state.old.moment j.state) (machine_of state.old).jobs ≡ false → machine_of state.new ≡ after_job_timers (machine_of state.old) }
+    ensures fired { after_job_timers (machine_of state.new) ≡ after_job_timers (machine_of state.old) }
+    ensures fewer { result ≡ true → count_by (is_ripe state.old.moment) (machine_of state.new).jobs < count_by (is_ripe state.old.moment) (machine_of state.old).jobs }
+    ensures sound { IsSound state.new }
+    ensures config { state.new.config ≡ state.old.config }
+{
+    let expired = expire_first(state);
+    state.timeouts = state.timeouts.saturating_add(times(expired));
+    expired
+}
+
+// One timer of a job fires, if one has come.
+fn fire_one(state: &mut State) -> bool
+    requires { IsSound state.old }
+    ensures done { result ≡ false → machine_of state.new ≡ after_job_timers (machine_of state.old) }
+    ensures fired { after_job_timers (machine_of state.new) ≡ after_job_timers (machine_of state.old) }
+    ensures fewer { result ≡ true → count_by (is_ripe state.old.moment) (machine_of state.new).jobs < count_by (is_ripe state.old.moment) (machine_of state.old).jobs }
+    ensures sound { IsSound state.new }
+    ensures config { state.new.config ≡ state.old.config }
+{
+    ripen(state) || expire(state)
+}
+
+// The timers of jobs fire.
+fn fire_jobs(state: &mut State)
+    requires { IsSound state.old }
+    ensures after { machine_of state.new ≡ after_job_timers (machine_of state.old) }
+    ensures sound { IsSound state.new }
+    ensures config { state.new.config ≡ state.old.config }
+{
+    while fire_one(state) {}
+}
+
+// Pauses end.
+fn end_pauses(state: &mut State)
+    requires { IsSound state.old }
+    ensures after { machine_of state.new ≡ with_pauses_ended (machine_of state.old) }
+    ensures sound { IsSound state.new }
+    ensures config { state.new.config ≡ state.old.config }
+{
+    tube_list::fire_timers(&mut state.tubes, state.moment);
+}
+
+/// Timers that are due fire.
+pub(crate) fn fire(state: &mut State)
+    requires { IsSound state.old }
+    ensures after { machine_of state.new ≡ after_timers (machine_of state.old) }
+    ensures sound { IsSound state.new }
+    ensures config { state.new.config ≡ state.old.config }
+{
+    fire_jobs(state);
+    end_pauses(state);
+}
