@@ -7,14 +7,16 @@ use Rattle.std.proofs.lemmas.Bool.Decides.{nat_tests}
 use Rattle.bq_job.specs.declared.job.Job.{Job}
 use Rattle.bq_job.specs.declared.job.JobState.{JobState}
 use Rattle.bq_job.specs.declared.job.JobState.TheVariants as states
-use Rattle.bq_job.specs.Changes.{first_of, given_back, in_state, is_held_by, is_holder, is_pair_before, job_with, with_job}
+use Rattle.bq_job.specs.Changes.{first_of, given_back, in_state, is_held_by, is_holder, is_pair_before, is_waiting, job_with, with_job}
 use Rattle.bq_job.specs.JobStates.{due_of, is_delayed, is_due_before, is_reserved}
 use Rattle.bq_job.specs.Lawful.{AreIdsWithin}
 use Rattle.bq_job.specs.Limits.{greatest, grown, raised}
-use Rattle.bq_job.specs.Machine.{Machine}
+use Rattle.bq_job.specs.Machine.{Machine, SeatRecord}
 use Rattle.bq_job.specs.Timers.{is_due, is_expired, job_after_timers, with_timeout}
-use Rattle.bq_job.specs.Waits.{is_ending_lease}
-use Rattle.bq_job.proofs.ChoiceLemmas.{first_of_contains, first_of_is_least, first_of_none, first_of_passes, pair_order}
+use Rattle.bq_job.specs.Dispatch.{is_wait_before}
+use Rattle.bq_job.specs.Waits.{ends_waiting, is_deadline_soon, is_ending_lease, is_timed_out, is_timed_out_at, next_end}
+use Rattle.bq_core.specs.EndingWaits.{has_waited, is_lease_short}
+use Rattle.bq_job.proofs.ChoiceLemmas.{first_of_contains, first_of_is_least, first_of_none, first_of_none_passes, first_of_passes, pair_order}
 use Rattle.bq_job.proofs.ListLemmas.{all_always, all_at, all_from_members, all_weaker, count_all_not, count_cons, list_any_not, list_any_with, map_all_same, none_pass}
 use Rattle.bq_jobs.specs.Kept.{ranked}
 use Rattle.bq_jobs.specs.Leases.{deadline_of, is_lease_before}
@@ -307,3 +309,29 @@ soon_told d m s e = elim (cases_Bool (nat_le d (m + 1000))) [
   | inl x ↦ let y : nat_le s m ≡ true = grind (arith, nat_tests) in y ∙ sym x
   | inr x ↦ let y : nat_le s m ≡ false = grind (arith, nat_tests) in y ∙ sym x
 ]
+
+-- nobody waits: no wait ends
+pub nobody_ends : (m : Machine) → list_any is_waiting m.seats ≡ false → next_end m ≡ None
+nobody_ends m h = first_of_none_passes (ends_waiting m) is_wait_before m.seats (list_any_not (ends_waiting m) m.seats (all_weaker (λ s. is_waiting s ≡ false) (λ s. ends_waiting m s ≡ false) m.seats (λ s none. rw none refl) (none_pass is_waiting m.seats h)))
+
+-- no wait is over, and no time to run ends soon
+pub none_ends : (m : Machine) → list_any (has_waited m.moment) m.seats ≡ false → list_any (is_lease_short m.moment) m.jobs ≡ false → next_end m ≡ None
+none_ends m waited short =
+    first_of_none_passes (ends_waiting m) is_wait_before m.seats (list_any_not (ends_waiting m) m.seats (all_weaker (λ s. has_waited m.moment s ≡ false) (λ s. ends_waiting m s ≡ false) m.seats (λ s none. go s (is_waiting s) none) (none_pass (has_waited m.moment) m.seats waited)))
+  where
+    not_soon : (number : ℕ) (state : JobState) → (is_reserved state && nat_le (deadline_of state) (m.moment + 1000)) ≡ false → is_ending_lease m.moment number state ≡ false
+    not_soon number states.Ready h = refl
+    not_soon number (states.Delayed due) h = refl
+    not_soon number (states.Reserved holder deadline) h = rw h (no (holder == number))
+      where
+        no : (b : Bool) → (b && false) ≡ false
+        no true = refl
+        no false = refl
+    not_soon number (states.Buried n) h = refl
+
+    soon_none : (number : ℕ) → list_any (λ j. is_ending_lease m.moment number j.state) m.jobs ≡ false
+    soon_none number = list_any_not (λ j. is_ending_lease m.moment number j.state) m.jobs (all_weaker (λ j. is_lease_short m.moment j ≡ false) (λ j. is_ending_lease m.moment number j.state ≡ false) m.jobs (λ j h. not_soon number j.state h) (none_pass (is_lease_short m.moment) m.jobs short))
+
+    go : (s : SeatRecord) (w : Bool) → (w && is_timed_out_at m.moment s) ≡ false → (w && (is_deadline_soon m s || is_timed_out m s)) ≡ false
+    go s true h = rw (soon_none s.number) h
+    go s false h = refl

@@ -12,6 +12,7 @@ ghost use Rattle.bq_job.specs.Timers.{job_after_timers};
 ghost use Rattle.bq_job.specs.TubeName.{is_same_name};
 ghost use Rattle.bq_job.specs.JobCommands.{buried, delayed_by as delayed_for, kicked, released};
 ghost use Rattle.bq_jobs.specs.Kept.{ComparesAtMost};
+ghost use Rattle.bq_core.specs.EndingWaits.{is_lease_short};
 ghost use Rattle.bq_core.specs.JobChanges.{changed, is_passed_by, passes, ttr_held_by};
 ghost use Rattle.bq_core.specs.JobKinds.{is_before_of, is_of};
 
@@ -257,6 +258,19 @@ pub(crate) fn is_deadline_soon(jobs: &mut Jobs, seat: Seat, moment: Moment) -> b
 {
     let _jobs = jobs.len();
     match jobs.next_deadline_of(seat) {
+        None => false,
+        Some((deadline, _)) => deadline.saturating_sub(1000) <= moment,
+    }
+}
+
+/// Whether the time to run of some reserved job ends within a second.
+pub(crate) fn is_some_deadline_soon(jobs: &mut Jobs, moment: Moment) -> bool
+    ensures soon { result ≡ list_any (is_lease_short moment) jobs.old.jobs }
+    ensures same { jobs.new ≡ record jobs.old { comparisons = jobs.new.comparisons } }
+    ensures comparisons { ComparesAtMost 1 jobs.old jobs.new }
+{
+    let _jobs = jobs.len();
+    match jobs.next_deadline() {
         None => false,
         Some((deadline, _)) => deadline.saturating_sub(1000) <= moment,
     }

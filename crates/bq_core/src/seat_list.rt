@@ -8,7 +8,7 @@ ghost use Rattle.bq_job.specs.TubeCommands.{watching};
 ghost use Rattle.bq_job.specs.TubeName.{is_same_name};
 ghost use Rattle.bq_core.specs.SeatChanges.{seat_changed, seat_changed_at};
 ghost use Rattle.bq_core.specs.Places.{item_at, better_if};
-ghost use Rattle.bq_core.specs.EndingWaits.{ends_waiting_among};
+ghost use Rattle.bq_core.specs.EndingWaits.{ends_waiting_among, has_waited};
 ghost use Rattle.bq_core.specs.Offers.{waits_at};
 
 use crate::job_list;
@@ -164,6 +164,19 @@ pub(crate) fn first_ending(seats: &[Place], jobs: &mut Jobs, moment: Moment) -> 
         best = better(seats, best, i, ends);
     }
     best
+}
+
+fn has_waited(place: &Place, moment: Moment) -> bool
+    ensures { result ≡ has_waited moment place.now }
+{
+    place.is_waiting() && place.is_timed_out(moment)
+}
+
+/// Whether some wait is over by its timeout, or because its client sends no more.
+pub(crate) fn is_some_wait_over(seats: &[Place], moment: Moment) -> bool
+    ensures { result ≡ list_any (has_waited moment) seats.now }
+{
+    seats.iter().any(|place| has_waited(place, moment))
 }
 
 /// So many seats, with nobody there.

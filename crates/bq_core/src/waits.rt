@@ -70,6 +70,35 @@ fn turn(state: &mut State, outs: &mut Outs) -> bool
     true
 }
 
+// The waits that end now end, where there may be some.
+fn end_all(state: &mut State, outs: &mut Outs)
+    requires sound { IsSound state.old }
+    requires room { HasRoom 0 (machine_of state.old) outs.old }
+    ensures given { Gives WaitEndTurn none_refused (machine_of state.old) (machine_of state.new) outs.old outs.new }
+    ensures done { next_end (machine_of state.new) ≡ None }
+    ensures sound { IsSound state.new }
+    ensures config { state.new.config ≡ state.old.config }
+{
+    while turn(state, outs) {}
+}
+
+// Whether some wait may end now: a time to run ends within a second, or a timeout has come. Where nobody
+// waits, no shelf is asked.
+fn may_end(state: &mut State) -> bool
+    requires { IsSound state.old }
+    ensures none { result ≡ false → next_end (machine_of state.old) ≡ None }
+    ensures same { OnlyCompares state.old state.new }
+    ensures sound { IsSound state.new }
+{
+    if !state.has_waiter() {
+        return false;
+    }
+    if seat_list::is_some_wait_over(state.seats.as_slice(), state.moment) {
+        return true;
+    }
+    job_list::is_some_deadline_soon(&mut state.jobs, state.moment)
+}
+
 /// The waits that end now end, the longest one first.
 pub(crate) fn end_waits(state: &mut State, outs: &mut Outs)
     requires sound { IsSound state.old }
@@ -79,5 +108,7 @@ pub(crate) fn end_waits(state: &mut State, outs: &mut Outs)
     ensures sound { IsSound state.new }
     ensures config { state.new.config ≡ state.old.config }
 {
-    while turn(state, outs) {}
+    if may_end(state) {
+        end_all(state, outs);
+    }
 }

@@ -1,16 +1,21 @@
-use Rattle.std.proofs.Common.{refl, ◌∙◌}
-use Rattle.bq_job.specs.Waits.{WaitEndTurn}
-use Rattle.bq_core.specs.Turns.{none_refused}
+use Rattle.std.proofs.Common.{◌≡◌, ◌∙◌, ap, refl, subst, sym}
+use Rattle.bq_job.specs.Machine.{Machine}
+use Rattle.bq_job.specs.Waits.{WaitEndTurn, next_end}
 use Rattle.bq_core.specs.State.{machine_of}
-use Rattle.bq_core.proofs.TurnLemmas.{gives_joined, room_kept}
+use Rattle.bq_core.specs.Turns.{Gives, HasRoom, none_refused}
+use Rattle.bq_core.proofs.TurnLemmas.{gives_nothing}
 use Rattle.bq_core.proofs.waits.end_waits.Goals as goal
 
-pub loop-preserved : goal.loop-preserved
-loop-preserved c =
-    let given = c.loop-test.ensures.given refl in
-    record {
-      given = gives_joined WaitEndTurn none_refused (λ _ _. refl) _ _ _ _ _ _ c.loop.invariant.given given;
-      sound = c.loop-test.ensures.sound;
-      config = c.loop-test.ensures.config ∙ c.loop.invariant.config;
-      room = room_kept WaitEndTurn none_refused 0 (machine_of c.loop.state) (machine_of c.turn.new.state) c.loop.outs c.turn.new.outs given c.loop.invariant.room;
-    }
+pub end_all-requires-clause-room : goal.end_all-requires-clause-room
+end_all-requires-clause-room c = subst (λ (x : Machine). HasRoom 0 x c.args.outs.now) (sym (ap machine_of c.if-may_end.ensures.same)) c.requires.room
+
+pub returns-then-may_end-clause-given : goal.returns-then-may_end-clause-given
+returns-then-may_end-clause-given c = subst (λ (x : Machine). Gives WaitEndTurn none_refused x (machine_of c.end_all.new.state) c.args.outs.now c.end_all.new.outs) (ap machine_of c.if-may_end.ensures.same) c.end_all.ensures.given
+
+pub returns-else-may_end-clause-given : goal.returns-else-may_end-clause-given
+returns-else-may_end-clause-given c =
+    subst (λ (x : Machine). Gives WaitEndTurn none_refused (machine_of c.args.state.now) x c.args.outs.now c.args.outs.now) (sym (ap machine_of c.if-may_end.ensures.same))
+    (gives_nothing WaitEndTurn none_refused refl (machine_of c.args.state.now) c.args.outs.now)
+
+pub returns-else-may_end-clause-done : goal.returns-else-may_end-clause-done
+returns-else-may_end-clause-done c = ap next_end (ap machine_of c.if-may_end.ensures.same) ∙ c.may_end.ensures.none c.if-may_end.false

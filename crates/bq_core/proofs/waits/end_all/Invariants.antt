@@ -4,7 +4,7 @@ use Rattle.bq_job.specs.Computed.{waiting_count}
 use Rattle.bq_job.specs.Waits.{WaitEndTurn}
 use Rattle.bq_core.specs.State.{IsSound, machine_of}
 use Rattle.bq_core.specs.Turns.{Gives, HasRoom, none_refused}
-use Rattle.bq_core.proofs.waits.end_waits.Given as goal
+use Rattle.bq_core.proofs.waits.end_all.Given as goal
 
 abbrev pub invariant-loop : goal.invariant-loop
 invariant-loop l = record {
