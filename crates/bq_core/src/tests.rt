@@ -8,6 +8,7 @@ use std::alloc::Global;
 use std::process::Abort;
 use std::test::Fail;
 
+mod comparisons;
 mod each_answer;
 mod large_bodies;
 mod many_tubes;
