@@ -7,5 +7,6 @@ pub mod KickLemmas
 pub mod LoopLemmas
 pub mod StateLemmas
 pub mod StepLemmas
+pub mod TextLemmas
 pub mod TubeLemmas
 pub mod TurnLemmas

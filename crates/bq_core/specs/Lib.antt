@@ -10,12 +10,15 @@ pub mod JobKinds
 pub mod Kicking
 pub mod Limits
 pub mod Offers
+pub mod Numbers
 pub mod Outbox
 pub mod Places
 pub mod Putting
 pub mod SeatChanges
 pub mod Serving
 pub mod State
+pub mod Tallies
+pub mod Texts
 pub mod TubeEntries
 pub mod Turns
 pub mod WaitEnds

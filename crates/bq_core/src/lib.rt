@@ -22,9 +22,11 @@ mod place;
 mod reply;
 mod seat_list;
 mod state;
+mod tally;
 #[cfg(test)]
 mod tests;
 mod timers;
+mod texts;
 mod tube_acts;
 mod tube_list;
 mod waits;

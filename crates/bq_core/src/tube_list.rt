@@ -35,6 +35,22 @@ impl Model for Pausing {
     ghost inverse = { λ p. record { seconds = p.seconds; until = p.until } };
 }
 
+impl Pausing {
+    /// How many seconds were asked for.
+    pub(crate) fn seconds(self) -> u32
+        ensures { result ≡ self.seconds }
+    {
+        self.seconds
+    }
+
+    /// When it ends.
+    pub(crate) fn until(self) -> Moment
+        ensures { result ≡ self.until }
+    {
+        self.until
+    }
+}
+
 /// What is kept of a tube that exists.
 #[derive(Debug, Drop)]
 pub(crate) struct TubeEntry {

@@ -1,0 +1,23 @@
+-- Texts of statistics and lists.
+use Rattle.std.specs.Prelude.{ℕ, ◌≡◌, ◌≤◌, ◌^◌, List, Option, Some, None, decimal, length, map}
+use Rattle.std.specs.Borrow.{Bor}
+use Rattle.bq_core.specs.declared.texts.key_value.Value.{Value}
+use Rattle.bq_core.specs.declared.texts.key_value.Value.TheVariants.{Number, Word}
+
+-- a text that is being written: the bytes so far, and how many more there is room for
+pub record TextSoFar : Type 0 where
+  pub bytes : List ℕ
+  pub room : ℕ
+
+abbrev pub value_text : Value → List ℕ
+value_text (Number n) = decimal n
+value_text (Word word) = word.now
+
+-- The bytes are so many, or more than a number of 64 bits can tell.
+abbrev pub IsSizeOf : List ℕ → Option ℕ → Type 0
+IsSizeOf bytes None = 2 ^ 64 ≤ length bytes
+IsSizeOf bytes (Some size) = size ≡ length bytes
+
+-- the names that are pointed at
+abbrev pub names_of : List (Bor (List ℕ)) → List (List ℕ)
+names_of names = map (λ name. name.now) names

@@ -1,0 +1,131 @@
+ghost use Rattle.std.specs.Prelude.{◌≡◌, ◌+◌, ◌≤◌, ◌++◌, length, decimal, flat_map, IfOk};
+ghost use Rattle.bq_job.specs.Yaml.{key_value_line, statistics_text};
+ghost use Rattle.bq_core.specs.Texts.{IsSizeOf, value_text};
+
+use super::builder::{TextBuilder, digit_count};
+use bq_job::{NoMemory, Text};
+use std::alloc::Global;
+use std::marker::Model;
+
+/// What stands behind a key.
+#[derive(Clone, Copy, Debug)]
+pub(crate) enum Value<'a> {
+    Number(u64),
+    Word(&'a [u8]),
+}
+
+impl<'a> Value<'a> {
+    fn size(&self) -> usize
+        ensures { result ≡ length (value_text self.now) }
+    {
+        match *self {
+            Value::Number(n) => digit_count(n),
+            Value::Word(word) => word.len(),
+        }
+    }
+
+    fn write(&self, text: &mut TextBuilder)
+        requires { length (value_text self.now) ≤ text.old.room }
+        ensures bytes { text.new.bytes ≡ text.old.bytes ++ value_text self.now }
+        ensures room { text.old.room ≤ text.new.room + length (value_text self.now) }
+    {
+        match *self {
+            Value::Number(n) => text.push_number(n),
+            Value::Word(word) => text.push(word),
+        }
+    }
+}
+
+/// A line of statistics: a key and its value.
+#[derive(Debug, Drop)]
+pub(crate) struct KeyValue<'a> {
+    key: &'a [u8],
+    value: Value<'a>,
+}
+
+impl<'a> Model for KeyValue<'a> {
+    ghost use Rattle.bq_core.specs.Texts.{value_text};
+    ghost use Rattle.bq_job.specs.Yaml.{KeyValue as Pair};
+
+    ghost Value = { Pair };
+
+    ghost view = { λ p. (p.key.now, value_text p.value) };
+}
+
+impl<'a> KeyValue<'a> {
+    // How many bytes its line has, with the end of the line; `None` above 2^64 - 1.
+    fn size(&self) -> Option<usize>
+        ensures { IsSizeOf (key_value_line self.now) result }
+    {
+        let separators = b": \n".len();
+        self.key
+            .len()
+            .checked_add(self.value.size())?
+            .checked_add(separators)
+    }
+
+    fn write(&self, text: &mut TextBuilder)
+        requires { length (key_value_line self.now) ≤ text.old.room }
+        ensures bytes { text.new.bytes ≡ text.old.bytes ++ key_value_line self.now }
+        ensures room { text.old.room ≤ text.new.room + length (key_value_line self.now) }
+    {
+        text.push(self.key);
+        text.push(b": ");
+        self.value.write(text);
+        text.push(b"\n");
+    }
+}
+
+/// A key whose value is a number.
+pub(crate) fn number<'a>(key: &'a [u8], n: u64) -> KeyValue<'a>
+    ensures { result ≡ (key.now, decimal n) }
+{
+    KeyValue {
+        key,
+        value: Value::Number(n),
+    }
+}
+
+/// A key whose value is a word.
+pub(crate) fn word<'a>(key: &'a [u8], word: &'a [u8]) -> KeyValue<'a>
+    ensures { result ≡ (key.now, word.now) }
+{
+    KeyValue {
+        key,
+        value: Value::Word(word),
+    }
+}
+
+// How many bytes the text of these lines has.
+fn size_of(pairs: &[KeyValue<'_>]) -> Option<usize>
+    ensures { IsSizeOf (statistics_text pairs.now) result }
+{
+    let mut size = b"---\n".len();
+    for pair in pairs {
+        size = size.checked_add(pair.size()?)?;
+    }
+    Some(size)
+}
+
+// Writes these lines.
+fn write_all(pairs: &[KeyValue<'_>], text: &mut TextBuilder)
+    requires { length (flat_map key_value_line pairs.now) ≤ text.old.room }
+    ensures { text.new.bytes ≡ text.old.bytes ++ flat_map key_value_line pairs.now }
+{
+    for pair in pairs {
+        pair.write(text);
+    }
+}
+
+/// The text of these lines. Where its memory is refused there is none.
+pub(crate) fn statistics_text(alloc: Global, pairs: &[KeyValue<'_>]) -> Result<Text, NoMemory>
+    ensures { IfOk result (λ text. text ≡ statistics_text pairs.now) }
+{
+    let Some(size) = size_of(pairs) else {
+        return Err(NoMemory);
+    };
+    let mut text = TextBuilder::new(alloc, size)?;
+    text.push(b"---\n");
+    write_all(pairs, &mut text);
+    Ok(text.finish())
+}

@@ -1,0 +1,169 @@
+ghost use Rattle.std.specs.Prelude.{◌≡◌, IfOk};
+ghost use Rattle.bq_job.specs.Machine.{Machine};
+ghost use Rattle.bq_job.specs.Statistics.{bool_word, job_statistics, pause_seconds, pause_time_left, seconds_between, server_statistics, state_word, time_left, tube_statistics};
+ghost use Rattle.bq_core.specs.Numbers.{AreOfServer, AreOfTube};
+
+use super::key_value::{number, statistics_text, word};
+use crate::tally::Tally;
+use crate::tube_list::Pausing;
+use bq_job::{Job, JobState, Moment, NoMemory, Text, TubeName};
+use std::alloc::Global;
+
+/// What is told of a tube.
+#[derive(Clone, Copy, Debug)]
+pub(crate) struct TubeNumbers {
+    pub(crate) jobs: Tally,
+    pub(crate) puts: u64,
+    pub(crate) using: u64,
+    pub(crate) watching: u64,
+    pub(crate) waiting: u64,
+    pub(crate) deletes: u64,
+    pub(crate) pauses: u64,
+    pub(crate) pause: Option<Pausing>,
+    /// The present moment.
+    pub(crate) moment: Moment,
+}
+
+/// What is told of the server.
+#[derive(Clone, Copy, Debug)]
+pub(crate) struct ServerNumbers {
+    pub(crate) jobs: Tally,
+    pub(crate) timeouts: u64,
+    pub(crate) puts: u64,
+    pub(crate) max_job_size: u32,
+    /// How many tubes exist.
+    pub(crate) tubes: u64,
+    /// How many clients are connected.
+    pub(crate) connected: u64,
+    pub(crate) waiting: u64,
+    /// How many connections were opened since the start.
+    pub(crate) connections: u64,
+    pub(crate) draining: bool,
+}
+
+// Whole seconds from one moment to a later one.
+fn seconds_between(earlier: Moment, later: Moment) -> u64
+    ensures { result ≡ seconds_between earlier later }
+{
+    later.saturating_sub(earlier) / 1000
+}
+
+fn state_word(state: JobState) -> &'static [u8]
+    ensures { result.now ≡ state_word state }
+{
+    match state {
+        JobState::Ready => b"ready",
+        JobState::Delayed(_) => b"delayed",
+        JobState::Reserved(..) => b"reserved",
+        JobState::Buried(_) => b"buried",
+    }
+}
+
+// The seconds to the end of a delay or of a time to run, else 0.
+fn time_left(moment: Moment, state: JobState) -> u64
+    ensures { result ≡ time_left moment state }
+{
+    match state {
+        JobState::Ready | JobState::Buried(_) => 0,
+        JobState::Delayed(due) => seconds_between(moment, due),
+        JobState::Reserved(_, deadline) => seconds_between(moment, deadline),
+    }
+}
+
+fn pause_seconds(pause: Option<Pausing>) -> u64
+    ensures { result ≡ pause_seconds pause }
+{
+    match pause {
+        None => 0,
+        Some(pause) => u64::from(pause.seconds()),
+    }
+}
+
+fn pause_time_left(moment: Moment, pause: Option<Pausing>) -> u64
+    ensures { result ≡ pause_time_left moment pause }
+{
+    match pause {
+        None => 0,
+        Some(pause) => seconds_between(moment, pause.until()),
+    }
+}
+
+fn bool_word(value: bool) -> &'static [u8]
+    ensures { result.now ≡ bool_word value }
+{
+    if value { b"true" } else { b"false" }
+}
+
+/// The statistics of a job at this moment.
+pub(crate) fn job_text(alloc: Global, job: &Job, moment: Moment) -> Result<Text, NoMemory>
+    ensures { IfOk result (λ text. (m : Machine) → m.moment ≡ moment → text ≡ job_statistics m job.now) }
+{
+    let lines = [
+        number(b"id", job.id),
+        word(b"tube", job.tube.as_slice()),
+        word(b"state", state_word(job.state)),
+        number(b"pri", u64::from(job.pri)),
+        number(b"age", seconds_between(job.put_at, moment)),
+        number(b"delay", u64::from(job.delay)),
+        number(b"ttr", u64::from(job.ttr)),
+        number(b"time-left", time_left(moment, job.state)),
+        number(b"reserves", job.counts.reserves),
+        number(b"timeouts", job.counts.timeouts),
+        number(b"releases", job.counts.releases),
+        number(b"buries", job.counts.buries),
+        number(b"kicks", job.counts.kicks),
+    ];
+    statistics_text(alloc, &lines)
+}
+
+/// The statistics of the tube of this name.
+pub(crate) fn tube_text(
+    alloc: Global,
+    name: &TubeName,
+    numbers: &TubeNumbers,
+) -> Result<Text, NoMemory>
+    ensures { IfOk result (λ text. (m : Machine) → AreOfTube numbers.now name.now m → text ≡ tube_statistics name.now m) }
+{
+    let lines = [
+        word(b"name", name.as_slice()),
+        number(b"current-jobs-urgent", numbers.jobs.urgent),
+        number(b"current-jobs-ready", numbers.jobs.ready),
+        number(b"current-jobs-reserved", numbers.jobs.reserved),
+        number(b"current-jobs-delayed", numbers.jobs.delayed),
+        number(b"current-jobs-buried", numbers.jobs.buried),
+        number(b"total-jobs", numbers.puts),
+        number(b"current-using", numbers.using),
+        number(b"current-watching", numbers.watching),
+        number(b"current-waiting", numbers.waiting),
+        number(b"cmd-delete", numbers.deletes),
+        number(b"cmd-pause-tube", numbers.pauses),
+        number(b"pause", pause_seconds(numbers.pause)),
+        number(
+            b"pause-time-left",
+            pause_time_left(numbers.moment, numbers.pause),
+        ),
+    ];
+    statistics_text(alloc, &lines)
+}
+
+/// The statistics of the server.
+pub(crate) fn server_text(alloc: Global, numbers: &ServerNumbers) -> Result<Text, NoMemory>
+    ensures { IfOk result (λ text. (m : Machine) → AreOfServer numbers.now m → text ≡ server_statistics m) }
+{
+    let lines = [
+        number(b"current-jobs-urgent", numbers.jobs.urgent),
+        number(b"current-jobs-ready", numbers.jobs.ready),
+        number(b"current-jobs-reserved", numbers.jobs.reserved),
+        number(b"current-jobs-delayed", numbers.jobs.delayed),
+        number(b"current-jobs-buried", numbers.jobs.buried),
+        number(b"job-timeouts", numbers.timeouts),
+        number(b"total-jobs", numbers.puts),
+        number(b"max-job-size", u64::from(numbers.max_job_size)),
+        number(b"current-tubes", numbers.tubes),
+        number(b"current-connections", numbers.connected),
+        number(b"current-waiting", numbers.waiting),
+        number(b"total-connections", numbers.connections),
+        word(b"draining", bool_word(numbers.draining)),
+    ];
+    statistics_text(alloc, &lines)
+}
