@@ -7,6 +7,7 @@ pub mod KickLemmas
 pub mod LoopLemmas
 pub mod StateLemmas
 pub mod StepLemmas
+pub mod TallyLemmas
 pub mod TextLemmas
 pub mod TubeLemmas
 pub mod TurnLemmas
