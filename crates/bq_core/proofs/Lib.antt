@@ -8,6 +8,7 @@ pub mod LoopLemmas
 pub mod StateLemmas
 pub mod StepLemmas
 pub mod TallyLemmas
+pub mod TallyPlaces
 pub mod TextLemmas
 pub mod TubeLemmas
 pub mod TurnLemmas

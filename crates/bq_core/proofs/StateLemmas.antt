@@ -164,7 +164,7 @@ if_some (Some x) P h = h x refl
 -- comparisons change nothing else
 pub compared_sound : (old new : State) → OnlyCompares old new → IsSound old → IsSound new
 compared_sound old new same s =
-    let was : IsSound (record old { jobs = record old.jobs { comparisons = new.jobs.comparisons } }) = record { entries = s.entries; numbered = s.numbered; next = s.next; ids = s.ids } in
+    let was : IsSound (record old { jobs = record old.jobs { comparisons = new.jobs.comparisons } }) = record { entries = s.entries; numbered = s.numbered; next = s.next; ids = s.ids; counts = s.counts } in
     subst IsSound (sym same) was
 
 -- a change of a seat leaves it at tubes with entries
@@ -232,7 +232,7 @@ tube_counts CountPut t = rw (not_zero (raised t.puts) (raised_some t.puts)) refl
 tube_counts CountDelete t = rw (not_zero (raised t.deletes) (raised_some t.deletes), and-false (t.puts == 0)) refl
 tube_counts (Pause seconds moment) t = rw (not_zero (raised t.pauses) (raised_some t.pauses), and-false (t.puts == 0 && t.deletes == 0)) refl
 
-name_kept_at : (name : List ℕ) (what : TubeChange) (t : TubeRecord) → (tube_changed_at name what t).name ≡ t.name
+pub name_kept_at : (name : List ℕ) (what : TubeChange) (t : TubeRecord) → (tube_changed_at name what t).name ≡ t.name
 name_kept_at name what t = go (is_same_name name t.name)
   where
     go : (b : Bool) → (if b then tube_changed what t else t).name ≡ t.name

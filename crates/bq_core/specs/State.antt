@@ -3,6 +3,7 @@ use Rattle.std.specs.Prelude.{ℕ, Bool, false, ◌≡◌, ◌≤◌, map, lengt
 use Rattle.bq_job.specs.JobCommands.{last_id}
 use Rattle.bq_job.specs.Lawful.{AreIdsWithin}
 use Rattle.bq_job.specs.Machine.{Machine, Settings, numbers}
+use Rattle.bq_core.specs.Tallies.{AreCounted}
 use Rattle.bq_core.specs.TubeEntries.{AreEntries, counted}
 use Rattle.bq_core.specs.declared.config.Config.{Config}
 use Rattle.bq_core.specs.declared.state.State.{State}
@@ -35,6 +36,8 @@ pub record IsSound (s : State) : Type 0 where
   pub next : s.draining ≡ false → s.next_id ≤ last_id
   -- Each id was given once.
   pub ids : AreIdsWithin 1 s.jobs.jobs s.next_id
+  -- What is counted is what there is.
+  pub counts : AreCounted s.tally s.tallies.items s.jobs.jobs s.tubes.items
 
 -- It is the same but for the count of comparisons.
 abbrev pub OnlyCompares : State → State → Type 0

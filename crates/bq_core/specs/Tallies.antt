@@ -1,10 +1,15 @@
 -- How many of the jobs are in each state.
-use Rattle.std.specs.Prelude.{ℕ, Bool, true, false, ◌-◌, List, count_by}
+use Rattle.std.specs.Prelude.{ℕ, Bool, true, false, ◌≡◌, ◌-◌, if◌then◌else◌, List, [], ◌∷◌, count_by, filter, map}
+use Rattle.std.specs.List.{insert, prefix_len}
 use Rattle.bq_job.specs.declared.job.Job.{Job}
 use Rattle.bq_job.specs.Changes.{is_ready}
 use Rattle.bq_job.specs.JobStates.{is_buried, is_delayed, is_reserved}
 use Rattle.bq_job.specs.Limits.{raised}
+use Rattle.bq_job.specs.Machine.{TubeRecord}
 use Rattle.bq_job.specs.Statistics.{is_urgent}
+use Rattle.bq_job.specs.TubeName.{is_same_name}
+use Rattle.bq_job.specs.Tubes.{is_name_before}
+use Rattle.bq_core.specs.TubeEntries.{has_entry}
 use Rattle.bq_core.specs.declared.tally.Tally.{Tally}
 
 abbrev pub tally_of : List Job → Tally
@@ -45,3 +50,39 @@ tally_without j t = record {
   delayed = count_without (is_delayed j.state) t.delayed;
   buried = count_without (is_buried j.state) t.buried;
 }
+
+-- the counts of the jobs of each tube that has an entry, in the order of the entries
+abbrev pub tally_in : List Job → TubeRecord → Tally
+tally_in jobs t = tally_of (filter (λ j. is_same_name t.name j.tube) jobs)
+
+abbrev pub tallies_of : List Job → List TubeRecord → List Tally
+tallies_of jobs entries = map (tally_in jobs) entries
+
+-- the counts, changed by f at the first entry of this name
+abbrev pub tallies_at : List ℕ → (Tally → Tally) → List TubeRecord → List Tally → List Tally
+tallies_at name f [] tallies = tallies
+tallies_at name f (t ∷ entries) [] = []
+tallies_at name f (t ∷ entries) (tally ∷ tallies) =
+    if is_same_name name t.name then f tally ∷ tallies else tally ∷ tallies_at name f entries tallies
+
+abbrev pub tallies_with : Job → List TubeRecord → List Tally → List Tally
+tallies_with j entries tallies = tallies_at j.tube (tally_with j) entries tallies
+
+abbrev pub tallies_without : Job → List TubeRecord → List Tally → List Tally
+tallies_without j entries tallies = tallies_at j.tube (tally_without j) entries tallies
+
+-- the counts at the first entry of this name, if there is one
+abbrev pub tally_at : List ℕ → List TubeRecord → List Tally → Tally
+tally_at name [] tallies = tally_of []
+tally_at name (t ∷ entries) [] = tally_of []
+tally_at name (t ∷ entries) (tally ∷ tallies) = if is_same_name name t.name then tally else tally_at name entries tallies
+
+-- the counts of all jobs, and those of each tube that has an entry
+pub record AreCounted (tally : Tally) (tallies : List Tally) (jobs : List Job) (entries : List TubeRecord) : Type 0 where
+  pub whole : tally ≡ tally_of jobs
+  pub each : tallies ≡ tallies_of jobs entries
+
+-- the counts with those of a tube that gets an entry
+abbrev pub tallies_provided : List ℕ → List TubeRecord → List Tally → List Tally
+tallies_provided name entries tallies =
+    if has_entry name entries then tallies else insert tallies (prefix_len (λ t. is_name_before t.name name) entries) (tally_of [])

@@ -20,13 +20,15 @@ mod machine;
 mod outs;
 mod place;
 mod reply;
+mod seat_counts;
 mod seat_list;
 mod state;
+mod tallies;
 mod tally;
 #[cfg(test)]
 mod tests;
-mod timers;
 mod texts;
+mod timers;
 mod tube_acts;
 mod tube_list;
 mod waits;

@@ -12,7 +12,7 @@ ghost use Rattle.bq_core.specs.Turns.{HasRoom};
 use crate::config::{Config, CoreFault};
 use crate::outs::Outs;
 use crate::state::State;
-use crate::{acts, dispatch, dues, seat_list, state, timers, tube_list, waits};
+use crate::{acts, dispatch, dues, seat_list, state, tallies, timers, tube_list, waits};
 use bq_job::{Moment, Seat, Step};
 use std::alloc::Global;
 use std::marker::Model;
@@ -106,8 +106,11 @@ impl Core {
         let Ok(tubes) = tube_list::first_entries(alloc) else {
             return Err(CoreFault::NoMemory);
         };
+        let Ok(tallies) = tallies::first(alloc) else {
+            return Err(CoreFault::NoMemory);
+        };
         Ok(Core {
-            state: state::first_state(config, seats, tubes),
+            state: state::first_state(config, seats, tubes, tallies),
             alloc,
         })
     }

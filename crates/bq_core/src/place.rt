@@ -1,4 +1,4 @@
-ghost use Rattle.std.specs.Prelude.{◌≡◌, ◌++◌, ◌∷◌, [], true, filter, length, not, IfOk, OnErr};
+ghost use Rattle.std.specs.Prelude.{◌≡◌, ◌&&◌, ◌++◌, ◌∷◌, [], true, filter, length, not, IfOk, OnErr};
 ghost use Rattle.std.specs.List.{list_any};
 ghost use Rattle.bq_job.specs.Asked.{with_end};
 ghost use Rattle.bq_job.specs.Changes.{is_waiting, without_wait};
@@ -98,6 +98,13 @@ impl Place {
         ensures { result.now ≡ self.now.watched }
     {
         self.watched.as_slice()
+    }
+
+    /// Whether an open seat uses the tube, and this is it.
+    pub(crate) fn is_using(&self, name: &TubeName) -> bool
+        ensures { result ≡ (self.now.connected && is_same_name name.now self.now.used) }
+    {
+        self.connected && name == &self.used
     }
 
     pub(crate) fn watches(&self, name: &TubeName) -> bool

@@ -10,14 +10,16 @@ ghost use Rattle.bq_jobs.specs.Kept.{with_added, without};
 ghost use Rattle.bq_core.specs.JobChanges.{changed};
 ghost use Rattle.bq_core.specs.SeatChanges.{seat_changed, has_tube_of};
 ghost use Rattle.bq_core.specs.State.{machine_of, settings_of, IsSound, OnlyCompares};
+ghost use Rattle.bq_core.specs.Tallies.{tally_of};
 ghost use Rattle.bq_core.specs.TubeEntries.{has_entry, is_tube_of, tube_changed};
 
 use crate::config::Config;
 use crate::job_list::{JobChange, JobKind, JobTest};
 use crate::place::Place;
 use crate::seat_list::SeatChange;
+use crate::tally::Tally;
 use crate::tube_list::{TubeChange, TubeEntry};
-use crate::{job_list, seat_list, tube_list};
+use crate::{job_list, seat_list, tallies, tube_list};
 use bq_job::{Body, Job, JobId, Moment, NoMemory, Seat, TubeName};
 use bq_jobs::{Jobs, laws};
 use std::alloc::Global;
@@ -30,6 +32,10 @@ pub(crate) struct State {
     pub(crate) seats: Vec<Place, Global>,
     /// An entry for each tube that exists.
     pub(crate) tubes: Vec<TubeEntry, Global>,
+    /// How many jobs are in each state,
+    pub(crate) tally: Tally,
+    /// and how many of each tube, at the place of its entry.
+    pub(crate) tallies: Vec<Tally, Global>,
     pub(crate) moment: Moment,
     pub(crate) next_id: JobId,
     pub(crate) burials: u64,
@@ -152,7 +158,11 @@ pub(crate) fn add(state: &mut State, job: Job)
     ensures sound { IsSound state.new }
     ensures config { state.new.config ≡ state.old.config }
 {
+    state.tally.add(&job);
+    tallies::add(&mut state.tallies, state.tubes.as_slice(), &job);
     state.jobs.add(job);
+    // So many jobs there can be, and no count comes to its end.
+    let _jobs = state.jobs.len();
 }
 
 /// Takes the job of this id out, if there is one. Its room is kept.
@@ -168,7 +178,10 @@ pub(crate) fn take(state: &mut State, id: JobId) -> Option<Job>
     ensures sound { IsSound state.new }
     ensures config { state.new.config ≡ state.old.config }
 {
-    state.jobs.remove(id)
+    let job = state.jobs.remove(id)?;
+    state.tally.remove(&job);
+    tallies::remove(&mut state.tallies, state.tubes.as_slice(), &job);
+    Some(job)
 }
 
 /// Changes the job of this id, if there is one.
@@ -217,7 +230,7 @@ pub(crate) fn provide_tube(state: &mut State, tube: &TubeName) -> Result<(), NoM
     ensures sound { IsSound state.new }
     ensures config { state.new.config ≡ state.old.config }
 {
-    match tube_list::provide(&mut state.tubes, tube) {
+    match tube_list::provide(&mut state.tubes, &mut state.tallies, tube) {
         Ok(()) => Ok(()),
         Err(fault) => Err(fault),
     }
@@ -279,6 +292,7 @@ pub(crate) fn forget_tubes(state: &mut State)
 {
     tube_list::forget(
         &mut state.tubes,
+        &mut state.tallies,
         &mut state.jobs,
         state.next_id,
         state.seats.as_slice(),
@@ -300,9 +314,11 @@ pub(crate) fn first_state(
     config: Config,
     seats: Vec<Place, Global>,
     tubes: Vec<TubeEntry, Global>,
+    tallies: Vec<Tally, Global>,
 ) -> State
     requires free { seats.items ≡ map empty_seat (numbers 0 config.seats) }
     requires entries { tubes.items ≡ fresh_tube default_tube ∷ [] }
+    requires none_counted { tallies.items ≡ tally_of [] ∷ [] }
     ensures empty { machine_of result ≡ new_machine (settings_of config) }
     ensures comparisons { result.jobs.comparisons ≡ 0 }
     ensures sound { IsSound result }
@@ -312,6 +328,8 @@ pub(crate) fn first_state(
         jobs: Jobs::new(),
         seats,
         tubes,
+        tally: Tally::default(),
+        tallies,
         moment: 0,
         next_id: 1,
         burials: 0,

@@ -1,17 +1,20 @@
-ghost use Rattle.std.specs.Prelude.{◌≡◌, ◌<◌, ◌&&◌, ◌∷◌, [], IfOk, filter, length, map, is_some, is_ok, not, slice_get, if◌then◌else◌};
+ghost use Rattle.std.specs.Prelude.{◌≡◌, ◌<◌, ◌&&◌, ◌∷◌, [], IfOk, filter, length, map, is_some, is_ok, not, slice_get, if◌then◌else◌, List};
 ghost use Rattle.std.specs.List.{list_any, position, prefix_len};
 ghost use Rattle.bq_job.specs.Lawful.{AreIdsWithin};
+ghost use Rattle.bq_job.specs.declared.job.Job.{Job};
 ghost use Rattle.bq_job.specs.Machine.{default_tube};
 ghost use Rattle.bq_job.specs.NextDue.{dues_of_pause, earliest};
 ghost use Rattle.bq_job.specs.TubeCommands.{with_pause};
 ghost use Rattle.bq_job.specs.TubeName.{is_same_name};
 ghost use Rattle.bq_job.specs.Tubes.{fresh_tube, is_name_before, is_seated_at as seated_at};
 ghost use Rattle.bq_job.specs.Timers.{tube_after_timers};
+ghost use Rattle.bq_core.specs.Tallies.{tallies_of, tallies_provided};
 ghost use Rattle.bq_core.specs.TubeEntries.{has_entry, is_tube_of, kept_if, provided, tube_changed, tube_changed_at};
 
 use crate::job_list;
 use crate::job_list::later;
 use crate::place::Place;
+use crate::tally::Tally;
 use crate::watch_list::default_tube;
 use bq_job::{JobId, Moment, NoMemory, TubeName};
 use bq_jobs::Jobs;
@@ -193,6 +196,13 @@ pub(crate) fn has(tubes: &[TubeEntry], name: &TubeName) -> bool
     tubes.iter().any(|entry| entry.is_named(name))
 }
 
+/// The place of the entry of this name.
+pub(crate) fn find(tubes: &[TubeEntry], name: &TubeName) -> Option<usize>
+    ensures { result ≡ position (λ t. is_same_name name.now t.name) tubes.now }
+{
+    tubes.iter().position(|entry| entry.is_named(name))
+}
+
 pub(crate) fn is_paused(tubes: &[TubeEntry], name: &TubeName) -> bool
     ensures { result ≡ list_any (λ t. is_same_name name.now t.name && is_some t.pause) tubes.now }
 {
@@ -216,15 +226,27 @@ fn place_of(tubes: &[TubeEntry], name: &TubeName) -> usize
 }
 
 /// Sees to it that a tube has an entry.
-pub(crate) fn provide(tubes: &mut Vec<TubeEntry, Global>, name: &TubeName) -> Result<(), NoMemory>
-    ensures { tubes.new.items ≡ (if is_ok result then provided name.now tubes.old.items else tubes.old.items) }
+pub(crate) fn provide(
+    tubes: &mut Vec<TubeEntry, Global>,
+    tallies: &mut Vec<Tally, Global>,
+    name: &TubeName,
+) -> Result<(), NoMemory>
+    requires { length tallies.old.items ≡ length tubes.old.items }
+    ensures tubes { tubes.new.items ≡ (if is_ok result then provided name.now tubes.old.items else tubes.old.items) }
+    ensures tallies { tallies.new.items ≡ (if is_ok result then tallies_provided name.now tubes.old.items tallies.old.items else tallies.old.items) }
 {
     if has(tubes.as_slice(), name) {
         return Ok(());
     }
     let i = place_of(tubes.as_slice(), name);
+    if tallies.reserve(1).is_err() {
+        return Err(NoMemory);
+    }
     match tubes.insert(i, TubeEntry::new(*name)) {
-        Ok(()) => Ok(()),
+        Ok(()) => {
+            let _fits = tallies.insert(i, Tally::default());
+            Ok(())
+        }
         Err(_) => Err(NoMemory),
     }
 }
@@ -273,35 +295,43 @@ pub(crate) fn is_tube(jobs: &mut Jobs, next_id: JobId, seats: &[Place], name: &T
 // Drops the entry at place i where its tube is gone.
 fn forget_at(
     tubes: &mut Vec<TubeEntry, Global>,
+    tallies: &mut Vec<Tally, Global>,
     i: usize,
     jobs: &mut Jobs,
     next_id: JobId,
     seats: &[Place],
 )
     requires there { i < length tubes.old.items }
+    requires aligned { length tallies.old.items ≡ length tubes.old.items }
     requires ids { AreIdsWithin 1 jobs.old.jobs next_id }
     ensures after { tubes.new.items ≡ kept_if (λ t. is_tube_of jobs.old.jobs seats.now t.name) tubes.old.items i (slice_get tubes.old.items i) }
+    ensures aligned { length tallies.new.items ≡ length tubes.new.items }
+    ensures tallies { (all : List Job) → tallies.old.items ≡ tallies_of all tubes.old.items → tallies.new.items ≡ tallies_of all tubes.new.items }
     ensures same { jobs.new ≡ record jobs.old { comparisons = jobs.new.comparisons } }
 {
     if !is_tube(jobs, next_id, seats, tubes[i].name()) {
         tubes.remove(i);
+        tallies.remove(i);
     }
 }
 
 /// Drops the entries of tubes that are gone.
 pub(crate) fn forget(
     tubes: &mut Vec<TubeEntry, Global>,
+    tallies: &mut Vec<Tally, Global>,
     jobs: &mut Jobs,
     next_id: JobId,
     seats: &[Place],
 )
-    requires { AreIdsWithin 1 jobs.old.jobs next_id }
+    requires aligned { length tallies.old.items ≡ length tubes.old.items }
+    requires ids { AreIdsWithin 1 jobs.old.jobs next_id }
     ensures after { tubes.new.items ≡ filter (λ t. is_tube_of jobs.old.jobs seats.now t.name) tubes.old.items }
+    ensures tallies { (all : List Job) → tallies.old.items ≡ tallies_of all tubes.old.items → tallies.new.items ≡ tallies_of all tubes.new.items }
     ensures same { jobs.new ≡ record jobs.old { comparisons = jobs.new.comparisons } }
 {
     let mut i = tubes.len();
     while i > 0 {
         i -= 1;
-        forget_at(tubes, i, jobs, next_id, seats);
+        forget_at(tubes, tallies, i, jobs, next_id, seats);
     }
 }

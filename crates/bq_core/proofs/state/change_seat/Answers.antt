@@ -9,4 +9,5 @@ returns-clause-sound c =
       numbered = rw c.change_at.ensures (numbered_after c.args.seat c.args.what.now c.args.state.now.seats.items was.numbered);
       next = was.next;
       ids = was.ids;
+      counts = was.counts;
     }

@@ -1,7 +1,8 @@
 use Rattle.std.proofs.Common.{◌∙◌, ap, sym}
 use Rattle.bq_core.specs.State.{machine_of}
-use Rattle.bq_core.specs.TubeEntries.{counted, tube_changed}
-use Rattle.bq_core.proofs.StateLemmas.{entries_of_tube, tube_counts, tube_name_kept}
+use Rattle.bq_core.specs.TubeEntries.{counted, tube_changed, tube_changed_at}
+use Rattle.bq_core.proofs.StateLemmas.{entries_of_tube, name_kept_at, tube_counts, tube_name_kept}
+use Rattle.bq_core.proofs.TallyPlaces.{counted_kept}
 use Rattle.bq_core.proofs.TubeLemmas.{record_changed}
 use Rattle.bq_core.proofs.state.change_tube.Goals as goal
 
@@ -15,10 +16,12 @@ returns-clause-after c =
 
 pub returns-clause-sound : goal.returns-clause-sound
 returns-clause-sound c =
+    let s = c.args.state.now in
     let was = c.requires.sound in
     record {
       entries = rw c.change_at.ensures (entries_of_tube c.args.tube.now c.args.what c.args.state.now.jobs.jobs c.args.state.now.seats.items c.args.state.now.tubes.items was.entries);
       numbered = was.numbered;
       next = was.next;
       ids = was.ids;
+      counts = rw c.change_at.ensures (counted_kept (tube_changed_at c.args.tube.now c.args.what) (name_kept_at c.args.tube.now c.args.what) s.tally s.tallies.items s.jobs.jobs s.tubes.items was.counts);
     }

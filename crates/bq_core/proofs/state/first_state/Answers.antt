@@ -1,6 +1,7 @@
 use Rattle.std.proofs.Common.{arith, ap}
 use Rattle.bq_jobs.specs.Kept.{Kept}
 use Rattle.bq_core.proofs.StateLemmas.{first_entries, first_numbered}
+use Rattle.bq_core.proofs.TallyPlaces.{none_counted}
 use Rattle.bq_core.proofs.state.first_state.Goals as goal
 
 pub returns-clause-sound : goal.returns-clause-sound
@@ -9,4 +10,5 @@ returns-clause-sound c = record {
   numbered = rw c.requires.free (first_numbered c.args.config.seats);
   next = λ _. omega arith;
   ids = rw (ap (λ (k : Kept). k.jobs) c.new.ensures) (omega arith);
+  counts = rw (ap (λ (k : Kept). k.jobs) c.new.ensures, c.requires.entries) (record { whole = none_counted c.default.result c.default.ensures; each = c.requires.none_counted });
 }

@@ -1,7 +1,8 @@
-use Rattle.std.proofs.Common.{◌≡◌, ◌∙◌, ap}
+use Rattle.std.proofs.Common.{◌≡◌, ◌∙◌, ap, sym}
 use Rattle.std.specs.Prelude.{filter}
 use Rattle.bq_jobs.specs.Kept.{Kept}
 use Rattle.bq_core.specs.State.{machine_of}
+use Rattle.bq_core.specs.Tallies.{tallies_of, tally_of}
 use Rattle.bq_core.specs.TubeEntries.{counted, is_counted, is_tube_of}
 use Rattle.bq_core.proofs.StateLemmas.{entries_forgotten}
 use Rattle.bq_core.proofs.TubeLemmas.{filters_swap}
@@ -29,4 +30,8 @@ returns-clause-sound c =
       numbered = was.numbered;
       next = was.next;
       ids = rw jobs was.ids;
+      counts = record {
+        whole = was.counts.whole ∙ ap tally_of (sym jobs);
+        each = c.forget.ensures.tallies s.jobs.jobs was.counts.each ∙ ap (λ js. tallies_of js c.forget.new.tubes.items) (sym jobs);
+      };
     }

@@ -30,6 +30,7 @@ returns-then-from-len-clause-sound c =
       numbered = rw seats (watching_numbered (filter (λ other. not (is_same_name c.args.tube.now other)) s.0.watched) c.args.seat s.0 old.seats.items s.1 was.numbered);
       next = was.next;
       ids = was.ids;
+      counts = was.counts;
     }
 
 pub returns-else-from-len-clause-after : goal.returns-else-from-len-clause-after

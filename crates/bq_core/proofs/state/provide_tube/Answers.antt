@@ -2,29 +2,33 @@ use Rattle.std.proofs.Common.{◌∙◌, ap}
 use Rattle.bq_core.specs.State.{machine_of}
 use Rattle.bq_core.specs.TubeEntries.{counted, has_entry}
 use Rattle.bq_core.proofs.StateLemmas.{counted_provided, entries_provided, has_provided}
+use Rattle.bq_core.proofs.TallyPlaces.{counted_provided as tallies_of_provided}
 use Rattle.bq_core.proofs.state.provide_tube.Goals as goal
 
 pub returns-in-Ok-clause-after : goal.returns-in-Ok-clause-after
 returns-in-Ok-clause-after c =
-    ap (λ tubes. record (machine_of c.args.state.now) { tubes = tubes }) (ap counted c.in-Ok.ensures ∙ counted_provided c.args.tube.now c.args.state.now.tubes.items)
+    ap (λ tubes. record (machine_of c.args.state.now) { tubes = tubes }) (ap counted c.in-Ok.ensures.tubes ∙ counted_provided c.args.tube.now c.args.state.now.tubes.items)
 
 pub returns-in-Ok-clause-entry : goal.returns-in-Ok-clause-entry
-returns-in-Ok-clause-entry c = ap (has_entry c.args.tube.now) c.in-Ok.ensures ∙ has_provided c.args.tube.now c.args.state.now.tubes.items
+returns-in-Ok-clause-entry c = ap (has_entry c.args.tube.now) c.in-Ok.ensures.tubes ∙ has_provided c.args.tube.now c.args.state.now.tubes.items
 
 pub returns-in-Ok-clause-sound : goal.returns-in-Ok-clause-sound
 returns-in-Ok-clause-sound c =
     let was = c.requires in
     record {
-      entries = rw c.in-Ok.ensures (entries_provided c.args.tube.now c.args.state.now.jobs.jobs c.args.state.now.seats.items c.args.state.now.tubes.items was.entries);
+      entries = rw c.in-Ok.ensures.tubes (entries_provided c.args.tube.now c.args.state.now.jobs.jobs c.args.state.now.seats.items c.args.state.now.tubes.items was.entries);
       numbered = was.numbered;
       next = was.next;
       ids = was.ids;
+      counts =
+          let st = c.args.state.now in
+          rw (c.in-Ok.ensures.tubes, c.in-Ok.ensures.tallies) (tallies_of_provided c.args.tube.now st.tally st.tallies.items st.jobs.jobs st.tubes.items was.entries.of_jobs was.counts);
     }
 
 pub returns-in-Err-clause-after : goal.returns-in-Err-clause-after
-returns-in-Err-clause-after c = ap (λ tubes. record (machine_of c.args.state.now) { tubes = counted tubes }) c.in-Err.ensures
+returns-in-Err-clause-after c = ap (λ tubes. record (machine_of c.args.state.now) { tubes = counted tubes }) c.in-Err.ensures.tubes
 
 pub returns-in-Err-clause-sound : goal.returns-in-Err-clause-sound
 returns-in-Err-clause-sound c =
     let was = c.requires in
-    record { entries = rw c.in-Err.ensures was.entries; numbered = was.numbered; next = was.next; ids = was.ids }
+    record { entries = rw c.in-Err.ensures.tubes was.entries; numbered = was.numbered; next = was.next; ids = was.ids; counts = rw (c.in-Err.ensures.tubes, c.in-Err.ensures.tallies) was.counts }

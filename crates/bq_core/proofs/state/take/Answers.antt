@@ -1,22 +1,47 @@
-use Rattle.std.proofs.Common.{◌∙◌, sym, not, ◌==◌}
+use Rattle.std.proofs.Common.{◌≡◌, ◌∙◌, ap, sym, not, ◌==◌}
 use Rattle.bq_job.proofs.KeptLemmas.{ids_of_filter}
-use Rattle.bq_core.proofs.StateLemmas.{entries_of_fewer, given_of_job, has_of_job, if_some}
+use Rattle.bq_jobs.proofs.Changes.{without_none}
+use Rattle.bq_core.specs.Tallies.{tallies_of, tallies_without, tally_of}
+use Rattle.bq_core.proofs.StateLemmas.{entries_of_fewer, given_of_job, has_of_job}
+use Rattle.bq_core.proofs.TallyPlaces.{counted_taken}
 use Rattle.bq_core.proofs.state.take.Goals as goal
 
+pub returns-in_err-job-clause-sound : goal.returns-in_err-job-clause-sound
+returns-in_err-job-clause-sound c =
+    let st = c.args.state.now in
+    let same = c.remove.ensures.jobs ∙ without_none c.args.id st.jobs.jobs (sym c.remove.ensures.job ∙ c.in_err-job.was) in
+    record {
+      entries = rw same c.requires.entries;
+      numbered = c.requires.numbered;
+      next = c.requires.next;
+      ids = rw same c.requires.ids;
+      counts = rw same c.requires.counts;
+    }
+
 pub returns-clause-given : goal.returns-clause-given
-returns-clause-given c = if_some c.remove.result _ (λ job e.
-    given_of_job c.args.state.now.next_id c.args.id c.args.state.now.jobs.jobs job c.requires.ids (sym c.remove.ensures.job ∙ e))
+returns-clause-given c =
+    given_of_job c.args.state.now.next_id c.args.id c.args.state.now.jobs.jobs c.in_ok-job.job c.requires.ids (sym c.remove.ensures.job ∙ c.in_ok-job.was)
 
 pub returns-clause-entry : goal.returns-clause-entry
-returns-clause-entry c = if_some c.remove.result _ (λ job e.
-    has_of_job c.args.state.now.jobs.jobs c.args.state.now.seats.items c.args.state.now.tubes.items c.args.id job c.requires.entries (sym c.remove.ensures.job ∙ e))
+returns-clause-entry c =
+    let st = c.args.state.now in
+    has_of_job st.jobs.jobs st.seats.items st.tubes.items c.args.id c.in_ok-job.job c.requires.entries (sym c.remove.ensures.job ∙ c.in_ok-job.was)
 
 pub returns-clause-sound : goal.returns-clause-sound
 returns-clause-sound c =
     let st = c.args.state.now in
+    let was = c.requires in
+    let j = c.in_ok-job.job in
+    let found = sym c.remove.ensures.job ∙ c.in_ok-job.was in
+    let made = counted_taken 1 st.next_id c.args.id j st.tally st.tallies.items st.jobs.jobs st.tubes.items was.ids found was.entries.order was.counts in
     record {
-      entries = rw c.remove.ensures.jobs (entries_of_fewer (λ k. not (k.id == c.args.id)) st.jobs.jobs st.seats.items st.tubes.items c.requires.entries);
-      numbered = c.requires.numbered;
-      next = c.requires.next;
-      ids = rw c.remove.ensures.jobs (ids_of_filter (λ k. not (k.id == c.args.id)) 1 st.next_id st.jobs.jobs c.requires.ids);
+      entries = rw c.remove.ensures.jobs (entries_of_fewer (λ k. not (k.id == c.args.id)) st.jobs.jobs st.seats.items st.tubes.items was.entries);
+      numbered = was.numbered;
+      next = was.next;
+      ids = rw c.remove.ensures.jobs (ids_of_filter (λ k. not (k.id == c.args.id)) 1 st.next_id st.jobs.jobs was.ids);
+      counts = record {
+        whole = c.remove-2.ensures ∙ made.whole ∙ ap tally_of (sym c.remove.ensures.jobs);
+        each = c.remove-3.ensures ∙ ap (λ es. tallies_without j es st.tallies.items) c.as_slice.ensures.value ∙ made.each
+            ∙ ap (λ js. tallies_of js st.tubes.items) (sym c.remove.ensures.jobs);
+      };
     }

@@ -47,4 +47,5 @@ returns-in-Ok-clause-sound c =
       numbered = rw seats (watching_numbered (s.0.watched ++ c.args.tube.now ∷ []) c.args.seat s.0 mid.seats.items s.1 p.sound.numbered);
       next = p.sound.next;
       ids = p.sound.ids;
+      counts = p.sound.counts;
     }

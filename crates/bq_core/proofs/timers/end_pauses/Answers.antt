@@ -3,6 +3,7 @@ use Rattle.bq_job.specs.Timers.{tube_after_timers}
 use Rattle.bq_core.specs.State.{machine_of}
 use Rattle.bq_core.specs.TubeEntries.{counted, is_counted}
 use Rattle.bq_core.proofs.StateLemmas.{entries_of_timers}
+use Rattle.bq_core.proofs.TallyPlaces.{counted_kept}
 use Rattle.bq_core.proofs.TubeLemmas.{filter_of_map}
 use Rattle.bq_core.proofs.timers.end_pauses.Goals as goal
 
@@ -20,4 +21,5 @@ returns-clause-sound c =
       numbered = was.numbered;
       next = was.next;
       ids = was.ids;
+      counts = rw c.fire_timers.ensures (counted_kept (tube_after_timers s.moment) (λ t. refl) s.tally s.tallies.items s.jobs.jobs s.tubes.items was.counts);
     }

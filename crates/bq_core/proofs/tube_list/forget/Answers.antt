@@ -13,5 +13,7 @@ loop-i-preserved c =
       within = omega arith;
       left = forgotten_one (λ t. is_tube_of c.args.jobs.now.jobs c.args.seats.now t.name) c.args.tubes.now.items now _ c.loop-i.i (omega arith) was.within was.left
           (c.forget_at.ensures.after ∙ ap (λ (k : Kept). kept_if (λ t. is_tube_of k.jobs c.args.seats.now t.name) now i (slice_get now i)) was.same);
+      aligned = c.forget_at.ensures.aligned;
+      tallies = λ all e. c.forget_at.ensures.tallies all (was.tallies all e);
       same = c.forget_at.ensures.same ∙ ap (λ (k : Kept). record k { comparisons = c.forget_at.new.jobs.comparisons }) was.same;
     }

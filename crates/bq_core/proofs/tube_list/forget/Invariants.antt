@@ -1,5 +1,7 @@
 -- the entries from place i on were looked at
-use Rattle.std.proofs.Common.{◌≡◌, ◌≤◌, ◌++◌, take, drop, filter, length}
+use Rattle.std.proofs.Common.{◌≡◌, ◌≤◌, ◌++◌, take, drop, filter, length, List}
+use Rattle.bq_job.specs.declared.job.Job.{Job}
+use Rattle.bq_core.specs.Tallies.{tallies_of}
 use Rattle.bq_core.specs.TubeEntries.{is_tube_of}
 use Rattle.bq_core.proofs.tube_list.forget.Given as goal
 
@@ -7,6 +9,8 @@ abbrev pub invariant-loop-i : goal.invariant-loop-i
 invariant-loop-i l = record {
   within : l.i ≤ length l.fn.tubes.items;
   left : l.tubes.items ≡ take l.i l.fn.tubes.items ++ filter (λ t. is_tube_of l.fn.jobs.jobs l.seats t.name) (drop l.i l.fn.tubes.items);
+  aligned : length l.tallies.items ≡ length l.tubes.items;
+  tallies : (all : List Job) → l.fn.tallies.items ≡ tallies_of all l.fn.tubes.items → l.tallies.items ≡ tallies_of all l.tubes.items;
   same : l.jobs ≡ record l.fn.jobs { comparisons = l.jobs.comparisons };
 }
 

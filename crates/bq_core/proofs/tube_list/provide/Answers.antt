@@ -8,8 +8,8 @@ use Rattle.bq_core.proofs.tube_list.provide.Goals as goal
 pub insert-requires : goal.insert-requires
 insert-requires c = rw (c.place_of-i.ensures, ← c.as_slice-2.ensures.len) (place_within _ _)
 
-pub returns-in-Ok : goal.returns-in-Ok
-returns-in-Ok c =
+pub returns-in-Ok-clause-tubes : goal.returns-in-Ok-clause-tubes
+returns-in-Ok-clause-tubes c =
     let items = c.args.tubes.now.items in
     let name = c.args.name.now in
     let none : has_entry name items ≡ false = ap (has_entry name) (sym c.as_slice.ensures.value) ∙ sym c.if-has.ensures in

@@ -1,0 +1,204 @@
+-- The counts of tubes stand at the places of their entries.
+use Rattle.std.proofs.Common.{◌≡◌, ◌∙◌, ◌+◌, ◌≤◌, ℕ, suc, Bool, true, false, cond, not, List, [], ◌∷◌, Option, Some, None, if◌then◌else◌, refl, sym, ap, arith, length, map, inl, inr}
+use Rattle.std.specs.Prelude.{◌++◌, nat_lt, filter, take, drop}
+use Rattle.std.proofs.lemmas.List.{drop-map, map-append, take-map}
+use Rattle.std.specs.List.{AllByRecursion as All, insert, position_or_len, prefix_len, remove, slice_index_or, slice_set}
+use Rattle.std.specs.Cmp.Lexicographic.{bytes_decides}
+use Rattle.std.proofs.lemmas.Bool.{cases_Bool}
+use Rattle.std.proofs.lemmas.Bool.Decides.{nat_tests}
+use Rattle.bq_job.specs.declared.job.Job.{Job}
+use Rattle.bq_job.specs.Changes.{job_with}
+use Rattle.bq_job.specs.Lawful.{AreIdsWithin}
+use Rattle.bq_job.specs.Limits.{greatest}
+use Rattle.bq_job.specs.Machine.{TubeRecord}
+use Rattle.bq_job.specs.TubeName.{is_same_name}
+use Rattle.bq_job.specs.Tubes.{fresh_tube, is_name_before}
+use Rattle.bq_job.proofs.NameOrderLemmas.{not_same}
+use Rattle.bq_jobs.specs.Kept.{with_added, without}
+use Rattle.bq_core.specs.declared.tally.Tally.{Tally}
+use Rattle.bq_core.specs.Tallies.{AreCounted, tallies_at, tallies_of, tallies_provided, tallies_with, tallies_without, tally_at, tally_in, tally_of, tally_with, tally_without}
+use Rattle.bq_core.specs.TubeEntries.{AreInOrder, has_entry, provided}
+use Rattle.bq_core.proofs.TubeLemmas.{provided_new}
+use Rattle.bq_core.proofs.TallyLemmas.{tally_added, tally_stays_added, tally_stays_taken, tally_taken, whole_added, whole_taken}
+
+one_more : (n : ℕ) → 1 + n ≡ suc n
+one_more n = omega arith
+
+pub none_counted : (t : Tally) → (t.urgent ≡ 0) × ((t.ready ≡ 0) × ((t.reserved ≡ 0) × ((t.delayed ≡ 0) × (t.buried ≡ 0)))) → t ≡ tally_of []
+none_counted t e = λ i. record { urgent = e.0 i; ready = e.1.0 i; reserved = e.1.1.0 i; delayed = e.1.1.1.0 i; buried = e.1.1.1.1 i }
+
+pub found_place : (b : Bool) (n i : ℕ) → cond b (Some n) None ≡ Some i → n ≡ i
+found_place true n i e = cc
+found_place false n i e = absurd cc
+
+pub no_place : (n m : ℕ) → cond (nat_lt n m) (Some n) None ≡ None → m ≤ n
+no_place n m e =
+    elim (cases_Bool (nat_lt n m)) [
+      | inl less ↦ absurd (let g = rw less at e in cc)
+      | inr h ↦ grind (arith, nat_tests)
+    ]
+
+module _ (name : List ℕ) where
+  place : List TubeRecord → ℕ
+  place es = position_or_len (λ t. is_same_name name t.name) es
+
+  module _ (f : Tally → Tally) where
+    -- the counts at the place of the entry are changed,
+    pub at_place : (es : List TubeRecord) (ts : List Tally) (d : Tally) → length ts ≡ length es
+        → slice_set ts (position_or_len (λ t. is_same_name name t.name) es) (f (slice_index_or ts (position_or_len (λ t. is_same_name name t.name) es) d)) ≡ tallies_at name f es ts
+    at_place [] [] d e = refl
+    at_place [] (x ∷ ts) d e = absurd (omega arith)
+    at_place (t ∷ es) [] d e = absurd (omega arith)
+    at_place (t ∷ es) (x ∷ ts) d e = go (is_same_name name t.name) (at_place es ts d (omega arith))
+      where
+        n : ℕ
+        n = position_or_len (λ t. is_same_name name t.name) es
+
+        go : (b : Bool) → slice_set ts n (f (slice_index_or ts n d)) ≡ tallies_at name f es ts
+            → slice_set (x ∷ ts) (cond (not b) (1 + n) 0) (f (slice_index_or (x ∷ ts) (cond (not b) (1 + n) 0) d)) ≡ (if b then f x ∷ ts else x ∷ tallies_at name f es ts)
+        go true rest = refl
+        go false rest = ap (λ k. slice_set (x ∷ ts) k (f (slice_index_or (x ∷ ts) k d))) (one_more n) ∙ ap (λ us. x ∷ us) rest
+
+    -- and none where there is no entry.
+    pub nowhere : (es : List TubeRecord) (ts : List Tally) → length ts ≡ length es → length es ≤ position_or_len (λ t. is_same_name name t.name) es → ts ≡ tallies_at name f es ts
+    nowhere [] ts e h = refl
+    nowhere (t ∷ es) [] e h = refl
+    nowhere (t ∷ es) (x ∷ ts) e h = go (is_same_name name t.name) (nowhere es ts (omega arith)) h
+      where
+        n : ℕ
+        n = position_or_len (λ t. is_same_name name t.name) es
+
+        go : (b : Bool) → (length es ≤ n → ts ≡ tallies_at name f es ts) → suc (length es) ≤ cond (not b) (1 + n) 0
+            → x ∷ ts ≡ (if b then f x ∷ ts else x ∷ tallies_at name f es ts)
+        go true rest g = absurd (omega arith)
+        go false rest g = ap (λ us. x ∷ us) (rest (omega arith))
+
+  -- the counts are read there
+  pub read_place : (es : List TubeRecord) (ts : List Tally) → length ts ≡ length es
+      → slice_index_or ts (position_or_len (λ t. is_same_name name t.name) es) (tally_of []) ≡ tally_at name es ts
+  read_place [] [] e = refl
+  read_place [] (x ∷ ts) e = absurd (omega arith)
+  read_place (t ∷ es) [] e = absurd (omega arith)
+  read_place (t ∷ es) (x ∷ ts) e = go (is_same_name name t.name) (read_place es ts (omega arith))
+    where
+      n : ℕ
+      n = position_or_len (λ t. is_same_name name t.name) es
+
+      go : (b : Bool) → slice_index_or ts n (tally_of []) ≡ tally_at name es ts → slice_index_or (x ∷ ts) (cond (not b) (1 + n) 0) (tally_of []) ≡ (if b then x else tally_at name es ts)
+      go true rest = refl
+      go false rest = ap (λ k. slice_index_or (x ∷ ts) k (tally_of [])) (one_more n) ∙ rest
+
+  pub read_nowhere : (es : List TubeRecord) (ts : List Tally) → length es ≤ position_or_len (λ t. is_same_name name t.name) es → tally_of [] ≡ tally_at name es ts
+  read_nowhere [] ts h = refl
+  read_nowhere (t ∷ es) [] h = refl
+  read_nowhere (t ∷ es) (x ∷ ts) h = go (is_same_name name t.name) (read_nowhere es ts) h
+    where
+      n : ℕ
+      n = position_or_len (λ t. is_same_name name t.name) es
+
+      go : (b : Bool) → (length es ≤ n → tally_of [] ≡ tally_at name es ts) → suc (length es) ≤ cond (not b) (1 + n) 0 → tally_of [] ≡ (if b then x else tally_at name es ts)
+      go true rest g = absurd (omega arith)
+      go false rest g = rest (omega arith)
+
+module _ (j : Job) (old new : List Job) (f : Tally → Tally)
+    (here : (t : TubeRecord) → is_same_name t.name j.tube ≡ true → tally_in new t ≡ f (tally_in old t))
+    (elsewhere : (t : TubeRecord) → is_same_name t.name j.tube ≡ false → tally_in new t ≡ tally_in old t) where
+  -- no later entry has the name of the first one
+  later_stay : (t : TubeRecord) → j.tube ≡ t.name → (es : List TubeRecord) → All (λ u. is_name_before t.name u.name ≡ true) es → tallies_of old es ≡ tallies_of new es
+  later_stay t is [] all = refl
+  later_stay t is (u ∷ es) all =
+      let apart : is_same_name u.name t.name ≡ false = not_same t.name u.name (is_same_name u.name t.name) refl all.0 in
+      let head = elsewhere u (ap (is_same_name u.name) is ∙ apart) in
+      λ i. sym head i ∷ later_stay t is es all.1 i
+
+  pub followed : (es : List TubeRecord) → AreInOrder es → tallies_at j.tube f es (tallies_of old es) ≡ tallies_of new es
+  followed [] order = refl
+  followed (t ∷ es) order =
+      elim (cases_Bool (is_same_name j.tube t.name)) [
+        | inl e ↦
+            let is : j.tube ≡ t.name = (bytes_decides j.tube t.name).0 e in
+            let back : is_same_name t.name j.tube ≡ true = (bytes_decides t.name j.tube).1 (sym is) in
+            rw e (λ i. sym (here t back) i ∷ later_stay t is es order.0 i)
+        | inr e ↦
+            let apart : is_same_name t.name j.tube ≡ false = turned (is_same_name t.name j.tube) refl e in
+            rw e (λ i. sym (elsewhere t apart) i ∷ followed es order.1 i)
+      ]
+    where
+      turned : (b : Bool) → is_same_name t.name j.tube ≡ b → is_same_name j.tube t.name ≡ false → b ≡ false
+      turned false g e = refl
+      turned true g e = let back : is_same_name j.tube t.name ≡ true = (bytes_decides j.tube t.name).1 (sym ((bytes_decides t.name j.tube).0 g)) in cc
+
+-- the counts of each tube, once a job comes
+pub tallies_added : (j : Job) (jobs : List Job) → length (with_added j jobs) ≤ greatest → (es : List TubeRecord) → AreInOrder es
+    → tallies_with j es (tallies_of jobs es) ≡ tallies_of (with_added j jobs) es
+tallies_added j jobs fits = followed j jobs (with_added j jobs) (tally_with j)
+    (λ t e. tally_added (λ k. is_same_name t.name k.tube) j jobs fits e) (λ t e. tally_stays_added (λ k. is_same_name t.name k.tube) j jobs e)
+
+-- or goes
+pub tallies_taken : (low next id : ℕ) (j : Job) (jobs : List Job) → AreIdsWithin low jobs next → job_with id jobs ≡ Some j → (es : List TubeRecord) → AreInOrder es
+    → tallies_without j es (tallies_of jobs es) ≡ tallies_of (without id jobs) es
+tallies_taken low next id j jobs ids found = followed j jobs (without id jobs) (tally_without j)
+    (λ t e. tally_taken (λ k. is_same_name t.name k.tube) low next id j jobs ids found e)
+    (λ t e. tally_stays_taken (λ k. is_same_name t.name k.tube) low next id j jobs ids found e)
+
+-- the counts of a tube hang on its name alone
+same_tallies : (f : TubeRecord → TubeRecord) → ((t : TubeRecord) → (f t).name ≡ t.name) → (jobs : List Job) (es : List TubeRecord) → tallies_of jobs es ≡ tallies_of jobs (map f es)
+same_tallies f same jobs [] = refl
+same_tallies f same jobs (t ∷ es) =
+    let head = ap (λ n. tally_of (filter (λ k. is_same_name n k.tube) jobs)) (sym (same t)) in
+    λ i. head i ∷ same_tallies f same jobs es i
+
+pub counted_kept : (f : TubeRecord → TubeRecord) → ((t : TubeRecord) → (f t).name ≡ t.name) → (tally : Tally) (tallies : List Tally) (jobs : List Job) (es : List TubeRecord)
+    → AreCounted tally tallies jobs es → AreCounted tally tallies jobs (map f es)
+counted_kept f same tally tallies jobs es was = record { whole = was.whole; each = was.each ∙ same_tallies f same jobs es }
+
+-- a tube that gets an entry has no job
+no_job_there : (name : List ℕ) (jobs : List Job) (es : List TubeRecord) → has_entry name es ≡ false → All (λ j. has_entry j.tube es ≡ true) jobs → filter (λ j. is_same_name name j.tube) jobs ≡ []
+no_job_there name [] es none all = refl
+no_job_there name (j ∷ jobs) es none all =
+    elim (cases_Bool (is_same_name name j.tube)) [
+      | inl e ↦
+          let is : name ≡ j.tube = (bytes_decides name j.tube).0 e in
+          let there : has_entry j.tube es ≡ false = ap (λ n. has_entry n es) (sym is) ∙ none in
+          absurd (let g = all.0 in cc)
+      | inr e ↦ rw e (no_job_there name jobs es none all.1)
+    ]
+
+inserted_tallies : (jobs : List Job) (es : List TubeRecord) (n : ℕ) (x : TubeRecord) → insert (tallies_of jobs es) n (tally_in jobs x) ≡ tallies_of jobs (insert es n x)
+inserted_tallies jobs es n x =
+    let f = tally_in jobs in
+    ap (λ ts. ts ++ f x ∷ drop n (map f es)) (take-map f n es) ∙ ap (λ ts. map f (take n es) ++ f x ∷ ts) (drop-map f n es) ∙ sym (map-append f (take n es) (x ∷ drop n es))
+
+pub removed_tallies : (jobs : List Job) (es : List TubeRecord) (n : ℕ) → remove (tallies_of jobs es) n ≡ tallies_of jobs (remove es n)
+removed_tallies jobs es n =
+    let f = tally_in jobs in
+    ap (λ ts. ts ++ drop (suc n) (map f es)) (take-map f n es) ∙ ap (λ ts. map f (take n es) ++ ts) (drop-map f (suc n) es) ∙ sym (map-append f (take n es) (drop (suc n) es))
+
+pub counted_provided : (name : List ℕ) (tally : Tally) (tallies : List Tally) (jobs : List Job) (es : List TubeRecord) → All (λ j. has_entry j.tube es ≡ true) jobs
+    → AreCounted tally tallies jobs es → AreCounted tally (tallies_provided name es tallies) jobs (provided name es)
+counted_provided name tally tallies jobs es all was = record { whole = was.whole; each = ap (tallies_provided name es) was.each ∙ go (has_entry name es) refl }
+  where
+    go : (b : Bool) → has_entry name es ≡ b → tallies_provided name es (tallies_of jobs es) ≡ tallies_of jobs (provided name es)
+    go true e = rw e refl
+    go false e =
+        let n = prefix_len (λ t. is_name_before t.name name) es in
+        let zero = ap tally_of (no_job_there name jobs es e all) in
+        let put : tallies_provided name es (tallies_of jobs es) ≡ insert (tallies_of jobs es) n (tally_of []) = rw e refl in
+        put ∙ ap (insert (tallies_of jobs es) n) (sym zero) ∙ inserted_tallies jobs es n (fresh_tube name) ∙ ap (tallies_of jobs) (provided_new name es e)
+
+-- a job comes,
+pub counted_added : (j : Job) (tally : Tally) (tallies : List Tally) (jobs : List Job) (es : List TubeRecord) → length (with_added j jobs) ≤ greatest → AreInOrder es
+    → AreCounted tally tallies jobs es → AreCounted (tally_with j tally) (tallies_with j es tallies) (with_added j jobs) es
+counted_added j tally tallies jobs es fits order was = record {
+  whole = ap (tally_with j) was.whole ∙ sym (whole_added j jobs fits);
+  each = ap (tallies_with j es) was.each ∙ tallies_added j jobs fits es order;
+}
+
+-- or goes
+pub counted_taken : (low next id : ℕ) (j : Job) (tally : Tally) (tallies : List Tally) (jobs : List Job) (es : List TubeRecord)
+    → AreIdsWithin low jobs next → job_with id jobs ≡ Some j → AreInOrder es
+    → AreCounted tally tallies jobs es → AreCounted (tally_without j tally) (tallies_without j es tallies) (without id jobs) es
+counted_taken low next id j tally tallies jobs es ids found order was = record {
+  whole = ap (tally_without j) was.whole ∙ sym (whole_taken low next id j jobs ids found);
+  each = ap (tallies_without j es) was.each ∙ tallies_taken low next id j jobs ids found es order;
+}
