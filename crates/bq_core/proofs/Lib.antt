@@ -1,8 +1,8 @@
 pub mod ActLemmas
-pub mod AskingLemmas
 pub mod DispatchLemmas
 pub mod DueLemmas
 pub mod FiringLemmas
+pub mod ForgettingLemmas
 pub mod KickLemmas
 pub mod LoopLemmas
 pub mod StateLemmas

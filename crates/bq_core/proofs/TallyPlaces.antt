@@ -1,23 +1,27 @@
 -- The counts of tubes stand at the places of their entries.
-use Rattle.std.proofs.Common.{◌≡◌, ◌∙◌, ◌+◌, ◌≤◌, ℕ, suc, Bool, true, false, cond, not, List, [], ◌∷◌, Option, Some, None, if◌then◌else◌, refl, sym, ap, arith, length, map, inl, inr}
-use Rattle.std.specs.Prelude.{◌++◌, nat_lt, filter, take, drop}
+use Rattle.std.proofs.Common.{◌≡◌, ◌∙◌, ◌+◌, ◌≤◌, ◌<◌, ◌||◌, slice_get, ℕ, zero, suc, Bool, true, false, cond, not, List, [], ◌∷◌, Option, Some, None, if◌then◌else◌, refl, sym, ap, arith, length, map, inl, inr}
+use Rattle.std.specs.Prelude.{◌++◌, nat_lt, count_by, filter, take, drop}
 use Rattle.std.proofs.lemmas.List.{drop-map, map-append, take-map}
-use Rattle.std.specs.List.{AllByRecursion as All, insert, position_or_len, prefix_len, remove, slice_index_or, slice_set}
+use Rattle.std.specs.List.{AllByRecursion as All, insert, list_any, position_or_len, prefix_len, remove, slice_index_or, slice_set}
 use Rattle.std.specs.Cmp.Lexicographic.{bytes_decides}
-use Rattle.std.proofs.lemmas.Bool.{cases_Bool}
+use Rattle.std.proofs.lemmas.Bool.{cases_Bool, lt-ltb, or_left, or_right}
 use Rattle.std.proofs.lemmas.Bool.Decides.{nat_tests}
 use Rattle.bq_job.specs.declared.job.Job.{Job}
-use Rattle.bq_job.specs.Changes.{job_with}
+use Rattle.bq_job.specs.declared.job.JobState.{JobState}
+use Rattle.bq_job.specs.declared.job.JobState.TheVariants as states
+use Rattle.bq_job.specs.Changes.{is_ready, is_ready_state, job_with}
+use Rattle.bq_job.specs.JobStates.{is_buried, is_delayed, is_reserved}
 use Rattle.bq_job.specs.Lawful.{AreIdsWithin}
 use Rattle.bq_job.specs.Limits.{greatest}
-use Rattle.bq_job.specs.Machine.{TubeRecord}
+use Rattle.bq_job.specs.Machine.{SeatRecord, TubeRecord}
 use Rattle.bq_job.specs.TubeName.{is_same_name}
 use Rattle.bq_job.specs.Tubes.{fresh_tube, is_name_before}
+use Rattle.bq_job.proofs.ListLemmas.{count_cons}
 use Rattle.bq_job.proofs.NameOrderLemmas.{not_same}
 use Rattle.bq_jobs.specs.Kept.{with_added, without}
 use Rattle.bq_core.specs.declared.tally.Tally.{Tally}
-use Rattle.bq_core.specs.Tallies.{AreCounted, tallies_at, tallies_of, tallies_provided, tallies_with, tallies_without, tally_at, tally_in, tally_of, tally_with, tally_without}
-use Rattle.bq_core.specs.TubeEntries.{AreInOrder, has_entry, provided}
+use Rattle.bq_core.specs.Tallies.{AreCounted, has_jobs, tallies_at, tallies_of, tallies_provided, tallies_with, tallies_without, tally_at, tally_in, tally_of, tally_with, tally_without}
+use Rattle.bq_core.specs.TubeEntries.{AreInOrder, has_entry, is_tube_of, is_tube_with, kept_if, provided}
 use Rattle.bq_core.proofs.TubeLemmas.{provided_new}
 use Rattle.bq_core.proofs.TallyLemmas.{tally_added, tally_stays_added, tally_stays_taken, tally_taken, whole_added, whole_taken}
 
@@ -202,3 +206,72 @@ counted_taken low next id j tally tallies jobs es ids found order was = record {
   whole = ap (tally_without j) was.whole ∙ sym (whole_taken low next id j jobs ids found);
   each = ap (tallies_without j es) was.each ∙ tallies_taken low next id j jobs ids found es order;
 }
+
+some_counted : (p : Job → Bool) (j : Job) (jobs : List Job) → p j ≡ true → nat_lt 0 (count_by p (j ∷ jobs)) ≡ true
+some_counted p j jobs e = rw (count_cons p j jobs, e) (lt-ltb 0 (1 + count_by p jobs) (omega arith))
+
+has_one : (j : Job) (jobs : List Job) → has_jobs (tally_of (j ∷ jobs)) ≡ true
+has_one j jobs = go j.state refl
+  where
+    counts : Tally
+    counts = tally_of (j ∷ jobs)
+
+    go : (state : JobState) → j.state ≡ state → has_jobs (tally_of (j ∷ jobs)) ≡ true
+    go states.Ready e = or_left (nat_lt 0 counts.ready) (nat_lt 0 counts.reserved || (nat_lt 0 counts.delayed || nat_lt 0 counts.buried)) (some_counted is_ready j jobs (ap is_ready_state e))
+    go (states.Reserved seat deadline) e = or_right (nat_lt 0 counts.ready) (nat_lt 0 counts.reserved || (nat_lt 0 counts.delayed || nat_lt 0 counts.buried)) (or_left (nat_lt 0 counts.reserved) (nat_lt 0 counts.delayed || nat_lt 0 counts.buried) (some_counted (λ k. is_reserved k.state) j jobs (ap is_reserved e)))
+    go (states.Delayed due) e = or_right (nat_lt 0 counts.ready) (nat_lt 0 counts.reserved || (nat_lt 0 counts.delayed || nat_lt 0 counts.buried)) (or_right (nat_lt 0 counts.reserved) (nat_lt 0 counts.delayed || nat_lt 0 counts.buried) (or_left (nat_lt 0 counts.delayed) (nat_lt 0 counts.buried) (some_counted (λ k. is_delayed k.state) j jobs (ap is_delayed e))))
+    go (states.Buried burial) e = or_right (nat_lt 0 counts.ready) (nat_lt 0 counts.reserved || (nat_lt 0 counts.delayed || nat_lt 0 counts.buried)) (or_right (nat_lt 0 counts.reserved) (nat_lt 0 counts.delayed || nat_lt 0 counts.buried) (or_right (nat_lt 0 counts.delayed) (nat_lt 0 counts.buried) (some_counted (λ k. is_buried k.state) j jobs (ap is_buried e))))
+
+-- a job is counted where there is one
+pub has_jobs_in : (name : List ℕ) (jobs : List Job) → has_jobs (tally_of (filter (λ j. is_same_name name j.tube) jobs)) ≡ list_any (λ j. is_same_name name j.tube) jobs
+has_jobs_in name [] = refl
+has_jobs_in name (j ∷ jobs) =
+    elim (cases_Bool (is_same_name name j.tube)) [
+      | inl e ↦ rw e (has_one j (filter (λ k. is_same_name name k.tube) jobs))
+      | inr e ↦ rw e (has_jobs_in name jobs)
+    ]
+
+tally_named : (name : List ℕ) (jobs : List Job) (es : List TubeRecord) → has_entry name es ≡ true
+    → tally_at name es (tallies_of jobs es) ≡ tally_of (filter (λ j. is_same_name name j.tube) jobs)
+tally_named name jobs [] h = absurd cc
+tally_named name jobs (t ∷ es) h =
+    elim (cases_Bool (is_same_name name t.name)) [
+      | inl e ↦
+          let is : name ≡ t.name = (bytes_decides name t.name).0 e in
+          rw e (ap (λ n. tally_of (filter (λ j. is_same_name n j.tube) jobs)) (sym is))
+      | inr e ↦ rw e (tally_named name jobs es (rw e at h))
+    ]
+
+tally_missing : (name : List ℕ) (jobs : List Job) (es : List TubeRecord) → has_entry name es ≡ false → tally_at name es (tallies_of jobs es) ≡ tally_of []
+tally_missing name jobs [] h = refl
+tally_missing name jobs (t ∷ es) h =
+    elim (cases_Bool (is_same_name name t.name)) [
+      | inl e ↦ absurd (let g = rw e at h in cc)
+      | inr e ↦ rw e (tally_missing name jobs es (rw e at h))
+    ]
+
+-- the counts that stand at a name are those of its jobs
+pub tally_there : (name : List ℕ) (jobs : List Job) (es : List TubeRecord) → All (λ j. has_entry j.tube es ≡ true) jobs
+    → tally_at name es (tallies_of jobs es) ≡ tally_of (filter (λ j. is_same_name name j.tube) jobs)
+tally_there name jobs es all = go (has_entry name es) refl
+  where
+    go : (b : Bool) → has_entry name es ≡ b → tally_at name es (tallies_of jobs es) ≡ tally_of (filter (λ j. is_same_name name j.tube) jobs)
+    go true e = tally_named name jobs es e
+    go false e = tally_missing name jobs es e ∙ ap tally_of (sym (no_job_there name jobs es e all))
+
+-- what stands at a place of the entries, and of their counts
+pub at_index : (jobs : List Job) (es : List TubeRecord) (i : ℕ) (x : TubeRecord) (t : Tally) → i < length es → x ≡ slice_index_or es i x → t ≡ slice_index_or (tallies_of jobs es) i t
+    → (slice_get es i ≡ Some x) × (t ≡ tally_in jobs x)
+at_index jobs [] i x t h p q = absurd (omega arith)
+at_index jobs (e ∷ es) zero x t h p q = (ap Some (sym p), q ∙ ap (tally_in jobs) (sym p))
+at_index jobs (e ∷ es) (suc i) x t h p q = at_index jobs es i x t (omega arith) p q
+
+-- whether the tube of the entry at this place exists, by its counts
+pub alive_there : (jobs : List Job) (seats : List SeatRecord) (es : List TubeRecord) (ts : List Tally) (i : ℕ) (x : TubeRecord) (t : Tally) (alive : Bool) → ts ≡ tallies_of jobs es
+    → i < length es → x ≡ slice_index_or es i x → t ≡ slice_index_or ts i t → alive ≡ is_tube_with (has_jobs t) seats x.name
+    → kept_if (λ u. is_tube_of jobs seats u.name) es i (slice_get es i) ≡ (if alive then es else remove es i)
+alive_there jobs seats es ts i x t alive counted h p q is =
+    let here = at_index jobs es i x t h p (q ∙ ap (λ us. slice_index_or us i t) counted) in
+    let some = ap has_jobs here.1 ∙ has_jobs_in x.name jobs in
+    let exists : is_tube_of jobs seats x.name ≡ alive = ap (λ b. is_tube_with b seats x.name) (sym some) ∙ sym is in
+    ap (kept_if (λ u. is_tube_of jobs seats u.name) es i) here.0 ∙ ap (λ b. if b then es else remove es i) exists

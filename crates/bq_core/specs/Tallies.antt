@@ -1,5 +1,5 @@
 -- How many of the jobs are in each state.
-use Rattle.std.specs.Prelude.{ℕ, Bool, true, false, ◌≡◌, ◌-◌, if◌then◌else◌, List, [], ◌∷◌, count_by, filter, map}
+use Rattle.std.specs.Prelude.{ℕ, Bool, true, false, ◌≡◌, ◌-◌, ◌||◌, nat_lt, if◌then◌else◌, List, [], ◌∷◌, count_by, filter, map}
 use Rattle.std.specs.List.{insert, prefix_len}
 use Rattle.bq_job.specs.declared.job.Job.{Job}
 use Rattle.bq_job.specs.Changes.{is_ready}
@@ -86,3 +86,7 @@ pub record AreCounted (tally : Tally) (tallies : List Tally) (jobs : List Job) (
 abbrev pub tallies_provided : List ℕ → List TubeRecord → List Tally → List Tally
 tallies_provided name entries tallies =
     if has_entry name entries then tallies else insert tallies (prefix_len (λ t. is_name_before t.name name) entries) (tally_of [])
+
+-- whether a job is counted
+abbrev pub has_jobs : Tally → Bool
+has_jobs t = nat_lt 0 t.ready || (nat_lt 0 t.reserved || (nat_lt 0 t.delayed || nat_lt 0 t.buried))

@@ -209,18 +209,6 @@ pub(crate) fn has(jobs: &mut Jobs, id: JobId, test: JobTest) -> bool
     }
 }
 
-/// Whether the job of this id is in the tube.
-pub(crate) fn is_in(jobs: &mut Jobs, id: JobId, tube: &TubeName) -> bool
-    ensures is { result ≡ is_passed_by (λ j. is_same_name tube.now j.tube) (job_with id jobs.old.jobs) }
-    ensures same { jobs.new ≡ record jobs.old { comparisons = jobs.new.comparisons } }
-    ensures comparisons { ComparesAtMost 1 jobs.old jobs.new }
-{
-    match jobs.get(id) {
-        None => false,
-        Some(job) => tube == &job.tube,
-    }
-}
-
 /// How long the client at the seat may hold the job of this id, in seconds, if it holds it.
 pub(crate) fn time_to_run(jobs: &mut Jobs, id: JobId, seat: Seat) -> Option<u32>
     ensures ttr { result ≡ ttr_held_by seat (job_with id jobs.old.jobs) }

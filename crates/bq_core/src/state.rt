@@ -274,13 +274,16 @@ pub(crate) fn ignore_tube(state: &mut State, seat: Seat, tube: &TubeName) -> u64
 }
 
 /// Whether the tube exists.
-pub(crate) fn is_tube(state: &mut State, tube: &TubeName) -> bool
-    requires { IsSound state.old }
-    ensures is { result ≡ is_tube_of (machine_of state.old).jobs (machine_of state.old).seats tube.now }
-    ensures same { OnlyCompares state.old state.new }
-    ensures sound { IsSound state.new }
+pub(crate) fn is_tube(state: &State, tube: &TubeName) -> bool
+    requires { IsSound state.now }
+    ensures { result ≡ is_tube_of (machine_of state.now).jobs (machine_of state.now).seats tube.now }
 {
-    tube_list::is_tube(&mut state.jobs, state.next_id, state.seats.as_slice(), tube)
+    tube_list::is_tube(
+        state.tubes.as_slice(),
+        state.tallies.as_slice(),
+        state.seats.as_slice(),
+        tube,
+    )
 }
 
 /// Drops the entries of tubes that are gone.
@@ -290,13 +293,7 @@ pub(crate) fn forget_tubes(state: &mut State)
     ensures sound { IsSound state.new }
     ensures config { state.new.config ≡ state.old.config }
 {
-    tube_list::forget(
-        &mut state.tubes,
-        &mut state.tallies,
-        &mut state.jobs,
-        state.next_id,
-        state.seats.as_slice(),
-    );
+    tube_list::forget(&mut state.tubes, &mut state.tallies, state.seats.as_slice());
 }
 
 /// A moment below the last one counts as that one.

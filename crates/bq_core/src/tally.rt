@@ -1,5 +1,5 @@
 ghost use Rattle.std.specs.Prelude.{◌≡◌};
-ghost use Rattle.bq_core.specs.Tallies.{tally_with, tally_without};
+ghost use Rattle.bq_core.specs.Tallies.{has_jobs, tally_with, tally_without};
 
 use bq_job::{Job, JobState, Pri};
 
@@ -18,6 +18,13 @@ pub(crate) struct Tally {
 }
 
 impl Tally {
+    /// Whether a job is counted.
+    pub(crate) fn has_jobs(&self) -> bool
+        ensures { result ≡ has_jobs self.now }
+    {
+        self.ready > 0 || self.reserved > 0 || self.delayed > 0 || self.buried > 0
+    }
+
     /// Counts a job.
     pub(crate) fn add(&mut self, job: &Job)
         ensures { self.new ≡ tally_with job.now self.old }

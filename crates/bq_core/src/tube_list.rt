@@ -1,6 +1,5 @@
-ghost use Rattle.std.specs.Prelude.{◌≡◌, ◌<◌, ◌&&◌, ◌∷◌, [], IfOk, filter, length, map, is_some, is_ok, not, slice_get, if◌then◌else◌, List};
+ghost use Rattle.std.specs.Prelude.{◌≡◌, ◌<◌, ◌≤◌, ◌&&◌, ◌∷◌, [], IfOk, filter, length, map, is_some, is_ok, not, slice_get, if◌then◌else◌, List};
 ghost use Rattle.std.specs.List.{list_any, position, prefix_len};
-ghost use Rattle.bq_job.specs.Lawful.{AreIdsWithin};
 ghost use Rattle.bq_job.specs.declared.job.Job.{Job};
 ghost use Rattle.bq_job.specs.Machine.{default_tube};
 ghost use Rattle.bq_job.specs.NextDue.{dues_of_pause, earliest};
@@ -8,16 +7,15 @@ ghost use Rattle.bq_job.specs.TubeCommands.{with_pause};
 ghost use Rattle.bq_job.specs.TubeName.{is_same_name};
 ghost use Rattle.bq_job.specs.Tubes.{fresh_tube, is_name_before, is_seated_at as seated_at};
 ghost use Rattle.bq_job.specs.Timers.{tube_after_timers};
-ghost use Rattle.bq_core.specs.Tallies.{tallies_of, tallies_provided};
-ghost use Rattle.bq_core.specs.TubeEntries.{has_entry, is_tube_of, kept_if, provided, tube_changed, tube_changed_at};
+ghost use Rattle.bq_core.specs.Tallies.{has_jobs, tallies_of, tallies_provided, tally_at};
+ghost use Rattle.bq_core.specs.TubeEntries.{has_entry, is_tube_of, is_tube_with, kept_if, provided, tube_changed, tube_changed_at};
 
-use crate::job_list;
 use crate::job_list::later;
 use crate::place::Place;
+use crate::tallies;
 use crate::tally::Tally;
 use crate::watch_list::default_tube;
-use bq_job::{JobId, Moment, NoMemory, TubeName};
-use bq_jobs::Jobs;
+use bq_job::{Moment, NoMemory, TubeName};
 use std::alloc::Global;
 use std::marker::Model;
 
@@ -262,20 +260,6 @@ pub(crate) fn first_entries(alloc: Global) -> Result<Vec<TubeEntry, Global>, NoM
     }
 }
 
-// Whether a job is in the tube. It asks for each id that was given.
-fn has_job_in(jobs: &mut Jobs, next_id: JobId, name: &TubeName) -> bool
-    requires { AreIdsWithin 1 jobs.old.jobs next_id }
-    ensures is { result ≡ list_any (λ j. is_same_name name.now j.tube) jobs.old.jobs }
-    ensures same { jobs.new ≡ record jobs.old { comparisons = jobs.new.comparisons } }
-{
-    for id in 1..next_id {
-        if job_list::is_in(jobs, id, name) {
-            return true;
-        }
-    }
-    false
-}
-
 // Whether an open seat uses or watches the tube.
 fn is_seated_at(seats: &[Place], name: &TubeName) -> bool
     ensures { result ≡ list_any (seated_at name.now) seats.now }
@@ -284,12 +268,25 @@ fn is_seated_at(seats: &[Place], name: &TubeName) -> bool
 }
 
 /// Whether the tube exists.
-pub(crate) fn is_tube(jobs: &mut Jobs, next_id: JobId, seats: &[Place], name: &TubeName) -> bool
-    requires { AreIdsWithin 1 jobs.old.jobs next_id }
-    ensures is { result ≡ is_tube_of jobs.old.jobs seats.now name.now }
-    ensures same { jobs.new ≡ record jobs.old { comparisons = jobs.new.comparisons } }
+pub(crate) fn is_tube(
+    tubes: &[TubeEntry],
+    tallies: &[Tally],
+    seats: &[Place],
+    name: &TubeName,
+) -> bool
+    requires { length tallies.now ≡ length tubes.now }
+    ensures { result ≡ is_tube_with (has_jobs (tally_at name.now tubes.now tallies.now)) seats.now name.now }
 {
-    *name == default_tube() || is_seated_at(seats, name) || has_job_in(jobs, next_id, name)
+    *name == default_tube()
+        || tallies::of(tallies, tubes, name).has_jobs()
+        || is_seated_at(seats, name)
+}
+
+// Whether the tube of an entry, with so many jobs, exists.
+fn is_alive(entry: &TubeEntry, tally: &Tally, seats: &[Place]) -> bool
+    ensures { result ≡ is_tube_with (has_jobs tally.now) seats.now entry.now.name }
+{
+    *entry.name() == default_tube() || tally.has_jobs() || is_seated_at(seats, entry.name())
 }
 
 // Drops the entry at place i where its tube is gone.
@@ -297,19 +294,16 @@ fn forget_at(
     tubes: &mut Vec<TubeEntry, Global>,
     tallies: &mut Vec<Tally, Global>,
     i: usize,
-    jobs: &mut Jobs,
-    next_id: JobId,
     seats: &[Place],
 )
     requires there { i < length tubes.old.items }
     requires aligned { length tallies.old.items ≡ length tubes.old.items }
-    requires ids { AreIdsWithin 1 jobs.old.jobs next_id }
-    ensures after { tubes.new.items ≡ kept_if (λ t. is_tube_of jobs.old.jobs seats.now t.name) tubes.old.items i (slice_get tubes.old.items i) }
+    ensures after { (jobs : List Job) → tallies.old.items ≡ tallies_of jobs tubes.old.items → tubes.new.items ≡ kept_if (λ t. is_tube_of jobs seats.now t.name) tubes.old.items i (slice_get tubes.old.items i) }
     ensures aligned { length tallies.new.items ≡ length tubes.new.items }
-    ensures tallies { (all : List Job) → tallies.old.items ≡ tallies_of all tubes.old.items → tallies.new.items ≡ tallies_of all tubes.new.items }
-    ensures same { jobs.new ≡ record jobs.old { comparisons = jobs.new.comparisons } }
+    ensures long { i ≤ length tubes.new.items }
+    ensures tallies { (jobs : List Job) → tallies.old.items ≡ tallies_of jobs tubes.old.items → tallies.new.items ≡ tallies_of jobs tubes.new.items }
 {
-    if !is_tube(jobs, next_id, seats, tubes[i].name()) {
+    if !is_alive(&tubes[i], &tallies[i], seats) {
         tubes.remove(i);
         tallies.remove(i);
     }
@@ -319,19 +313,15 @@ fn forget_at(
 pub(crate) fn forget(
     tubes: &mut Vec<TubeEntry, Global>,
     tallies: &mut Vec<Tally, Global>,
-    jobs: &mut Jobs,
-    next_id: JobId,
     seats: &[Place],
 )
-    requires aligned { length tallies.old.items ≡ length tubes.old.items }
-    requires ids { AreIdsWithin 1 jobs.old.jobs next_id }
-    ensures after { tubes.new.items ≡ filter (λ t. is_tube_of jobs.old.jobs seats.now t.name) tubes.old.items }
-    ensures tallies { (all : List Job) → tallies.old.items ≡ tallies_of all tubes.old.items → tallies.new.items ≡ tallies_of all tubes.new.items }
-    ensures same { jobs.new ≡ record jobs.old { comparisons = jobs.new.comparisons } }
+    requires { length tallies.old.items ≡ length tubes.old.items }
+    ensures after { (jobs : List Job) → tallies.old.items ≡ tallies_of jobs tubes.old.items → tubes.new.items ≡ filter (λ t. is_tube_of jobs seats.now t.name) tubes.old.items }
+    ensures tallies { (jobs : List Job) → tallies.old.items ≡ tallies_of jobs tubes.old.items → tallies.new.items ≡ tallies_of jobs tubes.new.items }
 {
     let mut i = tubes.len();
     while i > 0 {
         i -= 1;
-        forget_at(tubes, tallies, i, jobs, next_id, seats);
+        forget_at(tubes, tallies, i, seats);
     }
 }

@@ -1,14 +1,15 @@
-use Rattle.std.proofs.Common.{ap, ◌∙◌}
-use Rattle.bq_jobs.specs.Kept.{Kept}
-use Rattle.bq_core.specs.TubeEntries.{is_tube_of}
-use Rattle.bq_core.proofs.StateLemmas.{compared_sound}
+use Rattle.std.proofs.Common.{◌∙◌, ap}
+use Rattle.bq_core.specs.Tallies.{has_jobs, tally_at}
+use Rattle.bq_core.specs.TubeEntries.{is_tube_with}
+use Rattle.bq_core.proofs.TallyPlaces.{has_jobs_in, tally_there}
 use Rattle.bq_core.proofs.state.is_tube.Goals as goal
 
-pub returns-clause-is : goal.returns-clause-is
-returns-clause-is c = c.is_tube.ensures.is ∙ ap (λ seats. is_tube_of c.args.state.now.jobs.jobs seats c.args.tube.now) c.as_slice.ensures.value
-
-pub returns-clause-same : goal.returns-clause-same
-returns-clause-same c = ap (λ (k : Kept). record c.args.state.now { jobs = k }) c.is_tube.ensures.same
-
-pub returns-clause-sound : goal.returns-clause-sound
-returns-clause-sound c = compared_sound c.args.state.now _ (ap (λ (k : Kept). record c.args.state.now { jobs = k }) c.is_tube.ensures.same) c.requires
+pub returns : goal.returns
+returns c =
+    let s = c.args.state.now in
+    let name = c.args.tube.now in
+    let counted = ap (tally_at name s.tubes.items) c.requires.counts.each ∙ tally_there name s.jobs.jobs s.tubes.items c.requires.entries.of_jobs in
+    let some = ap has_jobs counted ∙ has_jobs_in name s.jobs.jobs in
+    c.is_tube.ensures
+    ∙ (λ i. is_tube_with (has_jobs (tally_at name (c.as_slice.ensures.value i) (c.as_slice-2.ensures.value i))) (c.as_slice-3.ensures.value i) name)
+    ∙ ap (λ b. is_tube_with b s.seats.items name) some

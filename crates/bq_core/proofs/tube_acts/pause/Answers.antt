@@ -1,10 +1,8 @@
-use Rattle.std.proofs.Common.{◌∙◌, ap, sym}
-use Rattle.bq_core.specs.TubeEntries.{has_entry}
+use Rattle.std.proofs.Common.{sym}
 use Rattle.bq_core.proofs.StateLemmas.{tube_has_entry}
 use Rattle.bq_core.proofs.tube_acts.pause.Goals as goal
 
 pub change_tube-requires-clause-entry : goal.change_tube-requires-clause-entry
 change_tube-requires-clause-entry c =
     let st = c.args.state.now in
-    ap (λ state. has_entry c.args.tube.now state.tubes.items) c.if-not-is_tube.ensures.same
-    ∙ tube_has_entry st.jobs.jobs st.seats.items st.tubes.items c.requires.entries c.args.tube.now (sym c.if-not-is_tube.ensures.is)
+    tube_has_entry st.jobs.jobs st.seats.items st.tubes.items c.requires.entries c.args.tube.now (sym c.if-not-is_tube.ensures)

@@ -8,10 +8,11 @@ use Rattle.bq_core.proofs.tube_list.forget.Given as goal
 abbrev pub invariant-loop-i : goal.invariant-loop-i
 invariant-loop-i l = record {
   within : l.i ≤ length l.fn.tubes.items;
-  left : l.tubes.items ≡ take l.i l.fn.tubes.items ++ filter (λ t. is_tube_of l.fn.jobs.jobs l.seats t.name) (drop l.i l.fn.tubes.items);
+  left : (jobs : List Job) → l.fn.tallies.items ≡ tallies_of jobs l.fn.tubes.items
+      → l.tubes.items ≡ take l.i l.fn.tubes.items ++ filter (λ t. is_tube_of jobs l.seats t.name) (drop l.i l.fn.tubes.items);
   aligned : length l.tallies.items ≡ length l.tubes.items;
-  tallies : (all : List Job) → l.fn.tallies.items ≡ tallies_of all l.fn.tubes.items → l.tallies.items ≡ tallies_of all l.tubes.items;
-  same : l.jobs ≡ record l.fn.jobs { comparisons = l.jobs.comparisons };
+  tallies : (jobs : List Job) → l.fn.tallies.items ≡ tallies_of jobs l.fn.tubes.items → l.tallies.items ≡ tallies_of jobs l.tubes.items;
+  long : l.i ≤ length l.tubes.items;
 }
 
 abbrev pub decreases-loop-i : goal.decreases-loop-i
