@@ -9,7 +9,6 @@ ghost use Rattle.std.specs.List.{list_any};
 ghost use Rattle.bq_job.specs.declared.job.Job.{Job};
 ghost use Rattle.bq_job.specs.Waits.{is_ending_lease};
 ghost use Rattle.bq_job.specs.Timers.{job_after_timers};
-ghost use Rattle.bq_job.specs.TubeName.{is_same_name};
 ghost use Rattle.bq_job.specs.JobCommands.{buried, delayed_by as delayed_for, kicked, released};
 ghost use Rattle.bq_jobs.specs.Kept.{ComparesAtMost};
 ghost use Rattle.bq_core.specs.EndingWaits.{is_lease_short};
