@@ -1,5 +1,5 @@
 -- What each event at a seat does, where its seat is known.
-use Rattle.std.proofs.Common.{◌≡◌, ℕ, suc, Bool, true, false, ◌+◌, ◌≤◌, ◌<◌, ◌&&◌, ◌||◌, ◌==◌, not, List, [], ◌∷◌, ◌++◌, Option, Some, None, is_some, map, filter, refl, sym, ap, ◌∙◌, if◌then◌else◌, nat_eq, nat_le, unwrap_or, arith, inl, inr, eq-eqb, subst, append-nil, ◌⊎◌, length, set, slice_get, zero}
+use Rattle.std.proofs.Common.{◌≡◌, ℕ, suc, Bool, true, false, ◌+◌, ◌<◌, ◌&&◌, ◌||◌, ◌==◌, not, List, [], ◌∷◌, ◌++◌, Option, Some, None, is_some, map, filter, refl, sym, ap, ◌∙◌, if◌then◌else◌, nat_le, arith, inl, inr, append-nil, length, set, slice_get, zero}
 use Rattle.std.proofs.Math.Bool.{or-false, or-true}
 use Rattle.std.specs.List.{find, list_any}
 use Rattle.std.proofs.lemmas.Bool.{and_parts, cases_Bool, eqb-true}
@@ -9,8 +9,10 @@ use Rattle.bq_job.specs.declared.job.Job.{Job}
 use Rattle.bq_job.specs.declared.step.Step.{Step}
 use Rattle.bq_job.specs.declared.step.Step.TheVariants as steps
 use Rattle.bq_job.specs.declared.request.Request.{Request}
-use Rattle.bq_job.specs.Acts.{Effect, on_job, silent, telling}
-use Rattle.bq_job.specs.Asked.{after_close, after_connect, asked, at_found, at_seat, effect, with_end}
+use Rattle.bq_job.specs.declared.request.Request.TheVariants as requests
+use Rattle.bq_core.specs.Stirring.{may_change, may_stir}
+use Rattle.bq_job.specs.Acts.{Effect, on_job, showing, silent, telling}
+use Rattle.bq_job.specs.Asked.{after_close, after_connect, asked, at_found, effect, with_end}
 use Rattle.bq_job.specs.Changes.{is_held_by, is_waiting, job_with, seat_with, with_job, with_seat}
 use Rattle.bq_job.specs.JobCommands.{after_delete, delete_effect, is_free_for, last_id, new_job, put_effect, reserve_job_effect, with_delete, with_put}
 use Rattle.bq_job.specs.Dispatch.{reserved_by}
@@ -19,7 +21,7 @@ use Rattle.bq_job.specs.TubeCommands.{ignore_effect, watch_effect, watching, wat
 use Rattle.bq_job.specs.Tubes.{watches, with_tube}
 use Rattle.bq_job.specs.Limits.{raised}
 use Rattle.bq_job.specs.Machine.{Machine, SeatRecord}
-use Rattle.bq_job.specs.Steps.{granted, growth_refused, share_refused, shares_body, step_takes_memory, may_be_left_out}
+use Rattle.bq_job.specs.Steps.{Memory, acted, granted, growth_refused, share_refused, shares_body}
 use Rattle.bq_job.specs.TubeName.{is_same_name}
 use Rattle.bq_core.specs.Acting.{Acts, is_asking, is_connected, is_free}
 use Rattle.bq_core.specs.JobChanges.{is_passed_by}
@@ -186,3 +188,58 @@ not_true false h = refl
 pub some_there : (o : Option Job) → is_some o ≡ true → (j : Job) × (o ≡ Some j)
 some_there None h = absurd cc
 some_there (Some j) h = (j, refl)
+
+-- what changes nothing by itself
+shown_same : (m : Machine) (o : Option Job) → (showing m o).machine ≡ m
+shown_same m None = refl
+shown_same m (Some j) = refl
+
+request_same : (request : Request) (m : Machine) (s : SeatRecord) → may_change request ≡ false → (asked request m s).machine ≡ m
+request_same (requests.Put pri delay ttr body) m s h = absurd cc
+request_same requests.Reserve m s h = absurd cc
+request_same (requests.ReserveWithTimeout seconds) m s h = absurd cc
+request_same (requests.ReserveJob id) m s h = absurd cc
+request_same (requests.Delete id) m s h = absurd cc
+request_same (requests.Release id pri delay) m s h = absurd cc
+request_same (requests.Bury id pri) m s h = absurd cc
+request_same (requests.Touch id) m s h = absurd cc
+request_same (requests.Kick bound) m s h = absurd cc
+request_same (requests.KickJob id) m s h = absurd cc
+request_same (requests.Use tube) m s h = absurd cc
+request_same requests.ListTubeUsed m s h = refl
+request_same (requests.Watch tube) m s h = absurd cc
+request_same (requests.Ignore tube) m s h = absurd cc
+request_same (requests.Peek id) m s h = shown_same m (job_with id m.jobs)
+request_same requests.PeekReady m s h = shown_same m _
+request_same requests.PeekDelayed m s h = shown_same m _
+request_same requests.PeekBuried m s h = shown_same m _
+request_same (requests.PauseTube tube delay) m s h = absurd cc
+request_same (requests.StatsJob id) m s h = absurd cc
+request_same (requests.StatsTube tube) m s h = absurd cc
+request_same requests.Stats m s h = absurd cc
+request_same requests.ListTubes m s h = absurd cc
+request_same requests.ListTubesWatched m s h = absurd cc
+request_same requests.Quit m s h = refl
+request_same (requests.Refused why) m s h = refl
+
+asked_same : (request : Request) (m : Machine) (o : Option SeatRecord) → may_change request ≡ false → (at_found (steps.Ask request) m o).machine ≡ m
+asked_same request m None h = refl
+asked_same request m (Some s) h = go (s.connected && not (is_waiting s))
+  where
+    go : (b : Bool) → (if b then asked request m s else silent m).machine ≡ m
+    go true = request_same request m s h
+    go false = refl
+
+effect_same : (m : Machine) (seat : ℕ) (what : Step) → may_stir what ≡ false → (effect m seat what).machine ≡ m
+effect_same m seat steps.Connect h = absurd cc
+effect_same m seat (steps.Ask request) h = asked_same request m (seat_with seat m.seats) h
+effect_same m seat steps.End h = absurd cc
+effect_same m seat steps.Close h = absurd cc
+effect_same m seat steps.Drain h = absurd cc
+effect_same m seat steps.Tick h = refl
+effect_same m seat steps.Gone h = refl
+
+pub acted_same : (memory : Memory) (m : Machine) (seat : ℕ) (what : Step) → may_stir what ≡ false → (acted memory m seat what).machine ≡ m
+acted_same granted m seat what h = effect_same m seat what h
+acted_same growth_refused m seat what h = refl
+acted_same share_refused m seat what h = refl

@@ -1,11 +1,11 @@
 -- Which job is handed out next, found tube by tube.
-use Rattle.std.proofs.Common.{◌≡◌, ℕ, Bool, true, false, ◌==◌, ◌||◌, ◌&&◌, not, List, [], ◌∷◌, Option, Some, None, is_some, refl, sym, ap, ◌∙◌, arith, inl, inr, if◌then◌else◌}
+use Rattle.std.proofs.Common.{◌≡◌, ℕ, Bool, true, false, ◌||◌, ◌&&◌, not, List, [], ◌∷◌, Option, Some, None, refl, sym, ap, ◌∙◌, arith, inl, inr, if◌then◌else◌}
 use Rattle.std.specs.Prelude.{fold, option_map}
-use Rattle.std.specs.List.{AllByRecursion as All, Contains, list_any}
+use Rattle.std.specs.List.{Contains, list_any}
 use Rattle.std.proofs.lemmas.Bool.{cases_Bool, or_cases, or_left, or_right}
 use Rattle.std.proofs.lemmas.Bool.Decides.{nat_tests}
 use Rattle.bq_job.specs.declared.job.Job.{Job}
-use Rattle.bq_job.specs.Changes.{first_of, is_pair_before, is_ready, is_waiting, job_with}
+use Rattle.bq_job.specs.Changes.{first_of, is_ready, is_waiting, job_with}
 use Rattle.bq_job.specs.Dispatch.{is_job_before, is_wait_before, is_waiting_for, may_have, next_job, next_seat}
 use Rattle.bq_job.specs.Lawful.{AreIdsWithin}
 use Rattle.bq_job.specs.Machine.{Machine, SeatRecord, TubeRecord}
@@ -15,7 +15,7 @@ use Rattle.bq_job.specs.Tubes.{is_paused}
 use Rattle.bq_job.proofs.ChoiceLemmas.{first_of_agrees, first_of_contains, first_of_is, first_of_is_least, first_of_none, first_of_none_passes, first_of_passes, pair_order}
 use Rattle.bq_job.proofs.ListLemmas.{all_always, all_at, all_weaker, list_any_not, none_pass}
 use Rattle.bq_jobs.specs.Kept.{ranked}
-use Rattle.bq_core.specs.Offers.{better_rank, earlier_of_ranks, is_paused_among, offered, waits_at, with_offer, with_offers}
+use Rattle.bq_core.specs.Offers.{better_rank, is_paused_among, offered, waits_at, with_offer, with_offers}
 use Rattle.bq_core.proofs.FiringLemmas.{chosen}
 use Rattle.bq_core.proofs.KickLemmas.{finds_each}
 use Rattle.bq_core.proofs.TubeLemmas.{same_itself, same_name}

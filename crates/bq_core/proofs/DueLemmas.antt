@@ -1,5 +1,5 @@
 -- The next due moment, out of those of jobs, tubes and seats.
-use Rattle.std.proofs.Common.{◌≡◌, ℕ, Bool, true, false, ◌++◌, ◌+◌, ◌-◌, ◌<◌, ◌≤◌, ◌==◌, ◌&&◌, ◌||◌, not, inl, inr, is_some, List, [], ◌∷◌, Option, Some, None, refl, sym, ap, ◌∙◌, arith, take, get_or, length, if◌then◌else◌}
+use Rattle.std.proofs.Common.{◌≡◌, ℕ, Bool, true, false, ◌++◌, ◌+◌, ◌-◌, ◌<◌, ◌≤◌, ◌==◌, ◌&&◌, ◌||◌, not, inl, inr, List, [], ◌∷◌, Option, Some, None, refl, sym, ap, ◌∙◌, arith, take, get_or, length, if◌then◌else◌}
 use Rattle.std.specs.Prelude.{flat_map, fold, min, nat_lt, option_map}
 use Rattle.std.specs.List.{AllByRecursion as All, Contains, list_all, list_any}
 use Rattle.std.proofs.lemmas.Bool.{cases_Bool}
@@ -15,8 +15,8 @@ use Rattle.bq_job.specs.OneClient.{is_waiting_at}
 use Rattle.bq_job.proofs.ChoiceLemmas.{first_of_contains, first_of_is_least, first_of_none, first_of_passes, pair_order}
 use Rattle.bq_job.proofs.ListLemmas.{all_at, all_from_members, all_pass, all_weaker, list_all_from, none_pass}
 use Rattle.bq_jobs.specs.Leases.{deadline_of, is_lease_before}
-use Rattle.bq_job.specs.NextDue.{dues_of_pause, dues_of_state, earlier, earliest, is_before}
-use Rattle.bq_core.specs.Dues.{earlier_of_both, jobs_due, warning_due, with_tube_due, with_warning_due}
+use Rattle.bq_job.specs.NextDue.{dues_of_pause, dues_of_state, earliest, is_before}
+use Rattle.bq_core.specs.Dues.{earlier_of_both, jobs_due, warning_due, with_warning_due}
 use Rattle.bq_core.specs.TubeEntries.{IsFreshUnlessCounted, counted, is_counted}
 
 no_other : (a : Option ℕ) → earlier_of_both a None ≡ a

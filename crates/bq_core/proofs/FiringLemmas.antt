@@ -1,6 +1,6 @@
 -- Timers of jobs fire one after another, and jobs are given back one after another.
-use Rattle.std.proofs.Common.{◌≡◌, ℕ, suc, Bool, true, false, ◌≤◌, ◌<◌, ◌+◌, ◌-◌, ◌==◌, ◌||◌, ◌&&◌, ◌^◌, List, [], ◌∷◌, Option, Some, None, cond, map, refl, sym, ap, ◌∙◌, arith, inl, inr, min, if◌then◌else◌}
-use Rattle.std.specs.Prelude.{IsTrue, count_by, nat_le, option_map}
+use Rattle.std.proofs.Common.{◌≡◌, ℕ, suc, Bool, true, false, ◌≤◌, ◌<◌, ◌+◌, ◌-◌, ◌==◌, ◌||◌, ◌&&◌, List, [], ◌∷◌, Option, Some, None, map, refl, sym, ap, ◌∙◌, arith, inl, inr, min, if◌then◌else◌}
+use Rattle.std.specs.Prelude.{count_by, nat_le, option_map}
 use Rattle.std.specs.List.{AllByRecursion as All, list_any}
 use Rattle.std.proofs.lemmas.Bool.{cases_Bool, eqb-true, or_left, or_right}
 use Rattle.std.proofs.lemmas.Bool.Decides.{nat_tests}
@@ -8,16 +8,17 @@ use Rattle.bq_job.specs.declared.job.Job.{Job}
 use Rattle.bq_job.specs.declared.job.JobState.{JobState}
 use Rattle.bq_job.specs.declared.job.JobState.TheVariants as states
 use Rattle.bq_job.specs.Changes.{first_of, given_back, in_state, is_held_by, is_holder, is_pair_before, is_waiting, job_with, with_job}
-use Rattle.bq_job.specs.JobStates.{due_of, is_delayed, is_due_before, is_reserved}
+use Rattle.bq_job.specs.JobStates.{due_of, is_delayed, is_reserved}
 use Rattle.bq_job.specs.Lawful.{AreIdsWithin}
 use Rattle.bq_job.specs.Limits.{greatest, grown, raised}
-use Rattle.bq_job.specs.Machine.{Machine, SeatRecord}
-use Rattle.bq_job.specs.Timers.{is_due, is_expired, job_after_timers, with_timeout}
-use Rattle.bq_job.specs.Dispatch.{is_wait_before}
+use Rattle.bq_job.specs.Machine.{Machine, Pause, SeatRecord, TubeRecord}
+use Rattle.bq_job.specs.Timers.{is_due, is_expired, job_after_timers, pause_after_timers, tube_after_timers, with_timeout}
+use Rattle.bq_job.specs.Dispatch.{is_wait_before, next_job}
+use Rattle.bq_core.specs.TubeEntries.{counted, is_counted, is_over, is_pause_over}
 use Rattle.bq_job.specs.Waits.{ends_waiting, is_deadline_soon, is_ending_lease, is_timed_out, is_timed_out_at, next_end}
 use Rattle.bq_core.specs.EndingWaits.{has_waited, is_lease_short}
 use Rattle.bq_job.proofs.ChoiceLemmas.{first_of_contains, first_of_is_least, first_of_none, first_of_none_passes, first_of_passes, pair_order}
-use Rattle.bq_job.proofs.ListLemmas.{all_always, all_at, all_from_members, all_weaker, count_all_not, count_cons, list_any_not, list_any_with, map_all_same, none_pass}
+use Rattle.bq_job.proofs.ListLemmas.{all_always, all_at, all_from_members, all_of_filter, all_weaker, count_all_not, count_cons, list_any_not, list_any_with, map_all_same, none_pass}
 use Rattle.bq_jobs.specs.Kept.{ranked}
 use Rattle.bq_jobs.specs.Leases.{deadline_of, is_lease_before}
 use Rattle.bq_core.specs.Firing.{ExpiresOne, IsOne, after_giving_back, after_job_timers, is_ripe}
@@ -335,3 +336,24 @@ none_ends m waited short =
     go : (s : SeatRecord) (w : Bool) → (w && is_timed_out_at m.moment s) ≡ false → (w && (is_deadline_soon m s || is_timed_out m s)) ≡ false
     go s true h = rw (soon_none s.number) h
     go s false h = refl
+
+-- no pause is over
+pub none_counted : (moment : ℕ) (entries : List TubeRecord) → list_any (is_pause_over moment) entries ≡ false → list_any (is_pause_over moment) (counted entries) ≡ false
+none_counted moment entries h =
+    list_any_not (is_pause_over moment) (counted entries)
+    (all_weaker (λ t. (is_pause_over moment t ≡ false) × (is_counted t ≡ true)) (λ t. is_pause_over moment t ≡ false) (counted entries) (λ t k. k.0) (all_of_filter (λ t. is_pause_over moment t ≡ false) is_counted entries (none_pass (is_pause_over moment) entries h)))
+
+pub no_pause_ends : (moment : ℕ) (tubes : List TubeRecord) → list_any (is_pause_over moment) tubes ≡ false → map (tube_after_timers moment) tubes ≡ tubes
+no_pause_ends moment tubes h = map_all_same (tube_after_timers moment) tubes (all_weaker (λ t. is_pause_over moment t ≡ false) (λ t. tube_after_timers moment t ≡ t) tubes (λ t none. stays t t.pause refl none) (none_pass (is_pause_over moment) tubes h))
+  where
+    stays : (t : TubeRecord) (p : Option Pause) → t.pause ≡ p → is_over moment p ≡ false → tube_after_timers moment t ≡ t
+    stays t None e h = ap (λ q. record t { pause = pause_after_timers moment q }) e ∙ ap (λ q. record t { pause = q }) (sym e)
+    stays t (Some p) e h =
+        let same : pause_after_timers moment (Some p) ≡ Some p = rw h refl in
+        ap (λ q. record t { pause = pause_after_timers moment q }) e ∙ ap (λ q. record t { pause = q }) (same ∙ sym e)
+
+-- where no timer of a job fired and no pause ended, the same job is next
+pub quiet_next : (m mid last : Machine) → mid ≡ after_job_timers m → mid.jobs ≡ m.jobs → last ≡ mid → next_job last ≡ next_job m
+quiet_next m mid last after jobs same =
+    let kept : map (job_after_timers m.moment) m.jobs ≡ m.jobs = sym (ap (λ (x : Machine). x.jobs) after) ∙ jobs in
+    ap next_job (same ∙ after) ∙ ap (λ js. next_job (record m { jobs = js })) kept

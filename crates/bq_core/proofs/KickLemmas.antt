@@ -1,5 +1,5 @@
 -- Kicking the first job of a kind again and again kicks the first ones in their order.
-use Rattle.std.proofs.Common.{◌≡◌, ℕ, zero, suc, Bool, true, false, ◌&&◌, ◌||◌, ◌==◌, ◌+◌, ◌≤◌, ◌<◌, not, List, [], ◌∷◌, Option, Some, None, map, filter, refl, sym, ap, ◌∙◌, if◌then◌else◌, inl, inr, arith, eq-eqb, length, take, is_some}
+use Rattle.std.proofs.Common.{◌≡◌, ℕ, zero, suc, Bool, true, false, ◌&&◌, ◌==◌, ◌+◌, ◌≤◌, ◌<◌, not, List, [], ◌∷◌, Option, Some, None, map, filter, refl, sym, ap, ◌∙◌, if◌then◌else◌, inl, inr, arith, eq-eqb, length, take, is_some}
 use Rattle.std.specs.Prelude.{option_map}
 use Rattle.std.specs.List.{AllByRecursion as All, Contains, list_any}
 use Rattle.std.proofs.lemmas.Bool.{and_from, cases_Bool, eqb-true, ne_eqb}
@@ -13,7 +13,7 @@ use Rattle.bq_job.proofs.ChoiceLemmas.{first_of_contains, first_of_is_least, fir
 use Rattle.bq_job.proofs.KeptLemmas.{ids_from_below, ids_of_filter}
 use Rattle.bq_job.proofs.ListLemmas.{all_at, all_from_members, list_any_with}
 use Rattle.bq_core.specs.declared.job_list.JobKind.{JobKind}
-use Rattle.bq_core.specs.declared.job_list.JobKind.TheVariants.{Ready, Delayed, Buried}
+use Rattle.bq_core.specs.declared.job_list.JobKind.TheVariants.{Delayed, Buried}
 use Rattle.bq_core.specs.JobKinds.{is_before_of, is_of, rank_of}
 use Rattle.bq_core.specs.Kicking.{KicksFirst, all_kicked, jobs_of}
 use Rattle.bq_core.proofs.ActLemmas.{none_left}

@@ -1,7 +1,6 @@
 -- What loops over lists keep from turn to turn.
-use Rattle.std.proofs.Common.{◌≡◌, ℕ, zero, suc, ◌+◌, ◌<◌, Bool, List, [], ◌∷◌, ◌++◌, Option, length, get_or, set, take, drop, map, refl, sym, ap, ◌∙◌, slice_get, cond, ◌&&◌, None, Some, arith, add-one}
+use Rattle.std.proofs.Common.{◌≡◌, ℕ, zero, suc, ◌+◌, ◌<◌, Bool, List, [], ◌∷◌, ◌++◌, Option, length, get_or, set, take, drop, map, refl, sym, ap, ◌∙◌, cond, ◌&&◌, None, Some, arith, add-one}
 use Rattle.std.specs.Prelude.{fold}
-use Rattle.std.proofs.lemmas.List.{length-append, length-map, length-take, length-drop}
 use Rattle.std.proofs.lemmas.List.Sums.{fold_more}
 use Rattle.std.proofs.lemmas.Option.{slice_get-get_or, slice_get_read}
 use Rattle.bq_job.specs.Changes.{better_of, first_of}

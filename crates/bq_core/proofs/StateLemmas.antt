@@ -1,10 +1,10 @@
 -- What changes of the state keep.
-use Rattle.std.proofs.Common.{◌≡◌, ℕ, zero, suc, Bool, true, false, ◌&&◌, ◌||◌, ◌==◌, not, List, [], ◌∷◌, ◌++◌, Option, Some, None, is_some, map, refl, sym, ap, ◌∙◌, if◌then◌else◌, subst, inl, inr, length, ◌≤◌, ◌<◌, ◌+◌, arith, cond, set, slice_get}
+use Rattle.std.proofs.Common.{◌≡◌, ℕ, zero, suc, Bool, true, false, ◌&&◌, ◌||◌, ◌==◌, List, [], ◌∷◌, ◌++◌, Option, Some, None, map, refl, sym, ap, ◌∙◌, if◌then◌else◌, subst, inl, inr, length, ◌≤◌, ◌<◌, ◌+◌, arith, set, slice_get}
 use Rattle.std.proofs.Math.Bool.{and-false}
 use Rattle.std.proofs.lemmas.Bool.Decides.{nat_tests}
 use Rattle.std.proofs.lemmas.List.{length-map}
-use Rattle.std.specs.Prelude.{filter, find, nat_lt, IfSome}
-use Rattle.std.specs.List.{AllByRecursion as All, Contains, list_any, list_all}
+use Rattle.std.specs.Prelude.{filter, nat_lt, IfSome}
+use Rattle.std.specs.List.{AllByRecursion as All, Contains, list_any}
 use Rattle.std.proofs.lemmas.Bool.{cases_Bool, eq-eqb, ne_eqb, or_cases, or_left, or_right, and_parts, and_from}
 use Rattle.bq_job.specs.declared.job.Job.{Job}
 use Rattle.bq_job.specs.Changes.{job_with, seat_with}

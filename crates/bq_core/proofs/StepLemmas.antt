@@ -1,5 +1,5 @@
 -- A whole step out of its parts.
-use Rattle.std.proofs.Common.{◌≡◌, ℕ, zero, suc, Bool, true, false, ◌+◌, ◌≤◌, ◌<◌, ◌&&◌, ◌||◌, ◌==◌, List, [], ◌∷◌, ◌++◌, map, length, refl, sym, ap, ◌∙◌, subst, if◌then◌else◌, arith, add-one, None, inl, inr}
+use Rattle.std.proofs.Common.{◌≡◌, ℕ, zero, suc, Bool, true, false, ◌+◌, ◌≤◌, ◌<◌, ◌||◌, ◌==◌, List, [], ◌∷◌, ◌++◌, map, length, refl, sym, ap, ◌∙◌, subst, if◌then◌else◌, arith, add-one, None, inl, inr}
 use Rattle.std.proofs.Math.Bool.{or-false}
 use Rattle.std.specs.Prelude.{filter}
 use Rattle.std.proofs.lemmas.List.{length-append, map-append}
@@ -12,7 +12,7 @@ use Rattle.bq_job.specs.declared.job.JobState.TheVariants as states
 use Rattle.bq_job.specs.Changes.{in_state, is_waiting, with_seat, without_wait}
 use Rattle.bq_job.specs.Computed.{waiting_count}
 use Rattle.bq_job.specs.Dispatch.{DispatchTurn, GivenAnswer, IsHandOut, after_hand_out, reserved_by}
-use Rattle.bq_job.specs.Lawful.{AreIdsWithin, IsLawful}
+use Rattle.bq_job.specs.Lawful.{IsLawful}
 use Rattle.bq_job.specs.Machine.{Machine, SeatRecord, TubeRecord, default_tube, empty_seat, numbers}
 use Rattle.bq_job.specs.Steps.{IsStep, acted, addressed, has_refused_share, is_growth_refused, is_share_refused}
 use Rattle.bq_job.specs.Timers.{after_timers, at_moment, is_due, is_expired, job_after_timers, tube_after_timers, with_timeout}
@@ -20,10 +20,12 @@ use Rattle.bq_job.specs.Tubes.{forgetting, is_seated_at, is_tube}
 use Rattle.bq_job.specs.Waits.{Chain, WaitEndTurn, next_end}
 use Rattle.bq_job.specs.Dispatch.{next_job}
 use Rattle.bq_job.specs.TubeName.{is_same_name}
-use Rattle.bq_job.proofs.ActLemmas.{answer_count}
 use Rattle.bq_job.proofs.DispatchLemmas.{turn_of}
 use Rattle.bq_job.proofs.KeptLemmas.{Keeps, kept_of_lawful}
-use Rattle.bq_job.proofs.LawfulLemmas.{end_of, kept_of_timers, only_tubes, leaves_acted, length_addressed, seats_many, served}
+use Rattle.bq_job.proofs.RecordLemmas.{Booked, booked_of_lawful, booked_timers}
+use Rattle.bq_core.specs.Stirring.{may_stir}
+use Rattle.bq_core.proofs.ActLemmas.{acted_same}
+use Rattle.bq_job.proofs.LawfulLemmas.{end_of, lawful_when_served, kept_of_timers, only_tubes, leaves_acted, length_addressed, seats_many, served}
 use Rattle.bq_core.specs.declared.state.State.{State}
 use Rattle.bq_core.specs.Acting.{Acts}
 use Rattle.bq_core.specs.Outbox.{Outbox}
@@ -246,8 +248,17 @@ whole_step first at seat what begun between asked new acted_state left last empt
     or_comm false true = refl
     or_comm false false = refl
 
--- before the command's own effect each job has its id
-pub ids_before_act : (first fired served_state : State) (at : ℕ) (begun between : Outbox) → IsLawful (machine_of first) → machine_of fired ≡ after_timers (at_moment at (machine_of first)) → ServesInto (machine_of fired) begun between (machine_of served_state) → AreIdsWithin 1 (machine_of served_state).jobs (machine_of served_state).next_id
-ids_before_act first fired served_state at begun between lawful fires serves =
-    let h = kept_of_timers at (machine_of first) (kept_of_lawful (machine_of first) lawful) in
-    (served (machine_of fired) serves.handed serves.ended (machine_of served_state) (subst Keeps (begins first fired at lawful fires) h) serves.serves).keeps.ids
+-- before the command's own effect the machine is lawful, as it is between steps
+lawful_before_act : (first fired served_state : State) (at : ℕ) (begun between : Outbox) → IsLawful (machine_of first) → machine_of fired ≡ after_timers (at_moment at (machine_of first)) → ServesInto (machine_of fired) begun between (machine_of served_state) → IsLawful (machine_of served_state)
+lawful_before_act first fired served_state at begun between lawful fires serves =
+    lawful_when_served (machine_of fired) serves.handed serves.ended (machine_of served_state)
+    (subst Keeps (begins first fired at lawful fires) (kept_of_timers at (machine_of first) (kept_of_lawful (machine_of first) lawful)))
+    (subst Booked (begins first fired at lawful fires) (booked_timers at (machine_of first) (booked_of_lawful (machine_of first) lawful)))
+    serves.serves
+
+-- where the command's own effect changes nothing, no client may have a job after it
+pub quiet_after_act : (first : State) (at seat : ℕ) (what : Step) (begun between asked : Outbox) (acted_state left : State) (b : Begun first at seat what begun between asked acted_state left) → may_stir what ≡ false → next_job (machine_of left) ≡ None
+quiet_after_act first at seat what begun between asked acted_state left b quiet =
+    let lawful = lawful_before_act first b.fired b.served_state at begun between b.lawful b.fires b.serves in
+    let same : machine_of acted_state ≡ machine_of b.served_state = b.acts.after ∙ acted_same b.acts.memory (machine_of b.served_state) seat what quiet in
+    ap next_job (b.forgotten ∙ ap forgetting same ∙ nothing_forgotten (machine_of b.served_state) lawful.tubes) ∙ lawful.dispatched

@@ -1,5 +1,5 @@
 -- What is kept of tubes: the entries and the machine's records of them.
-use Rattle.std.proofs.Common.{◌≡◌, ℕ, zero, suc, Bool, true, false, ◌&&◌, ◌||◌, ◌==◌, not, List, [], ◌∷◌, ◌++◌, Option, Some, None, is_some, map, refl, sym, ap, ◌∙◌, if◌then◌else◌, subst, inl, inr, length, ◌≤◌, ◌<◌, ◌⊎◌, ◌+◌, arith, cond}
+use Rattle.std.proofs.Common.{◌≡◌, ℕ, suc, Bool, true, false, ◌&&◌, ◌||◌, not, List, [], ◌∷◌, Some, None, is_some, map, refl, sym, ap, ◌∙◌, if◌then◌else◌, inl, inr, length, ◌≤◌, ◌<◌, ◌⊎◌, ◌+◌, arith, cond}
 use Rattle.std.proofs.Math.Bool.{or-false, or-true}
 use Rattle.std.specs.Prelude.{filter, find, unwrap_or}
 use Rattle.std.specs.List.{AllByRecursion as All, insert, list_any, position, position_or_len, prefix_len}

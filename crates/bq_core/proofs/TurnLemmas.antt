@@ -1,5 +1,5 @@
 -- A turn of dispatch or of the ends of waits, and chains of them.
-use Rattle.std.proofs.Common.{◌≡◌, ℕ, Bool, true, false, ◌+◌, ◌<◌, ◌≤◌, ◌||◌, List, [], ◌∷◌, ◌++◌, Option, Some, None, length, refl, sym, ap, ◌∙◌, arith, slice_get, append_assoc, append-nil, get_or, inl, inr, subst}
+use Rattle.std.proofs.Common.{◌≡◌, ℕ, Bool, true, false, ◌<◌, ◌||◌, List, [], ◌∷◌, ◌++◌, Option, Some, None, length, refl, sym, ap, ◌∙◌, arith, slice_get, append_assoc, append-nil, get_or, inl, inr, subst}
 use Rattle.std.proofs.Math.Bool.{or-false, or-true}
 use Rattle.std.proofs.lemmas.Option.{slice_get-get_or, slice_get_read}
 use Rattle.std.proofs.lemmas.List.{length-append}
@@ -16,7 +16,7 @@ use Rattle.bq_job.specs.Machine.{Machine, SeatRecord}
 use Rattle.bq_job.specs.Steps.{has_refused_share, is_out_of_memory}
 use Rattle.bq_job.specs.Waits.{Chain, WaitEndTurn, end_of_wait, ends_waiting, next_end}
 use Rattle.bq_job.proofs.ChoiceLemmas.{first_of_none_passes}
-use Rattle.bq_job.proofs.ComputedLemmas.{next_end_waits, next_has_seat, next_seat_waits, waiting_falls}
+use Rattle.bq_job.proofs.ComputedLemmas.{next_end_waits, next_seat_waits, waiting_falls}
 use Rattle.bq_core.specs.declared.state.State.{State}
 use Rattle.bq_core.specs.HandOuts.{AddsHandOut, HandsOut}
 use Rattle.bq_core.specs.Outbox.{Outbox}

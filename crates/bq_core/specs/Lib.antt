@@ -17,6 +17,7 @@ pub mod Putting
 pub mod SeatChanges
 pub mod Serving
 pub mod State
+pub mod Stirring
 pub mod Tallies
 pub mod Texts
 pub mod TubeEntries

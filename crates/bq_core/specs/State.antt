@@ -1,5 +1,5 @@
 -- The machine that a core stands for.
-use Rattle.std.specs.Prelude.{ℕ, Bool, false, ◌≡◌, ◌≤◌, map, length}
+use Rattle.std.specs.Prelude.{false, ◌≡◌, ◌≤◌, map, length}
 use Rattle.bq_job.specs.JobCommands.{last_id}
 use Rattle.bq_job.specs.Lawful.{AreIdsWithin}
 use Rattle.bq_job.specs.Machine.{Machine, Settings, numbers}

@@ -1,9 +1,10 @@
 -- What the core keeps of tubes: an entry for each that exists, so that nothing later wants memory.
-use Rattle.std.specs.Prelude.{ℕ, Bool, true, false, ◌≡◌, ◌&&◌, ◌||◌, ◌==◌, not, if◌then◌else◌, List, [], ◌∷◌, Option, Some, None, filter}
+use Rattle.std.specs.Prelude.{ℕ, Bool, true, false, ◌≡◌, ◌&&◌, ◌||◌, ◌==◌, not, nat_le, if◌then◌else◌, List, [], ◌∷◌, Option, Some, None, filter}
 use Rattle.std.specs.List.{AllByRecursion, list_any, remove}
 use Rattle.bq_job.specs.declared.job.Job.{Job}
 use Rattle.bq_job.specs.JobCommands.{with_put, with_delete}
 use Rattle.bq_job.specs.Machine.{SeatRecord, TubeRecord, default_tube}
+use Rattle.bq_job.specs.Machine.{Pause as PauseRecord}
 use Rattle.bq_job.specs.TubeCommands.{with_pause}
 use Rattle.bq_job.specs.TubeName.{is_same_name}
 use Rattle.bq_job.specs.Tubes.{fresh_tube, is_name_before, is_seated_at, with_record}
@@ -69,3 +70,11 @@ pub record AreEntries (jobs : List Job) (seats : List SeatRecord) (entries : Lis
 abbrev pub kept_if : {A : Type 0} → (A → Bool) → List A → ℕ → Option A → List A
 kept_if p xs i None = xs
 kept_if p xs i (Some x) = if p x then xs else remove xs i
+
+abbrev pub is_over : ℕ → Option PauseRecord → Bool
+is_over moment None = false
+is_over moment (Some pause) = nat_le pause.until moment
+
+-- the tube's pause ends now, or has ended
+abbrev pub is_pause_over : ℕ → TubeRecord → Bool
+is_pause_over moment t = is_over moment t.pause

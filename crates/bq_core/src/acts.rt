@@ -6,6 +6,7 @@ ghost use Rattle.bq_job.specs.Machine.{SeatRecord};
 ghost use Rattle.bq_job.specs.Steps.{step_takes_memory, takes_memory};
 ghost use Rattle.bq_core.specs.Acting.{Acts, Replies, is_asking, is_built, is_built_request};
 ghost use Rattle.bq_core.specs.State.{machine_of, IsSound};
+ghost use Rattle.bq_core.specs.Stirring.{may_change, may_stir};
 ghost use Rattle.bq_core.specs.Turns.{HasRoom};
 
 use crate::job_acts::{NewJob, NewTurn};
@@ -169,6 +170,33 @@ fn reply_to(state: &mut State, alloc: Global, seat: Seat, what: Step) -> Reply
             Reply::Silent
         }
         Step::Tick | Step::Gone => Reply::Silent,
+    }
+}
+
+// Whether the request changes jobs, seats or tubes, or may.
+fn may_change(request: &Request) -> bool
+    ensures { result ≡ may_change request.now }
+{
+    !matches!(
+        request,
+        Request::ListTubeUsed
+            | Request::Peek { .. }
+            | Request::PeekReady
+            | Request::PeekDelayed
+            | Request::PeekBuried
+            | Request::Quit
+            | Request::Refused(_)
+    )
+}
+
+/// Whether a client may have a job after the step that could not before it.
+pub(crate) fn may_stir(what: &Step) -> bool
+    ensures { result ≡ may_stir what.now }
+{
+    match what {
+        Step::Tick | Step::Gone => false,
+        Step::Ask(request) => may_change(request),
+        _ => true,
     }
 }
 

@@ -206,9 +206,9 @@ fn turn(state: &mut State, outs: &mut Outs) -> bool
     true
 }
 
-/// While some waiting client may have a ready job, the least of them goes to the client that has waited
-/// longest.
-pub(crate) fn dispatch(state: &mut State, outs: &mut Outs)
+// While some waiting client may have a ready job, the least of them goes to the client that has waited
+// longest.
+fn dispatch_all(state: &mut State, outs: &mut Outs)
     requires sound { IsSound state.old }
     requires room { HasRoom 0 (machine_of state.old) outs.old }
     ensures given { Gives DispatchTurn has_refused_share (machine_of state.old) (machine_of state.new) outs.old outs.new }
@@ -217,4 +217,20 @@ pub(crate) fn dispatch(state: &mut State, outs: &mut Outs)
     ensures config { state.new.config ≡ state.old.config }
 {
     while turn(state, outs) {}
+}
+
+/// While some waiting client may have a ready job, the least of them goes to the client that has waited
+/// longest. Where nothing has stirred, nobody may have one.
+pub(crate) fn dispatch(state: &mut State, outs: &mut Outs, has_stirred: bool)
+    requires sound { IsSound state.old }
+    requires room { HasRoom 0 (machine_of state.old) outs.old }
+    requires quiet { has_stirred ≡ false → next_job (machine_of state.old) ≡ None }
+    ensures given { Gives DispatchTurn has_refused_share (machine_of state.old) (machine_of state.new) outs.old outs.new }
+    ensures done { next_job (machine_of state.new) ≡ None }
+    ensures sound { IsSound state.new }
+    ensures config { state.new.config ≡ state.old.config }
+{
+    if has_stirred {
+        dispatch_all(state, outs);
+    }
 }

@@ -259,6 +259,6 @@ pub(crate) fn is_some_deadline_soon(jobs: &mut Jobs, moment: Moment) -> bool
     let _jobs = jobs.len();
     match jobs.next_deadline() {
         None => false,
-        Some((deadline, _)) => deadline.saturating_sub(1000) <= moment,
+        Some((first, _)) => first.saturating_sub(1000) <= moment,
     }
 }

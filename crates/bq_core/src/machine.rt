@@ -1,4 +1,5 @@
-ghost use Rattle.std.specs.Prelude.{◌≡◌, ◌<◌, ◌↔◌, not, IsTrue, IfOk, IsErrOf};
+ghost use Rattle.std.specs.Prelude.{◌≡◌, ◌<◌, ◌↔◌, None, false, not, IsTrue, IfOk, IsErrOf};
+ghost use Rattle.bq_job.specs.Dispatch.{next_job};
 ghost use Rattle.bq_job.specs.Lawful.{IsLawful};
 ghost use Rattle.bq_job.specs.Machine.{new_machine};
 ghost use Rattle.bq_job.specs.NextDue.{next_due};
@@ -43,15 +44,16 @@ impl Model for Core {
 }
 
 // Jobs are dispatched, and then waits end.
-fn serve(state: &mut State, outs: &mut Outs)
+fn serve(state: &mut State, outs: &mut Outs, has_stirred: bool)
     requires sound { IsSound state.old }
+    requires quiet { has_stirred ≡ false → next_job (machine_of state.old) ≡ None }
     requires tubes { NoneIsGone (machine_of state.old) }
     requires room { HasRoom 0 (machine_of state.old) outs.old }
     ensures served { ServesInto (machine_of state.old) outs.old outs.new (machine_of state.new) }
     ensures sound { IsSound state.new }
     ensures config { state.new.config ≡ state.old.config }
 {
-    dispatch::dispatch(state, outs);
+    dispatch::dispatch(state, outs, has_stirred);
     waits::end_waits(state, outs);
 }
 
@@ -68,11 +70,12 @@ fn take_step(state: &mut State, alloc: Global, at: Moment, seat: Seat, what: Ste
 {
     outs.begin();
     state::raise_moment(state, at);
-    timers::fire(state);
-    serve(state, outs);
+    let has_fired = timers::fire(state);
+    serve(state, outs, has_fired);
+    let has_stirred = acts::may_stir(&what);
     acts::act(state, alloc, seat, what, outs);
     state::forget_tubes(state);
-    serve(state, outs);
+    serve(state, outs, has_stirred);
 }
 
 fn is_seat_count(seats: u16) -> bool

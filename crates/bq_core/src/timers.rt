@@ -1,6 +1,7 @@
 //! Timers that are due fire.
 ghost use Rattle.std.specs.Prelude.{◌≡◌, ◌<◌, true, false, IfSome, None, count_by, if◌then◌else◌};
 ghost use Rattle.std.specs.List.{list_any};
+ghost use Rattle.bq_job.specs.Dispatch.{next_job};
 ghost use Rattle.bq_job.specs.Timers.{after_timers, is_due, is_expired};
 ghost use Rattle.bq_core.specs.Firing.{ExpiresOne, IsOne, after_job_timers, is_ripe, with_pauses_ended};
 ghost use Rattle.bq_core.specs.State.{machine_of, IsSound};
@@ -78,6 +79,7 @@ fn times(happened: bool) -> u64
 fn expire(state: &mut State) -> bool
     requires { IsSound state.old }
     ensures done { result ≡ false → list_any (λ j. is_due state.old.moment j.state) (machine_of state.old).jobs ≡ false → machine_of state.new ≡ after_job_timers (machine_of state.old) }
+    ensures same { result ≡ false → (machine_of state.new).jobs ≡ (machine_of state.old).jobs }
     ensures fired { after_job_timers (machine_of state.new) ≡ after_job_timers (machine_of state.old) }
     ensures fewer { result ≡ true → count_by (is_ripe state.old.moment) (machine_of state.new).jobs < count_by (is_ripe state.old.moment) (machine_of state.old).jobs }
     ensures sound { IsSound state.new }
@@ -92,6 +94,7 @@ fn expire(state: &mut State) -> bool
 fn fire_one(state: &mut State) -> bool
     requires { IsSound state.old }
     ensures done { result ≡ false → machine_of state.new ≡ after_job_timers (machine_of state.old) }
+    ensures same { result ≡ false → (machine_of state.new).jobs ≡ (machine_of state.old).jobs }
     ensures fired { after_job_timers (machine_of state.new) ≡ after_job_timers (machine_of state.old) }
     ensures fewer { result ≡ true → count_by (is_ripe state.old.moment) (machine_of state.new).jobs < count_by (is_ripe state.old.moment) (machine_of state.old).jobs }
     ensures sound { IsSound state.new }
@@ -100,8 +103,8 @@ fn fire_one(state: &mut State) -> bool
     ripen(state) || expire(state)
 }
 
-// The timers of jobs fire.
-fn fire_jobs(state: &mut State)
+// The timers of jobs fire that are left to fire.
+fn fire_more(state: &mut State)
     requires { IsSound state.old }
     ensures after { machine_of state.new ≡ after_job_timers (machine_of state.old) }
     ensures sound { IsSound state.new }
@@ -110,23 +113,46 @@ fn fire_jobs(state: &mut State)
     while fire_one(state) {}
 }
 
-// Pauses end.
-fn end_pauses(state: &mut State)
+// The timers of jobs fire. Tells whether one did.
+fn fire_jobs(state: &mut State) -> bool
     requires { IsSound state.old }
-    ensures after { machine_of state.new ≡ with_pauses_ended (machine_of state.old) }
+    ensures after { machine_of state.new ≡ after_job_timers (machine_of state.old) }
+    ensures same { result ≡ false → (machine_of state.new).jobs ≡ (machine_of state.old).jobs }
     ensures sound { IsSound state.new }
     ensures config { state.new.config ≡ state.old.config }
 {
-    tube_list::fire_timers(&mut state.tubes, state.moment);
+    if fire_one(state) {
+        fire_more(state);
+        true
+    } else {
+        false
+    }
 }
 
-/// Timers that are due fire.
-pub(crate) fn fire(state: &mut State)
+// Pauses end. Tells whether one did.
+fn end_pauses(state: &mut State) -> bool
     requires { IsSound state.old }
-    ensures after { machine_of state.new ≡ after_timers (machine_of state.old) }
+    ensures after { machine_of state.new ≡ with_pauses_ended (machine_of state.old) }
+    ensures same { result ≡ false → machine_of state.new ≡ machine_of state.old }
     ensures sound { IsSound state.new }
     ensures config { state.new.config ≡ state.old.config }
 {
-    fire_jobs(state);
-    end_pauses(state);
+    if !tube_list::is_some_pause_over(state.tubes.as_slice(), state.moment) {
+        return false;
+    }
+    tube_list::fire_timers(&mut state.tubes, state.moment);
+    true
+}
+
+/// Timers that are due fire. Tells whether something may have become ready by that, or can be had now.
+pub(crate) fn fire(state: &mut State) -> bool
+    requires { IsSound state.old }
+    ensures after { machine_of state.new ≡ after_timers (machine_of state.old) }
+    ensures quiet { result ≡ false → next_job (machine_of state.new) ≡ next_job (machine_of state.old) }
+    ensures sound { IsSound state.new }
+    ensures config { state.new.config ≡ state.old.config }
+{
+    let has_fired = fire_jobs(state);
+    let has_ended = end_pauses(state);
+    has_fired || has_ended
 }

@@ -8,7 +8,7 @@ ghost use Rattle.bq_job.specs.TubeName.{is_same_name};
 ghost use Rattle.bq_job.specs.Tubes.{fresh_tube, is_name_before, is_seated_at as seated_at};
 ghost use Rattle.bq_job.specs.Timers.{tube_after_timers};
 ghost use Rattle.bq_core.specs.Tallies.{has_jobs, tallies_of, tallies_provided, tally_at};
-ghost use Rattle.bq_core.specs.TubeEntries.{has_entry, is_tube_of, is_tube_with, kept_if, provided, tube_changed, tube_changed_at};
+ghost use Rattle.bq_core.specs.TubeEntries.{has_entry, is_pause_over, is_tube_of, is_tube_with, kept_if, provided, tube_changed, tube_changed_at};
 
 use crate::job_list::later;
 use crate::place::Place;
@@ -158,6 +158,15 @@ impl TubeEntry {
         }
     }
 
+    fn is_pause_over(&self, moment: Moment) -> bool
+        ensures { result ≡ is_pause_over moment self.now }
+    {
+        match &self.pause {
+            None => false,
+            Some(pause) => pause.until <= moment,
+        }
+    }
+
     fn fire_timer(&mut self, moment: Moment)
         ensures { self.new ≡ tube_after_timers moment self.old }
     {
@@ -177,6 +186,13 @@ pub(crate) fn change_at(tubes: &mut Vec<TubeEntry, Global>, name: &TubeName, wha
     for entry in tubes.iter_mut() {
         entry.change_if(name, what);
     }
+}
+
+/// Whether some pause is over.
+pub(crate) fn is_some_pause_over(tubes: &[TubeEntry], moment: Moment) -> bool
+    ensures { result ≡ list_any (is_pause_over moment) tubes.now }
+{
+    tubes.iter().any(|entry| entry.is_pause_over(moment))
 }
 
 /// Pauses that are over end.

@@ -16,7 +16,7 @@ pub returns-in-Some-clause-soon : goal.returns-in-Some-clause-soon
 returns-in-Some-clause-soon c =
     let jobs = c.args.jobs.now.jobs in
     let q : ℕ → Job → Bool = λ t j. is_reserved j.state && nat_le (deadline_of j.state) t in
-    let d = c.in-Some.deadline in
+    let d = c.in-Some.first in
     let t = c.args.moment + 1000 in
     let told = c.in-Some.ensures.rank in
     soon_told d c.args.moment c.saturating_sub.result c.saturating_sub.ensures

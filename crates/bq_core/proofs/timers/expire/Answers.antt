@@ -26,3 +26,6 @@ returns-clause-fewer c e =
     let m = machine_of c.args.state.now in
     let x = c.expire_first-expired.ensures.one e in
     subst (λ (n : Machine). count_by (is_ripe m.moment) n.jobs < count_by (is_ripe m.moment) m.jobs) (sym x.after) (fewer_expired m x.id c.requires.ids x.one)
+
+pub returns-clause-same : goal.returns-clause-same
+returns-clause-same c e = ap (λ (x : Machine). x.jobs) (c.expire_first-expired.ensures.none e).1

@@ -10,3 +10,6 @@ returns-else-ripen-clause-done c e =
     let same = c.ripen.ensures.same c.if-ripen.false in
     c.expire.ensures.done e (subst (λ (x : Machine). list_any (λ j. is_due x.moment j.state) x.jobs ≡ false) (sym same) (c.ripen.ensures.done c.if-ripen.false))
     ∙ ap after_job_timers same
+
+pub returns-else-ripen-clause-same : goal.returns-else-ripen-clause-same
+returns-else-ripen-clause-same c e = c.expire.ensures.same e ∙ ap (λ (x : Machine). x.jobs) (c.ripen.ensures.same c.if-ripen.false)

@@ -1,4 +1,4 @@
-use Rattle.std.proofs.Common.{◌≡◌, ◌∙◌, ap, refl, subst, sym}
+use Rattle.std.proofs.Common.{◌∙◌, ap, refl, subst, sym}
 use Rattle.bq_job.specs.Machine.{Machine}
 use Rattle.bq_job.specs.Waits.{WaitEndTurn, next_end}
 use Rattle.bq_core.specs.State.{machine_of}

@@ -1,4 +1,4 @@
-use Rattle.std.proofs.Common.{◌≡◌, ◌∙◌, ap, sym}
+use Rattle.std.proofs.Common.{◌∙◌, ap, sym}
 use Rattle.std.specs.List.{list_any}
 use Rattle.bq_jobs.specs.Kept.{Kept}
 use Rattle.bq_core.specs.EndingWaits.{has_waited}

@@ -5,7 +5,7 @@ use Rattle.bq_job.specs.Dispatch.{DispatchTurn}
 use Rattle.bq_job.specs.Steps.{has_refused_share}
 use Rattle.bq_core.specs.State.{IsSound, machine_of}
 use Rattle.bq_core.specs.Turns.{Gives, HasRoom}
-use Rattle.bq_core.proofs.dispatch.dispatch.Given as goal
+use Rattle.bq_core.proofs.dispatch.dispatch_all.Given as goal
 
 abbrev pub invariant-loop : goal.invariant-loop
 invariant-loop l = record {
