@@ -4,8 +4,10 @@ ghost use Rattle.bq_job.specs.History.{LineOver};
 ghost use Rattle.bq_serve.specs.Doors.{IsLeftBy, IsOpened};
 
 pub use mem_door::MemDoor;
+pub use tcp_door::TcpDoor;
 
 mod mem_door;
+mod tcp_door;
 
 use crate::line::Line;
 use bq_job::LineEnd;

@@ -1,7 +1,7 @@
 //! Serving clients over lines of bytes.
 #![tactic(auto)]
 
-pub use door::{Door, DoorFault, MemDoor};
+pub use door::{Door, DoorFault, MemDoor, TcpDoor};
 pub use fault::RunFault;
 pub use locked::Locked;
 pub use run::{One, Run, run_one, run_sessions};
