@@ -18,7 +18,9 @@ use Rattle.bq_job.specs.JobCommands.{after_delete, delete_effect, is_free_for, l
 use Rattle.bq_job.specs.Dispatch.{reserved_by}
 use Rattle.bq_job.specs.JobStates.{is_reserved}
 use Rattle.bq_job.specs.TubeCommands.{ignore_effect, watch_effect, watching, watching_or_refused}
-use Rattle.bq_job.specs.Tubes.{watches, with_tube}
+use Rattle.bq_job.specs.Statistics.{tube_statistics}
+use Rattle.bq_job.specs.StatisticsCommands.{job_statistics_or_not}
+use Rattle.bq_job.specs.Tubes.{is_tube, watches, with_tube}
 use Rattle.bq_job.specs.Limits.{raised}
 use Rattle.bq_job.specs.Machine.{Machine, SeatRecord}
 use Rattle.bq_job.specs.Steps.{Memory, acted, granted, growth_refused, share_refused, shares_body}
@@ -194,6 +196,15 @@ shown_same : (m : Machine) (o : Option Job) → (showing m o).machine ≡ m
 shown_same m None = refl
 shown_same m (Some j) = refl
 
+job_told_same : (m : Machine) (o : Option Job) → (job_statistics_or_not m o).machine ≡ m
+job_told_same m None = refl
+job_told_same m (Some j) = refl
+
+tube_told_same : (m : Machine) (tube : List ℕ) (exists : Bool)
+    → (if exists then telling (answers.Ok (tube_statistics tube m)) m else telling answers.NotFound m).machine ≡ m
+tube_told_same m tube true = refl
+tube_told_same m tube false = refl
+
 request_same : (request : Request) (m : Machine) (s : SeatRecord) → may_change request ≡ false → (asked request m s).machine ≡ m
 request_same (requests.Put pri delay ttr body) m s h = absurd cc
 request_same requests.Reserve m s h = absurd cc
@@ -214,11 +225,11 @@ request_same requests.PeekReady m s h = shown_same m _
 request_same requests.PeekDelayed m s h = shown_same m _
 request_same requests.PeekBuried m s h = shown_same m _
 request_same (requests.PauseTube tube delay) m s h = absurd cc
-request_same (requests.StatsJob id) m s h = absurd cc
-request_same (requests.StatsTube tube) m s h = absurd cc
-request_same requests.Stats m s h = absurd cc
-request_same requests.ListTubes m s h = absurd cc
-request_same requests.ListTubesWatched m s h = absurd cc
+request_same (requests.StatsJob id) m s h = job_told_same m (job_with id m.jobs)
+request_same (requests.StatsTube tube) m s h = tube_told_same m tube (is_tube tube m)
+request_same requests.Stats m s h = refl
+request_same requests.ListTubes m s h = refl
+request_same requests.ListTubesWatched m s h = refl
 request_same requests.Quit m s h = refl
 request_same (requests.Refused why) m s h = refl
 

@@ -5,6 +5,7 @@ pub mod FiringLemmas
 pub mod ForgettingLemmas
 pub mod KickLemmas
 pub mod LoopLemmas
+pub mod NameLemmas
 pub mod StateLemmas
 pub mod StepLemmas
 pub mod TallyLemmas

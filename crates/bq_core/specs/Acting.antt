@@ -1,22 +1,13 @@
 -- The command's own effect, as the core carries it out.
 use Rattle.std.specs.Prelude.{ℕ, Bool, false, ◌≡◌, ◌&&◌, ◌||◌, ◌++◌, not, IsTrue, Option, Some, None}
-use Rattle.bq_job.specs.declared.request.Request.{Request}
 use Rattle.bq_job.specs.declared.step.Step.{Step}
 use Rattle.bq_job.specs.Acts.{Effect}
 use Rattle.bq_job.specs.Changes.{is_waiting}
 use Rattle.bq_job.specs.Machine.{Machine, SeatRecord}
-use Rattle.bq_job.specs.SoFar.{is_so_far, is_step_so_far}
 use Rattle.bq_job.specs.Steps.{Memory, acted, addressed, is_growth_refused, is_possible, is_share_refused, shares_body, may_be_left_out}
 use Rattle.bq_core.specs.declared.reply.Reply.{Reply}
 use Rattle.bq_core.specs.declared.reply.Reply.TheVariants.{Silent, Told, LeftOut, Unshared}
 use Rattle.bq_core.specs.Outbox.{Outbox}
-
--- the requests and steps that the core can carry out so far
-abbrev pub is_built_request : Request → Bool
-is_built_request request = is_so_far request
-
-abbrev pub is_built : Step → Bool
-is_built step = is_step_so_far step
 
 -- nobody is connected there
 abbrev pub is_free : Option SeatRecord → Bool

@@ -1,6 +1,7 @@
 -- Texts of statistics and lists.
-use Rattle.std.specs.Prelude.{ℕ, ◌≡◌, ◌≤◌, ◌^◌, List, Option, Some, None, decimal, length, map}
+use Rattle.std.specs.Prelude.{ℕ, Bool, false, ◌≡◌, ◌≤◌, ◌^◌, List, Option, Some, None, decimal, length, map}
 use Rattle.std.specs.Borrow.{Bor}
+use Rattle.bq_job.specs.TubeName.{is_same_name}
 use Rattle.bq_core.specs.declared.texts.key_value.Value.{Value}
 use Rattle.bq_core.specs.declared.texts.key_value.Value.TheVariants.{Number, Word}
 
@@ -21,3 +22,8 @@ IsSizeOf bytes (Some size) = size ≡ length bytes
 -- the names that are pointed at
 abbrev pub names_of : List (Bor (List ℕ)) → List (List ℕ)
 names_of names = map (λ name. name.now) names
+
+-- a name is pointed at, and it is this one
+abbrev pub is_named : List ℕ → Option (Bor (List ℕ)) → Bool
+is_named name None = false
+is_named name (Some other) = is_same_name name other.now

@@ -1,5 +1,5 @@
 -- What the core keeps of tubes: an entry for each that exists, so that nothing later wants memory.
-use Rattle.std.specs.Prelude.{ℕ, Bool, true, false, ◌≡◌, ◌&&◌, ◌||◌, ◌==◌, not, nat_le, if◌then◌else◌, List, [], ◌∷◌, Option, Some, None, filter}
+use Rattle.std.specs.Prelude.{ℕ, Bool, true, false, ◌≡◌, ◌&&◌, ◌||◌, ◌==◌, not, nat_le, if◌then◌else◌, List, [], ◌∷◌, Option, Some, None, filter, map}
 use Rattle.std.specs.List.{AllByRecursion, list_any, remove}
 use Rattle.bq_job.specs.declared.job.Job.{Job}
 use Rattle.bq_job.specs.JobCommands.{with_put, with_delete}
@@ -52,6 +52,10 @@ is_tube_with some seats name = is_same_name name default_tube || some || list_an
 abbrev pub is_tube_of : List Job → List SeatRecord → List ℕ → Bool
 is_tube_of jobs seats name =
     is_same_name name default_tube || list_any (λ j. is_same_name name j.tube) jobs || list_any (is_seated_at name) seats
+
+-- the names of the entries of tubes that exist, in their order
+abbrev pub names_alive : List Job → List SeatRecord → List TubeRecord → List (List ℕ)
+names_alive jobs seats entries = map (λ t. t.name) (filter (λ t. is_tube_of jobs seats t.name) entries)
 
 -- The tubes of an open seat have entries.
 pub record HasTubes (entries : List TubeRecord) (s : SeatRecord) : Type 0 where

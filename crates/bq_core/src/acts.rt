@@ -1,10 +1,10 @@
-ghost use Rattle.std.specs.Prelude.{◌≡◌, Some, true, IsTrue};
+ghost use Rattle.std.specs.Prelude.{◌≡◌, Some, true};
 ghost use Rattle.bq_job.specs.declared.step.Step.TheVariants as steps;
 ghost use Rattle.bq_job.specs.Asked.{asked, effect, refusal_answer as answer_of_refusal};
 ghost use Rattle.bq_job.specs.Changes.{seat_with};
 ghost use Rattle.bq_job.specs.Machine.{SeatRecord};
 ghost use Rattle.bq_job.specs.Steps.{step_takes_memory, takes_memory};
-ghost use Rattle.bq_core.specs.Acting.{Acts, Replies, is_asking, is_built, is_built_request};
+ghost use Rattle.bq_core.specs.Acting.{Acts, Replies, is_asking};
 ghost use Rattle.bq_core.specs.State.{machine_of, IsSound};
 ghost use Rattle.bq_core.specs.Stirring.{may_change, may_stir};
 ghost use Rattle.bq_core.specs.Turns.{HasRoom};
@@ -15,7 +15,7 @@ use crate::outs::Outs;
 use crate::reply::Reply;
 use crate::seat_list::SeatChange;
 use crate::state::State;
-use crate::{job_acts, kicks, leases, state, tube_acts};
+use crate::{job_acts, kicks, leases, state, statistics_acts, tube_acts};
 use bq_job::{Answer, Refusal, Request, Seat, Step};
 use std::alloc::Global;
 
@@ -73,7 +73,6 @@ fn refusal_answer(why: Refusal) -> Answer
 fn answer(state: &mut State, alloc: Global, seat: Seat, request: Request) -> Reply
     requires sound { IsSound state.old }
     requires asks { is_asking (seat_with seat state.old.seats.items) ≡ true }
-    requires built { IsTrue (is_built_request request) }
     ensures reply { (s : SeatRecord) → seat_with seat (machine_of state.old).seats ≡ Some s → Replies (takes_memory request) (machine_of state.old) (asked request (machine_of state.old) s) result (machine_of state.new) }
     ensures sound { IsSound state.new }
     ensures config { state.new.config ≡ state.old.config }
@@ -124,29 +123,18 @@ fn answer(state: &mut State, alloc: Global, seat: Seat, request: Request) -> Rep
         Request::PeekDelayed => tube_acts::peek_first(state, seat, JobKind::Delayed),
         Request::PeekBuried => tube_acts::peek_first(state, seat, JobKind::Buried),
         Request::PauseTube { tube, delay } => Reply::Told(tube_acts::pause(state, &tube, delay)),
+        Request::StatsJob { id } => statistics_acts::stats_job(state, alloc, id),
+        Request::StatsTube { tube } => statistics_acts::stats_tube(state, alloc, &tube),
+        Request::Stats => statistics_acts::stats(state, alloc),
+        Request::ListTubes => statistics_acts::list_tubes(state, alloc),
+        Request::ListTubesWatched => statistics_acts::list_tubes_watched(state, alloc, seat),
         Request::Quit => Reply::Silent,
         Request::Refused(why) => Reply::Told(refusal_answer(why)),
-        _ => unreachable!(),
-    }
-}
-
-fn ask(state: &mut State, alloc: Global, seat: Seat, request: Request) -> Reply
-    requires sound { IsSound state.old }
-    requires built { IsTrue (is_built_request request) }
-    ensures reply { Replies (takes_memory request) (machine_of state.old) (effect (machine_of state.old) seat (steps.Ask request)) result (machine_of state.new) }
-    ensures sound { IsSound state.new }
-    ensures config { state.new.config ≡ state.old.config }
-{
-    if state.is_asking(seat) {
-        answer(state, alloc, seat, request)
-    } else {
-        Reply::Silent
     }
 }
 
 fn reply_to(state: &mut State, alloc: Global, seat: Seat, what: Step) -> Reply
     requires sound { IsSound state.old }
-    requires built { IsTrue (is_built what) }
     ensures reply { Replies (step_takes_memory what) (machine_of state.old) (effect (machine_of state.old) seat what) result (machine_of state.new) }
     ensures sound { IsSound state.new }
     ensures config { state.new.config ≡ state.old.config }
@@ -156,7 +144,11 @@ fn reply_to(state: &mut State, alloc: Global, seat: Seat, what: Step) -> Reply
             connect(state, seat);
             Reply::Silent
         }
-        Step::Ask(request) => ask(state, alloc, seat, request),
+        Step::Ask(request) => if state.is_asking(seat) {
+            answer(state, alloc, seat, request)
+        } else {
+            Reply::Silent
+        },
         Step::End => {
             end(state, seat);
             Reply::Silent
@@ -184,6 +176,11 @@ fn may_change(request: &Request) -> bool
             | Request::PeekReady
             | Request::PeekDelayed
             | Request::PeekBuried
+            | Request::StatsJob { .. }
+            | Request::StatsTube { .. }
+            | Request::Stats
+            | Request::ListTubes
+            | Request::ListTubesWatched
             | Request::Quit
             | Request::Refused(_)
     )
@@ -203,7 +200,6 @@ pub(crate) fn may_stir(what: &Step) -> bool
 /// Carries out the command's own effect, and adds its answer.
 pub(crate) fn act(state: &mut State, alloc: Global, seat: Seat, what: Step, outs: &mut Outs)
     requires sound { IsSound state.old }
-    requires built { IsTrue (is_built what) }
     requires room { HasRoom 1 (machine_of state.old) outs.old }
     ensures acts { Acts (machine_of state.old) seat what outs.old outs.new (machine_of state.new) }
     ensures sound { IsSound state.new }

@@ -17,12 +17,14 @@ mod job_list;
 mod kicks;
 mod leases;
 mod machine;
+mod name_lists;
 mod outs;
 mod place;
 mod reply;
 mod seat_counts;
 mod seat_list;
 mod state;
+mod statistics_acts;
 mod tallies;
 mod tally;
 #[cfg(test)]

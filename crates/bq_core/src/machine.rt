@@ -4,7 +4,6 @@ ghost use Rattle.bq_job.specs.Lawful.{IsLawful};
 ghost use Rattle.bq_job.specs.Machine.{new_machine};
 ghost use Rattle.bq_job.specs.NextDue.{next_due};
 ghost use Rattle.bq_job.specs.Steps.{IsStep};
-ghost use Rattle.bq_core.specs.Acting.{is_built};
 ghost use Rattle.bq_core.specs.Limits.{is_body_size, is_seat_count};
 ghost use Rattle.bq_core.specs.State.{machine_of, settings_of, IsSound};
 ghost use Rattle.bq_core.specs.Serving.{NoneIsGone, ServesInto};
@@ -14,15 +13,9 @@ use crate::config::{Config, CoreFault};
 use crate::outs::Outs;
 use crate::state::State;
 use crate::{acts, dispatch, dues, seat_list, state, tallies, timers, tube_list, waits};
-use bq_job::{Moment, Seat, Step};
+use bq_job::{LARGEST_BODY, MOST_SEATS, Moment, Seat, Step};
 use std::alloc::Global;
 use std::marker::Model;
-
-/// How many clients can be connected at a time at most.
-const MOST_SEATS: u16 = 256;
-
-/// How many bytes a job's body can have at most.
-const LARGEST_BODY: u32 = 1_048_576;
 
 /// The core: it stands for the one-list machine, and takes its steps.
 #[derive(Drop)]
@@ -61,7 +54,6 @@ fn serve(state: &mut State, outs: &mut Outs, has_stirred: bool)
 fn take_step(state: &mut State, alloc: Global, at: Moment, seat: Seat, what: Step, outs: &mut Outs)
     requires lawful { IsLawful (machine_of state.old) }
     requires sound { IsSound state.old }
-    requires built { IsTrue (is_built what) }
     requires room { state.old.config.seats < outs.old.most }
     ensures step { IsStep (machine_of state.old) at seat what (record { left_out = outs.new.left_out; unshared = outs.new.unshared }) outs.new.given (machine_of state.new) }
     ensures most { outs.new.most ≡ outs.old.most }
@@ -119,10 +111,8 @@ impl Core {
     }
 
     /// Takes a step: what happens at a seat, at a moment in milliseconds. `outs` then holds the answers in
-    /// their order. Any moment, seat and step is accepted; the requests that aren't built yet are the five
-    /// of statistics and lists.
+    /// their order. Any moment, seat and step is accepted.
     pub fn step(&mut self, at: Moment, seat: Seat, what: Step, outs: &mut Outs)
-        requires built { IsTrue (is_built what) }
         requires room { self.old.machine.settings.seats < outs.old.most }
         ensures step { IsStep self.old.machine at seat what (record { left_out = outs.new.left_out; unshared = outs.new.unshared }) outs.new.given self.new.machine }
         ensures lawful { IsLawful self.new.machine }

@@ -5,16 +5,19 @@ ghost use Rattle.bq_job.specs.Machine.{SeatRecord, default_tube, empty_seat, new
 ghost use Rattle.bq_job.specs.Timers.{at_moment};
 ghost use Rattle.bq_job.specs.TubeCommands.{watching};
 ghost use Rattle.bq_job.specs.TubeName.{is_same_name};
+ghost use Rattle.bq_job.specs.TubeOrder.{tubes};
 ghost use Rattle.bq_job.specs.Tubes.{forgetting, fresh_tube, with_tube};
 ghost use Rattle.bq_jobs.specs.Kept.{with_added, without};
 ghost use Rattle.bq_core.specs.JobChanges.{changed};
 ghost use Rattle.bq_core.specs.SeatChanges.{seat_changed, has_tube_of};
 ghost use Rattle.bq_core.specs.State.{machine_of, settings_of, IsSound, OnlyCompares};
 ghost use Rattle.bq_core.specs.Tallies.{tally_of};
+ghost use Rattle.bq_core.specs.Texts.{names_of};
 ghost use Rattle.bq_core.specs.TubeEntries.{has_entry, is_tube_of, tube_changed};
 
 use crate::config::Config;
 use crate::job_list::{JobChange, JobKind, JobTest};
+use crate::name_lists::Names;
 use crate::place::Place;
 use crate::seat_list::SeatChange;
 use crate::tally::Tally;
@@ -283,6 +286,31 @@ pub(crate) fn is_tube(state: &State, tube: &TubeName) -> bool
         state.tallies.as_slice(),
         state.seats.as_slice(),
         tube,
+    )
+}
+
+/// How many tubes exist.
+pub(crate) fn tube_count(state: &State) -> u64
+    requires { IsSound state.now }
+    ensures { result ≡ length (tubes (machine_of state.now)) }
+{
+    tube_list::count_alive(
+        state.tubes.as_slice(),
+        state.tallies.as_slice(),
+        state.seats.as_slice(),
+    )
+}
+
+/// The names of the tubes that exist, in byte order. Their room is asked for before.
+pub(crate) fn tube_names<'a>(state: &'a State, alloc: Global) -> Result<Names<'a>, NoMemory>
+    requires { IsSound state.now }
+    ensures { IfOk result (λ names. names_of names.items ≡ tubes (machine_of state.now)) }
+{
+    tube_list::names_alive(
+        alloc,
+        state.tubes.as_slice(),
+        state.tallies.as_slice(),
+        state.seats.as_slice(),
     )
 }
 

@@ -1,6 +1,5 @@
 //! Steps of a core, with the answers that the rules of the queue give them, found by hand.
 ghost use Rattle.std.specs.Prelude.{◌≡◌, ◌<◌, IfOk};
-ghost use Rattle.bq_core.specs.Acting.{is_built};
 
 use crate::{Config, Core, CoreFault, Outs};
 use bq_job::{Answer, Body, JobId, Moment, NoMemory, Pri, Refusal, Request, Seat, Step, TubeName};
@@ -89,22 +88,6 @@ enum Want {
 
 /// A moment, a seat, what happens there, and the answers that it gives.
 type Example = (Moment, Seat, Do, &'static [(Seat, Want)]);
-
-// Whether the core can carry the step out so far.
-fn is_built(what: &Step) -> bool
-    ensures { result ≡ is_built what.now }
-{
-    !matches!(
-        what,
-        Step::Ask(
-            Request::StatsJob { .. }
-                | Request::StatsTube { .. }
-                | Request::Stats
-                | Request::ListTubes
-                | Request::ListTubesWatched
-        )
-    )
-}
 
 fn request_of(rt: &impl Abort, alloc: Global, what: Do) -> Result<Option<Request>, NoMemory> {
     Ok(Some(match what {
@@ -266,7 +249,6 @@ fn take_all(
             assert_eq!(rt; core.next_due(), due, "{name}: {example:?}");
         } else {
             let step = step_of(rt, alloc, what)?;
-            assert!(rt; is_built(&step), "{name}: {example:?} isn't built");
             core.step(at, seat, step, outs);
             expect(rt, outs, name, example);
         }

@@ -1,5 +1,7 @@
-ghost use Rattle.std.specs.Prelude.{◌≡◌, ◌<◌, ◌≤◌, ◌&&◌, ◌∷◌, [], IfOk, filter, length, map, is_some, is_ok, not, slice_get, if◌then◌else◌, List};
+ghost use Rattle.std.specs.Prelude.{◌≡◌, ◌<◌, ◌≤◌, ◌+◌, ◌&&◌, ◌++◌, ◌∷◌, [], vec_len, IfOk, filter, find, length, map, is_some, is_ok, not, slice_get, if◌then◌else◌, List};
 ghost use Rattle.std.specs.List.{list_any, position, prefix_len};
+ghost use Rattle.std.specs.Option.{option_map};
+ghost use Rattle.std.specs.Vec.{vec_capacity};
 ghost use Rattle.bq_job.specs.declared.job.Job.{Job};
 ghost use Rattle.bq_job.specs.Machine.{default_tube};
 ghost use Rattle.bq_job.specs.NextDue.{dues_of_pause, earliest};
@@ -8,9 +10,11 @@ ghost use Rattle.bq_job.specs.TubeName.{is_same_name};
 ghost use Rattle.bq_job.specs.Tubes.{fresh_tube, is_name_before, is_seated_at as seated_at};
 ghost use Rattle.bq_job.specs.Timers.{tube_after_timers};
 ghost use Rattle.bq_core.specs.Tallies.{has_jobs, tallies_of, tallies_provided, tally_at};
-ghost use Rattle.bq_core.specs.TubeEntries.{has_entry, is_pause_over, is_tube_of, is_tube_with, kept_if, provided, tube_changed, tube_changed_at};
+ghost use Rattle.bq_core.specs.TubeEntries.{has_entry, is_pause_over, is_tube_of, is_tube_with, kept_if, names_alive, provided, tube_changed, tube_changed_at};
+ghost use Rattle.bq_core.specs.Texts.{names_of};
 
 use crate::job_list::later;
+use crate::name_lists::Names;
 use crate::place::Place;
 use crate::tallies;
 use crate::tally::Tally;
@@ -80,7 +84,8 @@ pub(crate) enum TubeChange {
 }
 
 impl TubeEntry {
-    fn new(name: TubeName) -> TubeEntry
+    /// Nothing is kept of the tube yet.
+    pub(crate) fn new(name: TubeName) -> TubeEntry
         ensures { result ≡ fresh_tube name }
     {
         TubeEntry {
@@ -96,6 +101,34 @@ impl TubeEntry {
         ensures { result.now ≡ self.now.name }
     {
         &self.name
+    }
+
+    /// How many jobs were put into the tube.
+    pub(crate) fn puts(&self) -> u64
+        ensures { result ≡ self.now.puts }
+    {
+        self.puts
+    }
+
+    /// How many of its jobs were deleted.
+    pub(crate) fn deletes(&self) -> u64
+        ensures { result ≡ self.now.deletes }
+    {
+        self.deletes
+    }
+
+    /// How often it was paused.
+    pub(crate) fn pauses(&self) -> u64
+        ensures { result ≡ self.now.pauses }
+    {
+        self.pauses
+    }
+
+    /// Its pause, if there is one.
+    pub(crate) fn pause(&self) -> Option<Pausing>
+        ensures { result ≡ self.now.pause }
+    {
+        self.pause
     }
 
     /// When its pause ends.
@@ -215,6 +248,13 @@ pub(crate) fn find(tubes: &[TubeEntry], name: &TubeName) -> Option<usize>
     ensures { result ≡ position (λ t. is_same_name name.now t.name) tubes.now }
 {
     tubes.iter().position(|entry| entry.is_named(name))
+}
+
+/// The entry of this name.
+pub(crate) fn entry_of<'a>(tubes: &'a [TubeEntry], name: &TubeName) -> Option<&'a TubeEntry>
+    ensures { option_map (λ t. t.now) result ≡ find (λ t. is_same_name name.now t.name) tubes.now }
+{
+    tubes.iter().find(|entry| entry.is_named(name))
 }
 
 pub(crate) fn is_paused(tubes: &[TubeEntry], name: &TubeName) -> bool
@@ -340,4 +380,47 @@ pub(crate) fn forget(
         i -= 1;
         forget_at(tubes, tallies, i, seats);
     }
+}
+
+/// How many tubes exist.
+pub(crate) fn count_alive(tubes: &[TubeEntry], tallies: &[Tally], seats: &[Place]) -> u64
+    requires { length tallies.now ≡ length tubes.now }
+    ensures { (jobs : List Job) → tallies.now ≡ tallies_of jobs tubes.now → result ≡ length (names_alive jobs seats.now tubes.now) }
+{
+    let mut count = 0;
+    for i in 0..tubes.len() {
+        count += u64::from(is_alive(&tubes[i], &tallies[i], seats));
+    }
+    count
+}
+
+// Adds the name of the tube of an entry, with so many jobs, if the tube exists. It takes no memory.
+fn add_alive<'a>(names: &mut Names<'a>, entry: &'a TubeEntry, tally: &Tally, seats: &[Place])
+    requires { vec_len names.old < vec_capacity names.old }
+    ensures names { names_of names.new.items ≡ names_of names.old.items ++ (if is_tube_with (has_jobs tally.now) seats.now entry.now.name then entry.now.name ∷ [] else []) }
+    ensures len { vec_len names.new ≤ vec_len names.old + 1 }
+    ensures capacity { vec_capacity names.new ≡ vec_capacity names.old }
+{
+    if is_alive(entry, tally, seats) {
+        names.push_reserved(entry.name().as_slice());
+    }
+}
+
+/// The names of the tubes that exist, in the order of their entries. Their room is asked for before.
+pub(crate) fn names_alive<'a>(
+    alloc: Global,
+    tubes: &'a [TubeEntry],
+    tallies: &[Tally],
+    seats: &[Place],
+) -> Result<Names<'a>, NoMemory>
+    requires { length tallies.now ≡ length tubes.now }
+    ensures { (jobs : List Job) → tallies.now ≡ tallies_of jobs tubes.now → IfOk result (λ names. names_of names.items ≡ names_alive jobs seats.now tubes.now) }
+{
+    let Ok(mut names) = Vec::with_capacity(alloc, tubes.len()) else {
+        return Err(NoMemory);
+    };
+    for i in 0..tubes.len() {
+        add_alive(&mut names, &tubes[i], &tallies[i], seats);
+    }
+    Ok(names)
 }

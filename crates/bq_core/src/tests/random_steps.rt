@@ -3,7 +3,7 @@
 ghost use Rattle.std.specs.Prelude.{◌≡◌, ◌<◌};
 
 use super::plain::{Answers, PlainCore};
-use super::{Do, is_built, step_of};
+use super::{Do, step_of};
 use crate::{Config, Core, Outs};
 use bq_job::{Answer, Moment, Seat, Step};
 use std::alloc::Global;
@@ -89,9 +89,6 @@ fn take_step(
     ensures room { core.new.machine.settings.seats < outs.new.most }
 {
     let what = step_of(rt, alloc, place.what)?;
-    if !is_built(&what) {
-        return Ok(());
-    }
     core.step(place.at, place.seat, what, outs);
     let wanted = plain.step(place.at, place.seat, step_of(rt, alloc, place.what)?)?;
     compare(rt, outs, &wanted, place);

@@ -1,0 +1,24 @@
+use Rattle.std.proofs.Common.{◌≡◌, ◌∙◌, ap, refl, sym}
+use Rattle.bq_job.specs.declared.answer.Answer.TheVariants as answers
+use Rattle.bq_job.specs.Acts.{telling}
+use Rattle.bq_job.specs.Changes.{job_with}
+use Rattle.bq_job.specs.Statistics.{job_statistics}
+use Rattle.bq_job.specs.StatisticsCommands.{job_statistics_or_not}
+use Rattle.bq_jobs.specs.Kept.{Kept}
+use Rattle.bq_core.specs.State.{machine_of}
+use Rattle.bq_core.proofs.ActLemmas.{some_there}
+use Rattle.bq_core.proofs.TurnLemmas.{if_ok}
+use Rattle.bq_core.proofs.statistics_acts.stats_job.Goals as goal
+
+pub returns-in-Some-Ok-clause-reply : goal.returns-in-Some-Ok-clause-reply
+returns-in-Some-Ok-clause-reply c =
+    let m = machine_of c.args.state.now in
+    let there = some_there (job_with c.args.id m.jobs) (sym c.in-Some-Ok.ensures.none) in
+    let j = there.0 in
+    let told = if_ok c.in-Some-Ok.field-0 c.in-Some-Ok.text _ c.in-Some-Ok.field-0-is c.in-Some-Ok.ensures.text in
+    let text : c.in-Some-Ok.text ≡ job_statistics m j = told m j refl there.1 in
+    let same : machine_of (record c.args.state.now { jobs = c.text_of_job.new.jobs }) ≡ m =
+    ap (λ (k : Kept). record m { jobs = k.jobs }) c.in-Some-Ok.ensures.same in
+    ap (job_statistics_or_not m) there.1
+    ∙ ap (λ t. telling (answers.Ok t) m) (sym text)
+    ∙ ap (telling (answers.Ok c.in-Some-Ok.text)) (sym same)

@@ -1,0 +1,38 @@
+use Rattle.std.proofs.Common.{◌≡◌, ◌∙◌, List, ap, refl, sym}
+use Rattle.std.specs.Borrow.{Bor}
+use Rattle.std.specs.Prelude.{find, unwrap_or}
+use Rattle.bq_job.specs.Machine.{SeatRecord, TubeRecord}
+use Rattle.bq_job.specs.Statistics.{using_count, waiting_clients_of, watching_count}
+use Rattle.bq_job.specs.TubeName.{is_same_name}
+use Rattle.bq_job.specs.Tubes.{tube_record}
+use Rattle.bq_core.specs.State.{machine_of}
+use Rattle.bq_core.specs.Tallies.{tally_at}
+use Rattle.bq_core.proofs.NameLemmas.{lent_or, record_of_entry}
+use Rattle.bq_core.proofs.TallyPlaces.{tally_there}
+use Rattle.bq_core.proofs.statistics_acts.tube_numbers.Goals as goal
+
+pub returns : goal.returns
+returns c =
+    let s = c.args.state.now in
+    let m = machine_of s in
+    let name = c.args.tube.now in
+    let entry : c.unwrap_or-entry.result.now ≡ tube_record name m =
+    ap (λ (lent : Bor TubeRecord). lent.now) c.unwrap_or-entry.ensures
+    ∙ lent_or c.entry_of.result _ _ c.entry_of.ensures
+    ∙ (λ i. unwrap_or (find (λ t. is_same_name name t.name) (c.as_slice.ensures.value i)) (c.new-fresh.ensures i))
+    ∙ sym (record_of_entry name s.tubes.items c.requires.entries.order c.requires.entries.fresh) in
+    let seats = c.as_slice-seats.ensures.value in
+    record {
+      jobs = c.of.ensures
+          ∙ (λ i. tally_at name (c.as_slice-3.ensures.value i) (c.as_slice-2.ensures.value i))
+          ∙ ap (tally_at name s.tubes.items) c.requires.counts.each
+          ∙ tally_there name s.jobs.jobs s.tubes.items c.requires.entries.of_jobs;
+      puts = c.puts.ensures ∙ ap (λ (t : TubeRecord). t.puts) entry;
+      using = c.using.ensures ∙ ap (λ (seats : List SeatRecord). using_count name (record m { seats = seats })) seats;
+      watching = c.watching.ensures ∙ ap (λ (seats : List SeatRecord). watching_count name (record m { seats = seats })) seats;
+      waiting = c.waiting_at.ensures ∙ ap (λ (seats : List SeatRecord). waiting_clients_of name (record m { seats = seats })) seats;
+      deletes = c.deletes.ensures ∙ ap (λ (t : TubeRecord). t.deletes) entry;
+      pauses = c.pauses.ensures ∙ ap (λ (t : TubeRecord). t.pauses) entry;
+      pause = c.pause.ensures ∙ ap (λ (t : TubeRecord). t.pause) entry;
+      moment = refl;
+    }

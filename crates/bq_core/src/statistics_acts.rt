@@ -1,0 +1,147 @@
+//! Commands that count or list. They change nothing.
+ghost use Rattle.std.specs.Prelude.{◌≡◌, true, is_some, Some, IfOk, IfSome};
+ghost use Rattle.bq_job.specs.declared.job.Job.{Job};
+ghost use Rattle.bq_job.specs.Changes.{job_with, seat_with};
+ghost use Rattle.bq_job.specs.Machine.{Machine, SeatRecord};
+ghost use Rattle.bq_job.specs.Statistics.{job_statistics};
+ghost use Rattle.bq_job.specs.StatisticsCommands.{list_tubes_effect, list_watched_effect, stats_effect, stats_job_effect, stats_tube_effect};
+ghost use Rattle.bq_jobs.specs.Kept.{ComparesAtMost};
+ghost use Rattle.bq_core.specs.Acting.{Replies};
+ghost use Rattle.bq_core.specs.Numbers.{AreOfServer, AreOfTube};
+ghost use Rattle.bq_core.specs.State.{machine_of, IsSound};
+
+use crate::reply::Reply;
+use crate::state::State;
+use crate::texts::{ServerNumbers, TubeNumbers, job_text, names_text, server_text, tube_text};
+use crate::tube_list::TubeEntry;
+use crate::{name_lists, seat_counts, seat_list, state, tallies, tube_list};
+use bq_job::{Answer, JobId, Moment, NoMemory, Seat, Text, TubeName};
+use bq_jobs::Jobs;
+use std::alloc::Global;
+
+// The text of the job of this id, unless its memory is refused; None where there is no job.
+fn text_of_job(
+    jobs: &mut Jobs,
+    alloc: Global,
+    id: JobId,
+    moment: Moment,
+) -> Option<Result<Text, NoMemory>>
+    ensures none { is_some result ≡ is_some (job_with id jobs.old.jobs) }
+    ensures text { IfSome result (λ told. IfOk told (λ text. (m : Machine) (j : Job) → m.moment ≡ moment → job_with id jobs.old.jobs ≡ Some j → text ≡ job_statistics m j)) }
+    ensures same { jobs.new ≡ record jobs.old { comparisons = jobs.new.comparisons } }
+    ensures comparisons { ComparesAtMost 1 jobs.old jobs.new }
+{
+    match jobs.get(id) {
+        None => None,
+        Some(job) => Some(job_text(alloc, job, moment)),
+    }
+}
+
+/// Tells of the job of this id.
+pub(crate) fn stats_job(state: &mut State, alloc: Global, id: JobId) -> Reply
+    requires { IsSound state.old }
+    ensures reply { Replies true (machine_of state.old) (stats_job_effect id (machine_of state.old)) result (machine_of state.new) }
+    ensures sound { IsSound state.new }
+    ensures config { state.new.config ≡ state.old.config }
+{
+    match text_of_job(&mut state.jobs, alloc, id, state.moment) {
+        None => Reply::Told(Answer::NotFound),
+        Some(Ok(text)) => Reply::Told(Answer::Ok(text)),
+        Some(Err(_)) => Reply::LeftOut,
+    }
+}
+
+// What is told of the tube of this name.
+fn tube_numbers(state: &State, tube: &TubeName) -> TubeNumbers
+    requires { IsSound state.now }
+    ensures { AreOfTube result tube.now (machine_of state.now) }
+{
+    let fresh = TubeEntry::new(*tube);
+    let entry = tube_list::entry_of(state.tubes.as_slice(), tube).unwrap_or(&fresh);
+    let seats = state.seats.as_slice();
+    TubeNumbers {
+        jobs: tallies::of(state.tallies.as_slice(), state.tubes.as_slice(), tube),
+        puts: entry.puts(),
+        using: seat_counts::using(seats, tube),
+        watching: seat_counts::watching(seats, tube),
+        waiting: seat_counts::waiting_at(seats, tube),
+        deletes: entry.deletes(),
+        pauses: entry.pauses(),
+        pause: entry.pause(),
+        moment: state.moment,
+    }
+}
+
+/// Tells of a tube that exists.
+pub(crate) fn stats_tube(state: &State, alloc: Global, tube: &TubeName) -> Reply
+    requires { IsSound state.now }
+    ensures { Replies true (machine_of state.now) (stats_tube_effect tube.now (machine_of state.now)) result (machine_of state.now) }
+{
+    if !state::is_tube(state, tube) {
+        return Reply::Told(Answer::NotFound);
+    }
+    match tube_text(alloc, tube, &tube_numbers(state, tube)) {
+        Ok(text) => Reply::Told(Answer::Ok(text)),
+        Err(_) => Reply::LeftOut,
+    }
+}
+
+// What is told of the server.
+fn server_numbers(state: &State) -> ServerNumbers
+    requires { IsSound state.now }
+    ensures { AreOfServer result (machine_of state.now) }
+{
+    let seats = state.seats.as_slice();
+    ServerNumbers {
+        jobs: state.tally,
+        timeouts: state.timeouts,
+        puts: state.puts,
+        max_job_size: state.config.max_job_size,
+        tubes: state::tube_count(state),
+        connected: seat_counts::connected(seats),
+        waiting: seat_counts::waiting(seats),
+        connections: state.connections,
+        draining: state.draining,
+    }
+}
+
+/// Tells of the server.
+pub(crate) fn stats(state: &State, alloc: Global) -> Reply
+    requires { IsSound state.now }
+    ensures { Replies true (machine_of state.now) (stats_effect (machine_of state.now)) result (machine_of state.now) }
+{
+    match server_text(alloc, &server_numbers(state)) {
+        Ok(text) => Reply::Told(Answer::Ok(text)),
+        Err(_) => Reply::LeftOut,
+    }
+}
+
+/// Lists the tubes that exist.
+pub(crate) fn list_tubes(state: &State, alloc: Global) -> Reply
+    requires { IsSound state.now }
+    ensures { Replies true (machine_of state.now) (list_tubes_effect (machine_of state.now)) result (machine_of state.now) }
+{
+    let Ok(names) = state::tube_names(state, alloc) else {
+        return Reply::LeftOut;
+    };
+    match names_text(alloc, names.as_slice()) {
+        Ok(text) => Reply::Told(Answer::Ok(text)),
+        Err(_) => Reply::LeftOut,
+    }
+}
+
+/// Lists the tubes that the client watches.
+pub(crate) fn list_tubes_watched(state: &State, alloc: Global, seat: Seat) -> Reply
+    ensures { (s : SeatRecord) → seat_with seat (machine_of state.now).seats ≡ Some s → Replies true (machine_of state.now) (list_watched_effect (machine_of state.now) s) result (machine_of state.now) }
+{
+    let Some(place) = seat_list::find(state.seats.as_slice(), seat) else {
+        return Reply::Silent;
+    };
+    let Ok(names) = name_lists::in_order(alloc, place.watched()) else {
+        return Reply::LeftOut;
+    };
+    match names_text(alloc, names.as_slice()) {
+        Ok(text) => Reply::Told(Answer::Ok(text)),
+        Err(_) => Reply::LeftOut,
+    }
+}
