@@ -20,7 +20,8 @@ use Rattle.bq_job.specs.Profile.{Profile}
 use Rattle.bq_job.specs.Runs.{Entry, Run, answers_to}
 use Rattle.bq_job.specs.Steps.{IsStep, Outcome}
 use Rattle.bq_job.proofs.LawfulLemmas.{step_is_lawful}
-use Rattle.bq_job.proofs.OneClientLemmas.{answers_append, asks_at_most, others_give, step_gives_client, step_settings, tick_gives_client}
+use Rattle.bq_job.proofs.OneClientLemmas.{answers_append}
+use Rattle.bq_job.proofs.ClientStepLemmas.{asks_at_most, others_give, step_gives_client, step_settings, tick_gives_client}
 use Rattle.bq_job.proofs.RunLemmas.{run_first, run_of_none}
 use Rattle.bq_job.specs.SeatDid.{AreLinesServed}
 

@@ -16,6 +16,7 @@ pub mod LookupLemmas
 pub mod NameOrderLemmas
 pub mod NextDueLemmas
 pub mod OneClientLemmas
+pub mod ClientStepLemmas
 pub mod OrderLemmas
 pub mod OutcomeLemmas
 pub mod OwnAnswerLemmas

@@ -1,9 +1,9 @@
--- What a step gives to one client: turns of dispatch and ends of waits give it what it waits for, and
--- the command's own effect gives it the answer, or makes it wait.
-use Rattle.std.proofs.Common.{ℕ, zero, suc, ◌≡◌, ◌≤◌, ◌<◌, ◌+◌, Bool, true, false, ◌&&◌, ◌||◌, not, cond, List, [], ◌∷◌, ◌++◌, map, length, length-append, append_assoc, arith, refl, sym, ap, ◌∙◌, subst, inl, inr, Option, Some, None}
+-- What the parts of a step give to one client: turns of dispatch and ends of waits give it what it waits
+-- for, and the command's own effect gives it the answer, or makes it wait.
+use Rattle.std.proofs.Common.{ℕ, zero, suc, ◌≡◌, ◌≤◌, ◌<◌, ◌+◌, Bool, true, false, ◌&&◌, not, cond, List, [], ◌∷◌, ◌++◌, map, length, length-append, arith, refl, sym, ap, ◌∙◌, subst, inl, inr, Option, Some, None}
 use Rattle.std.specs.Prelude.{◌==◌, IsTrue}
 use Rattle.std.specs.List.{AllByRecursion as All, Contains, list_any}
-use Rattle.std.proofs.lemmas.Bool.{cases_Bool, and_from, and_parts, and_right, or_from, both_ways, cond_both, eq-eqb, eqb-true, eqb-false}
+use Rattle.std.proofs.lemmas.Bool.{cases_Bool, and_from, and_parts, and_right, or_from, cond_both, eq-eqb, eqb-true, eqb-false}
 use Rattle.std.proofs.lemmas.List.Folds.{list_any-append}
 use Rattle.bq_job.specs.declared.answer.Answer.{Answer}
 use Rattle.bq_job.specs.declared.answer.Answer.TheVariants as answers
@@ -18,40 +18,37 @@ use Rattle.bq_job.specs.declared.step.Step.TheVariants as steps
 use Rattle.bq_job.specs.Acts.{Effect, on_found, showing, silent, telling}
 use Rattle.bq_job.specs.Asked.{after_close, after_connect, asked, at_found, effect, refusal_answer, with_end}
 use Rattle.bq_job.specs.Changes.{in_state, is_held_by, is_waiting, job_with, seat_with, with_job, with_seat, without_wait}
-use Rattle.bq_job.specs.Dispatch.{DispatchTurn, GivenAnswer, IsHandOut, is_wait_before, next_seat, reserved_by}
+use Rattle.bq_job.specs.Dispatch.{DispatchTurn, GivenAnswer, IsHandOut, next_seat, reserved_by}
 use Rattle.bq_job.specs.JobCommands.{after_delete, after_put, buried, is_free_for, kicked, new_job, released, reserve_effect, waiting_from}
 use Rattle.bq_job.specs.JobStates.{is_reserved}
-use Rattle.bq_job.specs.Lawful.{IsLawful}
 use Rattle.bq_job.specs.LineSteps.{answers_wanted, is_waiting_request}
 use Rattle.bq_job.specs.Limits.{later, raised}
 use Rattle.bq_job.specs.Machine.{Machine, SeatRecord, empty_seat, numbers}
-use Rattle.bq_job.specs.OneClient.{GetsAnswer, GetsAtMost, GetsClosed, GetsWhatWaits, GivesClient, has_closed, is_closed_answer, is_connected_at, owing}
+use Rattle.bq_job.specs.OneClient.{has_closed, is_closed_answer}
 use Rattle.bq_job.specs.Runs.{answers_to}
 use Rattle.bq_job.specs.StatisticsCommands.{job_statistics_or_not}
-use Rattle.bq_job.specs.Steps.{IsStep, Memory, Outcome, Serves, acted, addressed, granted, growth_refused, is_possible, share_refused, shares_body, step_takes_memory, may_be_left_out}
+use Rattle.bq_job.specs.Steps.{Memory, Serves, acted, addressed, granted, growth_refused, is_possible, share_refused, shares_body, step_takes_memory}
 use Rattle.bq_job.specs.TubeCommands.{using, watched_with, watching, watching_or_refused}
-use Rattle.bq_job.specs.Timers.{after_timers, at_moment}
-use Rattle.bq_job.specs.Tubes.{forgetting, is_tube}
-use Rattle.bq_job.specs.Waits.{Chain, WaitEndTurn, end_of_wait, ends_waiting, is_deadline_soon, is_until_over}
-use Rattle.bq_job.proofs.ChoiceLemmas.{first_of_none}
+use Rattle.bq_job.specs.Tubes.{is_tube}
+use Rattle.bq_job.specs.Waits.{Chain, WaitEndTurn, end_of_wait, is_deadline_soon}
 use Rattle.bq_job.proofs.ComputedLemmas.{next_end_waits, next_seat_waits}
 use Rattle.bq_job.proofs.DispatchLemmas.{turn_of}
-use Rattle.bq_job.proofs.KeptLemmas.{is_open_wait, only_seat}
-use Rattle.bq_job.proofs.LawfulLemmas.{end_of, step_is_lawful}
-use Rattle.bq_job.proofs.ListLemmas.{all_always, all_at, all_both, all_of_map, all_pass, all_weaker, found_passes, keys_of_map, list_any_not, list_any_of_map, list_any_with, none_pass}
+use Rattle.bq_job.proofs.KeptLemmas.{only_seat}
+use Rattle.bq_job.proofs.LawfulLemmas.{end_of}
+use Rattle.bq_job.proofs.ListLemmas.{all_always, all_of_map, all_weaker, found_passes, keys_of_map, list_any_not, list_any_of_map, list_any_with}
 
 -- whether the client at the seat waits, and whether there is one
-abbrev waits_in : ℕ → List SeatRecord → Bool
+abbrev pub waits_in : ℕ → List SeatRecord → Bool
 waits_in seat seats = list_any (λ s. s.number == seat && is_waiting s) seats
 
-abbrev connected_in : ℕ → List SeatRecord → Bool
+abbrev pub connected_in : ℕ → List SeatRecord → Bool
 connected_in seat seats = list_any (λ s. s.number == seat && s.connected) seats
 
-abbrev ended_in : ℕ → List SeatRecord → Bool
+abbrev pub ended_in : ℕ → List SeatRecord → Bool
 ended_in seat seats = list_any (λ s. s.number == seat && s.ended) seats
 
 -- one answer, if it is waited for
-abbrev one_for : Bool → ℕ
+abbrev pub one_for : Bool → ℕ
 one_for b = cond b 1 0
 
 -- What waits may be answered, and nothing else happens to the client.
@@ -73,7 +70,7 @@ answers_append seat (g ∷ xs) ys =
       | inr e ↦ rw e (answers_append seat xs ys)
     ]
 
-unclosed_append : (xs ys : List Answer) → has_closed xs ≡ false → has_closed ys ≡ false → has_closed (xs ++ ys) ≡ false
+pub unclosed_append : (xs ys : List Answer) → has_closed xs ≡ false → has_closed ys ≡ false → has_closed (xs ++ ys) ≡ false
 unclosed_append xs ys h i = list_any-append is_closed_answer xs ys ∙ or_from (has_closed xs) (has_closed ys) h i
 
 passes_then : (seat : ℕ) (first next last : List SeatRecord) (xs ys : List GivenAnswer) → Passes seat first next xs → Passes seat next last ys → Passes seat first last (xs ++ ys)
@@ -203,14 +200,14 @@ passes_serves seat first handed ended last s =
     (subst (λ (n : Machine). Passes seat (s.between).seats n.seats ended) (sym e.forgets) then)
 
 -- The only seat of its number.
-record Found (seat : ℕ) (seats : List SeatRecord) : Type 0 where
-  client : SeatRecord
-  found : seat_with seat seats ≡ Some client
-  number : client.number ≡ seat
-  there : Contains seats client
-  waits : waits_in seat seats ≡ is_waiting client
-  connected : connected_in seat seats ≡ client.connected
-  ended : ended_in seat seats ≡ client.ended
+pub record Found (seat : ℕ) (seats : List SeatRecord) : Type 0 where
+  pub client : SeatRecord
+  pub found : seat_with seat seats ≡ Some client
+  pub number : client.number ≡ seat
+  pub there : Contains seats client
+  pub waits : waits_in seat seats ≡ is_waiting client
+  pub connected : connected_in seat seats ≡ client.connected
+  pub ended : ended_in seat seats ≡ client.ended
 
 -- A test of the client at the seat is a test of its record.
 found_any : (seat : ℕ) (seats : List SeatRecord) (s : SeatRecord) (p : SeatRecord → Bool) → s.number ≡ seat → Contains seats s → All (λ t. t.number ≡ seat → t ≡ s) seats → list_any (λ t. t.number == seat && p t) seats ≡ p s
@@ -241,7 +238,7 @@ finds_seat low (suc n) seat (s ∷ seats) e from below =
           (more.0, rw b (more.1))
     ]
 
-finds : (n seat : ℕ) (seats : List SeatRecord) → map (λ s. s.number) seats ≡ numbers 0 n → seat < n → Found seat seats
+pub finds : (n seat : ℕ) (seats : List SeatRecord) → map (λ s. s.number) seats ≡ numbers 0 n → seat < n → Found seat seats
 finds n seat seats e below =
     let f = finds_seat 0 n seat seats e (omega arith) (omega arith) in
     let p = found_passes (λ s. s.number == seat) seats f.0 f.1 in
@@ -258,11 +255,11 @@ finds n seat seats e below =
     }
 
 -- the seats where the one of this number is changed
-abbrev changed : ℕ → (SeatRecord → SeatRecord) → List SeatRecord → List SeatRecord
+abbrev pub changed : ℕ → (SeatRecord → SeatRecord) → List SeatRecord → List SeatRecord
 changed number f seats = map (λ s. cond (s.number == number) (f s) s) seats
 
 -- The changed seat passes no test that the change doesn't,
-changed_none : (number : ℕ) (f : SeatRecord → SeatRecord) (q : SeatRecord → Bool) (seats : List SeatRecord) → ((s : SeatRecord) → q (f s) ≡ false) → list_any (λ s. s.number == number && q s) (changed number f seats) ≡ false
+pub changed_none : (number : ℕ) (f : SeatRecord → SeatRecord) (q : SeatRecord → Bool) (seats : List SeatRecord) → ((s : SeatRecord) → q (f s) ≡ false) → list_any (λ s. s.number == number && q s) (changed number f seats) ≡ false
 changed_none number f q seats fails =
     list_any_not (λ s. s.number == number && q s) (changed number f seats)
     (all_of_map (λ s. (s.number == number && q s) ≡ false) (λ s. cond (s.number == number) (f s) s) seats
@@ -272,7 +269,7 @@ changed_none number f q seats fails =
     (λ e. rw e refl))))
 
 -- and passes one that the change does.
-changed_some : (f : SeatRecord → SeatRecord) (q : SeatRecord → Bool) (seats : List SeatRecord) (s : SeatRecord) → Contains seats s → ((s : SeatRecord) → (f s).number ≡ s.number) → ((s : SeatRecord) → q (f s) ≡ true) → list_any (λ t. t.number == s.number && q t) (changed s.number f seats) ≡ true
+pub changed_some : (f : SeatRecord → SeatRecord) (q : SeatRecord → Bool) (seats : List SeatRecord) (s : SeatRecord) → Contains seats s → ((s : SeatRecord) → (f s).number ≡ s.number) → ((s : SeatRecord) → q (f s) ≡ true) → list_any (λ t. t.number == s.number && q t) (changed s.number f seats) ≡ true
 changed_some f q seats s there same passes =
     list_any_of_map (λ t. t.number == s.number) (λ t. t.number == s.number && q t) (λ t. cond (t.number == s.number) (f t) t) seats
     (all_always (λ t. (t.number == s.number) ≡ true → ((cond (t.number == s.number) (f t) t).number == s.number && q (cond (t.number == s.number) (f t) t)) ≡ true) seats
@@ -280,22 +277,22 @@ changed_some f q seats s there same passes =
     (list_any_with (λ t. t.number == s.number) seats s there (eq-eqb s.number s.number refl))
 
 -- A change that leaves the number and the answer to a test leaves the test of every seat.
-changed_quiet : (seat number : ℕ) (f : SeatRecord → SeatRecord) (q : SeatRecord → Bool) (seats : List SeatRecord) → ((s : SeatRecord) → (f s).number ≡ s.number) → ((s : SeatRecord) → q (f s) ≡ q s) → list_any (λ s. s.number == seat && q s) (changed number f seats) ≡ list_any (λ s. s.number == seat && q s) seats
+pub changed_quiet : (seat number : ℕ) (f : SeatRecord → SeatRecord) (q : SeatRecord → Bool) (seats : List SeatRecord) → ((s : SeatRecord) → (f s).number ≡ s.number) → ((s : SeatRecord) → q (f s) ≡ q s) → list_any (λ s. s.number == seat && q s) (changed number f seats) ≡ list_any (λ s. s.number == seat && q s) seats
 changed_quiet seat number f q seats same as_before =
     any_of_map (λ s. s.number == seat && q s) (λ s. s.number == seat && q s) (λ s. cond (s.number == number) (f s) s) seats
     (λ s. cond_both (s.number == number) (f s) s (λ t. (t.number == seat && q t) ≡ (s.number == seat && q s)) (λ e. ap (λ n. n == seat && q (f s)) (same s) ∙ ap (λ b. s.number == seat && b) (as_before s)) (λ e. refl))
 
 -- what the command itself tells the client
-abbrev told : Option Answer → List Answer
+abbrev pub told : Option Answer → List Answer
 told None = []
 told (Some answer) = answer ∷ []
 
 -- The client asks without waiting: it is told so much, or waits for it.
-record Replies (seat wanted : ℕ) (may_wait : Bool) (seats : List SeatRecord) (e : Effect) : Type 0 where
-  count : length (told e.answer) + one_for (waits_in seat (e.machine).seats) ≡ wanted
-  at_once : may_wait ≡ false → waits_in seat (e.machine).seats ≡ false
-  unclosed : has_closed (told e.answer) ≡ false
-  connected : connected_in seat (e.machine).seats ≡ connected_in seat seats
+pub record Replies (seat wanted : ℕ) (may_wait : Bool) (seats : List SeatRecord) (e : Effect) : Type 0 where
+  pub count : length (told e.answer) + one_for (waits_in seat (e.machine).seats) ≡ wanted
+  pub at_once : may_wait ≡ false → waits_in seat (e.machine).seats ≡ false
+  pub unclosed : has_closed (told e.answer) ≡ false
+  pub connected : connected_in seat (e.machine).seats ≡ connected_in seat seats
 
 replies_telling : {b : Bool} (seat : ℕ) (m n : Machine) (answer : Answer) → is_closed_answer answer ≡ false → waits_in seat n.seats ≡ false → connected_in seat n.seats ≡ connected_in seat m.seats → Replies seat 1 b m.seats (telling answer n)
 replies_telling seat m n answer stays w c = record { count = rw w refl; at_once = λ e. w; unclosed = rw stays refl; connected = c }
@@ -389,7 +386,7 @@ replies_asked requests.Quit m s there w = record { count = rw w refl; at_once = 
 replies_asked (requests.Refused why) m s there w = replies_jobs s.number m m (refusal_answer why) w (refusal_stays why) refl
 
 -- an open client that doesn't wait asks
-replies_effect : (m : Machine) (seat : ℕ) (request : Request) (f : Found seat m.seats) → connected_in seat m.seats ≡ true → waits_in seat m.seats ≡ false → Replies seat (answers_wanted request) (is_waiting_request request) m.seats (effect m seat (steps.Ask request))
+pub replies_effect : (m : Machine) (seat : ℕ) (request : Request) (f : Found seat m.seats) → connected_in seat m.seats ≡ true → waits_in seat m.seats ≡ false → Replies seat (answers_wanted request) (is_waiting_request request) m.seats (effect m seat (steps.Ask request))
 replies_effect m seat request f c w =
     let s = f.client in
     let open_now : s.connected ≡ true = sym f.connected ∙ c in
@@ -410,7 +407,7 @@ shares_one requests.Quit (Some answer) n h e = let one : 1 + n ≡ 0 = e in absu
 shares_one _ o n h e = refl
 
 -- the same whatever became of the memory that it wanted
-replies_acted : (memory : Memory) (m : Machine) (seat : ℕ) (request : Request) → waits_in seat m.seats ≡ false → IsTrue (is_possible memory m seat (steps.Ask request)) → Replies seat (answers_wanted request) (is_waiting_request request) m.seats (effect m seat (steps.Ask request)) → Replies seat (answers_wanted request) (is_waiting_request request) m.seats (acted memory m seat (steps.Ask request))
+pub replies_acted : (memory : Memory) (m : Machine) (seat : ℕ) (request : Request) → waits_in seat m.seats ≡ false → IsTrue (is_possible memory m seat (steps.Ask request)) → Replies seat (answers_wanted request) (is_waiting_request request) m.seats (effect m seat (steps.Ask request)) → Replies seat (answers_wanted request) (is_waiting_request request) m.seats (acted memory m seat (steps.Ask request))
 replies_acted granted m seat request w p h = h
 replies_acted growth_refused m seat request w p h =
     let one = wants_one request ((and_parts _ _ p).0) in
@@ -418,280 +415,6 @@ replies_acted growth_refused m seat request w p h =
 replies_acted share_refused m seat request w p h =
     let one = shares_one request (effect m seat (steps.Ask request)).answer _ p h.count in
     subst (λ n. Replies seat n (is_waiting_request request) m.seats (telling answers.OutOfMemory m)) (sym one) (replies_jobs seat m m answers.OutOfMemory w refl refl)
-
--- the parts of a step, to one client
-record Parts (client : ℕ) (first last : Machine) (seat : ℕ) (what : Step) (given : List GivenAnswer) : Type 0 where
-  memory : Memory
-  before : Machine
-  early : List GivenAnswer
-  late : List GivenAnswer
-  comes : Passes client first.seats before.seats early
-  possible : IsTrue (is_possible memory before seat what)
-  goes : Passes client ((acted memory before seat what).machine).seats last.seats late
-  given_is : given ≡ early ++ (addressed seat (acted memory before seat what).answer ++ late)
-
-parts_of : (client : ℕ) (first last : Machine) (at seat : ℕ) (what : Step) (outcome : Outcome) (given : List GivenAnswer) → IsStep first at seat what outcome given last → Parts client first last seat what given
-parts_of client first last at seat what outcome given s = record {
-  memory = s.memory;
-  before = s.before;
-  early = s.handed ++ s.ended;
-  late = s.handed_then ++ s.ended_then;
-  comes = passes_serves client (forgetting (after_timers (at_moment at first))) s.handed s.ended s.before s.serves;
-  possible = s.possible;
-  goes = subst (λ (n : Machine). Passes client n.seats last.seats (s.handed_then ++ s.ended_then)) s.acts (passes_serves client s.after s.handed_then s.ended_then last s.serves_then);
-  given_is = let told_now = addressed seat (acted s.memory s.before seat what).answer in
-      s.answers_are
-      ∙ append_assoc (s.handed ++ s.ended ++ told_now) s.handed_then s.ended_then
-      ∙ append_assoc (s.handed ++ s.ended) told_now (s.handed_then ++ s.ended_then);
-}
-
--- Where no memory is taken and no body shared, none is refused.
-acted_fully : (memory : Memory) (m : Machine) (seat : ℕ) (what : Step) → step_takes_memory what ≡ false → shares_body (effect m seat what).answer ≡ false → IsTrue (is_possible memory m seat what) → acted memory m seat what ≡ effect m seat what
-acted_fully granted m seat what h i p = refl
-acted_fully growth_refused m seat what h i p = absurd (both_ways (step_takes_memory what) h ((and_parts _ _ p).0))
-acted_fully share_refused m seat what h i p = absurd (both_ways (shares_body (effect m seat what).answer) i p)
-
--- A command tells nobody anything, and the client waits and is connected as before.
-gets_quiet : (client : ℕ) (first last : Machine) (seat : ℕ) (what : Step) (given : List GivenAnswer) → Parts client first last seat what given → step_takes_memory what ≡ false → ((m : Machine) → (effect m seat what).answer ≡ None) → ((m : Machine) → waits_in client ((effect m seat what).machine).seats ≡ waits_in client m.seats) → ((m : Machine) → connected_in client ((effect m seat what).machine).seats ≡ connected_in client m.seats) → GetsWhatWaits first last client (answers_to client given)
-gets_quiet client first last seat what given p takes untold waits connects =
-    let m = p.before in
-    let e : acted p.memory m seat what ≡ effect m seat what = acted_fully p.memory m seat what takes (ap shares_body (untold m)) p.possible in
-    let goes : Passes client ((effect m seat what).machine).seats last.seats p.late = subst (λ (x : Effect). Passes client (x.machine).seats last.seats p.late) e p.goes in
-    let all : answers_to client given ≡ answers_to client p.early ++ answers_to client p.late =
-    ap (answers_to client) (p.given_is ∙ ap (λ (x : Effect). p.early ++ (addressed seat x.answer ++ p.late)) e ∙ ap (λ o. p.early ++ (addressed seat o ++ p.late)) (untold m))
-    ∙ answers_append client p.early p.late in
-    let same : one_for (waits_in client ((effect m seat what).machine).seats) ≡ one_for (waits_in client m.seats) = ap one_for (waits m) in
-    record {
-      count = let long : length (answers_to client given) ≡ length (answers_to client p.early) + length (answers_to client p.late) = ap length all ∙ simp length-append in
-          let a = p.comes.count in let b = goes.count in omega arith;
-      unclosed = ap has_closed all ∙ unclosed_append (answers_to client p.early) (answers_to client p.late) p.comes.unclosed goes.unclosed;
-      connected = goes.connected ∙ connects m ∙ p.comes.connected;
-    }
-
-end_untold : (m : Machine) (o : Option SeatRecord) → (at_found steps.End m o).answer ≡ None
-end_untold m None = refl
-end_untold m (Some s) = cond_both s.connected (silent (with_seat s.number with_end m)) (silent m) (λ e. e.answer ≡ None) (λ e. refl) (λ e. refl)
-
-end_waits : (client : ℕ) (m : Machine) (o : Option SeatRecord) → waits_in client ((at_found steps.End m o).machine).seats ≡ waits_in client m.seats
-end_waits client m None = refl
-end_waits client m (Some s) =
-    cond_both s.connected (silent (with_seat s.number with_end m)) (silent m) (λ e. waits_in client (e.machine).seats ≡ waits_in client m.seats)
-    (λ e. changed_quiet client s.number with_end is_waiting m.seats (λ t. refl) (λ t. refl)) (λ e. refl)
-
-end_connects : (client : ℕ) (m : Machine) (o : Option SeatRecord) → connected_in client ((at_found steps.End m o).machine).seats ≡ connected_in client m.seats
-end_connects client m None = refl
-end_connects client m (Some s) =
-    cond_both s.connected (silent (with_seat s.number with_end m)) (silent m) (λ e. connected_in client (e.machine).seats ≡ connected_in client m.seats)
-    (λ e. changed_quiet client s.number with_end (λ t. t.connected) m.seats (λ t. refl) (λ t. refl)) (λ e. refl)
-
-none_waited : (n : ℕ) (b : Bool) → n + one_for b ≡ 0 → (n ≡ 0) × (b ≡ false)
-none_waited n true h = absurd (omega arith)
-none_waited n false h = (omega arith, refl)
-
-no_length : (xs : List Answer) → length xs ≡ 0 → xs ≡ []
-no_length [] h = refl
-no_length (x ∷ xs) h = absurd (omega arith)
-
-addressed_told : (seat : ℕ) (o : Option Answer) → answers_to seat (addressed seat o) ≡ told o
-addressed_told seat None = refl
-addressed_told seat (Some answer) = rw (eq-eqb seat seat refl) refl
-
--- the answers to the client that takes the step
-answers_of_parts : (seat : ℕ) (o : Option Answer) (early late given : List GivenAnswer) → given ≡ early ++ (addressed seat o ++ late) → answers_to seat given ≡ answers_to seat early ++ (told o ++ answers_to seat late)
-answers_of_parts seat o early late given e =
-    ap (answers_to seat) e
-    ∙ answers_append seat early (addressed seat o ++ late)
-    ∙ ap (λ more. answers_to seat early ++ more) (answers_append seat (addressed seat o) late)
-    ∙ ap (λ now. answers_to seat early ++ (now ++ answers_to seat late)) (addressed_told seat o)
-
-no_wait : (here connected waits : Bool) → (not waits || connected) ≡ true → (here && connected) ≡ false → (here && waits) ≡ false
-no_wait false connected waits h i = refl
-no_wait true true waits h i = absurd cc
-no_wait true false true h i = absurd cc
-no_wait true false false h i = refl
-
--- Where nobody is connected nobody waits.
-unconnected_waits_not : (seat : ℕ) (seats : List SeatRecord) → All (λ s. is_open_wait s ≡ true) seats → connected_in seat seats ≡ false → waits_in seat seats ≡ false
-unconnected_waits_not seat seats waits c =
-    list_any_not (λ s. s.number == seat && is_waiting s) seats
-    (all_weaker (λ s. (is_open_wait s ≡ true) × ((s.number == seat && s.connected) ≡ false)) (λ s. (s.number == seat && is_waiting s) ≡ false) seats
-    (λ s h. no_wait (s.number == seat) s.connected (is_waiting s) h.0 h.1)
-    (all_both (λ s. is_open_wait s ≡ true) (λ s. (s.number == seat && s.connected) ≡ false) seats waits (none_pass (λ s. s.number == seat && s.connected) seats c)))
-
--- the seat that the step is at, before the command's own effect
-found_before : (first last : Machine) (seat : ℕ) (what : Step) (given : List GivenAnswer) → IsLawful first → seat < first.settings.seats → (p : Parts seat first last seat what given) → Found seat (p.before).seats
-found_before first last seat what given h there p = finds first.settings.seats seat (p.before).seats (p.comes.numbers ∙ h.seats) there
-
-abbrev seated : SeatRecord → SeatRecord
-seated s = record (empty_seat s.number) { connected = true }
-
-gives_connect : (first last : Machine) (seat : ℕ) (given : List GivenAnswer) → IsLawful first → seat < first.settings.seats → Parts seat first last seat steps.Connect given → connected_in seat first.seats ≡ false → (answers_to seat given ≡ []) × (owing seat last ≡ 0) × (is_connected_at seat last ≡ true)
-gives_connect first last seat given h there p c =
-    let m = p.before in
-    let f = found_before first last seat steps.Connect given h there p in
-    let s = f.client in
-    let waits_first : waits_in seat first.seats ≡ false = unconnected_waits_not seat first.seats (all_pass is_open_wait first.seats h.waits) c in
-    let begin = none_waited (length (answers_to seat p.early)) (waits_in seat m.seats) (p.comes.count ∙ ap one_for waits_first) in
-    let gone : s.connected ≡ false = sym f.connected ∙ p.comes.connected ∙ c in
-    let effect_is : effect m seat steps.Connect ≡ silent (after_connect m s.number) =
-    ap (at_found steps.Connect m) f.found ∙ ap (λ b. cond b (silent m) (silent (after_connect m s.number))) gone in
-    let e : acted p.memory m seat steps.Connect ≡ silent (after_connect m s.number) =
-    acted_fully p.memory m seat steps.Connect refl (ap (λ (x : Effect). shares_body x.answer) effect_is) p.possible ∙ effect_is in
-    let goes : Passes seat (changed s.number seated m.seats) last.seats p.late = subst (λ (x : Effect). Passes seat (x.machine).seats last.seats p.late) e p.goes in
-    let waits_after : waits_in seat (changed s.number seated m.seats) ≡ false =
-    subst (λ n. waits_in n (changed s.number seated m.seats) ≡ false) f.number (changed_none s.number seated is_waiting m.seats (λ t. refl)) in
-    let connected_after : connected_in seat (changed s.number seated m.seats) ≡ true =
-    subst (λ n. connected_in n (changed s.number seated m.seats) ≡ true) f.number (changed_some seated (λ t. t.connected) m.seats s f.there (λ t. refl) (λ t. refl)) in
-    let then = none_waited (length (answers_to seat p.late)) (waits_in seat last.seats) (goes.count ∙ ap one_for waits_after) in
-    let nothing : answers_to seat given ≡ answers_to seat p.early ++ answers_to seat p.late =
-    answers_of_parts seat None p.early p.late given (p.given_is ∙ ap (λ (x : Effect). p.early ++ (addressed seat x.answer ++ p.late)) e) in (
-      nothing ∙ ap (λ xs. xs ++ answers_to seat p.late) (no_length (answers_to seat p.early) begin.0) ∙ no_length (answers_to seat p.late) then.0,
-      ap one_for then.1,
-      goes.connected ∙ connected_after,
-    )
-
-gives_answer : (first last : Machine) (seat : ℕ) (request : Request) (given : List GivenAnswer) → IsLawful first → seat < first.settings.seats → Parts seat first last seat (steps.Ask request) given → connected_in seat first.seats ≡ true → owing seat first ≡ 0 → GetsAnswer first last seat request (answers_to seat given)
-gives_answer first last seat request given h there p c none =
-    let m = p.before in
-    let f = found_before first last seat (steps.Ask request) given h there p in
-    let begin = none_waited (length (answers_to seat p.early)) (waits_in seat m.seats) (p.comes.count ∙ none) in
-    let reply = replies_acted p.memory m seat request begin.1 p.possible (replies_effect m seat request f (p.comes.connected ∙ c) begin.1) in
-    let o = (acted p.memory m seat (steps.Ask request)).answer in
-    let all : answers_to seat given ≡ told o ++ answers_to seat p.late =
-    answers_of_parts seat o p.early p.late given p.given_is
-    ∙ ap (λ xs. xs ++ (told o ++ answers_to seat p.late)) (no_length (answers_to seat p.early) begin.0) in
-    record {
-      count = let long : length (answers_to seat given) ≡ length (told o) + length (answers_to seat p.late) = ap length all ∙ simp length-append in
-          let a = reply.count in let b = p.goes.count in omega arith;
-      at_once = λ e. ap one_for ((none_waited (length (answers_to seat p.late)) (waits_in seat last.seats) (p.goes.count ∙ ap one_for (reply.at_once e))).1);
-      unclosed = ap has_closed all ∙ unclosed_append (told o) (answers_to seat p.late) reply.unclosed p.goes.unclosed;
-      connected = p.goes.connected ∙ reply.connected ∙ p.comes.connected ∙ c;
-    }
-
-gives_closed : (first last : Machine) (seat : ℕ) (given : List GivenAnswer) → IsLawful first → seat < first.settings.seats → Parts seat first last seat steps.Close given → connected_in seat first.seats ≡ true → GetsClosed first last seat (answers_to seat given)
-gives_closed first last seat given h there p c =
-    let m = p.before in
-    let f = found_before first last seat steps.Close given h there p in
-    let s = f.client in
-    let here : s.connected ≡ true = sym f.connected ∙ p.comes.connected ∙ c in
-    let effect_is : effect m seat steps.Close ≡ telling answers.Closed (after_close m s.number) =
-    ap (at_found steps.Close m) f.found ∙ ap (λ b. cond b (telling answers.Closed (after_close m s.number)) (silent m)) here in
-    let e : acted p.memory m seat steps.Close ≡ telling answers.Closed (after_close m s.number) =
-    acted_fully p.memory m seat steps.Close refl (ap (λ (x : Effect). shares_body x.answer) effect_is) p.possible ∙ effect_is in
-    let emptied : SeatRecord → SeatRecord = λ s. empty_seat s.number in
-    let goes : Passes seat (changed s.number emptied m.seats) last.seats p.late = subst (λ (x : Effect). Passes seat (x.machine).seats last.seats p.late) e p.goes in
-    let waits_after : waits_in seat (changed s.number emptied m.seats) ≡ false =
-    subst (λ n. waits_in n (changed s.number emptied m.seats) ≡ false) f.number (changed_none s.number emptied is_waiting m.seats (λ t. refl)) in
-    let connected_after : connected_in seat (changed s.number emptied m.seats) ≡ false =
-    subst (λ n. connected_in n (changed s.number emptied m.seats) ≡ false) f.number (changed_none s.number emptied (λ t. t.connected) m.seats (λ t. refl)) in
-    let then = none_waited (length (answers_to seat p.late)) (waits_in seat last.seats) (goes.count ∙ ap one_for waits_after) in
-    record {
-      early = answers_to seat p.early;
-      given_is = answers_of_parts seat (Some answers.Closed) p.early p.late given (p.given_is ∙ ap (λ (x : Effect). p.early ++ (addressed seat x.answer ++ p.late)) e)
-          ∙ ap (λ xs. answers_to seat p.early ++ (answers.Closed ∷ xs)) (no_length (answers_to seat p.late) then.0);
-      count = let a = p.comes.count in omega arith;
-      unclosed = p.comes.unclosed;
-      none = ap one_for then.1;
-      gone = goes.connected ∙ connected_after;
-    }
-
--- A tick at any seat gives to any client what it waits for.
-pub tick_gives_client : (first last : Machine) (at seat client : ℕ) (outcome : Outcome) (given : List GivenAnswer) → IsStep first at seat steps.Tick outcome given last → GetsWhatWaits first last client (answers_to client given)
-tick_gives_client first last at seat client outcome given s =
-    gets_quiet client first last seat steps.Tick given (parts_of client first last at seat steps.Tick outcome given s) refl (λ m. refl) (λ m. refl) (λ m. refl)
-
-over_by_end : (waits soon past ended : Bool) → ended ≡ true → (waits && (soon || (past || ended))) ≡ false → waits ≡ false
-over_by_end false soon past ended e h = refl
-over_by_end true true past ended e h = absurd cc
-over_by_end true false true ended e h = absurd cc
-over_by_end true false false ended e h = absurd cc
-
--- Who sends no more waits no more: no wait would end after the step.
-gives_end : (first last : Machine) (seat : ℕ) (given : List GivenAnswer) → IsLawful first → IsLawful last → seat < first.settings.seats → Parts seat first last seat steps.End given → connected_in seat first.seats ≡ true → owing seat last ≡ 0
-gives_end first last seat given h i there p c =
-    let m = p.before in
-    let f = found_before first last seat steps.End given h there p in
-    let s = f.client in
-    let here : s.connected ≡ true = sym f.connected ∙ p.comes.connected ∙ c in
-    let effect_is : effect m seat steps.End ≡ silent (with_seat s.number with_end m) =
-    ap (at_found steps.End m) f.found ∙ ap (λ b. cond b (silent (with_seat s.number with_end m)) (silent m)) here in
-    let e : acted p.memory m seat steps.End ≡ silent (with_seat s.number with_end m) =
-    acted_fully p.memory m seat steps.End refl (ap (λ (x : Effect). shares_body x.answer) effect_is) p.possible ∙ effect_is in
-    let goes : Passes seat (changed s.number with_end m.seats) last.seats p.late = subst (λ (x : Effect). Passes seat (x.machine).seats last.seats p.late) e p.goes in
-    let ended_after : ended_in seat (changed s.number with_end m.seats) ≡ true =
-    subst (λ n. ended_in n (changed s.number with_end m.seats) ≡ true) f.number (changed_some with_end (λ t. t.ended) m.seats s f.there (λ t. refl) (λ t. refl)) in
-    let same_numbers : map (λ t. t.number) (changed s.number with_end m.seats) ≡ map (λ t. t.number) m.seats =
-    keys_of_map (λ t. t.number) (λ t. cond (t.number == s.number) (with_end t) t) m.seats
-    (all_always (λ t. (cond (t.number == s.number) (with_end t) t).number ≡ t.number) m.seats
-    (λ t. cond_both (t.number == s.number) (with_end t) t (λ u. u.number ≡ t.number) (λ e. refl) (λ e. refl))) in
-    let g = finds first.settings.seats seat last.seats (goes.numbers ∙ same_numbers ∙ p.comes.numbers ∙ h.seats) there in
-    let r = g.client in
-    let is_over : r.ended ≡ true = sym g.ended ∙ goes.ended ∙ ended_after in
-    let ends_not : ends_waiting last r ≡ false =
-    all_at (λ t. ends_waiting last t ≡ false) last.seats r (none_pass (ends_waiting last) last.seats (first_of_none (ends_waiting last) is_wait_before last.seats i.wait_ends)) g.there in
-    ap one_for (g.waits ∙ over_by_end (is_waiting r) (is_deadline_soon last r) (is_until_over last.moment r.wait) r.ended is_over ends_not)
-
--- What a step gives to the client at its seat.
-pub step_gives_client : (first last : Machine) (at seat : ℕ) (what : Step) (outcome : Outcome) (given : List GivenAnswer) → IsLawful first → seat < first.settings.seats → IsStep first at seat what outcome given last → GivesClient seat first what given last
-step_gives_client first last at seat steps.Connect outcome given h there s = λ c. gives_connect first last seat given h there (parts_of seat first last at seat steps.Connect outcome given s) c
-step_gives_client first last at seat (steps.Ask request) outcome given h there s =
-    λ c none. gives_answer first last seat request given h there (parts_of seat first last at seat (steps.Ask request) outcome given s) c none
-step_gives_client first last at seat steps.Close outcome given h there s = λ c. gives_closed first last seat given h there (parts_of seat first last at seat steps.Close outcome given s) c
-step_gives_client first last at seat steps.End outcome given h there s =
-    let p = parts_of seat first last at seat steps.End outcome given s in (
-      gets_quiet seat first last seat steps.End given p refl
-          (λ m. end_untold m (seat_with seat m.seats)) (λ m. end_waits seat m (seat_with seat m.seats)) (λ m. end_connects seat m (seat_with seat m.seats)),
-      λ c. gives_end first last seat given h (step_is_lawful first last at seat steps.End outcome given h s) there p c,
-    )
-step_gives_client first last at seat steps.Drain outcome given h there s =
-    gets_quiet seat first last seat steps.Drain given (parts_of seat first last at seat steps.Drain outcome given s) refl (λ m. refl) (λ m. refl) (λ m. refl)
-step_gives_client first last at seat steps.Tick outcome given h there s = tick_gives_client first last at seat seat outcome given s
-step_gives_client first last at seat steps.Gone outcome given h there s =
-    gets_quiet seat first last seat steps.Gone given (parts_of seat first last at seat steps.Gone outcome given s) refl (λ m. refl) (λ m. refl) (λ m. refl)
-
--- A client that asks while it waits changes nothing.
-silent_asked : (memory : Memory) (m : Machine) (seat : ℕ) (request : Request) → effect m seat (steps.Ask request) ≡ silent m → IsTrue (is_possible memory m seat (steps.Ask request)) → acted memory m seat (steps.Ask request) ≡ silent m
-silent_asked granted m seat request e p = e
-silent_asked growth_refused m seat request e p =
-    absurd (both_ways (may_be_left_out (effect m seat (steps.Ask request)).answer) (ap (λ (x : Effect). may_be_left_out x.answer) e) ((and_parts _ _ p).1))
-silent_asked share_refused m seat request e p = absurd (both_ways (shares_body (effect m seat (steps.Ask request)).answer) (ap (λ (x : Effect). shares_body x.answer) e) p)
-
-asks_in_vain : (m : Machine) (seat : ℕ) (request : Request) (f : Found seat m.seats) → waits_in seat m.seats ≡ true → effect m seat (steps.Ask request) ≡ silent m
-asks_in_vain m seat request f w =
-    let s = f.client in
-    let waits : is_waiting s ≡ true = sym f.waits ∙ w in
-    ap (λ o. at_found (steps.Ask request) m o) f.found ∙ ap (λ b. cond b (asked request m s) (silent m)) (and_right s.connected (not (is_waiting s)) (ap not waits))
-
--- A connected client that asks, whether it waits or not.
-pub asks_at_most : (first last : Machine) (at seat : ℕ) (request : Request) (outcome : Outcome) (given : List GivenAnswer) → IsLawful first → seat < first.settings.seats → is_connected_at seat first ≡ true → IsStep first at seat (steps.Ask request) outcome given last → GetsAtMost first last seat request (answers_to seat given)
-asks_at_most first last at seat request outcome given h there c step =
-    let p : Parts seat first last seat (steps.Ask request) given = parts_of seat first last at seat (steps.Ask request) outcome given step in
-    let m = p.before in
-    let f = found_before first last seat (steps.Ask request) given h there p in
-    let o = (acted p.memory m seat (steps.Ask request)).answer in
-    let all : answers_to seat given ≡ answers_to seat p.early ++ (told o ++ answers_to seat p.late) = answers_of_parts seat o p.early p.late given p.given_is in
-    elim (cases_Bool (waits_in seat m.seats)) [
-      | inl w ↦
-          let e = silent_asked p.memory m seat request (asks_in_vain m seat request f w) p.possible in
-          let goes : Passes seat m.seats last.seats p.late = subst (λ (x : Effect). Passes seat (x.machine).seats last.seats p.late) e p.goes in
-          let less : answers_to seat given ≡ answers_to seat p.early ++ answers_to seat p.late =
-          all ∙ ap (λ (x : Effect). answers_to seat p.early ++ (told x.answer ++ answers_to seat p.late)) e in
-          record {
-            count = let long : length (answers_to seat given) ≡ length (answers_to seat p.early) + length (answers_to seat p.late) = ap length less ∙ simp length-append in
-                let a = p.comes.count in let b = goes.count in omega arith;
-            unclosed = ap has_closed less ∙ unclosed_append (answers_to seat p.early) (answers_to seat p.late) p.comes.unclosed goes.unclosed;
-            connected = goes.connected ∙ p.comes.connected ∙ c;
-          }
-      | inr w ↦
-          let reply = replies_acted p.memory m seat request w p.possible (replies_effect m seat request f (p.comes.connected ∙ c) w) in
-          let before : one_for (waits_in seat m.seats) ≡ 0 = ap one_for w in
-          record {
-            count = let long : length (answers_to seat given) ≡ length (answers_to seat p.early) + (length (told o) + length (answers_to seat p.late)) = ap length all ∙ simp length-append in
-                let a = p.comes.count in let b = p.goes.count in let d = reply.count in omega arith;
-            unclosed = ap has_closed all ∙ unclosed_append (answers_to seat p.early) (told o ++ answers_to seat p.late) p.comes.unclosed (unclosed_append (told o) (answers_to seat p.late) reply.unclosed p.goes.unclosed);
-            connected = p.goes.connected ∙ reply.connected ∙ p.comes.connected ∙ c;
-          }
-    ]
 
 -- What a command at a seat leaves to the client of another.
 pub record Stays (client number : ℕ) (m : Machine) (e : Effect) : Type 0 where
@@ -799,50 +522,11 @@ stays_effect client m seat steps.Close = stays_at_found client seat steps.Close 
 stays_effect client m seat steps.Tick = stays_same client seat m (silent m) refl refl
 stays_effect client m seat steps.Gone = stays_same client seat m (silent m) refl refl
 
-stays_acted : (client : ℕ) (memory : Memory) (m : Machine) (seat : ℕ) (what : Step) → Stays client seat m (acted memory m seat what)
+pub stays_acted : (client : ℕ) (memory : Memory) (m : Machine) (seat : ℕ) (what : Step) → Stays client seat m (acted memory m seat what)
 stays_acted client granted m seat what = stays_effect client m seat what
 stays_acted client growth_refused m seat what = stays_same client seat m (telling answers.OutOfMemory m) refl refl
 stays_acted client share_refused m seat what = stays_same client seat m (telling answers.OutOfMemory m) refl refl
 
-told_elsewhere : (client seat : ℕ) (o : Option Answer) → (seat == client) ≡ false → answers_to client (addressed seat o) ≡ []
+pub told_elsewhere : (client seat : ℕ) (o : Option Answer) → (seat == client) ≡ false → answers_to client (addressed seat o) ≡ []
 told_elsewhere client seat None d = refl
 told_elsewhere client seat (Some answer) d = rw d refl
-
--- A step of another seat gives the client what it waits for, and nothing else.
-pub others_give : (first last : Machine) (at seat client : ℕ) (what : Step) (outcome : Outcome) (given : List GivenAnswer) → (seat == client) ≡ false → IsStep first at seat what outcome given last → GetsWhatWaits first last client (answers_to client given)
-others_give first last at seat client what outcome given other step =
-    let p : Parts client first last seat what given = parts_of client first last at seat what outcome given step in
-    let m = p.before in
-    let s = stays_acted client p.memory m seat what in
-    let o = (acted p.memory m seat what).answer in
-    let all : answers_to client given ≡ answers_to client p.early ++ answers_to client p.late =
-    ap (answers_to client) p.given_is ∙ answers_append client p.early (addressed seat o ++ p.late)
-    ∙ ap (λ xs. answers_to client p.early ++ xs) (answers_append client (addressed seat o) p.late ∙ ap (λ xs. xs ++ answers_to client p.late) (told_elsewhere client seat o other)) in
-    let same : one_for (waits_in client ((acted p.memory m seat what).machine).seats) ≡ one_for (waits_in client m.seats) = ap one_for (s.waits other) in
-    record {
-      count = let long : length (answers_to client given) ≡ length (answers_to client p.early) + length (answers_to client p.late) = ap length all ∙ simp length-append in
-          let a = p.comes.count in let b = p.goes.count in omega arith;
-      unclosed = ap has_closed all ∙ unclosed_append (answers_to client p.early) (answers_to client p.late) p.comes.unclosed p.goes.unclosed;
-      connected = p.goes.connected ∙ s.connected other ∙ p.comes.connected;
-    }
-
--- settings stay in turns
-chain_settings : (Turns : Machine → GivenAnswer → Machine → Type 0) (first : Machine) (given : List GivenAnswer) (last : Machine) → ((m : Machine) (g : GivenAnswer) (n : Machine) → Turns m g n → n.settings ≡ m.settings) → Chain Turns first given last → last.settings ≡ first.settings
-chain_settings Turns first [] last each chain = ap (λ (n : Machine). n.settings) chain
-chain_settings Turns first (g ∷ given) last each chain = chain_settings Turns chain.0 given last each chain.2 ∙ each first g chain.0 chain.1
-
-hand_out_settings : (m : Machine) (j : Job) (s : SeatRecord) (given : GivenAnswer) (next : Machine) → IsHandOut m j s given next → next.settings ≡ m.settings
-hand_out_settings m j s given next (inl h) = ap (λ (n : Machine). n.settings) h.1
-hand_out_settings m j s given next (inr h) = ap (λ (n : Machine). n.settings) h.1
-
-serves_settings : (first : Machine) (handed ended : List GivenAnswer) (last : Machine) → Serves first handed ended last → last.settings ≡ first.settings
-serves_settings first handed ended last s =
-    let d = s.dispatches in
-    let e = s.ends_waits in
-    ap (λ (n : Machine). n.settings) e.forgets ∙ chain_settings WaitEndTurn s.between ended e.end (λ m g n turn. ap (λ (x : Machine). x.settings) (end_of m g n turn).next_is) e.turns
-    ∙ ap (λ (n : Machine). n.settings) d.forgets ∙ chain_settings DispatchTurn first handed d.end (λ m g n turn. let t = turn_of m g n turn in hand_out_settings m t.job t.client g n t.hands) d.turns
-
-pub step_settings : (first last : Machine) (at seat : ℕ) (what : Step) (outcome : Outcome) (given : List GivenAnswer) → IsStep first at seat what outcome given last → last.settings ≡ first.settings
-step_settings first last at seat what outcome given s =
-    serves_settings s.after s.handed_then s.ended_then last s.serves_then ∙ ap (λ (n : Machine). n.settings) s.acts ∙ (stays_acted 0 s.memory s.before seat what).settings
-    ∙ serves_settings (forgetting (after_timers (at_moment at first))) s.handed s.ended s.before s.serves
