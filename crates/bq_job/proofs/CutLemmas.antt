@@ -5,7 +5,6 @@ use Rattle.bq_job.specs.declared.answer.Answer.TheVariants as answers
 use Rattle.bq_job.specs.declared.step.Step.{Step}
 use Rattle.bq_job.specs.History.{LineOver}
 use Rattle.bq_job.specs.OneClient.{has_closed}
-use Rattle.bq_job.specs.Profile.{Profile}
 use Rattle.bq_job.specs.SeatDid.{AreLinesServed}
 use Rattle.bq_job.proofs.GivenLemmas.{AreParts, most_of_lines}
 
@@ -36,14 +35,14 @@ parts_close [] given h = ap closes h
 parts_close (most ∷ mosts) given h =
     ap closes h.4 ∙ (let a = closes_append h.0 (answers.Closed ∷ h.1) in let b = unclosed_closes h.0 h.2 in let c = parts_close mosts h.1 h.5 in omega arith)
 
-pub lines_close : (p : Profile) (lines : List LineOver) (own : List Step) (taken : List Answer) (h : AreLinesServed p lines own taken) → length (most_of_lines p lines own taken h) ≤ closes taken
-lines_close p [] own taken h = omega arith
-lines_close p (line ∷ lines) own taken h =
+pub lines_close : (size : ℕ) (lines : List LineOver) (own : List Step) (taken : List Answer) (h : AreLinesServed size lines own taken) → length (most_of_lines size lines own taken h) ≤ closes taken
+lines_close size [] own taken h = omega arith
+lines_close size (line ∷ lines) own taken h =
     let l = h.4 in
     let a : closes taken ≡ closes h.2 + closes h.3 = ap closes h.6 ∙ closes_append h.2 h.3 in
     let b : closes h.2 ≡ closes l.own + closes (l.others ++ answers.Closed ∷ []) = ap closes l.taken_is ∙ closes_append l.own (l.others ++ answers.Closed ∷ []) in
     let c = closes_append l.others (answers.Closed ∷ []) in
-    let d = lines_close p lines h.1 h.3 h.7 in
+    let d = lines_close size lines h.1 h.3 h.7 in
     omega arith
 
 -- A list is cut at its first `Closed` in one way.

@@ -16,7 +16,6 @@ use Rattle.bq_job.specs.Lawful.{IsLawful}
 use Rattle.bq_job.specs.LineSteps.{LineHeard, heard, MayTellEnd, answered_count, wanted}
 use Rattle.bq_job.specs.Machine.{Machine, Settings}
 use Rattle.bq_job.specs.OneClient.{GetsAtMost, GetsClosed, GetsWhatWaits, has_closed, is_closed_answer, is_connected_at, owing}
-use Rattle.bq_job.specs.Profile.{Profile}
 use Rattle.bq_job.specs.Runs.{Entry, Run, answers_to}
 use Rattle.bq_job.specs.Steps.{IsStep, Outcome}
 use Rattle.bq_job.proofs.LawfulLemmas.{step_is_lawful}
@@ -304,9 +303,9 @@ AreParts [] given = given ≡ []
 AreParts (most ∷ mosts) given =
     (part later : List Answer) × (has_closed part ≡ false) × (length part ≤ most) × (given ≡ part ++ answers.Closed ∷ later) × AreParts mosts later
 
-abbrev pub most_of_lines : (p : Profile) (lines : List LineOver) (own : List Step) (taken : List Answer) → AreLinesServed p lines own taken → List ℕ
-most_of_lines p [] own taken h = []
-most_of_lines p (line ∷ lines) own taken h = answered_count h.4.line_owed.steps.asked ∷ most_of_lines p lines h.1 h.3 h.7
+abbrev pub most_of_lines : (size : ℕ) (lines : List LineOver) (own : List Step) (taken : List Answer) → AreLinesServed size lines own taken → List ℕ
+most_of_lines size [] own taken h = []
+most_of_lines size (line ∷ lines) own taken h = answered_count h.4.line_owed.steps.asked ∷ most_of_lines size lines h.1 h.3 h.7
 
 wanted_append : (xs ys : List Step) → wanted (xs ++ ys) ≡ wanted xs + wanted ys
 wanted_append [] ys = omega arith
@@ -333,12 +332,12 @@ line_wants seen asked told e = omega (arith, wanted_append (map steps.Ask asked)
 line_then : (ss more rest : List Step) → ((ss ++ steps.Close ∷ []) ++ more) ++ rest ≡ ss ++ steps.Close ∷ (more ++ rest)
 line_then ss more rest = append_assoc (ss ++ steps.Close ∷ []) more rest ∙ append_assoc ss (steps.Close ∷ []) (more ++ rest)
 
-pub gives_parts : (t : ℕ) (p : Profile) (lines : List LineOver) (own : List Step) (taken : List Answer) (h : AreLinesServed p lines own taken)
+pub gives_parts : (t : ℕ) (size : ℕ) (lines : List LineOver) (own : List Step) (taken : List Answer) (h : AreLinesServed size lines own taken)
     → (m last : Machine) (history : List Entry) (given : List GivenAnswer) → Serves t m → is_connected_at t m ≡ false → owing t m ≡ 0
-    → (tail : List Step) → are_gone tail ≡ true → Run m history given last → steps_at t history ≡ own ++ tail → AreParts (most_of_lines p lines own taken h) (answers_to t given)
-gives_parts t p [] own taken h m last history given s free none tail gone r is =
+    → (tail : List Step) → are_gone tail ≡ true → Run m history given last → steps_at t history ≡ own ++ tail → AreParts (most_of_lines size lines own taken h) (answers_to t given)
+gives_parts t size [] own taken h m last history given s free none tail gone r is =
     nothing_behind t m last history given s none r (ap are_gone (is ∙ ap (λ (xs : List Step). xs ++ tail) h.0) ∙ gone)
-gives_parts t p (line ∷ lines) own taken h m last history given s free none tail gone r is =
+gives_parts t size (line ∷ lines) own taken h m last history given s free none tail gone r is =
     let l = h.4.line_owed.steps in
     let ss = map steps.Ask l.asked ++ l.end_steps in
     let more = h.1 ++ tail in
@@ -347,11 +346,11 @@ gives_parts t p (line ∷ lines) own taken h m last history given s free none ta
     let c = connects t m last history given (ss ++ steps.Close ∷ more) s free none r (is ∙ whole) in
     let e = line_ends t c.first last c.history c.rest ss more c.serves c.connected (within_line (heard line.seen) l.asked l.end_steps l.ends) c.runs c.steps_are in
     let g = e.goes in
-    let later = gives_parts t p lines h.1 h.3 h.7 g.first last g.history g.given g.serves g.free g.owes tail gone g.runs g.steps_are in (
+    let later = gives_parts t size lines h.1 h.3 h.7 g.first last g.history g.given g.serves g.free g.owes tail gone g.runs g.steps_are in (
       e.part,
       e.later,
       e.unclosed,
       (let a = e.few in let b = c.owes in let w = line_wants (heard line.seen) l.asked l.end_steps l.ends in omega arith),
       c.answers_are ∙ e.given_is,
-      subst (λ (xs : List Answer). AreParts (most_of_lines p lines h.1 h.3 h.7) xs) g.answers_are later,
+      subst (λ (xs : List Answer). AreParts (most_of_lines size lines h.1 h.3 h.7) xs) g.answers_are later,
     )

@@ -14,7 +14,6 @@ use Rattle.bq_job.specs.History.{ArePickedFrom, IsTimedBy, LineOver}
 use Rattle.bq_job.specs.HistoryExamples.{given_over, usual}
 use Rattle.bq_job.specs.LineOwed.{AreLinesOwed}
 use Rattle.bq_job.specs.Machine.{Machine, Settings, new_machine}
-use Rattle.bq_job.specs.Profile.{Profile}
 use Rattle.bq_job.specs.Runs.{Entry}
 use Rattle.bq_job.specs.SameRequests.{AreSameRequests}
 use Rattle.bq_job.proofs.ComputedRunLemmas.{computed_goes}
@@ -73,10 +72,10 @@ close_before (steps.Close ∷ xs) ys h = refl
 close_before (x ∷ xs) ys h = close_before xs ys h
 
 -- where there is a line, there is a close
-lines_are_shut : (p : Profile) (lines : List LineOver) (own : List Step) (given : List Answer) → AreLinesOwed p lines own given
+lines_are_shut : (size : ℕ) (lines : List LineOver) (own : List Step) (given : List Answer) → AreLinesOwed size lines own given
     → (own ≡ []) ⊎ (list_any is_close own ≡ true)
-lines_are_shut p [] own given h = inl h.0
-lines_are_shut p (line ∷ lines) own given h =
+lines_are_shut size [] own given h = inl h.0
+lines_are_shut size (line ∷ lines) own given h =
     let s = h.4.steps in
     let first : list_any is_close h.0 ≡ true =
     ap (list_any is_close) s.steps_are ∙ close_behind (steps.Connect ∷ [] ++ map steps.Ask s.asked ++ s.end_steps) (steps.Close ∷ []) refl in

@@ -19,7 +19,6 @@ use Rattle.bq_job.specs.LineOwed.{AreLinesOwed, IsLineOwed}
 use Rattle.bq_job.specs.LineSteps.{AreAllAnswered, IsWritten, answered_count, answers_text, ends_by_wait}
 use Rattle.bq_job.specs.Machine.{Machine, SeatRecord, Settings, empty_seat, new_machine, numbers}
 use Rattle.bq_job.specs.OneClient.{has_closed, is_connected_at, owing}
-use Rattle.bq_job.specs.Profile.{Profile}
 use Rattle.bq_job.specs.Runs.{Entry, Run, answers_to}
 use Rattle.bq_job.specs.SeatDid.{AreLinesServed, IsLineServed, IsNoneUnwritten}
 use Rattle.bq_job.proofs.CutLemmas.{closes, closes_append, closes_unclosed, lines_close, parts_close, same_cut}
@@ -58,34 +57,34 @@ is_done ends.WriteFault asked own others written a i w none =
     subst (λ (xs : List Answer). IsDone ends.WriteFault asked xs written) (nothing_after own others (answered_count asked) a i) (record { answered = a; written_is = w })
 
 -- A line that was given so much, no more than it asked for, is owed just what it took and was written.
-line_owed : (p : Profile) (line : LineOver) (own : List Step) (got part : List Answer) (l : IsLineServed p line own got) → part ≡ l.own ++ l.others → length part ≤ answered_count l.line_owed.steps.asked → IsLineOwed p line own part
-line_owed p line own got part l is few =
+line_owed : (size : ℕ) (line : LineOver) (own : List Step) (got part : List Answer) (l : IsLineServed size line own got) → part ≡ l.own ++ l.others → length part ≤ answered_count l.line_owed.steps.asked → IsLineOwed size line own part
+line_owed size line own got part l is few =
     let done = is_done line.over l.line_owed.steps.asked l.own l.others line.seen.written l.line_owed.answered (let e = ap length is in omega arith) l.line_owed.written l.none_unwritten in
     let done' = subst (λ (xs : List Answer). IsDone line.over l.line_owed.steps.asked xs line.seen.written) (sym is) done in
     record { steps = l.line_owed.steps; answered = done'.answered; written = done'.written_is }
 
 -- Lines that took a beginning of what was given them took all of it, and each is owed just that.
-pub lines_owed : (p : Profile) (lines : List LineOver) (own : List Step) (taken waiting given : List Answer) (h : AreLinesServed p lines own taken)
-    → AreParts (most_of_lines p lines own taken h) given → given ≡ taken ++ waiting → AreLinesOwed p lines own given × (waiting ≡ [])
-lines_owed p [] own taken waiting given h parts is =
+pub lines_owed : (size : ℕ) (lines : List LineOver) (own : List Step) (taken waiting given : List Answer) (h : AreLinesServed size lines own taken)
+    → AreParts (most_of_lines size lines own taken h) given → given ≡ taken ++ waiting → AreLinesOwed size lines own given × (waiting ≡ [])
+lines_owed size [] own taken waiting given h parts is =
     let none : waiting ≡ [] = sym (is ∙ ap (λ (xs : List Answer). xs ++ waiting) h.1) ∙ parts in
     ((h.0, parts), none)
-lines_owed p (line ∷ lines) own taken waiting given h parts is =
+lines_owed size (line ∷ lines) own taken waiting given h parts is =
     let l = h.4 in
-    let count = parts_close (most_of_lines p (line ∷ lines) own taken h) given parts in
+    let count = parts_close (most_of_lines size (line ∷ lines) own taken h) given parts in
     let took : closes given ≡ closes taken + closes waiting = ap closes is ∙ closes_append taken waiting in
     let a : closes taken ≡ closes h.2 + closes h.3 = ap closes h.6 ∙ closes_append h.2 h.3 in
     let b : closes h.2 ≡ closes l.own + closes (l.others ++ answers.Closed ∷ []) = ap closes l.taken_is ∙ closes_append l.own (l.others ++ answers.Closed ∷ []) in
     let c = closes_append l.others (answers.Closed ∷ []) in
-    let d = lines_close p lines h.1 h.3 h.7 in
+    let d = lines_close size lines h.1 h.3 h.7 in
     let none : closes l.own ≡ 0 = omega arith in
     let unclosed : has_closed (l.own ++ l.others) ≡ false = unclosed_both l.own l.others (closes_unclosed l.own none) l.none_closed in
     let whole : given ≡ (l.own ++ l.others) ++ answers.Closed ∷ (h.3 ++ waiting) =
     is ∙ ap (λ (xs : List Answer). xs ++ waiting) h.6 ∙ append_assoc h.2 h.3 waiting ∙ ap (λ (xs : List Answer). xs ++ (h.3 ++ waiting)) l.taken_is
     ∙ shift l.own l.others (h.3 ++ waiting) in
     let cut = same_cut parts.0 (l.own ++ l.others) parts.1 (h.3 ++ waiting) parts.2 unclosed (sym parts.4 ∙ whole) in
-    let rest = lines_owed p lines h.1 h.3 waiting parts.1 h.7 parts.5 cut.1 in
-    ((h.0, h.1, parts.0, parts.1, line_owed p line h.0 h.2 parts.0 l cut.0 parts.3, parts.2, h.5, parts.4, rest.0), rest.1)
+    let rest = lines_owed size lines h.1 h.3 waiting parts.1 h.7 parts.5 cut.1 in
+    ((h.0, h.1, parts.0, parts.1, line_owed size line h.0 h.2 parts.0 l cut.0 parts.3, parts.2, h.5, parts.4, rest.0), rest.1)
   where
     shift : (xs ys zs : List Answer) → (xs ++ (ys ++ answers.Closed ∷ [])) ++ zs ≡ (xs ++ ys) ++ answers.Closed ∷ zs
     shift xs ys zs = ap (λ (us : List Answer). us ++ zs) (sym (append_assoc xs ys (answers.Closed ∷ []))) ∙ append_assoc (xs ++ ys) (answers.Closed ∷ []) zs
@@ -102,57 +101,57 @@ starts_quiet : (t : ℕ) (settings : Settings) → owing t (new_machine settings
 starts_quiet t settings = let h = none_such t is_waiting (numbers 0 settings.seats) (λ n. refl) in rw h refl
 
 -- What the run gave the seat is what its lines are owed, and nothing waits any more.
-seat_owed : (settings : Settings) (p : Profile) (t : ℕ) (lines : List LineOver) (own tail : List Step) (taken waiting : List Answer) (history : List Entry) (all : List GivenAnswer) (last : Machine)
-    → t < settings.seats → are_gone tail ≡ true → Run (new_machine settings) history all last → steps_at t history ≡ own ++ tail → answers_to t all ≡ taken ++ waiting → AreLinesServed p lines own taken
-    → AreLinesOwed p lines own (answers_to t all)
-seat_owed settings p t lines own tail taken waiting history all last within gone runs steps_are answers_are served =
+seat_owed : (settings : Settings) (size : ℕ) (t : ℕ) (lines : List LineOver) (own tail : List Step) (taken waiting : List Answer) (history : List Entry) (all : List GivenAnswer) (last : Machine)
+    → t < settings.seats → are_gone tail ≡ true → Run (new_machine settings) history all last → steps_at t history ≡ own ++ tail → answers_to t all ≡ taken ++ waiting → AreLinesServed size lines own taken
+    → AreLinesOwed size lines own (answers_to t all)
+seat_owed settings size t lines own tail taken waiting history all last within gone runs steps_are answers_are served =
     let serves : Serves t (new_machine settings) = record { lawful = new_is_lawful settings; within = within } in
-    let parts = gives_parts t p lines own taken served (new_machine settings) last history all serves (starts_free t settings) (starts_quiet t settings) tail gone runs steps_are in
-    (lines_owed p lines own taken waiting (answers_to t all) served parts answers_are).0
+    let parts = gives_parts t size lines own taken served (new_machine settings) last history all serves (starts_free t settings) (starts_quiet t settings) tail gone runs steps_are in
+    (lines_owed size lines own taken waiting (answers_to t all) served parts answers_are).0
 
-doors_owed : (settings : Settings) (p : Profile) (seat : ℕ) (doors : List (List LineOver)) (submitted : ℕ → List Step) (taken waiting : ℕ → List Answer) (history : List Entry) (all : List GivenAnswer) (last : Machine)
-    → seat + length doors ≤ settings.seats → Run (new_machine settings) history all last → AreTied p seat doors submitted taken waiting history all → AreDoorsOwed p seat doors history all
-doors_owed settings p seat [] submitted taken waiting history all last few runs tied = tt
-doors_owed settings p seat (lines ∷ doors) submitted taken waiting history all last few runs tied =
+doors_owed : (settings : Settings) (size : ℕ) (seat : ℕ) (doors : List (List LineOver)) (submitted : ℕ → List Step) (taken waiting : ℕ → List Answer) (history : List Entry) (all : List GivenAnswer) (last : Machine)
+    → seat + length doors ≤ settings.seats → Run (new_machine settings) history all last → AreTied size seat doors submitted taken waiting history all → AreDoorsOwed size seat doors history all
+doors_owed settings size seat [] submitted taken waiting history all last few runs tied = tt
+doors_owed settings size seat (lines ∷ doors) submitted taken waiting history all last few runs tied =
     let done = tied.2 in
     let steps_are = tied.0 ∙ done.submitted_is in (
       record {
         own = done.own;
-        of_lines = seat_owed settings p seat lines done.own (steps.Gone ∷ []) (taken seat) (waiting seat) history all last (omega arith) refl runs steps_are tied.1 done.of_lines;
+        of_lines = seat_owed settings size seat lines done.own (steps.Gone ∷ []) (taken seat) (waiting seat) history all last (omega arith) refl runs steps_are tied.1 done.of_lines;
         taken_is = steps_are;
       },
-      doors_owed settings p (suc seat) doors submitted taken waiting history all last (omega arith) runs tied.3,
+      doors_owed settings size (suc seat) doors submitted taken waiting history all last (omega arith) runs tied.3,
     )
 
-pub joined : (settings : Settings) (p : Profile) (doors : List (List LineOver)) (control : List ℕ) (failed : Bool) (readings : List (Option ℕ)) (history : List Entry) (given : List GivenAnswer) (last : Machine)
-    → IsJoined settings p doors control failed readings history given last → IsHistoryOf settings p doors control failed readings last
-joined settings p doors control failed readings history given last j = record {
+pub joined : (settings : Settings) (size : ℕ) (doors : List (List LineOver)) (control : List ℕ) (failed : Bool) (readings : List (Option ℕ)) (history : List Entry) (given : List GivenAnswer) (last : Machine)
+    → IsJoined settings size doors control failed readings history given last → IsHistoryOf settings size doors control failed readings last
+joined settings size doors control failed readings history given last j = record {
   history = history;
   given = given;
   run = j.run;
   many = j.many;
-  of_doors = doors_owed settings p 0 doors j.submitted j.taken j.waiting history given last (let a = j.many in omega arith) j.run.runs j.tied;
+  of_doors = doors_owed settings size 0 doors j.submitted j.taken j.waiting history given last (let a = j.many in omega arith) j.run.runs j.tied;
   of_control = j.control_tied ∙ j.control_done;
   of_nobody_else = j.of_nobody_else;
 }
 
-pub line_joined : (settings : Settings) (p : Profile) (seat : ℕ) (line : LineOver) (readings : List (Option ℕ)) (history : List Entry) (given : List GivenAnswer) (last : Machine)
-    → IsLineJoined settings p seat line readings history given last → IsHistoryOfLine settings p seat line readings
-line_joined settings p seat line readings history given last j = record {
+pub line_joined : (settings : Settings) (size : ℕ) (seat : ℕ) (line : LineOver) (readings : List (Option ℕ)) (history : List Entry) (given : List GivenAnswer) (last : Machine)
+    → IsLineJoined settings size seat line readings history given last → IsHistoryOfLine settings size seat line readings
+line_joined settings size seat line readings history given last j = record {
   history = history;
   given = given;
   last = last;
   run = j.run;
-  of_line = seat_owed settings p seat (line ∷ []) (steps_at seat history) [] j.taken j.waiting history given last j.within refl j.run.runs (sym (append-nil (steps_at seat history))) j.answers_are j.served;
+  of_line = seat_owed settings size seat (line ∷ []) (steps_at seat history) [] j.taken j.waiting history given last j.within refl j.run.runs (sym (append-nil (steps_at seat history))) j.answers_are j.served;
   of_nobody_else = j.of_nobody_else;
 }
 
 -- one line more is over
-pub lines_more : (p : Profile) (lines : List LineOver) (line : LineOver) (submitted more : List Step) (taken got : List Answer) → AreLinesServed p lines submitted taken → IsLineServed p line more got
-    → AreLinesServed p (lines ++ line ∷ []) (submitted ++ more) (taken ++ got)
-lines_more p [] line submitted more taken got h l =
+pub lines_more : (size : ℕ) (lines : List LineOver) (line : LineOver) (submitted more : List Step) (taken got : List Answer) → AreLinesServed size lines submitted taken → IsLineServed size line more got
+    → AreLinesServed size (lines ++ line ∷ []) (submitted ++ more) (taken ++ got)
+lines_more size [] line submitted more taken got h l =
     (more, [], got, [], l, ap (λ (xs : List Step). xs ++ more) h.0 ∙ sym (append-nil more), ap (λ (xs : List Answer). xs ++ got) h.1 ∙ sym (append-nil got), (refl, refl))
-lines_more p (first ∷ lines) line submitted more taken got h l = (
+lines_more size (first ∷ lines) line submitted more taken got h l = (
   h.0,
   h.1 ++ more,
   h.2,
@@ -160,5 +159,5 @@ lines_more p (first ∷ lines) line submitted more taken got h l = (
   h.4,
   ap (λ (xs : List Step). xs ++ more) h.5 ∙ append_assoc h.0 h.1 more,
   ap (λ (xs : List Answer). xs ++ got) h.6 ∙ append_assoc h.2 h.3 got,
-  lines_more p lines line h.1 more h.3 got h.7 l,
+  lines_more size lines line h.1 more h.3 got h.7 l,
 )

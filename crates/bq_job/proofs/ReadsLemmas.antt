@@ -1,7 +1,6 @@
 -- Every text has one reading.
 use Rattle.std.proofs.Common.{◌≡◌, ℕ, zero, suc, ◌≤◌, Bool, true, false, List, [], ◌∷◌, ◌++◌, Option, Some, None, ◌⊎◌, inl, inr, refl, sym, ap, ◌∙◌, arith, length, length-append, append_assoc, append-nil, IsTrue, not, ◌&&◌}
 use Rattle.std.proofs.lemmas.Grind.{common_steps}
-use Rattle.bq_job.specs.Profile.{Profile}
 use Rattle.bq_job.specs.Reading.{Reads, AreUnits, IsUnit, BeginsNoUnit, is_quit, quits_last, ends_by_quit}
 use Rattle.bq_job.specs.ComputedReading.{reading, reading_within, first_unit, onto_reading}
 use Rattle.bq_job.specs.SameRequests.{AreSameRequests, IsSameRequest, had_memory}
@@ -9,23 +8,23 @@ use Rattle.bq_job.specs.declared.request.Request.{Request}
 use Rattle.bq_job.specs.declared.request.Request.TheVariants as requests
 use Rattle.bq_job.proofs.UnitLemmas.{first_unit-append, first_unit-unit, no_first_unit, some_pair, IsComputed}
 
-none_read : (n : ℕ) (p : Profile) (text : List ℕ) → first_unit p text ≡ None → reading_within (suc n) p text ≡ ([], text)
-none_read n p text e = rw (e, reading_within) refl
+none_read : (n : ℕ) (size : ℕ) (text : List ℕ) → first_unit size text ≡ None → reading_within (suc n) size text ≡ ([], text)
+none_read n size text e = rw (e, reading_within) refl
 
-quit_read : (n : ℕ) (p : Profile) (text after : List ℕ) (r : Request) → first_unit p text ≡ Some (r, after) → is_quit r ≡ true → reading_within (suc n) p text ≡ (r ∷ [], after)
-quit_read n p text after r e q = rw (e, q, reading_within) refl
+quit_read : (n : ℕ) (size : ℕ) (text after : List ℕ) (r : Request) → first_unit size text ≡ Some (r, after) → is_quit r ≡ true → reading_within (suc n) size text ≡ (r ∷ [], after)
+quit_read n size text after r e q = rw (e, q, reading_within) refl
 
-more_read : (n : ℕ) (p : Profile) (text after : List ℕ) (r : Request) → first_unit p text ≡ Some (r, after) → is_quit r ≡ false
-    → reading_within (suc n) p text ≡ onto_reading r (reading_within n p after)
-more_read n p text after r e q = rw (e, q, reading_within) refl
+more_read : (n : ℕ) (size : ℕ) (text after : List ℕ) (r : Request) → first_unit size text ≡ Some (r, after) → is_quit r ≡ false
+    → reading_within (suc n) size text ≡ onto_reading r (reading_within n size after)
+more_read n size text after r e q = rw (e, q, reading_within) refl
 
 -- a reading of nothing
-pub Reads-none : (p : Profile) (text : List ℕ) → BeginsNoUnit p text → Reads p text [] text
-Reads-none p text none = record { units = []; text_is = refl; are_units = refl; last_quits = refl; ended = inr none }
+pub Reads-none : (size : ℕ) (text : List ℕ) → BeginsNoUnit size text → Reads size text [] text
+Reads-none size text none = record { units = []; text_is = refl; are_units = refl; last_quits = refl; ended = inr none }
 
 -- a reading of a quit
-pub Reads-quit : (p : Profile) (text unit after : List ℕ) (r : Request) → text ≡ unit ++ after → IsUnit p unit r → is_quit r ≡ true → Reads p text (r ∷ []) after
-Reads-quit p text unit after r is u q = record {
+pub Reads-quit : (size : ℕ) (text unit after : List ℕ) (r : Request) → text ≡ unit ++ after → IsUnit size unit r → is_quit r ≡ true → Reads size text (r ∷ []) after
+Reads-quit size text unit after r is u q = record {
   units = unit;
   text_is = is;
   are_units = (unit, [], sym (append-nil unit), u, refl);
@@ -34,9 +33,9 @@ Reads-quit p text unit after r is u q = record {
 }
 
 -- a unit in front of a text that is read
-pub Reads-onto : (p : Profile) (text unit after rest : List ℕ) (r : Request) (requests : List Request)
-    → text ≡ unit ++ after → IsUnit p unit r → is_quit r ≡ false → Reads p after requests rest → Reads p text (r ∷ requests) rest
-Reads-onto p text unit after rest r requests is u q more = record {
+pub Reads-onto : (size : ℕ) (text unit after rest : List ℕ) (r : Request) (requests : List Request)
+    → text ≡ unit ++ after → IsUnit size unit r → is_quit r ≡ false → Reads size after requests rest → Reads size text (r ∷ requests) rest
+Reads-onto size text unit after rest r requests is u q more = record {
   units = unit ++ more.units;
   text_is = rw (is, more.text_is) (sym (append_assoc unit more.units rest));
   are_units = (unit, more.units, refl, u, more.are_units);
@@ -48,35 +47,35 @@ Reads-onto p text unit after rest r requests is u q more = record {
     no_quit r [] q last = refl
     no_quit r (next ∷ requests) q last = rw q last
 
-    go : (requests : List Request) → IsTrue (ends_by_quit requests) ⊎ BeginsNoUnit p rest → IsTrue (ends_by_quit (r ∷ requests)) ⊎ BeginsNoUnit p rest
+    go : (requests : List Request) → IsTrue (ends_by_quit requests) ⊎ BeginsNoUnit size rest → IsTrue (ends_by_quit (r ∷ requests)) ⊎ BeginsNoUnit size rest
     go [] (inl e) = cc
     go [] (inr none) = inr none
     go (next ∷ requests) e = e
 
-reading_within-Reads : (n : ℕ) (p : Profile) (text : List ℕ) → length text ≤ n → Reads p text (reading_within n p text).0 (reading_within n p text).1
-reading_within-Reads zero p [] short = Reads-none p [] (no_first_unit p [] refl)
-reading_within-Reads zero p (b ∷ text) short = absurd (grind (arith, common_steps))
-reading_within-Reads (suc n) p text short = go (reading_within-Reads n p) (first_unit p text) refl
+reading_within-Reads : (n : ℕ) (size : ℕ) (text : List ℕ) → length text ≤ n → Reads size text (reading_within n size text).0 (reading_within n size text).1
+reading_within-Reads zero size [] short = Reads-none size [] (no_first_unit size [] refl)
+reading_within-Reads zero size (b ∷ text) short = absurd (grind (arith, common_steps))
+reading_within-Reads (suc n) size text short = go (reading_within-Reads n size) (first_unit size text) refl
   where
-    read_on : ((after : List ℕ) → length after ≤ n → Reads p after (reading_within n p after).0 (reading_within n p after).1)
-        → (after : List ℕ) (r : Request) → first_unit p text ≡ Some (r, after) → (t : Bool) → is_quit r ≡ t
-        → Reads p text (reading_within (suc n) p text).0 (reading_within (suc n) p text).1
+    read_on : ((after : List ℕ) → length after ≤ n → Reads size after (reading_within n size after).0 (reading_within n size after).1)
+        → (after : List ℕ) (r : Request) → first_unit size text ≡ Some (r, after) → (t : Bool) → is_quit r ≡ t
+        → Reads size text (reading_within (suc n) size text).0 (reading_within (suc n) size text).1
     read_on next after r e true q =
-        let unit = first_unit-unit p text after r e in
-        rw (quit_read n p text after r e q) (Reads-quit p text unit.0 after r unit.1 unit.2 q)
+        let unit = first_unit-unit size text after r e in
+        rw (quit_read n size text after r e q) (Reads-quit size text unit.0 after r unit.1 unit.2 q)
     read_on next after r e false q =
-        let unit = first_unit-unit p text after r e in
+        let unit = first_unit-unit size text after r e in
         let shorter : length after ≤ n = omega (arith, length-append unit.0 after, ap length unit.1) in
-        rw (more_read n p text after r e q)
-        (Reads-onto p text unit.0 after (reading_within n p after).1 r (reading_within n p after).0 unit.1 unit.2 q (next after shorter))
+        rw (more_read n size text after r e q)
+        (Reads-onto size text unit.0 after (reading_within n size after).1 r (reading_within n size after).0 unit.1 unit.2 q (next after shorter))
 
-    go : ((after : List ℕ) → length after ≤ n → Reads p after (reading_within n p after).0 (reading_within n p after).1)
-        → (o : Option (Request × List ℕ)) → first_unit p text ≡ o → Reads p text (reading_within (suc n) p text).0 (reading_within (suc n) p text).1
-    go next None e = rw (none_read n p text e) (Reads-none p text (no_first_unit p text e))
+    go : ((after : List ℕ) → length after ≤ n → Reads size after (reading_within n size after).0 (reading_within n size after).1)
+        → (o : Option (Request × List ℕ)) → first_unit size text ≡ o → Reads size text (reading_within (suc n) size text).0 (reading_within (suc n) size text).1
+    go next None e = rw (none_read n size text e) (Reads-none size text (no_first_unit size text e))
     go next (Some (r, after)) e = read_on next after r e (is_quit r) refl
 
-pub reading-Reads : (p : Profile) (text : List ℕ) → Reads p text (reading p text).0 (reading p text).1
-reading-Reads p text = reading_within-Reads (length text) p text (omega arith)
+pub reading-Reads : (size : ℕ) (text : List ℕ) → Reads size text (reading size text).0 (reading size text).1
+reading-Reads size text = reading_within-Reads (length text) size text (omega arith)
 
 -- a put that had its memory is no quit
 had_memory-quit : (r : Request) → IsTrue (had_memory r) → is_quit r ≡ false
@@ -95,12 +94,12 @@ IsComputed-same r s q (inr a) (inl b) = inr (inl (a.0, rw b a.1))
 IsComputed-same r s q (inr a) (inr b) = inl (a.0 ∙ sym b.0)
 
 -- two units that begin one text end at one place
-units_end : (p : Profile) (first second after other : List ℕ) (r s : Request) → first ++ after ≡ second ++ other → IsUnit p first r → IsUnit p second s
+units_end : (size : ℕ) (first second after other : List ℕ) (r s : Request) → first ++ after ≡ second ++ other → IsUnit size first r → IsUnit size second s
     → (after ≡ other) × IsSameRequest r s
-units_end p first second after other r s e a b =
-    let one = first_unit-append p first after r a in
-    let two = first_unit-append p second other s b in
-    let both : Some (one.0, after) ≡ Some (two.0, other) = sym one.1 ∙ ap (first_unit p) e ∙ two.1 in
+units_end size first second after other r s e a b =
+    let one = first_unit-append size first after r a in
+    let two = first_unit-append size second other s b in
+    let both : Some (one.0, after) ≡ Some (two.0, other) = sym one.1 ∙ ap (first_unit size) e ∙ two.1 in
     let same = some_pair (one.0, after) (two.0, other) both in
     let same_q : IsComputed s one.0 = rw same.0 two.2 in
     (same.1, IsComputed-same r s one.0 one.2 same_q)
@@ -108,75 +107,75 @@ units_end p first second after other r s e a b =
 quits_later : (r s : Request) (rs : List Request) → IsTrue (quits_last (r ∷ s ∷ rs)) → IsTrue (quits_last (s ∷ rs))
 quits_later r s rs h = (elim (is_quit r) as (λ t. (not t && quits_last (s ∷ rs)) ≡ true → quits_last (s ∷ rs) ≡ true) [ true ↦ λ e. cc | false ↦ λ e. e ]) h
 
-abbrev IsEnded : Profile → List Request → List ℕ → Type 0
-IsEnded p requests rest = IsTrue (ends_by_quit requests) ⊎ BeginsNoUnit p rest
+abbrev IsEnded : ℕ → List Request → List ℕ → Type 0
+IsEnded size requests rest = IsTrue (ends_by_quit requests) ⊎ BeginsNoUnit size rest
 
 -- a text whose reading has ended begins with no units
-ended_there : (p : Profile) (s : Request) (ss : List Request) (v rest other : List ℕ) → rest ≡ v ++ other → AreUnits p v (s ∷ ss) → BeginsNoUnit p rest → ⊥
-ended_there p s ss v rest other e units none =
+ended_there : (size : ℕ) (s : Request) (ss : List Request) (v rest other : List ℕ) → rest ≡ v ++ other → AreUnits size v (s ∷ ss) → BeginsNoUnit size rest → ⊥
+ended_there size s ss v rest other e units none =
     none units.0 (units.1 ++ other) s (e ∙ ap (λ x. x ++ other) units.2 ∙ append_assoc units.0 units.1 other) units.3
 
 -- the unit that two lists of units begin with
-first_same : (p : Profile) (r s : Request) (rs ss : List Request) (u v rest other : List ℕ) → u ++ rest ≡ v ++ other
-    → (a : AreUnits p u (r ∷ rs)) (b : AreUnits p v (s ∷ ss)) → (a.1 ++ rest ≡ b.1 ++ other) × IsSameRequest r s
-first_same p r s rs ss u v rest other e a b =
+first_same : (size : ℕ) (r s : Request) (rs ss : List Request) (u v rest other : List ℕ) → u ++ rest ≡ v ++ other
+    → (a : AreUnits size u (r ∷ rs)) (b : AreUnits size v (s ∷ ss)) → (a.1 ++ rest ≡ b.1 ++ other) × IsSameRequest r s
+first_same size r s rs ss u v rest other e a b =
     let whole : a.0 ++ (a.1 ++ rest) ≡ b.0 ++ (b.1 ++ other) =
     sym (append_assoc a.0 a.1 rest) ∙ ap (λ x. x ++ rest) (sym a.2) ∙ e ∙ ap (λ x. x ++ other) b.2 ∙ append_assoc b.0 b.1 other in
-    units_end p a.0 b.0 (a.1 ++ rest) (b.1 ++ other) r s whole a.3 b.3
+    units_end size a.0 b.0 (a.1 ++ rest) (b.1 ++ other) r s whole a.3 b.3
 
-units_unique : (p : Profile) (firsts seconds : List Request) (u v rest other : List ℕ) → u ++ rest ≡ v ++ other
-    → AreUnits p u firsts → AreUnits p v seconds → IsTrue (quits_last firsts) → IsTrue (quits_last seconds)
-    → IsEnded p firsts rest → IsEnded p seconds other → (rest ≡ other) × AreSameRequests firsts seconds
-units_unique p [] [] u v rest other e a b fq sq fe se = (cc, tt)
-units_unique p [] (s ∷ ss) u v rest other e a b fq sq (inl quit) se = cc
-units_unique p [] (s ∷ ss) u v rest other e a b fq sq (inr none) se =
-    let rest_is : rest ≡ v ++ other = cc in absurd (ended_there p s ss v rest other rest_is b none)
-units_unique p (r ∷ rs) [] u v rest other e a b fq sq fe (inl quit) = cc
-units_unique p (r ∷ rs) [] u v rest other e a b fq sq fe (inr none) =
-    let rest_is : other ≡ u ++ rest = cc in absurd (ended_there p r rs u other rest rest_is a none)
-units_unique p (r ∷ []) (s ∷ []) u v rest other e a b fq sq fe se =
-    let same = first_same p r s [] [] u v rest other e a b in
+units_unique : (size : ℕ) (firsts seconds : List Request) (u v rest other : List ℕ) → u ++ rest ≡ v ++ other
+    → AreUnits size u firsts → AreUnits size v seconds → IsTrue (quits_last firsts) → IsTrue (quits_last seconds)
+    → IsEnded size firsts rest → IsEnded size seconds other → (rest ≡ other) × AreSameRequests firsts seconds
+units_unique size [] [] u v rest other e a b fq sq fe se = (cc, tt)
+units_unique size [] (s ∷ ss) u v rest other e a b fq sq (inl quit) se = cc
+units_unique size [] (s ∷ ss) u v rest other e a b fq sq (inr none) se =
+    let rest_is : rest ≡ v ++ other = cc in absurd (ended_there size s ss v rest other rest_is b none)
+units_unique size (r ∷ rs) [] u v rest other e a b fq sq fe (inl quit) = cc
+units_unique size (r ∷ rs) [] u v rest other e a b fq sq fe (inr none) =
+    let rest_is : other ≡ u ++ rest = cc in absurd (ended_there size r rs u other rest rest_is a none)
+units_unique size (r ∷ []) (s ∷ []) u v rest other e a b fq sq fe se =
+    let same = first_same size r s [] [] u v rest other e a b in
     let rests : a.1 ++ rest ≡ b.1 ++ other = same.0 in
     let one : a.1 ≡ [] = a.4 in
     let two : b.1 ≡ [] = b.4 in
     (cc, (same.1, tt))
-units_unique p (r ∷ []) (s ∷ t ∷ ss) u v rest other e a b fq sq (inl quit) se =
-    let same = first_same p r s [] (t ∷ ss) u v rest other e a b in
+units_unique size (r ∷ []) (s ∷ t ∷ ss) u v rest other e a b fq sq (inl quit) se =
+    let same = first_same size r s [] (t ∷ ss) u v rest other e a b in
     let is_quit_s : is_quit s ≡ true = sym (IsSameRequest-quit r s same.1) ∙ quit in
     let no : false ≡ true = rw is_quit_s at sq in
     cc
-units_unique p (r ∷ []) (s ∷ t ∷ ss) u v rest other e a b fq sq (inr none) se =
-    let same = first_same p r s [] (t ∷ ss) u v rest other e a b in
+units_unique size (r ∷ []) (s ∷ t ∷ ss) u v rest other e a b fq sq (inr none) se =
+    let same = first_same size r s [] (t ∷ ss) u v rest other e a b in
     let one : a.1 ≡ [] = a.4 in
     let rests : a.1 ++ rest ≡ b.1 ++ other = same.0 in
     let rest_is : rest ≡ b.1 ++ other = cc in
-    absurd (ended_there p t ss b.1 rest other rest_is b.4 none)
-units_unique p (r ∷ t ∷ rs) (s ∷ []) u v rest other e a b fq sq fe (inl quit) =
-    let same = first_same p r s (t ∷ rs) [] u v rest other e a b in
+    absurd (ended_there size t ss b.1 rest other rest_is b.4 none)
+units_unique size (r ∷ t ∷ rs) (s ∷ []) u v rest other e a b fq sq fe (inl quit) =
+    let same = first_same size r s (t ∷ rs) [] u v rest other e a b in
     let is_quit_r : is_quit r ≡ true = IsSameRequest-quit r s same.1 ∙ quit in
     let no : false ≡ true = rw is_quit_r at fq in
     cc
-units_unique p (r ∷ t ∷ rs) (s ∷ []) u v rest other e a b fq sq fe (inr none) =
-    let same = first_same p r s (t ∷ rs) [] u v rest other e a b in
+units_unique size (r ∷ t ∷ rs) (s ∷ []) u v rest other e a b fq sq fe (inr none) =
+    let same = first_same size r s (t ∷ rs) [] u v rest other e a b in
     let one : b.1 ≡ [] = b.4 in
     let rests : a.1 ++ rest ≡ b.1 ++ other = same.0 in
     let rest_is : other ≡ a.1 ++ rest = cc in
-    absurd (ended_there p t rs a.1 other rest rest_is a.4 none)
-units_unique p (r ∷ r2 ∷ rs) (s ∷ s2 ∷ ss) u v rest other e a b fq sq fe se =
-    let same = first_same p r s (r2 ∷ rs) (s2 ∷ ss) u v rest other e a b in
-    let more = units_unique p (r2 ∷ rs) (s2 ∷ ss) a.1 b.1 rest other same.0 a.4 b.4
+    absurd (ended_there size t rs a.1 other rest rest_is a.4 none)
+units_unique size (r ∷ r2 ∷ rs) (s ∷ s2 ∷ ss) u v rest other e a b fq sq fe se =
+    let same = first_same size r s (r2 ∷ rs) (s2 ∷ ss) u v rest other e a b in
+    let more = units_unique size (r2 ∷ rs) (s2 ∷ ss) a.1 b.1 rest other same.0 a.4 b.4
     (quits_later r r2 rs fq) (quits_later s s2 ss sq) fe se in
     (more.0, (same.1, more.1))
 
-pub Reads-unique : (p : Profile) (text : List ℕ) (firsts seconds : List Request) (rest other : List ℕ)
-    → Reads p text firsts rest → Reads p text seconds other → (rest ≡ other) × AreSameRequests firsts seconds
-Reads-unique p text firsts seconds rest other a b =
-    units_unique p firsts seconds a.units b.units rest other (sym a.text_is ∙ b.text_is) a.are_units b.are_units a.last_quits b.last_quits a.ended b.ended
+pub Reads-unique : (size : ℕ) (text : List ℕ) (firsts seconds : List Request) (rest other : List ℕ)
+    → Reads size text firsts rest → Reads size text seconds other → (rest ≡ other) × AreSameRequests firsts seconds
+Reads-unique size text firsts seconds rest other a b =
+    units_unique size firsts seconds a.units b.units rest other (sym a.text_is ∙ b.text_is) a.are_units b.are_units a.last_quits b.last_quits a.ended b.ended
 
 -- behind a quit nothing more is read
-pub Reads-more : (p : Profile) (text more : List ℕ) (requests : List Request) (rest : List ℕ) → Reads p text requests rest → IsTrue (ends_by_quit requests)
-    → Reads p (text ++ more) requests (rest ++ more)
-Reads-more p text more requests rest read quit = record {
+pub Reads-more : (size : ℕ) (text more : List ℕ) (requests : List Request) (rest : List ℕ) → Reads size text requests rest → IsTrue (ends_by_quit requests)
+    → Reads size (text ++ more) requests (rest ++ more)
+Reads-more size text more requests rest read quit = record {
   units = read.units;
   text_is = rw read.text_is (append_assoc read.units rest more);
   are_units = read.are_units;

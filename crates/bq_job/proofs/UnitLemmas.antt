@@ -4,7 +4,6 @@ use Rattle.std.proofs.lemmas.Bool.Decides.{nat_tests}
 use Rattle.std.proofs.lemmas.Grind.{common_steps}
 use Rattle.bq_job.specs.TubeName.{is_same_name}
 use Rattle.bq_job.specs.Line.{first_line, line_end}
-use Rattle.bq_job.specs.Profile.{Profile}
 use Rattle.bq_job.specs.LineRead.{LineRead, Whole, PutWaits, PutLine, read_line}
 use Rattle.bq_job.specs.Reading.{IsUnit, IsUnitAfter, IsPutRequest, put_with_body, BeginsNoUnit}
 use Rattle.bq_job.specs.ComputedReading.{first_unit, unit_after, unit_of_line, put_request}
@@ -35,8 +34,8 @@ had_memory-put put bytes =
     as (λ t. IsTrue (had_memory (if t then requests.Put put.pri put.delay put.ttr (take put.bytes bytes) else requests.Refused refusals.ExpectedCrlf)))
     [ true ↦ refl | false ↦ refl ]
 
-put_request-computed : (p : Profile) (put : PutLine) (bytes : List ℕ) (r : Request) → IsPutRequest p put bytes r → IsComputed r (put_request p put bytes)
-put_request-computed p put bytes r h = go (nat_lt p.max_job_size put.bytes) h
+put_request-computed : (size : ℕ) (put : PutLine) (bytes : List ℕ) (r : Request) → IsPutRequest size put bytes r → IsComputed r (put_request size put bytes)
+put_request-computed size put bytes r h = go (nat_lt size put.bytes) h
   where
     go : (t : Bool) → MatchBool t (r ≡ requests.Refused refusals.JobTooBig) ((r ≡ requests.Refused refusals.OutOfMemory) ⊎ (r ≡ put_with_body put bytes))
         → IsComputed r (if t then requests.Refused refusals.JobTooBig else put_with_body put bytes)
@@ -45,67 +44,67 @@ put_request-computed p put bytes r h = go (nat_lt p.max_job_size put.bytes) h
     go false (inr e) = inl e
 
 -- the computed request of a put is one
-put_request-is : (p : Profile) (put : PutLine) (bytes : List ℕ) → IsPutRequest p put bytes (put_request p put bytes)
-put_request-is p put bytes = go (nat_lt p.max_job_size put.bytes)
+put_request-is : (size : ℕ) (put : PutLine) (bytes : List ℕ) → IsPutRequest size put bytes (put_request size put bytes)
+put_request-is size put bytes = go (nat_lt size put.bytes)
   where
     go : (t : Bool) → let r = (if t then requests.Refused refusals.JobTooBig else put_with_body put bytes) in
         MatchBool t (r ≡ requests.Refused refusals.JobTooBig) ((r ≡ requests.Refused refusals.OutOfMemory) ⊎ (r ≡ put_with_body put bytes))
     go true = refl
     go false = inr refl
 
-pub unit_after-append : (p : Profile) (read : LineRead) (after more : List ℕ) (r : Request) → IsUnitAfter p read after r
-    → (q : Request) × (unit_after p read (after ++ more) ≡ Some (q, more)) × IsComputed r q
-unit_after-append p (Whole request) after more r h = (request, (rw h.0 refl), inl h.1)
-unit_after-append p (PutWaits put) after more r h =
+pub unit_after-append : (size : ℕ) (read : LineRead) (after more : List ℕ) (r : Request) → IsUnitAfter size read after r
+    → (q : Request) × (unit_after size read (after ++ more) ≡ Some (q, more)) × IsComputed r q
+unit_after-append size (Whole request) after more r h = (request, (rw h.0 refl), inl h.1)
+unit_after-append size (PutWaits put) after more r h =
     let fits : nat_le (put.bytes + 2) (length (after ++ more)) ≡ true = grind (arith, nat_tests, length-append after more, h.0) in
-    (put_request p put after, rw (fits, take-all after more (put.bytes + 2) h.0, drop-all after more (put.bytes + 2) h.0), put_request-computed p put after r h.1)
+    (put_request size put after, rw (fits, take-all after more (put.bytes + 2) h.0, drop-all after more (put.bytes + 2) h.0), put_request-computed size put after r h.1)
 
-pub unit_after-unit : (p : Profile) (read : LineRead) (after rest : List ℕ) (r : Request) → unit_after p read after ≡ Some (r, rest)
-    → (taken : List ℕ) × (after ≡ taken ++ rest) × IsUnitAfter p read taken r
-unit_after-unit p (Whole request) after rest r e = let same = some_pair (request, after) (r, rest) e in ([], same.1, (refl, sym same.0))
-unit_after-unit p (PutWaits put) after rest r e = go (nat_le (put.bytes + 2) (length after)) refl e
+pub unit_after-unit : (size : ℕ) (read : LineRead) (after rest : List ℕ) (r : Request) → unit_after size read after ≡ Some (r, rest)
+    → (taken : List ℕ) × (after ≡ taken ++ rest) × IsUnitAfter size read taken r
+unit_after-unit size (Whole request) after rest r e = let same = some_pair (request, after) (r, rest) e in ([], same.1, (refl, sym same.0))
+unit_after-unit size (PutWaits put) after rest r e = go (nat_le (put.bytes + 2) (length after)) refl e
   where
     go : (t : Bool) → nat_le (put.bytes + 2) (length after) ≡ t
-        → (let found : Option (Request × List ℕ) = Some (put_request p put (take (put.bytes + 2) after), drop (put.bytes + 2) after) in
+        → (let found : Option (Request × List ℕ) = Some (put_request size put (take (put.bytes + 2) after), drop (put.bytes + 2) after) in
         (if t then found else None) ≡ Some (r, rest))
-        → (taken : List ℕ) × (after ≡ taken ++ rest) × IsUnitAfter p (PutWaits put) taken r
+        → (taken : List ℕ) × (after ≡ taken ++ rest) × IsUnitAfter size (PutWaits put) taken r
     go true fits e =
-        let same = some_pair (put_request p put (take (put.bytes + 2) after), drop (put.bytes + 2) after) (r, rest) e in
+        let same = some_pair (put_request size put (take (put.bytes + 2) after), drop (put.bytes + 2) after) (r, rest) e in
         let long : length (take (put.bytes + 2) after) ≡ put.bytes + 2 = grind (arith, nat_tests, common_steps) in
-        (take (put.bytes + 2) after, rw (← same.1) (sym (take-append-drop (put.bytes + 2) after)), (long, rw (← same.0) (put_request-is p put (take (put.bytes + 2) after))))
+        (take (put.bytes + 2) after, rw (← same.1) (sym (take-append-drop (put.bytes + 2) after)), (long, rw (← same.0) (put_request-is size put (take (put.bytes + 2) after))))
     go false fits e = cc
 
 -- a text that begins with a unit has it as its first
-pub first_unit-append : (p : Profile) (first more : List ℕ) (r : Request) → IsUnit p first r
-    → (q : Request) × (first_unit p (first ++ more) ≡ Some (q, more)) × IsComputed r q
-first_unit-append p first more r h = go (first_line first) refl h
+pub first_unit-append : (size : ℕ) (first more : List ℕ) (r : Request) → IsUnit size first r
+    → (q : Request) × (first_unit size (first ++ more) ≡ Some (q, more)) × IsComputed r q
+first_unit-append size first more r h = go (first_line first) refl h
   where
-    go : (o : Option (List ℕ × List ℕ)) → first_line first ≡ o → MatchOption o ⊥ (λ l. IsUnitAfter p (read_line p.known l.0) l.1 r)
-        → (q : Request) × (first_unit p (first ++ more) ≡ Some (q, more)) × IsComputed r q
+    go : (o : Option (List ℕ × List ℕ)) → first_line first ≡ o → MatchOption o ⊥ (λ l. IsUnitAfter size (read_line l.0) l.1 r)
+        → (q : Request) × (first_unit size (first ++ more) ≡ Some (q, more)) × IsComputed r q
     go None e h = absurd h
-    go (Some l) e h = rw (first_line-append first more l e) (unit_after-append p (read_line p.known l.0) l.1 more r h)
+    go (Some l) e h = rw (first_line-append first more l e) (unit_after-append size (read_line l.0) l.1 more r h)
 
 -- the first unit of a text is a unit, and not empty
-pub first_unit-unit : (p : Profile) (text rest : List ℕ) (r : Request) → first_unit p text ≡ Some (r, rest)
-    → (first : List ℕ) × (text ≡ first ++ rest) × IsUnit p first r × (0 < length first)
-first_unit-unit p text rest r e = go (first_line text) refl e
+pub first_unit-unit : (size : ℕ) (text rest : List ℕ) (r : Request) → first_unit size text ≡ Some (r, rest)
+    → (first : List ℕ) × (text ≡ first ++ rest) × IsUnit size first r × (0 < length first)
+first_unit-unit size text rest r e = go (first_line text) refl e
   where
-    from_line : (l : List ℕ × List ℕ) (taken : List ℕ) → first_line text ≡ Some l → l.1 ≡ taken ++ rest → IsUnitAfter p (read_line p.known l.0) taken r
-        → (first : List ℕ) × (text ≡ first ++ rest) × IsUnit p first r × (0 < length first)
+    from_line : (l : List ℕ × List ℕ) (taken : List ℕ) → first_line text ≡ Some l → l.1 ≡ taken ++ rest → IsUnitAfter size (read_line l.0) taken r
+        → (first : List ℕ) × (text ≡ first ++ rest) × IsUnit size first r × (0 < length first)
     from_line l taken is more unit =
         let whole : text ≡ (l.0 ++ 13 ∷ 10 ∷ taken) ++ rest = rw (first_line_is text l is, more) (sym (append_assoc l.0 (13 ∷ 10 ∷ taken) rest)) in
         let some : 0 < length (l.0 ++ 13 ∷ 10 ∷ taken) = rw length-append (grind (arith, common_steps)) in
         (l.0 ++ 13 ∷ 10 ∷ taken, whole, rw (first_line_again text taken l is) unit, some)
 
-    go : (o : Option (List ℕ × List ℕ)) → first_line text ≡ o → unit_of_line p o ≡ Some (r, rest)
-        → (first : List ℕ) × (text ≡ first ++ rest) × IsUnit p first r × (0 < length first)
+    go : (o : Option (List ℕ × List ℕ)) → first_line text ≡ o → unit_of_line size o ≡ Some (r, rest)
+        → (first : List ℕ) × (text ≡ first ++ rest) × IsUnit size first r × (0 < length first)
     go None is e = cc
     go (Some l) is e =
-        let taken : (taken : List ℕ) × (l.1 ≡ taken ++ rest) × IsUnitAfter p (read_line p.known l.0) taken r = unit_after-unit p (read_line p.known l.0) l.1 rest r e in
+        let taken : (taken : List ℕ) × (l.1 ≡ taken ++ rest) × IsUnitAfter size (read_line l.0) taken r = unit_after-unit size (read_line l.0) l.1 rest r e in
         from_line l taken.0 is taken.1 taken.2
 
-pub no_first_unit : (p : Profile) (text : List ℕ) → first_unit p text ≡ None → BeginsNoUnit p text
-no_first_unit p text e first more r is unit =
-    let found = first_unit-append p first more r unit in
-    let same : first_unit p text ≡ Some (found.0, more) = rw is found.1 in
+pub no_first_unit : (size : ℕ) (text : List ℕ) → first_unit size text ≡ None → BeginsNoUnit size text
+no_first_unit size text e first more r is unit =
+    let found = first_unit-append size first more r unit in
+    let same : first_unit size text ≡ Some (found.0, more) = rw is found.1 in
     cc

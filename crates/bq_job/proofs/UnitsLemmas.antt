@@ -1,15 +1,14 @@
 -- One more request behind others.
 use Rattle.std.proofs.Common.{◌≡◌, ℕ, Bool, true, false, not, ◌&&◌, List, [], ◌∷◌, ◌++◌, refl, sym, append_assoc, append-nil, IsTrue}
-use Rattle.bq_job.specs.Profile.{Profile}
 use Rattle.bq_job.specs.Reading.{AreUnits, IsUnit, is_quit, quits_last, ends_by_quit}
 use Rattle.bq_job.specs.declared.request.Request.{Request}
 
 -- a unit behind units
-pub AreUnits-append : (p : Profile) (requests : List Request) (units unit : List ℕ) (r : Request) → AreUnits p units requests → IsUnit p unit r
-    → AreUnits p (units ++ unit) (requests ++ r ∷ [])
-AreUnits-append p [] units unit r are is = (unit, [], rw are (sym (append-nil unit)), is, refl)
-AreUnits-append p (q ∷ requests) units unit r are is =
-    (are.0, are.1 ++ unit, rw are.2 (append_assoc are.0 are.1 unit), are.3, AreUnits-append p requests are.1 unit r are.4 is)
+pub AreUnits-append : (size : ℕ) (requests : List Request) (units unit : List ℕ) (r : Request) → AreUnits size units requests → IsUnit size unit r
+    → AreUnits size (units ++ unit) (requests ++ r ∷ [])
+AreUnits-append size [] units unit r are is = (unit, [], rw are (sym (append-nil unit)), is, refl)
+AreUnits-append size (q ∷ requests) units unit r are is =
+    (are.0, are.1 ++ unit, rw are.2 (append_assoc are.0 are.1 unit), are.3, AreUnits-append size requests are.1 unit r are.4 is)
 
 pub ends_by_quit-append : (requests : List Request) (r : Request) → ends_by_quit (requests ++ r ∷ []) ≡ is_quit r
 ends_by_quit-append [] r = refl

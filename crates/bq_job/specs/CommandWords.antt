@@ -1,6 +1,5 @@
 -- The words of the commands.
-use Rattle.std.specs.Prelude.{ℕ, List, [], ◌∷◌, Option, None, codes, find, map, if◌then◌else◌}
-use Rattle.std.specs.List.{list_any}
+use Rattle.std.specs.Prelude.{ℕ, List, [], ◌∷◌, Option, codes, find}
 use Rattle.bq_job.specs.TubeName.{is_same_name}
 
 -- the commands of a client
@@ -61,10 +60,6 @@ word_of Quit = codes "quit"
 abbrev pub all_commands : List Command
 all_commands = Put ∷ Reserve ∷ ReserveWithTimeout ∷ ReserveJob ∷ Delete ∷ Release ∷ Bury ∷ Touch ∷ Kick ∷ KickJob ∷ Use ∷ ListTubeUsed ∷ Watch ∷ Ignore ∷ Peek ∷ PeekReady ∷ PeekDelayed ∷ PeekBuried ∷ PauseTube ∷ StatsJob ∷ StatsTube ∷ Stats ∷ ListTubes ∷ ListTubesWatched ∷ Quit ∷ []
 
-abbrev pub all_words : List (List ℕ)
-all_words = map word_of all_commands
-
--- the command that a word names, if the word is among the known ones. Upper and lower case are different.
-abbrev pub command_named : List (List ℕ) → List ℕ → Option Command
-command_named known word =
-    if list_any (is_same_name word) known then find (λ c. is_same_name word (word_of c)) all_commands else None
+-- the command that a word names. Upper and lower case are different.
+abbrev pub command_named : List ℕ → Option Command
+command_named word = find (λ c. is_same_name word (word_of c)) all_commands

@@ -4,14 +4,12 @@ use Rattle.bq_job.specs.declared.answer.Answer.{Answer}
 use Rattle.bq_job.specs.declared.request.Request.{Request}
 use Rattle.bq_job.specs.declared.step.Step.{Step}
 use Rattle.bq_job.specs.declared.step.Step.TheVariants as steps
-use Rattle.bq_job.specs.CommandWords.{all_words}
 use Rattle.bq_job.specs.Computed.{stepped}
 use Rattle.bq_job.specs.ComputedReading.{reading}
 use Rattle.bq_job.specs.Dispatch.{GivenAnswer}
 use Rattle.bq_job.specs.LineSteps.{answers_text, ends_by_wait}
 use Rattle.bq_job.specs.Machine.{Machine, new_machine}
 use Rattle.bq_job.specs.NextDue.{next_due}
-use Rattle.bq_job.specs.Profile.{profile}
 use Rattle.bq_job.specs.Runs.{Entry}
 
 -- what the machine answers to each step
@@ -81,7 +79,7 @@ session max_job_size requests = flat_map (map (λ g. g.1)) (ran (server 1 max_jo
 
 -- the bytes that are written to a lone client which sends these bytes and no more
 abbrev pub replies_within : ℕ → List ℕ → List ℕ
-replies_within max_job_size sent = answers_text (session max_job_size (reading (profile max_job_size all_words) sent).0)
+replies_within max_job_size sent = answers_text (session max_job_size (reading max_job_size sent).0)
 
 abbrev pub replies : List ℕ → List ℕ
 replies sent = replies_within 65535 sent

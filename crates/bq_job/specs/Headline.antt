@@ -10,22 +10,21 @@ use Rattle.bq_job.specs.Dispatch.{GivenAnswer}
 use Rattle.bq_job.specs.History.{LineOver, steps_at, without_ticks}
 use Rattle.bq_job.specs.LineOwed.{AreLinesOwed}
 use Rattle.bq_job.specs.Machine.{Machine, Settings}
-use Rattle.bq_job.specs.Profile.{Profile}
 use Rattle.bq_job.specs.Runs.{Entry, answers_to}
 use Rattle.bq_job.specs.SeatDid.{AreLinesServed, IsSeatDone}
 
 -- A door that is done. At its seat are the steps of its lines, in the order in which they were over, and
 -- then it is said that no more come. Each line is owed what it was written, and nothing came after that.
-pub record IsDoorOwed (p : Profile) (lines : List LineOver) (taken : List Step) (answers : List Answer) : Type 0 where
+pub record IsDoorOwed (max_job_size : ℕ) (lines : List LineOver) (taken : List Step) (answers : List Answer) : Type 0 where
   pub own : List Step
-  pub of_lines : AreLinesOwed p lines own answers
+  pub of_lines : AreLinesOwed max_job_size lines own answers
   pub taken_is : taken ≡ own ++ Gone ∷ []
 
 -- the doors stand at the seats from this one on
-abbrev pub AreDoorsOwed : Profile → ℕ → List (List LineOver) → List Entry → List GivenAnswer → Type 0
-AreDoorsOwed p seat [] history given = Unit {0}
-AreDoorsOwed p seat (lines ∷ doors) history given =
-    IsDoorOwed p lines (steps_at seat history) (answers_to seat given) × AreDoorsOwed p (suc seat) doors history given
+abbrev pub AreDoorsOwed : ℕ → ℕ → List (List LineOver) → List Entry → List GivenAnswer → Type 0
+AreDoorsOwed max_job_size seat [] history given = Unit {0}
+AreDoorsOwed max_job_size seat (lines ∷ doors) history given =
+    IsDoorOwed max_job_size lines (steps_at seat history) (answers_to seat given) × AreDoorsOwed max_job_size (suc seat) doors history given
 
 -- Ticks aside, no step is of a higher seat than this.
 abbrev pub AreSeatsUpTo : ℕ → List Entry → Type 0
@@ -34,51 +33,51 @@ AreSeatsUpTo seat history = IsTrue (list_all (λ e. nat_le e.seat seat) (without
 -- One history holds the steps of each door's lines once and in their order, and for the control line so many
 -- drains and its end. Each entry has a reading of the clock of its own. The machine runs over it from the
 -- start, and each line was written exactly the bytes that it gives it there. There is a door at each seat.
-pub record IsHistoryOf (settings : Settings) (p : Profile) (doors : List (List LineOver)) (control : List ℕ) (failed : Bool) (readings : List (Option ℕ)) (last : Machine) : Type 0 where
+pub record IsHistoryOf (settings : Settings) (max_job_size : ℕ) (doors : List (List LineOver)) (control : List ℕ) (failed : Bool) (readings : List (Option ℕ)) (last : Machine) : Type 0 where
   pub history : List Entry
   pub given : List GivenAnswer
   pub run : IsRun settings readings history given last
   pub many : length doors ≡ settings.seats
-  pub of_doors : AreDoorsOwed p 0 doors history given
+  pub of_doors : AreDoorsOwed max_job_size 0 doors history given
   pub of_control : IsControlDone control failed (steps_at settings.seats history)
   pub of_nobody_else : AreSeatsUpTo settings.seats history
 
 -- The same of a lone line at a seat: the history has its steps alone, beside ticks.
-pub record IsHistoryOfLine (settings : Settings) (p : Profile) (seat : ℕ) (line : LineOver) (readings : List (Option ℕ)) : Type 0 where
+pub record IsHistoryOfLine (settings : Settings) (max_job_size : ℕ) (seat : ℕ) (line : LineOver) (readings : List (Option ℕ)) : Type 0 where
   pub history : List Entry
   pub given : List GivenAnswer
   pub last : Machine
   pub run : IsRun settings readings history given last
-  pub of_line : AreLinesOwed p (line ∷ []) (steps_at seat history) (answers_to seat given)
+  pub of_line : AreLinesOwed max_job_size (line ∷ []) (steps_at seat history) (answers_to seat given)
   pub of_nobody_else : IsTrue (list_all (λ e. e.seat == seat) (without_ticks history))
 
 -- The tie. At each seat the history has what the seat submitted, and what the run gives it is what it took
 -- and what waits for it.
-abbrev pub AreTied : Profile → ℕ → List (List LineOver) → (ℕ → List Step) → (ℕ → List Answer) → (ℕ → List Answer) → List Entry → List GivenAnswer → Type 0
-AreTied p seat [] submitted taken waiting history given = Unit {0}
-AreTied p seat (lines ∷ doors) submitted taken waiting history given =
+abbrev pub AreTied : ℕ → ℕ → List (List LineOver) → (ℕ → List Step) → (ℕ → List Answer) → (ℕ → List Answer) → List Entry → List GivenAnswer → Type 0
+AreTied max_job_size seat [] submitted taken waiting history given = Unit {0}
+AreTied max_job_size seat (lines ∷ doors) submitted taken waiting history given =
     (steps_at seat history ≡ submitted seat) × (answers_to seat given ≡ taken seat ++ waiting seat)
-    × IsSeatDone p lines (submitted seat) (taken seat)
-    × AreTied p (suc seat) doors submitted taken waiting history given
+    × IsSeatDone max_job_size lines (submitted seat) (taken seat)
+    × AreTied max_job_size (suc seat) doors submitted taken waiting history given
 
 -- what each part did, and the tie
-pub record IsJoined (settings : Settings) (p : Profile) (doors : List (List LineOver)) (control : List ℕ) (failed : Bool) (readings : List (Option ℕ)) (history : List Entry) (given : List GivenAnswer) (last : Machine) : Type 0 where
+pub record IsJoined (settings : Settings) (max_job_size : ℕ) (doors : List (List LineOver)) (control : List ℕ) (failed : Bool) (readings : List (Option ℕ)) (history : List Entry) (given : List GivenAnswer) (last : Machine) : Type 0 where
   pub submitted : ℕ → List Step
   pub taken : ℕ → List Answer
   pub waiting : ℕ → List Answer
   pub run : IsRun settings readings history given last
   pub many : length doors ≡ settings.seats
-  pub tied : AreTied p 0 doors submitted taken waiting history given
+  pub tied : AreTied max_job_size 0 doors submitted taken waiting history given
   pub control_tied : steps_at settings.seats history ≡ submitted settings.seats
   pub control_done : IsControlDone control failed (submitted settings.seats)
   pub of_nobody_else : AreSeatsUpTo settings.seats history
 
 -- what a lone seat and the core did, and the tie
-pub record IsLineJoined (settings : Settings) (p : Profile) (seat : ℕ) (line : LineOver) (readings : List (Option ℕ)) (history : List Entry) (given : List GivenAnswer) (last : Machine) : Type 0 where
+pub record IsLineJoined (settings : Settings) (max_job_size : ℕ) (seat : ℕ) (line : LineOver) (readings : List (Option ℕ)) (history : List Entry) (given : List GivenAnswer) (last : Machine) : Type 0 where
   pub taken : List Answer
   pub waiting : List Answer
   pub within : seat < settings.seats
   pub run : IsRun settings readings history given last
-  pub served : AreLinesServed p (line ∷ []) (steps_at seat history) taken
+  pub served : AreLinesServed max_job_size (line ∷ []) (steps_at seat history) taken
   pub answers_are : answers_to seat given ≡ taken ++ waiting
   pub of_nobody_else : IsTrue (list_all (λ e. e.seat == seat) (without_ticks history))

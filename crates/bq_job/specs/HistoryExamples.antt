@@ -3,19 +3,17 @@ use Rattle.std.specs.Prelude.{ℕ, true, false, List, map, length, flat_map, Opt
 use Rattle.bq_job.specs.declared.line_end.LineEnd.TheVariants as ends
 use Rattle.bq_job.specs.declared.line_end.LineFault.TheVariants as faults
 use Rattle.bq_job.specs.declared.step.Step.TheVariants as steps
-use Rattle.bq_job.specs.CommandWords.{all_words}
 use Rattle.bq_job.specs.ComputedRuns.{machine_after, transitions}
 use Rattle.bq_job.specs.Dispatch.{GivenAnswer}
 use Rattle.bq_job.specs.Examples.{event}
 use Rattle.bq_job.specs.Headline.{IsHistoryOf}
 use Rattle.bq_job.specs.History.{LineOver}
 use Rattle.bq_job.specs.Machine.{Settings, new_machine}
-use Rattle.bq_job.specs.Profile.{Profile, profile}
 use Rattle.bq_job.specs.Runs.{Entry}
 
--- every command is known
-abbrev pub usual : Profile
-usual = profile 65535 all_words
+-- the most bytes that a job may have, unless chosen otherwise
+abbrev pub usual : ℕ
+usual = 65535
 
 abbrev pub seated : ℕ → Settings
 seated seats = record { seats = seats; max_job_size = 65535 }

@@ -21,14 +21,12 @@ pub mod LineRead
 pub mod Machine
 pub mod NameOrder
 pub mod NextDue
-pub mod Profile
 pub mod Reading
 pub mod Refusals
 pub mod Replay
 pub mod RunExamples
 pub mod Runs
 pub mod SameRequests
-pub mod SoFar
 pub mod Statistics
 pub mod StatisticsCommands
 pub mod StepBody

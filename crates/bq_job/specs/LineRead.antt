@@ -93,17 +93,16 @@ abbrev pub read_command : Option Command → List (List ℕ) → LineRead
 read_command None more = unknown_command
 read_command (Some command) more = unwrap_or (read_words command more) bad_format
 
-abbrev pub read_line_words : List (List ℕ) → List (List ℕ) → LineRead
-read_line_words known [] = unknown_command
-read_line_words known (first ∷ more) = read_command (command_named known first) more
+abbrev pub read_line_words : List (List ℕ) → LineRead
+read_line_words [] = unknown_command
+read_line_words (first ∷ more) = read_command (command_named first) more
 
 -- how many bytes a line has at most, without its CR LF
 abbrev pub longest_line : ℕ
 longest_line = 222
 
--- What a line asks for where these words are known. A line that is too long is BAD_FORMAT, whatever it
--- holds.
-abbrev pub read_line : List (List ℕ) → List ℕ → LineRead
-read_line known line =
-    let read = read_line_words known (words line) in
+-- What a line asks for. A line that is too long is BAD_FORMAT, whatever it holds.
+abbrev pub read_line : List ℕ → LineRead
+read_line line =
+    let read = read_line_words (words line) in
     if nat_lt longest_line (length line) then bad_format else read

@@ -10,7 +10,6 @@ use Rattle.bq_job.specs.declared.request.Request.TheVariants as requests
 use Rattle.bq_job.specs.declared.step.Step.{Step}
 use Rattle.bq_job.specs.declared.step.Step.TheVariants as steps
 use Rattle.bq_job.specs.AnswerText.{answer_text}
-use Rattle.bq_job.specs.Profile.{Profile}
 use Rattle.bq_job.specs.Reading.{Reads, ends_by_quit}
 
 -- a line as it tells itself: the bytes read and written, whether a read answered that no more comes, and
@@ -57,12 +56,12 @@ abbrev pub MayTellEnd : LineHeard → List Request → List Step → Type 0
 MayTellEnd line asked end_steps = (end_steps ≡ []) ⊎ ((end_steps ≡ steps.End ∷ []) × IsTrue (ends_by_wait asked) × IsTrue line.ended)
 
 -- The steps of a line that is over: it connects, asks its requests in their order, and is closed.
-pub record IsStepsOfLine (p : Profile) (line : LineHeard) (over : LineEnd) (taken : List Step) : Type 0 where
+pub record IsStepsOfLine (max_job_size : ℕ) (line : LineHeard) (over : LineEnd) (taken : List Step) : Type 0 where
   pub requests : List Request
   pub rest : List ℕ
   pub asked : List Request
   pub end_steps : List Step
-  pub reads : Reads p line.read requests rest
+  pub reads : Reads max_job_size line.read requests rest
   pub is_over : IsOverBy line over requests asked
   pub ends : MayTellEnd line asked end_steps
   pub steps_are : taken ≡ steps.Connect ∷ [] ++ map steps.Ask asked ++ end_steps ++ steps.Close ∷ []

@@ -11,7 +11,6 @@ use Rattle.bq_job.specs.History.{LineOver}
 use Rattle.bq_job.specs.LineOwed.{IsLineOwed}
 use Rattle.bq_job.specs.LineSteps.{answers_text}
 use Rattle.bq_job.specs.OneClient.{has_closed}
-use Rattle.bq_job.specs.Profile.{Profile}
 
 -- A seat writes every answer that it takes for a line. So after a read fault none of them came too late.
 abbrev pub IsNoneUnwritten : LineEnd → List Answer → List ℕ → Type 0
@@ -21,24 +20,24 @@ IsNoneUnwritten _ own written = Unit {0}
 -- A line that is over, from its seat's side. The steps that were submitted are its steps. What was taken is
 -- an answer to each of its requests but quit (after a read fault that to a last request that may wait can be
 -- missing), then any others but `Closed`, then a `Closed`.
-pub record IsLineServed (p : Profile) (line : LineOver) (submitted : List Step) (taken : List Answer) : Type 0 where
+pub record IsLineServed (max_job_size : ℕ) (line : LineOver) (submitted : List Step) (taken : List Answer) : Type 0 where
   pub own : List Answer
   pub others : List Answer
-  pub line_owed : IsLineOwed p line submitted own
+  pub line_owed : IsLineOwed max_job_size line submitted own
   pub none_unwritten : IsNoneUnwritten line.over own line.seen.written
   pub taken_is : taken ≡ own ++ (others ++ Closed ∷ [])
   pub none_closed : has_closed others ≡ false
 
 -- the lines in the order in which they were over
-abbrev pub AreLinesServed : Profile → List LineOver → List Step → List Answer → Type 0
-AreLinesServed p [] submitted taken = (submitted ≡ []) × (taken ≡ [])
-AreLinesServed p (line ∷ lines) submitted taken =
+abbrev pub AreLinesServed : ℕ → List LineOver → List Step → List Answer → Type 0
+AreLinesServed max_job_size [] submitted taken = (submitted ≡ []) × (taken ≡ [])
+AreLinesServed max_job_size (line ∷ lines) submitted taken =
     (own more : List Step) × (got later : List Answer)
-    × IsLineServed p line own got × (submitted ≡ own ++ more) × (taken ≡ got ++ later)
-    × AreLinesServed p lines more later
+    × IsLineServed max_job_size line own got × (submitted ≡ own ++ more) × (taken ≡ got ++ later)
+    × AreLinesServed max_job_size lines more later
 
 -- What a seat did whose door is done: its lines, and then it said that no more come.
-pub record IsSeatDone (p : Profile) (lines : List LineOver) (submitted : List Step) (taken : List Answer) : Type 0 where
+pub record IsSeatDone (max_job_size : ℕ) (lines : List LineOver) (submitted : List Step) (taken : List Answer) : Type 0 where
   pub own : List Step
-  pub of_lines : AreLinesServed p lines own taken
+  pub of_lines : AreLinesServed max_job_size lines own taken
   pub submitted_is : submitted ≡ own ++ Gone ∷ []

@@ -10,7 +10,6 @@ ghost use Rattle.bq_job.specs.History.{LineOver};
 ghost use Rattle.bq_job.specs.Lawful.{IsLawful};
 ghost use Rattle.bq_job.specs.Machine.{Machine, Settings};
 ghost use Rattle.bq_job.specs.OneClient.{GetsAtMost, GetsWhatWaits, is_connected_at};
-ghost use Rattle.bq_job.specs.Profile.{Profile};
 ghost use Rattle.bq_job.specs.Runs.{Entry, answers_to};
 ghost use Rattle.bq_job.specs.SeatDid.{AreLinesServed, IsLineServed};
 ghost use Rattle.bq_job.specs.Steps.{IsStep, Outcome};
@@ -39,23 +38,23 @@ pub fn steps_keep_settings()
 /// What the seats, the core and the control line did, each by itself, joins to one history, along which each
 /// line was written exactly what it is owed.
 pub fn parts_join()
-    ensures { (settings : Settings) (p : Profile) (doors : List (List LineOver)) (control : List ℕ) (failed : Bool)
+    ensures { (settings : Settings) (max_job_size : ℕ) (doors : List (List LineOver)) (control : List ℕ) (failed : Bool)
         (readings : List (Option ℕ)) (history : List Entry) (given : List GivenAnswer) (last : Machine)
-        → IsJoined settings p doors control failed readings history given last
-        → IsHistoryOf settings p doors control failed readings last }
+        → IsJoined settings max_job_size doors control failed readings history given last
+        → IsHistoryOf settings max_job_size doors control failed readings last }
 {}
 
 /// The same for a lone line.
 pub fn line_joins()
-    ensures { (settings : Settings) (p : Profile) (seat : ℕ) (line : LineOver) (readings : List (Option ℕ))
+    ensures { (settings : Settings) (max_job_size : ℕ) (seat : ℕ) (line : LineOver) (readings : List (Option ℕ))
         (history : List Entry) (given : List GivenAnswer) (last : Machine)
-        → IsLineJoined settings p seat line readings history given last
-        → IsHistoryOfLine settings p seat line readings }
+        → IsLineJoined settings max_job_size seat line readings history given last
+        → IsHistoryOfLine settings max_job_size seat line readings }
 {}
 
 /// Behind the lines that were served so far one line more was served.
 pub fn one_line_more()
-    ensures { (p : Profile) (lines : List LineOver) (line : LineOver) (submitted more : List Step) (taken got : List Answer)
-        → AreLinesServed p lines submitted taken → IsLineServed p line more got
-        → AreLinesServed p (lines ++ line ∷ []) (submitted ++ more) (taken ++ got) }
+    ensures { (max_job_size : ℕ) (lines : List LineOver) (line : LineOver) (submitted more : List Step) (taken got : List Answer)
+        → AreLinesServed max_job_size lines submitted taken → IsLineServed max_job_size line more got
+        → AreLinesServed max_job_size (lines ++ line ∷ []) (submitted ++ more) (taken ++ got) }
 {}

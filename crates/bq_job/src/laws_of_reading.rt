@@ -1,6 +1,5 @@
 //! What holds of every reading of a text into requests.
 ghost use Rattle.std.specs.Prelude.{◌≡◌, ◌++◌, ℕ, List, IsTrue};
-ghost use Rattle.bq_job.specs.Profile.{Profile};
 ghost use Rattle.bq_job.specs.ComputedReading.{reading};
 ghost use Rattle.bq_job.specs.Reading.{Reads, ends_by_quit};
 ghost use Rattle.bq_job.specs.SameRequests.{AreSameRequests};
@@ -11,18 +10,18 @@ mod examples;
 
 /// Every text has a reading: the computed one, which meets no want of memory.
 pub fn every_text_is_read()
-    ensures { (p : Profile) (text : List ℕ) → Reads p text (reading p text).0 (reading p text).1 }
+    ensures { (max_job_size : ℕ) (text : List ℕ) → Reads max_job_size text (reading max_job_size text).0 (reading max_job_size text).1 }
 {}
 
 /// A text has one reading: two have the same rest and as many requests, each the same but for the
 /// choice of a refused memory.
 pub fn one_reading_only()
-    ensures { (p : Profile) (text : List ℕ) (firsts seconds : List Request) (rest other : List ℕ)
-        → Reads p text firsts rest → Reads p text seconds other → (rest ≡ other) × AreSameRequests firsts seconds }
+    ensures { (max_job_size : ℕ) (text : List ℕ) (firsts seconds : List Request) (rest other : List ℕ)
+        → Reads max_job_size text firsts rest → Reads max_job_size text seconds other → (rest ≡ other) × AreSameRequests firsts seconds }
 {}
 
 /// Behind a quit anything may follow: nothing more is read.
 pub fn anything_follows_a_quit()
-    ensures { (p : Profile) (text more : List ℕ) (requests : List Request) (rest : List ℕ)
-        → Reads p text requests rest → IsTrue (ends_by_quit requests) → Reads p (text ++ more) requests (rest ++ more) }
+    ensures { (max_job_size : ℕ) (text more : List ℕ) (requests : List Request) (rest : List ℕ)
+        → Reads max_job_size text requests rest → IsTrue (ends_by_quit requests) → Reads max_job_size (text ++ more) requests (rest ++ more) }
 {}

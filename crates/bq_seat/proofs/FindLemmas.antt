@@ -5,13 +5,12 @@ use Rattle.bq_job.specs.declared.answer.Answer.{Answer}
 use Rattle.bq_job.specs.declared.line_end.LineFault.{LineFault}
 use Rattle.bq_job.specs.declared.step.Step.{Step}
 use Rattle.bq_job.specs.declared.step.Step.TheVariants as steps
-use Rattle.bq_job.specs.Profile.{Profile}
 use Rattle.bq_seat.specs.Finds.{Finds}
 use Rattle.bq_job.specs.LineSteps.{wanted}
 use Rattle.bq_seat.specs.Past.{Awaited, IsOrderly, Past, awaited_by, has_close, is_close, is_stray, past_after, with_action, with_event, with_fault, with_mail}
 use Rattle.bq_seat.specs.SeatMoves.{IsMove, OpensPast}
-use Rattle.bq_seat.specs.SeatParts.{IfLineOver, IsSoFar, IsStagedMove, OpensLine}
-use Rattle.bq_seat.specs.SeatStands.{AgreesWith, StandsInStage, StandsFor, awaited, awaited_at, seat_profile}
+use Rattle.bq_seat.specs.SeatParts.{IfLineOver, IsStagedMove, OpensLine}
+use Rattle.bq_seat.specs.SeatStands.{AgreesWith, StandsInStage, StandsFor, awaited, awaited_at}
 use Rattle.bq_seat.specs.Served.{IsServed}
 use Rattle.bq_wire.specs.declared.state.State.{State}
 use Rattle.bq_seat.specs.declared.machine.Action.{Action}
@@ -75,16 +74,16 @@ unbroken_at (stages.Closing end) reader kept told p e h = cc
 unbroken_at (stages.Leaving end) reader kept told p e h = cc
 
 -- the past with the event finds the action
-found : (profile : Profile) (action : Action) (new : SeatMachine) (q : Past) → awaited_by action ≡ Some (awaited new) → AgreesWith new (with_action action q)
-    → IfLineOver action (λ end. (written : List ℕ) → IsServed profile written end q) → IsSoFar action → Finds profile action q
-found profile (actions.Submit step) new q awaits stands over known =
-    let one : awaited new ≡ Awaited.ASubmission = cc in (in_turn new.stage new.reader new.kept new.end_told (with_action (actions.Submit step) q) q.steps step one refl stands, known)
-found profile actions.Read new q awaits stands over known = let one : awaited new ≡ Awaited.AReading = cc in goes_on_at_read new.stage new.reader new.kept new.end_told q one stands
-found profile actions.PollMail new q awaits stands over known = let one : awaited new ≡ Awaited.AMail = cc in few_at_look new.stage new.reader new.kept new.end_told q one stands
-found profile (actions.Write answer) new q awaits stands over known =
+found : (size : ℕ) (action : Action) (new : SeatMachine) (q : Past) → awaited_by action ≡ Some (awaited new) → AgreesWith new (with_action action q)
+    → IfLineOver action (λ end. (written : List ℕ) → IsServed size written end q) → Finds size action q
+found size (actions.Submit step) new q awaits stands over =
+    let one : awaited new ≡ Awaited.ASubmission = cc in in_turn new.stage new.reader new.kept new.end_told (with_action (actions.Submit step) q) q.steps step one refl stands
+found size actions.Read new q awaits stands over = let one : awaited new ≡ Awaited.AReading = cc in goes_on_at_read new.stage new.reader new.kept new.end_told q one stands
+found size actions.PollMail new q awaits stands over = let one : awaited new ≡ Awaited.AMail = cc in few_at_look new.stage new.reader new.kept new.end_told q one stands
+found size (actions.Write answer) new q awaits stands over =
     let one : awaited new ≡ Awaited.AWriting = cc in unbroken_at new.stage new.reader new.kept new.end_told (with_action (actions.Write answer) q) one stands
-found profile (actions.LineOver end) new q awaits stands over known = over
-found profile actions.Stray new q awaits stands over known = tt
+found size (actions.LineOver end) new q awaits stands over = over
+found size actions.Stray new q awaits stands over = tt
 
 -- pasts stay orderly
 
@@ -156,8 +155,8 @@ opens events.WriteDone action new h = tt
 opens events.WriteFault action new h = tt
 
 over_at : (old : SeatMachine) (event : Event) (action : Action) (p : Past) → AgreesWith old p
-    → IfLineOver action (λ end. (q : Past) → AgreesWith old q → (written : List ℕ) → IsServed (seat_profile old) written end (past_after event action q))
-    → IfLineOver action (λ end. (written : List ℕ) → IsServed (seat_profile old) written end (with_event event p))
+    → IfLineOver action (λ end. (q : Past) → AgreesWith old q → (written : List ℕ) → IsServed old.reader.max_job_size written end (past_after event action q))
+    → IfLineOver action (λ end. (written : List ℕ) → IsServed old.reader.max_job_size written end (with_event event p))
 over_at old event (actions.Submit step) p h over = tt
 over_at old event actions.Read p h over = tt
 over_at old event actions.PollMail p h over = tt
@@ -171,10 +170,10 @@ is_move old event action new m = record {
   stray = m.stray;
   unchanged = m.unchanged;
   awaits = m.awaits;
-  profile = m.profile;
+  limit = m.limit;
   opened = opens event action new m.opened;
   past = λ p h. (m.past p h.0, orderly_after event action p h.1);
-  finds = λ e p h. found (seat_profile old) action new (with_event event p) (m.awaits e)
-      (subst (λ b. AgreesWith new (if b then p else with_action action (with_event event p))) e (m.past p h.0)) (over_at old event action p h.0 m.over) m.so_far;
+  finds = λ e p h. found old.reader.max_job_size action new (with_event event p) (m.awaits e)
+      (subst (λ b. AgreesWith new (if b then p else with_action action (with_event event p))) e (m.past p h.0)) (over_at old event action p h.0 m.over);
   looks = λ e p h. m.looks e p h.0;
 }

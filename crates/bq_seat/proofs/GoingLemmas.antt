@@ -1,16 +1,15 @@
 -- A machine that goes on while nothing is outstanding.
-use Rattle.std.proofs.Common.{◌≡◌, ℕ, true, false, List, [], Option, Some, refl, sym, subst, ◌∙◌, drop, IfSome, IsTrue}
+use Rattle.std.proofs.Common.{◌≡◌, ℕ, true, false, List, [], Option, Some, refl, sym, subst, ◌∙◌, drop, IfSome}
 use Rattle.bq_job.specs.declared.line_end.LineEnd.TheVariants as ends
 use Rattle.bq_job.specs.declared.request.Request.{Request}
 use Rattle.bq_job.specs.declared.request.Request.TheVariants as requests
 use Rattle.bq_job.specs.declared.step.Step.TheVariants as steps
 use Rattle.bq_job.specs.Reading.{is_quit}
 use Rattle.bq_job.specs.LineSteps.{is_waiting_request}
-use Rattle.bq_job.specs.SoFar.{is_so_far}
 use Rattle.bq_seat.specs.Past.{Past, with_action}
 use Rattle.bq_seat.specs.SeatParts.{GoesOn, in_stage, asking_stage}
 use Rattle.bq_seat.specs.SeatStands.{AgreesWith, IsOpen, StandsInStage}
-use Rattle.bq_wire.specs.Standing.{profile_of, Stands, HandsRequest}
+use Rattle.bq_wire.specs.Standing.{Stands, HandsRequest}
 use Rattle.bq_wire.specs.declared.state.State.{State}
 use Rattle.bq_seat.specs.declared.machine.Action.{Action}
 use Rattle.bq_seat.specs.declared.machine.Action.TheVariants as actions
@@ -22,9 +21,8 @@ use Rattle.bq_seat.proofs.OpenLemmas.{ends_line, asks, quits, open_at, waiting_a
 pub goes_told : (m : SeatMachine) → m.end_told ≡ true → GoesOn m (actions.Submit steps.Close) (in_stage (stages.Closing ends.EndOfInput) m)
 goes_told m told = record {
   further = tt;
-  so_far = refl;
   awaits = refl;
-  profile = refl;
+  limit = refl;
   past = λ p o. ends_line m.reader m.kept m.end_told p.ended p o (o.stepped.told_well told).1 (o.stepped.ended_is ∙ told);
 }
 
@@ -32,14 +30,14 @@ goes_told m told = record {
 abbrev pub after_asking : SeatMachine → State → ℕ → Request → SeatMachine
 after_asking m next taken request = record m { reader = next; kept = drop taken m.kept; stage = asking_stage request }
 
-asking_quit : (m : SeatMachine) (next : State) (n : ℕ) → m.end_told ≡ false → profile_of next ≡ profile_of m.reader
+asking_quit : (m : SeatMachine) (next : State) (n : ℕ) → m.end_told ≡ false → next.max_job_size ≡ m.reader.max_job_size
     → ((text : List ℕ) → Stands m.reader text → HandsRequest next text m.kept n requests.Quit)
     → (p : Past) → IsOpen m.reader m.kept m.end_told 0 p → AgreesWith (after_asking m next n requests.Quit) (with_action (actions.Submit (steps.Ask requests.Quit)) p)
 asking_quit m next n untold same fed p line =
     let o : IsOpen m.reader m.kept false 0 p = open_at m.reader m.kept m.kept m.end_told false 0 p refl untold line in
     quits m.reader next m.kept n p o same (fed o.read.begun o.read.stands).unit
 
-asking : (m : SeatMachine) (next : State) (n : ℕ) (q : Request) → is_quit q ≡ false → m.end_told ≡ false → profile_of next ≡ profile_of m.reader
+asking : (m : SeatMachine) (next : State) (n : ℕ) (q : Request) → is_quit q ≡ false → m.end_told ≡ false → next.max_job_size ≡ m.reader.max_job_size
     → ((text : List ℕ) → Stands m.reader text → HandsRequest next text m.kept n q) → (p : Past) → IsOpen m.reader m.kept m.end_told 0 p
     → StandsInStage (stages.Asking (is_waiting_request q)) next (drop n m.kept) m.end_told (with_action (actions.Submit (steps.Ask q)) p)
 asking m next n q not_quit untold same fed p line =
@@ -49,37 +47,33 @@ asking m next n q not_quit untold same fed p line =
     (waiting_at next (drop n m.kept) false m.end_told (is_waiting_request q) _ (sym untold) (asks m.reader next m.kept n q p o same out.unit empty not_quit), untold)
 
 -- the reader has handed out a request, and it is asked
-pub goes_asking : (m : SeatMachine) (next : State) (n : ℕ) (q : Request) → m.end_told ≡ false → profile_of next ≡ profile_of m.reader
-    → ((text : List ℕ) → Stands m.reader text → HandsRequest next text m.kept n q) → IsTrue (is_so_far q)
+pub goes_asking : (m : SeatMachine) (next : State) (n : ℕ) (q : Request) → m.end_told ≡ false → next.max_job_size ≡ m.reader.max_job_size
+    → ((text : List ℕ) → Stands m.reader text → HandsRequest next text m.kept n q)
     → GoesOn m (actions.Submit (steps.Ask q)) (after_asking m next n q)
-goes_asking m next n requests.Quit untold same fed known = record {
+goes_asking m next n requests.Quit untold same fed = record {
   further = tt;
-  so_far = refl;
   awaits = refl;
-  profile = same;
+  limit = same;
   past = asking_quit m next n untold same fed;
 }
-goes_asking m next n q untold same fed known = record {
+goes_asking m next n q untold same fed = record {
   further = tt;
-  so_far = known;
   awaits = refl;
-  profile = same;
+  limit = same;
   past = asking m next n q refl untold same fed;
 }
 
 -- the same, as the reader and the kept bytes tell it
 pub goes_handed : (m : SeatMachine) (next : State) (n : ℕ) (q : Request) (piece kept : List ℕ) (found : Option Request)
-    → m.end_told ≡ false → profile_of next ≡ profile_of m.reader → piece ≡ m.kept → kept ≡ drop n m.kept → found ≡ Some q
+    → m.end_told ≡ false → next.max_job_size ≡ m.reader.max_job_size → piece ≡ m.kept → kept ≡ drop n m.kept → found ≡ Some q
     → IfSome found (λ request. (text : List ℕ) → Stands m.reader text → HandsRequest next text piece n request)
-    → IfSome found (λ request. IsTrue (is_so_far request))
     → GoesOn m (actions.Submit (steps.Ask q)) (record m { reader = next; kept = kept; stage = asking_stage q })
-goes_handed m next n q piece kept found untold same piece_is kept_is found_is fed known =
+goes_handed m next n q piece kept found untold same piece_is kept_is found_is fed =
     let P : Option Request → Type 0 = λ f. IfSome f (λ request. (text : List ℕ) → Stands m.reader text → HandsRequest next text piece n request) in
     let Q : List ℕ → Type 0 = λ x. (text : List ℕ) → Stands m.reader text → HandsRequest next text x n q in
     let R : List ℕ → Type 0 = λ k. GoesOn m (actions.Submit (steps.Ask q)) (record m { reader = next; kept = k; stage = asking_stage q }) in
     let handed : (text : List ℕ) → Stands m.reader text → HandsRequest next text piece n q = subst P found_is fed in
-    let so_far : IsTrue (is_so_far q) = subst (λ f. IfSome f (λ request. IsTrue (is_so_far request))) found_is known in
-    subst R (sym kept_is) (goes_asking m next n q untold same (subst Q piece_is handed) so_far)
+    subst R (sym kept_is) (goes_asking m next n q untold same (subst Q piece_is handed))
 
 -- the same action and machine, in other words
 pub by_result : (m new same : SeatMachine) (action other : Action) → action ≡ other → new ≡ same → GoesOn m other same → GoesOn m action new

@@ -8,7 +8,6 @@ use Rattle.bq_job.specs.declared.step.Step.TheVariants as steps
 use Rattle.bq_job.specs.Reading.{is_quit}
 use Rattle.bq_job.specs.LineSteps.{ends_by_wait, wanted}
 use Rattle.bq_job.specs.declared.line_end.LineEnd.{LineEnd}
-use Rattle.bq_job.specs.Profile.{Profile}
 use Rattle.bq_wire.specs.declared.state.State.{State}
 use Rattle.bq_seat.specs.Looks.{GoesFurther, LooksBehindStep, asked_in, is_read_on, is_unanswered, last_step}
 use Rattle.bq_seat.specs.Past.{Past}
@@ -64,8 +63,8 @@ behind_end r kept told p o was_told =
     subst (λ s. LooksBehindStep s actions.PollMail) (sym is) refl
 
 -- behind the close
-pub behind_close : (profile : Profile) (end : LineEnd) (p : Past) → IsClosing profile end p → LooksBehindStep (last_step p.steps) actions.PollMail
-behind_close profile end p c =
+pub behind_close : (size : ℕ) (end : LineEnd) (p : Past) → IsClosing size end p → LooksBehindStep (last_step p.steps) actions.PollMail
+behind_close size end p c =
     let line = (c.served []).line in
     let is = ap last_step line.steps_are ∙ last_step-append ((steps.Connect ∷ map steps.Ask line.asked) ++ line.end_steps) steps.Close in
     subst (λ s. LooksBehindStep s actions.PollMail) (sym is) refl

@@ -7,13 +7,12 @@ use Rattle.bq_job.specs.declared.line_end.LineEnd.{LineEnd}
 use Rattle.bq_job.specs.declared.line_end.LineEnd.TheVariants as ends
 use Rattle.bq_job.specs.declared.step.Step.TheVariants as steps
 use Rattle.bq_job.specs.OneClient.{is_closed_answer}
-use Rattle.bq_job.specs.Profile.{Profile}
 use Rattle.bq_job.specs.Reading.{Reads}
 use Rattle.bq_seat.specs.Looks.{GoesFurther, LooksOn, is_read_on}
 use Rattle.bq_seat.specs.Past.{Past, with_action, with_event, past_after, is_stray, answers, first_past}
 use Rattle.bq_seat.specs.SeatParts.{GoesOn, IfLineOver, IsStagedMove, OpensLine, in_stage, reads_on}
-use Rattle.bq_seat.specs.SeatStands.{AgreesWith, IsOpen, StandsInStage, seat_profile, awaited_at}
-use Rattle.bq_wire.specs.Standing.{profile_of, Stands}
+use Rattle.bq_seat.specs.SeatStands.{AgreesWith, IsOpen, StandsInStage, awaited_at}
+use Rattle.bq_wire.specs.Standing.{Stands}
 use Rattle.bq_wire.specs.declared.state.State.{State}
 use Rattle.bq_seat.specs.declared.machine.Action.{Action}
 use Rattle.bq_seat.specs.declared.machine.Action.TheVariants as actions
@@ -45,9 +44,8 @@ pub end_in_reading : (m : SeatMachine) → IsStagedMove (in_stage stages.Reading
 end_in_reading m = record {
   stray = refl;
   unchanged = λ e. cc;
-  so_far = refl;
   awaits = λ e. refl;
-  profile = refl;
+  limit = refl;
   opened = tt;
   past = λ p h. ends_line m.reader m.kept m.end_told true p h.0 h.1 refl;
   over = tt;
@@ -60,9 +58,8 @@ pub end_in_reading_on : (m : SeatMachine)
 end_in_reading_on m = record {
   stray = refl;
   unchanged = λ e. cc;
-  so_far = refl;
   awaits = λ e. refl;
-  profile = refl;
+  limit = refl;
   opened = tt;
   past = λ p h. (tells_end m.reader m.kept m.end_told p h.0 h.1 h.2, refl);
   over = tt;
@@ -74,9 +71,8 @@ pub submitted_asking : (m : SeatMachine) (waits : Bool) → IsStagedMove (in_sta
 submitted_asking m waits = record {
   stray = refl;
   unchanged = λ e. cc;
-  so_far = tt;
   awaits = λ e. refl;
-  profile = refl;
+  limit = refl;
   opened = tt;
   past = λ p h. h.0;
   over = tt;
@@ -87,9 +83,8 @@ pub submitted_end : (m : SeatMachine) → IsStagedMove (in_stage stages.TellingE
 submitted_end m = record {
   stray = refl;
   unchanged = λ e. cc;
-  so_far = tt;
   awaits = λ e. refl;
-  profile = refl;
+  limit = refl;
   opened = tt;
   past = λ p h. h.0;
   over = tt;
@@ -101,9 +96,8 @@ pub nothing_in_reading_on : (m : SeatMachine) → IsStagedMove (in_stage stages.
 nothing_in_reading_on m = record {
   stray = refl;
   unchanged = λ e. cc;
-  so_far = tt;
   awaits = λ e. refl;
-  profile = refl;
+  limit = refl;
   opened = tt;
   past = λ p h. h.0;
   over = tt;
@@ -123,9 +117,8 @@ reads_on_in_polling : (m : SeatMachine) (waits : Bool) → waits ≡ true → m.
 reads_on_in_polling m waits w untold none on = record {
   stray = refl;
   unchanged = λ e. cc;
-  so_far = tt;
   awaits = λ e. refl;
-  profile = refl;
+  limit = refl;
   opened = tt;
   past = λ p h. ((h.0, h.1 ∙ w), none, untold);
   over = tt;
@@ -136,9 +129,8 @@ waits_in_polling : (m : SeatMachine) (waits : Bool) → reads_on waits m ≡ fal
 waits_in_polling m waits on = record {
   stray = refl;
   unchanged = λ e. cc;
-  so_far = tt;
   awaits = λ e. refl;
-  profile = refl;
+  limit = refl;
   opened = tt;
   past = λ p h. h;
   over = tt;
@@ -165,9 +157,8 @@ pub fault_in_reading : (m : SeatMachine) → IsStagedMove (in_stage stages.Readi
 fault_in_reading m = record {
   stray = refl;
   unchanged = λ e. cc;
-  so_far = refl;
   awaits = λ e. refl;
-  profile = refl;
+  limit = refl;
   opened = tt;
   past = λ p h. read_fails m.reader m.kept m.end_told 0 p h.0 h.1 (inl refl);
   over = tt;
@@ -178,9 +169,8 @@ pub fault_in_reading_on : (m : SeatMachine) → IsStagedMove (in_stage stages.Re
 fault_in_reading_on m = record {
   stray = refl;
   unchanged = λ e. cc;
-  so_far = refl;
   awaits = λ e. refl;
-  profile = refl;
+  limit = refl;
   opened = tt;
   past = λ p h. read_fails m.reader m.kept m.end_told 1 p h.0.0 h.1 (inr (refl, h.0.1));
   over = tt;
@@ -188,22 +178,21 @@ fault_in_reading_on m = record {
 }
 
 -- a write fails
-pub fault_in_writing : (m : SeatMachine) → ((P : Profile) (text : List ℕ) → Reads P text (reading P text).0 (reading P text).1)
+pub fault_in_writing : (m : SeatMachine) → ((size : ℕ) (text : List ℕ) → Reads size text (reading size text).0 (reading size text).1)
     → IsStagedMove (in_stage stages.Writing m) events.WriteFault (actions.Submit steps.Close) (in_stage (stages.Closing ends.WriteFault) m)
 fault_in_writing m every = record {
   stray = refl;
   unchanged = λ e. cc;
-  so_far = refl;
   awaits = λ e. refl;
-  profile = refl;
+  limit = refl;
   opened = tt;
-  past = λ p h. write_fails m.reader m.kept m.end_told p h.0 h.1 (λ text. ((reading (profile_of m.reader) text).0, (reading (profile_of m.reader) text).1, every (profile_of m.reader) text));
+  past = λ p h. write_fails m.reader m.kept m.end_told p h.0 h.1 (λ text. ((reading m.reader.max_job_size text).0, (reading m.reader.max_job_size text).1, every m.reader.max_job_size text));
   over = tt;
   looks = λ e p h. refl;
 }
 
 -- a line is opened
-pub opens : (m : SeatMachine) (next : State) (kept : List ℕ) → Stands next [] → profile_of next ≡ profile_of m.reader → kept ≡ []
+pub opens : (m : SeatMachine) (next : State) (kept : List ℕ) → Stands next [] → next.max_job_size ≡ m.reader.max_job_size → kept ≡ []
     → IsStagedMove (in_stage stages.Between m) events.Opened (actions.Submit steps.Connect) (record { reader = next; kept = kept; stage = stages.Connecting; end_told = false })
 opens m next kept stands same none =
     let P : List ℕ → Type 0 = λ k. StandsInStage stages.Connecting next k false first_past in
@@ -211,9 +200,8 @@ opens m next kept stands same none =
     record {
       stray = refl;
       unchanged = λ e. cc;
-      so_far = refl;
       awaits = λ e. refl;
-      profile = same;
+      limit = same;
       opened = λ e. (refl, begun);
       past = λ p h. begun;
       over = tt;
@@ -247,7 +235,7 @@ going_not_over actions.Stray P e = tt
 
 -- Nothing is outstanding once the event has happened, and the machine goes on behind it.
 pub goes_on_behind : (old mid new : SeatMachine) (event : Event) (action : Action) (stage : Stage) → old.stage ≡ stage → answers event (awaited_at stage) ≡ true
-    → (OpensLine event action new) → seat_profile mid ≡ seat_profile old
+    → (OpensLine event action new) → mid.reader.max_job_size ≡ old.reader.max_job_size
     → ((p : Past) → StandsInStage stage old.reader old.kept old.end_told p → IsOpen mid.reader mid.kept mid.end_told 0 (with_event event p))
     → ((p : Past) → StandsInStage stage old.reader old.kept old.end_told p → LooksOn (awaited_at stage) old.kept event p action)
     → GoesOn mid action new → IsStagedMove old event action new
@@ -257,9 +245,8 @@ goes_on_behind old mid new event action stage is awaits opened same opens_at loo
     record {
       stray = not_stray ∙ sym (ap (λ t. not (answers event (awaited_at t))) is ∙ ap not awaits);
       unchanged = λ e. cc;
-      so_far = g.so_far;
       awaits = λ e. g.awaits;
-      profile = g.profile ∙ same;
+      limit = g.limit ∙ same;
       opened = opened;
       past = λ p h. rw (going_past event action p g.further) (g.past (with_event event p) (opens_at p (at p h)));
       over = going_not_over action _ g.further;
@@ -271,7 +258,7 @@ pub bytes_in_reading : (m mid new : SeatMachine) (bytes : Bor (List ℕ)) (actio
     → IsStagedMove m (events.Bytes bytes) action new
 bytes_in_reading m mid new bytes action s kept g =
     let Q : (p : Past) → SeatMachine → Type 0 = λ p x. IsOpen x.reader x.kept x.end_told 0 (with_event (events.Bytes bytes) p) in
-    goes_on_behind m mid new (events.Bytes bytes) action stages.Reading s refl tt (ap seat_profile kept)
+    goes_on_behind m mid new (events.Bytes bytes) action stages.Reading s refl tt (ap (λ x. x.reader.max_job_size) kept)
     (λ p h. subst (Q p) (sym kept) (handed_in m.reader m.kept m.end_told 0 p bytes.now h.0 h.1 h.2))
     (λ p h. subst (λ b. MatchBool b (action ≡ actions.PollMail) (GoesFurther action)) (sym (answered_all m.reader m.kept m.end_told p h.0)) g.further)
     g
@@ -290,9 +277,8 @@ pub nothing_in_reading : (m : SeatMachine) → IsStagedMove (in_stage stages.Rea
 nothing_in_reading m = record {
   stray = refl;
   unchanged = λ e. cc;
-  so_far = tt;
   awaits = λ e. refl;
-  profile = refl;
+  limit = refl;
   opened = tt;
   past = λ p h. h;
   over = tt;
@@ -304,9 +290,8 @@ pub nothing_in_leaving : (m : SeatMachine) (end : LineEnd) → IsStagedMove (in_
 nothing_in_leaving m end = record {
   stray = refl;
   unchanged = λ e. cc;
-  so_far = tt;
   awaits = λ e. refl;
-  profile = refl;
+  limit = refl;
   opened = tt;
   past = λ p h. h;
   over = tt;
@@ -318,9 +303,8 @@ pub submitted_quit : (m : SeatMachine) → IsStagedMove (in_stage stages.AskingQ
 submitted_quit m = record {
   stray = refl;
   unchanged = λ e. cc;
-  so_far = refl;
   awaits = λ e. refl;
-  profile = refl;
+  limit = refl;
   opened = tt;
   past = λ p h. h.1;
   over = tt;
@@ -332,13 +316,12 @@ pub submitted_close : (m : SeatMachine) (end : LineEnd) → IsStagedMove (in_sta
 submitted_close m end = record {
   stray = refl;
   unchanged = λ e. cc;
-  so_far = tt;
   awaits = λ e. refl;
-  profile = refl;
+  limit = refl;
   opened = tt;
   past = λ p h. h;
   over = tt;
-  looks = λ e p h. behind_close (profile_of m.reader) end p h;
+  looks = λ e p h. behind_close m.reader.max_job_size end p h;
 }
 
 -- the outstanding answer came
@@ -346,9 +329,8 @@ pub mail_in_polling : (m : SeatMachine) (waits : Bool) (answer : Answer) → IsS
 mail_in_polling m waits answer = record {
   stray = refl;
   unchanged = λ e. cc;
-  so_far = tt;
   awaits = λ e. refl;
-  profile = refl;
+  limit = refl;
   opened = tt;
   past = λ p h. answered m.reader m.kept m.end_told waits p answer h;
   over = tt;
@@ -363,9 +345,8 @@ bytes_in_reading_on m kept bytes e =
     subst P (sym e) (record {
       stray = refl;
       unchanged = λ f. cc;
-      so_far = tt;
       awaits = λ f. refl;
-      profile = refl;
+      limit = refl;
       opened = tt;
       past = λ p h. handed_in_waiting m.reader m.kept m.end_told true p bytes.now h.0 h.1 h.2;
       over = tt;
@@ -378,12 +359,11 @@ ends_by_closed : (m : SeatMachine) (end : LineEnd) (answer : Answer) → is_clos
 ends_by_closed m end answer own = record {
   stray = refl;
   unchanged = λ e. cc;
-  so_far = tt;
   awaits = λ e. refl;
-  profile = refl;
+  limit = refl;
   opened = tt;
-  past = λ p h. (end, served_now (profile_of m.reader) end p answer own h);
-  over = λ p h. served_now (profile_of m.reader) end p answer own h;
+  past = λ p h. (end, served_now m.reader.max_job_size end p answer own h);
+  over = λ p h. served_now m.reader.max_job_size end p answer own h;
   looks = λ e p h. subst (λ b. MatchBool b (MatchBool (is_closed_answer answer) (Unit {0}) (actions.LineOver end ≡ actions.PollMail)) (actions.LineOver end ≡ actions.Write answer)) (sym h.closing_is)
       (subst (λ b. MatchBool b (Unit {0}) (actions.LineOver end ≡ actions.PollMail)) (sym own) tt);
 }
@@ -393,11 +373,10 @@ stays_leaving : (m : SeatMachine) (end : LineEnd) (answer : Answer) → is_close
 stays_leaving m end answer other = record {
   stray = refl;
   unchanged = λ e. cc;
-  so_far = tt;
   awaits = λ e. refl;
-  profile = refl;
+  limit = refl;
   opened = tt;
-  past = λ p h. still_closing (profile_of m.reader) end p answer other h;
+  past = λ p h. still_closing m.reader.max_job_size end p answer other h;
   over = tt;
   looks = λ e p h. subst (λ b. MatchBool b (MatchBool (is_closed_answer answer) ⊥ (actions.PollMail ≡ actions.PollMail)) (actions.PollMail ≡ actions.Write answer)) (sym h.closing_is)
       (subst (λ b. MatchBool b ⊥ (actions.PollMail ≡ actions.PollMail)) (sym other) refl);

@@ -11,14 +11,13 @@ use Rattle.bq_job.specs.declared.request.Request.{Request}
 use Rattle.bq_job.specs.declared.request.Request.TheVariants as requests
 use Rattle.bq_job.specs.declared.step.Step.{Step}
 use Rattle.bq_job.specs.declared.step.Step.TheVariants as steps
-use Rattle.bq_job.specs.Profile.{Profile}
 use Rattle.bq_job.specs.Reading.{Reads, AreUnits, IsUnit, BeginsNoUnit, is_quit}
 use Rattle.bq_job.specs.LineSteps.{MayTellEnd, AreAllAnswered, is_waiting_request, ends_by_wait}
 use Rattle.bq_job.specs.OneClient.{has_closed, is_closed_answer}
 use Rattle.bq_seat.specs.Past.{Past, with_action, with_mail, with_fault, first_past}
 use Rattle.bq_seat.specs.Served.{IsLastBroken, IsServed, IsServedToClose}
 use Rattle.bq_seat.specs.SeatStands.{IsClosing, IsOpen, IsWaiting, StandsInStage, end_if}
-use Rattle.bq_wire.specs.Standing.{profile_of, Stands}
+use Rattle.bq_wire.specs.Standing.{Stands}
 use Rattle.bq_wire.specs.declared.state.State.{State}
 use Rattle.bq_seat.specs.declared.machine.Action.TheVariants as actions
 use Rattle.bq_seat.specs.declared.machine.Stage.TheVariants as stages
@@ -34,7 +33,7 @@ opened r h = (
       units = [];
       begun = [];
       stands = h;
-      no_unit = BeginsNoUnit-[] (profile_of r);
+      no_unit = BeginsNoUnit-[] r.max_job_size;
       are_units = refl;
       bytes_are = refl;
     };
@@ -86,12 +85,12 @@ unfolding handed_in
 handed_in_waiting r kept told waits p more w none untold = (handed_in r kept told 1 p more w.0 none untold, w.1)
 
 -- the reader reads as it did
-same_units : (r next : State) (units : List ℕ) (asked : List Request) → profile_of next ≡ profile_of r → AreUnits (profile_of r) units asked → AreUnits (profile_of next) units asked
-same_units r next units asked same u = let P : Profile → Type 0 = λ x. AreUnits x units asked in subst P (sym same) u
+same_units : (r next : State) (units : List ℕ) (asked : List Request) → next.max_job_size ≡ r.max_job_size → AreUnits r.max_job_size units asked → AreUnits next.max_job_size units asked
+same_units r next units asked same u = let P : ℕ → Type 0 = λ x. AreUnits x units asked in subst P (sym same) u
 
 -- the reader has taken all bytes that were kept, and they hold no whole request
-pub read_on : (r next : State) (kept : List ℕ) (p : Past) (o : IsOpen r kept false 0 p) → profile_of next ≡ profile_of r
-    → Stands next (o.read.begun ++ kept) → BeginsNoUnit (profile_of next) (o.read.begun ++ kept) → IsOpen next [] false 0 p
+pub read_on : (r next : State) (kept : List ℕ) (p : Past) (o : IsOpen r kept false 0 p) → next.max_job_size ≡ r.max_job_size
+    → Stands next (o.read.begun ++ kept) → BeginsNoUnit next.max_job_size (o.read.begun ++ kept) → IsOpen next [] false 0 p
 read_on r next kept p o same h none = record {
   asked = o.asked;
   read = record {
@@ -125,7 +124,7 @@ asked_steps r kept p o q =
 
 -- a request is asked
 pub asks : (r next : State) (kept : List ℕ) (n : ℕ) (q : Request) (p : Past) (o : IsOpen r kept false 0 p)
-    → profile_of next ≡ profile_of r → IsUnit (profile_of next) (o.read.begun ++ take n kept) q → Stands next [] → is_quit q ≡ false
+    → next.max_job_size ≡ r.max_job_size → IsUnit next.max_job_size (o.read.begun ++ take n kept) q → Stands next [] → is_quit q ≡ false
     → IsWaiting next (drop n kept) false (is_waiting_request q) (with_action (actions.Submit (steps.Ask q)) p)
 asks r next kept n q p o same unit h not_quit = (
   record {
@@ -134,9 +133,9 @@ asks r next kept n q p o same unit h not_quit = (
       units = o.read.units ++ (o.read.begun ++ take n kept);
       begun = [];
       stands = h;
-      no_unit = BeginsNoUnit-[] (profile_of next);
-      are_units = AreUnits-append (profile_of next) o.read.units o.asked (o.read.begun ++ take n kept) (q ∷ []) (same_units r next o.read.units o.asked same o.read.are_units)
-          (one_unit (profile_of next) (o.read.begun ++ take n kept) q unit);
+      no_unit = BeginsNoUnit-[] next.max_job_size;
+      are_units = AreUnits-append next.max_job_size o.read.units o.asked (o.read.begun ++ take n kept) (q ∷ []) (same_units r next o.read.units o.asked same o.read.are_units)
+          (one_unit next.max_job_size (o.read.begun ++ take n kept) q unit);
       bytes_are = o.read.bytes_are ∙ split_bytes o.read.units o.read.begun kept n;
     };
     stepped = record {
@@ -158,7 +157,7 @@ asks r next kept n q p o same unit h not_quit = (
 
 -- a quit is asked
 pub quits : (r next : State) (kept : List ℕ) (n : ℕ) (p : Past) (o : IsOpen r kept false 0 p)
-    → profile_of next ≡ profile_of r → IsUnit (profile_of next) (o.read.begun ++ take n kept) requests.Quit
+    → next.max_job_size ≡ r.max_job_size → IsUnit next.max_job_size (o.read.begun ++ take n kept) requests.Quit
     → StandsInStage stages.AskingQuit next (drop n kept) false (with_action (actions.Submit (steps.Ask requests.Quit)) p)
 quits r next kept n p o same unit =
     let unit_text : List ℕ = o.read.begun ++ take n kept in
@@ -172,8 +171,8 @@ quits r next kept n p o same unit =
             rest = drop n kept;
             asked = o.asked ++ requests.Quit ∷ [];
             end_steps = [];
-            reads = Reads-after (profile_of next) p.bytes o.read.units (unit_text ++ drop n kept) (drop n kept) o.asked (requests.Quit ∷ []) bytes_are
-                (same_units r next o.read.units o.asked same o.read.are_units) o.stepped.no_quit (Reads-quit (profile_of next) unit_text (drop n kept) requests.Quit unit refl);
+            reads = Reads-after next.max_job_size p.bytes o.read.units (unit_text ++ drop n kept) (drop n kept) o.asked (requests.Quit ∷ []) bytes_are
+                (same_units r next o.read.units o.asked same o.read.are_units) o.stepped.no_quit (Reads-quit next.max_job_size unit_text (drop n kept) requests.Quit unit refl);
             is_over = (refl, ends_by_quit-append o.asked (requests.Quit ∷ []) refl);
             ends = inl refl;
             steps_are = ap (λ x. x ++ steps.Close ∷ []) (asked_steps r kept p o requests.Quit ∙ sym (append-nil _));
@@ -201,9 +200,9 @@ closed_steps r kept told out p o = ap (λ x. x ++ steps.Close ∷ []) o.stepped.
 
 -- every request was asked where no bytes are kept
 all_read : (r : State) (kept : List ℕ) (told : Bool) (out : ℕ) (p : Past) (o : IsOpen r kept told out p) → kept ≡ []
-    → Reads (profile_of r) p.bytes o.asked o.read.begun
+    → Reads r.max_job_size p.bytes o.asked o.read.begun
 all_read r kept told out p o none =
-    Reads-begun (profile_of r) p.bytes o.read.units o.read.begun o.asked (o.read.bytes_are ∙ ap (λ k. o.read.units ++ (o.read.begun ++ k)) none ∙ ap (λ b. o.read.units ++ b) (append-nil o.read.begun))
+    Reads-begun r.max_job_size p.bytes o.read.units o.read.begun o.asked (o.read.bytes_are ∙ ap (λ k. o.read.units ++ (o.read.begun ++ k)) none ∙ ap (λ b. o.read.units ++ b) (append-nil o.read.begun))
     o.read.are_units o.stepped.no_quit o.read.no_unit
 
 -- the end is told only behind a reserve, and if the line says that it ended
@@ -214,7 +213,7 @@ told_well bytes written ended fault asked false h = inl refl
 
 -- a line is closed at the end of its input
 served_at_end : (r : State) (kept : List ℕ) (told ended : Bool) (p : Past) → IsOpen r kept told 0 p → kept ≡ [] → ended ≡ true → (written : List ℕ)
-    → IsServedToClose (profile_of r) written ends.EndOfInput (with_action (actions.Submit steps.Close) (record p { ended = ended }))
+    → IsServedToClose r.max_job_size written ends.EndOfInput (with_action (actions.Submit steps.Close) (record p { ended = ended }))
 served_at_end r kept told ended p o none e written = record {
   line = record {
     requests = o.asked;
@@ -233,13 +232,13 @@ served_at_end r kept told ended p o none e written = record {
 }
 
 -- The line is closed: nothing came behind the close yet.
-closed : (profile : Profile) (end : LineEnd) (p : Past) → p.late_mail ≡ [] → ((written : List ℕ) → IsServedToClose profile written end (with_action (actions.Submit steps.Close) p))
-    → IsClosing profile end (with_action (actions.Submit steps.Close) p)
-closed profile end p none served = record { served = served; closing_is = or-true p.closing; unclosed = ap has_closed none }
+closed : (size : ℕ) (end : LineEnd) (p : Past) → p.late_mail ≡ [] → ((written : List ℕ) → IsServedToClose size written end (with_action (actions.Submit steps.Close) p))
+    → IsClosing size end (with_action (actions.Submit steps.Close) p)
+closed size end p none served = record { served = served; closing_is = or-true p.closing; unclosed = ap has_closed none }
 
 pub ends_line : (r : State) (kept : List ℕ) (told ended : Bool) (p : Past) → IsOpen r kept told 0 p → kept ≡ [] → ended ≡ true
-    → IsClosing (profile_of r) ends.EndOfInput (with_action (actions.Submit steps.Close) (record p { ended = ended }))
-ends_line r kept told ended p o none e = closed (profile_of r) ends.EndOfInput (record p { ended = ended }) o.handed.late_is (served_at_end r kept told ended p o none e)
+    → IsClosing r.max_job_size ends.EndOfInput (with_action (actions.Submit steps.Close) (record p { ended = ended }))
+ends_line r kept told ended p o none e = closed r.max_job_size ends.EndOfInput (record p { ended = ended }) o.handed.late_is (served_at_end r kept told ended p o none e)
 
 -- the first fault of a past without one
 first_fault : (p : Past) (fault : LineFault) → p.fault ≡ None
@@ -255,9 +254,9 @@ fault_answers r kept told p out o (inr e) = inr (e.1, omega (arith, e.0, o.hande
 -- a line is closed after a read fault
 served_at_read_fault : (r : State) (kept : List ℕ) (told : Bool) (out : ℕ) (p : Past) (o : IsOpen r kept told out p) → kept ≡ []
     → ((out ≡ 0) ⊎ ((out ≡ 1) × (ends_by_wait o.asked ≡ true))) → (written : List ℕ)
-    → IsServedToClose (profile_of r) written ends.ReadFault (with_action (actions.Submit steps.Close) (with_fault faults.Read p))
+    → IsServedToClose r.max_job_size written ends.ReadFault (with_action (actions.Submit steps.Close) (with_fault faults.Read p))
 served_at_read_fault r kept told out p o none answers written =
-    let P : Past → Type 0 = λ q. IsServedToClose (profile_of r) written ends.ReadFault (with_action (actions.Submit steps.Close) q) in
+    let P : Past → Type 0 = λ q. IsServedToClose r.max_job_size written ends.ReadFault (with_action (actions.Submit steps.Close) q) in
     subst P (sym (first_fault p faults.Read o.handed.fault_is)) (record {
       line = record {
         requests = o.asked;
@@ -284,16 +283,16 @@ late_after_fault fault p = go p.fault refl
 
 pub read_fails : (r : State) (kept : List ℕ) (told : Bool) (out : ℕ) (p : Past) (o : IsOpen r kept told out p) → kept ≡ []
     → ((out ≡ 0) ⊎ ((out ≡ 1) × (ends_by_wait o.asked ≡ true)))
-    → IsClosing (profile_of r) ends.ReadFault (with_action (actions.Submit steps.Close) (with_fault faults.Read p))
+    → IsClosing r.max_job_size ends.ReadFault (with_action (actions.Submit steps.Close) (with_fault faults.Read p))
 read_fails r kept told out p o none answers =
-    closed (profile_of r) ends.ReadFault (with_fault faults.Read p) (late_after_fault faults.Read p ∙ o.handed.late_is) (served_at_read_fault r kept told out p o none answers)
+    closed r.max_job_size ends.ReadFault (with_fault faults.Read p) (late_after_fault faults.Read p ∙ o.handed.late_is) (served_at_read_fault r kept told out p o none answers)
 
 -- a line is closed after a write fault
 served_at_write_fault : (r : State) (kept : List ℕ) (told : Bool) (p : Past) → IsOpen r kept told 0 p → 0 < length p.written
-    → ((text : List ℕ) → (requests : List Request) × (rest : List ℕ) × Reads (profile_of r) text requests rest) → (written : List ℕ)
-    → IsServedToClose (profile_of r) written ends.WriteFault (with_action (actions.Submit steps.Close) (with_fault faults.Write p))
+    → ((text : List ℕ) → (requests : List Request) × (rest : List ℕ) × Reads r.max_job_size text requests rest) → (written : List ℕ)
+    → IsServedToClose r.max_job_size written ends.WriteFault (with_action (actions.Submit steps.Close) (with_fault faults.Write p))
 served_at_write_fault r kept told p o some_written all written =
-    let P : Past → Type 0 = λ q. IsServedToClose (profile_of r) written ends.WriteFault (with_action (actions.Submit steps.Close) q) in
+    let P : Past → Type 0 = λ q. IsServedToClose r.max_job_size written ends.WriteFault (with_action (actions.Submit steps.Close) q) in
     let more = all (o.read.begun ++ kept) in
     let some : 0 < length o.asked = omega (arith, o.handed.answered, ap length o.handed.written_is) in
     subst P (sym (first_fault p faults.Write o.handed.fault_is)) (record {
@@ -302,7 +301,7 @@ served_at_write_fault r kept told p o some_written all written =
         rest = more.1;
         asked = o.asked;
         end_steps = end_if told;
-        reads = Reads-after (profile_of r) p.bytes o.read.units (o.read.begun ++ kept) more.1 o.asked more.0 o.read.bytes_are o.read.are_units o.stepped.no_quit more.2;
+        reads = Reads-after r.max_job_size p.bytes o.read.units (o.read.begun ++ kept) more.1 o.asked more.0 o.read.bytes_are o.read.are_units o.stepped.no_quit more.2;
         is_over = (more.0, refl, some_asked o.asked some, no_quit_last o.asked o.stepped.no_quit, refl);
         ends = told_well p.bytes written p.ended (Some faults.Write) o.asked told (λ t. ((o.stepped.told_well t).0, o.stepped.ended_is ∙ t));
         steps_are = closed_steps r kept told 0 p o;
@@ -314,10 +313,10 @@ served_at_write_fault r kept told p o some_written all written =
     })
 
 pub write_fails : (r : State) (kept : List ℕ) (told : Bool) (p : Past) → IsOpen r kept told 0 p → 0 < length p.written
-    → ((text : List ℕ) → (requests : List Request) × (rest : List ℕ) × Reads (profile_of r) text requests rest)
-    → IsClosing (profile_of r) ends.WriteFault (with_action (actions.Submit steps.Close) (with_fault faults.Write p))
+    → ((text : List ℕ) → (requests : List Request) × (rest : List ℕ) × Reads r.max_job_size text requests rest)
+    → IsClosing r.max_job_size ends.WriteFault (with_action (actions.Submit steps.Close) (with_fault faults.Write p))
 write_fails r kept told p o some_written all =
-    closed (profile_of r) ends.WriteFault (with_fault faults.Write p) (late_after_fault faults.Write p ∙ o.handed.late_is) (served_at_write_fault r kept told p o some_written all)
+    closed r.max_job_size ends.WriteFault (with_fault faults.Write p) (late_after_fault faults.Write p ∙ o.handed.late_is) (served_at_write_fault r kept told p o some_written all)
 
 -- mail before the close
 early_mail : (p : Past) (a : Answer) → p.closing ≡ false → with_mail a p ≡ record p { mail = p.mail ++ a ∷ [] }
@@ -355,19 +354,19 @@ still_broken ends.EndOfInput p mail h = tt
 still_broken ends.ReadFault p mail h = tt
 still_broken ends.WriteFault p mail h = h
 
-served_still : (profile : Profile) (end : LineEnd) (p : Past) (mail : List Answer) (written : List ℕ) → IsServedToClose profile written end p → IsServedToClose profile written end (record p { late_mail = mail })
-served_still profile end p mail written s = record { line = s.line; handed_out = s.handed_out; answered = s.answered; broken = still_broken end p mail s.broken; fault = s.fault }
+served_still : (size : ℕ) (end : LineEnd) (p : Past) (mail : List Answer) (written : List ℕ) → IsServedToClose size written end p → IsServedToClose size written end (record p { late_mail = mail })
+served_still size end p mail written s = record { line = s.line; handed_out = s.handed_out; answered = s.answered; broken = still_broken end p mail s.broken; fault = s.fault }
 
 has_closed-append : (late : List Answer) (a : Answer) → has_closed late ≡ false → is_closed_answer a ≡ false → has_closed (late ++ a ∷ []) ≡ false
 has_closed-append [] a none e = rw e refl
 has_closed-append (b ∷ late) a none e = let both = neither (is_closed_answer b) (has_closed late) none in rw both.0 (has_closed-append late a both.1 e)
 
 -- other mail behind the close
-pub still_closing : (profile : Profile) (end : LineEnd) (p : Past) (a : Answer) → is_closed_answer a ≡ false → IsClosing profile end p → IsClosing profile end (with_mail a p)
-still_closing profile end p a other c =
-    let P : Past → Type 0 = λ q. IsClosing profile end q in
+pub still_closing : (size : ℕ) (end : LineEnd) (p : Past) (a : Answer) → is_closed_answer a ≡ false → IsClosing size end p → IsClosing size end (with_mail a p)
+still_closing size end p a other c =
+    let P : Past → Type 0 = λ q. IsClosing size end q in
     subst P (sym (late_mail p a c.closing_is)) (record {
-      served = λ written. served_still profile end p (p.late_mail ++ a ∷ []) written (c.served written);
+      served = λ written. served_still size end p (p.late_mail ++ a ∷ []) written (c.served written);
       closing_is = c.closing_is;
       unclosed = has_closed-append p.late_mail a c.unclosed other;
     })
@@ -377,11 +376,11 @@ closed_itself Closed e = refl
 closed_itself _ e = cc
 
 -- the close's own answer
-pub served_now : (profile : Profile) (end : LineEnd) (p : Past) (a : Answer) → is_closed_answer a ≡ true → IsClosing profile end p → (written : List ℕ) → IsServed profile written end (with_mail a p)
-served_now profile end p a own c written =
-    let P : Past → Type 0 = λ q. IsServed profile written end q in
+pub served_now : (size : ℕ) (end : LineEnd) (p : Past) (a : Answer) → is_closed_answer a ≡ true → IsClosing size end p → (written : List ℕ) → IsServed size written end (with_mail a p)
+served_now size end p a own c written =
+    let P : Past → Type 0 = λ q. IsServed size written end q in
     subst P (sym (late_mail p a c.closing_is)) (record {
-      to_close = served_still profile end p (p.late_mail ++ a ∷ []) written (c.served written);
+      to_close = served_still size end p (p.late_mail ++ a ∷ []) written (c.served written);
       late = record { others = p.late_mail; late_is = ap (λ x. p.late_mail ++ x ∷ []) (closed_itself a own); none_closed = c.unclosed };
     })
 

@@ -4,7 +4,7 @@ use Rattle.bq_job.specs.declared.step.Step.TheVariants as steps
 use Rattle.bq_seat.specs.Finds.{Finds}
 use Rattle.bq_seat.specs.Looks.{LooksOn}
 use Rattle.bq_seat.specs.Past.{Past, past_after, first_past, is_stray, awaited_by, answers, with_event}
-use Rattle.bq_seat.specs.SeatStands.{StandsFor, awaited, kept_bytes, seat_profile}
+use Rattle.bq_seat.specs.SeatStands.{StandsFor, awaited, kept_bytes}
 use Rattle.bq_seat.specs.declared.machine.Event.{Event}
 use Rattle.bq_seat.specs.declared.machine.Event.TheVariants as events
 use Rattle.bq_seat.specs.declared.machine.Action.{Action}
@@ -28,11 +28,11 @@ pub record IsMove (old : SeatMachine) (event : Event) (action : Action) (new : S
   pub unchanged : is_stray action ≡ true → new ≡ old
   -- what is awaited next is what answers the action
   pub awaits : is_stray action ≡ false → awaited_by action ≡ Some (awaited new)
-  pub profile : seat_profile new ≡ seat_profile old
+  pub limit : new.reader.max_job_size ≡ old.reader.max_job_size
   pub opened : OpensPast event action new
   -- every past that the machine stands for goes on by this event and this action
   pub past : (p : Past) → StandsFor old p → StandsFor new (past_after event action p)
   -- with the event, it finds the action
-  pub finds : is_stray action ≡ false → (p : Past) → StandsFor old p → Finds (seat_profile old) action (with_event event p)
+  pub finds : is_stray action ≡ false → (p : Past) → StandsFor old p → Finds old.reader.max_job_size action (with_event event p)
   -- what the machine looks at next
   pub looks : is_stray action ≡ false → (p : Past) → StandsFor old p → LooksOn (awaited old) (kept_bytes old) event p action

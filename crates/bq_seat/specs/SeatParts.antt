@@ -1,14 +1,13 @@
 -- What the parts of a seat machine's moves do, by its fields.
-use Rattle.std.specs.Prelude.{ℕ, ◌≡◌, ◌==◌, ◌&&◌, Bool, true, false, not, if◌then◌else◌, IsTrue, List, length, Some}
+use Rattle.std.specs.Prelude.{ℕ, ◌≡◌, ◌==◌, ◌&&◌, Bool, true, false, not, if◌then◌else◌, List, length, Some}
 use Rattle.bq_job.specs.declared.line_end.LineEnd.{LineEnd}
 use Rattle.bq_job.specs.declared.request.Request.{Request}
 use Rattle.bq_job.specs.declared.step.Step.TheVariants as steps
 use Rattle.bq_job.specs.Reading.{is_quit}
 use Rattle.bq_job.specs.LineSteps.{is_waiting_request}
-use Rattle.bq_job.specs.SoFar.{is_step_so_far}
 use Rattle.bq_seat.specs.Looks.{GoesFurther, LooksOn}
 use Rattle.bq_seat.specs.Past.{Past, answers, awaited_by, first_past, is_stray, past_after, with_action}
-use Rattle.bq_seat.specs.SeatStands.{AgreesWith, IsOpen, awaited, seat_profile}
+use Rattle.bq_seat.specs.SeatStands.{AgreesWith, IsOpen, awaited}
 use Rattle.bq_seat.specs.Served.{IsServed}
 use Rattle.bq_seat.specs.declared.machine.Action.{Action}
 use Rattle.bq_seat.specs.declared.machine.Action.TheVariants as actions
@@ -18,17 +17,11 @@ use Rattle.bq_seat.specs.declared.machine.SeatMachine.{SeatMachine}
 use Rattle.bq_seat.specs.declared.machine.Stage.{Stage}
 use Rattle.bq_seat.specs.declared.machine.Stage.TheVariants as stages
 
--- a step that is submitted is of no command that is missing so far
-abbrev pub IsSoFar : Action → Type 0
-IsSoFar (actions.Submit step) = IsTrue (is_step_so_far step)
-IsSoFar _ = Unit {0}
-
 -- Nothing is outstanding, and the machine goes on with this action.
 pub record GoesOn (old : SeatMachine) (action : Action) (new : SeatMachine) : Type 0 where
   pub further : GoesFurther action
-  pub so_far : IsSoFar action
   pub awaits : awaited_by action ≡ Some (awaited new)
-  pub profile : seat_profile new ≡ seat_profile old
+  pub limit : new.reader.max_job_size ≡ old.reader.max_job_size
   pub past : (p : Past) → IsOpen old.reader old.kept old.end_told 0 p → AgreesWith new (with_action action p)
 
 abbrev pub in_stage : Stage → SeatMachine → SeatMachine
@@ -55,10 +48,9 @@ IfLineOver _ P = Unit {0}
 pub record IsStagedMove (old : SeatMachine) (event : Event) (action : Action) (new : SeatMachine) : Type 0 where
   pub stray : is_stray action ≡ not (answers event (awaited old))
   pub unchanged : is_stray action ≡ true → new ≡ old
-  pub so_far : IsSoFar action
   pub awaits : is_stray action ≡ false → awaited_by action ≡ Some (awaited new)
-  pub profile : seat_profile new ≡ seat_profile old
+  pub limit : new.reader.max_job_size ≡ old.reader.max_job_size
   pub opened : OpensLine event action new
   pub past : (p : Past) → AgreesWith old p → AgreesWith new (past_after event action p)
-  pub over : IfLineOver action (λ end. (p : Past) → AgreesWith old p → (written : List ℕ) → IsServed (seat_profile old) written end (past_after event action p))
+  pub over : IfLineOver action (λ end. (p : Past) → AgreesWith old p → (written : List ℕ) → IsServed old.reader.max_job_size written end (past_after event action p))
   pub looks : is_stray action ≡ false → (p : Past) → AgreesWith old p → LooksOn (awaited old) old.kept event p action

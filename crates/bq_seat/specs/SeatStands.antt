@@ -9,11 +9,10 @@ use Rattle.bq_job.specs.declared.request.Request.{Request}
 use Rattle.bq_job.specs.declared.request.Request.TheVariants as requests
 use Rattle.bq_job.specs.declared.step.Step.{Step}
 use Rattle.bq_job.specs.declared.step.Step.TheVariants as steps
-use Rattle.bq_job.specs.Profile.{Profile}
 use Rattle.bq_job.specs.Reading.{AreUnits, BeginsNoUnit, is_quit}
 use Rattle.bq_job.specs.LineSteps.{ends_by_wait}
 use Rattle.bq_job.specs.OneClient.{has_closed}
-use Rattle.bq_wire.specs.Standing.{profile_of, Stands}
+use Rattle.bq_wire.specs.Standing.{Stands}
 use Rattle.bq_wire.specs.declared.state.State.{State}
 use Rattle.bq_seat.specs.Past.{Past, Awaited, IsOrderly, with_action}
 use Rattle.bq_seat.specs.Served.{IsServed, IsServedToClose}
@@ -34,8 +33,8 @@ pub record HasReadTo (reader : State) (kept : List ℕ) (asked : List Request) (
   pub units : List ℕ
   pub begun : List ℕ
   pub stands : Stands reader begun
-  pub no_unit : BeginsNoUnit (profile_of reader) begun
-  pub are_units : AreUnits (profile_of reader) units asked
+  pub no_unit : BeginsNoUnit reader.max_job_size begun
+  pub are_units : AreUnits reader.max_job_size units asked
   pub bytes_are : bytes ≡ units ++ (begun ++ kept)
 
 -- The steps are a connect and the requests, none of them quit. An end is told only where the last request
@@ -74,13 +73,13 @@ pub record HasAskedQuit (p : Past) : Type 0 where
   pub no_quit : has_quit asked ≡ false
 
 -- the close was submitted, and its own answer hasn't come
-pub record IsClosing (profile : Profile) (end : LineEnd) (p : Past) : Type 0 where
-  pub served : (written : List ℕ) → IsServedToClose profile written end p
+pub record IsClosing (max_job_size : ℕ) (end : LineEnd) (p : Past) : Type 0 where
+  pub served : (written : List ℕ) → IsServedToClose max_job_size written end p
   pub closing_is : p.closing ≡ true
   pub unclosed : has_closed p.late_mail ≡ false
 
 abbrev pub StandsInStage : Stage → State → List ℕ → Bool → Past → Type 0
-StandsInStage stages.Between reader kept told p = (end : LineEnd) × ((written : List ℕ) → IsServed (profile_of reader) written end p)
+StandsInStage stages.Between reader kept told p = (end : LineEnd) × ((written : List ℕ) → IsServed reader.max_job_size written end p)
 StandsInStage stages.Connecting reader kept told p = IsOpen reader kept told 0 p × (told ≡ false) × (p.steps ≡ steps.Connect ∷ [])
 StandsInStage stages.Reading reader kept told p = IsOpen reader kept told 0 p × (kept ≡ []) × (told ≡ false)
 StandsInStage (stages.Asking waits) reader kept told p = IsWaiting reader kept told waits p × (told ≡ false)
@@ -90,9 +89,9 @@ StandsInStage stages.TellingEnd reader kept told p = IsWaiting reader kept told 
 StandsInStage stages.Writing reader kept told p = IsOpen reader kept told 0 p × (0 < length p.written)
 -- a quit was asked, and a close is right
 StandsInStage stages.AskingQuit reader kept told p =
-    (p.closing ≡ false) × IsClosing (profile_of reader) ends.Quit (with_action (actions.Submit steps.Close) p) × HasAskedQuit p
-StandsInStage (stages.Closing end) reader kept told p = IsClosing (profile_of reader) end p
-StandsInStage (stages.Leaving end) reader kept told p = IsClosing (profile_of reader) end p
+    (p.closing ≡ false) × IsClosing reader.max_job_size ends.Quit (with_action (actions.Submit steps.Close) p) × HasAskedQuit p
+StandsInStage (stages.Closing end) reader kept told p = IsClosing reader.max_job_size end p
+StandsInStage (stages.Leaving end) reader kept told p = IsClosing reader.max_job_size end p
 
 -- the machine's fields agree with this past
 abbrev pub AgreesWith : SeatMachine → Past → Type 0
@@ -102,9 +101,6 @@ AgreesWith m p = StandsInStage m.stage m.reader m.kept m.end_told p
 -- machine's moves say.
 unfoldable pub StandsFor : SeatMachine → Past → Type 0
 StandsFor m p = AgreesWith m p × IsOrderly p
-
-abbrev pub seat_profile : SeatMachine → Profile
-seat_profile m = profile_of m.reader
 
 -- whether bytes are kept that came behind the requests that were asked
 abbrev pub kept_bytes : SeatMachine → List ℕ

@@ -8,7 +8,6 @@ use Rattle.bq_job.specs.declared.line_end.LineFault.{LineFault}
 use Rattle.bq_job.specs.declared.line_end.LineFault.TheVariants as faults
 use Rattle.bq_job.specs.LineSteps.{LineSeen, IsStepsOfLine, AreAllAnswered, heard}
 use Rattle.bq_job.specs.OneClient.{has_closed}
-use Rattle.bq_job.specs.Profile.{Profile}
 use Rattle.bq_seat.specs.Past.{Past}
 
 -- the line, as far as the machine has seen it, if these bytes were written to it
@@ -30,8 +29,8 @@ IsFaultOf ends.WriteFault fault = fault ≡ Some faults.Write
 -- A line was served from its opening to its close, which was submitted: its steps are those of the line.
 -- The answers that were handed out for writing are those that came before the close, in their order: one
 -- for each request but quit, of which after a read fault that to a last request that may wait can be missing.
-pub record IsServedToClose (profile : Profile) (written : List ℕ) (end : LineEnd) (p : Past) : Type 0 where
-  pub line : IsStepsOfLine profile (heard (seen_line written p)) end p.steps
+pub record IsServedToClose (max_job_size : ℕ) (written : List ℕ) (end : LineEnd) (p : Past) : Type 0 where
+  pub line : IsStepsOfLine max_job_size (heard (seen_line written p)) end p.steps
   pub handed_out : p.written ≡ p.mail
   pub answered : AreAllAnswered end line.asked p.mail
   pub broken : IsLastBroken end p
@@ -44,6 +43,6 @@ pub record EndsByClosed (late : List Answer) : Type 0 where
   pub none_closed : has_closed others ≡ false
 
 -- A line that is over was served to its close, and the close was answered.
-pub record IsServed (profile : Profile) (written : List ℕ) (end : LineEnd) (p : Past) : Type 0 where
-  pub to_close : IsServedToClose profile written end p
+pub record IsServed (max_job_size : ℕ) (written : List ℕ) (end : LineEnd) (p : Past) : Type 0 where
+  pub to_close : IsServedToClose max_job_size written end p
   pub late : EndsByClosed p.late_mail

@@ -86,20 +86,18 @@ pub struct SeatMachine {
 }
 
 impl SeatMachine {
-    ghost use Rattle.bq_job.specs.Profile.{profile};
     ghost use Rattle.bq_seat.specs.Past.{Awaited};
     ghost use Rattle.bq_job.specs.OneClient.{is_closed_answer};
     ghost use Rattle.bq_seat.specs.SeatMoves.{FitsPiece, IsMove};
     ghost use Rattle.bq_seat.specs.SeatParts.{GoesOn, IsStagedMove, asking_stage, in_stage, reads_on};
-    ghost use Rattle.bq_seat.specs.SeatStands.{awaited, seat_profile};
-    ghost use Rattle.bq_job.specs.SoFar.{words_so_far};
+    ghost use Rattle.bq_seat.specs.SeatStands.{awaited};
 
     /// A machine that awaits its first line. Bodies of more than `max_job_size` bytes, of 1 to 1,048,576,
     /// are refused. All memory but that for bodies is asked for here.
     pub fn new(alloc: Global, max_job_size: u32) -> Result<SeatMachine, NoMemory>
         requires { (1 ≤ max_job_size) × (max_job_size ≤ LARGEST_BODY) }
         ensures awaits { IfOk result (λ machine. awaited machine ≡ Awaited.ALine) }
-        ensures profile { IfOk result (λ machine. seat_profile machine ≡ profile max_job_size words_so_far) }
+        ensures limit { IfOk result (λ machine. machine.reader.max_job_size ≡ max_job_size) }
     {
         let reader = RequestReader::new(alloc, max_job_size)?;
         let kept = Kept::new(alloc)?;

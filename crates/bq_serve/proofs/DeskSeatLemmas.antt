@@ -1,5 +1,5 @@
 -- What the link of a seat to a desk did in an action.
-use Rattle.std.proofs.Common.{◌≡◌, ℕ, List, [], Option, ap, refl, subst, sym}
+use Rattle.std.proofs.Common.{◌≡◌, ℕ, List, [], Option, refl, subst, sym}
 use Rattle.bq_job.specs.declared.answer.Answer.{Answer}
 use Rattle.bq_job.specs.declared.step.Step.{Step}
 use Rattle.bq_job.specs.LineSteps.{LineSeen}

@@ -1,6 +1,6 @@
 -- What is true at every hold of the lock stays true.
-use Rattle.std.proofs.Common.{◌≡◌, ◌≢◌, ℕ, ◌<◌, ◌≤◌, ◌⊎◌, Bool, true, false, not, ◌&&◌, List, [], ◌∷◌, ◌++◌, Option, Some, None, drop, length, map, refl, sym, ap, ◌∙◌, arith, subst, inl, inr, append-nil, replicate}
-use Rattle.std.specs.Prelude.{◌==◌, IfSome, IsNone, IsSome, IsTrue, slice_index_or, slice_set}
+use Rattle.std.proofs.Common.{◌≡◌, ℕ, ◌<◌, ◌≤◌, ◌⊎◌, Bool, true, false, not, ◌&&◌, List, [], ◌∷◌, ◌++◌, Option, Some, None, drop, length, refl, sym, ap, ◌∙◌, arith, subst, inl, inr, replicate}
+use Rattle.std.specs.Prelude.{◌==◌, IfSome, IsNone, IsSome, IsTrue, slice_set}
 use Rattle.std.proofs.lemmas.Bool.{cases_Bool, cases_lt, eqb-true, eqb-false, false≢true}
 use Rattle.std.proofs.lemmas.List.{get_or_past, get_or-replicate, get_or-set_other, get_or-set_same, length-append, length-replicate, length-set, set_past}
 use Rattle.bq_job.specs.declared.answer.Answer.{Answer}
@@ -17,10 +17,10 @@ use Rattle.bq_job.proofs.LawfulLemmas.{new_is_lawful}
 use Rattle.bq_job.proofs.OneClientLemmas.{answers_append}
 use Rattle.bq_job.proofs.ReplayLemmas.{replay_more, replay_none}
 use Rattle.bq_serve.specs.LastParts.{EndsWith, last_part}
-use Rattle.bq_serve.specs.LockedState.{AreFew, IsLawfulHold, IsReplayed, JournalState, LockedState, locked_of, new_locked, outbox_at}
+use Rattle.bq_serve.specs.LockedState.{IsLawfulHold, IsReplayed, JournalState, LockedState, locked_of, new_locked, outbox_at}
 use Rattle.bq_serve.specs.LockedSteps.{AreDelivered, IsAdded, IsLeftOut, TakesStep, with_entry, without_entry}
 use Rattle.bq_serve.proofs.DeliveryLemmas.{few_delivered, outbox_past}
-use Rattle.bq_serve.proofs.LastPartLemmas.{ends_with_drop, ends_with_last, ends_with_more, ends_with_none, ends_with_then, last_are_few}
+use Rattle.bq_serve.proofs.LastPartLemmas.{ends_with_drop, ends_with_last, ends_with_more, ends_with_none, ends_with_then}
 
 abbrev no_answers : List Answer
 no_answers = []

@@ -1,10 +1,9 @@
 -- An answer is put into the mail of a seat, or taken out of it.
-use Rattle.std.proofs.Common.{◌≡◌, ◌≢◌, ℕ, ◌<◌, Bool, true, false, List, [], ◌∷◌, ◌++◌, Option, MatchResult, Result, Ok, Err, length, refl, sym, ap, ◌∙◌, arith, subst, inl, inr, append-nil, append_assoc, slice_set}
+use Rattle.std.proofs.Common.{◌≡◌, ◌≢◌, ℕ, ◌<◌, Bool, false, List, [], ◌∷◌, ◌++◌, length, refl, sym, ap, ◌∙◌, subst, inl, inr, append-nil, append_assoc, slice_set}
 use Rattle.std.specs.Prelude.{◌==◌, if◌then◌else◌, slice_index_or}
 use Rattle.std.proofs.lemmas.Bool.{cases_Bool, eq-eqb, eqb-true, eqb-false}
 use Rattle.std.proofs.lemmas.List.{get_or-set_other, get_or-set_same, get_or_default, length-set, set-get_or}
 use Rattle.bq_job.specs.declared.answer.Answer.{Answer}
-use Rattle.bq_job.specs.declared.step.Step.{Step}
 use Rattle.bq_job.specs.Runs.{Run, answers_to}
 use Rattle.bq_job.proofs.RunLemmas.{run_none}
 use Rattle.bq_serve.specs.DeskState.{DeskState, waiting}

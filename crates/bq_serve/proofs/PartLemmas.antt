@@ -4,7 +4,7 @@ use Rattle.std.proofs.lemmas.Bool.Decides.{nat_tests}
 use Rattle.std.proofs.lemmas.Option.{slice_get_read}
 use Rattle.std.proofs.lemmas.Grind.{common_steps}
 use Rattle.std.proofs.lemmas.List.{take_all}
-use Rattle.bq_serve.specs.LineParts.{part_bytes, bytes_up_to, is_over, open_place, over_count}
+use Rattle.bq_serve.specs.LineParts.{part_bytes, bytes_up_to, is_over, open_place}
 use Rattle.bq_serve.specs.declared.line.mem_line.Part.{Part}
 use Rattle.bq_serve.specs.declared.line.mem_line.Part.TheVariants as parts
 

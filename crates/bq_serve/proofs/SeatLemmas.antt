@@ -10,13 +10,13 @@ use Rattle.bq_job.specs.declared.step.Step.{Step}
 use Rattle.bq_job.specs.declared.step.Step.TheVariants as steps
 use Rattle.bq_job.specs.AnswerText.{answer_text}
 use Rattle.bq_job.specs.LineSteps.{IsOverBy, IsWritten, LineSeen, MayTellEnd, answers_text, heard}
-use Rattle.bq_job.specs.Profile.{Profile}
 use Rattle.bq_job.specs.Reading.{Reads}
 use Rattle.bq_job.specs.SeatDid.{IsLineServed, IsNoneUnwritten}
 use Rattle.bq_seat.specs.Finds.{Finds}
+use Rattle.bq_seat.specs.InTurn.{IsInTurn}
 use Rattle.bq_seat.specs.Past.{Awaited, IsOrderly, Past, answers, awaited_by, is_stray, no_past, past_after, with_action, with_event, with_fault, with_mail}
 use Rattle.bq_seat.specs.SeatMoves.{IsMove}
-use Rattle.bq_seat.specs.SeatStands.{StandsFor, awaited, seat_profile}
+use Rattle.bq_seat.specs.SeatStands.{StandsFor, awaited}
 use Rattle.bq_seat.specs.Served.{IsFaultOf, seen_line}
 use Rattle.bq_seat.specs.declared.machine.Action.{Action}
 use Rattle.bq_seat.specs.declared.machine.Action.TheVariants as actions
@@ -24,8 +24,9 @@ use Rattle.bq_seat.specs.declared.machine.Event.{Event}
 use Rattle.bq_seat.specs.declared.machine.Event.TheVariants as events
 use Rattle.bq_seat.specs.declared.machine.SeatMachine.{SeatMachine}
 use Rattle.bq_serve.specs.Attending.{IsOnLine, IsWrittenSo}
-use Rattle.bq_serve.specs.Carried.{Carried, IsBuilt, IsLeft, IsReadAs}
-use Rattle.bq_serve.specs.LineCalls.{new_line, with_line_fault}
+use Rattle.bq_serve.specs.Carried.{Carried, IsLeft, IsReadAs}
+use Rattle.bq_serve.specs.Links.{as_submitted}
+use Rattle.bq_serve.specs.LineCalls.{new_line}
 use Rattle.bq_serve.specs.Writing.{BreaksOff, with_written}
 use Rattle.bq_serve.proofs.EventLemmas.{cut_off, taken_at_fault, taken_at_mail, told_fault, writes_at_mail, writes_still, wrote}
 
@@ -34,13 +35,13 @@ unfolding StandsFor
 orderly_of m p s = s.1
 
 -- The event happened, which the last action awaited; the machine goes on by this action.
-goes_on : (profile : Profile) (old new : SeatMachine) (seen later : LineSeen) (written : List ℕ) (event : Event) (action next : Action) (before : List Step) (got : List Answer) (submitted : List Step) (taken : List Answer)
-    → (s : IsOnLine profile old seen action before got) → IsMove old event next new → answers event (awaited old) ≡ true
+goes_on : (size : ℕ) (old new : SeatMachine) (seen later : LineSeen) (written : List ℕ) (event : Event) (action next : Action) (before : List Step) (got : List Answer) (submitted : List Step) (taken : List Answer)
+    → (s : IsOnLine size old seen action before got) → IsMove old event next new → answers event (awaited old) ≡ true
     → later ≡ seen_line written (with_event event (with_action action s.past)) → (with_event event (with_action action s.past)).steps ≡ submitted
     → taken ≡ (with_event event (with_action action s.past)).mail ++ (with_event event (with_action action s.past)).late_mail
     → IsWrittenSo (with_event event (with_action action s.past)).fault (with_event event (with_action action s.past)).written written
-    → IsOnLine profile new later next submitted taken
-goes_on profile old new seen later written event action next before got submitted taken s move awaits seen_is steps_are mail_is writes =
+    → IsOnLine size new later next submitted taken
+goes_on size old new seen later written event action next before got submitted taken s move awaits seen_is steps_are mail_is writes =
     let p = with_action action s.past in
     let straight : is_stray next ≡ false = move.stray ∙ ap not awaits in
     let after : past_after event next p ≡ with_action next (with_event event p) = ap (λ b. if b then p else with_action next (with_event event p)) straight in
@@ -52,17 +53,17 @@ goes_on profile old new seen later written event action next before got submitte
       writes = writes;
       seen_is = seen_is;
       stands = subst (StandsFor new) after (move.past p s.stands);
-      found = subst (λ (q : Profile). Finds q next (with_event event p)) s.profile_is (move.finds straight p s.stands);
+      found = subst (λ (q : ℕ). Finds q next (with_event event p)) s.limit_is (move.finds straight p s.stands);
       awaits = move.awaits straight;
-      profile_is = move.profile ∙ s.profile_is;
+      limit_is = move.limit ∙ s.limit_is;
     }
 
 -- a step was submitted
-submitted_on : (profile : Profile) (old new : SeatMachine) (seen : LineSeen) (step : Step) (next : Action) (submitted : List Step) (taken : List Answer)
-    → IsMove old events.Submitted next new → IsOnLine profile old seen (actions.Submit step) submitted taken → IsOnLine profile new seen next (submitted ++ step ∷ []) taken
-submitted_on profile old new seen step next submitted taken move s =
+submitted_on : (size : ℕ) (old new : SeatMachine) (seen : LineSeen) (step : Step) (next : Action) (submitted : List Step) (taken : List Answer)
+    → IsMove old events.Submitted next new → IsOnLine size old seen (actions.Submit step) submitted taken → IsOnLine size new seen next (submitted ++ step ∷ []) taken
+submitted_on size old new seen step next submitted taken move s =
     let awaited_is : awaited old ≡ Awaited.ASubmission = let a = s.awaits in cc in
-    goes_on profile old new seen seen s.written events.Submitted (actions.Submit step) next submitted taken (submitted ++ step ∷ []) taken s move (ap (answers events.Submitted) awaited_is)
+    goes_on size old new seen seen s.written events.Submitted (actions.Submit step) next submitted taken (submitted ++ step ∷ []) taken s move (ap (answers events.Submitted) awaited_is)
     s.seen_is (ap (λ (xs : List Step). xs ++ step ∷ []) s.submitted_is) s.taken_is s.writes
 
 mails_of : (answer : Answer) (p : Past) → IsOrderly p → (p.mail ++ p.late_mail) ++ answer ∷ [] ≡ (with_mail answer p).mail ++ (with_mail answer p).late_mail
@@ -83,21 +84,21 @@ seen_at_mail answer written p = at p.closing
     at false = refl
 
 -- an answer came
-mailed_on : (profile : Profile) (old new : SeatMachine) (seen : LineSeen) (answer : Answer) (next : Action) (submitted : List Step) (taken : List Answer)
-    → IsMove old (events.Mail answer) next new → IsOnLine profile old seen actions.PollMail submitted taken → IsOnLine profile new seen next submitted (taken ++ answer ∷ [])
-mailed_on profile old new seen answer next submitted taken move s =
+mailed_on : (size : ℕ) (old new : SeatMachine) (seen : LineSeen) (answer : Answer) (next : Action) (submitted : List Step) (taken : List Answer)
+    → IsMove old (events.Mail answer) next new → IsOnLine size old seen actions.PollMail submitted taken → IsOnLine size new seen next submitted (taken ++ answer ∷ [])
+mailed_on size old new seen answer next submitted taken move s =
     let p = s.past in
     let awaited_is : awaited old ≡ Awaited.AMail = let a = s.awaits in cc in
-    goes_on profile old new seen seen s.written (events.Mail answer) actions.PollMail next submitted taken submitted (taken ++ answer ∷ []) s move (ap (answers (events.Mail answer)) awaited_is)
+    goes_on size old new seen seen s.written (events.Mail answer) actions.PollMail next submitted taken submitted (taken ++ answer ∷ []) s move (ap (answers (events.Mail answer)) awaited_is)
     (s.seen_is ∙ seen_at_mail answer s.written p) (taken_at_mail answer p submitted s.submitted_is)
     (ap (λ (xs : List Answer). xs ++ answer ∷ []) s.taken_is ∙ mails_of answer p (orderly_of old p s.stands)) (writes_at_mail answer p s.written s.writes)
 
 -- no answer has come
-none_mailed_on : (profile : Profile) (old new : SeatMachine) (seen : LineSeen) (next : Action) (submitted : List Step) (taken : List Answer)
-    → IsMove old events.NothingYet next new → IsOnLine profile old seen actions.PollMail submitted taken → IsOnLine profile new seen next submitted taken
-none_mailed_on profile old new seen next submitted taken move s =
+none_mailed_on : (size : ℕ) (old new : SeatMachine) (seen : LineSeen) (next : Action) (submitted : List Step) (taken : List Answer)
+    → IsMove old events.NothingYet next new → IsOnLine size old seen actions.PollMail submitted taken → IsOnLine size new seen next submitted taken
+none_mailed_on size old new seen next submitted taken move s =
     let awaited_is : awaited old ≡ Awaited.AMail = let a = s.awaits in cc in
-    goes_on profile old new seen seen s.written events.NothingYet actions.PollMail next submitted taken submitted taken s move (ap (answers events.NothingYet) awaited_is)
+    goes_on size old new seen seen s.written events.NothingYet actions.PollMail next submitted taken submitted taken s move (ap (answers events.NothingYet) awaited_is)
     s.seen_is s.submitted_is s.taken_is s.writes
 
 -- what a fault leaves as it was
@@ -114,53 +115,53 @@ unbroken None handed written e h = h
 unbroken (Some f) handed written e h = absurd cc
 
 -- the answer was written whole
-wrote_on : (profile : Profile) (old new : SeatMachine) (seen later : LineSeen) (answer : Answer) (next : Action) (submitted : List Step) (taken : List Answer)
+wrote_on : (size : ℕ) (old new : SeatMachine) (seen later : LineSeen) (answer : Answer) (next : Action) (submitted : List Step) (taken : List Answer)
     → later ≡ with_written (answer_text answer) seen → IsMove old events.WriteDone next new
-    → IsOnLine profile old seen (actions.Write answer) submitted taken → IsOnLine profile new later next submitted taken
-wrote_on profile old new seen later answer next submitted taken told move s =
+    → IsOnLine size old seen (actions.Write answer) submitted taken → IsOnLine size new later next submitted taken
+wrote_on size old new seen later answer next submitted taken told move s =
     let p = s.past in
     let awaited_is : awaited old ≡ Awaited.AWriting = let a = s.awaits in cc in
-    goes_on profile old new seen later (s.written ++ answer_text answer) events.WriteDone (actions.Write answer) next submitted taken submitted taken s move (ap (answers events.WriteDone) awaited_is)
+    goes_on size old new seen later (s.written ++ answer_text answer) events.WriteDone (actions.Write answer) next submitted taken submitted taken s move (ap (answers events.WriteDone) awaited_is)
     (told ∙ ap (with_written (answer_text answer)) s.seen_is) s.submitted_is s.taken_is
     (wrote p.fault (p.written ++ answer ∷ []) p.written answer s.written s.found.1 refl (unbroken p.fault p.written s.written s.found.1 s.writes))
 
 -- the writing of an answer broke off
-broke_on : (profile : Profile) (old new : SeatMachine) (seen later : LineSeen) (answer : Answer) (next : Action) (submitted : List Step) (taken : List Answer)
-    → BreaksOff (answer_text answer) seen later → IsMove old events.WriteFault next new → IsOnLine profile old seen (actions.Write answer) submitted taken → IsOnLine profile new later next submitted taken
-broke_on profile old new seen later answer next submitted taken broke move s =
+broke_on : (size : ℕ) (old new : SeatMachine) (seen later : LineSeen) (answer : Answer) (next : Action) (submitted : List Step) (taken : List Answer)
+    → BreaksOff (answer_text answer) seen later → IsMove old events.WriteFault next new → IsOnLine size old seen (actions.Write answer) submitted taken → IsOnLine size new later next submitted taken
+broke_on size old new seen later answer next submitted taken broke move s =
     let p = s.past in
     let q = with_action (actions.Write answer) p in
     let awaited_is : awaited old ≡ Awaited.AWriting = let a = s.awaits in cc in
-    goes_on profile old new seen later (s.written ++ broke.cut) events.WriteFault (actions.Write answer) next submitted taken submitted taken s move (ap (answers events.WriteFault) awaited_is)
+    goes_on size old new seen later (s.written ++ broke.cut) events.WriteFault (actions.Write answer) next submitted taken submitted taken s move (ap (answers events.WriteFault) awaited_is)
     (told_fault faults.Write (with_written broke.cut seen) later (s.written ++ broke.cut) q broke.seen (ap (with_written broke.cut) s.seen_is))
     (taken_at_fault faults.Write q submitted s.submitted_is) (s.taken_is ∙ sym (mail_at_fault faults.Write q))
     (cut_off q p.written answer s.written broke.cut s.found.1 refl (unbroken p.fault p.written s.written s.found.1 s.writes) broke.is_beginning)
 
-read_fault_on : (profile : Profile) (old new : SeatMachine) (seen later : LineSeen) (next : Action) (submitted : List Step) (taken : List Answer)
-    → IsReadAs seen events.ReadFault later → IsMove old events.ReadFault next new → IsOnLine profile old seen actions.Read submitted taken → IsOnLine profile new later next submitted taken
-read_fault_on profile old new seen later next submitted taken told move s =
+read_fault_on : (size : ℕ) (old new : SeatMachine) (seen later : LineSeen) (next : Action) (submitted : List Step) (taken : List Answer)
+    → IsReadAs seen events.ReadFault later → IsMove old events.ReadFault next new → IsOnLine size old seen actions.Read submitted taken → IsOnLine size new later next submitted taken
+read_fault_on size old new seen later next submitted taken told move s =
     let p = s.past in
     let awaited_is : awaited old ≡ Awaited.AReading = let a = s.awaits in cc in
-    goes_on profile old new seen later s.written events.ReadFault actions.Read next submitted taken submitted taken s move (ap (answers events.ReadFault) awaited_is)
+    goes_on size old new seen later s.written events.ReadFault actions.Read next submitted taken submitted taken s move (ap (answers events.ReadFault) awaited_is)
     (told_fault faults.Read seen later s.written p told s.seen_is) (taken_at_fault faults.Read p submitted s.submitted_is) (s.taken_is ∙ sym (mail_at_fault faults.Read p)) (writes_still p s.written s.writes)
 
 -- A read of the line came to this event.
-read_on : (profile : Profile) (old new : SeatMachine) (seen later : LineSeen) (event : Event) (next : Action) (submitted : List Step) (taken : List Answer)
-    → IsReadAs seen event later → IsMove old event next new → IsOnLine profile old seen actions.Read submitted taken → IsOnLine profile new later next submitted taken
-read_on profile old new seen later (events.Bytes piece) next submitted taken told move s =
+read_on : (size : ℕ) (old new : SeatMachine) (seen later : LineSeen) (event : Event) (next : Action) (submitted : List Step) (taken : List Answer)
+    → IsReadAs seen event later → IsMove old event next new → IsOnLine size old seen actions.Read submitted taken → IsOnLine size new later next submitted taken
+read_on size old new seen later (events.Bytes piece) next submitted taken told move s =
     let awaited_is : awaited old ≡ Awaited.AReading = let a = s.awaits in cc in
-    goes_on profile old new seen later s.written (events.Bytes piece) actions.Read next submitted taken submitted taken s move (ap (answers (events.Bytes piece)) awaited_is)
+    goes_on size old new seen later s.written (events.Bytes piece) actions.Read next submitted taken submitted taken s move (ap (answers (events.Bytes piece)) awaited_is)
     (told ∙ ap (λ (x : LineSeen). record x { read = x.read ++ piece.now }) s.seen_is) s.submitted_is s.taken_is s.writes
-read_on profile old new seen later events.EndOfInput next submitted taken told move s =
+read_on size old new seen later events.EndOfInput next submitted taken told move s =
     let awaited_is : awaited old ≡ Awaited.AReading = let a = s.awaits in cc in
-    goes_on profile old new seen later s.written events.EndOfInput actions.Read next submitted taken submitted taken s move (ap (answers events.EndOfInput) awaited_is)
+    goes_on size old new seen later s.written events.EndOfInput actions.Read next submitted taken submitted taken s move (ap (answers events.EndOfInput) awaited_is)
     (told ∙ ap (λ (x : LineSeen). record x { ended = true }) s.seen_is) s.submitted_is s.taken_is s.writes
-read_on profile old new seen later events.NothingYet next submitted taken told move s =
+read_on size old new seen later events.NothingYet next submitted taken told move s =
     let awaited_is : awaited old ≡ Awaited.AReading = let a = s.awaits in cc in
-    goes_on profile old new seen later s.written events.NothingYet actions.Read next submitted taken submitted taken s move (ap (answers events.NothingYet) awaited_is)
+    goes_on size old new seen later s.written events.NothingYet actions.Read next submitted taken submitted taken s move (ap (answers events.NothingYet) awaited_is)
     (told ∙ s.seen_is) s.submitted_is s.taken_is s.writes
-read_on profile old new seen later events.ReadFault next submitted taken told move s = read_fault_on profile old new seen later next submitted taken told move s
-read_on profile old new seen later _ next submitted taken told move s = absurd told
+read_on size old new seen later events.ReadFault next submitted taken told move s = read_fault_on size old new seen later next submitted taken told move s
+read_on size old new seen later _ next submitted taken told move s = absurd told
 
 -- what was written of the mail that was handed out, by how the line ended
 written_of : (end : LineEnd) (fault : Option LineFault) (asked : List Request) (own : List Answer) (written : List ℕ) → IsFaultOf end fault → IsWrittenSo fault own written → IsWritten end asked own written × IsNoneUnwritten end own written
@@ -171,9 +172,9 @@ written_of ends.ReadFault fault asked own written f w =
 written_of ends.WriteFault fault asked own written f w = (subst (λ (o : Option LineFault). IsWrittenSo o own written) f w, tt)
 
 -- A line that is over was served.
-pub line_served : (profile : Profile) (machine : SeatMachine) (seen : LineSeen) (end : LineEnd) (submitted : List Step) (taken : List Answer)
-    → IsOnLine profile machine seen (actions.LineOver end) submitted taken → IsLineServed profile (record { seen = seen; over = end }) submitted taken
-line_served profile machine seen end submitted taken s =
+pub line_served : (size : ℕ) (machine : SeatMachine) (seen : LineSeen) (end : LineEnd) (submitted : List Step) (taken : List Answer)
+    → IsOnLine size machine seen (actions.LineOver end) submitted taken → IsLineServed size (record { seen = seen; over = end }) submitted taken
+line_served size machine seen end submitted taken s =
     let p = s.past in
     let over = s.found s.written in
     let served = over.to_close in
@@ -190,7 +191,7 @@ line_served profile machine seen end submitted taken s =
           rest = l.rest;
           asked = l.asked;
           end_steps = l.end_steps;
-          reads = subst (λ (x : LineSeen). Reads profile x.read l.requests l.rest) (sym s.seen_is) l.reads;
+          reads = subst (λ (x : LineSeen). Reads size x.read l.requests l.rest) (sym s.seen_is) l.reads;
           is_over = subst (λ (x : LineSeen). IsOverBy (heard x) end l.requests l.asked) (sym s.seen_is) l.is_over;
           ends = subst (λ (x : LineSeen). MayTellEnd (heard x) l.asked l.end_steps) (sym s.seen_is) l.ends;
           steps_are = sym s.submitted_is ∙ l.steps_are;
@@ -204,60 +205,72 @@ line_served profile machine seen end submitted taken s =
     }
 
 -- nothing was submitted or taken
-nothing_more : (profile : Profile) (new : SeatMachine) (later : LineSeen) (next : Action) (submitted more : List Step) (taken got : List Answer) → more ≡ [] → got ≡ [] → IsOnLine profile new later next submitted taken → IsOnLine profile new later next (submitted ++ more) (taken ++ got)
-nothing_more profile new later next submitted more taken got none none_got s =
-    subst (λ (xs : List Step). IsOnLine profile new later next xs (taken ++ got)) (sym (ap (λ (xs : List Step). submitted ++ xs) none ∙ append-nil submitted))
-    (subst (IsOnLine profile new later next submitted) (sym (ap (λ (xs : List Answer). taken ++ xs) none_got ∙ append-nil taken)) s)
+nothing_more : (size : ℕ) (new : SeatMachine) (later : LineSeen) (next : Action) (submitted more : List Step) (taken got : List Answer) → more ≡ [] → got ≡ [] → IsOnLine size new later next submitted taken → IsOnLine size new later next (submitted ++ more) (taken ++ got)
+nothing_more size new later next submitted more taken got none none_got s =
+    subst (λ (xs : List Step). IsOnLine size new later next xs (taken ++ got)) (sym (ap (λ (xs : List Step). submitted ++ xs) none ∙ append-nil submitted))
+    (subst (IsOnLine size new later next submitted) (sym (ap (λ (xs : List Answer). taken ++ xs) none_got ∙ append-nil taken)) s)
 
-left_on : (profile : Profile) (old new : SeatMachine) (seen later : LineSeen) (action next : Action) (submitted more : List Step) (taken got : List Answer)
-    → IsLeft old seen action new later next more got → IsOnLine profile old seen action submitted taken → IsOnLine profile new later next (submitted ++ more) (taken ++ got)
-left_on profile old new seen later action next submitted more taken got h s =
-    nothing_more profile new later next submitted more taken got h.none_submitted h.none_taken
-    (subst (λ (a : Action). IsOnLine profile new later a submitted taken) (sym h.action_is)
-    (subst (λ (x : LineSeen). IsOnLine profile new x action submitted taken) (sym h.line) (subst (λ (m : SeatMachine). IsOnLine profile m seen action submitted taken) (sym h.machine) s)))
+left_on : (size : ℕ) (old new : SeatMachine) (seen later : LineSeen) (action next : Action) (submitted more : List Step) (taken got : List Answer)
+    → IsLeft old seen action new later next more got → IsOnLine size old seen action submitted taken → IsOnLine size new later next (submitted ++ more) (taken ++ got)
+left_on size old new seen later action next submitted more taken got h s =
+    nothing_more size new later next submitted more taken got h.none_submitted h.none_taken
+    (subst (λ (a : Action). IsOnLine size new later a submitted taken) (sym h.action_is)
+    (subst (λ (x : LineSeen). IsOnLine size new x action submitted taken) (sym h.line) (subst (λ (m : SeatMachine). IsOnLine size m seen action submitted taken) (sym h.machine) s)))
+
+-- A step in its turn is counted: it is no tick.
+turn_counts : (step : Step) (taken : List Step) (mail : List Answer) → IsInTurn step taken mail → as_submitted step ≡ step ∷ []
+turn_counts steps.Connect taken mail h = refl
+turn_counts (steps.Ask request) taken mail h = refl
+turn_counts steps.End taken mail h = refl
+turn_counts steps.Close taken mail h = refl
+turn_counts steps.Drain taken mail h = refl
+turn_counts steps.Tick taken mail h = absurd h
+turn_counts steps.Gone taken mail h = refl
 
 -- The line goes on by each action that was carried out.
-pub carried_on : (profile : Profile) (old new : SeatMachine) (seen later : LineSeen) (action next : Action) (submitted more : List Step) (taken got : List Answer)
-    → Carried old seen action new later next more got → IsOnLine profile old seen action submitted taken → IsOnLine profile new later next (submitted ++ more) (taken ++ got)
-carried_on profile old new seen later (actions.Submit step) next submitted more taken got h s =
-    with_lists (submitted ++ more) (taken ++ got) (subst (λ (x : LineSeen). IsOnLine profile new x next (submitted ++ more) taken) (sym h.0) (by_turn h.2)) (ap (λ (xs : List Answer). taken ++ xs) h.1 ∙ append-nil taken)
+pub carried_on : (size : ℕ) (old new : SeatMachine) (seen later : LineSeen) (action next : Action) (submitted more : List Step) (taken got : List Answer)
+    → Carried old seen action new later next more got → IsOnLine size old seen action submitted taken → IsOnLine size new later next (submitted ++ more) (taken ++ got)
+carried_on size old new seen later (actions.Submit step) next submitted more taken got h s =
+    with_lists (submitted ++ more) (taken ++ got) (subst (λ (x : LineSeen). IsOnLine size new x next (submitted ++ more) taken) (sym h.0) (by_turn h.2)) (ap (λ (xs : List Answer). taken ++ xs) h.1 ∙ append-nil taken)
   where
-    with_lists : (s : List Step) (t : List Answer) → IsOnLine profile new later next s taken → t ≡ taken → IsOnLine profile new later next s t
-    with_lists s t o e = subst (IsOnLine profile new later next s) (sym e) o
+    with_lists : (s : List Step) (t : List Answer) → IsOnLine size new later next s taken → t ≡ taken → IsOnLine size new later next s t
+    with_lists s t o e = subst (IsOnLine size new later next s) (sym e) o
 
-    by_turn : ((more ≡ step ∷ []) × IsMove old events.Submitted next new) ⊎ ((more ≡ []) × (next ≡ actions.Submit step) × (new ≡ old)) → IsOnLine profile new seen next (submitted ++ more) taken
-    by_turn (inl m) = subst (λ (xs : List Step). IsOnLine profile new seen next (submitted ++ xs) taken) (sym m.0) (submitted_on profile old new seen step next submitted taken m.1 s)
+    by_turn : ((more ≡ as_submitted step) × IsMove old events.Submitted next new) ⊎ ((more ≡ []) × (next ≡ actions.Submit step) × (new ≡ old)) → IsOnLine size new seen next (submitted ++ more) taken
+    by_turn (inl m) =
+        let counted : more ≡ step ∷ [] = m.0 ∙ turn_counts step s.past.steps s.past.mail s.found in
+        subst (λ (xs : List Step). IsOnLine size new seen next (submitted ++ xs) taken) (sym counted) (submitted_on size old new seen step next submitted taken m.1 s)
     by_turn (inr m) =
         let same : submitted ++ more ≡ submitted = ap (λ (xs : List Step). submitted ++ xs) m.0 ∙ append-nil submitted in
-        subst (λ (xs : List Step). IsOnLine profile new seen next xs taken) (sym same)
-        (subst (λ (a : Action). IsOnLine profile new seen a submitted taken) (sym m.1) (subst (λ (x : SeatMachine). IsOnLine profile x seen (actions.Submit step) submitted taken) (sym m.2) s))
-carried_on profile old new seen later actions.Read next submitted more taken got h s =
-    nothing_more profile new later next submitted more taken got h.0 h.1 (read_on profile old new seen later h.2.0 next submitted taken h.2.1 h.2.2 s)
-carried_on profile old new seen later (actions.Write answer) next submitted more taken got h s =
-    nothing_more profile new later next submitted more taken got h.0 h.1 (by_turn h.2)
+        subst (λ (xs : List Step). IsOnLine size new seen next xs taken) (sym same)
+        (subst (λ (a : Action). IsOnLine size new seen a submitted taken) (sym m.1) (subst (λ (x : SeatMachine). IsOnLine size x seen (actions.Submit step) submitted taken) (sym m.2) s))
+carried_on size old new seen later actions.Read next submitted more taken got h s =
+    nothing_more size new later next submitted more taken got h.0 h.1 (read_on size old new seen later h.2.0 next submitted taken h.2.1 h.2.2 s)
+carried_on size old new seen later (actions.Write answer) next submitted more taken got h s =
+    nothing_more size new later next submitted more taken got h.0 h.1 (by_turn h.2)
   where
-    by_turn : ((later ≡ with_written (answer_text answer) seen) × IsMove old events.WriteDone next new) ⊎ (BreaksOff (answer_text answer) seen later × IsMove old events.WriteFault next new) → IsOnLine profile new later next submitted taken
-    by_turn (inl m) = wrote_on profile old new seen later answer next submitted taken m.0 m.1 s
-    by_turn (inr m) = broke_on profile old new seen later answer next submitted taken m.0 m.1 s
-carried_on profile old new seen later actions.PollMail next submitted more taken got h s =
-    subst (λ (xs : List Step). IsOnLine profile new later next xs (taken ++ got)) (sym (ap (λ (xs : List Step). submitted ++ xs) h.1 ∙ append-nil submitted))
-    (subst (λ (x : LineSeen). IsOnLine profile new x next submitted (taken ++ got)) (sym h.0) (by_turn h.2))
+    by_turn : ((later ≡ with_written (answer_text answer) seen) × IsMove old events.WriteDone next new) ⊎ (BreaksOff (answer_text answer) seen later × IsMove old events.WriteFault next new) → IsOnLine size new later next submitted taken
+    by_turn (inl m) = wrote_on size old new seen later answer next submitted taken m.0 m.1 s
+    by_turn (inr m) = broke_on size old new seen later answer next submitted taken m.0 m.1 s
+carried_on size old new seen later actions.PollMail next submitted more taken got h s =
+    subst (λ (xs : List Step). IsOnLine size new later next xs (taken ++ got)) (sym (ap (λ (xs : List Step). submitted ++ xs) h.1 ∙ append-nil submitted))
+    (subst (λ (x : LineSeen). IsOnLine size new x next submitted (taken ++ got)) (sym h.0) (by_turn h.2))
   where
-    by_turn : ((got ≡ []) × IsMove old events.NothingYet next new) ⊎ ((answer : Answer) × (got ≡ answer ∷ []) × IsMove old (events.Mail answer) next new) → IsOnLine profile new seen next submitted (taken ++ got)
+    by_turn : ((got ≡ []) × IsMove old events.NothingYet next new) ⊎ ((answer : Answer) × (got ≡ answer ∷ []) × IsMove old (events.Mail answer) next new) → IsOnLine size new seen next submitted (taken ++ got)
     by_turn (inl m) =
-        subst (IsOnLine profile new seen next submitted) (sym (ap (λ (xs : List Answer). taken ++ xs) m.0 ∙ append-nil taken)) (none_mailed_on profile old new seen next submitted taken m.1 s)
+        subst (IsOnLine size new seen next submitted) (sym (ap (λ (xs : List Answer). taken ++ xs) m.0 ∙ append-nil taken)) (none_mailed_on size old new seen next submitted taken m.1 s)
     by_turn (inr m) =
-        subst (λ (xs : List Answer). IsOnLine profile new seen next submitted (taken ++ xs)) (sym m.1) (mailed_on profile old new seen m.0 next submitted taken m.2 s)
-carried_on profile old new seen later (actions.LineOver end) next submitted more taken got h s = left_on profile old new seen later (actions.LineOver end) next submitted more taken got h s
-carried_on profile old new seen later actions.Stray next submitted more taken got h s = left_on profile old new seen later actions.Stray next submitted more taken got h s
+        subst (λ (xs : List Answer). IsOnLine size new seen next submitted (taken ++ xs)) (sym m.1) (mailed_on size old new seen m.0 next submitted taken m.2 s)
+carried_on size old new seen later (actions.LineOver end) next submitted more taken got h s = left_on size old new seen later (actions.LineOver end) next submitted more taken got h s
+carried_on size old new seen later actions.Stray next submitted more taken got h s = left_on size old new seen later actions.Stray next submitted more taken got h s
 
 -- A line is opened, on which nothing was done.
-pub opened_on : (profile : Profile) (old new : SeatMachine) (action : Action) (seen : LineSeen) → awaited old ≡ Awaited.ALine → seat_profile old ≡ profile → IsMove old events.Opened action new → seen ≡ new_line → IsOnLine profile new seen action [] []
-opened_on profile old new action seen waits same move fresh =
+pub opened_on : (size : ℕ) (old new : SeatMachine) (action : Action) (seen : LineSeen) → awaited old ≡ Awaited.ALine → old.reader.max_job_size ≡ size → IsMove old events.Opened action new → seen ≡ new_line → IsOnLine size new seen action [] []
+opened_on size old new action seen waits same move fresh =
     let straight : is_stray action ≡ false = move.stray ∙ ap (λ (a : Awaited). not (answers events.Opened a)) waits in
     let o = move.opened straight in
     let awaits_new = move.awaits straight in
-    subst (λ (a : Action). IsOnLine profile new seen a [] []) (sym o.0) (record {
+    subst (λ (a : Action). IsOnLine size new seen a [] []) (sym o.0) (record {
       past = no_past;
       written = [];
       submitted_is = refl;
@@ -265,22 +278,7 @@ opened_on profile old new action seen waits same move fresh =
       writes = refl;
       seen_is = fresh;
       stands = o.1;
-      found = (refl, refl);
+      found = refl;
       awaits = ap awaited_by (sym o.0) ∙ awaits_new;
-      profile_is = move.profile ∙ same;
+      limit_is = move.limit ∙ same;
     })
-
--- What a line's machine submits is a step that the core has.
-pub submits_built : (profile : Profile) (machine : SeatMachine) (seen : LineSeen) (action : Action) (submitted : List Step) (taken : List Answer) → IsOnLine profile machine seen action submitted taken → IsBuilt action
-submits_built profile machine seen (actions.Submit steps.Connect) submitted taken s = refl
-submits_built profile machine seen (actions.Submit (steps.Ask request)) submitted taken s = s.found.1
-submits_built profile machine seen (actions.Submit steps.End) submitted taken s = refl
-submits_built profile machine seen (actions.Submit steps.Close) submitted taken s = refl
-submits_built profile machine seen (actions.Submit steps.Drain) submitted taken s = refl
-submits_built profile machine seen (actions.Submit steps.Tick) submitted taken s = absurd s.found.0
-submits_built profile machine seen (actions.Submit steps.Gone) submitted taken s = refl
-submits_built profile machine seen actions.Read submitted taken s = tt
-submits_built profile machine seen actions.PollMail submitted taken s = tt
-submits_built profile machine seen (actions.Write answer) submitted taken s = tt
-submits_built profile machine seen (actions.LineOver end) submitted taken s = tt
-submits_built profile machine seen actions.Stray submitted taken s = tt

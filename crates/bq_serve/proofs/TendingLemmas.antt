@@ -1,12 +1,11 @@
 -- A seat goes on with its door, by each thing that it does.
-use Rattle.std.proofs.Common.{◌≡◌, true, false, List, [], ◌∷◌, ◌++◌, Option, Some, None, refl, sym, ap, ◌∙◌, subst, append-nil, append_assoc, inl, inr}
+use Rattle.std.proofs.Common.{ℕ, ◌≡◌, true, false, List, [], ◌∷◌, ◌++◌, Option, Some, None, refl, sym, ap, ◌∙◌, subst, append-nil, append_assoc, inl, inr}
 use Rattle.bq_job.specs.declared.answer.Answer.{Answer}
 use Rattle.bq_job.specs.declared.line_end.LineEnd.{LineEnd}
 use Rattle.bq_job.specs.declared.step.Step.{Step}
 use Rattle.bq_job.specs.declared.step.Step.TheVariants.{Gone}
 use Rattle.bq_job.specs.History.{LineOver}
 use Rattle.bq_job.specs.LineSteps.{LineSeen}
-use Rattle.bq_job.specs.Profile.{Profile}
 use Rattle.bq_job.specs.SeatDid.{AreLinesServed, IsLineServed, IsSeatDone}
 use Rattle.bq_seat.specs.Past.{Awaited}
 use Rattle.bq_seat.specs.SeatMoves.{IsMove}
@@ -19,30 +18,30 @@ use Rattle.bq_serve.specs.Carried.{Carried, HasGone}
 use Rattle.bq_serve.specs.Doors.{IsLeftBy}
 use Rattle.bq_serve.specs.LineCalls.{new_line}
 use Rattle.bq_serve.specs.Links.{Calls}
-use Rattle.bq_serve.specs.Tending.{AreKept, DoorSeen, GoesOn, IsNewDoor, IsNewSeat, IsPlaceBuilt, IsTended, Tends, attendant}
+use Rattle.bq_serve.specs.Tending.{AreKept, DoorSeen, GoesOn, IsNewDoor, IsNewSeat, IsTended, Tends, attendant}
 use Rattle.bq_serve.specs.declared.run.attendant.Attendant.{Attendant}
 use Rattle.bq_serve.specs.declared.run.attendant.Place.{Place}
 use Rattle.bq_serve.specs.declared.run.attendant.Place.TheVariants as places
 use Rattle.bq_serve.proofs.CarriedLemmas.{gone}
-use Rattle.bq_serve.proofs.SeatLemmas.{carried_on, line_served, opened_on, submits_built}
+use Rattle.bq_serve.proofs.SeatLemmas.{carried_on, line_served, opened_on}
 
 -- nothing more was submitted and taken
-none_more : {L : Type 0} (seen : L → LineSeen) (p : Profile) (a : Attendant L) (door : DoorSeen) (before : List Step) (got : List Answer) → IsTended seen p a door before got → IsTended seen p a door (before ++ []) (got ++ [])
-none_more seen p a door before got h =
-    subst (λ (xs : List Step). IsTended seen p a door xs (got ++ [])) (sym (append-nil before))
-    (subst (λ (ys : List Answer). IsTended seen p a door before ys) (sym (append-nil got)) h)
+none_more : {L : Type 0} (seen : L → LineSeen) (size : ℕ) (a : Attendant L) (door : DoorSeen) (before : List Step) (got : List Answer) → IsTended seen size a door before got → IsTended seen size a door (before ++ []) (got ++ [])
+none_more seen size a door before got h =
+    subst (λ (xs : List Step). IsTended seen size a door xs (got ++ [])) (sym (append-nil before))
+    (subst (λ (ys : List Answer). IsTended seen size a door before ys) (sym (append-nil got)) h)
 
 pub tends_still : {L : Type 0} (seen : L → LineSeen) (a : Attendant L) (door : DoorSeen) → Tends seen a door [] [] a door
-tends_still seen a door p before got h = none_more seen p a door before got h
+tends_still seen a door size before got h = none_more seen size a door before got h
 
 -- A line was opened.
 pub tends_opened : {L : Type 0} (seen : L → LineSeen) (old new : SeatMachine) (line : L) (action : Action) (door next : DoorSeen)
     → IsMove old events.Opened action new → next.lines_over ≡ door.lines_over → next.is_out ≡ true → next.is_at_end ≡ false → seen line ≡ new_line
     → Tends seen (attendant old places.Between) door [] [] (attendant new (places.On line action)) next
-tends_opened seen old new line action door next move over out more fresh p before got t =
+tends_opened seen old new line action door next move over out more fresh size before got t =
     let a = t.attends in
     let at = a.at_place in
-    none_more seen p (attendant new (places.On line action)) next before got (record {
+    none_more seen size (attendant new (places.On line action)) next before got (record {
       lines = t.lines;
       attends = record {
         before = a.before;
@@ -50,7 +49,7 @@ tends_opened seen old new line action door next move over out more fresh p befor
         got = a.got;
         getting = [];
         of_lines = a.of_lines;
-        at_place = opened_on p old new action (seen line) at.2 at.3 move fresh;
+        at_place = opened_on size old new action (seen line) at.2 at.3 move fresh;
         submitted_is = a.submitted_is ∙ ap (λ (xs : List Step). a.before ++ xs) at.0;
         taken_is = a.taken_is ∙ ap (λ (xs : List Answer). a.got ++ xs) at.1;
       };
@@ -62,10 +61,10 @@ tends_opened seen old new line action door next move over out more fresh p befor
 pub tends_at_end : {L : Type 0} (seen : L → LineSeen) (machine : SeatMachine) (door next : DoorSeen)
     → next.lines_over ≡ door.lines_over → next.is_out ≡ false → next.is_at_end ≡ true
     → Tends seen (attendant machine places.Between) door [] [] (attendant machine places.Leaving) next
-tends_at_end seen machine door next over inside ended p before got t =
+tends_at_end seen machine door next over inside ended size before got t =
     let a = t.attends in
     let at = a.at_place in
-    none_more seen p (attendant machine places.Leaving) next before got (record {
+    none_more seen size (attendant machine places.Leaving) next before got (record {
       lines = t.lines;
       attends = record {
         before = a.before;
@@ -87,26 +86,26 @@ kept_one_more line (Some old) new lines left kept =
     subst (λ (o : Option (List LineOver)). AreKept o (lines ++ line ∷ [])) (sym left) (ap (λ (ls : List LineOver). ls ++ line ∷ []) kept)
 
 abbrev pub OneLineMore : Type 0
-OneLineMore = (p : Profile) (lines : List LineOver) (line : LineOver) (submitted more : List Step) (taken got : List Answer)
-    → AreLinesServed p lines submitted taken → IsLineServed p line more got → AreLinesServed p (lines ++ line ∷ []) (submitted ++ more) (taken ++ got)
+OneLineMore = (size : ℕ) (lines : List LineOver) (line : LineOver) (submitted more : List Step) (taken got : List Answer)
+    → AreLinesServed size lines submitted taken → IsLineServed size line more got → AreLinesServed size (lines ++ line ∷ []) (submitted ++ more) (taken ++ got)
 
 -- A line that is over was shut.
 pub tends_shut : {L : Type 0} (seen : L → LineSeen) (machine : SeatMachine) (line : L) (end : LineEnd) (door next : DoorSeen)
     → OneLineMore → IsLeftBy (record { seen = seen line; over = end }) door.lines_over next.lines_over → next.is_out ≡ false → next.is_at_end ≡ door.is_at_end
     → Tends seen (attendant machine (places.On line (actions.LineOver end))) door [] [] (attendant machine places.Between) next
-tends_shut seen machine line end door next law left inside still p before got t =
+tends_shut seen machine line end door next law left inside still size before got t =
     let a = t.attends in
     let over : LineOver = record { seen = seen line; over = end } in
     let waits : awaited machine ≡ Awaited.ALine = let e = a.at_place.awaits in cc in
-    none_more seen p (attendant machine places.Between) next before got (record {
+    none_more seen size (attendant machine places.Between) next before got (record {
       lines = t.lines ++ over ∷ [];
       attends = record {
         before = a.before ++ a.now;
         now = [];
         got = a.got ++ a.getting;
         getting = [];
-        of_lines = law p t.lines over a.before a.now a.got a.getting a.of_lines (line_served p machine (seen line) end a.now a.getting a.at_place);
-        at_place = (refl, refl, waits, a.at_place.profile_is);
+        of_lines = law size t.lines over a.before a.now a.got a.getting a.of_lines (line_served size machine (seen line) end a.now a.getting a.at_place);
+        at_place = (refl, refl, waits, a.at_place.limit_is);
         submitted_is = a.submitted_is ∙ sym (append-nil (a.before ++ a.now));
         taken_is = a.taken_is ∙ sym (append-nil (a.got ++ a.getting));
       };
@@ -118,7 +117,7 @@ tends_shut seen machine line end door next law left inside still p before got t 
 tends_carried : {L : Type 0} (seen : L → LineSeen) (old new : SeatMachine) (line later : L) (action next : Action) (submitted : List Step) (taken : List Answer) (door : DoorSeen)
     → Carried old (seen line) action new (seen later) next submitted taken
     → Tends seen (attendant old (places.On line action)) door submitted taken (attendant new (places.On later next)) door
-tends_carried seen old new line later action next submitted taken door carried p before got t =
+tends_carried seen old new line later action next submitted taken door carried size before got t =
     let a = t.attends in
     record {
       lines = t.lines;
@@ -128,7 +127,7 @@ tends_carried seen old new line later action next submitted taken door carried p
         got = a.got;
         getting = a.getting ++ taken;
         of_lines = a.of_lines;
-        at_place = carried_on p old new (seen line) (seen later) action next a.now submitted a.getting taken carried a.at_place;
+        at_place = carried_on size old new (seen line) (seen later) action next a.now submitted a.getting taken carried a.at_place;
         submitted_is = ap (λ (xs : List Step). xs ++ submitted) a.submitted_is ∙ append_assoc a.before a.now submitted;
         taken_is = ap (λ (xs : List Answer). xs ++ taken) a.taken_is ∙ append_assoc a.got a.getting taken;
       };
@@ -148,7 +147,7 @@ tends_acted went first last seen old new line later action next submitted taken 
 -- It was submitted that no more lines come.
 pub tends_gone : {L : Type 0} (seen : L → LineSeen) (machine : SeatMachine) (door : DoorSeen)
     → Tends seen (attendant machine places.Leaving) door (Gone ∷ []) [] (attendant machine places.Done) door
-tends_gone seen machine door p before got t =
+tends_gone seen machine door size before got t =
     let a = t.attends in
     let at = a.at_place in
     record {
@@ -168,9 +167,9 @@ tends_gone seen machine door p before got t =
     }
 
 -- A seat that has done nothing, at a new door.
-pub tended_new : {L : Type 0} (seen : L → LineSeen) (p : Profile) (a : Attendant L) (door : DoorSeen) → IsNewSeat p a → IsNewDoor door → IsTended seen p a door [] []
-tended_new {L} seen p a door seat new =
-    subst (λ (q : Place L). IsTended seen p (attendant a.machine q) door [] []) (sym seat.place) (record {
+pub tended_new : {L : Type 0} (seen : L → LineSeen) (size : ℕ) (a : Attendant L) (door : DoorSeen) → IsNewSeat size a → IsNewDoor door → IsTended seen size a door [] []
+tended_new {L} seen size a door seat new =
+    subst (λ (q : Place L). IsTended seen size (attendant a.machine q) door [] []) (sym seat.place) (record {
       lines = [];
       attends = record {
         before = [];
@@ -178,7 +177,7 @@ tended_new {L} seen p a door seat new =
         got = [];
         getting = [];
         of_lines = (refl, refl);
-        at_place = (refl, refl, seat.awaits, seat.profile);
+        at_place = (refl, refl, seat.awaits, seat.limit);
         submitted_is = refl;
         taken_is = refl;
       };
@@ -187,14 +186,14 @@ tended_new {L} seen p a door seat new =
     })
 
 -- A seat that is done.
-pub tended_done : {L : Type 0} (seen : L → LineSeen) (p : Profile) (machine : SeatMachine) (door : DoorSeen) (submitted : List Step) (taken : List Answer)
-    → (t : IsTended seen p (attendant machine places.Done) door submitted taken) → IsSeatDone p t.lines submitted taken
-tended_done seen p machine door submitted taken t =
+pub tended_done : {L : Type 0} (seen : L → LineSeen) (size : ℕ) (machine : SeatMachine) (door : DoorSeen) (submitted : List Step) (taken : List Answer)
+    → (t : IsTended seen size (attendant machine places.Done) door submitted taken) → IsSeatDone size t.lines submitted taken
+tended_done seen size machine door submitted taken t =
     let a = t.attends in
     let at = a.at_place in
     record {
       own = a.before;
-      of_lines = subst (AreLinesServed p t.lines a.before) (sym (a.taken_is ∙ ap (λ (xs : List Answer). a.got ++ xs) at.1 ∙ append-nil a.got)) a.of_lines;
+      of_lines = subst (AreLinesServed size t.lines a.before) (sym (a.taken_is ∙ ap (λ (xs : List Answer). a.got ++ xs) at.1 ∙ append-nil a.got)) a.of_lines;
       submitted_is = a.submitted_is ∙ ap (λ (xs : List Step). a.before ++ xs) at.0;
     }
 
@@ -203,11 +202,3 @@ pub from_place : {K L : Type 0} (went : K → List Step → List Answer → K �
     → place ≡ same → GoesOn went first last seen (attendant machine same) door (attendant new later) next → GoesOn went first last seen (attendant machine place) door (attendant new later) next
 from_place {L} went first last seen machine new place same later door next e h =
     subst (λ (q : Place L). GoesOn went first last seen (attendant machine q) door (attendant new later) next) (sym e) h
-
--- What is done next is something that can be carried out.
-pub tended_built : {L : Type 0} (seen : L → LineSeen) (p : Profile) (machine : SeatMachine) (place : Place L) (door : DoorSeen) (submitted : List Step) (taken : List Answer)
-    → IsTended seen p (attendant machine place) door submitted taken → IsPlaceBuilt place
-tended_built seen p machine places.Between door submitted taken t = tt
-tended_built seen p machine (places.On line action) door submitted taken t = submits_built p machine (seen line) action t.attends.now t.attends.getting t.attends.at_place
-tended_built seen p machine places.Leaving door submitted taken t = tt
-tended_built seen p machine places.Done door submitted taken t = tt

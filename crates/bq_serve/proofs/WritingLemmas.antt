@@ -1,10 +1,10 @@
 -- Texts that are written part after part.
-use Rattle.std.proofs.Common.{◌≡◌, ℕ, ◌+◌, ◌-◌, Bool, true, false, List, [], ◌++◌, refl, sym, ap, ◌∙◌, arith, length, take, drop, take-add, append_assoc, append-nil}
+use Rattle.std.proofs.Common.{◌≡◌, ℕ, ◌+◌, ◌-◌, Bool, true, false, List, [], ◌++◌, sym, ap, ◌∙◌, arith, length, take, drop, take-add, append_assoc, append-nil}
 use Rattle.std.proofs.lemmas.Grind.{common_steps}
 use Rattle.std.proofs.lemmas.List.{take-append-drop}
 use Rattle.bq_job.specs.LineSteps.{LineSeen, IsBeginning}
 use Rattle.bq_job.specs.declared.line_end.LineFault.TheVariants as faults
-use Rattle.bq_serve.specs.LineCalls.{first_fault, with_line_fault}
+use Rattle.bq_serve.specs.LineCalls.{with_line_fault}
 use Rattle.bq_serve.specs.Writing.{BreaksOff, Writes, with_written}
 
 -- a further part is written

@@ -7,11 +7,10 @@ use Rattle.bq_job.specs.declared.step.Step.{Step}
 use Rattle.bq_job.specs.declared.step.Step.TheVariants.{Gone}
 use Rattle.bq_job.specs.History.{LineOver}
 use Rattle.bq_job.specs.LineSteps.{IsCutOff, LineSeen, answers_text}
-use Rattle.bq_job.specs.Profile.{Profile}
 use Rattle.bq_job.specs.SeatDid.{AreLinesServed}
 use Rattle.bq_seat.specs.Past.{Awaited, Past, awaited_by, with_action}
 use Rattle.bq_seat.specs.Finds.{Finds}
-use Rattle.bq_seat.specs.SeatStands.{StandsFor, awaited, seat_profile}
+use Rattle.bq_seat.specs.SeatStands.{StandsFor, awaited}
 use Rattle.bq_seat.specs.Served.{seen_line}
 use Rattle.bq_seat.specs.declared.machine.Action.{Action}
 use Rattle.bq_seat.specs.declared.machine.SeatMachine.{SeatMachine}
@@ -26,7 +25,7 @@ IsWrittenSo (Some faults.Write) handed written = IsCutOff handed written
 
 -- A line that is out, while this action is carried out: what was submitted and taken for it up to the event
 -- that the action answers.
-pub record IsOnLine (p : Profile) (machine : SeatMachine) (seen : LineSeen) (action : Action) (submitted : List Step) (taken : List Answer) : Type 0 where
+pub record IsOnLine (max_job_size : ℕ) (machine : SeatMachine) (seen : LineSeen) (action : Action) (submitted : List Step) (taken : List Answer) : Type 0 where
   pub past : Past
   pub written : List ℕ
   pub submitted_is : past.steps ≡ submitted
@@ -34,24 +33,24 @@ pub record IsOnLine (p : Profile) (machine : SeatMachine) (seen : LineSeen) (act
   pub writes : IsWrittenSo past.fault past.written written
   pub seen_is : seen ≡ seen_line written past
   pub stands : StandsFor machine (with_action action past)
-  pub found : Finds p action past
+  pub found : Finds max_job_size action past
   pub awaits : awaited_by action ≡ Some (awaited machine)
-  pub profile_is : seat_profile machine ≡ p
+  pub limit_is : machine.reader.max_job_size ≡ max_job_size
 
 -- what was done for the line that is out
-abbrev pub IsAt : {L : Type 0} → (L → LineSeen) → Profile → SeatMachine → Place L → List Step → List Answer → Type 0
-IsAt seen p machine places.Between submitted taken = (submitted ≡ []) × (taken ≡ []) × (awaited machine ≡ Awaited.ALine) × (seat_profile machine ≡ p)
-IsAt seen p machine (places.On line action) submitted taken = IsOnLine p machine (seen line) action submitted taken
-IsAt seen p machine places.Leaving submitted taken = (submitted ≡ []) × (taken ≡ [])
-IsAt seen p machine places.Done submitted taken = (submitted ≡ Gone ∷ []) × (taken ≡ [])
+abbrev pub IsAt : {L : Type 0} → (L → LineSeen) → ℕ → SeatMachine → Place L → List Step → List Answer → Type 0
+IsAt seen max_job_size machine places.Between submitted taken = (submitted ≡ []) × (taken ≡ []) × (awaited machine ≡ Awaited.ALine) × (machine.reader.max_job_size ≡ max_job_size)
+IsAt seen max_job_size machine (places.On line action) submitted taken = IsOnLine max_job_size machine (seen line) action submitted taken
+IsAt seen max_job_size machine places.Leaving submitted taken = (submitted ≡ []) × (taken ≡ [])
+IsAt seen max_job_size machine places.Done submitted taken = (submitted ≡ Gone ∷ []) × (taken ≡ [])
 
 -- What a seat did: its lines that are over, and then the one that is out.
-pub record IsAttending {L : Type 0} (seen : L → LineSeen) (p : Profile) (machine : SeatMachine) (place : Place L) (lines : List LineOver) (submitted : List Step) (taken : List Answer) : Type 0 where
+pub record IsAttending {L : Type 0} (seen : L → LineSeen) (max_job_size : ℕ) (machine : SeatMachine) (place : Place L) (lines : List LineOver) (submitted : List Step) (taken : List Answer) : Type 0 where
   pub before : List Step
   pub now : List Step
   pub got : List Answer
   pub getting : List Answer
-  pub of_lines : AreLinesServed p lines before got
-  pub at_place : IsAt seen p machine place now getting
+  pub of_lines : AreLinesServed max_job_size lines before got
+  pub at_place : IsAt seen max_job_size machine place now getting
   pub submitted_is : submitted ≡ before ++ now
   pub taken_is : taken ≡ got ++ getting

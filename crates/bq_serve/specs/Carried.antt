@@ -1,11 +1,11 @@
 -- What carrying out an action comes to: which event it was, and what the line and the link did.
-use Rattle.std.specs.Prelude.{true, IsTrue, ◌≡◌, ◌⊎◌, List, [], ◌∷◌, ◌++◌}
+use Rattle.std.specs.Prelude.{true, ◌≡◌, ◌⊎◌, List, [], ◌∷◌, ◌++◌}
 use Rattle.bq_job.specs.declared.answer.Answer.{Answer}
 use Rattle.bq_job.specs.declared.step.Step.{Step}
 use Rattle.bq_job.specs.AnswerText.{answer_text}
 use Rattle.bq_job.specs.LineSteps.{LineSeen}
 use Rattle.bq_job.specs.declared.line_end.LineFault.TheVariants as faults
-use Rattle.bq_serve.specs.Links.{is_submitted}
+use Rattle.bq_serve.specs.Links.{as_submitted}
 use Rattle.bq_serve.specs.LineCalls.{with_line_fault}
 use Rattle.bq_seat.specs.SeatMoves.{IsMove}
 use Rattle.bq_serve.specs.Writing.{BreaksOff, with_written}
@@ -35,7 +35,7 @@ pub record IsLeft (old : SeatMachine) (seen : LineSeen) (action : Action) (new :
 abbrev pub Carried : SeatMachine → LineSeen → Action → SeatMachine → LineSeen → Action → List Step → List Answer → Type 0
 Carried old seen (actions.Submit step) new later next submitted taken =
     (later ≡ seen) × (taken ≡ [])
-    × (((submitted ≡ step ∷ []) × IsMove old events.Submitted next new)
+    × (((submitted ≡ as_submitted step) × IsMove old events.Submitted next new)
     ⊎ ((submitted ≡ []) × (next ≡ actions.Submit step) × (new ≡ old)))
 Carried old seen actions.Read new later next submitted taken =
     (submitted ≡ []) × (taken ≡ []) × ((event : Event) × IsReadAs seen event later × IsMove old event next new)
@@ -49,11 +49,6 @@ Carried old seen (actions.Write answer) new later next submitted taken =
     ⊎ (BreaksOff (answer_text answer) seen later × IsMove old events.WriteFault next new))
 Carried old seen (actions.LineOver end) new later next submitted taken = IsLeft old seen (actions.LineOver end) new later next submitted taken
 Carried old seen actions.Stray new later next submitted taken = IsLeft old seen actions.Stray new later next submitted taken
-
--- what is submitted is a step that the core has
-abbrev pub IsBuilt : Action → Type 0
-IsBuilt (actions.Submit step) = IsTrue (is_submitted step)
-IsBuilt _ = Unit {0}
 
 -- Only a submission and a look at the mail go to the link, which else is left alone.
 abbrev pub HasGone : {K : Type 0} → (K → List Step → List Answer → K → Type 0) → K → Action → List Step → List Answer → K → Type 0

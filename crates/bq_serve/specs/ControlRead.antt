@@ -1,10 +1,11 @@
 -- How the control line is read.
-use Rattle.std.specs.Prelude.{ℕ, Bool, true, false, ◌≡◌, ◌+◌, List, [], ◌∷◌, ◌++◌, Option, Some, None, IfSome, Result, Ok, Err}
+use Rattle.std.specs.Prelude.{ℕ, Bool, true, false, ◌≡◌, ◌+◌, List, [], ◌++◌, Option, Some, None, IfSome, Result, Ok, Err}
 use Rattle.std.specs.Io.KnownBytes.{Consumes, IsAtEnd}
 use Rattle.bq_job.specs.declared.step.Step.{Step}
 use Rattle.bq_serve.specs.declared.run.control.Looked.TheVariants as looks
 use Rattle.bq_serve.specs.declared.run.control.Looked.{Looked}
 use Rattle.bq_job.specs.ControlDid.{are_same, drain_word, drains_from, one_if}
+use Rattle.bq_serve.specs.Links.{as_submitted}
 
 -- This text was read, where the reader tells its bytes: all that there was, unless the reader failed.
 abbrev pub IsReadToEnd : Option (List ℕ) → Option (List ℕ) → List ℕ → Bool → Type 0
@@ -20,7 +21,7 @@ HasRead kept bytes false new = (rest : List ℕ) (failed : Bool) → drains_from
 
 -- The step was submitted after those before, or it was handed back and nothing was.
 abbrev pub SubmitsOn : {K : Type 0} → (K → List Step → K → Type 0) → K → List Step → Step → Result (Unit {0}) Step → K → Type 0
-SubmitsOn went first before step (Ok done) new = went first (before ++ step ∷ []) new
+SubmitsOn went first before step (Ok done) new = went first (before ++ as_submitted step) new
 SubmitsOn went first before step (Err back) new = went first before new
 
 -- What one look at the reader came to. With bytes, they are of one line; none are passed.

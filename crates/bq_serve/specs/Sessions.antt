@@ -5,7 +5,6 @@ use Rattle.bq_core.specs.declared.config.Config.{Config}
 use Rattle.bq_job.specs.Headline.{IsHistoryOf}
 use Rattle.bq_job.specs.History.{LineOver}
 use Rattle.bq_serve.specs.ControlRead.{IsReadToEnd}
-use Rattle.bq_serve.specs.RunSettings.{profile_so_far}
 use Rattle.bq_serve.specs.Tending.{AreKept}
 use Rattle.bq_serve.specs.declared.run.sessions.Run.{Run}
 
@@ -26,4 +25,4 @@ pub record IsRunOf {D C I : Type 0} (given : C → List (Option ℕ) → C → T
   pub gave : given clock readings run.clock
   pub kept : AreAllKept lines_over run.doors.items lines
   pub read : IsReadToEnd (left control) (left run.control) text failed
-  pub history : IsHistoryOf (settings_of config) (profile_so_far config) lines text failed readings run.core.machine
+  pub history : IsHistoryOf (settings_of config) config.max_job_size lines text failed readings run.core.machine

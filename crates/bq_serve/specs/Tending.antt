@@ -1,15 +1,13 @@
 -- A seat that attends to a door, and what it does at each of its turns.
-use Rattle.std.specs.Prelude.{◌≡◌, Bool, true, false, List, [], ◌++◌, Option, Some, None}
+use Rattle.std.specs.Prelude.{ℕ, ◌≡◌, Bool, true, false, List, [], ◌++◌, Option, Some, None}
 use Rattle.bq_job.specs.declared.answer.Answer.{Answer}
 use Rattle.bq_job.specs.declared.step.Step.{Step}
 use Rattle.bq_job.specs.History.{LineOver}
 use Rattle.bq_job.specs.LineSteps.{LineSeen}
-use Rattle.bq_job.specs.Profile.{Profile}
 use Rattle.bq_seat.specs.Past.{Awaited}
-use Rattle.bq_seat.specs.SeatStands.{awaited, seat_profile}
+use Rattle.bq_seat.specs.SeatStands.{awaited}
 use Rattle.bq_seat.specs.declared.machine.SeatMachine.{SeatMachine}
 use Rattle.bq_serve.specs.Attending.{IsAttending}
-use Rattle.bq_serve.specs.Carried.{IsBuilt}
 use Rattle.bq_serve.specs.Links.{Calls}
 use Rattle.bq_serve.specs.declared.run.attendant.Attendant.{Attendant}
 use Rattle.bq_serve.specs.declared.run.attendant.Place.{Place}
@@ -46,22 +44,17 @@ IsPlaced (places.On line action) door = (door.is_out ≡ true) × (door.is_at_en
 IsPlaced places.Leaving door = (door.is_out ≡ false) × (door.is_at_end ≡ true)
 IsPlaced places.Done door = (door.is_out ≡ false) × (door.is_at_end ≡ true)
 
--- the next action is one that can be carried out
-abbrev pub IsPlaceBuilt : {L : Type 0} → Place L → Type 0
-IsPlaceBuilt (places.On line action) = IsBuilt action
-IsPlaceBuilt _ = Unit {0}
-
 -- What a seat did so far: it submitted these steps and took these answers, and its door with it.
-pub record IsTended {L : Type 0} (seen : L → LineSeen) (p : Profile) (a : Attendant L) (door : DoorSeen) (submitted : List Step) (taken : List Answer) : Type 0 where
+pub record IsTended {L : Type 0} (seen : L → LineSeen) (max_job_size : ℕ) (a : Attendant L) (door : DoorSeen) (submitted : List Step) (taken : List Answer) : Type 0 where
   pub lines : List LineOver
-  pub attends : IsAttending seen p a.machine a.place lines submitted taken
+  pub attends : IsAttending seen max_job_size a.machine a.place lines submitted taken
   pub kept : AreKept door.lines_over lines
   pub placed : IsPlaced a.place door
 
 -- Whatever the seat did before, it went on by these steps and answers.
 abbrev pub Tends : {L : Type 0} → (L → LineSeen) → Attendant L → DoorSeen → List Step → List Answer → Attendant L → DoorSeen → Type 0
 Tends seen old at_old submitted taken new at_new =
-    (p : Profile) (before : List Step) (got : List Answer) → IsTended seen p old at_old before got → IsTended seen p new at_new (before ++ submitted) (got ++ taken)
+    (max_job_size : ℕ) (before : List Step) (got : List Answer) → IsTended seen max_job_size old at_old before got → IsTended seen max_job_size new at_new (before ++ submitted) (got ++ taken)
 
 -- A seat went on, and its link with it.
 abbrev pub GoesOn : {K L : Type 0} → (K → List Step → List Answer → K → Type 0) → K → K → (L → LineSeen) → Attendant L → DoorSeen → Attendant L → DoorSeen → Type 0
@@ -69,7 +62,7 @@ GoesOn went first last seen old at_old new at_new =
     (submitted : List Step) × (taken : List Answer) × Calls went first submitted taken last × Tends seen old at_old submitted taken new at_new
 
 -- A seat that has done nothing.
-pub record IsNewSeat {L : Type 0} (p : Profile) (a : Attendant L) : Type 0 where
+pub record IsNewSeat {L : Type 0} (max_job_size : ℕ) (a : Attendant L) : Type 0 where
   pub place : a.place ≡ places.Between
   pub awaits : awaited a.machine ≡ Awaited.ALine
-  pub profile : seat_profile a.machine ≡ p
+  pub limit : a.machine.reader.max_job_size ≡ max_job_size

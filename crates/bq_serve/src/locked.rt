@@ -1,6 +1,5 @@
 //! What the one lock of a server holds.
 ghost use Rattle.std.specs.Prelude.{◌≡◌, ◌&&◌, ◌↔◌, IfOk, IsErrOf, IsTrue, drop, not, slice_get, slice_set};
-ghost use Rattle.bq_core.specs.Acting.{is_built};
 ghost use Rattle.bq_core.specs.Limits.{is_body_size, is_seat_count};
 ghost use Rattle.bq_core.specs.State.{settings_of};
 ghost use Rattle.bq_job.specs.NextDue.{next_due};
@@ -85,7 +84,6 @@ impl Locked {
     /// The journal gets the step's entry where it has room, and where one more owner is given of the body
     /// that the step hands in.
     pub fn step(&mut self, at: Moment, seat: Seat, what: Step)
-        requires built { IsTrue (is_built what) }
         ensures taken { TakesStep self.old at seat what self.new }
         ensures holds { IsLawfulHold self.new }
     {

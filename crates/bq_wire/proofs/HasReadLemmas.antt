@@ -5,13 +5,11 @@ use Rattle.std.proofs.lemmas.List.{drop_all}
 use Rattle.std.proofs.Math.Seq.{take-length, take-suc}
 use Rattle.std.proofs.lemmas.Grind.{flat_map-append}
 use Rattle.std.specs.List.{flat_map}
-use Rattle.bq_job.specs.Profile.{profile}
-use Rattle.bq_job.specs.SoFar.{words_so_far}
 use Rattle.bq_job.specs.Reading.{Reads, BeginsNoUnit, is_quit, ends_by_quit}
 use Rattle.bq_job.specs.declared.request.Request.{Request}
 use Rattle.bq_job.proofs.UnitsLemmas.{AreUnits-append, ends_by_quit-append, quits_last-append}
 use Rattle.bq_wire.specs.HasRead.{HasRead, HasReadText, ReadsOn}
-use Rattle.bq_wire.specs.Standing.{profile_of, Stands, StandsAt, Feeds, FeedsText, Waits, HandsRequest}
+use Rattle.bq_wire.specs.Standing.{Stands, StandsAt, Feeds, FeedsText, Waits, HandsRequest}
 use Rattle.bq_wire.specs.declared.state.Place.{Place}
 use Rattle.bq_wire.specs.declared.state.Place.TheVariants.{InLine, InLongLine, InBody, Over}
 use Rattle.bq_wire.specs.declared.state.State.{State}
@@ -23,7 +21,7 @@ pub HasRead-none : (s : State) → Stands s [] → HasRead s [] []
 HasRead-none s stands = record { units = []; rest = []; taken_is = refl; are_units = refl; last_quits = refl; goes_on = inr (refl, stands) }
 
 -- a call without a request
-HasRead-waits : (old new : State) (piece taken : List ℕ) (count : ℕ) (requests : List Request) → profile_of new ≡ profile_of old
+HasRead-waits : (old new : State) (piece taken : List ℕ) (count : ℕ) (requests : List Request) → new.max_job_size ≡ old.max_job_size
     → (read : HasRead old taken requests) → ends_by_quit requests ≡ false → Waits new read.rest piece count → HasRead new (taken ++ take count piece) requests
 HasRead-waits old new piece taken count requests same read no_quit waits =
     let all : take count piece ≡ piece = rw waits.all (take-length piece) in
@@ -37,13 +35,13 @@ HasRead-waits old new piece taken count requests same read no_quit waits =
     }
 
 -- a call with one
-HasRead-hands_out : (old new : State) (piece taken : List ℕ) (count : ℕ) (requests : List Request) (r : Request) → profile_of new ≡ profile_of old
+HasRead-hands_out : (old new : State) (piece taken : List ℕ) (count : ℕ) (requests : List Request) (r : Request) → new.max_job_size ≡ old.max_job_size
     → (read : HasRead old taken requests) → ends_by_quit requests ≡ false → HandsRequest new read.rest piece count r → HasRead new (taken ++ take count piece) (requests ++ r ∷ [])
 HasRead-hands_out old new piece taken count requests r same read no_quit out = record {
   units = read.units ++ (read.rest ++ take count piece);
   rest = [];
   taken_is = rw (append-nil, read.taken_is) (append_assoc read.units read.rest (take count piece));
-  are_units = AreUnits-append (profile_of new) requests read.units (read.rest ++ take count piece) r (rw same read.are_units) out.unit;
+  are_units = AreUnits-append new.max_job_size requests read.units (read.rest ++ take count piece) r (rw same read.are_units) out.unit;
   last_quits = quits_last-append requests r read.last_quits no_quit;
   goes_on = go (is_quit r) refl out.next;
 }
@@ -58,13 +56,10 @@ pub reads_on : (old new : State) (piece : List ℕ) (count : ℕ) (request : Opt
     → Feeds (Stands old) new piece count request → (old.place ≡ Over → (count ≡ 0) × (request ≡ None) × (new ≡ old)) → ReadsOn old new piece count request
 reads_on old new piece count request same feeds over taken requests read = go read.goes_on
   where
-    profiles : profile_of new ≡ profile_of old
-    profiles = ap (λ m. profile m words_so_far) same
-
     fed : ends_by_quit requests ≡ false → (r : Option Request) → FeedsText new read.rest piece count r
         → HasRead new (taken ++ take count piece) (requests ++ option_to_list r)
-    fed no_quit None waits = rw append-nil (HasRead-waits old new piece taken count requests profiles read no_quit waits)
-    fed no_quit (Some r) out = HasRead-hands_out old new piece taken count requests r profiles read no_quit out
+    fed no_quit None waits = rw append-nil (HasRead-waits old new piece taken count requests same read no_quit waits)
+    fed no_quit (Some r) out = HasRead-hands_out old new piece taken count requests r same read no_quit out
 
     quit : (count ≡ 0) × (request ≡ None) × (new ≡ old) → HasRead new (taken ++ take count piece) (requests ++ option_to_list request)
     quit h = rw (h.0, h.1, h.2, append-nil taken, append-nil requests) read
@@ -75,7 +70,7 @@ reads_on old new piece count request same feeds over taken requests read = go re
     go (inr h) = fed h.0 request (feeds read.rest h.1)
 
 -- what was read is a reading of the bytes taken
-pub HasRead-Reads : (s : State) (taken : List ℕ) (requests : List Request) (read : HasRead s taken requests) → Reads (profile_of s) taken requests read.rest
+pub HasRead-Reads : (s : State) (taken : List ℕ) (requests : List Request) (read : HasRead s taken requests) → Reads s.max_job_size taken requests read.rest
 HasRead-Reads s taken requests read = record {
   units = read.units;
   text_is = read.taken_is;
@@ -85,13 +80,13 @@ HasRead-Reads s taken requests read = record {
 }
   where
     go : (IsTrue (ends_by_quit requests) × (s.place ≡ Over) × (read.rest ≡ [])) ⊎ ((ends_by_quit requests ≡ false) × Stands s read.rest)
-        → IsTrue (ends_by_quit requests) ⊎ BeginsNoUnit (profile_of s) read.rest
+        → IsTrue (ends_by_quit requests) ⊎ BeginsNoUnit s.max_job_size read.rest
     go (inl h) = inl h.0
     go (inr h) = inr (Stands-no_unit s s.place read.rest h.1)
 
 -- behind a quit anything may follow
 pub Reads-more : (s : State) (taken more : List ℕ) (requests : List Request) (read : HasRead s taken requests) → IsTrue (ends_by_quit requests)
-    → Reads (profile_of s) (taken ++ more) requests (read.rest ++ more)
+    → Reads s.max_job_size (taken ++ more) requests (read.rest ++ more)
 Reads-more s taken more requests read quit = record {
   units = read.units;
   text_is = rw read.taken_is (append_assoc read.units read.rest more);
@@ -160,7 +155,7 @@ read_piece old new text piece before after was reads over = go was.all
     go (inr e) = let h = over e in rw (h.0, h.1) (same e)
 
 -- the text that was offered is read
-pub HasReadText-Reads : (s : State) (text : List ℕ) (requests : List Request) → HasReadText s text requests → (rest : List ℕ) × Reads (profile_of s) text requests rest
+pub HasReadText-Reads : (s : State) (text : List ℕ) (requests : List Request) → HasReadText s text requests → (rest : List ℕ) × Reads s.max_job_size text requests rest
 HasReadText-Reads s text requests read = go read.all read.read.goes_on
   where
     nowhere : (place : Place) (rest : List ℕ) → place ≡ Over → StandsAt s place rest → ⊥
@@ -170,7 +165,7 @@ HasReadText-Reads s text requests read = go read.all read.read.goes_on
     nowhere Over rest e stands = stands
 
     go : (read.more ≡ []) ⊎ (s.place ≡ Over) → (IsTrue (ends_by_quit requests) × (s.place ≡ Over) × (read.read.rest ≡ [])) ⊎ ((ends_by_quit requests ≡ false) × Stands s read.read.rest)
-        → (rest : List ℕ) × Reads (profile_of s) text requests rest
+        → (rest : List ℕ) × Reads s.max_job_size text requests rest
     go (inl e) on = (read.read.rest, rw (read.text_is, e, append-nil) (HasRead-Reads s read.taken requests read.read))
     go (inr e) (inl quit) = (read.read.rest ++ read.more, rw read.text_is (Reads-more s read.taken read.more requests read.read quit.0))
     go (inr e) (inr on) = absurd (nowhere s.place read.read.rest e on.1)
@@ -184,7 +179,7 @@ over_gives_none was now request r e same some over =
 
 -- the same, by the most bytes of a job
 pub read_of : (m : ℕ) (s : State) (text : List ℕ) (requests : List Request) → s.max_job_size ≡ m → HasReadText s text requests
-    → (rest : List ℕ) × Reads (profile m words_so_far) text requests rest
+    → (rest : List ℕ) × Reads m text requests rest
 read_of m s text requests e read = rw (← e) (HasReadText-Reads s text requests read)
 
 -- the pieces so far, and one more

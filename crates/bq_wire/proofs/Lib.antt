@@ -5,4 +5,3 @@ pub mod NumberLemmas
 pub mod PutBodyLemmas
 pub mod ReaderLemmas
 pub mod WordLemmas
-pub mod SoFarLemmas

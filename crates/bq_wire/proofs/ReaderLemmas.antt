@@ -5,7 +5,6 @@ use Rattle.std.proofs.lemmas.List.{length-take-le}
 use Rattle.bq_job.specs.Line.{first_line}
 use Rattle.bq_job.specs.LineRead as line_read
 use Rattle.bq_job.specs.LineRead.{longest_line}
-use Rattle.bq_job.specs.Profile.{Profile, profile}
 use Rattle.bq_job.specs.Reading.{IsUnit, IsPutRequest, BeginsNoUnit, is_quit, put_with_body}
 use Rattle.bq_job.specs.ComputedReading.{unit_after}
 use Rattle.bq_job.specs.TubeName.{is_same_name}
@@ -18,8 +17,7 @@ use Rattle.bq_job.proofs.UnitLemmas.{no_first_unit}
 use Rattle.bq_wire.specs.Asked.{put_line_of}
 use Rattle.bq_wire.specs.LineEnds.{line_end_after, last_is_cr}
 use Rattle.bq_wire.specs.PutBodies.{IsBodySoFar, TakesBytes}
-use Rattle.bq_wire.specs.Standing.{profile_of, Stands, StandsAt, IsPutBegun, EndsLineAsking, Waits, HandsRequest, FeedsText, length_beside_cr, but_last, Keeps}
-use Rattle.bq_job.specs.SoFar.{words_so_far}
+use Rattle.bq_wire.specs.Standing.{Stands, StandsAt, IsPutBegun, EndsLineAsking, Waits, HandsRequest, FeedsText, length_beside_cr, but_last, Keeps}
 use Rattle.bq_wire.specs.declared.put_body.PutBody.{PutBody}
 use Rattle.bq_wire.specs.declared.state.Place.{Place}
 use Rattle.bq_wire.specs.declared.state.Place.TheVariants.{InLine, InLongLine, InBody, Over}
@@ -27,20 +25,20 @@ use Rattle.bq_wire.specs.declared.state.State.{State}
 use Rattle.bq_wire.proofs.LineEndLemmas.{goes_on, ends_there, line_end_within, line_end_one, last_is_cr-append}
 
 -- a text with no line begins with no unit
-pub no_line_no_unit : (p : Profile) (text : List ℕ) → first_line text ≡ None → BeginsNoUnit p text
-no_line_no_unit p text none = no_first_unit p text (rw none refl)
+pub no_line_no_unit : (m : ℕ) (text : List ℕ) → first_line text ≡ None → BeginsNoUnit m text
+no_line_no_unit m text none = no_first_unit m text (rw none refl)
 
 -- neither does a put whose body isn't whole
-pub begun_no_unit : (m : ℕ) (body : PutBody) (text : List ℕ) → IsPutBegun body text → BeginsNoUnit (profile m words_so_far) text
-begun_no_unit m body text begun = no_first_unit (profile m words_so_far) text (rw (begun.first_line_is, begun.read_is) none)
+pub begun_no_unit : (m : ℕ) (body : PutBody) (text : List ℕ) → IsPutBegun body text → BeginsNoUnit m text
+begun_no_unit m body text begun = no_first_unit m text (rw (begun.first_line_is, begun.read_is) none)
   where
-    none : unit_after (profile m words_so_far) (line_read.PutWaits (put_line_of body.put)) begun.after ≡ None
+    none : unit_after m (line_read.PutWaits (put_line_of body.put)) begun.after ≡ None
     none = let short : nat_le (body.put.bytes + 2) (length begun.after) ≡ false = grind (arith, nat_tests, begun.less) in rw short
 
 -- no beginning of a text that a reader stands for is a unit
-pub Stands-no_unit : (s : State) (place : Place) (text : List ℕ) → StandsAt s place text → BeginsNoUnit (profile_of s) text
-Stands-no_unit s InLine text stands = no_line_no_unit (profile_of s) text stands.1
-Stands-no_unit s (InLongLine after_cr) text stands = no_line_no_unit (profile_of s) text stands.1
+pub Stands-no_unit : (s : State) (place : Place) (text : List ℕ) → StandsAt s place text → BeginsNoUnit s.max_job_size text
+Stands-no_unit s InLine text stands = no_line_no_unit s.max_job_size text stands.1
+Stands-no_unit s (InLongLine after_cr) text stands = no_line_no_unit s.max_job_size text stands.1
 Stands-no_unit s (InBody body) text stands = begun_no_unit s.max_job_size body text stands.1
 Stands-no_unit s Over text stands = absurd stands
 
@@ -49,8 +47,8 @@ pub waits_by : (s : State) (text piece : List ℕ) (taken : ℕ) → taken ≡ l
 waits_by s text piece taken all stands = record { all = all; none = Stands-no_unit s s.place (text ++ piece) stands; stands = stands }
 
 -- the request of a put is no quit
-pub put_no_quit : (p : Profile) (put : line_read.PutLine) (bytes : List ℕ) (r : Request) → IsPutRequest p put bytes r → is_quit r ≡ false
-put_no_quit p put bytes r h = go (nat_lt p.max_job_size put.bytes) h
+pub put_no_quit : (m : ℕ) (put : line_read.PutLine) (bytes : List ℕ) (r : Request) → IsPutRequest m put bytes r → is_quit r ≡ false
+put_no_quit m put bytes r h = go (nat_lt m put.bytes) h
   where
     body : (t : Bool) → is_quit (if t then requests.Put put.pri put.delay put.ttr (take put.bytes bytes) else requests.Refused refusals.ExpectedCrlf) ≡ false
     body true = refl
@@ -77,19 +75,19 @@ begun_more old new text bytes begun put takes less =
 
 -- all of a put came
 pub begun_whole : (m : ℕ) (old new : PutBody) (text bytes : List ℕ) (r : Request) → IsPutBegun old text → new.put ≡ old.put → TakesBytes old new bytes
-    → new.taken ≡ new.put.bytes + 2 → ((after : List ℕ) → IsBodySoFar new after → IsPutRequest (profile m words_so_far) (put_line_of new.put) after r)
-    → IsUnit (profile m words_so_far) (text ++ bytes) r × (is_quit r ≡ false)
+    → new.taken ≡ new.put.bytes + 2 → ((after : List ℕ) → IsBodySoFar new after → IsPutRequest m (put_line_of new.put) after r)
+    → IsUnit m (text ++ bytes) r × (is_quit r ≡ false)
 begun_whole m old new text bytes r begun put takes whole request =
     let so_far = takes begun.after begun.so_far in
     let is = request (begun.after ++ bytes) so_far in
     let line : first_line (text ++ bytes) ≡ Some (begun.line, begun.after ++ bytes) = first_line-append text bytes (begun.line, begun.after) begun.first_line_is in
-    let read : line_read.read_line words_so_far begun.line ≡ line_read.PutWaits (put_line_of new.put) = rw put begun.read_is in
+    let read : line_read.read_line begun.line ≡ line_read.PutWaits (put_line_of new.put) = rw put begun.read_is in
     let long : length (begun.after ++ bytes) ≡ new.put.bytes + 2 = sym so_far.taken_is ∙ whole in
-    (rw (line, read) (long, is), put_no_quit (profile m words_so_far) (put_line_of new.put) (begun.after ++ bytes) r is)
+    (rw (line, read) (long, is), put_no_quit m (put_line_of new.put) (begun.after ++ bytes) r is)
 
 -- a line that is a whole request is a unit
-pub line_unit : (p : Profile) (text bytes : List ℕ) (r : Request) → p.known ≡ words_so_far → EndsLineAsking (line_read.Whole r) bytes text → IsUnit p (text ++ bytes) r
-line_unit p text bytes r known line = rw (line.first_line_is, known, line.read_is) (refl, refl)
+pub line_unit : (m : ℕ) (text bytes : List ℕ) (r : Request) → EndsLineAsking (line_read.Whole r) bytes text → IsUnit m (text ++ bytes) r
+line_unit m text bytes r line = rw (line.first_line_is, line.read_is) (refl, refl)
 
 -- the line of a put begins it
 pub line_begins : (body : PutBody) (text bytes : List ℕ) (asked : line_read.LineRead) → EndsLineAsking asked bytes text → asked ≡ line_read.PutWaits (put_line_of body.put)
@@ -159,14 +157,14 @@ long_line_read text piece e none long here =
         let count : length (but_last (text ++ take (e - 1) piece)) ≡ length text + (e - 1) - 1 = rw (← length_is) (length-take-le (length (text ++ take (e - 1) piece) - 1) (text ++ take (e - 1) piece) (omega arith)) in
         grind (arith, nat_tests, line_length (last_is_cr false text) refl long)
 
-    read : line_read.read_line words_so_far (but_last (text ++ take (e - 1) piece)) ≡ line_read.bad_format
+    read : line_read.read_line (but_last (text ++ take (e - 1) piece)) ≡ line_read.bad_format
     read = rw too_long
 
 abbrev pub in_line : ℕ → List ℕ → State
 in_line m kept = record { max_job_size = m; kept = kept; place = InLine }
 
 -- a request that is no quit is handed out at its end, where nothing is kept
-pub hands_out : (m : ℕ) (kept text piece : List ℕ) (taken : ℕ) (r : Request) → kept ≡ [] → IsUnit (profile m words_so_far) (text ++ take taken piece) r
+pub hands_out : (m : ℕ) (kept text piece : List ℕ) (taken : ℕ) (r : Request) → kept ≡ [] → IsUnit m (text ++ take taken piece) r
     → is_quit r ≡ false → HandsRequest (in_line m kept) text piece taken r
 hands_out m kept text piece taken r nothing unit no_quit = record { unit = unit; next = rw no_quit (sym nothing, refl) }
 
@@ -191,7 +189,7 @@ kept_stands m old new Over text piece is none more keeps = absurd keeps
 
 -- the kept bytes and those up to the line's end are the line
 pub kept_line : (old text piece : List ℕ) (e : ℕ) (asked : line_read.LineRead) → text ≡ old → first_line text ≡ None
-    → line_end_after (last_is_cr false old) piece ≡ Some e → asked ≡ line_read.read_line words_so_far (but_last (old ++ take (e - 1) piece))
+    → line_end_after (last_is_cr false old) piece ≡ Some e → asked ≡ line_read.read_line (but_last (old ++ take (e - 1) piece))
     → EndsLineAsking asked (take e piece) text
 kept_line old text piece e asked is none here read = record {
   line = but_last (text ++ take (e - 1) piece);

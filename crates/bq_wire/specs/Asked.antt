@@ -1,9 +1,7 @@
 -- What a line that was read asks for.
-use Rattle.std.specs.Prelude.{ℕ, ◌≡◌, List, [], ◌∷◌, Option, None, IsTrue, find}
+use Rattle.std.specs.Prelude.{ℕ, ◌≡◌, List, [], ◌∷◌, Option, None}
 use Rattle.bq_job.specs.CommandWords as spec_words
 use Rattle.bq_job.specs.LineRead as spec
-use Rattle.bq_job.specs.SoFar.{is_so_far}
-use Rattle.bq_job.specs.TubeName.{is_same_name}
 use Rattle.bq_job.specs.Words.{number}
 use Rattle.bq_wire.specs.declared.command.Command.{Command}
 use Rattle.bq_wire.specs.declared.command.Command.TheVariants as commands
@@ -38,10 +36,6 @@ command_of commands.ListTubes = spec_words.Command.ListTubes
 command_of commands.ListTubesWatched = spec_words.Command.ListTubesWatched
 command_of commands.Quit = spec_words.Command.Quit
 
--- the command that a word names in the table of all commands
-abbrev pub command_in_table : List ℕ → Option spec_words.Command
-command_in_table word = find (λ c. is_same_name word (spec_words.word_of c)) spec_words.all_commands
-
 -- what is read of the only word; none where there is no word, or another one
 abbrev pub only : {A : Type 0} → (List ℕ → Option A) → List (List ℕ) → Option A
 only read [] = None
@@ -54,11 +48,6 @@ put_line_of put = record { pri = put.pri; delay = put.delay; ttr = put.ttr; byte
 abbrev pub asked_by : LineRead → spec.LineRead
 asked_by (Whole request) = spec.Whole request
 asked_by (PutWaits put) = spec.PutWaits (put_line_of put)
-
--- what a line asks for may be read so far
-abbrev pub IsReadSoFar : spec.LineRead → Type 0
-IsReadSoFar (spec.Whole request) = IsTrue (is_so_far request)
-IsReadSoFar (spec.PutWaits put) = Unit {0}
 
 -- the first word is taken, and is this number; or there is none, or it is no number
 abbrev pub IsNextNumber : List (List ℕ) → List (List ℕ) → Option ℕ → Type 0

@@ -2,7 +2,7 @@
 use Rattle.std.specs.Prelude.{ℕ, ◌≡◌, ◌⊎◌, false, IsTrue, List, [], ◌++◌, take, Option, option_to_list}
 use Rattle.bq_job.specs.Reading.{AreUnits, quits_last, ends_by_quit}
 use Rattle.bq_job.specs.declared.request.Request.{Request}
-use Rattle.bq_wire.specs.Standing.{profile_of, Stands, IsOver}
+use Rattle.bq_wire.specs.Standing.{Stands, IsOver}
 use Rattle.bq_wire.specs.declared.state.State.{State}
 
 -- The bytes taken are the units of the requests handed out, and then a text that the reader stands for;
@@ -11,7 +11,7 @@ pub record HasRead (reader : State) (taken : List ℕ) (requests : List Request)
   pub units : List ℕ
   pub rest : List ℕ
   pub taken_is : taken ≡ units ++ rest
-  pub are_units : AreUnits (profile_of reader) units requests
+  pub are_units : AreUnits reader.max_job_size units requests
   pub last_quits : IsTrue (quits_last requests)
   pub goes_on : (IsTrue (ends_by_quit requests) × IsOver reader × (rest ≡ [])) ⊎ ((ends_by_quit requests ≡ false) × Stands reader rest)
 

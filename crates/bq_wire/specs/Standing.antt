@@ -3,20 +3,15 @@ use Rattle.std.specs.Prelude.{ℕ, ◌≡◌, ◌<◌, ◌+◌, ◌-◌, false, 
 use Rattle.bq_job.specs.Line.{first_line}
 use Rattle.bq_job.specs.LineRead as line_read
 use Rattle.bq_job.specs.LineRead.{longest_line}
-use Rattle.bq_job.specs.Profile.{Profile, profile}
 use Rattle.bq_job.specs.Reading.{IsUnit, BeginsNoUnit, is_quit}
 use Rattle.bq_job.specs.declared.request.Request.{Request}
 use Rattle.bq_wire.specs.Asked.{put_line_of}
 use Rattle.bq_wire.specs.LineEnds.{last_is_cr}
 use Rattle.bq_wire.specs.PutBodies.{IsBodySoFar, HasBodyRoom}
-use Rattle.bq_job.specs.SoFar.{words_so_far}
 use Rattle.bq_wire.specs.declared.put_body.PutBody.{PutBody}
 use Rattle.bq_wire.specs.declared.state.Place.{Place}
 use Rattle.bq_wire.specs.declared.state.Place.TheVariants.{InLine, InLongLine, InBody, Over}
 use Rattle.bq_wire.specs.declared.state.State.{State}
-
-abbrev pub profile_of : State → Profile
-profile_of state = profile state.max_job_size words_so_far
 
 -- how many bytes a begun line has beside a last CR, which may be the one of its CR LF
 abbrev pub length_beside_cr : List ℕ → ℕ
@@ -27,7 +22,7 @@ pub record IsPutBegun (body : PutBody) (text : List ℕ) : Type 0 where
   pub line : List ℕ
   pub after : List ℕ
   pub first_line_is : first_line text ≡ Some (line, after)
-  pub read_is : line_read.read_line words_so_far line ≡ line_read.PutWaits (put_line_of body.put)
+  pub read_is : line_read.read_line line ≡ line_read.PutWaits (put_line_of body.put)
   pub so_far : IsBodySoFar body after
   pub less : length after < body.put.bytes + 2
 
@@ -60,13 +55,13 @@ IsSoundReader state = IsSoundPlace state.place
 -- no request is whole: the piece was taken, and the reader stands for the text that goes on with it
 pub record Waits (new : State) (text piece : List ℕ) (taken : ℕ) : Type 0 where
   pub all : taken ≡ length piece
-  pub none : BeginsNoUnit (profile_of new) (text ++ piece)
+  pub none : BeginsNoUnit new.max_job_size (text ++ piece)
   pub stands : Stands new (text ++ piece)
 
 -- the text and the bytes taken are one request: the reader stands for the empty text, or after a quit
 -- for none
 pub record HandsRequest (new : State) (text piece : List ℕ) (taken : ℕ) (request : Request) : Type 0 where
-  pub unit : IsUnit (profile_of new) (text ++ take taken piece) request
+  pub unit : IsUnit new.max_job_size (text ++ take taken piece) request
   pub next : MatchBool (is_quit request) (IsOver new) (Stands new [])
 
 abbrev pub FeedsText : State → List ℕ → List ℕ → ℕ → Option Request → Type 0
@@ -81,7 +76,7 @@ Feeds stood new piece taken request = (text : List ℕ) → stood text → Feeds
 pub record EndsLineAsking (asked : line_read.LineRead) (bytes text : List ℕ) : Type 0 where
   pub line : List ℕ
   pub first_line_is : first_line (text ++ bytes) ≡ Some (line, [])
-  pub read_is : line_read.read_line words_so_far line ≡ asked
+  pub read_is : line_read.read_line line ≡ asked
 
 -- all but the last byte
 abbrev pub but_last : List ℕ → List ℕ

@@ -1,6 +1,5 @@
-ghost use Rattle.std.specs.Prelude.{◌≡◌, IfSome, find, option_map, false};
+ghost use Rattle.std.specs.Prelude.{◌≡◌, find, option_map};
 ghost use Rattle.bq_job.specs.CommandWords as spec;
-ghost use Rattle.bq_job.specs.SoFar as so_far;
 ghost use Rattle.bq_job.specs.TubeName.{is_same_name};
 ghost use Rattle.bq_wire.specs.Asked.{command_of};
 
@@ -98,35 +97,16 @@ impl Command {
     }
 }
 
-/// The command that a word names, whether the core can carry it out or not.
-pub fn command_of_word(word: &[u8]) -> Option<Command>
+// The command of the table that has this word.
+fn in_table(word: &[u8]) -> Option<Command>
     ensures { result ≡ find (λ c. is_same_name word.now (spec.word_of (command_of c))) ALL }
 {
     ALL.iter().copied().find(|command| word == command.word())
 }
 
-// Whether the core can't carry the command out yet.
-fn is_missing(command: Command) -> bool
-    ensures { result ≡ so_far.is_missing (command_of command) }
-{
-    matches!(
-        command,
-        Command::StatsJob
-            | Command::StatsTube
-            | Command::Stats
-            | Command::ListTubes
-            | Command::ListTubesWatched
-    )
-}
-
-/// The command that a word names so far.
+/// The command that a word names.
 pub fn command_named(word: &[u8]) -> Option<Command>
-    ensures named { option_map command_of result ≡ spec.command_named so_far.words_so_far word.now }
-    ensures so_far { IfSome result (λ command. so_far.is_missing (command_of command) ≡ false) }
+    ensures { option_map command_of result ≡ spec.command_named word.now }
 {
-    let command = command_of_word(word)?;
-    if is_missing(command) {
-        return None;
-    }
-    Some(command)
+    in_table(word)
 }

@@ -1,10 +1,9 @@
 ghost use Rattle.std.specs.Prelude.{◌≡◌, [], ◌∷◌, option_map, MatchOption, IfSome, IfNone, ℕ, List};
 ghost use Rattle.bq_job.specs.CommandWords as spec_words;
 ghost use Rattle.bq_job.specs.LineRead as spec;
-ghost use Rattle.bq_job.specs.SoFar.{is_missing, words_so_far};
 ghost use Rattle.bq_job.specs.Words as spec_numbers;
 ghost use Rattle.bq_job.specs.declared.request.Request.{Request};
-ghost use Rattle.bq_wire.specs.Asked.{asked_by, command_of, only, IsNextNumber, IsReadSoFar};
+ghost use Rattle.bq_wire.specs.Asked.{asked_by, command_of, only, IsNextNumber};
 
 use crate::command::{Command, command_named};
 use crate::numbers::{job_id, number};
@@ -197,9 +196,7 @@ fn read_words(command: Command, words: &mut Words) -> Option<LineRead>
 
 /// What a line asks for, which is given without its CR LF.
 pub fn read_line(line: &[u8]) -> LineRead
-    ensures asked { asked_by result ≡ spec.read_line words_so_far line.now }
-    // It is no command that is missing so far.
-    ensures so_far { IsReadSoFar (asked_by result) }
+    ensures { asked_by result ≡ spec.read_line line.now }
 {
     if line.len() > LONGEST_LINE {
         return refused(Refusal::BadFormat);

@@ -1,10 +1,8 @@
 ghost use Rattle.std.specs.Prelude.{◌≡◌, ◌≤◌, ◌++◌, ℕ, List, OnOk, IfOk};
 ghost use Rattle.std.specs.List.{flat_map};
-ghost use Rattle.bq_job.specs.Profile.{profile};
 ghost use Rattle.bq_job.specs.Reading.{Reads};
 ghost use Rattle.bq_wire.specs.HasRead.{HasRead, HasReadText};
 ghost use Rattle.bq_wire.specs.Standing.{IsOver};
-ghost use Rattle.bq_job.specs.SoFar.{words_so_far};
 ghost use Rattle.bq_wire.specs.declared.state.State.{State};
 
 use crate::RequestReader;
@@ -19,7 +17,7 @@ pub fn requests_of(
 ) -> Result<Vec<Request, Global>, NoMemory>
     requires { (1 ≤ max_job_size) × (max_job_size ≤ LARGEST_BODY) }
     ensures { IfOk result (λ requests. (rest : List ℕ)
-        × Reads (profile max_job_size words_so_far) (flat_map (λ piece. piece.items) pieces.now) requests.items rest) }
+        × Reads max_job_size (flat_map (λ piece. piece.items) pieces.now) requests.items rest) }
 {
     let mut reader = RequestReader::new(alloc, max_job_size)?;
     let mut requests = Vec::new(alloc);
@@ -55,5 +53,5 @@ fn feed_all(
 /// What a reader has read since it was new or restarted is a reading of the bytes that it took.
 pub fn what_was_read_is_a_reading()
     ensures { (reader : State) (taken : List ℕ) (requests : List Request) → HasRead reader taken requests
-        → (rest : List ℕ) × Reads (profile reader.max_job_size words_so_far) taken requests rest }
+        → (rest : List ℕ) × Reads reader.max_job_size taken requests rest }
 {}

@@ -1,10 +1,8 @@
-ghost use Rattle.std.specs.Prelude.{IsTrue, ◌≡◌, ◌≤◌, ◌<◌, ◌+◌, ℕ, List, [], None, length, take, nat_le};
+ghost use Rattle.std.specs.Prelude.{◌≡◌, ◌≤◌, ◌<◌, ◌+◌, ℕ, List, [], None, length, take, nat_le};
 ghost use Rattle.std.specs.Option.{ForSome};
-ghost use Rattle.bq_job.specs.Profile.{profile};
 ghost use Rattle.bq_job.specs.Reading.{IsPutRequest};
 ghost use Rattle.bq_wire.specs.Asked.{put_line_of};
 ghost use Rattle.bq_wire.specs.PutBodies.{IsBodySoFar, HasBodyRoom, TakesBytes, Stores};
-ghost use Rattle.bq_job.specs.SoFar.{is_so_far, words_so_far};
 
 use crate::line_read::PutLine;
 use bq_job::{BodyBuilder, Refusal, Request};
@@ -120,10 +118,9 @@ impl PutBody {
     /// The request of a put, all of which has come. It takes no memory.
     pub fn into_request(self, max_job_size: u32) -> Request
         requires { self.taken ≡ self.put.bytes + 2 }
-        ensures so_far { IsTrue (is_so_far result) }
         // Where its memory was refused, that is the answer, whatever the bytes are.
         ensures refused { self.store ≡ None → self.put.bytes ≤ max_job_size → result ≡ Request.Refused Refusal.OutOfMemory }
-        ensures request { (after : List ℕ) → IsBodySoFar self after → IsPutRequest (profile max_job_size words_so_far) (put_line_of self.put) after result }
+        ensures request { (after : List ℕ) → IsBodySoFar self after → IsPutRequest max_job_size (put_line_of self.put) after result }
     {
         if self.put.bytes > max_job_size {
             return refused(Refusal::JobTooBig);

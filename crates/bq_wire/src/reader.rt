@@ -1,11 +1,10 @@
-ghost use Rattle.std.specs.Prelude.{◌≡◌, ◌≤◌, ◌<◌, ◌+◌, ◌++◌, ℕ, List, [], length, take, IfOk, IfSome, IsTrue, Some, None, if◌then◌else◌};
+ghost use Rattle.std.specs.Prelude.{◌≡◌, ◌≤◌, ◌<◌, ◌+◌, ◌++◌, ℕ, List, [], length, take, IfOk, IfSome, Some, None, if◌then◌else◌};
 ghost use Rattle.bq_job.specs.LineRead as line_read;
 ghost use Rattle.bq_job.specs.Reading.{is_quit};
-ghost use Rattle.bq_wire.specs.Asked.{asked_by, IsReadSoFar};
+ghost use Rattle.bq_wire.specs.Asked.{asked_by};
 ghost use Rattle.bq_wire.specs.HasRead.{HasRead, ReadsOn};
 ghost use Rattle.bq_wire.specs.PutBodies.{HasBodyRoom, IsBodySoFar};
 ghost use Rattle.bq_wire.specs.Standing.{IsOver, IsSoundReader, Stands, StandsAt, Feeds, Keeps, EndsLineAsking, Waits, HandsRequest, but_last};
-ghost use Rattle.bq_job.specs.SoFar.{is_so_far, words_so_far};
 ghost use Rattle.bq_wire.specs.declared.state.Place.TheVariants.{InLine, InLongLine, InBody, Over};
 
 use crate::kept_line::KeptLine;
@@ -73,8 +72,6 @@ impl RequestReader {
     pub fn feed(&mut self, piece: &[u8]) -> (usize, Option<Request>)
         ensures within { result.0 ≤ length piece.now }
         ensures progress { IfSome result.1 (λ _. 0 < result.0) }
-        // It is of no command that is missing so far.
-        ensures so_far { IfSome result.1 (λ request. IsTrue (is_so_far request)) }
         // Whatever text it stood for, no beginning of that text and the piece is a request, all of the
         // piece was taken, and that is what it stands for now.
         ensures waits { result.1 ≡ None → (text : List ℕ) → Stands self.old text → Waits self.new text piece.now result.0 }
@@ -96,7 +93,6 @@ fn feed_state(alloc: Global, state: &mut State, piece: &[u8]) -> (usize, Option<
     ensures sound { IsSoundReader state.new }
     ensures within { result.0 ≤ length piece.now }
     ensures progress { IfSome result.1 (λ _. 0 < result.0) }
-    ensures so_far { IfSome result.1 (λ request. IsTrue (is_so_far request)) }
     ensures feeds { Feeds (Stands state.old) state.new piece.now result.0 result.1 }
     ensures over { IsOver state.old → (result.0 ≡ 0) × (result.1 ≡ None) × (state.new ≡ state.old) }
     ensures limit { state.new.max_job_size ≡ state.old.max_job_size }
@@ -114,7 +110,6 @@ fn feed_line(alloc: Global, state: &mut State, piece: &[u8]) -> (usize, Option<R
     ensures sound { IsSoundReader state.new }
     ensures within { result.0 ≤ length piece.now }
     ensures progress { IfSome result.1 (λ _. 0 < result.0) }
-    ensures so_far { IfSome result.1 (λ request. IsTrue (is_so_far request)) }
     ensures feeds { Feeds (StandsAt state.old InLine) state.new piece.now result.0 result.1 }
     ensures limit { state.new.max_job_size ≡ state.old.max_job_size }
 {
@@ -149,8 +144,7 @@ fn keep(kept: &mut KeptLine, piece: &[u8]) -> Place
 fn whole_line(kept: &mut KeptLine, last: &[u8]) -> LineRead
     requires { 0 < length kept.old + length last.now }
     ensures cleared { kept.new ≡ [] }
-    ensures so_far { IsReadSoFar (asked_by result) }
-    ensures read { asked_by result ≡ line_read.read_line words_so_far (but_last (kept.old ++ last.now)) }
+    ensures read { asked_by result ≡ line_read.read_line (but_last (kept.old ++ last.now)) }
 {
     if kept.as_slice().is_empty() {
         return read_line(&last[..last.len() - 1]);
@@ -176,11 +170,9 @@ fn after_line(
 ) -> (usize, Option<Request>)
     requires some { 0 < end }
     requires within { end ≤ length piece.now }
-    requires so_far { IsReadSoFar (asked_by read) }
     ensures sound { IsSoundReader state.new }
     ensures within { result.0 ≤ length piece.now }
     ensures progress { IfSome result.1 (λ _. 0 < result.0) }
-    ensures so_far { IfSome result.1 (λ request. IsTrue (is_so_far request)) }
     ensures feeds { state.old.kept ≡ [] → Feeds (EndsLineAsking (asked_by read) (take end piece.now)) state.new piece.now result.0 result.1 }
     ensures limit { state.new.max_job_size ≡ state.old.max_job_size }
 {
@@ -227,7 +219,6 @@ fn feed_long_line(state: &mut State, after_cr: bool, piece: &[u8]) -> (usize, Op
     ensures sound { IsSoundReader state.new }
     ensures within { result.0 ≤ length piece.now }
     ensures progress { IfSome result.1 (λ _. 0 < result.0) }
-    ensures so_far { IfSome result.1 (λ request. IsTrue (is_so_far request)) }
     ensures feeds { Feeds (StandsAt state.old (InLongLine after_cr)) state.new piece.now result.0 result.1 }
     ensures limit { state.new.max_job_size ≡ state.old.max_job_size }
 {
@@ -250,7 +241,6 @@ fn feed_body(state: &mut State, body: PutBody, piece: &[u8]) -> (usize, Option<R
     ensures sound { IsSoundReader state.new }
     ensures within { result.0 ≤ length piece.now }
     ensures progress { IfSome result.1 (λ _. 0 < result.0) }
-    ensures so_far { IfSome result.1 (λ request. IsTrue (is_so_far request)) }
     ensures feeds { Feeds (StandsAt state.old (InBody body)) state.new piece.now result.0 result.1 }
     ensures limit { state.new.max_job_size ≡ state.old.max_job_size }
 {

@@ -1,102 +1,104 @@
 //! Worked readings. The check evaluates each; nothing is run.
 ghost use Rattle.std.specs.Prelude.{◌≡◌, ◌++◌, codes, List, ℕ, [], ◌∷◌, replicate};
 ghost use Rattle.bq_job.specs.ComputedReading.{reading};
-ghost use Rattle.bq_job.specs.CommandWords.{all_words};
-ghost use Rattle.bq_job.specs.Profile.{profile};
 ghost use Rattle.bq_job.specs.declared.refusal.Refusal.TheVariants as refusals;
 ghost use Rattle.bq_job.specs.declared.request.Request.TheVariants as requests;
 
 // A body with a bad end is a request of its own, and what follows it is read as ever.
 fn bad_body_end_then_wait()
-    ensures { reading (profile 65535 all_words) (codes "put 0 0 1 2\r\nabXYreserve-with-timeout 0\r\n")
+    ensures { reading 65535 (codes "put 0 0 1 2\r\nabXYreserve-with-timeout 0\r\n")
         ≡ (requests.Refused refusals.ExpectedCrlf ∷ requests.ReserveWithTimeout 0 ∷ [], []) }
 {}
 
 // The two bytes after the body are dropped, whatever they are.
 fn bad_end_swallowed()
-    ensures { reading (profile 65535 all_words) (codes "put 0 0 1 2\r\nabXYreserve\r\n")
+    ensures { reading 65535 (codes "put 0 0 1 2\r\nabXYreserve\r\n")
         ≡ (requests.Refused refusals.ExpectedCrlf ∷ requests.Reserve ∷ [], []) }
 {}
 
 // The body of a put that is too big is no commands.
 fn body_too_big()
-    ensures above { reading (profile 2 all_words) (codes "put 0 0 1 3\r\nxxx\r\nlist-tube-used\r\n")
+    ensures above { reading 2 (codes "put 0 0 1 3\r\nxxx\r\nlist-tube-used\r\n")
         ≡ (requests.Refused refusals.JobTooBig ∷ requests.ListTubeUsed ∷ [], []) }
-    ensures exact { reading (profile 2 all_words) (codes "put 0 0 1 2\r\nxx\r\nlist-tube-used\r\n")
+    ensures exact { reading 2 (codes "put 0 0 1 2\r\nxx\r\nlist-tube-used\r\n")
         ≡ (requests.Put 0 0 1 (codes "xx") ∷ requests.ListTubeUsed ∷ [], []) }
 {}
 
 // Two puts, of which the first is too big.
 fn small_limit()
-    ensures { reading (profile 2 all_words) (codes "put 0 0 1 3\r\nabc\r\nput 0 0 1 2\r\nab\r\n")
+    ensures { reading 2 (codes "put 0 0 1 3\r\nabc\r\nput 0 0 1 2\r\nab\r\n")
         ≡ (requests.Refused refusals.JobTooBig ∷ requests.Put 0 0 1 (codes "ab") ∷ [], []) }
 {}
 
 // A word in upper case, a number too few, a name that begins with -, and a great job id.
 fn bad_lines()
-    ensures { reading (profile 65535 all_words) (codes "PUT\r\nput 1\r\nuse -a\r\npeek 4294967296\r\n")
+    ensures { reading 65535 (codes "PUT\r\nput 1\r\nuse -a\r\npeek 4294967296\r\n")
         ≡ (requests.Refused refusals.UnknownCommand ∷ requests.Refused refusals.BadFormat ∷ requests.Refused refusals.BadFormat ∷ requests.Peek 4294967296 ∷ [], []) }
 {}
 
 // The longest line has 222 bytes.
 fn longest_line()
-    ensures fits { reading (profile 65535 all_words) (codes "peek " ++ replicate 216 48 ++ codes "1\r\n")
+    ensures fits { reading 65535 (codes "peek " ++ replicate 216 48 ++ codes "1\r\n")
         ≡ (requests.Peek 1 ∷ [], []) }
-    ensures longer { reading (profile 65535 all_words) (codes "peek " ++ replicate 217 48 ++ codes "1\r\n")
+    ensures longer { reading 65535 (codes "peek " ++ replicate 217 48 ++ codes "1\r\n")
         ≡ (requests.Refused refusals.BadFormat ∷ [], []) }
 {}
 
 // The longest name of a tube has 200 bytes.
 fn longest_tube_name()
-    ensures fits { reading (profile 65535 all_words) (codes "use " ++ replicate 200 97 ++ codes "\r\n")
+    ensures fits { reading 65535 (codes "use " ++ replicate 200 97 ++ codes "\r\n")
         ≡ (requests.Use (replicate 200 97) ∷ [], []) }
-    ensures longer { reading (profile 65535 all_words) (codes "use " ++ replicate 201 97 ++ codes "\r\n")
+    ensures longer { reading 65535 (codes "use " ++ replicate 201 97 ++ codes "\r\n")
         ≡ (requests.Refused refusals.BadFormat ∷ [], []) }
 {}
 
 // What breaks off is no request, and neither is what follows a quit.
 fn truncated_and_after_quit()
-    ensures body { reading (profile 65535 all_words) (codes "put 0 0 1 5\r\nab") ≡ ([], codes "put 0 0 1 5\r\nab") }
-    ensures line { reading (profile 65535 all_words) (codes "list-tube-used") ≡ ([], codes "list-tube-used") }
-    ensures quit { reading (profile 65535 all_words) (codes "quit\r\nstats\r\n") ≡ (requests.Quit ∷ [], codes "stats\r\n") }
+    ensures body { reading 65535 (codes "put 0 0 1 5\r\nab") ≡ ([], codes "put 0 0 1 5\r\nab") }
+    ensures line { reading 65535 (codes "list-tube-used") ≡ ([], codes "list-tube-used") }
+    ensures quit { reading 65535 (codes "quit\r\nstats\r\n") ≡ (requests.Quit ∷ [], codes "stats\r\n") }
 {}
 
 // An empty line, a space at an end, a space at a beginning, and a number that is too great.
 fn odd_spaces_and_numbers()
-    ensures { reading (profile 65535 all_words) (codes "\r\nreserve \r\n reserve\r\nput 0 0 4294967296 1\r\n")
+    ensures { reading 65535 (codes "\r\nreserve \r\n reserve\r\nput 0 0 4294967296 1\r\n")
         ≡ (requests.Refused refusals.UnknownCommand ∷ requests.Refused refusals.BadFormat ∷ requests.Refused refusals.UnknownCommand ∷ requests.Refused refusals.BadFormat ∷ [], []) }
 {}
 
-// A word that isn't known yet names no command.
-fn unknown_so_far()
-    ensures { reading (profile 65535 (codes "quit" ∷ [])) (codes "reserve\r\nquit\r\n")
-        ≡ (requests.Refused refusals.UnknownCommand ∷ requests.Quit ∷ [], []) }
+// The commands that count or list, and words that are nearly theirs.
+fn statistics_and_lists()
+    ensures named { reading 65535 (codes "stats\r\nstats-job 7\r\nstats-tube a\r\nlist-tubes\r\nlist-tubes-watched\r\n")
+        ≡ (requests.Stats ∷ requests.StatsJob 7 ∷ requests.StatsTube (codes "a") ∷ requests.ListTubes ∷ requests.ListTubesWatched ∷ [], []) }
+    ensures nearly { reading 65535 (codes "stat\r\nstats-\r\nlist-tube\r\nlist-tubes-\r\n")
+        ≡ (requests.Refused refusals.UnknownCommand ∷ requests.Refused refusals.UnknownCommand ∷ requests.Refused refusals.UnknownCommand ∷ requests.Refused refusals.UnknownCommand ∷ [], []) }
+    ensures other_words { reading 65535 (codes "stats x\r\nstats-job\r\nstats-tube -a\r\nlist-tubes \r\nlist-tubes-watched a\r\n")
+        ≡ (requests.Refused refusals.BadFormat ∷ requests.Refused refusals.BadFormat ∷ requests.Refused refusals.BadFormat ∷ requests.Refused refusals.BadFormat ∷ requests.Refused refusals.BadFormat ∷ [], []) }
 {}
 
 // Odd bytes in lines, and numbers at their limits.
 fn hostile_lines()
-    ensures letters { reading (profile 65535 all_words) (replicate 222 122 ++ codes "\r\n")
+    ensures letters { reading 65535 (replicate 222 122 ++ codes "\r\n")
         ≡ (requests.Refused refusals.UnknownCommand ∷ [], []) }
-    ensures too_long { reading (profile 65535 all_words) (replicate 223 122 ++ codes "\r\n")
+    ensures too_long { reading 65535 (replicate 223 122 ++ codes "\r\n")
         ≡ (requests.Refused refusals.BadFormat ∷ [], []) }
-    ensures cr_in_name { reading (profile 65535 all_words) (codes "use a\rb\r\n")
+    ensures cr_in_name { reading 65535 (codes "use a\rb\r\n")
         ≡ (requests.Refused refusals.BadFormat ∷ [], []) }
-    ensures cr_behind_word { reading (profile 65535 all_words) (codes "quit\r\r\n")
+    ensures cr_behind_word { reading 65535 (codes "quit\r\r\n")
         ≡ (requests.Refused refusals.UnknownCommand ∷ [], []) }
-    ensures ids { reading (profile 65535 all_words) (codes "peek 18446744073709551615\r\npeek 18446744073709551616\r\n")
+    ensures ids { reading 65535 (codes "peek 18446744073709551615\r\npeek 18446744073709551616\r\n")
         ≡ (requests.Peek 18446744073709551615 ∷ requests.Refused refusals.BadFormat ∷ [], []) }
 {}
 
 // Numbers of bytes at their limits, and a put's line at its own.
 fn hostile_puts()
-    ensures broken_off { reading (profile 65535 all_words) (codes "put 0 0 1 4294967295\r\nabc")
+    ensures broken_off { reading 65535 (codes "put 0 0 1 4294967295\r\nabc")
         ≡ ([], codes "put 0 0 1 4294967295\r\nabc") }
-    ensures too_great { reading (profile 65535 all_words) (codes "put 0 0 1 4294967296\r\nlist-tube-used\r\n")
+    ensures too_great { reading 65535 (codes "put 0 0 1 4294967296\r\nlist-tube-used\r\n")
         ≡ (requests.Refused refusals.BadFormat ∷ requests.ListTubeUsed ∷ [], []) }
-    ensures zeros { reading (profile 65535 all_words) (codes "put 0 0 1 " ++ replicate 211 48 ++ codes "3\r\nabc\r\n")
+    ensures zeros { reading 65535 (codes "put 0 0 1 " ++ replicate 211 48 ++ codes "3\r\nabc\r\n")
         ≡ (requests.Put 0 0 1 (codes "abc") ∷ [], []) }
-    ensures too_long { reading (profile 65535 all_words) (codes "put 0 0 1 " ++ replicate 212 48 ++ codes "3\r\nabc\r\n")
+    ensures too_long { reading 65535 (codes "put 0 0 1 " ++ replicate 212 48 ++ codes "3\r\nabc\r\n")
         ≡ (requests.Refused refusals.BadFormat ∷ requests.Refused refusals.UnknownCommand ∷ [], []) }
-    ensures commands_in_body { reading (profile 65535 all_words) (codes "put 0 0 9 6\r\nquit\r\n\r\nreserve\r\n")
+    ensures commands_in_body { reading 65535 (codes "put 0 0 9 6\r\nquit\r\n\r\nreserve\r\n")
         ≡ (requests.Put 0 0 9 (codes "quit\r\n") ∷ requests.Reserve ∷ [], []) }
 {}

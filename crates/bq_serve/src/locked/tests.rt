@@ -1,6 +1,5 @@
 //! Steps of what the lock holds, with the answers that the rules of the queue give them, found by hand.
-ghost use Rattle.std.specs.Prelude.{◌≡◌, IfOk, IsTrue};
-ghost use Rattle.bq_core.specs.Acting.{is_built};
+ghost use Rattle.std.specs.Prelude.{◌≡◌};
 
 use super::Locked;
 use crate::RunFault;
@@ -86,9 +85,7 @@ fn config(seats: u16) -> Config
     }
 }
 
-fn step_of(alloc: Global, what: Do) -> Result<Step, NoMemory>
-    ensures { IfOk result (λ step. IsTrue (is_built step)) }
-{
+fn step_of(alloc: Global, what: Do) -> Result<Step, NoMemory> {
     Ok(match what {
         Do::Connect => Step::Connect,
         Do::Put(bytes) => Step::Ask(Request::Put {
@@ -147,23 +144,6 @@ fn expect_unread(rt: &impl Abort, locked: &mut Locked) {
     }
 }
 
-// A step that the core can carry out so far.
-fn is_built(step: &Step) -> bool
-    ensures { result ≡ is_built step.now }
-{
-    match step {
-        Step::Ask(request) => !matches!(
-            request,
-            Request::StatsJob { .. }
-                | Request::StatsTube { .. }
-                | Request::Stats
-                | Request::ListTubes
-                | Request::ListTubesWatched
-        ),
-        _ => true,
-    }
-}
-
 // The answers of a step are those of the example, and no others.
 fn expect_answers(rt: &impl Abort, outs: &mut Outs, example: &Example)
     ensures { outs.new.most ≡ outs.old.most }
@@ -188,9 +168,6 @@ fn expect_replay(rt: &impl Abort, alloc: Global, entries: &[Entry]) -> Result<Co
     let mut outs = Outs::new(alloc, 2)?;
     for (entry, example) in entries.iter().zip(SCRIPT.iter()) {
         let step = entry.step.share()?;
-        if !is_built(&step) {
-            panic!(rt; "{entry:?} isn't in the script");
-        }
         core.step(entry.moment, entry.seat, step, &mut outs);
         assert!(rt; outs.left_out() == entry.left_out && !outs.unshared());
         expect_answers(rt, &mut outs, example);

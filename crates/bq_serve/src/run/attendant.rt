@@ -1,12 +1,9 @@
 //! A seat that attends to a door: it serves the door's lines one after another, one action at a time.
 ghost use Rattle.std.specs.Prelude.{◌≡◌, ◌≤◌, ◌↔◌, [], true, false, IfOk, IsTrue};
-ghost use Rattle.bq_job.specs.Profile.{profile};
-ghost use Rattle.bq_job.specs.SoFar.{words_so_far};
 ghost use Rattle.bq_seat.specs.Past.{Awaited};
-ghost use Rattle.bq_seat.specs.SeatStands.{awaited, seat_profile};
+ghost use Rattle.bq_seat.specs.SeatStands.{awaited};
 ghost use Rattle.bq_seat.specs.declared.machine.SeatMachine.{SeatMachine};
-ghost use Rattle.bq_serve.specs.Carried.{IsBuilt};
-ghost use Rattle.bq_serve.specs.Tending.{DoorSeen, GoesOn, IsPlaceBuilt, IsPlaced, Tends, attendant, door_seen};
+ghost use Rattle.bq_serve.specs.Tending.{DoorSeen, GoesOn, IsPlaced, Tends, attendant, door_seen};
 
 use super::client::{Room, carry_out};
 use super::link::Link;
@@ -43,7 +40,7 @@ impl<L: Line + Drop> Attendant<L> {
         requires { (1 ≤ max_job_size) × (max_job_size ≤ LARGEST_BODY) }
         ensures place { IfOk result (λ a. a.place ≡ Place.Between) }
         ensures awaits { IfOk result (λ a. awaited a.machine ≡ Awaited.ALine) }
-        ensures profile { IfOk result (λ a. seat_profile a.machine ≡ profile max_job_size words_so_far) }
+        ensures limit { IfOk result (λ a. a.machine.reader.max_job_size ≡ max_job_size) }
     {
         let machine = SeatMachine::new(alloc, max_job_size)?;
         Ok(Attendant {
@@ -68,7 +65,6 @@ impl<L: Line + Drop> Attendant<L> {
         room: &mut Room,
     ) -> bool
         requires placed { IsPlaced self.old.place (door_seen D.is_out D.is_at_end D.lines_over door.old) }
-        requires built { IsPlaceBuilt self.old.place }
         requires ready { K.is_ready link.old }
         ensures ready { K.is_ready link.new }
         // Whatever it did before, it went on by the steps that it submitted and the answers that it took.
@@ -91,7 +87,6 @@ fn turn<L: Line + Drop, D: Door<Line = L>, K: Link>(
     room: &mut Room,
 ) -> (Place<L>, bool)
     requires placed { IsPlaced place (door_seen D.is_out D.is_at_end D.lines_over door.old) }
-    requires built { IsPlaceBuilt place }
     requires ready { K.is_ready link.old }
     ensures ready { K.is_ready link.new }
     ensures went { let at = door_seen D.is_out D.is_at_end D.lines_over in
@@ -143,7 +138,6 @@ fn act<L: Line + Drop, K: Link>(
     link: &mut K,
     room: &mut Room,
 ) -> (Place<L>, bool)
-    requires built { IsBuilt action }
     requires ready { K.is_ready link.old }
     ensures ready { K.is_ready link.new }
     ensures went { (door : DoorSeen)

@@ -2,7 +2,7 @@
 ghost use Rattle.std.specs.Prelude.{◌≡◌, ◌++◌, [], ℕ, List, IsTrue};
 ghost use Rattle.bq_job.specs.declared.answer.Answer.{Answer};
 ghost use Rattle.bq_job.specs.declared.step.Step.{Step};
-ghost use Rattle.bq_serve.specs.Carried.{Carried, HasGone, IsBuilt};
+ghost use Rattle.bq_serve.specs.Carried.{Carried, HasGone};
 
 use super::answer_write::write_answer;
 use super::link::Link;
@@ -25,7 +25,6 @@ pub fn carry_out<L: Line, K: Link>(
     link: &mut K,
     room: &mut Room,
 ) -> (Action, bool)
-    requires built { IsBuilt action }
     requires ready { K.is_ready link.old }
     ensures ready { K.is_ready link.new }
     ensures carried { (submitted : List Step) × (taken : List Answer) × HasGone K.went link.old action submitted taken link.new × Carried machine.old (L.seen line.old) action machine.new (L.seen line.new) result.0 submitted taken }

@@ -5,7 +5,7 @@ ghost use Rattle.bq_job.specs.declared.step.Step.{Step};
 ghost use Rattle.bq_serve.specs.ControlRead.{HasLooked, HasRead, IsReadToEnd, SubmitsOn};
 ghost use Rattle.bq_serve.specs.DeskOf.{WentAt, state_of};
 ghost use Rattle.bq_serve.specs.DeskState.{HasMails};
-ghost use Rattle.bq_serve.specs.Links.{is_submitted};
+ghost use Rattle.bq_serve.specs.Links.{as_submitted};
 
 use super::desk::Desk;
 use crate::clock::Clock;
@@ -34,7 +34,6 @@ pub trait ControlLink {
     /// Submits a step, or hands it back where there is no room for it now.
     fn submit(&mut self, step: Step) -> Result<(), Step>
         requires ready { is_ready self.old }
-        requires built { IsTrue (is_submitted step) }
         ensures ready { is_ready self.new }
         ensures back { IfErr result (λ back. back ≡ step) }
         ensures went { (first : Self) (before : List Step) → went first before self.old → SubmitsOn went first before step result self.new };
@@ -138,9 +137,8 @@ fn look<I: BufRead>(control: &mut I, line: &mut LineSoFar) -> Looked
 // Submits a step, which may have to be tried again.
 fn submit<R: Wait, K: ControlLink>(rt: &R, link: &mut K, step: Step)
     requires ready { K.is_ready link.old }
-    requires built { IsTrue (is_submitted step) }
     ensures ready { K.is_ready link.new }
-    ensures went { (first : K) (before : List Step) → K.went first before link.old → K.went first (before ++ step ∷ []) link.new }
+    ensures went { (first : K) (before : List Step) → K.went first before link.old → K.went first (before ++ as_submitted step) link.new }
 {
     let mut step = step;
     for _ in rt.forever() {

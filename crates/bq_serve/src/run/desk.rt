@@ -26,13 +26,11 @@ pub struct Desk<C> {
 }
 
 impl<C: Clock + Drop> Desk<C> {
-    ghost use Rattle.bq_core.specs.Acting.{is_built};
-    ghost use Rattle.bq_job.specs.History.{is_tick};
     ghost use Rattle.bq_serve.specs.DeskOf.{WentAt, state_of};
     ghost use Rattle.bq_serve.specs.DeskState.{HasMails, IsNewDesk, IsSorted};
     ghost use Rattle.bq_core.specs.Limits.{is_body_size, is_seat_count};
     ghost use Rattle.bq_core.specs.State.{settings_of};
-    ghost use Rattle.bq_serve.specs.Links.{Submits, is_submitted};
+    ghost use Rattle.bq_serve.specs.Links.{Submits, as_submitted};
     ghost use Rattle.std.specs.Prelude.{if◌then◌else◌};
 
     /// A desk at which nothing was done. All memory but that for jobs and answers is asked for here.
@@ -69,7 +67,6 @@ impl<C: Clock + Drop> Desk<C> {
     /// handed back.
     pub fn submit(&mut self, seat: Seat, step: Step) -> Result<(), Step>
         requires mails { HasMails (state_of self.old) }
-        requires built { IsTrue (is_submitted step) }
         ensures mails { HasMails (state_of self.new) }
         ensures went { Submits (WentAt C.given seat) self.old step result self.new }
     {
@@ -166,10 +163,9 @@ impl<C: Clock + Drop> Desk<C> {
     fn take_step(&mut self, seat: Seat, what: Step)
         requires mails { HasMails (state_of self.old) }
         requires empty { (state_of self.old).pending ≡ [] }
-        requires built { IsTrue (is_built what) }
         ensures mails { HasMails (state_of self.new) }
         ensures many { length (state_of self.new).mails ≡ length (state_of self.old).mails }
-        ensures went { WentAt C.given seat self.old (if is_tick what then [] else what ∷ []) [] self.new }
+        ensures went { WentAt C.given seat self.old (as_submitted what) [] self.new }
     {
         self.heard = moment_heard(self.heard, self.clock.now());
         self.core.step(self.heard, seat, what, &mut self.outs);

@@ -2,10 +2,10 @@
 ghost use Rattle.std.specs.Prelude.{◌≡◌, ◌<◌, ℕ, List, length};
 ghost use Rattle.bq_job.specs.declared.answer.Answer.{Answer};
 ghost use Rattle.bq_job.specs.declared.step.Step.{Step};
-ghost use Rattle.bq_serve.specs.Carried.{Carried, IsBuilt};
+ghost use Rattle.bq_serve.specs.Carried.{Carried};
 ghost use Rattle.bq_serve.specs.DeskOf.{WentAt, state_of};
 ghost use Rattle.bq_serve.specs.DeskState.{HasMails};
-ghost use Rattle.bq_serve.specs.Tending.{GoesOn, IsPlaceBuilt, IsPlaced, door_seen};
+ghost use Rattle.bq_serve.specs.Tending.{GoesOn, IsPlaced, door_seen};
 
 use super::attendant::Attendant;
 use super::client::{Room, carry_out};
@@ -49,7 +49,6 @@ pub fn act<L: Line, C: Clock + Drop>(
     seat: Seat,
     room: &mut Room,
 ) -> (Action, bool)
-    requires built { IsBuilt action }
     requires mails { HasMails (state_of desk.old) }
     requires within { seat < length (state_of desk.old).mails }
     ensures mails { HasMails (state_of desk.new) }
@@ -68,7 +67,6 @@ pub fn attend<L: Line + Drop, D: Door<Line = L>, C: Clock + Drop>(
     room: &mut Room,
 ) -> bool
     requires placed { IsPlaced attendant.old.place (door_seen D.is_out D.is_at_end D.lines_over door.old) }
-    requires built { IsPlaceBuilt attendant.old.place }
     requires mails { HasMails (state_of desk.old) }
     requires within { seat < length (state_of desk.old).mails }
     ensures mails { HasMails (state_of desk.new) }

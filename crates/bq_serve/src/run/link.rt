@@ -1,9 +1,9 @@
 //! Links, by which a seat submits steps and looks at its mail.
-ghost use Rattle.std.specs.Prelude.{[], List, IsTrue};
+ghost use Rattle.std.specs.Prelude.{[], List};
 ghost use Rattle.std.specs.Option.{option_to_list};
 ghost use Rattle.bq_job.specs.declared.answer.Answer.{Answer};
 ghost use Rattle.bq_job.specs.declared.step.Step.{Step};
-ghost use Rattle.bq_serve.specs.Links.{Submits, is_submitted};
+ghost use Rattle.bq_serve.specs.Links.{Submits};
 
 use bq_job::{Answer, Step};
 
@@ -19,7 +19,6 @@ pub trait Link {
     /// Submits a step, or hands it back where there is no room for it now.
     fn submit(&mut self, step: Step) -> Result<(), Step>
         requires ready { is_ready self.old }
-        requires built { IsTrue (is_submitted step) }
         ensures ready { is_ready self.new }
         ensures went { Submits went self.old step result self.new };
 

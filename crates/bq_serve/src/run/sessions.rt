@@ -3,10 +3,8 @@ ghost use Rattle.std.specs.Prelude.{◌≡◌, ◌<◌, ◌≤◌, ◌↔◌, �
 ghost use Rattle.std.specs.List.{All};
 ghost use Rattle.bq_core.specs.Limits.{is_body_size, is_seat_count};
 ghost use Rattle.bq_core.specs.State.{settings_of};
-ghost use Rattle.bq_job.specs.Profile.{profile};
-ghost use Rattle.bq_job.specs.SoFar.{words_so_far};
 ghost use Rattle.bq_seat.specs.Past.{Awaited};
-ghost use Rattle.bq_seat.specs.SeatStands.{awaited, seat_profile};
+ghost use Rattle.bq_seat.specs.SeatStands.{awaited};
 ghost use Rattle.bq_serve.specs.DeskOf.{state_of};
 ghost use Rattle.bq_serve.specs.DeskState.{HasMails};
 ghost use Rattle.bq_serve.specs.Sessions.{IsRunOf};
@@ -113,7 +111,7 @@ fn new_seats<L: Line + Drop>(
 ) -> Result<Vec<Attendant<L>, Global>, NoMemory>
     requires { IsTrue (is_body_size max_job_size) }
     ensures many { IfOk result (λ all. vec_len all ≡ seats) }
-    ensures new { IfOk result (λ all. All (IsNewSeat (profile max_job_size words_so_far)) all.items) }
+    ensures new { IfOk result (λ all. All (IsNewSeat max_job_size) all.items) }
 {
     let Ok(mut all) = Vec::with_capacity(alloc, usize::from(seats)) else {
         return Err(NoMemory);

@@ -1,7 +1,7 @@
-//! What the lines of all commands ask for, also of those that are missing so far.
+//! What the lines of all commands ask for.
 
 use super::{LineRead, read_words};
-use crate::command::command_of_word;
+use crate::command::command_named;
 use crate::tests::noted::noted;
 use crate::words::Words;
 use std::alloc::{AllocError, Global};
@@ -10,7 +10,7 @@ use std::test::Fail;
 // What a line asks for, in short.
 fn asked(alloc: Global, line: &str) -> Result<String, AllocError> {
     let mut words = Words::new(line.as_bytes());
-    let Some(command) = words.next().and_then(command_of_word) else {
+    let Some(command) = words.next().and_then(command_named) else {
         return String::from_str(alloc, "101");
     };
     match read_words(command, &mut words) {
@@ -95,8 +95,12 @@ fn bad_words(rt: HostRuntime) -> Result<(), Fail> {
         "pause-tube a",
         "pause-tube -a 1",
         "pause-tube a 1 ",
+        "stats-job",
+        "stats-job 1x",
         "stats-tube",
         "stats x",
+        "list-tubes ",
+        "list-tubes-watched a",
         "quit now",
     ];
     for line in &lines {

@@ -1,6 +1,4 @@
 use Rattle.std.proofs.Common.{refl, sym, take, length}
-use Rattle.bq_job.specs.Profile.{profile}
-use Rattle.bq_job.specs.SoFar.{words_so_far}
 use Rattle.bq_wire.proofs.ReaderLemmas.{waits_by, long_stands, long_line_read, line_unit, hands_out}
 use Rattle.bq_wire.proofs.reader.feed_long_line.Goals as goal
 
@@ -16,4 +14,4 @@ returns-in-Some-clause-feeds c = λ text stands.
     let line = long_line_read text c.args.piece.now c.in-Some.end stands.1 stands.3 (rw stands.2 here) in
     rw c.bad_format.ensures
     (hands_out c.args.state.now.max_job_size c.args.state.now.kept text c.args.piece.now c.in-Some.end _ stands.0
-    (line_unit (profile c.args.state.now.max_job_size words_so_far) text (take c.in-Some.end c.args.piece.now) _ refl line) refl)
+    (line_unit c.args.state.now.max_job_size text (take c.in-Some.end c.args.piece.now) _ line) refl)

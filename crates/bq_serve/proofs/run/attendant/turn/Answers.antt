@@ -1,4 +1,4 @@
-use Rattle.std.proofs.Common.{◌≡◌, [], ap, refl, ◌∙◌, inr}
+use Rattle.std.proofs.Common.{[], ap, refl, ◌∙◌, inr}
 use Rattle.bq_seat.specs.declared.machine.Action.TheVariants as actions
 use Rattle.bq_serve.specs.declared.run.attendant.Place.TheVariants as places
 use Rattle.bq_serve.specs.Tending.{door_seen}

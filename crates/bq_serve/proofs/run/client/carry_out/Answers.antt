@@ -1,11 +1,12 @@
 use Rattle.std.proofs.Common.{[], ◌∷◌, refl, ap, inl, inr}
 use Rattle.bq_seat.specs.declared.machine.Action.TheVariants as actions
+use Rattle.bq_serve.specs.Links.{as_submitted}
 use Rattle.bq_serve.proofs.CarriedLemmas.{comes_by}
 use Rattle.bq_serve.proofs.run.client.carry_out.Goals as goal
 
 pub returns-in-Ok-clause-carried : goal.returns-in-Ok-clause-carried
 returns-in-Ok-clause-carried g c =
-    comes_by g.K.Link.went _ _ _ _ _ _ _ _ (actions.Submit c.in-Submit.step) c.in-Submit.is (c.in-Submit.step ∷ []) [] c.in-Ok.ensures.went (refl, refl, inl (refl, c.on.ensures))
+    comes_by g.K.Link.went _ _ _ _ _ _ _ _ (actions.Submit c.in-Submit.step) c.in-Submit.is (as_submitted c.in-Submit.step) [] c.in-Ok.ensures.went (refl, refl, inl (refl, c.on.ensures))
 
 pub returns-in-Err-clause-carried : goal.returns-in-Err-clause-carried
 returns-in-Err-clause-carried g c =

@@ -1,6 +1,4 @@
-use Rattle.std.proofs.Common.{◌≡◌, ◌∙◌, IsTrue, subst, sym}
-use Rattle.bq_job.specs.declared.step.Step.{Step}
-use Rattle.bq_serve.specs.Links.{is_submitted}
+use Rattle.std.proofs.Common.{◌≡◌, ◌∙◌}
 use Rattle.bq_serve.proofs.run.control.submit.Goals as goal
 
 pub loop-preserved : goal.loop-preserved
@@ -9,7 +7,6 @@ loop-preserved g c =
     record {
       iterator = (tt, tt);
       ready = c.submit.ensures.ready;
-      built = subst (λ (s : Step). IsTrue (is_submitted s)) (sym same) c.loop.invariant.built;
       step_is = same ∙ c.loop.invariant.step_is;
       went = λ first before h. c.in-Err.ensures.went first before (c.loop.invariant.went first before h);
     }

@@ -1,7 +1,5 @@
 use Rattle.std.proofs.Common.{List, subst, sym, arith}
 use Rattle.std.specs.List.{All}
-use Rattle.bq_job.specs.Profile.{profile}
-use Rattle.bq_job.specs.SoFar.{words_so_far}
 use Rattle.bq_serve.specs.Tending.{IsNewSeat}
 use Rattle.bq_serve.specs.declared.run.attendant.Attendant.{Attendant}
 use Rattle.bq_serve.proofs.SessionsLemmas.{all_more}
@@ -9,11 +7,11 @@ use Rattle.bq_serve.proofs.run.sessions.new_seats.Goals as goal
 
 pub loop-preserved : goal.loop-preserved
 loop-preserved g c =
-    let p = profile c.args.max_job_size words_so_far in
+    let size = c.args.max_job_size in
     let made = c.in_ok-seat.ensures in
-    let seat : IsNewSeat p c.in_ok-seat.seat = record { place = made.place; awaits = made.awaits; profile = made.profile } in
+    let seat : IsNewSeat size c.in_ok-seat.seat = record { place = made.place; awaits = made.awaits; limit = made.limit } in
     record {
       many = let e = c.in-Ok-push.ensures.len in let h = c.loop.invariant.many in omega arith;
-      new = subst (λ (xs : List (Attendant g.row.L.Denot)). All (IsNewSeat p) xs) (sym c.in-Ok-push.ensures.items) (all_more (IsNewSeat p) c.loop.all.items c.in_ok-seat.seat c.loop.invariant.new seat);
+      new = subst (λ (xs : List (Attendant g.row.L.Denot)). All (IsNewSeat size) xs) (sym c.in-Ok-push.ensures.items) (all_more (IsNewSeat size) c.loop.all.items c.in_ok-seat.seat c.loop.invariant.new seat);
       within = let h = c.loop-test.true in omega arith;
     }

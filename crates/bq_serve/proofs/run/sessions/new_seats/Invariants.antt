@@ -1,13 +1,11 @@
 use Rattle.std.proofs.Common.{◌≡◌, ◌≤◌, vec_len}
 use Rattle.std.specs.List.{All}
-use Rattle.bq_job.specs.Profile.{profile}
-use Rattle.bq_job.specs.SoFar.{words_so_far}
 use Rattle.bq_serve.specs.Tending.{IsNewSeat}
 use Rattle.bq_serve.proofs.run.sessions.new_seats.Given as goal
 
 abbrev pub invariant-loop : goal.invariant-loop
 invariant-loop g l = record {
   many : vec_len l.all ≡ l.counter;
-  new : All (IsNewSeat (profile l.fn.max_job_size words_so_far)) l.all.items;
+  new : All (IsNewSeat l.fn.max_job_size) l.all.items;
   within : l.counter ≤ l.fn.seats;
 }

@@ -5,7 +5,6 @@ use Rattle.std.proofs.lemmas.List.{with_items_is}
 use Rattle.bq_core.specs.Limits.{is_body_size, is_seat_count}
 use Rattle.bq_core.specs.State.{settings_of}
 use Rattle.bq_serve.specs.DeskOf.{state_of}
-use Rattle.bq_serve.specs.RunSettings.{profile_so_far}
 use Rattle.bq_serve.specs.Sessions.{AreAllKept}
 use Rattle.bq_serve.specs.Tending.{IsNewDoor, IsNewSeat, door_seen}
 use Rattle.bq_serve.specs.Turns.{AreServed}
@@ -17,7 +16,7 @@ use Rattle.bq_serve.proofs.run.sessions.run_sessions.Goals as goal
 pub serve_seats-requires-clause-served : goal.serve_seats-requires-clause-served
 serve_seats-requires-clause-served g c κs within =
     let at = door_seen g.D.Door.is_out g.D.Door.is_at_end g.D.Door.lines_over in
-    let p = profile_so_far c.args.config in
+    let size = c.args.config.max_job_size in
     let settings = settings_of c.args.config in
     let first = state_of c.in_ok-desk.desk in
     let h = c.serve_control.ensures.done in
@@ -27,19 +26,19 @@ serve_seats-requires-clause-served g c κs within =
     let doors_many : length c.as_mut_slice-2.result.now ≡ c.args.config.seats =
     let a = c.as_mut_slice-2.ensures.len in let b = c.if-len-from.false in let d = c.len.ensures in let e = c.from.ensures in omega arith in
     record {
-      p = p;
+      max_job_size = size;
       control = h.3;
       first = first;
       readings = h.4.0;
-      served = begins_served g.L.Line.seen at p settings first h.3 h.4.0 (state_of c.serve_control.new.desk) c.as_mut_slice.result.now c.as_mut_slice-2.result.now c.in_ok-desk.ensures.made h.4.2 seats_many doors_many
-          (subst (λ (xs : List (Attendant g.row.L.Denot)). All (IsNewSeat p) xs) (sym seats_are) c.in-Ok.ensures.new)
+      served = begins_served g.L.Line.seen at size settings first h.3 h.4.0 (state_of c.serve_control.new.desk) c.as_mut_slice.result.now c.as_mut_slice-2.result.now c.in_ok-desk.ensures.made h.4.2 seats_many doors_many
+          (subst (λ (xs : List (Attendant g.row.L.Denot)). All (IsNewSeat size) xs) (sym seats_are) c.in-Ok.ensures.new)
           (subst (λ (xs : List g.row.D.Denot). All (λ d. IsNewDoor (at d)) xs) (sym doors_are) c.requires.new);
     }
 
 pub returns-clause-served : goal.returns-clause-served
 returns-clause-served g c =
     let at = door_seen g.D.Door.is_out g.D.Door.is_at_end g.D.Door.lines_over in
-    let p = profile_so_far c.args.config in
+    let size = c.args.config.max_job_size in
     let settings = settings_of c.args.config in
     let first = state_of c.in_ok-desk.desk in
     let last = state_of c.serve_seats.new.desk in
@@ -53,14 +52,14 @@ returns-clause-served g c =
     let seats = c.serve_seats.new.seats in
     let doors = c.serve_seats.new.doors in
     let w = c.serve_seats.ensures.served in
-    let s : AreServed g.L.Line.seen at p h.3 first (h.4.0 ++ w.0) last seats doors =
-    w.2 p h.3 first h.4.0 (begins_served g.L.Line.seen at p settings first h.3 h.4.0 (state_of c.serve_control.new.desk) c.as_mut_slice.result.now c.as_mut_slice-2.result.now made h.4.2 seats_many doors_many
-    (subst (λ (xs : List (Attendant g.row.L.Denot)). All (IsNewSeat p) xs) (sym seats_are) c.in-Ok.ensures.new)
+    let s : AreServed g.L.Line.seen at size h.3 first (h.4.0 ++ w.0) last seats doors =
+    w.2 size h.3 first h.4.0 (begins_served g.L.Line.seen at size settings first h.3 h.4.0 (state_of c.serve_control.new.desk) c.as_mut_slice.result.now c.as_mut_slice-2.result.now made h.4.2 seats_many doors_many
+    (subst (λ (xs : List (Attendant g.row.L.Denot)). All (IsNewSeat size) xs) (sym seats_are) c.in-Ok.ensures.new)
     (subst (λ (xs : List g.row.D.Denot). All (λ d. IsNewDoor (at d)) xs) (sym doors_are) c.requires.new)) in
     let many : length seats ≡ settings.seats = sym s.mailed ∙ new_mails_are settings first made in
     let kept : length doors ≡ c.args.doors.len = let a = s.doored in let b = doors_many in let d = c.as_mut_slice-2.ensures.len in omega (arith, many) in
     let items_are = with_items_is c.args.doors doors kept in
-    let j = ends_joined g.L.Line.seen at p settings first h.3 (h.4.0 ++ w.0) last seats doors made many s c.serve_seats.ensures.done h.0 h.1 h.5 in
+    let j = ends_joined g.L.Line.seen at size settings first h.3 (h.4.0 ++ w.0) last seats doors made many s c.serve_seats.ensures.done h.0 h.1 h.5 in
     record {
       readings = h.4.0 ++ w.0;
       lines = j.0;
@@ -71,13 +70,13 @@ returns-clause-served g c =
           w.1 c.args.clock h.4.0 (h.4.1 c.args.clock [] begun);
       kept = subst (λ (xs : List g.row.D.Denot). AreAllKept g.D.Door.lines_over xs j.0) (sym items_are) j.1;
       read = h.2;
-      history = c.parts_join.ensures settings p j.0 h.0 h.1 (h.4.0 ++ w.0) s.history s.went.given last.core j.2;
+      history = c.parts_join.ensures settings size j.0 h.0 h.1 (h.4.0 ++ w.0) s.history s.went.given last.core j.2;
     }
 
 pub returns-clause-at_end : goal.returns-clause-at_end
 returns-clause-at_end g c =
     let at = door_seen g.D.Door.is_out g.D.Door.is_at_end g.D.Door.lines_over in
-    let p = profile_so_far c.args.config in
+    let size = c.args.config.max_job_size in
     let settings = settings_of c.args.config in
     let first = state_of c.in_ok-desk.desk in
     let last = state_of c.serve_seats.new.desk in
@@ -91,20 +90,20 @@ returns-clause-at_end g c =
     let seats = c.serve_seats.new.seats in
     let doors = c.serve_seats.new.doors in
     let w = c.serve_seats.ensures.served in
-    let s : AreServed g.L.Line.seen at p h.3 first (h.4.0 ++ w.0) last seats doors =
-    w.2 p h.3 first h.4.0 (begins_served g.L.Line.seen at p settings first h.3 h.4.0 (state_of c.serve_control.new.desk) c.as_mut_slice.result.now c.as_mut_slice-2.result.now made h.4.2 seats_many doors_many
-    (subst (λ (xs : List (Attendant g.row.L.Denot)). All (IsNewSeat p) xs) (sym seats_are) c.in-Ok.ensures.new)
+    let s : AreServed g.L.Line.seen at size h.3 first (h.4.0 ++ w.0) last seats doors =
+    w.2 size h.3 first h.4.0 (begins_served g.L.Line.seen at size settings first h.3 h.4.0 (state_of c.serve_control.new.desk) c.as_mut_slice.result.now c.as_mut_slice-2.result.now made h.4.2 seats_many doors_many
+    (subst (λ (xs : List (Attendant g.row.L.Denot)). All (IsNewSeat size) xs) (sym seats_are) c.in-Ok.ensures.new)
     (subst (λ (xs : List g.row.D.Denot). All (λ d. IsNewDoor (at d)) xs) (sym doors_are) c.requires.new)) in
     let many : length seats ≡ settings.seats = sym s.mailed ∙ new_mails_are settings first made in
     let kept : length doors ≡ c.args.doors.len = let a = s.doored in let b = doors_many in let d = c.as_mut_slice-2.ensures.len in omega (arith, many) in
     let items_are = with_items_is c.args.doors doors kept in
     subst (λ (xs : List g.row.D.Denot). All (λ d. ((at d).is_out ≡ false) × ((at d).is_at_end ≡ true)) xs) (sym items_are)
-    (ends_closed g.L.Line.seen at p settings first h.3 (h.4.0 ++ w.0) last seats doors made many s c.serve_seats.ensures.done)
+    (ends_closed g.L.Line.seen at size settings first h.3 (h.4.0 ++ w.0) last seats doors made many s c.serve_seats.ensures.done)
 
 pub returns-clause-settings : goal.returns-clause-settings
 returns-clause-settings g c =
     let at = door_seen g.D.Door.is_out g.D.Door.is_at_end g.D.Door.lines_over in
-    let p = profile_so_far c.args.config in
+    let size = c.args.config.max_job_size in
     let settings = settings_of c.args.config in
     let first = state_of c.in_ok-desk.desk in
     let last = state_of c.serve_seats.new.desk in
@@ -118,12 +117,12 @@ returns-clause-settings g c =
     let seats = c.serve_seats.new.seats in
     let doors = c.serve_seats.new.doors in
     let w = c.serve_seats.ensures.served in
-    let s : AreServed g.L.Line.seen at p h.3 first (h.4.0 ++ w.0) last seats doors =
-    w.2 p h.3 first h.4.0 (begins_served g.L.Line.seen at p settings first h.3 h.4.0 (state_of c.serve_control.new.desk) c.as_mut_slice.result.now c.as_mut_slice-2.result.now made h.4.2 seats_many doors_many
-    (subst (λ (xs : List (Attendant g.row.L.Denot)). All (IsNewSeat p) xs) (sym seats_are) c.in-Ok.ensures.new)
+    let s : AreServed g.L.Line.seen at size h.3 first (h.4.0 ++ w.0) last seats doors =
+    w.2 size h.3 first h.4.0 (begins_served g.L.Line.seen at size settings first h.3 h.4.0 (state_of c.serve_control.new.desk) c.as_mut_slice.result.now c.as_mut_slice-2.result.now made h.4.2 seats_many doors_many
+    (subst (λ (xs : List (Attendant g.row.L.Denot)). All (IsNewSeat size) xs) (sym seats_are) c.in-Ok.ensures.new)
     (subst (λ (xs : List g.row.D.Denot). All (λ d. IsNewDoor (at d)) xs) (sym doors_are) c.requires.new)) in
     let many : length seats ≡ settings.seats = sym s.mailed ∙ new_mails_are settings first made in
-    ends_settings g.L.Line.seen at p settings first h.3 (h.4.0 ++ w.0) last seats doors made many s c.serve_seats.ensures.done c.steps_keep_settings.ensures
+    ends_settings g.L.Line.seen at size settings first h.3 (h.4.0 ++ w.0) last seats doors made many s c.serve_seats.ensures.done c.steps_keep_settings.ensures
 
 pub returns-clause-bad_configuration : goal.returns-clause-bad_configuration
 returns-clause-bad_configuration g c =

@@ -19,15 +19,7 @@ attend-moved-requires-clause-placed g c κs within =
     let l = c.loop-seat in
     let s = somehow_on g.L.Line.seen at g.C.Clock.given c.args.desk.now l.desk c.args.seats.now l.seats c.args.doors.now l.doors c.requires.served l.invariant.served in
     let below : l.seat < length l.seats = let e = l.auto.seats in let h = c.loop-seat-test.true in omega arith in
-    (turn_placed g.L.Line.seen at (state_of l.desk) l.seats l.doors l.seat c.index-seats-seat.result c.index-doors-seat.result s below).0
-
-pub attend-moved-requires-clause-built : goal.attend-moved-requires-clause-built
-attend-moved-requires-clause-built g c κs within =
-    let at = door_seen g.D.Door.is_out g.D.Door.is_at_end g.D.Door.lines_over in
-    let l = c.loop-seat in
-    let s = somehow_on g.L.Line.seen at g.C.Clock.given c.args.desk.now l.desk c.args.seats.now l.seats c.args.doors.now l.doors c.requires.served l.invariant.served in
-    let below : l.seat < length l.seats = let e = l.auto.seats in let h = c.loop-seat-test.true in omega arith in
-    (turn_placed g.L.Line.seen at (state_of l.desk) l.seats l.doors l.seat c.index-seats-seat.result c.index-doors-seat.result s below).1
+    turn_placed g.L.Line.seen at (state_of l.desk) l.seats l.doors l.seat c.index-seats-seat.result c.index-doors-seat.result s below
 
 pub attend-moved-requires-clause-within : goal.attend-moved-requires-clause-within
 attend-moved-requires-clause-within g c κs within =

@@ -1,4 +1,4 @@
-use Rattle.std.proofs.Common.{◌≡◌, ◌<◌, ℕ, suc, List, ◌∷◌, length, ap, arith, subst}
+use Rattle.std.proofs.Common.{◌≡◌, ◌<◌, suc, List, ◌∷◌, length, ap, arith, subst}
 use Rattle.std.specs.List.{All}
 use Rattle.std.specs.Prelude.{slice_index_or}
 use Rattle.bq_serve.specs.MemDoors.{IsFresh}

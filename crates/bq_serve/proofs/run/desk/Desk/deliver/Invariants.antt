@@ -1,4 +1,4 @@
-use Rattle.std.proofs.Common.{◌≡◌, ℕ, length}
+use Rattle.std.proofs.Common.{◌≡◌, length}
 use Rattle.bq_serve.specs.DeskOf.{state_of}
 use Rattle.bq_serve.specs.DeskState.{IsSorted}
 use Rattle.bq_serve.proofs.run.desk.Desk.deliver.Given as goal

@@ -1,4 +1,4 @@
-use Rattle.std.proofs.Common.{[], ap, refl, ◌∙◌, arith, subst}
+use Rattle.std.proofs.Common.{[], refl, arith}
 use Rattle.bq_serve.specs.DeskOf.{state_of}
 use Rattle.bq_serve.proofs.DeskLemmas.{gave_none}
 use Rattle.bq_serve.proofs.MailLemmas.{seat_takes}
