@@ -242,6 +242,55 @@ fn hostile_rows(rt: HostRuntime) -> Result<(), Fail> {
     Ok(())
 }
 
+// The commands that count or list, with the words that they want, with others, and words nearly theirs.
+#[test]
+fn statistics_and_lists(rt: HostRuntime) -> Result<(), Fail> {
+    let examples = [
+        plain(
+            65535,
+            "stats~stats-job 7~stats-tube a.b~list-tubes~list-tubes-watched~",
+            "stats;stats-job 7;stats-tube a.b;list-tubes;list-tubes-watched;",
+        ),
+        plain(
+            65535,
+            "stats ~stats x~list-tubes a~list-tubes-watched ~list-tubes-watched 1~",
+            "102;102;102;102;102;",
+        ),
+        plain(
+            65535,
+            "stats-job~stats-job ~stats-job -1~stats-job a~stats-job 1 2~stats-job 18446744073709551616~",
+            "102;102;102;102;102;102;",
+        ),
+        plain(
+            65535,
+            "stats-job 0018446744073709551615~stats-job 0~",
+            "stats-job 18446744073709551615;stats-job 0;",
+        ),
+        plain(
+            65535,
+            "stats-tube~stats-tube ~stats-tube -a~stats-tube a*~stats-tube a b~",
+            "102;102;102;102;102;",
+        ),
+        plain(
+            65535,
+            "Stats~stat~stats-~stats-jobs 1~stats-tubes a~list-tube~list-tubes-~list-tubes-watche~ stats~",
+            "101;101;101;101;101;101;101;101;101;",
+        ),
+        plain(
+            65535,
+            "put 0 0 1 5~stats~quit~stats~",
+            "put 0 0 1 [115, 116, 97, 116, 115];quit;",
+        ),
+        filled("stats-tube ", b'a', 201, "~stats~", "102;stats;"),
+        filled("stats-job ", b'0', 211, "7~", "stats-job 7;"),
+        filled("stats-job ", b'0', 212, "7~", "102;"),
+    ];
+    for example in &examples {
+        check_example(&rt, rt.alloc(), example)?;
+    }
+    Ok(())
+}
+
 // A quit holds until the restart.
 #[test]
 fn restarts(rt: HostRuntime) -> Result<(), Fail> {
