@@ -1,4 +1,5 @@
 pub mod ActLemmas
+pub mod AskLemmas
 pub mod DispatchLemmas
 pub mod DueLemmas
 pub mod FiringLemmas

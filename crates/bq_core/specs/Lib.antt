@@ -1,4 +1,5 @@
 pub mod Acting
+pub mod Asking
 pub mod Codes
 pub mod CoreState
 pub mod Dues

@@ -7,7 +7,8 @@ ghost use Rattle.bq_job.specs.TubeCommands.{watching};
 ghost use Rattle.bq_job.specs.TubeName.{is_same_name};
 ghost use Rattle.bq_job.specs.TubeOrder.{tubes};
 ghost use Rattle.bq_job.specs.Tubes.{forgetting, fresh_tube, with_tube};
-ghost use Rattle.bq_jobs.specs.Kept.{with_added, without};
+ghost use Rattle.bq_jobs.specs.Kept.{ComparesAtMost, with_added, without};
+ghost use Rattle.bq_core.specs.Asking.{Asks};
 ghost use Rattle.bq_core.specs.JobChanges.{changed};
 ghost use Rattle.bq_core.specs.SeatChanges.{seat_changed, has_tube_of};
 ghost use Rattle.bq_core.specs.State.{machine_of, settings_of, IsSound, OnlyCompares};
@@ -93,6 +94,7 @@ impl State {
         requires { IsSound self.old }
         ensures has { result ≡ is_passed_by (passes test) (job_with id (machine_of self.old).jobs) }
         ensures same { OnlyCompares self.old self.new }
+        ensures asks { Asks 1 self.old.jobs self.new.jobs }
         ensures sound { IsSound self.new }
     {
         job_list::has(&mut self.jobs, id, test)
@@ -103,6 +105,7 @@ impl State {
         requires { IsSound self.old }
         ensures ttr { result ≡ ttr_held_by seat (job_with id (machine_of self.old).jobs) }
         ensures same { OnlyCompares self.old self.new }
+        ensures asks { Asks 1 self.old.jobs self.new.jobs }
         ensures sound { IsSound self.new }
     {
         job_list::time_to_run(&mut self.jobs, id, seat)
@@ -114,6 +117,7 @@ impl State {
         ensures none { is_some result ≡ is_some (job_with id (machine_of self.old).jobs) }
         ensures share { IfSome result (λ shared. IfOk shared (λ body. (j : Job) → job_with id (machine_of self.old).jobs ≡ Some j → body ≡ j.body)) }
         ensures same { OnlyCompares self.old self.new }
+        ensures asks { Asks 1 self.old.jobs self.new.jobs }
         ensures sound { IsSound self.new }
     {
         job_list::share(&mut self.jobs, id)
@@ -124,6 +128,7 @@ impl State {
         requires { IsSound self.old }
         ensures id { result ≡ option_map (λ j. j.id) (first_of (is_of kind tube.now) (is_before_of kind) (machine_of self.old).jobs) }
         ensures same { OnlyCompares self.old self.new }
+        ensures asks { Asks 1 self.old.jobs self.new.jobs }
         ensures sound { IsSound self.new }
     {
         job_list::first(&mut self.jobs, kind, tube)
@@ -144,6 +149,7 @@ pub(crate) fn make_room(state: &mut State, alloc: Global) -> Result<(), NoMemory
     ensures after { machine_of state.new ≡ machine_of state.old }
     ensures seats { state.new.seats ≡ state.old.seats }
     ensures tubes { state.new.tubes ≡ state.old.tubes }
+    ensures asks { Asks 0 state.old.jobs state.new.jobs }
     ensures sound { IsSound state.new }
     ensures config { state.new.config ≡ state.old.config }
 {
@@ -158,6 +164,7 @@ pub(crate) fn add(state: &mut State, job: Job)
     requires free { job_with job.id (machine_of state.old).jobs ≡ None }
     requires entry { has_entry job.tube state.old.tubes.items ≡ true }
     ensures after { machine_of state.new ≡ record (machine_of state.old) { jobs = with_added job (machine_of state.old).jobs } }
+    ensures asks { ComparesAtMost 4 state.old.jobs state.new.jobs }
     ensures sound { IsSound state.new }
     ensures config { state.new.config ≡ state.old.config }
 {
@@ -178,6 +185,7 @@ pub(crate) fn take(state: &mut State, id: JobId) -> Option<Job>
     ensures given { IfSome result (λ job. (1 ≤ job.id) × (job.id < state.new.next_id)) }
     ensures room { IfSome result (λ job. 0 < state.new.jobs.room) }
     ensures entry { IfSome result (λ job. has_entry job.tube state.new.tubes.items ≡ true) }
+    ensures asks { ComparesAtMost 4 state.old.jobs state.new.jobs }
     ensures sound { IsSound state.new }
     ensures config { state.new.config ≡ state.old.config }
 {
@@ -191,6 +199,7 @@ pub(crate) fn take(state: &mut State, id: JobId) -> Option<Job>
 pub(crate) fn change_job(state: &mut State, id: JobId, what: &JobChange)
     requires { IsSound state.old }
     ensures after { machine_of state.new ≡ with_job id (changed what.now) (machine_of state.old) }
+    ensures asks { Asks 8 state.old.jobs state.new.jobs }
     ensures sound { IsSound state.new }
     ensures config { state.new.config ≡ state.old.config }
 {
@@ -206,6 +215,7 @@ pub(crate) fn change_seat(state: &mut State, seat: Seat, what: &SeatChange)
     requires sound { IsSound state.old }
     requires entry { has_tube_of what.now state.old.tubes.items ≡ true }
     ensures after { machine_of state.new ≡ with_seat seat (seat_changed what.now) (machine_of state.old) }
+    ensures jobs { state.new.jobs ≡ state.old.jobs }
     ensures sound { IsSound state.new }
     ensures config { state.new.config ≡ state.old.config }
 {
@@ -230,6 +240,7 @@ pub(crate) fn provide_tube(state: &mut State, tube: &TubeName) -> Result<(), NoM
     ensures after { machine_of state.new ≡ machine_of state.old }
     ensures entry { IfOk result (λ _. has_entry tube.now state.new.tubes.items ≡ true) }
     ensures seats { state.new.seats ≡ state.old.seats }
+    ensures jobs { state.new.jobs ≡ state.old.jobs }
     ensures sound { IsSound state.new }
     ensures config { state.new.config ≡ state.old.config }
 {
@@ -246,6 +257,7 @@ pub(crate) fn watch_tube(state: &mut State, seat: Seat, tube: &TubeName) -> Resu
     ensures count { IfOk result (λ n. (s : SeatRecord) → seat_with seat (machine_of state.old).seats ≡ Some s → n ≡ length (s.watched ++ tube.now ∷ [])) }
     ensures watched { IfOk result (λ _. (s : SeatRecord) → seat_with seat (machine_of state.old).seats ≡ Some s → machine_of state.new ≡ with_seat seat (watching (s.watched ++ tube.now ∷ [])) (machine_of state.old)) }
     ensures same { OnErr result (machine_of state.new ≡ machine_of state.old) }
+    ensures jobs { state.new.jobs ≡ state.old.jobs }
     ensures sound { IsSound state.new }
     ensures config { state.new.config ≡ state.old.config }
 {
@@ -266,6 +278,7 @@ pub(crate) fn ignore_tube(state: &mut State, seat: Seat, tube: &TubeName) -> u64
     requires other { (s : SeatRecord) → seat_with seat (machine_of state.old).seats ≡ Some s → list_any (λ other. not (is_same_name tube.now other)) s.watched ≡ true }
     ensures count { (s : SeatRecord) → seat_with seat (machine_of state.old).seats ≡ Some s → result ≡ length (filter (λ other. not (is_same_name tube.now other)) s.watched) }
     ensures after { (s : SeatRecord) → seat_with seat (machine_of state.old).seats ≡ Some s → machine_of state.new ≡ with_seat seat (watching (filter (λ other. not (is_same_name tube.now other)) s.watched)) (machine_of state.old) }
+    ensures jobs { state.new.jobs ≡ state.old.jobs }
     ensures sound { IsSound state.new }
     ensures config { state.new.config ≡ state.old.config }
 {
@@ -318,6 +331,7 @@ pub(crate) fn tube_names<'a>(state: &'a State, alloc: Global) -> Result<Names<'a
 pub(crate) fn forget_tubes(state: &mut State)
     requires { IsSound state.old }
     ensures after { machine_of state.new ≡ forgetting (machine_of state.old) }
+    ensures jobs { state.new.jobs ≡ state.old.jobs }
     ensures sound { IsSound state.new }
     ensures config { state.new.config ≡ state.old.config }
 {
@@ -328,6 +342,7 @@ pub(crate) fn forget_tubes(state: &mut State)
 pub(crate) fn raise_moment(state: &mut State, at: Moment)
     requires { IsSound state.old }
     ensures after { machine_of state.new ≡ at_moment at (machine_of state.old) }
+    ensures jobs { state.new.jobs ≡ state.old.jobs }
     ensures sound { IsSound state.new }
     ensures config { state.new.config ≡ state.old.config }
 {

@@ -1,9 +1,11 @@
-use Rattle.std.proofs.Common.{◌≡◌, ◌∙◌, ap, sym, Some, None}
+use Rattle.std.proofs.Common.{◌≡◌, ◌∙◌, arith, ap, length, sym, Some, None}
+use Rattle.std.proofs.lemmas.List.{length-map}
 use Rattle.bq_job.specs.Changes.{job_with}
 use Rattle.bq_job.specs.Machine.{Machine}
 use Rattle.bq_jobs.specs.Kept.{with_added, without}
 use Rattle.bq_core.specs.JobChanges.{changed}
 use Rattle.bq_core.specs.State.{machine_of}
+use Rattle.bq_core.proofs.AskLemmas.{asks_more, moved}
 use Rattle.bq_core.proofs.StateLemmas.{id_kept, no_job_changed, none_out}
 use Rattle.bq_core.proofs.state.change_job.Goals as goal
 
@@ -23,3 +25,16 @@ returns-in_default-clause-after c =
     let none : job_with c.args.id m.jobs ≡ None = sym c.in_default.ensures.job in
     c.in_default.ensures.after
     ∙ ap (λ jobs. record m { jobs = jobs }) (none_out c.args.id m.jobs none ∙ sym (no_job_changed c.args.id (changed c.args.what.now) m.jobs none))
+
+pub returns-in-Some-clause-asks : goal.returns-in-Some-clause-asks
+returns-in-Some-clause-asks c =
+    moved c.args.state.now.jobs c.take.new.state.jobs c.add.new.state.jobs c.args.id (ap (λ (x : Machine). x.jobs) c.in-Some.ensures.after)
+    (ap (λ (x : Machine). length x.jobs) (returns-in-Some-clause-after c) ∙ length-map (machine_of c.args.state.now).jobs _)
+    c.in-Some.ensures.asks c.add.ensures.asks
+
+pub returns-in_default-clause-asks : goal.returns-in_default-clause-asks
+returns-in_default-clause-asks c =
+    asks_more 8 (omega arith) (record {
+      many = ap (λ (x : Machine). length x.jobs) (returns-in_default-clause-after c) ∙ length-map (machine_of c.args.state.now).jobs _;
+      rise = c.in_default.ensures.asks.1;
+    })

@@ -1,0 +1,67 @@
+-- Searches add up.
+use Rattle.std.proofs.Common.{◌≡◌, ◌==◌, not, ℕ, zero, suc, ◌+◌, ◌*◌, ◌/◌, ◌≤◌, true, false, length, max, ap, refl, sym, ◌∙◌, arith, inl, inr, subst}
+use Rattle.std.proofs.Math.Nat.{add-mul}
+use Rattle.std.proofs.lemmas.Nat.{mul-le}
+use Rattle.std.proofs.lemmas.Bool.{cases_Bool}
+use Rattle.std.proofs.lemmas.Bool.Decides.{nat_tests}
+use Rattle.bq_index.specs.Digits.{binary_digits, digits_up_to}
+use Rattle.std.proofs.lemmas.List.Sums.{count_by-le-length, length-filter}
+use Rattle.bq_job.specs.declared.job.Job.{Job}
+use Rattle.bq_jobs.specs.Kept.{ComparesAtMost, Kept, without}
+use Rattle.bq_core.specs.Asking.{Asks, AsksWithin, search_among}
+
+-- a smaller number has no more digits
+digits_rise : (most more n m : ℕ) → n ≤ m → m ≤ more → digits_up_to most n ≤ digits_up_to more m
+digits_rise zero more n m l u = omega arith
+digits_rise (suc most) zero n m l u = let e : (n == 0) ≡ true = grind (arith, nat_tests) in rw e (omega arith)
+digits_rise (suc most) (suc more) n m l u =
+    elim (cases_Bool (n == 0)) [
+      | inl e ↦ rw e (omega arith)
+      | inr e ↦
+          let f : (m == 0) ≡ false = grind (arith, nat_tests) in
+          let i = digits_rise most more (n / 2) (m / 2) (omega arith) (omega arith) in
+          rw (e, f) (omega (arith, i))
+    ]
+
+-- among more jobs a search takes no less
+pub search_grows : (i j : ℕ) → i ≤ j → search_among i ≤ search_among j
+unfolding binary_digits
+search_grows i j l = omega (arith, digits_rise (2 * i + 2) (2 * j + 2) (2 * i + 2) (2 * j + 2) (omega arith) (omega arith))
+
+-- nothing is asked
+pub asks_none : (k : Kept) → Asks 0 k k
+asks_none k = record { many = refl; rise = omega arith }
+
+-- the same jobs are as they were
+pub asks_same : {old new : Kept} → new ≡ old → Asks 0 old new
+asks_same {old = old} e = subst (Asks 0 old) (sym e) (asks_none old)
+
+-- what the jobs are asked alone
+pub asked : (n : ℕ) {old new : Kept} → new ≡ record old { comparisons = new.comparisons } → ComparesAtMost n old new → Asks n old new
+asked n e h = record { many = ap (λ (k : Kept). length k.jobs) e; rise = h.1 }
+
+-- first these searches, and then those
+pub asks_then : {n k : ℕ} {first between last : Kept} → Asks n first between → Asks k between last → Asks (n + k) first last
+asks_then {n = n} {k = k} {first = first} {between = between} {last = last} a b =
+    let s = search_among (length first.jobs) in
+    let same : k * search_among (length between.jobs) ≡ k * s = ap (λ i. k * search_among i) a.many in
+    record { many = b.many ∙ a.many; rise = omega (arith, a.rise, b.rise, same, add-mul n k s) }
+
+-- so many searches are no more than more of them
+pub asks_more : {n : ℕ} (k : ℕ) {old new : Kept} → n ≤ k → Asks n old new → Asks k old new
+asks_more {n = n} k {old = old} l a =
+    let s = search_among (length old.jobs) in
+    record { many = a.many; rise = omega (arith, a.rise, mul-le n s k s l (omega arith)) }
+
+pub within : {n : ℕ} (k : ℕ) {old new : Kept} → n ≤ k → Asks n old new → AsksWithin k old new
+within {n = n} k {old = old} {new = new} l a =
+    let s = search_among (length old.jobs) in
+    let t = search_among (max (length old.jobs) (length new.jobs)) in
+    record { rise = omega (arith, a.rise, mul-le n s k t l (search_grows (length old.jobs) (max (length old.jobs) (length new.jobs)) (omega arith))) }
+
+-- a job is taken out and put back
+pub moved : (old between new : Kept) (id : ℕ) → between.jobs ≡ without id old.jobs → length new.jobs ≡ length old.jobs → ComparesAtMost 4 old between → ComparesAtMost 4 between new → Asks 8 old new
+moved old between new id out back a b =
+    let fewer : length between.jobs ≤ length old.jobs =
+        omega (arith, ap length out, length-filter (λ (k : Job). not (k.id == id)) old.jobs, count_by-le-length (λ (k : Job). not (k.id == id)) old.jobs) in
+    record { many = back; rise = omega (arith, a.1, b.1, search_grows (length between.jobs) (length old.jobs) fewer) }

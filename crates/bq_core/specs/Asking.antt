@@ -1,0 +1,18 @@
+-- How many comparisons of keys calls make, told as so many searches among the jobs.
+use Rattle.std.specs.Prelude.{ℕ, ◌≡◌, ◌≤◌, ◌+◌, ◌*◌, length, max}
+use Rattle.bq_index.specs.Digits.{binary_digits}
+use Rattle.bq_jobs.specs.Kept.{Kept}
+
+-- twice the binary digits of a little more than twice the jobs: as many comparisons as one search among so
+-- many may take
+abbrev pub search_among : ℕ → ℕ
+search_among jobs = 2 * binary_digits (2 * jobs + 2)
+
+-- There are as many jobs as before, and no more comparisons than in n searches among them.
+pub record Asks (n : ℕ) (old new : Kept) : Type 0 where
+  pub many : length new.jobs ≡ length old.jobs
+  pub rise : new.comparisons ≤ old.comparisons + n * search_among (length old.jobs)
+
+-- No more comparisons than in n searches among as many jobs as there are before or after.
+pub record AsksWithin (n : ℕ) (old new : Kept) : Type 0 where
+  pub rise : new.comparisons ≤ old.comparisons + n * search_among (max (length old.jobs) (length new.jobs))
