@@ -1,7 +1,8 @@
 -- How many comparisons of keys calls make, told as so many searches among the jobs.
-use Rattle.std.specs.Prelude.{ℕ, ◌≡◌, ◌≤◌, ◌+◌, ◌*◌, length, max}
+use Rattle.std.specs.Prelude.{ℕ, ◌≡◌, ◌≤◌, ◌+◌, ◌-◌, ◌*◌, length, max}
 use Rattle.bq_index.specs.Digits.{binary_digits}
 use Rattle.bq_jobs.specs.Kept.{Kept}
+use Rattle.bq_core.specs.Outbox.{Outbox}
 
 -- twice the binary digits of a little more than twice the jobs: as many comparisons as one search among so
 -- many may take
@@ -16,3 +17,7 @@ pub record Asks (n : ℕ) (old new : Kept) : Type 0 where
 -- No more comparisons than in n searches among as many jobs as there are before or after.
 pub record AsksWithin (n : ℕ) (old new : Kept) : Type 0 where
   pub rise : new.comparisons ≤ old.comparisons + n * search_among (max (length old.jobs) (length new.jobs))
+
+-- For each answer that was added so many searches and nine, and once so many.
+abbrev pub AsksByTurn : ℕ → Outbox → Outbox → Kept → Kept → Type 0
+AsksByTurn n outs more old new = Asks ((length more.given - length outs.given) * (n + 9) + n) old new

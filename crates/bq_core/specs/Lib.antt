@@ -2,6 +2,7 @@ pub mod Acting
 pub mod Asking
 pub mod Codes
 pub mod CoreState
+pub mod Cost
 pub mod Dues
 pub mod EndingWaits
 pub mod Firing

@@ -1,5 +1,6 @@
 //! Ready jobs go to the clients that wait for them.
-ghost use Rattle.std.specs.Prelude.{◌≡◌, ◌<◌, ◌++◌, ◌∷◌, [], None, Some, true, false, fold, is_some, length, IfSome, IfOk};
+ghost use Rattle.std.specs.Prelude.{◌≡◌, ◌<◌, ◌+◌, ◌++◌, ◌∷◌, [], None, Some, true, false, fold, is_some, length, IfSome, IfOk};
+ghost use Rattle.std.specs.List.{sum_by};
 ghost use Rattle.std.specs.Option.{option_map};
 ghost use Rattle.bq_job.specs.declared.answer.Answer.TheVariants as answers;
 ghost use Rattle.bq_job.specs.declared.job.Job.{Job};
@@ -8,6 +9,8 @@ ghost use Rattle.bq_job.specs.Computed.{waiting_count};
 ghost use Rattle.bq_job.specs.Dispatch.{DispatchTurn, next_job, next_seat, reserved_by};
 ghost use Rattle.bq_job.specs.Machine.{SeatRecord};
 ghost use Rattle.bq_job.specs.Steps.{has_refused_share};
+ghost use Rattle.bq_core.specs.Asking.{Asks, AsksByTurn};
+ghost use Rattle.bq_core.specs.Cost.{waited, waited_entries};
 ghost use Rattle.bq_core.specs.HandOuts.{HandsOut};
 ghost use Rattle.bq_core.specs.Offers.{better_rank, offered, with_offer, with_offers};
 ghost use Rattle.bq_core.specs.State.{machine_of, IsSound, OnlyCompares};
@@ -47,6 +50,7 @@ fn better(best: Option<Offer>, other: Option<Offer>) -> Option<Offer>
 fn offer_of(jobs: &mut Jobs, tubes: &[TubeEntry], tube: &TubeName) -> Option<Offer>
     ensures offer { result ≡ offered jobs.old.jobs tubes.now tube.now }
     ensures same { jobs.new ≡ record jobs.old { comparisons = jobs.new.comparisons } }
+    ensures asks { Asks 1 jobs.old jobs.new }
 {
     if tube_list::is_paused(tubes, tube) {
         None
@@ -64,6 +68,7 @@ fn best_among(
 ) -> Option<Offer>
     ensures best { result ≡ fold (with_offer jobs.old.jobs tubes.now) first names.now }
     ensures same { jobs.new ≡ record jobs.old { comparisons = jobs.new.comparisons } }
+    ensures asks { Asks (length names.now) jobs.old jobs.new }
 {
     let mut best = first;
     for i in 0..names.len() {
@@ -81,6 +86,7 @@ fn best_for(
 ) -> Option<Offer>
     ensures best { result ≡ with_offers jobs.old.jobs tubes.now first place.now }
     ensures same { jobs.new ≡ record jobs.old { comparisons = jobs.new.comparisons } }
+    ensures asks { Asks (waited_entries place.now) jobs.old jobs.new }
 {
     if place.is_waiting() {
         best_among(jobs, tubes, place.watched(), first)
@@ -93,6 +99,7 @@ fn best_for(
 fn best_offer(jobs: &mut Jobs, tubes: &[TubeEntry], seats: &[Place]) -> Option<Offer>
     ensures best { result ≡ fold (with_offers jobs.old.jobs tubes.now) None seats.now }
     ensures same { jobs.new ≡ record jobs.old { comparisons = jobs.new.comparisons } }
+    ensures asks { Asks (sum_by waited_entries seats.now) jobs.old jobs.new }
 {
     let mut best = None;
     for i in 0..seats.len() {
@@ -106,6 +113,7 @@ fn next_job(state: &mut State) -> Option<JobId>
     requires { IsSound state.old }
     ensures id { result ≡ option_map (λ j. j.id) (next_job (machine_of state.old)) }
     ensures same { OnlyCompares state.old state.new }
+    ensures asks { Asks (waited (machine_of state.old)) state.old.jobs state.new.jobs }
     ensures sound { IsSound state.new }
 {
     let best = best_offer(
@@ -127,6 +135,7 @@ fn pick(state: &mut State, id: JobId) -> Option<(Seat, Result<Body, NoMemory>)>
     ensures picked { IfSome result (λ p. (j : Job) → next_job (machine_of state.old) ≡ Some j → Some p.0 ≡ option_map (λ s. s.number) (next_seat (machine_of state.old) j)) }
     ensures share { IfSome result (λ p. IfOk p.1 (λ body. (j : Job) → next_job (machine_of state.old) ≡ Some j → body ≡ j.body)) }
     ensures same { OnlyCompares state.old state.new }
+    ensures asks { Asks 1 state.old.jobs state.new.jobs }
     ensures sound { IsSound state.new }
 {
     let job = state.jobs.get(id)?;
@@ -140,6 +149,7 @@ fn give(state: &mut State, outs: &mut Outs, number: Seat, id: JobId, body: Body)
     requires room { length outs.old.given < outs.old.most }
     ensures after { machine_of state.new ≡ with_seat number without_wait (with_job id (reserved_by (machine_of state.old).moment number) (machine_of state.old)) }
     ensures told { outs.new ≡ record outs.old { given = outs.old.given ++ (number, answers.Reserved id body) ∷ [] } }
+    ensures asks { Asks 8 state.old.jobs state.new.jobs }
     ensures sound { IsSound state.new }
     ensures config { state.new.config ≡ state.old.config }
 {
@@ -155,6 +165,7 @@ fn refuse(state: &mut State, outs: &mut Outs, number: Seat)
     requires room { length outs.old.given < outs.old.most }
     ensures after { machine_of state.new ≡ with_seat number without_wait (machine_of state.old) }
     ensures told { outs.new ≡ record outs.old { given = outs.old.given ++ (number, answers.OutOfMemory) ∷ []; unshared = true } }
+    ensures jobs { state.new.jobs ≡ state.old.jobs }
     ensures sound { IsSound state.new }
     ensures config { state.new.config ≡ state.old.config }
 {
@@ -174,6 +185,7 @@ fn hand_out(
     requires sound { IsSound state.old }
     requires room { length outs.old.given < outs.old.most }
     ensures given { HandsOut (machine_of state.old) id number shared outs.old outs.new (machine_of state.new) }
+    ensures asks { Asks 8 state.old.jobs state.new.jobs }
     ensures sound { IsSound state.new }
     ensures config { state.new.config ≡ state.old.config }
 {
@@ -190,6 +202,8 @@ fn turn(state: &mut State, outs: &mut Outs) -> bool
     ensures done { result ≡ false → (next_job (machine_of state.old) ≡ None) × (machine_of state.new ≡ machine_of state.old) × (outs.new ≡ outs.old) }
     ensures given { result ≡ true → Gives DispatchTurn has_refused_share (machine_of state.old) (machine_of state.new) outs.old outs.new }
     ensures fewer { result ≡ true → waiting_count (machine_of state.new) < waiting_count (machine_of state.old) }
+    ensures asks { result ≡ true → Asks (waited (machine_of state.old) + 9) state.old.jobs state.new.jobs }
+    ensures asks_last { result ≡ false → Asks (waited (machine_of state.old)) state.old.jobs state.new.jobs }
     ensures sound { IsSound state.new }
     ensures config { state.new.config ≡ state.old.config }
 {
@@ -213,6 +227,7 @@ fn dispatch_all(state: &mut State, outs: &mut Outs)
     requires room { HasRoom 0 (machine_of state.old) outs.old }
     ensures given { Gives DispatchTurn has_refused_share (machine_of state.old) (machine_of state.new) outs.old outs.new }
     ensures done { next_job (machine_of state.new) ≡ None }
+    ensures asks { AsksByTurn (waited (machine_of state.old)) outs.old outs.new state.old.jobs state.new.jobs }
     ensures sound { IsSound state.new }
     ensures config { state.new.config ≡ state.old.config }
 {
@@ -227,6 +242,7 @@ pub(crate) fn dispatch(state: &mut State, outs: &mut Outs, has_stirred: bool)
     requires quiet { has_stirred ≡ false → next_job (machine_of state.old) ≡ None }
     ensures given { Gives DispatchTurn has_refused_share (machine_of state.old) (machine_of state.new) outs.old outs.new }
     ensures done { next_job (machine_of state.new) ≡ None }
+    ensures asks { AsksByTurn (waited (machine_of state.old)) outs.old outs.new state.old.jobs state.new.jobs }
     ensures sound { IsSound state.new }
     ensures config { state.new.config ≡ state.old.config }
 {

@@ -1,6 +1,7 @@
 //! The jobs that a client holds.
-ghost use Rattle.std.specs.Prelude.{◌≡◌, ◌<◌, true, false, count_by};
+ghost use Rattle.std.specs.Prelude.{◌≡◌, ◌<◌, ◌+◌, ◌*◌, true, false, count_by};
 ghost use Rattle.bq_job.specs.Changes.{is_held_by};
+ghost use Rattle.bq_core.specs.Asking.{Asks};
 ghost use Rattle.bq_core.specs.Firing.{after_giving_back};
 ghost use Rattle.bq_core.specs.State.{machine_of, IsSound};
 
@@ -15,6 +16,8 @@ fn give_back_one(state: &mut State, seat: Seat) -> bool
     ensures done { result ≡ false → machine_of state.new ≡ after_giving_back seat (machine_of state.old) }
     ensures given { after_giving_back seat (machine_of state.new) ≡ after_giving_back seat (machine_of state.old) }
     ensures fewer { result ≡ true → count_by (is_held_by seat) (machine_of state.new).jobs < count_by (is_held_by seat) (machine_of state.old).jobs }
+    ensures asks { result ≡ true → Asks 9 state.old.jobs state.new.jobs }
+    ensures asks_last { result ≡ false → Asks 1 state.old.jobs state.new.jobs }
     ensures sound { IsSound state.new }
     ensures config { state.new.config ≡ state.old.config }
 {
@@ -29,6 +32,7 @@ fn give_back_one(state: &mut State, seat: Seat) -> bool
 pub(crate) fn give_back_all(state: &mut State, seat: Seat)
     requires { IsSound state.old }
     ensures after { machine_of state.new ≡ after_giving_back seat (machine_of state.old) }
+    ensures asks { Asks (9 * count_by (is_held_by seat) (machine_of state.old).jobs + 1) state.old.jobs state.new.jobs }
     ensures sound { IsSound state.new }
     ensures config { state.new.config ≡ state.old.config }
 {

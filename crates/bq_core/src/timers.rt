@@ -1,8 +1,10 @@
 //! Timers that are due fire.
-ghost use Rattle.std.specs.Prelude.{◌≡◌, ◌<◌, true, false, IfSome, None, count_by, if◌then◌else◌};
+ghost use Rattle.std.specs.Prelude.{◌≡◌, ◌<◌, ◌+◌, ◌*◌, true, false, IfSome, None, count_by, if◌then◌else◌};
 ghost use Rattle.std.specs.List.{list_any};
 ghost use Rattle.bq_job.specs.Dispatch.{next_job};
 ghost use Rattle.bq_job.specs.Timers.{after_timers, is_due, is_expired};
+ghost use Rattle.bq_jobs.specs.Kept.{ComparesAtMost};
+ghost use Rattle.bq_core.specs.Asking.{Asks};
 ghost use Rattle.bq_core.specs.Firing.{ExpiresOne, IsOne, after_job_timers, is_ripe, with_pauses_ended};
 ghost use Rattle.bq_core.specs.State.{machine_of, IsSound};
 
@@ -17,6 +19,7 @@ fn first_ripe(jobs: &mut Jobs, moment: Moment) -> Option<JobId>
     ensures found { IfSome result (λ id. IsOne (λ j. is_due moment j.state) jobs.old.jobs id) }
     ensures none { result ≡ None → list_any (λ j. is_due moment j.state) jobs.old.jobs ≡ false }
     ensures same { jobs.new ≡ record jobs.old { comparisons = jobs.new.comparisons } }
+    ensures comparisons { ComparesAtMost 1 jobs.old jobs.new }
 {
     let _jobs = jobs.len();
     let (due, id) = jobs.next_due()?;
@@ -28,6 +31,7 @@ fn first_expired(jobs: &mut Jobs, moment: Moment) -> Option<JobId>
     ensures found { IfSome result (λ id. IsOne (λ j. is_expired moment j.state) jobs.old.jobs id) }
     ensures none { result ≡ None → list_any (λ j. is_expired moment j.state) jobs.old.jobs ≡ false }
     ensures same { jobs.new ≡ record jobs.old { comparisons = jobs.new.comparisons } }
+    ensures comparisons { ComparesAtMost 1 jobs.old jobs.new }
 {
     let _jobs = jobs.len();
     let (deadline, id) = jobs.next_deadline()?;
@@ -41,6 +45,8 @@ fn ripen(state: &mut State) -> bool
     ensures same { result ≡ false → machine_of state.new ≡ machine_of state.old }
     ensures fired { after_job_timers (machine_of state.new) ≡ after_job_timers (machine_of state.old) }
     ensures fewer { result ≡ true → count_by (is_ripe state.old.moment) (machine_of state.new).jobs < count_by (is_ripe state.old.moment) (machine_of state.old).jobs }
+    ensures asks { result ≡ true → Asks 9 state.old.jobs state.new.jobs }
+    ensures asks_last { result ≡ false → Asks 1 state.old.jobs state.new.jobs }
     ensures sound { IsSound state.new }
     ensures config { state.new.config ≡ state.old.config }
 {
@@ -57,6 +63,8 @@ fn expire_first(state: &mut State) -> bool
     requires { IsSound state.old }
     ensures none { result ≡ false → (list_any (λ j. is_expired state.old.moment j.state) (machine_of state.old).jobs ≡ false) × (machine_of state.new ≡ machine_of state.old) }
     ensures one { result ≡ true → ExpiresOne (machine_of state.old) (machine_of state.new) }
+    ensures asks { result ≡ true → Asks 9 state.old.jobs state.new.jobs }
+    ensures asks_last { result ≡ false → Asks 1 state.old.jobs state.new.jobs }
     ensures sound { IsSound state.new }
     ensures config { state.new.config ≡ state.old.config }
 {
@@ -82,6 +90,8 @@ fn expire(state: &mut State) -> bool
     ensures same { result ≡ false → (machine_of state.new).jobs ≡ (machine_of state.old).jobs }
     ensures fired { after_job_timers (machine_of state.new) ≡ after_job_timers (machine_of state.old) }
     ensures fewer { result ≡ true → count_by (is_ripe state.old.moment) (machine_of state.new).jobs < count_by (is_ripe state.old.moment) (machine_of state.old).jobs }
+    ensures asks { result ≡ true → Asks 9 state.old.jobs state.new.jobs }
+    ensures asks_last { result ≡ false → Asks 1 state.old.jobs state.new.jobs }
     ensures sound { IsSound state.new }
     ensures config { state.new.config ≡ state.old.config }
 {
@@ -97,6 +107,8 @@ fn fire_one(state: &mut State) -> bool
     ensures same { result ≡ false → (machine_of state.new).jobs ≡ (machine_of state.old).jobs }
     ensures fired { after_job_timers (machine_of state.new) ≡ after_job_timers (machine_of state.old) }
     ensures fewer { result ≡ true → count_by (is_ripe state.old.moment) (machine_of state.new).jobs < count_by (is_ripe state.old.moment) (machine_of state.old).jobs }
+    ensures asks { result ≡ true → Asks 10 state.old.jobs state.new.jobs }
+    ensures asks_last { result ≡ false → Asks 2 state.old.jobs state.new.jobs }
     ensures sound { IsSound state.new }
     ensures config { state.new.config ≡ state.old.config }
 {
@@ -107,6 +119,7 @@ fn fire_one(state: &mut State) -> bool
 fn fire_more(state: &mut State)
     requires { IsSound state.old }
     ensures after { machine_of state.new ≡ after_job_timers (machine_of state.old) }
+    ensures asks { Asks (10 * count_by (is_ripe state.old.moment) (machine_of state.old).jobs + 2) state.old.jobs state.new.jobs }
     ensures sound { IsSound state.new }
     ensures config { state.new.config ≡ state.old.config }
 {
@@ -118,6 +131,7 @@ fn fire_jobs(state: &mut State) -> bool
     requires { IsSound state.old }
     ensures after { machine_of state.new ≡ after_job_timers (machine_of state.old) }
     ensures same { result ≡ false → (machine_of state.new).jobs ≡ (machine_of state.old).jobs }
+    ensures asks { Asks (10 * count_by (is_ripe state.old.moment) (machine_of state.old).jobs + 2) state.old.jobs state.new.jobs }
     ensures sound { IsSound state.new }
     ensures config { state.new.config ≡ state.old.config }
 {
@@ -134,6 +148,7 @@ fn end_pauses(state: &mut State) -> bool
     requires { IsSound state.old }
     ensures after { machine_of state.new ≡ with_pauses_ended (machine_of state.old) }
     ensures same { result ≡ false → machine_of state.new ≡ machine_of state.old }
+    ensures jobs { state.new.jobs ≡ state.old.jobs }
     ensures sound { IsSound state.new }
     ensures config { state.new.config ≡ state.old.config }
 {
@@ -149,6 +164,7 @@ pub(crate) fn fire(state: &mut State) -> bool
     requires { IsSound state.old }
     ensures after { machine_of state.new ≡ after_timers (machine_of state.old) }
     ensures quiet { result ≡ false → next_job (machine_of state.new) ≡ next_job (machine_of state.old) }
+    ensures asks { Asks (10 * count_by (is_ripe state.old.moment) (machine_of state.old).jobs + 2) state.old.jobs state.new.jobs }
     ensures sound { IsSound state.new }
     ensures config { state.new.config ≡ state.old.config }
 {

@@ -1,7 +1,8 @@
--- what the turns so far left to give back
-use Rattle.std.proofs.Common.{◌≡◌}
+-- what the turns so far left to give back, and how often they asked
+use Rattle.std.proofs.Common.{◌≡◌, ◌*◌, ◌-◌, ◌≤◌}
 use Rattle.std.specs.Prelude.{count_by}
 use Rattle.bq_job.specs.Changes.{is_held_by}
+use Rattle.bq_core.specs.Asking.{Asks}
 use Rattle.bq_core.specs.Firing.{after_giving_back}
 use Rattle.bq_core.specs.State.{IsSound, machine_of}
 use Rattle.bq_core.proofs.leases.give_back_all.Given as goal
@@ -9,6 +10,8 @@ use Rattle.bq_core.proofs.leases.give_back_all.Given as goal
 abbrev pub invariant-loop : goal.invariant-loop
 invariant-loop l = record {
   left : after_giving_back l.seat (machine_of l.state) ≡ after_giving_back l.seat (machine_of l.fn.state);
+  asks : Asks (9 * (count_by (is_held_by l.seat) (machine_of l.fn.state).jobs - count_by (is_held_by l.seat) (machine_of l.state).jobs)) l.fn.state.jobs l.state.jobs;
+  fewer : count_by (is_held_by l.seat) (machine_of l.state).jobs ≤ count_by (is_held_by l.seat) (machine_of l.fn.state).jobs;
   sound : IsSound l.state;
   config : l.state.config ≡ l.fn.state.config;
 }

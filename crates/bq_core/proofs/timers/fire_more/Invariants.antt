@@ -1,6 +1,7 @@
--- what the turns so far left to fire
-use Rattle.std.proofs.Common.{◌≡◌}
+-- what the turns so far left to fire, and how often they asked
+use Rattle.std.proofs.Common.{◌≡◌, ◌*◌, ◌-◌, ◌≤◌}
 use Rattle.std.specs.Prelude.{count_by}
+use Rattle.bq_core.specs.Asking.{Asks}
 use Rattle.bq_core.specs.Firing.{after_job_timers, is_ripe}
 use Rattle.bq_core.specs.State.{IsSound, machine_of}
 use Rattle.bq_core.proofs.timers.fire_more.Given as goal
@@ -8,6 +9,8 @@ use Rattle.bq_core.proofs.timers.fire_more.Given as goal
 abbrev pub invariant-loop : goal.invariant-loop
 invariant-loop l = record {
   left : after_job_timers (machine_of l.state) ≡ after_job_timers (machine_of l.fn.state);
+  asks : Asks (10 * (count_by (is_ripe l.fn.state.moment) (machine_of l.fn.state).jobs - count_by (is_ripe l.fn.state.moment) (machine_of l.state).jobs)) l.fn.state.jobs l.state.jobs;
+  fewer : count_by (is_ripe l.fn.state.moment) (machine_of l.state).jobs ≤ count_by (is_ripe l.fn.state.moment) (machine_of l.fn.state).jobs;
   sound : IsSound l.state;
   config : l.state.config ≡ l.fn.state.config;
 }

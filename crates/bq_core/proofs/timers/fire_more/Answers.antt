@@ -1,0 +1,35 @@
+use Rattle.std.proofs.Common.{◌≡◌, ◌<◌, ℕ, ap, arith, refl, subst, ◌∙◌}
+use Rattle.std.specs.Prelude.{count_by}
+use Rattle.bq_job.specs.Machine.{Machine}
+use Rattle.bq_core.specs.Firing.{is_ripe}
+use Rattle.bq_core.specs.State.{machine_of}
+use Rattle.bq_core.proofs.AskLemmas.{asks_more, asks_none, asks_then}
+use Rattle.bq_core.proofs.timers.fire_more.Goals as goal
+
+pub loop-init : goal.loop-init
+loop-init c = record {
+  left = refl;
+  asks = asks_more _ (omega arith) (asks_none c.args.state.now.jobs);
+  fewer = omega arith;
+  sound = c.requires;
+  config = refl;
+}
+
+pub loop-preserved : goal.loop-preserved
+loop-preserved c =
+    let was = c.loop.invariant in
+    let at : c.loop.state.moment ≡ c.args.state.now.moment = ap (λ (x : Machine). x.moment) was.left in
+    let falls = subst (λ t. count_by (is_ripe t) (machine_of c.fire_one.new.state).jobs < count_by (is_ripe t) (machine_of c.loop.state).jobs) at (c.loop-test.ensures.fewer refl) in
+    let most = was.fewer in
+    record {
+      left = c.loop-test.ensures.fired ∙ was.left;
+      asks = asks_more _ (omega arith) (asks_then was.asks (c.loop-test.ensures.asks refl));
+      fewer = omega arith;
+      sound = c.loop-test.ensures.sound;
+      config = c.loop-test.ensures.config ∙ was.config;
+    }
+
+pub returns-clause-asks : goal.returns-clause-asks
+returns-clause-asks c =
+    let most = c.loop.invariant.fewer in
+    asks_more _ (omega arith) (asks_then c.loop.invariant.asks (c.loop-test.ensures.asks_last refl))
