@@ -8,7 +8,8 @@ use Rattle.bq_index.specs.Digits.{binary_digits, digits_up_to}
 use Rattle.std.proofs.lemmas.List.Sums.{count_by-le-length, length-filter}
 use Rattle.bq_job.specs.declared.job.Job.{Job}
 use Rattle.bq_jobs.specs.Kept.{ComparesAtMost, Kept, without}
-use Rattle.bq_core.specs.Asking.{Asks, AsksWithin, search_among}
+use Rattle.bq_core.specs.Asking.{Asks, AsksAsChanged, AsksWithin, search_among}
+use Rattle.bq_core.specs.Cost.{changed_jobs}
 
 -- a smaller number has no more digits
 digits_rise : (most more n m : ℕ) → n ≤ m → m ≤ more → digits_up_to most n ≤ digits_up_to more m
@@ -65,3 +66,21 @@ moved old between new id out back a b =
     let fewer : length between.jobs ≤ length old.jobs =
         omega (arith, ap length out, length-filter (λ (k : Job). not (k.id == id)) old.jobs, count_by-le-length (λ (k : Job). not (k.id == id)) old.jobs) in
     record { many = back; rise = omega (arith, a.1, b.1, search_grows (length between.jobs) (length old.jobs) fewer) }
+
+-- what is asked at most of few jobs
+pub few_asked : {n : ℕ} {old new : Kept} → n ≤ 10 → Asks n old new → AsksAsChanged old new
+few_asked {n = n} {old = old} {new = new} l a = within (9 * changed_jobs old.jobs new.jobs + 10) (omega arith) a
+
+pub nothing_asked : {old new : Kept} → new ≡ old → AsksAsChanged old new
+nothing_asked e = few_asked (omega arith) (asks_same e)
+
+-- what is asked before the one search that adds a job or takes one out
+pub asked_before : (n k : ℕ) {old between new : Kept} → n + k ≤ 10 → Asks n old between → ComparesAtMost k between new → AsksAsChanged old new
+asked_before n k {old = old} {between = between} {new = new} few a b =
+    let s = search_among (length old.jobs) in
+    let most = max (length old.jobs) (length new.jobs) in
+    let t = search_among most in
+    let all = 9 * changed_jobs old.jobs new.jobs + 10 in
+    let same : k * search_among (length between.jobs) ≡ k * s = ap (λ i. k * search_among i) a.many in
+    let sum : (n + k) * s ≤ all * t = mul-le (n + k) s all t (omega arith) (search_grows (length old.jobs) most (omega arith)) in
+    record { rise = omega (arith, a.rise, b.1, same, sum, add-mul n k s) }

@@ -2,6 +2,7 @@
 use Rattle.std.specs.Prelude.{ℕ, ◌≡◌, ◌≤◌, ◌+◌, ◌-◌, ◌*◌, length, max}
 use Rattle.bq_index.specs.Digits.{binary_digits}
 use Rattle.bq_jobs.specs.Kept.{Kept}
+use Rattle.bq_core.specs.Cost.{changed_jobs}
 use Rattle.bq_core.specs.Outbox.{Outbox}
 
 -- twice the binary digits of a little more than twice the jobs: as many comparisons as one search among so
@@ -21,3 +22,7 @@ pub record AsksWithin (n : ℕ) (old new : Kept) : Type 0 where
 -- For each answer that was added so many searches and nine, and once so many.
 abbrev pub AsksByTurn : ℕ → Outbox → Outbox → Kept → Kept → Type 0
 AsksByTurn n outs more old new = Asks ((length more.given - length outs.given) * (n + 9) + n) old new
+
+-- No more comparisons than in ten searches, and nine for each job that was added, taken out or changed.
+abbrev pub AsksAsChanged : Kept → Kept → Type 0
+AsksAsChanged old new = AsksWithin (9 * changed_jobs old.jobs new.jobs + 10) old new

@@ -5,6 +5,7 @@ ghost use Rattle.bq_job.specs.JobCommands.{bury_effect, delete_effect, kick_job_
 ghost use Rattle.bq_job.specs.Limits.{later as later_by, raised};
 ghost use Rattle.bq_job.specs.Machine.{SeatRecord};
 ghost use Rattle.bq_core.specs.Acting.{Replies, is_asking};
+ghost use Rattle.bq_core.specs.Asking.{AsksAsChanged};
 ghost use Rattle.bq_core.specs.Putting.{after_given};
 ghost use Rattle.bq_core.specs.State.{machine_of, IsSound};
 ghost use Rattle.bq_core.specs.TubeEntries.{has_entry};
@@ -73,6 +74,7 @@ pub(crate) fn put(state: &mut State, alloc: Global, seat: Seat, new: NewJob) -> 
     requires sound { IsSound state.old }
     requires asks { is_asking (seat_with seat state.old.seats.items) ≡ true }
     ensures reply { (s : SeatRecord) → seat_with seat (machine_of state.old).seats ≡ Some s → Replies true (machine_of state.old) (put_effect new.pri new.delay new.ttr new.body (machine_of state.old) s) result (machine_of state.new) }
+    ensures asks { AsksAsChanged state.old.jobs state.new.jobs }
     ensures sound { IsSound state.new }
     ensures config { state.new.config ≡ state.old.config }
 {
@@ -100,6 +102,7 @@ pub(crate) fn put(state: &mut State, alloc: Global, seat: Seat, new: NewJob) -> 
 pub(crate) fn reserve(state: &mut State, seat: Seat, until: Option<Moment>)
     requires { IsSound state.old }
     ensures reply { (s : SeatRecord) → s.number ≡ seat → reserve_effect until (machine_of state.old) s ≡ silent (machine_of state.new) }
+    ensures asks { AsksAsChanged state.old.jobs state.new.jobs }
     ensures sound { IsSound state.new }
     ensures config { state.new.config ≡ state.old.config }
 {
@@ -112,6 +115,7 @@ pub(crate) fn reserve(state: &mut State, seat: Seat, until: Option<Moment>)
 pub(crate) fn reserve_until(state: &mut State, seat: Seat, seconds: u32)
     requires { IsSound state.old }
     ensures reply { (s : SeatRecord) → s.number ≡ seat → reserve_effect (Some (later_by (machine_of state.old).moment seconds)) (machine_of state.old) s ≡ silent (machine_of state.new) }
+    ensures asks { AsksAsChanged state.old.jobs state.new.jobs }
     ensures sound { IsSound state.new }
     ensures config { state.new.config ≡ state.old.config }
 {
@@ -123,6 +127,7 @@ pub(crate) fn reserve_until(state: &mut State, seat: Seat, seconds: u32)
 pub(crate) fn reserve_job(state: &mut State, seat: Seat, id: JobId) -> Reply
     requires { IsSound state.old }
     ensures reply { (s : SeatRecord) → s.number ≡ seat → Replies false (machine_of state.old) (reserve_job_effect id (machine_of state.old) s) result (machine_of state.new) }
+    ensures asks { AsksAsChanged state.old.jobs state.new.jobs }
     ensures sound { IsSound state.new }
     ensures config { state.new.config ≡ state.old.config }
 {
@@ -144,6 +149,7 @@ pub(crate) fn reserve_job(state: &mut State, seat: Seat, id: JobId) -> Reply
 pub(crate) fn delete(state: &mut State, seat: Seat, id: JobId) -> Answer
     requires { IsSound state.old }
     ensures reply { (s : SeatRecord) → s.number ≡ seat → delete_effect id (machine_of state.old) s ≡ telling result (machine_of state.new) }
+    ensures asks { AsksAsChanged state.old.jobs state.new.jobs }
     ensures sound { IsSound state.new }
     ensures config { state.new.config ≡ state.old.config }
 {
@@ -161,6 +167,7 @@ pub(crate) fn delete(state: &mut State, seat: Seat, id: JobId) -> Answer
 pub(crate) fn release(state: &mut State, seat: Seat, id: JobId, with: NewTurn) -> Answer
     requires { IsSound state.old }
     ensures reply { (s : SeatRecord) → s.number ≡ seat → release_effect id with.pri with.delay (machine_of state.old) s ≡ telling result (machine_of state.new) }
+    ensures asks { AsksAsChanged state.old.jobs state.new.jobs }
     ensures sound { IsSound state.new }
     ensures config { state.new.config ≡ state.old.config }
 {
@@ -176,6 +183,7 @@ pub(crate) fn release(state: &mut State, seat: Seat, id: JobId, with: NewTurn) -
 pub(crate) fn bury(state: &mut State, seat: Seat, id: JobId, pri: Pri) -> Answer
     requires { IsSound state.old }
     ensures reply { (s : SeatRecord) → s.number ≡ seat → bury_effect id pri (machine_of state.old) s ≡ telling result (machine_of state.new) }
+    ensures asks { AsksAsChanged state.old.jobs state.new.jobs }
     ensures sound { IsSound state.new }
     ensures config { state.new.config ≡ state.old.config }
 {
@@ -192,6 +200,7 @@ pub(crate) fn bury(state: &mut State, seat: Seat, id: JobId, pri: Pri) -> Answer
 pub(crate) fn touch(state: &mut State, seat: Seat, id: JobId) -> Answer
     requires { IsSound state.old }
     ensures reply { (s : SeatRecord) → s.number ≡ seat → touch_effect id (machine_of state.old) s ≡ telling result (machine_of state.new) }
+    ensures asks { AsksAsChanged state.old.jobs state.new.jobs }
     ensures sound { IsSound state.new }
     ensures config { state.new.config ≡ state.old.config }
 {
@@ -207,6 +216,7 @@ pub(crate) fn touch(state: &mut State, seat: Seat, id: JobId) -> Answer
 pub(crate) fn kick_job(state: &mut State, id: JobId) -> Answer
     requires { IsSound state.old }
     ensures reply { (s : SeatRecord) → kick_job_effect id (machine_of state.old) s ≡ telling result (machine_of state.new) }
+    ensures asks { AsksAsChanged state.old.jobs state.new.jobs }
     ensures sound { IsSound state.new }
     ensures config { state.new.config ≡ state.old.config }
 {

@@ -1,9 +1,12 @@
-ghost use Rattle.std.specs.Prelude.{◌≡◌, [], Some, false, length, take, true};
+ghost use Rattle.std.specs.Prelude.{◌≡◌, ◌<◌, ◌≤◌, ◌+◌, ◌*◌, [], Some, count_by, false, length, take, true};
 ghost use Rattle.bq_job.specs.declared.job.Job.{Job};
 ghost use Rattle.bq_job.specs.Changes.{seat_with};
 ghost use Rattle.bq_job.specs.JobCommands.{after_kick, kick_effect, kickable, kicked};
 ghost use Rattle.bq_job.specs.Machine.{SeatRecord};
+ghost use Rattle.bq_jobs.specs.Kept.{ComparesAtMost};
 ghost use Rattle.bq_core.specs.Acting.{Replies};
+ghost use Rattle.bq_core.specs.Asking.{Asks, AsksAsChanged};
+ghost use Rattle.bq_core.specs.Cost.{changed_jobs};
 ghost use Rattle.bq_core.specs.JobKinds.{is_of};
 ghost use Rattle.bq_core.specs.Kicking.{KicksFirst, all_kicked, jobs_of};
 ghost use Rattle.bq_core.specs.State.{machine_of, IsSound};
@@ -20,6 +23,7 @@ fn kind_to_kick(jobs: &mut Jobs, tube: &TubeName) -> JobKind
     ensures order { jobs_of result tube.now jobs.old.jobs ≡ kickable tube.now jobs.old.jobs }
     ensures out { (k : Job) → is_of result tube.now (kicked k) ≡ false }
     ensures same { jobs.new ≡ record jobs.old { comparisons = jobs.new.comparisons } }
+    ensures comparisons { ComparesAtMost 1 jobs.old jobs.new }
 {
     match jobs.first_buried(tube) {
         Some(_) => JobKind::Buried,
@@ -34,6 +38,9 @@ fn kick_first(state: &mut State, kind: JobKind, tube: &TubeName) -> bool
     ensures none { result ≡ false → (jobs_of kind tube.now (machine_of state.old).jobs ≡ []) × (machine_of state.new ≡ machine_of state.old) }
     ensures kicked { result ≡ true → KicksFirst kind tube.now (machine_of state.old).jobs (machine_of state.new).jobs }
     ensures others { machine_of state.new ≡ record (machine_of state.old) { jobs = (machine_of state.new).jobs } }
+    ensures fewer { result ≡ true → count_by (is_of kind tube.now) (machine_of state.new).jobs < count_by (is_of kind tube.now) (machine_of state.old).jobs }
+    ensures asks { result ≡ true → Asks 9 state.old.jobs state.new.jobs }
+    ensures asks_last { result ≡ false → Asks 1 state.old.jobs state.new.jobs }
     ensures sound { IsSound state.new }
     ensures config { state.new.config ≡ state.old.config }
 {
@@ -50,6 +57,8 @@ fn kick_some(state: &mut State, kind: JobKind, tube: &TubeName, bound: u32) -> u
     requires out { (k : Job) → is_of kind tube.now (kicked k) ≡ false }
     ensures kicked { machine_of state.new ≡ record (machine_of state.old) { jobs = all_kicked (take bound (jobs_of kind tube.now (machine_of state.old).jobs)) (machine_of state.old).jobs } }
     ensures count { result ≡ length (take bound (jobs_of kind tube.now (machine_of state.old).jobs)) }
+    ensures fewer { count_by (is_of kind tube.now) (machine_of state.new).jobs + result ≤ count_by (is_of kind tube.now) (machine_of state.old).jobs }
+    ensures asks { Asks (9 * result + 1) state.old.jobs state.new.jobs }
     ensures sound { IsSound state.new }
     ensures config { state.new.config ≡ state.old.config }
 {
@@ -66,6 +75,8 @@ fn kick_in(state: &mut State, tube: &TubeName, bound: u32) -> u64
     requires { IsSound state.old }
     ensures kicked { machine_of state.new ≡ after_kick (take bound (kickable tube.now (machine_of state.old).jobs)) (machine_of state.old) }
     ensures count { result ≡ length (take bound (kickable tube.now (machine_of state.old).jobs)) }
+    ensures changed { result ≤ changed_jobs (machine_of state.old).jobs (machine_of state.new).jobs }
+    ensures asks { Asks (9 * result + 2) state.old.jobs state.new.jobs }
     ensures sound { IsSound state.new }
     ensures config { state.new.config ≡ state.old.config }
 {
@@ -77,6 +88,7 @@ fn kick_in(state: &mut State, tube: &TubeName, bound: u32) -> u64
 pub(crate) fn kick(state: &mut State, seat: Seat, bound: u32) -> Reply
     requires sound { IsSound state.old }
     ensures reply { (s : SeatRecord) → seat_with seat (machine_of state.old).seats ≡ Some s → Replies false (machine_of state.old) (kick_effect bound (machine_of state.old) s) result (machine_of state.new) }
+    ensures asks { AsksAsChanged state.old.jobs state.new.jobs }
     ensures sound { IsSound state.new }
     ensures config { state.new.config ≡ state.old.config }
 {

@@ -6,6 +6,7 @@ ghost use Rattle.bq_job.specs.Changes.{first_of, job_with, seat_with};
 ghost use Rattle.bq_job.specs.Machine.{SeatRecord};
 ghost use Rattle.bq_job.specs.TubeCommands.{ignore_effect, pause_effect, peek_effect, use_effect, watch_effect};
 ghost use Rattle.bq_core.specs.Acting.{Replies};
+ghost use Rattle.bq_core.specs.Asking.{Asks, AsksAsChanged};
 ghost use Rattle.bq_core.specs.JobKinds.{is_before_of, is_of};
 ghost use Rattle.bq_core.specs.State.{machine_of, IsSound, OnlyCompares};
 
@@ -22,6 +23,7 @@ use bq_job::{Answer, JobId, Seat, TubeName};
 pub(crate) fn use_tube(state: &mut State, seat: Seat, tube: &TubeName) -> Reply
     requires { IsSound state.old }
     ensures reply { (s : SeatRecord) → s.number ≡ seat → Replies true (machine_of state.old) (use_effect tube.now (machine_of state.old) s) result (machine_of state.new) }
+    ensures asks { AsksAsChanged state.old.jobs state.new.jobs }
     ensures sound { IsSound state.new }
     ensures config { state.new.config ≡ state.old.config }
 {
@@ -46,6 +48,7 @@ pub(crate) fn list_tube_used(state: &State, seat: Seat) -> Reply
 pub(crate) fn watch(state: &mut State, seat: Seat, tube: &TubeName) -> Reply
     requires { IsSound state.old }
     ensures reply { (s : SeatRecord) → seat_with seat (machine_of state.old).seats ≡ Some s → Replies true (machine_of state.old) (watch_effect tube.now (machine_of state.old) s) result (machine_of state.new) }
+    ensures asks { AsksAsChanged state.old.jobs state.new.jobs }
     ensures sound { IsSound state.new }
     ensures config { state.new.config ≡ state.old.config }
 {
@@ -65,6 +68,7 @@ pub(crate) fn watch(state: &mut State, seat: Seat, tube: &TubeName) -> Reply
 pub(crate) fn ignore(state: &mut State, seat: Seat, tube: &TubeName) -> Reply
     requires { IsSound state.old }
     ensures reply { (s : SeatRecord) → seat_with seat (machine_of state.old).seats ≡ Some s → Replies false (machine_of state.old) (ignore_effect tube.now (machine_of state.old) s) result (machine_of state.new) }
+    ensures asks { AsksAsChanged state.old.jobs state.new.jobs }
     ensures sound { IsSound state.new }
     ensures config { state.new.config ≡ state.old.config }
 {
@@ -82,6 +86,7 @@ pub(crate) fn ignore(state: &mut State, seat: Seat, tube: &TubeName) -> Reply
 pub(crate) fn pause(state: &mut State, tube: &TubeName, seconds: u32) -> Answer
     requires { IsSound state.old }
     ensures reply { pause_effect tube.now seconds (machine_of state.old) ≡ telling result (machine_of state.new) }
+    ensures asks { AsksAsChanged state.old.jobs state.new.jobs }
     ensures sound { IsSound state.new }
     ensures config { state.new.config ≡ state.old.config }
 {
@@ -97,6 +102,7 @@ pub(crate) fn pause(state: &mut State, tube: &TubeName, seconds: u32) -> Answer
 fn show(state: &mut State, id: JobId) -> Reply
     requires { IsSound state.old }
     ensures reply { Replies false (machine_of state.old) (showing (machine_of state.old) (job_with id (machine_of state.old).jobs)) result (machine_of state.new) }
+    ensures asks { Asks 1 state.old.jobs state.new.jobs }
     ensures sound { IsSound state.new }
     ensures config { state.new.config ≡ state.old.config }
 {
@@ -111,6 +117,7 @@ fn show(state: &mut State, id: JobId) -> Reply
 pub(crate) fn peek(state: &mut State, id: JobId) -> Reply
     requires { IsSound state.old }
     ensures reply { Replies false (machine_of state.old) (peek_effect id (machine_of state.old)) result (machine_of state.new) }
+    ensures asks { AsksAsChanged state.old.jobs state.new.jobs }
     ensures sound { IsSound state.new }
     ensures config { state.new.config ≡ state.old.config }
 {
@@ -122,6 +129,7 @@ fn first_used(state: &mut State, seat: Seat, kind: JobKind) -> Option<JobId>
     requires { IsSound state.old }
     ensures id { (s : SeatRecord) → seat_with seat (machine_of state.old).seats ≡ Some s → result ≡ option_map (λ j. j.id) (first_of (is_of kind s.used) (is_before_of kind) (machine_of state.old).jobs) }
     ensures same { OnlyCompares state.old state.new }
+    ensures asks { Asks 1 state.old.jobs state.new.jobs }
     ensures sound { IsSound state.new }
 {
     let place = seat_list::find(state.seats.as_slice(), seat)?;
@@ -132,6 +140,7 @@ fn first_used(state: &mut State, seat: Seat, kind: JobKind) -> Option<JobId>
 pub(crate) fn peek_first(state: &mut State, seat: Seat, kind: JobKind) -> Reply
     requires { IsSound state.old }
     ensures reply { (s : SeatRecord) → seat_with seat (machine_of state.old).seats ≡ Some s → Replies false (machine_of state.old) (showing (machine_of state.old) (first_of (is_of kind s.used) (is_before_of kind) (machine_of state.old).jobs)) result (machine_of state.new) }
+    ensures asks { AsksAsChanged state.old.jobs state.new.jobs }
     ensures sound { IsSound state.new }
     ensures config { state.new.config ≡ state.old.config }
 {

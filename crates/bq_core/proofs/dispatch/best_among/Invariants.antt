@@ -1,6 +1,7 @@
 -- the best of the names so far
 use Rattle.std.proofs.Common.{◌≡◌, take}
 use Rattle.std.specs.Prelude.{fold}
+use Rattle.bq_core.specs.Asking.{Asks}
 use Rattle.bq_core.specs.Offers.{with_offer}
 use Rattle.bq_core.proofs.dispatch.best_among.Given as goal
 
@@ -8,4 +9,5 @@ abbrev pub invariant-loop-i : goal.invariant-loop-i
 invariant-loop-i l = record {
   best : l.best ≡ fold (with_offer l.fn.jobs.jobs l.tubes) l.fn.first (take l.i l.names);
   same : l.jobs ≡ record l.fn.jobs { comparisons = l.jobs.comparisons };
+  asks : Asks l.i l.fn.jobs l.jobs;
 }

@@ -1,16 +1,46 @@
-use Rattle.std.proofs.Common.{refl, ◌∙◌}
+use Rattle.std.proofs.Common.{◌-◌, arith, length, refl, ap, ◌∙◌}
 use Rattle.bq_job.specs.Dispatch.{DispatchTurn}
 use Rattle.bq_job.specs.Steps.{has_refused_share}
+use Rattle.bq_core.specs.Cost.{waited, waited_entries}
+use Rattle.bq_core.specs.Outbox.{Outbox}
 use Rattle.bq_core.specs.State.{machine_of}
-use Rattle.bq_core.proofs.TurnLemmas.{gives_joined, refused_joined, room_kept}
+use Rattle.bq_core.proofs.AskLemmas.{asks_more, asks_none, asks_then}
+use Rattle.bq_core.proofs.CostLemmas.{handed_stop, no_shorter, one_longer, one_more_turn, waited_less}
+use Rattle.bq_core.proofs.TurnLemmas.{gives_joined, gives_nothing, refused_joined, room_kept}
 use Rattle.bq_core.proofs.dispatch.dispatch_all.Goals as goal
+
+pub loop-init : goal.loop-init
+loop-init c = record {
+  given = gives_nothing DispatchTurn has_refused_share refl (machine_of c.args.state.now) c.args.outs.now;
+  asks = asks_more _ (omega arith) (asks_none c.args.state.now.jobs);
+  sound = c.requires.sound;
+  config = refl;
+  room = c.requires.room;
+}
 
 pub loop-preserved : goal.loop-preserved
 loop-preserved c =
+    let was = c.loop.invariant in
     let given = c.loop-test.ensures.given refl in
+    let first = machine_of c.args.state.now in
+    let so_far = machine_of c.loop.state in
+    let waits = handed_stop waited_entries waited_less first was.given.given so_far was.given.turns in
+    let before = no_shorter DispatchTurn has_refused_share first so_far c.args.outs.now c.loop.outs was.given in
+    let longer = one_longer DispatchTurn has_refused_share so_far (machine_of c.turn.new.state) c.loop.outs c.turn.new.outs given (c.loop-test.ensures.fewer refl) in
     record {
-      given = gives_joined DispatchTurn has_refused_share refused_joined _ _ _ _ _ _ c.loop.invariant.given given;
+      given = gives_joined DispatchTurn has_refused_share refused_joined _ _ _ _ _ _ was.given given;
+      asks = asks_more _
+          (one_more_turn (length c.loop.outs.given - length c.args.outs.now.given) (length c.turn.new.outs.given - length c.args.outs.now.given) (waited first) (waited so_far) (omega arith) waits)
+          (asks_then was.asks (c.loop-test.ensures.asks refl));
       sound = c.loop-test.ensures.sound;
-      config = c.loop-test.ensures.config ∙ c.loop.invariant.config;
-      room = room_kept DispatchTurn has_refused_share 0 (machine_of c.loop.state) (machine_of c.turn.new.state) c.loop.outs c.turn.new.outs given c.loop.invariant.room;
+      config = c.loop-test.ensures.config ∙ was.config;
+      room = room_kept DispatchTurn has_refused_share 0 so_far (machine_of c.turn.new.state) c.loop.outs c.turn.new.outs given was.room;
     }
+
+pub returns-clause-asks : goal.returns-clause-asks
+returns-clause-asks c =
+    let was = c.loop.invariant in
+    let first = machine_of c.args.state.now in
+    let waits = handed_stop waited_entries waited_less first was.given.given (machine_of c.loop.state) was.given.turns in
+    let same = ap (λ (o : Outbox). length o.given) (c.loop-test.ensures.done refl).2 in
+    rw same (asks_more _ (omega (arith, waits)) (asks_then was.asks (c.loop-test.ensures.asks_last refl)))

@@ -1,8 +1,10 @@
--- what the turns so far gave
-use Rattle.std.proofs.Common.{◌≡◌}
+-- what the turns so far gave, and how often they asked
+use Rattle.std.proofs.Common.{◌≡◌, ◌+◌, ◌-◌, ◌*◌, length}
 use Rattle.bq_job.specs.Computed.{waiting_count}
 use Rattle.bq_job.specs.Dispatch.{DispatchTurn}
 use Rattle.bq_job.specs.Steps.{has_refused_share}
+use Rattle.bq_core.specs.Asking.{Asks}
+use Rattle.bq_core.specs.Cost.{waited}
 use Rattle.bq_core.specs.State.{IsSound, machine_of}
 use Rattle.bq_core.specs.Turns.{Gives, HasRoom}
 use Rattle.bq_core.proofs.dispatch.dispatch_all.Given as goal
@@ -10,6 +12,7 @@ use Rattle.bq_core.proofs.dispatch.dispatch_all.Given as goal
 abbrev pub invariant-loop : goal.invariant-loop
 invariant-loop l = record {
   given : Gives DispatchTurn has_refused_share (machine_of l.fn.state) (machine_of l.state) l.fn.outs l.outs;
+  asks : Asks ((length l.outs.given - length l.fn.outs.given) * (waited (machine_of l.fn.state) + 9)) l.fn.state.jobs l.state.jobs;
   sound : IsSound l.state;
   config : l.state.config ≡ l.fn.state.config;
   room : HasRoom 0 (machine_of l.state) l.outs;

@@ -8,12 +8,15 @@ use Rattle.bq_job.specs.Lawful.{AreIdsWithin}
 use Rattle.bq_job.specs.Machine.{Machine, SeatRecord}
 use Rattle.bq_job.specs.Tubes.{with_tube}
 use Rattle.bq_job.proofs.ListLemmas.{all_at, found_passes}
-use Rattle.bq_jobs.specs.Kept.{with_added}
+use Rattle.bq_jobs.specs.Kept.{Kept, with_added}
 use Rattle.bq_core.specs.Putting.{after_given}
 use Rattle.bq_core.specs.State.{machine_of}
 use Rattle.bq_core.specs.TubeEntries.{HasTubes, has_entry}
 use Rattle.bq_core.proofs.ActLemmas.{asker_connected, put_done}
 use Rattle.bq_core.proofs.StateLemmas.{some_next}
+use Rattle.bq_core.specs.Asking.{Asks}
+use Rattle.bq_core.specs.declared.state.State.{State}
+use Rattle.bq_core.proofs.AskLemmas.{asked_before}
 use Rattle.bq_core.proofs.job_acts.put.Goals as goal
 
 pub change_tube-requires-clause-entry : goal.change_tube-requires-clause-entry
@@ -77,3 +80,8 @@ returns-clause-reply c s found =
     put_done m s c.args.new.pri c.args.new.delay c.args.new.ttr c.args.new.body tube job used c.if-state.false is
     ∙ ap (λ n. telling (answers.Inserted n) (record (after_given W) { jobs = m.jobs ++ job ∷ [] })) (sym id)
     ∙ ap (telling (answers.Inserted job.id)) (sym done)
+
+pub returns-clause-asks : goal.returns-clause-asks
+returns-clause-asks c =
+    let same : c.count_put.new.state.jobs ≡ c.make_room.new.state.jobs = ap (λ (st : State). st.jobs) c.count_put.ensures.same ∙ c.change_tube.ensures.jobs in
+    asked_before 0 4 (omega arith) (subst (λ (k : Kept). Asks 0 c.args.state.now.jobs k) (sym same) c.in-Ok.ensures.asks) c.add.ensures.asks

@@ -1,10 +1,11 @@
-use Rattle.std.proofs.Common.{◌≡◌, ◌∙◌, ap, length, sym, take, Some}
+use Rattle.std.proofs.Common.{◌≡◌, ◌∙◌, ap, arith, length, sym, take, Some}
 use Rattle.bq_job.specs.declared.answer.Answer.TheVariants as answers
 use Rattle.bq_job.specs.Acts.{telling}
 use Rattle.bq_job.specs.Changes.{seat_with}
 use Rattle.bq_job.specs.JobCommands.{after_kick, kickable}
 use Rattle.bq_job.specs.Machine.{SeatRecord}
 use Rattle.bq_core.specs.State.{machine_of}
+use Rattle.bq_core.proofs.AskLemmas.{within}
 use Rattle.bq_core.proofs.kicks.kick.Goals as goal
 
 pub returns-clause-reply : goal.returns-clause-reply
@@ -18,3 +19,8 @@ returns-clause-reply c s found =
     ap (λ n. telling (answers.KickedCount (length (take bound (kickable n m.jobs)))) (after_kick (take bound (kickable n m.jobs)) m)) (sym used)
     ∙ ap (λ n. telling (answers.KickedCount n) (after_kick (take bound (kickable tube m.jobs)) m)) (sym c.kick_in-count.ensures.count)
     ∙ ap (telling (answers.KickedCount c.kick_in-count.result)) (sym c.kick_in-count.ensures.kicked)
+
+pub returns-clause-asks : goal.returns-clause-asks
+returns-clause-asks c =
+    let changed = c.kick_in-count.ensures.changed in
+    within _ (omega arith) c.kick_in-count.ensures.asks

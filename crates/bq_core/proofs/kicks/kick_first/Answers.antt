@@ -1,4 +1,5 @@
-use Rattle.std.proofs.Common.{◌≡◌, ◌∙◌, ◌==◌, ap, map, subst, sym, if◌then◌else◌}
+use Rattle.std.proofs.Common.{◌≡◌, ◌∙◌, ◌==◌, ap, arith, map, subst, sym, if◌then◌else◌}
+use Rattle.std.specs.Prelude.{count_by}
 use Rattle.bq_job.specs.declared.job.Job.{Job}
 use Rattle.bq_job.specs.Changes.{first_of}
 use Rattle.bq_job.specs.JobCommands.{kicked}
@@ -6,7 +7,7 @@ use Rattle.bq_job.specs.Machine.{Machine}
 use Rattle.bq_core.specs.JobKinds.{is_before_of, is_of}
 use Rattle.bq_core.specs.Kicking.{KicksFirst}
 use Rattle.bq_core.specs.State.{machine_of}
-use Rattle.bq_core.proofs.FiringLemmas.{chosen}
+use Rattle.bq_core.proofs.FiringLemmas.{chosen, one_fewer}
 use Rattle.bq_core.proofs.KickLemmas.{kicks_first, no_id, none_of_kind}
 use Rattle.bq_core.proofs.kicks.kick_first.Goals as goal
 
@@ -33,3 +34,14 @@ returns-clause-others c =
     c.change_job.ensures.after
     ∙ ap (λ (x : Machine). record x { jobs = map (λ (k : Job). if k.id == c.in-Some.id then kicked k else k) x.jobs }) (ap machine_of c.in-Some.ensures.same)
     ∙ ap (λ js. record m { jobs = js }) (sym (jobs ∙ ap (λ (x : Machine). map (λ (k : Job). if k.id == c.in-Some.id then kicked k else k) x.jobs) (ap machine_of c.in-Some.ensures.same)))
+
+pub returns-clause-fewer : goal.returns-clause-fewer
+returns-clause-fewer c _ =
+    let m = machine_of c.args.state.now in
+    let p = is_of c.args.kind c.args.tube.now in
+    let one = chosen p (is_before_of c.args.kind) 1 m.next_id m.jobs c.in-Some.id c.requires.sound.ids c.in-Some.ensures.id in
+    let jobs : (machine_of c.change_job.new.state).jobs ≡ map (λ k. if k.id == c.in-Some.id then kicked k else k) m.jobs =
+    ap (λ (x : Machine). x.jobs) c.change_job.ensures.after
+    ∙ ap (λ (x : Machine). map (λ (k : Job). if k.id == c.in-Some.id then kicked k else k) x.jobs) (ap machine_of c.in-Some.ensures.same) in
+    let fewer = one_fewer p kicked c.in-Some.id 1 m.next_id m.jobs one.job c.requires.sound.ids one.found one.passes_is (c.requires.out one.job) in
+    omega (arith, fewer, ap (count_by p) jobs)

@@ -1,7 +1,11 @@
-use Rattle.std.proofs.Common.{◌≡◌, ◌∙◌, ap, length, take}
+use Rattle.std.proofs.Common.{◌≡◌, ◌∙◌, ap, arith, length, take}
+use Rattle.std.specs.Prelude.{count_by}
 use Rattle.bq_job.specs.JobCommands.{after_kick}
 use Rattle.bq_jobs.specs.Kept.{Kept}
-use Rattle.bq_core.specs.Kicking.{jobs_of}
+use Rattle.bq_job.specs.Machine.{Machine}
+use Rattle.bq_core.specs.JobKinds.{is_of}
+use Rattle.bq_core.specs.Kicking.{all_kicked, jobs_of}
+use Rattle.bq_core.proofs.CostLemmas.{kicked_changed}
 use Rattle.bq_core.specs.State.{machine_of}
 use Rattle.bq_core.proofs.StateLemmas.{compared_sound}
 use Rattle.bq_core.proofs.kicks.kick_in.Goals as goal
@@ -24,3 +28,15 @@ returns-clause-count c =
     c.kick_some.ensures.count
     ∙ ap (λ js. length (take c.args.bound (jobs_of c.kind_to_kick-kind.result c.args.tube.now js))) same
     ∙ ap (λ chosen. length (take c.args.bound chosen)) c.kind_to_kick-kind.ensures.order
+
+pub returns-clause-changed : goal.returns-clause-changed
+returns-clause-changed c =
+    let m = machine_of c.args.state.now in
+    let kind = c.kind_to_kick-kind.result in
+    let tube = c.args.tube.now in
+    let same : c.kind_to_kick-kind.new.jobs.jobs ≡ m.jobs = ap (λ (k : Kept). k.jobs) c.kind_to_kick-kind.ensures.same in
+    let chosen = take c.args.bound (jobs_of kind tube c.kind_to_kick-kind.new.jobs.jobs) in
+    let made : c.kick_some.new.state.jobs.jobs ≡ all_kicked chosen m.jobs = ap (λ (x : Machine). x.jobs) c.kick_some.ensures.kicked ∙ ap (all_kicked chosen) same in
+    let fewer = c.kick_some.ensures.fewer in
+    rw made (kicked_changed kind tube c.kind_to_kick-kind.ensures.out chosen 1 m.next_id c.kick_some.result m.jobs c.requires.ids
+    (omega (arith, ap (count_by (is_of kind tube)) made, ap (count_by (is_of kind tube)) same)))

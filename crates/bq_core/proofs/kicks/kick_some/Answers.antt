@@ -1,7 +1,10 @@
 use Rattle.std.proofs.Common.{◌≡◌, ◌∙◌, ◌+◌, ◌-◌, suc, ap, arith, length, refl, sym, take}
 use Rattle.bq_job.specs.Machine.{Machine}
+use Rattle.std.specs.Prelude.{count_by}
+use Rattle.bq_core.specs.JobKinds.{is_of}
 use Rattle.bq_core.specs.Kicking.{all_kicked, jobs_of}
 use Rattle.bq_core.specs.State.{machine_of}
+use Rattle.bq_core.proofs.AskLemmas.{asks_more, asks_none, asks_then}
 use Rattle.bq_core.proofs.KickLemmas.{none_kicked, one_on, take_none, zero_more}
 use Rattle.bq_core.proofs.kicks.kick_some.Goals as goal
 
@@ -13,6 +16,8 @@ loop-done-init c =
       kicked = λ n. ap (λ k. all_kicked (take k first) jobs) (zero_more n);
       count = λ n. ap (λ k. length (take k first)) (zero_more n) ∙ sym (zero_more (length (take n first)));
       others = refl;
+      fewer = omega arith;
+      asks = asks_none c.args.state.now.jobs;
       sound = c.requires.sound;
       config = refl;
     }
@@ -28,6 +33,8 @@ loop-done-preserved c =
       kicked = λ n. ap (λ k. all_kicked (take k first) start) (one_on d n) ∙ was.kicked (suc n) ∙ one.jobs n;
       count = λ n. ap (λ k. length (take k first)) (one_on d n) ∙ was.count (suc n) ∙ (let e = one.count n in omega (arith, e));
       others = c.kick_first.ensures.others ∙ ap (λ (x : Machine). record x { jobs = (machine_of c.kick_first.new.state).jobs }) was.others;
+      fewer = (let few = was.fewer in let falls = c.kick_first.ensures.fewer c.if-not-kick_first.false in omega arith);
+      asks = asks_more _ (omega arith) (asks_then was.asks (c.kick_first.ensures.asks c.if-not-kick_first.false));
       sound = c.kick_first.ensures.sound;
       config = c.kick_first.ensures.config ∙ was.config;
     }
@@ -62,3 +69,27 @@ returns-clause-kicked c =
     let whole : c.args.bound ≡ d + 0 = omega arith in
     let kicked : all_kicked (take c.args.bound first) start ≡ jobs = ap (λ k. all_kicked (take k first) start) whole ∙ was.kicked 0 ∙ none_kicked jobs in
     was.others ∙ ap (λ js. record m { jobs = js }) (sym kicked)
+
+pub returns-then-not-kick_first-clause-fewer : goal.returns-then-not-kick_first-clause-fewer
+returns-then-not-kick_first-clause-fewer c =
+    let none = c.kick_first.ensures.none c.if-not-kick_first.true in
+    let jobs = ap (λ (x : Machine). count_by (is_of c.args.kind c.args.tube.now) x.jobs) none.1 in
+    let few = c.loop-done.invariant.fewer in
+    let many = c.from.ensures in
+    omega arith
+
+pub returns-then-not-kick_first-clause-asks : goal.returns-then-not-kick_first-clause-asks
+returns-then-not-kick_first-clause-asks c =
+    let many = c.from.ensures in
+    asks_more _ (omega arith) (asks_then c.loop-done.invariant.asks (c.kick_first.ensures.asks_last c.if-not-kick_first.true))
+
+pub returns-clause-fewer : goal.returns-clause-fewer
+returns-clause-fewer c =
+    let few = c.loop-done.invariant.fewer in
+    let many = c.from-2.ensures in
+    omega arith
+
+pub returns-clause-asks : goal.returns-clause-asks
+returns-clause-asks c =
+    let many = c.from-2.ensures in
+    asks_more _ (omega arith) c.loop-done.invariant.asks

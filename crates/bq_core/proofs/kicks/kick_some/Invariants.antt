@@ -1,5 +1,8 @@
 -- Kicking so many of the first jobs is kicking those that are left of them.
-use Rattle.std.proofs.Common.{◌≡◌, ◌+◌, ℕ, length, take}
+use Rattle.std.proofs.Common.{◌≡◌, ◌≤◌, ◌+◌, ◌*◌, ℕ, length, take}
+use Rattle.std.specs.Prelude.{count_by}
+use Rattle.bq_core.specs.Asking.{Asks}
+use Rattle.bq_core.specs.JobKinds.{is_of}
 use Rattle.bq_core.specs.Kicking.{all_kicked, jobs_of}
 use Rattle.bq_core.specs.State.{IsSound, machine_of}
 use Rattle.bq_core.proofs.kicks.kick_some.Given as goal
@@ -9,6 +12,8 @@ invariant-loop-done l = record {
   kicked : (n : ℕ) → all_kicked (take (l.done + n) (jobs_of l.kind l.tube (machine_of l.fn.state).jobs)) (machine_of l.fn.state).jobs ≡ all_kicked (take n (jobs_of l.kind l.tube (machine_of l.state).jobs)) (machine_of l.state).jobs;
   count : (n : ℕ) → length (take (l.done + n) (jobs_of l.kind l.tube (machine_of l.fn.state).jobs)) ≡ l.done + length (take n (jobs_of l.kind l.tube (machine_of l.state).jobs));
   others : machine_of l.state ≡ record (machine_of l.fn.state) { jobs = (machine_of l.state).jobs };
+  fewer : count_by (is_of l.kind l.tube) (machine_of l.state).jobs + l.done ≤ count_by (is_of l.kind l.tube) (machine_of l.fn.state).jobs;
+  asks : Asks (9 * l.done) l.fn.state.jobs l.state.jobs;
   sound : IsSound l.state;
   config : l.state.config ≡ l.fn.state.config;
 }

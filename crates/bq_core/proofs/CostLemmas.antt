@@ -1,0 +1,195 @@
+-- What the parts of a step ask, in terms of the machine.
+use Rattle.std.proofs.Common.{◌≡◌, ℕ, suc, Bool, true, false, ◌+◌, ◌*◌, ◌≤◌, ◌<◌, ◌==◌, ◌&&◌, ◌||◌, not, cond, List, [], ◌∷◌, Option, Some, None, map, length, refl, sym, ap, ◌∙◌, arith, subst, inl, inr, if◌then◌else◌}
+use Rattle.std.proofs.Math.Nat.{suc-mul}
+use Rattle.std.specs.Prelude.{count_by, is_some, option_map}
+use Rattle.std.specs.List.{AllByRecursion as All, list_any, sum_by}
+use Rattle.std.proofs.lemmas.Bool.{and_parts}
+use Rattle.std.proofs.lemmas.List.{length-append}
+use Rattle.std.proofs.lemmas.List.Sums.{sum_by-cons}
+use Rattle.std.proofs.lemmas.Nat.{mul-le}
+use Rattle.bq_job.specs.declared.job.Job.{Job}
+use Rattle.bq_job.specs.declared.job.JobState.{JobState}
+use Rattle.bq_job.specs.declared.job.JobState.TheVariants as states
+use Rattle.bq_job.specs.Changes.{given_back, in_state, is_held_by, is_holder, is_waiting, job_with, with_seat, without_wait}
+use Rattle.bq_job.specs.Computed.{waiting_count}
+use Rattle.bq_job.specs.Dispatch.{DispatchTurn, GivenAnswer, IsHandOut}
+use Rattle.bq_job.specs.JobCommands.{kicked}
+use Rattle.bq_job.specs.Lawful.{AreIdsWithin}
+use Rattle.bq_job.specs.Machine.{Machine, SeatRecord}
+use Rattle.bq_job.specs.Waits.{Chain, WaitEndTurn}
+use Rattle.bq_job.proofs.DispatchLemmas.{turn_of}
+use Rattle.bq_job.proofs.LawfulLemmas.{end_of}
+use Rattle.bq_job.proofs.ListLemmas.{count_cons}
+use Rattle.bq_core.specs.declared.job_list.JobKind.{JobKind}
+use Rattle.bq_core.specs.declared.job_list.JobKind.TheVariants.{Ready, Delayed, Buried}
+use Rattle.bq_core.specs.Cost.{changed_jobs, entries_with, is_gone_or_changed, is_same_job, is_same_state, waited_entries}
+use Rattle.bq_core.specs.JobKinds.{is_of}
+use Rattle.bq_core.specs.Kicking.{all_kicked}
+use Rattle.bq_core.specs.Outbox.{Outbox}
+use Rattle.bq_core.specs.Turns.{Gives}
+use Rattle.bq_core.proofs.KickLemmas.{finds_each}
+
+-- where each change makes it no more, a sum is no more
+pub sum_falls : {X : Type 0} (f : X → ℕ) (g : X → X) → ((x : X) → f (g x) ≤ f x) → (xs : List X) → sum_by f (map g xs) ≤ sum_by f xs
+sum_falls f g less [] = omega arith
+sum_falls f g less (x ∷ xs) = omega (arith, sum_by-cons f (g x) (map g xs), sum_by-cons f x xs, less x, sum_falls f g less xs)
+
+one_stops : (f : SeatRecord → ℕ) → ((s : SeatRecord) → f (without_wait s) ≤ f s) → (number : ℕ) (s : SeatRecord) → f (if s.number == number then without_wait s else s) ≤ f s
+one_stops f less number s = go (s.number == number)
+  where
+    go : (b : Bool) → f (if b then without_wait s else s) ≤ f s
+    go true = less s
+    go false = omega arith
+
+-- what is counted of seats falls as waits end
+module _ (f : SeatRecord → ℕ) (less : (s : SeatRecord) → f (without_wait s) ≤ f s) where
+  stops : (m : Machine) (number : ℕ) → sum_by f (with_seat number without_wait m).seats ≤ sum_by f m.seats
+  stops m number = sum_falls f (λ s. if s.number == number then without_wait s else s) (one_stops f less number) m.seats
+
+  hand_out_stops : (m : Machine) (j : Job) (s : SeatRecord) (g : GivenAnswer) (next : Machine) → IsHandOut m j s g next → sum_by f next.seats ≤ sum_by f m.seats
+  hand_out_stops m j s g next (inl h) = subst (λ (n : Machine). sum_by f n.seats ≤ sum_by f m.seats) (sym h.1) (stops m s.number)
+  hand_out_stops m j s g next (inr h) = subst (λ (n : Machine). sum_by f n.seats ≤ sum_by f m.seats) (sym h.1) (stops m s.number)
+
+  pub handed_stop : (first : Machine) (given : List GivenAnswer) (last : Machine) → Chain DispatchTurn first given last → sum_by f last.seats ≤ sum_by f first.seats
+  handed_stop first [] last chain = rw chain (omega arith)
+  handed_stop first (g ∷ given) last chain =
+      let t = turn_of first g chain.0 chain.1 in
+      omega (arith, hand_out_stops first t.job t.client g chain.0 t.hands, handed_stop chain.0 given last chain.2)
+
+  pub ended_stop : (first : Machine) (given : List GivenAnswer) (last : Machine) → Chain WaitEndTurn first given last → sum_by f last.seats ≤ sum_by f first.seats
+  ended_stop first [] last chain = rw chain (omega arith)
+  ended_stop first (g ∷ given) last chain =
+      let e = end_of first g chain.0 chain.1 in
+      let one = subst (λ (n : Machine). sum_by f n.seats ≤ sum_by f first.seats) (sym e.next_is) (stops first e.client.number) in
+      omega (arith, one, ended_stop chain.0 given last chain.2)
+
+pub waited_less : (s : SeatRecord) → waited_entries (without_wait s) ≤ waited_entries s
+waited_less s = omega arith
+
+pub entries_less : (seat : ℕ) (s : SeatRecord) → entries_with seat (without_wait s) ≤ entries_with seat s
+entries_less seat s = go (s.number == seat) (is_waiting s)
+  where
+    go : (b w : Bool) → (if (false || b) then length s.watched else 0) ≤ (if (w || b) then length s.watched else 0)
+    go true true = omega arith
+    go true false = omega arith
+    go false w = omega arith
+
+-- a turn that takes a waiting client away gives an answer
+pub one_longer : (Turn : Machine → GivenAnswer → Machine → Type 0) (refused : List GivenAnswer → Bool) (first last : Machine) (old new : Outbox) → Gives Turn refused first last old new → waiting_count last < waiting_count first → length old.given < length new.given
+one_longer Turn refused first last old new gives falls = go gives.given gives.turns (ap length gives.added ∙ length-append old.given gives.given)
+  where
+    go : (given : List GivenAnswer) → Chain Turn first given last → length new.given ≡ length old.given + length given → length old.given < length new.given
+    go [] chain long = absurd (let same = ap waiting_count chain in omega arith)
+    go (g ∷ given) chain long = omega arith
+
+pub no_shorter : (Turn : Machine → GivenAnswer → Machine → Type 0) (refused : List GivenAnswer → Bool) (first last : Machine) (old new : Outbox) → Gives Turn refused first last old new → length old.given ≤ length new.given
+no_shorter Turn refused first last old new gives = let long = ap length gives.added ∙ length-append old.given gives.given in omega arith
+
+-- one more turn, with no more watch entries
+pub one_more_turn : (n more w v : ℕ) → n < more → v ≤ w → n * (w + 9) + (v + 9) ≤ more * (w + 9)
+one_more_turn n more w v l u = omega (arith, mul-le (suc n) (w + 9) more (w + 9) (omega arith) (omega arith), suc-mul n (w + 9))
+
+-- a job that was changed is found changed
+found_changed : (f : Job → Job) → ((j : Job) → (f j).id ≡ j.id) → (id : ℕ) (jobs : List Job) → job_with id (map f jobs) ≡ option_map f (job_with id jobs)
+found_changed f keeps id [] = refl
+found_changed f keeps id (j ∷ jobs) = go (j.id == id) (ap (λ n. n == id) (keeps j)) (found_changed f keeps id jobs)
+  where
+    go : (b : Bool) → ((f j).id == id) ≡ b → job_with id (map f jobs) ≡ option_map f (job_with id jobs) → (if (f j).id == id then Some (f j) else job_with id (map f jobs)) ≡ option_map f (if b then Some j else job_with id jobs)
+    go true e rest = rw e refl
+    go false e rest = rw e rest
+
+-- where all jobs are changed by their ids, those that pass and become others are counted
+module _ (f : Job → Job) (keeps : (j : Job) → (f j).id ≡ j.id) (q : Job → Bool) (other : (j : Job) → q j ≡ true → is_same_job j (f j) ≡ false) where
+  counted_among : (new jobs : List Job) → All (λ j. job_with j.id new ≡ Some (f j)) jobs → count_by q jobs ≤ count_by (λ j. is_gone_or_changed j (job_with j.id new)) jobs
+  counted_among new [] all = omega arith
+  counted_among new (j ∷ jobs) all =
+      let changed = λ (k : Job). is_gone_or_changed k (job_with k.id new) in
+      let here : changed j ≡ not (is_same_job j (f j)) = ap (is_gone_or_changed j) all.0 in
+      rw (count_cons q j jobs, count_cons changed j jobs, here) (go (q j) (is_same_job j (f j)) (other j) (counted_among new jobs all.1))
+    where
+      go : (b c : Bool) → (b ≡ true → c ≡ false) → count_by q jobs ≤ count_by (λ k. is_gone_or_changed k (job_with k.id new)) jobs → cond b 1 0 + count_by q jobs ≤ cond (not c) 1 0 + count_by (λ k. is_gone_or_changed k (job_with k.id new)) jobs
+      go true true h rest = absurd (let e = h refl in cc)
+      go true false h rest = omega arith
+      go false c h rest = omega arith
+
+  pub changed_of : (low next : ℕ) (jobs : List Job) → AreIdsWithin low jobs next → count_by q jobs ≤ changed_jobs jobs (map f jobs)
+  changed_of low next jobs ids =
+      let few = counted_among (map f jobs) jobs (each jobs (finds_each low next jobs ids)) in
+      omega (arith, few)
+    where
+      each : (ks : List Job) → All (λ j. job_with j.id jobs ≡ Some j) ks → All (λ j. job_with j.id (map f jobs) ≡ Some (f j)) ks
+      each [] all = tt
+      each (k ∷ ks) all = (found_changed f keeps k.id jobs ∙ ap (option_map f) all.0, each ks all.1)
+
+-- the jobs that a client gives back are changed
+pub given_back_changed : (seat low next : ℕ) (jobs : List Job) → AreIdsWithin low jobs next → count_by (is_held_by seat) jobs ≤ changed_jobs jobs (map (given_back seat) jobs)
+given_back_changed seat low next jobs ids = changed_of (given_back seat) keeps (is_held_by seat) other low next jobs ids
+  where
+    keeps : (j : Job) → (given_back seat j).id ≡ j.id
+    keeps j = go (is_held_by seat j)
+      where
+        go : (b : Bool) → (if b then in_state states.Ready j else j).id ≡ j.id
+        go true = refl
+        go false = refl
+
+    not_ready : (s : JobState) → is_holder seat s ≡ true → is_same_state s states.Ready ≡ false
+    not_ready states.Ready h = absurd cc
+    not_ready (states.Delayed due) h = refl
+    not_ready (states.Reserved holder deadline) h = refl
+    not_ready (states.Buried number) h = refl
+
+    other : (j : Job) → is_held_by seat j ≡ true → is_same_job j (given_back seat j) ≡ false
+    other j h =
+        let ready : given_back seat j ≡ in_state states.Ready j = rw h refl in
+        ap (is_same_job j) ready ∙ rw (not_ready j.state h) refl
+
+-- what no longer passes was counted once
+passing_apart : (p : Job → Bool) (f : Job → Job) (jobs : List Job) → count_by p jobs ≤ count_by p (map f jobs) + count_by (λ j. p j && not (p (f j))) jobs
+passing_apart p f [] = omega arith
+passing_apart p f (j ∷ jobs) =
+    rw (count_cons p j jobs, count_cons p (f j) (map f jobs), count_cons (λ k. p k && not (p (f k))) j jobs) (go (p j) (p (f j)) (passing_apart p f jobs))
+  where
+    go : (b c : Bool) → count_by p jobs ≤ count_by p (map f jobs) + count_by (λ k. p k && not (p (f k))) jobs → cond b 1 0 + count_by p jobs ≤ cond c 1 0 + count_by p (map f jobs) + (cond (b && not c) 1 0 + count_by (λ k. p k && not (p (f k))) jobs)
+    go true true rest = omega arith
+    go true false rest = omega arith
+    go false c rest = omega arith
+
+-- the jobs that are kicked are changed
+module _ (kind : JobKind) (tube : List ℕ) (out : (k : Job) → is_of kind tube (kicked k) ≡ false) (chosen : List Job) where
+  kept_id : (j : Job) → (if list_any (λ k. k.id == j.id) chosen then kicked j else j).id ≡ j.id
+  kept_id j = go (list_any (λ k. k.id == j.id) chosen)
+    where
+      go : (b : Bool) → (if b then kicked j else j).id ≡ j.id
+      go true = refl
+      go false = refl
+
+  alike : (k : JobKind) (j : Job) → j.state ≡ states.Ready → is_of k tube j ≡ is_of k tube (kicked j)
+  alike Ready j e = rw e refl
+  alike Delayed j e = rw e refl
+  alike Buried j e = rw e refl
+
+  not_ready : (j : Job) → is_of kind tube j ≡ true → is_same_state j.state states.Ready ≡ false
+  not_ready j h = go j.state refl
+    where
+      go : (s : JobState) → j.state ≡ s → is_same_state s states.Ready ≡ false
+      go states.Ready e = absurd (let a = alike kind j e in let b = out j in cc)
+      go (states.Delayed due) e = refl
+      go (states.Reserved seat deadline) e = refl
+      go (states.Buried number) e = refl
+
+  other : (j : Job) → (is_of kind tube j && not (is_of kind tube (if list_any (λ k. k.id == j.id) chosen then kicked j else j))) ≡ true → is_same_job j (if list_any (λ k. k.id == j.id) chosen then kicked j else j) ≡ false
+  other j h = go (list_any (λ k. k.id == j.id) chosen) h
+    where
+      go : (b : Bool) → (is_of kind tube j && not (is_of kind tube (if b then kicked j else j))) ≡ true → is_same_job j (if b then kicked j else j) ≡ false
+      go true e = rw (not_ready j ((and_parts (is_of kind tube j) (not (is_of kind tube (kicked j))) e).0)) refl
+      go false e = absurd (both (is_of kind tube j) e)
+        where
+          both : (b : Bool) → (b && not b) ≡ true → ⊥
+          both true x = absurd cc
+          both false x = absurd cc
+
+  pub kicked_changed : (low next n : ℕ) (jobs : List Job) → AreIdsWithin low jobs next → count_by (is_of kind tube) (all_kicked chosen jobs) + n ≤ count_by (is_of kind tube) jobs → n ≤ changed_jobs jobs (all_kicked chosen jobs)
+  kicked_changed low next n jobs ids few =
+      let f = λ (j : Job). if list_any (λ k. k.id == j.id) chosen then kicked j else j in
+      let q = λ (j : Job). is_of kind tube j && not (is_of kind tube (f j)) in
+      omega (arith, passing_apart (is_of kind tube) f jobs, changed_of f kept_id q other low next jobs ids)

@@ -1,0 +1,9 @@
+use Rattle.std.proofs.Common.{arith, subst, sym}
+use Rattle.bq_jobs.specs.Kept.{Kept}
+use Rattle.bq_core.specs.Asking.{AsksAsChanged}
+use Rattle.bq_core.proofs.AskLemmas.{asked_before}
+use Rattle.bq_core.proofs.job_acts.delete.Goals as goal
+
+pub returns-clause-asks : goal.returns-clause-asks
+returns-clause-asks c =
+    subst (λ (k : Kept). AsksAsChanged c.args.state.now.jobs k) (sym c.change_tube.ensures.jobs) (asked_before 1 4 (omega arith) c.has_job.ensures.asks c.take.ensures.asks)
