@@ -64,7 +64,7 @@ within {n = n} k {old = old} {new = new} l a =
 pub moved : (old between new : Kept) (id : ℕ) → between.jobs ≡ without id old.jobs → length new.jobs ≡ length old.jobs → ComparesAtMost 4 old between → ComparesAtMost 4 between new → Asks 8 old new
 moved old between new id out back a b =
     let fewer : length between.jobs ≤ length old.jobs =
-        omega (arith, ap length out, length-filter (λ (k : Job). not (k.id == id)) old.jobs, count_by-le-length (λ (k : Job). not (k.id == id)) old.jobs) in
+    omega (arith, ap length out, length-filter (λ (k : Job). not (k.id == id)) old.jobs, count_by-le-length (λ (k : Job). not (k.id == id)) old.jobs) in
     record { many = back; rise = omega (arith, a.1, b.1, search_grows (length between.jobs) (length old.jobs) fewer) }
 
 -- what is asked at most of few jobs

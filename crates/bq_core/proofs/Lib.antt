@@ -15,3 +15,4 @@ pub mod TallyPlaces
 pub mod TextLemmas
 pub mod TubeLemmas
 pub mod TurnLemmas
+pub mod WaitLemmas

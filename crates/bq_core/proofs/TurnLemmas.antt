@@ -155,7 +155,7 @@ room_kept Turn refused more first last old new gives room =
     omega (arith, ap length gives.added, length-append old.given gives.given, gives.taken, gives.most, room)
 
 -- one end of a wait is a chain of them
-one_end : (m next : Machine) (old new : Outbox) (s : SeatRecord) → next_end m ≡ Some s → Contains m.seats s → is_waiting s ≡ true → AddsWaitEnd m s old new next → Gives WaitEndTurn none_refused m next old new
+pub one_end : (m next : Machine) (old new : Outbox) (s : SeatRecord) → next_end m ≡ Some s → Contains m.seats s → is_waiting s ≡ true → AddsWaitEnd m s old new next → Gives WaitEndTurn none_refused m next old new
 one_end m next old new s is here waits adds =
     let given : GivenAnswer = (s.number, end_of_wait m s) in
     let turn : WaitEndTurn m given next = rw is (refl, adds.ended) in
@@ -169,29 +169,8 @@ one_end m next old new s is here waits adds =
       taken = rw adds.ended (omega (arith, waiting_falls m s here waits));
     }
 
-module _ (st : State) (k : ℕ) (seat_there : k < length st.seats.items) (seat_is : slice_get st.seats.items k ≡ first_of (ends_waiting (machine_of st)) is_wait_before st.seats.items) where
-  -- the client at place k waits, and its wait ends now
-  ending : (s : SeatRecord) × (slice_get st.seats.items k ≡ Some s) × (next_end (machine_of st) ≡ Some s)
-  ending = let here = some_at st.seats.items k seat_there in (here.0, here.1, sym seat_is ∙ here.1)
-
-  pub somebody_ends : 0 < waiting_count (machine_of st)
-  somebody_ends =
-      let waits = next_end_waits (machine_of st) ending.0 ending.2 in
-      omega (arith, waiting_falls (machine_of st) ending.0 waits.0 waits.1)
-
-  module _ (old new : Outbox) (last : Machine) (given : EndsWait (machine_of st) k old new last) where
-    pub end_given : Gives WaitEndTurn none_refused (machine_of st) last old new
-    end_given =
-        let waits = next_end_waits (machine_of st) ending.0 ending.2 in
-        one_end (machine_of st) last old new ending.0 ending.2 waits.0 waits.1 (given ending.0 ending.1)
-
-    pub end_falls : waiting_count last < waiting_count (machine_of st)
-    end_falls =
-        let waits = next_end_waits (machine_of st) ending.0 ending.2 in
-        rw (given ending.0 ending.1).ended (waiting_falls (machine_of st) ending.0 waits.0 waits.1)
-
 -- what was read at a place
-same_read : {A : Type 0} (xs : List A) (i : ℕ) (x y : A) → i < length xs → y ≡ get_or xs i y → slice_get xs i ≡ Some x → y ≡ x
+pub same_read : {A : Type 0} (xs : List A) (i : ℕ) (x y : A) → i < length xs → y ≡ get_or xs i y → slice_get xs i ≡ Some x → y ≡ x
 same_read xs i x y there read is = let here = slice_get_read xs (length xs) i y refl there read in cc
 
 pub shared_given : (m last : Machine) (id number : ℕ) (body : List ℕ) (j : Job) (s : SeatRecord) (old new : Outbox) → id ≡ j.id → number ≡ s.number → body ≡ j.body → last ≡ with_seat number without_wait (with_job id (reserved_by m.moment number) m) → new ≡ record old { given = old.given ++ (number, answers.Reserved id body) ∷ [] } → AddsHandOut m j s old new last

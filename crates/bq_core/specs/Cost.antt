@@ -68,6 +68,6 @@ entries seat m = sum_by (entries_with seat) m.seats
 pub record IsStepWithin (first : Machine) (at seat : ℕ) (what : Step) (outcome : Outcome) (answers : List GivenAnswer) (last : Machine) (old new : ℕ) : Type 0 where
   pub step : IsStep first at seat what outcome answers last
   pub comparisons :
-    let changes = ripening at first + length step.handed + length step.handed_then + changed_jobs step.before.jobs step.after.jobs in
-    let jobs = max (length first.jobs) (length last.jobs) in
-    new ≤ old + (changes + 8) * (entries seat first + 16) * (2 * binary_digits (2 * jobs + 2))
+      let changes = ripening at first + length step.handed + length step.handed_then + changed_jobs step.before.jobs step.after.jobs in
+      let jobs = max (length first.jobs) (length last.jobs) in
+      new ≤ old + (changes + 8) * (entries seat first + 16) * (2 * binary_digits (2 * jobs + 2))

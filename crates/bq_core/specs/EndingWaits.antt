@@ -1,17 +1,15 @@
 -- Which waits end.
-use Rattle.std.specs.Prelude.{ℕ, Bool, ◌+◌, ◌&&◌, ◌||◌, nat_le, List}
-use Rattle.std.specs.List.{list_any}
+use Rattle.std.specs.Prelude.{ℕ, Bool, true, ◌≡◌, ◌+◌, ◌&&◌, nat_le, if◌then◌else◌, Option, Some, None, count_by}
+use Rattle.std.specs.List.{AllByRecursion}
+use Rattle.bq_job.specs.declared.answer.Answer.{Answer}
+use Rattle.bq_job.specs.declared.answer.Answer.TheVariants as answers
 use Rattle.bq_job.specs.declared.job.Job.{Job}
-use Rattle.bq_job.specs.Changes.{is_waiting}
-use Rattle.bq_job.specs.Machine.{SeatRecord}
+use Rattle.bq_job.specs.Changes.{is_pair_before, is_waiting}
+use Rattle.bq_job.specs.Dispatch.{ticket_of}
+use Rattle.bq_job.specs.Machine.{Machine, SeatRecord}
 use Rattle.bq_job.specs.JobStates.{is_reserved}
 use Rattle.bq_jobs.specs.Leases.{deadline_of}
-use Rattle.bq_job.specs.Waits.{is_ending_lease, is_timed_out_at}
-
--- Among these jobs, at this moment, the client's wait ends.
-abbrev pub ends_waiting_among : List Job → ℕ → SeatRecord → Bool
-ends_waiting_among jobs moment s =
-    is_waiting s && (list_any (λ j. is_ending_lease moment s.number j.state) jobs || is_timed_out_at moment s)
+use Rattle.bq_job.specs.Waits.{ends_waiting, is_deadline_soon, is_timed_out, is_timed_out_at}
 
 -- a reservation whose time to run ends within a second
 abbrev pub is_lease_short : ℕ → Job → Bool
@@ -20,3 +18,28 @@ is_lease_short moment j = is_reserved j.state && nat_le (deadline_of j.state) (m
 -- a client whose wait is over by its timeout, or because the client sends no more
 abbrev pub has_waited : ℕ → SeatRecord → Bool
 has_waited moment s = is_waiting s && is_timed_out_at moment s
+
+-- the client's turn among those that wait: by its ticket, and then by its seat
+abbrev pub turn_of : SeatRecord → ℕ × ℕ
+turn_of s = (ticket_of s.wait, s.number)
+
+-- the client's turn comes after this one, if there is one
+abbrev pub is_after : Option (ℕ × ℕ) → SeatRecord → Bool
+is_after None s = true
+is_after (Some last) s = is_pair_before last.0 last.1 (ticket_of s.wait) s.number
+
+abbrev pub waits_after : Option (ℕ × ℕ) → SeatRecord → Bool
+waits_after last s = is_waiting s && is_after last s
+
+-- how many clients wait whose turn comes after this one
+abbrev pub left_after : Option (ℕ × ℕ) → Machine → ℕ
+left_after last m = count_by (waits_after last) m.seats
+
+-- All waiting clients up to this turn were looked at: whose wait ends now comes after it.
+abbrev pub AreLookedAt : Machine → Option (ℕ × ℕ) → Type 0
+AreLookedAt m last = AllByRecursion (λ s. ends_waiting m s ≡ true → is_after last s ≡ true) m.seats
+
+-- what a waiting client is told if its wait ends now
+abbrev pub told_at_end : Machine → SeatRecord → Option Answer
+told_at_end m s =
+    if is_deadline_soon m s then Some answers.DeadlineSoon else (if is_timed_out m s then Some answers.TimedOut else None)

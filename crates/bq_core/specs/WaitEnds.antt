@@ -1,8 +1,9 @@
 -- One wait ends.
-use Rattle.std.specs.Prelude.{ℕ, ◌≡◌, ◌++◌, [], ◌∷◌, Some, slice_get}
-use Rattle.bq_job.specs.Changes.{with_seat, without_wait}
+use Rattle.std.specs.Prelude.{ℕ, true, false, ◌≡◌, ◌++◌, [], ◌∷◌, Some, slice_get}
+use Rattle.bq_job.specs.declared.answer.Answer.{Answer}
+use Rattle.bq_job.specs.Changes.{is_waiting, with_seat, without_wait}
 use Rattle.bq_job.specs.Machine.{Machine, SeatRecord}
-use Rattle.bq_job.specs.Waits.{end_of_wait}
+use Rattle.bq_job.specs.Waits.{end_of_wait, ends_waiting}
 use Rattle.bq_core.specs.Outbox.{Outbox}
 
 -- the wait of this client ended, and it was told so
@@ -10,6 +11,22 @@ pub record AddsWaitEnd (m : Machine) (s : SeatRecord) (old new : Outbox) (last :
   pub ended : last ≡ with_seat s.number without_wait m
   pub added : new ≡ record old { given = old.given ++ (s.number, end_of_wait m s) ∷ [] }
 
--- the wait of the client at place k ended
-abbrev pub EndsWait : Machine → ℕ → Outbox → Outbox → Machine → Type 0
-EndsWait m k old new last = (s : SeatRecord) → slice_get m.seats k ≡ Some s → AddsWaitEnd m s old new last
+-- the wait of the client at place k ended with this answer
+abbrev pub EndsWait : Machine → ℕ → Answer → Outbox → Outbox → Machine → Type 0
+EndsWait m k answer old new last =
+    (s : SeatRecord) → slice_get m.seats k ≡ Some s → answer ≡ end_of_wait m s → AddsWaitEnd m s old new last
+
+-- nothing happened
+pub record IsAsBefore (m : Machine) (old new : Outbox) (last : Machine) : Type 0 where
+  pub machine : last ≡ m
+  pub outs : new ≡ old
+
+-- what becomes of a waiting client that is looked at
+pub record IsLookedAt (m : Machine) (s : SeatRecord) (old new : Outbox) (last : Machine) : Type 0 where
+  pub ends : ends_waiting m s ≡ true → AddsWaitEnd m s old new last
+  pub stays : ends_waiting m s ≡ false → IsAsBefore m old new last
+
+-- the client at place k, if it waits, was looked at
+abbrev pub LooksAt : Machine → ℕ → Outbox → Outbox → Machine → Type 0
+LooksAt m k old new last =
+    (s : SeatRecord) → slice_get m.seats k ≡ Some s → is_waiting s ≡ true → IsLookedAt m s old new last

@@ -10,11 +10,15 @@ ghost use Rattle.bq_job.specs.TubeCommands.{using, watching};
 ghost use Rattle.bq_job.specs.TubeName.{is_same_name};
 ghost use Rattle.bq_job.specs.Tubes.{is_seated_at, watches};
 ghost use Rattle.bq_job.specs.Waits.{is_timed_out_at};
+ghost use Rattle.bq_core.specs.EndingWaits.{is_after, turn_of};
 
 use crate::watch_list::{WatchList, default_tube};
 use bq_job::{Moment, NoMemory, Seat, TubeName};
 use std::alloc::Global;
 use std::marker::Model;
+
+/// The turn of a client among those that wait: its ticket and its seat.
+pub(crate) type Turn = (u64, Seat);
 
 /// A client that waits for a job.
 #[derive(Clone, Copy, Debug)]
@@ -159,6 +163,25 @@ impl Place {
         let a = self.ticket();
         let b = other.ticket();
         a < b || (a == b && self.number < other.number)
+    }
+
+    /// The client's turn among those that wait.
+    pub(crate) fn turn(&self) -> Turn
+        ensures { result ≡ turn_of self.now }
+    {
+        (self.ticket(), self.number)
+    }
+
+    /// Whether the client's turn comes after this one, if there is one.
+    pub(crate) fn is_after(&self, last: Option<Turn>) -> bool
+        ensures { result ≡ is_after last self.now }
+    {
+        match last {
+            None => true,
+            Some((ticket, number)) => {
+                ticket < self.ticket() || (ticket == self.ticket() && number < self.number)
+            }
+        }
     }
 
     /// Whether a wait of this client would be over by its timeout, or because the client sends no more.

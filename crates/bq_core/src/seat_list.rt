@@ -8,13 +8,11 @@ ghost use Rattle.bq_job.specs.TubeCommands.{watching};
 ghost use Rattle.bq_job.specs.TubeName.{is_same_name};
 ghost use Rattle.bq_core.specs.SeatChanges.{seat_changed, seat_changed_at};
 ghost use Rattle.bq_core.specs.Places.{item_at, better_if};
-ghost use Rattle.bq_core.specs.EndingWaits.{ends_waiting_among, has_waited};
+ghost use Rattle.bq_core.specs.EndingWaits.{has_waited, waits_after};
 ghost use Rattle.bq_core.specs.Offers.{waits_at};
 
-use crate::job_list;
-use crate::place::Place;
+use crate::place::{Place, Turn};
 use bq_job::{Moment, NoMemory, Seat, TubeName};
-use bq_jobs::Jobs;
 use std::alloc::Global;
 
 /// What happens at a seat.
@@ -143,25 +141,21 @@ pub(crate) fn first_waiting(seats: &[Place], tube: &TubeName) -> Option<Seat>
     }
 }
 
-/// Whether the client waits, and its wait ends at this moment.
-fn ends_waiting(jobs: &mut Jobs, place: &Place, moment: Moment) -> bool
-    ensures ends { result ≡ ends_waiting_among jobs.old.jobs moment place.now }
-    ensures same { jobs.new ≡ record jobs.old { comparisons = jobs.new.comparisons } }
+// Whether the client waits, and its turn comes after this one, if there is one.
+fn waits_after(place: &Place, last: Option<Turn>) -> bool
+    ensures { result ≡ waits_after last place.now }
 {
-    place.is_waiting()
-        && (job_list::is_deadline_soon(jobs, place.number(), moment) || place.is_timed_out(moment))
+    place.is_waiting() && place.is_after(last)
 }
 
-/// The place of the client that has waited longest of those whose wait ends at this moment.
-pub(crate) fn first_ending(seats: &[Place], jobs: &mut Jobs, moment: Moment) -> Option<usize>
+/// The place of the client that has waited longest of those whose turn comes after this one.
+pub(crate) fn next_waiting(seats: &[Place], last: Option<Turn>) -> Option<usize>
     ensures bound { IfSome result (λ i. i < length seats.now) }
-    ensures least { item_at seats.now result ≡ first_of (ends_waiting_among jobs.old.jobs moment) is_wait_before seats.now }
-    ensures same { jobs.new ≡ record jobs.old { comparisons = jobs.new.comparisons } }
+    ensures least { item_at seats.now result ≡ first_of (waits_after last) is_wait_before seats.now }
 {
     let mut best = None;
     for i in 0..seats.len() {
-        let ends = ends_waiting(jobs, &seats[i], moment);
-        best = better(seats, best, i, ends);
+        best = better(seats, best, i, waits_after(&seats[i], last));
     }
     best
 }

@@ -1,85 +1,106 @@
-ghost use Rattle.std.specs.Prelude.{◌≡◌, ◌<◌, None, true, false, length, IfSome};
-ghost use Rattle.bq_core.specs.Places.{item_at};
+ghost use Rattle.std.specs.Prelude.{◌≡◌, ◌<◌, ◌+◌, None, Some, true, false, length, slice_get};
 ghost use Rattle.bq_job.specs.Computed.{waiting_count};
-ghost use Rattle.bq_job.specs.Waits.{WaitEndTurn, end_of_wait, next_end};
+ghost use Rattle.bq_job.specs.Waits.{WaitEndTurn, next_end};
 ghost use Rattle.bq_job.specs.Machine.{SeatRecord};
+ghost use Rattle.bq_core.specs.Asking.{Asks};
+ghost use Rattle.bq_core.specs.EndingWaits.{AreLookedAt, left_after, told_at_end};
 ghost use Rattle.bq_core.specs.State.{machine_of, IsSound, OnlyCompares};
 ghost use Rattle.bq_core.specs.Turns.{Gives, HasRoom, none_refused};
-ghost use Rattle.bq_core.specs.WaitEnds.{EndsWait};
+ghost use Rattle.bq_core.specs.WaitEnds.{EndsWait, LooksAt};
 
 use crate::outs::Outs;
+use crate::place::Turn;
 use crate::seat_list::SeatChange;
 use crate::state::State;
 use crate::{job_list, seat_list, state};
-use bq_job::{Answer, Seat};
+use bq_job::Answer;
 
-// What a client is told whose wait ends now.
-fn end_of_wait(state: &mut State, number: Seat) -> Answer
-    requires { IsSound state.old }
-    ensures answer { (s : SeatRecord) → s.number ≡ number → result ≡ end_of_wait (machine_of state.old) s }
+// What the client at place k, which waits, is told if its wait ends now. Its first lease is asked for once.
+fn told_at_end(state: &mut State, k: usize) -> Option<Answer>
+    requires sound { IsSound state.old }
+    requires seat { k < length state.old.seats.items }
+    ensures told { (s : SeatRecord) → slice_get (machine_of state.old).seats k ≡ Some s → result ≡ told_at_end (machine_of state.old) s }
     ensures same { OnlyCompares state.old state.new }
+    ensures asks { Asks 1 state.old.jobs state.new.jobs }
     ensures sound { IsSound state.new }
 {
+    let number = state.seats[k].number();
+    let is_over = state.seats[k].is_timed_out(state.moment);
     if job_list::is_deadline_soon(&mut state.jobs, number, state.moment) {
-        Answer::DeadlineSoon
+        Some(Answer::DeadlineSoon)
+    } else if is_over {
+        Some(Answer::TimedOut)
     } else {
-        Answer::TimedOut
+        None
     }
 }
 
-// The wait of the client at place k ends.
-fn end_wait(state: &mut State, outs: &mut Outs, k: usize)
+// The wait of the client at place k ends with this answer.
+fn end_wait(state: &mut State, outs: &mut Outs, k: usize, answer: Answer)
     requires sound { IsSound state.old }
     requires seat { k < length state.old.seats.items }
     requires room { length outs.old.given < outs.old.most }
-    ensures given { EndsWait (machine_of state.old) k outs.old outs.new (machine_of state.new) }
+    ensures given { EndsWait (machine_of state.old) k answer outs.old outs.new (machine_of state.new) }
+    ensures jobs { state.new.jobs ≡ state.old.jobs }
     ensures sound { IsSound state.new }
     ensures config { state.new.config ≡ state.old.config }
 {
     let number = state.seats[k].number();
-    let answer = end_of_wait(state, number);
     state::change_seat(state, number, &SeatChange::StopWaiting);
     outs.push(number, answer);
 }
 
-// The place of the client that has waited longest of those whose wait ends now.
-fn first_ending(state: &mut State) -> Option<usize>
-    requires { IsSound state.old }
-    ensures bound { IfSome result (λ i. i < length state.new.seats.items) }
-    ensures least { item_at state.new.seats.items result ≡ next_end (machine_of state.old) }
-    ensures same { OnlyCompares state.old state.new }
-    ensures sound { IsSound state.new }
-{
-    seat_list::first_ending(state.seats.as_slice(), &mut state.jobs, state.moment)
-}
-
-// Ends one wait, if there is one that ends now.
-fn turn(state: &mut State, outs: &mut Outs) -> bool
+// The wait of the client at place k, which waits, ends if it does now.
+fn look_at(state: &mut State, outs: &mut Outs, k: usize)
     requires sound { IsSound state.old }
-    requires room { HasRoom 0 (machine_of state.old) outs.old }
-    ensures done { result ≡ false → (next_end (machine_of state.old) ≡ None) × (machine_of state.new ≡ machine_of state.old) × (outs.new ≡ outs.old) }
-    ensures given { result ≡ true → Gives WaitEndTurn none_refused (machine_of state.old) (machine_of state.new) outs.old outs.new }
-    ensures fewer { result ≡ true → waiting_count (machine_of state.new) < waiting_count (machine_of state.old) }
+    requires seat { k < length state.old.seats.items }
+    requires room { length outs.old.given < outs.old.most }
+    ensures looked { LooksAt (machine_of state.old) k outs.old outs.new (machine_of state.new) }
+    ensures asks { Asks 1 state.old.jobs state.new.jobs }
     ensures sound { IsSound state.new }
     ensures config { state.new.config ≡ state.old.config }
 {
-    let Some(k) = first_ending(state) else {
+    match told_at_end(state, k) {
+        None => {}
+        Some(answer) => end_wait(state, outs, k, answer),
+    }
+}
+
+// Looks at the next waiting client after the last one that was looked at, if there is one.
+fn turn(state: &mut State, outs: &mut Outs, last: &mut Option<Turn>) -> bool
+    requires sound { IsSound state.old }
+    requires looked { AreLookedAt (machine_of state.old) last.old }
+    requires room { HasRoom 0 (machine_of state.old) outs.old }
+    ensures done { result ≡ false → (next_end (machine_of state.old) ≡ None) × (machine_of state.new ≡ machine_of state.old) × (outs.new ≡ outs.old) }
+    ensures given { result ≡ true → Gives WaitEndTurn none_refused (machine_of state.old) (machine_of state.new) outs.old outs.new }
+    ensures looked { result ≡ true → AreLookedAt (machine_of state.new) last.new }
+    ensures fewer { result ≡ true → left_after last.new (machine_of state.new) < left_after last.old (machine_of state.old) }
+    ensures asks { result ≡ true → Asks 1 state.old.jobs state.new.jobs }
+    ensures asks_last { result ≡ false → Asks 0 state.old.jobs state.new.jobs }
+    ensures sound { IsSound state.new }
+    ensures config { state.new.config ≡ state.old.config }
+{
+    let Some(k) = seat_list::next_waiting(state.seats.as_slice(), *last) else {
         return false;
     };
-    end_wait(state, outs, k);
+    *last = Some(state.seats[k].turn());
+    look_at(state, outs, k);
     true
 }
 
-// The waits that end now end, where there may be some.
+// The waits that end now end, where there may be some. Each waiting client is looked at once, in the order
+// of tickets.
 fn end_all(state: &mut State, outs: &mut Outs)
     requires sound { IsSound state.old }
     requires room { HasRoom 0 (machine_of state.old) outs.old }
     ensures given { Gives WaitEndTurn none_refused (machine_of state.old) (machine_of state.new) outs.old outs.new }
     ensures done { next_end (machine_of state.new) ≡ None }
+    ensures asks { Asks (waiting_count (machine_of state.old)) state.old.jobs state.new.jobs }
     ensures sound { IsSound state.new }
     ensures config { state.new.config ≡ state.old.config }
 {
-    while turn(state, outs) {}
+    let mut last = None;
+    while turn(state, outs, &mut last) {}
 }
 
 // Whether some wait may end now: a time to run ends within a second, or a timeout has come. Where nobody
@@ -88,6 +109,7 @@ fn may_end(state: &mut State) -> bool
     requires { IsSound state.old }
     ensures none { result ≡ false → next_end (machine_of state.old) ≡ None }
     ensures same { OnlyCompares state.old state.new }
+    ensures asks { Asks 1 state.old.jobs state.new.jobs }
     ensures sound { IsSound state.new }
 {
     if !state.has_waiter() {
@@ -105,6 +127,7 @@ pub(crate) fn end_waits(state: &mut State, outs: &mut Outs)
     requires room { HasRoom 0 (machine_of state.old) outs.old }
     ensures given { Gives WaitEndTurn none_refused (machine_of state.old) (machine_of state.new) outs.old outs.new }
     ensures done { next_end (machine_of state.new) ≡ None }
+    ensures asks { Asks (waiting_count (machine_of state.old) + 1) state.old.jobs state.new.jobs }
     ensures sound { IsSound state.new }
     ensures config { state.new.config ≡ state.old.config }
 {

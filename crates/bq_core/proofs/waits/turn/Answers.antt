@@ -1,26 +1,70 @@
-use Rattle.std.proofs.Common.{◌≡◌, ◌∙◌, ◌<◌, sym, arith, ap, subst}
-use Rattle.bq_job.specs.Computed.{waiting_count}
-use Rattle.bq_job.specs.Machine.{Machine}
-use Rattle.bq_job.specs.Waits.{WaitEndTurn, next_end}
+use Rattle.std.proofs.Common.{◌≡◌, ◌∙◌, ◌<◌, List, None, Some, ap, arith, length, refl, slice_get, subst, sym}
+use Rattle.std.specs.Prelude.{ℕ}
+use Rattle.bq_job.specs.Changes.{first_of}
+use Rattle.bq_job.specs.Dispatch.{is_wait_before}
+use Rattle.bq_job.specs.Machine.{SeatRecord}
+use Rattle.bq_core.specs.EndingWaits.{AreLookedAt, left_after, turn_of, waits_after}
 use Rattle.bq_core.specs.State.{machine_of}
-use Rattle.bq_core.specs.Turns.{Gives, none_refused}
-use Rattle.bq_core.proofs.TurnLemmas.{end_falls, end_given, somebody_ends}
+use Rattle.bq_core.proofs.TurnLemmas.{same_read}
+use Rattle.bq_core.proofs.WaitLemmas.{here, look_falls, look_given, look_passed, none_left, one_waits, s}
 use Rattle.bq_core.proofs.waits.turn.Goals as goal
 
-pub end_wait-requires-clause-room : goal.end_wait-requires-clause-room
-end_wait-requires-clause-room c =
-    let same : machine_of c.first_ending.new.state ≡ machine_of c.args.state.now = ap machine_of c.in-Some.ensures.same in
-    let count : waiting_count (machine_of c.first_ending.new.state) ≡ waiting_count (machine_of c.args.state.now) = ap waiting_count same in
-    omega (arith, somebody_ends c.first_ending.new.state c.in-Some.k c.in-Some.ensures.bound (c.in-Some.ensures.least ∙ ap next_end (sym same)), c.requires.room)
+pub returns-in_default-clause-done : goal.returns-in_default-clause-done
+returns-in_default-clause-done c _ =
+    let st = c.args.state.now in
+    let last = c.args.last.now in
+    let none = subst (λ (seats : List SeatRecord). None ≡ first_of (waits_after last) is_wait_before seats) c.as_slice.ensures.value c.in_default.ensures.least in
+    (none_left (machine_of st) last c.requires.looked none, refl, refl)
+
+pub look_at-requires-clause-seat : goal.look_at-requires-clause-seat
+look_at-requires-clause-seat c = subst (λ (seats : List SeatRecord). c.in-Some.k < length seats) c.as_slice.ensures.value c.in-Some.ensures.bound
+
+pub look_at-requires-clause-room : goal.look_at-requires-clause-room
+look_at-requires-clause-room c =
+    let st = c.args.state.now in
+    let last = c.args.last.now in
+    let k = c.in-Some.k in
+    let value = c.as_slice.ensures.value in
+    let there = subst (λ (seats : List SeatRecord). k < length seats) value c.in-Some.ensures.bound in
+    let found = subst (λ (seats : List SeatRecord). slice_get seats k ≡ first_of (waits_after last) is_wait_before seats) value c.in-Some.ensures.least in
+    let waits = one_waits st c.requires.sound last c.requires.looked k there found in
+    omega (arith, waits, c.requires.room)
 
 pub returns-clause-given : goal.returns-clause-given
 returns-clause-given c _ =
-    let same : machine_of c.first_ending.new.state ≡ machine_of c.args.state.now = ap machine_of c.in-Some.ensures.same in
-    subst (λ (x : Machine). Gives WaitEndTurn none_refused x (machine_of c.end_wait.new.state) c.args.outs.now c.end_wait.new.outs) same
-    (end_given c.first_ending.new.state c.in-Some.k c.in-Some.ensures.bound (c.in-Some.ensures.least ∙ ap next_end (sym same)) _ _ _ c.end_wait.ensures.given)
+    let st = c.args.state.now in
+    let last = c.args.last.now in
+    let k = c.in-Some.k in
+    let value = c.as_slice.ensures.value in
+    let there = subst (λ (seats : List SeatRecord). k < length seats) value c.in-Some.ensures.bound in
+    let found = subst (λ (seats : List SeatRecord). slice_get seats k ≡ first_of (waits_after last) is_wait_before seats) value c.in-Some.ensures.least in
+    look_given st c.requires.sound last c.requires.looked k there found
+    c.args.outs.now c.look_at.new.outs (machine_of c.look_at.new.state) c.look_at.ensures.looked
+
+pub returns-clause-looked : goal.returns-clause-looked
+returns-clause-looked c _ =
+    let st = c.args.state.now in
+    let last = c.args.last.now in
+    let k = c.in-Some.k in
+    let value = c.as_slice.ensures.value in
+    let there = subst (λ (seats : List SeatRecord). k < length seats) value c.in-Some.ensures.bound in
+    let found = subst (λ (seats : List SeatRecord). slice_get seats k ≡ first_of (waits_after last) is_wait_before seats) value c.in-Some.ensures.least in
+    let read = same_read st.seats.items k (s st c.requires.sound last c.requires.looked k there found) c.index.result.now there c.index.ensures (here st c.requires.sound last c.requires.looked k there found) in
+    let is : turn_of (s st c.requires.sound last c.requires.looked k there found) ≡ c.turn.result = sym (c.turn.ensures ∙ ap turn_of read) in
+    subst (λ (t : ℕ × ℕ). AreLookedAt (machine_of c.look_at.new.state) (Some t)) is
+    (look_passed st c.requires.sound last c.requires.looked k there found
+    c.args.outs.now c.look_at.new.outs (machine_of c.look_at.new.state) c.look_at.ensures.looked)
 
 pub returns-clause-fewer : goal.returns-clause-fewer
 returns-clause-fewer c _ =
-    let same : machine_of c.first_ending.new.state ≡ machine_of c.args.state.now = ap machine_of c.in-Some.ensures.same in
-    subst (λ (x : Machine). waiting_count (machine_of c.end_wait.new.state) < waiting_count x) same
-    (end_falls c.first_ending.new.state c.in-Some.k c.in-Some.ensures.bound (c.in-Some.ensures.least ∙ ap next_end (sym same)) _ _ _ c.end_wait.ensures.given)
+    let st = c.args.state.now in
+    let last = c.args.last.now in
+    let k = c.in-Some.k in
+    let value = c.as_slice.ensures.value in
+    let there = subst (λ (seats : List SeatRecord). k < length seats) value c.in-Some.ensures.bound in
+    let found = subst (λ (seats : List SeatRecord). slice_get seats k ≡ first_of (waits_after last) is_wait_before seats) value c.in-Some.ensures.least in
+    let read = same_read st.seats.items k (s st c.requires.sound last c.requires.looked k there found) c.index.result.now there c.index.ensures (here st c.requires.sound last c.requires.looked k there found) in
+    let is : turn_of (s st c.requires.sound last c.requires.looked k there found) ≡ c.turn.result = sym (c.turn.ensures ∙ ap turn_of read) in
+    subst (λ (t : ℕ × ℕ). left_after (Some t) (machine_of c.look_at.new.state) < left_after last (machine_of st)) is
+    (look_falls st c.requires.sound last c.requires.looked k there found
+    c.args.outs.now c.look_at.new.outs (machine_of c.look_at.new.state) c.look_at.ensures.looked)

@@ -2,13 +2,12 @@
 use Rattle.std.proofs.Common.{◌≡◌, ◌<◌, take, length, IfSome}
 use Rattle.bq_job.specs.Changes.{first_of}
 use Rattle.bq_job.specs.Dispatch.{is_wait_before}
-use Rattle.bq_core.specs.EndingWaits.{ends_waiting_among}
+use Rattle.bq_core.specs.EndingWaits.{waits_after}
 use Rattle.bq_core.specs.Places.{item_at}
-use Rattle.bq_core.proofs.seat_list.first_ending.Given as goal
+use Rattle.bq_core.proofs.seat_list.next_waiting.Given as goal
 
 abbrev pub invariant-loop-i : goal.invariant-loop-i
 invariant-loop-i l = record {
   bound : IfSome l.best (λ i. i < length l.seats);
-  least : item_at l.seats l.best ≡ first_of (ends_waiting_among l.fn.jobs.jobs l.moment) is_wait_before (take l.i l.seats);
-  same : l.jobs ≡ record l.fn.jobs { comparisons = l.jobs.comparisons };
+  least : item_at l.seats l.best ≡ first_of (waits_after l.last) is_wait_before (take l.i l.seats);
 }

@@ -1,0 +1,234 @@
+-- The ends of waits, one waiting client after another in the order of their turns.
+use Rattle.std.proofs.Common.{◌≡◌, ℕ, Bool, true, false, ◌+◌, ◌≤◌, ◌<◌, ◌==◌, ◌&&◌, ◌||◌, not, cond, List, [], ◌∷◌, Option, Some, None, map, length, refl, sym, ap, ◌∙◌, arith, subst, inl, inr, slice_get, if◌then◌else◌}
+use Rattle.std.specs.Prelude.{count_by}
+use Rattle.std.specs.List.{AllByRecursion as All, Contains, list_any}
+use Rattle.std.proofs.lemmas.Bool.{and_parts, cases_Bool, eq-eqb, eqb-true}
+use Rattle.std.proofs.lemmas.Bool.Decides.{nat_tests}
+use Rattle.bq_job.specs.declared.answer.Answer.{Answer}
+use Rattle.bq_job.specs.declared.answer.Answer.TheVariants as answers
+use Rattle.bq_job.specs.Changes.{first_of, is_pair_before, is_waiting, with_seat, without_wait}
+use Rattle.bq_job.specs.Computed.{waiting_count}
+use Rattle.bq_job.specs.Dispatch.{is_wait_before, ticket_of}
+use Rattle.bq_job.specs.Machine.{Machine, SeatRecord}
+use Rattle.bq_job.specs.Waits.{WaitEndTurn, end_of_wait, ends_waiting, is_deadline_soon, is_timed_out, next_end}
+use Rattle.bq_job.proofs.ChoiceLemmas.{first_of_contains, first_of_is, first_of_is_least, first_of_none, first_of_none_passes, first_of_passes, pair_order}
+use Rattle.bq_job.proofs.ComputedLemmas.{waiting_falls}
+use Rattle.bq_job.proofs.KeptLemmas.{only_seat}
+use Rattle.bq_job.proofs.ListLemmas.{all_always, all_at, all_from_members, all_of_map, all_weaker, contains_head, contains_tail, count_cons, found_passes, list_any_not, list_any_with, none_pass}
+use Rattle.bq_core.specs.declared.state.State.{State}
+use Rattle.bq_core.specs.EndingWaits.{AreLookedAt, is_after, left_after, told_at_end, turn_of, waits_after}
+use Rattle.bq_core.specs.Outbox.{Outbox}
+use Rattle.bq_core.specs.State.{IsSound, machine_of}
+use Rattle.bq_core.specs.Turns.{Gives, none_refused}
+use Rattle.bq_core.specs.WaitEnds.{AddsWaitEnd, LooksAt}
+use Rattle.bq_core.proofs.StateLemmas.{seat_read}
+use Rattle.bq_core.proofs.TurnLemmas.{gives_nothing, one_end, some_at}
+
+-- what a waiting client is told, by its first lease and its timeout
+pub told_soon : (m : Machine) (s : SeatRecord) → is_deadline_soon m s ≡ true → Some answers.DeadlineSoon ≡ told_at_end m s
+told_soon m s h = rw h refl
+
+pub told_over : (m : Machine) (s : SeatRecord) → is_deadline_soon m s ≡ false → is_timed_out m s ≡ true → Some answers.TimedOut ≡ told_at_end m s
+told_over m s h i = rw (h, i) refl
+
+pub told_none : (m : Machine) (s : SeatRecord) → is_deadline_soon m s ≡ false → is_timed_out m s ≡ false → None ≡ told_at_end m s
+told_none m s h i = rw (h, i) refl
+
+-- who is told something is told how its wait ends, and nobody else's wait ends
+pub told_is : (m : Machine) (s : SeatRecord) (answer : Answer) → is_waiting s ≡ true → Some answer ≡ told_at_end m s → (ends_waiting m s ≡ true) × (answer ≡ end_of_wait m s)
+told_is m s answer waits told = go (is_deadline_soon m s) (is_timed_out m s) refl refl told
+  where
+    go : (b c : Bool) → is_deadline_soon m s ≡ b → is_timed_out m s ≡ c → Some answer ≡ (if b then Some answers.DeadlineSoon else (if c then Some answers.TimedOut else None)) → (ends_waiting m s ≡ true) × (answer ≡ end_of_wait m s)
+    go true c e f h = (rw (waits, e) refl, rw e (let g : Some answer ≡ Some answers.DeadlineSoon = h in cc))
+    go false true e f h = (rw (waits, e, f) refl, rw e (let g : Some answer ≡ Some answers.TimedOut = h in cc))
+    go false false e f h = absurd (let g : Some answer ≡ None = h in cc)
+
+pub told_nothing : (m : Machine) (s : SeatRecord) → None ≡ told_at_end m s → ends_waiting m s ≡ false
+told_nothing m s told = go (is_waiting s) (is_deadline_soon m s) (is_timed_out m s) told
+  where
+    go : (w b c : Bool) → None ≡ (if b then Some answers.DeadlineSoon else (if c then Some answers.TimedOut else None)) → (w && (b || c)) ≡ false
+    go w true c h = absurd cc
+    go w false true h = absurd cc
+    go true false false h = refl
+    go false false false h = refl
+
+-- nobody was looked at
+pub none_looked_at : (m : Machine) → AreLookedAt m None
+none_looked_at m = all_always (λ s. ends_waiting m s ≡ true → true ≡ true) m.seats (λ s h. refl)
+
+pub all_left : (m : Machine) → left_after None m ≤ waiting_count m
+all_left m = go m.seats
+  where
+    and_true : (b : Bool) → (b && true) ≡ b
+    and_true true = refl
+    and_true false = refl
+
+    go : (seats : List SeatRecord) → count_by (waits_after None) seats ≤ count_by is_waiting seats
+    go [] = omega arith
+    go (s ∷ seats) = rw (count_cons (waits_after None) s seats, count_cons is_waiting s seats, and_true (is_waiting s)) (omega (arith, go seats))
+
+-- nobody is left: no wait ends
+pub none_left : (m : Machine) (last : Option (ℕ × ℕ)) → AreLookedAt m last → None ≡ first_of (waits_after last) is_wait_before m.seats → next_end m ≡ None
+none_left m last looked none =
+    first_of_none_passes (ends_waiting m) is_wait_before m.seats (list_any_not (ends_waiting m) m.seats
+    (go m.seats looked (none_pass (waits_after last) m.seats (first_of_none (waits_after last) is_wait_before m.seats (sym none)))))
+  where
+    one : (w e a : Bool) → (w && e ≡ true → a ≡ true) → (w && a) ≡ false → (w && e) ≡ false
+    one true true a h i = absurd (let x = h refl in cc)
+    one true false a h i = refl
+    one false e a h i = refl
+
+    go : (seats : List SeatRecord) → All (λ s. ends_waiting m s ≡ true → is_after last s ≡ true) seats → All (λ s. waits_after last s ≡ false) seats → All (λ s. ends_waiting m s ≡ false) seats
+    go [] a b = tt
+    go (s ∷ seats) a b = (one (is_waiting s) (is_deadline_soon m s || is_timed_out m s) (is_after last s) a.0 b.0, go seats a.1 b.1)
+
+-- fewer pass, where each change lets nobody pass that didn't, and one no longer
+one_or_none : (b c : Bool) → (c ≡ true → b ≡ true) → cond c 1 0 ≤ cond b 1 0
+one_or_none true true w = omega arith
+one_or_none true false w = omega arith
+one_or_none false true w = absurd (let e = w refl in cc)
+one_or_none false false w = omega arith
+
+no_more : (p q : SeatRecord → Bool) (f : SeatRecord → SeatRecord) (xs : List SeatRecord) → All (λ x. q (f x) ≡ true → p x ≡ true) xs → count_by q (map f xs) ≤ count_by p xs
+no_more p q f [] w = omega arith
+no_more p q f (x ∷ xs) w = rw (count_cons q (f x) (map f xs), count_cons p x xs) (omega (arith, one_or_none (p x) (q (f x)) w.0, no_more p q f xs w.1))
+
+fewer : (p q : SeatRecord → Bool) (f : SeatRecord → SeatRecord) (xs : List SeatRecord) → All (λ x. q (f x) ≡ true → p x ≡ true) xs → list_any (λ x. p x && not (q (f x))) xs ≡ true → count_by q (map f xs) < count_by p xs
+fewer p q f [] w h = absurd cc
+fewer p q f (x ∷ xs) w h = rw (count_cons q (f x) (map f xs), count_cons p x xs) (go (p x) (q (f x)) w.0 (λ e. fewer p q f xs w.1 e) h)
+  where
+    go : (b c : Bool) → (c ≡ true → b ≡ true) → (list_any (λ y. p y && not (q (f y))) xs ≡ true → count_by q (map f xs) < count_by p xs) → ((b && not c) || list_any (λ y. p y && not (q (f y))) xs) ≡ true → cond c 1 0 + count_by q (map f xs) < cond b 1 0 + count_by p xs
+    go true true i rest e = omega (arith, rest e)
+    go true false i rest e = omega (arith, no_more p q f xs w.1)
+    go false true i rest e = absurd (let x = i refl in cc)
+    go false false i rest e = omega (arith, rest e)
+
+-- pairs of numbers of which the second ones differ
+pair_other : (a i b j : ℕ) → is_pair_before b j a i ≡ false → (j == i) ≡ false → is_pair_before a i b j ≡ true
+pair_other a i b j h o = grind (arith, nat_tests)
+
+pair_alone : (a i : ℕ) → is_pair_before a i a i ≡ false
+pair_alone a i = grind (arith, nat_tests)
+
+pair_chain : (a i b j c k : ℕ) → is_pair_before a i b j ≡ true → is_pair_before b j c k ≡ true → is_pair_before a i c k ≡ true
+pair_chain a i b j c k h o = grind (arith, nat_tests)
+
+pair_same : (a i b j : ℕ) → is_pair_before a i b j ≡ false → is_pair_before b j a i ≡ false → i ≡ j
+pair_same a i b j h o = grind (arith, nat_tests)
+
+after_chain : (last : Option (ℕ × ℕ)) (s t : SeatRecord) → is_after last s ≡ true → is_after (Some (turn_of s)) t ≡ true → is_after last t ≡ true
+after_chain None s t h i = refl
+after_chain (Some last) s t h i = pair_chain last.0 last.1 (ticket_of s.wait) s.number (ticket_of t.wait) t.number h i
+
+map_self : {A : Type 0} (xs : List A) → map (λ x. x) xs ≡ xs
+map_self [] = refl
+map_self (x ∷ xs) = ap (λ ys. x ∷ ys) (map_self xs)
+
+-- the next one that is looked at
+module _ (st : State) (sound : IsSound st) (last : Option (ℕ × ℕ)) (looked : AreLookedAt (machine_of st) last) (k : ℕ) (there : k < length st.seats.items) (found : slice_get st.seats.items k ≡ first_of (waits_after last) is_wait_before st.seats.items) where
+  pub s : SeatRecord
+  s = (some_at st.seats.items k there).0
+
+  pub here : slice_get st.seats.items k ≡ Some s
+  unfolding s
+  here = (some_at st.seats.items k there).1
+
+  chosen : first_of (waits_after last) is_wait_before st.seats.items ≡ Some s
+  chosen = sym found ∙ here
+
+  member : Contains st.seats.items s
+  member = first_of_contains (waits_after last) is_wait_before st.seats.items s chosen
+
+  passes : (is_waiting s ≡ true) × (is_after last s ≡ true)
+  passes = and_parts (is_waiting s) (is_after last s) (first_of_passes (waits_after last) is_wait_before st.seats.items s chosen)
+
+  pub one_waits : 0 < waiting_count (machine_of st)
+  one_waits = omega (arith, waiting_falls (machine_of st) s member passes.0)
+
+  number_is : s.number ≡ k
+  number_is = eqb-true s.number k ((found_passes (λ t. t.number == k) st.seats.items s (seat_read st.seats.items k s sound.numbered here)).0)
+
+  only : All (λ t. t.number ≡ k → t ≡ s) st.seats.items
+  only = only_seat 0 (length st.seats.items) k st.seats.items s sound.numbered (seat_read st.seats.items k s sound.numbered here)
+
+  -- whose wait ends now is still to be looked at
+  is_left : (t : SeatRecord) → Contains st.seats.items t → ends_waiting (machine_of st) t ≡ true → waits_after last t ≡ true
+  is_left t c e =
+      let w = (and_parts (is_waiting t) (is_deadline_soon (machine_of st) t || is_timed_out (machine_of st) t) e).0 in
+      let a = all_at (λ u. ends_waiting (machine_of st) u ≡ true → is_after last u ≡ true) st.seats.items t looked c e in
+      rw (w, a) refl
+
+  not_sooner : (t : SeatRecord) → Contains st.seats.items t → waits_after last t ≡ true → is_wait_before t s ≡ false
+  not_sooner t c w = first_of_is_least (waits_after last) (pair_order (λ u. ticket_of u.wait) (λ u. u.number)) st.seats.items s t chosen c w
+
+  comes_after : (t : SeatRecord) → Contains st.seats.items t → waits_after last t ≡ true → (t.number == s.number) ≡ false → is_after (Some (turn_of s)) t ≡ true
+  comes_after t c w other = pair_other (ticket_of s.wait) s.number (ticket_of t.wait) t.number (not_sooner t c w) other
+
+  next_is : ends_waiting (machine_of st) s ≡ true → next_end (machine_of st) ≡ Some s
+  next_is e =
+      first_of_is (ends_waiting (machine_of st)) (pair_order (λ u. ticket_of u.wait) (λ u. u.number)) st.seats.items s member e
+      (λ y c p. not_sooner y c (is_left y c p))
+      (λ y c a b. all_at (λ t. t.number ≡ k → t ≡ s) st.seats.items y only c (pair_same (ticket_of y.wait) y.number (ticket_of s.wait) s.number b a ∙ number_is))
+
+  -- what becomes of it
+  module _ (old new : Outbox) (next : Machine) (looks : LooksAt (machine_of st) k old new next) where
+    pub look_given : Gives WaitEndTurn none_refused (machine_of st) next old new
+    look_given =
+        let is = looks s here passes.0 in
+        elim (cases_Bool (ends_waiting (machine_of st) s)) [
+          | inl e ↦ one_end (machine_of st) next old new s (next_is e) member passes.0 (is.ends e)
+          | inr e ↦ let same = is.stays e in rw (same.machine, same.outs) (gives_nothing WaitEndTurn none_refused refl (machine_of st) old)
+        ]
+
+    pub look_passed : AreLookedAt next (Some (turn_of s))
+    look_passed =
+        let is = looks s here passes.0 in
+        elim (cases_Bool (ends_waiting (machine_of st) s)) [
+          | inl e ↦ subst (λ (n : Machine). AreLookedAt n (Some (turn_of s))) (sym (is.ends e).ended) (
+              all_of_map (λ t. ends_waiting (with_seat s.number without_wait (machine_of st)) t ≡ true → is_after (Some (turn_of s)) t ≡ true) (λ t. if t.number == s.number then without_wait t else t) st.seats.items
+              (all_from_members _ st.seats.items (λ t c. gone t c (t.number == s.number) refl))
+              )
+          | inr e ↦ subst (λ (n : Machine). AreLookedAt n (Some (turn_of s))) (sym (is.stays e).machine)
+              (all_from_members (λ t. ends_waiting (machine_of st) t ≡ true → is_after (Some (turn_of s)) t ≡ true) st.seats.items (λ t c h. stays t c e h (t.number == s.number) refl))
+        ]
+      where
+        gone : (t : SeatRecord) → Contains st.seats.items t → (b : Bool) → (t.number == s.number) ≡ b → ends_waiting (with_seat s.number without_wait (machine_of st)) (if b then without_wait t else t) ≡ true → is_after (Some (turn_of s)) (if b then without_wait t else t) ≡ true
+        gone t c true o h = absurd cc
+        gone t c false o h = comes_after t c (is_left t c h) o
+
+        stays : (t : SeatRecord) → Contains st.seats.items t → ends_waiting (machine_of st) s ≡ false → ends_waiting (machine_of st) t ≡ true → (b : Bool) → (t.number == s.number) ≡ b → is_after (Some (turn_of s)) t ≡ true
+        stays t c e h true o =
+            let same : t ≡ s = all_at (λ u. u.number ≡ k → u ≡ s) st.seats.items t only c (eqb-true t.number s.number o ∙ number_is) in
+            absurd (let x : ends_waiting (machine_of st) t ≡ false = ap (ends_waiting (machine_of st)) same ∙ e in cc)
+        stays t c e h false o = comes_after t c (is_left t c h) o
+
+    pub look_falls : left_after (Some (turn_of s)) next < left_after last (machine_of st)
+    look_falls =
+        let is = looks s here passes.0 in
+        let q = waits_after (Some (turn_of s)) in
+        elim (cases_Bool (ends_waiting (machine_of st) s)) [
+          | inl e ↦ subst (λ (n : Machine). left_after (Some (turn_of s)) n < left_after last (machine_of st)) (sym (is.ends e).ended)
+              (fewer (waits_after last) q (λ t. if t.number == s.number then without_wait t else t) st.seats.items
+              (all_always _ st.seats.items (λ t. less t (t.number == s.number)))
+              (list_any_with (λ t. waits_after last t && not (q (if t.number == s.number then without_wait t else t))) st.seats.items s member
+              (rw (passes.0, passes.1) (out (s.number == s.number) (eq-eqb s.number s.number refl)))))
+          | inr e ↦ subst (λ (n : Machine). left_after (Some (turn_of s)) n < left_after last (machine_of st)) (sym (is.stays e).machine)
+              (subst (λ seats. count_by q seats < count_by (waits_after last) st.seats.items) (map_self st.seats.items)
+              (fewer (waits_after last) q (λ t. t) st.seats.items
+              (all_always _ st.seats.items (λ t. later t))
+              (list_any_with (λ t. waits_after last t && not (q t)) st.seats.items s member
+              (rw (passes.0, passes.1, pair_alone (ticket_of s.wait) s.number) refl))))
+        ]
+      where
+        later : (t : SeatRecord) → waits_after (Some (turn_of s)) t ≡ true → waits_after last t ≡ true
+        later t h =
+            let parts = and_parts (is_waiting t) (is_after (Some (turn_of s)) t) h in
+            rw (parts.0, after_chain last s t passes.1 parts.1) refl
+
+        less : (t : SeatRecord) (b : Bool) → waits_after (Some (turn_of s)) (if b then without_wait t else t) ≡ true → waits_after last t ≡ true
+        less t true h = absurd cc
+        less t false h = later t h
+
+        out : (b : Bool) → b ≡ true → not (waits_after (Some (turn_of s)) (if b then without_wait s else s)) ≡ true
+        out true h = refl
+        out false h = absurd cc
