@@ -286,32 +286,3 @@ fn fault_codes(rt: HostRuntime) -> Result<(), Fail> {
     assert!(rt; DoorFault.code() == 504);
     Ok(())
 }
-
-// Where memory is refused, the run doesn't begin, or the put alone is left out.
-#[test]
-fn memory_refused(rt: HostRuntime) -> Result<(), Fail> {
-    let alloc = rt.alloc();
-    let Ok(sent) = Vec::from_slice(alloc, b"put 5 0 10 3\r\nabc\r\ndelete 1\r\nquit\r\n") else {
-        return Ok(());
-    };
-    let Ok(parts) = vec![in alloc; Part::Bytes(sent)] else {
-        return Ok(());
-    };
-    let Ok(line) = MemLine::new(alloc, parts, ROOM) else {
-        return Ok(());
-    };
-    let Ok(script) = vec![in alloc; Some(0)] else {
-        return Ok(());
-    };
-    let clock = ScriptClock::new(script);
-    match run_one(&rt, alloc, config(65535), line, clock) {
-        Ok(one) => {
-            let written = one.line.written();
-            let left_out = written == b"OUT_OF_MEMORY\r\nNOT_FOUND\r\n".as_slice();
-            assert!(rt; left_out || written == b"INSERTED 1\r\nDELETED\r\n".as_slice());
-            assert!(rt; one.end == LineEnd::Quit);
-        }
-        Err(fault) => assert!(rt; fault == RunFault::NoMemory),
-    }
-    Ok(())
-}

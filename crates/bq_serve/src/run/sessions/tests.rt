@@ -18,6 +18,7 @@ use std::test::Fail;
 use std::thread::Threads;
 
 mod eight_doors;
+mod no_memory;
 
 const ROOM: usize = 1000;
 
