@@ -1,5 +1,5 @@
 -- What the parts of a step ask, in terms of the machine.
-use Rattle.std.proofs.Common.{◌≡◌, ℕ, suc, Bool, true, false, ◌+◌, ◌*◌, ◌≤◌, ◌<◌, ◌==◌, ◌&&◌, ◌||◌, not, cond, List, [], ◌∷◌, Option, Some, None, map, length, refl, sym, ap, ◌∙◌, arith, subst, inl, inr, if◌then◌else◌}
+use Rattle.std.proofs.Common.{◌≡◌, ℕ, suc, Bool, true, false, ◌+◌, ◌-◌, ◌*◌, ◌≤◌, ◌<◌, ◌==◌, ◌&&◌, ◌||◌, not, cond, List, [], ◌∷◌, Option, Some, None, map, length, refl, sym, ap, ◌∙◌, arith, subst, inl, inr, if◌then◌else◌}
 use Rattle.std.proofs.Math.Nat.{suc-mul}
 use Rattle.std.specs.Prelude.{count_by, is_some, option_map}
 use Rattle.std.specs.List.{AllByRecursion as All, list_any, sum_by}
@@ -84,6 +84,9 @@ one_longer Turn refused first last old new gives falls = go gives.given gives.tu
 
 pub no_shorter : (Turn : Machine → GivenAnswer → Machine → Type 0) (refused : List GivenAnswer → Bool) (first last : Machine) (old new : Outbox) → Gives Turn refused first last old new → length old.given ≤ length new.given
 no_shorter Turn refused first last old new gives = let long = ap length gives.added ∙ length-append old.given gives.given in omega arith
+
+pub given_length : (Turn : Machine → GivenAnswer → Machine → Type 0) (refused : List GivenAnswer → Bool) (first last : Machine) (old new : Outbox) → (gives : Gives Turn refused first last old new) → length new.given - length old.given ≡ length gives.given
+given_length Turn refused first last old new gives = let long = ap length gives.added ∙ length-append old.given gives.given in omega arith
 
 -- one more turn, with no more watch entries
 pub one_more_turn : (n more w v : ℕ) → n < more → v ≤ w → n * (w + 9) + (v + 9) ≤ more * (w + 9)

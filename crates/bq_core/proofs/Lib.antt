@@ -9,6 +9,7 @@ pub mod KickLemmas
 pub mod LoopLemmas
 pub mod NameLemmas
 pub mod StateLemmas
+pub mod StepCosts
 pub mod StepLemmas
 pub mod TallyLemmas
 pub mod TallyPlaces
@@ -16,3 +17,4 @@ pub mod TextLemmas
 pub mod TubeLemmas
 pub mod TurnLemmas
 pub mod WaitLemmas
+pub mod WatchLemmas

@@ -99,15 +99,15 @@ given_alike : (m : Machine) (j : Job) (s : SeatRecord) (g : GivenAnswer) (next :
 given_alike m j s g next (inl h) none = subst NoneIsGone (sym h.1) (none_gone_after m (after_hand_out m j s) (hand_out_alike m j s) none)
 given_alike m j s g next (inr h) none = subst NoneIsGone (sym h.1) (none_gone_after m (with_seat s.number without_wait m) (waits_alike m s.number) none)
 
-dispatch_turn_alike : (m : Machine) (g : GivenAnswer) (next : Machine) → DispatchTurn m g next → NoneIsGone m → NoneIsGone next
+pub dispatch_turn_alike : (m : Machine) (g : GivenAnswer) (next : Machine) → DispatchTurn m g next → NoneIsGone m → NoneIsGone next
 dispatch_turn_alike m g next turn none = let t = turn_of m g next turn in given_alike m t.job t.client g next t.hands none
 
-wait_turn_alike : (m : Machine) (g : GivenAnswer) (next : Machine) → WaitEndTurn m g next → NoneIsGone m → NoneIsGone next
+pub wait_turn_alike : (m : Machine) (g : GivenAnswer) (next : Machine) → WaitEndTurn m g next → NoneIsGone m → NoneIsGone next
 wait_turn_alike m g next turn none =
     let e = end_of m g next turn in
     subst NoneIsGone (sym e.next_is) (none_gone_after m (with_seat e.client.number without_wait m) (waits_alike m e.client.number) none)
 
-chain_alike : (Turn : Machine → GivenAnswer → Machine → Type 0) → ((m : Machine) (g : GivenAnswer) (next : Machine) → Turn m g next → NoneIsGone m → NoneIsGone next) → (first : Machine) (given : List GivenAnswer) (last : Machine) → Chain Turn first given last → NoneIsGone first → NoneIsGone last
+pub chain_alike : (Turn : Machine → GivenAnswer → Machine → Type 0) → ((m : Machine) (g : GivenAnswer) (next : Machine) → Turn m g next → NoneIsGone m → NoneIsGone next) → (first : Machine) (given : List GivenAnswer) (last : Machine) → Chain Turn first given last → NoneIsGone first → NoneIsGone last
 chain_alike Turn keeps first [] last chain none = subst NoneIsGone (sym chain) none
 chain_alike Turn keeps first (g ∷ given) last chain none = chain_alike Turn keeps chain.0 given last chain.2 (keeps first g chain.0 chain.1 none)
 
@@ -149,7 +149,7 @@ places_more n =
     ∙ ap (λ k. map empty_seat (numbers 0 n) ++ empty_seat k ∷ []) (omega arith)
 
 -- dispatch and the ends of waits, one after the other
-pub serves_into : (first between last : State) (old middle new : Outbox) → Gives DispatchTurn has_refused_share (machine_of first) (machine_of between) old middle → next_job (machine_of between) ≡ None → Gives WaitEndTurn none_refused (machine_of between) (machine_of last) middle new → next_end (machine_of last) ≡ None → NoneIsGone (machine_of first) → ServesInto (machine_of first) old new (machine_of last)
+unfoldable pub serves_into : (first between last : State) (old middle new : Outbox) → Gives DispatchTurn has_refused_share (machine_of first) (machine_of between) old middle → next_job (machine_of between) ≡ None → Gives WaitEndTurn none_refused (machine_of between) (machine_of last) middle new → next_end (machine_of last) ≡ None → NoneIsGone (machine_of first) → ServesInto (machine_of first) old new (machine_of last)
 serves_into first between last old middle new d dispatched w ended none =
     let then_none = chain_alike DispatchTurn dispatch_turn_alike (machine_of first) d.given (machine_of between) d.turns none in
     let last_none = chain_alike WaitEndTurn wait_turn_alike (machine_of between) w.given (machine_of last) w.turns then_none in
@@ -169,7 +169,7 @@ serves_into first between last old middle new d dispatched w ended none =
       room = λ more h. room_kept WaitEndTurn none_refused more (machine_of between) (machine_of last) middle new w (room_kept DispatchTurn has_refused_share more (machine_of first) (machine_of between) old middle d h);
     }
 
-begins : (first fired : State) (at : ℕ) → IsLawful (machine_of first) → machine_of fired ≡ after_timers (at_moment at (machine_of first)) → forgetting (after_timers (at_moment at (machine_of first))) ≡ machine_of fired
+pub begins : (first fired : State) (at : ℕ) → IsLawful (machine_of first) → machine_of fired ≡ after_timers (at_moment at (machine_of first)) → forgetting (after_timers (at_moment at (machine_of first))) ≡ machine_of fired
 begins first fired at lawful fires = nothing_forgotten (after_timers (at_moment at (machine_of first))) (timers_alike at (machine_of first) lawful.tubes) ∙ sym fires
 
 -- at the beginning of a step there is room for an answer to each waiting client, and one more
@@ -195,7 +195,7 @@ pub record Begun (first : State) (at seat : ℕ) (what : Step) (begun between as
   pub acts : Acts (machine_of served_state) seat what between asked (machine_of acted_state)
   pub forgotten : machine_of left ≡ forgetting (machine_of acted_state)
 
-keeps : (first : State) (at seat : ℕ) (what : Step) (begun between asked : Outbox) (acted_state left : State) (b : Begun first at seat what begun between asked acted_state left) → Keeps (machine_of b.served_state)
+pub keeps : (first : State) (at seat : ℕ) (what : Step) (begun between asked : Outbox) (acted_state left : State) (b : Begun first at seat what begun between asked acted_state left) → Keeps (machine_of b.served_state)
 keeps first at seat what begun between asked acted_state left b =
     let h = kept_of_timers at (machine_of first) (kept_of_lawful (machine_of first) b.lawful) in
     (served (machine_of b.fired) b.serves.handed b.serves.ended (machine_of b.served_state) (subst Keeps (begins first b.fired at b.lawful b.fires) h) b.serves.serves).keeps
@@ -212,7 +212,7 @@ room_after_act first at seat what begun between asked acted_state left b h =
     let most = a.most in
     omega arith
 
-pub whole_step : (first : State) (at seat : ℕ) (what : Step) (begun between asked new : Outbox) (acted_state left last : State) → begun.given ≡ [] → begun.left_out ≡ false → begun.unshared ≡ false → Begun first at seat what begun between asked acted_state left → ServesInto (machine_of left) asked new (machine_of last) → IsStep (machine_of first) at seat what (record { left_out = new.left_out; unshared = new.unshared }) new.given (machine_of last)
+unfoldable pub whole_step : (first : State) (at seat : ℕ) (what : Step) (begun between asked new : Outbox) (acted_state left last : State) → begun.given ≡ [] → begun.left_out ≡ false → begun.unshared ≡ false → Begun first at seat what begun between asked acted_state left → ServesInto (machine_of left) asked new (machine_of last) → IsStep (machine_of first) at seat what (record { left_out = new.left_out; unshared = new.unshared }) new.given (machine_of last)
 whole_step first at seat what begun between asked new acted_state left last empty in_it shared b y =
     let x = b.serves in
     let a = b.acts in

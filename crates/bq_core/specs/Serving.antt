@@ -1,10 +1,14 @@
 -- Dispatch, and then the ends of waits, with their answers added.
-use Rattle.std.specs.Prelude.{ℕ, ◌≡◌, ◌||◌, ◌++◌, List, IsTrue}
+use Rattle.std.specs.Prelude.{ℕ, ◌≡◌, ◌+◌, ◌*◌, ◌||◌, ◌++◌, List, IsTrue, length}
 use Rattle.std.specs.List.{list_all}
+use Rattle.bq_job.specs.Computed.{waiting_count}
 use Rattle.bq_job.specs.Dispatch.{GivenAnswer}
 use Rattle.bq_job.specs.Machine.{Machine}
 use Rattle.bq_job.specs.Steps.{Serves, has_refused_share}
 use Rattle.bq_job.specs.Tubes.{is_tube}
+use Rattle.bq_jobs.specs.Kept.{Kept}
+use Rattle.bq_core.specs.Asking.{Asks}
+use Rattle.bq_core.specs.Cost.{waited}
 use Rattle.bq_core.specs.Outbox.{Outbox}
 use Rattle.bq_core.specs.Turns.{HasRoom}
 
@@ -22,3 +26,9 @@ pub record ServesInto (first : Machine) (old new : Outbox) (last : Machine) : Ty
   pub unshared : new.unshared ≡ (old.unshared || has_refused_share handed)
   pub tubes : NoneIsGone last
   pub room : (more : ℕ) → HasRoom more first old → HasRoom more last new
+
+-- The same, and how often the jobs were asked: for each job that was handed out as often as the waiting clients
+-- watch tubes, and nine times more; once as often as they watch tubes, and once for each of them.
+pub record ServesAsking (first : Machine) (old new : Outbox) (last : Machine) (before after : Kept) : Type 0 where
+  pub serves : ServesInto first old new last
+  pub asks : Asks (length serves.handed * (waited first + 9) + waited first + waiting_count first + 1) before after

@@ -5,6 +5,7 @@ ghost use Rattle.bq_job.specs.Changes.{seat_with};
 ghost use Rattle.bq_job.specs.Machine.{SeatRecord};
 ghost use Rattle.bq_job.specs.Steps.{step_takes_memory, takes_memory};
 ghost use Rattle.bq_core.specs.Acting.{Acts, Replies, is_asking};
+ghost use Rattle.bq_core.specs.Asking.{AsksAsChanged};
 ghost use Rattle.bq_core.specs.State.{machine_of, IsSound};
 ghost use Rattle.bq_core.specs.Stirring.{may_change, may_stir};
 ghost use Rattle.bq_core.specs.Turns.{HasRoom};
@@ -22,6 +23,7 @@ use std::alloc::Global;
 fn connect(state: &mut State, seat: Seat)
     requires { IsSound state.old }
     ensures after { machine_of state.new ≡ (effect (machine_of state.old) seat steps.Connect).machine }
+    ensures jobs { state.new.jobs ≡ state.old.jobs }
     ensures sound { IsSound state.new }
     ensures config { state.new.config ≡ state.old.config }
 {
@@ -34,6 +36,7 @@ fn connect(state: &mut State, seat: Seat)
 fn end(state: &mut State, seat: Seat)
     requires { IsSound state.old }
     ensures after { machine_of state.new ≡ (effect (machine_of state.old) seat steps.End).machine }
+    ensures jobs { state.new.jobs ≡ state.old.jobs }
     ensures sound { IsSound state.new }
     ensures config { state.new.config ≡ state.old.config }
 {
@@ -46,6 +49,7 @@ fn end(state: &mut State, seat: Seat)
 fn close(state: &mut State, seat: Seat) -> Option<Answer>
     requires { IsSound state.old }
     ensures reply { effect (machine_of state.old) seat steps.Close ≡ record { machine = machine_of state.new; answer = result } }
+    ensures asks { AsksAsChanged state.old.jobs state.new.jobs }
     ensures sound { IsSound state.new }
     ensures config { state.new.config ≡ state.old.config }
 {
@@ -74,6 +78,7 @@ fn answer(state: &mut State, alloc: Global, seat: Seat, request: Request) -> Rep
     requires sound { IsSound state.old }
     requires asks { is_asking (seat_with seat state.old.seats.items) ≡ true }
     ensures reply { (s : SeatRecord) → seat_with seat (machine_of state.old).seats ≡ Some s → Replies (takes_memory request) (machine_of state.old) (asked request (machine_of state.old) s) result (machine_of state.new) }
+    ensures asks { AsksAsChanged state.old.jobs state.new.jobs }
     ensures sound { IsSound state.new }
     ensures config { state.new.config ≡ state.old.config }
 {
@@ -136,6 +141,7 @@ fn answer(state: &mut State, alloc: Global, seat: Seat, request: Request) -> Rep
 fn reply_to(state: &mut State, alloc: Global, seat: Seat, what: Step) -> Reply
     requires sound { IsSound state.old }
     ensures reply { Replies (step_takes_memory what) (machine_of state.old) (effect (machine_of state.old) seat what) result (machine_of state.new) }
+    ensures asks { AsksAsChanged state.old.jobs state.new.jobs }
     ensures sound { IsSound state.new }
     ensures config { state.new.config ≡ state.old.config }
 {
@@ -202,6 +208,7 @@ pub(crate) fn act(state: &mut State, alloc: Global, seat: Seat, what: Step, outs
     requires sound { IsSound state.old }
     requires room { HasRoom 1 (machine_of state.old) outs.old }
     ensures acts { Acts (machine_of state.old) seat what outs.old outs.new (machine_of state.new) }
+    ensures asks { AsksAsChanged state.old.jobs state.new.jobs }
     ensures sound { IsSound state.new }
     ensures config { state.new.config ≡ state.old.config }
 {

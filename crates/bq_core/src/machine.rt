@@ -4,9 +4,10 @@ ghost use Rattle.bq_job.specs.Lawful.{IsLawful};
 ghost use Rattle.bq_job.specs.Machine.{new_machine};
 ghost use Rattle.bq_job.specs.NextDue.{next_due};
 ghost use Rattle.bq_job.specs.Steps.{IsStep};
+ghost use Rattle.bq_core.specs.Cost.{IsStepWithin};
 ghost use Rattle.bq_core.specs.Limits.{is_body_size, is_seat_count};
 ghost use Rattle.bq_core.specs.State.{machine_of, settings_of, IsSound};
-ghost use Rattle.bq_core.specs.Serving.{NoneIsGone, ServesInto};
+ghost use Rattle.bq_core.specs.Serving.{NoneIsGone, ServesAsking};
 ghost use Rattle.bq_core.specs.Turns.{HasRoom};
 
 use crate::config::{Config, CoreFault};
@@ -42,7 +43,7 @@ fn serve(state: &mut State, outs: &mut Outs, has_stirred: bool)
     requires quiet { has_stirred ≡ false → next_job (machine_of state.old) ≡ None }
     requires tubes { NoneIsGone (machine_of state.old) }
     requires room { HasRoom 0 (machine_of state.old) outs.old }
-    ensures served { ServesInto (machine_of state.old) outs.old outs.new (machine_of state.new) }
+    ensures served { ServesAsking (machine_of state.old) outs.old outs.new (machine_of state.new) state.old.jobs state.new.jobs }
     ensures sound { IsSound state.new }
     ensures config { state.new.config ≡ state.old.config }
 {
@@ -56,6 +57,7 @@ fn take_step(state: &mut State, alloc: Global, at: Moment, seat: Seat, what: Ste
     requires sound { IsSound state.old }
     requires room { state.old.config.seats < outs.old.most }
     ensures step { IsStep (machine_of state.old) at seat what (record { left_out = outs.new.left_out; unshared = outs.new.unshared }) outs.new.given (machine_of state.new) }
+    ensures comparisons { IsStepWithin (machine_of state.old) at seat what (record { left_out = outs.new.left_out; unshared = outs.new.unshared }) outs.new.given (machine_of state.new) state.old.jobs.comparisons state.new.jobs.comparisons }
     ensures most { outs.new.most ≡ outs.old.most }
     ensures sound { IsSound state.new }
     ensures config { state.new.config ≡ state.old.config }
@@ -115,6 +117,7 @@ impl Core {
     pub fn step(&mut self, at: Moment, seat: Seat, what: Step, outs: &mut Outs)
         requires room { self.old.machine.settings.seats < outs.old.most }
         ensures step { IsStep self.old.machine at seat what (record { left_out = outs.new.left_out; unshared = outs.new.unshared }) outs.new.given self.new.machine }
+        ensures comparisons { IsStepWithin self.old.machine at seat what (record { left_out = outs.new.left_out; unshared = outs.new.unshared }) outs.new.given self.new.machine self.old.comparisons self.new.comparisons }
         ensures lawful { IsLawful self.new.machine }
         ensures most { outs.new.most ≡ outs.old.most }
         ensures settings { self.new.machine.settings ≡ self.old.machine.settings }

@@ -7,6 +7,7 @@ ghost use Rattle.bq_job.specs.Statistics.{job_statistics};
 ghost use Rattle.bq_job.specs.StatisticsCommands.{list_tubes_effect, list_watched_effect, stats_effect, stats_job_effect, stats_tube_effect};
 ghost use Rattle.bq_jobs.specs.Kept.{ComparesAtMost};
 ghost use Rattle.bq_core.specs.Acting.{Replies};
+ghost use Rattle.bq_core.specs.Asking.{AsksAsChanged};
 ghost use Rattle.bq_core.specs.Numbers.{AreOfServer, AreOfTube};
 ghost use Rattle.bq_core.specs.State.{machine_of, IsSound};
 
@@ -41,6 +42,7 @@ fn text_of_job(
 pub(crate) fn stats_job(state: &mut State, alloc: Global, id: JobId) -> Reply
     requires { IsSound state.old }
     ensures reply { Replies true (machine_of state.old) (stats_job_effect id (machine_of state.old)) result (machine_of state.new) }
+    ensures asks { AsksAsChanged state.old.jobs state.new.jobs }
     ensures sound { IsSound state.new }
     ensures config { state.new.config ≡ state.old.config }
 {

@@ -1,8 +1,15 @@
-use Rattle.std.proofs.Common.{◌∙◌, ap, sym, subst, ◌<◌}
+use Rattle.std.proofs.Common.{◌∙◌, ◌+◌, ◌*◌, ap, arith, sym, subst, ◌<◌}
+use Rattle.std.specs.Prelude.{count_by}
+use Rattle.bq_job.specs.Machine.{Machine}
+use Rattle.bq_jobs.specs.Kept.{Kept}
+use Rattle.bq_core.specs.Asking.{Asks, AsksAsChanged}
+use Rattle.bq_core.specs.Firing.{is_ripe}
 use Rattle.bq_job.specs.Dispatch.{next_job}
 use Rattle.bq_job.specs.Timers.{after_timers}
 use Rattle.bq_core.specs.Serving.{NoneIsGone}
 use Rattle.bq_core.specs.State.{machine_of}
+use Rattle.bq_core.proofs.AskLemmas.{asks_more}
+use Rattle.bq_core.proofs.StepCosts.{step_within}
 use Rattle.bq_core.proofs.StepLemmas.{first_room, forgotten_none, less_room, quiet_after_act, room_after_act, timers_alike, whole_step}
 use Rattle.bq_core.proofs.machine.take_step.Goals as goal
 
@@ -21,7 +28,7 @@ pub act-requires-clause-room : goal.act-requires-clause-room
 act-requires-clause-room c =
     let fires = c.fire-has_fired.ensures.after ∙ ap after_timers c.raise_moment.ensures.after in
     let most : c.args.state.now.config.seats < c.begin.new.self.most = rw c.begin.ensures c.requires.room in
-    c.serve.ensures.served.room 1 (first_room c.args.state.now c.fire-has_fired.new.state c.args.at c.begin.new.self c.requires.lawful fires (ap (λ o. o.given) c.begin.ensures) most)
+    c.serve.ensures.served.serves.room 1 (first_room c.args.state.now c.fire-has_fired.new.state c.args.at c.begin.new.self c.requires.lawful fires (ap (λ o. o.given) c.begin.ensures) most)
 
 pub serve-requires-2-clause-tubes : goal.serve-requires-2-clause-tubes
 serve-requires-2-clause-tubes c = subst NoneIsGone (sym c.forget_tubes.ensures.after) (forgotten_none (machine_of c.act.new.state))
@@ -31,16 +38,16 @@ serve-requires-2-clause-room c =
     let fires = c.fire-has_fired.ensures.after ∙ ap after_timers c.raise_moment.ensures.after in
     let most : c.args.state.now.config.seats < c.begin.new.self.most = rw c.begin.ensures c.requires.room in
     room_after_act c.args.state.now c.args.at c.args.seat c.args.what c.begin.new.self c.serve.new.outs c.act.new.outs c.act.new.state c.forget_tubes.new.state
-    (record { fired = c.fire-has_fired.new.state; served_state = c.serve.new.state; lawful = c.requires.lawful; fires = fires; serves = c.serve.ensures.served; acts = c.act.ensures.acts; forgotten = c.forget_tubes.ensures.after })
-    (c.serve.ensures.served.room 1 (first_room c.args.state.now c.fire-has_fired.new.state c.args.at c.begin.new.self c.requires.lawful fires (ap (λ o. o.given) c.begin.ensures) most))
+    (record { fired = c.fire-has_fired.new.state; served_state = c.serve.new.state; lawful = c.requires.lawful; fires = fires; serves = c.serve.ensures.served.serves; acts = c.act.ensures.acts; forgotten = c.forget_tubes.ensures.after })
+    (c.serve.ensures.served.serves.room 1 (first_room c.args.state.now c.fire-has_fired.new.state c.args.at c.begin.new.self c.requires.lawful fires (ap (λ o. o.given) c.begin.ensures) most))
 
 pub returns-clause-step : goal.returns-clause-step
 returns-clause-step c =
     let fires = c.fire-has_fired.ensures.after ∙ ap after_timers c.raise_moment.ensures.after in
     whole_step c.args.state.now c.args.at c.args.seat c.args.what c.begin.new.self c.serve.new.outs c.act.new.outs c.serve-2.new.outs c.act.new.state c.forget_tubes.new.state c.serve-2.new.state
     (ap (λ o. o.given) c.begin.ensures) (ap (λ o. o.left_out) c.begin.ensures) (ap (λ o. o.unshared) c.begin.ensures)
-    (record { fired = c.fire-has_fired.new.state; served_state = c.serve.new.state; lawful = c.requires.lawful; fires = fires; serves = c.serve.ensures.served; acts = c.act.ensures.acts; forgotten = c.forget_tubes.ensures.after })
-    c.serve-2.ensures.served
+    (record { fired = c.fire-has_fired.new.state; served_state = c.serve.new.state; lawful = c.requires.lawful; fires = fires; serves = c.serve.ensures.served.serves; acts = c.act.ensures.acts; forgotten = c.forget_tubes.ensures.after })
+    c.serve-2.ensures.served.serves
 
 pub serve-requires-clause-quiet : goal.serve-requires-clause-quiet
 serve-requires-clause-quiet c none = c.fire-has_fired.ensures.quiet none ∙ ap next_job c.raise_moment.ensures.after ∙ c.requires.lawful.dispatched
@@ -49,5 +56,20 @@ pub serve-requires-2-clause-quiet : goal.serve-requires-2-clause-quiet
 serve-requires-2-clause-quiet c none =
     let fires = c.fire-has_fired.ensures.after ∙ ap after_timers c.raise_moment.ensures.after in
     quiet_after_act c.args.state.now c.args.at c.args.seat c.args.what c.begin.new.self c.serve.new.outs c.act.new.outs c.act.new.state c.forget_tubes.new.state
-    (record { fired = c.fire-has_fired.new.state; served_state = c.serve.new.state; lawful = c.requires.lawful; fires = fires; serves = c.serve.ensures.served; acts = c.act.ensures.acts; forgotten = c.forget_tubes.ensures.after })
+    (record { fired = c.fire-has_fired.new.state; served_state = c.serve.new.state; lawful = c.requires.lawful; fires = fires; serves = c.serve.ensures.served.serves; acts = c.act.ensures.acts; forgotten = c.forget_tubes.ensures.after })
     (sym c.may_stir-has_stirred.ensures ∙ none)
+
+pub returns-clause-comparisons : goal.returns-clause-comparisons
+returns-clause-comparisons c =
+    let st = c.args.state.now in
+    let fires = c.fire-has_fired.ensures.after ∙ ap after_timers c.raise_moment.ensures.after in
+    let raised = c.raise_moment.ensures.after in
+    let ripe = ap (λ (x : Machine). count_by (is_ripe x.moment) x.jobs) raised in
+    let timers = asks_more _ (omega (arith, ripe)) (subst (λ (k : Kept). Asks (10 * count_by (is_ripe c.raise_moment.new.state.moment) (machine_of c.raise_moment.new.state).jobs + 2) k c.fire-has_fired.new.state.jobs) c.raise_moment.ensures.jobs c.fire-has_fired.ensures.asks) in
+    step_within st c.args.at c.args.seat c.args.what c.begin.new.self c.serve.new.outs c.act.new.outs c.serve-2.new.outs c.act.new.state c.forget_tubes.new.state c.serve-2.new.state
+    (ap (λ o. o.given) c.begin.ensures) (ap (λ o. o.left_out) c.begin.ensures) (ap (λ o. o.unshared) c.begin.ensures)
+    (record { fired = c.fire-has_fired.new.state; served_state = c.serve.new.state; lawful = c.requires.lawful; fires = fires; serves = c.serve.ensures.served.serves; acts = c.act.ensures.acts; forgotten = c.forget_tubes.ensures.after })
+    c.serve-2.ensures.served.serves
+    timers c.serve.ensures.served.asks
+    (subst (λ (k : Kept). AsksAsChanged c.serve.new.state.jobs k) (sym c.forget_tubes.ensures.jobs) c.act.ensures.asks)
+    c.serve-2.ensures.served.asks

@@ -1,0 +1,124 @@
+-- What a whole step asks of the shelves, out of its parts.
+use Rattle.std.proofs.Common.{◌≡◌, ℕ, Bool, true, false, ◌+◌, ◌*◌, ◌≤◌, List, [], None, cond, length, max, refl, sym, ap, ◌∙◌, arith, subst}
+use Rattle.std.proofs.Math.Nat.{add-mul}
+use Rattle.std.specs.List.{sum_by}
+use Rattle.std.proofs.lemmas.Nat.{mul-le}
+use Rattle.bq_job.specs.declared.step.Step.{Step}
+use Rattle.bq_job.specs.Changes.{is_waiting, without_wait}
+use Rattle.bq_job.specs.Computed.{waiting_count}
+use Rattle.bq_job.specs.Dispatch.{DispatchTurn, GivenAnswer}
+use Rattle.bq_job.specs.Machine.{Machine, SeatRecord}
+use Rattle.bq_job.specs.Steps.{Serves, acted, has_refused_share}
+use Rattle.bq_job.specs.Waits.{WaitEndTurn, next_end}
+use Rattle.bq_job.specs.Dispatch.{next_job}
+use Rattle.bq_job.proofs.LawfulLemmas.{leaves_acted}
+use Rattle.bq_jobs.specs.Kept.{Kept}
+use Rattle.bq_core.specs.declared.state.State.{State}
+use Rattle.bq_core.specs.Asking.{Asks, AsksAsChanged, AsksByTurn, search_among}
+use Rattle.bq_core.specs.Cost.{IsStepWithin, changed_jobs, entries, entries_with, ripening, waited, waited_entries}
+use Rattle.bq_core.specs.Outbox.{Outbox}
+use Rattle.bq_core.specs.Serving.{NoneIsGone, ServesAsking, ServesInto}
+use Rattle.bq_core.specs.State.{machine_of}
+use Rattle.bq_core.specs.Turns.{Gives, none_refused}
+use Rattle.bq_core.proofs.AskLemmas.{asks_more, asks_then, search_grows}
+use Rattle.bq_core.proofs.CostLemmas.{ended_stop, entries_less, given_length, handed_stop}
+use Rattle.bq_core.proofs.StepLemmas.{Begun, keeps, serves_into, whole_step}
+use Rattle.bq_core.proofs.WatchLemmas.{acted_few, waited_few, waiting_few}
+
+-- dispatch and the ends of waits, one after the other
+pub serves_asking : (first between last : State) (old middle new : Outbox) → Gives DispatchTurn has_refused_share (machine_of first) (machine_of between) old middle → next_job (machine_of between) ≡ None → Gives WaitEndTurn none_refused (machine_of between) (machine_of last) middle new → next_end (machine_of last) ≡ None → NoneIsGone (machine_of first)
+    → AsksByTurn (waited (machine_of first)) old middle first.jobs between.jobs → Asks (waiting_count (machine_of between) + 1) between.jobs last.jobs → ServesAsking (machine_of first) old new (machine_of last) first.jobs last.jobs
+unfolding serves_into
+serves_asking first between last old middle new d dispatched w ended none a b =
+    let n = waited (machine_of first) + 9 in
+    let turns = ap (λ k. k * n) (given_length DispatchTurn has_refused_share (machine_of first) (machine_of between) old middle d) in
+    record {
+      serves = serves_into first between last old middle new d dispatched w ended none;
+      asks = asks_more _ (omega (arith, turns, d.taken)) (asks_then a b);
+    }
+
+-- what is counted of seats falls as jobs are handed out and waits end
+serve_falls : (f : SeatRecord → ℕ) → ((s : SeatRecord) → f (without_wait s) ≤ f s) → (first : Machine) (handed ended : List GivenAnswer) (last : Machine) → Serves first handed ended last → sum_by f last.seats ≤ sum_by f first.seats
+serve_falls f less first handed ended last s =
+    let d = s.dispatches in
+    let e = s.ends_waits in
+    let between = ap (λ (m : Machine). sum_by f m.seats) d.forgets in
+    let after = ap (λ (m : Machine). sum_by f m.seats) e.forgets in
+    omega (arith, handed_stop f less first handed d.end d.turns, ended_stop f less s.between ended e.end e.turns, between, after)
+
+-- The parts of a step ask no more than its changes allow.
+bounded : (t h c g q w v x y : ℕ) → w ≤ q → v ≤ q → x ≤ q → y ≤ q + 1
+    → (10 * t + 2) + (h * (w + 9) + w + v + 1) + (9 * c + 10) + (g * (x + 9) + x + y + 1) ≤ (t + h + g + c + 8) * (q + 16)
+bounded t h c g q w v x y a b d e =
+    let r = q + 16 in
+    omega (
+      arith,
+      mul-le h (w + 9) h r (omega arith) (omega arith),
+      mul-le g (x + 9) g r (omega arith) (omega arith),
+      mul-le t 10 t r (omega arith) (omega arith),
+      mul-le c 9 c r (omega arith) (omega arith),
+      add-mul (t + h + g + c) 8 r,
+      add-mul (t + h + g) c r,
+      add-mul (t + h) g r,
+      add-mul t h r,
+    )
+
+-- four parts, each of which asks among no more jobs than there are at most
+summed : (first fired before left last : Kept) (n k c g most : ℕ) → Asks n first fired → Asks k fired before → AsksAsChanged before left → Asks g left last
+    → n + k + (9 * changed_jobs before.jobs left.jobs + 10) + g ≤ most → last.comparisons ≤ first.comparisons + most * search_among (max (length first.jobs) (length last.jobs))
+summed first fired before left last n k c g most a b d e few =
+    let jobs = max (length first.jobs) (length last.jobs) in
+    let s = search_among jobs in
+    let l = 9 * changed_jobs before.jobs left.jobs + 10 in
+    let o = max (length before.jobs) (length left.jobs) in
+    let p = a.many in
+    let q = b.many in
+    let r = e.many in
+    omega (
+      arith,
+      a.rise,
+      b.rise,
+      d.rise,
+      e.rise,
+      mul-le n (search_among (length first.jobs)) n s (omega arith) (search_grows (length first.jobs) jobs (omega arith)),
+      mul-le k (search_among (length fired.jobs)) k s (omega arith) (search_grows (length fired.jobs) jobs (omega arith)),
+      mul-le l (search_among o) l s (omega arith) (search_grows o jobs (omega arith)),
+      mul-le g (search_among (length left.jobs)) g s (omega arith) (search_grows (length left.jobs) jobs (omega arith)),
+      mul-le (n + k + l + g) s most s few (omega arith),
+      add-mul (n + k + l) g s,
+      add-mul (n + k) l s,
+      add-mul n k s,
+    )
+
+waits_less : (s : SeatRecord) → cond (is_waiting (without_wait s)) 1 0 ≤ cond (is_waiting s) 1 0
+waits_less s = omega arith
+
+-- A step is within its bound.
+pub step_within : (first : State) (at seat : ℕ) (what : Step) (begun between asked new : Outbox) (acted_state left last : State) → begun.given ≡ [] → begun.left_out ≡ false → begun.unshared ≡ false → (b : Begun first at seat what begun between asked acted_state left) → (y : ServesInto (machine_of left) asked new (machine_of last))
+    → Asks (10 * ripening at (machine_of first) + 2) first.jobs b.fired.jobs
+    → Asks (length b.serves.handed * (waited (machine_of b.fired) + 9) + waited (machine_of b.fired) + waiting_count (machine_of b.fired) + 1) b.fired.jobs b.served_state.jobs
+    → AsksAsChanged b.served_state.jobs left.jobs
+    → Asks (length y.handed * (waited (machine_of left) + 9) + waited (machine_of left) + waiting_count (machine_of left) + 1) left.jobs last.jobs
+    → IsStepWithin (machine_of first) at seat what (record { left_out = new.left_out; unshared = new.unshared }) new.given (machine_of last) first.jobs.comparisons last.jobs.comparisons
+unfolding whole_step
+step_within first at seat what begun between asked new acted_state left last empty in_it shared b y timers serves acts serves_then =
+    let m = machine_of first in
+    let fired = machine_of b.fired in
+    let before = machine_of b.served_state in
+    let q = entries seat m in
+    let e = acted b.acts.memory before seat what in
+    let kept = keeps first at seat what begun between asked acted_state left b in
+    let w : waited fired ≤ q = subst (λ (x : Machine). waited x ≤ q) (sym b.fires) (waited_few seat m) in
+    let v : waiting_count fired ≤ q = subst (λ (x : Machine). waiting_count x ≤ q) (sym b.fires) (waiting_few seat m b.lawful) in
+    let entered : entries seat fired ≤ q = subst (λ (x : Machine). entries seat x ≤ q) (sym b.fires) (omega arith) in
+    let falls = serve_falls (entries_with seat) (entries_less seat) fired b.serves.handed b.serves.ended before b.serves.serves in
+    let fewer = serve_falls (λ s. cond (is_waiting s) 1 0) waits_less fired b.serves.handed b.serves.ended before b.serves.serves in
+    let x : waited (machine_of left) ≤ q = (let here = ap waited b.forgotten ∙ ap waited b.acts.after in omega (arith, here, acted_few b.acts.memory before seat what kept.seated, falls, entered)) in
+    let z : waiting_count (machine_of left) ≤ q + 1 =
+    (let here = ap waiting_count b.forgotten ∙ ap waiting_count b.acts.after in
+    omega (arith, here, (leaves_acted b.acts.memory before seat what kept).waiting, fewer, v)) in
+    record {
+      step = whole_step first at seat what begun between asked new acted_state left last empty in_it shared b y;
+      comparisons = summed first.jobs b.fired.jobs b.served_state.jobs left.jobs last.jobs _ _ 0 _ _ timers serves acts serves_then
+          (bounded (ripening at m) (length b.serves.handed) (changed_jobs b.served_state.jobs.jobs left.jobs.jobs) (length y.handed) q (waited fired) (waiting_count fired) (waited (machine_of left)) (waiting_count (machine_of left)) w v x z);
+    }
