@@ -1,6 +1,7 @@
 -- What happens at a desk, step by step.
 use Rattle.std.proofs.Common.{◌≡◌, ◌≢◌, ℕ, ◌<◌, Bool, false, List, [], ◌∷◌, ◌++◌, Option, map, length, refl, sym, ap, ◌∙◌, arith, subst, inl, inr, append-nil, append_assoc}
 use Rattle.std.specs.Prelude.{◌==◌, if◌then◌else◌}
+use Rattle.std.specs.Option.{option_to_list}
 use Rattle.std.proofs.lemmas.Bool.{cases_Bool, eq-eqb, eqb-true}
 use Rattle.bq_job.specs.declared.answer.Answer.{Answer}
 use Rattle.bq_job.specs.declared.step.Step.{Step}
@@ -249,3 +250,37 @@ went_then given seat other first next last submitted more taken later same a b =
 pub went_sorted : {C : Type 0} (given : C → List (Option ℕ) → C → Type 0) (seat : ℕ) (first last : Desk C) → IsSorted (state_of first) (state_of last) → last.clock ≡ first.clock → WentAt given seat first [] [] last
 went_sorted given seat first last s same =
     ([], subst (λ c. GaveReadings given first.clock [] c) (sym same) (gave_none given first.clock), seat_sorted (state_of first) (state_of last) seat s)
+
+-- The clock was read once, and the core took a step at the moment heard then.
+pub went_step : {C : Type 0} (given : C → List (Option ℕ) → C → Type 0) (seat : ℕ) (what : Step) (first heard last : Desk C) (reading : Option ℕ) (outcome : Outcome)
+    → GaveReadings given first.clock (reading ∷ []) last.clock → heard.heard ≡ moment_heard first.heard reading → heard.core.machine ≡ first.core.machine
+    → IsStep heard.core.machine heard.heard seat what outcome last.outs.given last.core.machine
+    → last.heard ≡ heard.heard → last.mails ≡ first.mails → last.held ≡ first.held → (state_of first).pending ≡ []
+    → WentAt given seat first (if is_tick what then [] else what ∷ []) [] last
+went_step given seat what first heard last reading outcome gave moment core step heard_is mails held empty =
+    let there = subst (λ (m : Machine). IsStep m heard.heard seat what outcome last.outs.given last.core.machine) core step in
+    let timed = subst (λ (n : ℕ). IsStep first.core.machine n seat what outcome last.outs.given last.core.machine) moment there in
+    let none : option_to_list last.held ≡ [] = ap (λ (xs : Option GivenAnswer). option_to_list xs) held ∙ none_held (option_to_list first.held) first.outs.given empty in (
+      reading ∷ [],
+      gave,
+      one_step (state_of first) (state_of last) seat what reading outcome last.outs.given timed (heard_is ∙ moment) (ap (λ ms. ms.items) mails) empty (ap (λ (xs : List GivenAnswer). xs ++ last.outs.given) none),
+    )
+
+-- The clock was read once, and no step was taken.
+pub went_heard : {C : Type 0} (given : C → List (Option ℕ) → C → Type 0) (seat : ℕ) (first last : Desk C) (reading : Option ℕ)
+    → GaveReadings given first.clock (reading ∷ []) last.clock → last.heard ≡ moment_heard first.heard reading → last.core.machine ≡ first.core.machine
+    → last.outs ≡ first.outs → last.mails ≡ first.mails → last.held ≡ first.held → WentAt given seat first [] [] last
+went_heard given seat first last reading gave moment core outs mails held = (
+  reading ∷ [],
+  gave,
+  seat_heard (state_of first) (state_of last) seat reading core moment (ap (λ ms. ms.items) mails)
+      (ap (λ (xs : Option GivenAnswer). option_to_list xs ++ last.outs.given) held ∙ ap (λ o. option_to_list first.held ++ o.given) outs),
+)
+
+-- No step was taken, and the clock was left alone.
+pub went_same : {C : Type 0} (given : C → List (Option ℕ) → C → Type 0) (seat : ℕ) (first last : Desk C) → state_of last ≡ state_of first → last.clock ≡ first.clock → WentAt given seat first [] [] last
+went_same given seat first last same clock = (
+  [],
+  subst (λ c. GaveReadings given first.clock [] c) (sym clock) (gave_none given first.clock),
+  subst (λ (d : DeskState). SeatWent seat (state_of first) [] [] [] d) (sym same) (seat_none (state_of first) seat),
+)

@@ -18,5 +18,6 @@ pub mod RunSettings
 pub mod ScriptPlace
 pub mod Sessions
 pub mod Tending
+pub mod TimePassing
 pub mod Turns
 pub mod Writing

@@ -26,11 +26,14 @@ pub struct Desk<C> {
 }
 
 impl<C: Clock + Drop> Desk<C> {
-    ghost use Rattle.bq_serve.specs.DeskOf.{WentAt, state_of};
+    ghost use Rattle.bq_job.specs.History.{is_tick};
+    ghost use Rattle.bq_job.specs.NextDue.{next_due};
+    ghost use Rattle.bq_serve.specs.DeskOf.{GaveReadings, WentAt, state_of};
     ghost use Rattle.bq_serve.specs.DeskState.{HasMails, IsNewDesk, IsSorted};
     ghost use Rattle.bq_core.specs.Limits.{is_body_size, is_seat_count};
     ghost use Rattle.bq_core.specs.State.{settings_of};
     ghost use Rattle.bq_serve.specs.Links.{Submits, as_submitted};
+    ghost use Rattle.bq_serve.specs.TimePassing.{PassesTime};
     ghost use Rattle.std.specs.Prelude.{if◌then◌else◌};
 
     /// A desk at which nothing was done. All memory but that for jobs and answers is asked for here.
@@ -101,19 +104,19 @@ impl<C: Clock + Drop> Desk<C> {
         }
     }
 
-    // The clock is read where the core is ever due. The reading that finds it due is the tick's.
+    // The clock is read where the core is ever due, and the core takes a tick exactly where it is due by then.
     fn tick_if_due(&mut self, seat: Seat)
         requires mails { HasMails (state_of self.old) }
         requires empty { (state_of self.old).pending ≡ [] }
         ensures mails { HasMails (state_of self.new) }
         ensures many { length (state_of self.new).mails ≡ length (state_of self.old).mails }
+        ensures passes { PassesTime C.given seat (next_due (state_of self.old).core) self.old self.new }
         ensures went { WentAt C.given seat self.old [] [] self.new }
     {
         let Some(due) = self.core.next_due() else {
             return;
         };
-        let reading = self.clock.now();
-        self.heard = moment_heard(self.heard, reading);
+        self.hear();
         if due <= self.heard {
             self.core.step(self.heard, seat, Step::Tick, &mut self.outs);
         }
@@ -167,8 +170,22 @@ impl<C: Clock + Drop> Desk<C> {
         ensures many { length (state_of self.new).mails ≡ length (state_of self.old).mails }
         ensures went { WentAt C.given seat self.old (as_submitted what) [] self.new }
     {
-        self.heard = moment_heard(self.heard, self.clock.now());
+        self.hear();
         self.core.step(self.heard, seat, what, &mut self.outs);
+    }
+
+    // Reads the clock once. The moment heard last follows the reading, which is answered.
+    fn hear(&mut self) -> Option<Moment>
+        ensures read { GaveReadings C.given self.old.clock (result ∷ []) self.new.clock }
+        ensures heard { self.new.heard ≡ moment_heard self.old.heard result }
+        ensures core { self.new.core ≡ self.old.core }
+        ensures outs { self.new.outs ≡ self.old.outs }
+        ensures held { self.new.held ≡ self.old.held }
+        ensures mails { self.new.mails ≡ self.old.mails }
+    {
+        let reading = self.clock.now();
+        self.heard = moment_heard(self.heard, reading);
+        reading
     }
 }
 
