@@ -10,9 +10,11 @@ pub mod LastPartLemmas
 pub mod LockedLemmas
 pub mod MailLemmas
 pub mod PartLemmas
+pub mod PostLemmas
 pub mod ReadingsLemmas
 pub mod SeatLemmas
 pub mod SeenLemmas
+pub mod SendLemmas
 pub mod SessionsLemmas
 pub mod TendingLemmas
 pub mod TurnsLemmas

@@ -4,7 +4,7 @@
 pub use door::{Door, DoorFault, MemDoor, TcpDoor};
 pub use fault::RunFault;
 pub use locked::Locked;
-pub use run::{One, Run, run_one, run_sessions};
+pub use run::{LockedRun, One, Run, run_locked, run_one, run_sessions};
 
 pub mod clock;
 mod door;

@@ -26,7 +26,6 @@ pub struct Desk<C> {
 }
 
 impl<C: Clock + Drop> Desk<C> {
-    ghost use Rattle.bq_job.specs.History.{is_tick};
     ghost use Rattle.bq_job.specs.NextDue.{next_due};
     ghost use Rattle.bq_serve.specs.DeskOf.{GaveReadings, WentAt, state_of};
     ghost use Rattle.bq_serve.specs.DeskState.{HasMails, IsNewDesk, IsSorted};
@@ -202,7 +201,7 @@ fn post(mails: &mut Vec<Mail, Global>, seat: Seat, answer: Answer) -> Result<(),
 }
 
 // No reading, or a smaller one than the last, counts as the last one.
-fn moment_heard(last: Moment, reading: Option<Moment>) -> Moment
+pub fn moment_heard(last: Moment, reading: Option<Moment>) -> Moment
     ensures { result ≡ moment_heard last reading }
 {
     match reading {

@@ -1,0 +1,14 @@
+use Rattle.std.proofs.Common.{◌-◌, List, subst, sym, arith, vec_len}
+use Rattle.std.specs.List.{All}
+use Rattle.std.proofs.lemmas.List.Elements.{All-take}
+use Rattle.bq_serve.specs.Tending.{IsNewDoor, door_seen}
+use Rattle.bq_serve.proofs.run.locked_run.new_posts.Goals as goal
+
+pub loop-door-preserved : goal.loop-door-preserved
+loop-door-preserved g c =
+    let at = door_seen g.D.Door.is_out g.D.Door.is_at_end g.D.Door.lines_over in
+    record {
+      few = let h = c.loop-door.invariant.few in let e = c.pop.ensures.len in omega arith;
+      new = subst (λ (xs : List g.row.D.Denot). All (λ d. IsNewDoor (at d)) xs) (sym c.pop.ensures.rest)
+          (All-take (λ d. IsNewDoor (at d)) (vec_len c.loop-door.doors - 1) c.loop-door.doors.items c.loop-door.invariant.new);
+    }

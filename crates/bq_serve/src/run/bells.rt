@@ -1,0 +1,82 @@
+//! A bell for each seat of a run.
+ghost use Rattle.std.specs.Prelude.{◌≡◌};
+
+use super::bell::Bell;
+use arrayvec::ArrayVec;
+use bq_job::{NoMemory, Seat};
+use std::alloc::Global;
+use std::sync::Wait;
+use std::time::Duration;
+
+/// How many seats whose bells are to be rung can be told one by one.
+const FEW: usize = 8;
+
+/// The seats whose bells are to be rung.
+#[derive(Drop)]
+pub enum Rings {
+    Few(ArrayVec<Seat, FEW>),
+    All,
+}
+
+impl Rings {
+    pub fn none() -> Rings {
+        Rings::Few(ArrayVec::new())
+    }
+
+    /// The seats of these but for one.
+    pub fn but_own(seats: &[Seat], own: Seat) -> Rings {
+        let mut few = ArrayVec::new();
+        for seat in seats {
+            if *seat != own && few.try_push(*seat).is_err() {
+                return Rings::All;
+            }
+        }
+        Rings::Few(few)
+    }
+}
+
+/// A bell for each seat, which threads share.
+#[derive(Drop)]
+pub struct Bells {
+    bells: Vec<Bell, Global>,
+}
+
+impl Bells {
+    /// A bell for each of so many seats, none of which was rung. All their memory is asked for here.
+    pub fn new(alloc: Global, seats: u16) -> Result<Bells, NoMemory> {
+        let Ok(mut bells) = Vec::with_capacity(alloc, usize::from(seats)) else {
+            return Err(NoMemory);
+        };
+        for _ in 0..seats {
+            if bells.push(Bell::new()).is_err() {
+                return Err(NoMemory);
+            }
+        }
+        Ok(Bells { bells })
+    }
+
+    /// Rings the bells of these seats. A seat without a bell is passed.
+    pub fn ring(&self, rings: &Rings) {
+        match rings {
+            Rings::Few(seats) => {
+                for seat in seats.as_slice() {
+                    if let Some(bell) = self.bells.get(usize::from(*seat)) {
+                        bell.ring();
+                    }
+                }
+            }
+            Rings::All => {
+                for bell in self.bells.as_slice() {
+                    bell.ring();
+                }
+            }
+        }
+    }
+
+    /// Waits until the bell of a seat is rung, at most so long. It may return before for no reason.
+    pub fn wait<R: Wait>(&self, rt: &R, seat: Seat, most: Duration) {
+        if let Some(bell) = self.bells.get(usize::from(seat)) {
+            bell.wait(rt, most);
+        }
+    }
+}

@@ -1,0 +1,74 @@
+//! A desk under a lock, at which each seat is served by its own thread.
+ghost use Rattle.std.specs.Prelude.{◌≡◌, ◌≤◌};
+
+use super::bells::Rings;
+use super::desk::moment_heard;
+use super::shared_desk::{Look, SharedDesk};
+use crate::clock::Clock;
+use crate::locked::Locked;
+use bq_job::{Moment, Seat, Step};
+use std::sync::{Mutex, Wait};
+
+/// How long a seat whose reserve waits sleeps at most before its line is read again, in milliseconds.
+const LONGEST_REST: u64 = 100;
+
+/// What lies under the one lock of a run: the core with its outboxes, the clock, and the moment heard last.
+#[derive(Drop)]
+pub struct LockedDesk<C> {
+    pub locked: Locked,
+    pub clock: C,
+    heard: Moment,
+}
+
+impl<C: Clock + Drop> LockedDesk<C> {
+    /// A desk at which nothing was done.
+    pub fn new(locked: Locked, clock: C) -> LockedDesk<C> {
+        LockedDesk {
+            locked,
+            clock,
+            heard: 0,
+        }
+    }
+
+    // A step at the moment that the clock gives now. The seats whose bells are to be rung: those that were
+    // answered, but for the one whose step it is.
+    fn step(&mut self, seat: Seat, what: Step) -> Rings {
+        self.heard = moment_heard(self.heard, self.clock.now());
+        self.locked.step(self.heard, seat, what);
+        Rings::but_own(self.locked.answered(), seat)
+    }
+
+    // A look at the mail of a seat, before which a tick is made where the core is due.
+    fn look(&mut self, seat: Seat) -> (Look, Rings) {
+        let (rest, rings) = self.tick_if_due(seat);
+        match self.locked.fetch(seat) {
+            Some(answer) => (Look::Mail(answer), rings),
+            None => (Look::Nothing(rest), rings),
+        }
+    }
+
+    // The clock is read where the core is ever due. The reading that finds it due is the tick's. How long
+    // the seat may rest at most, in milliseconds, and whose bells are to be rung.
+    fn tick_if_due(&mut self, seat: Seat) -> (u64, Rings) {
+        let Some(due) = self.locked.next_due() else {
+            return (LONGEST_REST, Rings::none());
+        };
+        let reading = self.clock.now();
+        self.heard = moment_heard(self.heard, reading);
+        if due <= self.heard {
+            self.locked.step(self.heard, seat, Step::Tick);
+            return (0, Rings::but_own(self.locked.answered(), seat));
+        }
+        (LONGEST_REST.min(due - self.heard), Rings::none())
+    }
+}
+
+impl<C: Clock + Drop> SharedDesk for Mutex<LockedDesk<C>> {
+    fn step<R: Wait>(&self, rt: &R, seat: Seat, what: Step) -> Rings {
+        self.lock(rt).step(seat, what)
+    }
+
+    fn look<R: Wait>(&self, rt: &R, seat: Seat) -> (Look, Rings) {
+        self.lock(rt).look(seat)
+    }
+}

@@ -1,0 +1,88 @@
+//! A seat with its door, which a thread of its own serves.
+ghost use Rattle.std.specs.Prelude.{◌≡◌, IsTrue, false, length};
+ghost use Rattle.std.specs.Option.{ForSome};
+ghost use Rattle.bq_core.specs.Limits.{is_body_size};
+ghost use Rattle.bq_seat.specs.Past.{Awaited};
+ghost use Rattle.bq_seat.specs.SeatStands.{awaited};
+ghost use Rattle.bq_serve.specs.declared.run.attendant.Place.TheVariants as places;
+ghost use Rattle.bq_serve.specs.Tending.{IsNewDoor, door_seen};
+
+use super::attendant::Attendant;
+use super::bells::Bells;
+use super::client::Room;
+use super::shared_desk::{SharedDesk, SharedSeat};
+use super::start::Start;
+use crate::Door;
+use crate::line::Line;
+use bq_job::{NoMemory, Seat};
+use bq_seat::PIECE_ROOM;
+use std::alloc::Global;
+use std::sync::Wait;
+use std::thread;
+
+/// A seat and its door, on neither of which anything was done.
+#[derive(Drop)]
+pub struct Post<L: Line + Drop, D: Door<Line = L>> {
+    seat: Seat,
+    attendant: Attendant<L>,
+    door: D,
+    ghost at_first: { attendant.place ≡ places.Between },
+    ghost waits: { awaited attendant.machine ≡ Awaited.ALine },
+    ghost inside: { D.is_out door ≡ false },
+    ghost more: { D.is_at_end door ≡ false },
+    ghost none_over: { ForSome (D.lines_over door) (λ lines. length lines ≡ 0) },
+}
+
+impl<L: Line + Drop, D: Door<Line = L> + Drop> Post<L, D> {
+    /// A post of this seat. All memory but that for bodies is asked for here.
+    pub fn new(
+        alloc: Global,
+        max_job_size: u32,
+        seat: Seat,
+        door: D,
+    ) -> Result<Post<L, D>, NoMemory>
+        requires size { IsTrue (is_body_size max_job_size) }
+        requires new { IsNewDoor (door_seen D.is_out D.is_at_end D.lines_over door) }
+    {
+        let attendant = Attendant::new(alloc, max_job_size)?;
+        Ok(Post {
+            seat,
+            attendant,
+            door,
+        })
+    }
+
+    /// Serves the door to its end, once all threads were started, and gives it back.
+    pub fn serve<R: Wait, K: SharedDesk>(
+        self,
+        rt: &R,
+        desk: &K,
+        bells: &Bells,
+        start: &Start,
+    ) -> D {
+        let Post {
+            seat,
+            mut attendant,
+            mut door,
+        } = self;
+        if !start.wait(rt) {
+            return door;
+        }
+        let mut link = SharedSeat {
+            rt,
+            desk,
+            bells,
+            seat,
+        };
+        let room: &mut Room = &mut [0; PIECE_ROOM];
+        for _ in rt.forever() {
+            if attendant.is_done() {
+                return door;
+            }
+            if !attendant.go_on(&mut door, &mut link, room) {
+                thread::yield_now();
+            }
+        }
+        unreachable!()
+    }
+}
