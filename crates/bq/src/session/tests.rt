@@ -76,7 +76,7 @@ struct Example {
     arrives: &'static str,
 }
 
-static EXAMPLES: [Example; 6] = [
+static EXAMPLES: [Example; 7] = [
     Example {
         words: &[],
         sends: "put 5 0 10 3\r\nabc\r\nquit\r\n",
@@ -103,6 +103,15 @@ static EXAMPLES: [Example; 6] = [
         status: 0,
         fault: "",
         arrives: "JOB_TOO_BIG\r\nINSERTED 1\r\n",
+    },
+    Example {
+        words: &["--still", "--max-job-size", "7"],
+        sends: "stats\r\nquit\r\n",
+        behind: Behind::SendsNoMore,
+        room: 300,
+        status: 0,
+        fault: "",
+        arrives: "OK 263\r\n---\ncurrent-jobs-urgent: 0\ncurrent-jobs-ready: 0\ncurrent-jobs-reserved: 0\ncurrent-jobs-delayed: 0\ncurrent-jobs-buried: 0\njob-timeouts: 0\ntotal-jobs: 0\nmax-job-size: 7\ncurrent-tubes: 1\ncurrent-connections: 1\ncurrent-waiting: 0\ntotal-connections: 1\ndraining: false\n\r\n",
     },
     Example {
         words: &[],

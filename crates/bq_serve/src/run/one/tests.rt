@@ -12,6 +12,7 @@ use std::collections::VecDeque;
 use std::test::Fail;
 
 mod examples;
+mod statistics;
 
 use examples::EXAMPLES;
 
