@@ -70,9 +70,9 @@ fn statistics_and_lists()
     ensures named { reading 65535 (codes "stats\r\nstats-job 7\r\nstats-tube a\r\nlist-tubes\r\nlist-tubes-watched\r\n")
         ≡ (requests.Stats ∷ requests.StatsJob 7 ∷ requests.StatsTube (codes "a") ∷ requests.ListTubes ∷ requests.ListTubesWatched ∷ [], []) }
     ensures nearly { reading 65535 (codes "stat\r\nstats-\r\nlist-tube\r\nlist-tubes-\r\n")
-        ≡ (requests.Refused refusals.UnknownCommand ∷ requests.Refused refusals.UnknownCommand ∷ requests.Refused refusals.UnknownCommand ∷ requests.Refused refusals.UnknownCommand ∷ [], []) }
+        ≡ (replicate 4 (requests.Refused refusals.UnknownCommand), []) }
     ensures other_words { reading 65535 (codes "stats x\r\nstats-job\r\nstats-tube -a\r\nlist-tubes \r\nlist-tubes-watched a\r\n")
-        ≡ (requests.Refused refusals.BadFormat ∷ requests.Refused refusals.BadFormat ∷ requests.Refused refusals.BadFormat ∷ requests.Refused refusals.BadFormat ∷ requests.Refused refusals.BadFormat ∷ [], []) }
+        ≡ (replicate 5 (requests.Refused refusals.BadFormat), []) }
 {}
 
 // Odd bytes in lines, and numbers at their limits.
