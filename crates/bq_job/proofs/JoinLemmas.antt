@@ -123,26 +123,26 @@ doors_owed settings size seat (lines ∷ doors) submitted taken waiting history 
       doors_owed settings size (suc seat) doors submitted taken waiting history all last (omega arith) runs tied.3,
     )
 
-pub joined : (settings : Settings) (size : ℕ) (doors : List (List LineOver)) (control : List ℕ) (failed : Bool) (readings : List (Option ℕ)) (history : List Entry) (given : List GivenAnswer) (last : Machine)
-    → IsJoined settings size doors control failed readings history given last → IsHistoryOf settings size doors control failed readings last
-joined settings size doors control failed readings history given last j = record {
+pub joined : (settings : Settings) (doors : List (List LineOver)) (control : List ℕ) (failed : Bool) (readings : List (Option ℕ)) (history : List Entry) (given : List GivenAnswer) (last : Machine)
+    → IsJoined settings doors control failed readings history given last → IsHistoryOf settings doors control failed readings last
+joined settings doors control failed readings history given last j = record {
   history = history;
   given = given;
   run = j.run;
   many = j.many;
-  of_doors = doors_owed settings size 0 doors j.submitted j.taken j.waiting history given last (let a = j.many in omega arith) j.run.runs j.tied;
+  of_doors = doors_owed settings settings.max_job_size 0 doors j.submitted j.taken j.waiting history given last (let a = j.many in omega arith) j.run.runs j.tied;
   of_control = j.control_tied ∙ j.control_done;
   of_nobody_else = j.of_nobody_else;
 }
 
-pub line_joined : (settings : Settings) (size : ℕ) (seat : ℕ) (line : LineOver) (readings : List (Option ℕ)) (history : List Entry) (given : List GivenAnswer) (last : Machine)
-    → IsLineJoined settings size seat line readings history given last → IsHistoryOfLine settings size seat line readings
-line_joined settings size seat line readings history given last j = record {
+pub line_joined : (settings : Settings) (seat : ℕ) (line : LineOver) (readings : List (Option ℕ)) (history : List Entry) (given : List GivenAnswer) (last : Machine)
+    → IsLineJoined settings seat line readings history given last → IsHistoryOfLine settings seat line readings
+line_joined settings seat line readings history given last j = record {
   history = history;
   given = given;
   last = last;
   run = j.run;
-  of_line = seat_owed settings size seat (line ∷ []) (steps_at seat history) [] j.taken j.waiting history given last j.within refl j.run.runs (sym (append-nil (steps_at seat history))) j.answers_are j.served;
+  of_line = seat_owed settings settings.max_job_size seat (line ∷ []) (steps_at seat history) [] j.taken j.waiting history given last j.within refl j.run.runs (sym (append-nil (steps_at seat history))) j.answers_are j.served;
   of_nobody_else = j.of_nobody_else;
 }
 

@@ -33,22 +33,22 @@ AreSeatsUpTo seat history = IsTrue (list_all (λ e. nat_le e.seat seat) (without
 -- One history holds the steps of each door's lines once and in their order, and for the control line so many
 -- drains and its end. Each entry has a reading of the clock of its own. The machine runs over it from the
 -- start, and each line was written exactly the bytes that it gives it there. There is a door at each seat.
-pub record IsHistoryOf (settings : Settings) (max_job_size : ℕ) (doors : List (List LineOver)) (control : List ℕ) (failed : Bool) (readings : List (Option ℕ)) (last : Machine) : Type 0 where
+pub record IsHistoryOf (settings : Settings) (doors : List (List LineOver)) (control : List ℕ) (failed : Bool) (readings : List (Option ℕ)) (last : Machine) : Type 0 where
   pub history : List Entry
   pub given : List GivenAnswer
   pub run : IsRun settings readings history given last
   pub many : length doors ≡ settings.seats
-  pub of_doors : AreDoorsOwed max_job_size 0 doors history given
+  pub of_doors : AreDoorsOwed settings.max_job_size 0 doors history given
   pub of_control : IsControlDone control failed (steps_at settings.seats history)
   pub of_nobody_else : AreSeatsUpTo settings.seats history
 
 -- The same of a lone line at a seat: the history has its steps alone, beside ticks.
-pub record IsHistoryOfLine (settings : Settings) (max_job_size : ℕ) (seat : ℕ) (line : LineOver) (readings : List (Option ℕ)) : Type 0 where
+pub record IsHistoryOfLine (settings : Settings) (seat : ℕ) (line : LineOver) (readings : List (Option ℕ)) : Type 0 where
   pub history : List Entry
   pub given : List GivenAnswer
   pub last : Machine
   pub run : IsRun settings readings history given last
-  pub of_line : AreLinesOwed max_job_size (line ∷ []) (steps_at seat history) (answers_to seat given)
+  pub of_line : AreLinesOwed settings.max_job_size (line ∷ []) (steps_at seat history) (answers_to seat given)
   pub of_nobody_else : IsTrue (list_all (λ e. e.seat == seat) (without_ticks history))
 
 -- The tie. At each seat the history has what the seat submitted, and what the run gives it is what it took
@@ -61,23 +61,23 @@ AreTied max_job_size seat (lines ∷ doors) submitted taken waiting history give
     × AreTied max_job_size (suc seat) doors submitted taken waiting history given
 
 -- what each part did, and the tie
-pub record IsJoined (settings : Settings) (max_job_size : ℕ) (doors : List (List LineOver)) (control : List ℕ) (failed : Bool) (readings : List (Option ℕ)) (history : List Entry) (given : List GivenAnswer) (last : Machine) : Type 0 where
+pub record IsJoined (settings : Settings) (doors : List (List LineOver)) (control : List ℕ) (failed : Bool) (readings : List (Option ℕ)) (history : List Entry) (given : List GivenAnswer) (last : Machine) : Type 0 where
   pub submitted : ℕ → List Step
   pub taken : ℕ → List Answer
   pub waiting : ℕ → List Answer
   pub run : IsRun settings readings history given last
   pub many : length doors ≡ settings.seats
-  pub tied : AreTied max_job_size 0 doors submitted taken waiting history given
+  pub tied : AreTied settings.max_job_size 0 doors submitted taken waiting history given
   pub control_tied : steps_at settings.seats history ≡ submitted settings.seats
   pub control_done : IsControlDone control failed (submitted settings.seats)
   pub of_nobody_else : AreSeatsUpTo settings.seats history
 
 -- what a lone seat and the core did, and the tie
-pub record IsLineJoined (settings : Settings) (max_job_size : ℕ) (seat : ℕ) (line : LineOver) (readings : List (Option ℕ)) (history : List Entry) (given : List GivenAnswer) (last : Machine) : Type 0 where
+pub record IsLineJoined (settings : Settings) (seat : ℕ) (line : LineOver) (readings : List (Option ℕ)) (history : List Entry) (given : List GivenAnswer) (last : Machine) : Type 0 where
   pub taken : List Answer
   pub waiting : List Answer
   pub within : seat < settings.seats
   pub run : IsRun settings readings history given last
-  pub served : AreLinesServed max_job_size (line ∷ []) (steps_at seat history) taken
+  pub served : AreLinesServed settings.max_job_size (line ∷ []) (steps_at seat history) taken
   pub answers_are : answers_to seat given ≡ taken ++ waiting
   pub of_nobody_else : IsTrue (list_all (λ e. e.seat == seat) (without_ticks history))

@@ -16,7 +16,7 @@ abbrev pub usual : ℕ
 usual = 65535
 
 abbrev pub seated : ℕ → Settings
-seated seats = record { seats = seats; max_job_size = 65535 }
+seated seats = record { seats = seats; max_job_size = usual }
 
 -- lines that were read and written these bytes: over by the end of the input,
 abbrev pub ended_line : List ℕ → List ℕ → LineOver
@@ -60,4 +60,4 @@ given_over settings history = flat_map (λ t. t.given) (transitions (new_machine
 abbrev pub AreServedOver : List Entry → List (List LineOver) → List ℕ → Type 0
 AreServedOver history doors control =
     let settings = seated (length doors) in
-    IsHistoryOf settings usual doors control false (readings_of history) (machine_after (new_machine settings) history)
+    IsHistoryOf settings doors control false (readings_of history) (machine_after (new_machine settings) history)

@@ -88,10 +88,10 @@ fn line_dropped()
 /// said, and there are no answers at it.
 fn door_never_opened()
     ensures steps { (control : List ℕ) (failed : Bool) (readings : List (Option ℕ)) (last : Machine)
-        (h : IsHistoryOf (seated 1) usual ([] ∷ []) control failed readings last)
+        (h : IsHistoryOf (seated 1) ([] ∷ []) control failed readings last)
         → h.history ≡ drain_at 1 ∷ drain_at 1 ∷ [] → ⊥ }
     ensures answers { (control : List ℕ) (failed : Bool) (readings : List (Option ℕ)) (last : Machine)
-        (h : IsHistoryOf (seated 1) usual ([] ∷ []) control failed readings last)
+        (h : IsHistoryOf (seated 1) ([] ∷ []) control failed readings last)
         → h.given ≡ (0, Kicked) ∷ (5, Deleted) ∷ [] → ⊥ }
     ensures drains { IsControlDone [] false (Drain ∷ Drain ∷ []) → ⊥ }
 {}

@@ -38,18 +38,18 @@ pub fn steps_keep_settings()
 /// What the seats, the core and the control line did, each by itself, joins to one history, along which each
 /// line was written exactly what it is owed.
 pub fn parts_join()
-    ensures { (settings : Settings) (max_job_size : ℕ) (doors : List (List LineOver)) (control : List ℕ) (failed : Bool)
+    ensures { (settings : Settings) (doors : List (List LineOver)) (control : List ℕ) (failed : Bool)
         (readings : List (Option ℕ)) (history : List Entry) (given : List GivenAnswer) (last : Machine)
-        → IsJoined settings max_job_size doors control failed readings history given last
-        → IsHistoryOf settings max_job_size doors control failed readings last }
+        → IsJoined settings doors control failed readings history given last
+        → IsHistoryOf settings doors control failed readings last }
 {}
 
 /// The same for a lone line.
 pub fn line_joins()
-    ensures { (settings : Settings) (max_job_size : ℕ) (seat : ℕ) (line : LineOver) (readings : List (Option ℕ))
+    ensures { (settings : Settings) (seat : ℕ) (line : LineOver) (readings : List (Option ℕ))
         (history : List Entry) (given : List GivenAnswer) (last : Machine)
-        → IsLineJoined settings max_job_size seat line readings history given last
-        → IsHistoryOfLine settings max_job_size seat line readings }
+        → IsLineJoined settings seat line readings history given last
+        → IsHistoryOfLine settings seat line readings }
 {}
 
 /// Behind the lines that were served so far one line more was served.

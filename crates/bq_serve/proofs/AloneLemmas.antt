@@ -23,27 +23,27 @@ use Rattle.bq_serve.proofs.DeskLemmas.{seat_none, seat_on}
 use Rattle.bq_serve.proofs.SeatLemmas.{carried_on, line_served}
 
 -- From a new desk on, the seat alone did what its line was served with.
-pub record IsServingAlone (settings : Settings) (size : ℕ) (seat : ℕ) (readings : List (Option ℕ)) (desk : DeskState) (machine : SeatMachine) (seen : LineSeen) (action : Action) : Type 0 where
+pub record IsServingAlone (settings : Settings) (seat : ℕ) (readings : List (Option ℕ)) (desk : DeskState) (machine : SeatMachine) (seen : LineSeen) (action : Action) : Type 0 where
   pub first : DeskState
   pub submitted : List Step
   pub taken : List Answer
   pub new : IsNewDesk settings first
   pub went : SeatWent seat first readings submitted taken desk
-  pub on_line : IsOnLine size machine seen action submitted taken
+  pub on_line : IsOnLine settings.max_job_size machine seen action submitted taken
 
-pub begins_alone : (settings : Settings) (size : ℕ) (seat : ℕ) (desk : DeskState) (machine : SeatMachine) (seen : LineSeen) (action : Action) → IsNewDesk settings desk → IsOnLine size machine seen action [] [] → IsServingAlone settings size seat [] desk machine seen action
-begins_alone settings size seat desk machine seen action new on = record { first = desk; submitted = []; taken = []; new = new; went = seat_none desk seat; on_line = on }
+pub begins_alone : (settings : Settings) (seat : ℕ) (desk : DeskState) (machine : SeatMachine) (seen : LineSeen) (action : Action) → IsNewDesk settings desk → IsOnLine settings.max_job_size machine seen action [] [] → IsServingAlone settings seat [] desk machine seen action
+begins_alone settings seat desk machine seen action new on = record { first = desk; submitted = []; taken = []; new = new; went = seat_none desk seat; on_line = on }
 
-pub goes_on_alone : (settings : Settings) (size : ℕ) (seat : ℕ) (readings reads : List (Option ℕ)) (desk next : DeskState) (old new : SeatMachine) (seen later : LineSeen) (action then_action : Action) (submitted : List Step) (taken : List Answer)
-    → IsServingAlone settings size seat readings desk old seen action → SeatWent seat desk reads submitted taken next → Carried old seen action new later then_action submitted taken
-    → IsServingAlone settings size seat (readings ++ reads) next new later then_action
-goes_on_alone settings size seat readings reads desk next old new seen later action then_action submitted taken s w c = record {
+pub goes_on_alone : (settings : Settings) (seat : ℕ) (readings reads : List (Option ℕ)) (desk next : DeskState) (old new : SeatMachine) (seen later : LineSeen) (action then_action : Action) (submitted : List Step) (taken : List Answer)
+    → IsServingAlone settings seat readings desk old seen action → SeatWent seat desk reads submitted taken next → Carried old seen action new later then_action submitted taken
+    → IsServingAlone settings seat (readings ++ reads) next new later then_action
+goes_on_alone settings seat readings reads desk next old new seen later action then_action submitted taken s w c = record {
   first = s.first;
   submitted = s.submitted ++ submitted;
   taken = s.taken ++ taken;
   new = s.new;
   went = seat_on s.first desk next seat readings reads s.submitted submitted s.taken taken s.went w;
-  on_line = carried_on size old new seen later action then_action s.submitted submitted s.taken taken c s.on_line;
+  on_line = carried_on settings.max_job_size old new seen later action then_action s.submitted submitted s.taken taken c s.on_line;
 }
 
 -- no mail lies at a new desk
@@ -93,12 +93,12 @@ alone_there seat (e ∷ history) h =
         let no : e.what ∷ steps_at e.seat history ≡ [] = rw (x, same) at g in cc
 
 -- A line that is over: what its seat and the core did, and the tie.
-pub over_alone : (settings : Settings) (size : ℕ) (seat : ℕ) (readings : List (Option ℕ)) (desk : DeskState) (machine : SeatMachine) (seen : LineSeen) (end : LineEnd) (s : IsServingAlone settings size seat readings desk machine seen (actions.LineOver end))
-    → seat < settings.seats → length s.first.mails ≡ settings.seats → IsLineJoined settings size seat (record { seen = seen; over = end }) readings s.went.history s.went.went.given desk.core
-over_alone settings size seat readings desk machine seen end s within many =
+pub over_alone : (settings : Settings) (seat : ℕ) (readings : List (Option ℕ)) (desk : DeskState) (machine : SeatMachine) (seen : LineSeen) (end : LineEnd) (s : IsServingAlone settings seat readings desk machine seen (actions.LineOver end))
+    → seat < settings.seats → length s.first.mails ≡ settings.seats → IsLineJoined settings seat (record { seen = seen; over = end }) readings s.went.history s.went.went.given desk.core
+over_alone settings seat readings desk machine seen end s within many =
     let w = s.went in
     let d = w.went in
-    let line = line_served size machine seen end s.submitted s.taken s.on_line in
+    let line = line_served settings.max_job_size machine seen end s.submitted s.taken s.on_line in
     let none = none_waits settings s.first seat s.new in
     record {
       taken = s.taken;

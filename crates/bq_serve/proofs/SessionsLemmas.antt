@@ -27,10 +27,10 @@ use Rattle.bq_serve.proofs.TendingLemmas.{tended_done, tended_new}
 
 -- A further element passes too.
 pub all_more : {X : Type 0} (P : X → Type 0) (xs : List X) (x : X) → All P xs → P x → All P (xs ++ x ∷ [])
-all_more P [] x h size zero d below = size
-all_more P [] x h size (suc k) d below = absurd (omega arith)
-all_more P (y ∷ xs) x h size zero d below = h 0 d (omega arith)
-all_more P (y ∷ xs) x h size (suc k) d below = all_more P xs x (λ j e there. h (suc j) e (omega (arith, there))) size k d (omega (arith, below))
+all_more P [] x h p zero d below = p
+all_more P [] x h p (suc k) d below = absurd (omega arith)
+all_more P (y ∷ xs) x h p zero d below = h 0 d (omega arith)
+all_more P (y ∷ xs) x h p (suc k) d below = all_more P xs x (λ j e there. h (suc j) e (omega (arith, there))) p k d (omega (arith, below))
 
 abbrev pub StepsKeepSettings : Type 0
 StepsKeepSettings = (first last : Machine) (at seat : ℕ) (what : Step) (outcome : Outcome) (given : List GivenAnswer) → IsStep first at seat what outcome given last → last.settings ≡ first.settings
@@ -68,11 +68,11 @@ up_to seat (e ∷ history) h =
         let same : (e.seat == e.seat) ≡ true = eq-eqb e.seat e.seat refl in
         let no : e.what ∷ steps_at e.seat history ≡ [] = rw (x, same) at g in cc
 
-module _ {L D : Type 0} (seen : L → LineSeen) (at : D → DoorSeen) (size : ℕ) (settings : Settings) (first : DeskState) where
+module _ {L D : Type 0} (seen : L → LineSeen) (at : D → DoorSeen) (settings : Settings) (first : DeskState) where
   -- The control line was served, and no seat yet.
   pub begins_served : (control : List Step) (readings : List (Option ℕ)) (desk : DeskState) (seats : List (Attendant L)) (doors : List D)
       → IsNewDesk settings first → SeatWent settings.seats first readings control [] desk → length seats ≡ settings.seats → length doors ≡ settings.seats
-      → All (IsNewSeat size) seats → All (λ d. IsNewDoor (at d)) doors → AreServed seen at size control first readings desk seats doors
+      → All (IsNewSeat settings.max_job_size) seats → All (λ d. IsNewDoor (at d)) doors → AreServed seen at settings.max_job_size control first readings desk seats doors
   begins_served control readings desk seats doors new w many doored seats_new doors_new = record {
     history = w.history;
     took = w.took;
@@ -82,9 +82,9 @@ module _ {L D : Type 0} (seen : L → LineSeen) (at : D → DoorSeen) (size : �
     each = λ t below a d.
         let differs : t ≢ settings.seats = λ e. omega arith in
         let at_door : t < length doors = omega arith in
-        subst (λ (xs : List Step). IsTended seen size (slice_index_or seats t a) (at (slice_index_or doors t d)) xs (w.took t)) (sym (w.others_still t differs))
-        (subst (λ (ys : List Answer). IsTended seen size (slice_index_or seats t a) (at (slice_index_or doors t d)) [] ys) (sym (w.others_took t differs))
-        (tended_new seen size (slice_index_or seats t a) (at (slice_index_or doors t d)) (seats_new t a below) (doors_new t d at_door)));
+        subst (λ (xs : List Step). IsTended seen settings.max_job_size (slice_index_or seats t a) (at (slice_index_or doors t d)) xs (w.took t)) (sym (w.others_still t differs))
+        (subst (λ (ys : List Answer). IsTended seen settings.max_job_size (slice_index_or seats t a) (at (slice_index_or doors t d)) [] ys) (sym (w.others_took t differs))
+        (tended_new seen settings.max_job_size (slice_index_or seats t a) (at (slice_index_or doors t d)) (seats_new t a below) (doors_new t d at_door)));
     control_is = ap (λ n. steps_at n w.history) many ∙ w.submitted_is;
     nobody_else = λ t above. w.others_still t (λ e. omega arith);
   }
@@ -93,19 +93,19 @@ module _ {L D : Type 0} (seen : L → LineSeen) (at : D → DoorSeen) (size : �
   record IsDoorDone (history : List Entry) (took : ℕ → List Answer) (given : List GivenAnswer) (desk : DeskState) (t : ℕ) (door : DoorSeen) : Type 0 where
     lines : List LineOver
     kept : AreKept door.lines_over lines
-    done : IsSeatDone size lines (steps_at t history) (took t)
+    done : IsSeatDone settings.max_job_size lines (steps_at t history) (took t)
     answers_are : answers_to t given ≡ took t ++ waiting t desk
     at_end : (door.is_out ≡ false) × (door.is_at_end ≡ true)
 
   -- a seat that is done, with its door
-  seat_done : (a : Attendant L) (door : DoorSeen) (submitted : List Step) (taken : List Answer) → a.place ≡ Done → IsTended seen size a door submitted taken
-      → (lines : List LineOver) × AreKept door.lines_over lines × IsSeatDone size lines submitted taken × ((door.is_out ≡ false) × (door.is_at_end ≡ true))
+  seat_done : (a : Attendant L) (door : DoorSeen) (submitted : List Step) (taken : List Answer) → a.place ≡ Done → IsTended seen settings.max_job_size a door submitted taken
+      → (lines : List LineOver) × AreKept door.lines_over lines × IsSeatDone settings.max_job_size lines submitted taken × ((door.is_out ≡ false) × (door.is_at_end ≡ true))
   seat_done a door submitted taken e t =
-      let s : IsTended seen size (attendant a.machine Done) door submitted taken = subst (λ (q : Place L). IsTended seen size (attendant a.machine q) door submitted taken) e t in
-      (s.lines, s.kept, tended_done seen size a.machine door submitted taken s, s.placed)
+      let s : IsTended seen settings.max_job_size (attendant a.machine Done) door submitted taken = subst (λ (q : Place L). IsTended seen settings.max_job_size (attendant a.machine q) door submitted taken) e t in
+      (s.lines, s.kept, tended_done seen settings.max_job_size a.machine door submitted taken s, s.placed)
 
   module _ (control : List Step) (readings : List (Option ℕ)) (desk : DeskState) (seats : List (Attendant L)) (doors : List D) (new : IsNewDesk settings first) (many : length seats ≡ settings.seats)
-      (s : AreServed seen at size control first readings desk seats doors) (all_done : AreDone seats) where
+      (s : AreServed seen at settings.max_job_size control first readings desk seats doors) (all_done : AreDone seats) where
     door_done : (t : ℕ) → t < length doors → (d : D) → IsDoorDone s.history s.took s.went.given desk t (at (slice_index_or doors t d))
     door_done t below d =
         let here : t < length seats = let e = s.doored in omega arith in
@@ -127,7 +127,7 @@ module _ {L D : Type 0} (seen : L → LineSeen) (at : D → DoorSeen) (size : �
     -- the doors from this seat on
     doors_tied : (k : ℕ) (rest : List D) → ((j : ℕ) → j < length rest → (d : D) → IsDoorDone s.history s.took s.went.given desk (k + j) (at (slice_index_or rest j d)))
         → (lines : List (List LineOver)) × (length lines ≡ length rest) × AreAllKept (λ (d : D). (at d).lines_over) rest lines
-        × AreTied size k lines (λ t. steps_at t s.history) s.took (λ t. waiting t desk) s.history s.went.given
+        × AreTied settings.max_job_size k lines (λ t. steps_at t s.history) s.took (λ t. waiting t desk) s.history s.went.given
     doors_tied k [] h = ([], refl, tt, tt)
     doors_tied k (d ∷ rest) h =
         let more = doors_tied (suc k) rest (λ j below e. subst (λ (n : ℕ). IsDoorDone s.history s.took s.went.given desk n (at (slice_index_or rest j e))) (let e : k + suc j ≡ suc k + j = omega arith in e) (h (suc j) (omega (arith, below)) e)) in
@@ -147,7 +147,7 @@ module _ {L D : Type 0} (seen : L → LineSeen) (at : D → DoorSeen) (size : �
 
     -- The parts, tied.
     pub ends_joined : (text : List ℕ) (failed : Bool) → IsControlDone text failed control
-        → (lines : List (List LineOver)) × AreAllKept (λ (d : D). (at d).lines_over) doors lines × IsJoined settings size lines text failed readings s.history s.went.given desk.core
+        → (lines : List (List LineOver)) × AreAllKept (λ (d : D). (at d).lines_over) doors lines × IsJoined settings lines text failed readings s.history s.went.given desk.core
     ends_joined text failed said =
         let t = doors_tied 0 doors (λ j below d. subst (λ (n : ℕ). IsDoorDone s.history s.took s.went.given desk n (at (slice_index_or doors j d))) (let e : j ≡ 0 + j = omega arith in e) (door_done j below d)) in
         let control_is : steps_at settings.seats s.history ≡ control = ap (λ n. steps_at n s.history) (sym many) ∙ s.control_is in (

@@ -25,4 +25,4 @@ pub record IsRunOf {D C I : Type 0} (given : C → List (Option ℕ) → C → T
   pub gave : given clock readings run.clock
   pub kept : AreAllKept lines_over run.doors.items lines
   pub read : IsReadToEnd (left control) (left run.control) text failed
-  pub history : IsHistoryOf (settings_of config) config.max_job_size lines text failed readings run.core.machine
+  pub history : IsHistoryOf (settings_of config) lines text failed readings run.core.machine

@@ -30,7 +30,7 @@ serve_seats-requires-clause-served g c κs within =
       control = h.3;
       first = first;
       readings = h.4.0;
-      served = begins_served g.L.Line.seen at size settings first h.3 h.4.0 (state_of c.serve_control.new.desk) c.as_mut_slice.result.now c.as_mut_slice-2.result.now c.in_ok-desk.ensures.made h.4.2 seats_many doors_many
+      served = begins_served g.L.Line.seen at settings first h.3 h.4.0 (state_of c.serve_control.new.desk) c.as_mut_slice.result.now c.as_mut_slice-2.result.now c.in_ok-desk.ensures.made h.4.2 seats_many doors_many
           (subst (λ (xs : List (Attendant g.row.L.Denot)). All (IsNewSeat size) xs) (sym seats_are) c.in-Ok.ensures.new)
           (subst (λ (xs : List g.row.D.Denot). All (λ d. IsNewDoor (at d)) xs) (sym doors_are) c.requires.new);
     }
@@ -53,13 +53,13 @@ returns-clause-served g c =
     let doors = c.serve_seats.new.doors in
     let w = c.serve_seats.ensures.served in
     let s : AreServed g.L.Line.seen at size h.3 first (h.4.0 ++ w.0) last seats doors =
-    w.2 size h.3 first h.4.0 (begins_served g.L.Line.seen at size settings first h.3 h.4.0 (state_of c.serve_control.new.desk) c.as_mut_slice.result.now c.as_mut_slice-2.result.now made h.4.2 seats_many doors_many
+    w.2 size h.3 first h.4.0 (begins_served g.L.Line.seen at settings first h.3 h.4.0 (state_of c.serve_control.new.desk) c.as_mut_slice.result.now c.as_mut_slice-2.result.now made h.4.2 seats_many doors_many
     (subst (λ (xs : List (Attendant g.row.L.Denot)). All (IsNewSeat size) xs) (sym seats_are) c.in-Ok.ensures.new)
     (subst (λ (xs : List g.row.D.Denot). All (λ d. IsNewDoor (at d)) xs) (sym doors_are) c.requires.new)) in
     let many : length seats ≡ settings.seats = sym s.mailed ∙ new_mails_are settings first made in
     let kept : length doors ≡ c.args.doors.len = let a = s.doored in let b = doors_many in let d = c.as_mut_slice-2.ensures.len in omega (arith, many) in
     let items_are = with_items_is c.args.doors doors kept in
-    let j = ends_joined g.L.Line.seen at size settings first h.3 (h.4.0 ++ w.0) last seats doors made many s c.serve_seats.ensures.done h.0 h.1 h.5 in
+    let j = ends_joined g.L.Line.seen at settings first h.3 (h.4.0 ++ w.0) last seats doors made many s c.serve_seats.ensures.done h.0 h.1 h.5 in
     record {
       readings = h.4.0 ++ w.0;
       lines = j.0;
@@ -70,7 +70,7 @@ returns-clause-served g c =
           w.1 c.args.clock h.4.0 (h.4.1 c.args.clock [] begun);
       kept = subst (λ (xs : List g.row.D.Denot). AreAllKept g.D.Door.lines_over xs j.0) (sym items_are) j.1;
       read = h.2;
-      history = c.parts_join.ensures settings size j.0 h.0 h.1 (h.4.0 ++ w.0) s.history s.went.given last.core j.2;
+      history = c.parts_join.ensures settings j.0 h.0 h.1 (h.4.0 ++ w.0) s.history s.went.given last.core j.2;
     }
 
 pub returns-clause-at_end : goal.returns-clause-at_end
@@ -91,14 +91,14 @@ returns-clause-at_end g c =
     let doors = c.serve_seats.new.doors in
     let w = c.serve_seats.ensures.served in
     let s : AreServed g.L.Line.seen at size h.3 first (h.4.0 ++ w.0) last seats doors =
-    w.2 size h.3 first h.4.0 (begins_served g.L.Line.seen at size settings first h.3 h.4.0 (state_of c.serve_control.new.desk) c.as_mut_slice.result.now c.as_mut_slice-2.result.now made h.4.2 seats_many doors_many
+    w.2 size h.3 first h.4.0 (begins_served g.L.Line.seen at settings first h.3 h.4.0 (state_of c.serve_control.new.desk) c.as_mut_slice.result.now c.as_mut_slice-2.result.now made h.4.2 seats_many doors_many
     (subst (λ (xs : List (Attendant g.row.L.Denot)). All (IsNewSeat size) xs) (sym seats_are) c.in-Ok.ensures.new)
     (subst (λ (xs : List g.row.D.Denot). All (λ d. IsNewDoor (at d)) xs) (sym doors_are) c.requires.new)) in
     let many : length seats ≡ settings.seats = sym s.mailed ∙ new_mails_are settings first made in
     let kept : length doors ≡ c.args.doors.len = let a = s.doored in let b = doors_many in let d = c.as_mut_slice-2.ensures.len in omega (arith, many) in
     let items_are = with_items_is c.args.doors doors kept in
     subst (λ (xs : List g.row.D.Denot). All (λ d. ((at d).is_out ≡ false) × ((at d).is_at_end ≡ true)) xs) (sym items_are)
-    (ends_closed g.L.Line.seen at size settings first h.3 (h.4.0 ++ w.0) last seats doors made many s c.serve_seats.ensures.done)
+    (ends_closed g.L.Line.seen at settings first h.3 (h.4.0 ++ w.0) last seats doors made many s c.serve_seats.ensures.done)
 
 pub returns-clause-settings : goal.returns-clause-settings
 returns-clause-settings g c =
@@ -118,11 +118,11 @@ returns-clause-settings g c =
     let doors = c.serve_seats.new.doors in
     let w = c.serve_seats.ensures.served in
     let s : AreServed g.L.Line.seen at size h.3 first (h.4.0 ++ w.0) last seats doors =
-    w.2 size h.3 first h.4.0 (begins_served g.L.Line.seen at size settings first h.3 h.4.0 (state_of c.serve_control.new.desk) c.as_mut_slice.result.now c.as_mut_slice-2.result.now made h.4.2 seats_many doors_many
+    w.2 size h.3 first h.4.0 (begins_served g.L.Line.seen at settings first h.3 h.4.0 (state_of c.serve_control.new.desk) c.as_mut_slice.result.now c.as_mut_slice-2.result.now made h.4.2 seats_many doors_many
     (subst (λ (xs : List (Attendant g.row.L.Denot)). All (IsNewSeat size) xs) (sym seats_are) c.in-Ok.ensures.new)
     (subst (λ (xs : List g.row.D.Denot). All (λ d. IsNewDoor (at d)) xs) (sym doors_are) c.requires.new)) in
     let many : length seats ≡ settings.seats = sym s.mailed ∙ new_mails_are settings first made in
-    ends_settings g.L.Line.seen at size settings first h.3 (h.4.0 ++ w.0) last seats doors made many s c.serve_seats.ensures.done c.steps_keep_settings.ensures
+    ends_settings g.L.Line.seen at settings first h.3 (h.4.0 ++ w.0) last seats doors made many s c.serve_seats.ensures.done c.steps_keep_settings.ensures
 
 pub returns-clause-bad_configuration : goal.returns-clause-bad_configuration
 returns-clause-bad_configuration g c =
