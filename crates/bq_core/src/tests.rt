@@ -15,6 +15,7 @@ mod no_memory;
 mod one_tube;
 mod plain;
 mod random_steps;
+mod statistics;
 
 #[derive(Clone, Copy, Debug)]
 enum Do {
@@ -84,6 +85,10 @@ enum Want {
     ExpectedCrlf,
     OutOfMemory,
     Closed,
+    /// This text.
+    Ok(&'static [u8]),
+    /// A text with these lines behind one another.
+    Tells(&'static [u8]),
 }
 
 /// A moment, a seat, what happens there, and the answers that it gives.
@@ -156,6 +161,11 @@ fn tube(rt: &impl Abort, name: &[u8]) -> TubeName {
     TubeName::new(name).expect(rt, "a tube's name")
 }
 
+// Whether the lines stand in the text behind one another.
+fn has_lines(text: &[u8], lines: &[u8]) -> bool {
+    !lines.is_empty() && text.windows(lines.len()).any(|piece| piece == lines)
+}
+
 fn is_wanted(answer: &Answer, want: Want) -> bool {
     match (answer, want) {
         (Answer::Inserted(id), Want::Inserted(wanted)) => *id == wanted,
@@ -185,6 +195,8 @@ fn is_wanted(answer: &Answer, want: Want) -> bool {
         (Answer::ExpectedCrlf, Want::ExpectedCrlf) => true,
         (Answer::OutOfMemory, Want::OutOfMemory) => true,
         (Answer::Closed, Want::Closed) => true,
+        (Answer::Ok(text), Want::Ok(bytes)) => text.as_slice() == bytes,
+        (Answer::Ok(text), Want::Tells(lines)) => has_lines(text.as_slice(), lines),
         _ => false,
     }
 }

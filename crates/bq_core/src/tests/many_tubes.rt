@@ -117,10 +117,23 @@ const WATCH_LISTS: &[Example] = &[
     (0, 0, Do::Watch(b"b"), &[(0, Want::Watching(2))]),
     (0, 0, Do::Watch(b"b"), &[(0, Want::Watching(2))]),
     (0, 0, Do::Ignore(b"default"), &[(0, Want::Watching(1))]),
+    (0, 0, Do::ListTubesWatched, &[(0, Want::Ok(b"---\n- b\n"))]),
+    (
+        0,
+        0,
+        Do::ListTubes,
+        &[(0, Want::Ok(b"---\n- b\n- default\n"))],
+    ),
     (0, 0, Do::ListTubeUsed, &[(0, Want::Using(b"default"))]),
     (0, 0, Do::Close, &[(0, Want::Closed)]),
     (0, 0, Do::Connect, &[]),
     (0, 0, Do::Ignore(b"default"), &[(0, Want::NotIgnored)]),
+    (
+        0,
+        0,
+        Do::ListTubesWatched,
+        &[(0, Want::Ok(b"---\n- default\n"))],
+    ),
 ];
 
 const SINGLE_JOBS: &[Example] = &[

@@ -1,7 +1,11 @@
-//! Steps that take no memory. `rt try --test --fail-alloc N` refuses the Nth growth of each test: where N is
-//! above what the first of these tests takes, which prepares the same core, all of them still pass.
-use super::{Do, Example, Want, start, take_all};
+//! Steps that take no memory, and texts that are left out where it is refused. `rt try --test --fail-alloc N`
+//! refuses the Nth growth of each test: where N is above what the first of these tests takes, which prepares
+//! the same core, all of them still pass.
+ghost use Rattle.std.specs.Prelude.{◌<◌};
+
+use super::{Do, Example, Want, start, step_of, take_all};
 use crate::{Core, Outs};
+use bq_job::Answer;
 use std::alloc::Global;
 use std::process::Abort;
 use std::test::Fail;
@@ -98,4 +102,106 @@ fn held_job_without_memory(rt: HostRuntime) -> Result<(), Fail> {
 #[test]
 fn other_steps_without_memory(rt: HostRuntime) -> Result<(), Fail> {
     play_on(&rt, rt.alloc(), "other_steps_without_memory", OTHER_STEPS)
+}
+
+// Texts while seat 0 holds job 1, job 2 is buried and job 3 delayed.
+const TEXTS: &[Example] = &[
+    (0, 0, Do::ListTubes, &[(0, Want::Ok(b"---\n- default\n"))]),
+    (
+        0,
+        0,
+        Do::ListTubesWatched,
+        &[(0, Want::Ok(b"---\n- default\n"))],
+    ),
+    (
+        0,
+        0,
+        Do::StatsJob(3),
+        &[(
+            0,
+            Want::Ok(
+                b"---\nid: 3\ntube: default\nstate: delayed\npri: 0\nage: 0\ndelay: 100\nttr: 9\ntime-left: 100\nreserves: 0\ntimeouts: 0\nreleases: 0\nburies: 0\nkicks: 0\n",
+            ),
+        )],
+    ),
+    (
+        0,
+        0,
+        Do::StatsTube(b"default"),
+        &[(
+            0,
+            Want::Ok(
+                b"---\nname: default\ncurrent-jobs-urgent: 0\ncurrent-jobs-ready: 0\ncurrent-jobs-reserved: 1\ncurrent-jobs-delayed: 1\ncurrent-jobs-buried: 1\ntotal-jobs: 3\ncurrent-using: 3\ncurrent-watching: 3\ncurrent-waiting: 0\ncmd-delete: 0\ncmd-pause-tube: 0\npause: 0\npause-time-left: 0\n",
+            ),
+        )],
+    ),
+    (
+        0,
+        0,
+        Do::Stats,
+        &[(
+            0,
+            Want::Ok(
+                b"---\ncurrent-jobs-urgent: 0\ncurrent-jobs-ready: 0\ncurrent-jobs-reserved: 1\ncurrent-jobs-delayed: 1\ncurrent-jobs-buried: 1\njob-timeouts: 0\ntotal-jobs: 3\nmax-job-size: 10\ncurrent-tubes: 1\ncurrent-connections: 3\ncurrent-waiting: 0\ntotal-connections: 3\ndraining: false\n",
+            ),
+        )],
+    ),
+];
+
+// Takes the step, and tells whether it was left out, which OUT_OF_MEMORY alone then says.
+fn is_left_out(
+    rt: &impl Abort,
+    alloc: Global,
+    core: &mut Core,
+    outs: &mut Outs,
+    example: &Example,
+) -> Result<bool, Fail>
+    requires { core.old.machine.settings.seats < outs.old.most }
+    ensures { core.new.machine.settings.seats < outs.new.most }
+{
+    let (at, seat, what, _) = *example;
+    core.step(at, seat, step_of(rt, alloc, what)?, outs);
+    if !outs.left_out() {
+        return Ok(false);
+    }
+    let first = outs.take_first();
+    assert!(rt;
+        matches!(&first, Some((to, Answer::OutOfMemory)) if *to == seat)
+            && outs.take_first().is_none(),
+        "{example:?} was left out, and answered {first:?}"
+    );
+    Ok(true)
+}
+
+// Takes the steps of these texts, up to one that is left out.
+fn ask_for_texts(
+    rt: &impl Abort,
+    alloc: Global,
+    core: &mut Core,
+    outs: &mut Outs,
+) -> Result<(), Fail>
+    requires { core.old.machine.settings.seats < outs.old.most }
+    ensures { core.new.machine.settings.seats < outs.new.most }
+{
+    for example in TEXTS {
+        if is_left_out(rt, alloc, core, outs, example)? {
+            return Ok(());
+        }
+    }
+    Ok(())
+}
+
+#[test]
+fn texts_left_out_change_nothing(rt: HostRuntime) -> Result<(), Fail> {
+    let (mut core, mut outs) = start(rt.alloc())?;
+    take_all(
+        &rt,
+        rt.alloc(),
+        &mut core,
+        &mut outs,
+        "texts",
+        A_JOB_IS_HELD,
+    )?;
+    ask_for_texts(&rt, rt.alloc(), &mut core, &mut outs)?;
+    take_all(&rt, rt.alloc(), &mut core, &mut outs, "texts", TEXTS)
 }

@@ -25,6 +25,17 @@ const LEASE_EXPIRES_TO_ITS_WAITER: &[Example] = &[
     (0, 0, Do::Reserve, &[(0, Want::Reserved(1, b"x"))]),
     (500, 0, Do::Reserve, &[]),
     (2000, 0, Do::Tick, &[(0, Want::Reserved(1, b"x"))]),
+    (
+        2500,
+        0,
+        Do::StatsJob(1),
+        &[(
+            0,
+            Want::Ok(
+                b"---\nid: 1\ntube: default\nstate: reserved\npri: 0\nage: 2\ndelay: 0\nttr: 2\ntime-left: 1\nreserves: 2\ntimeouts: 1\nreleases: 0\nburies: 0\nkicks: 0\n",
+            ),
+        )],
+    ),
 ];
 
 const DEADLINE_SOON_AT_ONE_SECOND: &[Example] = &[
