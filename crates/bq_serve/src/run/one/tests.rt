@@ -12,9 +12,11 @@ use std::collections::VecDeque;
 use std::test::Fail;
 
 mod examples;
+mod long_examples;
 mod statistics;
 
 use examples::EXAMPLES;
+use long_examples::{LONG_EXAMPLES, Long};
 
 const ROOM: usize = 1000;
 
@@ -60,11 +62,11 @@ fn sessions(rt: HostRuntime) -> Result<(), Fail> {
 }
 
 // A client that sends this text byte by byte.
-fn slow_client(alloc: Global, sent: &str) -> Result<MemLine, Fail>
+fn slow_client(alloc: Global, sent: &[u8]) -> Result<MemLine, Fail>
     ensures { IfOk result (λ line. ⟦<MemLine as Line>⟧.seen line ≡ new_line) }
 {
     let mut parts: Vec<Part> = Vec::new(alloc);
-    for byte in sent.as_bytes() {
+    for byte in sent {
         parts.push(Part::Bytes(vec![in alloc; *byte]?))?;
     }
     Ok(MemLine::new(alloc, parts, ROOM)?)
@@ -74,7 +76,7 @@ fn slow_client(alloc: Global, sent: &str) -> Result<MemLine, Fail>
 fn sessions_cut_at_every_byte(rt: HostRuntime) -> Result<(), Fail> {
     let alloc = rt.alloc();
     for (sent, written, end) in &EXAMPLES {
-        let line = slow_client(alloc, sent)?;
+        let line = slow_client(alloc, sent.as_bytes())?;
         let one = run_one(&rt, alloc, config(65535), line, still(alloc)?)?;
         assert!(rt; one.line.written() == written.as_bytes(), "{sent:?}");
         assert!(rt; one.end == *end, "{sent:?}");
@@ -82,39 +84,35 @@ fn sessions_cut_at_every_byte(rt: HostRuntime) -> Result<(), Fail> {
     Ok(())
 }
 
-// The first line that is too long has one digit more than the longest one.
-#[test]
-fn longest_line(rt: HostRuntime) -> Result<(), Fail> {
-    let alloc = rt.alloc();
-    for (zeros, written) in [(216, "NOT_FOUND\r\n"), (217, "BAD_FORMAT\r\n")] {
-        let mut sent = String::from_str(alloc, "peek ")?;
-        for _zero in 0..zeros {
-            sent.push('0')?;
-        }
-        sent.push_str("1\r\n")?;
-        let line = client(alloc, sent.as_str(), ROOM)?;
-        let one = run_one(&rt, alloc, config(65535), line, still(alloc)?)?;
-        assert!(rt; one.line.written() == written.as_bytes());
+fn long_text(alloc: Global, text: &Long) -> Result<Vec<u8, Global>, Fail> {
+    let (first, byte, times, last) = text;
+    let mut whole: Vec<u8> = Vec::from_slice(alloc, first.as_bytes())?;
+    for _ in 0..*times {
+        whole.push(*byte)?;
     }
-    Ok(())
+    whole.extend_from_slice(last.as_bytes())?;
+    Ok(whole)
 }
 
-// A body that is too big is swallowed, and the next line is read.
+// By each of the clocks, and once cut at every byte.
 #[test]
-fn body_too_big(rt: HostRuntime) -> Result<(), Fail> {
+fn long_sessions(rt: HostRuntime) -> Result<(), Fail> {
     let alloc = rt.alloc();
-    for (size, written) in [
-        (65_536, "JOB_TOO_BIG\r\nUSING default\r\n"),
-        (65_535, "INSERTED 1\r\nUSING default\r\n"),
-    ] {
-        let mut parts: Vec<Part> = Vec::new(alloc);
-        let head = format!(in alloc; "put 0 0 1 {size}\r\n")?;
-        parts.push(Part::Bytes(Vec::from_slice(alloc, head.as_bytes())?))?;
-        parts.push(Part::Bytes(vec![in alloc; b'x'; size]?))?;
-        parts.push(Part::Bytes(Vec::from_slice(alloc, b"\r\nlist-tube-used\r\n")?))?;
-        let line = MemLine::new(alloc, parts, ROOM)?;
+    for (sent, written) in &LONG_EXAMPLES {
+        let text = long_text(alloc, sent)?;
+        let wanted = long_text(alloc, written)?;
+        for readings in &CLOCKS {
+            let mut parts: Vec<Part> = Vec::new(alloc);
+            parts.push(Part::Bytes(Vec::from_slice(alloc, text.as_slice())?))?;
+            let line = MemLine::new(alloc, parts, ROOM)?;
+            let clock = ScriptClock::new(Vec::from_slice(alloc, readings)?);
+            let one = run_one(&rt, alloc, config(65535), line, clock)?;
+            assert!(rt; one.line.written() == wanted.as_slice(), "{sent:?}");
+            assert!(rt; one.end == LineEnd::EndOfInput);
+        }
+        let line = slow_client(alloc, text.as_slice())?;
         let one = run_one(&rt, alloc, config(65535), line, still(alloc)?)?;
-        assert!(rt; one.line.written() == written.as_bytes());
+        assert!(rt; one.line.written() == wanted.as_slice(), "{sent:?}");
     }
     Ok(())
 }

@@ -108,7 +108,7 @@ fn statistics_and_lists(rt: HostRuntime) -> Result<(), Fail> {
 fn statistics_and_lists_cut_at_every_byte(rt: HostRuntime) -> Result<(), Fail> {
     let alloc = rt.alloc();
     for (sent, written, end) in &EXAMPLES {
-        let line = slow_client(alloc, sent)?;
+        let line = slow_client(alloc, sent.as_bytes())?;
         let one = run_one(&rt, alloc, config(65535), line, still(alloc)?)?;
         assert!(rt; one.line.written() == written.as_bytes(), "{sent:?}");
         assert!(rt; one.end == *end, "{sent:?}");
