@@ -8,6 +8,7 @@ pub mod ForgettingLemmas
 pub mod KickLemmas
 pub mod LoopLemmas
 pub mod NameLemmas
+pub mod PauseLemmas
 pub mod StateLemmas
 pub mod StepCosts
 pub mod StepLemmas

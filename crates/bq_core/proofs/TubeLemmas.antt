@@ -57,7 +57,7 @@ missed_at : (name : List ℕ) (t : TubeRecord) (entries : List TubeRecord) (b : 
 missed_at name t entries true other rest = rw other rest
 missed_at name t entries false other rest = rest
 
-head_differs : (a b : Bool) → (a || b) ≡ false → (a ≡ false) × (b ≡ false)
+pub head_differs : (a b : Bool) → (a || b) ≡ false → (a ≡ false) × (b ≡ false)
 head_differs true b h = cc
 head_differs false b h = (refl, h)
 

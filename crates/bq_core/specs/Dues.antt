@@ -1,5 +1,5 @@
 -- The least of moments, where there are any.
-use Rattle.std.specs.Prelude.{ℕ, ◌-◌, if◌then◌else◌, List, Option, Some, None, fold}
+use Rattle.std.specs.Prelude.{ℕ, Bool, false, ◌-◌, nat_le, if◌then◌else◌, List, Option, Some, None, fold}
 use Rattle.std.specs.Option.{option_map}
 use Rattle.bq_job.specs.declared.job.Job.{Job}
 use Rattle.bq_job.specs.Changes.{first_of, is_held_by, is_waiting}
@@ -7,6 +7,8 @@ use Rattle.bq_job.specs.JobStates.{due_of, is_delayed, is_due_before, is_reserve
 use Rattle.bq_job.specs.Machine.{SeatRecord, TubeRecord}
 use Rattle.bq_job.specs.NextDue.{dues_of_pause, dues_of_wait, earlier, earliest}
 use Rattle.bq_jobs.specs.Leases.{deadline_of, is_lease_before}
+use Rattle.bq_core.specs.declared.tube_list.TubeChange.{TubeChange}
+use Rattle.bq_core.specs.declared.tube_list.TubeChange.TheVariants.{CountPut, CountDelete, Pause}
 
 abbrev pub earlier_of_both : Option ℕ → Option ℕ → Option ℕ
 earlier_of_both None other = other
@@ -23,6 +25,21 @@ with_warning_due jobs best s = earlier_of_both best (warning_due jobs s)
 
 abbrev pub with_tube_due : Option ℕ → TubeRecord → Option ℕ
 with_tube_due best t = earlier_of_both best (earliest (dues_of_pause t.pause))
+
+-- when the first of the pauses of these tubes ends
+abbrev pub first_pause_end : List TubeRecord → Option ℕ
+first_pause_end entries = fold with_tube_due None entries
+
+-- and after a change, where that was it before: only a pause may change it
+abbrev pub pause_end_after : List TubeRecord → TubeChange → Option ℕ → Option ℕ
+pause_end_after entries CountPut last = last
+pause_end_after entries CountDelete last = last
+pause_end_after entries (Pause seconds moment) last = first_pause_end entries
+
+-- a pause that ends then, if there is one, is over
+abbrev pub is_end_over : ℕ → Option ℕ → Bool
+is_end_over moment None = false
+is_end_over moment (Some end) = nat_le end moment
 
 abbrev pub with_seat_due : Option ℕ → SeatRecord → Option ℕ
 with_seat_due best s = earlier_of_both best (earliest (dues_of_wait s.wait))

@@ -3,6 +3,7 @@ use Rattle.std.specs.Prelude.{false, ◌≡◌, ◌≤◌, map, length}
 use Rattle.bq_job.specs.JobCommands.{last_id}
 use Rattle.bq_job.specs.Lawful.{AreIdsWithin}
 use Rattle.bq_job.specs.Machine.{Machine, Settings, numbers}
+use Rattle.bq_core.specs.Dues.{first_pause_end}
 use Rattle.bq_core.specs.Tallies.{AreCounted}
 use Rattle.bq_core.specs.TubeEntries.{AreEntries, counted}
 use Rattle.bq_core.specs.declared.config.Config.{Config}
@@ -38,6 +39,8 @@ pub record IsSound (s : State) : Type 0 where
   pub ids : AreIdsWithin 1 s.jobs.jobs s.next_id
   -- What is counted is what there is.
   pub counts : AreCounted s.tally s.tallies.items s.jobs.jobs s.tubes.items
+  -- The end of the first pause is known.
+  pub pauses : s.pause_end ≡ first_pause_end s.tubes.items
 
 -- It is the same but for the count of comparisons.
 abbrev pub OnlyCompares : State → State → Type 0

@@ -1,16 +1,16 @@
 ghost use Rattle.std.specs.Prelude.{◌≡◌, None, fold, ℕ};
 ghost use Rattle.std.specs.Option.{option_map};
 ghost use Rattle.bq_job.specs.NextDue.{next_due as next_due_of};
-ghost use Rattle.bq_core.specs.Dues.{earlier_of_both, jobs_due, warning_due, with_seat_due, with_tube_due, with_warning_due};
+ghost use Rattle.bq_core.specs.Dues.{earlier_of_both, jobs_due, warning_due, with_seat_due, with_warning_due};
 ghost use Rattle.bq_core.specs.State.{machine_of, IsSound, OnlyCompares};
 
 use crate::place::Place;
 use crate::state::State;
-use crate::tube_list::TubeEntry;
 use bq_job::{JobId, Moment};
 use bq_jobs::Jobs;
 
-fn earlier_of(a: Option<Moment>, b: Option<Moment>) -> Option<Moment>
+/// The earlier of two moments, if there is one.
+pub(crate) fn earlier_of(a: Option<Moment>, b: Option<Moment>) -> Option<Moment>
     ensures { result ≡ earlier_of_both a b }
 {
     match (a, b) {
@@ -64,16 +64,6 @@ fn jobs_due(jobs: &mut Jobs, seats: &[Place]) -> Option<Moment>
     earlier_of(earlier_of(due, deadline), warnings_due(jobs, seats))
 }
 
-fn tubes_due(tubes: &[TubeEntry]) -> Option<Moment>
-    ensures { result ≡ fold with_tube_due None tubes.now }
-{
-    let mut best = None;
-    for i in 0..tubes.len() {
-        best = earlier_of(best, tubes[i].pause_end());
-    }
-    best
-}
-
 fn seats_due(seats: &[Place]) -> Option<Moment>
     ensures { result ≡ fold with_seat_due None seats.now }
 {
@@ -92,7 +82,6 @@ pub(crate) fn next_due(state: &mut State) -> Option<Moment>
     ensures sound { IsSound state.new }
 {
     let jobs = jobs_due(&mut state.jobs, state.seats.as_slice());
-    let tubes = tubes_due(state.tubes.as_slice());
     let seats = seats_due(state.seats.as_slice());
-    earlier_of(jobs, earlier_of(tubes, seats))
+    earlier_of(jobs, earlier_of(state.pause_end, seats))
 }

@@ -224,11 +224,11 @@ impl Place {
     }
 
     /// Watches one more tube.
-    pub(crate) fn watch(&mut self, name: &TubeName) -> Result<(), NoMemory>
+    pub(crate) fn watch(&mut self, alloc: Global, name: &TubeName) -> Result<(), NoMemory>
         ensures watched { IfOk result (λ _. self.new ≡ watching (self.old.watched ++ name.now ∷ []) self.old) }
         ensures same { OnErr result (self.new ≡ self.old) }
     {
-        self.watched.push(*name)
+        self.watched.add(alloc, *name)
     }
 
     /// Watches a tube no longer, where another one is still watched.

@@ -65,6 +65,7 @@ pub(crate) fn change_at(seats: &mut Vec<Place, Global>, number: Seat, what: &Sea
 /// The client at the seat of this number watches one more tube. Tells how many it watches then.
 pub(crate) fn watch(
     seats: &mut Vec<Place, Global>,
+    alloc: Global,
     number: Seat,
     name: &TubeName,
 ) -> Result<u64, NoMemory>
@@ -74,7 +75,7 @@ pub(crate) fn watch(
     ensures same { OnErr result (seats.new.items ≡ seats.old.items) }
 {
     let place = &mut seats[usize::from(number)];
-    place.watch(name)?;
+    place.watch(alloc, name)?;
     Ok(place.watch_count() as u64)
 }
 

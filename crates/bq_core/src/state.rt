@@ -23,7 +23,7 @@ use crate::place::Place;
 use crate::seat_list::SeatChange;
 use crate::tally::Tally;
 use crate::tube_list::{TubeChange, TubeEntry};
-use crate::{job_list, seat_list, tallies, tube_list};
+use crate::{job_list, pauses, seat_list, tallies, tube_list};
 use bq_job::{Body, Job, JobId, Moment, NoMemory, Seat, TubeName};
 use bq_jobs::{Jobs, laws};
 use std::alloc::Global;
@@ -40,6 +40,8 @@ pub(crate) struct State {
     pub(crate) tally: Tally,
     /// and how many of each tube, at the place of its entry.
     pub(crate) tallies: Vec<Tally, Global>,
+    /// When the first pause of a tube ends.
+    pub(crate) pause_end: Option<Moment>,
     pub(crate) moment: Moment,
     pub(crate) next_id: JobId,
     pub(crate) burials: u64,
@@ -232,10 +234,15 @@ pub(crate) fn change_tube(state: &mut State, tube: &TubeName, what: TubeChange)
     ensures config { state.new.config ≡ state.old.config }
 {
     tube_list::change_at(&mut state.tubes, tube, what);
+    state.pause_end = pauses::end_after(state.tubes.as_slice(), what, state.pause_end);
 }
 
-/// Sees to it that a tube has an entry.
-pub(crate) fn provide_tube(state: &mut State, tube: &TubeName) -> Result<(), NoMemory>
+/// Sees to it that a tube has an entry. The growth that this needs comes before any change.
+pub(crate) fn provide_tube(
+    state: &mut State,
+    alloc: Global,
+    tube: &TubeName,
+) -> Result<(), NoMemory>
     requires { IsSound state.old }
     ensures after { machine_of state.new ≡ machine_of state.old }
     ensures entry { IfOk result (λ _. has_entry tube.now state.new.tubes.items ≡ true) }
@@ -244,7 +251,7 @@ pub(crate) fn provide_tube(state: &mut State, tube: &TubeName) -> Result<(), NoM
     ensures sound { IsSound state.new }
     ensures config { state.new.config ≡ state.old.config }
 {
-    match tube_list::provide(&mut state.tubes, &mut state.tallies, tube) {
+    match tube_list::provide(&mut state.tubes, &mut state.tallies, alloc, tube) {
         Ok(()) => Ok(()),
         Err(fault) => Err(fault),
     }
@@ -252,7 +259,12 @@ pub(crate) fn provide_tube(state: &mut State, tube: &TubeName) -> Result<(), NoM
 
 /// The client at the seat watches one more tube. The growths that this needs come before any change. Tells
 /// how many it watches then.
-pub(crate) fn watch_tube(state: &mut State, seat: Seat, tube: &TubeName) -> Result<u64, NoMemory>
+pub(crate) fn watch_tube(
+    state: &mut State,
+    alloc: Global,
+    seat: Seat,
+    tube: &TubeName,
+) -> Result<u64, NoMemory>
     requires { IsSound state.old }
     ensures count { IfOk result (λ n. (s : SeatRecord) → seat_with seat (machine_of state.old).seats ≡ Some s → n ≡ length (s.watched ++ tube.now ∷ [])) }
     ensures watched { IfOk result (λ _. (s : SeatRecord) → seat_with seat (machine_of state.old).seats ≡ Some s → machine_of state.new ≡ with_seat seat (watching (s.watched ++ tube.now ∷ [])) (machine_of state.old)) }
@@ -261,11 +273,11 @@ pub(crate) fn watch_tube(state: &mut State, seat: Seat, tube: &TubeName) -> Resu
     ensures sound { IsSound state.new }
     ensures config { state.new.config ≡ state.old.config }
 {
-    provide_tube(state, tube)?;
+    provide_tube(state, alloc, tube)?;
     if usize::from(seat) >= state.seats.len() {
         return Ok(0);
     }
-    match seat_list::watch(&mut state.seats, seat, tube) {
+    match seat_list::watch(&mut state.seats, alloc, seat, tube) {
         Ok(count) => Ok(count),
         Err(fault) => Err(fault),
     }
@@ -336,6 +348,7 @@ pub(crate) fn forget_tubes(state: &mut State)
     ensures config { state.new.config ≡ state.old.config }
 {
     tube_list::forget(&mut state.tubes, &mut state.tallies, state.seats.as_slice());
+    state.pause_end = pauses::first_end(state.tubes.as_slice());
 }
 
 /// A moment below the last one counts as that one.
@@ -370,6 +383,7 @@ pub(crate) fn first_state(
         tubes,
         tally: Tally::default(),
         tallies,
+        pause_end: None,
         moment: 0,
         next_id: 1,
         burials: 0,

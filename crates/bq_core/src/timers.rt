@@ -10,7 +10,7 @@ ghost use Rattle.bq_core.specs.State.{machine_of, IsSound};
 
 use crate::job_list::JobChange;
 use crate::state::State;
-use crate::{state, tube_list};
+use crate::{pauses, state, tube_list};
 use bq_job::{JobId, Moment};
 use bq_jobs::Jobs;
 
@@ -143,7 +143,7 @@ fn fire_jobs(state: &mut State) -> bool
     }
 }
 
-// Pauses end. Tells whether one did.
+// Pauses end. Tells whether one did. Where none does, no tube is looked at.
 fn end_pauses(state: &mut State) -> bool
     requires { IsSound state.old }
     ensures after { machine_of state.new ≡ with_pauses_ended (machine_of state.old) }
@@ -152,10 +152,11 @@ fn end_pauses(state: &mut State) -> bool
     ensures sound { IsSound state.new }
     ensures config { state.new.config ≡ state.old.config }
 {
-    if !tube_list::is_some_pause_over(state.tubes.as_slice(), state.moment) {
+    if !pauses::is_over(state.pause_end, state.moment) {
         return false;
     }
     tube_list::fire_timers(&mut state.tubes, state.moment);
+    state.pause_end = pauses::first_end(state.tubes.as_slice());
     true
 }
 

@@ -17,17 +17,18 @@ use crate::state::State;
 use crate::tube_list::TubeChange;
 use crate::{job_list, seat_list, state};
 use bq_job::{Answer, JobId, Seat, TubeName};
+use std::alloc::Global;
 
 /// The client's jobs go into this tube from now on. The growth that a new tube needs comes before any
 /// change.
-pub(crate) fn use_tube(state: &mut State, seat: Seat, tube: &TubeName) -> Reply
+pub(crate) fn use_tube(state: &mut State, alloc: Global, seat: Seat, tube: &TubeName) -> Reply
     requires { IsSound state.old }
     ensures reply { (s : SeatRecord) → s.number ≡ seat → Replies true (machine_of state.old) (use_effect tube.now (machine_of state.old) s) result (machine_of state.new) }
     ensures asks { AsksAsChanged state.old.jobs state.new.jobs }
     ensures sound { IsSound state.new }
     ensures config { state.new.config ≡ state.old.config }
 {
-    if state::provide_tube(state, tube).is_err() {
+    if state::provide_tube(state, alloc, tube).is_err() {
         return Reply::LeftOut;
     }
     state::change_seat(state, seat, &SeatChange::Use(*tube));
@@ -45,7 +46,7 @@ pub(crate) fn list_tube_used(state: &State, seat: Seat) -> Reply
 }
 
 /// The client watches this tube too. The growth that it needs comes before any change.
-pub(crate) fn watch(state: &mut State, seat: Seat, tube: &TubeName) -> Reply
+pub(crate) fn watch(state: &mut State, alloc: Global, seat: Seat, tube: &TubeName) -> Reply
     requires { IsSound state.old }
     ensures reply { (s : SeatRecord) → seat_with seat (machine_of state.old).seats ≡ Some s → Replies true (machine_of state.old) (watch_effect tube.now (machine_of state.old) s) result (machine_of state.new) }
     ensures asks { AsksAsChanged state.old.jobs state.new.jobs }
@@ -58,7 +59,7 @@ pub(crate) fn watch(state: &mut State, seat: Seat, tube: &TubeName) -> Reply
     if place.watches(tube) {
         return Reply::Told(Answer::Watching(place.watch_count() as u64));
     }
-    match state::watch_tube(state, seat, tube) {
+    match state::watch_tube(state, alloc, seat, tube) {
         Ok(count) => Reply::Told(Answer::Watching(count)),
         Err(_) => Reply::LeftOut,
     }

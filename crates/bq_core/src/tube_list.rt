@@ -10,15 +10,15 @@ ghost use Rattle.bq_job.specs.TubeName.{is_same_name};
 ghost use Rattle.bq_job.specs.Tubes.{fresh_tube, is_name_before, is_seated_at as seated_at};
 ghost use Rattle.bq_job.specs.Timers.{tube_after_timers};
 ghost use Rattle.bq_core.specs.Tallies.{has_jobs, tallies_of, tallies_provided, tally_at};
-ghost use Rattle.bq_core.specs.TubeEntries.{has_entry, is_pause_over, is_tube_of, is_tube_with, kept_if, names_alive, provided, tube_changed, tube_changed_at};
+ghost use Rattle.bq_core.specs.TubeEntries.{has_entry, is_tube_of, is_tube_with, kept_if, names_alive, provided, tube_changed, tube_changed_at};
 ghost use Rattle.bq_core.specs.Texts.{names_of};
 
 use crate::job_list::later;
 use crate::name_lists::Names;
 use crate::place::Place;
-use crate::tallies;
 use crate::tally::Tally;
 use crate::watch_list::default_tube;
+use crate::{room, tallies};
 use bq_job::{Moment, NoMemory, TubeName};
 use std::alloc::Global;
 use std::marker::Model;
@@ -191,15 +191,6 @@ impl TubeEntry {
         }
     }
 
-    fn is_pause_over(&self, moment: Moment) -> bool
-        ensures { result ≡ is_pause_over moment self.now }
-    {
-        match &self.pause {
-            None => false,
-            Some(pause) => pause.until <= moment,
-        }
-    }
-
     fn fire_timer(&mut self, moment: Moment)
         ensures { self.new ≡ tube_after_timers moment self.old }
     {
@@ -219,13 +210,6 @@ pub(crate) fn change_at(tubes: &mut Vec<TubeEntry, Global>, name: &TubeName, wha
     for entry in tubes.iter_mut() {
         entry.change_if(name, what);
     }
-}
-
-/// Whether some pause is over.
-pub(crate) fn is_some_pause_over(tubes: &[TubeEntry], moment: Moment) -> bool
-    ensures { result ≡ list_any (is_pause_over moment) tubes.now }
-{
-    tubes.iter().any(|entry| entry.is_pause_over(moment))
 }
 
 /// Pauses that are over end.
@@ -279,10 +263,11 @@ fn place_of(tubes: &[TubeEntry], name: &TubeName) -> usize
     first_after(tubes, name).unwrap_or(tubes.len())
 }
 
-/// Sees to it that a tube has an entry.
+/// Sees to it that a tube has an entry. The growths that this needs come before any change.
 pub(crate) fn provide(
     tubes: &mut Vec<TubeEntry, Global>,
     tallies: &mut Vec<Tally, Global>,
+    alloc: Global,
     name: &TubeName,
 ) -> Result<(), NoMemory>
     requires { length tallies.old.items ≡ length tubes.old.items }
@@ -292,10 +277,9 @@ pub(crate) fn provide(
     if has(tubes.as_slice(), name) {
         return Ok(());
     }
+    room::reserve_one(tallies, alloc)?;
+    room::reserve_one(tubes, alloc)?;
     let i = place_of(tubes.as_slice(), name);
-    if tallies.reserve(1).is_err() {
-        return Err(NoMemory);
-    }
     match tubes.insert(i, TubeEntry::new(*name)) {
         Ok(()) => {
             let _fits = tallies.insert(i, Tally::default());

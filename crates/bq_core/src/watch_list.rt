@@ -3,6 +3,7 @@ ghost use Rattle.std.specs.List.{list_any};
 ghost use Rattle.bq_job.specs.Machine.{default_tube};
 ghost use Rattle.bq_job.specs.TubeName.{is_same_name};
 
+use crate::room;
 use bq_job::{NoMemory, TubeName};
 use std::alloc::Global;
 use std::marker::Model;
@@ -76,15 +77,14 @@ impl WatchList {
         self.names.iter().any(|other| name != other)
     }
 
-    /// Adds a tube at the end.
-    pub(crate) fn push(&mut self, name: TubeName) -> Result<(), NoMemory>
+    /// Adds a tube at the end. No other change of a list takes memory.
+    pub(crate) fn add(&mut self, alloc: Global, name: TubeName) -> Result<(), NoMemory>
         ensures pushed { IfOk result (λ _. self.new ≡ self.old ++ name ∷ []) }
         ensures same { OnErr result (self.new ≡ self.old) }
     {
-        match self.names.push(name) {
-            Ok(()) => Ok(()),
-            Err(_) => Err(NoMemory),
-        }
+        room::reserve_one(&mut self.names, alloc)?;
+        self.names.push_reserved(name);
+        Ok(())
     }
 
     /// Takes a tube out, where another one stays.

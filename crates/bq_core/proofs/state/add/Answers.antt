@@ -24,4 +24,5 @@ returns-clause-sound c =
         each = c.add-2.ensures ∙ ap (λ es. tallies_with j es st.tallies.items) c.as_slice.ensures.value ∙ made.each
             ∙ ap (λ js. tallies_of js st.tubes.items) (sym c.add-3.ensures.jobs);
       };
+      pauses = was.pauses;
     }

@@ -10,4 +10,5 @@ returns-clause-sound c =
       next = was.next;
       ids = was.ids;
       counts = was.counts;
+      pauses = was.pauses;
     }

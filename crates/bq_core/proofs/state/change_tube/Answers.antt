@@ -1,6 +1,8 @@
 use Rattle.std.proofs.Common.{◌∙◌, ap, sym}
+use Rattle.bq_core.specs.Dues.{first_pause_end, pause_end_after}
 use Rattle.bq_core.specs.State.{machine_of}
 use Rattle.bq_core.specs.TubeEntries.{counted, tube_changed, tube_changed_at}
+use Rattle.bq_core.proofs.PauseLemmas.{end_after_change}
 use Rattle.bq_core.proofs.StateLemmas.{entries_of_tube, name_kept_at, tube_counts, tube_name_kept}
 use Rattle.bq_core.proofs.TallyPlaces.{counted_kept}
 use Rattle.bq_core.proofs.TubeLemmas.{record_changed}
@@ -24,4 +26,10 @@ returns-clause-sound c =
       next = was.next;
       ids = was.ids;
       counts = rw c.change_at.ensures (counted_kept (tube_changed_at c.args.tube.now c.args.what) (name_kept_at c.args.tube.now c.args.what) s.tally s.tallies.items s.jobs.jobs s.tubes.items was.counts);
+      pauses =
+          let changed = c.as_slice.ensures.value ∙ c.change_at.ensures in
+          c.end_after-state.ensures
+          ∙ ap (λ ts. pause_end_after ts c.args.what s.pause_end) changed
+          ∙ end_after_change c.args.tube.now c.args.what s.tubes.items s.pause_end was.pauses
+          ∙ ap first_pause_end (sym c.change_at.ensures);
     }

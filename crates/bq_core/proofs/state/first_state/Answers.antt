@@ -1,4 +1,4 @@
-use Rattle.std.proofs.Common.{arith, ap}
+use Rattle.std.proofs.Common.{arith, ap, refl}
 use Rattle.bq_jobs.specs.Kept.{Kept}
 use Rattle.bq_core.proofs.StateLemmas.{first_entries, first_numbered}
 use Rattle.bq_core.proofs.TallyPlaces.{none_counted}
@@ -10,5 +10,6 @@ returns-clause-sound c = record {
   numbered = rw c.requires.free (first_numbered c.args.config.seats);
   next = λ _. omega arith;
   ids = rw (ap (λ (k : Kept). k.jobs) c.new.ensures) (omega arith);
+  pauses = rw c.requires.entries refl;
   counts = rw (ap (λ (k : Kept). k.jobs) c.new.ensures, c.requires.entries) (record { whole = none_counted c.default.result c.default.ensures; each = c.requires.none_counted });
 }

@@ -1,5 +1,6 @@
 use Rattle.std.proofs.Common.{◌≡◌, ◌∙◌, ap}
 use Rattle.std.specs.Prelude.{filter}
+use Rattle.bq_core.specs.Dues.{first_pause_end}
 use Rattle.bq_core.specs.State.{machine_of}
 use Rattle.bq_core.specs.TubeEntries.{counted, is_counted, is_tube_of}
 use Rattle.bq_core.proofs.StateLemmas.{entries_forgotten}
@@ -27,4 +28,5 @@ returns-clause-sound c =
       next = was.next;
       ids = was.ids;
       counts = record { whole = was.counts.whole; each = c.forget.ensures.tallies s.jobs.jobs was.counts.each };
+      pauses = c.first_end-state.ensures ∙ ap first_pause_end c.as_slice-2.ensures.value;
     }

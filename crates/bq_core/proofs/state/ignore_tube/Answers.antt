@@ -31,6 +31,7 @@ returns-then-from-len-clause-sound c =
       next = was.next;
       ids = was.ids;
       counts = was.counts;
+      pauses = was.pauses;
     }
 
 pub returns-else-from-len-clause-after : goal.returns-else-from-len-clause-after

@@ -1,6 +1,8 @@
-use Rattle.std.proofs.Common.{◌∙◌, ap}
+use Rattle.std.proofs.Common.{◌∙◌, ap, sym}
+use Rattle.bq_core.specs.Dues.{first_pause_end}
 use Rattle.bq_core.specs.State.{machine_of}
 use Rattle.bq_core.specs.TubeEntries.{counted, has_entry}
+use Rattle.bq_core.proofs.PauseLemmas.{end_provided}
 use Rattle.bq_core.proofs.StateLemmas.{counted_provided, entries_provided, has_provided}
 use Rattle.bq_core.proofs.TallyPlaces.{counted_provided as tallies_of_provided}
 use Rattle.bq_core.proofs.state.provide_tube.Goals as goal
@@ -23,6 +25,7 @@ returns-in-Ok-clause-sound c =
       counts =
           let st = c.args.state.now in
           rw (c.in-Ok.ensures.tubes, c.in-Ok.ensures.tallies) (tallies_of_provided c.args.tube.now st.tally st.tallies.items st.jobs.jobs st.tubes.items was.entries.of_jobs was.counts);
+      pauses = was.pauses ∙ sym (end_provided c.args.tube.now c.args.state.now.tubes.items) ∙ ap first_pause_end (sym c.in-Ok.ensures.tubes);
     }
 
 pub returns-in-Err-clause-after : goal.returns-in-Err-clause-after
@@ -31,4 +34,4 @@ returns-in-Err-clause-after c = ap (λ tubes. record (machine_of c.args.state.no
 pub returns-in-Err-clause-sound : goal.returns-in-Err-clause-sound
 returns-in-Err-clause-sound c =
     let was = c.requires in
-    record { entries = rw c.in-Err.ensures.tubes was.entries; numbered = was.numbered; next = was.next; ids = was.ids; counts = rw (c.in-Err.ensures.tubes, c.in-Err.ensures.tallies) was.counts }
+    record { entries = rw c.in-Err.ensures.tubes was.entries; numbered = was.numbered; next = was.next; ids = was.ids; counts = rw (c.in-Err.ensures.tubes, c.in-Err.ensures.tallies) was.counts; pauses = rw c.in-Err.ensures.tubes was.pauses }

@@ -16,6 +16,7 @@ returns-in_err-job-clause-sound c =
       next = c.requires.next;
       ids = rw same c.requires.ids;
       counts = rw same c.requires.counts;
+      pauses = c.requires.pauses;
     }
 
 pub returns-clause-given : goal.returns-clause-given
@@ -44,4 +45,5 @@ returns-clause-sound c =
         each = c.remove-3.ensures ∙ ap (λ es. tallies_without j es st.tallies.items) c.as_slice.ensures.value ∙ made.each
             ∙ ap (λ js. tallies_of js st.tubes.items) (sym c.remove.ensures.jobs);
       };
+      pauses = was.pauses;
     }

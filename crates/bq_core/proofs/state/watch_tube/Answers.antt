@@ -48,4 +48,5 @@ returns-in-Ok-clause-sound c =
       next = p.sound.next;
       ids = p.sound.ids;
       counts = p.sound.counts;
+      pauses = p.sound.pauses;
     }

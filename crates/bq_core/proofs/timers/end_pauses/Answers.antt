@@ -1,9 +1,11 @@
 use Rattle.std.proofs.Common.{◌≡◌, ◌∙◌, ap, refl, false, sym}
 use Rattle.std.specs.List.{list_any}
 use Rattle.bq_job.specs.Timers.{tube_after_timers}
+use Rattle.bq_core.specs.Dues.{first_pause_end, is_end_over}
 use Rattle.bq_core.specs.State.{machine_of}
 use Rattle.bq_core.specs.TubeEntries.{counted, is_counted, is_pause_over}
 use Rattle.bq_core.proofs.FiringLemmas.{no_pause_ends, none_counted}
+use Rattle.bq_core.proofs.PauseLemmas.{none_over}
 use Rattle.bq_core.proofs.StateLemmas.{entries_of_timers}
 use Rattle.bq_core.proofs.TallyPlaces.{counted_kept}
 use Rattle.bq_core.proofs.TubeLemmas.{filter_of_map}
@@ -24,10 +26,11 @@ returns-clause-sound c =
       next = was.next;
       ids = was.ids;
       counts = rw c.fire_timers.ensures (counted_kept (tube_after_timers s.moment) (λ t. refl) s.tally s.tallies.items s.jobs.jobs s.tubes.items was.counts);
+      pauses = c.first_end-state.ensures ∙ ap first_pause_end c.as_slice.ensures.value;
     }
 
-pub returns-then-not-is_some_pause_over-clause-after : goal.returns-then-not-is_some_pause_over-clause-after
-returns-then-not-is_some_pause_over-clause-after c =
+pub returns-then-not-is_over-clause-after : goal.returns-then-not-is_over-clause-after
+returns-then-not-is_over-clause-after c =
     let s = c.args.state.now in
-    let none : list_any (is_pause_over s.moment) s.tubes.items ≡ false = ap (list_any (is_pause_over s.moment)) (sym c.as_slice.ensures.value) ∙ sym c.if-not-is_some_pause_over.ensures in
+    let none : list_any (is_pause_over s.moment) s.tubes.items ≡ false = none_over s.moment s.tubes.items (ap (is_end_over s.moment) (sym c.requires.pauses) ∙ sym c.if-not-is_over.ensures) in
     ap (λ tubes. record (machine_of s) { tubes = tubes }) (sym (no_pause_ends s.moment (counted s.tubes.items) (none_counted s.moment s.tubes.items none)))

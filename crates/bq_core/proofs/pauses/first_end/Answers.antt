@@ -1,7 +1,7 @@
 use Rattle.std.proofs.Common.{◌∙◌, ap}
 use Rattle.bq_core.specs.Dues.{earlier_of_both, with_tube_due}
 use Rattle.bq_core.proofs.DueLemmas.{looked_at_more}
-use Rattle.bq_core.proofs.dues.tubes_due.Goals as goal
+use Rattle.bq_core.proofs.pauses.first_end.Goals as goal
 
 pub loop-i-preserved : goal.loop-i-preserved
 loop-i-preserved c =
