@@ -3,7 +3,7 @@ ghost use Rattle.std.specs.Prelude.{◌<◌};
 
 use super::{Do, Example, Want, start, take_all, tube};
 use crate::{Config, Core, Outs};
-use bq_job::{Body, Request, Step};
+use bq_job::{Answer, Body, Request, Step};
 use std::alloc::Global;
 use std::process::Abort;
 use std::test::Fail;
@@ -18,6 +18,11 @@ const HAND_OUT: &[Example] = &[(0, 0, Do::Reserve, &[(0, Want::Reserved(1, b"x")
 const NOTHING_DUE: &[Example] = &[(0, 0, Do::Tick, &[])];
 
 const PUT: &[Example] = &[(0, 0, Do::Put(0, 0, 9, b"x"), &[(0, Want::Inserted(1))])];
+
+const ONE_HELD: &[Example] = &[
+    (0, 0, Do::Put(0, 0, 99, b"x"), &[(0, Want::Inserted(1))]),
+    (0, 0, Do::Reserve, &[(0, Want::Reserved(1, b"x"))]),
+];
 
 // How many comparisons the steps make, which are answered as the examples say.
 fn comparisons_of(
@@ -100,5 +105,57 @@ fn waiters_of_another_tube_cost_little(rt: HostRuntime) -> Result<(), Fail> {
         with <= most,
         "{with} with waiting clients, {without} without"
     );
+    Ok(())
+}
+
+// Clients begin to wait, each for a second.
+fn let_wait(core: &mut Core, outs: &mut Outs)
+    requires { core.old.machine.settings.seats < outs.old.most }
+    ensures { core.new.machine.settings.seats < outs.new.most }
+{
+    for number in 0..WAITERS {
+        let seat = number + 1;
+        core.step(0, seat, Step::Connect, outs);
+        core.step(
+            0,
+            seat,
+            Step::Ask(Request::ReserveWithTimeout { seconds: 1 }),
+            outs,
+        );
+    }
+}
+
+#[test]
+fn waits_that_end_together_cost_little(rt: HostRuntime) -> Result<(), Fail> {
+    let config = Config {
+        seats: 256,
+        max_job_size: 10,
+    };
+    let mut core = Core::new(rt.alloc(), config)?;
+    let mut outs = Outs::new(rt.alloc(), 256)?;
+    core.step(0, 0, Step::Connect, &mut outs);
+    take_all(
+        &rt,
+        rt.alloc(),
+        &mut core,
+        &mut outs,
+        "waits that end together",
+        ONE_HELD,
+    )?;
+    let_wait(&mut core, &mut outs);
+    let before = core.comparisons();
+    core.step(1000, 0, Step::Tick, &mut outs);
+    let made = core.comparisons().saturating_sub(before);
+    for seat in 0..WAITERS {
+        let told = outs.take_first();
+        assert!(rt;
+            matches!(told, Some((_, Answer::TimedOut))),
+            "{seat} waits on"
+        );
+    }
+    // No job changes. Who waits watches 200 tubes, and who asks one. There is one job: 2 * 1 + 2 has three
+    // binary digits.
+    let most = (0 + 8) * (201 + 16) * 2 * 3;
+    assert!(rt; made <= most, "{made} comparisons, and not {most} at most");
     Ok(())
 }
