@@ -27,6 +27,9 @@ const LINES: u64 = 3;
 /// How many times the doors are served, each time with other requests.
 const RUNS: u64 = 6;
 
+/// Room for all that is written to a client.
+const ROOM: usize = 50_000;
+
 /// How many readings the clock gives before it stands still: more than a run takes.
 const READINGS: u64 = 20_000;
 
@@ -59,7 +62,7 @@ fn random_line(alloc: Global, number: u64) -> Result<MemLine, Fail>
 {
     let mut parts: Vec<Part> = Vec::new(alloc);
     parts.push(Part::Bytes(text_of(alloc, number)?))?;
-    Ok(MemLine::new(alloc, parts, 3000)?)
+    Ok(MemLine::new(alloc, parts, ROOM)?)
 }
 
 fn random_door(alloc: Global, run: u64, door: u64) -> Result<MemDoor, Fail>

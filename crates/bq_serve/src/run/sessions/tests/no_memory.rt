@@ -20,7 +20,7 @@ use std::thread::Threads;
 /// What a client sends, what is written to it, and what where memory is refused to its first command.
 type Example = (&'static str, &'static str, &'static str);
 
-static EXAMPLES: [Example; 3] = [
+static EXAMPLES: [Example; 4] = [
     (
         "put 0 0 1 1\r\na\r\nreserve-with-timeout 0\r\nquit\r\n",
         "INSERTED 1\r\nRESERVED 1 1\r\na\r\n",
@@ -35,6 +35,11 @@ static EXAMPLES: [Example; 3] = [
         "watch t\r\nignore default\r\nquit\r\n",
         "WATCHING 2\r\nWATCHING 1\r\n",
         "OUT_OF_MEMORY\r\nNOT_IGNORED\r\n",
+    ),
+    (
+        "list-tubes\r\nquit\r\n",
+        "OK 14\r\n---\n- default\n\r\n",
+        "OUT_OF_MEMORY\r\n",
     ),
 ];
 

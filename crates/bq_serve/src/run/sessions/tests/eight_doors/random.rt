@@ -8,9 +8,9 @@ const REQUESTS: u32 = 25;
 /// A request: a number of 1 to so many stands between its two parts, or with 0 none.
 type Kind = (&'static str, u64, &'static str);
 
-const KINDS: u64 = 32;
+const KINDS: u64 = 37;
 
-static REQUESTS_OF_ANY_CLIENT: [Kind; 32] = [
+static REQUESTS_OF_ANY_CLIENT: [Kind; 37] = [
     ("put ", 3, " 0 9 1\r\nx\r\n"),
     ("put ", 3, " 0 1 2\r\nxy\r\n"),
     ("put 2 ", 2, " 2 3\r\nxyz\r\n"),
@@ -41,6 +41,11 @@ static REQUESTS_OF_ANY_CLIENT: [Kind; 32] = [
     ("ignore a", 2, "\r\n"),
     ("pause-tube a", 1, " 1\r\n"),
     ("list-tube-used\r\n", 0, ""),
+    ("list-tubes\r\n", 0, ""),
+    ("list-tubes-watched\r\n", 0, ""),
+    ("stats\r\n", 0, ""),
+    ("stats-job ", 9, "\r\n"),
+    ("stats-tube a", 1, "\r\n"),
     ("nonsense\r\n", 0, ""),
     ("quit\r\n", 0, ""),
 ];
@@ -62,7 +67,7 @@ impl Random {
     }
 
     fn request(&mut self) -> &'static Kind {
-        &REQUESTS_OF_ANY_CLIENT[self.below(KINDS) as usize % 32]
+        &REQUESTS_OF_ANY_CLIENT[self.below(KINDS) as usize % 37]
     }
 }
 
