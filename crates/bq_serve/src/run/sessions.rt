@@ -1,5 +1,5 @@
 //! Many doors, which one thread serves in turn.
-ghost use Rattle.std.specs.Prelude.{◌≡◌, ◌<◌, ◌≤◌, ◌↔◌, ◌&&◌, ◌==◌, true, false, not, length, IfOk, IsErrOf, IsTrue, slice_index_or, vec_len};
+ghost use Rattle.std.specs.Prelude.{◌≡◌, ◌<◌, ◌≤◌, ◌↔◌, ◌⊎◌, ◌&&◌, ◌==◌, true, false, not, length, IfOk, IsErrOf, IsTrue, slice_index_or, vec_len};
 ghost use Rattle.std.specs.List.{All};
 ghost use Rattle.bq_core.specs.Limits.{is_body_size, is_seat_count};
 ghost use Rattle.bq_core.specs.State.{settings_of};
@@ -174,7 +174,8 @@ fn serve_round<L: Line + Drop, D: Door<Line = L>, C: Clock + Drop>(
 
 // A round behind one more seat.
 fn round_after(round: Round, moved: bool, is_done: bool) -> Round
-    ensures { result ≡ Round.Over → (round ≡ Round.Over) × IsTrue is_done }
+    ensures over { result ≡ Round.Over ↔ ((round ≡ Round.Over) × IsTrue is_done × (moved ≡ false)) }
+    ensures moved { result ≡ Round.Moved ↔ ((moved ≡ true) ⊎ (round ≡ Round.Moved)) }
 {
     if moved {
         Round::Moved

@@ -42,6 +42,6 @@ loop-seat-preserved g c =
       served = serves_then g.L.Line.seen at g.C.Clock.given c.args.desk.now l.desk new.desk c.args.seats.now l.seats _ c.args.doors.now l.doors _ l.invariant.served
           (serves_turn g.L.Line.seen at g.C.Clock.given l.desk new.desk l.seats l.doors l.seat l.seat c.index-seats-seat.result new.attendant c.index-doors-seat.result new.door refl below c.attend-moved.ensures.went);
       over = λ e k less a.
-          let r = c.round_after-round.ensures e in
+          let r = c.round_after-round.ensures.over.0 e in
           done_more l.seats l.seat new.attendant c.index-seats-seat-in-loop-seat.result below (l.invariant.over r.0) (c.is_done.ensures.0 r.1) k less a;
     }
