@@ -10,7 +10,6 @@ use Rattle.bq_job.specs.declared.step.Step.{Step}
 use Rattle.bq_job.specs.declared.step.Step.TheVariants as steps
 use Rattle.bq_job.specs.declared.request.Request.{Request}
 use Rattle.bq_job.specs.declared.request.Request.TheVariants as requests
-use Rattle.bq_core.specs.Stirring.{may_change, may_stir}
 use Rattle.bq_job.specs.Acts.{Effect, on_job, showing, silent, telling}
 use Rattle.bq_job.specs.Asked.{after_close, after_connect, asked, at_found, effect, with_end}
 use Rattle.bq_job.specs.Changes.{is_held_by, is_waiting, job_with, seat_with, with_job, with_seat}
@@ -192,65 +191,15 @@ some_there None h = absurd cc
 some_there (Some j) h = (j, refl)
 
 -- what changes nothing by itself
-shown_same : (m : Machine) (o : Option Job) → (showing m o).machine ≡ m
+pub shown_same : (m : Machine) (o : Option Job) → (showing m o).machine ≡ m
 shown_same m None = refl
 shown_same m (Some j) = refl
 
-job_told_same : (m : Machine) (o : Option Job) → (job_statistics_or_not m o).machine ≡ m
+pub job_told_same : (m : Machine) (o : Option Job) → (job_statistics_or_not m o).machine ≡ m
 job_told_same m None = refl
 job_told_same m (Some j) = refl
 
-tube_told_same : (m : Machine) (tube : List ℕ) (exists : Bool)
+pub tube_told_same : (m : Machine) (tube : List ℕ) (exists : Bool)
     → (if exists then telling (answers.Ok (tube_statistics tube m)) m else telling answers.NotFound m).machine ≡ m
 tube_told_same m tube true = refl
 tube_told_same m tube false = refl
-
-request_same : (request : Request) (m : Machine) (s : SeatRecord) → may_change request ≡ false → (asked request m s).machine ≡ m
-request_same (requests.Put pri delay ttr body) m s h = absurd cc
-request_same requests.Reserve m s h = absurd cc
-request_same (requests.ReserveWithTimeout seconds) m s h = absurd cc
-request_same (requests.ReserveJob id) m s h = absurd cc
-request_same (requests.Delete id) m s h = absurd cc
-request_same (requests.Release id pri delay) m s h = absurd cc
-request_same (requests.Bury id pri) m s h = absurd cc
-request_same (requests.Touch id) m s h = absurd cc
-request_same (requests.Kick bound) m s h = absurd cc
-request_same (requests.KickJob id) m s h = absurd cc
-request_same (requests.Use tube) m s h = absurd cc
-request_same requests.ListTubeUsed m s h = refl
-request_same (requests.Watch tube) m s h = absurd cc
-request_same (requests.Ignore tube) m s h = absurd cc
-request_same (requests.Peek id) m s h = shown_same m (job_with id m.jobs)
-request_same requests.PeekReady m s h = shown_same m _
-request_same requests.PeekDelayed m s h = shown_same m _
-request_same requests.PeekBuried m s h = shown_same m _
-request_same (requests.PauseTube tube delay) m s h = absurd cc
-request_same (requests.StatsJob id) m s h = job_told_same m (job_with id m.jobs)
-request_same (requests.StatsTube tube) m s h = tube_told_same m tube (is_tube tube m)
-request_same requests.Stats m s h = refl
-request_same requests.ListTubes m s h = refl
-request_same requests.ListTubesWatched m s h = refl
-request_same requests.Quit m s h = refl
-request_same (requests.Refused why) m s h = refl
-
-asked_same : (request : Request) (m : Machine) (o : Option SeatRecord) → may_change request ≡ false → (at_found (steps.Ask request) m o).machine ≡ m
-asked_same request m None h = refl
-asked_same request m (Some s) h = go (s.connected && not (is_waiting s))
-  where
-    go : (b : Bool) → (if b then asked request m s else silent m).machine ≡ m
-    go true = request_same request m s h
-    go false = refl
-
-effect_same : (m : Machine) (seat : ℕ) (what : Step) → may_stir what ≡ false → (effect m seat what).machine ≡ m
-effect_same m seat steps.Connect h = absurd cc
-effect_same m seat (steps.Ask request) h = asked_same request m (seat_with seat m.seats) h
-effect_same m seat steps.End h = absurd cc
-effect_same m seat steps.Close h = absurd cc
-effect_same m seat steps.Drain h = absurd cc
-effect_same m seat steps.Tick h = refl
-effect_same m seat steps.Gone h = refl
-
-pub acted_same : (memory : Memory) (m : Machine) (seat : ℕ) (what : Step) → may_stir what ≡ false → (acted memory m seat what).machine ≡ m
-acted_same granted m seat what h = effect_same m seat what h
-acted_same growth_refused m seat what h = refl
-acted_same share_refused m seat what h = refl

@@ -9,6 +9,8 @@ pub mod KickLemmas
 pub mod LoopLemmas
 pub mod NameLemmas
 pub mod PauseLemmas
+pub mod QuietActs
+pub mod QuietLemmas
 pub mod StateLemmas
 pub mod StepCosts
 pub mod StepLemmas

@@ -1,28 +1,24 @@
--- Which steps change nothing by themselves.
+-- Which steps, by themselves, make no job ready, let nobody wait and end no pause.
 use Rattle.std.specs.Prelude.{Bool, true, false}
 use Rattle.bq_job.specs.declared.request.Request.{Request}
 use Rattle.bq_job.specs.declared.request.Request.TheVariants as requests
 use Rattle.bq_job.specs.declared.step.Step.{Step}
 use Rattle.bq_job.specs.declared.step.Step.TheVariants as steps
 
-abbrev pub may_change : Request → Bool
-may_change requests.ListTubeUsed = false
-may_change (requests.Peek id) = false
-may_change requests.PeekReady = false
-may_change requests.PeekDelayed = false
-may_change requests.PeekBuried = false
-may_change (requests.StatsJob id) = false
-may_change (requests.StatsTube tube) = false
-may_change requests.Stats = false
-may_change requests.ListTubes = false
-may_change requests.ListTubesWatched = false
-may_change requests.Quit = false
-may_change (requests.Refused why) = false
-may_change _ = true
+-- the request may make a job ready, let its client wait or change a pause
+abbrev pub request_may_stir : Request → Bool
+request_may_stir (requests.Put pri delay ttr body) = true
+request_may_stir requests.Reserve = true
+request_may_stir (requests.ReserveWithTimeout seconds) = true
+request_may_stir (requests.Release id pri delay) = true
+request_may_stir (requests.Kick bound) = true
+request_may_stir (requests.KickJob id) = true
+request_may_stir (requests.PauseTube tube delay) = true
+request_may_stir _ = false
 
--- the command's own effect may change jobs, seats or tubes
+-- after the command's own effect a client may have a job that it could not have before
 abbrev pub may_stir : Step → Bool
-may_stir steps.Tick = false
-may_stir steps.Gone = false
-may_stir (steps.Ask request) = may_change request
-may_stir _ = true
+may_stir (steps.Ask request) = request_may_stir request
+may_stir steps.End = true
+may_stir steps.Close = true
+may_stir _ = false

@@ -7,7 +7,7 @@ ghost use Rattle.bq_job.specs.Steps.{step_takes_memory, takes_memory};
 ghost use Rattle.bq_core.specs.Acting.{Acts, Replies, is_asking};
 ghost use Rattle.bq_core.specs.Asking.{AsksAsChanged};
 ghost use Rattle.bq_core.specs.State.{machine_of, IsSound};
-ghost use Rattle.bq_core.specs.Stirring.{may_change, may_stir};
+ghost use Rattle.bq_core.specs.Stirring.{may_stir, request_may_stir};
 ghost use Rattle.bq_core.specs.Turns.{HasRoom};
 
 use crate::job_acts::{NewJob, NewTurn};
@@ -171,24 +171,19 @@ fn reply_to(state: &mut State, alloc: Global, seat: Seat, what: Step) -> Reply
     }
 }
 
-// Whether the request changes jobs, seats or tubes, or may.
-fn may_change(request: &Request) -> bool
-    ensures { result ≡ may_change request.now }
+// Whether the request may make a job ready, let its client wait or change a pause.
+fn request_may_stir(request: &Request) -> bool
+    ensures { result ≡ request_may_stir request.now }
 {
-    !matches!(
+    matches!(
         request,
-        Request::ListTubeUsed
-            | Request::Peek { .. }
-            | Request::PeekReady
-            | Request::PeekDelayed
-            | Request::PeekBuried
-            | Request::StatsJob { .. }
-            | Request::StatsTube { .. }
-            | Request::Stats
-            | Request::ListTubes
-            | Request::ListTubesWatched
-            | Request::Quit
-            | Request::Refused(_)
+        Request::Put { .. }
+            | Request::Reserve
+            | Request::ReserveWithTimeout { .. }
+            | Request::Release { .. }
+            | Request::Kick { .. }
+            | Request::KickJob { .. }
+            | Request::PauseTube { .. }
     )
 }
 
@@ -197,9 +192,9 @@ pub(crate) fn may_stir(what: &Step) -> bool
     ensures { result ≡ may_stir what.now }
 {
     match what {
-        Step::Tick | Step::Gone => false,
-        Step::Ask(request) => may_change(request),
-        _ => true,
+        Step::Ask(request) => request_may_stir(request),
+        Step::End | Step::Close => true,
+        _ => false,
     }
 }
 
