@@ -110,6 +110,7 @@ fn turn<L: Line + Drop, D: Door<Line = L>, K: Link>(
 fn open_line<L: Line + Drop, D: Door<Line = L>>(machine: &mut SeatMachine, door: &mut D) -> Place<L>
     requires inside { D.is_out door.old ≡ false }
     requires more { D.is_at_end door.old ≡ false }
+    ensures opened { result ≡ Place.Between → ⊥ }
     ensures went { let at = door_seen D.is_out D.is_at_end D.lines_over in
         Tends L.seen (attendant machine.old Place.Between) (at door.old) [] [] (attendant machine.new result) (at door.new) }
 {
