@@ -235,3 +235,6 @@ fn start_threads<
     }
     true
 }
+
+#[cfg(test)]
+mod tests;
