@@ -4,7 +4,7 @@ use Rattle.std.specs.List.{remove}
 use Rattle.bq_core.specs.TubeEntries.{kept_if}
 
 -- one entry less to look at, from the end on
-kept_later : {A : Type 0} (p : A → Bool) (x : A) (ys : List A) (k : ℕ) (o : Option A) → kept_if p (x ∷ ys) (suc k) o ≡ x ∷ kept_if p ys k o
+pub kept_later : {A : Type 0} (p : A → Bool) (x : A) (ys : List A) (k : ℕ) (o : Option A) → kept_if p (x ∷ ys) (suc k) o ≡ x ∷ kept_if p ys k o
 kept_later p x ys k None = refl
 kept_later {A = A} p x ys k (Some y) = go (p y)
   where

@@ -7,6 +7,7 @@ pub mod FiringLemmas
 pub mod ForgettingLemmas
 pub mod KickLemmas
 pub mod LoopLemmas
+pub mod LossLemmas
 pub mod NameLemmas
 pub mod PauseLemmas
 pub mod QuietActs

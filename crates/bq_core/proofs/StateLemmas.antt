@@ -164,7 +164,7 @@ if_some (Some x) P h = h x refl
 -- comparisons change nothing else
 pub compared_sound : (old new : State) → OnlyCompares old new → IsSound old → IsSound new
 compared_sound old new same s =
-    let was : IsSound (record old { jobs = record old.jobs { comparisons = new.jobs.comparisons } }) = record { entries = s.entries; numbered = s.numbered; next = s.next; ids = s.ids; counts = s.counts; pauses = s.pauses } in
+    let was : IsSound (record old { jobs = record old.jobs { comparisons = new.jobs.comparisons } }) = record { entries = s.entries; numbered = s.numbered; next = s.next; ids = s.ids; counts = s.counts; alive = s.alive; pauses = s.pauses } in
     subst IsSound (sym same) was
 
 -- a change of a seat leaves it at tubes with entries

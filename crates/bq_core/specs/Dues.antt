@@ -1,5 +1,5 @@
 -- The least of moments, where there are any.
-use Rattle.std.specs.Prelude.{ℕ, Bool, false, ◌-◌, nat_le, if◌then◌else◌, List, Option, Some, None, fold}
+use Rattle.std.specs.Prelude.{ℕ, Bool, false, ◌-◌, nat_le, nat_lt, if◌then◌else◌, List, length, Option, Some, None, fold}
 use Rattle.std.specs.Option.{option_map}
 use Rattle.bq_job.specs.declared.job.Job.{Job}
 use Rattle.bq_job.specs.Changes.{first_of, is_held_by, is_waiting}
@@ -35,6 +35,10 @@ abbrev pub pause_end_after : List TubeRecord → TubeChange → Option ℕ → O
 pause_end_after entries CountPut last = last
 pause_end_after entries CountDelete last = last
 pause_end_after entries (Pause seconds moment) last = first_pause_end entries
+
+-- and once entries were dropped, where that was it before
+abbrev pub pause_end_left : List TubeRecord → ℕ → Option ℕ → Option ℕ
+pause_end_left entries were last = if nat_lt (length entries) were then first_pause_end entries else last
 
 -- a pause that ends then, if there is one, is over
 abbrev pub is_end_over : ℕ → Option ℕ → Bool

@@ -11,6 +11,7 @@ pub mod JobChanges
 pub mod JobKinds
 pub mod Kicking
 pub mod Limits
+pub mod Losses
 pub mod Offers
 pub mod Numbers
 pub mod Outbox

@@ -4,6 +4,7 @@ use Rattle.bq_job.specs.JobCommands.{last_id}
 use Rattle.bq_job.specs.Lawful.{AreIdsWithin}
 use Rattle.bq_job.specs.Machine.{Machine, Settings, numbers}
 use Rattle.bq_core.specs.Dues.{first_pause_end}
+use Rattle.bq_core.specs.Losses.{AreAlive}
 use Rattle.bq_core.specs.Tallies.{AreCounted}
 use Rattle.bq_core.specs.TubeEntries.{AreEntries, counted}
 use Rattle.bq_core.specs.declared.config.Config.{Config}
@@ -39,6 +40,8 @@ pub record IsSound (s : State) : Type 0 where
   pub ids : AreIdsWithin 1 s.jobs.jobs s.next_id
   -- What is counted is what there is.
   pub counts : AreCounted s.tally s.tallies.items s.jobs.jobs s.tubes.items
+  -- It is known which entries may be of tubes that are gone.
+  pub alive : AreAlive s.loss s.jobs.jobs s.seats.items s.tubes.items
   -- The end of the first pause is known.
   pub pauses : s.pause_end ≡ first_pause_end s.tubes.items
 

@@ -16,6 +16,7 @@ mod job_acts;
 mod job_list;
 mod kicks;
 mod leases;
+mod loss;
 mod machine;
 mod name_lists;
 mod outs;

@@ -1,6 +1,6 @@
 //! When the first of the pauses of tubes ends.
 ghost use Rattle.std.specs.Prelude.{◌≡◌};
-ghost use Rattle.bq_core.specs.Dues.{first_pause_end, is_end_over, pause_end_after};
+ghost use Rattle.bq_core.specs.Dues.{first_pause_end, is_end_over, pause_end_after, pause_end_left};
 
 use crate::dues::earlier_of;
 use crate::tube_list::{TubeChange, TubeEntry};
@@ -29,6 +29,18 @@ pub(crate) fn end_after(
     match what {
         TubeChange::Pause(_, _) => first_end(tubes),
         TubeChange::CountPut | TubeChange::CountDelete => last,
+    }
+}
+
+/// When the first pause ends once entries were dropped, of which there were so many, and when it did before.
+/// Where none was dropped, no tube is looked at.
+pub(crate) fn end_left(tubes: &[TubeEntry], entries: usize, last: Option<Moment>) -> Option<Moment>
+    ensures { result ≡ pause_end_left tubes.now entries last }
+{
+    if tubes.len() < entries {
+        first_end(tubes)
+    } else {
+        last
     }
 }
 

@@ -18,12 +18,13 @@ ghost use Rattle.bq_core.specs.TubeEntries.{has_entry, is_tube_of, tube_changed}
 
 use crate::config::Config;
 use crate::job_list::{JobChange, JobKind, JobTest};
+use crate::loss::Loss;
 use crate::name_lists::Names;
 use crate::place::Place;
 use crate::seat_list::SeatChange;
 use crate::tally::Tally;
 use crate::tube_list::{TubeChange, TubeEntry};
-use crate::{job_list, pauses, seat_list, tallies, tube_list};
+use crate::{job_list, loss, pauses, seat_list, tallies, tube_list};
 use bq_job::{Body, Job, JobId, Moment, NoMemory, Seat, TubeName};
 use bq_jobs::{Jobs, laws};
 use std::alloc::Global;
@@ -40,6 +41,8 @@ pub(crate) struct State {
     pub(crate) tally: Tally,
     /// and how many of each tube, at the place of its entry.
     pub(crate) tallies: Vec<Tally, Global>,
+    /// Which tubes may be gone whose entries are still there.
+    pub(crate) loss: Loss,
     /// When the first pause of a tube ends.
     pub(crate) pause_end: Option<Moment>,
     pub(crate) moment: Moment,
@@ -172,6 +175,7 @@ pub(crate) fn add(state: &mut State, job: Job)
 {
     state.tally.add(&job);
     tallies::add(&mut state.tallies, state.tubes.as_slice(), &job);
+    loss::find(&mut state.loss, &job.tube);
     state.jobs.add(job);
     // So many jobs there can be, and no count comes to its end.
     let _jobs = state.jobs.len();
@@ -194,6 +198,7 @@ pub(crate) fn take(state: &mut State, id: JobId) -> Option<Job>
     let job = state.jobs.remove(id)?;
     state.tally.remove(&job);
     tallies::remove(&mut state.tallies, state.tubes.as_slice(), &job);
+    loss::lose(&mut state.loss, &job.tube);
     Some(job)
 }
 
@@ -222,6 +227,7 @@ pub(crate) fn change_seat(state: &mut State, seat: Seat, what: &SeatChange)
     ensures config { state.new.config ≡ state.old.config }
 {
     seat_list::change_at(&mut state.seats, seat, what);
+    seat_list::lose(&mut state.loss, what);
 }
 
 /// Changes what is kept of a tube that has an entry.
@@ -252,7 +258,10 @@ pub(crate) fn provide_tube(
     ensures config { state.new.config ≡ state.old.config }
 {
     match tube_list::provide(&mut state.tubes, &mut state.tallies, alloc, tube) {
-        Ok(()) => Ok(()),
+        Ok(()) => {
+            loss::lose(&mut state.loss, tube);
+            Ok(())
+        }
         Err(fault) => Err(fault),
     }
 }
@@ -295,6 +304,7 @@ pub(crate) fn ignore_tube(state: &mut State, seat: Seat, tube: &TubeName) -> u64
     ensures config { state.new.config ≡ state.old.config }
 {
     if usize::from(seat) < state.seats.len() {
+        loss::lose(&mut state.loss, tube);
         seat_list::ignore(&mut state.seats, seat, tube)
     } else {
         0
@@ -339,7 +349,7 @@ pub(crate) fn tube_names<'a>(state: &'a State, alloc: Global) -> Result<Names<'a
     )
 }
 
-/// Drops the entries of tubes that are gone.
+/// Drops the entries of tubes that are gone. It looks only at those that may be.
 pub(crate) fn forget_tubes(state: &mut State)
     requires { IsSound state.old }
     ensures after { machine_of state.new ≡ forgetting (machine_of state.old) }
@@ -347,8 +357,15 @@ pub(crate) fn forget_tubes(state: &mut State)
     ensures sound { IsSound state.new }
     ensures config { state.new.config ≡ state.old.config }
 {
-    tube_list::forget(&mut state.tubes, &mut state.tallies, state.seats.as_slice());
-    state.pause_end = pauses::first_end(state.tubes.as_slice());
+    let entries = state.tubes.len();
+    tube_list::forget_lost(
+        &mut state.tubes,
+        &mut state.tallies,
+        state.seats.as_slice(),
+        &state.loss,
+    );
+    state.loss = Loss::Nothing;
+    state.pause_end = pauses::end_left(state.tubes.as_slice(), entries, state.pause_end);
 }
 
 /// A moment below the last one counts as that one.
@@ -383,6 +400,7 @@ pub(crate) fn first_state(
         tubes,
         tally: Tally::default(),
         tallies,
+        loss: Loss::Nothing,
         pause_end: None,
         moment: 0,
         next_id: 1,

@@ -9,11 +9,14 @@ ghost use Rattle.bq_job.specs.TubeCommands.{with_pause};
 ghost use Rattle.bq_job.specs.TubeName.{is_same_name};
 ghost use Rattle.bq_job.specs.Tubes.{fresh_tube, is_name_before, is_seated_at as seated_at};
 ghost use Rattle.bq_job.specs.Timers.{tube_after_timers};
+ghost use Rattle.bq_core.specs.Losses.{AreAlive};
+ghost use Rattle.bq_core.specs.declared.loss.Loss.TheVariants as Loss;
 ghost use Rattle.bq_core.specs.Tallies.{has_jobs, tallies_of, tallies_provided, tally_at};
-ghost use Rattle.bq_core.specs.TubeEntries.{has_entry, is_tube_of, is_tube_with, kept_if, names_alive, provided, tube_changed, tube_changed_at};
+ghost use Rattle.bq_core.specs.TubeEntries.{AreInOrder, has_entry, is_tube_of, is_tube_with, kept_if, names_alive, provided, tube_changed, tube_changed_at};
 ghost use Rattle.bq_core.specs.Texts.{names_of};
 
 use crate::job_list::later;
+use crate::loss::Loss;
 use crate::name_lists::Names;
 use crate::place::Place;
 use crate::tally::Tally;
@@ -349,12 +352,8 @@ fn forget_at(
     }
 }
 
-/// Drops the entries of tubes that are gone.
-pub(crate) fn forget(
-    tubes: &mut Vec<TubeEntry, Global>,
-    tallies: &mut Vec<Tally, Global>,
-    seats: &[Place],
-)
+// Drops the entries of all tubes that are gone.
+fn forget(tubes: &mut Vec<TubeEntry, Global>, tallies: &mut Vec<Tally, Global>, seats: &[Place])
     requires { length tallies.old.items ≡ length tubes.old.items }
     ensures after { (jobs : List Job) → tallies.old.items ≡ tallies_of jobs tubes.old.items → tubes.new.items ≡ filter (λ t. is_tube_of jobs seats.now t.name) tubes.old.items }
     ensures tallies { (jobs : List Job) → tallies.old.items ≡ tallies_of jobs tubes.old.items → tallies.new.items ≡ tallies_of jobs tubes.new.items }
@@ -363,6 +362,40 @@ pub(crate) fn forget(
     while i > 0 {
         i -= 1;
         forget_at(tubes, tallies, i, seats);
+    }
+}
+
+// Drops the entry of this name where its tube is gone.
+fn forget_named(
+    tubes: &mut Vec<TubeEntry, Global>,
+    tallies: &mut Vec<Tally, Global>,
+    seats: &[Place],
+    name: &TubeName,
+)
+    requires { length tallies.old.items ≡ length tubes.old.items }
+    ensures after { (jobs : List Job) → AreInOrder tubes.old.items → AreAlive (Loss.Of name.now) jobs seats.now tubes.old.items → tallies.old.items ≡ tallies_of jobs tubes.old.items → tubes.new.items ≡ filter (λ t. is_tube_of jobs seats.now t.name) tubes.old.items }
+    ensures tallies { (jobs : List Job) → tallies.old.items ≡ tallies_of jobs tubes.old.items → tallies.new.items ≡ tallies_of jobs tubes.new.items }
+{
+    if let Some(i) = find(tubes.as_slice(), name) {
+        forget_at(tubes, tallies, i, seats);
+    }
+}
+
+/// Drops the entries of tubes that are gone, which are among those that may be.
+pub(crate) fn forget_lost(
+    tubes: &mut Vec<TubeEntry, Global>,
+    tallies: &mut Vec<Tally, Global>,
+    seats: &[Place],
+    loss: &Loss,
+)
+    requires { length tallies.old.items ≡ length tubes.old.items }
+    ensures after { (jobs : List Job) → AreInOrder tubes.old.items → AreAlive loss.now jobs seats.now tubes.old.items → tallies.old.items ≡ tallies_of jobs tubes.old.items → tubes.new.items ≡ filter (λ t. is_tube_of jobs seats.now t.name) tubes.old.items }
+    ensures tallies { (jobs : List Job) → tallies.old.items ≡ tallies_of jobs tubes.old.items → tallies.new.items ≡ tallies_of jobs tubes.new.items }
+{
+    match loss {
+        Loss::Nothing => {}
+        Loss::Of(name) => forget_named(tubes, tallies, seats, name),
+        Loss::Any => forget(tubes, tallies, seats),
     }
 }
 

@@ -1,6 +1,7 @@
 use Rattle.std.proofs.Common.{◌≡◌, ◌∙◌, ◌≤◌, ap, sym, arith, length}
 use Rattle.bq_jobs.specs.Kept.{with_added}
 use Rattle.bq_core.specs.Tallies.{tallies_of, tallies_with, tally_of}
+use Rattle.bq_core.proofs.LossLemmas.{alive_added}
 use Rattle.bq_core.proofs.StateLemmas.{entries_of_added, ids_of_added}
 use Rattle.bq_core.proofs.TallyPlaces.{counted_added}
 use Rattle.bq_core.proofs.state.add.Goals as goal
@@ -24,5 +25,6 @@ returns-clause-sound c =
         each = c.add-2.ensures ∙ ap (λ es. tallies_with j es st.tallies.items) c.as_slice.ensures.value ∙ made.each
             ∙ ap (λ js. tallies_of js st.tubes.items) (sym c.add-3.ensures.jobs);
       };
+      alive = rw (c.find.ensures, c.add-3.ensures.jobs) (alive_added j st.loss st.jobs.jobs st.seats.items st.tubes.items was.alive);
       pauses = was.pauses;
     }

@@ -1,3 +1,4 @@
+use Rattle.bq_core.proofs.LossLemmas.{alive_at_seats}
 use Rattle.bq_core.proofs.StateLemmas.{entries_of_seat, numbered_after}
 use Rattle.bq_core.proofs.state.change_seat.Goals as goal
 
@@ -10,5 +11,6 @@ returns-clause-sound c =
       next = was.next;
       ids = was.ids;
       counts = was.counts;
+      alive = rw (c.lose.ensures, c.change_at.ensures) (alive_at_seats c.args.seat c.args.what.now c.args.state.now.loss c.args.state.now.jobs.jobs c.args.state.now.seats.items c.args.state.now.tubes.items was.alive);
       pauses = was.pauses;
     }

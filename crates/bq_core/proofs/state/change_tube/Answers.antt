@@ -2,6 +2,7 @@ use Rattle.std.proofs.Common.{◌∙◌, ap, sym}
 use Rattle.bq_core.specs.Dues.{first_pause_end, pause_end_after}
 use Rattle.bq_core.specs.State.{machine_of}
 use Rattle.bq_core.specs.TubeEntries.{counted, tube_changed, tube_changed_at}
+use Rattle.bq_core.proofs.LossLemmas.{alive_renamed}
 use Rattle.bq_core.proofs.PauseLemmas.{end_after_change}
 use Rattle.bq_core.proofs.StateLemmas.{entries_of_tube, name_kept_at, tube_counts, tube_name_kept}
 use Rattle.bq_core.proofs.TallyPlaces.{counted_kept}
@@ -26,6 +27,7 @@ returns-clause-sound c =
       next = was.next;
       ids = was.ids;
       counts = rw c.change_at.ensures (counted_kept (tube_changed_at c.args.tube.now c.args.what) (name_kept_at c.args.tube.now c.args.what) s.tally s.tallies.items s.jobs.jobs s.tubes.items was.counts);
+      alive = rw c.change_at.ensures (alive_renamed (tube_changed_at c.args.tube.now c.args.what) (name_kept_at c.args.tube.now c.args.what) s.loss s.jobs.jobs s.seats.items s.tubes.items was.alive);
       pauses =
           let changed = c.as_slice.ensures.value ∙ c.change_at.ensures in
           c.end_after-state.ensures

@@ -10,6 +10,7 @@ returns-clause-sound c = record {
   numbered = rw c.requires.free (first_numbered c.args.config.seats);
   next = λ _. omega arith;
   ids = rw (ap (λ (k : Kept). k.jobs) c.new.ensures) (omega arith);
+  alive = rw c.requires.entries (refl, tt);
   pauses = rw c.requires.entries refl;
   counts = rw (ap (λ (k : Kept). k.jobs) c.new.ensures, c.requires.entries) (record { whole = none_counted c.default.result c.default.ensures; each = c.requires.none_counted });
 }

@@ -3,6 +3,7 @@ use Rattle.std.proofs.lemmas.Option.{slice_get_within}
 use Rattle.bq_job.specs.TubeCommands.{watching}
 use Rattle.bq_job.specs.TubeName.{is_same_name}
 use Rattle.bq_core.specs.State.{machine_of}
+use Rattle.bq_core.proofs.LossLemmas.{alive_ignoring}
 use Rattle.bq_core.proofs.StateLemmas.{changed_there, seat_read, seat_there, watching_fewer, watching_numbered}
 use Rattle.bq_core.proofs.TurnLemmas.{some_at}
 use Rattle.bq_core.proofs.state.ignore_tube.Goals as goal
@@ -31,6 +32,7 @@ returns-then-from-len-clause-sound c =
       next = was.next;
       ids = was.ids;
       counts = was.counts;
+      alive = rw (seats, c.lose.ensures) (alive_ignoring c.args.tube.now c.args.seat s.0 old.loss old.jobs.jobs old.seats.items old.tubes.items s.1 was.alive);
       pauses = was.pauses;
     }
 

@@ -2,6 +2,7 @@ use Rattle.std.proofs.Common.{◌∙◌, ap, sym}
 use Rattle.bq_core.specs.Dues.{first_pause_end}
 use Rattle.bq_core.specs.State.{machine_of}
 use Rattle.bq_core.specs.TubeEntries.{counted, has_entry}
+use Rattle.bq_core.proofs.LossLemmas.{alive_provided}
 use Rattle.bq_core.proofs.PauseLemmas.{end_provided}
 use Rattle.bq_core.proofs.StateLemmas.{counted_provided, entries_provided, has_provided}
 use Rattle.bq_core.proofs.TallyPlaces.{counted_provided as tallies_of_provided}
@@ -25,6 +26,7 @@ returns-in-Ok-clause-sound c =
       counts =
           let st = c.args.state.now in
           rw (c.in-Ok.ensures.tubes, c.in-Ok.ensures.tallies) (tallies_of_provided c.args.tube.now st.tally st.tallies.items st.jobs.jobs st.tubes.items was.entries.of_jobs was.counts);
+      alive = rw (c.lose.ensures, c.in-Ok.ensures.tubes) (alive_provided c.args.tube.now c.args.state.now.loss c.args.state.now.jobs.jobs c.args.state.now.seats.items c.args.state.now.tubes.items was.alive);
       pauses = was.pauses ∙ sym (end_provided c.args.tube.now c.args.state.now.tubes.items) ∙ ap first_pause_end (sym c.in-Ok.ensures.tubes);
     }
 
@@ -34,4 +36,4 @@ returns-in-Err-clause-after c = ap (λ tubes. record (machine_of c.args.state.no
 pub returns-in-Err-clause-sound : goal.returns-in-Err-clause-sound
 returns-in-Err-clause-sound c =
     let was = c.requires in
-    record { entries = rw c.in-Err.ensures.tubes was.entries; numbered = was.numbered; next = was.next; ids = was.ids; counts = rw (c.in-Err.ensures.tubes, c.in-Err.ensures.tallies) was.counts; pauses = rw c.in-Err.ensures.tubes was.pauses }
+    record { entries = rw c.in-Err.ensures.tubes was.entries; numbered = was.numbered; next = was.next; ids = was.ids; counts = rw (c.in-Err.ensures.tubes, c.in-Err.ensures.tallies) was.counts; alive = rw c.in-Err.ensures.tubes was.alive; pauses = rw c.in-Err.ensures.tubes was.pauses }

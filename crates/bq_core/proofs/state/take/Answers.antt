@@ -2,6 +2,7 @@ use Rattle.std.proofs.Common.{◌≡◌, ◌∙◌, ap, sym, not, ◌==◌}
 use Rattle.bq_job.proofs.KeptLemmas.{ids_of_filter}
 use Rattle.bq_jobs.proofs.Changes.{without_none}
 use Rattle.bq_core.specs.Tallies.{tallies_of, tallies_without, tally_of}
+use Rattle.bq_core.proofs.LossLemmas.{alive_taken}
 use Rattle.bq_core.proofs.StateLemmas.{entries_of_fewer, given_of_job, has_of_job}
 use Rattle.bq_core.proofs.TallyPlaces.{counted_taken}
 use Rattle.bq_core.proofs.state.take.Goals as goal
@@ -16,6 +17,7 @@ returns-in_err-job-clause-sound c =
       next = c.requires.next;
       ids = rw same c.requires.ids;
       counts = rw same c.requires.counts;
+      alive = rw same c.requires.alive;
       pauses = c.requires.pauses;
     }
 
@@ -45,5 +47,6 @@ returns-clause-sound c =
         each = c.remove-3.ensures ∙ ap (λ es. tallies_without j es st.tallies.items) c.as_slice.ensures.value ∙ made.each
             ∙ ap (λ js. tallies_of js st.tubes.items) (sym c.remove.ensures.jobs);
       };
+      alive = rw (c.lose.ensures, c.remove.ensures.jobs) (alive_taken 1 st.next_id c.args.id j st.loss st.jobs.jobs st.seats.items st.tubes.items was.ids found was.alive);
       pauses = was.pauses;
     }

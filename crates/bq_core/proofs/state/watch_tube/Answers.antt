@@ -3,6 +3,7 @@ use Rattle.std.proofs.lemmas.Option.{slice_get_within}
 use Rattle.bq_job.specs.Machine.{Machine}
 use Rattle.bq_job.specs.TubeCommands.{watching}
 use Rattle.bq_core.specs.State.{machine_of}
+use Rattle.bq_core.proofs.LossLemmas.{alive_watching}
 use Rattle.bq_core.proofs.StateLemmas.{changed_there, seat_there, watching_more, watching_numbered}
 use Rattle.bq_core.proofs.TurnLemmas.{some_at}
 use Rattle.bq_core.proofs.state.watch_tube.Goals as goal
@@ -48,5 +49,6 @@ returns-in-Ok-clause-sound c =
       next = p.sound.next;
       ids = p.sound.ids;
       counts = p.sound.counts;
+      alive = rw seats (alive_watching c.args.tube.now c.args.seat s.0 mid.loss mid.jobs.jobs mid.seats.items mid.tubes.items s.1 p.sound.alive);
       pauses = p.sound.pauses;
     }

@@ -5,6 +5,7 @@ use Rattle.bq_core.specs.Dues.{first_pause_end, is_end_over}
 use Rattle.bq_core.specs.State.{machine_of}
 use Rattle.bq_core.specs.TubeEntries.{counted, is_counted, is_pause_over}
 use Rattle.bq_core.proofs.FiringLemmas.{no_pause_ends, none_counted}
+use Rattle.bq_core.proofs.LossLemmas.{alive_renamed}
 use Rattle.bq_core.proofs.PauseLemmas.{none_over}
 use Rattle.bq_core.proofs.StateLemmas.{entries_of_timers}
 use Rattle.bq_core.proofs.TallyPlaces.{counted_kept}
@@ -26,6 +27,7 @@ returns-clause-sound c =
       next = was.next;
       ids = was.ids;
       counts = rw c.fire_timers.ensures (counted_kept (tube_after_timers s.moment) (λ t. refl) s.tally s.tallies.items s.jobs.jobs s.tubes.items was.counts);
+      alive = rw c.fire_timers.ensures (alive_renamed (tube_after_timers s.moment) (λ t. refl) s.loss s.jobs.jobs s.seats.items s.tubes.items was.alive);
       pauses = c.first_end-state.ensures ∙ ap first_pause_end c.as_slice.ensures.value;
     }
 
