@@ -1,0 +1,14 @@
+use Rattle.std.proofs.Common.{List, None, subst, sym}
+use Rattle.std.specs.List.{All}
+use Rattle.bq_serve.specs.Tending.{IsNewDoor}
+use Rattle.bq_serve.specs.declared.door.tcp_door.TcpDoor.{TcpDoor}
+use Rattle.bq_serve.proofs.SessionsLemmas.{all_more}
+use Rattle.bq_cli.proofs.server.new_doors.Goals as goal
+
+IsNew : TcpDoor → Type 0
+IsNew d = IsNewDoor (record { is_out = d.is_out; is_at_end = d.is_at_end; lines_over = None })
+
+pub loop-preserved : goal.loop-preserved
+unfolding IsNew
+loop-preserved c =
+    subst (λ (xs : List TcpDoor). All IsNew xs) (sym c.in-Ok-push.ensures.items) (all_more IsNew c.loop.doors.items c.new_door-door.result c.loop.invariant c.new_door-door.ensures)
