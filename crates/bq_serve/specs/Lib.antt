@@ -10,6 +10,7 @@ pub mod LastParts
 pub mod LineCalls
 pub mod LineParts
 pub mod Links
+pub mod LockedDesks
 pub mod LockedState
 pub mod LockedSteps
 pub mod MemDoors

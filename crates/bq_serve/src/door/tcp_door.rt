@@ -1,4 +1,4 @@
-ghost use Rattle.std.specs.Prelude.{◌≡◌, None, false};
+ghost use Rattle.std.specs.Prelude.{◌≡◌, ◌+◌, ℕ, IsTrue, None, Some, false};
 
 use super::{Door, DoorFault};
 use crate::line::IoLine;
@@ -51,6 +51,9 @@ impl<'l> TcpDoor<'l> {
     fn count_one(&mut self) -> bool
         ensures inside { self.new.is_out ≡ self.old.is_out }
         ensures at_end { self.new.is_at_end ≡ self.old.is_at_end }
+        ensures endless { self.old.left ≡ None → IsTrue result × (self.new.left ≡ None) }
+        ensures last { self.old.left ≡ Some 0 → result ≡ false }
+        ensures counted { (more : ℕ) → self.old.left ≡ Some (more + 1) → IsTrue result × (self.new.left ≡ Some more) }
     {
         match self.left {
             None => true,

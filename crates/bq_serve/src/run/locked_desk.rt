@@ -21,8 +21,18 @@ pub struct LockedDesk<C> {
 }
 
 impl<C: Clock + Drop> LockedDesk<C> {
+    ghost use Rattle.bq_job.specs.NextDue.{next_due};
+    ghost use Rattle.bq_serve.specs.DeskOf.{GaveReadings};
+    ghost use Rattle.bq_serve.specs.LockedDesks.{EndsInTime, HasLooked, HasPassed, HasTaken};
+    ghost use Rattle.std.specs.Prelude.{[], ◌∷◌};
+    ghost use Rattle.bq_job.specs.History.{moment_heard};
+
     /// A desk at which nothing was done.
-    pub fn new(locked: Locked, clock: C) -> LockedDesk<C> {
+    pub fn new(locked: Locked, clock: C) -> LockedDesk<C>
+        ensures locked { result.locked ≡ locked }
+        ensures clock { result.clock ≡ clock }
+        ensures heard { result.heard ≡ 0 }
+    {
         LockedDesk {
             locked,
             clock,
@@ -32,14 +42,18 @@ impl<C: Clock + Drop> LockedDesk<C> {
 
     // A step at the moment that the clock gives now. The seats whose bells are to be rung: those that were
     // answered, but for the one whose step it is.
-    fn step(&mut self, seat: Seat, what: Step) -> Rings {
-        self.heard = moment_heard(self.heard, self.clock.now());
+    fn step(&mut self, seat: Seat, what: Step) -> Rings
+        ensures { HasTaken C.given seat what self.old self.new }
+    {
+        self.hear();
         self.locked.step(self.heard, seat, what);
         Rings::but_own(self.locked.answered(), seat)
     }
 
     // A look at the mail of a seat, before which a tick is made where the core is due.
-    fn look(&mut self, seat: Seat) -> (Look, Rings) {
+    fn look(&mut self, seat: Seat) -> (Look, Rings)
+        ensures { HasLooked C.given seat self.old result.0 self.new }
+    {
         let (rest, rings) = self.tick_if_due(seat);
         match self.locked.fetch(seat) {
             Some(answer) => (Look::Mail(answer), rings),
@@ -49,17 +63,31 @@ impl<C: Clock + Drop> LockedDesk<C> {
 
     // The clock is read where the core is ever due. The reading that finds it due is the tick's. How long
     // the seat may rest at most, in milliseconds, and whose bells are to be rung.
-    fn tick_if_due(&mut self, seat: Seat) -> (u64, Rings) {
+    fn tick_if_due(&mut self, seat: Seat) -> (u64, Rings)
+        ensures passed { HasPassed C.given seat (next_due self.old.locked.machine) self.old self.new }
+        ensures rest { EndsInTime (next_due self.old.locked.machine) self.new.heard result.0 }
+        ensures most { result.0 ≤ 100 }
+    {
         let Some(due) = self.locked.next_due() else {
             return (LONGEST_REST, Rings::none());
         };
-        let reading = self.clock.now();
-        self.heard = moment_heard(self.heard, reading);
+        self.hear();
         if due <= self.heard {
             self.locked.step(self.heard, seat, Step::Tick);
             return (0, Rings::but_own(self.locked.answered(), seat));
         }
         (LONGEST_REST.min(due - self.heard), Rings::none())
+    }
+
+    // Reads the clock once. The moment heard last follows the reading, which is answered.
+    fn hear(&mut self) -> Option<Moment>
+        ensures read { GaveReadings C.given self.old.clock (result ∷ []) self.new.clock }
+        ensures heard { self.new.heard ≡ moment_heard self.old.heard result }
+        ensures locked { self.new.locked ≡ self.old.locked }
+    {
+        let reading = self.clock.now();
+        self.heard = moment_heard(self.heard, reading);
+        reading
     }
 }
 
