@@ -76,6 +76,24 @@ struct Place {
     what: Do,
 }
 
+impl Place {
+    // One of the commands that count or list, at a seat in turn and the same moment.
+    fn statistics(&self) -> Place {
+        let what = match self.number % 5 {
+            0 => Do::Stats,
+            1 => Do::StatsTube(choice::tube_of(self.number / 5)),
+            2 => Do::StatsJob(u64::from(self.number / 4)),
+            3 => Do::ListTubes,
+            _ => Do::ListTubesWatched,
+        };
+        Place {
+            seat: (self.number % u32::from(SEATS)) as Seat,
+            what,
+            ..*self
+        }
+    }
+}
+
 // The step is taken by both cores.
 fn take_step(
     rt: &impl Abort,
@@ -140,13 +158,15 @@ fn take_steps(rt: &impl Abort, alloc: Global, run: &Run) -> Result<(), Fail> {
     for number in 0..STEPS {
         let place = run.place(&mut chance, &plain, number);
         take_step(rt, alloc, &mut core, &mut outs, &mut plain, &place)?;
+        let counts = place.statistics();
+        take_step(rt, alloc, &mut core, &mut outs, &mut plain, &counts)?;
     }
     Ok(())
 }
 
 #[test]
 fn random_steps(rt: HostRuntime) -> Result<(), Fail> {
-    for seed in 1..=12 {
+    for seed in 1..=6 {
         let run = Run {
             seed: seed * 1000,
             drains: false,

@@ -32,6 +32,11 @@ fn tube(chance: &mut Chance) -> &'static [u8] {
     chance.one_of(&TUBES, b"default")
 }
 
+/// A tube by its number.
+pub(super) fn tube_of(number: u32) -> &'static [u8] {
+    TUBES[(number % 5) as usize]
+}
+
 /// The moment of the next step: mostly the last one or one soon behind it, often the next due moment or the
 /// one below, sometimes the edge of a second, and now and then one far away or one that has passed.
 pub(super) fn moment(chance: &mut Chance, plain: &PlainCore) -> Moment {
