@@ -12,6 +12,7 @@ pub mod NameLemmas
 pub mod PauseLemmas
 pub mod QuietActs
 pub mod QuietLemmas
+pub mod SeatPlaces
 pub mod StateLemmas
 pub mod StepCosts
 pub mod StepLemmas

@@ -26,7 +26,7 @@ use Rattle.bq_core.specs.declared.tube_list.TubeChange.{TubeChange}
 use Rattle.bq_core.specs.declared.tube_list.TubeChange.TheVariants.{CountPut, CountDelete, Pause}
 use Rattle.bq_core.specs.JobChanges.{changed}
 use Rattle.bq_core.specs.State.{IsSound, OnlyCompares}
-use Rattle.bq_core.specs.SeatChanges.{has_tube_of, seat_changed, seat_changed_at}
+use Rattle.bq_core.specs.SeatChanges.{AreNumbered, has_tube_of, seat_changed, seat_changed_at}
 use Rattle.bq_core.specs.TubeEntries.{AreEntries, AreInOrder, HasTubes, IsFreshUnlessCounted, counted, has_entry, is_counted, is_tube_of, provided, tube_changed, tube_changed_at}
 use Rattle.bq_core.proofs.TubeLemmas.{counted_inserted, entry_filtered, fresh_inserted, has_inserted, order_filtered, order_inserted, order_kept, same_entries, same_itself, same_name, still_has}
 
@@ -205,9 +205,6 @@ same_number false x y n h i = i
 numbers_of_map : (f : SeatRecord → SeatRecord) → ((s : SeatRecord) → (f s).number ≡ s.number) → (seats : List SeatRecord) → map (λ s. s.number) (map f seats) ≡ map (λ s. s.number) seats
 numbers_of_map f keeps [] = refl
 numbers_of_map f keeps (s ∷ seats) = rw (keeps s, numbers_of_map f keeps seats) refl
-
-abbrev pub AreNumbered : List SeatRecord → Type 0
-AreNumbered seats = map (λ s. s.number) seats ≡ numbers 0 (length seats)
 
 pub numbered_after : (number : ℕ) (what : SeatChange) (seats : List SeatRecord) → AreNumbered seats → AreNumbered (map (seat_changed_at number what) seats)
 numbered_after number what seats h =

@@ -1,15 +1,19 @@
 -- What happens at seats, one by one.
-use Rattle.std.specs.Prelude.{ℕ, Bool, true, ◌==◌, if◌then◌else◌, List}
+use Rattle.std.specs.Prelude.{ℕ, Bool, true, ◌≡◌, ◌==◌, if◌then◌else◌, List, length, map}
 use Rattle.bq_job.specs.Asked.{with_end}
 use Rattle.bq_job.specs.Changes.{without_wait}
 use Rattle.bq_job.specs.JobCommands.{waiting_from}
-use Rattle.bq_job.specs.Machine.{SeatRecord, TubeRecord, empty_seat}
+use Rattle.bq_job.specs.Machine.{SeatRecord, TubeRecord, empty_seat, numbers}
 use Rattle.bq_job.specs.TubeCommands.{using}
 use Rattle.bq_core.specs.TubeEntries.{has_entry}
 use Rattle.bq_core.specs.declared.loss.Loss.{Loss}
 use Rattle.bq_core.specs.declared.loss.Loss.TheVariants.{Any}
 use Rattle.bq_core.specs.declared.seat_list.SeatChange.{SeatChange}
 use Rattle.bq_core.specs.declared.seat_list.SeatChange.TheVariants.{StopWaiting, Wait, Connect, Clear, End, Use}
+
+-- each seat stands at the place of its number
+abbrev pub AreNumbered : List SeatRecord → Type 0
+AreNumbered seats = map (λ s. s.number) seats ≡ numbers 0 (length seats)
 
 abbrev pub seat_changed : SeatChange → SeatRecord → SeatRecord
 seat_changed StopWaiting s = without_wait s

@@ -1,10 +1,11 @@
 -- The machine that a core stands for.
-use Rattle.std.specs.Prelude.{false, ◌≡◌, ◌≤◌, map, length}
+use Rattle.std.specs.Prelude.{false, ◌≡◌, ◌≤◌}
 use Rattle.bq_job.specs.JobCommands.{last_id}
 use Rattle.bq_job.specs.Lawful.{AreIdsWithin}
-use Rattle.bq_job.specs.Machine.{Machine, Settings, numbers}
+use Rattle.bq_job.specs.Machine.{Machine, Settings}
 use Rattle.bq_core.specs.Dues.{first_pause_end}
 use Rattle.bq_core.specs.Losses.{AreAlive}
+use Rattle.bq_core.specs.SeatChanges.{AreNumbered}
 use Rattle.bq_core.specs.Tallies.{AreCounted}
 use Rattle.bq_core.specs.TubeEntries.{AreEntries, counted}
 use Rattle.bq_core.specs.declared.config.Config.{Config}
@@ -33,7 +34,7 @@ machine_of s = record {
 pub record IsSound (s : State) : Type 0 where
   pub entries : AreEntries s.jobs.jobs s.seats.items s.tubes.items
   -- Seats are numbered in order.
-  pub numbered : map (λ r. r.number) s.seats.items ≡ numbers 0 (length s.seats.items)
+  pub numbered : AreNumbered s.seats.items
   -- Before the ids run out the machine drains.
   pub next : s.draining ≡ false → s.next_id ≤ last_id
   -- Each id was given once.

@@ -6,7 +6,7 @@ ghost use Rattle.bq_job.specs.Dispatch.{is_wait_before};
 ghost use Rattle.bq_job.specs.Machine.{SeatRecord, empty_seat, numbers};
 ghost use Rattle.bq_job.specs.TubeCommands.{watching};
 ghost use Rattle.bq_job.specs.TubeName.{is_same_name};
-ghost use Rattle.bq_core.specs.SeatChanges.{loss_after, seat_changed, seat_changed_at};
+ghost use Rattle.bq_core.specs.SeatChanges.{AreNumbered, loss_after, seat_changed, seat_changed_at};
 ghost use Rattle.bq_core.specs.Places.{item_at, better_if};
 ghost use Rattle.bq_core.specs.EndingWaits.{has_waited, waits_after};
 ghost use Rattle.bq_core.specs.Offers.{waits_at};
@@ -56,20 +56,13 @@ pub(crate) fn lose(loss: &mut Loss, what: &SeatChange)
     }
 }
 
-fn change_if(place: &mut Place, number: Seat, what: &SeatChange)
-    ensures { place.new ≡ seat_changed_at number what.now place.old }
-{
-    if place.number() == number {
-        change(place, what);
-    }
-}
-
-/// Changes the seat of this number.
+/// Changes the seat of this number. No other is looked at.
 pub(crate) fn change_at(seats: &mut Vec<Place, Global>, number: Seat, what: &SeatChange)
+    requires { AreNumbered seats.old.items }
     ensures { seats.new.items ≡ map (seat_changed_at number what.now) seats.old.items }
 {
-    for place in seats.iter_mut() {
-        change_if(place, number, what);
+    if let Some(place) = seats.get_mut(usize::from(number)) {
+        change(place, what);
     }
 }
 
@@ -103,11 +96,12 @@ pub(crate) fn ignore(seats: &mut Vec<Place, Global>, number: Seat, name: &TubeNa
     place.watch_count() as u64
 }
 
-/// The seat of this number.
+/// The seat of this number. No other is looked at.
 pub(crate) fn find(seats: &[Place], number: Seat) -> Option<&Place>
+    requires { AreNumbered seats.now }
     ensures { option_copied result ≡ seat_with number seats.now }
 {
-    seats.iter().find(|place| place.number() == number)
+    seats.get(usize::from(number))
 }
 
 // The place of the client that has waited longest, once this one is looked at.

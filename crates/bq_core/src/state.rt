@@ -66,6 +66,7 @@ impl State {
 
     /// Whether there is a seat of this number, and nobody is connected there.
     pub(crate) fn is_free(&self, seat: Seat) -> bool
+        requires { IsSound self.now }
         ensures { result ≡ is_free (seat_with seat self.now.seats.items) }
     {
         match seat_list::find(self.seats.as_slice(), seat) {
@@ -76,6 +77,7 @@ impl State {
 
     /// Whether somebody is connected at the seat.
     pub(crate) fn is_connected(&self, seat: Seat) -> bool
+        requires { IsSound self.now }
         ensures { result ≡ is_connected (seat_with seat self.now.seats.items) }
     {
         match seat_list::find(self.seats.as_slice(), seat) {
@@ -86,6 +88,7 @@ impl State {
 
     /// Whether the client at the seat can ask: it is connected, and doesn't wait.
     pub(crate) fn is_asking(&self, seat: Seat) -> bool
+        requires { IsSound self.now }
         ensures { result ≡ is_asking (seat_with seat self.now.seats.items) }
     {
         match seat_list::find(self.seats.as_slice(), seat) {

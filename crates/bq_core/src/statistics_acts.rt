@@ -134,6 +134,7 @@ pub(crate) fn list_tubes(state: &State, alloc: Global) -> Reply
 
 /// Lists the tubes that the client watches.
 pub(crate) fn list_tubes_watched(state: &State, alloc: Global, seat: Seat) -> Reply
+    requires { IsSound state.now }
     ensures { (s : SeatRecord) → seat_with seat (machine_of state.now).seats ≡ Some s → Replies true (machine_of state.now) (list_watched_effect (machine_of state.now) s) result (machine_of state.now) }
 {
     let Some(place) = seat_list::find(state.seats.as_slice(), seat) else {

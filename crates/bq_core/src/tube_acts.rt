@@ -37,6 +37,7 @@ pub(crate) fn use_tube(state: &mut State, alloc: Global, seat: Seat, tube: &Tube
 
 /// Tells which tube the client's jobs go into.
 pub(crate) fn list_tube_used(state: &State, seat: Seat) -> Reply
+    requires { IsSound state.now }
     ensures { (s : SeatRecord) → seat_with seat (machine_of state.now).seats ≡ Some s → Replies false (machine_of state.now) (telling (answers.Using s.used) (machine_of state.now)) result (machine_of state.now) }
 {
     match seat_list::find(state.seats.as_slice(), seat) {
