@@ -9,6 +9,7 @@ pub mod Firing
 pub mod HandOuts
 pub mod JobChanges
 pub mod JobKinds
+pub mod KeptTubes
 pub mod Kicking
 pub mod Limits
 pub mod Losses

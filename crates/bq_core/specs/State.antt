@@ -19,7 +19,7 @@ machine_of s = record {
   settings = settings_of s.config;
   jobs = s.jobs.jobs;
   seats = s.seats.items;
-  tubes = counted s.tubes.items;
+  tubes = counted s.tubes.entries;
   moment = s.moment;
   next_id = s.next_id;
   burials = s.burials;
@@ -32,7 +32,7 @@ machine_of s = record {
 
 -- what the functions of this crate keep
 pub record IsSound (s : State) : Type 0 where
-  pub entries : AreEntries s.jobs.jobs s.seats.items s.tubes.items
+  pub entries : AreEntries s.jobs.jobs s.seats.items s.tubes.entries
   -- Seats are numbered in order.
   pub numbered : AreNumbered s.seats.items
   -- Before the ids run out the machine drains.
@@ -40,11 +40,11 @@ pub record IsSound (s : State) : Type 0 where
   -- Each id was given once.
   pub ids : AreIdsWithin 1 s.jobs.jobs s.next_id
   -- What is counted is what there is.
-  pub counts : AreCounted s.tally s.tallies.items s.jobs.jobs s.tubes.items
+  pub counts : AreCounted s.tally s.tubes.tallies s.jobs.jobs s.tubes.entries
   -- It is known which entries may be of tubes that are gone.
-  pub alive : AreAlive s.loss s.jobs.jobs s.seats.items s.tubes.items
+  pub alive : AreAlive s.loss s.jobs.jobs s.seats.items s.tubes.entries
   -- The end of the first pause is known.
-  pub pauses : s.pause_end ≡ first_pause_end s.tubes.items
+  pub pauses : s.pause_end ≡ first_pause_end s.tubes.entries
 
 -- It is the same but for the count of comparisons.
 abbrev pub OnlyCompares : State → State → Type 0

@@ -7,7 +7,6 @@ ghost use Rattle.bq_job.specs.declared.job.Job.{Job};
 ghost use Rattle.bq_job.specs.Changes.{with_job, with_seat, without_wait};
 ghost use Rattle.bq_job.specs.Computed.{waiting_count};
 ghost use Rattle.bq_job.specs.Dispatch.{DispatchTurn, next_job, next_seat, reserved_by};
-ghost use Rattle.bq_job.specs.Machine.{SeatRecord};
 ghost use Rattle.bq_job.specs.Steps.{has_refused_share};
 ghost use Rattle.bq_core.specs.Asking.{Asks, AsksByTurn};
 ghost use Rattle.bq_core.specs.Cost.{waited, waited_entries};
@@ -21,8 +20,8 @@ use crate::outs::Outs;
 use crate::place::Place;
 use crate::seat_list::SeatChange;
 use crate::state::State;
-use crate::tube_list::TubeEntry;
-use crate::{seat_list, state, tube_list};
+use crate::tubes::Tubes;
+use crate::{seat_list, state};
 use bq_job::{Answer, Body, JobId, NoMemory, Seat, TubeName};
 use bq_jobs::Jobs;
 
@@ -47,12 +46,12 @@ fn better(best: Option<Offer>, other: Option<Offer>) -> Option<Offer>
 }
 
 // The most urgent ready job of the tube, unless it is paused.
-fn offer_of(jobs: &mut Jobs, tubes: &[TubeEntry], tube: &TubeName) -> Option<Offer>
-    ensures offer { result ≡ offered jobs.old.jobs tubes.now tube.now }
+fn offer_of(jobs: &mut Jobs, tubes: &Tubes, tube: &TubeName) -> Option<Offer>
+    ensures offer { result ≡ offered jobs.old.jobs tubes.now.entries tube.now }
     ensures same { jobs.new ≡ record jobs.old { comparisons = jobs.new.comparisons } }
     ensures asks { Asks 1 jobs.old jobs.new }
 {
-    if tube_list::is_paused(tubes, tube) {
+    if tubes.is_paused(tube) {
         None
     } else {
         jobs.most_urgent(tube)
@@ -62,11 +61,11 @@ fn offer_of(jobs: &mut Jobs, tubes: &[TubeEntry], tube: &TubeName) -> Option<Off
 // The best of this job and those that the tubes of these names offer.
 fn best_among(
     jobs: &mut Jobs,
-    tubes: &[TubeEntry],
+    tubes: &Tubes,
     names: &[TubeName],
     first: Option<Offer>,
 ) -> Option<Offer>
-    ensures best { result ≡ fold (with_offer jobs.old.jobs tubes.now) first names.now }
+    ensures best { result ≡ fold (with_offer jobs.old.jobs tubes.now.entries) first names.now }
     ensures same { jobs.new ≡ record jobs.old { comparisons = jobs.new.comparisons } }
     ensures asks { Asks (length names.now) jobs.old jobs.new }
 {
@@ -78,13 +77,8 @@ fn best_among(
 }
 
 // The best of this job and those that the client waits for.
-fn best_for(
-    jobs: &mut Jobs,
-    tubes: &[TubeEntry],
-    place: &Place,
-    first: Option<Offer>,
-) -> Option<Offer>
-    ensures best { result ≡ with_offers jobs.old.jobs tubes.now first place.now }
+fn best_for(jobs: &mut Jobs, tubes: &Tubes, place: &Place, first: Option<Offer>) -> Option<Offer>
+    ensures best { result ≡ with_offers jobs.old.jobs tubes.now.entries first place.now }
     ensures same { jobs.new ≡ record jobs.old { comparisons = jobs.new.comparisons } }
     ensures asks { Asks (waited_entries place.now) jobs.old jobs.new }
 {
@@ -96,8 +90,8 @@ fn best_for(
 }
 
 // The best of the jobs that waiting clients may have.
-fn best_offer(jobs: &mut Jobs, tubes: &[TubeEntry], seats: &[Place]) -> Option<Offer>
-    ensures best { result ≡ fold (with_offers jobs.old.jobs tubes.now) None seats.now }
+fn best_offer(jobs: &mut Jobs, tubes: &Tubes, seats: &[Place]) -> Option<Offer>
+    ensures best { result ≡ fold (with_offers jobs.old.jobs tubes.now.entries) None seats.now }
     ensures same { jobs.new ≡ record jobs.old { comparisons = jobs.new.comparisons } }
     ensures asks { Asks (sum_by waited_entries seats.now) jobs.old jobs.new }
 {
@@ -116,11 +110,7 @@ fn next_job(state: &mut State) -> Option<JobId>
     ensures asks { Asks (waited (machine_of state.old)) state.old.jobs state.new.jobs }
     ensures sound { IsSound state.new }
 {
-    let best = best_offer(
-        &mut state.jobs,
-        state.tubes.as_slice(),
-        state.seats.as_slice(),
-    );
+    let best = best_offer(&mut state.jobs, &state.tubes, state.seats.as_slice());
     match best {
         None => None,
         Some((_, id)) => Some(id),

@@ -14,7 +14,7 @@ use crate::job_list::{JobChange, JobTest};
 use crate::reply::Reply;
 use crate::seat_list::SeatChange;
 use crate::state::State;
-use crate::tube_list::TubeChange;
+use crate::tube_entry::TubeChange;
 use crate::{job_list, seat_list, state};
 use bq_job::{Answer, Body, Counts, Job, JobId, Moment, Pri, Seat, TubeName};
 use bq_jobs::laws;

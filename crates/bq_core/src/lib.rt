@@ -35,6 +35,8 @@ mod tests;
 mod texts;
 mod timers;
 mod tube_acts;
+mod tube_entry;
 mod tube_list;
+mod tubes;
 mod waits;
 mod watch_list;

@@ -13,7 +13,8 @@ ghost use Rattle.bq_core.specs.Turns.{HasRoom};
 use crate::config::{Config, CoreFault};
 use crate::outs::Outs;
 use crate::state::State;
-use crate::{acts, dispatch, dues, seat_list, state, tallies, timers, tube_list, waits};
+use crate::tubes::Tubes;
+use crate::{acts, dispatch, dues, seat_list, state, timers, waits};
 use bq_job::{LARGEST_BODY, MOST_SEATS, Moment, Seat, Step};
 use std::alloc::Global;
 use std::marker::Model;
@@ -100,14 +101,11 @@ impl Core {
         let Ok(seats) = seat_list::new_places(alloc, config.seats) else {
             return Err(CoreFault::NoMemory);
         };
-        let Ok(tubes) = tube_list::first_entries(alloc) else {
-            return Err(CoreFault::NoMemory);
-        };
-        let Ok(tallies) = tallies::first(alloc) else {
+        let Ok(tubes) = Tubes::first(alloc) else {
             return Err(CoreFault::NoMemory);
         };
         Ok(Core {
-            state: state::first_state(config, seats, tubes, tallies),
+            state: state::first_state(config, seats, tubes),
             alloc,
         })
     }

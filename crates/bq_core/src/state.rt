@@ -1,18 +1,18 @@
-ghost use Rattle.std.specs.Prelude.{◌≡◌, ◌<◌, ◌≤◌, ◌==◌, ◌++◌, ◌∷◌, [], OnErr, Some, None, true, length, map, max, filter, not, IfSome, IfOk};
+ghost use Rattle.std.specs.Prelude.{◌≡◌, ◌<◌, ◌≤◌, ◌++◌, ◌∷◌, [], OnErr, Some, None, true, length, map, max, filter, not, IfSome, IfOk};
 ghost use Rattle.std.specs.List.{list_any};
 ghost use Rattle.bq_job.specs.Changes.{job_with, seat_with, with_job, with_seat};
-ghost use Rattle.bq_job.specs.Machine.{SeatRecord, default_tube, empty_seat, new_machine, numbers};
+ghost use Rattle.bq_job.specs.Machine.{SeatRecord, empty_seat, new_machine, numbers};
 ghost use Rattle.bq_job.specs.Timers.{at_moment};
 ghost use Rattle.bq_job.specs.TubeCommands.{watching};
 ghost use Rattle.bq_job.specs.TubeName.{is_same_name};
 ghost use Rattle.bq_job.specs.TubeOrder.{tubes};
-ghost use Rattle.bq_job.specs.Tubes.{forgetting, fresh_tube, with_tube};
+ghost use Rattle.bq_job.specs.Tubes.{forgetting, with_tube};
 ghost use Rattle.bq_jobs.specs.Kept.{ComparesAtMost, with_added, without};
 ghost use Rattle.bq_core.specs.Asking.{Asks};
 ghost use Rattle.bq_core.specs.JobChanges.{changed};
+ghost use Rattle.bq_core.specs.KeptTubes.{first_tubes};
 ghost use Rattle.bq_core.specs.SeatChanges.{seat_changed, has_tube_of};
 ghost use Rattle.bq_core.specs.State.{machine_of, settings_of, IsSound, OnlyCompares};
-ghost use Rattle.bq_core.specs.Tallies.{tally_of};
 ghost use Rattle.bq_core.specs.Texts.{names_of};
 ghost use Rattle.bq_core.specs.TubeEntries.{has_entry, is_tube_of, tube_changed};
 
@@ -23,8 +23,9 @@ use crate::name_lists::Names;
 use crate::place::Place;
 use crate::seat_list::SeatChange;
 use crate::tally::Tally;
-use crate::tube_list::{TubeChange, TubeEntry};
-use crate::{job_list, loss, pauses, seat_list, tallies, tube_list};
+use crate::tube_entry::TubeChange;
+use crate::tubes::Tubes;
+use crate::{job_list, loss, seat_list};
 use bq_job::{Body, Job, JobId, Moment, NoMemory, Seat, TubeName};
 use bq_jobs::{Jobs, laws};
 use std::alloc::Global;
@@ -35,12 +36,10 @@ pub(crate) struct State {
     pub(crate) config: Config,
     pub(crate) jobs: Jobs,
     pub(crate) seats: Vec<Place, Global>,
-    /// An entry for each tube that exists.
-    pub(crate) tubes: Vec<TubeEntry, Global>,
-    /// How many jobs are in each state,
+    /// What is kept of each tube that exists.
+    pub(crate) tubes: Tubes,
+    /// How many jobs are in each state.
     pub(crate) tally: Tally,
-    /// and how many of each tube, at the place of its entry.
-    pub(crate) tallies: Vec<Tally, Global>,
     /// Which tubes may be gone whose entries are still there.
     pub(crate) loss: Loss,
     /// When the first pause of a tube ends.
@@ -170,14 +169,14 @@ pub(crate) fn add(state: &mut State, job: Job)
     requires room { 0 < state.old.jobs.room }
     requires given { (1 ≤ job.id) × (job.id < state.old.next_id) }
     requires free { job_with job.id (machine_of state.old).jobs ≡ None }
-    requires entry { has_entry job.tube state.old.tubes.items ≡ true }
+    requires entry { has_entry job.tube state.old.tubes.entries ≡ true }
     ensures after { machine_of state.new ≡ record (machine_of state.old) { jobs = with_added job (machine_of state.old).jobs } }
     ensures asks { ComparesAtMost 4 state.old.jobs state.new.jobs }
     ensures sound { IsSound state.new }
     ensures config { state.new.config ≡ state.old.config }
 {
     state.tally.add(&job);
-    tallies::add(&mut state.tallies, state.tubes.as_slice(), &job);
+    state.tubes.add_job(&job);
     loss::find(&mut state.loss, &job.tube);
     state.jobs.add(job);
     // So many jobs there can be, and no count comes to its end.
@@ -193,14 +192,14 @@ pub(crate) fn take(state: &mut State, id: JobId) -> Option<Job>
     ensures gone { job_with id (machine_of state.new).jobs ≡ None }
     ensures given { IfSome result (λ job. (1 ≤ job.id) × (job.id < state.new.next_id)) }
     ensures room { IfSome result (λ job. 0 < state.new.jobs.room) }
-    ensures entry { IfSome result (λ job. has_entry job.tube state.new.tubes.items ≡ true) }
+    ensures entry { IfSome result (λ job. has_entry job.tube state.new.tubes.entries ≡ true) }
     ensures asks { ComparesAtMost 4 state.old.jobs state.new.jobs }
     ensures sound { IsSound state.new }
     ensures config { state.new.config ≡ state.old.config }
 {
     let job = state.jobs.remove(id)?;
     state.tally.remove(&job);
-    tallies::remove(&mut state.tallies, state.tubes.as_slice(), &job);
+    state.tubes.remove_job(&job);
     loss::lose(&mut state.loss, &job.tube);
     Some(job)
 }
@@ -223,7 +222,7 @@ pub(crate) fn change_job(state: &mut State, id: JobId, what: &JobChange)
 /// Changes the seat of this number. A tube that it uses then has an entry already.
 pub(crate) fn change_seat(state: &mut State, seat: Seat, what: &SeatChange)
     requires sound { IsSound state.old }
-    requires entry { has_tube_of what.now state.old.tubes.items ≡ true }
+    requires entry { has_tube_of what.now state.old.tubes.entries ≡ true }
     ensures after { machine_of state.new ≡ with_seat seat (seat_changed what.now) (machine_of state.old) }
     ensures jobs { state.new.jobs ≡ state.old.jobs }
     ensures sound { IsSound state.new }
@@ -236,14 +235,14 @@ pub(crate) fn change_seat(state: &mut State, seat: Seat, what: &SeatChange)
 /// Changes what is kept of a tube that has an entry.
 pub(crate) fn change_tube(state: &mut State, tube: &TubeName, what: TubeChange)
     requires sound { IsSound state.old }
-    requires entry { has_entry tube.now state.old.tubes.items ≡ true }
+    requires entry { has_entry tube.now state.old.tubes.entries ≡ true }
     ensures after { machine_of state.new ≡ with_tube tube.now (tube_changed what) (machine_of state.old) }
     ensures jobs { state.new.jobs ≡ state.old.jobs }
     ensures sound { IsSound state.new }
     ensures config { state.new.config ≡ state.old.config }
 {
-    tube_list::change_at(&mut state.tubes, tube, what);
-    state.pause_end = pauses::end_after(state.tubes.as_slice(), what, state.pause_end);
+    state.tubes.change(tube, what);
+    state.pause_end = state.tubes.pause_end_after(what, state.pause_end);
 }
 
 /// Sees to it that a tube has an entry. The growth that this needs comes before any change.
@@ -254,13 +253,13 @@ pub(crate) fn provide_tube(
 ) -> Result<(), NoMemory>
     requires { IsSound state.old }
     ensures after { machine_of state.new ≡ machine_of state.old }
-    ensures entry { IfOk result (λ _. has_entry tube.now state.new.tubes.items ≡ true) }
+    ensures entry { IfOk result (λ _. has_entry tube.now state.new.tubes.entries ≡ true) }
     ensures seats { state.new.seats ≡ state.old.seats }
     ensures jobs { state.new.jobs ≡ state.old.jobs }
     ensures sound { IsSound state.new }
     ensures config { state.new.config ≡ state.old.config }
 {
-    match tube_list::provide(&mut state.tubes, &mut state.tallies, alloc, tube) {
+    match state.tubes.provide(alloc, tube) {
         Ok(()) => {
             loss::lose(&mut state.loss, tube);
             Ok(())
@@ -319,12 +318,7 @@ pub(crate) fn is_tube(state: &State, tube: &TubeName) -> bool
     requires { IsSound state.now }
     ensures { result ≡ is_tube_of (machine_of state.now).jobs (machine_of state.now).seats tube.now }
 {
-    tube_list::is_tube(
-        state.tubes.as_slice(),
-        state.tallies.as_slice(),
-        state.seats.as_slice(),
-        tube,
-    )
+    state.tubes.is_tube(state.seats.as_slice(), tube)
 }
 
 /// How many tubes exist.
@@ -332,11 +326,7 @@ pub(crate) fn tube_count(state: &State) -> u64
     requires { IsSound state.now }
     ensures { result ≡ length (tubes (machine_of state.now)) }
 {
-    tube_list::count_alive(
-        state.tubes.as_slice(),
-        state.tallies.as_slice(),
-        state.seats.as_slice(),
-    )
+    state.tubes.count_alive(state.seats.as_slice())
 }
 
 /// The names of the tubes that exist, in byte order. Their room is asked for before.
@@ -344,12 +334,7 @@ pub(crate) fn tube_names<'a>(state: &'a State, alloc: Global) -> Result<Names<'a
     requires { IsSound state.now }
     ensures { IfOk result (λ names. names_of names.items ≡ tubes (machine_of state.now)) }
 {
-    tube_list::names_alive(
-        alloc,
-        state.tubes.as_slice(),
-        state.tallies.as_slice(),
-        state.seats.as_slice(),
-    )
+    state.tubes.names_alive(alloc, state.seats.as_slice())
 }
 
 /// Drops the entries of tubes that are gone. It looks only at those that may be.
@@ -361,14 +346,9 @@ pub(crate) fn forget_tubes(state: &mut State)
     ensures config { state.new.config ≡ state.old.config }
 {
     let entries = state.tubes.len();
-    tube_list::forget_lost(
-        &mut state.tubes,
-        &mut state.tallies,
-        state.seats.as_slice(),
-        &state.loss,
-    );
+    state.tubes.forget_lost(state.seats.as_slice(), &state.loss);
     state.loss = Loss::Nothing;
-    state.pause_end = pauses::end_left(state.tubes.as_slice(), entries, state.pause_end);
+    state.pause_end = state.tubes.pause_end_left(entries, state.pause_end);
 }
 
 /// A moment below the last one counts as that one.
@@ -383,15 +363,9 @@ pub(crate) fn raise_moment(state: &mut State, at: Moment)
 }
 
 /// No jobs, and nobody at the seats.
-pub(crate) fn first_state(
-    config: Config,
-    seats: Vec<Place, Global>,
-    tubes: Vec<TubeEntry, Global>,
-    tallies: Vec<Tally, Global>,
-) -> State
+pub(crate) fn first_state(config: Config, seats: Vec<Place, Global>, tubes: Tubes) -> State
     requires free { seats.items ≡ map empty_seat (numbers 0 config.seats) }
-    requires entries { tubes.items ≡ fresh_tube default_tube ∷ [] }
-    requires none_counted { tallies.items ≡ tally_of [] ∷ [] }
+    requires first { tubes ≡ first_tubes }
     ensures empty { machine_of result ≡ new_machine (settings_of config) }
     ensures comparisons { result.jobs.comparisons ≡ 0 }
     ensures sound { IsSound result }
@@ -402,7 +376,6 @@ pub(crate) fn first_state(
         seats,
         tubes,
         tally: Tally::default(),
-        tallies,
         loss: Loss::Nothing,
         pause_end: None,
         moment: 0,

@@ -14,8 +14,8 @@ ghost use Rattle.bq_core.specs.State.{machine_of, IsSound};
 use crate::reply::Reply;
 use crate::state::State;
 use crate::texts::{ServerNumbers, TubeNumbers, job_text, names_text, server_text, tube_text};
-use crate::tube_list::TubeEntry;
-use crate::{name_lists, seat_counts, seat_list, state, tallies, tube_list};
+use crate::tube_entry::TubeEntry;
+use crate::{name_lists, seat_counts, seat_list, state};
 use bq_job::{Answer, JobId, Moment, NoMemory, Seat, Text, TubeName};
 use bq_jobs::Jobs;
 use std::alloc::Global;
@@ -59,10 +59,10 @@ fn tube_numbers(state: &State, tube: &TubeName) -> TubeNumbers
     ensures { AreOfTube result tube.now (machine_of state.now) }
 {
     let fresh = TubeEntry::new(*tube);
-    let entry = tube_list::entry_of(state.tubes.as_slice(), tube).unwrap_or(&fresh);
+    let entry = state.tubes.entry_of(tube).unwrap_or(&fresh);
     let seats = state.seats.as_slice();
     TubeNumbers {
-        jobs: tallies::of(state.tallies.as_slice(), state.tubes.as_slice(), tube),
+        jobs: state.tubes.tally_of(tube),
         puts: entry.puts(),
         using: seat_counts::using(seats, tube),
         watching: seat_counts::watching(seats, tube),

@@ -3,7 +3,8 @@ ghost use Rattle.std.specs.Prelude.{◌≡◌, ◌∷◌, [], length, IfOk};
 ghost use Rattle.bq_core.specs.Tallies.{tallies_with, tallies_without, tally_at, tally_of};
 
 use crate::tally::Tally;
-use crate::tube_list::{self, TubeEntry};
+use crate::tube_entry::TubeEntry;
+use crate::tube_list;
 use bq_job::{Job, NoMemory, TubeName};
 use std::alloc::Global;
 
@@ -21,7 +22,8 @@ pub(crate) fn first(alloc: Global) -> Result<Vec<Tally, Global>, NoMemory>
 /// Counts a job in its tube.
 pub(crate) fn add(tallies: &mut Vec<Tally, Global>, tubes: &[TubeEntry], job: &Job)
     requires { length tallies.old.items ≡ length tubes.now }
-    ensures { tallies.new.items ≡ tallies_with job.now tubes.now tallies.old.items }
+    ensures after { tallies.new.items ≡ tallies_with job.now tubes.now tallies.old.items }
+    ensures len { length tallies.new.items ≡ length tallies.old.items }
 {
     if let Some(i) = tube_list::find(tubes, &job.tube) {
         tallies[i].add(job);
@@ -31,7 +33,8 @@ pub(crate) fn add(tallies: &mut Vec<Tally, Global>, tubes: &[TubeEntry], job: &J
 /// Counts a job in its tube no longer.
 pub(crate) fn remove(tallies: &mut Vec<Tally, Global>, tubes: &[TubeEntry], job: &Job)
     requires { length tallies.old.items ≡ length tubes.now }
-    ensures { tallies.new.items ≡ tallies_without job.now tubes.now tallies.old.items }
+    ensures after { tallies.new.items ≡ tallies_without job.now tubes.now tallies.old.items }
+    ensures len { length tallies.new.items ≡ length tallies.old.items }
 {
     if let Some(i) = tube_list::find(tubes, &job.tube) {
         tallies[i].remove(job);

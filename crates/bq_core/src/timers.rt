@@ -10,7 +10,7 @@ ghost use Rattle.bq_core.specs.State.{machine_of, IsSound};
 
 use crate::job_list::JobChange;
 use crate::state::State;
-use crate::{pauses, state, tube_list};
+use crate::{pauses, state};
 use bq_job::{JobId, Moment};
 use bq_jobs::Jobs;
 
@@ -155,8 +155,8 @@ fn end_pauses(state: &mut State) -> bool
     if !pauses::is_over(state.pause_end, state.moment) {
         return false;
     }
-    tube_list::fire_timers(&mut state.tubes, state.moment);
-    state.pause_end = pauses::first_end(state.tubes.as_slice());
+    state.tubes.fire_timers(state.moment);
+    state.pause_end = state.tubes.first_pause_end();
     true
 }
 

@@ -14,7 +14,7 @@ use crate::job_list::JobKind;
 use crate::reply::Reply;
 use crate::seat_list::SeatChange;
 use crate::state::State;
-use crate::tube_list::TubeChange;
+use crate::tube_entry::TubeChange;
 use crate::{job_list, seat_list, state};
 use bq_job::{Answer, JobId, Seat, TubeName};
 use std::alloc::Global;

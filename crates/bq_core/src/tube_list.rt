@@ -1,214 +1,33 @@
+//! The entries of tubes, and the counts of their jobs at the same places.
 ghost use Rattle.std.specs.Prelude.{◌≡◌, ◌<◌, ◌≤◌, ◌+◌, ◌&&◌, ◌++◌, ◌∷◌, [], vec_len, IfOk, filter, find, length, map, is_some, is_ok, not, slice_get, if◌then◌else◌, List};
 ghost use Rattle.std.specs.List.{list_any, position, prefix_len};
 ghost use Rattle.std.specs.Option.{option_map};
 ghost use Rattle.std.specs.Vec.{vec_capacity};
 ghost use Rattle.bq_job.specs.declared.job.Job.{Job};
 ghost use Rattle.bq_job.specs.Machine.{default_tube};
-ghost use Rattle.bq_job.specs.NextDue.{dues_of_pause, earliest};
-ghost use Rattle.bq_job.specs.TubeCommands.{with_pause};
 ghost use Rattle.bq_job.specs.TubeName.{is_same_name};
 ghost use Rattle.bq_job.specs.Tubes.{fresh_tube, is_name_before, is_seated_at as seated_at};
 ghost use Rattle.bq_job.specs.Timers.{tube_after_timers};
 ghost use Rattle.bq_core.specs.Losses.{AreAlive};
 ghost use Rattle.bq_core.specs.declared.loss.Loss.TheVariants as Loss;
 ghost use Rattle.bq_core.specs.Tallies.{has_jobs, tallies_of, tallies_provided, tally_at};
-ghost use Rattle.bq_core.specs.TubeEntries.{AreInOrder, has_entry, is_tube_of, is_tube_with, kept_if, names_alive, provided, tube_changed, tube_changed_at};
+ghost use Rattle.bq_core.specs.TubeEntries.{AreInOrder, has_entry, is_tube_of, is_tube_with, kept_if, names_alive, provided, tube_changed_at};
 ghost use Rattle.bq_core.specs.Texts.{names_of};
 
-use crate::job_list::later;
 use crate::loss::Loss;
 use crate::name_lists::Names;
 use crate::place::Place;
 use crate::tally::Tally;
+use crate::tube_entry::{TubeChange, TubeEntry};
 use crate::watch_list::default_tube;
 use crate::{room, tallies};
 use bq_job::{Moment, NoMemory, TubeName};
 use std::alloc::Global;
-use std::marker::Model;
-
-/// A pause of a tube.
-#[derive(Clone, Copy, Debug)]
-pub(crate) struct Pausing {
-    seconds: u32,
-    until: Moment,
-}
-
-impl Model for Pausing {
-    ghost use Rattle.bq_job.specs.Machine.{Pause};
-
-    ghost Value = { Pause };
-
-    ghost view = { λ p. record { seconds = p.seconds; until = p.until } };
-
-    ghost inverse = { λ p. record { seconds = p.seconds; until = p.until } };
-}
-
-impl Pausing {
-    /// How many seconds were asked for.
-    pub(crate) fn seconds(self) -> u32
-        ensures { result ≡ self.seconds }
-    {
-        self.seconds
-    }
-
-    /// When it ends.
-    pub(crate) fn until(self) -> Moment
-        ensures { result ≡ self.until }
-    {
-        self.until
-    }
-}
-
-/// What is kept of a tube that exists.
-#[derive(Debug, Drop)]
-pub(crate) struct TubeEntry {
-    name: TubeName,
-    pause: Option<Pausing>,
-    puts: u64,
-    deletes: u64,
-    pauses: u64,
-}
-
-impl Model for TubeEntry {
-    ghost use Rattle.bq_job.specs.Machine.{TubeRecord};
-
-    ghost Value = { TubeRecord };
-
-    ghost view = { λ t. record { name = t.name; pause = t.pause; puts = t.puts; deletes = t.deletes; pauses = t.pauses } };
-}
-
-/// What happens to a tube.
-#[derive(Clone, Copy, Debug)]
-pub(crate) enum TubeChange {
-    CountPut,
-    CountDelete,
-    /// It is paused so many seconds from this moment on.
-    Pause(u32, Moment),
-}
-
-impl TubeEntry {
-    /// Nothing is kept of the tube yet.
-    pub(crate) fn new(name: TubeName) -> TubeEntry
-        ensures { result ≡ fresh_tube name }
-    {
-        TubeEntry {
-            name,
-            pause: None,
-            puts: 0,
-            deletes: 0,
-            pauses: 0,
-        }
-    }
-
-    pub(crate) fn name(&self) -> &TubeName
-        ensures { result.now ≡ self.now.name }
-    {
-        &self.name
-    }
-
-    /// How many jobs were put into the tube.
-    pub(crate) fn puts(&self) -> u64
-        ensures { result ≡ self.now.puts }
-    {
-        self.puts
-    }
-
-    /// How many of its jobs were deleted.
-    pub(crate) fn deletes(&self) -> u64
-        ensures { result ≡ self.now.deletes }
-    {
-        self.deletes
-    }
-
-    /// How often it was paused.
-    pub(crate) fn pauses(&self) -> u64
-        ensures { result ≡ self.now.pauses }
-    {
-        self.pauses
-    }
-
-    /// Its pause, if there is one.
-    pub(crate) fn pause(&self) -> Option<Pausing>
-        ensures { result ≡ self.now.pause }
-    {
-        self.pause
-    }
-
-    /// When its pause ends.
-    pub(crate) fn pause_end(&self) -> Option<Moment>
-        ensures { result ≡ earliest (dues_of_pause self.now.pause) }
-    {
-        match &self.pause {
-            None => None,
-            Some(pause) => Some(pause.until),
-        }
-    }
-
-    fn is_paused(&self) -> bool
-        ensures { result ≡ is_some self.now.pause }
-    {
-        self.pause.is_some()
-    }
-
-    fn is_named(&self, name: &TubeName) -> bool
-        ensures { result ≡ is_same_name name.now self.now.name }
-    {
-        name == &self.name
-    }
-
-    fn is_before(&self, name: &TubeName) -> bool
-        ensures { result ≡ is_name_before self.now.name name.now }
-    {
-        self.name.as_slice().cmp(name.as_slice()).is_lt()
-    }
-
-    fn set_pause(&mut self, seconds: u32, moment: Moment)
-        ensures { self.new ≡ with_pause seconds moment self.old }
-    {
-        self.pauses = self.pauses.saturating_add(1);
-        self.pause = if seconds == 0 {
-            None
-        } else {
-            Some(Pausing {
-                seconds,
-                until: later(moment, seconds),
-            })
-        };
-    }
-
-    fn change(&mut self, what: TubeChange)
-        ensures { self.new ≡ tube_changed what self.old }
-    {
-        match what {
-            TubeChange::CountPut => self.puts = self.puts.saturating_add(1),
-            TubeChange::CountDelete => self.deletes = self.deletes.saturating_add(1),
-            TubeChange::Pause(seconds, moment) => self.set_pause(seconds, moment),
-        }
-    }
-
-    fn change_if(&mut self, name: &TubeName, what: TubeChange)
-        ensures { self.new ≡ tube_changed_at name.now what self.old }
-    {
-        if self.is_named(name) {
-            self.change(what);
-        }
-    }
-
-    fn fire_timer(&mut self, moment: Moment)
-        ensures { self.new ≡ tube_after_timers moment self.old }
-    {
-        let Some(pause) = self.pause else {
-            return;
-        };
-        if pause.until <= moment {
-            self.pause = None;
-        }
-    }
-}
 
 /// Changes the tube of this name.
 pub(crate) fn change_at(tubes: &mut Vec<TubeEntry, Global>, name: &TubeName, what: TubeChange)
-    ensures { tubes.new.items ≡ map (tube_changed_at name.now what) tubes.old.items }
+    ensures after { tubes.new.items ≡ map (tube_changed_at name.now what) tubes.old.items }
+    ensures len { length tubes.new.items ≡ length tubes.old.items }
 {
     for entry in tubes.iter_mut() {
         entry.change_if(name, what);
@@ -217,7 +36,8 @@ pub(crate) fn change_at(tubes: &mut Vec<TubeEntry, Global>, name: &TubeName, wha
 
 /// Pauses that are over end.
 pub(crate) fn fire_timers(tubes: &mut Vec<TubeEntry, Global>, moment: Moment)
-    ensures { tubes.new.items ≡ map (tube_after_timers moment) tubes.old.items }
+    ensures after { tubes.new.items ≡ map (tube_after_timers moment) tubes.old.items }
+    ensures len { length tubes.new.items ≡ length tubes.old.items }
 {
     for entry in tubes.iter_mut() {
         entry.fire_timer(moment);
@@ -276,6 +96,7 @@ pub(crate) fn provide(
     requires { length tallies.old.items ≡ length tubes.old.items }
     ensures tubes { tubes.new.items ≡ (if is_ok result then provided name.now tubes.old.items else tubes.old.items) }
     ensures tallies { tallies.new.items ≡ (if is_ok result then tallies_provided name.now tubes.old.items tallies.old.items else tallies.old.items) }
+    ensures aligned { length tallies.new.items ≡ length tubes.new.items }
 {
     if has(tubes.as_slice(), name) {
         return Ok(());
@@ -356,6 +177,7 @@ fn forget_at(
 fn forget(tubes: &mut Vec<TubeEntry, Global>, tallies: &mut Vec<Tally, Global>, seats: &[Place])
     requires { length tallies.old.items ≡ length tubes.old.items }
     ensures after { (jobs : List Job) → tallies.old.items ≡ tallies_of jobs tubes.old.items → tubes.new.items ≡ filter (λ t. is_tube_of jobs seats.now t.name) tubes.old.items }
+    ensures aligned { length tallies.new.items ≡ length tubes.new.items }
     ensures tallies { (jobs : List Job) → tallies.old.items ≡ tallies_of jobs tubes.old.items → tallies.new.items ≡ tallies_of jobs tubes.new.items }
 {
     let mut i = tubes.len();
@@ -374,6 +196,7 @@ fn forget_named(
 )
     requires { length tallies.old.items ≡ length tubes.old.items }
     ensures after { (jobs : List Job) → AreInOrder tubes.old.items → AreAlive (Loss.Of name.now) jobs seats.now tubes.old.items → tallies.old.items ≡ tallies_of jobs tubes.old.items → tubes.new.items ≡ filter (λ t. is_tube_of jobs seats.now t.name) tubes.old.items }
+    ensures aligned { length tallies.new.items ≡ length tubes.new.items }
     ensures tallies { (jobs : List Job) → tallies.old.items ≡ tallies_of jobs tubes.old.items → tallies.new.items ≡ tallies_of jobs tubes.new.items }
 {
     if let Some(i) = find(tubes.as_slice(), name) {
@@ -390,6 +213,7 @@ pub(crate) fn forget_lost(
 )
     requires { length tallies.old.items ≡ length tubes.old.items }
     ensures after { (jobs : List Job) → AreInOrder tubes.old.items → AreAlive loss.now jobs seats.now tubes.old.items → tallies.old.items ≡ tallies_of jobs tubes.old.items → tubes.new.items ≡ filter (λ t. is_tube_of jobs seats.now t.name) tubes.old.items }
+    ensures aligned { length tallies.new.items ≡ length tubes.new.items }
     ensures tallies { (jobs : List Job) → tallies.old.items ≡ tallies_of jobs tubes.old.items → tallies.new.items ≡ tallies_of jobs tubes.new.items }
 {
     match loss {

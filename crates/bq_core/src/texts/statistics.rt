@@ -5,7 +5,7 @@ ghost use Rattle.bq_core.specs.Numbers.{AreOfServer, AreOfTube};
 
 use super::key_value::{number, statistics_text, word};
 use crate::tally::Tally;
-use crate::tube_list::Pausing;
+use crate::tube_entry::Pausing;
 use bq_job::{Job, JobState, Moment, NoMemory, Text, TubeName};
 use std::alloc::Global;
 

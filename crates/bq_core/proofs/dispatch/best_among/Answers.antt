@@ -8,7 +8,7 @@ use Rattle.bq_core.proofs.dispatch.best_among.Goals as goal
 pub loop-i-preserved : goal.loop-i-preserved
 loop-i-preserved c =
     let was = c.loop-i.invariant in
-    let tubes = c.args.tubes.now in
+    let tubes = c.args.tubes.now.entries in
     let name = c.index-names-i.result in
     record {
       best = folded_more (with_offer c.args.jobs.now.jobs tubes) c.args.first _ _ name c.loop-i.best _ c.loop-i-test.true c.index-names-i.is was.best

@@ -10,7 +10,7 @@ use Rattle.bq_core.proofs.dispatch.best_offer.Goals as goal
 pub loop-i-preserved : goal.loop-i-preserved
 loop-i-preserved c =
     let was = c.loop-i.invariant in
-    let tubes = c.args.tubes.now in
+    let tubes = c.args.tubes.now.entries in
     let place = c.index-seats-i.result in
     record {
       best = folded_more (with_offers c.args.jobs.now.jobs tubes) None _ _ place c.loop-i.best _ c.loop-i-test.true c.index-seats-i.is was.best

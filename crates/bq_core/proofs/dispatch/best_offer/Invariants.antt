@@ -9,7 +9,7 @@ use Rattle.bq_core.proofs.dispatch.best_offer.Given as goal
 
 abbrev pub invariant-loop-i : goal.invariant-loop-i
 invariant-loop-i l = record {
-  best : l.best ≡ fold (with_offers l.fn.jobs.jobs l.tubes) None (take l.i l.seats);
+  best : l.best ≡ fold (with_offers l.fn.jobs.jobs l.tubes.entries) None (take l.i l.seats);
   same : l.jobs ≡ record l.fn.jobs { comparisons = l.jobs.comparisons };
   asks : Asks (sum_by waited_entries (take l.i l.seats)) l.fn.jobs l.jobs;
 }

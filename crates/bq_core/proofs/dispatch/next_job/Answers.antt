@@ -15,9 +15,8 @@ returns-in-None-clause-id c =
     let m = machine_of st in
     let total : c.best_offer-best.result ≡ best_of m.next_id m.jobs c.requires.ids (λ j. list_any (is_waiting_for m j) m.seats) =
     c.best_offer-best.ensures.best
-    ∙ ap (λ tubes. fold (with_offers st.jobs.jobs tubes) None c.as_slice-2.result.now) c.as_slice.ensures.value
-    ∙ ap (fold (with_offers st.jobs.jobs st.tubes.items) None) c.as_slice-2.ensures.value
-    ∙ next_offer m.next_id m.jobs c.requires.ids st.tubes.items (λ name. is_paused name m) (λ name. sym (paused_is name st.tubes.items c.requires.entries.order c.requires.entries.fresh)) m (λ name. refl) m.seats in
+    ∙ ap (fold (with_offers st.jobs.jobs st.tubes.entries) None) c.as_slice.ensures.value
+    ∙ next_offer m.next_id m.jobs c.requires.ids st.tubes.entries (λ name. is_paused name m) (λ name. sym (paused_is name st.tubes.entries c.requires.entries.order c.requires.entries.fresh)) m (λ name. refl) m.seats in
     ap (option_map (λ (r : ℕ × ℕ). r.1)) (sym c.in-None.is ∙ total) ∙ id_of_best (next_job m)
 
 pub returns-in-Some-clause-id : goal.returns-in-Some-clause-id
@@ -26,7 +25,6 @@ returns-in-Some-clause-id c =
     let m = machine_of st in
     let total : c.best_offer-best.result ≡ best_of m.next_id m.jobs c.requires.ids (λ j. list_any (is_waiting_for m j) m.seats) =
     c.best_offer-best.ensures.best
-    ∙ ap (λ tubes. fold (with_offers st.jobs.jobs tubes) None c.as_slice-2.result.now) c.as_slice.ensures.value
-    ∙ ap (fold (with_offers st.jobs.jobs st.tubes.items) None) c.as_slice-2.ensures.value
-    ∙ next_offer m.next_id m.jobs c.requires.ids st.tubes.items (λ name. is_paused name m) (λ name. sym (paused_is name st.tubes.items c.requires.entries.order c.requires.entries.fresh)) m (λ name. refl) m.seats in
+    ∙ ap (fold (with_offers st.jobs.jobs st.tubes.entries) None) c.as_slice.ensures.value
+    ∙ next_offer m.next_id m.jobs c.requires.ids st.tubes.entries (λ name. is_paused name m) (λ name. sym (paused_is name st.tubes.entries c.requires.entries.order c.requires.entries.fresh)) m (λ name. refl) m.seats in
     ap (option_map (λ (r : ℕ × ℕ). r.1)) (sym c.in-Some.is ∙ total) ∙ id_of_best (next_job m)

@@ -25,9 +25,9 @@ change_tube-requires-clause-entry c =
     let s = c.in-Some.place.now in
     let found : seat_with c.args.seat st.seats.items ≡ Some s = ap (seat_with c.args.seat) (sym c.as_slice.ensures.value) ∙ sym c.in-Some.ensures in
     let here = found_passes (λ s. s.number == c.args.seat) st.seats.items s found in
-    let has : HasTubes st.tubes.items s = all_at (HasTubes st.tubes.items) st.seats.items s c.requires.sound.entries.of_seats here.1 in
-    ap (λ tubes. has_entry c.used.result.now tubes.items) c.in-Ok.ensures.tubes
-    ∙ ap (λ n. has_entry n st.tubes.items) c.used.ensures ∙ has.used (asker_connected c.args.seat st.seats.items s found c.requires.asks)
+    let has : HasTubes st.tubes.entries s = all_at (HasTubes st.tubes.entries) st.seats.items s c.requires.sound.entries.of_seats here.1 in
+    ap (λ tubes. has_entry c.used.result.now tubes.entries) c.in-Ok.ensures.tubes
+    ∙ ap (λ n. has_entry n st.tubes.entries) c.used.ensures ∙ has.used (asker_connected c.args.seat st.seats.items s found c.requires.asks)
 
 pub add-requires-clause-given : goal.add-requires-clause-given
 add-requires-clause-given c =
@@ -55,10 +55,10 @@ add-requires-clause-entry c =
     let connected = asker_connected c.args.seat st.seats.items s found c.requires.asks in
     let still : seat_with c.args.seat mid.seats.items ≡ Some s = ap (λ (x : Machine). seat_with c.args.seat x.seats) c.change_tube.ensures.after ∙ ap (λ seats. seat_with c.args.seat seats.items) c.in-Ok.ensures.seats ∙ found in
     let here = found_passes (λ s. s.number == c.args.seat) mid.seats.items s still in
-    let has : HasTubes mid.tubes.items s = all_at (HasTubes mid.tubes.items) mid.seats.items s c.change_tube.ensures.sound.entries.of_seats here.1 in
+    let has : HasTubes mid.tubes.entries s = all_at (HasTubes mid.tubes.entries) mid.seats.items s c.change_tube.ensures.sound.entries.of_seats here.1 in
     let made = c.new_job-job.ensures s (sym c.used.ensures) in
-    ap (λ state. has_entry c.new_job-job.result.tube state.tubes.items) c.count_put.ensures.same
-    ∙ ap (λ (j : Job). has_entry j.tube mid.tubes.items) made ∙ has.used connected
+    ap (λ state. has_entry c.new_job-job.result.tube state.tubes.entries) c.count_put.ensures.same
+    ∙ ap (λ (j : Job). has_entry j.tube mid.tubes.entries) made ∙ has.used connected
 
 pub returns-clause-reply : goal.returns-clause-reply
 returns-clause-reply c s found =

@@ -14,24 +14,23 @@ returns-clause-after c =
     let s = c.args.state.now in
     let e = c.requires.sound.entries in
     ap (λ tubes. record (machine_of s) { tubes = tubes })
-    (ap counted c.change_at.ensures
-    ∙ sym (record_changed c.args.tube.now (tube_changed c.args.what) (tube_counts c.args.what) (tube_name_kept c.args.what) s.tubes.items e.order e.fresh c.requires.entry))
+    (ap counted c.change.ensures.entries
+    ∙ sym (record_changed c.args.tube.now (tube_changed c.args.what) (tube_counts c.args.what) (tube_name_kept c.args.what) s.tubes.entries e.order e.fresh c.requires.entry))
 
 pub returns-clause-sound : goal.returns-clause-sound
 returns-clause-sound c =
     let s = c.args.state.now in
     let was = c.requires.sound in
     record {
-      entries = rw c.change_at.ensures (entries_of_tube c.args.tube.now c.args.what c.args.state.now.jobs.jobs c.args.state.now.seats.items c.args.state.now.tubes.items was.entries);
+      entries = rw c.change.ensures.entries (entries_of_tube c.args.tube.now c.args.what c.args.state.now.jobs.jobs c.args.state.now.seats.items c.args.state.now.tubes.entries was.entries);
       numbered = was.numbered;
       next = was.next;
       ids = was.ids;
-      counts = rw c.change_at.ensures (counted_kept (tube_changed_at c.args.tube.now c.args.what) (name_kept_at c.args.tube.now c.args.what) s.tally s.tallies.items s.jobs.jobs s.tubes.items was.counts);
-      alive = rw c.change_at.ensures (alive_renamed (tube_changed_at c.args.tube.now c.args.what) (name_kept_at c.args.tube.now c.args.what) s.loss s.jobs.jobs s.seats.items s.tubes.items was.alive);
+      counts = rw (c.change.ensures.entries, c.change.ensures.tallies) (counted_kept (tube_changed_at c.args.tube.now c.args.what) (name_kept_at c.args.tube.now c.args.what) s.tally s.tubes.tallies s.jobs.jobs s.tubes.entries was.counts);
+      alive = rw c.change.ensures.entries (alive_renamed (tube_changed_at c.args.tube.now c.args.what) (name_kept_at c.args.tube.now c.args.what) s.loss s.jobs.jobs s.seats.items s.tubes.entries was.alive);
       pauses =
-          let changed = c.as_slice.ensures.value ∙ c.change_at.ensures in
-          c.end_after-state.ensures
-          ∙ ap (λ ts. pause_end_after ts c.args.what s.pause_end) changed
-          ∙ end_after_change c.args.tube.now c.args.what s.tubes.items s.pause_end was.pauses
-          ∙ ap first_pause_end (sym c.change_at.ensures);
+          c.pause_end_after-state.ensures
+          ∙ ap (λ ts. pause_end_after ts c.args.what s.pause_end) c.change.ensures.entries
+          ∙ end_after_change c.args.tube.now c.args.what s.tubes.entries s.pause_end was.pauses
+          ∙ ap first_pause_end (sym c.change.ensures.entries);
     }

@@ -13,31 +13,31 @@ use Rattle.bq_core.proofs.state.forget_tubes.Goals as goal
 pub returns-clause-after : goal.returns-clause-after
 returns-clause-after c =
     let s = c.args.state.now in
-    let alive = subst (λ seats. AreAlive s.loss s.jobs.jobs seats s.tubes.items) (sym c.as_slice.ensures.value) c.requires.alive in
+    let alive = subst (λ seats. AreAlive s.loss s.jobs.jobs seats s.tubes.entries) (sym c.as_slice.ensures.value) c.requires.alive in
     ap (λ tubes. record (machine_of s) { tubes = counted tubes })
     (c.forget_lost.ensures.after s.jobs.jobs c.requires.entries.order alive c.requires.counts.each
-    ∙ ap (λ seats. filter (λ t. is_tube_of s.jobs.jobs seats t.name) s.tubes.items) c.as_slice.ensures.value)
-    ∙ ap (λ tubes. record (machine_of s) { tubes = tubes }) (filters_swap is_counted (λ t. is_tube_of s.jobs.jobs s.seats.items t.name) s.tubes.items)
+    ∙ ap (λ seats. filter (λ t. is_tube_of s.jobs.jobs seats t.name) s.tubes.entries) c.as_slice.ensures.value)
+    ∙ ap (λ tubes. record (machine_of s) { tubes = tubes }) (filters_swap is_counted (λ t. is_tube_of s.jobs.jobs s.seats.items t.name) s.tubes.entries)
 
 pub returns-clause-sound : goal.returns-clause-sound
 returns-clause-sound c =
     let s = c.args.state.now in
     let was = c.requires in
-    let alive = subst (λ seats. AreAlive s.loss s.jobs.jobs seats s.tubes.items) (sym c.as_slice.ensures.value) was.alive in
+    let alive = subst (λ seats. AreAlive s.loss s.jobs.jobs seats s.tubes.entries) (sym c.as_slice.ensures.value) was.alive in
     let p = λ (t : TubeRecord). is_tube_of s.jobs.jobs s.seats.items t.name in
-    let left : c.forget_lost.new.tubes.items ≡ filter (λ t. is_tube_of s.jobs.jobs s.seats.items t.name) s.tubes.items =
+    let left : c.forget_lost.new.self.entries ≡ filter (λ t. is_tube_of s.jobs.jobs s.seats.items t.name) s.tubes.entries =
     c.forget_lost.ensures.after s.jobs.jobs was.entries.order alive was.counts.each
-    ∙ ap (λ seats. filter (λ t. is_tube_of s.jobs.jobs seats t.name) s.tubes.items) c.as_slice.ensures.value in
+    ∙ ap (λ seats. filter (λ t. is_tube_of s.jobs.jobs seats t.name) s.tubes.entries) c.as_slice.ensures.value in
     record {
-      entries = rw left (entries_forgotten s.jobs.jobs s.seats.items s.tubes.items was.entries);
+      entries = rw left (entries_forgotten s.jobs.jobs s.seats.items s.tubes.entries was.entries);
       numbered = was.numbered;
       next = was.next;
       ids = was.ids;
       counts = record { whole = was.counts.whole; each = c.forget_lost.ensures.tallies s.jobs.jobs was.counts.each };
-      alive = rw left (alive_forgotten s.jobs.jobs s.seats.items s.tubes.items);
+      alive = rw left (alive_forgotten s.jobs.jobs s.seats.items s.tubes.entries);
       pauses =
-          c.end_left-state.ensures
-          ∙ ap (λ ts. pause_end_left ts c.len-entries.result s.pause_end) (c.as_slice-2.ensures.value ∙ left)
-          ∙ end_of_those_left p s.tubes.items c.len-entries.result s.pause_end (omega (arith, c.len-entries.ensures)) was.pauses
+          c.pause_end_left-state.ensures
+          ∙ ap (λ ts. pause_end_left ts c.len-entries.result s.pause_end) left
+          ∙ end_of_those_left p s.tubes.entries c.len-entries.result s.pause_end (omega (arith, c.len-entries.ensures)) was.pauses
           ∙ ap first_pause_end (sym left);
     }

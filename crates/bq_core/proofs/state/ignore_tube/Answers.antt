@@ -27,12 +27,12 @@ returns-then-from-len-clause-sound c =
     let s = some_at old.seats.items c.args.seat (omega arith) in
     let seats = c.ignore.ensures.ignored s.0 s.1 in
     record {
-      entries = rw seats (watching_fewer (λ other. not (is_same_name c.args.tube.now other)) c.args.seat s.0 old.jobs.jobs old.seats.items old.tubes.items s.1 was.entries);
+      entries = rw seats (watching_fewer (λ other. not (is_same_name c.args.tube.now other)) c.args.seat s.0 old.jobs.jobs old.seats.items old.tubes.entries s.1 was.entries);
       numbered = rw seats (watching_numbered (filter (λ other. not (is_same_name c.args.tube.now other)) s.0.watched) c.args.seat s.0 old.seats.items s.1 was.numbered);
       next = was.next;
       ids = was.ids;
       counts = was.counts;
-      alive = rw (seats, c.lose.ensures) (alive_ignoring c.args.tube.now c.args.seat s.0 old.loss old.jobs.jobs old.seats.items old.tubes.items s.1 was.alive);
+      alive = rw (seats, c.lose.ensures) (alive_ignoring c.args.tube.now c.args.seat s.0 old.loss old.jobs.jobs old.seats.items old.tubes.entries s.1 was.alive);
       pauses = was.pauses;
     }
 

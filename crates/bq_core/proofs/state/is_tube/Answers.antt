@@ -8,8 +8,8 @@ pub returns : goal.returns
 returns c =
     let s = c.args.state.now in
     let name = c.args.tube.now in
-    let counted = ap (tally_at name s.tubes.items) c.requires.counts.each ∙ tally_there name s.jobs.jobs s.tubes.items c.requires.entries.of_jobs in
+    let counted = ap (tally_at name s.tubes.entries) c.requires.counts.each ∙ tally_there name s.jobs.jobs s.tubes.entries c.requires.entries.of_jobs in
     let some = ap has_jobs counted ∙ has_jobs_in name s.jobs.jobs in
     c.is_tube.ensures
-    ∙ (λ i. is_tube_with (has_jobs (tally_at name (c.as_slice.ensures.value i) (c.as_slice-2.ensures.value i))) (c.as_slice-3.ensures.value i) name)
+    ∙ ap (λ seats. is_tube_with (has_jobs (tally_at name s.tubes.entries s.tubes.tallies)) seats name) c.as_slice.ensures.value
     ∙ ap (λ b. is_tube_with b s.seats.items name) some

@@ -10,30 +10,30 @@ use Rattle.bq_core.proofs.state.provide_tube.Goals as goal
 
 pub returns-in-Ok-clause-after : goal.returns-in-Ok-clause-after
 returns-in-Ok-clause-after c =
-    ap (λ tubes. record (machine_of c.args.state.now) { tubes = tubes }) (ap counted c.in-Ok.ensures.tubes ∙ counted_provided c.args.tube.now c.args.state.now.tubes.items)
+    ap (λ tubes. record (machine_of c.args.state.now) { tubes = tubes }) (ap counted c.in-Ok.ensures.entries ∙ counted_provided c.args.tube.now c.args.state.now.tubes.entries)
 
 pub returns-in-Ok-clause-entry : goal.returns-in-Ok-clause-entry
-returns-in-Ok-clause-entry c = ap (has_entry c.args.tube.now) c.in-Ok.ensures.tubes ∙ has_provided c.args.tube.now c.args.state.now.tubes.items
+returns-in-Ok-clause-entry c = ap (has_entry c.args.tube.now) c.in-Ok.ensures.entries ∙ has_provided c.args.tube.now c.args.state.now.tubes.entries
 
 pub returns-in-Ok-clause-sound : goal.returns-in-Ok-clause-sound
 returns-in-Ok-clause-sound c =
     let was = c.requires in
     record {
-      entries = rw c.in-Ok.ensures.tubes (entries_provided c.args.tube.now c.args.state.now.jobs.jobs c.args.state.now.seats.items c.args.state.now.tubes.items was.entries);
+      entries = rw c.in-Ok.ensures.entries (entries_provided c.args.tube.now c.args.state.now.jobs.jobs c.args.state.now.seats.items c.args.state.now.tubes.entries was.entries);
       numbered = was.numbered;
       next = was.next;
       ids = was.ids;
       counts =
           let st = c.args.state.now in
-          rw (c.in-Ok.ensures.tubes, c.in-Ok.ensures.tallies) (tallies_of_provided c.args.tube.now st.tally st.tallies.items st.jobs.jobs st.tubes.items was.entries.of_jobs was.counts);
-      alive = rw (c.lose.ensures, c.in-Ok.ensures.tubes) (alive_provided c.args.tube.now c.args.state.now.loss c.args.state.now.jobs.jobs c.args.state.now.seats.items c.args.state.now.tubes.items was.alive);
-      pauses = was.pauses ∙ sym (end_provided c.args.tube.now c.args.state.now.tubes.items) ∙ ap first_pause_end (sym c.in-Ok.ensures.tubes);
+          rw (c.in-Ok.ensures.entries, c.in-Ok.ensures.tallies) (tallies_of_provided c.args.tube.now st.tally st.tubes.tallies st.jobs.jobs st.tubes.entries was.entries.of_jobs was.counts);
+      alive = rw (c.lose.ensures, c.in-Ok.ensures.entries) (alive_provided c.args.tube.now c.args.state.now.loss c.args.state.now.jobs.jobs c.args.state.now.seats.items c.args.state.now.tubes.entries was.alive);
+      pauses = was.pauses ∙ sym (end_provided c.args.tube.now c.args.state.now.tubes.entries) ∙ ap first_pause_end (sym c.in-Ok.ensures.entries);
     }
 
 pub returns-in-Err-clause-after : goal.returns-in-Err-clause-after
-returns-in-Err-clause-after c = ap (λ tubes. record (machine_of c.args.state.now) { tubes = counted tubes }) c.in-Err.ensures.tubes
+returns-in-Err-clause-after c = ap (λ tubes. record (machine_of c.args.state.now) { tubes = counted tubes }) c.in-Err.ensures.entries
 
 pub returns-in-Err-clause-sound : goal.returns-in-Err-clause-sound
 returns-in-Err-clause-sound c =
     let was = c.requires in
-    record { entries = rw c.in-Err.ensures.tubes was.entries; numbered = was.numbered; next = was.next; ids = was.ids; counts = rw (c.in-Err.ensures.tubes, c.in-Err.ensures.tallies) was.counts; alive = rw c.in-Err.ensures.tubes was.alive; pauses = rw c.in-Err.ensures.tubes was.pauses }
+    record { entries = rw c.in-Err.ensures.entries was.entries; numbered = was.numbered; next = was.next; ids = was.ids; counts = rw (c.in-Err.ensures.entries, c.in-Err.ensures.tallies) was.counts; alive = rw c.in-Err.ensures.entries was.alive; pauses = rw c.in-Err.ensures.entries was.pauses }

@@ -1,7 +1,9 @@
-use Rattle.std.proofs.Common.{◌≡◌, ◌∙◌, ap, sym, not, ◌==◌}
+use Rattle.std.proofs.Common.{◌∙◌, ap, sym, not, ◌==◌}
 use Rattle.bq_job.proofs.KeptLemmas.{ids_of_filter}
 use Rattle.bq_jobs.proofs.Changes.{without_none}
-use Rattle.bq_core.specs.Tallies.{tallies_of, tallies_without, tally_of}
+use Rattle.bq_core.specs.Dues.{first_pause_end}
+use Rattle.bq_core.specs.Tallies.{tallies_of, tally_of}
+use Rattle.bq_core.specs.TubeEntries.{has_entry}
 use Rattle.bq_core.proofs.LossLemmas.{alive_taken}
 use Rattle.bq_core.proofs.StateLemmas.{entries_of_fewer, given_of_job, has_of_job}
 use Rattle.bq_core.proofs.TallyPlaces.{counted_taken}
@@ -28,7 +30,8 @@ returns-clause-given c =
 pub returns-clause-entry : goal.returns-clause-entry
 returns-clause-entry c =
     let st = c.args.state.now in
-    has_of_job st.jobs.jobs st.seats.items st.tubes.items c.args.id c.in_ok-job.job c.requires.entries (sym c.remove.ensures.job ∙ c.in_ok-job.was)
+    ap (has_entry c.in_ok-job.job.tube) c.remove_job.ensures.entries
+    ∙ has_of_job st.jobs.jobs st.seats.items st.tubes.entries c.args.id c.in_ok-job.job c.requires.entries (sym c.remove.ensures.job ∙ c.in_ok-job.was)
 
 pub returns-clause-sound : goal.returns-clause-sound
 returns-clause-sound c =
@@ -36,17 +39,16 @@ returns-clause-sound c =
     let was = c.requires in
     let j = c.in_ok-job.job in
     let found = sym c.remove.ensures.job ∙ c.in_ok-job.was in
-    let made = counted_taken 1 st.next_id c.args.id j st.tally st.tallies.items st.jobs.jobs st.tubes.items was.ids found was.entries.order was.counts in
+    let made = counted_taken 1 st.next_id c.args.id j st.tally st.tubes.tallies st.jobs.jobs st.tubes.entries was.ids found was.entries.order was.counts in
     record {
-      entries = rw c.remove.ensures.jobs (entries_of_fewer (λ k. not (k.id == c.args.id)) st.jobs.jobs st.seats.items st.tubes.items was.entries);
+      entries = rw (c.remove.ensures.jobs, c.remove_job.ensures.entries) (entries_of_fewer (λ k. not (k.id == c.args.id)) st.jobs.jobs st.seats.items st.tubes.entries was.entries);
       numbered = was.numbered;
       next = was.next;
       ids = rw c.remove.ensures.jobs (ids_of_filter (λ k. not (k.id == c.args.id)) 1 st.next_id st.jobs.jobs was.ids);
       counts = record {
         whole = c.remove-2.ensures ∙ made.whole ∙ ap tally_of (sym c.remove.ensures.jobs);
-        each = c.remove-3.ensures ∙ ap (λ es. tallies_without j es st.tallies.items) c.as_slice.ensures.value ∙ made.each
-            ∙ ap (λ js. tallies_of js st.tubes.items) (sym c.remove.ensures.jobs);
+        each = c.remove_job.ensures.tallies ∙ made.each ∙ (λ i. tallies_of (sym c.remove.ensures.jobs i) (sym c.remove_job.ensures.entries i));
       };
-      alive = rw (c.lose.ensures, c.remove.ensures.jobs) (alive_taken 1 st.next_id c.args.id j st.loss st.jobs.jobs st.seats.items st.tubes.items was.ids found was.alive);
-      pauses = was.pauses;
+      alive = rw (c.lose.ensures, c.remove.ensures.jobs, c.remove_job.ensures.entries) (alive_taken 1 st.next_id c.args.id j st.loss st.jobs.jobs st.seats.items st.tubes.entries was.ids found was.alive);
+      pauses = was.pauses ∙ ap first_pause_end (sym c.remove_job.ensures.entries);
     }

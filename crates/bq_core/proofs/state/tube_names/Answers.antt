@@ -1,7 +1,6 @@
-use Rattle.std.proofs.Common.{◌∙◌, ◌≡◌, ap, subst, sym}
+use Rattle.std.proofs.Common.{◌∙◌, ◌≡◌, ap, subst}
 use Rattle.std.specs.Prelude.{IfOk}
 use Rattle.bq_core.specs.State.{machine_of}
-use Rattle.bq_core.specs.Tallies.{tallies_of}
 use Rattle.bq_core.specs.Texts.{names_of}
 use Rattle.bq_core.specs.TubeEntries.{names_alive}
 use Rattle.bq_core.proofs.NameLemmas.{alive_are_tubes}
@@ -10,6 +9,5 @@ use Rattle.bq_core.proofs.state.tube_names.Goals as goal
 pub returns : goal.returns
 returns c =
     let s = c.args.state.now in
-    let counted = c.as_slice-2.ensures.value ∙ c.requires.counts.each ∙ ap (tallies_of s.jobs.jobs) (sym c.as_slice.ensures.value) in
-    let names = (λ i. names_alive s.jobs.jobs (c.as_slice-3.ensures.value i) (c.as_slice.ensures.value i)) ∙ alive_are_tubes (machine_of s) s.tubes.items c.requires.entries in
-    subst (λ list. IfOk c.names_alive.result (λ names. names_of names.items ≡ list)) names (c.names_alive.ensures s.jobs.jobs counted)
+    let names = ap (λ seats. names_alive s.jobs.jobs seats s.tubes.entries) c.as_slice.ensures.value ∙ alive_are_tubes (machine_of s) s.tubes.entries c.requires.entries in
+    subst (λ list. IfOk c.names_alive.result (λ names. names_of names.items ≡ list)) names (c.names_alive.ensures s.jobs.jobs c.requires.counts.each)

@@ -44,11 +44,11 @@ returns-in-Ok-clause-sound c =
     let s = some_at mid.seats.items c.args.seat (omega arith) in
     let seats = c.in-Ok.ensures.watched s.0 s.1 in
     record {
-      entries = rw seats (watching_more c.args.tube.now c.args.seat s.0 mid.jobs.jobs mid.seats.items mid.tubes.items s.1 p.entry p.sound.entries);
+      entries = rw seats (watching_more c.args.tube.now c.args.seat s.0 mid.jobs.jobs mid.seats.items mid.tubes.entries s.1 p.entry p.sound.entries);
       numbered = rw seats (watching_numbered (s.0.watched ++ c.args.tube.now ∷ []) c.args.seat s.0 mid.seats.items s.1 p.sound.numbered);
       next = p.sound.next;
       ids = p.sound.ids;
       counts = p.sound.counts;
-      alive = rw seats (alive_watching c.args.tube.now c.args.seat s.0 mid.loss mid.jobs.jobs mid.seats.items mid.tubes.items s.1 p.sound.alive);
+      alive = rw seats (alive_watching c.args.tube.now c.args.seat s.0 mid.loss mid.jobs.jobs mid.seats.items mid.tubes.entries s.1 p.sound.alive);
       pauses = p.sound.pauses;
     }

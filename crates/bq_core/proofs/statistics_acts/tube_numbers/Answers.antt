@@ -19,14 +19,13 @@ returns c =
     let entry : c.unwrap_or-entry.result.now ≡ tube_record name m =
     ap (λ (lent : Bor TubeRecord). lent.now) c.unwrap_or-entry.ensures
     ∙ lent_or c.entry_of.result _ _ c.entry_of.ensures
-    ∙ (λ i. unwrap_or (find (λ t. is_same_name name t.name) (c.as_slice.ensures.value i)) (c.new-fresh.ensures i))
-    ∙ sym (record_of_entry name s.tubes.items c.requires.entries.order c.requires.entries.fresh) in
+    ∙ ap (unwrap_or (find (λ t. is_same_name name t.name) s.tubes.entries)) c.new-fresh.ensures
+    ∙ sym (record_of_entry name s.tubes.entries c.requires.entries.order c.requires.entries.fresh) in
     let seats = c.as_slice-seats.ensures.value in
     record {
-      jobs = c.of.ensures
-          ∙ (λ i. tally_at name (c.as_slice-3.ensures.value i) (c.as_slice-2.ensures.value i))
-          ∙ ap (tally_at name s.tubes.items) c.requires.counts.each
-          ∙ tally_there name s.jobs.jobs s.tubes.items c.requires.entries.of_jobs;
+      jobs = c.tally_of.ensures
+          ∙ ap (tally_at name s.tubes.entries) c.requires.counts.each
+          ∙ tally_there name s.jobs.jobs s.tubes.entries c.requires.entries.of_jobs;
       puts = c.puts.ensures ∙ ap (λ (t : TubeRecord). t.puts) entry;
       using = c.using.ensures ∙ ap (λ (seats : List SeatRecord). using_count name (record m { seats = seats })) seats;
       watching = c.watching.ensures ∙ ap (λ (seats : List SeatRecord). watching_count name (record m { seats = seats })) seats;

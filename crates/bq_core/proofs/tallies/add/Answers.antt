@@ -1,4 +1,4 @@
-use Rattle.std.proofs.Common.{◌≡◌, ◌∙◌, ap, sym, length}
+use Rattle.std.proofs.Common.{◌∙◌, ap, sym, length}
 use Rattle.std.specs.List.{position_or_len, slice_index_or, slice_set}
 use Rattle.std.specs.Prelude.{nat_lt}
 use Rattle.bq_job.specs.TubeName.{is_same_name}
@@ -6,8 +6,8 @@ use Rattle.bq_core.specs.Tallies.{tally_with}
 use Rattle.bq_core.proofs.TallyPlaces.{at_place, found_place, no_place, nowhere}
 use Rattle.bq_core.proofs.tallies.add.Goals as goal
 
-pub returns-in-Some : goal.returns-in-Some
-returns-in-Some c =
+pub returns-in-Some-clause-after : goal.returns-in-Some-clause-after
+returns-in-Some-clause-after c =
     let name = c.args.job.now.tube in
     let es = c.args.tubes.now in
     let ts = c.args.tallies.now.items in
@@ -18,8 +18,8 @@ returns-in-Some c =
     ∙ ap (λ k. slice_set ts k (tally_with c.args.job.now (slice_index_or ts k was))) (sym at)
     ∙ at_place name (tally_with c.args.job.now) es ts was c.requires
 
-pub returns-in_default : goal.returns-in_default
-returns-in_default c =
+pub returns-in_default-clause-after : goal.returns-in_default-clause-after
+returns-in_default-clause-after c =
     let name = c.args.job.now.tube in
     let es = c.args.tubes.now in
     nowhere name (tally_with c.args.job.now) es c.args.tallies.now.items c.requires

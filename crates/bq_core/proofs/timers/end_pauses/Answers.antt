@@ -1,7 +1,7 @@
 use Rattle.std.proofs.Common.{◌≡◌, ◌∙◌, ap, refl, false, sym}
 use Rattle.std.specs.List.{list_any}
 use Rattle.bq_job.specs.Timers.{tube_after_timers}
-use Rattle.bq_core.specs.Dues.{first_pause_end, is_end_over}
+use Rattle.bq_core.specs.Dues.{is_end_over}
 use Rattle.bq_core.specs.State.{machine_of}
 use Rattle.bq_core.specs.TubeEntries.{counted, is_counted, is_pause_over}
 use Rattle.bq_core.proofs.FiringLemmas.{no_pause_ends, none_counted}
@@ -15,24 +15,24 @@ use Rattle.bq_core.proofs.timers.end_pauses.Goals as goal
 pub returns-clause-after : goal.returns-clause-after
 returns-clause-after c =
     let s = c.args.state.now in
-    ap (λ tubes. record (machine_of s) { tubes = tubes }) (ap counted c.fire_timers.ensures ∙ filter_of_map is_counted (tube_after_timers s.moment) (λ t. refl) s.tubes.items)
+    ap (λ tubes. record (machine_of s) { tubes = tubes }) (ap counted c.fire_timers.ensures.entries ∙ filter_of_map is_counted (tube_after_timers s.moment) (λ t. refl) s.tubes.entries)
 
 pub returns-clause-sound : goal.returns-clause-sound
 returns-clause-sound c =
     let s = c.args.state.now in
     let was = c.requires in
     record {
-      entries = rw c.fire_timers.ensures (entries_of_timers s.moment s.jobs.jobs s.seats.items s.tubes.items was.entries);
+      entries = rw c.fire_timers.ensures.entries (entries_of_timers s.moment s.jobs.jobs s.seats.items s.tubes.entries was.entries);
       numbered = was.numbered;
       next = was.next;
       ids = was.ids;
-      counts = rw c.fire_timers.ensures (counted_kept (tube_after_timers s.moment) (λ t. refl) s.tally s.tallies.items s.jobs.jobs s.tubes.items was.counts);
-      alive = rw c.fire_timers.ensures (alive_renamed (tube_after_timers s.moment) (λ t. refl) s.loss s.jobs.jobs s.seats.items s.tubes.items was.alive);
-      pauses = c.first_end-state.ensures ∙ ap first_pause_end c.as_slice.ensures.value;
+      counts = rw (c.fire_timers.ensures.entries, c.fire_timers.ensures.tallies) (counted_kept (tube_after_timers s.moment) (λ t. refl) s.tally s.tubes.tallies s.jobs.jobs s.tubes.entries was.counts);
+      alive = rw c.fire_timers.ensures.entries (alive_renamed (tube_after_timers s.moment) (λ t. refl) s.loss s.jobs.jobs s.seats.items s.tubes.entries was.alive);
+      pauses = c.first_pause_end-state.ensures;
     }
 
 pub returns-then-not-is_over-clause-after : goal.returns-then-not-is_over-clause-after
 returns-then-not-is_over-clause-after c =
     let s = c.args.state.now in
-    let none : list_any (is_pause_over s.moment) s.tubes.items ≡ false = none_over s.moment s.tubes.items (ap (is_end_over s.moment) (sym c.requires.pauses) ∙ sym c.if-not-is_over.ensures) in
-    ap (λ tubes. record (machine_of s) { tubes = tubes }) (sym (no_pause_ends s.moment (counted s.tubes.items) (none_counted s.moment s.tubes.items none)))
+    let none : list_any (is_pause_over s.moment) s.tubes.entries ≡ false = none_over s.moment s.tubes.entries (ap (is_end_over s.moment) (sym c.requires.pauses) ∙ sym c.if-not-is_over.ensures) in
+    ap (λ tubes. record (machine_of s) { tubes = tubes }) (sym (no_pause_ends s.moment (counted s.tubes.entries) (none_counted s.moment s.tubes.entries none)))

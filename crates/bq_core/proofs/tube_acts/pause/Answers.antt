@@ -5,4 +5,4 @@ use Rattle.bq_core.proofs.tube_acts.pause.Goals as goal
 pub change_tube-requires-clause-entry : goal.change_tube-requires-clause-entry
 change_tube-requires-clause-entry c =
     let st = c.args.state.now in
-    tube_has_entry st.jobs.jobs st.seats.items st.tubes.items c.requires.entries c.args.tube.now (sym c.if-not-is_tube.ensures)
+    tube_has_entry st.jobs.jobs st.seats.items st.tubes.entries c.requires.entries c.args.tube.now (sym c.if-not-is_tube.ensures)

@@ -1,4 +1,4 @@
-use Rattle.std.proofs.Common.{◌∙◌, ◌-◌, ap, arith, slice_get}
+use Rattle.std.proofs.Common.{arith}
 use Rattle.bq_core.specs.TubeEntries.{is_tube_of}
 use Rattle.bq_core.proofs.ForgettingLemmas.{forgotten_one}
 use Rattle.bq_core.proofs.tube_list.forget.Goals as goal

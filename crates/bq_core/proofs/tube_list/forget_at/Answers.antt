@@ -1,4 +1,4 @@
-use Rattle.std.proofs.Common.{◌≡◌, ◌∙◌, ap, sym, false, true}
+use Rattle.std.proofs.Common.{◌∙◌, ap, sym, false, true}
 use Rattle.std.specs.List.{remove}
 use Rattle.bq_core.specs.Tallies.{tallies_of}
 use Rattle.bq_core.proofs.TallyPlaces.{alive_there, removed_tallies}

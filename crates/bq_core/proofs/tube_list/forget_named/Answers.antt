@@ -1,6 +1,5 @@
 use Rattle.std.proofs.Common.{◌∙◌, ap, sym, length}
 use Rattle.std.specs.List.{position, position_or_len}
-use Rattle.std.specs.Prelude.{nat_lt}
 use Rattle.bq_job.specs.TubeName.{is_same_name}
 use Rattle.bq_core.proofs.LossLemmas.{none_forgotten, one_forgotten}
 use Rattle.bq_core.proofs.TallyPlaces.{no_place}

@@ -1,0 +1,195 @@
+//! The tubes: what is kept of each that exists.
+ghost use Rattle.std.specs.Prelude.{◌≡◌, ◌&&◌, IfOk, filter, find, length, map, is_some, is_ok, if◌then◌else◌, List};
+ghost use Rattle.std.specs.List.{list_any};
+ghost use Rattle.std.specs.Option.{option_map};
+ghost use Rattle.bq_job.specs.declared.job.Job.{Job};
+ghost use Rattle.bq_job.specs.TubeName.{is_same_name};
+ghost use Rattle.bq_job.specs.Timers.{tube_after_timers};
+ghost use Rattle.bq_core.specs.Dues.{first_pause_end, pause_end_after, pause_end_left};
+ghost use Rattle.bq_core.specs.Losses.{AreAlive};
+ghost use Rattle.bq_core.specs.Tallies.{has_jobs, tallies_of, tallies_provided, tallies_with, tallies_without, tally_at};
+ghost use Rattle.bq_core.specs.Texts.{names_of};
+ghost use Rattle.bq_core.specs.TubeEntries.{AreInOrder, is_tube_of, is_tube_with, names_alive, provided, tube_changed_at};
+
+use crate::loss::Loss;
+use crate::name_lists::Names;
+use crate::place::Place;
+use crate::tally::Tally;
+use crate::tube_entry::{TubeChange, TubeEntry};
+use crate::{pauses, tallies, tube_list};
+use bq_job::{Job, Moment, NoMemory, TubeName};
+use std::alloc::Global;
+use std::marker::Model;
+
+/// An entry for each tube that exists, in the order of their names, and how many jobs each of them has.
+#[derive(Drop)]
+pub(crate) struct Tubes {
+    entries: Vec<TubeEntry, Global>,
+    /// The counts of the jobs of a tube stand at the place of its entry.
+    tallies: Vec<Tally, Global>,
+}
+
+impl Model for Tubes {
+    ghost use Rattle.std.specs.Prelude.{◌≡◌, length};
+    ghost use Rattle.bq_core.specs.KeptTubes.{KeptTubes};
+
+    ghost Value = { KeptTubes };
+
+    ghost view = { λ t. record { entries = t.entries.items; tallies = t.tallies.items } };
+
+    ghost invariant = { λ t. length t.tallies.items ≡ length t.entries.items };
+}
+
+impl Tubes {
+    ghost use Rattle.bq_core.specs.KeptTubes.{first_tubes};
+
+    /// The default tube, which has no job.
+    pub(crate) fn first(alloc: Global) -> Result<Tubes, NoMemory>
+        ensures { IfOk result (λ tubes. tubes ≡ first_tubes) }
+    {
+        let entries = tube_list::first_entries(alloc)?;
+        let tallies = tallies::first(alloc)?;
+        Ok(Tubes { entries, tallies })
+    }
+
+    /// How many entries there are.
+    pub(crate) fn len(&self) -> usize
+        ensures { result ≡ length self.now.entries }
+    {
+        self.entries.len()
+    }
+
+    /// Sees to it that a tube has an entry. The growths that this needs come before any change.
+    pub(crate) fn provide(&mut self, alloc: Global, name: &TubeName) -> Result<(), NoMemory>
+        ensures entries { self.new.entries ≡ (if is_ok result then provided name.now self.old.entries else self.old.entries) }
+        ensures tallies { self.new.tallies ≡ (if is_ok result then tallies_provided name.now self.old.entries self.old.tallies else self.old.tallies) }
+    {
+        tube_list::provide(&mut self.entries, &mut self.tallies, alloc, name)
+    }
+
+    /// Changes the tube of this name.
+    pub(crate) fn change(&mut self, name: &TubeName, what: TubeChange)
+        ensures entries { self.new.entries ≡ map (tube_changed_at name.now what) self.old.entries }
+        ensures tallies { self.new.tallies ≡ self.old.tallies }
+    {
+        tube_list::change_at(&mut self.entries, name, what);
+    }
+
+    /// Pauses that are over end.
+    pub(crate) fn fire_timers(&mut self, moment: Moment)
+        ensures entries { self.new.entries ≡ map (tube_after_timers moment) self.old.entries }
+        ensures tallies { self.new.tallies ≡ self.old.tallies }
+    {
+        tube_list::fire_timers(&mut self.entries, moment);
+    }
+
+    /// The entry of this name.
+    pub(crate) fn entry_of(&self, name: &TubeName) -> Option<&TubeEntry>
+        ensures { option_map (λ t. t.now) result ≡ find (λ t. is_same_name name.now t.name) self.now.entries }
+    {
+        tube_list::entry_of(self.entries.as_slice(), name)
+    }
+
+    /// Whether the tube of this name is paused.
+    pub(crate) fn is_paused(&self, name: &TubeName) -> bool
+        ensures { result ≡ list_any (λ t. is_same_name name.now t.name && is_some t.pause) self.now.entries }
+    {
+        tube_list::is_paused(self.entries.as_slice(), name)
+    }
+
+    /// Counts a job in its tube.
+    pub(crate) fn add_job(&mut self, job: &Job)
+        ensures entries { self.new.entries ≡ self.old.entries }
+        ensures tallies { self.new.tallies ≡ tallies_with job.now self.old.entries self.old.tallies }
+    {
+        tallies::add(&mut self.tallies, self.entries.as_slice(), job);
+    }
+
+    /// Counts a job in its tube no longer.
+    pub(crate) fn remove_job(&mut self, job: &Job)
+        ensures entries { self.new.entries ≡ self.old.entries }
+        ensures tallies { self.new.tallies ≡ tallies_without job.now self.old.entries self.old.tallies }
+    {
+        tallies::remove(&mut self.tallies, self.entries.as_slice(), job);
+    }
+
+    /// The counts of the tube of this name; none where it has no entry.
+    pub(crate) fn tally_of(&self, name: &TubeName) -> Tally
+        ensures { result ≡ tally_at name.now self.now.entries self.now.tallies }
+    {
+        tallies::of(self.tallies.as_slice(), self.entries.as_slice(), name)
+    }
+
+    /// Whether the tube exists.
+    pub(crate) fn is_tube(&self, seats: &[Place], name: &TubeName) -> bool
+        ensures { result ≡ is_tube_with (has_jobs (tally_at name.now self.now.entries self.now.tallies)) seats.now name.now }
+    {
+        tube_list::is_tube(
+            self.entries.as_slice(),
+            self.tallies.as_slice(),
+            seats,
+            name,
+        )
+    }
+
+    /// How many tubes exist.
+    pub(crate) fn count_alive(&self, seats: &[Place]) -> u64
+        ensures { (jobs : List Job) → self.now.tallies ≡ tallies_of jobs self.now.entries → result ≡ length (names_alive jobs seats.now self.now.entries) }
+    {
+        tube_list::count_alive(self.entries.as_slice(), self.tallies.as_slice(), seats)
+    }
+
+    /// The names of the tubes that exist, in byte order. Their room is asked for before.
+    pub(crate) fn names_alive<'a>(
+        &'a self,
+        alloc: Global,
+        seats: &[Place],
+    ) -> Result<Names<'a>, NoMemory>
+        ensures { (jobs : List Job) → self.now.tallies ≡ tallies_of jobs self.now.entries → IfOk result (λ names. names_of names.items ≡ names_alive jobs seats.now self.now.entries) }
+    {
+        tube_list::names_alive(
+            alloc,
+            self.entries.as_slice(),
+            self.tallies.as_slice(),
+            seats,
+        )
+    }
+
+    /// Drops the entries of tubes that are gone, which are among those that may be.
+    pub(crate) fn forget_lost(&mut self, seats: &[Place], loss: &Loss)
+        ensures after { (jobs : List Job) → AreInOrder self.old.entries → AreAlive loss.now jobs seats.now self.old.entries → self.old.tallies ≡ tallies_of jobs self.old.entries → self.new.entries ≡ filter (λ t. is_tube_of jobs seats.now t.name) self.old.entries }
+        ensures tallies { (jobs : List Job) → self.old.tallies ≡ tallies_of jobs self.old.entries → self.new.tallies ≡ tallies_of jobs self.new.entries }
+    {
+        tube_list::forget_lost(&mut self.entries, &mut self.tallies, seats, loss);
+    }
+
+    /// When the first pause ends. It looks at each tube.
+    pub(crate) fn first_pause_end(&self) -> Option<Moment>
+        ensures { result ≡ first_pause_end self.now.entries }
+    {
+        pauses::first_end(self.entries.as_slice())
+    }
+
+    /// When the first pause ends after a change of a tube, and when it did before. Only a new pause has
+    /// every tube looked at.
+    pub(crate) fn pause_end_after(&self, what: TubeChange, last: Option<Moment>) -> Option<Moment>
+        ensures { result ≡ pause_end_after self.now.entries what last }
+    {
+        match what {
+            TubeChange::Pause(_, _) => self.first_pause_end(),
+            TubeChange::CountPut | TubeChange::CountDelete => last,
+        }
+    }
+
+    /// When the first pause ends once entries were dropped, of which there were so many, and when it did
+    /// before. Where none was dropped, no tube is looked at.
+    pub(crate) fn pause_end_left(&self, entries: usize, last: Option<Moment>) -> Option<Moment>
+        ensures { result ≡ pause_end_left self.now.entries entries last }
+    {
+        if self.len() < entries {
+            self.first_pause_end()
+        } else {
+            last
+        }
+    }
+}
