@@ -73,10 +73,12 @@ impl Bells {
         }
     }
 
-    /// Waits until the bell of a seat is rung, at most so long. It may return before for no reason.
-    pub fn wait<R: Wait>(&self, rt: &R, seat: Seat, most: Duration) {
-        if let Some(bell) = self.bells.get(usize::from(seat)) {
-            bell.wait(rt, most);
+    /// Waits until the bell of a seat is rung, at most so long, and says whether it was. It may return before
+    /// for no reason, and does so where the seat has no bell.
+    pub fn wait<R: Wait>(&self, rt: &R, seat: Seat, most: Duration) -> bool {
+        match self.bells.get(usize::from(seat)) {
+            Some(bell) => bell.wait(rt, most),
+            None => false,
         }
     }
 }

@@ -3,14 +3,11 @@ ghost use Rattle.std.specs.Prelude.{◌≡◌, ◌≤◌};
 
 use super::bells::Rings;
 use super::desk::moment_heard;
-use super::shared_desk::{Look, SharedDesk};
+use super::shared_desk::{LONGEST_REST, Look, SharedDesk};
 use crate::clock::Clock;
 use crate::locked::Locked;
 use bq_job::{Moment, Seat, Step};
 use std::sync::{Mutex, Wait};
-
-/// How long a seat whose reserve waits sleeps at most before its line is read again, in milliseconds.
-const LONGEST_REST: u64 = 100;
 
 /// What lies under the one lock of a run: the core with its outboxes, the clock, and the moment heard last.
 #[derive(Drop)]

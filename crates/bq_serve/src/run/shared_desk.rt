@@ -1,5 +1,5 @@
 //! A desk that threads share, and the links to it.
-ghost use Rattle.std.specs.Prelude.{◌≡◌};
+ghost use Rattle.std.specs.Prelude.{◌≡◌, ◌≤◌};
 
 use super::bells::{Bells, Rings};
 use super::control::ControlLink;
@@ -7,6 +7,10 @@ use super::link::Link;
 use bq_job::{Answer, Seat, Step};
 use std::sync::Wait;
 use std::time::Duration;
+
+/// How long a seat whose reserve waits rests before its line is read again, in milliseconds. A client that has
+/// gone is noticed then.
+pub const LONGEST_REST: u64 = 100;
 
 /// What a look at the mail came to.
 #[derive(Drop)]
@@ -46,6 +50,19 @@ impl<'a, R: Wait, K: SharedDesk> SharedSeat<'a, R, K> {
         self.bells.ring(&rings);
         look
     }
+
+    // Rests for so many milliseconds at most, and says how many of them are counted: one where the bell was
+    // rung, since then the seat rests again.
+    fn rest(&self, most: u64) -> u64
+        requires { 1 ≤ most }
+        ensures some { 1 ≤ result }
+        ensures most { result ≤ most }
+    {
+        let rung = self
+            .bells
+            .wait(self.rt, self.seat, Duration::from_millis(most));
+        if rung { 1 } else { most }
+    }
 }
 
 impl<'a, R: Wait, K: SharedDesk> Link for SharedSeat<'a, R, K> {
@@ -58,18 +75,20 @@ impl<'a, R: Wait, K: SharedDesk> Link for SharedSeat<'a, R, K> {
         Ok(())
     }
 
-    // Where there is no answer the seat rests until it is answered or the core is due, and looks once more.
+    // Where there is no answer the seat rests, and looks again whenever its bell was rung or the core is due.
+    // A bell may have been rung for an answer that was found before, so one ring isn't the end of the rest: a
+    // line that is read meanwhile keeps its seat from the next answer for as long as the read waits.
     fn mail(&mut self) -> Option<Answer> {
+        let mut left = LONGEST_REST;
+        while left > 0 {
+            match self.look() {
+                Look::Mail(answer) => return Some(answer),
+                Look::Nothing(rest) => left -= self.rest(rest.clamp(1, left)),
+            }
+        }
         match self.look() {
             Look::Mail(answer) => Some(answer),
-            Look::Nothing(rest) => {
-                self.bells
-                    .wait(self.rt, self.seat, Duration::from_millis(rest));
-                match self.look() {
-                    Look::Mail(answer) => Some(answer),
-                    Look::Nothing(_) => None,
-                }
-            }
+            Look::Nothing(_) => None,
         }
     }
 }
