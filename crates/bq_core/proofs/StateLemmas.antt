@@ -164,7 +164,7 @@ if_some (Some x) P h = h x refl
 -- comparisons change nothing else
 pub compared_sound : (old new : State) → OnlyCompares old new → IsSound old → IsSound new
 compared_sound old new same s =
-    let was : IsSound (record old { jobs = record old.jobs { comparisons = new.jobs.comparisons } }) = record { entries = s.entries; numbered = s.numbered; next = s.next; ids = s.ids; counts = s.counts; alive = s.alive; pauses = s.pauses } in
+    let was : IsSound (record old { jobs = record old.jobs { comparisons = new.jobs.comparisons } }) = record { entries = s.entries; numbered = s.numbered; next = s.next; ids = s.ids; counts = s.counts; clients = s.clients; alive = s.alive; pauses = s.pauses } in
     subst IsSound (sym same) was
 
 -- a change of a seat leaves it at tubes with entries
@@ -190,7 +190,7 @@ entries_of_seat number what jobs seats entries h e = record {
 }
 
 -- changes keep the numbers of seats
-number_kept : (what : SeatChange) (s : SeatRecord) → (seat_changed what s).number ≡ s.number
+pub number_kept : (what : SeatChange) (s : SeatRecord) → (seat_changed what s).number ≡ s.number
 number_kept StopWaiting s = refl
 number_kept (Wait ticket until) s = refl
 number_kept Connect s = refl

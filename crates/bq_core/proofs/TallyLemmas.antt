@@ -14,11 +14,13 @@ use Rattle.bq_jobs.specs.Kept.{with_added, without}
 use Rattle.bq_jobs.proofs.Changes.{count_added, count_without as count_taken, length_added}
 use Rattle.bq_core.specs.Tallies.{count_with, count_without, tally_of, tally_with, tally_without}
 
-with_is : (counts : Bool) (n : ℕ) → cond counts 1 0 + n ≤ greatest → count_with counts n ≡ cond counts 1 0 + n
+-- a count, once one more is counted,
+pub with_is : (counts : Bool) (n : ℕ) → cond counts 1 0 + n ≤ greatest → count_with counts n ≡ cond counts 1 0 + n
 with_is true n fits = grind arith
 with_is false n fits = omega arith
 
-without_is : (counts : Bool) (n rest : ℕ) → cond counts 1 0 + rest ≡ n → count_without counts n ≡ rest
+-- or one less
+pub without_is : (counts : Bool) (n rest : ℕ) → cond counts 1 0 + rest ≡ n → count_without counts n ≡ rest
 without_is true n rest e = omega arith
 without_is false n rest e = omega arith
 

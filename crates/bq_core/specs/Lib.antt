@@ -1,5 +1,6 @@
 pub mod Acting
 pub mod Asking
+pub mod Clients
 pub mod Codes
 pub mod CoreState
 pub mod Cost

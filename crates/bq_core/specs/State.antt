@@ -3,6 +3,7 @@ use Rattle.std.specs.Prelude.{false, ◌≡◌, ◌≤◌}
 use Rattle.bq_job.specs.JobCommands.{last_id}
 use Rattle.bq_job.specs.Lawful.{AreIdsWithin}
 use Rattle.bq_job.specs.Machine.{Machine, Settings}
+use Rattle.bq_core.specs.Clients.{clients_of}
 use Rattle.bq_core.specs.Dues.{first_pause_end}
 use Rattle.bq_core.specs.Losses.{AreAlive}
 use Rattle.bq_core.specs.SeatChanges.{AreNumbered}
@@ -41,6 +42,7 @@ pub record IsSound (s : State) : Type 0 where
   pub ids : AreIdsWithin 1 s.jobs.jobs s.next_id
   -- What is counted is what there is.
   pub counts : AreCounted s.tally s.tubes.tallies s.jobs.jobs s.tubes.entries
+  pub clients : s.clients ≡ clients_of s.seats.items
   -- It is known which entries may be of tubes that are gone.
   pub alive : AreAlive s.loss s.jobs.jobs s.seats.items s.tubes.entries
   -- The end of the first pause is known.

@@ -9,6 +9,7 @@ pub use machine::Core;
 pub use outs::Outs;
 
 mod acts;
+mod clients;
 mod config;
 mod dispatch;
 mod dues;

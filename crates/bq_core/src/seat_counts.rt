@@ -7,20 +7,6 @@ ghost use Rattle.bq_job.specs.Tubes.{watches};
 use crate::place::Place;
 use bq_job::TubeName;
 
-/// How many clients are connected.
-pub(crate) fn connected(seats: &[Place]) -> u64
-    ensures { result ≡ count_by (λ s. s.connected) seats.now }
-{
-    seats.iter().filter(|place| place.is_connected()).count() as u64
-}
-
-/// How many clients wait.
-pub(crate) fn waiting(seats: &[Place]) -> u64
-    ensures { result ≡ count_by is_waiting seats.now }
-{
-    seats.iter().filter(|place| place.is_waiting()).count() as u64
-}
-
 /// How many clients use the tube.
 pub(crate) fn using(seats: &[Place], name: &TubeName) -> u64
     ensures { result ≡ count_by (λ s. s.connected && is_same_name name.now s.used) seats.now }

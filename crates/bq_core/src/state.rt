@@ -16,6 +16,7 @@ ghost use Rattle.bq_core.specs.State.{machine_of, settings_of, IsSound, OnlyComp
 ghost use Rattle.bq_core.specs.Texts.{names_of};
 ghost use Rattle.bq_core.specs.TubeEntries.{has_entry, is_tube_of, tube_changed};
 
+use crate::clients::Clients;
 use crate::config::Config;
 use crate::job_list::{JobChange, JobKind, JobTest};
 use crate::loss::Loss;
@@ -40,6 +41,8 @@ pub(crate) struct State {
     pub(crate) tubes: Tubes,
     /// How many jobs are in each state.
     pub(crate) tally: Tally,
+    /// How many clients there are.
+    pub(crate) clients: Clients,
     /// Which tubes may be gone whose entries are still there.
     pub(crate) loss: Loss,
     /// When the first pause of a tube ends.
@@ -143,9 +146,10 @@ impl State {
 
     /// Whether somebody waits.
     pub(crate) fn has_waiter(&self) -> bool
+        requires { IsSound self.now }
         ensures { result ≡ list_any is_waiting self.now.seats.items }
     {
-        self.seats.iter().any(|place| place.is_waiting())
+        self.clients.waiting > 0
     }
 }
 
@@ -228,7 +232,15 @@ pub(crate) fn change_seat(state: &mut State, seat: Seat, what: &SeatChange)
     ensures sound { IsSound state.new }
     ensures config { state.new.config ≡ state.old.config }
 {
+    state
+        .clients
+        .remove(seat_list::find(state.seats.as_slice(), seat));
     seat_list::change_at(&mut state.seats, seat, what);
+    state
+        .clients
+        .add(seat_list::find(state.seats.as_slice(), seat));
+    // So many seats there can be, and no count comes to its end.
+    let _seats = state.seats.len();
     seat_list::lose(&mut state.loss, what);
 }
 
@@ -376,6 +388,7 @@ pub(crate) fn first_state(config: Config, seats: Vec<Place, Global>, tubes: Tube
         seats,
         tubes,
         tally: Tally::default(),
+        clients: Clients::default(),
         loss: Loss::Nothing,
         pause_end: None,
         moment: 0,

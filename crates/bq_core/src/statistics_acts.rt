@@ -93,15 +93,14 @@ fn server_numbers(state: &State) -> ServerNumbers
     requires { IsSound state.now }
     ensures { AreOfServer result (machine_of state.now) }
 {
-    let seats = state.seats.as_slice();
     ServerNumbers {
         jobs: state.tally,
         timeouts: state.timeouts,
         puts: state.puts,
         max_job_size: state.config.max_job_size,
         tubes: state::tube_count(state),
-        connected: seat_counts::connected(seats),
-        waiting: seat_counts::waiting(seats),
+        connected: state.clients.connected,
+        waiting: state.clients.waiting,
         connections: state.connections,
         draining: state.draining,
     }

@@ -13,6 +13,7 @@ returns-clause-sound c =
       next = λ d. let h = leb-false 18446744073709551614 st.next_id d in omega arith;
       ids = ids_further 1 st.next_id (st.next_id + 1) st.jobs.jobs (omega arith) was.ids;
       counts = was.counts;
+      clients = was.clients;
       alive = was.alive;
       pauses = was.pauses;
     }

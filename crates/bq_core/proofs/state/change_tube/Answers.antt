@@ -27,6 +27,7 @@ returns-clause-sound c =
       next = was.next;
       ids = was.ids;
       counts = rw (c.change.ensures.entries, c.change.ensures.tallies) (counted_kept (tube_changed_at c.args.tube.now c.args.what) (name_kept_at c.args.tube.now c.args.what) s.tally s.tubes.tallies s.jobs.jobs s.tubes.entries was.counts);
+      clients = was.clients;
       alive = rw c.change.ensures.entries (alive_renamed (tube_changed_at c.args.tube.now c.args.what) (name_kept_at c.args.tube.now c.args.what) s.loss s.jobs.jobs s.seats.items s.tubes.entries was.alive);
       pauses =
           c.pause_end_after-state.ensures

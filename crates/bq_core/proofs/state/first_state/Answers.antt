@@ -1,6 +1,8 @@
 use Rattle.std.proofs.Common.{arith, ap, refl}
+use Rattle.bq_job.specs.Machine.{numbers}
 use Rattle.bq_jobs.specs.Kept.{Kept}
 use Rattle.bq_core.specs.KeptTubes.{KeptTubes}
+use Rattle.bq_core.proofs.ClientLemmas.{first_clients}
 use Rattle.bq_core.proofs.StateLemmas.{first_entries, first_numbered}
 use Rattle.bq_core.proofs.TallyPlaces.{none_counted}
 use Rattle.bq_core.proofs.state.first_state.Goals as goal
@@ -12,6 +14,7 @@ returns-clause-sound c =
       numbered = rw c.requires.free (first_numbered c.args.config.seats);
       next = λ _. omega arith;
       ids = rw (ap (λ (k : Kept). k.jobs) c.new.ensures) (omega arith);
+      clients = rw c.requires.free (first_clients c.default-2.result c.default-2.ensures (numbers 0 c.args.config.seats));
       alive = rw entries (refl, tt);
       pauses = rw entries refl;
       counts = rw (ap (λ (k : Kept). k.jobs) c.new.ensures, entries) (record { whole = none_counted c.default.result c.default.ensures; each = ap (λ (k : KeptTubes). k.tallies) c.requires.first });

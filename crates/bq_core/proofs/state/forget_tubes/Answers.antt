@@ -34,6 +34,7 @@ returns-clause-sound c =
       next = was.next;
       ids = was.ids;
       counts = record { whole = was.counts.whole; each = c.forget_lost.ensures.tallies s.jobs.jobs was.counts.each };
+      clients = was.clients;
       alive = rw left (alive_forgotten s.jobs.jobs s.seats.items s.tubes.entries);
       pauses =
           c.pause_end_left-state.ensures

@@ -2,7 +2,9 @@ use Rattle.std.proofs.Common.{◌∙◌, ap, sym, arith, not, filter}
 use Rattle.std.proofs.lemmas.Option.{slice_get_within}
 use Rattle.bq_job.specs.TubeCommands.{watching}
 use Rattle.bq_job.specs.TubeName.{is_same_name}
+use Rattle.bq_core.specs.Clients.{clients_of}
 use Rattle.bq_core.specs.State.{machine_of}
+use Rattle.bq_core.proofs.ClientLemmas.{clients_watching}
 use Rattle.bq_core.proofs.LossLemmas.{alive_ignoring}
 use Rattle.bq_core.proofs.StateLemmas.{changed_there, seat_read, seat_there, watching_fewer, watching_numbered}
 use Rattle.bq_core.proofs.TurnLemmas.{some_at}
@@ -32,6 +34,7 @@ returns-then-from-len-clause-sound c =
       next = was.next;
       ids = was.ids;
       counts = was.counts;
+      clients = was.clients ∙ sym (clients_watching (filter (λ other. not (is_same_name c.args.tube.now other)) s.0.watched) c.args.seat s.0 old.seats.items s.1 was.numbered) ∙ ap clients_of (sym seats);
       alive = rw (seats, c.lose.ensures) (alive_ignoring c.args.tube.now c.args.seat s.0 old.loss old.jobs.jobs old.seats.items old.tubes.entries s.1 was.alive);
       pauses = was.pauses;
     }

@@ -26,6 +26,7 @@ returns-in-Ok-clause-sound c =
       counts =
           let st = c.args.state.now in
           rw (c.in-Ok.ensures.entries, c.in-Ok.ensures.tallies) (tallies_of_provided c.args.tube.now st.tally st.tubes.tallies st.jobs.jobs st.tubes.entries was.entries.of_jobs was.counts);
+      clients = was.clients;
       alive = rw (c.lose.ensures, c.in-Ok.ensures.entries) (alive_provided c.args.tube.now c.args.state.now.loss c.args.state.now.jobs.jobs c.args.state.now.seats.items c.args.state.now.tubes.entries was.alive);
       pauses = was.pauses ∙ sym (end_provided c.args.tube.now c.args.state.now.tubes.entries) ∙ ap first_pause_end (sym c.in-Ok.ensures.entries);
     }
@@ -36,4 +37,4 @@ returns-in-Err-clause-after c = ap (λ tubes. record (machine_of c.args.state.no
 pub returns-in-Err-clause-sound : goal.returns-in-Err-clause-sound
 returns-in-Err-clause-sound c =
     let was = c.requires in
-    record { entries = rw c.in-Err.ensures.entries was.entries; numbered = was.numbered; next = was.next; ids = was.ids; counts = rw (c.in-Err.ensures.entries, c.in-Err.ensures.tallies) was.counts; alive = rw c.in-Err.ensures.entries was.alive; pauses = rw c.in-Err.ensures.entries was.pauses }
+    record { entries = rw c.in-Err.ensures.entries was.entries; numbered = was.numbered; next = was.next; ids = was.ids; counts = rw (c.in-Err.ensures.entries, c.in-Err.ensures.tallies) was.counts; clients = was.clients; alive = rw c.in-Err.ensures.entries was.alive; pauses = rw c.in-Err.ensures.entries was.pauses }

@@ -19,6 +19,7 @@ returns-in_err-job-clause-sound c =
       next = c.requires.next;
       ids = rw same c.requires.ids;
       counts = rw same c.requires.counts;
+      clients = c.requires.clients;
       alive = rw same c.requires.alive;
       pauses = c.requires.pauses;
     }
@@ -49,6 +50,7 @@ returns-clause-sound c =
         whole = c.remove-2.ensures ∙ made.whole ∙ ap tally_of (sym c.remove.ensures.jobs);
         each = c.remove_job.ensures.tallies ∙ made.each ∙ (λ i. tallies_of (sym c.remove.ensures.jobs i) (sym c.remove_job.ensures.entries i));
       };
+      clients = was.clients;
       alive = rw (c.lose.ensures, c.remove.ensures.jobs, c.remove_job.ensures.entries) (alive_taken 1 st.next_id c.args.id j st.loss st.jobs.jobs st.seats.items st.tubes.entries was.ids found was.alive);
       pauses = was.pauses ∙ ap first_pause_end (sym c.remove_job.ensures.entries);
     }

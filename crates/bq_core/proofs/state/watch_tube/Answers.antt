@@ -2,7 +2,9 @@ use Rattle.std.proofs.Common.{◌≡◌, ◌∙◌, ◌++◌, ◌∷◌, [], ap,
 use Rattle.std.proofs.lemmas.Option.{slice_get_within}
 use Rattle.bq_job.specs.Machine.{Machine}
 use Rattle.bq_job.specs.TubeCommands.{watching}
+use Rattle.bq_core.specs.Clients.{clients_of}
 use Rattle.bq_core.specs.State.{machine_of}
+use Rattle.bq_core.proofs.ClientLemmas.{clients_watching}
 use Rattle.bq_core.proofs.LossLemmas.{alive_watching}
 use Rattle.bq_core.proofs.StateLemmas.{changed_there, seat_there, watching_more, watching_numbered}
 use Rattle.bq_core.proofs.TurnLemmas.{some_at}
@@ -49,6 +51,7 @@ returns-in-Ok-clause-sound c =
       next = p.sound.next;
       ids = p.sound.ids;
       counts = p.sound.counts;
+      clients = p.sound.clients ∙ sym (clients_watching (s.0.watched ++ c.args.tube.now ∷ []) c.args.seat s.0 mid.seats.items s.1 p.sound.numbered) ∙ ap clients_of (sym seats);
       alive = rw seats (alive_watching c.args.tube.now c.args.seat s.0 mid.loss mid.jobs.jobs mid.seats.items mid.tubes.entries s.1 p.sound.alive);
       pauses = p.sound.pauses;
     }

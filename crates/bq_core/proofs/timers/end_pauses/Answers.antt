@@ -27,6 +27,7 @@ returns-clause-sound c =
       next = was.next;
       ids = was.ids;
       counts = rw (c.fire_timers.ensures.entries, c.fire_timers.ensures.tallies) (counted_kept (tube_after_timers s.moment) (λ t. refl) s.tally s.tubes.tallies s.jobs.jobs s.tubes.entries was.counts);
+      clients = was.clients;
       alive = rw c.fire_timers.ensures.entries (alive_renamed (tube_after_timers s.moment) (λ t. refl) s.loss s.jobs.jobs s.seats.items s.tubes.entries was.alive);
       pauses = c.first_pause_end-state.ensures;
     }
