@@ -12,6 +12,7 @@ pub mod MailLemmas
 pub mod PartLemmas
 pub mod PostLemmas
 pub mod ReadingsLemmas
+pub mod RungLemmas
 pub mod SeatLemmas
 pub mod SeenLemmas
 pub mod SendLemmas

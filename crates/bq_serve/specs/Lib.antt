@@ -16,6 +16,7 @@ pub mod LockedSteps
 pub mod MemDoors
 pub mod ReadingNumbers
 pub mod RunSettings
+pub mod Rung
 pub mod ScriptPlace
 pub mod Sessions
 pub mod Tending

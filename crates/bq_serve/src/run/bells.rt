@@ -1,5 +1,6 @@
 //! A bell for each seat of a run.
-ghost use Rattle.std.specs.Prelude.{◌≡◌};
+ghost use Rattle.std.specs.Prelude.{◌≡◌, [], IfOk, vec_len};
+ghost use Rattle.bq_serve.specs.Rung.{AreRung, others};
 
 use super::bell::Bell;
 use arrayvec::ArrayVec;
@@ -19,16 +20,24 @@ pub enum Rings {
 }
 
 impl Rings {
-    pub fn none() -> Rings {
+    pub fn none() -> Rings
+        ensures { AreRung [] result }
+    {
         Rings::Few(ArrayVec::new())
     }
 
     /// The seats of these but for one.
-    pub fn but_own(seats: &[Seat], own: Seat) -> Rings {
+    pub fn but_own(seats: &[Seat], own: Seat) -> Rings
+        ensures { AreRung (others own seats.now) result }
+    {
         let mut few = ArrayVec::new();
-        for seat in seats {
-            if *seat != own && few.try_push(*seat).is_err() {
-                return Rings::All;
+        for place in 0..seats.len() {
+            let seat = seats[place];
+            if seat != own {
+                if few.is_full() {
+                    return Rings::All;
+                }
+                few.push(seat);
             }
         }
         Rings::Few(few)
@@ -43,7 +52,9 @@ pub struct Bells {
 
 impl Bells {
     /// A bell for each of so many seats, none of which was rung. All their memory is asked for here.
-    pub fn new(alloc: Global, seats: u16) -> Result<Bells, NoMemory> {
+    pub fn new(alloc: Global, seats: u16) -> Result<Bells, NoMemory>
+        ensures { IfOk result (λ bells. vec_len bells.bells ≡ seats) }
+    {
         let Ok(mut bells) = Vec::with_capacity(alloc, usize::from(seats)) else {
             return Err(NoMemory);
         };
