@@ -41,3 +41,9 @@ abbrev pub HasLooked : {C : Type 0} → (C → List (Option ℕ) → C → Type 
 HasLooked {C} given seat old look new =
     (at_look : LockedDesk C) × HasPassed given seat (next_due old.locked.machine) old at_look × Tells look (slice_get (outbox_at seat at_look.locked.outboxes) 0)
     × (new ≡ record at_look { locked = record at_look.locked { outboxes = slice_set at_look.locked.outboxes seat (drop 1 (outbox_at seat at_look.locked.outboxes)) } })
+
+-- The step was taken, and then the oldest answer for its seat.
+abbrev pub HasServed : {C : Type 0} → (C → List (Option ℕ) → C → Type 0) → ℕ → Step → LockedDesk C → Option Answer → LockedDesk C → Type 0
+HasServed {C} given seat what old answer new =
+    (at_step : LockedDesk C) × HasTaken given seat what old at_step × (answer ≡ slice_get (outbox_at seat at_step.locked.outboxes) 0)
+    × (new ≡ record at_step { locked = record at_step.locked { outboxes = slice_set at_step.locked.outboxes seat (drop 1 (outbox_at seat at_step.locked.outboxes)) } })

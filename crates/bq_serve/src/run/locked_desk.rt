@@ -6,7 +6,7 @@ use super::desk::moment_heard;
 use super::shared_desk::{LONGEST_REST, Look, SharedDesk};
 use crate::clock::Clock;
 use crate::locked::Locked;
-use bq_job::{Moment, Seat, Step};
+use bq_job::{Answer, Moment, Seat, Step};
 use std::sync::{Mutex, Wait};
 
 /// What lies under the one lock of a run: the core with its outboxes, the clock, and the moment heard last.
@@ -20,7 +20,8 @@ pub struct LockedDesk<C> {
 impl<C: Clock + Drop> LockedDesk<C> {
     ghost use Rattle.bq_job.specs.NextDue.{next_due};
     ghost use Rattle.bq_serve.specs.DeskOf.{GaveReadings};
-    ghost use Rattle.bq_serve.specs.LockedDesks.{EndsInTime, HasLooked, HasPassed, HasTaken};
+    ghost use Rattle.bq_serve.specs.LockedDesks.{EndsInTime, HasLooked, HasPassed, HasServed, HasTaken};
+    ghost use Rattle.bq_serve.specs.Rung.{AreRung, AreRungByTick, others};
     ghost use Rattle.std.specs.Prelude.{[], ◌∷◌};
     ghost use Rattle.bq_job.specs.History.{moment_heard};
 
@@ -40,16 +41,27 @@ impl<C: Clock + Drop> LockedDesk<C> {
     // A step at the moment that the clock gives now. The seats whose bells are to be rung: those that were
     // answered, but for the one whose step it is.
     fn step(&mut self, seat: Seat, what: Step) -> Rings
-        ensures { HasTaken C.given seat what self.old self.new }
+        ensures taken { HasTaken C.given seat what self.old self.new }
+        ensures rings { AreRung (others seat self.new.locked.answered) result }
     {
         self.hear();
         self.locked.step(self.heard, seat, what);
         Rings::but_own(self.locked.answered(), seat)
     }
 
+    // A step, and the oldest answer for its seat behind it. Nothing is due then, since a step fires what is.
+    fn serve(&mut self, seat: Seat, what: Step) -> (Option<Answer>, Rings)
+        ensures served { HasServed C.given seat what self.old result.0 self.new }
+        ensures rings { AreRung (others seat self.new.locked.answered) result.1 }
+    {
+        let rings = self.step(seat, what);
+        (self.locked.fetch(seat), rings)
+    }
+
     // A look at the mail of a seat, before which a tick is made where the core is due.
     fn look(&mut self, seat: Seat) -> (Look, Rings)
-        ensures { HasLooked C.given seat self.old result.0 self.new }
+        ensures looked { HasLooked C.given seat self.old result.0 self.new }
+        ensures rings { AreRungByTick (next_due self.old.locked.machine) self.new.heard (others seat self.new.locked.answered) result.1 }
     {
         let (rest, rings) = self.tick_if_due(seat);
         match self.locked.fetch(seat) {
@@ -64,6 +76,7 @@ impl<C: Clock + Drop> LockedDesk<C> {
         ensures passed { HasPassed C.given seat (next_due self.old.locked.machine) self.old self.new }
         ensures rest { EndsInTime (next_due self.old.locked.machine) self.new.heard result.0 }
         ensures most { result.0 ≤ 100 }
+        ensures rings { AreRungByTick (next_due self.old.locked.machine) self.new.heard (others seat self.new.locked.answered) result.1 }
     {
         let Some(due) = self.locked.next_due() else {
             return (LONGEST_REST, Rings::none());
@@ -91,6 +104,10 @@ impl<C: Clock + Drop> LockedDesk<C> {
 impl<C: Clock + Drop> SharedDesk for Mutex<LockedDesk<C>> {
     fn step<R: Wait>(&self, rt: &R, seat: Seat, what: Step) -> Rings {
         self.lock(rt).step(seat, what)
+    }
+
+    fn serve<R: Wait>(&self, rt: &R, seat: Seat, what: Step) -> (Option<Answer>, Rings) {
+        self.lock(rt).serve(seat, what)
     }
 
     fn look<R: Wait>(&self, rt: &R, seat: Seat) -> (Look, Rings) {

@@ -192,6 +192,7 @@ fn serve_all<
             desk,
             bells,
             seat: control_seat,
+            at_hand: None,
         };
         submit_control(rt, control, &mut link);
     }

@@ -73,6 +73,7 @@ impl<L: Line + Drop, D: Door<Line = L> + Drop> Post<L, D> {
             desk,
             bells,
             seat,
+            at_hand: None,
         };
         let room: &mut Room = &mut [0; PIECE_ROOM];
         for _ in rt.forever() {

@@ -25,6 +25,9 @@ pub trait SharedDesk {
     /// Takes a step of a seat, and tells the other seats that it answered.
     fn step<R: Wait>(&self, rt: &R, seat: Seat, what: Step) -> Rings;
 
+    /// The same, and takes the oldest answer for the seat that there is then.
+    fn serve<R: Wait>(&self, rt: &R, seat: Seat, what: Step) -> (Option<Answer>, Rings);
+
     /// Takes the oldest answer for a seat, and tells the other seats that were answered meanwhile.
     fn look<R: Wait>(&self, rt: &R, seat: Seat) -> (Look, Rings);
 }
@@ -37,9 +40,18 @@ pub struct SharedSeat<'a, R, K> {
     pub desk: &'a K,
     pub bells: &'a Bells,
     pub seat: Seat,
+    /// An answer that came with a step, and that the seat didn't ask for yet.
+    pub at_hand: Option<Answer>,
 }
 
 impl<'a, R: Wait, K: SharedDesk> SharedSeat<'a, R, K> {
+    // Most steps are answered by themselves, and the desk is asked no more for that answer.
+    fn serve(&mut self, step: Step) {
+        let (answer, rings) = self.desk.serve(self.rt, self.seat, step);
+        self.bells.ring(&rings);
+        self.at_hand = answer;
+    }
+
     fn step(&self, step: Step) {
         let rings = self.desk.step(self.rt, self.seat, step);
         self.bells.ring(&rings);
@@ -71,7 +83,11 @@ impl<'a, R: Wait, K: SharedDesk> Link for SharedSeat<'a, R, K> {
     ghost went = { λ first submitted taken last. Unit {0} };
 
     fn submit(&mut self, step: Step) -> Result<(), Step> {
-        self.step(step);
+        if self.at_hand.is_none() {
+            self.serve(step);
+        } else {
+            self.step(step);
+        }
         Ok(())
     }
 
@@ -79,6 +95,9 @@ impl<'a, R: Wait, K: SharedDesk> Link for SharedSeat<'a, R, K> {
     // A bell may have been rung for an answer that was found before, so one ring isn't the end of the rest: a
     // line that is read meanwhile keeps its seat from the next answer for as long as the read waits.
     fn mail(&mut self) -> Option<Answer> {
+        if let Some(answer) = self.at_hand.take() {
+            return Some(answer);
+        }
         let mut left = LONGEST_REST;
         while left > 0 {
             match self.look() {

@@ -2,12 +2,12 @@ use Rattle.std.proofs.Common.{◌∙◌, ap, sym}
 use Rattle.bq_serve.specs.LockedState.{LockedState}
 use Rattle.bq_serve.proofs.run.locked_desk.LockedDesk.look.Goals as goal
 
-pub returns-in-Some : goal.returns-in-Some
-returns-in-Some g c =
+pub returns-in-Some-clause-looked : goal.returns-in-Some-clause-looked
+returns-in-Some-clause-looked g c =
     let at = c.tick_if_due-rest.new.self in
     (at, c.tick_if_due-rest.ensures.passed, sym c.fetch.ensures.oldest ∙ c.in-Some.is, ap (λ (l : LockedState). record { locked = l; clock = at.clock; heard = at.heard }) c.fetch.ensures.rest)
 
-pub returns-in-None : goal.returns-in-None
-returns-in-None g c =
+pub returns-in-None-clause-looked : goal.returns-in-None-clause-looked
+returns-in-None-clause-looked g c =
     let at = c.tick_if_due-rest.new.self in
     (at, c.tick_if_due-rest.ensures.passed, sym c.fetch.ensures.oldest ∙ c.in-None.is, ap (λ (l : LockedState). record { locked = l; clock = at.clock; heard = at.heard }) c.fetch.ensures.rest)
