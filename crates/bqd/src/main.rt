@@ -56,3 +56,6 @@ fn failed<R: Eprint>(rt: &R, fault: ServeFault) -> u8 {
     tell_fault(rt, fault);
     1
 }
+
+#[cfg(test)]
+mod tests;
