@@ -32,6 +32,24 @@ fn tube_names(rt: HostRuntime) -> Result<(), Fail> {
 }
 
 #[test]
+fn order_of_tube_names(rt: HostRuntime) {
+    for (a, b) in [
+        (b"a".as_slice(), b"b".as_slice()),
+        (b"B", b"a"),
+        (b"ab", b"b"),
+        (b"a", b"ab"),
+    ] {
+        match (TubeName::new(a), TubeName::new(b)) {
+            (Some(a), Some(b)) => {
+                assert!(rt; a < b);
+                assert!(rt; a.cmp(&a).is_eq());
+            }
+            _ => assert!(rt; false, "{a:?} and {b:?} are names"),
+        }
+    }
+}
+
+#[test]
 fn bodies_and_texts(rt: HostRuntime) -> Result<(), Fail> {
     let body = Body::new(rt.alloc(), b"abc")?;
     let share = body.share()?;
