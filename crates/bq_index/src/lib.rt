@@ -9,6 +9,7 @@
 pub use boxes::BoxSource;
 pub use fault::NoMemory;
 pub use shelf::Shelf;
+pub use walk::{Change, Test, Visitor};
 
 mod boxes;
 mod chain;
@@ -22,3 +23,6 @@ mod shelf;
 #[cfg(test)]
 mod tests;
 mod tree;
+mod walk;
+#[cfg(test)]
+mod walk_tests;

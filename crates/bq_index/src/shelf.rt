@@ -1,5 +1,5 @@
 // An ordered map whose insertions take no memory.
-ghost use Rattle.std.specs.Prelude.{◌≡◌, ◌+◌, ◌<◌, ◌≤◌, max, [], length, is_some, if◌then◌else◌, None, OnOk, OnErr};
+ghost use Rattle.std.specs.Prelude.{◌≡◌, ◌+◌, ◌<◌, ◌≤◌, max, [], find, fold, length, map, is_some, if◌then◌else◌, None, IfOk, OnOk, OnErr};
 ghost use Rattle.std.specs.Option.{option_map, option_copied_mut};
 ghost use Rattle.bq_index.specs.Order.{InOrder, entry_from};
 ghost use Rattle.std.specs.Map.{lookup, remove_entry};
@@ -8,7 +8,8 @@ ghost use Rattle.std.specs.BTreeMap.{is_at, insert_entry};
 use super::boxes::BoxSource;
 use super::descent::{Deepest, Descent};
 use super::tree::Tree;
-use super::{NoMemory, chain, change, find};
+use super::walk::{Change, Test, Visitor};
+use super::{NoMemory, chain, change, find, walk};
 use std::alloc::Global;
 use std::marker::Model;
 use std::mem;
@@ -16,9 +17,10 @@ use std::mem;
 /// An ordered map whose insertions take no memory, as long as there are spare boxes.
 ///
 /// Contracts see three things: the entries in the order of their keys, the number of spare boxes, and how
-/// often two keys were compared. There is no walk over a shelf; [`Shelf::next_from`] finds the next entry.
-/// Every call but `reserve` looks at few entries: `insert`, `remove`, `get`, `get_mut` and `next_from` make
-/// at most two comparisons for each binary digit of one more than the entries that there were.
+/// often two keys were compared. `insert`, `remove`, `get`, `get_mut` and `next_from` look at few entries:
+/// they make at most two comparisons for each binary digit of one more than the entries that there were.
+/// `peek`, `first` and `first_from` read a shelf that isn't theirs alone, and count nothing; `walk`, `list`
+/// and `change_all` go over all entries, and compare no keys.
 pub struct Shelf<K: Ord, V> {
     tree: Tree<K, V>,
     len: usize,
@@ -57,6 +59,7 @@ impl<K: Ord + Drop, V: Drop> Shelf<K, V> {
     ghost use Rattle.std.specs.Borrow.{sem};
     ghost use Rattle.bq_index.specs.Shelf.{ComparesFew};
     ghost use Rattle.bq_index.specs.ShelfLent.{LeavesEntries, LendsValue};
+    ghost use Rattle.bq_index.specs.Walk.{changed_by, entry_of, passes_by, passes_from, seen_by};
 
     /// A shelf with no entries and no spare boxes. It takes no memory.
     pub fn new() -> Self
@@ -191,6 +194,60 @@ impl<K: Ord + Drop, V: Drop> Shelf<K, V> {
         ensures entry { option_map (λ p. (p.0.now, p.1.now)) result ≡ entry_from (K.cmp key.now) self.old.entries }
     {
         find::next_from(&self.tree, key, &mut self.comparisons)
+    }
+
+    /// The value at a key, where no comparison is counted.
+    pub fn peek(&self, key: &K) -> Option<&V>
+        ensures { option_map (λ v. v.now) result ≡ lookup (is_at (K.cmp key.now)) self.now.entries }
+    {
+        let mut uncounted = 0;
+        find::get(&self.tree, key, &mut uncounted)
+    }
+
+    /// Shows a visitor each entry, in the order of the keys. No keys are compared.
+    pub fn walk<T: Visitor<K, V>>(&self, visitor: &mut T)
+        ensures { visitor.new ≡ fold (seen_by T.after) visitor.old self.now.entries }
+    {
+        walk::walk(&self.tree, visitor);
+    }
+
+    /// The first entry that passes a test, where no comparison is counted.
+    pub fn first<T: Test<K, V>>(&self, test: &T) -> Option<(&K, &V)>
+        ensures { option_map entry_of result ≡ find (passes_by (T.passed test.now)) self.now.entries }
+    {
+        walk::first(&self.tree, test)
+    }
+
+    /// The first entry that passes a test among those whose key is not below `from`, where no comparison is
+    /// counted.
+    pub fn first_from<T: Test<K, V>>(&self, from: &K, test: &T) -> Option<(&K, &V)>
+        ensures { option_map entry_of result ≡ find (passes_from (K.cmp from.now) (T.passed test.now)) self.now.entries }
+    {
+        walk::first_from(&self.tree, from, test)
+    }
+
+    /// The entries, in the order of their keys. The memory of the list is asked for before.
+    ///
+    /// # Errors
+    /// `NoMemory` where it is refused.
+    pub fn list(&self, alloc: Global) -> Result<Vec<(&K, &V), Global>, NoMemory>
+        ensures { IfOk result (λ listed. map entry_of listed.items ≡ self.now.entries) }
+    {
+        let Ok(mut listed) = Vec::with_capacity(alloc, self.len()) else {
+            return Err(NoMemory);
+        };
+        walk::list(&self.tree, &mut listed);
+        Ok(listed)
+    }
+
+    /// Changes each value in its place. No keys are compared, and no memory is taken.
+    pub fn change_all<C: Change<K, V>>(&mut self, change: &C)
+        ensures entries { self.new.entries ≡ map (changed_by (C.changed change.now)) self.old.entries }
+        ensures spare { self.new.spare ≡ self.old.spare }
+        ensures comparisons { self.new.comparisons ≡ self.old.comparisons }
+    {
+        let tree = mem::replace(&mut self.tree, Tree::Leaf);
+        self.tree = walk::change_all(tree, change);
     }
 
     /// The value at a key, to be changed in its place.

@@ -1,0 +1,30 @@
+-- What a walk over entries does.
+use Rattle.std.specs.Borrow.{Bor}
+use Rattle.std.specs.Ordering.{is_gt}
+use Rattle.std.specs.Prelude.{Bool, ◌&&◌, not, Option, None, Some}
+use Rattle.std.specs.declared.cmp.Ordering.{Ordering}
+
+module _ {K V : Type 0} where
+  -- who saw e beside what was seen before
+  abbrev pub seen_by : {T : Type 0} → (T → K → V → T) → T → K × V → T
+  seen_by after t e = after t e.0 e.1
+
+  -- e with its value changed
+  abbrev pub changed_by : (K → V → V) → K × V → K × V
+  changed_by f e = (e.0, f e.0 e.1)
+
+  abbrev pub entry_changed : (K → V → V) → Option (K × V) → Option (K × V)
+  entry_changed f None = None
+  entry_changed f (Some e) = Some (changed_by f e)
+
+  -- the entry that is lent
+  abbrev pub entry_of : Bor K × Bor V → K × V
+  entry_of p = (p.0.now, p.1.now)
+
+  -- whether e passes
+  abbrev pub passes_by : (K → V → Bool) → K × V → Bool
+  passes_by p e = p e.0 e.1
+
+  -- whether e passes, and its key is not below what is compared
+  abbrev pub passes_from : (K → Ordering) → (K → V → Bool) → K × V → Bool
+  passes_from compare p e = not (is_gt (compare e.0)) && p e.0 e.1

@@ -1,0 +1,140 @@
+// What is done with each entry of a tree, in the order of the keys. No two keys are compared.
+ghost use Rattle.std.specs.Prelude.{◌≡◌, ◌+◌, ◌≤◌, ◌++◌, Bool, find, fold, length, map, vec_len};
+ghost use Rattle.std.specs.Option.{option_map};
+ghost use Rattle.std.specs.Vec.{vec_capacity};
+ghost use Rattle.bq_index.specs.Order.{InOrder};
+ghost use Rattle.bq_index.specs.Tree.{entries, height, IsBalanced};
+ghost use Rattle.bq_index.specs.Walk.{changed_by, entry_changed, entry_of, passes_by, passes_from, seen_by};
+
+use super::tree::{Node, Tree, open, parts, rejoin};
+use std::alloc::Global;
+
+/// Who is shown entries, one after another.
+pub trait Visitor<K, V> {
+    /// What it is after it was shown an entry.
+    ghost after: { Self → K → V → Self };
+
+    /// Sees an entry.
+    fn visit(&mut self, key: &K, value: &V)
+        ensures { self.new ≡ after self.old key.now value.now };
+}
+
+/// What becomes of the values of entries.
+pub trait Change<K, V> {
+    /// What a value becomes.
+    ghost changed: { Self → K → V → V };
+
+    /// Changes the value of an entry.
+    fn change(&self, key: &K, value: &mut V)
+        ensures { value.new ≡ changed self.now key.now value.old };
+}
+
+/// A test of entries.
+pub trait Test<K, V> {
+    /// Whether an entry passes.
+    ghost passed: { Self → K → V → Bool };
+
+    /// Whether an entry passes.
+    fn passes(&self, key: &K, value: &V) -> bool
+        ensures { result ≡ passed self.now key.now value.now };
+}
+
+// Shows each entry.
+pub(crate) fn walk<K, V, T: Visitor<K, V>>(tree: &Tree<K, V>, visitor: &mut T)
+    requires { IsBalanced tree.now }
+    ensures { visitor.new ≡ fold (seen_by T.after) visitor.old (entries tree.now) }
+{
+    let Some((left, key, value, right)) = parts(tree) else {
+        return;
+    };
+    walk(left, visitor);
+    visitor.visit(key, value);
+    walk(right, visitor);
+}
+
+// The first entry that passes.
+pub(crate) fn first<'a, K, V, T: Test<K, V>>(
+    tree: &'a Tree<K, V>,
+    test: &T,
+) -> Option<(&'a K, &'a V)>
+    requires { IsBalanced tree.now }
+    ensures { option_map entry_of result ≡ find (passes_by (T.passed test.now)) (entries tree.now) }
+{
+    let (left, key, value, right) = parts(tree)?;
+    match first(left, test) {
+        None => if test.passes(key, value) {
+            Some((key, value))
+        } else {
+            first(right, test)
+        },
+        found => found,
+    }
+}
+
+// The first entry that passes among those whose key is not below `key`. It compares keys, and counts nothing.
+pub(crate) fn first_from<'a, K: Ord, V, T: Test<K, V>>(
+    tree: &'a Tree<K, V>,
+    from: &K,
+    test: &T,
+) -> Option<(&'a K, &'a V)>
+    requires balanced { IsBalanced tree.now }
+    requires in_order { InOrder K.cmp (entries tree.now) }
+    ensures { option_map entry_of result ≡ find (passes_from (K.cmp from.now) (T.passed test.now)) (entries tree.now) }
+{
+    let (left, key, value, right) = parts(tree)?;
+    if from.cmp(key).is_gt() {
+        return first_from(right, from, test);
+    }
+    match first_from(left, from, test) {
+        None => if test.passes(key, value) {
+            Some((key, value))
+        } else {
+            first(right, test)
+        },
+        found => found,
+    }
+}
+
+// Lists each entry. There is room for all of them.
+pub(crate) fn list<'a, K, V>(tree: &'a Tree<K, V>, listed: &mut Vec<(&'a K, &'a V), Global>)
+    requires balanced { IsBalanced tree.now }
+    requires room { vec_len listed.old + length (entries tree.now) ≤ vec_capacity listed.old }
+    ensures items { map entry_of listed.new.items ≡ map entry_of listed.old.items ++ entries tree.now }
+    ensures len { vec_len listed.new ≡ vec_len listed.old + length (entries tree.now) }
+    ensures capacity { vec_capacity listed.new ≡ vec_capacity listed.old }
+{
+    let Some((left, key, value, right)) = parts(tree) else {
+        return;
+    };
+    list(left, listed);
+    listed.push_reserved((key, value));
+    list(right, listed);
+}
+
+fn change_node<K, V, C: Change<K, V>>(node: &mut Node<K, V>, change: &C)
+    ensures entry { node.new.entry ≡ entry_changed (C.changed change.now) node.old.entry }
+    ensures height { node.new.height ≡ node.old.height }
+{
+    if let Some((key, value)) = &mut node.entry {
+        change.change(key, value);
+    }
+}
+
+// The tree with each value changed.
+pub(crate) fn change_all<K, V, C: Change<K, V>>(tree: Tree<K, V>, change: &C) -> Tree<K, V>
+where
+    K: Drop,
+    V: Drop,
+    requires { IsBalanced tree }
+    ensures is { entries result ≡ map (changed_by (C.changed change.now)) (entries tree) }
+    ensures balanced { IsBalanced result }
+    ensures high { height result ≡ height tree }
+{
+    let Some((left, mut here, right)) = open(tree) else {
+        return Tree::Leaf;
+    };
+    let left = change_all(left, change);
+    let right = change_all(right, change);
+    change_node(&mut here, change);
+    rejoin(here, left, right)
+}
