@@ -1,5 +1,7 @@
 ghost use Rattle.std.specs.Prelude.{◌≡◌, None, fold, ℕ};
+ghost use Rattle.std.specs.List.{list_any};
 ghost use Rattle.std.specs.Option.{option_map};
+ghost use Rattle.bq_job.specs.Changes.{is_waiting};
 ghost use Rattle.bq_job.specs.NextDue.{next_due as next_due_of};
 ghost use Rattle.bq_core.specs.Dues.{earlier_of_both, jobs_due, warning_due, with_seat_due, with_warning_due};
 ghost use Rattle.bq_core.specs.State.{machine_of, IsSound, OnlyCompares};
@@ -43,7 +45,7 @@ fn warning_due(jobs: &mut Jobs, place: &Place) -> Option<Moment>
     }
 }
 
-fn warnings_due(jobs: &mut Jobs, seats: &[Place]) -> Option<Moment>
+fn first_warning(jobs: &mut Jobs, seats: &[Place]) -> Option<Moment>
     ensures due { result ≡ fold (with_warning_due jobs.old.jobs) None seats.now }
     ensures same { jobs.new ≡ record jobs.old { comparisons = jobs.new.comparisons } }
 {
@@ -54,17 +56,34 @@ fn warnings_due(jobs: &mut Jobs, seats: &[Place]) -> Option<Moment>
     best
 }
 
+// When the first of the clients that wait is told so. Where nobody waits, no seat is looked at.
+fn warnings_due(jobs: &mut Jobs, seats: &[Place], has_waiter: bool) -> Option<Moment>
+    requires { has_waiter ≡ list_any is_waiting seats.now }
+    ensures due { result ≡ fold (with_warning_due jobs.old.jobs) None seats.now }
+    ensures same { jobs.new ≡ record jobs.old { comparisons = jobs.new.comparisons } }
+{
+    if has_waiter {
+        first_warning(jobs, seats)
+    } else {
+        None
+    }
+}
+
 // When something is due of a job.
-fn jobs_due(jobs: &mut Jobs, seats: &[Place]) -> Option<Moment>
+fn jobs_due(jobs: &mut Jobs, seats: &[Place], has_waiter: bool) -> Option<Moment>
+    requires { has_waiter ≡ list_any is_waiting seats.now }
     ensures due { result ≡ jobs_due jobs.old.jobs seats.now }
     ensures same { jobs.new ≡ record jobs.old { comparisons = jobs.new.comparisons } }
 {
     let due = moment_of(jobs.next_due());
     let deadline = moment_of(jobs.next_deadline());
-    earlier_of(earlier_of(due, deadline), warnings_due(jobs, seats))
+    earlier_of(
+        earlier_of(due, deadline),
+        warnings_due(jobs, seats, has_waiter),
+    )
 }
 
-fn seats_due(seats: &[Place]) -> Option<Moment>
+fn first_to_give_up(seats: &[Place]) -> Option<Moment>
     ensures { result ≡ fold with_seat_due None seats.now }
 {
     let mut best = None;
@@ -74,6 +93,18 @@ fn seats_due(seats: &[Place]) -> Option<Moment>
     best
 }
 
+// When the first of the clients that wait gives up. Where nobody waits, no seat is looked at.
+fn seats_due(seats: &[Place], has_waiter: bool) -> Option<Moment>
+    requires { has_waiter ≡ list_any is_waiting seats.now }
+    ensures { result ≡ fold with_seat_due None seats.now }
+{
+    if has_waiter {
+        first_to_give_up(seats)
+    } else {
+        None
+    }
+}
+
 /// The least moment at which something happens by itself, if there is any.
 pub(crate) fn next_due(state: &mut State) -> Option<Moment>
     requires { IsSound state.old }
@@ -81,7 +112,8 @@ pub(crate) fn next_due(state: &mut State) -> Option<Moment>
     ensures same { OnlyCompares state.old state.new }
     ensures sound { IsSound state.new }
 {
-    let jobs = jobs_due(&mut state.jobs, state.seats.as_slice());
-    let seats = seats_due(state.seats.as_slice());
+    let has_waiter = state.has_waiter();
+    let jobs = jobs_due(&mut state.jobs, state.seats.as_slice(), has_waiter);
+    let seats = seats_due(state.seats.as_slice(), has_waiter);
     earlier_of(jobs, earlier_of(state.pause_end, seats))
 }

@@ -2,7 +2,7 @@
 use Rattle.std.proofs.Common.{◌≡◌, None, take}
 use Rattle.std.specs.Prelude.{fold}
 use Rattle.bq_core.specs.Dues.{with_warning_due}
-use Rattle.bq_core.proofs.dues.warnings_due.Given as goal
+use Rattle.bq_core.proofs.dues.first_warning.Given as goal
 
 abbrev pub invariant-loop-i : goal.invariant-loop-i
 invariant-loop-i l = record {
