@@ -67,8 +67,7 @@ fn take_step(state: &mut State, alloc: Global, at: Moment, seat: Seat, what: Ste
     state::raise_moment(state, at);
     let has_fired = timers::fire(state);
     serve(state, outs, has_fired);
-    let has_stirred = acts::may_stir(&what);
-    acts::act(state, alloc, seat, what, outs);
+    let has_stirred = acts::act(state, alloc, seat, what, outs);
     state::forget_tubes(state);
     serve(state, outs, has_stirred);
 }
