@@ -1,6 +1,8 @@
 //! Runs of the server beside clients, which are threads of the test. Each client and each wait of one ends
 //! by itself, and each run serves as many connections as there are clients.
 
+mod lease;
+
 use super::serve;
 use crate::Options;
 use std::alloc::Global;
@@ -43,12 +45,13 @@ enum Does {
 /// How many such clients there are, and what each does. Then it closes its connection.
 type Clients = (u32, &'static [Does]);
 
-/// The seats, the connections of each, and the clients.
-type Example = (&'static str, u16, u32, &'static [Clients]);
+/// How often it is run, the seats, the connections of each, and the clients.
+type Example = (&'static str, u32, u16, u32, &'static [Clients]);
 
 static EXAMPLES: [Example; 8] = [
     (
         "a wait over TCP",
+        20,
         2,
         1,
         &[
@@ -70,6 +73,7 @@ static EXAMPLES: [Example; 8] = [
     ),
     (
         "a put in two packets, and quit",
+        10,
         1,
         1,
         &[(
@@ -86,6 +90,7 @@ static EXAMPLES: [Example; 8] = [
     ),
     (
         "many commands at once",
+        20,
         1,
         1,
         &[(
@@ -98,6 +103,7 @@ static EXAMPLES: [Example; 8] = [
     ),
     (
         "a client that sends no more while it waits",
+        20,
         1,
         1,
         &[(
@@ -112,6 +118,7 @@ static EXAMPLES: [Example; 8] = [
     ),
     (
         "a client that sends no more behind a put",
+        20,
         1,
         1,
         &[(
@@ -126,6 +133,7 @@ static EXAMPLES: [Example; 8] = [
     ),
     (
         "a job of a client that goes away",
+        10,
         2,
         1,
         &[
@@ -152,6 +160,7 @@ static EXAMPLES: [Example; 8] = [
     ),
     (
         "a lease that expires while its holder is silent",
+        2,
         2,
         1,
         &[
@@ -183,6 +192,7 @@ static EXAMPLES: [Example; 8] = [
     ),
     (
         "more connections than seats",
+        5,
         16,
         3,
         &[(
@@ -272,6 +282,13 @@ fn do_part<R: Clock>(
     }
 }
 
+fn connected<R: Net<Stream = TcpStream>>(rt: &R, address: SocketAddr) -> Option<TcpStream> {
+    let stream = TcpStream::connect(rt, address).ok()?;
+    let patience = Some(Duration::from_millis(PATIENCE));
+    stream.set_read_timeout(patience).ok()?;
+    Some(stream)
+}
+
 // Whether a client found all as it has to be. Its connection is closed at the end.
 fn play<R: Clock + Net<Stream = TcpStream>>(
     rt: &R,
@@ -280,15 +297,9 @@ fn play<R: Clock + Net<Stream = TcpStream>>(
     done: &AtomicU64,
     parts: &[Does],
 ) -> bool {
-    let Ok(stream) = TcpStream::connect(rt, address) else {
+    let Some(stream) = connected(rt, address) else {
         return false;
     };
-    if stream
-        .set_read_timeout(Some(Duration::from_millis(PATIENCE)))
-        .is_err()
-    {
-        return false;
-    }
     for part in parts {
         if !do_part(rt, alloc, &stream, done, *part) {
             return false;
@@ -330,7 +341,7 @@ fn serve_example<
         + Net<Listener = TcpListener, Stream = TcpStream>
         + Sync,
 >(rt: &R, alloc: Global, example: &Example, content: &AtomicU64) -> Result<Option<u8>, Fail> {
-    let (_name, seats, sessions, clients) = *example;
+    let (_name, _times, seats, sessions, clients) = *example;
     let listener = TcpListener::bind(rt, "127.0.0.1:0")?;
     let address = listener.local_addr()?;
     let done = &AtomicU64::new(0);
@@ -354,23 +365,40 @@ fn serve_example<
 
 fn clients_of(example: &Example) -> u64 {
     let mut all: u64 = 0;
-    for (count, _parts) in example.3 {
+    for (count, _parts) in example.4 {
         all = all.saturating_add(u64::from(*count));
     }
     all
 }
 
-#[test]
-fn clients_over_tcp(rt: HostRuntime) -> Result<(), Fail> {
-    for example in &EXAMPLES {
+// Runs an example as often as it says. Each time the server ends, and all clients found all as it has to be.
+fn run_often<
+    R: Abort
+        + Threads
+        + Wait
+        + Clock
+        + Print
+        + Eprint
+        + Net<Listener = TcpListener, Stream = TcpStream>
+        + Sync,
+>(rt: &R, alloc: Global, example: &Example) -> Result<(), Fail> {
+    for _ in 0..example.1 {
         let content = AtomicU64::new(0);
-        let status = serve_example(&rt, rt.alloc(), example, &content)?;
+        let status = serve_example(rt, alloc, example, &content)?;
         assert!(rt; status == Some(0), "{}", example.0);
         assert!(rt;
             content.load(Ordering::SeqCst) == clients_of(example),
             "{}",
             example.0
         );
+    }
+    Ok(())
+}
+
+#[test]
+fn clients_over_tcp(rt: HostRuntime) -> Result<(), Fail> {
+    for example in &EXAMPLES {
+        run_often(&rt, rt.alloc(), example)?;
     }
     Ok(())
 }
