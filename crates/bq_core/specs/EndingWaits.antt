@@ -1,6 +1,6 @@
 -- Which waits end.
-use Rattle.std.specs.Prelude.{ℕ, Bool, true, ◌≡◌, ◌+◌, ◌&&◌, nat_le, if◌then◌else◌, Option, Some, None, count_by}
-use Rattle.std.specs.List.{AllByRecursion}
+use Rattle.std.specs.Prelude.{ℕ, Bool, true, ◌≡◌, ◌+◌, ◌&&◌, ◌||◌, nat_le, if◌then◌else◌, Option, Some, None, count_by}
+use Rattle.std.specs.List.{AllByRecursion, list_any}
 use Rattle.bq_job.specs.declared.answer.Answer.{Answer}
 use Rattle.bq_job.specs.declared.answer.Answer.TheVariants as answers
 use Rattle.bq_job.specs.declared.job.Job.{Job}
@@ -18,6 +18,11 @@ is_lease_short moment j = is_reserved j.state && nat_le (deadline_of j.state) (m
 -- a client whose wait is over by its timeout, or because the client sends no more
 abbrev pub has_waited : ℕ → SeatRecord → Bool
 has_waited moment s = is_waiting s && is_timed_out_at moment s
+
+-- somebody waits, and some wait is over or some time to run ends within a second: a wait may end now
+abbrev pub may_end : Machine → Bool
+may_end m =
+    list_any is_waiting m.seats && (list_any (has_waited m.moment) m.seats || list_any (is_lease_short m.moment) m.jobs)
 
 -- the client's turn among those that wait: by its ticket, and then by its seat
 abbrev pub turn_of : SeatRecord → ℕ × ℕ

@@ -3,7 +3,7 @@ ghost use Rattle.bq_job.specs.Computed.{waiting_count};
 ghost use Rattle.bq_job.specs.Waits.{WaitEndTurn, next_end};
 ghost use Rattle.bq_job.specs.Machine.{SeatRecord};
 ghost use Rattle.bq_core.specs.Asking.{Asks};
-ghost use Rattle.bq_core.specs.EndingWaits.{AreLookedAt, left_after, told_at_end};
+ghost use Rattle.bq_core.specs.EndingWaits.{AreLookedAt, left_after, may_end, told_at_end};
 ghost use Rattle.bq_core.specs.State.{machine_of, IsSound, OnlyCompares};
 ghost use Rattle.bq_core.specs.Turns.{Gives, HasRoom, none_refused};
 ghost use Rattle.bq_core.specs.WaitEnds.{EndsWait, LooksAt};
@@ -108,6 +108,7 @@ fn end_all(state: &mut State, outs: &mut Outs)
 fn may_end(state: &mut State) -> bool
     requires { IsSound state.old }
     ensures none { result ≡ false → next_end (machine_of state.old) ≡ None }
+    ensures some { result ≡ may_end (machine_of state.old) }
     ensures same { OnlyCompares state.old state.new }
     ensures asks { Asks 1 state.old.jobs state.new.jobs }
     ensures sound { IsSound state.new }
