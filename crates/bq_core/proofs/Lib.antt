@@ -5,11 +5,12 @@ pub mod CostLemmas
 pub mod DispatchLemmas
 pub mod DueLemmas
 pub mod FiringLemmas
-pub mod ForgettingLemmas
+pub mod GoneLemmas
 pub mod KickLemmas
 pub mod LoopLemmas
 pub mod LossLemmas
 pub mod NameLemmas
+pub mod NamedLemmas
 pub mod PauseLemmas
 pub mod QuietActs
 pub mod QuietLemmas

@@ -22,9 +22,7 @@ use Rattle.bq_core.specs.Dues.{first_pause_end, pause_end_left}
 use Rattle.bq_core.specs.Losses.{AreAlive, is_accounted, may_be_gone, with_found, with_lost}
 use Rattle.bq_core.specs.SeatChanges.{loss_after, seat_changed, seat_changed_at}
 use Rattle.bq_core.specs.TubeEntries.{AreInOrder, has_entry, is_tube_of, kept_if, provided}
-use Rattle.bq_core.proofs.ForgettingLemmas.{kept_later}
 use Rattle.bq_core.proofs.KickLemmas.{none_with}
-use Rattle.bq_core.proofs.TallyPlaces.{found_place}
 use Rattle.bq_core.proofs.TubeLemmas.{same_itself, same_name}
 
 -- what may be gone still may
@@ -338,11 +336,11 @@ all_kept_alive jobs seats [] all = refl
 all_kept_alive jobs seats (t ∷ entries) all = rw (alive_or (is_tube_of jobs seats t.name) all.0) (ap (λ ts. t ∷ ts) (all_kept_alive jobs seats entries all.1))
 
 -- and where one may be, all the others are.
-alive_but : (b c : Bool) → (b || c) ≡ true → c ≡ false → (b || false) ≡ true
+pub alive_but : (b c : Bool) → (b || c) ≡ true → c ≡ false → (b || false) ≡ true
 alive_but true c h e = refl
 alive_but false c h e = absurd (let g : c ≡ true = h in cc)
 
-others_alive : (name : List ℕ) (jobs : List Job) (seats : List SeatRecord) (entries : List TubeRecord) → All (λ u. is_name_before name u.name ≡ true) entries → AreAlive (Of name) jobs seats entries → AreAlive Nothing jobs seats entries
+pub others_alive : (name : List ℕ) (jobs : List Job) (seats : List SeatRecord) (entries : List TubeRecord) → All (λ u. is_name_before name u.name ≡ true) entries → AreAlive (Of name) jobs seats entries → AreAlive Nothing jobs seats entries
 others_alive name jobs seats [] later all = tt
 others_alive name jobs seats (t ∷ entries) later all =
     (alive_but (is_tube_of jobs seats t.name) (is_same_name name t.name) all.0 (apart (is_same_name name t.name) refl), others_alive name jobs seats entries later.1 all.1)
@@ -354,71 +352,6 @@ others_alive name jobs seats (t ∷ entries) later all =
         let other : is_same_name t.name name ≡ false = not_same name t.name (is_same_name t.name name) refl later.0 in
         let back : is_same_name t.name name ≡ true = ap (is_same_name t.name) is ∙ same_itself t.name in
         cc
-
--- where the entry of the one that may be gone is looked at, all that are gone are
-only_one : (name : List ℕ) (jobs : List Job) (seats : List SeatRecord) (entries : List TubeRecord) (i : ℕ) → AreInOrder entries → AreAlive (Of name) jobs seats entries → i < length entries
-    → position_or_len (λ t. is_same_name name t.name) entries ≡ i → kept_if (λ t. is_tube_of jobs seats t.name) entries i (slice_get entries i) ≡ filter (λ t. is_tube_of jobs seats t.name) entries
-only_one name jobs seats [] i order all within e = absurd (omega arith)
-only_one name jobs seats (t ∷ entries) i order all within e = go (is_same_name name t.name) refl i within e (only_one name jobs seats entries)
-  where
-    p : TubeRecord → Bool
-    p u = is_tube_of jobs seats u.name
-
-    n : ℕ
-    n = position_or_len (λ t. is_same_name name t.name) entries
-
-    less : (n k : ℕ) → 1 + n ≡ suc k → n ≡ k
-    less n k e = omega arith
-
-    first : (b : Bool) (rest : List TubeRecord) → rest ≡ filter p entries → entries ≡ rest → (if b then t ∷ entries else entries) ≡ (if b then t ∷ rest else rest)
-    first true rest h e = ap (λ ts. t ∷ ts) e
-    first false rest h e = e
-
-    go : (b : Bool) → is_same_name name t.name ≡ b → (i : ℕ) → i < suc (length entries) → cond (not b) (1 + n) 0 ≡ i
-        → ((k : ℕ) → AreInOrder entries → AreAlive (Of name) jobs seats entries → k < length entries → n ≡ k → kept_if p entries k (slice_get entries k) ≡ filter p entries)
-        → kept_if p (t ∷ entries) i (slice_get (t ∷ entries) i) ≡ filter p (t ∷ entries)
-    go true same zero within e rest =
-        let is : name ≡ t.name = same_name name t.name same in
-        let others = all_kept_alive jobs seats entries (others_alive t.name jobs seats entries order.0 (ap_alive is all.1)) in
-        first (p t) (filter p entries) refl (sym others)
-      where
-        ap_alive : name ≡ t.name → AreAlive (Of name) jobs seats entries → AreAlive (Of t.name) jobs seats entries
-        ap_alive is all = rw (sym is) all
-    go true same (suc k) within e rest = absurd cc
-    go false other zero within e rest = absurd (omega arith)
-    go false other (suc k) within e rest =
-        let here : p t ≡ true = alive_or (p t) (alive_but (p t) (is_same_name name t.name) all.0 other) in
-        kept_later p t entries k (slice_get entries k) ∙ ap (λ ts. t ∷ ts) (rest k order.1 all.1 (omega arith) (less n k e)) ∙ sym (rw here refl)
-
-within_list : (n m i : ℕ) → cond (nat_lt n m) (Some n) None ≡ Some i → i < m
-within_list n m i e =
-    elim (cases_Bool (nat_lt n m)) [
-      | inl less ↦ let found : Some n ≡ Some i = rw less at e in let same : n ≡ i = cc in grind (arith, nat_tests)
-      | inr h ↦ absurd (let g = rw h at e in cc)
-    ]
-
-pub one_forgotten : (name : List ℕ) (jobs : List Job) (seats : List SeatRecord) (entries : List TubeRecord) (i : ℕ) → AreInOrder entries → AreAlive (Of name) jobs seats entries
-    → cond (nat_lt (position_or_len (λ t. is_same_name name t.name) entries) (length entries)) (Some (position_or_len (λ t. is_same_name name t.name) entries)) None ≡ Some i
-    → kept_if (λ t. is_tube_of jobs seats t.name) entries i (slice_get entries i) ≡ filter (λ t. is_tube_of jobs seats t.name) entries
-one_forgotten name jobs seats entries i order all found = only_one name jobs seats entries i order all (within_list (position_or_len (λ t. is_same_name name t.name) entries) (length entries) i found) (found_place (nat_lt (position_or_len (λ t. is_same_name name t.name) entries) (length entries)) (position_or_len (λ t. is_same_name name t.name) entries) i found)
-
--- and where it has no entry, none is gone
-pub none_forgotten : (name : List ℕ) (jobs : List Job) (seats : List SeatRecord) (entries : List TubeRecord) → AreAlive (Of name) jobs seats entries
-    → length entries ≤ position_or_len (λ t. is_same_name name t.name) entries → filter (λ t. is_tube_of jobs seats t.name) entries ≡ entries
-none_forgotten name jobs seats [] all h = refl
-none_forgotten name jobs seats (t ∷ entries) all h = go (is_same_name name t.name) refl h (none_forgotten name jobs seats entries all.1)
-  where
-    p : TubeRecord → Bool
-    p u = is_tube_of jobs seats u.name
-
-    n : ℕ
-    n = position_or_len (λ t. is_same_name name t.name) entries
-
-    go : (b : Bool) → is_same_name name t.name ≡ b → suc (length entries) ≤ cond (not b) (1 + n) 0 → (length entries ≤ n → filter p entries ≡ entries) → filter p (t ∷ entries) ≡ t ∷ entries
-    go true same h rest = absurd (omega arith)
-    go false other h rest =
-        let here : p t ≡ true = alive_or (p t) (alive_but (p t) (is_same_name name t.name) all.0 other) in
-        rw here (ap (λ ts. t ∷ ts) (rest (omega arith)))
 
 -- afterwards each entry is of a tube that exists
 pub alive_forgotten : (jobs : List Job) (seats : List SeatRecord) (entries : List TubeRecord) → AreAlive Nothing jobs seats (filter (λ t. is_tube_of jobs seats t.name) entries)

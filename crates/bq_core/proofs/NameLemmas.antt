@@ -249,9 +249,9 @@ one_or_none true = omega arith
 one_or_none false = omega arith
 
 -- what is lent, or else something else
-pub lent_or : {A : Type 0} (o : Option (Bor A)) (other : Bor A) (x : Option A) → option_map (λ b. b.now) o ≡ x → (unwrap_or o other).now ≡ unwrap_or x other.now
-lent_or None other x h = ap (λ y. unwrap_or y other.now) h
-lent_or (Some b) other x h = ap (λ y. unwrap_or y other.now) h
+pub lent_or : {A B : Type 0} (f : A → B) (o : Option (Bor A)) (other : Bor A) (x : Option B) → option_map (λ b. f b.now) o ≡ x → f (unwrap_or o other).now ≡ unwrap_or x (f other.now)
+lent_or f None other x h = ap (λ y. unwrap_or y (f other.now)) h
+lent_or f (Some b) other x h = ap (λ y. unwrap_or y (f other.now)) h
 
 -- Names in order are listed as they are.
 pub list_of_order : (names : List (List ℕ)) → name_list (in_name_order names) ≡ name_list names

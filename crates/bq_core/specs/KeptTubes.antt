@@ -1,9 +1,21 @@
 -- What is kept of the tubes that have an entry.
-use Rattle.std.specs.Prelude.{List, [], ◌∷◌}
-use Rattle.bq_job.specs.Machine.{TubeRecord, default_tube}
+use Rattle.std.specs.Borrow.{Bor}
+use Rattle.std.specs.Prelude.{ℕ, Bool, false, true, ◌&&◌, not, is_some, if◌then◌else◌, List, [], ◌∷◌, ◌++◌, Option, Some, None, map}
+use Rattle.std.specs.Ordering.{is_gt, nat_cmp}
+use Rattle.std.specs.BTreeMap.{is_at}
+use Rattle.std.specs.Map.{set_value}
+use Rattle.std.specs.Cmp.Lexicographic.{slice_cmp}
+use Rattle.bq_job.specs.declared.job.Job.{Job}
+use Rattle.bq_job.specs.Limits.{raised}
+use Rattle.bq_job.specs.Machine.{Pause, SeatRecord, TubeRecord, default_tube}
+use Rattle.bq_job.specs.NextDue.{dues_of_pause, earliest}
+use Rattle.bq_job.specs.Timers.{pause_after_timers}
 use Rattle.bq_job.specs.Tubes.{fresh_tube}
-use Rattle.bq_core.specs.Tallies.{tally_of}
+use Rattle.bq_core.specs.Dues.{earlier_of_both}
+use Rattle.bq_core.specs.Tallies.{has_jobs, tally_of, tally_with, tally_without}
+use Rattle.bq_core.specs.TubeEntries.{is_tube_with, tube_changed}
 use Rattle.bq_core.specs.declared.tally.Tally.{Tally}
+use Rattle.bq_core.specs.declared.tube_entry.TubeChange.{TubeChange}
 
 -- the entries, and at the same places the counts of the tubes' jobs
 pub record KeptTubes : Type 0 where
@@ -13,3 +25,102 @@ pub record KeptTubes : Type 0 where
 -- the default tube alone, without a job
 abbrev pub first_tubes : KeptTubes
 first_tubes = record { entries = fresh_tube default_tube ∷ []; tallies = tally_of [] ∷ [] }
+
+-- what is kept of a tube beside its name
+pub record KeptTube : Type 0 where
+  pub pause : Option Pause
+  pub puts : ℕ
+  pub deletes : ℕ
+  pub pauses : ℕ
+  pub tally : Tally
+
+-- an entry, by the name that it is found by
+abbrev pub Named : Type 0
+Named = List ℕ × KeptTube
+
+-- the record of a tube of which this is kept
+abbrev pub record_of : List ℕ → KeptTube → TubeRecord
+record_of name t = record { name = name; pause = t.pause; puts = t.puts; deletes = t.deletes; pauses = t.pauses }
+
+abbrev pub record_at : Named → TubeRecord
+record_at e = record_of e.0 e.1
+
+abbrev pub tally_kept : Named → Tally
+tally_kept e = e.1.tally
+
+abbrev pub tubes_kept : List Named → KeptTubes
+tubes_kept es = record { entries = map record_at es; tallies = map tally_kept es }
+
+-- where nothing happened yet
+abbrev pub fresh_entry : KeptTube
+fresh_entry = record { pause = None; puts = 0; deletes = 0; pauses = 0; tally = tally_of [] }
+
+-- what is kept once this happened to a tube
+abbrev pub kept_after : TubeRecord → KeptTube → KeptTube
+kept_after r t = record { pause = r.pause; puts = r.puts; deletes = r.deletes; pauses = r.pauses; tally = t.tally }
+
+abbrev pub kept_changed : TubeChange → KeptTube → KeptTube
+kept_changed what t = kept_after (tube_changed what (record_of [] t)) t
+
+-- with a job more, and with one less
+abbrev pub kept_with : Job → KeptTube → KeptTube
+kept_with j t = record t { tally = tally_with j t.tally }
+
+abbrev pub kept_without : Job → KeptTube → KeptTube
+kept_without j t = record t { tally = tally_without j t.tally }
+
+-- the test of names that a look-up of this one makes
+abbrev pub is_named_at : List ℕ → List ℕ → Bool
+is_named_at name = is_at (slice_cmp nat_cmp name)
+
+-- the entries with the one that is found changed by f
+abbrev pub edited : List ℕ → (KeptTube → KeptTube) → Option KeptTube → List Named → List Named
+edited name f None es = es
+edited name f (Some t) es = set_value (is_named_at name) es (f t)
+
+-- whether a tube is paused, by its entry, if it has one
+abbrev pub is_paused_by : Option KeptTube → Bool
+is_paused_by None = false
+is_paused_by (Some t) = is_some t.pause
+
+-- the counts, by its entry
+abbrev pub tally_by : Option KeptTube → Tally
+tally_by None = tally_of []
+tally_by (Some t) = t.tally
+
+-- the entry once its pause, if it is over, has ended
+abbrev pub ended : ℕ → KeptTube → KeptTube
+ended moment t = record t { pause = pause_after_timers moment t.pause }
+
+-- the first end of a pause, once this entry was looked at
+abbrev pub with_end : Option ℕ → KeptTube → Option ℕ
+with_end best t = earlier_of_both best (earliest (dues_of_pause t.pause))
+
+-- whether the tube of an entry exists
+abbrev pub is_alive_with : List SeatRecord → List ℕ → KeptTube → Bool
+is_alive_with seats name t = is_tube_with (has_jobs t.tally) seats name
+
+abbrev pub is_alive_at : List SeatRecord → Named → Bool
+is_alive_at seats e = is_alive_with seats e.0 e.1
+
+-- one more, if the tube exists
+abbrev pub with_alive : List SeatRecord → ℕ → List ℕ → KeptTube → ℕ
+with_alive seats count name t = if is_alive_with seats name t then raised count else count
+
+-- one name more, if the tube exists
+abbrev pub with_name_of : List SeatRecord → List (List ℕ) → Bor (List ℕ) × Bor KeptTube → List (List ℕ)
+with_name_of seats names e = names ++ (if is_alive_with seats e.0.now e.1.now then e.0.now ∷ [] else [])
+
+-- whether the tube of this entry, if there is one, is gone
+abbrev pub is_gone_by : List SeatRecord → List ℕ → Option KeptTube → Bool
+is_gone_by seats name None = false
+is_gone_by seats name (Some t) = not (is_alive_with seats name t)
+
+-- not before this name, if there is one
+abbrev pub is_from : Option (List ℕ) → Named → Bool
+is_from None e = true
+is_from (Some name) e = not (is_gt (slice_cmp nat_cmp name e.0))
+
+-- an entry from there on whose tube is gone
+abbrev pub is_gone_from : List SeatRecord → Option (List ℕ) → Named → Bool
+is_gone_from seats from e = is_from from e && not (is_alive_at seats e)

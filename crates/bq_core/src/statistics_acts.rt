@@ -58,7 +58,7 @@ fn tube_numbers(state: &State, tube: &TubeName) -> TubeNumbers
     requires { IsSound state.now }
     ensures { AreOfTube result tube.now (machine_of state.now) }
 {
-    let fresh = TubeEntry::new(*tube);
+    let fresh = TubeEntry::new();
     let entry = state.tubes.entry_of(tube).unwrap_or(&fresh);
     let seats = state.seats.as_slice();
     TubeNumbers {

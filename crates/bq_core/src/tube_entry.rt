@@ -1,14 +1,13 @@
 //! What is kept of a tube.
-ghost use Rattle.std.specs.Prelude.{◌≡◌, is_some};
+ghost use Rattle.std.specs.Prelude.{◌≡◌, [], is_some};
 ghost use Rattle.bq_job.specs.NextDue.{dues_of_pause, earliest};
 ghost use Rattle.bq_job.specs.TubeCommands.{with_pause};
-ghost use Rattle.bq_job.specs.TubeName.{is_same_name};
-ghost use Rattle.bq_job.specs.Tubes.{fresh_tube, is_name_before};
-ghost use Rattle.bq_job.specs.Timers.{tube_after_timers};
-ghost use Rattle.bq_core.specs.TubeEntries.{tube_changed, tube_changed_at};
+ghost use Rattle.bq_core.specs.KeptTubes.{ended, fresh_entry, kept_after, kept_changed, record_of};
+ghost use Rattle.bq_core.specs.Tallies.{tally_with, tally_without};
 
 use crate::job_list::later;
-use bq_job::{Moment, TubeName};
+use crate::tally::Tally;
+use bq_job::{Job, Moment};
 use std::marker::Model;
 
 /// A pause of a tube.
@@ -44,22 +43,22 @@ impl Pausing {
     }
 }
 
-/// What is kept of a tube that exists.
+/// What is kept of a tube that exists, beside its name.
 #[derive(Debug, Drop)]
 pub(crate) struct TubeEntry {
-    name: TubeName,
     pause: Option<Pausing>,
     puts: u64,
     deletes: u64,
     pauses: u64,
+    tally: Tally,
 }
 
 impl Model for TubeEntry {
-    ghost use Rattle.bq_job.specs.Machine.{TubeRecord};
+    ghost use Rattle.bq_core.specs.KeptTubes.{KeptTube};
 
-    ghost Value = { TubeRecord };
+    ghost Value = { KeptTube };
 
-    ghost view = { λ t. record { name = t.name; pause = t.pause; puts = t.puts; deletes = t.deletes; pauses = t.pauses } };
+    ghost view = { λ t. record { pause = t.pause; puts = t.puts; deletes = t.deletes; pauses = t.pauses; tally = t.tally } };
 }
 
 /// What happens to a tube.
@@ -73,22 +72,16 @@ pub(crate) enum TubeChange {
 
 impl TubeEntry {
     /// Nothing is kept of the tube yet.
-    pub(crate) fn new(name: TubeName) -> TubeEntry
-        ensures { result ≡ fresh_tube name }
+    pub(crate) fn new() -> TubeEntry
+        ensures { result ≡ fresh_entry }
     {
         TubeEntry {
-            name,
             pause: None,
             puts: 0,
             deletes: 0,
             pauses: 0,
+            tally: Tally::default(),
         }
-    }
-
-    pub(crate) fn name(&self) -> &TubeName
-        ensures { result.now ≡ self.now.name }
-    {
-        &self.name
     }
 
     /// How many jobs were put into the tube.
@@ -119,6 +112,13 @@ impl TubeEntry {
         self.pause
     }
 
+    /// How many jobs it has.
+    pub(crate) fn tally(&self) -> Tally
+        ensures { result ≡ self.now.tally }
+    {
+        self.tally
+    }
+
     /// When its pause ends.
     pub(crate) fn pause_end(&self) -> Option<Moment>
         ensures { result ≡ earliest (dues_of_pause self.now.pause) }
@@ -135,20 +135,8 @@ impl TubeEntry {
         self.pause.is_some()
     }
 
-    pub(crate) fn is_named(&self, name: &TubeName) -> bool
-        ensures { result ≡ is_same_name name.now self.now.name }
-    {
-        name == &self.name
-    }
-
-    pub(crate) fn is_before(&self, name: &TubeName) -> bool
-        ensures { result ≡ is_name_before self.now.name name.now }
-    {
-        self.name.as_slice().cmp(name.as_slice()).is_lt()
-    }
-
     fn set_pause(&mut self, seconds: u32, moment: Moment)
-        ensures { self.new ≡ with_pause seconds moment self.old }
+        ensures { self.new ≡ kept_after (with_pause seconds moment (record_of [] self.old)) self.old }
     {
         self.pauses = self.pauses.saturating_add(1);
         self.pause = if seconds == 0 {
@@ -161,8 +149,8 @@ impl TubeEntry {
         };
     }
 
-    fn change(&mut self, what: TubeChange)
-        ensures { self.new ≡ tube_changed what self.old }
+    pub(crate) fn change(&mut self, what: TubeChange)
+        ensures { self.new ≡ kept_changed what self.old }
     {
         match what {
             TubeChange::CountPut => self.puts = self.puts.saturating_add(1),
@@ -171,16 +159,22 @@ impl TubeEntry {
         }
     }
 
-    pub(crate) fn change_if(&mut self, name: &TubeName, what: TubeChange)
-        ensures { self.new ≡ tube_changed_at name.now what self.old }
+    /// Counts a job.
+    pub(crate) fn add_job(&mut self, job: &Job)
+        ensures { self.new ≡ record self.old { tally = tally_with job.now self.old.tally } }
     {
-        if self.is_named(name) {
-            self.change(what);
-        }
+        self.tally.add(job);
+    }
+
+    /// Counts a job no longer.
+    pub(crate) fn remove_job(&mut self, job: &Job)
+        ensures { self.new ≡ record self.old { tally = tally_without job.now self.old.tally } }
+    {
+        self.tally.remove(job);
     }
 
     pub(crate) fn fire_timer(&mut self, moment: Moment)
-        ensures { self.new ≡ tube_after_timers moment self.old }
+        ensures { self.new ≡ ended moment self.old }
     {
         let Some(pause) = self.pause else {
             return;

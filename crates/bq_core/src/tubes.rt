@@ -16,55 +16,59 @@ use crate::name_lists::Names;
 use crate::place::Place;
 use crate::tally::Tally;
 use crate::tube_entry::{TubeChange, TubeEntry};
-use crate::{pauses, tallies, tube_list};
+use crate::tube_walks::{self, EndPauses, FirstEnd, HowMany};
+use crate::watch_list::default_tube;
+use crate::{forgetting, room, tube_edits};
+use bq_index::Shelf;
 use bq_job::{Job, Moment, NoMemory, TubeName};
 use std::alloc::Global;
 use std::marker::Model;
 
-/// An entry for each tube that exists, in the order of their names, and how many jobs each of them has.
+/// An entry for each tube that exists, found by its name. They are in the order of the names' bytes.
 #[derive(Drop)]
 pub(crate) struct Tubes {
-    entries: Vec<TubeEntry, Global>,
-    /// The counts of the jobs of a tube stand at the place of its entry.
-    tallies: Vec<Tally, Global>,
+    kept: Shelf<TubeName, TubeEntry>,
 }
 
 impl Model for Tubes {
-    ghost use Rattle.std.specs.Prelude.{◌≡◌, length};
-    ghost use Rattle.bq_core.specs.KeptTubes.{KeptTubes};
+    ghost use Rattle.bq_core.specs.KeptTubes.{KeptTubes, tubes_kept};
 
     ghost Value = { KeptTubes };
 
-    ghost view = { λ t. record { entries = t.entries.items; tallies = t.tallies.items } };
-
-    ghost invariant = { λ t. length t.tallies.items ≡ length t.entries.items };
+    ghost view = { λ t. tubes_kept t.kept.entries };
 }
 
 impl Tubes {
-    ghost use Rattle.bq_core.specs.KeptTubes.{first_tubes};
+    ghost use Rattle.bq_core.specs.KeptTubes.{first_tubes, record_of};
 
     /// The default tube, which has no job.
     pub(crate) fn first(alloc: Global) -> Result<Tubes, NoMemory>
         ensures { IfOk result (λ tubes. tubes ≡ first_tubes) }
     {
-        let entries = tube_list::first_entries(alloc)?;
-        let tallies = tallies::first(alloc)?;
-        Ok(Tubes { entries, tallies })
+        let mut kept = Shelf::new();
+        room::reserve_box(&mut kept, alloc)?;
+        kept.insert(default_tube(), TubeEntry::new());
+        Ok(Tubes { kept })
     }
 
     /// How many entries there are.
     pub(crate) fn len(&self) -> usize
         ensures { result ≡ length self.now.entries }
     {
-        self.entries.len()
+        self.kept.len()
     }
 
-    /// Sees to it that a tube has an entry. The growths that this needs come before any change.
+    /// Sees to it that a tube has an entry. The growth that this needs comes before any change.
     pub(crate) fn provide(&mut self, alloc: Global, name: &TubeName) -> Result<(), NoMemory>
         ensures entries { self.new.entries ≡ (if is_ok result then provided name.now self.old.entries else self.old.entries) }
         ensures tallies { self.new.tallies ≡ (if is_ok result then tallies_provided name.now self.old.entries self.old.tallies else self.old.tallies) }
     {
-        tube_list::provide(&mut self.entries, &mut self.tallies, alloc, name)
+        if self.kept.peek(name).is_some() {
+            return Ok(());
+        }
+        room::reserve_box(&mut self.kept, alloc)?;
+        self.kept.insert(*name, TubeEntry::new());
+        Ok(())
     }
 
     /// Changes the tube of this name.
@@ -72,7 +76,9 @@ impl Tubes {
         ensures entries { self.new.entries ≡ map (tube_changed_at name.now what) self.old.entries }
         ensures tallies { self.new.tallies ≡ self.old.tallies }
     {
-        tube_list::change_at(&mut self.entries, name, what);
+        // The names are in order.
+        let _entries = self.kept.len();
+        tube_edits::change(&mut self.kept, name, what);
     }
 
     /// Pauses that are over end.
@@ -80,21 +86,26 @@ impl Tubes {
         ensures entries { self.new.entries ≡ map (tube_after_timers moment) self.old.entries }
         ensures tallies { self.new.tallies ≡ self.old.tallies }
     {
-        tube_list::fire_timers(&mut self.entries, moment);
+        self.kept.change_all(&EndPauses::at(moment));
     }
 
     /// The entry of this name.
     pub(crate) fn entry_of(&self, name: &TubeName) -> Option<&TubeEntry>
-        ensures { option_map (λ t. t.now) result ≡ find (λ t. is_same_name name.now t.name) self.now.entries }
+        ensures { option_map (λ t. record_of name.now t.now) result ≡ find (λ t. is_same_name name.now t.name) self.now.entries }
     {
-        tube_list::entry_of(self.entries.as_slice(), name)
+        self.kept.peek(name)
     }
 
     /// Whether the tube of this name is paused.
     pub(crate) fn is_paused(&self, name: &TubeName) -> bool
         ensures { result ≡ list_any (λ t. is_same_name name.now t.name && is_some t.pause) self.now.entries }
     {
-        tube_list::is_paused(self.entries.as_slice(), name)
+        // The names are in order.
+        let _entries = self.kept.len();
+        match self.kept.peek(name) {
+            None => false,
+            Some(entry) => entry.is_paused(),
+        }
     }
 
     /// Counts a job in its tube.
@@ -102,7 +113,7 @@ impl Tubes {
         ensures entries { self.new.entries ≡ self.old.entries }
         ensures tallies { self.new.tallies ≡ tallies_with job.now self.old.entries self.old.tallies }
     {
-        tallies::add(&mut self.tallies, self.entries.as_slice(), job);
+        tube_edits::add_job(&mut self.kept, job);
     }
 
     /// Counts a job in its tube no longer.
@@ -110,33 +121,37 @@ impl Tubes {
         ensures entries { self.new.entries ≡ self.old.entries }
         ensures tallies { self.new.tallies ≡ tallies_without job.now self.old.entries self.old.tallies }
     {
-        tallies::remove(&mut self.tallies, self.entries.as_slice(), job);
+        tube_edits::remove_job(&mut self.kept, job);
     }
 
     /// The counts of the tube of this name; none where it has no entry.
     pub(crate) fn tally_of(&self, name: &TubeName) -> Tally
         ensures { result ≡ tally_at name.now self.now.entries self.now.tallies }
     {
-        tallies::of(self.tallies.as_slice(), self.entries.as_slice(), name)
+        match self.kept.peek(name) {
+            None => Tally::default(),
+            Some(entry) => entry.tally(),
+        }
     }
 
     /// Whether the tube exists.
     pub(crate) fn is_tube(&self, seats: &[Place], name: &TubeName) -> bool
         ensures { result ≡ is_tube_with (has_jobs (tally_at name.now self.now.entries self.now.tallies)) seats.now name.now }
     {
-        tube_list::is_tube(
-            self.entries.as_slice(),
-            self.tallies.as_slice(),
-            seats,
-            name,
-        )
+        *name == default_tube()
+            || self.tally_of(name).has_jobs()
+            || tube_walks::is_seated_at(seats, name)
     }
 
     /// How many tubes exist.
     pub(crate) fn count_alive(&self, seats: &[Place]) -> u64
         ensures { (jobs : List Job) → self.now.tallies ≡ tallies_of jobs self.now.entries → result ≡ length (names_alive jobs seats.now self.now.entries) }
     {
-        tube_list::count_alive(self.entries.as_slice(), self.tallies.as_slice(), seats)
+        // So many there can be, and the count doesn't come to its end.
+        let _entries = self.kept.len();
+        let mut alive = HowMany::among(seats);
+        self.kept.walk(&mut alive);
+        alive.count()
     }
 
     /// The names of the tubes that exist, in byte order. Their room is asked for before.
@@ -147,12 +162,10 @@ impl Tubes {
     ) -> Result<Names<'a>, NoMemory>
         ensures { (jobs : List Job) → self.now.tallies ≡ tallies_of jobs self.now.entries → IfOk result (λ names. names_of names.items ≡ names_alive jobs seats.now self.now.entries) }
     {
-        tube_list::names_alive(
-            alloc,
-            self.entries.as_slice(),
-            self.tallies.as_slice(),
-            seats,
-        )
+        match self.kept.list(alloc) {
+            Ok(listed) => tube_walks::names_alive(alloc, listed.as_slice(), seats),
+            Err(_) => Err(NoMemory),
+        }
     }
 
     /// Drops the entries of tubes that are gone, which are among those that may be.
@@ -160,14 +173,20 @@ impl Tubes {
         ensures after { (jobs : List Job) → AreInOrder self.old.entries → AreAlive loss.now jobs seats.now self.old.entries → self.old.tallies ≡ tallies_of jobs self.old.entries → self.new.entries ≡ filter (λ t. is_tube_of jobs seats.now t.name) self.old.entries }
         ensures tallies { (jobs : List Job) → self.old.tallies ≡ tallies_of jobs self.old.entries → self.new.tallies ≡ tallies_of jobs self.new.entries }
     {
-        tube_list::forget_lost(&mut self.entries, &mut self.tallies, seats, loss);
+        match loss {
+            Loss::Nothing => {}
+            Loss::Of(name) => forgetting::forget_named(&mut self.kept, seats, name),
+            Loss::Any => forgetting::forget_all(&mut self.kept, seats),
+        }
     }
 
     /// When the first pause ends. It looks at each tube.
     pub(crate) fn first_pause_end(&self) -> Option<Moment>
         ensures { result ≡ first_pause_end self.now.entries }
     {
-        pauses::first_end(self.entries.as_slice())
+        let mut first = FirstEnd::none();
+        self.kept.walk(&mut first);
+        first.moment()
     }
 
     /// When the first pause ends after a change of a tube, and when it did before. Only a new pause has

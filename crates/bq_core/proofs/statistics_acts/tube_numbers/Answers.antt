@@ -5,6 +5,7 @@ use Rattle.bq_job.specs.Machine.{SeatRecord, TubeRecord}
 use Rattle.bq_job.specs.Statistics.{using_count, waiting_clients_of, watching_count}
 use Rattle.bq_job.specs.TubeName.{is_same_name}
 use Rattle.bq_job.specs.Tubes.{tube_record}
+use Rattle.bq_core.specs.KeptTubes.{KeptTube, record_of}
 use Rattle.bq_core.specs.State.{machine_of}
 use Rattle.bq_core.specs.Tallies.{tally_at}
 use Rattle.bq_core.proofs.NameLemmas.{lent_or, record_of_entry}
@@ -16,10 +17,10 @@ returns c =
     let s = c.args.state.now in
     let m = machine_of s in
     let name = c.args.tube.now in
-    let entry : c.unwrap_or-entry.result.now ≡ tube_record name m =
-    ap (λ (lent : Bor TubeRecord). lent.now) c.unwrap_or-entry.ensures
-    ∙ lent_or c.entry_of.result _ _ c.entry_of.ensures
-    ∙ ap (unwrap_or (find (λ t. is_same_name name t.name) s.tubes.entries)) c.new-fresh.ensures
+    let entry : record_of name c.unwrap_or-entry.result.now ≡ tube_record name m =
+    ap (λ (lent : Bor KeptTube). record_of name lent.now) c.unwrap_or-entry.ensures
+    ∙ lent_or (record_of name) c.entry_of.result _ _ c.entry_of.ensures
+    ∙ ap (λ t. unwrap_or (find (λ t. is_same_name name t.name) s.tubes.entries) (record_of name t)) c.new-fresh.ensures
     ∙ sym (record_of_entry name s.tubes.entries c.requires.entries.order c.requires.entries.fresh) in
     let seats = c.as_slice-seats.ensures.value in
     record {

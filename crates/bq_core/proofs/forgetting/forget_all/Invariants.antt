@@ -1,0 +1,14 @@
+-- the entries of tubes that are gone are dropped up to the last one that was found
+use Rattle.std.proofs.Common.{◌≡◌, filter, length}
+use Rattle.bq_core.specs.KeptTubes.{is_alive_at}
+use Rattle.bq_core.proofs.GoneLemmas.{AllLeftBefore}
+use Rattle.bq_core.proofs.forgetting.forget_all.Given as goal
+
+abbrev pub invariant-loop-name : goal.invariant-loop-name
+invariant-loop-name l = record {
+  left : filter (is_alive_at l.seats) l.shelf.entries ≡ filter (is_alive_at l.seats) l.fn.shelf.entries;
+  before : AllLeftBefore l.seats l.last l.shelf.entries;
+}
+
+abbrev pub decreases-loop-name : goal.decreases-loop-name
+decreases-loop-name l = length l.shelf.entries
