@@ -26,15 +26,44 @@ pub fn write_answer<L: Line>(line: &mut L, answer: &Answer) -> bool
     }
 }
 
-// The parts of a text that is short go out in one write, and those of a longer one after one another.
+// Most texts have few bytes behind the head, or none. These go out from the room of the head, so that no
+// other has to be made.
 fn write_text<L: Line>(line: &mut L, answer: &Answer) -> bool
     ensures { Writes (answer_text answer.now) (L.seen line.old) (L.seen line.new) result }
 {
-    let mut head_room = HeadBuf::new();
-    answer_head(answer, &mut head_room);
-    let head = head_room.as_slice();
+    let mut head = HeadBuf::new();
+    answer_head(answer, &mut head);
     let body = answer_body(answer);
     let tail = answer_tail(answer);
+    if have_room(&head, body, tail) {
+        write_behind(line, &mut head, body, tail)
+    } else {
+        write_long(line, head.as_slice(), body, tail)
+    }
+}
+
+// Whether the head's room has some left for the other parts.
+fn have_room(head: &HeadBuf, body: &[u8], tail: &[u8]) -> bool
+    ensures { result ≡ true → length head.now.items + length body.now + length tail.now ≤ 256 }
+{
+    let left = head.remaining_capacity();
+    body.len() <= left && tail.len() <= left - body.len()
+}
+
+// Puts the other parts behind the head, and writes them together.
+fn write_behind<L: Line>(line: &mut L, head: &mut HeadBuf, body: &[u8], tail: &[u8]) -> bool
+    requires { length head.old.items + length body.now + length tail.now ≤ 256 }
+    ensures { Writes (head.old.items ++ body.now ++ tail.now) (L.seen line.old) (L.seen line.new) result }
+{
+    push_bytes(head, body);
+    push_bytes(head, tail);
+    write_all(line, head.as_slice())
+}
+
+// The parts of a text that isn't very long go out in one write, and those of a longer one after one another.
+fn write_long<L: Line>(line: &mut L, head: &[u8], body: &[u8], tail: &[u8]) -> bool
+    ensures { Writes (head.now ++ body.now ++ tail.now) (L.seen line.old) (L.seen line.new) result }
+{
     if are_short(head, body, tail) {
         write_joined(line, head, body, tail)
     } else {
