@@ -1,10 +1,10 @@
 -- Entries whose tubes are gone are dropped from the shelf of the tubes; the others are counted and listed.
-use Rattle.std.proofs.Common.{◌≡◌, ◌∙◌, ◌+◌, ◌<◌, ◌≤◌, ℕ, suc, Bool, true, false, cond, ◌&&◌, ◌||◌, not, if◌then◌else◌, List, [], ◌∷◌, ◌++◌, Option, Some, None, map, length, refl, subst, sym, ap, arith, inl, inr, append_assoc}
+use Rattle.std.proofs.Common.{◌≡◌, ◌∙◌, ◌+◌, ◌≤◌, ℕ, Bool, true, false, cond, ◌&&◌, not, if◌then◌else◌, List, [], ◌∷◌, ◌++◌, Option, Some, None, map, length, refl, subst, sym, ap, arith, inl, inr, append_assoc}
 use Rattle.std.specs.Prelude.{filter, find, fold}
 use Rattle.std.specs.Borrow.{Bor}
 use Rattle.std.specs.declared.cmp.Ordering.{Ordering}
 use Rattle.std.specs.declared.cmp.Ordering.TheVariants.{Less, Equal, Greater}
-use Rattle.std.specs.Ordering.{is_eq, is_gt, is_lt, nat_cmp, ordering_reverse}
+use Rattle.std.specs.Ordering.{is_eq, is_gt, nat_cmp, ordering_reverse}
 use Rattle.std.specs.Cmp.Lexicographic.{nat_list_cmp_total, slice_cmp}
 use Rattle.std.specs.List.{AllByRecursion as All}
 use Rattle.std.specs.List.Sorted.{IsStrictlySortedBy}
@@ -13,10 +13,10 @@ use Rattle.std.specs.Option.{option_map}
 use Rattle.std.proofs.lemmas.Bool.{cases_Bool}
 use Rattle.std.proofs.lemmas.List.{append-nil}
 use Rattle.bq_index.specs.Order.{InOrder}
-use Rattle.bq_index.specs.Walk.{changed_by, entry_of, passes_by, passes_from, seen_by}
+use Rattle.bq_index.specs.Walk.{changed_by, entry_of, seen_by}
 use Rattle.bq_job.specs.declared.job.Job.{Job}
 use Rattle.bq_job.specs.Limits.{greatest}
-use Rattle.bq_job.specs.Machine.{SeatRecord, TubeRecord}
+use Rattle.bq_job.specs.Machine.{SeatRecord}
 use Rattle.bq_job.specs.Timers.{tube_after_timers}
 use Rattle.bq_job.specs.TubeName.{is_same_name}
 use Rattle.bq_core.specs.Dues.{with_tube_due}

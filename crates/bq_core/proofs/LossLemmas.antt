@@ -1,7 +1,7 @@
 -- Which entries may be of tubes that are gone, as jobs and seats change.
-use Rattle.std.proofs.Common.{◌≡◌, ℕ, zero, suc, Bool, true, false, cond, not, ◌||◌, ◌&&◌, ◌==◌, ◌+◌, ◌≤◌, ◌<◌, List, [], ◌∷◌, ◌++◌, Option, Some, None, map, length, set, slice_get, refl, sym, ap, ◌∙◌, arith, ◌⊎◌, inl, inr, if◌then◌else◌}
+use Rattle.std.proofs.Common.{◌≡◌, ℕ, zero, suc, Bool, true, false, not, ◌||◌, ◌==◌, ◌+◌, ◌≤◌, List, [], ◌∷◌, ◌++◌, Option, Some, map, length, set, slice_get, refl, sym, ap, ◌∙◌, arith, ◌⊎◌, inl, inr, if◌then◌else◌}
 use Rattle.std.specs.Prelude.{filter, nat_lt}
-use Rattle.std.specs.List.{AllByRecursion as All, list_any, position_or_len}
+use Rattle.std.specs.List.{AllByRecursion as All, list_any}
 use Rattle.std.proofs.lemmas.Bool.Decides.{nat_tests}
 use Rattle.std.proofs.lemmas.Bool.{cases_Bool, eqb-true, or_cases, or_left, or_right, and_parts, and_from}
 use Rattle.bq_job.specs.declared.job.Job.{Job}
@@ -21,7 +21,7 @@ use Rattle.bq_core.specs.declared.seat_list.SeatChange.TheVariants.{StopWaiting,
 use Rattle.bq_core.specs.Dues.{first_pause_end, pause_end_left}
 use Rattle.bq_core.specs.Losses.{AreAlive, is_accounted, may_be_gone, with_found, with_lost}
 use Rattle.bq_core.specs.SeatChanges.{loss_after, seat_changed, seat_changed_at}
-use Rattle.bq_core.specs.TubeEntries.{AreInOrder, has_entry, is_tube_of, kept_if, provided}
+use Rattle.bq_core.specs.TubeEntries.{has_entry, is_tube_of, provided}
 use Rattle.bq_core.proofs.KickLemmas.{none_with}
 use Rattle.bq_core.proofs.TubeLemmas.{same_itself, same_name}
 

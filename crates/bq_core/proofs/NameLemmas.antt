@@ -1,26 +1,21 @@
 -- The names of the tubes that exist.
-use Rattle.std.proofs.Common.{◌≡◌, ◌∙◌, ◌+◌, ◌<◌, ◌≤◌, ◌⊎◌, ℕ, zero, suc, Bool, true, false, ◌&&◌, ◌||◌, cond, List, [], ◌∷◌, ◌++◌, Option, Some, None, codes, refl, sym, ap, arith, if◌then◌else◌, inl, inr, length, map, drop}
+use Rattle.std.proofs.Common.{◌≡◌, ◌∙◌, ◌+◌, ◌⊎◌, ℕ, suc, Bool, true, false, ◌&&◌, ◌||◌, cond, List, [], ◌∷◌, ◌++◌, Option, Some, None, codes, refl, sym, ap, arith, if◌then◌else◌, inl, inr, map}
 use Rattle.std.specs.Prelude.{filter, find, flat_map, unwrap_or}
-use Rattle.std.specs.List.{AllByRecursion as All, insert, list_any, prefix_len, slice_get, slice_index_or}
+use Rattle.std.specs.List.{AllByRecursion as All, insert, list_any, prefix_len, slice_get}
 use Rattle.std.specs.Borrow.{Bor}
 use Rattle.std.specs.Option.{option_map}
 use Rattle.std.specs.Prelude.{Result, IsOk, is_ok}
-use Rattle.std.proofs.Math.Numerals.{add-one}
 use Rattle.std.proofs.lemmas.Bool.{cases_Bool, or_cases}
-use Rattle.bq_job.specs.declared.job.Job.{Job}
-use Rattle.bq_job.specs.Machine.{Machine, SeatRecord, TubeRecord, default_tube}
+use Rattle.bq_job.specs.Machine.{Machine, TubeRecord, default_tube}
 use Rattle.bq_job.specs.NameOrder.{is_in_order}
 use Rattle.bq_job.specs.TubeName.{is_same_name}
 use Rattle.bq_job.specs.TubeOrder.{in_name_order, seated_tubes, tubes, with_name}
 use Rattle.bq_job.specs.Tubes.{fresh_tube, is_name_before, is_tube}
 use Rattle.bq_job.specs.Yaml.{name_line, name_list}
 use Rattle.bq_job.proofs.NameOrderLemmas.{after, first_of_order, in_order_fold, in_order_from, listed, not_before, not_same, rest_in_order, stays_fold}
-use Rattle.bq_core.specs.declared.tally.Tally.{Tally}
-use Rattle.bq_core.specs.Tallies.{has_jobs, tallies_of, tally_in}
 use Rattle.bq_core.specs.Texts.{is_named, names_of}
-use Rattle.bq_core.specs.TubeEntries.{AreEntries, AreInOrder, IsFreshUnlessCounted, counted, has_entry, is_counted, is_tube_of, is_tube_with, names_alive}
+use Rattle.bq_core.specs.TubeEntries.{AreEntries, AreInOrder, IsFreshUnlessCounted, counted, has_entry, is_counted, is_tube_of, names_alive}
 use Rattle.bq_core.proofs.StateLemmas.{tube_has_entry}
-use Rattle.bq_core.proofs.TallyPlaces.{has_jobs_in}
 use Rattle.bq_core.proofs.TubeLemmas.{before_differs, none_found, none_later, order_filtered, same_itself, same_name}
 
 -- names that come later are others
@@ -207,46 +202,9 @@ module _ (name : List ℕ) where
       go false e rest h =
           rw (h, after o.now name (other_way name o.now h) e) (ap (λ n. n ∷ o.now ∷ names_of names) is)
 
-drop_more : {A : Type 0} (xs : List A) (i : ℕ) (x : A) → slice_get xs i ≡ Some x → drop i xs ≡ x ∷ drop (suc i) xs
-drop_more [] i x h = absurd cc
-drop_more (y ∷ ys) zero x h = let e : y ≡ x = cc in ap (λ z. z ∷ ys) e
-drop_more (y ∷ ys) (suc i) x h = drop_more ys i x h
-
 -- a call that doesn't fail
 pub when_ok : {T E X : Type 0} (r : Result T E) (a b : X) → IsOk r → (if is_ok r then a else b) ≡ a
 when_ok r a b h = rw h refl
-
--- The tube of the entry at place i comes before those of the entries behind it, if it exists.
-tally_of_entry : (jobs : List Job) (es : List TubeRecord) (i : ℕ) (x : TubeRecord) (d : Tally) → i < length es → x ≡ slice_index_or es i x
-    → (slice_get es i ≡ Some x) × (slice_index_or (tallies_of jobs es) i d ≡ tally_in jobs x)
-tally_of_entry jobs [] i x d h p = absurd (omega arith)
-tally_of_entry jobs (e ∷ es) zero x d h p = (ap Some (sym p), ap (tally_in jobs) (sym p))
-tally_of_entry jobs (e ∷ es) (suc i) x d h p = tally_of_entry jobs es i x d (omega arith) p
-
-pub alive_more : (jobs : List Job) (seats : List SeatRecord) (es : List TubeRecord) (ts : List Tally) (i : ℕ) (x : TubeRecord) (d : Tally) → ts ≡ tallies_of jobs es
-    → i < length es → x ≡ slice_index_or es i x
-    → names_alive jobs seats (drop i es) ≡ (if is_tube_with (has_jobs (slice_index_or ts i d)) seats x.name then x.name ∷ [] else []) ++ names_alive jobs seats (drop (i + 1) es)
-alive_more jobs seats es ts i x d counted h p =
-    let here = tally_of_entry jobs es i x d h p in
-    let some = ap has_jobs (ap (λ us. slice_index_or us i d) counted ∙ here.1) ∙ has_jobs_in x.name jobs in
-    ap (names_alive jobs seats) (drop_more es i x here.0)
-    ∙ one_alive (is_tube_of jobs seats x.name)
-    ∙ ap (λ b. (if is_tube_with b seats x.name then x.name ∷ [] else []) ++ names_alive jobs seats (drop (suc i) es)) (sym some)
-    ∙ ap (λ n. (if is_tube_with (has_jobs (slice_index_or ts i d)) seats x.name then x.name ∷ [] else []) ++ names_alive jobs seats (drop n es)) (sym (add-one i))
-  where
-    one_alive : (b : Bool) → map (λ t. t.name) (if b then x ∷ filter (λ t. is_tube_of jobs seats t.name) (drop (suc i) es) else filter (λ t. is_tube_of jobs seats t.name) (drop (suc i) es))
-        ≡ (if b then x.name ∷ [] else []) ++ names_alive jobs seats (drop (suc i) es)
-    one_alive true = refl
-    one_alive false = refl
-
--- how many names there are, with one more if it counts
-pub one_counted : (b : Bool) (name : List ℕ) (names : List (List ℕ)) → length ((if b then name ∷ [] else []) ++ names) ≡ cond b 1 0 + length names
-one_counted true name names = omega arith
-one_counted false name names = omega arith
-
-pub one_or_none : (b : Bool) → cond b 1 0 ≤ 1
-one_or_none true = omega arith
-one_or_none false = omega arith
 
 -- what is lent, or else something else
 pub lent_or : {A B : Type 0} (f : A → B) (o : Option (Bor A)) (other : Bor A) (x : Option B) → option_map (λ b. f b.now) o ≡ x → f (unwrap_or o other).now ≡ unwrap_or x (f other.now)

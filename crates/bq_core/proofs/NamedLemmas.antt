@@ -1,15 +1,15 @@
 -- What lies in the shelf of the tubes: entries found by their names.
-use Rattle.std.proofs.Common.{◌≡◌, ◌∙◌, ◌+◌, ◌<◌, ◌≤◌, ℕ, suc, Bool, true, false, cond, ◌&&◌, ◌||◌, not, if◌then◌else◌, List, [], ◌∷◌, ◌++◌, Option, Some, None, is_some, map, length, refl, sym, ap, arith, inl, inr}
-use Rattle.std.specs.Prelude.{filter, find, fold}
+use Rattle.std.proofs.Common.{◌≡◌, ◌∙◌, ◌+◌, ℕ, suc, Bool, true, false, cond, ◌&&◌, ◌||◌, if◌then◌else◌, List, [], ◌∷◌, Option, Some, None, is_some, map, refl, sym, ap, arith, inl, inr}
+use Rattle.std.specs.Prelude.{find}
 use Rattle.std.specs.Borrow.{Bor}
 use Rattle.std.specs.declared.cmp.Ordering.{Ordering}
 use Rattle.std.specs.declared.cmp.Ordering.TheVariants.{Less, Equal, Greater}
-use Rattle.std.specs.Ordering.{is_eq, is_gt, is_lt, match_ordering, nat_cmp, ordering_reverse}
-use Rattle.std.specs.BTreeMap.{insert_entry, is_at}
+use Rattle.std.specs.Ordering.{is_eq, is_lt, match_ordering, nat_cmp, ordering_reverse}
+use Rattle.std.specs.BTreeMap.{insert_entry}
 use Rattle.std.specs.Cmp.Lexicographic.{nat_list_cmp_total, slice_cmp, texts_ties}
 use Rattle.std.specs.List.{AllByRecursion as All, insert, list_any, prefix_len}
 use Rattle.std.specs.List.Sorted.{IsStrictlySortedBy}
-use Rattle.std.specs.Map.{keys_of, lookup, remove_entry, set_value}
+use Rattle.std.specs.Map.{keys_of, lookup}
 use Rattle.std.specs.Option.{option_map}
 use Rattle.std.proofs.lemmas.Bool.{cases_Bool}
 use Rattle.bq_index.specs.Order.{InOrder}
@@ -22,7 +22,7 @@ use Rattle.bq_core.specs.TubeEntries.{AreInOrder, has_entry, provided, tube_chan
 use Rattle.bq_core.specs.declared.tally.Tally.{Tally}
 use Rattle.bq_core.specs.declared.tube_entry.TubeChange.{TubeChange}
 use Rattle.bq_core.specs.declared.tube_entry.TubeChange.TheVariants.{CountPut, CountDelete, Pause}
-use Rattle.bq_core.proofs.TubeLemmas.{head_differs, none_later, same_itself, same_name}
+use Rattle.bq_core.proofs.TubeLemmas.{head_differs, none_later, same_name}
 
 -- a look-up asks whether names are the same
 pub ties : (a b : List ℕ) → is_named_at a b ≡ is_same_name a b
@@ -101,9 +101,6 @@ module _ (name : List ℕ) where
   some_is a b e = cc
 
   module _ (f : KeptTube → KeptTube) where
-    edits : List Named → List Named
-    edits es = edited name f (lookup (is_named_at name) es) es
-
     edited_here : (x : Named) (es : List Named) → is_same_name name x.0 ≡ true → edited name f (lookup (is_named_at name) (x ∷ es)) (x ∷ es) ≡ (x.0, f x.1) ∷ es
     edited_here x es e = rw (at x.0 true e) (rw (at x.0 true e) refl)
 
@@ -154,9 +151,6 @@ module _ (name : List ℕ) where
           ap (map record_at) (edited_here x es e) ∙ (λ i. made x.0 x.1 i ∷ sym (unchanged what (records es) none) i) ∙ sym (rw e refl)
       | inr e ↦ ap (map record_at) (edited_past x es e) ∙ ap (λ ts. record_at x ∷ ts) (edit_change what made es order.1) ∙ sym (rw e refl)
     ]
-
-  no_entry : (es : List Named) → lookup (is_named_at name) es ≡ None → has_entry name (map record_at es) ≡ false
-  no_entry es h = sym (found_any es) ∙ ap is_some h
 
   -- A new entry
   reversed : (x : List ℕ) (a : Ordering) → slice_cmp nat_cmp name x ≡ a → slice_cmp nat_cmp x name ≡ ordering_reverse a

@@ -1,11 +1,10 @@
 -- The counts of tubes stand at the places of their entries.
-use Rattle.std.proofs.Common.{◌≡◌, ◌∙◌, ◌+◌, ◌≤◌, ◌<◌, ◌||◌, slice_get, ℕ, zero, suc, Bool, true, false, cond, not, List, [], ◌∷◌, Option, Some, None, if◌then◌else◌, refl, sym, ap, arith, length, map, inl, inr}
+use Rattle.std.proofs.Common.{◌≡◌, ◌∙◌, ◌+◌, ◌≤◌, ◌||◌, ℕ, zero, Bool, true, false, List, [], ◌∷◌, Some, refl, sym, ap, arith, length, map, inl, inr}
 use Rattle.std.specs.Prelude.{◌++◌, nat_lt, count_by, filter, take, drop}
 use Rattle.std.proofs.lemmas.List.{drop-map, map-append, take-map}
-use Rattle.std.specs.List.{AllByRecursion as All, insert, list_any, position_or_len, prefix_len, remove, slice_index_or, slice_set}
+use Rattle.std.specs.List.{AllByRecursion as All, insert, list_any, prefix_len}
 use Rattle.std.specs.Cmp.Lexicographic.{bytes_decides}
 use Rattle.std.proofs.lemmas.Bool.{cases_Bool, lt-ltb, or_left, or_right}
-use Rattle.std.proofs.lemmas.Bool.Decides.{nat_tests}
 use Rattle.bq_job.specs.declared.job.Job.{Job}
 use Rattle.bq_job.specs.declared.job.JobState.{JobState}
 use Rattle.bq_job.specs.declared.job.JobState.TheVariants as states
@@ -13,7 +12,7 @@ use Rattle.bq_job.specs.Changes.{is_ready, is_ready_state, job_with}
 use Rattle.bq_job.specs.JobStates.{is_buried, is_delayed, is_reserved}
 use Rattle.bq_job.specs.Lawful.{AreIdsWithin}
 use Rattle.bq_job.specs.Limits.{greatest}
-use Rattle.bq_job.specs.Machine.{SeatRecord, TubeRecord}
+use Rattle.bq_job.specs.Machine.{TubeRecord}
 use Rattle.bq_job.specs.TubeName.{is_same_name}
 use Rattle.bq_job.specs.Tubes.{fresh_tube, is_name_before}
 use Rattle.bq_job.proofs.ListLemmas.{count_cons}
@@ -21,88 +20,12 @@ use Rattle.bq_job.proofs.NameOrderLemmas.{not_same}
 use Rattle.bq_jobs.specs.Kept.{with_added, without}
 use Rattle.bq_core.specs.declared.tally.Tally.{Tally}
 use Rattle.bq_core.specs.Tallies.{AreCounted, has_jobs, tallies_at, tallies_of, tallies_provided, tallies_with, tallies_without, tally_at, tally_in, tally_of, tally_with, tally_without}
-use Rattle.bq_core.specs.TubeEntries.{AreInOrder, has_entry, is_tube_of, is_tube_with, kept_if, provided}
+use Rattle.bq_core.specs.TubeEntries.{AreInOrder, has_entry, provided}
 use Rattle.bq_core.proofs.TubeLemmas.{provided_new}
 use Rattle.bq_core.proofs.TallyLemmas.{tally_added, tally_stays_added, tally_stays_taken, tally_taken, whole_added, whole_taken}
 
-one_more : (n : ℕ) → 1 + n ≡ suc n
-one_more n = omega arith
-
 pub none_counted : (t : Tally) → (t.urgent ≡ 0) × ((t.ready ≡ 0) × ((t.reserved ≡ 0) × ((t.delayed ≡ 0) × (t.buried ≡ 0)))) → t ≡ tally_of []
 none_counted t e = λ i. record { urgent = e.0 i; ready = e.1.0 i; reserved = e.1.1.0 i; delayed = e.1.1.1.0 i; buried = e.1.1.1.1 i }
-
-pub found_place : (b : Bool) (n i : ℕ) → cond b (Some n) None ≡ Some i → n ≡ i
-found_place true n i e = cc
-found_place false n i e = absurd cc
-
-pub no_place : (n m : ℕ) → cond (nat_lt n m) (Some n) None ≡ None → m ≤ n
-no_place n m e =
-    elim (cases_Bool (nat_lt n m)) [
-      | inl less ↦ absurd (let g = rw less at e in cc)
-      | inr h ↦ grind (arith, nat_tests)
-    ]
-
-module _ (name : List ℕ) where
-  place : List TubeRecord → ℕ
-  place es = position_or_len (λ t. is_same_name name t.name) es
-
-  module _ (f : Tally → Tally) where
-    -- the counts at the place of the entry are changed,
-    pub at_place : (es : List TubeRecord) (ts : List Tally) (d : Tally) → length ts ≡ length es
-        → slice_set ts (position_or_len (λ t. is_same_name name t.name) es) (f (slice_index_or ts (position_or_len (λ t. is_same_name name t.name) es) d)) ≡ tallies_at name f es ts
-    at_place [] [] d e = refl
-    at_place [] (x ∷ ts) d e = absurd (omega arith)
-    at_place (t ∷ es) [] d e = absurd (omega arith)
-    at_place (t ∷ es) (x ∷ ts) d e = go (is_same_name name t.name) (at_place es ts d (omega arith))
-      where
-        n : ℕ
-        n = position_or_len (λ t. is_same_name name t.name) es
-
-        go : (b : Bool) → slice_set ts n (f (slice_index_or ts n d)) ≡ tallies_at name f es ts
-            → slice_set (x ∷ ts) (cond (not b) (1 + n) 0) (f (slice_index_or (x ∷ ts) (cond (not b) (1 + n) 0) d)) ≡ (if b then f x ∷ ts else x ∷ tallies_at name f es ts)
-        go true rest = refl
-        go false rest = ap (λ k. slice_set (x ∷ ts) k (f (slice_index_or (x ∷ ts) k d))) (one_more n) ∙ ap (λ us. x ∷ us) rest
-
-    -- and none where there is no entry.
-    pub nowhere : (es : List TubeRecord) (ts : List Tally) → length ts ≡ length es → length es ≤ position_or_len (λ t. is_same_name name t.name) es → ts ≡ tallies_at name f es ts
-    nowhere [] ts e h = refl
-    nowhere (t ∷ es) [] e h = refl
-    nowhere (t ∷ es) (x ∷ ts) e h = go (is_same_name name t.name) (nowhere es ts (omega arith)) h
-      where
-        n : ℕ
-        n = position_or_len (λ t. is_same_name name t.name) es
-
-        go : (b : Bool) → (length es ≤ n → ts ≡ tallies_at name f es ts) → suc (length es) ≤ cond (not b) (1 + n) 0
-            → x ∷ ts ≡ (if b then f x ∷ ts else x ∷ tallies_at name f es ts)
-        go true rest g = absurd (omega arith)
-        go false rest g = ap (λ us. x ∷ us) (rest (omega arith))
-
-  -- the counts are read there
-  pub read_place : (es : List TubeRecord) (ts : List Tally) → length ts ≡ length es
-      → slice_index_or ts (position_or_len (λ t. is_same_name name t.name) es) (tally_of []) ≡ tally_at name es ts
-  read_place [] [] e = refl
-  read_place [] (x ∷ ts) e = absurd (omega arith)
-  read_place (t ∷ es) [] e = absurd (omega arith)
-  read_place (t ∷ es) (x ∷ ts) e = go (is_same_name name t.name) (read_place es ts (omega arith))
-    where
-      n : ℕ
-      n = position_or_len (λ t. is_same_name name t.name) es
-
-      go : (b : Bool) → slice_index_or ts n (tally_of []) ≡ tally_at name es ts → slice_index_or (x ∷ ts) (cond (not b) (1 + n) 0) (tally_of []) ≡ (if b then x else tally_at name es ts)
-      go true rest = refl
-      go false rest = ap (λ k. slice_index_or (x ∷ ts) k (tally_of [])) (one_more n) ∙ rest
-
-  pub read_nowhere : (es : List TubeRecord) (ts : List Tally) → length es ≤ position_or_len (λ t. is_same_name name t.name) es → tally_of [] ≡ tally_at name es ts
-  read_nowhere [] ts h = refl
-  read_nowhere (t ∷ es) [] h = refl
-  read_nowhere (t ∷ es) (x ∷ ts) h = go (is_same_name name t.name) (read_nowhere es ts) h
-    where
-      n : ℕ
-      n = position_or_len (λ t. is_same_name name t.name) es
-
-      go : (b : Bool) → (length es ≤ n → tally_of [] ≡ tally_at name es ts) → suc (length es) ≤ cond (not b) (1 + n) 0 → tally_of [] ≡ (if b then x else tally_at name es ts)
-      go true rest g = absurd (omega arith)
-      go false rest g = rest (omega arith)
 
 module _ (j : Job) (old new : List Job) (f : Tally → Tally)
     (here : (t : TubeRecord) → is_same_name t.name j.tube ≡ true → tally_in new t ≡ f (tally_in old t))
@@ -172,11 +95,6 @@ inserted_tallies : (jobs : List Job) (es : List TubeRecord) (n : ℕ) (x : TubeR
 inserted_tallies jobs es n x =
     let f = tally_in jobs in
     ap (λ ts. ts ++ f x ∷ drop n (map f es)) (take-map f n es) ∙ ap (λ ts. map f (take n es) ++ f x ∷ ts) (drop-map f n es) ∙ sym (map-append f (take n es) (x ∷ drop n es))
-
-pub removed_tallies : (jobs : List Job) (es : List TubeRecord) (n : ℕ) → remove (tallies_of jobs es) n ≡ tallies_of jobs (remove es n)
-removed_tallies jobs es n =
-    let f = tally_in jobs in
-    ap (λ ts. ts ++ drop (suc n) (map f es)) (take-map f n es) ∙ ap (λ ts. map f (take n es) ++ ts) (drop-map f (suc n) es) ∙ sym (map-append f (take n es) (drop (suc n) es))
 
 pub counted_provided : (name : List ℕ) (tally : Tally) (tallies : List Tally) (jobs : List Job) (es : List TubeRecord) → All (λ j. has_entry j.tube es ≡ true) jobs
     → AreCounted tally tallies jobs es → AreCounted tally (tallies_provided name es tallies) jobs (provided name es)
@@ -258,20 +176,3 @@ tally_there name jobs es all = go (has_entry name es) refl
     go : (b : Bool) → has_entry name es ≡ b → tally_at name es (tallies_of jobs es) ≡ tally_of (filter (λ j. is_same_name name j.tube) jobs)
     go true e = tally_named name jobs es e
     go false e = tally_missing name jobs es e ∙ ap tally_of (sym (no_job_there name jobs es e all))
-
--- what stands at a place of the entries, and of their counts
-pub at_index : (jobs : List Job) (es : List TubeRecord) (i : ℕ) (x : TubeRecord) (t : Tally) → i < length es → x ≡ slice_index_or es i x → t ≡ slice_index_or (tallies_of jobs es) i t
-    → (slice_get es i ≡ Some x) × (t ≡ tally_in jobs x)
-at_index jobs [] i x t h p q = absurd (omega arith)
-at_index jobs (e ∷ es) zero x t h p q = (ap Some (sym p), q ∙ ap (tally_in jobs) (sym p))
-at_index jobs (e ∷ es) (suc i) x t h p q = at_index jobs es i x t (omega arith) p q
-
--- whether the tube of the entry at this place exists, by its counts
-pub alive_there : (jobs : List Job) (seats : List SeatRecord) (es : List TubeRecord) (ts : List Tally) (i : ℕ) (x : TubeRecord) (t : Tally) (alive : Bool) → ts ≡ tallies_of jobs es
-    → i < length es → x ≡ slice_index_or es i x → t ≡ slice_index_or ts i t → alive ≡ is_tube_with (has_jobs t) seats x.name
-    → kept_if (λ u. is_tube_of jobs seats u.name) es i (slice_get es i) ≡ (if alive then es else remove es i)
-alive_there jobs seats es ts i x t alive counted h p q is =
-    let here = at_index jobs es i x t h p (q ∙ ap (λ us. slice_index_or us i t) counted) in
-    let some = ap has_jobs here.1 ∙ has_jobs_in x.name jobs in
-    let exists : is_tube_of jobs seats x.name ≡ alive = ap (λ b. is_tube_with b seats x.name) (sym some) ∙ sym is in
-    ap (kept_if (λ u. is_tube_of jobs seats u.name) es i) here.0 ∙ ap (λ b. if b then es else remove es i) exists

@@ -1,6 +1,6 @@
 -- What the core keeps of tubes: an entry for each that exists, so that nothing later wants memory.
 use Rattle.std.specs.Prelude.{ℕ, Bool, true, false, ◌≡◌, ◌&&◌, ◌||◌, ◌==◌, not, nat_le, if◌then◌else◌, List, [], ◌∷◌, Option, Some, None, filter, map}
-use Rattle.std.specs.List.{AllByRecursion, list_any, remove}
+use Rattle.std.specs.List.{AllByRecursion, list_any}
 use Rattle.bq_job.specs.declared.job.Job.{Job}
 use Rattle.bq_job.specs.JobCommands.{with_put, with_delete}
 use Rattle.bq_job.specs.Machine.{SeatRecord, TubeRecord, default_tube}
@@ -69,11 +69,6 @@ pub record AreEntries (jobs : List Job) (seats : List SeatRecord) (entries : Lis
   pub of_default : has_entry default_tube entries ≡ true
   pub of_jobs : AllByRecursion (λ j. has_entry j.tube entries ≡ true) jobs
   pub of_seats : AllByRecursion (HasTubes entries) seats
-
--- the list without what is at place i, unless that passes
-abbrev pub kept_if : {A : Type 0} → (A → Bool) → List A → ℕ → Option A → List A
-kept_if p xs i None = xs
-kept_if p xs i (Some x) = if p x then xs else remove xs i
 
 abbrev pub is_over : ℕ → Option PauseRecord → Bool
 is_over moment None = false
