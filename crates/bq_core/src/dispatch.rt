@@ -232,6 +232,7 @@ pub(crate) fn dispatch(state: &mut State, outs: &mut Outs, has_stirred: bool)
     requires quiet { has_stirred ≡ false → next_job (machine_of state.old) ≡ None }
     ensures given { Gives DispatchTurn has_refused_share (machine_of state.old) (machine_of state.new) outs.old outs.new }
     ensures done { next_job (machine_of state.new) ≡ None }
+    ensures idle { has_stirred ≡ false → (state.new.jobs ≡ state.old.jobs) × (machine_of state.new ≡ machine_of state.old) }
     ensures asks { AsksByTurn (waited (machine_of state.old)) outs.old outs.new state.old.jobs state.new.jobs }
     ensures sound { IsSound state.new }
     ensures config { state.new.config ≡ state.old.config }

@@ -19,6 +19,15 @@ const NOTHING_DUE: &[Example] = &[(0, 0, Do::Tick, &[])];
 
 const PUT: &[Example] = &[(0, 0, Do::Put(0, 0, 9, b"x"), &[(0, Want::Inserted(1))])];
 
+const CALM: &[Example] = &[
+    (0, 0, Do::Put(0, 5, 9, b"x"), &[(0, Want::Inserted(1))]),
+    (0, 0, Do::Release(1, 0, 0), &[(0, Want::NotFound)]),
+    (0, 0, Do::Bury(1, 0), &[(0, Want::NotFound)]),
+    (0, 0, Do::KickJob(7), &[(0, Want::NotFound)]),
+    (0, 0, Do::PauseTube(b"default", 5), &[(0, Want::Paused)]),
+    (0, 0, Do::End, &[]),
+];
+
 const ONE_HELD: &[Example] = &[
     (0, 0, Do::Put(0, 0, 99, b"x"), &[(0, Want::Inserted(1))]),
     (0, 0, Do::Reserve, &[(0, Want::Reserved(1, b"x"))]),
@@ -69,8 +78,13 @@ fn comparisons_of_a_step(rt: HostRuntime) -> Result<(), Fail> {
     Ok(())
 }
 
-// How many comparisons a put makes, where clients that watch another tube, an empty one, wait or don't.
-fn comparisons_of_a_put(rt: &impl Abort, alloc: Global, do_wait: bool) -> Result<u64, Fail> {
+// How many comparisons these steps make, where clients that watch another tube, an empty one, wait or don't.
+fn comparisons_beside(
+    rt: &impl Abort,
+    alloc: Global,
+    do_wait: bool,
+    examples: &[Example],
+) -> Result<u64, Fail> {
     let config = Config {
         seats: 256,
         max_job_size: 10,
@@ -93,14 +107,28 @@ fn comparisons_of_a_put(rt: &impl Abort, alloc: Global, do_wait: bool) -> Result
             core.step(0, seat, Step::Ask(Request::Reserve), &mut outs);
         }
     }
-    comparisons_of(rt, alloc, &mut core, &mut outs, PUT)
+    comparisons_of(rt, alloc, &mut core, &mut outs, examples)
 }
 
 #[test]
 fn waiters_of_another_tube_cost_little(rt: HostRuntime) -> Result<(), Fail> {
-    let without = comparisons_of_a_put(&rt, rt.alloc(), false)?;
-    let with = comparisons_of_a_put(&rt, rt.alloc(), true)?;
+    let without = comparisons_beside(&rt, rt.alloc(), false, PUT)?;
+    let with = comparisons_beside(&rt, rt.alloc(), true, PUT)?;
     let most = without.saturating_add(2 * u64::from(WAITERS));
+    assert!(rt;
+        with <= most,
+        "{with} with waiting clients, {without} without"
+    );
+    Ok(())
+}
+
+// Where no job becomes ready and nobody begins to wait, no tube is asked for the clients that wait: of each step's
+// two parts either asks at most for the first end of a time to run.
+#[test]
+fn calm_steps_ask_for_no_waiter(rt: HostRuntime) -> Result<(), Fail> {
+    let without = comparisons_beside(&rt, rt.alloc(), false, CALM)?;
+    let with = comparisons_beside(&rt, rt.alloc(), true, CALM)?;
+    let most = without.saturating_add(48);
     assert!(rt;
         with <= most,
         "{with} with waiting clients, {without} without"
