@@ -1,8 +1,9 @@
 -- Counts of seats, once one seat changes.
-use Rattle.std.proofs.Common.{◌≡◌, ◌∙◌, ◌+◌, ◌≤◌, ◌<◌, ◌==◌, ℕ, suc, Bool, true, false, cond, not, List, [], ◌∷◌, Some, if◌then◌else◌, refl, sym, ap, arith, length, map, filter, set, slice_get, inl, inr}
+use Rattle.std.proofs.Common.{◌≡◌, ◌∙◌, ◌+◌, ◌≤◌, ◌<◌, ◌==◌, ℕ, suc, Bool, true, false, cond, not, List, [], ◌∷◌, Option, Some, None, if◌then◌else◌, refl, sym, ap, arith, length, map, filter, set, slice_get, inl, inr}
 use Rattle.std.specs.Prelude.{count_by, nat_lt}
 use Rattle.std.specs.List.{list_any}
 use Rattle.std.proofs.lemmas.Bool.{cases_Bool, eqb-true, lt-ltb, ne_eqb}
+use Rattle.std.proofs.lemmas.Bool.Decides.{nat_tests}
 use Rattle.std.proofs.lemmas.List.{length-map}
 use Rattle.std.proofs.lemmas.List.Sums.{count_by-le-length}
 use Rattle.bq_job.specs.Changes.{is_waiting, seat_with}
@@ -85,7 +86,7 @@ module _ (p : SeatRecord → Bool) where
       ap (count_with (seat_passes p (seat_with n new))) was ∙ with_is (seat_passes p (seat_with n new)) rest (omega (arith, is, few, many, fits)) ∙ is
 
   -- where a change makes no difference, the count stays
-  count_stays : (f : SeatRecord → SeatRecord) → ((s : SeatRecord) → p (f s) ≡ p s) → (seats : List SeatRecord) → count_by p (map f seats) ≡ count_by p seats
+  pub count_stays : (f : SeatRecord → SeatRecord) → ((s : SeatRecord) → p (f s) ≡ p s) → (seats : List SeatRecord) → count_by p (map f seats) ≡ count_by p seats
   count_stays f same [] = refl
   count_stays f same (s ∷ seats) =
       count_cons p (f s) (map f seats)
@@ -101,6 +102,40 @@ module _ (p : SeatRecord → Bool) where
         | inl e ↦ rw e (lt-ltb 0 (1 + count_by p seats) (omega arith))
         | inr e ↦ rw e (ap (nat_lt 0) (no_more (count_by p seats)) ∙ some_pass seats)
       ]
+
+-- the seat of a number, once it is changed
+pub found_changed : (n : ℕ) (f : SeatRecord → SeatRecord) → ((s : SeatRecord) → (f s).number ≡ s.number) → (s : SeatRecord) (seats : List SeatRecord)
+    → seat_with n seats ≡ Some s → seat_with n (map (λ t. if t.number == n then f t else t) seats) ≡ Some (f s)
+found_changed n f keeps s [] found = absurd cc
+found_changed n f keeps s (t ∷ seats) found =
+    elim (cases_Bool (t.number == n)) [
+      | inl e ↦
+          let here : Some t ≡ Some s = rw e at found in
+          let one : t ≡ s = cc in
+          let same : ((f t).number == n) ≡ true = ap (λ k. k == n) (keeps t) ∙ e in
+          rw (e, same) (ap (λ u. Some (f u)) one)
+      | inr e ↦ let rest : seat_with n seats ≡ Some s = rw e at found in rw (e, e) (found_changed n f keeps s seats rest)
+    ]
+
+-- the count of seats that pass, once the seat of a number is changed that is known
+pub count_changed : (p : SeatRecord → Bool) (n : ℕ) (f : SeatRecord → SeatRecord) → ((s : SeatRecord) → (f s).number ≡ s.number) → (s : SeatRecord) (seats : List SeatRecord)
+    → AreNumbered seats → AreNumbered (map (λ s. if s.number == n then f s else s) seats) → length seats ≤ greatest → seat_with n seats ≡ Some s
+    → count_with (p (f s)) (count_without (p s) (count_by p seats)) ≡ count_by p (map (λ s. if s.number == n then f s else s) seats)
+count_changed p n f keeps s seats h h' fits found =
+    (λ i. count_with (seat_passes p (sym (found_changed n f keeps s seats found) i)) (count_without (seat_passes p (sym found i)) (count_by p seats)))
+    ∙ count_moved p n f keeps seats h h' fits
+
+-- and where that seat passes as before
+pub count_unchanged : (p : SeatRecord → Bool) (n : ℕ) (f : SeatRecord → SeatRecord) → ((s : SeatRecord) → (f s).number ≡ s.number) → (s : SeatRecord) (seats : List SeatRecord)
+    → AreNumbered seats → AreNumbered (map (λ s. if s.number == n then f s else s) seats) → seat_with n seats ≡ Some s → p (f s) ≡ p s
+    → count_by p (map (λ s. if s.number == n then f s else s) seats) ≡ count_by p seats
+count_unchanged p n f keeps s seats h h' found same =
+    let new = map (λ t. if t.number == n then f t else t) seats in
+    let there : seat_passes p (seat_with n new) ≡ p (f s) = ap (seat_passes p) (found_changed n f keeps s seats found) in
+    let was : seat_passes p (seat_with n seats) ≡ p s = ap (seat_passes p) found in
+    sym (parted p n 0 new h')
+    ∙ (λ i. cond ((there ∙ same ∙ sym was) i) 1 0 + count_by p (others_left n f keeps seats i))
+    ∙ parted p n 0 seats h
 
 -- How many clients there are, once the seat of a number is changed,
 pub clients_moved : (n : ℕ) (what : SeatChange) (seats : List SeatRecord) → AreNumbered seats → AreNumbered (map (seat_changed_at n what) seats) → length seats ≤ greatest

@@ -2,6 +2,9 @@ pub mod ActLemmas
 pub mod AskLemmas
 pub mod ClientLemmas
 pub mod CostLemmas
+pub mod CrowdLemmas
+pub mod CrowdPlaces
+pub mod CrowdWatching
 pub mod DispatchLemmas
 pub mod DueLemmas
 pub mod FiringLemmas

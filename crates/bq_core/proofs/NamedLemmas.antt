@@ -16,9 +16,11 @@ use Rattle.bq_index.specs.Order.{InOrder}
 use Rattle.bq_job.specs.Machine.{TubeRecord}
 use Rattle.bq_job.specs.TubeName.{is_same_name}
 use Rattle.bq_job.specs.Tubes.{fresh_tube, is_name_before, with_record}
-use Rattle.bq_core.specs.KeptTubes.{KeptTube, Named, edited, fresh_entry, is_named_at, is_paused_by, kept_changed, record_at, record_of, tally_by, tally_kept}
+use Rattle.bq_core.specs.KeptTubes.{KeptTube, Named, crowd_by, crowd_kept, edited, fresh_entry, is_named_at, is_paused_by, kept_changed, record_at, record_of, tally_by, tally_kept}
 use Rattle.bq_core.specs.Tallies.{tallies_at, tallies_provided, tally_at, tally_of}
 use Rattle.bq_core.specs.TubeEntries.{AreInOrder, has_entry, provided, tube_changed, tube_changed_at}
+use Rattle.bq_core.specs.Crowds.{crowd_at, crowds_at, crowds_provided, no_crowd}
+use Rattle.bq_core.specs.declared.crowd.Crowd.{Crowd}
 use Rattle.bq_core.specs.declared.tally.Tally.{Tally}
 use Rattle.bq_core.specs.declared.tube_entry.TubeChange.{TubeChange}
 use Rattle.bq_core.specs.declared.tube_entry.TubeChange.TheVariants.{CountPut, CountDelete, Pause}
@@ -89,6 +91,13 @@ module _ (name : List ℕ) where
     | inr e ↦ rw (at x.0 false e, e) (found_tally es)
   ]
 
+  pub found_crowd : (es : List Named) → crowd_by (lookup (is_named_at name) es) ≡ crowd_at name (map record_at es) (map crowd_kept es)
+  found_crowd [] = refl
+  found_crowd (x ∷ es) = elim (cases_Bool (is_same_name name x.0)) [
+    | inl e ↦ rw (at x.0 true e, e) refl
+    | inr e ↦ rw (at x.0 false e, e) (found_crowd es)
+  ]
+
   -- Others stay.
   unchanged : (what : TubeChange) (ts : List TubeRecord) → has_entry name ts ≡ false → map (tube_changed_at name what) ts ≡ ts
   unchanged what [] h = refl
@@ -126,6 +135,14 @@ module _ (name : List ℕ) where
       | inr e ↦ ap (map tally_kept) (edited_past x es e) ∙ ap (λ ts. x.1.tally ∷ ts) (edit_tally g made es) ∙ sym (rw e refl)
     ]
 
+    pub edit_crowd : (g : Crowd → Crowd) → ((t : KeptTube) → (f t).crowd ≡ g t.crowd) → (es : List Named)
+        → map crowd_kept (edited name f (lookup (is_named_at name) es) es) ≡ crowds_at name g (map record_at es) (map crowd_kept es)
+    edit_crowd g made [] = refl
+    edit_crowd g made (x ∷ es) = elim (cases_Bool (is_same_name name x.0)) [
+      | inl e ↦ ap (map crowd_kept) (edited_here x es e) ∙ (λ i. made x.1 i ∷ map crowd_kept es) ∙ sym (rw e refl)
+      | inr e ↦ ap (map crowd_kept) (edited_past x es e) ∙ ap (λ cs. x.1.crowd ∷ cs) (edit_crowd g made es) ∙ sym (rw e refl)
+    ]
+
     pub edit_same_records : ((n : List ℕ) (t : KeptTube) → record_of n (f t) ≡ record_of n t) → (es : List Named) → map record_at (edited name f (lookup (is_named_at name) es) es) ≡ map record_at es
     edit_same_records same [] = refl
     edit_same_records same (x ∷ es) = elim (cases_Bool (is_same_name name x.0)) [
@@ -139,6 +156,13 @@ module _ (name : List ℕ) where
     edit_same_tallies same (x ∷ es) = elim (cases_Bool (is_same_name name x.0)) [
       | inl e ↦ ap (map tally_kept) (edited_here x es e) ∙ (λ i. same x.1 i ∷ map tally_kept es)
       | inr e ↦ ap (map tally_kept) (edited_past x es e) ∙ ap (λ ts. x.1.tally ∷ ts) (edit_same_tallies same es)
+    ]
+
+    pub edit_same_crowds : ((t : KeptTube) → (f t).crowd ≡ t.crowd) → (es : List Named) → map crowd_kept (edited name f (lookup (is_named_at name) es) es) ≡ map crowd_kept es
+    edit_same_crowds same [] = refl
+    edit_same_crowds same (x ∷ es) = elim (cases_Bool (is_same_name name x.0)) [
+      | inl e ↦ ap (map crowd_kept) (edited_here x es e) ∙ (λ i. same x.1 i ∷ map crowd_kept es)
+      | inr e ↦ ap (map crowd_kept) (edited_past x es e) ∙ ap (λ cs. x.1.crowd ∷ cs) (edit_same_crowds same es)
     ]
 
     pub edit_change : (what : TubeChange) → ((n : List ℕ) (t : KeptTube) → record_of n (f t) ≡ tube_changed what (record_of n t)) → (es : List Named) → AreInOrder (map record_at es)
@@ -198,6 +222,26 @@ module _ (name : List ℕ) where
   pub new_tally : (es : List Named) → has_entry name (map record_at es) ≡ false → map tally_kept (insert_entry (slice_cmp nat_cmp) es name fresh_entry) ≡ tallies_provided name (map record_at es) (map tally_kept es)
   new_tally es none = tally_new es none ∙ sym (ap (λ b. if b then map tally_kept es else insert (map tally_kept es) (place (records es)) (tally_of [])) none)
 
+  -- and of no client.
+  crowd_new_at : (x : Named) (es : List Named) (a : Ordering) → slice_cmp nat_cmp name x.0 ≡ a → is_same_name name x.0 ≡ false
+      → map crowd_kept (insert_entry (slice_cmp nat_cmp) es name fresh_entry) ≡ insert (map crowd_kept es) (prefix_len (λ t. is_name_before t.name name) (map record_at es)) no_crowd
+      → map crowd_kept (match_ordering a ((name, fresh_entry) ∷ x ∷ es) ((x.0, fresh_entry) ∷ es) (x ∷ insert_entry (slice_cmp nat_cmp) es name fresh_entry))
+      ≡ insert (x.1.crowd ∷ map crowd_kept es) (cond (is_name_before x.0 name) (1 + prefix_len (λ t. is_name_before t.name name) (map record_at es)) 0) no_crowd
+  crowd_new_at x es Less e other rest = rw (ap is_lt (reversed x.0 Less e)) refl
+  crowd_new_at x es Equal e other rest = absurd (let g : is_same_name name x.0 ≡ true = sym (ties name x.0) ∙ ap is_eq e in cc)
+  crowd_new_at x es Greater e other rest =
+      rw (ap is_lt (reversed x.0 Greater e)) (ap (λ cs. x.1.crowd ∷ cs) rest ∙ ap (λ k. insert (x.1.crowd ∷ map crowd_kept es) k no_crowd) (sym (one_more (place (records es)))))
+
+  crowd_new : (es : List Named) → has_entry name (map record_at es) ≡ false
+      → map crowd_kept (insert_entry (slice_cmp nat_cmp) es name fresh_entry) ≡ insert (map crowd_kept es) (prefix_len (λ t. is_name_before t.name name) (map record_at es)) no_crowd
+  crowd_new [] h = refl
+  crowd_new (x ∷ es) h =
+      let parts = head_differs (is_same_name name x.0) (has_entry name (records es)) h in
+      crowd_new_at x es (slice_cmp nat_cmp name x.0) refl parts.0 (crowd_new es parts.1)
+
+  pub new_crowd : (es : List Named) → has_entry name (map record_at es) ≡ false → map crowd_kept (insert_entry (slice_cmp nat_cmp) es name fresh_entry) ≡ crowds_provided name (map record_at es) (map crowd_kept es)
+  new_crowd es none = crowd_new es none ∙ sym (ap (λ b. if b then map crowd_kept es else insert (map crowd_kept es) (place (records es)) no_crowd) none)
+
   pub absent : (es : List Named) → is_some (lookup (is_named_at name) es) ≡ false → lookup (is_named_at name) es ≡ None
   absent es h = go (lookup (is_named_at name) es) h
     where
@@ -215,6 +259,9 @@ change_kept (Pause seconds moment) name t = refl
 pub lent_tally : (o x : Option (Bor KeptTube)) {found : Option KeptTube} → o ≡ x → option_map (λ (t : Bor KeptTube). t.now) o ≡ found → tally_by (option_map (λ (t : Bor KeptTube). t.now) x) ≡ tally_by found
 lent_tally o x is e = ap (λ y. tally_by (option_map (λ (t : Bor KeptTube). t.now) y)) (sym is) ∙ ap tally_by e
 
+pub lent_crowd : (o x : Option (Bor KeptTube)) {found : Option KeptTube} → o ≡ x → option_map (λ (t : Bor KeptTube). t.now) o ≡ found → crowd_by (option_map (λ (t : Bor KeptTube). t.now) x) ≡ crowd_by found
+lent_crowd o x is e = ap (λ y. crowd_by (option_map (λ (t : Bor KeptTube). t.now) y)) (sym is) ∙ ap crowd_by e
+
 pub lent_pause : (o x : Option (Bor KeptTube)) {found : Option KeptTube} → o ≡ x → option_map (λ (t : Bor KeptTube). t.now) o ≡ found → is_paused_by (option_map (λ (t : Bor KeptTube). t.now) x) ≡ is_paused_by found
 lent_pause o x is e = ap (λ y. is_paused_by (option_map (λ (t : Bor KeptTube). t.now) y)) (sym is) ∙ ap is_paused_by e
 
@@ -227,3 +274,6 @@ provided_there name ts h = ap (λ b. if b then ts else with_record (fresh_tube n
 
 pub tallies_provided_there : (name : List ℕ) (ts : List TubeRecord) (us : List Tally) → has_entry name ts ≡ true → tallies_provided name ts us ≡ us
 tallies_provided_there name ts us h = ap (λ b. if b then us else insert us (prefix_len (λ t. is_name_before t.name name) ts) (tally_of [])) h
+
+pub crowds_provided_there : (name : List ℕ) (ts : List TubeRecord) (us : List Crowd) → has_entry name ts ≡ true → crowds_provided name ts us ≡ us
+crowds_provided_there name ts us h = ap (λ b. if b then us else insert us (prefix_len (λ t. is_name_before t.name name) ts) no_crowd) h

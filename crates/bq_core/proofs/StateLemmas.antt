@@ -164,7 +164,7 @@ if_some (Some x) P h = h x refl
 -- comparisons change nothing else
 pub compared_sound : (old new : State) → OnlyCompares old new → IsSound old → IsSound new
 compared_sound old new same s =
-    let was : IsSound (record old { jobs = record old.jobs { comparisons = new.jobs.comparisons } }) = record { entries = s.entries; numbered = s.numbered; next = s.next; ids = s.ids; counts = s.counts; clients = s.clients; alive = s.alive; pauses = s.pauses } in
+    let was : IsSound (record old { jobs = record old.jobs { comparisons = new.jobs.comparisons } }) = record { entries = s.entries; numbered = s.numbered; next = s.next; ids = s.ids; counts = s.counts; clients = s.clients; crowds = s.crowds; alive = s.alive; pauses = s.pauses } in
     subst IsSound (sym same) was
 
 -- a change of a seat leaves it at tubes with entries
@@ -508,12 +508,12 @@ watching_numbered names i s seats found h =
     subst AreNumbered (changed_there seats i s (watching names) h found)
     (mapped_numbered (λ t. if t.number == i then watching names t else t) (λ t. same_number (t.number == i) (watching names t) t t.number refl refl) seats h)
 
-all_read : {A : Type 0} (P : A → Type 0) (xs : List A) (i : ℕ) (x : A) → All P xs → slice_get xs i ≡ Some x → P x
+pub all_read : {A : Type 0} (P : A → Type 0) (xs : List A) (i : ℕ) (x : A) → All P xs → slice_get xs i ≡ Some x → P x
 all_read P [] i x all found = absurd cc
 all_read P (y ∷ xs) zero x all found = let e : y ≡ x = cc in subst P e all.0
 all_read P (y ∷ xs) (suc i) x all found = all_read P xs i x all.1 found
 
-all_set : {A : Type 0} (P : A → Type 0) (xs : List A) (i : ℕ) (y : A) → All P xs → P y → All P (set xs i y)
+pub all_set : {A : Type 0} (P : A → Type 0) (xs : List A) (i : ℕ) (y : A) → All P xs → P y → All P (set xs i y)
 all_set P [] i y all h = tt
 all_set P (x ∷ xs) zero y all h = (h, all.1)
 all_set P (x ∷ xs) (suc i) y all h = (all.0, all_set P xs i y all.1 h)

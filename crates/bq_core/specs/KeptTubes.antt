@@ -7,24 +7,29 @@ use Rattle.std.specs.Map.{set_value}
 use Rattle.std.specs.Cmp.Lexicographic.{slice_cmp}
 use Rattle.bq_job.specs.declared.job.Job.{Job}
 use Rattle.bq_job.specs.Limits.{raised}
-use Rattle.bq_job.specs.Machine.{Pause, SeatRecord, TubeRecord, default_tube}
+use Rattle.bq_job.specs.Machine.{Pause, TubeRecord, default_tube}
 use Rattle.bq_job.specs.NextDue.{dues_of_pause, earliest}
 use Rattle.bq_job.specs.Timers.{pause_after_timers}
 use Rattle.bq_job.specs.Tubes.{fresh_tube}
+use Rattle.bq_core.specs.Crowds.{has_seats, no_crowd, recounted}
 use Rattle.bq_core.specs.Dues.{earlier_of_both}
 use Rattle.bq_core.specs.Tallies.{has_jobs, tally_of, tally_with, tally_without}
-use Rattle.bq_core.specs.TubeEntries.{is_tube_with, tube_changed}
+use Rattle.bq_core.specs.TubeEntries.{is_tube_by, tube_changed}
+use Rattle.bq_core.specs.declared.crowd.Crowd.{Crowd}
+use Rattle.bq_core.specs.declared.crowd.Moving.{Moving}
+use Rattle.bq_core.specs.declared.crowd.Share.{Share}
 use Rattle.bq_core.specs.declared.tally.Tally.{Tally}
 use Rattle.bq_core.specs.declared.tube_entry.TubeChange.{TubeChange}
 
--- the entries, and at the same places the counts of the tubes' jobs
+-- the entries, and at the same places the counts of the tubes' jobs and of their clients
 pub record KeptTubes : Type 0 where
   pub entries : List TubeRecord
   pub tallies : List Tally
+  pub crowds : List Crowd
 
--- the default tube alone, without a job
+-- the default tube alone, without a job and a client
 abbrev pub first_tubes : KeptTubes
-first_tubes = record { entries = fresh_tube default_tube ∷ []; tallies = tally_of [] ∷ [] }
+first_tubes = record { entries = fresh_tube default_tube ∷ []; tallies = tally_of [] ∷ []; crowds = no_crowd ∷ [] }
 
 -- what is kept of a tube beside its name
 pub record KeptTube : Type 0 where
@@ -33,6 +38,7 @@ pub record KeptTube : Type 0 where
   pub deletes : ℕ
   pub pauses : ℕ
   pub tally : Tally
+  pub crowd : Crowd
 
 -- an entry, by the name that it is found by
 abbrev pub Named : Type 0
@@ -48,16 +54,19 @@ record_at e = record_of e.0 e.1
 abbrev pub tally_kept : Named → Tally
 tally_kept e = e.1.tally
 
+abbrev pub crowd_kept : Named → Crowd
+crowd_kept e = e.1.crowd
+
 abbrev pub tubes_kept : List Named → KeptTubes
-tubes_kept es = record { entries = map record_at es; tallies = map tally_kept es }
+tubes_kept es = record { entries = map record_at es; tallies = map tally_kept es; crowds = map crowd_kept es }
 
 -- where nothing happened yet
 abbrev pub fresh_entry : KeptTube
-fresh_entry = record { pause = None; puts = 0; deletes = 0; pauses = 0; tally = tally_of [] }
+fresh_entry = record { pause = None; puts = 0; deletes = 0; pauses = 0; tally = tally_of []; crowd = no_crowd }
 
 -- what is kept once this happened to a tube
 abbrev pub kept_after : TubeRecord → KeptTube → KeptTube
-kept_after r t = record { pause = r.pause; puts = r.puts; deletes = r.deletes; pauses = r.pauses; tally = t.tally }
+kept_after r t = record { pause = r.pause; puts = r.puts; deletes = r.deletes; pauses = r.pauses; tally = t.tally; crowd = t.crowd }
 
 abbrev pub kept_changed : TubeChange → KeptTube → KeptTube
 kept_changed what t = kept_after (tube_changed what (record_of [] t)) t
@@ -68,6 +77,10 @@ kept_with j t = record t { tally = tally_with j t.tally }
 
 abbrev pub kept_without : Job → KeptTube → KeptTube
 kept_without j t = record t { tally = tally_without j t.tally }
+
+-- with a share of a seat more, or without it
+abbrev pub kept_recounted : Moving → Share → KeptTube → KeptTube
+kept_recounted moving share t = record t { crowd = recounted moving share t.crowd }
 
 -- the test of names that a look-up of this one makes
 abbrev pub is_named_at : List ℕ → List ℕ → Bool
@@ -88,6 +101,10 @@ abbrev pub tally_by : Option KeptTube → Tally
 tally_by None = tally_of []
 tally_by (Some t) = t.tally
 
+abbrev pub crowd_by : Option KeptTube → Crowd
+crowd_by None = no_crowd
+crowd_by (Some t) = t.crowd
+
 -- the entry once its pause, if it is over, has ended
 abbrev pub ended : ℕ → KeptTube → KeptTube
 ended moment t = record t { pause = pause_after_timers moment t.pause }
@@ -97,24 +114,24 @@ abbrev pub with_end : Option ℕ → KeptTube → Option ℕ
 with_end best t = earlier_of_both best (earliest (dues_of_pause t.pause))
 
 -- whether the tube of an entry exists
-abbrev pub is_alive_with : List SeatRecord → List ℕ → KeptTube → Bool
-is_alive_with seats name t = is_tube_with (has_jobs t.tally) seats name
+abbrev pub is_alive_with : List ℕ → KeptTube → Bool
+is_alive_with name t = is_tube_by (has_jobs t.tally) (has_seats t.crowd) name
 
-abbrev pub is_alive_at : List SeatRecord → Named → Bool
-is_alive_at seats e = is_alive_with seats e.0 e.1
+abbrev pub is_alive_at : Named → Bool
+is_alive_at e = is_alive_with e.0 e.1
 
 -- one more, if the tube exists
-abbrev pub with_alive : List SeatRecord → ℕ → List ℕ → KeptTube → ℕ
-with_alive seats count name t = if is_alive_with seats name t then raised count else count
+abbrev pub with_alive : ℕ → List ℕ → KeptTube → ℕ
+with_alive count name t = if is_alive_with name t then raised count else count
 
 -- one name more, if the tube exists
-abbrev pub with_name_of : List SeatRecord → List (List ℕ) → Bor (List ℕ) × Bor KeptTube → List (List ℕ)
-with_name_of seats names e = names ++ (if is_alive_with seats e.0.now e.1.now then e.0.now ∷ [] else [])
+abbrev pub with_name_of : List (List ℕ) → Bor (List ℕ) × Bor KeptTube → List (List ℕ)
+with_name_of names e = names ++ (if is_alive_with e.0.now e.1.now then e.0.now ∷ [] else [])
 
 -- whether the tube of this entry, if there is one, is gone
-abbrev pub is_gone_by : List SeatRecord → List ℕ → Option KeptTube → Bool
-is_gone_by seats name None = false
-is_gone_by seats name (Some t) = not (is_alive_with seats name t)
+abbrev pub is_gone_by : List ℕ → Option KeptTube → Bool
+is_gone_by name None = false
+is_gone_by name (Some t) = not (is_alive_with name t)
 
 -- not before this name, if there is one
 abbrev pub is_from : Option (List ℕ) → Named → Bool
@@ -122,5 +139,5 @@ is_from None e = true
 is_from (Some name) e = not (is_gt (slice_cmp nat_cmp name e.0))
 
 -- an entry from there on whose tube is gone
-abbrev pub is_gone_from : List SeatRecord → Option (List ℕ) → Named → Bool
-is_gone_from seats from e = is_from from e && not (is_alive_at seats e)
+abbrev pub is_gone_from : Option (List ℕ) → Named → Bool
+is_gone_from from e = is_from from e && not (is_alive_at e)

@@ -4,6 +4,7 @@ pub mod Clients
 pub mod Codes
 pub mod CoreState
 pub mod Cost
+pub mod Crowds
 pub mod Dues
 pub mod EndingWaits
 pub mod Firing

@@ -4,6 +4,7 @@ use Rattle.bq_job.specs.JobCommands.{last_id}
 use Rattle.bq_job.specs.Lawful.{AreIdsWithin}
 use Rattle.bq_job.specs.Machine.{Machine, Settings}
 use Rattle.bq_core.specs.Clients.{clients_of}
+use Rattle.bq_core.specs.Crowds.{AreCrowds}
 use Rattle.bq_core.specs.Dues.{first_pause_end}
 use Rattle.bq_core.specs.Losses.{AreAlive}
 use Rattle.bq_core.specs.SeatChanges.{AreNumbered}
@@ -43,6 +44,7 @@ pub record IsSound (s : State) : Type 0 where
   -- What is counted is what there is.
   pub counts : AreCounted s.tally s.tubes.tallies s.jobs.jobs s.tubes.entries
   pub clients : s.clients ≡ clients_of s.seats.items
+  pub crowds : AreCrowds s.tubes.crowds s.seats.items s.tubes.entries
   -- It is known which entries may be of tubes that are gone.
   pub alive : AreAlive s.loss s.jobs.jobs s.seats.items s.tubes.entries
   -- The end of the first pause is known.

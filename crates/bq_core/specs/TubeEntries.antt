@@ -43,9 +43,9 @@ tube_changed (Pause seconds moment) t = with_pause seconds moment t
 abbrev pub tube_changed_at : List ℕ → TubeChange → TubeRecord → TubeRecord
 tube_changed_at name change t = if is_same_name name t.name then tube_changed change t else t
 
--- A tube exists where it is the default tube, or a job is in it, or one of these seats uses or watches it.
-abbrev pub is_tube_with : Bool → List SeatRecord → List ℕ → Bool
-is_tube_with some seats name = is_same_name name default_tube || some || list_any (is_seated_at name) seats
+-- A tube exists where it is the default tube, or a job is in it, or an open seat uses or watches it.
+abbrev pub is_tube_by : Bool → Bool → List ℕ → Bool
+is_tube_by some seated name = is_same_name name default_tube || some || seated
 
 -- A tube exists where it is the default tube, or one of these jobs is in it, or one of these seats uses or
 -- watches it.

@@ -100,7 +100,8 @@ pub(crate) fn put(state: &mut State, alloc: Global, seat: Seat, new: NewJob) -> 
 
 /// The client waits, until this moment if there is one.
 pub(crate) fn reserve(state: &mut State, seat: Seat, until: Option<Moment>)
-    requires { IsSound state.old }
+    requires sound { IsSound state.old }
+    requires asks { is_asking (seat_with seat state.old.seats.items) ≡ true }
     ensures reply { (s : SeatRecord) → s.number ≡ seat → reserve_effect until (machine_of state.old) s ≡ silent (machine_of state.new) }
     ensures asks { AsksAsChanged state.old.jobs state.new.jobs }
     ensures sound { IsSound state.new }
@@ -113,7 +114,8 @@ pub(crate) fn reserve(state: &mut State, seat: Seat, until: Option<Moment>)
 
 /// The client waits, for so many seconds at most.
 pub(crate) fn reserve_until(state: &mut State, seat: Seat, seconds: u32)
-    requires { IsSound state.old }
+    requires sound { IsSound state.old }
+    requires asks { is_asking (seat_with seat state.old.seats.items) ≡ true }
     ensures reply { (s : SeatRecord) → s.number ≡ seat → reserve_effect (Some (later_by (machine_of state.old).moment seconds)) (machine_of state.old) s ≡ silent (machine_of state.new) }
     ensures asks { AsksAsChanged state.old.jobs state.new.jobs }
     ensures sound { IsSound state.new }

@@ -8,7 +8,7 @@ ghost use Rattle.bq_job.specs.Machine.{empty_seat};
 ghost use Rattle.bq_job.specs.NextDue.{dues_of_wait, earliest};
 ghost use Rattle.bq_job.specs.TubeCommands.{using, watching};
 ghost use Rattle.bq_job.specs.TubeName.{is_same_name};
-ghost use Rattle.bq_job.specs.Tubes.{is_seated_at, watches};
+ghost use Rattle.bq_job.specs.Tubes.{watches};
 ghost use Rattle.bq_job.specs.Waits.{is_timed_out_at};
 ghost use Rattle.bq_core.specs.EndingWaits.{is_after, turn_of};
 
@@ -104,13 +104,6 @@ impl Place {
         self.watched.as_slice()
     }
 
-    /// Whether an open seat uses the tube, and this is it.
-    pub(crate) fn is_using(&self, name: &TubeName) -> bool
-        ensures { result ≡ (self.now.connected && is_same_name name.now self.now.used) }
-    {
-        self.connected && name == &self.used
-    }
-
     pub(crate) fn watches(&self, name: &TubeName) -> bool
         ensures { result ≡ watches name.now self.now }
     {
@@ -122,13 +115,6 @@ impl Place {
         ensures { result ≡ list_any (λ other. not (is_same_name name.now other)) self.now.watched }
     {
         self.watched.has_other(name)
-    }
-
-    /// Whether an open seat uses or watches the tube, and this is it.
-    pub(crate) fn is_seated_at(&self, name: &TubeName) -> bool
-        ensures { result ≡ is_seated_at name.now self.now }
-    {
-        self.connected && (name == &self.used || self.watches(name))
     }
 
     pub(crate) fn is_waiting(&self) -> bool

@@ -1,4 +1,4 @@
-ghost use Rattle.std.specs.Prelude.{◌≡◌, ◌<◌, ◌≤◌, ◌++◌, ◌∷◌, [], OnErr, Some, None, true, length, map, max, filter, not, IfSome, IfOk};
+ghost use Rattle.std.specs.Prelude.{◌≡◌, ◌<◌, ◌≤◌, ◌++◌, ◌∷◌, [], OnErr, Some, None, true, false, length, map, max, filter, not, IfSome, IfOk};
 ghost use Rattle.std.specs.List.{list_any};
 ghost use Rattle.bq_job.specs.Changes.{job_with, seat_with, with_job, with_seat};
 ghost use Rattle.bq_job.specs.Machine.{SeatRecord, empty_seat, new_machine, numbers};
@@ -6,9 +6,10 @@ ghost use Rattle.bq_job.specs.Timers.{at_moment};
 ghost use Rattle.bq_job.specs.TubeCommands.{watching};
 ghost use Rattle.bq_job.specs.TubeName.{is_same_name};
 ghost use Rattle.bq_job.specs.TubeOrder.{tubes};
-ghost use Rattle.bq_job.specs.Tubes.{forgetting, with_tube};
+ghost use Rattle.bq_job.specs.Tubes.{forgetting, watches, with_tube};
 ghost use Rattle.bq_jobs.specs.Kept.{ComparesAtMost, with_added, without};
 ghost use Rattle.bq_core.specs.Asking.{Asks};
+ghost use Rattle.bq_core.specs.Crowds.{may_wait};
 ghost use Rattle.bq_core.specs.JobChanges.{changed};
 ghost use Rattle.bq_core.specs.KeptTubes.{first_tubes};
 ghost use Rattle.bq_core.specs.SeatChanges.{seat_changed, has_tube_of};
@@ -18,6 +19,7 @@ ghost use Rattle.bq_core.specs.TubeEntries.{has_entry, is_tube_of, tube_changed}
 
 use crate::clients::Clients;
 use crate::config::Config;
+use crate::crowd::Moving;
 use crate::job_list::{JobChange, JobKind, JobTest};
 use crate::loss::Loss;
 use crate::name_lists::Names;
@@ -26,7 +28,7 @@ use crate::seat_list::SeatChange;
 use crate::tally::Tally;
 use crate::tube_entry::TubeChange;
 use crate::tubes::Tubes;
-use crate::{job_list, loss, seat_list};
+use crate::{job_list, loss, seat_list, shares};
 use bq_job::{Body, Job, JobId, Moment, NoMemory, Seat, TubeName};
 use bq_jobs::{Jobs, laws};
 use std::alloc::Global;
@@ -227,18 +229,20 @@ pub(crate) fn change_job(state: &mut State, id: JobId, what: &JobChange)
 pub(crate) fn change_seat(state: &mut State, seat: Seat, what: &SeatChange)
     requires sound { IsSound state.old }
     requires entry { has_tube_of what.now state.old.tubes.entries ≡ true }
+    requires waits { may_wait what.now (seat_with seat state.old.seats.items) ≡ true }
     ensures after { machine_of state.new ≡ with_seat seat (seat_changed what.now) (machine_of state.old) }
     ensures jobs { state.new.jobs ≡ state.old.jobs }
     ensures sound { IsSound state.new }
     ensures config { state.new.config ≡ state.old.config }
 {
-    state
-        .clients
-        .remove(seat_list::find(state.seats.as_slice(), seat));
+    let touched = shares::touched(what);
+    let place = seat_list::find(state.seats.as_slice(), seat);
+    state.clients.remove(place);
+    shares::recount(&mut state.tubes, place, Moving::Goes, touched);
     seat_list::change_at(&mut state.seats, seat, what);
-    state
-        .clients
-        .add(seat_list::find(state.seats.as_slice(), seat));
+    let place = seat_list::find(state.seats.as_slice(), seat);
+    state.clients.add(place);
+    shares::recount(&mut state.tubes, place, Moving::Comes, touched);
     // So many seats there can be, and no count comes to its end.
     let _seats = state.seats.len();
     seat_list::lose(&mut state.loss, what);
@@ -288,7 +292,8 @@ pub(crate) fn watch_tube(
     seat: Seat,
     tube: &TubeName,
 ) -> Result<u64, NoMemory>
-    requires { IsSound state.old }
+    requires sound { IsSound state.old }
+    requires fresh { (s : SeatRecord) → seat_with seat (machine_of state.old).seats ≡ Some s → watches tube.now s ≡ false }
     ensures count { IfOk result (λ n. (s : SeatRecord) → seat_with seat (machine_of state.old).seats ≡ Some s → n ≡ length (s.watched ++ tube.now ∷ [])) }
     ensures watched { IfOk result (λ _. (s : SeatRecord) → seat_with seat (machine_of state.old).seats ≡ Some s → machine_of state.new ≡ with_seat seat (watching (s.watched ++ tube.now ∷ [])) (machine_of state.old)) }
     ensures same { OnErr result (machine_of state.new ≡ machine_of state.old) }
@@ -300,8 +305,12 @@ pub(crate) fn watch_tube(
     if usize::from(seat) >= state.seats.len() {
         return Ok(0);
     }
+    let share = shares::of_watcher(&state.seats[usize::from(seat)]);
     match seat_list::watch(&mut state.seats, alloc, seat, tube) {
-        Ok(count) => Ok(count),
+        Ok(count) => {
+            state.tubes.recount(tube, Moving::Comes, share);
+            Ok(count)
+        }
         Err(fault) => Err(fault),
     }
 }
@@ -318,6 +327,8 @@ pub(crate) fn ignore_tube(state: &mut State, seat: Seat, tube: &TubeName) -> u64
     ensures config { state.new.config ≡ state.old.config }
 {
     if usize::from(seat) < state.seats.len() {
+        let share = shares::at(&state.seats[usize::from(seat)], tube);
+        state.tubes.recount(tube, Moving::Goes, share);
         loss::lose(&mut state.loss, tube);
         seat_list::ignore(&mut state.seats, seat, tube)
     } else {
@@ -330,7 +341,7 @@ pub(crate) fn is_tube(state: &State, tube: &TubeName) -> bool
     requires { IsSound state.now }
     ensures { result ≡ is_tube_of (machine_of state.now).jobs (machine_of state.now).seats tube.now }
 {
-    state.tubes.is_tube(state.seats.as_slice(), tube)
+    state.tubes.is_tube(tube)
 }
 
 /// How many tubes exist.
@@ -338,7 +349,7 @@ pub(crate) fn tube_count(state: &State) -> u64
     requires { IsSound state.now }
     ensures { result ≡ length (tubes (machine_of state.now)) }
 {
-    state.tubes.count_alive(state.seats.as_slice())
+    state.tubes.count_alive()
 }
 
 /// The names of the tubes that exist, in byte order. Their room is asked for before.
@@ -346,7 +357,7 @@ pub(crate) fn tube_names<'a>(state: &'a State, alloc: Global) -> Result<Names<'a
     requires { IsSound state.now }
     ensures { IfOk result (λ names. names_of names.items ≡ tubes (machine_of state.now)) }
 {
-    state.tubes.names_alive(alloc, state.seats.as_slice())
+    state.tubes.names_alive(alloc)
 }
 
 /// Drops the entries of tubes that are gone. It looks only at those that may be.
@@ -358,7 +369,7 @@ pub(crate) fn forget_tubes(state: &mut State)
     ensures config { state.new.config ≡ state.old.config }
 {
     let entries = state.tubes.len();
-    state.tubes.forget_lost(state.seats.as_slice(), &state.loss);
+    state.tubes.forget_lost(&state.loss);
     state.loss = Loss::Nothing;
     state.pause_end = state.tubes.pause_end_left(entries, state.pause_end);
 }

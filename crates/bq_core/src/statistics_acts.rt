@@ -15,7 +15,7 @@ use crate::reply::Reply;
 use crate::state::State;
 use crate::texts::{ServerNumbers, TubeNumbers, job_text, names_text, server_text, tube_text};
 use crate::tube_entry::TubeEntry;
-use crate::{name_lists, seat_counts, seat_list, state};
+use crate::{name_lists, seat_list, state};
 use bq_job::{Answer, JobId, Moment, NoMemory, Seat, Text, TubeName};
 use bq_jobs::Jobs;
 use std::alloc::Global;
@@ -60,13 +60,13 @@ fn tube_numbers(state: &State, tube: &TubeName) -> TubeNumbers
 {
     let fresh = TubeEntry::new();
     let entry = state.tubes.entry_of(tube).unwrap_or(&fresh);
-    let seats = state.seats.as_slice();
+    let crowd = state.tubes.crowd_of(tube);
     TubeNumbers {
         jobs: state.tubes.tally_of(tube),
         puts: entry.puts(),
-        using: seat_counts::using(seats, tube),
-        watching: seat_counts::watching(seats, tube),
-        waiting: seat_counts::waiting_at(seats, tube),
+        using: crowd.using,
+        watching: crowd.watching,
+        waiting: crowd.waiting,
         deletes: entry.deletes(),
         pauses: entry.pauses(),
         pause: entry.pause(),

@@ -2,9 +2,10 @@
 ghost use Rattle.std.specs.Prelude.{◌≡◌, [], is_some};
 ghost use Rattle.bq_job.specs.NextDue.{dues_of_pause, earliest};
 ghost use Rattle.bq_job.specs.TubeCommands.{with_pause};
-ghost use Rattle.bq_core.specs.KeptTubes.{ended, fresh_entry, kept_after, kept_changed, record_of};
+ghost use Rattle.bq_core.specs.KeptTubes.{ended, fresh_entry, kept_after, kept_changed, kept_recounted, record_of};
 ghost use Rattle.bq_core.specs.Tallies.{tally_with, tally_without};
 
+use crate::crowd::{Crowd, Moving, Share};
 use crate::job_list::later;
 use crate::tally::Tally;
 use bq_job::{Job, Moment};
@@ -51,6 +52,7 @@ pub(crate) struct TubeEntry {
     deletes: u64,
     pauses: u64,
     tally: Tally,
+    crowd: Crowd,
 }
 
 impl Model for TubeEntry {
@@ -58,7 +60,7 @@ impl Model for TubeEntry {
 
     ghost Value = { KeptTube };
 
-    ghost view = { λ t. record { pause = t.pause; puts = t.puts; deletes = t.deletes; pauses = t.pauses; tally = t.tally } };
+    ghost view = { λ t. record { pause = t.pause; puts = t.puts; deletes = t.deletes; pauses = t.pauses; tally = t.tally; crowd = t.crowd } };
 }
 
 /// What happens to a tube.
@@ -81,6 +83,7 @@ impl TubeEntry {
             deletes: 0,
             pauses: 0,
             tally: Tally::default(),
+            crowd: Crowd::default(),
         }
     }
 
@@ -117,6 +120,13 @@ impl TubeEntry {
         ensures { result ≡ self.now.tally }
     {
         self.tally
+    }
+
+    /// How many clients are at it.
+    pub(crate) fn crowd(&self) -> Crowd
+        ensures { result ≡ self.now.crowd }
+    {
+        self.crowd
     }
 
     /// When its pause ends.
@@ -171,6 +181,13 @@ impl TubeEntry {
         ensures { self.new ≡ record self.old { tally = tally_without job.now self.old.tally } }
     {
         self.tally.remove(job);
+    }
+
+    /// Counts a share of a seat, or counts it no longer.
+    pub(crate) fn recount(&mut self, moving: Moving, share: Share)
+        ensures { self.new ≡ kept_recounted moving share self.old }
+    {
+        self.crowd.recount(moving, share);
     }
 
     pub(crate) fn fire_timer(&mut self, moment: Moment)

@@ -1,14 +1,11 @@
 //! What is asked of all entries of tubes, one after another.
 ghost use Rattle.std.specs.Prelude.{◌≡◌, ◌<◌, ◌≤◌, ◌+◌, ◌++◌, [], ◌∷◌, None, vec_len, IfOk, fold, if◌then◌else◌};
-ghost use Rattle.std.specs.List.{list_any};
 ghost use Rattle.std.specs.Vec.{vec_capacity};
-ghost use Rattle.bq_job.specs.Tubes.{is_seated_at as seated_at};
 ghost use Rattle.bq_core.specs.KeptTubes.{ended, is_alive_with, with_alive, with_end, with_name_of};
 ghost use Rattle.bq_core.specs.Texts.{names_of};
 
 use crate::dues::earlier_of;
 use crate::name_lists::Names;
-use crate::place::Place;
 use crate::tube_entry::TubeEntry;
 use crate::watch_list::default_tube;
 use bq_index::{Change, Visitor};
@@ -68,18 +65,16 @@ impl Visitor<TubeName, TubeEntry> for FirstEnd {
 
 /// How many of those that were seen are of tubes that exist. The count stops at 2^64 - 1.
 #[derive(Clone, Copy, Debug)]
-pub(crate) struct HowMany<'a> {
-    seats: &'a [Place],
+pub(crate) struct HowMany {
     count: u64,
 }
 
-impl<'a> HowMany<'a> {
-    /// None was seen yet. A tube exists where one of these seats uses or watches it, too.
-    pub(crate) fn among(seats: &'a [Place]) -> HowMany<'a>
-        ensures seats { result.seats.now ≡ seats.now }
-        ensures count { result.count ≡ 0 }
+impl HowMany {
+    /// None was seen yet.
+    pub(crate) fn none() -> HowMany
+        ensures { result ≡ record { count = 0 } }
     {
-        HowMany { seats, count: 0 }
+        HowMany { count: 0 }
     }
 
     pub(crate) fn count(&self) -> u64
@@ -89,38 +84,31 @@ impl<'a> HowMany<'a> {
     }
 }
 
-impl<'a> Visitor<TubeName, TubeEntry> for HowMany<'a> {
-    ghost after = { λ s n t. record s { count = with_alive s.seats.now s.count n t } };
+impl Visitor<TubeName, TubeEntry> for HowMany {
+    ghost after = { λ s n t. record { count = with_alive s.count n t } };
 
     fn visit(&mut self, name: &TubeName, entry: &TubeEntry) {
-        if is_alive(name, entry, self.seats) {
+        if is_alive(name, entry) {
             self.count = self.count.saturating_add(1);
         }
     }
 }
 
-/// Whether an open seat uses or watches the tube.
-pub(crate) fn is_seated_at(seats: &[Place], name: &TubeName) -> bool
-    ensures { result ≡ list_any (seated_at name.now) seats.now }
-{
-    seats.iter().any(|place| place.is_seated_at(name))
-}
-
 /// Whether the tube of an entry exists.
-pub(crate) fn is_alive(name: &TubeName, entry: &TubeEntry, seats: &[Place]) -> bool
-    ensures { result ≡ is_alive_with seats.now name.now entry.now }
+pub(crate) fn is_alive(name: &TubeName, entry: &TubeEntry) -> bool
+    ensures { result ≡ is_alive_with name.now entry.now }
 {
-    *name == default_tube() || entry.tally().has_jobs() || is_seated_at(seats, name)
+    *name == default_tube() || entry.tally().has_jobs() || entry.crowd().has_seats()
 }
 
 // Adds the name of an entry, if its tube exists. It takes no memory.
-fn add_alive<'a>(names: &mut Names<'a>, name: &'a TubeName, entry: &TubeEntry, seats: &[Place])
+fn add_alive<'a>(names: &mut Names<'a>, name: &'a TubeName, entry: &TubeEntry)
     requires { vec_len names.old < vec_capacity names.old }
-    ensures names { names_of names.new.items ≡ names_of names.old.items ++ (if is_alive_with seats.now name.now entry.now then name.now ∷ [] else []) }
+    ensures names { names_of names.new.items ≡ names_of names.old.items ++ (if is_alive_with name.now entry.now then name.now ∷ [] else []) }
     ensures len { vec_len names.new ≤ vec_len names.old + 1 }
     ensures capacity { vec_capacity names.new ≡ vec_capacity names.old }
 {
-    if is_alive(name, entry, seats) {
+    if is_alive(name, entry) {
         names.push_reserved(name.as_slice());
     }
 }
@@ -129,16 +117,15 @@ fn add_alive<'a>(names: &mut Names<'a>, name: &'a TubeName, entry: &TubeEntry, s
 pub(crate) fn names_alive<'a>(
     alloc: Global,
     listed: &[(&'a TubeName, &'a TubeEntry)],
-    seats: &[Place],
 ) -> Result<Names<'a>, NoMemory>
-    ensures { IfOk result (λ names. names_of names.items ≡ fold (with_name_of seats.now) [] listed.now) }
+    ensures { IfOk result (λ names. names_of names.items ≡ fold with_name_of [] listed.now) }
 {
     let Ok(mut names) = Vec::with_capacity(alloc, listed.len()) else {
         return Err(NoMemory);
     };
     for i in 0..listed.len() {
         let (name, entry) = listed[i];
-        add_alive(&mut names, name, entry, seats);
+        add_alive(&mut names, name, entry);
     }
     Ok(names)
 }

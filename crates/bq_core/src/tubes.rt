@@ -3,17 +3,19 @@ ghost use Rattle.std.specs.Prelude.{◌≡◌, ◌&&◌, IfOk, filter, find, len
 ghost use Rattle.std.specs.List.{list_any};
 ghost use Rattle.std.specs.Option.{option_map};
 ghost use Rattle.bq_job.specs.declared.job.Job.{Job};
+ghost use Rattle.bq_job.specs.Machine.{SeatRecord};
 ghost use Rattle.bq_job.specs.TubeName.{is_same_name};
 ghost use Rattle.bq_job.specs.Timers.{tube_after_timers};
+ghost use Rattle.bq_core.specs.Crowds.{crowd_at, crowds_at, crowds_of, crowds_provided, has_seats, recounted};
 ghost use Rattle.bq_core.specs.Dues.{first_pause_end, pause_end_after, pause_end_left};
 ghost use Rattle.bq_core.specs.Losses.{AreAlive};
 ghost use Rattle.bq_core.specs.Tallies.{has_jobs, tallies_of, tallies_provided, tallies_with, tallies_without, tally_at};
 ghost use Rattle.bq_core.specs.Texts.{names_of};
-ghost use Rattle.bq_core.specs.TubeEntries.{AreInOrder, is_tube_of, is_tube_with, names_alive, provided, tube_changed_at};
+ghost use Rattle.bq_core.specs.TubeEntries.{AreInOrder, is_tube_by, is_tube_of, names_alive, provided, tube_changed_at};
 
+use crate::crowd::{Crowd, Moving, Share};
 use crate::loss::Loss;
 use crate::name_lists::Names;
-use crate::place::Place;
 use crate::tally::Tally;
 use crate::tube_entry::{TubeChange, TubeEntry};
 use crate::tube_walks::{self, EndPauses, FirstEnd, HowMany};
@@ -41,7 +43,7 @@ impl Model for Tubes {
 impl Tubes {
     ghost use Rattle.bq_core.specs.KeptTubes.{first_tubes, record_of};
 
-    /// The default tube, which has no job.
+    /// The default tube, which has no job and no client.
     pub(crate) fn first(alloc: Global) -> Result<Tubes, NoMemory>
         ensures { IfOk result (λ tubes. tubes ≡ first_tubes) }
     {
@@ -62,6 +64,7 @@ impl Tubes {
     pub(crate) fn provide(&mut self, alloc: Global, name: &TubeName) -> Result<(), NoMemory>
         ensures entries { self.new.entries ≡ (if is_ok result then provided name.now self.old.entries else self.old.entries) }
         ensures tallies { self.new.tallies ≡ (if is_ok result then tallies_provided name.now self.old.entries self.old.tallies else self.old.tallies) }
+        ensures crowds { self.new.crowds ≡ (if is_ok result then crowds_provided name.now self.old.entries self.old.crowds else self.old.crowds) }
     {
         if self.kept.peek(name).is_some() {
             return Ok(());
@@ -75,6 +78,7 @@ impl Tubes {
     pub(crate) fn change(&mut self, name: &TubeName, what: TubeChange)
         ensures entries { self.new.entries ≡ map (tube_changed_at name.now what) self.old.entries }
         ensures tallies { self.new.tallies ≡ self.old.tallies }
+        ensures crowds { self.new.crowds ≡ self.old.crowds }
     {
         // The names are in order.
         let _entries = self.kept.len();
@@ -85,6 +89,7 @@ impl Tubes {
     pub(crate) fn fire_timers(&mut self, moment: Moment)
         ensures entries { self.new.entries ≡ map (tube_after_timers moment) self.old.entries }
         ensures tallies { self.new.tallies ≡ self.old.tallies }
+        ensures crowds { self.new.crowds ≡ self.old.crowds }
     {
         self.kept.change_all(&EndPauses::at(moment));
     }
@@ -112,6 +117,7 @@ impl Tubes {
     pub(crate) fn add_job(&mut self, job: &Job)
         ensures entries { self.new.entries ≡ self.old.entries }
         ensures tallies { self.new.tallies ≡ tallies_with job.now self.old.entries self.old.tallies }
+        ensures crowds { self.new.crowds ≡ self.old.crowds }
     {
         tube_edits::add_job(&mut self.kept, job);
     }
@@ -120,6 +126,7 @@ impl Tubes {
     pub(crate) fn remove_job(&mut self, job: &Job)
         ensures entries { self.new.entries ≡ self.old.entries }
         ensures tallies { self.new.tallies ≡ tallies_without job.now self.old.entries self.old.tallies }
+        ensures crowds { self.new.crowds ≡ self.old.crowds }
     {
         tube_edits::remove_job(&mut self.kept, job);
     }
@@ -134,49 +141,62 @@ impl Tubes {
         }
     }
 
-    /// Whether the tube exists.
-    pub(crate) fn is_tube(&self, seats: &[Place], name: &TubeName) -> bool
-        ensures { result ≡ is_tube_with (has_jobs (tally_at name.now self.now.entries self.now.tallies)) seats.now name.now }
+    /// Counts a share of a seat at the tube of this name, or counts it no longer.
+    pub(crate) fn recount(&mut self, name: &TubeName, moving: Moving, share: Share)
+        ensures entries { self.new.entries ≡ self.old.entries }
+        ensures tallies { self.new.tallies ≡ self.old.tallies }
+        ensures crowds { self.new.crowds ≡ crowds_at name.now (recounted moving share) self.old.entries self.old.crowds }
     {
-        *name == default_tube()
-            || self.tally_of(name).has_jobs()
-            || tube_walks::is_seated_at(seats, name)
+        tube_edits::recount(&mut self.kept, name, moving, share);
+    }
+
+    /// How many clients are at the tube of this name; none where it has no entry.
+    pub(crate) fn crowd_of(&self, name: &TubeName) -> Crowd
+        ensures { result ≡ crowd_at name.now self.now.entries self.now.crowds }
+    {
+        match self.kept.peek(name) {
+            None => Crowd::default(),
+            Some(entry) => entry.crowd(),
+        }
+    }
+
+    /// Whether the tube exists.
+    pub(crate) fn is_tube(&self, name: &TubeName) -> bool
+        ensures { result ≡ is_tube_by (has_jobs (tally_at name.now self.now.entries self.now.tallies)) (has_seats (crowd_at name.now self.now.entries self.now.crowds)) name.now }
+    {
+        *name == default_tube() || self.tally_of(name).has_jobs() || self.crowd_of(name).has_seats()
     }
 
     /// How many tubes exist.
-    pub(crate) fn count_alive(&self, seats: &[Place]) -> u64
-        ensures { (jobs : List Job) → self.now.tallies ≡ tallies_of jobs self.now.entries → result ≡ length (names_alive jobs seats.now self.now.entries) }
+    pub(crate) fn count_alive(&self) -> u64
+        ensures { (jobs : List Job) (seats : List SeatRecord) → self.now.tallies ≡ tallies_of jobs self.now.entries → self.now.crowds ≡ crowds_of seats self.now.entries → result ≡ length (names_alive jobs seats self.now.entries) }
     {
         // So many there can be, and the count doesn't come to its end.
         let _entries = self.kept.len();
-        let mut alive = HowMany::among(seats);
+        let mut alive = HowMany::none();
         self.kept.walk(&mut alive);
         alive.count()
     }
 
     /// The names of the tubes that exist, in byte order. Their room is asked for before.
-    pub(crate) fn names_alive<'a>(
-        &'a self,
-        alloc: Global,
-        seats: &[Place],
-    ) -> Result<Names<'a>, NoMemory>
-        ensures { (jobs : List Job) → self.now.tallies ≡ tallies_of jobs self.now.entries → IfOk result (λ names. names_of names.items ≡ names_alive jobs seats.now self.now.entries) }
+    pub(crate) fn names_alive<'a>(&'a self, alloc: Global) -> Result<Names<'a>, NoMemory>
+        ensures { (jobs : List Job) (seats : List SeatRecord) → self.now.tallies ≡ tallies_of jobs self.now.entries → self.now.crowds ≡ crowds_of seats self.now.entries → IfOk result (λ names. names_of names.items ≡ names_alive jobs seats self.now.entries) }
     {
         match self.kept.list(alloc) {
-            Ok(listed) => tube_walks::names_alive(alloc, listed.as_slice(), seats),
+            Ok(listed) => tube_walks::names_alive(alloc, listed.as_slice()),
             Err(_) => Err(NoMemory),
         }
     }
 
     /// Drops the entries of tubes that are gone, which are among those that may be.
-    pub(crate) fn forget_lost(&mut self, seats: &[Place], loss: &Loss)
-        ensures after { (jobs : List Job) → AreInOrder self.old.entries → AreAlive loss.now jobs seats.now self.old.entries → self.old.tallies ≡ tallies_of jobs self.old.entries → self.new.entries ≡ filter (λ t. is_tube_of jobs seats.now t.name) self.old.entries }
-        ensures tallies { (jobs : List Job) → self.old.tallies ≡ tallies_of jobs self.old.entries → self.new.tallies ≡ tallies_of jobs self.new.entries }
+    pub(crate) fn forget_lost(&mut self, loss: &Loss)
+        ensures after { (jobs : List Job) (seats : List SeatRecord) → AreInOrder self.old.entries → AreAlive loss.now jobs seats self.old.entries → self.old.tallies ≡ tallies_of jobs self.old.entries → self.old.crowds ≡ crowds_of seats self.old.entries → self.new.entries ≡ filter (λ t. is_tube_of jobs seats t.name) self.old.entries }
+        ensures kept { (jobs : List Job) (seats : List SeatRecord) → self.old.tallies ≡ tallies_of jobs self.old.entries → self.old.crowds ≡ crowds_of seats self.old.entries → (self.new.tallies ≡ tallies_of jobs self.new.entries) × (self.new.crowds ≡ crowds_of seats self.new.entries) }
     {
         match loss {
             Loss::Nothing => {}
-            Loss::Of(name) => forgetting::forget_named(&mut self.kept, seats, name),
-            Loss::Any => forgetting::forget_all(&mut self.kept, seats),
+            Loss::Of(name) => forgetting::forget_named(&mut self.kept, name),
+            Loss::Any => forgetting::forget_all(&mut self.kept),
         }
     }
 

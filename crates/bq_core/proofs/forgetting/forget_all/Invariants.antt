@@ -6,8 +6,8 @@ use Rattle.bq_core.proofs.forgetting.forget_all.Given as goal
 
 abbrev pub invariant-loop-name : goal.invariant-loop-name
 invariant-loop-name l = record {
-  left : filter (is_alive_at l.seats) l.shelf.entries ≡ filter (is_alive_at l.seats) l.fn.shelf.entries;
-  before : AllLeftBefore l.seats l.last l.shelf.entries;
+  left : filter is_alive_at l.shelf.entries ≡ filter is_alive_at l.fn.shelf.entries;
+  before : AllLeftBefore l.last l.shelf.entries;
 }
 
 abbrev pub decreases-loop-name : goal.decreases-loop-name

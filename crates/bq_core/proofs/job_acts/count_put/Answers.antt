@@ -14,6 +14,7 @@ returns-clause-sound c =
       ids = ids_further 1 st.next_id (st.next_id + 1) st.jobs.jobs (omega arith) was.ids;
       counts = was.counts;
       clients = was.clients;
+      crowds = was.crowds;
       alive = was.alive;
       pauses = was.pauses;
     }

@@ -26,6 +26,7 @@ returns-clause-sound c =
         each = c.add_job.ensures.tallies ∙ made.each ∙ (λ i. tallies_of (sym c.add-2.ensures.jobs i) (sym c.add_job.ensures.entries i));
       };
       clients = was.clients;
+      crowds = rw (c.add_job.ensures.crowds, c.add_job.ensures.entries) was.crowds;
       alive = rw (c.find.ensures, c.add-2.ensures.jobs, c.add_job.ensures.entries) (alive_added j st.loss st.jobs.jobs st.seats.items st.tubes.entries was.alive);
       pauses = was.pauses ∙ ap first_pause_end (sym c.add_job.ensures.entries);
     }

@@ -1,35 +1,54 @@
-use Rattle.std.proofs.Common.{◌∙◌, ap, arith, sym}
+use Rattle.std.proofs.Common.{◌≤◌, ◌∙◌, ap, arith, length, map, sym}
 use Rattle.bq_job.specs.Changes.{seat_with}
+use Rattle.bq_job.specs.Limits.{greatest}
 use Rattle.bq_core.specs.Clients.{clients_of, clients_with, clients_without}
+use Rattle.bq_core.specs.Crowds.{crowds_of, crowds_recounted_for, touched}
+use Rattle.bq_core.specs.Dues.{first_pause_end}
+use Rattle.bq_core.specs.SeatChanges.{seat_changed_at}
+use Rattle.bq_core.specs.declared.crowd.Moving.TheVariants.{Comes, Goes}
 use Rattle.bq_core.proofs.ClientLemmas.{clients_moved}
+use Rattle.bq_core.proofs.CrowdLemmas.{crowds_moved}
 use Rattle.bq_core.proofs.LossLemmas.{alive_at_seats}
 use Rattle.bq_core.proofs.StateLemmas.{entries_of_seat, numbered_after}
 use Rattle.bq_core.proofs.state.change_seat.Goals as goal
 
-pub find-requires-2 : goal.find-requires-2
-find-requires-2 c =
+pub find-place-requires-2 : goal.find-place-requires-2
+find-place-requires-2 c =
     rw (c.as_slice-2.ensures.value, c.change_at.ensures) (numbered_after c.args.seat c.args.what.now c.args.state.now.seats.items c.requires.sound.numbered)
 
 pub returns-clause-sound : goal.returns-clause-sound
 returns-clause-sound c =
+    let st = c.args.state.now in
     let was = c.requires.sound in
+    let seats = st.seats.items in
+    let there = seat_with c.args.seat in
+    let numbered = numbered_after c.args.seat c.args.what.now seats was.numbered in
+    let few : length seats ≤ greatest = omega (arith, c.len-seats.ensures) in
+    let taken = c.find-place.ensures ∙ ap there c.as_slice.ensures.value in
+    let given = c.find-place-2.ensures ∙ ap there (c.as_slice-2.ensures.value ∙ c.change_at.ensures) in
+    let entries = c.recount-2.ensures.entries ∙ c.recount.ensures.entries in
+    let touches = c.touched-touched.ensures in
+    let crowds = crowds_moved c.args.seat c.args.what.now st.tubes.crowds seats st.tubes.entries was.numbered few was.entries.order c.requires.waits was.crowds in
     record {
-      entries = rw c.change_at.ensures (entries_of_seat c.args.seat c.args.what.now c.args.state.now.jobs.jobs c.args.state.now.seats.items c.args.state.now.tubes.entries c.requires.entry was.entries);
-      numbered = rw c.change_at.ensures (numbered_after c.args.seat c.args.what.now c.args.state.now.seats.items was.numbered);
+      entries = rw (c.change_at.ensures, entries) (entries_of_seat c.args.seat c.args.what.now st.jobs.jobs seats st.tubes.entries c.requires.entry was.entries);
+      numbered = rw c.change_at.ensures numbered;
       next = was.next;
       ids = was.ids;
-      counts = was.counts;
+      counts = rw (entries, c.recount-2.ensures.tallies, c.recount.ensures.tallies) was.counts;
       clients =
-          let seats = c.args.state.now.seats.items in
-          let there = seat_with c.args.seat in
-          let numbered = numbered_after c.args.seat c.args.what.now seats was.numbered in
-          let taken = c.remove.ensures
-          ∙ (λ i. clients_without ((c.find.ensures ∙ ap there c.as_slice.ensures.value) i) (was.clients i)) in
-          let given = c.find-2.ensures ∙ ap there (c.as_slice-2.ensures.value ∙ c.change_at.ensures) in
           c.add.ensures
-          ∙ (λ i. clients_with (given i) (taken i))
-          ∙ clients_moved c.args.seat c.args.what.now seats was.numbered numbered (omega (arith, c.len-seats.ensures))
+          ∙ (λ i. clients_with (given i) ((c.remove.ensures ∙ (λ k. clients_without (taken k) (was.clients k))) i))
+          ∙ clients_moved c.args.seat c.args.what.now seats was.numbered numbered few
           ∙ ap clients_of (sym c.change_at.ensures);
-      alive = rw (c.lose.ensures, c.change_at.ensures) (alive_at_seats c.args.seat c.args.what.now c.args.state.now.loss c.args.state.now.jobs.jobs c.args.state.now.seats.items c.args.state.now.tubes.entries was.alive);
-      pauses = was.pauses;
+      crowds = record {
+        each =
+            c.recount-2.ensures.crowds
+            ∙ (λ i. crowds_recounted_for Comes (touches i) (given i) (c.recount.ensures.entries i) (c.recount.ensures.crowds i))
+            ∙ (λ i. crowds_recounted_for Comes (touched c.args.what.now) (there (map (seat_changed_at c.args.seat c.args.what.now) seats)) st.tubes.entries (crowds_recounted_for Goes (touches i) (taken i) st.tubes.entries st.tubes.crowds))
+            ∙ crowds.each
+            ∙ (λ i. crowds_of (sym c.change_at.ensures i) (sym entries i));
+        seated = rw c.change_at.ensures crowds.seated;
+      };
+      alive = rw (c.lose.ensures, c.change_at.ensures, entries) (alive_at_seats c.args.seat c.args.what.now st.loss st.jobs.jobs seats st.tubes.entries was.alive);
+      pauses = was.pauses ∙ ap first_pause_end (sym entries);
     }

@@ -2,6 +2,7 @@ use Rattle.std.proofs.Common.{◌∙◌, ap, sym}
 use Rattle.bq_core.specs.Dues.{first_pause_end, pause_end_after}
 use Rattle.bq_core.specs.State.{machine_of}
 use Rattle.bq_core.specs.TubeEntries.{counted, tube_changed, tube_changed_at}
+use Rattle.bq_core.proofs.CrowdPlaces.{crowds_kept}
 use Rattle.bq_core.proofs.LossLemmas.{alive_renamed}
 use Rattle.bq_core.proofs.PauseLemmas.{end_after_change}
 use Rattle.bq_core.proofs.StateLemmas.{entries_of_tube, name_kept_at, tube_counts, tube_name_kept}
@@ -28,6 +29,7 @@ returns-clause-sound c =
       ids = was.ids;
       counts = rw (c.change.ensures.entries, c.change.ensures.tallies) (counted_kept (tube_changed_at c.args.tube.now c.args.what) (name_kept_at c.args.tube.now c.args.what) s.tally s.tubes.tallies s.jobs.jobs s.tubes.entries was.counts);
       clients = was.clients;
+      crowds = rw (c.change.ensures.entries, c.change.ensures.crowds) (crowds_kept (tube_changed_at c.args.tube.now c.args.what) (name_kept_at c.args.tube.now c.args.what) s.tubes.crowds s.seats.items s.tubes.entries was.crowds);
       alive = rw c.change.ensures.entries (alive_renamed (tube_changed_at c.args.tube.now c.args.what) (name_kept_at c.args.tube.now c.args.what) s.loss s.jobs.jobs s.seats.items s.tubes.entries was.alive);
       pauses =
           c.pause_end_after-state.ensures

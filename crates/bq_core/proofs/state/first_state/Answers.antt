@@ -3,6 +3,7 @@ use Rattle.bq_job.specs.Machine.{numbers}
 use Rattle.bq_jobs.specs.Kept.{Kept}
 use Rattle.bq_core.specs.KeptTubes.{KeptTubes}
 use Rattle.bq_core.proofs.ClientLemmas.{first_clients}
+use Rattle.bq_core.proofs.CrowdPlaces.{first_crowds}
 use Rattle.bq_core.proofs.StateLemmas.{first_entries, first_numbered}
 use Rattle.bq_core.proofs.TallyPlaces.{none_counted}
 use Rattle.bq_core.proofs.state.first_state.Goals as goal
@@ -15,6 +16,7 @@ returns-clause-sound c =
       next = λ _. omega arith;
       ids = rw (ap (λ (k : Kept). k.jobs) c.new.ensures) (omega arith);
       clients = rw c.requires.free (first_clients c.default-2.result c.default-2.ensures (numbers 0 c.args.config.seats));
+      crowds = rw (ap (λ (k : KeptTubes). k.crowds) c.requires.first, c.requires.free, entries) (first_crowds (numbers 0 c.args.config.seats));
       alive = rw entries (refl, tt);
       pauses = rw entries refl;
       counts = rw (ap (λ (k : Kept). k.jobs) c.new.ensures, entries) (record { whole = none_counted c.default.result c.default.ensures; each = ap (λ (k : KeptTubes). k.tallies) c.requires.first });

@@ -1,13 +1,17 @@
-use Rattle.std.proofs.Common.{◌∙◌, ap, sym, arith, not, filter}
-use Rattle.std.proofs.lemmas.Option.{slice_get_within}
+use Rattle.std.proofs.Common.{◌≤◌, ◌≡◌, ◌∙◌, ap, sym, arith, not, filter, get_or, length, refl}
+use Rattle.std.proofs.lemmas.Option.{slice_get_read, slice_get_within}
+use Rattle.bq_job.specs.Limits.{greatest}
 use Rattle.bq_job.specs.TubeCommands.{watching}
 use Rattle.bq_job.specs.TubeName.{is_same_name}
 use Rattle.bq_core.specs.Clients.{clients_of}
+use Rattle.bq_core.specs.Crowds.{share_of_watching}
+use Rattle.bq_core.specs.Dues.{first_pause_end}
 use Rattle.bq_core.specs.State.{machine_of}
 use Rattle.bq_core.proofs.ClientLemmas.{clients_watching}
+use Rattle.bq_core.specs.TubeEntries.{counted}
+use Rattle.bq_core.proofs.CrowdWatching.{crowds_ignoring}
 use Rattle.bq_core.proofs.LossLemmas.{alive_ignoring}
 use Rattle.bq_core.proofs.StateLemmas.{changed_there, seat_read, seat_there, watching_fewer, watching_numbered}
-use Rattle.bq_core.proofs.TurnLemmas.{some_at}
 use Rattle.bq_core.proofs.state.ignore_tube.Goals as goal
 
 pub ignore-requires-clause-other : goal.ignore-requires-clause-other
@@ -19,24 +23,31 @@ returns-then-from-len-clause-after c s found =
     let old = c.args.state.now in
     let there = seat_there old.seats.items c.args.seat s c.requires.sound.numbered found in
     let names = filter (λ other. not (is_same_name c.args.tube.now other)) s.watched in
-    ap (λ seats. record (machine_of old) { seats = seats })
+    ap (λ entries. record (machine_of old) { seats = c.ignore.new.seats.items; tubes = counted entries }) c.recount.ensures.entries
+    ∙ ap (λ seats. record (machine_of old) { seats = seats })
     (c.ignore.ensures.ignored s there ∙ sym (changed_there old.seats.items c.args.seat s (watching names) c.requires.sound.numbered there))
 
 pub returns-then-from-len-clause-sound : goal.returns-then-from-len-clause-sound
 returns-then-from-len-clause-sound c =
     let old = c.args.state.now in
     let was = c.requires.sound in
-    let s = some_at old.seats.items c.args.seat (omega arith) in
-    let seats = c.ignore.ensures.ignored s.0 s.1 in
+    let t = c.index.result.now in
+    let read : t ≡ get_or old.seats.items c.args.seat t = c.index.ensures ∙ ap (λ k. get_or old.seats.items k t) c.from-then-from-len.ensures in
+    let here = slice_get_read old.seats.items (length old.seats.items) c.args.seat t refl (omega arith) read in
+    let share : c.at-share.result ≡ share_of_watching c.args.tube.now t = c.at-share.ensures in
+    let few : length old.seats.items ≤ greatest = omega (arith, c.len.ensures) in
+    let entries = c.recount.ensures.entries in
+    let seats = c.ignore.ensures.ignored t here in
     record {
-      entries = rw seats (watching_fewer (λ other. not (is_same_name c.args.tube.now other)) c.args.seat s.0 old.jobs.jobs old.seats.items old.tubes.entries s.1 was.entries);
-      numbered = rw seats (watching_numbered (filter (λ other. not (is_same_name c.args.tube.now other)) s.0.watched) c.args.seat s.0 old.seats.items s.1 was.numbered);
+      entries = rw (seats, entries) (watching_fewer (λ other. not (is_same_name c.args.tube.now other)) c.args.seat t old.jobs.jobs old.seats.items old.tubes.entries here was.entries);
+      numbered = rw seats (watching_numbered (filter (λ other. not (is_same_name c.args.tube.now other)) t.watched) c.args.seat t old.seats.items here was.numbered);
       next = was.next;
       ids = was.ids;
-      counts = was.counts;
-      clients = was.clients ∙ sym (clients_watching (filter (λ other. not (is_same_name c.args.tube.now other)) s.0.watched) c.args.seat s.0 old.seats.items s.1 was.numbered) ∙ ap clients_of (sym seats);
-      alive = rw (seats, c.lose.ensures) (alive_ignoring c.args.tube.now c.args.seat s.0 old.loss old.jobs.jobs old.seats.items old.tubes.entries s.1 was.alive);
-      pauses = was.pauses;
+      counts = rw (entries, c.recount.ensures.tallies) was.counts;
+      clients = was.clients ∙ sym (clients_watching (filter (λ other. not (is_same_name c.args.tube.now other)) t.watched) c.args.seat t old.seats.items here was.numbered) ∙ ap clients_of (sym seats);
+      crowds = rw (seats, entries, c.recount.ensures.crowds, share) (crowds_ignoring c.args.tube.now c.args.seat t old.tubes.crowds old.seats.items old.tubes.entries here was.numbered few was.entries.order was.crowds);
+      alive = rw (seats, c.lose.ensures, entries) (alive_ignoring c.args.tube.now c.args.seat t old.loss old.jobs.jobs old.seats.items old.tubes.entries here was.alive);
+      pauses = was.pauses ∙ ap first_pause_end (sym entries);
     }
 
 pub returns-else-from-len-clause-after : goal.returns-else-from-len-clause-after

@@ -2,6 +2,7 @@ use Rattle.std.proofs.Common.{◌∙◌, ap, sym}
 use Rattle.bq_core.specs.Dues.{first_pause_end}
 use Rattle.bq_core.specs.State.{machine_of}
 use Rattle.bq_core.specs.TubeEntries.{counted, has_entry}
+use Rattle.bq_core.proofs.CrowdPlaces.{crowds_of_provided}
 use Rattle.bq_core.proofs.LossLemmas.{alive_provided}
 use Rattle.bq_core.proofs.PauseLemmas.{end_provided}
 use Rattle.bq_core.proofs.StateLemmas.{counted_provided, entries_provided, has_provided}
@@ -27,6 +28,9 @@ returns-in-Ok-clause-sound c =
           let st = c.args.state.now in
           rw (c.in-Ok.ensures.entries, c.in-Ok.ensures.tallies) (tallies_of_provided c.args.tube.now st.tally st.tubes.tallies st.jobs.jobs st.tubes.entries was.entries.of_jobs was.counts);
       clients = was.clients;
+      crowds =
+          let st = c.args.state.now in
+          rw (c.in-Ok.ensures.entries, c.in-Ok.ensures.crowds) (crowds_of_provided c.args.tube.now st.tubes.crowds st.seats.items st.tubes.entries was.entries.of_seats was.crowds);
       alive = rw (c.lose.ensures, c.in-Ok.ensures.entries) (alive_provided c.args.tube.now c.args.state.now.loss c.args.state.now.jobs.jobs c.args.state.now.seats.items c.args.state.now.tubes.entries was.alive);
       pauses = was.pauses ∙ sym (end_provided c.args.tube.now c.args.state.now.tubes.entries) ∙ ap first_pause_end (sym c.in-Ok.ensures.entries);
     }
@@ -37,4 +41,4 @@ returns-in-Err-clause-after c = ap (λ tubes. record (machine_of c.args.state.no
 pub returns-in-Err-clause-sound : goal.returns-in-Err-clause-sound
 returns-in-Err-clause-sound c =
     let was = c.requires in
-    record { entries = rw c.in-Err.ensures.entries was.entries; numbered = was.numbered; next = was.next; ids = was.ids; counts = rw (c.in-Err.ensures.entries, c.in-Err.ensures.tallies) was.counts; clients = was.clients; alive = rw c.in-Err.ensures.entries was.alive; pauses = rw c.in-Err.ensures.entries was.pauses }
+    record { entries = rw c.in-Err.ensures.entries was.entries; numbered = was.numbered; next = was.next; ids = was.ids; counts = rw (c.in-Err.ensures.entries, c.in-Err.ensures.tallies) was.counts; clients = was.clients; crowds = rw (c.in-Err.ensures.entries, c.in-Err.ensures.crowds) was.crowds; alive = rw c.in-Err.ensures.entries was.alive; pauses = rw c.in-Err.ensures.entries was.pauses }

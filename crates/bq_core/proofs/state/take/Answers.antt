@@ -20,6 +20,7 @@ returns-in_err-job-clause-sound c =
       ids = rw same c.requires.ids;
       counts = rw same c.requires.counts;
       clients = c.requires.clients;
+      crowds = c.requires.crowds;
       alive = rw same c.requires.alive;
       pauses = c.requires.pauses;
     }
@@ -51,6 +52,7 @@ returns-clause-sound c =
         each = c.remove_job.ensures.tallies ∙ made.each ∙ (λ i. tallies_of (sym c.remove.ensures.jobs i) (sym c.remove_job.ensures.entries i));
       };
       clients = was.clients;
+      crowds = rw (c.remove_job.ensures.crowds, c.remove_job.ensures.entries) was.crowds;
       alive = rw (c.lose.ensures, c.remove.ensures.jobs, c.remove_job.ensures.entries) (alive_taken 1 st.next_id c.args.id j st.loss st.jobs.jobs st.seats.items st.tubes.entries was.ids found was.alive);
       pauses = was.pauses ∙ ap first_pause_end (sym c.remove_job.ensures.entries);
     }

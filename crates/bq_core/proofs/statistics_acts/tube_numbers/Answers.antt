@@ -1,13 +1,15 @@
 use Rattle.std.proofs.Common.{◌≡◌, ◌∙◌, List, ap, refl, sym}
 use Rattle.std.specs.Borrow.{Bor}
 use Rattle.std.specs.Prelude.{find, unwrap_or}
-use Rattle.bq_job.specs.Machine.{SeatRecord, TubeRecord}
-use Rattle.bq_job.specs.Statistics.{using_count, waiting_clients_of, watching_count}
+use Rattle.bq_job.specs.Machine.{TubeRecord}
 use Rattle.bq_job.specs.TubeName.{is_same_name}
 use Rattle.bq_job.specs.Tubes.{tube_record}
 use Rattle.bq_core.specs.KeptTubes.{KeptTube, record_of}
+use Rattle.bq_core.specs.declared.crowd.Crowd.{Crowd}
+use Rattle.bq_core.specs.Crowds.{crowd_of}
 use Rattle.bq_core.specs.State.{machine_of}
 use Rattle.bq_core.specs.Tallies.{tally_at}
+use Rattle.bq_core.proofs.CrowdPlaces.{crowd_there}
 use Rattle.bq_core.proofs.NameLemmas.{lent_or, record_of_entry}
 use Rattle.bq_core.proofs.TallyPlaces.{tally_there}
 use Rattle.bq_core.proofs.statistics_acts.tube_numbers.Goals as goal
@@ -22,15 +24,15 @@ returns c =
     ∙ lent_or (record_of name) c.entry_of.result _ _ c.entry_of.ensures
     ∙ ap (λ t. unwrap_or (find (λ t. is_same_name name t.name) s.tubes.entries) (record_of name t)) c.new-fresh.ensures
     ∙ sym (record_of_entry name s.tubes.entries c.requires.entries.order c.requires.entries.fresh) in
-    let seats = c.as_slice-seats.ensures.value in
+    let crowd : c.crowd_of-crowd.result ≡ crowd_of s.seats.items name = c.crowd_of-crowd.ensures ∙ crowd_there name s.tubes.crowds s.seats.items s.tubes.entries c.requires.entries.of_seats c.requires.crowds in
     record {
       jobs = c.tally_of.ensures
           ∙ ap (tally_at name s.tubes.entries) c.requires.counts.each
           ∙ tally_there name s.jobs.jobs s.tubes.entries c.requires.entries.of_jobs;
       puts = c.puts.ensures ∙ ap (λ (t : TubeRecord). t.puts) entry;
-      using = c.using.ensures ∙ ap (λ (seats : List SeatRecord). using_count name (record m { seats = seats })) seats;
-      watching = c.watching.ensures ∙ ap (λ (seats : List SeatRecord). watching_count name (record m { seats = seats })) seats;
-      waiting = c.waiting_at.ensures ∙ ap (λ (seats : List SeatRecord). waiting_clients_of name (record m { seats = seats })) seats;
+      using = ap (λ (n : Crowd). n.using) crowd;
+      watching = ap (λ (n : Crowd). n.watching) crowd;
+      waiting = ap (λ (n : Crowd). n.waiting) crowd;
       deletes = c.deletes.ensures ∙ ap (λ (t : TubeRecord). t.deletes) entry;
       pauses = c.pauses.ensures ∙ ap (λ (t : TubeRecord). t.pauses) entry;
       pause = c.pause.ensures ∙ ap (λ (t : TubeRecord). t.pause) entry;

@@ -5,6 +5,7 @@ use Rattle.bq_core.specs.Dues.{is_end_over}
 use Rattle.bq_core.specs.State.{machine_of}
 use Rattle.bq_core.specs.TubeEntries.{counted, is_counted, is_pause_over}
 use Rattle.bq_core.proofs.FiringLemmas.{no_pause_ends, none_counted}
+use Rattle.bq_core.proofs.CrowdPlaces.{crowds_kept}
 use Rattle.bq_core.proofs.LossLemmas.{alive_renamed}
 use Rattle.bq_core.proofs.PauseLemmas.{none_over}
 use Rattle.bq_core.proofs.StateLemmas.{entries_of_timers}
@@ -28,6 +29,7 @@ returns-clause-sound c =
       ids = was.ids;
       counts = rw (c.fire_timers.ensures.entries, c.fire_timers.ensures.tallies) (counted_kept (tube_after_timers s.moment) (λ t. refl) s.tally s.tubes.tallies s.jobs.jobs s.tubes.entries was.counts);
       clients = was.clients;
+      crowds = rw (c.fire_timers.ensures.entries, c.fire_timers.ensures.crowds) (crowds_kept (tube_after_timers s.moment) (λ t. refl) s.tubes.crowds s.seats.items s.tubes.entries was.crowds);
       alive = rw c.fire_timers.ensures.entries (alive_renamed (tube_after_timers s.moment) (λ t. refl) s.loss s.jobs.jobs s.seats.items s.tubes.entries was.alive);
       pauses = c.first_pause_end-state.ensures;
     }

@@ -7,7 +7,7 @@ use Rattle.bq_core.proofs.tube_walks.names_alive.Given as goal
 
 abbrev pub invariant-loop-i : goal.invariant-loop-i
 invariant-loop-i l = record {
-  names : names_of l.names.items ≡ fold (with_name_of l.seats) [] (take l.i l.listed);
+  names : names_of l.names.items ≡ fold with_name_of [] (take l.i l.listed);
   len : vec_len l.names ≤ l.i;
   room : length l.listed ≤ vec_capacity l.names;
 }

@@ -2,6 +2,7 @@ use Rattle.std.proofs.Common.{◌≡◌, ◌∙◌, ◌+◌, ◌≤◌, ap, ℕ,
 use Rattle.std.proofs.lemmas.List.{length-map}
 use Rattle.std.specs.Prelude.{fold}
 use Rattle.bq_index.specs.Walk.{seen_by}
+use Rattle.bq_core.specs.Crowds.{crowds_of}
 use Rattle.bq_core.specs.KeptTubes.{KeptTube, KeptTubes, record_at, tally_kept, with_alive}
 use Rattle.bq_core.specs.Tallies.{tallies_of}
 use Rattle.bq_core.specs.TubeEntries.{names_alive}
@@ -10,16 +11,16 @@ use Rattle.bq_core.proofs.GoneLemmas.{AreTallied, counted_names}
 use Rattle.bq_core.proofs.tubes.Tubes.count_alive.Goals as goal
 
 pub returns : goal.returns
-returns c jobs e =
+returns c jobs seats e f =
     let es = c.self.inside.kept.entries in
-    let seats = c.args.seats.now in
-    let first = c.among-alive.result in
-    let tallied : AreTallied jobs es = ap (λ (k : KeptTubes). k.tallies) c.self.view_is ∙ e ∙ ap (λ (k : KeptTubes). tallies_of jobs k.entries) (sym c.self.view_is) in
-    let few : first.count + length es ≤ 18446744073709551615 = omega (arith, c.among-alive.ensures.count, c.len-entries.ensures.len) in
+    let first = c.none-alive.result in
+    let tallied : AreTallied jobs seats es = (ap (λ (k : KeptTubes). k.tallies) c.self.view_is ∙ e ∙ ap (λ (k : KeptTubes). tallies_of jobs k.entries) (sym c.self.view_is), ap (λ (k : KeptTubes). k.crowds) c.self.view_is ∙ f ∙ ap (λ (k : KeptTubes). crowds_of seats k.entries) (sym c.self.view_is)) in
+    let count = ap (λ (h : HowMany). h.count) c.none-alive.ensures in
+    let few : first.count + length es ≤ 18446744073709551615 = omega (arith, count, c.len-entries.ensures.len) in
     c.count.ensures
     ∙ ap (λ (h : HowMany). h.count) c.walk.ensures
-    ∙ counted_names jobs seats first.seats c.among-alive.ensures.seats es first.count tallied few
-    ∙ ap (λ n. n + length (names_alive jobs seats (map record_at es))) c.among-alive.ensures.count
+    ∙ counted_names jobs seats es first.count tallied few
+    ∙ ap (λ n. n + length (names_alive jobs seats (map record_at es))) count
     ∙ from_zero (length (names_alive jobs seats (map record_at es)))
     ∙ ap (λ (k : KeptTubes). length (names_alive jobs seats k.entries)) c.self.view_is
   where

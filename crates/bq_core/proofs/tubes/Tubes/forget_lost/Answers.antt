@@ -1,6 +1,7 @@
 use Rattle.std.proofs.Common.{◌≡◌, ◌∙◌, ap, filter, map, subst, sym}
 use Rattle.std.specs.Map.{lookup}
-use Rattle.bq_core.specs.KeptTubes.{KeptTubes, is_alive_at, is_gone_by, is_named_at, record_at, tally_kept}
+use Rattle.bq_core.specs.KeptTubes.{KeptTubes, crowd_kept, is_alive_at, is_gone_by, is_named_at, record_at, tally_kept}
+use Rattle.bq_core.specs.Crowds.{crowds_of}
 use Rattle.bq_core.specs.Losses.{AreAlive}
 use Rattle.bq_core.specs.Tallies.{tallies_of}
 use Rattle.bq_core.specs.TubeEntries.{AreInOrder, is_tube_of}
@@ -9,40 +10,38 @@ use Rattle.bq_core.proofs.LossLemmas.{all_kept_alive}
 use Rattle.bq_core.proofs.tubes.Tubes.forget_lost.Goals as goal
 
 pub returns-in-Nothing-clause-after : goal.returns-in-Nothing-clause-after
-returns-in-Nothing-clause-after c jobs order all e =
+returns-in-Nothing-clause-after c jobs seats order all e f =
     let es = c.args.self.now.entries in
-    sym (all_kept_alive jobs c.args.seats.now es (subst (λ loss. AreAlive loss jobs c.args.seats.now es) c.in-Nothing.is all))
+    sym (all_kept_alive jobs seats es (subst (λ loss. AreAlive loss jobs seats es) c.in-Nothing.is all))
 
 pub returns-in-Of-clause-after : goal.returns-in-Of-clause-after
-returns-in-Of-clause-after c jobs order all e =
+returns-in-Of-clause-after c jobs seats order all e f =
     let es = c.self.inside.kept.entries in
-    let seats = c.args.seats.now in
     let name = c.in-Of.name in
-    let tallied : AreTallied jobs es = ap (λ (k : KeptTubes). k.tallies) c.self.view_is ∙ e ∙ ap (λ (k : KeptTubes). tallies_of jobs k.entries) (sym c.self.view_is) in
+    let tallied : AreTallied jobs seats es = (ap (λ (k : KeptTubes). k.tallies) c.self.view_is ∙ e ∙ ap (λ (k : KeptTubes). tallies_of jobs k.entries) (sym c.self.view_is), ap (λ (k : KeptTubes). k.crowds) c.self.view_is ∙ f ∙ ap (λ (k : KeptTubes). crowds_of seats k.entries) (sym c.self.view_is)) in
     let in_order = subst (λ (k : KeptTubes). AreInOrder k.entries) (sym c.self.view_is) order in
     let alive = subst (λ (k : KeptTubes). AreAlive c.args.loss.now jobs seats k.entries) (sym c.self.view_is) all in
     ap (map record_at) c.forget_named.ensures
     ∙ one_left jobs seats name es in_order (subst (λ loss. AreAlive loss jobs seats (map record_at es)) c.in-Of.is alive) tallied
     ∙ ap (λ (k : KeptTubes). filter (λ t. is_tube_of jobs seats t.name) k.entries) c.self.view_is
 
-pub returns-in-Of-clause-tallies : goal.returns-in-Of-clause-tallies
-returns-in-Of-clause-tallies c jobs e =
+pub returns-in-Of-clause-kept : goal.returns-in-Of-clause-kept
+returns-in-Of-clause-kept c jobs seats e f =
     let es = c.self.inside.kept.entries in
     let name = c.in-Of.name in
-    let tallied : AreTallied jobs es = ap (λ (k : KeptTubes). k.tallies) c.self.view_is ∙ e ∙ ap (λ (k : KeptTubes). tallies_of jobs k.entries) (sym c.self.view_is) in
-    subst (AreTallied jobs) (sym c.forget_named.ensures) (if_tallied jobs (is_gone_by c.args.seats.now name (lookup (is_named_at name) es)) (is_named_at name) es tallied)
+    let tallied : AreTallied jobs seats es = (ap (λ (k : KeptTubes). k.tallies) c.self.view_is ∙ e ∙ ap (λ (k : KeptTubes). tallies_of jobs k.entries) (sym c.self.view_is), ap (λ (k : KeptTubes). k.crowds) c.self.view_is ∙ f ∙ ap (λ (k : KeptTubes). crowds_of seats k.entries) (sym c.self.view_is)) in
+    subst (AreTallied jobs seats) (sym c.forget_named.ensures) (if_tallied jobs seats (is_gone_by name (lookup (is_named_at name) es)) (is_named_at name) es tallied)
 
 pub returns-in-Any-clause-after : goal.returns-in-Any-clause-after
-returns-in-Any-clause-after c jobs order all e =
+returns-in-Any-clause-after c jobs seats order all e f =
     let es = c.self.inside.kept.entries in
-    let seats = c.args.seats.now in
-    let tallied : AreTallied jobs es = ap (λ (k : KeptTubes). k.tallies) c.self.view_is ∙ e ∙ ap (λ (k : KeptTubes). tallies_of jobs k.entries) (sym c.self.view_is) in
+    let tallied : AreTallied jobs seats es = (ap (λ (k : KeptTubes). k.tallies) c.self.view_is ∙ e ∙ ap (λ (k : KeptTubes). tallies_of jobs k.entries) (sym c.self.view_is), ap (λ (k : KeptTubes). k.crowds) c.self.view_is ∙ f ∙ ap (λ (k : KeptTubes). crowds_of seats k.entries) (sym c.self.view_is)) in
     ap (map record_at) c.forget_all.ensures
     ∙ filter_records jobs seats es tallied
     ∙ ap (λ (k : KeptTubes). filter (λ t. is_tube_of jobs seats t.name) k.entries) c.self.view_is
 
-pub returns-in-Any-clause-tallies : goal.returns-in-Any-clause-tallies
-returns-in-Any-clause-tallies c jobs e =
+pub returns-in-Any-clause-kept : goal.returns-in-Any-clause-kept
+returns-in-Any-clause-kept c jobs seats e f =
     let es = c.self.inside.kept.entries in
-    let tallied : AreTallied jobs es = ap (λ (k : KeptTubes). k.tallies) c.self.view_is ∙ e ∙ ap (λ (k : KeptTubes). tallies_of jobs k.entries) (sym c.self.view_is) in
-    subst (AreTallied jobs) (sym c.forget_all.ensures) (filter_tallied jobs (is_alive_at c.args.seats.now) es tallied)
+    let tallied : AreTallied jobs seats es = (ap (λ (k : KeptTubes). k.tallies) c.self.view_is ∙ e ∙ ap (λ (k : KeptTubes). tallies_of jobs k.entries) (sym c.self.view_is), ap (λ (k : KeptTubes). k.crowds) c.self.view_is ∙ f ∙ ap (λ (k : KeptTubes). crowds_of seats k.entries) (sym c.self.view_is)) in
+    subst (AreTallied jobs seats) (sym c.forget_all.ensures) (filter_tallied jobs seats is_alive_at es tallied)

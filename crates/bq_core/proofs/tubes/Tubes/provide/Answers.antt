@@ -3,10 +3,11 @@ use Rattle.std.specs.BTreeMap.{insert_entry}
 use Rattle.std.specs.Cmp.Lexicographic.{slice_cmp}
 use Rattle.std.specs.Map.{lookup}
 use Rattle.std.specs.Ordering.{nat_cmp}
-use Rattle.bq_core.specs.KeptTubes.{KeptTubes, Named, fresh_entry, is_named_at, record_at, tally_kept}
+use Rattle.bq_core.specs.KeptTubes.{KeptTubes, Named, crowd_kept, fresh_entry, is_named_at, record_at, tally_kept}
+use Rattle.bq_core.specs.Crowds.{crowds_provided}
 use Rattle.bq_core.specs.Tallies.{tallies_provided}
 use Rattle.bq_core.specs.TubeEntries.{has_entry, provided}
-use Rattle.bq_core.proofs.NamedLemmas.{absent, found_any, lent_any, new_entry, new_tally, provided_there, tallies_provided_there}
+use Rattle.bq_core.proofs.NamedLemmas.{absent, crowds_provided_there, found_any, lent_any, new_crowd, new_entry, new_tally, provided_there, tallies_provided_there}
 use Rattle.bq_core.proofs.tubes.Tubes.provide.Goals as goal
 
 pub returns-then-is_some-clause-entries : goal.returns-then-is_some-clause-entries
@@ -38,3 +39,18 @@ returns-clause-tallies c =
     ap (map tally_kept) (c.insert.ensures.entries ∙ (λ i. insert_entry (slice_cmp nat_cmp) (c.in_ok-reserve_box.ensures.entries i) name (c.new.ensures i)))
     ∙ new_tally name es none
     ∙ ap (λ (k : KeptTubes). tallies_provided name k.entries k.tallies) c.self.view_is
+
+pub returns-then-is_some-clause-crowds : goal.returns-then-is_some-clause-crowds
+returns-then-is_some-clause-crowds c =
+    let name = c.args.name.now in
+    let there : has_entry name (map record_at c.self.inside.kept.entries) ≡ true = sym (found_any name c.self.inside.kept.entries) ∙ sym (lent_any c.peek.result c.peek.ensures) ∙ sym c.if-is_some.ensures in
+    sym (crowds_provided_there name c.args.self.now.entries c.args.self.now.crowds (ap (λ (k : KeptTubes). has_entry name k.entries) (sym c.self.view_is) ∙ there))
+
+pub returns-clause-crowds : goal.returns-clause-crowds
+returns-clause-crowds c =
+    let name = c.args.name.now in
+    let es = c.self.inside.kept.entries in
+    let none : has_entry name (map record_at es) ≡ false = sym (found_any name es) ∙ sym (lent_any c.peek.result c.peek.ensures) ∙ sym c.if-is_some.ensures in
+    ap (map crowd_kept) (c.insert.ensures.entries ∙ (λ i. insert_entry (slice_cmp nat_cmp) (c.in_ok-reserve_box.ensures.entries i) name (c.new.ensures i)))
+    ∙ new_crowd name es none
+    ∙ ap (λ (k : KeptTubes). crowds_provided name k.entries k.crowds) c.self.view_is

@@ -1,0 +1,9 @@
+use Rattle.std.proofs.Common.{◌∙◌, sym}
+use Rattle.bq_core.specs.Crowds.{recounted}
+use Rattle.bq_core.proofs.CrowdLemmas.{all_same, none_recounted}
+use Rattle.bq_core.proofs.shares.recount_watched.Goals as goal
+
+pub returns-else-not-is_none-clause-crowds : goal.returns-else-not-is_none-clause-crowds
+returns-else-not-is_none-clause-crowds c =
+    let none = sym c.is_none.ensures ∙ c.if-not-is_none.false in
+    sym (all_same c.args.names.now (recounted c.args.moving c.args.share) (none_recounted c.args.moving c.args.share none) c.args.tubes.now.entries c.args.tubes.now.crowds)
