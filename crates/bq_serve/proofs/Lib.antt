@@ -7,6 +7,7 @@ pub mod DeskLemmas
 pub mod DeskSeatLemmas
 pub mod EventLemmas
 pub mod LastPartLemmas
+pub mod ListLemmas
 pub mod LockedLemmas
 pub mod MailLemmas
 pub mod PartLemmas

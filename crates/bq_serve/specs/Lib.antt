@@ -11,6 +11,7 @@ pub mod LineCalls
 pub mod LineParts
 pub mod Links
 pub mod LockedDesks
+pub mod LockedRuns
 pub mod LockedState
 pub mod LockedSteps
 pub mod MemDoors

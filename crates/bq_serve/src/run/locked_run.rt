@@ -1,13 +1,15 @@
 //! A run around one lock, with a thread for each door.
-ghost use Rattle.std.specs.Prelude.{◌↔◌, ◌≤◌, ◌&&◌, ◌==◌, not, IsErrOf, IsTrue, vec_len};
+ghost use Rattle.std.specs.Prelude.{◌≡◌, ◌↔◌, ◌≤◌, ◌&&◌, ◌==◌, not, IfOk, IfSome, IsErrOf, IsTrue, vec_len};
 ghost use Rattle.std.specs.List.{All};
 ghost use Rattle.bq_core.specs.Limits.{is_body_size, is_seat_count};
+ghost use Rattle.bq_serve.specs.LockedRuns.{IsServedToEnd};
+ghost use Rattle.bq_serve.specs.LockedState.{IsLawfulHold};
 ghost use Rattle.bq_serve.specs.Tending.{IsNewDoor, door_seen};
 
 use super::bells::Bells;
 use super::control::submit_control;
 use super::locked_desk::LockedDesk;
-use super::post::Post;
+use super::post::{Post, Posts};
 use super::shared_desk::{SharedDesk, SharedSeat};
 use super::start::Start;
 use crate::clock::Clock;
@@ -20,7 +22,7 @@ use std::alloc::Global;
 use std::io::BufRead;
 use std::sync::{Mutex, Wait};
 use std::thread;
-use std::thread::{JoinHandle, Scope, Threads};
+use std::thread::{Promise, PromisedHandle, Scope, Threads};
 
 /// A run around one lock that is over: the doors and the clock as they were left, and what the lock held.
 #[derive(Drop)]
@@ -35,8 +37,8 @@ pub struct LockedRun<D, C> {
 /// and the clock lie under one lock, with a journal that has room for so many entries.
 ///
 /// The fault is `BadConfiguration` where the configuration is out of its ranges or there isn't a door for
-/// each seat, and else `NoMemory` or `ThreadRefused`. With any fault no door was opened, and the doors are
-/// given up.
+/// each seat, and else `NoMemory` where a growth of memory was refused, or `ThreadRefused` where a thread was.
+/// With any fault no door was opened, and the doors are given up.
 pub fn run_locked<
     R: Threads + Wait + Sync,
     L: Line + Drop + Send,
@@ -54,6 +56,11 @@ pub fn run_locked<
 ) -> Result<LockedRun<D, C>, RunFault>
     // No line is out or over at any door, and none is at its end.
     requires new { All (λ door. IsNewDoor (door_seen D.is_out D.is_at_end D.lines_over door)) doors.items }
+    // Each door was served to its end: its lines' steps were submitted, and each line was written the answers
+    // that were taken for it. What ties them to the steps of the core no clause tells.
+    ensures served { IfOk result (λ run. All (λ door. IsServedToEnd config.max_job_size (door_seen D.is_out D.is_at_end D.lines_over door)) run.doors.items) }
+    ensures many { IfOk result (λ run. vec_len run.doors ≡ config.seats) }
+    ensures holds { IfOk result (λ run. IsLawfulHold run.locked) }
     ensures bad_configuration { IsErrOf result RunFault.BadConfiguration
         ↔ IsTrue (not (is_seat_count config.seats && is_body_size config.max_job_size && vec_len doors == config.seats)) }
 {
@@ -66,6 +73,10 @@ pub fn run_locked<
     };
     let Ok(posts) = new_posts(alloc, config.max_job_size, doors) else {
         return Err(RunFault::NoMemory);
+    };
+    let posts = Posts {
+        all: posts,
+        max_job_size: config.max_job_size,
     };
     let desk = Mutex::new(LockedDesk::new(locked, clock));
     let start = Start::new();
@@ -102,20 +113,24 @@ fn serve_in_scope<
 >(
     rt: &R,
     alloc: Global,
-    posts: Vec<Post<L, D>, Global>,
+    posts: Posts<L, D>,
     desk: &K,
     bells: &Bells,
     start: &Start,
     control: &mut I,
     control_seat: Seat,
 ) -> Result<Vec<D, Global>, RunFault>
-    ensures { IsErrOf result RunFault.BadConfiguration → ⊥ }
+    ensures fault { IsErrOf result RunFault.BadConfiguration → ⊥ }
+    ensures many { IfOk result (λ doors. vec_len doors ≡ vec_len posts.all) }
+    ensures served { IfOk result (λ doors. All (λ door. IsServedToEnd posts.max_job_size (door_seen D.is_out D.is_at_end D.lines_over door)) doors.items) }
 {
     thread::scope(
         thread::scope_env(),
         rt,
         move |scope| -> Result<Vec<D, Global>, RunFault>
-            ensures { IsErrOf result RunFault.BadConfiguration → ⊥ }
+            ensures fault { IsErrOf result RunFault.BadConfiguration → ⊥ }
+            ensures many { IfOk result (λ doors. vec_len doors ≡ vec_len posts.all) }
+            ensures served { IfOk result (λ doors. All (λ door. IsServedToEnd posts.max_job_size (door_seen D.is_out D.is_at_end D.lines_over door)) doors.items) }
         {
             serve_all(
                 scope,
@@ -141,17 +156,29 @@ fn new_posts<L: Line + Drop, D: Door<Line = L> + Drop>(
     requires size { IsTrue (is_body_size max_job_size) }
     requires few { vec_len doors ≤ 65535 }
     requires new { All (λ door. IsNewDoor (door_seen D.is_out D.is_at_end D.lines_over door)) doors.items }
+    ensures many { IfOk result (λ posts. vec_len posts ≡ vec_len doors) }
+    ensures limits { IfOk result (λ posts. All (λ post. post.max_job_size ≡ max_job_size) posts.items) }
 {
     let Ok(mut posts) = Vec::with_capacity(alloc, doors.len()) else {
         return Err(NoMemory);
     };
     while let Some(door) = doors.pop() {
         let post = Post::new(alloc, max_job_size, doors.len() as u16, door)?;
-        if posts.push(post).is_err() {
+        let Ok(()) = posts.push(post) else {
             return Err(NoMemory);
-        }
+        };
     }
     Ok(posts)
+}
+
+// That a door was served to its end, where its thread began.
+#[derive(Clone, Copy)]
+struct Served {
+    max_job_size: u32,
+}
+
+impl<D: Door> Promise<Option<D>> for Served {
+    ghost kept_by = { λ promise door. IfSome door (λ d. IsServedToEnd promise.max_job_size (door_seen D.is_out D.is_at_end D.lines_over d)) };
 }
 
 // Starts a thread for each seat, and serves the control line where all were started. The doors come back
@@ -168,45 +195,41 @@ fn serve_all<
     scope: &'s Scope<'s, E>,
     rt: &'s R,
     alloc: Global,
-    posts: Vec<Post<L, D>, Global>,
+    posts: Posts<L, D>,
     desk: &'s K,
     bells: &'s Bells,
     start: &'s Start,
     control: &mut I,
     control_seat: Seat,
 ) -> Result<Vec<D, Global>, RunFault>
-    ensures { IsErrOf result RunFault.BadConfiguration → ⊥ }
+    ensures fault { IsErrOf result RunFault.BadConfiguration → ⊥ }
+    ensures many { IfOk result (λ doors. vec_len doors ≡ vec_len posts.all) }
+    ensures served { IfOk result (λ doors. All (λ door. IsServedToEnd posts.max_job_size (door_seen D.is_out D.is_at_end D.lines_over door)) doors.items) }
 {
-    let seats = posts.len();
-    let (Ok(mut threads), Ok(mut doors)) = (
+    let Posts { all, max_job_size } = posts;
+    let seats = all.len();
+    let (Ok(mut threads), Ok(doors)) = (
         Vec::with_capacity(alloc, seats),
         Vec::with_capacity(alloc, seats),
     ) else {
         return Err(RunFault::NoMemory);
     };
-    let all_started = start_threads(scope, rt, posts, desk, bells, start, &mut threads);
+    let served = Served { max_job_size };
+    let all_started = start_threads(scope, rt, all, desk, bells, start, served, &mut threads);
     start.tell(rt, all_started);
-    if all_started {
-        let mut link = SharedSeat {
-            rt,
-            desk,
-            bells,
-            seat: control_seat,
-            at_hand: None,
-        };
-        submit_control(rt, control, &mut link);
+    if !all_started {
+        // The scope waits for those that were.
+        return Err(RunFault::ThreadRefused);
     }
-    for thread in threads {
-        // There is room for each.
-        if doors.push(thread.join(rt)).is_err() {
-            return Err(RunFault::NoMemory);
-        }
-    }
-    if all_started {
-        Ok(doors)
-    } else {
-        Err(RunFault::ThreadRefused)
-    }
+    let mut link = SharedSeat {
+        rt,
+        desk,
+        bells,
+        seat: control_seat,
+        at_hand: None,
+    };
+    submit_control(rt, control, &mut link);
+    join_all(rt, threads, doors, served)
 }
 
 // Whether a thread was started for each seat.
@@ -224,17 +247,51 @@ fn start_threads<
     desk: &'s K,
     bells: &'s Bells,
     start: &'s Start,
-    threads: &mut Vec<JoinHandle<D>, Global>,
-) -> bool {
+    served: Served,
+    threads: &mut Vec<PromisedHandle<Option<D>, Served>, Global>,
+) -> bool
+    requires none { vec_len threads.old ≡ 0 }
+    requires limits { All (λ post. post.max_job_size ≡ served.max_job_size) posts.items }
+    ensures many { IsTrue result → vec_len threads.new ≡ vec_len posts }
+    ensures promised { IsTrue result → All (λ thread. thread.promise ≡ served) threads.new.items }
+{
     while let Some(post) = posts.pop() {
-        let Ok(thread) = scope.spawn(move || post.serve(rt, desk, bells, start)) else {
+        let promise = Served {
+            max_job_size: post.max_job_size,
+        };
+        let Ok(thread) = scope.spawn_with(promise, move || post.serve(rt, desk, bells, start))
+        else {
             return false;
         };
-        if threads.push(thread).is_err() {
+        let Ok(()) = threads.push(thread) else {
             return false;
-        }
+        };
     }
     true
+}
+
+// Waits for all threads. Their doors come behind one another, for which there is room.
+fn join_all<R: Threads, D: Door + Drop + Send>(
+    rt: &R,
+    threads: Vec<PromisedHandle<Option<D>, Served>, Global>,
+    mut doors: Vec<D, Global>,
+    served: Served,
+) -> Result<Vec<D, Global>, RunFault>
+    requires none { vec_len doors ≡ 0 }
+    requires promised { All (λ thread. thread.promise ≡ served) threads.items }
+    ensures fault { IsErrOf result RunFault.BadConfiguration → ⊥ }
+    ensures many { IfOk result (λ all. vec_len all ≡ vec_len threads) }
+    ensures served { IfOk result (λ all. All (λ door. IsServedToEnd served.max_job_size (door_seen D.is_out D.is_at_end D.lines_over door)) all.items) }
+{
+    for thread in threads {
+        let Some(door) = thread.join(rt) else {
+            return Err(RunFault::ThreadRefused);
+        };
+        let Ok(()) = doors.push(door) else {
+            return Err(RunFault::NoMemory);
+        };
+    }
+    Ok(doors)
 }
 
 #[cfg(test)]

@@ -1,10 +1,12 @@
 //! A seat with its door, which a thread of its own serves.
-ghost use Rattle.std.specs.Prelude.{◌≡◌, IsTrue, false, length};
+ghost use Rattle.std.specs.Prelude.{◌≡◌, IfOk, IfSome, IsTrue, false, length};
+ghost use Rattle.std.specs.List.{All};
 ghost use Rattle.std.specs.Option.{ForSome};
 ghost use Rattle.bq_core.specs.Limits.{is_body_size};
 ghost use Rattle.bq_seat.specs.Past.{Awaited};
 ghost use Rattle.bq_seat.specs.SeatStands.{awaited};
 ghost use Rattle.bq_serve.specs.declared.run.attendant.Place.TheVariants as places;
+ghost use Rattle.bq_serve.specs.LockedRuns.{IsServedToEnd};
 ghost use Rattle.bq_serve.specs.Tending.{IsNewDoor, door_seen};
 
 use super::attendant::Attendant;
@@ -24,9 +26,11 @@ use std::thread;
 #[derive(Drop)]
 pub struct Post<L: Line + Drop, D: Door<Line = L>> {
     seat: Seat,
+    pub max_job_size: u32,
     attendant: Attendant<L>,
     door: D,
     ghost at_first: { attendant.place ≡ places.Between },
+    ghost limit: { attendant.machine.reader.max_job_size ≡ max_job_size },
     ghost waits: { awaited attendant.machine ≡ Awaited.ALine },
     ghost inside: { D.is_out door ≡ false },
     ghost more: { D.is_at_end door ≡ false },
@@ -43,30 +47,36 @@ impl<L: Line + Drop, D: Door<Line = L> + Drop> Post<L, D> {
     ) -> Result<Post<L, D>, NoMemory>
         requires size { IsTrue (is_body_size max_job_size) }
         requires new { IsNewDoor (door_seen D.is_out D.is_at_end D.lines_over door) }
+        ensures limit { IfOk result (λ post. post.max_job_size ≡ max_job_size) }
     {
         let attendant = Attendant::new(alloc, max_job_size)?;
         Ok(Post {
             seat,
+            max_job_size,
             attendant,
             door,
         })
     }
 
-    /// Serves the door to its end, once all threads were started, and gives it back.
+    /// Serves the door to its end, and gives it back. Where some thread was not started there is none: it was
+    /// not opened.
     pub fn serve<R: Wait, K: SharedDesk>(
         self,
         rt: &R,
         desk: &K,
         bells: &Bells,
         start: &Start,
-    ) -> D {
+    ) -> Option<D>
+        ensures { IfSome result (λ door. IsServedToEnd self.max_job_size (door_seen D.is_out D.is_at_end D.lines_over door)) }
+    {
         let Post {
             seat,
+            max_job_size: _,
             mut attendant,
             mut door,
         } = self;
         if !start.wait(rt) {
-            return door;
+            return None;
         }
         let mut link = SharedSeat {
             rt,
@@ -78,7 +88,7 @@ impl<L: Line + Drop, D: Door<Line = L> + Drop> Post<L, D> {
         let room: &mut Room = &mut [0; PIECE_ROOM];
         for _ in rt.forever() {
             if attendant.is_done() {
-                return door;
+                return Some(door);
             }
             if !attendant.go_on(&mut door, &mut link, room) {
                 thread::yield_now();
@@ -86,4 +96,12 @@ impl<L: Line + Drop, D: Door<Line = L> + Drop> Post<L, D> {
         }
         unreachable!()
     }
+}
+
+/// Posts that all have the same limit of bodies.
+#[derive(Drop)]
+pub struct Posts<L: Line + Drop, D: Door<Line = L>> {
+    pub all: Vec<Post<L, D>, Global>,
+    pub max_job_size: u32,
+    ghost limits: { All (λ post. post.max_job_size ≡ max_job_size) all.items },
 }

@@ -1,4 +1,4 @@
-use Rattle.std.proofs.Common.{◌≤◌, vec_len}
+use Rattle.std.proofs.Common.{◌≡◌, ◌≤◌, ◌+◌, vec_len}
 use Rattle.std.specs.List.{All}
 use Rattle.bq_serve.specs.Tending.{IsNewDoor, door_seen}
 use Rattle.bq_serve.proofs.run.locked_run.new_posts.Given as goal
@@ -6,6 +6,8 @@ use Rattle.bq_serve.proofs.run.locked_run.new_posts.Given as goal
 abbrev pub invariant-loop-door : goal.invariant-loop-door
 invariant-loop-door g l = record {
   few : vec_len l.doors ≤ 65535;
+  many : vec_len l.posts + vec_len l.doors ≡ vec_len l.fn.doors;
+  limits : All (λ post. post.max_job_size ≡ l.max_job_size) l.posts.items;
   new : All (λ door. IsNewDoor (door_seen (g.D.Door.is_out) (g.D.Door.is_at_end) (g.D.Door.lines_over) door)) l.doors.items;
 }
 
