@@ -1,5 +1,6 @@
 //! All that the server does from its bound listener to its status.
-ghost use Rattle.std.specs.Prelude.{IfOk};
+ghost use Rattle.std.specs.Prelude.{◌≡◌, ◌≤◌, IfOk};
+ghost use Rattle.bq_cli.specs.FaultTexts.{serve_fault_text};
 ghost use Rattle.std.specs.List.{All};
 ghost use Rattle.bq_serve.specs.Tending.{IsNewDoor, door_seen};
 
@@ -28,7 +29,9 @@ pub enum ServeFault {
 
 impl ServeFault {
     /// What is told of the fault.
-    pub fn text(self) -> &'static str {
+    pub fn text(self) -> &'static str
+        ensures { result.now ≡ serve_fault_text self }
+    {
         match self {
             ServeFault::CannotListen => "cannot listen",
             ServeFault::NoMemory => "no memory",
@@ -51,14 +54,17 @@ impl From<RunFault> for ServeFault {
 
 /// Serves the connections that the listener accepts, as the options choose, and tells on standard output
 /// where it listens. The control is the control line. It returns the status of the program: 0 when all
-/// seats and the control line have ended, and 1 after a fault, which is told on standard error.
+/// seats and the control line have ended, and 1 after a fault, which is told on standard error. What was
+/// served, and what was written where, no clause can tell.
 pub fn serve<R: Threads + Wait + Clock + Print + Eprint + Sync, I: BufRead + Drop>(
     rt: &R,
     alloc: Global,
     options: &Options,
     listener: TcpListener,
     control: I,
-) -> u8 {
+) -> u8
+    ensures { result ≤ 1 }
+{
     match serve_all(rt, alloc, options, &listener, control) {
         Ok(()) => 0,
         Err(fault) => {
@@ -68,7 +74,7 @@ pub fn serve<R: Threads + Wait + Clock + Print + Eprint + Sync, I: BufRead + Dro
     }
 }
 
-/// Tells a fault on standard error, where that can be written.
+/// Tells a fault on standard error, where that can be written. No clause sees what was written there.
 pub fn tell_fault<R: Eprint>(rt: &R, fault: ServeFault) {
     let _told = eprintln!(rt; "bqd: {}", fault.text());
 }
