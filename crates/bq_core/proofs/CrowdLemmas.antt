@@ -202,7 +202,7 @@ module _ (n : ℕ) (what : SeatChange) (s : SeatRecord) (seats : List SeatRecord
           go false = refl
 
   -- the counts of a tube, once the seat is changed
-  crowd_moved : (name : List ℕ) → crowd_with (share_at (touched what) (seat_changed what s) name) (crowd_without (share_at (touched what) s name) (crowd_of seats name)) ≡ crowd_of (map (seat_changed_at n what) seats) name
+  pub crowd_moved : (name : List ℕ) → crowd_with (share_at (touched what) (seat_changed what s) name) (crowd_without (share_at (touched what) s name) (crowd_of seats name)) ≡ crowd_of (map (seat_changed_at n what) seats) name
   crowd_moved name = λ i. record {
     using = field (is_user name) (λ t. is_same_name name t.used) (λ t. t.connected) (touched what).using (λ t. refl) (user_stays name what) i;
     watching = field (is_watcher name) (watches name) (λ t. t.connected) (touched what).watching (λ t. refl) (watcher_stays name what) i;
@@ -219,7 +219,7 @@ module _ (n : ℕ) (what : SeatChange) (s : SeatRecord) (seats : List SeatRecord
       ∙ map_same _ _ es (λ t. crowd_moved t.name)
 
 -- where there is no seat of the number, none is changed
-none_changed : (n : ℕ) (f : SeatRecord → SeatRecord) (seats : List SeatRecord) → seat_with n seats ≡ None → map (λ s. if s.number == n then f s else s) seats ≡ seats
+pub none_changed : (n : ℕ) (f : SeatRecord → SeatRecord) (seats : List SeatRecord) → seat_with n seats ≡ None → map (λ s. if s.number == n then f s else s) seats ≡ seats
 none_changed n f [] h = refl
 none_changed n f (s ∷ seats) h = elim (cases_Bool (s.number == n)) [
   | inl e ↦ absurd (let g : Some s ≡ None = rw e at h in cc)

@@ -98,12 +98,12 @@ crowds_kept f same crowds seats es was = record { each = was.each ∙ stay es; s
     stay (t ∷ es) = λ i. crowd_of seats (sym (same t) i) ∷ stay es i
 
 -- The counts that stand at a name are those of its clients.
-crowd_named : (name : List ℕ) (seats : List SeatRecord) (es : List TubeRecord) → has_entry name es ≡ true → crowd_at name es (crowds_of seats es) ≡ crowd_of seats name
-crowd_named name seats [] h = absurd cc
-crowd_named name seats (t ∷ es) h =
+pub named_crowd : (name : List ℕ) (g : List ℕ → Crowd) (es : List TubeRecord) → has_entry name es ≡ true → crowd_at name es (map (λ t. g t.name) es) ≡ g name
+named_crowd name g [] h = absurd cc
+named_crowd name g (t ∷ es) h =
     elim (cases_Bool (is_same_name name t.name)) [
-      | inl e ↦ rw e (ap (crowd_of seats) (sym (same_name name t.name e)))
-      | inr e ↦ rw e (crowd_named name seats es (rw e at h))
+      | inl e ↦ rw e (ap g (sym (same_name name t.name e)))
+      | inr e ↦ rw e (named_crowd name g es (rw e at h))
     ]
 
 crowd_missing : (name : List ℕ) (seats : List SeatRecord) (es : List TubeRecord) → has_entry name es ≡ false → crowd_at name es (crowds_of seats es) ≡ no_crowd
@@ -119,7 +119,7 @@ pub crowd_there : (name : List ℕ) (crowds : List Crowd) (seats : List SeatReco
 crowd_there name crowds seats es has was = ap (crowd_at name es) was.each ∙ go (has_entry name es) refl
   where
     go : (b : Bool) → has_entry name es ≡ b → crowd_at name es (crowds_of seats es) ≡ crowd_of seats name
-    go true e = crowd_named name seats es e
+    go true e = named_crowd name (crowd_of seats) es e
     go false e = crowd_missing name seats es e ∙ sym (nobody_there name es e seats has was.seated)
 
 -- Whether a tube exists is told by its counts.

@@ -10,6 +10,7 @@ pub mod DueLemmas
 pub mod FiringLemmas
 pub mod GoneLemmas
 pub mod KickLemmas
+pub mod LeavingLemmas
 pub mod LoopLemmas
 pub mod LossLemmas
 pub mod NameLemmas

@@ -16,17 +16,14 @@ use Rattle.bq_job.proofs.NameOrderLemmas.{not_same}
 use Rattle.bq_jobs.specs.Kept.{is_id_before, with_added, without}
 use Rattle.bq_core.specs.declared.loss.Loss.{Loss}
 use Rattle.bq_core.specs.declared.loss.Loss.TheVariants.{Nothing, Of, Any}
-use Rattle.bq_core.specs.declared.seat_list.SeatChange.{SeatChange}
-use Rattle.bq_core.specs.declared.seat_list.SeatChange.TheVariants.{StopWaiting, Wait, Connect, Clear, End, Use}
 use Rattle.bq_core.specs.Dues.{first_pause_end, pause_end_left}
 use Rattle.bq_core.specs.Losses.{AreAlive, is_accounted, may_be_gone, with_found, with_lost}
-use Rattle.bq_core.specs.SeatChanges.{loss_after, seat_changed, seat_changed_at}
 use Rattle.bq_core.specs.TubeEntries.{has_entry, is_tube_of, provided}
 use Rattle.bq_core.proofs.KickLemmas.{none_with}
 use Rattle.bq_core.proofs.TubeLemmas.{same_itself, same_name}
 
 -- what may be gone still may
-still_lost : (more : List ℕ) (loss : Loss) (name : List ℕ) → may_be_gone loss name ≡ true → may_be_gone (with_lost more loss) name ≡ true
+pub still_lost : (more : List ℕ) (loss : Loss) (name : List ℕ) → may_be_gone loss name ≡ true → may_be_gone (with_lost more loss) name ≡ true
 still_lost more Nothing name h = absurd cc
 still_lost more (Of lost) name h = go (is_same_name lost more) refl
   where
@@ -35,7 +32,7 @@ still_lost more (Of lost) name h = go (is_same_name lost more) refl
     go false e = refl
 still_lost more Any name h = refl
 
-now_lost : (name : List ℕ) (loss : Loss) → may_be_gone (with_lost name loss) name ≡ true
+pub now_lost : (name : List ℕ) (loss : Loss) → may_be_gone (with_lost name loss) name ≡ true
 now_lost name Nothing = same_itself name
 now_lost name (Of lost) = go (is_same_name lost name)
   where
@@ -49,19 +46,19 @@ named_lost name more loss same = ap (may_be_gone (with_lost more loss)) (same_na
 
 -- why a tube is accounted for
 module _ (loss : Loss) (jobs : List Job) (seats : List SeatRecord) (name : List ℕ) where
-  by_job : list_any (λ j. is_same_name name j.tube) jobs ≡ true → is_accounted loss jobs seats name ≡ true
+  pub by_job : list_any (λ j. is_same_name name j.tube) jobs ≡ true → is_accounted loss jobs seats name ≡ true
   by_job h = or_left _ (may_be_gone loss name) (or_left _ (list_any (is_seated_at name) seats) (or_right (is_same_name name default_tube) _ h))
 
-  by_seat : list_any (is_seated_at name) seats ≡ true → is_accounted loss jobs seats name ≡ true
+  pub by_seat : list_any (is_seated_at name) seats ≡ true → is_accounted loss jobs seats name ≡ true
   by_seat h = or_left _ (may_be_gone loss name) (or_right (is_same_name name default_tube || list_any (λ j. is_same_name name j.tube) jobs) _ h)
 
-  by_loss : may_be_gone loss name ≡ true → is_accounted loss jobs seats name ≡ true
+  pub by_loss : may_be_gone loss name ≡ true → is_accounted loss jobs seats name ≡ true
   by_loss h = or_right (is_tube_of jobs seats name) _ h
 
   by_default : is_same_name name default_tube ≡ true → is_accounted loss jobs seats name ≡ true
   by_default h = or_left _ (may_be_gone loss name) (or_left _ (list_any (is_seated_at name) seats) (or_left _ (list_any (λ j. is_same_name name j.tube) jobs) h))
 
-still_accounted : (loss loss' : Loss) (jobs jobs' : List Job) (seats seats' : List SeatRecord) (name : List ℕ)
+pub still_accounted : (loss loss' : Loss) (jobs jobs' : List Job) (seats seats' : List SeatRecord) (name : List ℕ)
     → (list_any (λ j. is_same_name name j.tube) jobs ≡ true → is_accounted loss' jobs' seats' name ≡ true)
     → (list_any (is_seated_at name) seats ≡ true → is_accounted loss' jobs' seats' name ≡ true)
     → (may_be_gone loss name ≡ true → is_accounted loss' jobs' seats' name ≡ true)
@@ -172,39 +169,8 @@ alive_reseated loss loss' jobs seats seats' entries seat lost all =
     (λ t h. still_accounted loss loss' jobs jobs seats seats' t.name (by_job loss' jobs seats' t.name) (seat t.name) (λ gone. by_loss loss' jobs seats' t.name (lost t.name gone)) h)
     all
 
-all_may_go : (jobs : List Job) (seats : List SeatRecord) (entries : List TubeRecord) → AreAlive Any jobs seats entries
-all_may_go jobs seats [] = tt
-all_may_go jobs seats (t ∷ entries) = (by_loss Any jobs seats t.name refl, all_may_go jobs seats entries)
-
-seated_mapped : (name : List ℕ) (f : SeatRecord → SeatRecord) → ((s : SeatRecord) → is_seated_at name (f s) ≡ is_seated_at name s) → (seats : List SeatRecord) → list_any (is_seated_at name) (map f seats) ≡ list_any (is_seated_at name) seats
-seated_mapped name f keeps [] = refl
-seated_mapped name f keeps (s ∷ seats) = rw (keeps s, seated_mapped name f keeps seats) refl
-
-seated_one : (name : List ℕ) (b : Bool) (x s : SeatRecord) → is_seated_at name x ≡ is_seated_at name s → is_seated_at name (if b then x else s) ≡ is_seated_at name s
-seated_one name true x s h = h
-seated_one name false x s h = refl
-
-alive_kept : (number : ℕ) (what : SeatChange) (loss : Loss) (jobs : List Job) (seats : List SeatRecord) (entries : List TubeRecord)
-    → ((name : List ℕ) (s : SeatRecord) → is_seated_at name (seat_changed what s) ≡ is_seated_at name s)
-    → AreAlive loss jobs seats entries → AreAlive loss jobs (map (seat_changed_at number what) seats) entries
-alive_kept number what loss jobs seats entries keeps all =
-    alive_reseated loss loss jobs seats (map (seat_changed_at number what) seats) entries
-    (λ name h. by_seat loss jobs (map (seat_changed_at number what) seats) name
-    (seated_mapped name (seat_changed_at number what) (λ s. seated_one name (s.number == number) (seat_changed what s) s (keeps name s)) seats ∙ h))
-    (λ name h. h)
-    all
-
-pub alive_at_seats : (number : ℕ) (what : SeatChange) (loss : Loss) (jobs : List Job) (seats : List SeatRecord) (entries : List TubeRecord)
-    → AreAlive loss jobs seats entries → AreAlive (loss_after what loss) jobs (map (seat_changed_at number what) seats) entries
-alive_at_seats number StopWaiting loss jobs seats entries all = alive_kept number StopWaiting loss jobs seats entries (λ name s. refl) all
-alive_at_seats number (Wait ticket until) loss jobs seats entries all = alive_kept number (Wait ticket until) loss jobs seats entries (λ name s. refl) all
-alive_at_seats number Connect loss jobs seats entries all = all_may_go jobs (map (seat_changed_at number Connect) seats) entries
-alive_at_seats number Clear loss jobs seats entries all = all_may_go jobs (map (seat_changed_at number Clear) seats) entries
-alive_at_seats number End loss jobs seats entries all = alive_kept number End loss jobs seats entries (λ name s. refl) all
-alive_at_seats number (Use tube) loss jobs seats entries all = all_may_go jobs (map (seat_changed_at number (Use tube)) seats) entries
-
 -- a seat at its place watches other tubes
-any_set : (p : SeatRecord → Bool) (Q : Type 0) (seats : List SeatRecord) (i : ℕ) (s new : SeatRecord) → slice_get seats i ≡ Some s → (p s ≡ true → (p new ≡ true) ⊎ Q) → list_any p seats ≡ true → (list_any p (set seats i new) ≡ true) ⊎ Q
+pub any_set : (p : SeatRecord → Bool) (Q : Type 0) (seats : List SeatRecord) (i : ℕ) (s new : SeatRecord) → slice_get seats i ≡ Some s → (p s ≡ true → (p new ≡ true) ⊎ Q) → list_any p seats ≡ true → (list_any p (set seats i new) ≡ true) ⊎ Q
 any_set p Q [] i s new found keeps h = absurd cc
 any_set p Q (t ∷ seats) zero s new found keeps h =
     let e : t ≡ s = cc in

@@ -218,7 +218,7 @@ tube_name_kept CountPut t = refl
 tube_name_kept CountDelete t = refl
 tube_name_kept (Pause seconds moment) t = refl
 
-raised_some : (n : ℕ) → 1 ≤ raised n
+pub raised_some : (n : ℕ) → 1 ≤ raised n
 raised_some n = omega arith
 
 not_zero : (n : ℕ) → (1 ≤ n) → (n == 0) ≡ false

@@ -13,6 +13,7 @@ pub mod JobChanges
 pub mod JobKinds
 pub mod KeptTubes
 pub mod Kicking
+pub mod Leaving
 pub mod Limits
 pub mod Losses
 pub mod Offers

@@ -6,8 +6,6 @@ use Rattle.bq_job.specs.JobCommands.{waiting_from}
 use Rattle.bq_job.specs.Machine.{SeatRecord, TubeRecord, empty_seat, numbers}
 use Rattle.bq_job.specs.TubeCommands.{using}
 use Rattle.bq_core.specs.TubeEntries.{has_entry}
-use Rattle.bq_core.specs.declared.loss.Loss.{Loss}
-use Rattle.bq_core.specs.declared.loss.Loss.TheVariants.{Any}
 use Rattle.bq_core.specs.declared.seat_list.SeatChange.{SeatChange}
 use Rattle.bq_core.specs.declared.seat_list.SeatChange.TheVariants.{StopWaiting, Wait, Connect, Clear, End, Use}
 
@@ -25,15 +23,6 @@ seat_changed (Use tube) s = using tube s
 
 abbrev pub seat_changed_at : ℕ → SeatChange → SeatRecord → SeatRecord
 seat_changed_at number change s = if s.number == number then seat_changed change s else s
-
--- which tubes may be gone after the change: any, where the client comes, goes or uses another one
-abbrev pub loss_after : SeatChange → Loss → Loss
-loss_after StopWaiting loss = loss
-loss_after (Wait ticket until) loss = loss
-loss_after Connect loss = Any
-loss_after Clear loss = Any
-loss_after End loss = loss
-loss_after (Use tube) loss = Any
 
 -- the tube that the seat comes to use has an entry
 abbrev pub has_tube_of : SeatChange → List TubeRecord → Bool

@@ -19,6 +19,7 @@ mod job_acts;
 mod job_list;
 mod kicks;
 mod leases;
+mod leaving;
 mod loss;
 mod machine;
 mod name_lists;

@@ -6,12 +6,11 @@ ghost use Rattle.bq_job.specs.Dispatch.{is_wait_before};
 ghost use Rattle.bq_job.specs.Machine.{SeatRecord, empty_seat, numbers};
 ghost use Rattle.bq_job.specs.TubeCommands.{watching};
 ghost use Rattle.bq_job.specs.TubeName.{is_same_name};
-ghost use Rattle.bq_core.specs.SeatChanges.{AreNumbered, loss_after, seat_changed, seat_changed_at};
+ghost use Rattle.bq_core.specs.SeatChanges.{AreNumbered, seat_changed, seat_changed_at};
 ghost use Rattle.bq_core.specs.Places.{item_at, better_if};
 ghost use Rattle.bq_core.specs.EndingWaits.{has_waited, waits_after};
 ghost use Rattle.bq_core.specs.Offers.{waits_at};
 
-use crate::loss::Loss;
 use crate::place::{Place, Turn};
 use bq_job::{Moment, NoMemory, Seat, TubeName};
 use std::alloc::Global;
@@ -43,16 +42,6 @@ fn change(place: &mut Place, what: &SeatChange)
         SeatChange::Clear => place.clear(),
         SeatChange::End => place.end(),
         SeatChange::Use(tube) => place.use_tube(&tube),
-    }
-}
-
-/// Which tubes may be gone after such a change.
-pub(crate) fn lose(loss: &mut Loss, what: &SeatChange)
-    ensures { loss.new ≡ loss_after what.now loss.old }
-{
-    match what {
-        SeatChange::Connect | SeatChange::Clear | SeatChange::Use(_) => *loss = Loss::Any,
-        SeatChange::StopWaiting | SeatChange::Wait(_, _) | SeatChange::End => {}
     }
 }
 

@@ -28,7 +28,7 @@ use crate::seat_list::SeatChange;
 use crate::tally::Tally;
 use crate::tube_entry::TubeChange;
 use crate::tubes::Tubes;
-use crate::{job_list, loss, seat_list, shares};
+use crate::{job_list, leaving, loss, seat_list, shares};
 use bq_job::{Body, Job, JobId, Moment, NoMemory, Seat, TubeName};
 use bq_jobs::{Jobs, laws};
 use std::alloc::Global;
@@ -239,13 +239,13 @@ pub(crate) fn change_seat(state: &mut State, seat: Seat, what: &SeatChange)
     let place = seat_list::find(state.seats.as_slice(), seat);
     state.clients.remove(place);
     shares::recount(&mut state.tubes, place, Moving::Goes, touched);
+    leaving::lose(&mut state.loss, &state.tubes, place, touched);
     seat_list::change_at(&mut state.seats, seat, what);
     let place = seat_list::find(state.seats.as_slice(), seat);
     state.clients.add(place);
     shares::recount(&mut state.tubes, place, Moving::Comes, touched);
     // So many seats there can be, and no count comes to its end.
     let _seats = state.seats.len();
-    seat_list::lose(&mut state.loss, what);
 }
 
 /// Changes what is kept of a tube that has an entry.

@@ -1,14 +1,15 @@
-use Rattle.std.proofs.Common.{◌≤◌, ◌∙◌, ap, arith, length, map, sym}
+use Rattle.std.proofs.Common.{◌≡◌, ◌≤◌, ◌∙◌, ap, arith, length, map, sym}
 use Rattle.bq_job.specs.Changes.{seat_with}
 use Rattle.bq_job.specs.Limits.{greatest}
 use Rattle.bq_core.specs.Clients.{clients_of, clients_with, clients_without}
 use Rattle.bq_core.specs.Crowds.{crowds_of, crowds_recounted_for, touched}
 use Rattle.bq_core.specs.Dues.{first_pause_end}
+use Rattle.bq_core.specs.Leaving.{loss_of}
 use Rattle.bq_core.specs.SeatChanges.{seat_changed_at}
 use Rattle.bq_core.specs.declared.crowd.Moving.TheVariants.{Comes, Goes}
 use Rattle.bq_core.proofs.ClientLemmas.{clients_moved}
 use Rattle.bq_core.proofs.CrowdLemmas.{crowds_moved}
-use Rattle.bq_core.proofs.LossLemmas.{alive_at_seats}
+use Rattle.bq_core.proofs.LeavingLemmas.{alive_left}
 use Rattle.bq_core.proofs.StateLemmas.{entries_of_seat, numbered_after}
 use Rattle.bq_core.proofs.state.change_seat.Goals as goal
 
@@ -49,6 +50,11 @@ returns-clause-sound c =
             ∙ (λ i. crowds_of (sym c.change_at.ensures i) (sym entries i));
         seated = rw c.change_at.ensures crowds.seated;
       };
-      alive = rw (c.lose.ensures, c.change_at.ensures, entries) (alive_at_seats c.args.seat c.args.what.now st.loss st.jobs.jobs seats st.tubes.entries was.alive);
+      alive =
+          let mid = c.recount.new.tubes in
+          let all = alive_left c.args.seat c.args.what.now st.loss st.jobs.jobs seats st.tubes.entries mid was.numbered few was.entries.order was.entries.of_jobs was.crowds.seated c.recount.ensures.entries (c.recount.ensures.tallies ∙ was.counts.each)
+          (c.recount.ensures.crowds ∙ (λ i. crowds_recounted_for Goes (touches i) (taken i) st.tubes.entries (was.crowds.each i))) was.alive in
+          let loss : c.lose.new.loss ≡ loss_of (touched c.args.what.now) mid (there seats) st.loss = c.lose.ensures ∙ (λ i. loss_of (touches i) mid (taken i) st.loss) in
+          rw (loss, c.change_at.ensures, entries) all;
       pauses = was.pauses ∙ ap first_pause_end (sym entries);
     }
