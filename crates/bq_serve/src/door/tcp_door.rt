@@ -1,7 +1,8 @@
-ghost use Rattle.std.specs.Prelude.{◌≡◌, ◌+◌, ℕ, IsTrue, None, Some, false};
+ghost use Rattle.std.specs.Prelude.{◌≡◌, ◌+◌, ℕ, IsTrue, None, OnErr, OnOk, Some, false, true};
+ghost use Rattle.bq_serve.specs.Doors.{IsOpened};
 
 use super::{Door, DoorFault};
-use crate::line::IoLine;
+use crate::line::{IoLine, Line};
 use bq_job::LineEnd;
 use std::io;
 use std::io::ErrorKind;
@@ -51,6 +52,7 @@ impl<'l> TcpDoor<'l> {
     fn count_one(&mut self) -> bool
         ensures inside { self.new.is_out ≡ self.old.is_out }
         ensures at_end { self.new.is_at_end ≡ self.old.is_at_end }
+        ensures fault { self.new.met_fault ≡ self.old.met_fault }
         ensures endless { self.old.left ≡ None → IsTrue result × (self.new.left ≡ None) }
         ensures last { self.old.left ≡ Some 0 → result ≡ false }
         ensures counted { (more : ℕ) → self.old.left ≡ Some (more + 1) → IsTrue result × (self.new.left ≡ Some more) }
@@ -75,7 +77,14 @@ impl<'l> Door for TcpDoor<'l> {
 
     ghost lines_over = { λ door. None };
 
-    fn open(&mut self) -> Result<Option<IoLine<TcpStream>>, DoorFault> {
+    fn open(&mut self) -> Result<Option<IoLine<TcpStream>>, DoorFault>
+        requires inside { self.old.is_out ≡ false }
+        requires more { self.old.is_at_end ≡ false }
+        ensures opened { IsOpened ⟦<IoLine<TcpStream> as Line>⟧.seen self.new.is_out self.new.is_at_end result }
+        // A fault is kept for `met_fault`.
+        ensures fault { OnErr result (self.new.met_fault ≡ true) }
+        ensures no_fault { OnOk result (self.new.met_fault ≡ self.old.met_fault) }
+    {
         if !self.count_one() {
             self.is_at_end = true;
             return Ok(None);
