@@ -344,12 +344,15 @@ pub(crate) fn is_tube(state: &State, tube: &TubeName) -> bool
     state.tubes.is_tube(tube)
 }
 
-/// How many tubes exist.
+/// How many tubes exist: so many as there are entries, where none may be gone.
 pub(crate) fn tube_count(state: &State) -> u64
     requires { IsSound state.now }
     ensures { result ≡ length (tubes (machine_of state.now)) }
 {
-    state.tubes.count_alive()
+    match &state.loss {
+        Loss::Nothing => state.tubes.len() as u64,
+        _ => state.tubes.count_alive(),
+    }
 }
 
 /// The names of the tubes that exist, in byte order. Their room is asked for before.
