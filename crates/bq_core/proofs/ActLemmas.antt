@@ -9,8 +9,7 @@ use Rattle.bq_job.specs.declared.job.Job.{Job}
 use Rattle.bq_job.specs.declared.step.Step.{Step}
 use Rattle.bq_job.specs.declared.step.Step.TheVariants as steps
 use Rattle.bq_job.specs.declared.request.Request.{Request}
-use Rattle.bq_job.specs.declared.request.Request.TheVariants as requests
-use Rattle.bq_job.specs.Acts.{Effect, on_job, showing, silent, telling}
+use Rattle.bq_job.specs.Acts.{Effect, on_job, showing, telling}
 use Rattle.bq_job.specs.Asked.{after_close, after_connect, asked, at_found, effect, with_end}
 use Rattle.bq_job.specs.Changes.{is_held_by, is_waiting, job_with, seat_with, with_job, with_seat}
 use Rattle.bq_job.specs.JobCommands.{after_delete, delete_effect, is_free_for, last_id, new_job, put_effect, reserve_job_effect, with_delete, with_put}
@@ -19,10 +18,10 @@ use Rattle.bq_job.specs.JobStates.{is_reserved}
 use Rattle.bq_job.specs.TubeCommands.{ignore_effect, watch_effect, watching, watching_or_refused}
 use Rattle.bq_job.specs.Statistics.{tube_statistics}
 use Rattle.bq_job.specs.StatisticsCommands.{job_statistics_or_not}
-use Rattle.bq_job.specs.Tubes.{is_tube, watches, with_tube}
+use Rattle.bq_job.specs.Tubes.{watches, with_tube}
 use Rattle.bq_job.specs.Limits.{raised}
 use Rattle.bq_job.specs.Machine.{Machine, SeatRecord}
-use Rattle.bq_job.specs.Steps.{Memory, acted, granted, growth_refused, share_refused, shares_body}
+use Rattle.bq_job.specs.Steps.{granted, share_refused, shares_body}
 use Rattle.bq_job.specs.TubeName.{is_same_name}
 use Rattle.bq_core.specs.Acting.{Acts, is_asking, is_connected, is_free}
 use Rattle.bq_core.specs.JobChanges.{is_passed_by}

@@ -1,7 +1,7 @@
 -- Counts of the clients at tubes, once a seat changes.
-use Rattle.std.proofs.Common.{◌≡◌, ◌∙◌, ◌+◌, ◌≤◌, ◌==◌, ℕ, Bool, true, false, not, ◌&&◌, ◌||◌, List, [], ◌∷◌, ◌++◌, Option, Some, None, if◌then◌else◌, refl, sym, ap, arith, length, map, inl, inr}
+use Rattle.std.proofs.Common.{◌≡◌, ◌∙◌, ◌≤◌, ◌==◌, ℕ, Bool, true, false, not, ◌&&◌, ◌||◌, List, [], ◌∷◌, Option, Some, None, if◌then◌else◌, refl, sym, ap, length, map, inl, inr}
 use Rattle.std.proofs.Math.Bool.{and-false}
-use Rattle.std.specs.Prelude.{count_by, nat_lt}
+use Rattle.std.specs.Prelude.{count_by}
 use Rattle.std.specs.List.{AllByRecursion as All, list_any}
 use Rattle.std.specs.Cmp.Lexicographic.{bytes_decides}
 use Rattle.std.proofs.lemmas.Bool.{and_parts, cases_Bool}
@@ -18,13 +18,13 @@ use Rattle.bq_core.specs.declared.crowd.Share.{Share}
 use Rattle.bq_core.specs.declared.seat_list.SeatChange.{SeatChange}
 use Rattle.bq_core.specs.declared.seat_list.SeatChange.TheVariants.{StopWaiting, Wait, Connect, Clear, End, Use}
 use Rattle.bq_core.specs.Acting.{is_asking, is_connected}
-use Rattle.bq_core.specs.Crowds.{AreCrowds, IsSeated, crowd_in, crowd_of, crowd_with, crowd_without, crowds_at, crowds_at_all, crowds_of, crowds_recounted, crowds_recounted_for, has_seats, is_none, is_user, is_waiter, is_watcher, no_crowd, may_wait, recounted, share_as_user, share_as_watcher, touched}
+use Rattle.bq_core.specs.Crowds.{AreCrowds, IsSeated, crowd_in, crowd_of, crowd_with, crowd_without, crowds_at, crowds_at_all, crowds_of, crowds_recounted, crowds_recounted_for, has_seats, is_none, is_user, is_waiter, is_watcher, may_wait, recounted, share_as_user, share_as_watcher, touched}
 use Rattle.bq_core.specs.SeatChanges.{AreNumbered, seat_changed, seat_changed_at}
 use Rattle.bq_core.specs.Tallies.{count_with, count_without}
-use Rattle.bq_core.specs.TubeEntries.{AreInOrder, has_entry}
+use Rattle.bq_core.specs.TubeEntries.{AreInOrder}
 use Rattle.bq_core.proofs.ClientLemmas.{count_changed, count_stays, found_changed, some_pass}
 use Rattle.bq_core.proofs.StateLemmas.{all_read, all_set, changed_there, number_kept, numbered_after, seat_there}
-use Rattle.bq_core.proofs.TubeLemmas.{before_differs, same_itself, same_name}
+use Rattle.bq_core.proofs.TubeLemmas.{before_differs, same_name}
 
 -- names are the same either way round
 pub same_turned : (a b : List ℕ) → is_same_name a b ≡ is_same_name b a

@@ -1,9 +1,9 @@
 -- The counts of the clients at tubes stand at the places of their entries.
-use Rattle.std.proofs.Common.{◌≡◌, ◌∙◌, ◌+◌, ◌≤◌, ◌<◌, ◌||◌, ◌++◌, slice_get, ℕ, zero, suc, Bool, true, false, not, ◌&&◌, List, [], ◌∷◌, Some, if◌then◌else◌, refl, sym, ap, arith, length, map, inl, inr}
-use Rattle.std.specs.Prelude.{count_by, drop, filter, take}
+use Rattle.std.proofs.Common.{◌≡◌, ◌∙◌, ◌||◌, ◌++◌, ℕ, Bool, true, false, ◌&&◌, List, [], ◌∷◌, refl, sym, ap, map, inl, inr}
+use Rattle.std.specs.Prelude.{count_by, drop, take}
 use Rattle.std.proofs.lemmas.List.{drop-map, map-append, take-map}
-use Rattle.std.specs.List.{AllByRecursion as All, insert, list_any, prefix_len, remove, slice_index_or}
-use Rattle.std.proofs.lemmas.Bool.{and_parts, cases_Bool}
+use Rattle.std.specs.List.{AllByRecursion as All, insert, list_any, prefix_len}
+use Rattle.std.proofs.lemmas.Bool.{cases_Bool}
 use Rattle.bq_job.specs.declared.job.Job.{Job}
 use Rattle.bq_job.specs.Changes.{is_waiting}
 use Rattle.bq_job.specs.Machine.{SeatRecord, TubeRecord, default_tube, empty_seat}
@@ -13,7 +13,7 @@ use Rattle.bq_job.proofs.ListLemmas.{count_all_not}
 use Rattle.bq_core.specs.declared.crowd.Crowd.{Crowd}
 use Rattle.bq_core.specs.declared.tally.Tally.{Tally}
 use Rattle.bq_core.specs.Crowds.{AreCrowds, IsSeated, crowd_at, crowd_in, crowd_of, crowds_of, crowds_provided, has_seats, is_user, is_waiter, is_watcher, no_crowd}
-use Rattle.bq_core.specs.Tallies.{has_jobs, tallies_of, tally_at, tally_in}
+use Rattle.bq_core.specs.Tallies.{has_jobs, tallies_of, tally_at}
 use Rattle.bq_core.specs.TubeEntries.{AreEntries, HasTubes, has_entry, is_tube_by, is_tube_of, provided}
 use Rattle.bq_core.proofs.CrowdLemmas.{has_seats_of}
 use Rattle.bq_core.proofs.TallyPlaces.{has_jobs_in, tally_there}

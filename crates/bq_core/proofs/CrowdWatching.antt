@@ -1,10 +1,10 @@
 -- Counts of the clients at tubes, once a client watches a tube more, or one fewer.
-use Rattle.std.proofs.Common.{◌≡◌, ◌∙◌, ◌≤◌, ◌==◌, ℕ, Bool, true, false, not, ◌&&◌, ◌||◌, List, [], ◌∷◌, ◌++◌, Some, if◌then◌else◌, refl, sym, ap, arith, length, map, filter, set, slice_get, inl, inr}
+use Rattle.std.proofs.Common.{◌≡◌, ◌∙◌, ◌≤◌, ◌==◌, ℕ, Bool, true, false, not, ◌&&◌, ◌||◌, List, [], ◌∷◌, ◌++◌, Some, if◌then◌else◌, refl, sym, ap, length, map, filter, set, slice_get}
 use Rattle.std.proofs.Math.Bool.{and-false, or-false}
 use Rattle.std.specs.Prelude.{count_by}
 use Rattle.std.specs.List.{list_any}
-use Rattle.std.proofs.lemmas.Bool.{and_from, and_parts, cases_Bool}
-use Rattle.bq_job.specs.Changes.{is_waiting, seat_with}
+use Rattle.std.proofs.lemmas.Bool.{and_from, and_parts}
+use Rattle.bq_job.specs.Changes.{is_waiting}
 use Rattle.bq_job.specs.Lawful.{none_twice}
 use Rattle.bq_job.specs.Limits.{greatest}
 use Rattle.bq_job.specs.Machine.{SeatRecord, TubeRecord}
@@ -12,12 +12,11 @@ use Rattle.bq_job.specs.TubeCommands.{watching}
 use Rattle.bq_job.specs.TubeName.{is_same_name}
 use Rattle.bq_job.specs.Tubes.{watches}
 use Rattle.bq_core.specs.declared.crowd.Crowd.{Crowd}
-use Rattle.bq_core.specs.declared.crowd.Share.{Share}
-use Rattle.bq_core.specs.Crowds.{AreCrowds, IsSeated, crowd_in, crowd_of, crowd_with, crowd_without, crowds_at, crowds_of, is_user, is_waiter, is_watcher, share_of_watcher, share_of_watching}
+use Rattle.bq_core.specs.Crowds.{AreCrowds, IsSeated, crowd_in, crowd_of, crowd_with, crowd_without, crowds_at, is_user, is_waiter, is_watcher, share_of_watcher, share_of_watching}
 use Rattle.bq_core.specs.SeatChanges.{AreNumbered}
 use Rattle.bq_core.specs.Tallies.{count_with, count_without}
 use Rattle.bq_core.specs.TubeEntries.{AreInOrder}
-use Rattle.bq_core.proofs.ClientLemmas.{count_changed, count_stays, count_unchanged}
+use Rattle.bq_core.proofs.ClientLemmas.{count_changed, count_unchanged}
 use Rattle.bq_core.proofs.CrowdLemmas.{at_named, map_same, same_turned}
 use Rattle.bq_core.proofs.StateLemmas.{all_read, all_set, changed_there, seat_read, watching_numbered}
 use Rattle.bq_core.proofs.TubeLemmas.{same_name}

@@ -1,26 +1,25 @@
 -- Which tubes may be gone once a seat changes: those that its client left, but for those whose counts tell that they exist.
-use Rattle.std.proofs.Common.{◌≡◌, ◌∙◌, ◌+◌, ◌≤◌, ◌<◌, ◌==◌, ℕ, Bool, true, false, cond, not, ◌&&◌, ◌||◌, ◌⊎◌, List, [], ◌∷◌, Option, Some, None, if◌then◌else◌, refl, sym, ap, arith, length, map, set, subst, inl, inr}
-use Rattle.std.specs.Prelude.{fold, nat_lt}
-use Rattle.std.specs.List.{AllByRecursion as All, Contains, list_any}
-use Rattle.std.proofs.lemmas.Bool.{and_from, and_parts, cases_Bool, lt-ltb, or_cases, or_left, or_right}
+use Rattle.std.proofs.Common.{◌≡◌, ◌∙◌, ◌≤◌, ℕ, Bool, true, false, ◌||◌, ◌⊎◌, List, [], ◌∷◌, Option, Some, None, refl, sym, ap, length, map, inl, inr}
+use Rattle.std.specs.Prelude.{nat_lt}
+use Rattle.std.specs.List.{AllByRecursion as All, list_any}
+use Rattle.std.proofs.lemmas.Bool.{and_from, and_parts, lt-ltb, or_cases, or_left, or_right}
 use Rattle.bq_job.specs.declared.job.Job.{Job}
 use Rattle.bq_job.specs.Changes.{seat_with}
-use Rattle.bq_job.specs.Lawful.{none_twice}
 use Rattle.bq_job.specs.Limits.{greatest}
 use Rattle.bq_job.specs.Machine.{SeatRecord, TubeRecord, default_tube}
 use Rattle.bq_job.specs.TubeName.{is_same_name}
 use Rattle.bq_job.specs.Tubes.{is_seated_at, watches}
 use Rattle.bq_job.proofs.ListLemmas.{all_at, all_from_members, list_any_with}
 use Rattle.bq_core.specs.declared.crowd.Crowd.{Crowd}
-use Rattle.bq_core.specs.declared.crowd.Moving.TheVariants.{Comes, Goes}
+use Rattle.bq_core.specs.declared.crowd.Moving.TheVariants.{Goes}
 use Rattle.bq_core.specs.declared.crowd.Share.{Share}
 use Rattle.bq_core.specs.declared.loss.Loss.{Loss}
 use Rattle.bq_core.specs.declared.seat_list.SeatChange.{SeatChange}
 use Rattle.bq_core.specs.declared.seat_list.SeatChange.TheVariants.{StopWaiting, Wait, Connect, Clear, End, Use}
-use Rattle.bq_core.specs.Crowds.{AreCrowds, IsSeated, crowd_at, crowd_in, crowd_of, crowd_with, crowd_without, crowds_of, crowds_recounted, crowds_recounted_for, has_seats, touched}
+use Rattle.bq_core.specs.Crowds.{IsSeated, crowd_at, crowd_in, crowd_of, crowd_with, crowd_without, crowds_of, crowds_recounted, crowds_recounted_for, has_seats, touched}
 use Rattle.bq_core.specs.KeptTubes.{KeptTubes}
 use Rattle.bq_core.specs.Leaving.{exists_in, loss_of, lost_all, lost_if, lost_unless}
-use Rattle.bq_core.specs.Losses.{AreAlive, is_accounted, may_be_gone, with_lost}
+use Rattle.bq_core.specs.Losses.{AreAlive, is_accounted, may_be_gone}
 use Rattle.bq_core.specs.SeatChanges.{AreNumbered, seat_changed, seat_changed_at}
 use Rattle.bq_core.specs.Tallies.{count_with, has_jobs, tallies_of, tally_at}
 use Rattle.bq_core.specs.TubeEntries.{AreInOrder, has_entry, is_tube_of}

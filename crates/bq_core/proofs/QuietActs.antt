@@ -12,7 +12,7 @@ use Rattle.bq_job.specs.declared.request.Request.TheVariants as requests
 use Rattle.bq_job.specs.declared.step.Step.{Step}
 use Rattle.bq_job.specs.declared.step.Step.TheVariants as steps
 use Rattle.bq_job.specs.Acts.{Effect, on_found, silent, telling}
-use Rattle.bq_job.specs.Asked.{after_close, after_connect, asked, at_found, at_seat, effect, with_end}
+use Rattle.bq_job.specs.Asked.{after_close, after_connect, asked, at_found, effect, with_end}
 use Rattle.bq_job.specs.Changes.{first_of, given_back, in_state, is_held_by, is_ready, is_ready_state, is_waiting, job_with, seat_with, with_job, with_seat}
 use Rattle.bq_job.specs.Dispatch.{is_job_before, reserved_by}
 use Rattle.bq_job.specs.JobCommands.{after_delete, after_kick, after_put, buried, is_buried_in, is_delayed_in, is_free_for, kickable, kicked, new_job, released, waiting_from, with_put}

@@ -2,7 +2,7 @@
 use Rattle.std.proofs.Common.{◌≡◌, ◌≤◌, ◌+◌, ◌++◌, ℕ, Bool, true, false, ◌==◌, ◌&&◌, ◌||◌, not, List, [], ◌∷◌, Option, Some, None, arith, cond, map, filter, refl, sym, ap, ◌∙◌, subst, inl, inr, if◌then◌else◌, is_some}
 use Rattle.std.specs.Prelude.{count_by, find, unwrap_or}
 use Rattle.std.specs.List.{AllByRecursion as All, Contains, list_any}
-use Rattle.std.proofs.lemmas.Bool.{and_parts, cases_Bool, eqb-true}
+use Rattle.std.proofs.lemmas.Bool.{cases_Bool, eqb-true}
 use Rattle.bq_job.specs.declared.job.Job.{Job}
 use Rattle.bq_job.specs.Changes.{is_ready, is_waiting, with_seat}
 use Rattle.bq_job.specs.Dispatch.{is_job_before, is_waiting_for, next_job}

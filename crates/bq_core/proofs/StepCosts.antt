@@ -1,5 +1,5 @@
 -- What a whole step asks of the shelves, out of its parts.
-use Rattle.std.proofs.Common.{◌≡◌, ℕ, Bool, true, false, ◌+◌, ◌*◌, ◌≤◌, List, [], None, cond, length, max, refl, sym, ap, ◌∙◌, arith, subst}
+use Rattle.std.proofs.Common.{◌≡◌, ℕ, false, ◌+◌, ◌*◌, ◌≤◌, List, [], None, cond, length, max, sym, ap, ◌∙◌, arith, subst}
 use Rattle.std.proofs.Math.Nat.{add-mul}
 use Rattle.std.specs.List.{sum_by}
 use Rattle.std.proofs.lemmas.Nat.{mul-le}
@@ -15,7 +15,7 @@ use Rattle.bq_job.proofs.LawfulLemmas.{leaves_acted}
 use Rattle.bq_jobs.specs.Kept.{Kept}
 use Rattle.bq_core.specs.declared.state.State.{State}
 use Rattle.bq_core.specs.Asking.{Asks, AsksAsChanged, AsksByTurn, search_among}
-use Rattle.bq_core.specs.Cost.{IsStepWithin, changed_jobs, entries, entries_with, ripening, waited, waited_entries}
+use Rattle.bq_core.specs.Cost.{IsStepWithin, changed_jobs, entries, entries_with, ripening, waited}
 use Rattle.bq_core.specs.Outbox.{Outbox}
 use Rattle.bq_core.specs.Serving.{NoneIsGone, ServesAsking, ServesInto}
 use Rattle.bq_core.specs.State.{machine_of}

@@ -1,5 +1,5 @@
 -- Counts of jobs, once a job comes or goes.
-use Rattle.std.proofs.Common.{◌≡◌, ◌∙◌, ◌+◌, ◌≤◌, ◌<◌, ℕ, suc, Bool, true, false, cond, List, [], ◌∷◌, Some, None, refl, sym, ap, arith, length, filter, inl, inr}
+use Rattle.std.proofs.Common.{◌≡◌, ◌∙◌, ◌+◌, ◌≤◌, ℕ, suc, Bool, true, false, cond, List, [], ◌∷◌, Some, refl, sym, ap, arith, length, filter, inl, inr}
 use Rattle.std.specs.Prelude.{◌&&◌, count_by}
 use Rattle.std.proofs.lemmas.Bool.{cases_Bool}
 use Rattle.std.proofs.lemmas.List.Sums.{count_by-le-length}
@@ -11,7 +11,7 @@ use Rattle.bq_job.specs.Limits.{greatest}
 use Rattle.bq_job.specs.Statistics.{is_urgent}
 use Rattle.bq_job.proofs.ListLemmas.{count_cons}
 use Rattle.bq_jobs.specs.Kept.{with_added, without}
-use Rattle.bq_jobs.proofs.Changes.{count_added, count_without as count_taken, length_added}
+use Rattle.bq_jobs.proofs.Changes.{count_added, count_without as count_taken}
 use Rattle.bq_core.specs.Tallies.{count_with, count_without, tally_of, tally_with, tally_without}
 
 -- a count, once one more is counted,

@@ -1,5 +1,5 @@
 -- The counts of tubes stand at the places of their entries.
-use Rattle.std.proofs.Common.{◌≡◌, ◌∙◌, ◌+◌, ◌≤◌, ◌||◌, ℕ, zero, Bool, true, false, List, [], ◌∷◌, Some, refl, sym, ap, arith, length, map, inl, inr}
+use Rattle.std.proofs.Common.{◌≡◌, ◌∙◌, ◌+◌, ◌≤◌, ◌||◌, ℕ, Bool, true, false, List, [], ◌∷◌, Some, refl, sym, ap, arith, length, map, inl, inr}
 use Rattle.std.specs.Prelude.{◌++◌, nat_lt, count_by, filter, take, drop}
 use Rattle.std.proofs.lemmas.List.{drop-map, map-append, take-map}
 use Rattle.std.specs.List.{AllByRecursion as All, insert, list_any, prefix_len}

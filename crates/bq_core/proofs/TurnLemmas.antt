@@ -9,20 +9,20 @@ use Rattle.bq_job.specs.declared.fault.NoMemory.{NoMemory}
 use Rattle.bq_job.specs.declared.answer.Answer.{Answer}
 use Rattle.bq_job.specs.declared.answer.Answer.TheVariants as answers
 use Rattle.bq_job.specs.declared.job.Job.{Job}
-use Rattle.bq_job.specs.Changes.{first_of, is_waiting, with_job, with_seat, without_wait}
+use Rattle.bq_job.specs.Changes.{is_waiting, with_job, with_seat, without_wait}
 use Rattle.bq_job.specs.Computed.{waiting_count}
-use Rattle.bq_job.specs.Dispatch.{DispatchTurn, GivenAnswer, IsHandOut, is_job_before, is_wait_before, is_waiting_for, next_job, next_seat, reserved_by}
+use Rattle.bq_job.specs.Dispatch.{DispatchTurn, GivenAnswer, IsHandOut, is_job_before, is_waiting_for, next_job, next_seat, reserved_by}
 use Rattle.bq_job.specs.Machine.{Machine, SeatRecord}
 use Rattle.bq_job.specs.Steps.{has_refused_share, is_out_of_memory}
-use Rattle.bq_job.specs.Waits.{Chain, WaitEndTurn, end_of_wait, ends_waiting, next_end}
+use Rattle.bq_job.specs.Waits.{Chain, WaitEndTurn, end_of_wait, next_end}
 use Rattle.bq_job.proofs.ChoiceLemmas.{first_of_none_passes}
-use Rattle.bq_job.proofs.ComputedLemmas.{next_end_waits, next_seat_waits, waiting_falls}
+use Rattle.bq_job.proofs.ComputedLemmas.{next_seat_waits, waiting_falls}
 use Rattle.bq_core.specs.declared.state.State.{State}
 use Rattle.bq_core.specs.HandOuts.{AddsHandOut, HandsOut}
 use Rattle.bq_core.specs.Outbox.{Outbox}
 use Rattle.bq_core.specs.State.{machine_of}
 use Rattle.bq_core.specs.Turns.{Gives, HasRoom, none_refused}
-use Rattle.bq_core.specs.WaitEnds.{AddsWaitEnd, EndsWait}
+use Rattle.bq_core.specs.WaitEnds.{AddsWaitEnd}
 
 -- a hand-out takes the client away, whether the share was given or not
 hand_out_falls : (m : Machine) (j : Job) (s : SeatRecord) (g : GivenAnswer) (next : Machine) → Contains m.seats s → is_waiting s ≡ true → IsHandOut m j s g next → waiting_count next < waiting_count m

@@ -14,13 +14,13 @@ use Rattle.bq_job.specs.Waits.{WaitEndTurn, end_of_wait, ends_waiting, is_deadli
 use Rattle.bq_job.proofs.ChoiceLemmas.{first_of_contains, first_of_is, first_of_is_least, first_of_none, first_of_none_passes, first_of_passes, pair_order}
 use Rattle.bq_job.proofs.ComputedLemmas.{waiting_falls}
 use Rattle.bq_job.proofs.KeptLemmas.{only_seat}
-use Rattle.bq_job.proofs.ListLemmas.{all_always, all_at, all_from_members, all_of_map, all_weaker, contains_head, contains_tail, count_cons, found_passes, list_any_not, list_any_with, none_pass}
+use Rattle.bq_job.proofs.ListLemmas.{all_always, all_at, all_from_members, all_of_map, count_cons, found_passes, list_any_not, list_any_with, none_pass}
 use Rattle.bq_core.specs.declared.state.State.{State}
 use Rattle.bq_core.specs.EndingWaits.{AreLookedAt, is_after, left_after, told_at_end, turn_of, waits_after}
 use Rattle.bq_core.specs.Outbox.{Outbox}
 use Rattle.bq_core.specs.State.{IsSound, machine_of}
 use Rattle.bq_core.specs.Turns.{Gives, none_refused}
-use Rattle.bq_core.specs.WaitEnds.{AddsWaitEnd, LooksAt}
+use Rattle.bq_core.specs.WaitEnds.{LooksAt}
 use Rattle.bq_core.proofs.StateLemmas.{seat_read}
 use Rattle.bq_core.proofs.TurnLemmas.{gives_nothing, one_end, some_at}
 

@@ -1,7 +1,7 @@
-use Rattle.std.proofs.Common.{◌≡◌, ◌∙◌, ap, arith, filter, length, subst, sym}
+use Rattle.std.proofs.Common.{◌∙◌, ap, arith, filter, length, sym}
 use Rattle.std.specs.Prelude.{find}
 use Rattle.bq_core.specs.KeptTubes.{is_alive_at, is_gone_from}
-use Rattle.bq_core.proofs.GoneLemmas.{AllLeftBefore, name_removed, no_name, none_gone}
+use Rattle.bq_core.proofs.GoneLemmas.{name_removed, no_name, none_gone}
 use Rattle.bq_core.proofs.forgetting.forget_all.Goals as goal
 
 pub loop-name-smaller : goal.loop-name-smaller

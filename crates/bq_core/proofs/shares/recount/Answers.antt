@@ -1,4 +1,4 @@
-use Rattle.std.proofs.Common.{◌≡◌, ◌∙◌, ap, sym}
+use Rattle.std.proofs.Common.{◌∙◌, ap, sym}
 use Rattle.std.specs.Option.{option_copied}
 use Rattle.bq_core.specs.Crowds.{crowds_at, crowds_at_all, crowds_recounted_for, recounted}
 use Rattle.bq_core.proofs.shares.recount.Goals as goal

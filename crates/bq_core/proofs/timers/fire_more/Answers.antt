@@ -1,4 +1,4 @@
-use Rattle.std.proofs.Common.{◌≡◌, ◌<◌, ℕ, ap, arith, refl, subst, ◌∙◌}
+use Rattle.std.proofs.Common.{◌≡◌, ◌<◌, ap, arith, refl, subst, ◌∙◌}
 use Rattle.std.specs.Prelude.{count_by}
 use Rattle.bq_job.specs.Machine.{Machine}
 use Rattle.bq_core.specs.Firing.{is_ripe}

@@ -1,7 +1,7 @@
-use Rattle.std.proofs.Common.{◌≡◌, ◌∙◌, ap, refl, sym, subst, Some, None}
+use Rattle.std.proofs.Common.{ap, refl, subst}
 use Rattle.bq_job.specs.Machine.{Machine}
 use Rattle.bq_core.specs.State.{machine_of}
-use Rattle.bq_core.specs.WaitEnds.{AddsWaitEnd, EndsWait}
+use Rattle.bq_core.specs.WaitEnds.{EndsWait}
 use Rattle.bq_core.proofs.WaitLemmas.{told_is, told_nothing}
 use Rattle.bq_core.proofs.waits.look_at.Goals as goal
 

@@ -1,4 +1,4 @@
-use Rattle.std.proofs.Common.{◌≡◌, ◌∙◌, ap, map, refl}
+use Rattle.std.proofs.Common.{◌∙◌, ap, map, refl}
 use Rattle.bq_core.specs.KeptTubes.{KeptTubes, crowd_kept, kept_changed, record_at, tally_kept}
 use Rattle.bq_core.specs.TubeEntries.{tube_changed_at}
 use Rattle.bq_core.proofs.NamedLemmas.{change_kept, edit_change, edit_same_crowds, edit_same_tallies, in_order}

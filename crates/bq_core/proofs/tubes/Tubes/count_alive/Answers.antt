@@ -1,9 +1,6 @@
 use Rattle.std.proofs.Common.{◌≡◌, ◌∙◌, ◌+◌, ◌≤◌, ap, ℕ, arith, length, map, sym}
-use Rattle.std.proofs.lemmas.List.{length-map}
-use Rattle.std.specs.Prelude.{fold}
-use Rattle.bq_index.specs.Walk.{seen_by}
 use Rattle.bq_core.specs.Crowds.{crowds_of}
-use Rattle.bq_core.specs.KeptTubes.{KeptTube, KeptTubes, record_at, tally_kept, with_alive}
+use Rattle.bq_core.specs.KeptTubes.{KeptTubes, record_at}
 use Rattle.bq_core.specs.Tallies.{tallies_of}
 use Rattle.bq_core.specs.TubeEntries.{names_alive}
 use Rattle.bq_core.specs.declared.tube_walks.HowMany.{HowMany}

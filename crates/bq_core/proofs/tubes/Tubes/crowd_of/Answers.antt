@@ -1,5 +1,5 @@
-use Rattle.std.proofs.Common.{◌≡◌, ◌∙◌, [], None, ap, rules, sym}
-use Rattle.bq_core.specs.KeptTubes.{KeptTubes, crowd_by}
+use Rattle.std.proofs.Common.{◌∙◌, None, ap}
+use Rattle.bq_core.specs.KeptTubes.{KeptTubes}
 use Rattle.bq_core.specs.Crowds.{crowd_at}
 use Rattle.bq_core.proofs.NamedLemmas.{found_crowd, lent_crowd}
 use Rattle.bq_core.proofs.CrowdPlaces.{nobody_counted}

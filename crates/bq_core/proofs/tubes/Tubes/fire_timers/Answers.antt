@@ -1,4 +1,4 @@
-use Rattle.std.proofs.Common.{◌≡◌, ◌∙◌, ap, map}
+use Rattle.std.proofs.Common.{◌∙◌, ap, map}
 use Rattle.bq_job.specs.Timers.{tube_after_timers}
 use Rattle.bq_core.specs.KeptTubes.{KeptTubes, crowd_kept, record_at, tally_kept}
 use Rattle.bq_core.specs.declared.tube_walks.EndPauses.{EndPauses}

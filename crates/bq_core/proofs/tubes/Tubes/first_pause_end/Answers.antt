@@ -1,4 +1,4 @@
-use Rattle.std.proofs.Common.{◌≡◌, ◌∙◌, None, ap}
+use Rattle.std.proofs.Common.{◌∙◌, None, ap}
 use Rattle.std.specs.Prelude.{fold}
 use Rattle.bq_index.specs.Walk.{seen_by}
 use Rattle.bq_core.specs.Dues.{first_pause_end}

@@ -1,6 +1,6 @@
-use Rattle.std.proofs.Common.{◌≡◌, ◌∙◌, ap, filter, map, subst, sym}
+use Rattle.std.proofs.Common.{◌∙◌, ap, filter, map, subst, sym}
 use Rattle.std.specs.Map.{lookup}
-use Rattle.bq_core.specs.KeptTubes.{KeptTubes, crowd_kept, is_alive_at, is_gone_by, is_named_at, record_at, tally_kept}
+use Rattle.bq_core.specs.KeptTubes.{KeptTubes, is_alive_at, is_gone_by, is_named_at, record_at}
 use Rattle.bq_core.specs.Crowds.{crowds_of}
 use Rattle.bq_core.specs.Losses.{AreAlive}
 use Rattle.bq_core.specs.Tallies.{tallies_of}

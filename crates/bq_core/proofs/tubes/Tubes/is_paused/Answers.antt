@@ -1,4 +1,4 @@
-use Rattle.std.proofs.Common.{◌≡◌, ◌∙◌, ◌&&◌, None, ap, is_some}
+use Rattle.std.proofs.Common.{◌∙◌, ◌&&◌, None, ap, is_some}
 use Rattle.std.specs.List.{list_any}
 use Rattle.bq_job.specs.TubeName.{is_same_name}
 use Rattle.bq_core.specs.KeptTubes.{KeptTubes}

@@ -1,6 +1,5 @@
 use Rattle.std.proofs.Common.{◌≡◌, ◌∙◌, [], ap, map, subst, sym}
 use Rattle.std.specs.Prelude.{IfOk, fold}
-use Rattle.bq_index.specs.Walk.{entry_of}
 use Rattle.bq_core.specs.Crowds.{crowds_of}
 use Rattle.bq_core.specs.KeptTubes.{KeptTubes, record_at, with_name_of}
 use Rattle.bq_core.specs.Tallies.{tallies_of}

@@ -1,13 +1,12 @@
-use Rattle.std.proofs.Common.{◌≡◌, ◌∙◌, ap, false, is_some, map, sym, true}
+use Rattle.std.proofs.Common.{◌≡◌, ◌∙◌, ap, false, map, sym, true}
 use Rattle.std.specs.BTreeMap.{insert_entry}
 use Rattle.std.specs.Cmp.Lexicographic.{slice_cmp}
-use Rattle.std.specs.Map.{lookup}
 use Rattle.std.specs.Ordering.{nat_cmp}
-use Rattle.bq_core.specs.KeptTubes.{KeptTubes, Named, crowd_kept, fresh_entry, is_named_at, record_at, tally_kept}
+use Rattle.bq_core.specs.KeptTubes.{KeptTubes, crowd_kept, record_at, tally_kept}
 use Rattle.bq_core.specs.Crowds.{crowds_provided}
 use Rattle.bq_core.specs.Tallies.{tallies_provided}
 use Rattle.bq_core.specs.TubeEntries.{has_entry, provided}
-use Rattle.bq_core.proofs.NamedLemmas.{absent, crowds_provided_there, found_any, lent_any, new_crowd, new_entry, new_tally, provided_there, tallies_provided_there}
+use Rattle.bq_core.proofs.NamedLemmas.{crowds_provided_there, found_any, lent_any, new_crowd, new_entry, new_tally, provided_there, tallies_provided_there}
 use Rattle.bq_core.proofs.tubes.Tubes.provide.Goals as goal
 
 pub returns-then-is_some-clause-entries : goal.returns-then-is_some-clause-entries

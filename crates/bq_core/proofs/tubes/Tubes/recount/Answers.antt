@@ -1,4 +1,4 @@
-use Rattle.std.proofs.Common.{◌≡◌, ◌∙◌, ap, map, refl}
+use Rattle.std.proofs.Common.{◌∙◌, ap, map, refl}
 use Rattle.bq_core.specs.Crowds.{crowds_at, recounted}
 use Rattle.bq_core.specs.KeptTubes.{KeptTubes, crowd_kept, kept_recounted, record_at, tally_kept}
 use Rattle.bq_core.proofs.NamedLemmas.{edit_crowd, edit_same_records, edit_same_tallies}

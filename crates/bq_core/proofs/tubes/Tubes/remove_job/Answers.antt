@@ -1,4 +1,4 @@
-use Rattle.std.proofs.Common.{◌≡◌, ◌∙◌, ap, map, refl}
+use Rattle.std.proofs.Common.{◌∙◌, ap, map, refl}
 use Rattle.bq_core.specs.KeptTubes.{KeptTubes, crowd_kept, kept_without, record_at, tally_kept}
 use Rattle.bq_core.specs.Tallies.{tallies_at, tally_without}
 use Rattle.bq_core.proofs.NamedLemmas.{edit_same_crowds, edit_same_records, edit_tally}

@@ -1,6 +1,6 @@
-use Rattle.std.proofs.Common.{◌≡◌, ◌∙◌, [], None, ap, rules, sym}
-use Rattle.bq_core.specs.KeptTubes.{KeptTubes, tally_by}
-use Rattle.bq_core.specs.Tallies.{tally_at, tally_of}
+use Rattle.std.proofs.Common.{◌∙◌, None, ap}
+use Rattle.bq_core.specs.KeptTubes.{KeptTubes}
+use Rattle.bq_core.specs.Tallies.{tally_at}
 use Rattle.bq_core.proofs.NamedLemmas.{found_tally, lent_tally}
 use Rattle.bq_core.proofs.TallyPlaces.{none_counted}
 use Rattle.bq_core.proofs.tubes.Tubes.tally_of.Goals as goal
