@@ -5,6 +5,8 @@ ghost use Rattle.std.specs.List.{All};
 ghost use Rattle.bq_serve.specs.MemDoors.{IsFresh};
 ghost use Rattle.bq_serve.specs.Tending.{IsNewDoor, door_seen};
 
+mod rests;
+
 use super::{LockedRun, run_locked};
 use crate::clock::ScriptClock;
 use crate::line::{Line, MemLine, Part};
