@@ -263,9 +263,9 @@ alive_ignoring lost i s loss jobs seats entries found all =
     new : SeatRecord
     new = watching (filter (λ other. not (is_same_name lost other)) s.watched) s
 
--- an entry is provided
-pub alive_provided : (name : List ℕ) (loss : Loss) (jobs : List Job) (seats : List SeatRecord) (entries : List TubeRecord) → AreAlive loss jobs seats entries → AreAlive (with_lost name loss) jobs seats (provided name entries)
-alive_provided name loss jobs seats entries all = go (has_entry name entries) weaker
+-- an entry is provided, whose tube may be gone where it is new
+pub alive_provided : (name : List ℕ) (loss : Loss) (jobs : List Job) (seats : List SeatRecord) (entries : List TubeRecord) → AreAlive loss jobs seats entries → AreAlive (if not (has_entry name entries) then with_lost name loss else loss) jobs seats (provided name entries)
+alive_provided name loss jobs seats entries all = go (has_entry name entries)
   where
     weaker : AreAlive (with_lost name loss) jobs seats entries
     weaker = alive_reseated loss (with_lost name loss) jobs seats seats entries (λ n h. by_seat (with_lost name loss) jobs seats n h) (λ n h. still_lost name loss n h) all
@@ -283,9 +283,9 @@ alive_provided name loss jobs seats entries all = go (has_entry name entries) we
         at false true rest = (new, all)
         at false false rest = (all.0, rest)
 
-    go : (b : Bool) → AreAlive (with_lost name loss) jobs seats entries → AreAlive (with_lost name loss) jobs seats (if b then entries else with_record (fresh_tube name) entries)
-    go true all = all
-    go false all = inserted entries all
+    go : (b : Bool) → AreAlive (if not b then with_lost name loss else loss) jobs seats (if b then entries else with_record (fresh_tube name) entries)
+    go true = all
+    go false = inserted entries weaker
 
 -- names stay
 pub alive_renamed : (f : TubeRecord → TubeRecord) → ((t : TubeRecord) → (f t).name ≡ t.name) → (loss : Loss) (jobs : List Job) (seats : List SeatRecord) (entries : List TubeRecord) → AreAlive loss jobs seats entries → AreAlive loss jobs seats (map f entries)

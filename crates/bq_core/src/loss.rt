@@ -1,5 +1,5 @@
 //! Which tubes may be gone while their entries are still kept.
-ghost use Rattle.std.specs.Prelude.{◌≡◌};
+ghost use Rattle.std.specs.Prelude.{◌≡◌, if◌then◌else◌};
 ghost use Rattle.bq_core.specs.Losses.{with_found, with_lost};
 
 use bq_job::TubeName;
@@ -29,6 +29,15 @@ pub(crate) fn lose(loss: &mut Loss, name: &TubeName)
         },
         Loss::Any => Loss::Any,
     };
+}
+
+/// This tube may be gone too, if that is so.
+pub(crate) fn lose_if(loss: &mut Loss, name: &TubeName, may_be_gone: bool)
+    ensures { loss.new ≡ (if may_be_gone then with_lost name.now loss.old else loss.old) }
+{
+    if may_be_gone {
+        lose(loss, name);
+    }
 }
 
 /// This tube exists.

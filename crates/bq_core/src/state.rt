@@ -276,8 +276,8 @@ pub(crate) fn provide_tube(
     ensures config { state.new.config ≡ state.old.config }
 {
     match state.tubes.provide(alloc, tube) {
-        Ok(()) => {
-            loss::lose(&mut state.loss, tube);
+        Ok(is_new) => {
+            loss::lose_if(&mut state.loss, tube, is_new);
             Ok(())
         }
         Err(fault) => Err(fault),

@@ -1,5 +1,5 @@
 //! The tubes: what is kept of each that exists.
-ghost use Rattle.std.specs.Prelude.{◌≡◌, ◌&&◌, IfOk, filter, find, length, map, is_some, is_ok, if◌then◌else◌, List};
+ghost use Rattle.std.specs.Prelude.{◌≡◌, ◌&&◌, IfOk, filter, find, length, map, not, is_some, is_ok, if◌then◌else◌, List};
 ghost use Rattle.std.specs.List.{list_any};
 ghost use Rattle.std.specs.Option.{option_map};
 ghost use Rattle.bq_job.specs.declared.job.Job.{Job};
@@ -11,7 +11,7 @@ ghost use Rattle.bq_core.specs.Dues.{first_pause_end, pause_end_after, pause_end
 ghost use Rattle.bq_core.specs.Losses.{AreAlive};
 ghost use Rattle.bq_core.specs.Tallies.{has_jobs, tallies_of, tallies_provided, tallies_with, tallies_without, tally_at};
 ghost use Rattle.bq_core.specs.Texts.{names_of};
-ghost use Rattle.bq_core.specs.TubeEntries.{AreInOrder, is_tube_by, is_tube_of, names_alive, provided, tube_changed_at};
+ghost use Rattle.bq_core.specs.TubeEntries.{AreInOrder, has_entry, is_tube_by, is_tube_of, names_alive, provided, tube_changed_at};
 
 use crate::crowd::{Crowd, Moving, Share};
 use crate::loss::Loss;
@@ -60,18 +60,20 @@ impl Tubes {
         self.kept.len()
     }
 
-    /// Sees to it that a tube has an entry. The growth that this needs comes before any change.
-    pub(crate) fn provide(&mut self, alloc: Global, name: &TubeName) -> Result<(), NoMemory>
+    /// Sees to it that a tube has an entry, and tells whether it is new. The growth that this needs comes
+    /// before any change.
+    pub(crate) fn provide(&mut self, alloc: Global, name: &TubeName) -> Result<bool, NoMemory>
+        ensures told { IfOk result (λ is_new. is_new ≡ not (has_entry name.now self.old.entries)) }
         ensures entries { self.new.entries ≡ (if is_ok result then provided name.now self.old.entries else self.old.entries) }
         ensures tallies { self.new.tallies ≡ (if is_ok result then tallies_provided name.now self.old.entries self.old.tallies else self.old.tallies) }
         ensures crowds { self.new.crowds ≡ (if is_ok result then crowds_provided name.now self.old.entries self.old.crowds else self.old.crowds) }
     {
         if self.kept.peek(name).is_some() {
-            return Ok(());
+            return Ok(false);
         }
         room::reserve_box(&mut self.kept, alloc)?;
         self.kept.insert(*name, TubeEntry::new());
-        Ok(())
+        Ok(true)
     }
 
     /// Changes the tube of this name.

@@ -31,7 +31,7 @@ returns-in-Ok-clause-sound c =
       crowds =
           let st = c.args.state.now in
           rw (c.in-Ok.ensures.entries, c.in-Ok.ensures.crowds) (crowds_of_provided c.args.tube.now st.tubes.crowds st.seats.items st.tubes.entries was.entries.of_seats was.crowds);
-      alive = rw (c.lose.ensures, c.in-Ok.ensures.entries) (alive_provided c.args.tube.now c.args.state.now.loss c.args.state.now.jobs.jobs c.args.state.now.seats.items c.args.state.now.tubes.entries was.alive);
+      alive = rw (c.lose_if.ensures, c.in-Ok.ensures.told, c.in-Ok.ensures.entries) (alive_provided c.args.tube.now c.args.state.now.loss c.args.state.now.jobs.jobs c.args.state.now.seats.items c.args.state.now.tubes.entries was.alive);
       pauses = was.pauses ∙ sym (end_provided c.args.tube.now c.args.state.now.tubes.entries) ∙ ap first_pause_end (sym c.in-Ok.ensures.entries);
     }
 

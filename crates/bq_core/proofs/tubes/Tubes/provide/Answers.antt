@@ -1,4 +1,4 @@
-use Rattle.std.proofs.Common.{◌≡◌, ◌∙◌, ap, false, map, sym, true}
+use Rattle.std.proofs.Common.{◌≡◌, ◌∙◌, ap, false, map, not, sym, true}
 use Rattle.std.specs.BTreeMap.{insert_entry}
 use Rattle.std.specs.Cmp.Lexicographic.{slice_cmp}
 use Rattle.std.specs.Ordering.{nat_cmp}
@@ -8,6 +8,19 @@ use Rattle.bq_core.specs.Tallies.{tallies_provided}
 use Rattle.bq_core.specs.TubeEntries.{has_entry, provided}
 use Rattle.bq_core.proofs.NamedLemmas.{crowds_provided_there, found_any, lent_any, new_crowd, new_entry, new_tally, provided_there, tallies_provided_there}
 use Rattle.bq_core.proofs.tubes.Tubes.provide.Goals as goal
+
+pub returns-then-is_some-clause-told : goal.returns-then-is_some-clause-told
+returns-then-is_some-clause-told c =
+    let name = c.args.name.now in
+    let there : has_entry name (map record_at c.self.inside.kept.entries) ≡ true = sym (found_any name c.self.inside.kept.entries) ∙ sym (lent_any c.peek.result c.peek.ensures) ∙ sym c.if-is_some.ensures in
+    sym (ap not (ap (λ (k : KeptTubes). has_entry name k.entries) (sym c.self.view_is) ∙ there))
+
+pub returns-clause-told : goal.returns-clause-told
+returns-clause-told c =
+    let name = c.args.name.now in
+    let es = c.self.inside.kept.entries in
+    let none : has_entry name (map record_at es) ≡ false = sym (found_any name es) ∙ sym (lent_any c.peek.result c.peek.ensures) ∙ sym c.if-is_some.ensures in
+    sym (ap not (ap (λ (k : KeptTubes). has_entry name k.entries) (sym c.self.view_is) ∙ none))
 
 pub returns-then-is_some-clause-entries : goal.returns-then-is_some-clause-entries
 returns-then-is_some-clause-entries c =
