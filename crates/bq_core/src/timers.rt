@@ -1,12 +1,13 @@
 //! Timers that are due fire.
-ghost use Rattle.std.specs.Prelude.{◌≡◌, ◌<◌, ◌+◌, ◌*◌, true, false, IfSome, None, count_by, if◌then◌else◌};
+ghost use Rattle.std.specs.Prelude.{◌≡◌, ◌<◌, ◌≤◌, ◌+◌, ◌*◌, true, false, IfSome, None, count_by, if◌then◌else◌};
 ghost use Rattle.std.specs.List.{list_any};
 ghost use Rattle.bq_job.specs.Dispatch.{next_job};
 ghost use Rattle.bq_job.specs.Timers.{after_timers, is_due, is_expired};
 ghost use Rattle.bq_jobs.specs.Kept.{ComparesAtMost};
 ghost use Rattle.bq_core.specs.Asking.{Asks};
-ghost use Rattle.bq_core.specs.Firing.{ExpiresOne, IsOne, after_job_timers, is_ripe, with_pauses_ended};
+ghost use Rattle.bq_core.specs.Firing.{ExpiresOne, IsOne, after_job_timers, has_timer_due, is_ripe, with_pauses_ended};
 ghost use Rattle.bq_core.specs.State.{machine_of, IsSound};
+ghost use Rattle.bq_core.specs.TubeEntries.{is_pause_over};
 
 use crate::job_list::JobChange;
 use crate::state::State;
@@ -130,6 +131,7 @@ fn fire_more(state: &mut State)
 fn fire_jobs(state: &mut State) -> bool
     requires { IsSound state.old }
     ensures after { machine_of state.new ≡ after_job_timers (machine_of state.old) }
+    ensures fired { result ≡ true → 1 ≤ count_by (is_ripe state.old.moment) (machine_of state.old).jobs }
     ensures same { result ≡ false → (machine_of state.new).jobs ≡ (machine_of state.old).jobs }
     ensures asks { Asks (10 * count_by (is_ripe state.old.moment) (machine_of state.old).jobs + 2) state.old.jobs state.new.jobs }
     ensures sound { IsSound state.new }
@@ -147,6 +149,7 @@ fn fire_jobs(state: &mut State) -> bool
 fn end_pauses(state: &mut State) -> bool
     requires { IsSound state.old }
     ensures after { machine_of state.new ≡ with_pauses_ended (machine_of state.old) }
+    ensures ended { result ≡ true → list_any (is_pause_over state.old.moment) (machine_of state.old).tubes ≡ true }
     ensures same { result ≡ false → machine_of state.new ≡ machine_of state.old }
     ensures jobs { state.new.jobs ≡ state.old.jobs }
     ensures sound { IsSound state.new }
@@ -160,10 +163,11 @@ fn end_pauses(state: &mut State) -> bool
     true
 }
 
-/// Timers that are due fire. Tells whether something may have become ready by that, or can be had now.
+/// Timers that are due fire. Tells whether one did: something may have become ready by that, or can be had now.
 pub(crate) fn fire(state: &mut State) -> bool
     requires { IsSound state.old }
     ensures after { machine_of state.new ≡ after_timers (machine_of state.old) }
+    ensures fired { result ≡ true → has_timer_due (machine_of state.old) ≡ true }
     ensures quiet { result ≡ false → next_job (machine_of state.new) ≡ next_job (machine_of state.old) }
     ensures asks { Asks (10 * count_by (is_ripe state.old.moment) (machine_of state.old).jobs + 2) state.old.jobs state.new.jobs }
     ensures sound { IsSound state.new }
