@@ -1,3 +1,5 @@
+mod clocks;
+
 use super::{Ending, run};
 use bq_serve::clock::MachineClock;
 use std::alloc::Global;

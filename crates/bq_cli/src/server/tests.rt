@@ -1,6 +1,7 @@
 //! Runs of the server beside clients, which are threads of the test. Each client and each wait of one ends
 //! by itself, and each run serves as many connections as there are clients.
 
+mod heard;
 mod in_time;
 
 use super::serve;
