@@ -47,6 +47,7 @@ impl<L: Line + Drop, D: Door<Line = L> + Drop> Post<L, D> {
     ) -> Result<Post<L, D>, NoMemory>
         requires size { IsTrue (is_body_size max_job_size) }
         requires new { IsNewDoor (door_seen D.is_out D.is_at_end D.lines_over door) }
+        ensures seat { IfOk result (λ post. post.seat ≡ seat) }
         ensures limit { IfOk result (λ post. post.max_job_size ≡ max_job_size) }
     {
         let attendant = Attendant::new(alloc, max_job_size)?;
