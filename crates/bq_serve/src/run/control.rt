@@ -93,7 +93,8 @@ enum Looked {
 // Goes over bytes up to the end of a line. How many it took, and whether the line is over.
 fn note_line(line: &mut LineSoFar, bytes: &[u8]) -> (usize, bool)
     ensures within { result.0 ≤ length bytes.now }
-    ensures some { length bytes.now ≡ 0 → (result.0 ≡ 0) × (result.1 ≡ false) }
+    ensures none { length bytes.now ≡ 0 → (result.0 ≡ 0) × (result.1 ≡ false) }
+    ensures some { 1 ≤ length bytes.now → 1 ≤ result.0 }
     ensures read { HasRead line.old (take result.0 bytes.now) result.1 line.new }
 {
     let mut taken = 0;
