@@ -8,7 +8,7 @@ use Rattle.bq_seat.specs.SeatStands.{awaited}
 use Rattle.bq_job.specs.declared.step.Step.{Step}
 use Rattle.bq_job.specs.declared.answer.Answer.{Answer}
 use Rattle.bq_serve.specs.LockedRuns.{IsServedToEnd}
-use Rattle.bq_serve.specs.Tending.{AreKept, DoorSeen, IsNewDoor, IsTended, attendant, door_seen}
+use Rattle.bq_serve.specs.Tending.{AreKept, DoorSeen, IsTended, attendant, door_seen}
 use Rattle.bq_serve.specs.declared.run.attendant.Attendant.{Attendant}
 use Rattle.bq_serve.specs.declared.run.attendant.Place.{Place}
 use Rattle.bq_serve.specs.declared.run.attendant.Place.TheVariants as places

@@ -1,4 +1,4 @@
-use Rattle.std.proofs.Common.{◌≡◌, arith, subst, vec_len}
+use Rattle.std.proofs.Common.{◌≡◌, arith, subst}
 use Rattle.std.specs.Prelude.{IfSome}
 use Rattle.bq_serve.specs.LockedRuns.{IsServedToEnd}
 use Rattle.bq_serve.specs.Tending.{door_seen}

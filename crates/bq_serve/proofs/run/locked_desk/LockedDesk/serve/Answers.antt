@@ -1,4 +1,4 @@
-use Rattle.std.proofs.Common.{◌∙◌, ap, sym}
+use Rattle.std.proofs.Common.{ap}
 use Rattle.bq_serve.specs.LockedState.{LockedState}
 use Rattle.bq_serve.proofs.run.locked_desk.LockedDesk.serve.Goals as goal
 
