@@ -1,6 +1,8 @@
 //! The server: a work queue for many clients over TCP.
 #![tactic(auto)]
 
+ghost use Rattle.std.specs.Prelude.{◌≡◌};
+
 use bq_cli::{OptionFault, Options, Program, ServeFault, options, serve, tell_fault};
 use std::alloc::Global;
 use std::io::{BufReader, Eprint, Print, Stdin};
@@ -15,7 +17,9 @@ fn main(rt: HostRuntime) -> io::Result<ExitCode> {
     let alloc = rt.alloc();
     let words: Vec<String> = env::args(&rt)?.collect(alloc)?;
     let status = match options(alloc, Program::Bqd, words.as_slice()) {
-        Ok(options) => listen_and_serve(&rt, alloc, &options, rt.stdin()),
+        Ok(options) => listen_and_serve(&rt, alloc, &options, rt.stdin()).unwrap_or_else(
+            |fault| failed(&rt, fault),
+        ),
         Err(OptionFault::AskedHelp(text)) => {
             print!(rt; "{text}")?;
             0
@@ -29,7 +33,8 @@ fn main(rt: HostRuntime) -> io::Result<ExitCode> {
     Ok(ExitCode::from(status))
 }
 
-// Binds the address and serves until all is over. The status of the program.
+// Binds the address and serves until all is over: the status of the program. What keeps it from serving
+// is left to be told.
 fn listen_and_serve<
     R: Net<Listener = TcpListener, Stream = TcpStream>
         + Threads
@@ -38,21 +43,23 @@ fn listen_and_serve<
         + Print
         + Eprint
         + Sync,
->(rt: &R, alloc: Global, options: &Options, input: Stdin) -> u8 {
+>(rt: &R, alloc: Global, options: &Options, input: Stdin) -> Result<u8, ServeFault> {
     // The options have an address, since the program can't do without.
     let Some(address) = &options.listen else {
-        return failed(rt, ServeFault::CannotListen);
+        return Err(ServeFault::CannotListen);
     };
     let Ok(control) = BufReader::new(alloc, input) else {
-        return failed(rt, ServeFault::NoMemory);
+        return Err(ServeFault::NoMemory);
     };
     match TcpListener::bind(rt, address.as_str()) {
-        Ok(listener) => serve(rt, alloc, options, listener, control),
-        Err(_) => failed(rt, ServeFault::CannotListen),
+        Ok(listener) => Ok(serve(rt, alloc, options, listener, control)),
+        Err(_) => Err(ServeFault::CannotListen),
     }
 }
 
-fn failed<R: Eprint>(rt: &R, fault: ServeFault) -> u8 {
+fn failed<R: Eprint>(rt: &R, fault: ServeFault) -> u8
+    ensures { result ≡ 1 }
+{
     tell_fault(rt, fault);
     1
 }

@@ -1,7 +1,7 @@
 //! The server where it can't listen.
 
 use super::listen_and_serve;
-use bq_cli::Options;
+use bq_cli::{Options, ServeFault};
 use std::alloc::{AllocError, Global};
 use std::net::{SocketAddr, TcpListener};
 use std::process::Abort;
@@ -29,8 +29,8 @@ fn cannot_listen(rt: HostRuntime) -> Result<(), Fail> {
     let address = text(alloc, taken.local_addr()?)?;
     let nowhere = String::from_str(alloc, "")?;
     for listen in [Some(address), Some(nowhere), None] {
-        let status = listen_and_serve(&rt, alloc, &options(listen), rt.stdin());
-        assert_eq!(rt; status, 1);
+        let served = listen_and_serve(&rt, alloc, &options(listen), rt.stdin());
+        assert_eq!(rt; served, Err(ServeFault::CannotListen));
     }
     Ok(())
 }
