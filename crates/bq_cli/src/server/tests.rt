@@ -3,6 +3,7 @@
 
 mod heard;
 mod in_time;
+mod told;
 
 use super::serve;
 use crate::Options;

@@ -1,0 +1,181 @@
+//! What the server tells on its streams: where it listens, before it serves anybody, and its faults.
+
+use super::{awaits, connected, hears_end, options, sends, tells};
+use crate::server::{ServeFault, serve, tell_fault};
+use std::alloc::Global;
+use std::fmt::Display;
+use std::io::{Eprint, ErrorKind, Print};
+use std::net::{Net, SocketAddr, TcpListener, TcpStream};
+use std::process::Abort;
+use std::rt::Clock;
+use std::sync::atomic::{AtomicU64, Ordering};
+use std::sync::{Mutex, Wait};
+use std::test::Fail;
+use std::thread::Threads;
+use std::time::Duration;
+use std::{io, thread};
+
+/// A host whose standard output and standard error are kept.
+#[derive(Drop)]
+struct Heard<R> {
+    host: R,
+    alloc: Global,
+    output: Mutex<Vec<u8>>,
+    errors: Mutex<Vec<u8>>,
+    /// 1 once something was told on standard output.
+    told: AtomicU64,
+}
+
+impl<R: Wait> Heard<R> {
+    fn new(host: R, alloc: Global) -> Heard<R> {
+        Heard {
+            host,
+            alloc,
+            output: Mutex::new(Vec::new(alloc)),
+            errors: Mutex::new(Vec::new(alloc)),
+            told: AtomicU64::new(0),
+        }
+    }
+
+    fn keep(&self, kept: &Mutex<Vec<u8>>, bytes: &[u8]) -> io::Result<()> {
+        match kept.lock(&self.host).extend_from_slice(bytes) {
+            Ok(()) => Ok(()),
+            Err(_) => Err(io::Error::from(ErrorKind::OutOfMemory)),
+        }
+    }
+
+    fn keep_text<D: Display + Drop>(
+        &self,
+        kept: &Mutex<Vec<u8>>,
+        value: D,
+        end: &str,
+    ) -> io::Result<()> {
+        match format!(in self.alloc; "{value}{end}") {
+            Ok(text) => self.keep(kept, text.as_bytes()),
+            Err(_) => Err(io::Error::from(ErrorKind::OutOfMemory)),
+        }
+    }
+
+    fn has(&self, kept: &Mutex<Vec<u8>>, text: &str) -> bool {
+        kept.lock(&self.host).as_slice() == text.as_bytes()
+    }
+}
+
+impl<R: Threads> Threads for Heard<R> {}
+
+impl<R: Wait> Wait for Heard<R> {}
+
+impl<R: Clock> Clock for Heard<R> {
+    fn monotonic(&self) -> io::Result<Duration> {
+        self.host.monotonic()
+    }
+
+    fn since_1970(&self) -> io::Result<Duration> {
+        self.host.since_1970()
+    }
+}
+
+impl<R: Wait> Print for Heard<R> {
+    fn print<D: Display + Drop>(&self, value: D) -> io::Result<()> {
+        self.keep_text(&self.output, value, "")?;
+        tells(&self.told, 1);
+        Ok(())
+    }
+
+    fn println<D: Display + Drop>(&self, value: D) -> io::Result<()> {
+        self.keep_text(&self.output, value, "\n")?;
+        tells(&self.told, 1);
+        Ok(())
+    }
+
+    fn write_all(&self, bytes: &[u8]) -> io::Result<()> {
+        self.keep(&self.output, bytes)?;
+        tells(&self.told, 1);
+        Ok(())
+    }
+}
+
+impl<R: Wait> Eprint for Heard<R> {
+    fn eprint<D: Display + Drop>(&self, value: D) -> io::Result<()> {
+        self.keep_text(&self.errors, value, "")
+    }
+
+    fn eprintln<D: Display + Drop>(&self, value: D) -> io::Result<()> {
+        self.keep_text(&self.errors, value, "\n")
+    }
+}
+
+// Whether the server had told where it listens before a client came. The client comes in any case, or the
+// server would wait for it.
+fn comes_when_told<R: Clock + Net<Stream = TcpStream>>(
+    rt: &R,
+    alloc: Global,
+    address: SocketAddr,
+    told: &AtomicU64,
+) -> bool {
+    let is_told = awaits(rt, told, 1);
+    let Some(stream) = connected(rt, address) else {
+        return false;
+    };
+    sends(&stream, alloc, "quit\r\n", 1) && hears_end(&stream) && is_told
+}
+
+// The status of a server that one client comes to, and whether that one found it told.
+fn serve_told<R: Threads + Wait + Clock + Net<Listener = TcpListener, Stream = TcpStream> + Sync>(
+    heard: &Heard<R>,
+    alloc: Global,
+    listener: TcpListener,
+    address: SocketAddr,
+) -> Option<(u8, bool)> {
+    let (host, told) = (&heard.host, &heard.told);
+    let is_content = &AtomicU64::new(0);
+    let options = options(1, 1);
+    let status = thread::scope(thread::scope_env(), host, |scope| {
+        let spawned = scope.spawn(move || if comes_when_told(host, alloc, address, told) {
+            tells(is_content, 1);
+        });
+        if spawned.is_err() {
+            return None;
+        }
+        let control: &'static [u8] = b"";
+        Some(serve(heard, alloc, &options, listener, control))
+    });
+    Some((status?, is_content.load(Ordering::SeqCst) == 1))
+}
+
+#[test]
+fn address_is_told_first(rt: HostRuntime) -> Result<(), Fail> {
+    let alloc = rt.alloc();
+    let listener = TcpListener::bind(&rt, "127.0.0.1:0")?;
+    let address = listener.local_addr()?;
+    let heard = Heard::new(rt, alloc);
+    let served = serve_told(&heard, alloc, listener, address);
+    assert!(rt; served == Some((0, true)));
+    let text = format!(in alloc; "listening {address}\n")?;
+    assert!(rt; heard.has(&heard.output, text.as_str()));
+    assert!(rt; heard.has(&heard.errors, ""));
+    Ok(())
+}
+
+/// Each fault, and what is told of it.
+static FAULTS: [(ServeFault, &str); 5] = [
+    (ServeFault::CannotListen, "bqd: cannot listen\n"),
+    (ServeFault::NoMemory, "bqd: no memory\n"),
+    (ServeFault::ThreadRefused, "bqd: a thread was refused\n"),
+    (ServeFault::BadConfiguration, "bqd: bad configuration\n"),
+    (
+        ServeFault::NotAccepted,
+        "bqd: a connection could not be accepted\n",
+    ),
+];
+
+#[test]
+fn faults_are_told(rt: HostRuntime) -> Result<(), Fail> {
+    for (fault, text) in &FAULTS {
+        let heard = Heard::new(rt, rt.alloc());
+        tell_fault(&heard, *fault);
+        assert!(rt; heard.has(&heard.errors, text), "{text}");
+        assert!(rt; heard.has(&heard.output, ""));
+    }
+    Ok(())
+}
