@@ -1,5 +1,5 @@
 -- What lies on a desk beside its clock.
-use Rattle.std.specs.Prelude.{ℕ, ◌≡◌, ◌<◌, List, [], ◌++◌, length, replicate, slice_index_or}
+use Rattle.std.specs.Prelude.{ℕ, ◌≡◌, ◌<◌, ◌≤◌, List, [], ◌∷◌, ◌++◌, length, replicate, slice_index_or}
 use Rattle.bq_job.specs.declared.answer.Answer.{Answer}
 use Rattle.bq_job.specs.Dispatch.{GivenAnswer}
 use Rattle.bq_job.specs.Machine.{Machine, Settings, new_machine}
@@ -39,3 +39,11 @@ pub record IsSorted (first last : DeskState) : Type 0 where
   pub most : last.most ≡ first.most
   pub many : length last.mails ≡ length first.mails
   pub waiting_is : (seat : ℕ) → seat < length first.mails → waiting seat last ≡ waiting seat first
+
+-- The next answer is for a seat whose mail is full.
+pub record IsStuck (d : DeskState) : Type 0 where
+  pub seat : ℕ
+  pub answer : Answer
+  pub behind : List GivenAnswer
+  pub pending_is : d.pending ≡ (seat, answer) ∷ behind
+  pub full : 4 ≤ length (slice_index_or d.mails seat [])

@@ -28,7 +28,7 @@ pub struct Desk<C> {
 impl<C: Clock + Drop> Desk<C> {
     ghost use Rattle.bq_job.specs.NextDue.{next_due};
     ghost use Rattle.bq_serve.specs.DeskOf.{GaveReadings, WentAt, state_of};
-    ghost use Rattle.bq_serve.specs.DeskState.{HasMails, IsNewDesk, IsSorted};
+    ghost use Rattle.bq_serve.specs.DeskState.{HasMails, IsNewDesk, IsSorted, IsStuck};
     ghost use Rattle.bq_core.specs.Limits.{is_body_size, is_seat_count};
     ghost use Rattle.bq_core.specs.State.{settings_of};
     ghost use Rattle.bq_serve.specs.Links.{Submits, as_submitted};
@@ -66,10 +66,11 @@ impl<C: Clock + Drop> Desk<C> {
     }
 
     /// The core takes the step of the seat, where all answers so far are in the mail; else the step is
-    /// handed back.
+    /// handed back: some seat has not looked at its mail for long.
     pub fn submit(&mut self, seat: Seat, step: Step) -> Result<(), Step>
         requires mails { HasMails (state_of self.old) }
         ensures mails { HasMails (state_of self.new) }
+        ensures handed_back { IfErr result (λ step. IsStuck (state_of self.new)) }
         ensures went { Submits (WentAt C.given seat) self.old step result self.new }
     {
         if !self.deliver() {
@@ -135,6 +136,7 @@ impl<C: Clock + Drop> Desk<C> {
         ensures sorted { IsSorted (state_of self.old) (state_of self.new) }
         ensures clock { self.new.clock ≡ self.old.clock }
         ensures none { result ≡ true → (state_of self.new).pending ≡ [] }
+        ensures stuck { result ≡ false → IsStuck (state_of self.new) }
     {
         while let Some((seat, answer)) = self.next_pending() {
             if let Err(back) = post(&mut self.mails, seat, answer) {
@@ -192,6 +194,7 @@ impl<C: Clock + Drop> Desk<C> {
 // is dropped.
 fn post(mails: &mut Vec<Mail, Global>, seat: Seat, answer: Answer) -> Result<(), Answer>
     ensures many { length mails.new.items ≡ length mails.old.items }
+    ensures full { IfErr result (λ back. 4 ≤ length (slice_index_or mails.new.items seat [])) }
     ensures posted { MatchResult result (λ done. (other : ℕ) → other < length mails.old.items → slice_index_or mails.new.items other [] ≡ slice_index_or mails.old.items other [] ++ answers_to other ((seat, answer) ∷ [])) (λ back. (back ≡ answer) × (mails.new.items ≡ mails.old.items)) }
 {
     match mails.get_mut(usize::from(seat)) {
