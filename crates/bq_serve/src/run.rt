@@ -21,3 +21,5 @@ mod post;
 mod sessions;
 mod shared_desk;
 mod start;
+#[cfg(test)]
+mod test_doors;

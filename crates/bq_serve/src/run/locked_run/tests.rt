@@ -1,21 +1,21 @@
 //! Runs around one lock, each made many times. A new core is given the journal entry by entry, and what each
 //! line was written is what that core answers.
-ghost use Rattle.std.specs.Prelude.{◌≡◌, IfOk};
-ghost use Rattle.std.specs.List.{All};
-ghost use Rattle.bq_serve.specs.MemDoors.{IsFresh};
-ghost use Rattle.bq_serve.specs.Tending.{IsNewDoor, door_seen};
+ghost use Rattle.std.specs.Prelude.{◌≡◌};
 
 mod rests;
 
 use super::{LockedRun, run_locked};
 use crate::clock::ScriptClock;
-use crate::line::{Line, MemLine, Part};
-use crate::{Door, DoorFault, MemDoor, RunFault};
+use crate::line::Line;
+use crate::run::test_doors::{
+    Client, CountedDoor, Does, Example, JOB_OF_A_LOST_LINE, NO_CLIENT, Outcome, ROOM,
+    WAIT_ACROSS_DOORS, config, door, doors, is_left_so, still,
+};
+use crate::{MemDoor, RunFault};
 use bq_core::{Config, Core, Outs};
-use bq_job::{Answer, Body, Entry, LineEnd, Moment, Request, Seat, Step};
+use bq_job::{Answer, Body, Entry, LineEnd, Request, Seat, Step};
 use bq_wire::{HeadBuf, answer_body, answer_head, answer_tail};
 use std::alloc::Global;
-use std::collections::VecDeque;
 use std::process::Abort;
 use std::sync::atomic::{AtomicU64, Ordering};
 use std::sync::{Arc, Wait};
@@ -28,63 +28,24 @@ const TIMES: usize = 40;
 /// Room for all steps of a run, the ticks among them too.
 const JOURNAL_ROOM: usize = 1000;
 
-const LINE_ROOM: usize = 1000;
-
 /// What stands behind each line in the joined text of a seat. No answer has it.
 const LINE_OVER: u8 = 0;
 
-/// A part of what a client does.
-#[derive(Clone, Copy, Debug)]
-enum Does {
-    Sends(&'static str),
-    /// It waits until so many bytes were written to it.
-    Awaits(usize),
-}
-
-type Client = &'static [Does];
-
-/// What was written to a client, and how its line was over.
-type Outcome = (&'static str, LineEnd);
-
-/// Clients at each door, and what comes of them.
-type Example = (
-    &'static str,
-    &'static [&'static [Client]],
-    &'static [&'static [Outcome]],
-);
-
 static EXAMPLES: [Example; 4] = [
-    ("no client at all", &[&[], &[]], &[&[], &[]]),
-    (
-        "a wait across doors",
-        &[
-            &[&[Does::Sends("reserve\r\n"), Does::Awaits(19)]],
-            &[&[Does::Sends("put 5 0 10 3\r\nabc\r\n")]],
-        ],
-        &[
-            &[("RESERVED 1 3\r\nabc\r\n", LineEnd::EndOfInput)],
-            &[("INSERTED 1\r\n", LineEnd::EndOfInput)],
-        ],
-    ),
-    (
-        "a job of a lost line",
-        &[&[
-            &[Does::Sends("put 0 0 9 1\r\nx\r\nreserve\r\n")],
-            &[Does::Sends("reserve\r\nquit\r\n")],
-        ]],
-        &[&[
-            ("INSERTED 1\r\nRESERVED 1 1\r\nx\r\n", LineEnd::EndOfInput),
-            ("RESERVED 1 1\r\nx\r\n", LineEnd::Quit),
-        ]],
-    ),
+    NO_CLIENT,
+    WAIT_ACROSS_DOORS,
+    JOB_OF_A_LOST_LINE,
     (
         "a job of a lost line, for another door",
         &[
-            &[&[
-                Does::Sends("put 0 0 9 1\r\nx\r\nreserve\r\n"),
-                Does::Awaits(29),
-            ]],
-            &[&[Does::Sends("reserve\r\n"), Does::Awaits(17)]],
+            &[(
+                &[
+                    Does::Sends("put 0 0 9 1\r\nx\r\nreserve\r\n"),
+                    Does::Awaits(29),
+                ],
+                ROOM,
+            )],
+            &[(&[Does::Sends("reserve\r\n"), Does::Awaits(17)], ROOM)],
         ],
         &[
             &[("INSERTED 1\r\nRESERVED 1 1\r\nx\r\n", LineEnd::EndOfInput)],
@@ -92,55 +53,6 @@ static EXAMPLES: [Example; 4] = [
         ],
     ),
 ];
-
-fn line(alloc: Global, client: Client) -> Result<MemLine, Fail>
-    ensures { IfOk result IsFresh }
-{
-    let mut parts: Vec<Part> = Vec::new(alloc);
-    for part in client {
-        let part = match part {
-            Does::Sends(text) => Part::Bytes(Vec::from_slice(alloc, text.as_bytes())?),
-            Does::Awaits(count) => Part::AfterWritten(*count),
-        };
-        parts.push(part)?;
-    }
-    Ok(MemLine::new(alloc, parts, LINE_ROOM)?)
-}
-
-fn door(alloc: Global, clients: &[Client]) -> Result<MemDoor, Fail>
-    ensures { IfOk result (λ door. IsNewDoor (door_seen ⟦<MemDoor as Door>⟧.is_out ⟦<MemDoor as Door>⟧.is_at_end ⟦<MemDoor as Door>⟧.lines_over door)) }
-{
-    let mut lines: VecDeque<MemLine> = VecDeque::with_capacity(alloc, clients.len())?;
-    for client in clients {
-        lines.push_back(line(alloc, client)?)?;
-    }
-    Ok(MemDoor::new(alloc, lines)?)
-}
-
-fn doors(alloc: Global, clients: &[&[Client]]) -> Result<Vec<MemDoor, Global>, Fail>
-    ensures { IfOk result (λ all. All (λ door. IsNewDoor (door_seen ⟦<MemDoor as Door>⟧.is_out ⟦<MemDoor as Door>⟧.is_at_end ⟦<MemDoor as Door>⟧.lines_over door)) all.items) }
-{
-    let mut all: Vec<MemDoor> = Vec::new(alloc);
-    for clients in clients {
-        all.push(door(alloc, clients)?)?;
-    }
-    Ok(all)
-}
-
-// A clock that stands still.
-fn still(alloc: Global) -> Result<ScriptClock, Fail> {
-    let script: Vec<Option<Moment>> = vec![in alloc; Some(0)]?;
-    Ok(ScriptClock::new(script))
-}
-
-fn config(seats: u16) -> Config
-    ensures { result.seats ≡ seats }
-{
-    Config {
-        seats,
-        max_job_size: 65535,
-    }
-}
 
 fn run<R: Threads + Wait + Sync>(
     rt: &R,
@@ -168,20 +80,6 @@ fn written(alloc: Global, door: &MemDoor) -> Result<Vec<u8>, Fail> {
         text.push(LINE_OVER)?;
     }
     Ok(text)
-}
-
-// Whether these lines are over at the door, in this order, and none is left.
-fn is_left_so(door: &MemDoor, outcomes: &[Outcome]) -> bool {
-    let over = door.over();
-    if over.len() != outcomes.len() || door.left() != 0 {
-        return false;
-    }
-    for i in 0..over.len() {
-        if over[i].0.written() != outcomes[i].0.as_bytes() || over[i].1 != outcomes[i].1 {
-            return false;
-        }
-    }
-    true
 }
 
 fn add_answer(text: &mut Vec<u8>, answer: &Answer) -> Result<(), Fail> {
@@ -305,32 +203,6 @@ fn drain_by_control_line(rt: HostRuntime) -> Result<(), Fail> {
     Ok(())
 }
 
-/// A door that counts how often it was opened.
-#[derive(Drop)]
-struct CountedDoor {
-    door: MemDoor,
-    opened: Arc<AtomicU64, Global>,
-}
-
-impl Door for CountedDoor {
-    type Line = MemLine;
-
-    ghost is_out = { λ d. ⟦<MemDoor as Door>⟧.is_out d.door };
-
-    ghost is_at_end = { λ d. ⟦<MemDoor as Door>⟧.is_at_end d.door };
-
-    ghost lines_over = { λ d. ⟦<MemDoor as Door>⟧.lines_over d.door };
-
-    fn open(&mut self) -> Result<Option<MemLine>, DoorFault> {
-        self.opened.fetch_add(1, Ordering::SeqCst);
-        self.door.open()
-    }
-
-    fn shut(&mut self, line: MemLine, end: LineEnd) {
-        self.door.shut(line, end);
-    }
-}
-
 /// How many seats are asked for, how big a job's body may be, the room of the journal, and the fault.
 type Refused = (u16, u32, usize, Option<RunFault>);
 
@@ -350,7 +222,7 @@ fn refused_runs(rt: HostRuntime) -> Result<(), Fail> {
     for (seats, max_job_size, room, fault) in &REFUSED {
         let opened = Arc::new(alloc, AtomicU64::new(0))?;
         let counted = CountedDoor {
-            door: door(alloc, &[&[Does::Sends("quit\r\n")]])?,
+            door: door(alloc, &[(&[Does::Sends("quit\r\n")], ROOM)])?,
             opened: Arc::try_clone(&opened)?,
         };
         let mut doors: Vec<CountedDoor> = Vec::new(alloc);

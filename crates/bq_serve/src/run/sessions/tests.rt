@@ -1,17 +1,16 @@
 //! Worked runs over doors in memory, by hand.
-ghost use Rattle.std.specs.Prelude.{◌≡◌, IfOk};
-ghost use Rattle.std.specs.List.{All};
-ghost use Rattle.bq_serve.specs.MemDoors.{IsFresh};
-ghost use Rattle.bq_serve.specs.Tending.{IsNewDoor, door_seen};
 
 use super::{Run, run_sessions};
 use crate::clock::ScriptClock;
-use crate::line::{Line, MemLine, Part};
-use crate::{Door, DoorFault, MemDoor, RunFault};
+use crate::line::Line;
+use crate::run::test_doors::{
+    Client, CountedDoor, Does, Example, INSERTED, JOB_OF_A_LOST_LINE, NO_CLIENT, Outcome, PUTS,
+    RESERVED, ROOM, WAIT_ACROSS_DOORS, WAITS, config, door, doors, is_left_so, still,
+};
+use crate::{MemDoor, RunFault};
 use bq_core::{Config, Outs};
-use bq_job::{Answer, Body, LineEnd, Moment, Request, Step};
+use bq_job::{Answer, Body, LineEnd, Request, Step};
 use std::alloc::Global;
-use std::collections::VecDeque;
 use std::sync::atomic::{AtomicU64, Ordering};
 use std::sync::{Arc, Wait};
 use std::test::Fail;
@@ -19,74 +18,6 @@ use std::thread::Threads;
 
 mod eight_doors;
 mod no_memory;
-
-const ROOM: usize = 1000;
-
-/// A part of what a client does.
-#[derive(Clone, Copy, Debug)]
-enum Does {
-    Sends(&'static str),
-    /// It waits until so many bytes were written to it.
-    Awaits(usize),
-    /// Its line fails.
-    Fails,
-}
-
-/// What a client does, and the room for what is written to it.
-type Client = (&'static [Does], usize);
-
-/// What was written to a client, and how its line was over.
-type Outcome = (&'static str, LineEnd);
-
-fn line(alloc: Global, client: &Client) -> Result<MemLine, Fail>
-    ensures { IfOk result IsFresh }
-{
-    let mut parts: Vec<Part> = Vec::new(alloc);
-    for part in client.0 {
-        let part = match part {
-            Does::Sends(text) => Part::Bytes(Vec::from_slice(alloc, text.as_bytes())?),
-            Does::Awaits(count) => Part::AfterWritten(*count),
-            Does::Fails => Part::Fault,
-        };
-        parts.push(part)?;
-    }
-    Ok(MemLine::new(alloc, parts, client.1)?)
-}
-
-fn door(alloc: Global, clients: &[Client]) -> Result<MemDoor, Fail>
-    ensures { IfOk result (λ door. IsNewDoor (door_seen ⟦<MemDoor as Door>⟧.is_out ⟦<MemDoor as Door>⟧.is_at_end ⟦<MemDoor as Door>⟧.lines_over door)) }
-{
-    let mut lines: VecDeque<MemLine> = VecDeque::with_capacity(alloc, clients.len())?;
-    for client in clients {
-        lines.push_back(line(alloc, client)?)?;
-    }
-    Ok(MemDoor::new(alloc, lines)?)
-}
-
-fn doors(alloc: Global, clients: &[&[Client]]) -> Result<Vec<MemDoor, Global>, Fail>
-    ensures { IfOk result (λ all. All (λ door. IsNewDoor (door_seen ⟦<MemDoor as Door>⟧.is_out ⟦<MemDoor as Door>⟧.is_at_end ⟦<MemDoor as Door>⟧.lines_over door)) all.items) }
-{
-    let mut all: Vec<MemDoor> = Vec::new(alloc);
-    for clients in clients {
-        all.push(door(alloc, clients)?)?;
-    }
-    Ok(all)
-}
-
-// A clock that stands still.
-fn still(alloc: Global) -> Result<ScriptClock, Fail> {
-    let script: Vec<Option<Moment>> = vec![in alloc; Some(0)]?;
-    Ok(ScriptClock::new(script))
-}
-
-fn config(seats: u16) -> Config
-    ensures { result.seats ≡ seats }
-{
-    Config {
-        seats,
-        max_job_size: 65535,
-    }
-}
 
 fn run<R: Threads + Wait + Sync>(
     rt: &R,
@@ -105,20 +36,6 @@ fn run<R: Threads + Wait + Sync>(
     )?)
 }
 
-// Whether these lines are over at the door, in this order, and none is left.
-fn is_left_so(door: &MemDoor, outcomes: &[Outcome]) -> bool {
-    let over = door.over();
-    if over.len() != outcomes.len() || door.left() != 0 {
-        return false;
-    }
-    for i in 0..over.len() {
-        if over[i].0.written() != outcomes[i].0.as_bytes() || over[i].1 != outcomes[i].1 {
-            return false;
-        }
-    }
-    true
-}
-
 fn are_left_so(doors: &[MemDoor], outcomes: &[&[Outcome]]) -> bool {
     if doors.len() != outcomes.len() {
         return false;
@@ -131,34 +48,9 @@ fn are_left_so(doors: &[MemDoor], outcomes: &[&[Outcome]]) -> bool {
     true
 }
 
-/// Clients at each door, and what comes of them.
-type Example = (
-    &'static str,
-    &'static [&'static [Client]],
-    &'static [&'static [Outcome]],
-);
-
-const RESERVED: &str = "RESERVED 1 3\r\nabc\r\n";
-
-const INSERTED: &str = "INSERTED 1\r\n";
-
-const WAITS: &[Does] = &[Does::Sends("reserve\r\n"), Does::Awaits(19)];
-
-const PUTS: &[Does] = &[Does::Sends("put 5 0 10 3\r\nabc\r\n")];
-
 static EXAMPLES: [Example; 9] = [
-    ("no client at all", &[&[], &[]], &[&[], &[]]),
-    (
-        "a job of a lost line",
-        &[&[
-            (&[Does::Sends("put 0 0 9 1\r\nx\r\nreserve\r\n")], ROOM),
-            (&[Does::Sends("reserve\r\nquit\r\n")], ROOM),
-        ]],
-        &[&[
-            ("INSERTED 1\r\nRESERVED 1 1\r\nx\r\n", LineEnd::EndOfInput),
-            ("RESERVED 1 1\r\nx\r\n", LineEnd::Quit),
-        ]],
-    ),
+    NO_CLIENT,
+    JOB_OF_A_LOST_LINE,
     (
         "a job of a broken line",
         &[&[
@@ -170,14 +62,7 @@ static EXAMPLES: [Example; 9] = [
             ("RESERVED 1 1\r\nx\r\n", LineEnd::Quit),
         ]],
     ),
-    (
-        "a wait across doors",
-        &[&[(WAITS, ROOM)], &[(PUTS, ROOM)]],
-        &[
-            &[(RESERVED, LineEnd::EndOfInput)],
-            &[(INSERTED, LineEnd::EndOfInput)],
-        ],
-    ),
+    WAIT_ACROSS_DOORS,
     (
         "only the second door has a client",
         &[&[], &[(PUTS, ROOM)]],
@@ -312,32 +197,6 @@ fn drain_by_control_line(rt: HostRuntime) -> Result<(), Fail> {
         }
     }
     Ok(())
-}
-
-/// A door that counts how often it was opened.
-#[derive(Drop)]
-struct CountedDoor {
-    door: MemDoor,
-    opened: Arc<AtomicU64, Global>,
-}
-
-impl Door for CountedDoor {
-    type Line = MemLine;
-
-    ghost is_out = { λ d. ⟦<MemDoor as Door>⟧.is_out d.door };
-
-    ghost is_at_end = { λ d. ⟦<MemDoor as Door>⟧.is_at_end d.door };
-
-    ghost lines_over = { λ d. ⟦<MemDoor as Door>⟧.lines_over d.door };
-
-    fn open(&mut self) -> Result<Option<MemLine>, DoorFault> {
-        self.opened.fetch_add(1, Ordering::SeqCst);
-        self.door.open()
-    }
-
-    fn shut(&mut self, line: MemLine, end: LineEnd) {
-        self.door.shut(line, end);
-    }
 }
 
 // A run that is refused opens no door, and one that isn't opens it for each line and once more.

@@ -1,8 +1,8 @@
 //! A seat whose reserve waits rests between two looks at its mail.
 
-use super::{Client, Does, config, doors, is_left_so};
 use crate::clock::ScriptClock;
 use crate::run::locked_run::run_locked;
+use crate::run::test_doors::{Client, Does, ROOM, config, doors, is_left_so};
 use bq_job::{LineEnd, Moment};
 use std::process::Abort;
 use std::test::Fail;
@@ -15,10 +15,10 @@ const READINGS: usize = 10;
 /// less than one.
 const LEAST: u128 = 100;
 
-static CLIENTS: [&[Client]; 1] = [&[&[
-    Does::Sends("reserve-with-timeout 1\r\n"),
-    Does::Awaits(11),
-]]];
+static CLIENTS: [&[Client]; 1] = [&[(
+    &[Does::Sends("reserve-with-timeout 1\r\n"), Does::Awaits(11)],
+    ROOM,
+)]];
 
 // The clock goes on by being read alone, and a seat that waits reads it once a look.
 #[test]

@@ -5,9 +5,10 @@ ghost use Rattle.std.specs.List.{All};
 ghost use Rattle.bq_serve.specs.MemDoors.{IsFresh};
 ghost use Rattle.bq_serve.specs.Tending.{IsNewDoor, door_seen};
 
-use super::{config, run_sessions};
+use super::run_sessions;
 use crate::clock::ScriptClock;
 use crate::line::{Line, MemLine, Part};
+use crate::run::test_doors::config;
 use crate::{Door, MemDoor};
 use bq_job::Moment;
 use std::alloc::Global;

@@ -4,9 +4,9 @@ ghost use Rattle.std.specs.Prelude.{IfSome};
 ghost use Rattle.bq_serve.specs.MemDoors.{IsFresh};
 ghost use Rattle.bq_serve.specs.Tending.{IsNewDoor, door_seen};
 
-use super::{CountedDoor, ROOM, config};
 use crate::clock::ScriptClock;
 use crate::line::{MemLine, Part};
+use crate::run::test_doors::{CountedDoor, ROOM, config};
 use crate::{Door, MemDoor, RunFault, run_one, run_sessions};
 use bq_job::LineEnd;
 use std::alloc::Global;

@@ -3,9 +3,9 @@
 //! while something is ever due takes a reading of the clock.
 ghost use Rattle.std.specs.Prelude.{◌<◌};
 
-use super::super::config;
 use super::random::text_of;
 use super::{LINES, reading, seed_of};
+use crate::run::test_doors::config;
 use bq_core::{Core, Outs};
 use bq_job::{Answer, LineEnd, Moment, Request, Seat, Step};
 use bq_wire::{HeadBuf, RequestReader, answer_body, answer_head, answer_tail};

@@ -3,7 +3,7 @@ use Rattle.std.specs.List.{All}
 use Rattle.bq_serve.specs.MemDoors.{IsFresh}
 use Rattle.bq_serve.specs.declared.line.mem_line.MemLine.{MemLine}
 use Rattle.bq_serve.proofs.SessionsLemmas.{all_more}
-use Rattle.bq_serve.proofs.run.locked_run.tests.door.Goals as goal
+use Rattle.bq_serve.proofs.run.test_doors.door.Goals as goal
 
 pub loop-client-preserved : goal.loop-client-preserved
 loop-client-preserved c =

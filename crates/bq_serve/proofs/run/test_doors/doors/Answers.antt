@@ -4,7 +4,7 @@ use Rattle.bq_serve.specs.MemDoors.{line_over}
 use Rattle.bq_serve.specs.Tending.{IsNewDoor}
 use Rattle.bq_serve.specs.declared.door.mem_door.MemDoor.{MemDoor}
 use Rattle.bq_serve.proofs.SessionsLemmas.{all_more}
-use Rattle.bq_serve.proofs.run.sessions.tests.doors.Goals as goal
+use Rattle.bq_serve.proofs.run.test_doors.doors.Goals as goal
 
 IsNew : MemDoor → Type 0
 IsNew d = IsNewDoor (record { is_out = d.is_out; is_at_end = d.is_at_end; lines_over = Some (map line_over d.over.items) })
