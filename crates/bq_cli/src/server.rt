@@ -1,6 +1,6 @@
 //! All that the server does from its bound listener to its status.
 ghost use Rattle.std.specs.Prelude.{◌≡◌, ◌≤◌, IfOk};
-ghost use Rattle.bq_cli.specs.FaultTexts.{serve_fault_text};
+ghost use Rattle.bq_cli.specs.FaultTexts.{fault_of_run, serve_fault_text};
 ghost use Rattle.std.specs.List.{All};
 ghost use Rattle.bq_serve.specs.Tending.{IsNewDoor, door_seen};
 
@@ -43,7 +43,9 @@ impl ServeFault {
 }
 
 impl From<RunFault> for ServeFault {
-    fn from(fault: RunFault) -> ServeFault {
+    fn from(fault: RunFault) -> ServeFault
+        ensures { result ≡ fault_of_run fault }
+    {
         match fault {
             RunFault::NoMemory => ServeFault::NoMemory,
             RunFault::ThreadRefused => ServeFault::ThreadRefused,
