@@ -1,0 +1,43 @@
+#!/usr/bin/env python3
+"""Holds the built programs to the rules of the queue, which are written here a second time.
+
+    python3 tests/model --bq PATH --bqd PATH [--seed N] [--minutes M]
+
+Worked sessions, random sessions of `bq`, many clients of `bqd` one command at a time, and clients that are
+cut off. It ends with a line 'N passed, M failed', and status 0 where nothing failed. With --broken NAME the
+rules are turned in one place, and the run has to fail; --self-check tries all of these.
+"""
+import argparse
+import sys
+
+sys.dont_write_bytecode = True
+
+from queue_model import plan, programs  # noqa: E402
+
+
+def parsed(words):
+    parser = argparse.ArgumentParser(prog="tests/model", description="Holds bq and bqd to a second writing of the rules.")
+    parser.add_argument("--bq", required=True, metavar="PATH", help="the built program bq")
+    parser.add_argument("--bqd", required=True, metavar="PATH", help="the built program bqd")
+    parser.add_argument("--seed", type=int, default=1, metavar="N", help="what the random input begins with; 1 unless given")
+    parser.add_argument("--minutes", type=float, default=0, metavar="M", help="goes on with further rounds for so long; one round unless given")
+    parser.add_argument("--broken", choices=sorted(plan.BROKEN), help="turns one rule")
+    parser.add_argument("--self-check", action="store_true", help="tries that each turned rule is found, and nothing else")
+    return parser.parse_args(words)
+
+
+def main():
+    options = parsed(sys.argv[1:])
+    bq, bqd = programs.found_program(options.bq), programs.found_program(options.bqd)
+    if options.self_check:
+        passed, failed = plan.self_check(bq, bqd, options.seed)
+    else:
+        reports = plan.whole_run(bq, bqd, options.seed, options.minutes, plan.RULES[options.broken])
+        print("\n".join(plan.summed(reports)))
+        passed, failed = plan.counts(reports)
+    print("%d passed, %d failed" % (passed, failed))
+    return 1 if failed else 0
+
+
+if __name__ == "__main__":
+    sys.exit(main())

@@ -1,0 +1,481 @@
+"""Many clients of `bqd`, one command at a time, so that the order of the steps is known.
+
+The server's clock is the machine's, so nothing may hang on milliseconds: the moments at which something
+happens by itself lie more than SLACK apart, nobody sends while one of them is nearer than SLACK, and an
+answer that takes longer than SLACK makes the run one that can't be judged. Ages and times left are told in
+whole seconds, and may be off by one.
+"""
+import random
+import re
+import select
+import socket
+import time
+from collections import namedtuple
+
+from . import programs, report, shrink
+from .commands import Chooser, Times
+from .machine import PLAIN, RESERVED
+from .reader import requests_of
+
+SLACK = 350  # milliseconds
+NEAR = 100000  # what lies further ahead doesn't come while a run lasts
+TICKS_AHEAD = 8
+ANSWER_SECONDS = 5
+RUN_SECONDS = 60
+SHRINK_SECONDS = 60
+STEADY = 0  # a client that never waits nor goes: it asks what others can't tell
+
+LONG = 1000
+TIMED = Times(delays=(0,) * 12 + (1, 2, LONG, LONG), leases=(LONG,) * 12 + (1, 2, 3),
+              timeouts=(0, 0, 0, 0, 1, LONG), pauses=(0, 0, 1, 2, LONG))
+FEW_JOBS = {b"put": 18, b"delete": 20, b"use": 5, b"pause-tube": 3}  # so that many wait
+HEAD = re.compile(rb"(RESERVED \d+|FOUND \d+|OK) (\d+)")
+ABOUT = re.compile(rb"^(age|time-left|pause-time-left): (\d+)$")
+
+# One thing that happens: open, ask (with pieces of bytes), shut (the client sends no more, with bytes before),
+# drop (the client is gone), rest (until the next moment), control (with bytes).
+Action = namedtuple("Action", "kind client pieces")
+
+
+class Differs(Exception):
+    """The server did something else than the machine."""
+
+
+class Unclear(Exception):
+    """An answer took so long, or two moments came to lie so near, that nothing can be said."""
+
+
+class Left(Exception):
+    """An action that means nothing now, or would hang on milliseconds."""
+
+
+def alike(wanted, got):
+    """Whether two answers are the same, but for a second more or less in ages and times left."""
+    if wanted == got:
+        return True
+    ours, theirs = wanted.split(b"\n"), got.split(b"\n")
+    if not got.startswith(b"OK ") or len(ours) != len(theirs):
+        return False
+    for our, their in zip(ours[1:], theirs[1:]):
+        first, second = ABOUT.match(our), ABOUT.match(their)
+        if our != their and not (first and second and first[1] == second[1] and abs(int(first[2]) - int(second[2])) <= 1):
+            return False
+    return True
+
+
+class Client:
+    """The client's end of a connection."""
+
+    def __init__(self, number, connection):
+        self.number, self.connection, self.kept = number, connection, b""
+
+    def more(self, until):
+        """Reads what has come. False at the end of the connection."""
+        ready, _, _ = select.select([self.connection], [], [], max(0, until - time.monotonic()))
+        if not ready:
+            raise Differs("client %d: nothing came; it has %s" % (self.number, report.told(self.kept)))
+        try:
+            piece = self.connection.recv(1 << 20)
+        except ConnectionError:
+            piece = b""
+        self.kept += piece
+        return bool(piece)
+
+    def whole_answer(self):
+        """Takes the first whole answer out of what has come, or gives None."""
+        end = self.kept.find(b"\r\n")
+        if end < 0:
+            return None
+        head = HEAD.fullmatch(self.kept[:end])
+        size = end + 2 + (int(head[2]) + 2 if head else 0)
+        if len(self.kept) < size:
+            return None
+        answer, self.kept = self.kept[:size], self.kept[size:]
+        return answer
+
+    def answer(self, wanted, until):
+        """Reads an answer and holds it to the one that is wanted."""
+        got = self.whole_answer()
+        while got is None:
+            try:
+                came = self.more(until)
+            except Differs as it:
+                raise Differs("%s, and %s was to come" % (it, report.told(wanted)))
+            if not came:
+                raise Differs("client %d: its connection ended, and %s was to come; it has %s" % (
+                    self.number, report.told(wanted), report.told(self.kept)))
+            got = self.whole_answer()
+        if not alike(wanted, got):
+            raise Differs("client %d: differs %s" % (self.number, report.apart(wanted, got)))
+
+    def ends(self, until):
+        """Holds the connection to end now, with nothing more said."""
+        while self.more(until):
+            pass
+        if self.kept:
+            raise Differs("client %d: was written besides %s" % (self.number, report.told(self.kept)))
+        self.connection.close()
+
+
+class Run:
+    """A server, its clients and the machine."""
+
+    def __init__(self, server, rules, settings, patience):
+        self.server, self.settings, self.patience = server, settings, patience
+        self.machine, self.clients = rules(settings), {}
+        self.begun = time.monotonic()
+        self.looked_at = 0
+        self.commands = 0
+
+    def now(self):
+        return int((time.monotonic() - self.begun) * 1000)
+
+    # -- time -------------------------------------------------------------------------------------
+
+    @staticmethod
+    def coming(machine):
+        """The moments that lie ahead and near, in their order."""
+        return sorted(it for it in machine.moments() if machine.now < it < machine.now + NEAR)
+
+    def is_spaced(self, trial):
+        """Whether the moments lie apart that may come by themselves, also by what the first of them bring. The trial goes on."""
+        for _ in range(TICKS_AHEAD):
+            ahead = self.coming(trial)
+            if any(b - a <= SLACK for a, b in zip(ahead, ahead[1:])):
+                return False
+            if not ahead:
+                return True
+            trial.step(ahead[0], STEADY, "tick")
+        return True
+
+    def pass_moments(self):
+        """Waits past each moment that is near, and reads what comes of it."""
+        while True:
+            now, ahead = self.now(), self.coming(self.machine)
+            self.looked_at = now
+            if not ahead or ahead[0] > now + SLACK:
+                return
+            if any(it - ahead[0] <= SLACK for it in ahead[1:]):
+                raise Unclear("two moments came to lie together")
+            time.sleep(max(0, ahead[0] + SLACK - now) / 1000)
+            self.looked_at = self.now()
+            self.gather(self.machine.step(ahead[0], STEADY, "tick"))
+
+    def gather(self, answers):
+        """Reads these answers at their clients."""
+        until = time.monotonic() + self.patience
+        for number, wanted in answers:
+            self.clients[number].answer(wanted, until)
+            self.hold_to_be_in_time()
+
+    def hold_to_be_in_time(self):
+        """Since time was looked at, no more of it may have passed than lies before the next moment."""
+        if self.now() - self.looked_at > SLACK:
+            raise Unclear("an answer took longer than %d ms" % SLACK)
+
+    # -- actions ----------------------------------------------------------------------------------
+
+    def play(self, action):
+        """Does an action and holds what comes of it to the machine. What means nothing now is Left."""
+        self.pass_moments()
+        try:
+            getattr(self, "do_" + action.kind)(action)
+        except Differs:
+            # What was answered late may be another answer; where nothing came at all, that isn't why.
+            if SLACK < self.now() - self.looked_at < 1000 * self.patience:
+                raise Unclear("another answer took longer than %d ms" % SLACK)
+            raise
+        self.hold_to_be_in_time()
+
+    def is_asking(self, number):
+        """Whether a client is connected and doesn't wait."""
+        return number in self.clients and not self.machine.seats[number].is_waiting()
+
+    def do_open(self, action):
+        number = action.client
+        if number in self.clients:
+            raise Left()
+        self.clients[number] = Client(number, self.server.connect())
+        self.machine.step(self.now(), number, "connect")
+        self.exchange(number, [b"list-tube-used\r\n"])
+
+    def hold_to_mean_something(self, action):
+        """Holds an action to have whole requests alone, none of them behind one that waits. It is tried on a copy of the machine."""
+        if not self.is_asking(action.client):
+            raise Left()
+        requests, rest = requests_of(b"".join(action.pieces), self.settings.max_job_size)
+        if rest or not requests or requests[-1].command == b"quit" and action.client == STEADY:
+            raise Left()
+        trial, now = self.machine.copy(), self.now()
+        for place, request in enumerate(requests):
+            trial.step(now, action.client, "ask", request)
+            is_waiting = trial.seats[action.client].is_waiting()
+            if is_waiting and (action.client == STEADY or place + 1 < len(requests)):
+                raise Left()
+        if requests[-1].command == b"quit":
+            trial.step(now, action.client, "close")
+        if not self.is_spaced(trial):
+            raise Left()
+
+    def do_ask(self, action):
+        self.hold_to_mean_something(action)
+        self.exchange(action.client, action.pieces)
+
+    def exchange(self, number, pieces):
+        """A client sends requests, and everybody reads what is answered."""
+        requests, _ = requests_of(b"".join(pieces), self.settings.max_job_size)
+        self.hold_to_be_in_time()
+        began = self.now()
+        for place, piece in enumerate(pieces):
+            if place:
+                time.sleep(0.002)
+            self.clients[number].connection.sendall(piece)
+        self.commands += len(requests)
+        for request in requests:
+            self.gather(self.machine.step(began, number, "ask", request))
+        if requests[-1].command == b"quit":
+            self.close(number, began)
+        elif self.machine.seats[number].is_waiting():
+            # Nothing tells its client that it waits: only the count of those that do.
+            self.until_statistics(b"current-waiting: %d\n" % sum(it.is_waiting() for it in self.machine.seats.values()))
+
+    def close(self, number, began):
+        """The server closes the connection of a client, and its jobs go on."""
+        answers = self.machine.step(began, number, "close")
+        self.clients.pop(number).ends(time.monotonic() + self.patience)
+        self.gather(answers)
+
+    def hold_to_leave(self, number, ends):
+        """Holds a client's leaving to be one that means something now."""
+        if number not in self.clients or number == STEADY:
+            raise Left()
+        trial, now = self.machine.copy(), self.now()
+        for event in ends:
+            trial.step(now, number, event)
+        if not self.is_spaced(trial):
+            raise Left()
+
+    def do_shut(self, action):
+        number = action.client
+        is_waiting = number in self.clients and self.machine.seats[number].is_waiting()
+        self.hold_to_leave(number, ["end", "close"] if is_waiting else ["close"])
+        before = b"" if is_waiting else b"".join(action.pieces)
+        if requests_of(before, self.settings.max_job_size)[0]:
+            raise Left()
+        began = self.now()
+        connection = self.clients[number].connection
+        connection.sendall(before)
+        connection.shutdown(socket.SHUT_WR)
+        if is_waiting:
+            self.gather(self.machine.step(began, number, "end"))
+        self.close(number, began)
+
+    def do_drop(self, action):
+        number = action.client
+        is_waiting = number in self.clients and self.machine.seats[number].is_waiting()
+        self.hold_to_leave(number, ["end", "close"] if is_waiting else ["close"])
+        began = self.now()
+        answers = self.machine.step(began, number, "end") if is_waiting else []
+        answers += self.machine.step(began, number, "close")
+        client = self.clients.pop(number)
+        client.connection.close()
+        # (its own last answer can't be read)
+        self.gather([it for it in answers if it[0] != number])
+        self.until_statistics(b"current-connections: %d\n" % len(self.machine.seats))
+
+    def until_statistics(self, line):
+        """The steady client asks for statistics until they have a line."""
+        until = time.monotonic() + self.patience
+        while True:
+            client, got = self.clients[STEADY], None
+            client.connection.sendall(b"stats\r\n")
+            self.commands += 1
+            while got is None:
+                if not client.more(until):
+                    raise Differs("client %d: its connection ended" % STEADY)
+                got = client.whole_answer()
+            if line in got:
+                return
+            time.sleep(0.002)
+            if time.monotonic() > until:
+                raise Differs("statistics don't come to have %r: %s" % (line, report.told(got)))
+
+    def do_rest(self, _action):
+        """Waits for the next moment, where it comes soon."""
+        ahead = self.coming(self.machine)
+        if not ahead or ahead[0] > self.now() + 4000:
+            raise Left()
+        time.sleep(max(0, ahead[0] - SLACK - self.now()) / 1000)
+        self.pass_moments()
+
+    def do_control(self, action):
+        text = b"".join(action.pieces)
+        self.server.control(text)
+        if b"drain" in text.split(b"\n"):
+            self.machine.step(self.now(), STEADY, "drain")
+            self.until_statistics(b"draining: true\n")
+
+    def finish(self):
+        """All clients leave, those first that wait, and the steady one last; what everybody was written is then known whole."""
+        for number in sorted(self.clients, key=lambda it: (it == STEADY, not self.machine.seats[it].is_waiting())):
+            self.pass_moments()
+            began = self.now()
+            if number == STEADY:
+                self.exchange(STEADY, [b"stats\r\nlist-tubes\r\nstats-tube default\r\n"])
+            is_waiting = self.machine.seats[number].is_waiting()
+            self.clients[number].connection.shutdown(socket.SHUT_WR)
+            if is_waiting:
+                self.gather(self.machine.step(began, number, "end"))
+            self.close(number, began)
+            self.hold_to_be_in_time()
+        if not self.server.is_running():
+            raise Differs("the server ended")
+
+
+class Script:
+    """Chooses actions along the machine."""
+
+    def __init__(self, seed, clients):
+        self.random = random.Random(seed)
+        self.chooser = Chooser(self.random, TIMED, FEW_JOBS)
+        self.clients = clients
+
+    def wait(self):
+        """A reserve that mostly waits: it is what many clients are about."""
+        return self.random.choice((
+            b"reserve\r\n", b"reserve\r\n", b"reserve-with-timeout 1\r\n", b"reserve-with-timeout 2\r\n", b"reserve-with-timeout 1000\r\n",
+        ))
+
+    def soon(self):
+        """Something that goes on by itself in a second or two."""
+        return self.random.choice((
+            b"put 0 1 1000 0\r\n\r\n", b"put 7 2 1000 1\r\nd\r\n", b"put 3 0 3 1\r\nm\r\n",
+            b"pause-tube default 1\r\n", b"pause-tube a 2\r\n",
+            # its lease begins at once, where it is the least job that the client may have
+            b"put 0 0 2 1\r\nl\r\nreserve-with-timeout 0\r\n", b"put 0 0 3 1\r\nl\r\nreserve-with-timeout 0\r\n",
+        ))
+
+    def next(self, run):
+        """The next action."""
+        number, kind = self.random.randrange(self.clients), self.random.random()
+        if number not in run.clients:
+            return Action("open", number, [])
+        if kind < 0.03:
+            return Action("shut", number, [self.random.choice((b"", b"", b"delete 1", b"put 0 0 9 5\r\nab"))])
+        if kind < 0.06:
+            return Action("drop", number, [])
+        if kind < 0.08:
+            return Action("rest", number, [])
+        if kind < 0.085:
+            return Action("control", number, [self.random.choice((b"drains\n", b" drain\n", b"DRAIN\n", b"\n", b"drain\r\n"))])
+        if run.machine.seats[number].is_waiting():
+            # Who waits is asked nothing: another one puts or gives a job back.
+            number = self.random.choice([it for it in run.clients if run.is_asking(it)])
+        if kind < 0.28:
+            return Action("ask", number, [self.wait()])
+        if kind < 0.34:
+            return Action("ask", number, [self.soon()])
+        held = [it for it in run.machine.jobs.values() if it.state == RESERVED and run.is_asking(it.holder)]
+        if kind < 0.46 and held:
+            job = self.random.choice(held)
+            return Action("ask", job.holder, [self.chooser.with_own(job)])
+        text = self.chooser.text(run.machine, number) if kind < 0.64 else self.chooser.command(run.machine, number)
+        if self.random.random() < 0.1:
+            text += self.chooser.command(run.machine, number)
+        return Action("ask", number, self.chooser.cuts(text) if self.random.random() < 0.05 else [text])
+
+
+def one_run(program, rules, settings, clients, next_action, patience=ANSWER_SECONDS):
+    """One run over the actions that `next_action` gives, until it gives None.
+
+    It returns the actions, how many commands were asked, and what differed."""
+    done = []
+    with programs.Server(program, clients, settings) as server:
+        run = Run(server, rules, settings, patience)
+        try:
+            # A new server's clock stands a little before ours; nothing hangs on that.
+            for number in range(min(clients, 8)):
+                run.play(Action("open", number, []))
+            until = time.monotonic() + RUN_SECONDS
+            while time.monotonic() < until:
+                action = next_action(run)
+                if action is None:
+                    break
+                done.append(action)
+                try:
+                    run.play(action)
+                except Left:
+                    done.pop()
+            run.finish()
+            return done, run.commands, None
+        except Differs as it:
+            return done, run.commands, str(it)
+        except ConnectionError as it:
+            return done, run.commands, "a connection broke: %s" % it
+        finally:
+            for client in run.clients.values():
+                client.connection.close()
+
+
+def replayed(actions):
+    """The same actions one after another."""
+    left = iter(actions)
+    return lambda run: next(left, None)
+
+
+def chosen(script, many):
+    """So many actions of a script; in half of all scripts the server drains towards the end."""
+    drain_at = script.random.choice((many * 3 // 4, None))
+    left = iter(range(many))
+
+    def next_action(run):
+        place = next(left, None)
+        if place is None:
+            return None
+        return Action("control", STEADY, [b"drain\n"]) if place == drain_at else script.next(run)
+
+    return next_action
+
+
+def made_settings(seed, known):
+    """The settings of a run, of what the program knows."""
+    chance = random.Random("settings %s" % seed)
+    jobs = chance.choice((None, 3, 40)) if "--max-jobs" in known else None
+    delay = chance.choice((0, 1, 2, LONG)) if "--requeue-delay" in known else 0
+    return PLAIN._replace(max_job_size=chance.choice((65535, 300)), max_jobs=jobs, requeue_delay=delay)
+
+
+def lockstep(program, known, rules, seed, clients, many, will_shrink=True, tries=3):
+    """One run of many actions. One that can't be judged is made again with another seed."""
+    settings, name, unclear = made_settings(seed, known), "%d clients" % clients, ""
+    for again in range(tries):
+        script = Script("%s/%d" % (seed, again), clients)
+        try:
+            patience = ANSWER_SECONDS if will_shrink else 2
+            done, commands, told = one_run(program, rules, settings, clients, chosen(script, many), patience)
+        except Unclear as it:
+            unclear = str(it)
+            continue
+        if told is None:
+            return report.Report(name, 1, 0, again, commands, unclear)
+        if will_shrink:
+            done, told = shorter(program, rules, settings, clients, done, told)
+        return report.Report(name, 0, 1, again, commands, "seed %s/%d, options %s, %s\n    actions:\n%s" % (
+            seed, again, " ".join(programs.words_for(settings)), told, "\n".join("      %s %d %r" % it for it in done)))
+    return report.Report(name, 0, 0, tries, 0, "seed %s couldn't be judged: %s" % (seed, unclear))
+
+
+def shorter(program, rules, settings, clients, done, told):
+    """Fewer actions that still show a difference, with what it is then."""
+    last = [told]
+
+    def differs(actions):
+        try:
+            _, _, now = one_run(program, rules, settings, clients, replayed(actions), 2)
+        except Unclear:
+            return False
+        if now is not None:
+            last[0] = now
+        return now is not None
+
+    return shrink.shrunk(done, differs, SHRINK_SECONDS), last[0]

@@ -1,0 +1,100 @@
+"""What is run, in how many processes, and what is told of it."""
+import concurrent.futures
+import multiprocessing
+import time
+
+from . import lockstep, programs, sessions, soak, worked
+from .broken import BROKEN
+from .machine import Machine
+
+# A round: batches of sessions, runs of 8 and of 60 clients, and soaks, with their sizes.
+BATCHES, SESSIONS = 40, 40
+EIGHT, EIGHT_ACTIONS = 24, 300
+SIXTY, SIXTY_ACTIONS = 6, 500
+SOAKS, SOAK_SECONDS = 2, 10
+PROCESSES = 5
+
+
+def pool():
+    """Processes that wait most of the time: more than there are processors."""
+    return concurrent.futures.ProcessPoolExecutor(PROCESSES, mp_context=multiprocessing.get_context("fork"))
+
+
+def round_of(bq, bqd, known, rules, seed):
+    """The calls of a round. What takes longest comes first."""
+    calls = [(lockstep.lockstep, bqd, known["bqd"], rules, "%s/sixty/%d" % (seed, at), 60, SIXTY_ACTIONS) for at in range(SIXTY)]
+    calls += [(lockstep.lockstep, bqd, known["bqd"], rules, "%s/eight/%d" % (seed, at), 8, EIGHT_ACTIONS) for at in range(EIGHT)]
+    calls += [(soak.soak, bqd, "%s/soak/%d" % (seed, at), SOAK_SECONDS) for at in range(SOAKS)]
+    return calls + [(sessions.batch, bq, known["bq"], rules, "%s/sessions/%d" % (seed, at), SESSIONS) for at in range(BATCHES)]
+
+
+def options_known(bq, bqd):
+    return {"bq": programs.options_of(bq), "bqd": programs.options_of(bqd)}
+
+
+def whole_run(bq, bqd, seed, minutes, rules):
+    """Rounds until the minutes are over, one at least. It returns all reports, which it tells as they come."""
+    begun, known, reports = time.monotonic(), options_known(bq, bqd), []
+
+    def keep(it):
+        reports.append(it)
+        if it.failed:
+            print("%s: FAILED, %s" % (it.name, it.note), flush=True)
+
+    keep(worked.rules_alone(rules))
+    keep(worked.program_too(bq, known["bq"]))
+    with pool() as processes:
+        number = 0
+        while number == 0 or time.monotonic() - begun < 60 * minutes:
+            round_seed = str(seed) if number == 0 else "%s.%d" % (seed, number)
+            for ended in concurrent.futures.as_completed([processes.submit(*it) for it in round_of(bq, bqd, known, rules, round_seed)]):
+                keep(ended.result())
+            number += 1
+    return reports
+
+
+def summed(reports):
+    """A line for each kind of report."""
+    lines = []
+    for name in dict.fromkeys(it.name for it in reports):
+        some = [it for it in reports if it.name == name]
+        passed, failed, unjudged, commands = (sum(getattr(it, key) for it in some) for key in ("passed", "failed", "unjudged", "commands"))
+        notes = [it.note for it in some if it.note and not it.failed] + (["%d made again" % unjudged] if unjudged else [])
+        noted = " (%s)" % "; ".join(notes) if notes else ""
+        lines.append("%s: %d passed, %d failed, %d commands%s" % (name, passed, failed, commands, noted))
+    return lines
+
+
+def finds(bq, bqd, known, name, seed):
+    """Where a broken machine is found to differ: the place and the seconds that it took, or None."""
+    rules, begun = BROKEN[name], time.monotonic()
+    found = sessions.batch(bq, known["bq"], rules, "%s/%s" % (seed, name), 30, will_shrink=False)
+    for at in range(12):
+        if found.failed or time.monotonic() - begun > 80:
+            break
+        clients, many = ((8, EIGHT_ACTIONS), (60, SIXTY_ACTIONS))[at % 4 == 3]
+        found = lockstep.lockstep(bqd, known["bqd"], rules, "%s/%s/%d" % (seed, name, at), clients, many, will_shrink=False)
+    return (found.name, time.monotonic() - begun, found.note.split("\n")[0]) if found.failed else None
+
+
+def self_check(bq, bqd, seed):
+    """Each broken machine has to be found. It returns how many were and how many weren't."""
+    known, passed, failed = options_known(bq, bqd), 0, 0
+    with pool() as processes:
+        calls = {name: processes.submit(finds, bq, bqd, known, name, seed) for name in BROKEN}
+        for name, call in calls.items():
+            found = call.result()
+            passed, failed = passed + (found is not None), failed + (found is None)
+            print("%s: %s" % (name, "NOT FOUND" if found is None else "found by %s after %.1f s" % found[:2]), flush=True)
+    return passed, failed
+
+
+def counts(reports):
+    """How many parts passed, and how many failed. Where most runs couldn't be judged, that is a failure."""
+    passed, failed = sum(it.passed for it in reports), sum(it.failed for it in reports)
+    runs = [it for it in reports if it.name.endswith("clients")]
+    empty = [it for it in runs if it.passed + it.failed == 0]
+    return passed, failed + (2 * len(empty) > len(runs))
+
+
+RULES = {None: Machine, **BROKEN}

@@ -1,0 +1,103 @@
+"""Random sessions of one client: what `bq --still` writes is what the machine answers, to the byte."""
+import random
+
+from . import programs, report, shrink
+from .commands import STILL, Chooser
+from .machine import PLAIN
+from .reader import requests_of
+
+SEAT = 0
+SESSION_SECONDS = 10
+SHRINK_SECONDS = 40
+
+
+def answers_to(rules, settings, text):
+    """What a whole input is answered, and how many requests it has; None where the session would wait without end."""
+    machine, out, asked = rules(settings), [], 0
+    machine.step(0, SEAT, "connect")
+    requests, rest = requests_of(text, settings.max_job_size)
+    for place, request in enumerate(requests):
+        asked += 1
+        out += machine.step(0, SEAT, "ask", request)
+        if machine.seats[SEAT].is_waiting():
+            if rest or place + 1 < len(requests):
+                return None
+            out += machine.step(0, SEAT, "end")
+    return b"".join(answer for _, answer in out), asked
+
+
+def made_session(seed, rules, settings):
+    """The texts of a random session, chosen along the machine."""
+    chance = random.Random(seed)
+    chooser, machine, texts, kept = Chooser(chance, STILL), rules(settings), [], b""
+    machine.step(0, SEAT, "connect")
+    for _ in range(chance.choice((5, 30, 80, 150))):
+        text = chooser.text(machine, SEAT)
+        requests, behind = requests_of(kept + text, settings.max_job_size)
+        trial, waits_at = machine.copy(), None
+        for place, request in enumerate(requests):
+            if waits_at is None:
+                trial.step(0, SEAT, "ask", request)
+                waits_at = place if trial.seats[SEAT].is_waiting() else None
+        if waits_at is not None:
+            # It can only be the last, with nothing behind it.
+            if not behind and waits_at + 1 == len(requests) and chance.random() < 0.2:
+                return texts + [text]
+            continue
+        machine, kept = trial, behind
+        texts.append(text)
+        if requests and requests[-1].command == b"quit":
+            return texts + [chooser.text(machine, SEAT)]
+    return texts
+
+
+def made_settings(seed, known):
+    """The settings of a session, of what the program knows."""
+    chance = random.Random("settings %s" % seed)
+    size = chance.choice((1, 2, 9, 200, 65535, 65535, 65535, 5000, 1048576 if chance.random() < 0.1 else 100))
+    jobs = chance.choice((None, 1, 2, 5, 20)) if "--max-jobs" in known else None
+    return PLAIN._replace(max_job_size=size, max_jobs=jobs)
+
+
+def difference(program, rules, settings, pieces, seconds=SESSION_SECONDS):
+    """What is told where the program and the rules differ over an input in pieces, else None."""
+    expected = answers_to(rules, settings, b"".join(pieces))
+    if expected is None:
+        return None
+    ran = programs.run_session(program, settings, pieces, seconds)
+    if ran.status is None:
+        return "it didn't end within %d seconds; it had written %s" % (seconds, report.told(ran.out))
+    if ran.out != expected[0]:
+        return report.apart(expected[0], ran.out)
+    if ran.status != 0 or ran.complaint:
+        return "status %d, and on standard error %s" % (ran.status, report.told(ran.complaint))
+    return None
+
+
+def one_session(program, known, rules, seed, will_shrink):
+    """One session, whole and in pieces. It returns how many requests it has, and what differed."""
+    settings = made_settings(seed, known)
+    texts = made_session(seed, rules, settings)
+    whole = b"".join(texts)
+    cut = Chooser(random.Random("cuts %s" % seed), STILL).cuts(whole) if whole else [b""]
+    expected = answers_to(rules, settings, whole)
+    for pieces in ([whole], cut):
+        told = difference(program, rules, settings, pieces, SESSION_SECONDS if will_shrink else 2)
+        if told:
+            if will_shrink:
+                texts = shrink.shrunk(texts, lambda fewer: difference(program, rules, settings, fewer, 2), SHRINK_SECONDS)
+                told = difference(program, rules, settings, texts) or told
+            return 0, "session %s, options %s, differs %s\n    input: %r" % (
+                seed, " ".join(programs.words_for(settings)), told, texts)
+    return expected[1], None
+
+
+def batch(program, known, rules, seed, many, will_shrink=True):
+    """Some sessions, up to the first that differs."""
+    commands = 0
+    for place in range(many):
+        asked, told = one_session(program, known, rules, "%s/%d" % (seed, place), will_shrink)
+        if told:
+            return report.Report("sessions", place, 1, 0, commands, told)
+        commands += 2 * asked
+    return report.passed("sessions", many, commands)
