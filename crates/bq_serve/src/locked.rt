@@ -8,8 +8,6 @@ ghost use Rattle.bq_serve.specs.LockedSteps.{TakesStep};
 
 mod journal;
 mod outboxes;
-#[cfg(test)]
-mod tests;
 
 use crate::RunFault;
 use bq_core::{Config, Core, CoreFault, Outs};

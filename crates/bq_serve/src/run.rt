@@ -21,5 +21,3 @@ mod post;
 mod sessions;
 mod shared_desk;
 mod start;
-#[cfg(test)]
-mod test_doors;

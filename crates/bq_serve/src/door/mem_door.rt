@@ -97,6 +97,3 @@ impl Door for MemDoor {
         self.over.push((line, end)).unwrap();
     }
 }
-
-#[cfg(test)]
-mod tests;

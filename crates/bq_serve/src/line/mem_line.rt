@@ -167,6 +167,3 @@ fn copy_first(bytes: &[u8], buf: &mut [u8]) -> usize
     buf[..count].copy_from_slice(&bytes[..count]);
     count
 }
-
-#[cfg(test)]
-mod tests;

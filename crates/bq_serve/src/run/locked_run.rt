@@ -293,6 +293,3 @@ fn join_all<R: Threads, D: Door + Drop + Send>(
     }
     Ok(doors)
 }
-
-#[cfg(test)]
-mod tests;

@@ -101,6 +101,3 @@ fn rest_between_looks<R: Wait>(rt: &R, bell: &Parker, looked: bool, next: &Actio
         bell.park_timeout(rt, Duration::from_millis(REST));
     }
 }
-
-#[cfg(test)]
-mod tests;

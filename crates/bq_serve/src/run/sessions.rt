@@ -185,6 +185,3 @@ fn round_after(round: Round, moved: bool, is_done: bool) -> Round
         Round::Still
     }
 }
-
-#[cfg(test)]
-mod tests;
