@@ -10,8 +10,8 @@ use Rattle.bq_job.specs.LineSteps.{IsBeginning, LineSeen, answers_text}
 use Rattle.bq_seat.specs.Past.{Past, with_fault, with_mail}
 use Rattle.bq_seat.specs.Served.{seen_line}
 use Rattle.bq_serve.specs.Attending.{IsWrittenSo}
-use Rattle.bq_serve.specs.LineCalls.{first_fault, with_line_fault}
-use Rattle.bq_serve.proofs.SeenLemmas.{same_seen}
+use Rattle.bq_line.specs.LineCalls.{first_fault, with_line_fault}
+use Rattle.bq_line.proofs.SeenLemmas.{same_seen}
 
 fault_same : (fault : LineFault) (p : Past) → (with_fault fault p).fault ≡ first_fault p.fault fault
 fault_same fault p = at p.fault refl

@@ -10,12 +10,9 @@ pub mod LastPartLemmas
 pub mod ListLemmas
 pub mod LockedLemmas
 pub mod MailLemmas
-pub mod PartLemmas
 pub mod PostLemmas
-pub mod ReadingsLemmas
 pub mod RungLemmas
 pub mod SeatLemmas
-pub mod SeenLemmas
 pub mod SendLemmas
 pub mod SessionsLemmas
 pub mod TendingLemmas

@@ -26,7 +26,7 @@ use Rattle.bq_seat.specs.declared.machine.SeatMachine.{SeatMachine}
 use Rattle.bq_serve.specs.Attending.{IsOnLine, IsWrittenSo}
 use Rattle.bq_serve.specs.Carried.{Carried, IsLeft, IsReadAs}
 use Rattle.bq_serve.specs.Links.{as_submitted}
-use Rattle.bq_serve.specs.LineCalls.{new_line}
+use Rattle.bq_line.specs.LineCalls.{new_line}
 use Rattle.bq_serve.specs.Writing.{BreaksOff, with_written}
 use Rattle.bq_serve.proofs.EventLemmas.{cut_off, taken_at_fault, taken_at_mail, told_fault, writes_at_mail, writes_still, wrote}
 

@@ -15,8 +15,8 @@ use Rattle.bq_seat.specs.declared.machine.Action.TheVariants as actions
 use Rattle.bq_seat.specs.declared.machine.Event.TheVariants as events
 use Rattle.bq_seat.specs.declared.machine.SeatMachine.{SeatMachine}
 use Rattle.bq_serve.specs.Carried.{Carried, HasGone}
-use Rattle.bq_serve.specs.Doors.{IsLeftBy}
-use Rattle.bq_serve.specs.LineCalls.{new_line}
+use Rattle.bq_line.specs.Doors.{IsLeftBy}
+use Rattle.bq_line.specs.LineCalls.{new_line}
 use Rattle.bq_serve.specs.Links.{Calls}
 use Rattle.bq_serve.specs.Tending.{AreKept, DoorSeen, GoesOn, IsNewDoor, IsNewSeat, IsTended, Tends, attendant}
 use Rattle.bq_serve.specs.declared.run.attendant.Attendant.{Attendant}

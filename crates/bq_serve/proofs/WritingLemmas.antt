@@ -4,7 +4,7 @@ use Rattle.std.proofs.lemmas.Grind.{common_steps}
 use Rattle.std.proofs.lemmas.List.{take-append-drop}
 use Rattle.bq_job.specs.LineSteps.{LineSeen, IsBeginning}
 use Rattle.bq_job.specs.declared.line_end.LineFault.TheVariants as faults
-use Rattle.bq_serve.specs.LineCalls.{with_line_fault}
+use Rattle.bq_line.specs.LineCalls.{with_line_fault}
 use Rattle.bq_serve.specs.Writing.{BreaksOff, Writes, with_written}
 
 -- a further part is written

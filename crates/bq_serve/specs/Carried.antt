@@ -6,7 +6,7 @@ use Rattle.bq_job.specs.AnswerText.{answer_text}
 use Rattle.bq_job.specs.LineSteps.{LineSeen}
 use Rattle.bq_job.specs.declared.line_end.LineFault.TheVariants as faults
 use Rattle.bq_serve.specs.Links.{as_submitted}
-use Rattle.bq_serve.specs.LineCalls.{with_line_fault}
+use Rattle.bq_line.specs.LineCalls.{with_line_fault}
 use Rattle.bq_seat.specs.SeatMoves.{IsMove}
 use Rattle.bq_serve.specs.Writing.{BreaksOff, with_written}
 use Rattle.bq_seat.specs.declared.machine.Action.{Action}

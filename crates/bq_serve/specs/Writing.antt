@@ -2,7 +2,7 @@
 use Rattle.std.specs.Prelude.{ℕ, ◌≡◌, Bool, MatchBool, List, ◌++◌}
 use Rattle.bq_job.specs.declared.line_end.LineFault.TheVariants as faults
 use Rattle.bq_job.specs.LineSteps.{LineSeen, IsBeginning}
-use Rattle.bq_serve.specs.LineCalls.{with_line_fault}
+use Rattle.bq_line.specs.LineCalls.{with_line_fault}
 
 abbrev pub with_written : List ℕ → LineSeen → LineSeen
 with_written bytes line = record line { written = line.written ++ bytes }

@@ -2,9 +2,9 @@ ghost use Rattle.std.specs.Prelude.{◌≡◌, ◌≤◌, ◌+◌, ◌++◌, tru
 ghost use Rattle.bq_job.specs.AnswerText.{answer_text};
 ghost use Rattle.bq_serve.specs.Writing.{Writes};
 
-use crate::line::Line;
 use arrayvec::ArrayVec;
 use bq_job::Answer;
+use bq_line::line::Line;
 use bq_wire::{HeadBuf, answer_body, answer_head, answer_tail, push_bytes};
 
 /// How many bytes a text has at most, whose parts are joined to go out in one write.

@@ -7,9 +7,9 @@ ghost use Rattle.bq_serve.specs.Tending.{DoorSeen, GoesOn, IsPlaced, Tends, atte
 
 use super::client::{Room, carry_out};
 use super::link::Link;
-use crate::Door;
-use crate::line::Line;
 use bq_job::{LARGEST_BODY, LineEnd, NoMemory, Step, one_line_more};
+use bq_line::Door;
+use bq_line::line::Line;
 use bq_seat::{Action, Event, SeatMachine};
 use std::alloc::Global;
 use std::mem;

@@ -6,8 +6,8 @@ ghost use Rattle.bq_serve.specs.Carried.{Carried, HasGone};
 
 use super::answer_write::write_answer;
 use super::link::Link;
-use crate::line::{Line, is_nothing_yet};
 use bq_job::Answer;
+use bq_line::line::{Line, is_nothing_yet};
 use bq_seat::{Action, Event, PIECE_ROOM, SeatMachine};
 
 /// Room for one read of a line. It is made once a run, since a new one would be filled with zeros first.

@@ -8,10 +8,10 @@ ghost use Rattle.bq_serve.specs.DeskState.{HasMails};
 ghost use Rattle.bq_serve.specs.Links.{as_submitted};
 
 use super::desk::Desk;
-use crate::clock::Clock;
-use crate::line::is_nothing_yet;
 use arrayvec::ArrayVec;
 use bq_job::{Seat, Step};
+use bq_line::clock::Clock;
+use bq_line::line::is_nothing_yet;
 use std::io::BufRead;
 use std::marker::Model;
 use std::sync::Wait;

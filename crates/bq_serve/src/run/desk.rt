@@ -7,9 +7,9 @@ ghost use Rattle.bq_job.specs.Runs.{answers_to};
 
 use super::mail::{Mail, new_mails};
 use crate::RunFault;
-use crate::clock::Clock;
 use bq_core::{Config, Core, CoreFault, Outs};
 use bq_job::{Answer, Moment, NoMemory, Seat, Step};
+use bq_line::clock::Clock;
 use std::alloc::Global;
 
 /// What serves all seats.

@@ -11,10 +11,10 @@ use super::attendant::Attendant;
 use super::client::{Room, carry_out};
 use super::desk::Desk;
 use super::link::Link;
-use crate::Door;
-use crate::clock::Clock;
-use crate::line::Line;
 use bq_job::{Answer, Seat, Step};
+use bq_line::Door;
+use bq_line::clock::Clock;
+use bq_line::line::Line;
 use bq_seat::{Action, SeatMachine};
 
 /// A seat's link to the desk at which it is served.

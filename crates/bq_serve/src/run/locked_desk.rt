@@ -4,9 +4,9 @@ ghost use Rattle.std.specs.Prelude.{◌≡◌, ◌≤◌};
 use super::bells::Rings;
 use super::desk::moment_heard;
 use super::shared_desk::{LONGEST_REST, Look, SharedDesk};
-use crate::clock::Clock;
 use crate::locked::Locked;
 use bq_job::{Answer, Moment, Seat, Step};
+use bq_line::clock::Clock;
 use std::sync::{Mutex, Wait};
 
 /// What lies under the one lock of a run: the core with its outboxes, the clock, and the moment heard last.

@@ -1,17 +1,17 @@
 ghost use Rattle.std.specs.Prelude.{◌↔◌, ◌≡◌, List, Option, ℕ, IfOk, IsErrOf, IsTrue, not};
 ghost use Rattle.bq_core.specs.State.{settings_of};
 ghost use Rattle.bq_job.specs.Headline.{IsHistoryOfLine};
-ghost use Rattle.bq_serve.specs.LineCalls.{new_line};
+ghost use Rattle.bq_line.specs.LineCalls.{new_line};
 ghost use Rattle.bq_serve.specs.RunSettings.{is_lone};
 
 use super::client::Room;
 use super::desk::Desk;
 use super::desk_seat::act;
 use crate::RunFault;
-use crate::clock::Clock;
-use crate::line::Line;
 use bq_core::Config;
 use bq_job::{LineEnd, Seat, line_joins};
+use bq_line::clock::Clock;
+use bq_line::line::Line;
 use bq_seat::{Action, Event, PIECE_ROOM, SeatMachine};
 use std::alloc::Global;
 use std::sync::Wait;

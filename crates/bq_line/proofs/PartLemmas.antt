@@ -1,0 +1,94 @@
+-- Parts of a line in memory that are over.
+use Rattle.std.proofs.Common.{◌≡◌, ◌<◌, ◌≤◌, ℕ, ◌+◌, ◌-◌, zero, suc, Bool, true, false, ◌||◌, ◌==◌, IfSome, min, List, [], ◌∷◌, ◌++◌, refl, sym, ap, arith, append_assoc, length, take, drop, take-add, get_or, slice_get, nat_le}
+use Rattle.std.proofs.lemmas.Bool.Decides.{nat_tests}
+use Rattle.std.proofs.lemmas.Option.{slice_get_read}
+use Rattle.std.proofs.lemmas.Grind.{common_steps}
+use Rattle.std.proofs.lemmas.List.{take_all}
+use Rattle.bq_line.specs.LineParts.{part_bytes, bytes_up_to, is_over, open_place}
+use Rattle.bq_line.specs.declared.line.mem_line.Part.{Part}
+use Rattle.bq_line.specs.declared.line.mem_line.Part.TheVariants as parts
+
+-- all bytes of a part that is over were read
+whole_part : (part : Part) (offset written : ℕ) → is_over offset written part ≡ true → take offset (part_bytes part) ≡ part_bytes part
+whole_part (parts.Bytes bytes) offset written over =
+    let le : length bytes.items ≤ offset = grind (arith, nat_tests) in take_all offset bytes.items le
+whole_part (parts.AfterWritten count) offset written over = grind (arith, common_steps)
+whole_part parts.Fault offset written over = cc
+
+pub at_first : (more : List Part) → bytes_up_to more zero zero ≡ []
+at_first [] = refl
+at_first (part ∷ more) = grind (arith, common_steps)
+
+-- A part that is over is passed.
+pub passed : (all : List Part) (place offset written : ℕ) (part : Part) → place < length all → part ≡ get_or all place part
+    → is_over offset written part ≡ true → bytes_up_to all (suc place) zero ≡ bytes_up_to all place offset
+passed [] place offset written part lt is over = absurd (omega arith)
+passed (first ∷ more) zero offset written part lt is over =
+    let here : part ≡ first = is in
+    let whole : take offset (part_bytes first) ≡ part_bytes first = whole_part first offset written (rw (← here) over) in
+    rw (at_first more, whole) (grind (arith, common_steps))
+passed (first ∷ more) (suc place) offset written part lt is over =
+    ap (λ bytes. part_bytes first ++ bytes) (passed more place offset written part (omega arith) is over)
+
+-- more bytes of a part are read
+read_more : (all : List Part) (place offset n : ℕ) (part : Part) → place < length all → part ≡ get_or all place part
+    → bytes_up_to all place (offset + n) ≡ bytes_up_to all place offset ++ take n (drop offset (part_bytes part))
+read_more [] place offset n part lt is = absurd (omega arith)
+read_more (first ∷ more) zero offset n part lt is =
+    let here : part ≡ first = is in rw here (take-add offset n (part_bytes first))
+read_more (first ∷ more) (suc place) offset n part lt is =
+    rw (read_more more place offset n part (omega arith) is) (grind (arith, append_assoc))
+
+-- These bytes are given, out of the part at the place that was passed to.
+pub read_given : (all : List Part) (place offset next from n : ℕ) (part : Part) (bytes given : List ℕ)
+    → bytes_up_to all next from ≡ bytes_up_to all place offset → next < length all → part ≡ get_or all next part → part_bytes part ≡ bytes
+    → given ≡ take n (take (length bytes - from) (drop from bytes))
+    → bytes_up_to all next (from + n) ≡ bytes_up_to all place offset ++ given
+read_given all place offset next from n part bytes given same lt is bytes_are given_is =
+    let whole : take (length bytes - from) (drop from bytes) ≡ drop from bytes = grind (arith, common_steps) in
+    rw (read_more all next from n part lt is, bytes_are, same, given_is, whole) refl
+
+-- a part without bytes is passed
+pub passed_fault : (all : List Part) (place offset : ℕ) (part : Part) → place < length all → part ≡ get_or all place part → part ≡ parts.Fault
+    → bytes_up_to all (suc place) zero ≡ bytes_up_to all place offset
+passed_fault [] place offset part lt is fault = absurd (omega arith)
+passed_fault (first ∷ more) zero offset part lt is fault =
+    let here : first ≡ parts.Fault = cc in rw (at_first more, here) (grind (arith, common_steps))
+passed_fault (first ∷ more) (suc place) offset part lt is fault =
+    ap (λ bytes. part_bytes first ++ bytes) (passed_fault more place offset part (omega arith) is fault)
+
+-- A line isn't ended by a read that gives bytes.
+pub still_open : (ended : Bool) (n : ℕ) → 0 < n → ended ≡ (ended || n == 0)
+still_open true n some = refl
+still_open false n some = grind (arith, nat_tests)
+
+-- some bytes of a part that isn't over are given
+pub some_given : (all : List Part) (place from written n room : ℕ) (part : Part) (bytes : List ℕ)
+    → IfSome (slice_get all place) (λ p. is_over from written p ≡ false) → place < length all → part ≡ get_or all place part
+    → (is_over from written part ≡ nat_le (length bytes) from) → 0 < room
+    → n ≡ min (length (take (length bytes - from) (drop from bytes))) room → 0 < n
+some_given all place from written n room part bytes is_open lt is part_is some n_is =
+    let here : is_over from written part ≡ false = rw (slice_get_read all (length all) place part refl lt is) at is_open in
+    let test : nat_le (length bytes) from ≡ false = cc in
+    let below : from < length bytes = grind (arith, nat_tests) in
+    let whole : length (take (length bytes - from) (drop from bytes)) ≡ length bytes - from = grind (arith, common_steps) in
+    omega arith
+
+-- no part is passed behind the last one
+pub open_past : (all : List Part) (place offset written : ℕ) → length all ≤ place → open_place all place offset written ≡ place
+open_past all place offset written past = let none : drop place all ≡ [] = grind (arith, common_steps) in rw none (omega arith)
+
+drop_at : (all : List Part) (place : ℕ) (part : Part) → place < length all → part ≡ get_or all place part → drop place all ≡ part ∷ drop (suc place) all
+drop_at [] place part lt is = absurd (omega arith)
+drop_at (first ∷ more) zero part lt is = ap (λ p. p ∷ more) (sym is)
+drop_at (first ∷ more) (suc place) part lt is = drop_at more place part (omega arith) is
+
+-- a part that isn't over comes next
+pub open_here : (all : List Part) (place offset written : ℕ) (part : Part) → place < length all → part ≡ get_or all place part
+    → is_over offset written part ≡ false → open_place all place offset written ≡ place
+open_here all place offset written part lt is not_over = rw (drop_at all place part lt is, not_over) (omega arith)
+
+-- one that is over is passed
+pub open_next : (all : List Part) (place offset written : ℕ) (part : Part) → place < length all → part ≡ get_or all place part
+    → is_over offset written part ≡ true → open_place all (suc place) 0 written ≡ open_place all place offset written
+open_next all place offset written part lt is over = rw (drop_at all place part lt is, over) (omega arith)

@@ -1,0 +1,52 @@
+-- One more reading of a script.
+use Rattle.std.proofs.Common.{◌≡◌, ◌<◌, ◌≤◌, ℕ, ◌+◌, inl, inr, zero, suc, add-one, List, [], ◌∷◌, ◌++◌, Option, Some, None, refl, ap, arith, append_assoc, length, length-drop, take, drop, take-add, replicate}
+use Rattle.std.proofs.lemmas.Grind.{common_steps}
+use Rattle.std.proofs.lemmas.Option.{get_or_from_slice_get, slice_get_within}
+use Rattle.std.proofs.Math.Seq.{drop-cons, drop-drop}
+use Rattle.std.specs.Prelude.{slice_get}
+use Rattle.bq_line.specs.ScriptPlace.{ScriptPlace, IsRead, last_reading}
+
+one_more : (script : List (Option ℕ)) (place : ℕ) (r : Option ℕ) → slice_get script place ≡ Some r → take 1 (drop place script) ≡ r ∷ []
+one_more script place r is =
+    let lt : place < length script = slice_get_within script place r is in
+    rw (drop-cons script place None lt, get_or_from_slice_get script place r None is) refl
+
+repeated_suc : {A : Type 0} (n : ℕ) (x : A) → replicate (suc n) x ≡ replicate n x ++ x ∷ []
+repeated_suc zero x = refl
+repeated_suc (suc n) x = ap (λ xs. x ∷ xs) (repeated_suc n x)
+
+repeated : {A : Type 0} (n : ℕ) (x : A) → replicate (n + 1) x ≡ replicate n x ++ x ∷ []
+repeated n x = rw (add-one n) (repeated_suc n x)
+
+pub read_next : (first old new : ScriptPlace) (readings : List (Option ℕ)) (r : Option ℕ) → IsRead first readings old
+    → old.place < length old.script → slice_get old.script old.place ≡ Some r → new.script ≡ old.script → new.place ≡ old.place + 1 → IsRead first (readings ++ r ∷ []) new
+read_next first old new readings r read lt is script place =
+    let none_again : read.again ≡ 0 = elim read.at_end [ inl none ↦ none | inr le ↦ absurd (omega arith) ] in
+    let le : suc old.place ≤ length old.script = omega arith in
+    let same : length old.script ≡ length first.script = ap length read.script_is in
+    record {
+      count = read.count + 1;
+      again = 0;
+      script_is = cc;
+      within = rw (length-drop first.place first.script) (let at = read.place_is in omega arith);
+      place_is = let at = read.place_is in omega arith;
+      readings_are =
+          let here : take 1 (drop read.count (drop first.place first.script)) ≡ r ∷ [] =
+          rw (drop-drop read.count first.place first.script) (rw (← read.script_is, ← read.place_is) (one_more old.script old.place r is)) in
+          rw (take-add read.count 1 (drop first.place first.script), here, read.readings_are, none_again) (grind (arith, common_steps));
+      at_end = inl refl;
+    }
+
+pub read_again : (first old : ScriptPlace) (readings : List (Option ℕ)) (r : Option ℕ) → IsRead first readings old
+    → length old.script ≤ old.place → r ≡ last_reading old.script → IsRead first (readings ++ r ∷ []) old
+read_again first old readings r read le is = record {
+  count = read.count;
+  again = read.again + 1;
+  script_is = read.script_is;
+  within = read.within;
+  place_is = read.place_is;
+  readings_are =
+      let last : r ≡ last_reading first.script = rw (← read.script_is) is in
+      rw (repeated read.again (last_reading first.script), read.readings_are, last) (grind (arith, append_assoc));
+  at_end = inr le;
+}

@@ -1,0 +1,16 @@
+-- What a door does with its lines.
+use Rattle.std.specs.Prelude.{◌≡◌, Bool, true, false, List, [], ◌∷◌, ◌++◌, Option, Some, None, Result, Ok, Err}
+use Rattle.bq_job.specs.History.{LineOver}
+use Rattle.bq_job.specs.LineSteps.{LineSeen}
+use Rattle.bq_line.specs.LineCalls.{new_line}
+
+-- A line on which nothing was done is out, or the door is at its end.
+abbrev pub IsOpened : {L E : Type 0} → (L → LineSeen) → Bool → Bool → Result (Option L) E → Type 0
+IsOpened seen is_out is_at_end (Ok (Some line)) = (is_out ≡ true) × (is_at_end ≡ false) × (seen line ≡ new_line)
+IsOpened seen is_out is_at_end (Ok None) = (is_out ≡ false) × (is_at_end ≡ true)
+IsOpened seen is_out is_at_end (Err e) = (is_out ≡ false) × (is_at_end ≡ true)
+
+-- This line is over: it comes behind those that were, where the door keeps them.
+abbrev pub IsLeftBy : LineOver → Option (List LineOver) → Option (List LineOver) → Type 0
+IsLeftBy line None new = new ≡ None
+IsLeftBy line (Some old) new = new ≡ Some (old ++ line ∷ [])

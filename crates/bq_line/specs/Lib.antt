@@ -1,0 +1,6 @@
+pub mod Doors
+pub mod LineCalls
+pub mod LineParts
+pub mod MemDoors
+pub mod ReadingNumbers
+pub mod ScriptPlace

@@ -1,0 +1,20 @@
+-- The lines of a door in memory.
+use Rattle.std.specs.Prelude.{◌≡◌}
+use Rattle.bq_job.specs.declared.line_end.LineEnd.{LineEnd}
+use Rattle.bq_job.specs.History.{LineOver}
+use Rattle.bq_line.specs.LineCalls.{new_line}
+use Rattle.bq_job.specs.LineSteps.{LineSeen}
+use Rattle.bq_line.specs.LineParts.{bytes_up_to}
+use Rattle.bq_line.specs.declared.line.mem_line.MemLine.{MemLine}
+
+-- what a line in memory tells of itself
+abbrev pub seen_of : MemLine → LineSeen
+seen_of line = record { read = bytes_up_to line.parts.items line.place line.offset; written = line.written.items; ended = line.ended; fault = line.fault }
+
+-- nothing was done on the line
+abbrev pub IsFresh : MemLine → Type 0
+IsFresh line = seen_of line ≡ new_line
+
+-- a line that was shut, as it tells itself
+abbrev pub line_over : MemLine × LineEnd → LineOver
+line_over over = record { seen = seen_of over.0; over = over.1 }

@@ -1,0 +1,56 @@
+//! Doors, at which clients come one after another.
+ghost use Rattle.std.specs.Prelude.{◌≡◌, Bool, List, Option, true, false};
+ghost use Rattle.bq_job.specs.History.{LineOver};
+ghost use Rattle.bq_line.specs.Doors.{IsLeftBy, IsOpened};
+
+pub use mem_door::MemDoor;
+pub use tcp_door::TcpDoor;
+
+mod mem_door;
+mod tcp_door;
+
+use crate::line::Line;
+use bq_job::LineEnd;
+use thiserror::Error;
+
+/// No line could be opened.
+#[derive(Clone, Copy, Debug, PartialEq, Eq, Error)]
+#[error("a connection could not be accepted")]
+pub struct DoorFault;
+
+impl DoorFault {
+    /// The number of this fault, 504.
+    pub fn code(self) -> u16
+        ensures { result ≡ 504 }
+    {
+        504
+    }
+}
+
+/// A door, which opens one line after another, one at a time.
+pub trait Door {
+    type Line: Line + Drop + Send;
+
+    /// Whether a line is out: it was opened, and isn't shut yet.
+    ghost is_out: { Self → Bool };
+
+    /// Whether no more lines come.
+    ghost is_at_end: { Self → Bool };
+
+    /// The lines that are over, in the order in which they were shut, where the door keeps them.
+    ghost lines_over: { Self → Option (List LineOver) };
+
+    /// The next line. None says that no more come, and so does a fault.
+    fn open(&mut self) -> Result<Option<Self::Line>, DoorFault>
+        requires inside { is_out self.old ≡ false }
+        requires more { is_at_end self.old ≡ false }
+        ensures opened { IsOpened Self.Line.seen (is_out self.new) (is_at_end self.new) result }
+        ensures over { lines_over self.new ≡ lines_over self.old };
+
+    /// Takes the line back that is out. It was over in this way.
+    fn shut(&mut self, line: Self::Line, end: LineEnd)
+        requires { is_out self.old ≡ true }
+        ensures inside { is_out self.new ≡ false }
+        ensures at_end { is_at_end self.new ≡ is_at_end self.old }
+        ensures over { IsLeftBy (record { seen = Self.Line.seen line; over = end }) (lines_over self.old) (lines_over self.new) };
+}

@@ -1,0 +1,99 @@
+ghost use Rattle.std.specs.Prelude.{◌≡◌, ◌≤◌, ◌+◌, ◌++◌, ◌∷◌, [], length, map, Some, true, false, IfOk, IfErr, vec_len, if◌then◌else◌, IsNone, ◌↔◌};
+ghost use Rattle.std.specs.List.{All};
+ghost use Rattle.std.specs.Option.{option_to_list};
+ghost use Rattle.std.specs.Vec.{vec_capacity};
+ghost use Rattle.bq_line.specs.Doors.{IsOpened};
+ghost use Rattle.bq_line.specs.MemDoors.{IsFresh, line_over};
+
+use super::{Door, DoorFault};
+use crate::line::{Line, MemLine};
+use bq_job::{LineEnd, NoMemory};
+use std::alloc::Global;
+use std::collections::VecDeque;
+
+/// A door in memory: lines that come one after another, and those that are over.
+#[derive(Debug, Drop)]
+pub struct MemDoor {
+    coming: VecDeque<MemLine, Global>,
+    over: Vec<(MemLine, LineEnd), Global>,
+    is_out: bool,
+    is_at_end: bool,
+    // There is room for each line that is out or comes.
+    ghost room: { vec_len over + (length coming.items + (if is_out then 1 else 0)) ≤ vec_capacity over },
+    ghost fresh: { All IsFresh coming.items },
+    ghost end: { is_at_end ≡ true → coming.items ≡ [] },
+}
+
+impl MemDoor {
+    /// A door at which these lines come, in this order; nothing was done on them. The memory for those that
+    /// are over is asked for here.
+    pub fn new(alloc: Global, lines: VecDeque<MemLine, Global>) -> Result<MemDoor, NoMemory>
+        requires { All IsFresh lines.items }
+        ensures coming { IfOk result (λ door. door.coming ≡ lines) }
+        ensures none_over { IfOk result (λ door. ⟦<MemDoor as Door>⟧.lines_over door ≡ Some []) }
+        ensures inside { IfOk result (λ door. ⟦<MemDoor as Door>⟧.is_out door ≡ false) }
+        ensures more { IfOk result (λ door. ⟦<MemDoor as Door>⟧.is_at_end door ≡ false) }
+    {
+        match Vec::with_capacity(alloc, lines.len()) {
+            Ok(over) => Ok(MemDoor {
+                coming: lines,
+                over,
+                is_out: false,
+                is_at_end: false,
+            }),
+            Err(_) => Err(NoMemory),
+        }
+    }
+
+    /// The lines that are over, in the order in which they were shut, each with its end.
+    pub fn over(&self) -> &[(MemLine, LineEnd)]
+        ensures { result.now ≡ self.now.over.items }
+    {
+        self.over.as_slice()
+    }
+
+    /// How many lines are still to come: none at a door that is at its end.
+    pub fn left(&self) -> usize
+        ensures left { result ≡ length self.now.coming.items }
+        ensures end { self.now.is_at_end ≡ true → result ≡ 0 }
+    {
+        self.coming.len()
+    }
+}
+
+impl Door for MemDoor {
+    type Line = MemLine;
+
+    ghost is_out = { λ door. door.is_out };
+
+    ghost is_at_end = { λ door. door.is_at_end };
+
+    ghost lines_over = { λ door. Some (map line_over door.over.items) };
+
+    fn open(&mut self) -> Result<Option<MemLine>, DoorFault>
+        requires inside { self.old.is_out ≡ false }
+        requires more { self.old.is_at_end ≡ false }
+        ensures opened { IsOpened ⟦<MemLine as Line>⟧.seen self.new.is_out self.new.is_at_end result }
+        ensures over { self.new.over ≡ self.old.over }
+        // The next line comes out, and none only where none is left.
+        ensures next { IfOk result (λ line. self.old.coming.items ≡ option_to_list line ++ self.new.coming.items) }
+        ensures last { IfOk result (λ line. IsNone line ↔ (self.old.coming.items ≡ [])) }
+        ensures no_fault { IfErr result (λ e. ⊥) }
+    {
+        match self.coming.pop_front() {
+            Some(line) => {
+                self.is_out = true;
+                Ok(Some(line))
+            }
+            None => {
+                self.is_at_end = true;
+                Ok(None)
+            }
+        }
+    }
+
+    fn shut(&mut self, line: MemLine, end: LineEnd) {
+        self.is_out = false;
+        self.over.push((line, end)).unwrap();
+    }
+}

@@ -1,0 +1,93 @@
+ghost use Rattle.std.specs.Prelude.{◌≡◌, ◌<◌, length, false, [], None};
+ghost use Rattle.std.specs.Io.{ReadsAtMost, WritesAtMost};
+ghost use Rattle.std.specs.Io.KnownBytes.{Keeps, ReadConsumes, WriteAppends};
+ghost use Rattle.bq_line.specs.LineCalls.{after_flush, after_read, after_write};
+
+use super::byte_record::ByteRecord;
+use super::{Line, is_nothing_yet, note_fault};
+use bq_job::LineFault;
+use std::io;
+use std::io::{Read, Write};
+
+/// A line over any stream. Beside the stream it keeps the two marks, and records of the bytes that the
+/// stream's reads gave and its writes took, which take no memory.
+#[derive(Debug, Drop)]
+pub struct IoLine<S> {
+    stream: S,
+    ended: bool,
+    fault: Option<LineFault>,
+    read: ByteRecord,
+    written: ByteRecord,
+}
+
+impl<S> IoLine<S> {
+    /// A line on which nothing was done.
+    pub fn new(stream: S) -> IoLine<S>
+        ensures { result ≡ record { stream = stream; ended = false; fault = None; read = []; written = [] } }
+    {
+        IoLine {
+            stream,
+            ended: false,
+            fault: None,
+            read: ByteRecord::new(),
+            written: ByteRecord::new(),
+        }
+    }
+
+    /// The stream, whatever was done on the line.
+    pub fn into_stream(self) -> S
+        ensures { result ≡ self.stream }
+    {
+        self.stream
+    }
+}
+
+// The clauses `stream` hold the line to its stream: where the stream tells the bytes that it has left and
+// that it holds, a line that answers other bytes than its stream, or makes no call, meets none of them.
+impl<S: Read + Write> Line for IoLine<S> {
+    ghost seen = { λ line. record { read = line.read; written = line.written; ended = line.ended; fault = line.fault } };
+
+    fn read(&mut self, buf: &mut [u8]) -> io::Result<usize>
+        requires { 0 < length buf.old }
+        ensures bound { ReadsAtMost result buf.new }
+        ensures seen { ⟦<IoLine<S> as Line>⟧.seen self.new ≡ after_read result buf.new (⟦<IoLine<S> as Line>⟧.seen self.old) }
+        ensures stream { ReadConsumes (S.remaining self.old.stream) (S.remaining self.new.stream) result buf.new }
+    {
+        let result = self.stream.read(buf);
+        match &result {
+            Ok(0) => self.ended = true,
+            Ok(count) => self.read.note(&buf[..*count]),
+            Err(e) => {
+                if !is_nothing_yet(e) {
+                    note_fault(&mut self.fault, LineFault::Read);
+                }
+            }
+        }
+        result
+    }
+
+    fn write(&mut self, buf: &[u8]) -> io::Result<usize>
+        requires { 0 < length buf.now }
+        ensures bound { WritesAtMost result buf.now }
+        ensures seen { ⟦<IoLine<S> as Line>⟧.seen self.new ≡ after_write result buf.now (⟦<IoLine<S> as Line>⟧.seen self.old) }
+        ensures stream { WriteAppends (S.contents self.old.stream) (S.contents self.new.stream) result buf.now }
+    {
+        let result = self.stream.write(buf);
+        match &result {
+            Ok(0) | Err(_) => note_fault(&mut self.fault, LineFault::Write),
+            Ok(count) => self.written.note(&buf[..*count]),
+        }
+        result
+    }
+
+    fn flush(&mut self) -> io::Result<()>
+        ensures seen { ⟦<IoLine<S> as Line>⟧.seen self.new ≡ after_flush result (⟦<IoLine<S> as Line>⟧.seen self.old) }
+        ensures stream { Keeps (S.contents self.old.stream) (S.contents self.new.stream) }
+    {
+        let result = self.stream.flush();
+        if result.is_err() {
+            note_fault(&mut self.fault, LineFault::Write);
+        }
+        result
+    }
+}

@@ -1,0 +1,169 @@
+ghost use Rattle.std.specs.Prelude.{◌≡◌, ◌≤◌, ◌<◌, ◌+◌, length, vec_len, min, take, slice_get, IfOk, IsOk, IsErr, IfSome, false, true};
+ghost use Rattle.std.specs.Io.{ReadsAtMost, WritesAtMost};
+ghost use Rattle.std.specs.Vec.{vec_capacity};
+ghost use Rattle.bq_line.specs.LineCalls.{after_flush, after_read, after_write, new_line};
+ghost use Rattle.bq_line.specs.LineParts.{IsAnsweredBy, bytes_up_to, is_over, open_place, place_after};
+
+use super::{Line, note_fault};
+use bq_job::{LineFault, NoMemory};
+use std::alloc::Global;
+use std::io;
+use std::io::ErrorKind;
+
+/// A part of what a client in memory does.
+#[derive(Debug, Drop)]
+pub enum Part {
+    /// It sends these bytes. A part without bytes gives none, and is no end of the input.
+    Bytes(Vec<u8, Global>),
+    /// It sends no more until so many bytes were written to it.
+    AfterWritten(usize),
+    /// Its line fails: one read is answered by a fault.
+    Fault,
+}
+
+/// A line to a client in memory: a list of parts, behind which the input ends, and room for the bytes
+/// that are written.
+#[derive(Debug, Drop)]
+pub struct MemLine {
+    parts: Vec<Part, Global>,
+    // How many parts are over, and how many bytes of the next one were read.
+    place: usize,
+    offset: usize,
+    written: Vec<u8, Global>,
+    // How many bytes can still be written.
+    room: usize,
+    ended: bool,
+    fault: Option<LineFault>,
+    ghost fits: { vec_len written + room ≤ vec_capacity written },
+    // Its input has ended only where no part is left.
+    ghost none_left: { ended ≡ true → vec_len parts ≤ place },
+}
+
+impl MemLine {
+    /// A line of these parts, to which `room` bytes can be written. Their memory is asked for here.
+    pub fn new(alloc: Global, parts: Vec<Part, Global>, room: usize) -> Result<MemLine, NoMemory>
+        ensures parts { IfOk result (λ line. line.parts ≡ parts) }
+        ensures room { IfOk result (λ line. line.room ≡ room) }
+        ensures unused { IfOk result (λ line. ⟦<MemLine as Line>⟧.seen line ≡ new_line) }
+        ensures at_first { IfOk result (λ line. (line.place ≡ 0) × (line.offset ≡ 0)) }
+    {
+        match Vec::with_capacity(alloc, room) {
+            Ok(written) => Ok(MemLine {
+                parts,
+                place: 0,
+                offset: 0,
+                written,
+                room,
+                ended: false,
+                fault: None,
+            }),
+            Err(_) => Err(NoMemory),
+        }
+    }
+
+    /// The bytes that were written to the line.
+    pub fn written(&self) -> &[u8]
+        ensures { result.now ≡ self.now.written.items }
+    {
+        self.written.as_slice()
+    }
+}
+
+impl Line for MemLine {
+    ghost seen = { λ line. record { read = bytes_up_to line.parts.items line.place line.offset; written = line.written.items; ended = line.ended; fault = line.fault } };
+
+    fn read(&mut self, buf: &mut [u8]) -> io::Result<usize>
+        requires { 0 < length buf.old }
+        ensures bound { ReadsAtMost result buf.new }
+        ensures seen { ⟦<MemLine as Line>⟧.seen self.new ≡ after_read result buf.new (⟦<MemLine as Line>⟧.seen self.old) }
+        // The first part that isn't over answers, and no other is passed.
+        ensures answered { IsAnsweredBy (slice_get self.old.parts.items (open_place self.old.parts.items self.old.place self.old.offset (vec_len self.old.written))) result }
+        ensures place { self.new.place ≡ place_after (slice_get self.old.parts.items (open_place self.old.parts.items self.old.place self.old.offset (vec_len self.old.written))) (open_place self.old.parts.items self.old.place self.old.offset (vec_len self.old.written)) }
+        ensures parts { self.new.parts ≡ self.old.parts }
+        ensures room { self.new.room ≡ self.old.room }
+    {
+        let (place, offset) = next_open(&self.parts, self.place, self.offset, self.written.len());
+        self.place = place;
+        self.offset = offset;
+        match self.parts.get(place) {
+            None => {
+                self.ended = true;
+                Ok(0)
+            }
+            Some(Part::Bytes(bytes)) => {
+                let count = copy_first(&bytes[offset..], buf);
+                self.offset = offset + count;
+                Ok(count)
+            }
+            Some(Part::AfterWritten(_)) => Err(io::Error::from(ErrorKind::WouldBlock)),
+            Some(Part::Fault) => {
+                self.place = place + 1;
+                self.offset = 0;
+                note_fault(&mut self.fault, LineFault::Read);
+                Err(io::Error::from(ErrorKind::BrokenPipe))
+            }
+        }
+    }
+
+    fn write(&mut self, buf: &[u8]) -> io::Result<usize>
+        requires { 0 < length buf.now }
+        ensures bound { WritesAtMost result buf.now }
+        ensures seen { ⟦<MemLine as Line>⟧.seen self.new ≡ after_write result buf.now (⟦<MemLine as Line>⟧.seen self.old) }
+        // As many bytes as fit are taken. Only where none does is there a fault.
+        ensures taken { IfOk result (λ count. (count ≡ min (length buf.now) self.old.room) × (self.new.room + count ≡ self.old.room)) }
+        ensures full { IsErr result → (self.old.room ≡ 0) × (self.new.room ≡ 0) }
+        ensures parts { (self.new.parts ≡ self.old.parts) × (self.new.place ≡ self.old.place) × (self.new.offset ≡ self.old.offset) }
+    {
+        let count = buf.len().min(self.room);
+        if count == 0 {
+            note_fault(&mut self.fault, LineFault::Write);
+            return Err(io::Error::from(ErrorKind::StorageFull));
+        }
+        let _fits = self.written.extend_from_slice(&buf[..count]);
+        self.room -= count;
+        Ok(count)
+    }
+
+    fn flush(&mut self) -> io::Result<()>
+        ensures seen { ⟦<MemLine as Line>⟧.seen self.new ≡ after_flush result (⟦<MemLine as Line>⟧.seen self.old) }
+        ensures nothing { IsOk result × (self.new ≡ self.old) }
+    {
+        Ok(())
+    }
+}
+
+// Whether a part is over, once so many bytes of it were read and so many were written to the line.
+fn is_over(part: &Part, offset: usize, written: usize) -> bool
+    ensures { result ≡ is_over offset written part.now }
+{
+    match part {
+        Part::Bytes(bytes) => bytes.len() <= offset,
+        Part::AfterWritten(count) => *count <= written,
+        Part::Fault => false,
+    }
+}
+
+// The place and the offset from which the line goes on: parts that are over are passed.
+fn next_open(parts: &[Part], place: usize, offset: usize, written: usize) -> (usize, usize)
+    ensures same { bytes_up_to parts.now result.0 result.1 ≡ bytes_up_to parts.now place offset }
+    ensures open { IfSome (slice_get parts.now result.0) (λ part. is_over result.1 written part ≡ false) }
+    ensures place { result.0 ≡ open_place parts.now place offset written }
+{
+    let mut at = place;
+    let mut from = offset;
+    while at < parts.len() && is_over(&parts[at], from, written) {
+        at += 1;
+        from = 0;
+    }
+    (at, from)
+}
+
+// Copies as many first bytes as there is room for, and says how many.
+fn copy_first(bytes: &[u8], buf: &mut [u8]) -> usize
+    ensures count { result ≡ min (length bytes.now) (length buf.old) }
+    ensures copied { take result buf.new ≡ take result bytes.now }
+{
+    let count = bytes.len().min(buf.len());
+    buf[..count].copy_from_slice(&bytes[..count]);
+    count
+}
