@@ -2,8 +2,8 @@
 use Rattle.std.specs.Prelude.{ℕ, List, codes}
 use Rattle.bq_cli.specs.declared.server.ServeFault.{ServeFault}
 use Rattle.bq_cli.specs.declared.server.ServeFault.TheVariants as faults
-use Rattle.bq_serve.specs.declared.fault.RunFault.{RunFault}
-use Rattle.bq_serve.specs.declared.fault.RunFault.TheVariants as runs
+use Rattle.bq_desk.specs.declared.fault.RunFault.{RunFault}
+use Rattle.bq_desk.specs.declared.fault.RunFault.TheVariants as runs
 
 abbrev pub fault_of_run : RunFault → ServeFault
 fault_of_run runs.NoMemory = faults.NoMemory

@@ -2,7 +2,7 @@
 ghost use Rattle.std.specs.Prelude.{◌≡◌, ◌≤◌, IfOk};
 ghost use Rattle.bq_cli.specs.FaultTexts.{fault_of_run, serve_fault_text};
 ghost use Rattle.std.specs.List.{All};
-ghost use Rattle.bq_serve.specs.Tending.{IsNewDoor, door_seen};
+ghost use Rattle.bq_desk.specs.Tending.{IsNewDoor, door_seen};
 
 use crate::chosen::Options;
 use bq_core::Config;

@@ -15,12 +15,12 @@ use Rattle.bq_job.specs.Runs.{Entry, Run, answers_to}
 use Rattle.bq_seat.specs.declared.machine.Action.{Action}
 use Rattle.bq_seat.specs.declared.machine.Action.TheVariants as actions
 use Rattle.bq_seat.specs.declared.machine.SeatMachine.{SeatMachine}
-use Rattle.bq_serve.specs.Attending.{IsOnLine}
-use Rattle.bq_serve.specs.Carried.{Carried}
-use Rattle.bq_serve.specs.DeskState.{DeskState, IsNewDesk, waiting}
-use Rattle.bq_serve.specs.DeskWent.{SeatWent}
-use Rattle.bq_serve.proofs.DeskLemmas.{seat_none, seat_on}
-use Rattle.bq_serve.proofs.SeatLemmas.{carried_on, line_served}
+use Rattle.bq_desk.specs.Attending.{IsOnLine}
+use Rattle.bq_desk.specs.Carried.{Carried}
+use Rattle.bq_desk.specs.DeskState.{DeskState, IsNewDesk, waiting}
+use Rattle.bq_desk.specs.DeskWent.{SeatWent}
+use Rattle.bq_desk.proofs.DeskLemmas.{seat_none, seat_on}
+use Rattle.bq_desk.proofs.SeatLemmas.{carried_on, line_served}
 
 -- From a new desk on, the seat alone did what its line was served with.
 pub record IsServingAlone (settings : Settings) (seat : ℕ) (readings : List (Option ℕ)) (desk : DeskState) (machine : SeatMachine) (seen : LineSeen) (action : Action) : Type 0 where

@@ -7,7 +7,7 @@ use Rattle.bq_job.specs.declared.answer.Answer.{Answer}
 use Rattle.bq_job.specs.Dispatch.{GivenAnswer}
 use Rattle.bq_job.specs.Runs.{answers_to}
 use Rattle.bq_job.proofs.OneClientLemmas.{answers_append}
-use Rattle.bq_serve.specs.LastParts.{last_part}
+use Rattle.bq_desk.specs.LastParts.{last_part}
 use Rattle.bq_serve.specs.LockedState.{AreFew, outbox_at}
 use Rattle.bq_serve.specs.LockedSteps.{AreDelivered}
 use Rattle.bq_serve.proofs.LastPartLemmas.{all_of_few, last_are_few, last_then}

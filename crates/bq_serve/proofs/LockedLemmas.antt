@@ -16,7 +16,7 @@ use Rattle.bq_job.specs.Steps.{IsStep, Outcome}
 use Rattle.bq_job.proofs.LawfulLemmas.{new_is_lawful}
 use Rattle.bq_job.proofs.OneClientLemmas.{answers_append}
 use Rattle.bq_job.proofs.ReplayLemmas.{replay_more, replay_none}
-use Rattle.bq_serve.specs.LastParts.{EndsWith, last_part}
+use Rattle.bq_desk.specs.LastParts.{EndsWith, last_part}
 use Rattle.bq_serve.specs.LockedState.{IsLawfulHold, IsReplayed, JournalState, LockedState, locked_of, new_locked, outbox_at}
 use Rattle.bq_serve.specs.LockedSteps.{AreDelivered, IsAdded, IsLeftOut, TakesStep, with_entry, without_entry}
 use Rattle.bq_serve.proofs.DeliveryLemmas.{few_delivered, outbox_past}

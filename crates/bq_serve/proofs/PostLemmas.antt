@@ -8,11 +8,11 @@ use Rattle.bq_seat.specs.SeatStands.{awaited}
 use Rattle.bq_job.specs.declared.step.Step.{Step}
 use Rattle.bq_job.specs.declared.answer.Answer.{Answer}
 use Rattle.bq_serve.specs.LockedRuns.{IsServedToEnd}
-use Rattle.bq_serve.specs.Tending.{AreKept, DoorSeen, IsTended, attendant, door_seen}
-use Rattle.bq_serve.specs.declared.run.attendant.Attendant.{Attendant}
-use Rattle.bq_serve.specs.declared.run.attendant.Place.{Place}
-use Rattle.bq_serve.specs.declared.run.attendant.Place.TheVariants as places
-use Rattle.bq_serve.proofs.TendingLemmas.{tended_done, tended_new}
+use Rattle.bq_desk.specs.Tending.{AreKept, DoorSeen, IsTended, attendant, door_seen}
+use Rattle.bq_desk.specs.declared.attendant.Attendant.{Attendant}
+use Rattle.bq_desk.specs.declared.attendant.Place.{Place}
+use Rattle.bq_desk.specs.declared.attendant.Place.TheVariants as places
+use Rattle.bq_desk.proofs.TendingLemmas.{tended_done, tended_new}
 
 none : (lines : List LineOver) → length lines ≡ 0 → [] ≡ lines
 none [] h = refl

@@ -14,16 +14,16 @@ use Rattle.bq_job.specs.Machine.{Machine, Settings}
 use Rattle.bq_job.specs.Runs.{Entry, GoesBy, Run, Transition, answers_to}
 use Rattle.bq_job.specs.SeatDid.{IsSeatDone}
 use Rattle.bq_job.specs.Steps.{IsStep, Outcome}
-use Rattle.bq_serve.specs.DeskState.{DeskState, IsNewDesk, waiting}
-use Rattle.bq_serve.specs.DeskWent.{SeatWent}
+use Rattle.bq_desk.specs.DeskState.{DeskState, IsNewDesk, waiting}
+use Rattle.bq_desk.specs.DeskWent.{SeatWent}
 use Rattle.bq_serve.specs.Sessions.{AreAllKept}
-use Rattle.bq_serve.specs.Tending.{AreKept, DoorSeen, IsNewDoor, IsNewSeat, IsTended, attendant}
+use Rattle.bq_desk.specs.Tending.{AreKept, DoorSeen, IsNewDoor, IsNewSeat, IsTended, attendant}
 use Rattle.bq_serve.specs.Turns.{AreDone, AreServed}
-use Rattle.bq_serve.specs.declared.run.attendant.Attendant.{Attendant}
-use Rattle.bq_serve.specs.declared.run.attendant.Place.{Place}
-use Rattle.bq_serve.specs.declared.run.attendant.Place.TheVariants.{Done}
+use Rattle.bq_desk.specs.declared.attendant.Attendant.{Attendant}
+use Rattle.bq_desk.specs.declared.attendant.Place.{Place}
+use Rattle.bq_desk.specs.declared.attendant.Place.TheVariants.{Done}
 use Rattle.bq_serve.proofs.AloneLemmas.{new_mails_are, none_waits}
-use Rattle.bq_serve.proofs.TendingLemmas.{tended_done, tended_new}
+use Rattle.bq_desk.proofs.TendingLemmas.{tended_done, tended_new}
 
 -- A further element passes too.
 pub all_more : {X : Type 0} (P : X → Type 0) (xs : List X) (x : X) → All P xs → P x → All P (xs ++ x ∷ [])

@@ -7,16 +7,16 @@ use Rattle.bq_job.specs.declared.answer.Answer.{Answer}
 use Rattle.bq_job.specs.declared.step.Step.{Step}
 use Rattle.bq_job.specs.History.{steps_at}
 use Rattle.bq_job.specs.LineSteps.{LineSeen}
-use Rattle.bq_serve.specs.DeskOf.{WentAt, state_of}
-use Rattle.bq_serve.specs.DeskState.{DeskState}
-use Rattle.bq_serve.specs.DeskWent.{SeatWent}
-use Rattle.bq_serve.specs.Links.{Calls}
-use Rattle.bq_serve.specs.Tending.{DoorSeen, GoesOn, IsPlaced, IsTended, Tends}
+use Rattle.bq_desk.specs.DeskOf.{WentAt, state_of}
+use Rattle.bq_desk.specs.DeskState.{DeskState}
+use Rattle.bq_desk.specs.DeskWent.{SeatWent}
+use Rattle.bq_desk.specs.Links.{Calls}
+use Rattle.bq_desk.specs.Tending.{DoorSeen, GoesOn, IsPlaced, IsTended, Tends}
 use Rattle.bq_serve.specs.Turns.{AreServed, AreSomehowServed, ServesOn}
-use Rattle.bq_serve.specs.declared.run.attendant.Attendant.{Attendant}
-use Rattle.bq_serve.specs.declared.run.attendant.Place.TheVariants.{Done}
-use Rattle.bq_serve.specs.declared.run.desk.Desk.{Desk}
-use Rattle.bq_serve.proofs.DeskLemmas.{desk_on, gave_none, gave_then, steps_append, went_none}
+use Rattle.bq_desk.specs.declared.attendant.Attendant.{Attendant}
+use Rattle.bq_desk.specs.declared.attendant.Place.TheVariants.{Done}
+use Rattle.bq_desk.specs.declared.desk.Desk.{Desk}
+use Rattle.bq_desk.proofs.DeskLemmas.{desk_on, gave_none, gave_then, steps_append, went_none}
 
 -- what a seat's calls at the desk came to
 went_by : {C : Type 0} (given : C → List (Option ℕ) → C → Type 0) (seat : ℕ) (old new : Desk C) (submitted : List Step) (taken : List Answer)

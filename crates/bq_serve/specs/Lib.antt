@@ -1,12 +1,3 @@
-pub mod Attending
-pub mod Carried
-pub mod ControlRead
-pub mod DeskOf
-pub mod DeskState
-pub mod DeskWent
-pub mod FaultCodes
-pub mod LastParts
-pub mod Links
 pub mod LockedDesks
 pub mod LockedRuns
 pub mod LockedState
@@ -14,7 +5,4 @@ pub mod LockedSteps
 pub mod RunSettings
 pub mod Rung
 pub mod Sessions
-pub mod Tending
-pub mod TimePassing
 pub mod Turns
-pub mod Writing

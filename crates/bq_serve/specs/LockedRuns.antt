@@ -4,7 +4,7 @@ use Rattle.bq_job.specs.declared.answer.Answer.{Answer}
 use Rattle.bq_job.specs.declared.step.Step.{Step}
 use Rattle.bq_job.specs.History.{LineOver}
 use Rattle.bq_job.specs.SeatDid.{IsSeatDone}
-use Rattle.bq_serve.specs.Tending.{AreKept, DoorSeen}
+use Rattle.bq_desk.specs.Tending.{AreKept, DoorSeen}
 
 -- A door that was served to its end by a seat. These lines of it are over, where it keeps them. For each the
 -- seat submitted the line's steps, took an answer to each of its requests, and wrote these answers; and then

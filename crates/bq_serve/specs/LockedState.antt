@@ -7,7 +7,7 @@ use Rattle.bq_job.specs.Lawful.{IsLawful}
 use Rattle.bq_job.specs.Machine.{Machine, Settings, new_machine}
 use Rattle.bq_job.specs.Replay.{Replay}
 use Rattle.bq_job.specs.Runs.{answers_to}
-use Rattle.bq_serve.specs.LastParts.{EndsWith}
+use Rattle.bq_desk.specs.LastParts.{EndsWith}
 
 -- the entries of a journal, for how many it has room in all, and whether it tells all that happened
 pub record JournalState : Type 0 where

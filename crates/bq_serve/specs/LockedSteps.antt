@@ -7,7 +7,7 @@ use Rattle.bq_job.specs.Dispatch.{GivenAnswer}
 use Rattle.bq_job.specs.Runs.{answers_to}
 use Rattle.bq_job.specs.StepBody.{has_body}
 use Rattle.bq_job.specs.Steps.{IsStep, Outcome}
-use Rattle.bq_serve.specs.LastParts.{last_part}
+use Rattle.bq_desk.specs.LastParts.{last_part}
 use Rattle.bq_serve.specs.LockedState.{JournalState, LockedState, outbox_at}
 
 -- The answers went into the outboxes of their seats, each of which keeps the last four.

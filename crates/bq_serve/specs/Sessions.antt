@@ -4,8 +4,8 @@ use Rattle.bq_core.specs.State.{settings_of}
 use Rattle.bq_core.specs.declared.config.Config.{Config}
 use Rattle.bq_job.specs.Headline.{IsHistoryOf}
 use Rattle.bq_job.specs.History.{LineOver}
-use Rattle.bq_serve.specs.ControlRead.{IsReadToEnd}
-use Rattle.bq_serve.specs.Tending.{AreKept}
+use Rattle.bq_desk.specs.ControlRead.{IsReadToEnd}
+use Rattle.bq_desk.specs.Tending.{AreKept}
 use Rattle.bq_serve.specs.declared.run.sessions.Run.{Run}
 
 -- these lines are over at each door, where it keeps them

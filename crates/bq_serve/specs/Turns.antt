@@ -5,13 +5,13 @@ use Rattle.bq_job.specs.declared.step.Step.{Step}
 use Rattle.bq_job.specs.History.{steps_at}
 use Rattle.bq_job.specs.LineSteps.{LineSeen}
 use Rattle.bq_job.specs.Runs.{Entry}
-use Rattle.bq_serve.specs.DeskOf.{GaveReadings, state_of}
-use Rattle.bq_serve.specs.DeskState.{DeskState}
-use Rattle.bq_serve.specs.DeskWent.{DeskWent}
-use Rattle.bq_serve.specs.Tending.{DoorSeen, IsTended}
-use Rattle.bq_serve.specs.declared.run.attendant.Attendant.{Attendant}
-use Rattle.bq_serve.specs.declared.run.attendant.Place.TheVariants.{Done}
-use Rattle.bq_serve.specs.declared.run.desk.Desk.{Desk}
+use Rattle.bq_desk.specs.DeskOf.{GaveReadings, state_of}
+use Rattle.bq_desk.specs.DeskState.{DeskState}
+use Rattle.bq_desk.specs.DeskWent.{DeskWent}
+use Rattle.bq_desk.specs.Tending.{DoorSeen, IsTended}
+use Rattle.bq_desk.specs.declared.attendant.Attendant.{Attendant}
+use Rattle.bq_desk.specs.declared.attendant.Place.TheVariants.{Done}
+use Rattle.bq_desk.specs.declared.desk.Desk.{Desk}
 
 -- What was served so far, from the first desk on, at which each seat has its mail. The core took the steps of
 -- one history. Each seat did what the history has at it, and took what was taken out of its mail; the seat

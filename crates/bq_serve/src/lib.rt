@@ -1,11 +1,10 @@
 //! Serving clients over lines of bytes.
 #![tactic(auto)]
 
+pub use bq_desk::RunFault;
 pub use bq_line::{Door, DoorFault, MemDoor, TcpDoor, clock, line};
-pub use fault::RunFault;
 pub use locked::Locked;
 pub use run::{LockedRun, One, Run, run_locked, run_one, run_sessions};
 
-mod fault;
 mod locked;
 mod run;

@@ -9,8 +9,8 @@ ghost use Rattle.bq_serve.specs.LockedSteps.{TakesStep};
 mod journal;
 mod outboxes;
 
-use crate::RunFault;
 use bq_core::{Config, Core, CoreFault, Outs};
+use bq_desk::RunFault;
 use bq_job::{Answer, Entry, Moment, Seat, Step};
 use journal::Journal;
 use outboxes::Outboxes;

@@ -5,8 +5,8 @@ ghost use Rattle.bq_job.specs.Dispatch.{GivenAnswer};
 ghost use Rattle.bq_serve.specs.LockedState.{AreFew, outbox_at};
 ghost use Rattle.bq_serve.specs.LockedSteps.{AreDelivered};
 
-use crate::run::mail::{Mail, new_mails};
 use bq_core::Outs;
+use bq_desk::mail::{Mail, new_mails};
 use bq_job::{Answer, NoMemory, Seat};
 use std::alloc::Global;
 

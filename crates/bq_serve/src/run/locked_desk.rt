@@ -2,9 +2,9 @@
 ghost use Rattle.std.specs.Prelude.{◌≡◌, ◌≤◌};
 
 use super::bells::Rings;
-use super::desk::moment_heard;
 use super::shared_desk::{LONGEST_REST, Look, SharedDesk};
 use crate::locked::Locked;
+use bq_desk::desk::moment_heard;
 use bq_job::{Answer, Moment, Seat, Step};
 use bq_line::clock::Clock;
 use std::sync::{Mutex, Wait};
@@ -19,7 +19,7 @@ pub struct LockedDesk<C> {
 
 impl<C: Clock + Drop> LockedDesk<C> {
     ghost use Rattle.bq_job.specs.NextDue.{next_due};
-    ghost use Rattle.bq_serve.specs.DeskOf.{GaveReadings};
+    ghost use Rattle.bq_desk.specs.DeskOf.{GaveReadings};
     ghost use Rattle.bq_serve.specs.LockedDesks.{EndsInTime, HasLooked, HasPassed, HasServed, HasTaken};
     ghost use Rattle.bq_serve.specs.Rung.{AreRung, AreRungByTick, others};
     ghost use Rattle.std.specs.Prelude.{[], ◌∷◌};

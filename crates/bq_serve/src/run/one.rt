@@ -4,11 +4,11 @@ ghost use Rattle.bq_job.specs.Headline.{IsHistoryOfLine};
 ghost use Rattle.bq_line.specs.LineCalls.{new_line};
 ghost use Rattle.bq_serve.specs.RunSettings.{is_lone};
 
-use super::client::Room;
-use super::desk::Desk;
-use super::desk_seat::act;
-use crate::RunFault;
 use bq_core::Config;
+use bq_desk::RunFault;
+use bq_desk::client::Room;
+use bq_desk::desk::Desk;
+use bq_desk::desk_seat::act;
 use bq_job::{LineEnd, Seat, line_joins};
 use bq_line::clock::Clock;
 use bq_line::line::Line;

@@ -1,6 +1,6 @@
 use Rattle.std.proofs.Common.{None}
 use Rattle.std.specs.List.{All}
-use Rattle.bq_serve.specs.Tending.{IsNewDoor}
+use Rattle.bq_desk.specs.Tending.{IsNewDoor}
 use Rattle.bq_line.specs.declared.door.tcp_door.TcpDoor.{TcpDoor}
 use Rattle.bq_cli.proofs.server.new_doors.Given as goal
 

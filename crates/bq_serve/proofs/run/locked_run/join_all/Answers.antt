@@ -1,7 +1,7 @@
 use Rattle.std.proofs.Common.{◌≡◌, arith, subst}
 use Rattle.std.specs.Prelude.{IfSome}
 use Rattle.bq_serve.specs.LockedRuns.{IsServedToEnd}
-use Rattle.bq_serve.specs.Tending.{door_seen}
+use Rattle.bq_desk.specs.Tending.{door_seen}
 use Rattle.bq_serve.specs.declared.run.locked_run.Served.{Served}
 use Rattle.bq_serve.proofs.ListLemmas.{all_pushed, first_passes, rest_passes}
 use Rattle.bq_serve.proofs.run.locked_run.join_all.Goals as goal

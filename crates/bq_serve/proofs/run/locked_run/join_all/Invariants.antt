@@ -1,7 +1,7 @@
 use Rattle.std.proofs.Common.{◌≡◌, ◌+◌, vec_len}
 use Rattle.std.specs.List.{All}
 use Rattle.bq_serve.specs.LockedRuns.{IsServedToEnd}
-use Rattle.bq_serve.specs.Tending.{door_seen}
+use Rattle.bq_desk.specs.Tending.{door_seen}
 use Rattle.bq_serve.proofs.run.locked_run.join_all.Given as goal
 
 abbrev pub invariant-loop-thread : goal.invariant-loop-thread

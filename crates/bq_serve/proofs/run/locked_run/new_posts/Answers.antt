@@ -1,7 +1,7 @@
 use Rattle.std.proofs.Common.{◌≡◌, ◌-◌, List, subst, sym, arith, vec_len}
 use Rattle.std.specs.List.{All}
 use Rattle.std.proofs.lemmas.List.Elements.{All-take}
-use Rattle.bq_serve.specs.Tending.{IsNewDoor, door_seen}
+use Rattle.bq_desk.specs.Tending.{IsNewDoor, door_seen}
 use Rattle.bq_serve.proofs.ListLemmas.{all_pushed}
 use Rattle.bq_serve.proofs.run.locked_run.new_posts.Goals as goal
 

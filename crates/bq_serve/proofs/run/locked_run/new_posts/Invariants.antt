@@ -1,6 +1,6 @@
 use Rattle.std.proofs.Common.{◌≡◌, ◌≤◌, ◌+◌, vec_len}
 use Rattle.std.specs.List.{All}
-use Rattle.bq_serve.specs.Tending.{IsNewDoor, door_seen}
+use Rattle.bq_desk.specs.Tending.{IsNewDoor, door_seen}
 use Rattle.bq_serve.proofs.run.locked_run.new_posts.Given as goal
 
 abbrev pub invariant-loop-door : goal.invariant-loop-door

@@ -1,9 +1,9 @@
 use Rattle.std.proofs.Common.{[], ◌++◌, ◌≡◌, ◌<◌, ◌∙◌, ap, sym, subst, arith}
 use Rattle.bq_core.specs.State.{settings_of}
 use Rattle.bq_seat.specs.declared.machine.Action.TheVariants as actions
-use Rattle.bq_serve.specs.DeskOf.{state_of}
+use Rattle.bq_desk.specs.DeskOf.{state_of}
 use Rattle.bq_serve.proofs.AloneLemmas.{IsServingAlone, begins_alone, goes_on_alone, new_mails_are, over_alone}
-use Rattle.bq_serve.proofs.SeatLemmas.{opened_on}
+use Rattle.bq_desk.proofs.SeatLemmas.{opened_on}
 use Rattle.bq_serve.proofs.run.one.run_one.Goals as goal
 
 pub loop-init : goal.loop-init

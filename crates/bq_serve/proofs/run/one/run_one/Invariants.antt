@@ -1,7 +1,7 @@
 use Rattle.std.proofs.Common.{◌<◌, ℕ, List, Option, length}
 use Rattle.bq_core.specs.State.{settings_of}
-use Rattle.bq_serve.specs.DeskOf.{state_of}
-use Rattle.bq_serve.specs.DeskState.{HasMails}
+use Rattle.bq_desk.specs.DeskOf.{state_of}
+use Rattle.bq_desk.specs.DeskState.{HasMails}
 use Rattle.bq_serve.proofs.AloneLemmas.{IsServingAlone}
 use Rattle.bq_serve.proofs.run.one.run_one.Given as goal
 

@@ -4,11 +4,11 @@ use Rattle.std.proofs.lemmas.Bool.{cases_Bool, eq-eqb}
 use Rattle.std.proofs.lemmas.List.{with_items_is}
 use Rattle.bq_core.specs.Limits.{is_body_size, is_seat_count}
 use Rattle.bq_core.specs.State.{settings_of}
-use Rattle.bq_serve.specs.DeskOf.{state_of}
+use Rattle.bq_desk.specs.DeskOf.{state_of}
 use Rattle.bq_serve.specs.Sessions.{AreAllKept}
-use Rattle.bq_serve.specs.Tending.{IsNewDoor, IsNewSeat, door_seen}
+use Rattle.bq_desk.specs.Tending.{IsNewDoor, IsNewSeat, door_seen}
 use Rattle.bq_serve.specs.Turns.{AreServed}
-use Rattle.bq_serve.specs.declared.run.attendant.Attendant.{Attendant}
+use Rattle.bq_desk.specs.declared.attendant.Attendant.{Attendant}
 use Rattle.bq_serve.proofs.AloneLemmas.{new_mails_are}
 use Rattle.bq_serve.proofs.SessionsLemmas.{begins_served, ends_closed, ends_joined, ends_settings}
 use Rattle.bq_serve.proofs.run.sessions.run_sessions.Goals as goal

@@ -1,11 +1,11 @@
 use Rattle.std.proofs.Common.{◌≡◌, ◌<◌, ℕ}
 use Rattle.std.specs.Prelude.{slice_index_or}
-use Rattle.bq_serve.specs.DeskOf.{state_of}
-use Rattle.bq_serve.specs.DeskState.{HasMails}
-use Rattle.bq_serve.specs.Tending.{door_seen}
+use Rattle.bq_desk.specs.DeskOf.{state_of}
+use Rattle.bq_desk.specs.DeskState.{HasMails}
+use Rattle.bq_desk.specs.Tending.{door_seen}
 use Rattle.bq_serve.specs.Turns.{ServesOn}
-use Rattle.bq_serve.specs.declared.run.attendant.Attendant.{Attendant}
-use Rattle.bq_serve.specs.declared.run.attendant.Place.TheVariants.{Done}
+use Rattle.bq_desk.specs.declared.attendant.Attendant.{Attendant}
+use Rattle.bq_desk.specs.declared.attendant.Place.TheVariants.{Done}
 use Rattle.bq_serve.specs.declared.run.sessions.Round.TheVariants.{Over}
 use Rattle.bq_serve.proofs.run.sessions.serve_round.Given as goal
 

@@ -1,4 +1,4 @@
-use Rattle.bq_serve.specs.Tending.{door_seen}
+use Rattle.bq_desk.specs.Tending.{door_seen}
 use Rattle.bq_serve.proofs.TurnsLemmas.{serves_none, serves_then, somehow_on}
 use Rattle.bq_serve.proofs.run.sessions.serve_seats.Goals as goal
 

@@ -1,6 +1,6 @@
-use Rattle.bq_serve.specs.DeskOf.{state_of}
-use Rattle.bq_serve.specs.DeskState.{HasMails}
-use Rattle.bq_serve.specs.Tending.{door_seen}
+use Rattle.bq_desk.specs.DeskOf.{state_of}
+use Rattle.bq_desk.specs.DeskState.{HasMails}
+use Rattle.bq_desk.specs.Tending.{door_seen}
 use Rattle.bq_serve.specs.Turns.{ServesOn}
 use Rattle.bq_serve.proofs.run.sessions.serve_seats.Given as goal
 

@@ -1,5 +1,5 @@
 use Rattle.std.proofs.Common.{◌++◌, ℕ, [], subst}
-use Rattle.bq_serve.specs.Tending.{IsTended, door_seen}
+use Rattle.bq_desk.specs.Tending.{IsTended, door_seen}
 use Rattle.bq_serve.proofs.PostLemmas.{tended_first}
 use Rattle.bq_serve.proofs.run.post.Post.serve.Goals as goal
 

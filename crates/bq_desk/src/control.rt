@@ -1,0 +1,229 @@
+//! The control line, whose lines `drain` begin the drain.
+ghost use Rattle.std.specs.Prelude.{◌≡◌, ◌≤◌, ◌++◌, ◌∷◌, [], ℕ, Bool, List, length, replicate, take, IfErr, IsTrue, false};
+ghost use Rattle.bq_job.specs.ControlDid.{IsControlDone, are_same, drain_word, drains, one_if};
+ghost use Rattle.bq_job.specs.declared.step.Step.{Step};
+ghost use Rattle.bq_desk.specs.ControlRead.{HasLooked, HasRead, IsReadToEnd, SubmitsOn};
+ghost use Rattle.bq_desk.specs.DeskOf.{WentAt, state_of};
+ghost use Rattle.bq_desk.specs.DeskState.{HasMails};
+ghost use Rattle.bq_desk.specs.Links.{as_submitted};
+
+use crate::desk::Desk;
+use arrayvec::ArrayVec;
+use bq_job::{Seat, Step};
+use bq_line::clock::Clock;
+use bq_line::line::is_nothing_yet;
+use std::io::BufRead;
+use std::marker::Model;
+use std::sync::Wait;
+use std::thread;
+
+/// What a line says that begins the drain.
+const DRAIN_WORD: &[u8] = b"drain";
+
+/// How many first bytes of a line are kept: one more than the word has, since a longer line says nothing.
+const BYTES_KEPT: usize = 6;
+
+/// Where a control line submits its steps.
+pub trait ControlLink {
+    /// The core and the link are ready for a call.
+    ghost is_ready: { Self → Type 0 };
+
+    /// From the first link on these steps were submitted, and the last link is what was left.
+    ghost went: { Self → List Step → Self → Type 0 };
+
+    /// Submits a step, or hands it back where there is no room for it now.
+    fn submit(&mut self, step: Step) -> Result<(), Step>
+        requires ready { is_ready self.old }
+        ensures ready { is_ready self.new }
+        ensures back { IfErr result (λ back. back ≡ step) }
+        ensures went { (first : Self) (before : List Step) → went first before self.old → SubmitsOn went first before step result self.new };
+}
+
+/// The first bytes of the line that is being read: enough to tell whether it says `drain`.
+#[derive(Drop)]
+struct LineSoFar {
+    first: ArrayVec<u8, BYTES_KEPT>,
+}
+
+impl Model for LineSoFar {
+    ghost use Rattle.std.specs.Prelude.{List, ℕ};
+
+    ghost Value = { List ℕ };
+
+    ghost view = { λ l. l.first.items };
+}
+
+impl LineSoFar {
+    // A line of which nothing was read.
+    fn new() -> LineSoFar
+        ensures { result ≡ [] }
+    {
+        LineSoFar {
+            first: ArrayVec::new(),
+        }
+    }
+
+    fn note(&mut self, byte: u8)
+        ensures { self.new ≡ take 6 (self.old ++ byte ∷ []) }
+    {
+        // What comes behind the first bytes tells nothing more.
+        let _full = self.first.try_push(byte);
+    }
+
+    fn says_drain(&self) -> bool
+        ensures { result ≡ are_same self.now drain_word }
+    {
+        self.first.as_slice() == DRAIN_WORD
+    }
+}
+
+// What one look at the reader came to.
+#[derive(Clone, Copy)]
+enum Looked {
+    // Bytes came, and no line is over.
+    Nothing,
+    // A line is over.
+    Line,
+    // The input has ended, in a last line perhaps.
+    End,
+    // The reader failed.
+    Fault,
+}
+
+// Goes over bytes up to the end of a line. How many it took, and whether the line is over.
+fn note_line(line: &mut LineSoFar, bytes: &[u8]) -> (usize, bool)
+    ensures within { result.0 ≤ length bytes.now }
+    ensures none { length bytes.now ≡ 0 → (result.0 ≡ 0) × (result.1 ≡ false) }
+    ensures some { 1 ≤ length bytes.now → 1 ≤ result.0 }
+    ensures read { HasRead line.old (take result.0 bytes.now) result.1 line.new }
+{
+    let mut taken = 0;
+    while taken < bytes.len() {
+        let byte = bytes[taken];
+        taken += 1;
+        if byte == b'\n' {
+            return (taken, true);
+        }
+        line.note(byte);
+    }
+    (taken, false)
+}
+
+// Looks once at what the reader has.
+fn look<I: BufRead>(control: &mut I, line: &mut LineSoFar) -> Looked
+    ensures { HasLooked line.old (I.remaining control.old) (I.remaining control.new) result line.new }
+{
+    let available = match control.fill_buf() {
+        Ok(available) => available,
+        Err(e) => {
+            return if is_nothing_yet(&e) {
+                Looked::Nothing
+            } else {
+                Looked::Fault
+            };
+        }
+    };
+    if available.is_empty() {
+        return Looked::End;
+    }
+    let (taken, is_over) = note_line(line, available);
+    control.consume(taken);
+    if is_over {
+        Looked::Line
+    } else {
+        Looked::Nothing
+    }
+}
+
+// Submits a step, which may have to be tried again.
+fn submit<R: Wait, K: ControlLink>(rt: &R, link: &mut K, step: Step)
+    requires ready { K.is_ready link.old }
+    ensures ready { K.is_ready link.new }
+    ensures went { (first : K) (before : List Step) → K.went first before link.old → K.went first (before ++ as_submitted step) link.new }
+{
+    let mut step = step;
+    for _ in rt.forever() {
+        match link.submit(step) {
+            Ok(()) => return,
+            Err(back) => step = back,
+        }
+        thread::yield_now();
+    }
+    unreachable!()
+}
+
+fn submit_drain_if<R: Wait, K: ControlLink>(rt: &R, link: &mut K, says_drain: bool)
+    requires ready { K.is_ready link.old }
+    ensures ready { K.is_ready link.new }
+    ensures went { (first : K) (before : List Step) → K.went first before link.old → K.went first (before ++ replicate (one_if says_drain) Step.Drain) link.new }
+{
+    if says_drain {
+        submit(rt, link, Step::Drain);
+    }
+}
+
+// Submits a drain for each line that says so, up to the end of the input or a fault of the reader.
+fn submit_drains<R: Wait, I: BufRead, K: ControlLink>(rt: &R, control: &mut I, link: &mut K)
+    requires ready { K.is_ready link.old }
+    ensures ready { K.is_ready link.new }
+    ensures done { (text : List ℕ) × (failed : Bool) × IsReadToEnd (I.remaining control.old) (I.remaining control.new) text failed × ((first : K) (before : List Step) → K.went first before link.old → K.went first (before ++ replicate (drains text failed) Step.Drain) link.new) }
+{
+    let mut line = LineSoFar::new();
+    for _ in rt.forever() {
+        match look(control, &mut line) {
+            Looked::Nothing => {}
+            Looked::Line => {
+                submit_drain_if(rt, link, line.says_drain());
+                line = LineSoFar::new();
+            }
+            Looked::End => return submit_drain_if(rt, link, line.says_drain()),
+            Looked::Fault => return,
+        }
+    }
+    unreachable!()
+}
+
+/// Reads the control line to its end or its fault, and submits a drain for each of its lines that says so,
+/// and at last that it is gone. It takes no memory, however long a line is.
+pub fn submit_control<R: Wait, I: BufRead, K: ControlLink>(rt: &R, control: &mut I, link: &mut K)
+    requires ready { K.is_ready link.old }
+    ensures ready { K.is_ready link.new }
+    ensures done { (text : List ℕ) × (failed : Bool) × IsReadToEnd (I.remaining control.old) (I.remaining control.new) text failed × (submitted : List Step) × IsControlDone text failed submitted × ((first : K) (before : List Step) → K.went first before link.old → K.went first (before ++ submitted) link.new) }
+{
+    submit_drains(rt, control, link);
+    submit(rt, link, Step::Gone);
+}
+
+/// The control line's link to a desk in the same hand.
+#[derive(Drop)]
+struct DeskControl<'a, C> {
+    desk: &'a mut Desk<C>,
+    seat: Seat,
+}
+
+impl<'a, C: Clock + Drop> ControlLink for DeskControl<'a, C> {
+    ghost is_ready = { λ l. HasMails (state_of l.desk.now) };
+
+    // Who drops the link knows the desk by it.
+    ghost went = { λ first submitted last. (last.desk.ghost_name ≡ first.desk.ghost_name) × (last.seat ≡ first.seat) × WentAt C.given first.seat first.desk.now submitted [] last.desk.now };
+
+    fn submit(&mut self, step: Step) -> Result<(), Step> {
+        self.desk.submit(self.seat, step)
+    }
+}
+
+/// Serves the control line at a desk, where its steps are those of this seat.
+pub fn serve_control<R: Wait, C: Clock + Drop, I: BufRead>(
+    rt: &R,
+    control: &mut I,
+    desk: &mut Desk<C>,
+    seat: Seat,
+)
+    requires mails { HasMails (state_of desk.old) }
+    ensures mails { HasMails (state_of desk.new) }
+    ensures many { length (state_of desk.new).mails ≡ length (state_of desk.old).mails }
+    ensures done { (text : List ℕ) × (failed : Bool) × IsReadToEnd (I.remaining control.old) (I.remaining control.new) text failed × (submitted : List Step) × WentAt C.given seat desk.old submitted [] desk.new × IsControlDone text failed submitted }
+{
+    let mut link = DeskControl { desk, seat };
+    submit_control(rt, control, &mut link);
+}

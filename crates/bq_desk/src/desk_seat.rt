@@ -1,0 +1,81 @@
+//! The link of a seat to a desk in the same hand.
+ghost use Rattle.std.specs.Prelude.{◌≡◌, ◌<◌, ℕ, List, length};
+ghost use Rattle.bq_job.specs.declared.answer.Answer.{Answer};
+ghost use Rattle.bq_job.specs.declared.step.Step.{Step};
+ghost use Rattle.bq_desk.specs.Carried.{Carried};
+ghost use Rattle.bq_desk.specs.DeskOf.{WentAt, state_of};
+ghost use Rattle.bq_desk.specs.DeskState.{HasMails};
+ghost use Rattle.bq_desk.specs.Tending.{GoesOn, IsPlaced, door_seen};
+
+use crate::attendant::Attendant;
+use crate::client::{Room, carry_out};
+use crate::desk::Desk;
+use crate::link::Link;
+use bq_job::{Answer, Seat, Step};
+use bq_line::Door;
+use bq_line::clock::Clock;
+use bq_line::line::Line;
+use bq_seat::{Action, SeatMachine};
+
+/// A seat's link to the desk at which it is served.
+#[derive(Drop)]
+pub struct DeskSeat<'a, C> {
+    desk: &'a mut Desk<C>,
+    seat: Seat,
+}
+
+impl<'a, C: Clock + Drop> Link for DeskSeat<'a, C> {
+    ghost is_ready = { λ l. HasMails (state_of l.desk.now) × (l.seat < length (state_of l.desk.now).mails) };
+
+    // Who drops the link knows the desk by it.
+    ghost went = { λ first submitted taken last. (last.desk.ghost_name ≡ first.desk.ghost_name) × (last.seat ≡ first.seat) × WentAt C.given first.seat first.desk.now submitted taken last.desk.now };
+
+    fn submit(&mut self, step: Step) -> Result<(), Step> {
+        self.desk.submit(self.seat, step)
+    }
+
+    fn mail(&mut self) -> Option<Answer> {
+        self.desk.mail(self.seat)
+    }
+}
+
+/// Carries out one action of a seat's machine at the desk, and says what the machine does next and whether
+/// something moved.
+pub fn act<L: Line, C: Clock + Drop>(
+    machine: &mut SeatMachine,
+    action: Action,
+    line: &mut L,
+    desk: &mut Desk<C>,
+    seat: Seat,
+    room: &mut Room,
+) -> (Action, bool)
+    requires mails { HasMails (state_of desk.old) }
+    requires within { seat < length (state_of desk.old).mails }
+    ensures mails { HasMails (state_of desk.new) }
+    ensures carried { (submitted : List Step) × (taken : List Answer) × WentAt C.given seat desk.old submitted taken desk.new × Carried machine.old (L.seen line.old) action machine.new (L.seen line.new) result.0 submitted taken }
+{
+    let mut link = DeskSeat { desk, seat };
+    carry_out(machine, action, line, &mut link, room)
+}
+
+/// One turn of a seat that attends to a door, at the desk. Says whether something moved.
+pub fn attend<L: Line + Drop, D: Door<Line = L>, C: Clock + Drop>(
+    attendant: &mut Attendant<L>,
+    door: &mut D,
+    desk: &mut Desk<C>,
+    seat: Seat,
+    room: &mut Room,
+) -> bool
+    requires placed { IsPlaced attendant.old.place (door_seen D.is_out D.is_at_end D.lines_over door.old) }
+    requires mails { HasMails (state_of desk.old) }
+    requires within { seat < length (state_of desk.old).mails }
+    ensures mails { HasMails (state_of desk.new) }
+    ensures went { let at = door_seen D.is_out D.is_at_end D.lines_over in
+        GoesOn (WentAt C.given seat) desk.old desk.new L.seen attendant.old (at door.old) attendant.new (at door.new) }
+{
+    if attendant.is_done() {
+        return false;
+    }
+    let mut link = DeskSeat { desk, seat };
+    attendant.go_on(door, &mut link, room)
+}
