@@ -1,10 +1,3 @@
 pub mod AloneLemmas
-pub mod DeliveryLemmas
-pub mod LastPartLemmas
-pub mod ListLemmas
-pub mod LockedLemmas
-pub mod PostLemmas
-pub mod RungLemmas
-pub mod SendLemmas
 pub mod SessionsLemmas
 pub mod TurnsLemmas

@@ -1,5 +1,5 @@
 -- A run over doors, from its first desk to the end.
-use Rattle.std.proofs.Common.{◌≡◌, ◌≢◌, ℕ, zero, suc, ◌+◌, ◌<◌, Bool, true, false, List, [], ◌∷◌, ◌++◌, Option, map, length, refl, sym, ap, ◌∙◌, arith, subst, inl, inr, add-zero, slice_index_or, nat_le}
+use Rattle.std.proofs.Common.{◌≡◌, ◌≢◌, ℕ, suc, ◌+◌, ◌<◌, Bool, true, false, List, [], ◌∷◌, ◌++◌, Option, map, length, refl, sym, ap, ◌∙◌, arith, subst, inl, inr, add-zero, slice_index_or, nat_le}
 use Rattle.std.specs.Prelude.{◌==◌}
 use Rattle.std.specs.List.{All, list_all}
 use Rattle.std.proofs.lemmas.Bool.{cases_Bool, eq-eqb, leb-false}
@@ -24,13 +24,6 @@ use Rattle.bq_desk.specs.declared.attendant.Place.{Place}
 use Rattle.bq_desk.specs.declared.attendant.Place.TheVariants.{Done}
 use Rattle.bq_serve.proofs.AloneLemmas.{new_mails_are, none_waits}
 use Rattle.bq_desk.proofs.TendingLemmas.{tended_done, tended_new}
-
--- A further element passes too.
-pub all_more : {X : Type 0} (P : X → Type 0) (xs : List X) (x : X) → All P xs → P x → All P (xs ++ x ∷ [])
-all_more P [] x h p zero d below = p
-all_more P [] x h p (suc k) d below = absurd (omega arith)
-all_more P (y ∷ xs) x h p zero d below = h 0 d (omega arith)
-all_more P (y ∷ xs) x h p (suc k) d below = all_more P xs x (λ j e there. h (suc j) e (omega (arith, there))) p k d (omega (arith, below))
 
 abbrev pub StepsKeepSettings : Type 0
 StepsKeepSettings = (first last : Machine) (at seat : ℕ) (what : Step) (outcome : Outcome) (given : List GivenAnswer) → IsStep first at seat what outcome given last → last.settings ≡ first.settings

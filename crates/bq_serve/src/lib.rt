@@ -3,8 +3,7 @@
 
 pub use bq_desk::RunFault;
 pub use bq_line::{Door, DoorFault, MemDoor, TcpDoor, clock, line};
-pub use locked::Locked;
-pub use run::{LockedRun, One, Run, run_locked, run_one, run_sessions};
+pub use bq_lock::{Locked, LockedRun, run_locked};
+pub use run::{One, Run, run_one, run_sessions};
 
-mod locked;
 mod run;

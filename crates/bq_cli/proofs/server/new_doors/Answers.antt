@@ -2,7 +2,7 @@ use Rattle.std.proofs.Common.{List, None, subst, sym}
 use Rattle.std.specs.List.{All}
 use Rattle.bq_desk.specs.Tending.{IsNewDoor}
 use Rattle.bq_line.specs.declared.door.tcp_door.TcpDoor.{TcpDoor}
-use Rattle.bq_serve.proofs.SessionsLemmas.{all_more}
+use Rattle.bq_lock.proofs.ListLemmas.{all_more}
 use Rattle.bq_cli.proofs.server.new_doors.Goals as goal
 
 IsNew : TcpDoor → Type 0

@@ -1,0 +1,7 @@
+pub mod DeliveryLemmas
+pub mod LastPartLemmas
+pub mod ListLemmas
+pub mod LockedLemmas
+pub mod PostLemmas
+pub mod RungLemmas
+pub mod SendLemmas

@@ -1,0 +1,296 @@
+//! A run around one lock, with a thread for each door.
+ghost use Rattle.std.specs.Prelude.{◌≡◌, ◌↔◌, ◌≤◌, ◌&&◌, ◌==◌, not, IfOk, IfSome, IsErrOf, IsTrue, vec_len};
+ghost use Rattle.std.specs.List.{All};
+ghost use Rattle.bq_core.specs.Limits.{is_body_size, is_seat_count};
+ghost use Rattle.bq_lock.specs.LockedRuns.{IsServedToEnd};
+ghost use Rattle.bq_lock.specs.LockedState.{IsLawfulHold};
+ghost use Rattle.bq_desk.specs.Tending.{IsNewDoor, door_seen};
+
+use crate::bells::Bells;
+use crate::locked::Locked;
+use crate::locked_desk::LockedDesk;
+use crate::post::{Post, Posts};
+use crate::shared_desk::{SharedDesk, SharedSeat};
+use crate::start::Start;
+use bq_core::Config;
+use bq_desk::RunFault;
+use bq_desk::control::submit_control;
+use bq_job::{NoMemory, Seat};
+use bq_line::Door;
+use bq_line::clock::Clock;
+use bq_line::line::Line;
+use std::alloc::Global;
+use std::io::BufRead;
+use std::sync::{Mutex, Wait};
+use std::thread;
+use std::thread::{Promise, PromisedHandle, Scope, Threads};
+
+/// A run around one lock that is over: the doors and the clock as they were left, and what the lock held.
+#[derive(Drop)]
+pub struct LockedRun<D, C> {
+    pub doors: Vec<D, Global>,
+    pub clock: C,
+    pub locked: Locked,
+}
+
+/// Serves the lines of all doors, each at a seat and in a thread of its own, until no more lines come at any
+/// of them. The calling thread reads the control line, of which each line `drain` begins draining. The core
+/// and the clock lie under one lock, with a journal that has room for so many entries.
+///
+/// The fault is `BadConfiguration` where the configuration is out of its ranges or there isn't a door for
+/// each seat, and else `NoMemory` where a growth of memory was refused, or `ThreadRefused` where a thread was.
+/// With any fault no door was opened, and the doors are given up.
+pub fn run_locked<
+    R: Threads + Wait + Sync,
+    L: Line + Drop + Send,
+    D: Door<Line = L> + Drop + Send,
+    C: Clock + Drop + Send,
+    I: BufRead + Drop,
+>(
+    rt: &R,
+    alloc: Global,
+    config: Config,
+    doors: Vec<D, Global>,
+    clock: C,
+    mut control: I,
+    room: usize,
+) -> Result<LockedRun<D, C>, RunFault>
+    // No line is out or over at any door, and none is at its end.
+    requires new { All (λ door. IsNewDoor (door_seen D.is_out D.is_at_end D.lines_over door)) doors.items }
+    // Each door was served to its end: its lines' steps were submitted, and each line was written the answers
+    // that were taken for it. What ties them to the steps of the core no clause tells.
+    ensures served { IfOk result (λ run. All (λ door. IsServedToEnd config.max_job_size (door_seen D.is_out D.is_at_end D.lines_over door)) run.doors.items) }
+    ensures many { IfOk result (λ run. vec_len run.doors ≡ config.seats) }
+    ensures holds { IfOk result (λ run. IsLawfulHold run.locked) }
+    ensures bad_configuration { IsErrOf result RunFault.BadConfiguration
+        ↔ IsTrue (not (is_seat_count config.seats && is_body_size config.max_job_size && vec_len doors == config.seats)) }
+{
+    if doors.len() != usize::from(config.seats) {
+        return Err(RunFault::BadConfiguration);
+    }
+    let locked = Locked::new(alloc, config, room)?;
+    let Ok(bells) = Bells::new(alloc, config.seats) else {
+        return Err(RunFault::NoMemory);
+    };
+    let Ok(posts) = new_posts(alloc, config.max_job_size, doors) else {
+        return Err(RunFault::NoMemory);
+    };
+    let posts = Posts {
+        all: posts,
+        max_job_size: config.max_job_size,
+    };
+    let desk = Mutex::new(LockedDesk::new(locked, clock));
+    let start = Start::new();
+    let served = serve_in_scope(
+        rt,
+        alloc,
+        posts,
+        &desk,
+        &bells,
+        &start,
+        &mut control,
+        config.seats,
+    );
+    let doors = match served {
+        Ok(doors) => doors,
+        Err(fault) => return Err(fault),
+    };
+    let desk = desk.into_inner();
+    Ok(LockedRun {
+        doors,
+        clock: desk.clock,
+        locked: desk.locked,
+    })
+}
+
+// Serves all posts, each in a thread of its own, and the control line in this one. The doors come back in
+// their order.
+fn serve_in_scope<
+    R: Threads + Wait + Sync,
+    L: Line + Drop + Send,
+    D: Door<Line = L> + Drop + Send,
+    K: SharedDesk + Sync,
+    I: BufRead,
+>(
+    rt: &R,
+    alloc: Global,
+    posts: Posts<L, D>,
+    desk: &K,
+    bells: &Bells,
+    start: &Start,
+    control: &mut I,
+    control_seat: Seat,
+) -> Result<Vec<D, Global>, RunFault>
+    ensures fault { IsErrOf result RunFault.BadConfiguration → ⊥ }
+    ensures many { IfOk result (λ doors. vec_len doors ≡ vec_len posts.all) }
+    ensures served { IfOk result (λ doors. All (λ door. IsServedToEnd posts.max_job_size (door_seen D.is_out D.is_at_end D.lines_over door)) doors.items) }
+{
+    thread::scope(
+        thread::scope_env(),
+        rt,
+        move |scope| -> Result<Vec<D, Global>, RunFault>
+            ensures fault { IsErrOf result RunFault.BadConfiguration → ⊥ }
+            ensures many { IfOk result (λ doors. vec_len doors ≡ vec_len posts.all) }
+            ensures served { IfOk result (λ doors. All (λ door. IsServedToEnd posts.max_job_size (door_seen D.is_out D.is_at_end D.lines_over door)) doors.items) }
+        {
+            serve_all(
+                scope,
+                rt,
+                alloc,
+                posts,
+                desk,
+                bells,
+                start,
+                control,
+                control_seat,
+            )
+        },
+    )
+}
+
+// A post for each door, the last one first.
+fn new_posts<L: Line + Drop, D: Door<Line = L> + Drop>(
+    alloc: Global,
+    max_job_size: u32,
+    mut doors: Vec<D, Global>,
+) -> Result<Vec<Post<L, D>, Global>, NoMemory>
+    requires size { IsTrue (is_body_size max_job_size) }
+    requires few { vec_len doors ≤ 65535 }
+    requires new { All (λ door. IsNewDoor (door_seen D.is_out D.is_at_end D.lines_over door)) doors.items }
+    ensures many { IfOk result (λ posts. vec_len posts ≡ vec_len doors) }
+    ensures limits { IfOk result (λ posts. All (λ post. post.max_job_size ≡ max_job_size) posts.items) }
+{
+    let Ok(mut posts) = Vec::with_capacity(alloc, doors.len()) else {
+        return Err(NoMemory);
+    };
+    while let Some(door) = doors.pop() {
+        let post = Post::new(alloc, max_job_size, doors.len() as u16, door)?;
+        let Ok(()) = posts.push(post) else {
+            return Err(NoMemory);
+        };
+    }
+    Ok(posts)
+}
+
+// That a door was served to its end, where its thread began.
+#[derive(Clone, Copy)]
+struct Served {
+    max_job_size: u32,
+}
+
+impl<D: Door> Promise<Option<D>> for Served {
+    ghost kept_by = { λ promise door. IfSome door (λ d. IsServedToEnd promise.max_job_size (door_seen D.is_out D.is_at_end D.lines_over d)) };
+}
+
+// Starts a thread for each seat, and serves the control line where all were started. The doors come back
+// in their order.
+fn serve_all<
+    's,
+    E,
+    R: Threads + Wait + Sync,
+    L: Line + Drop + Send + 's,
+    D: Door<Line = L> + Drop + Send + 's,
+    K: SharedDesk + Sync,
+    I: BufRead,
+>(
+    scope: &'s Scope<'s, E>,
+    rt: &'s R,
+    alloc: Global,
+    posts: Posts<L, D>,
+    desk: &'s K,
+    bells: &'s Bells,
+    start: &'s Start,
+    control: &mut I,
+    control_seat: Seat,
+) -> Result<Vec<D, Global>, RunFault>
+    ensures fault { IsErrOf result RunFault.BadConfiguration → ⊥ }
+    ensures many { IfOk result (λ doors. vec_len doors ≡ vec_len posts.all) }
+    ensures served { IfOk result (λ doors. All (λ door. IsServedToEnd posts.max_job_size (door_seen D.is_out D.is_at_end D.lines_over door)) doors.items) }
+{
+    let Posts { all, max_job_size } = posts;
+    let seats = all.len();
+    let (Ok(mut threads), Ok(doors)) = (
+        Vec::with_capacity(alloc, seats),
+        Vec::with_capacity(alloc, seats),
+    ) else {
+        return Err(RunFault::NoMemory);
+    };
+    let served = Served { max_job_size };
+    let all_started = start_threads(scope, rt, all, desk, bells, start, served, &mut threads);
+    start.tell(rt, all_started);
+    if !all_started {
+        // The scope waits for those that were.
+        return Err(RunFault::ThreadRefused);
+    }
+    let mut link = SharedSeat {
+        rt,
+        desk,
+        bells,
+        seat: control_seat,
+        at_hand: None,
+    };
+    submit_control(rt, control, &mut link);
+    join_all(rt, threads, doors, served)
+}
+
+// Whether a thread was started for each seat.
+fn start_threads<
+    's,
+    E,
+    R: Threads + Wait + Sync,
+    L: Line + Drop + Send + 's,
+    D: Door<Line = L> + Drop + Send + 's,
+    K: SharedDesk + Sync,
+>(
+    scope: &'s Scope<'s, E>,
+    rt: &'s R,
+    mut posts: Vec<Post<L, D>, Global>,
+    desk: &'s K,
+    bells: &'s Bells,
+    start: &'s Start,
+    served: Served,
+    threads: &mut Vec<PromisedHandle<Option<D>, Served>, Global>,
+) -> bool
+    requires none { vec_len threads.old ≡ 0 }
+    requires limits { All (λ post. post.max_job_size ≡ served.max_job_size) posts.items }
+    ensures many { IsTrue result → vec_len threads.new ≡ vec_len posts }
+    ensures promised { IsTrue result → All (λ thread. thread.promise ≡ served) threads.new.items }
+{
+    while let Some(post) = posts.pop() {
+        let promise = Served {
+            max_job_size: post.max_job_size,
+        };
+        let Ok(thread) = scope.spawn_with(promise, move || post.serve(rt, desk, bells, start))
+        else {
+            return false;
+        };
+        let Ok(()) = threads.push(thread) else {
+            return false;
+        };
+    }
+    true
+}
+
+// Waits for all threads. Their doors come behind one another, for which there is room.
+fn join_all<R: Threads, D: Door + Drop + Send>(
+    rt: &R,
+    threads: Vec<PromisedHandle<Option<D>, Served>, Global>,
+    mut doors: Vec<D, Global>,
+    served: Served,
+) -> Result<Vec<D, Global>, RunFault>
+    requires none { vec_len doors ≡ 0 }
+    requires promised { All (λ thread. thread.promise ≡ served) threads.items }
+    ensures fault { IsErrOf result RunFault.BadConfiguration → ⊥ }
+    ensures many { IfOk result (λ all. vec_len all ≡ vec_len threads) }
+    ensures served { IfOk result (λ all. All (λ door. IsServedToEnd served.max_job_size (door_seen D.is_out D.is_at_end D.lines_over door)) all.items) }
+{
+    for thread in threads {
+        let Some(door) = thread.join(rt) else {
+            return Err(RunFault::ThreadRefused);
+        };
+        let Ok(()) = doors.push(door) else {
+            return Err(RunFault::NoMemory);
+        };
+    }
+    Ok(doors)
+}

@@ -1,4 +1,0 @@
-use Rattle.bq_serve.proofs.run.shared_desk.SharedSeatLink.mail.Given as goal
-
-abbrev pub decreases-loop-left : goal.decreases-loop-left
-decreases-loop-left g l = l.left
