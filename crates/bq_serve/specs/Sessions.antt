@@ -6,7 +6,7 @@ use Rattle.bq_job.specs.Headline.{IsHistoryOf}
 use Rattle.bq_job.specs.History.{LineOver}
 use Rattle.bq_desk.specs.ControlRead.{IsReadToEnd}
 use Rattle.bq_desk.specs.Tending.{AreKept}
-use Rattle.bq_serve.specs.declared.run.sessions.Run.{Run}
+use Rattle.bq_serve.specs.declared.sessions.Run.{Run}
 
 -- these lines are over at each door, where it keeps them
 abbrev pub AreAllKept : {D : Type 0} → (D → Option (List LineOver)) → List D → List (List LineOver) → Type 0

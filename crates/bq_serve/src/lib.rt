@@ -1,9 +1,14 @@
 //! Serving clients over lines of bytes.
+//!
+//! Here are the runs by one thread: of one line, and of many doors in turn. With them come the lines, doors
+//! and clocks of `bq_line`, and the run around one lock of `bq_lock`.
 #![tactic(auto)]
 
 pub use bq_desk::RunFault;
 pub use bq_line::{Door, DoorFault, MemDoor, TcpDoor, clock, line};
 pub use bq_lock::{Locked, LockedRun, run_locked};
-pub use run::{One, Run, run_one, run_sessions};
+pub use one::{One, run_one};
+pub use sessions::{Run, run_sessions};
 
-mod run;
+mod one;
+mod sessions;

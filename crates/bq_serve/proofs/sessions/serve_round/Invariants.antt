@@ -6,8 +6,8 @@ use Rattle.bq_desk.specs.Tending.{door_seen}
 use Rattle.bq_serve.specs.Turns.{ServesOn}
 use Rattle.bq_desk.specs.declared.attendant.Attendant.{Attendant}
 use Rattle.bq_desk.specs.declared.attendant.Place.TheVariants.{Done}
-use Rattle.bq_serve.specs.declared.run.sessions.Round.TheVariants.{Over}
-use Rattle.bq_serve.proofs.run.sessions.serve_round.Given as goal
+use Rattle.bq_serve.specs.declared.sessions.Round.TheVariants.{Over}
+use Rattle.bq_serve.proofs.sessions.serve_round.Given as goal
 
 abbrev pub invariant-loop-seat : goal.invariant-loop-seat
 invariant-loop-seat g l = record {

@@ -4,7 +4,7 @@ use Rattle.bq_seat.specs.declared.machine.Action.TheVariants as actions
 use Rattle.bq_desk.specs.DeskOf.{state_of}
 use Rattle.bq_serve.proofs.AloneLemmas.{IsServingAlone, begins_alone, goes_on_alone, new_mails_are, over_alone}
 use Rattle.bq_desk.proofs.SeatLemmas.{opened_on}
-use Rattle.bq_serve.proofs.run.one.run_one.Goals as goal
+use Rattle.bq_serve.proofs.one.run_one.Goals as goal
 
 pub loop-init : goal.loop-init
 loop-init g c =

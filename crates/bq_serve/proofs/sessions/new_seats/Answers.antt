@@ -3,7 +3,7 @@ use Rattle.std.specs.List.{All}
 use Rattle.bq_desk.specs.Tending.{IsNewSeat}
 use Rattle.bq_desk.specs.declared.attendant.Attendant.{Attendant}
 use Rattle.bq_lock.proofs.ListLemmas.{all_more}
-use Rattle.bq_serve.proofs.run.sessions.new_seats.Goals as goal
+use Rattle.bq_serve.proofs.sessions.new_seats.Goals as goal
 
 pub loop-preserved : goal.loop-preserved
 loop-preserved g c =

@@ -1,7 +1,7 @@
 use Rattle.std.proofs.Common.{◌≡◌, ◌≤◌, vec_len}
 use Rattle.std.specs.List.{All}
 use Rattle.bq_desk.specs.Tending.{IsNewSeat}
-use Rattle.bq_serve.proofs.run.sessions.new_seats.Given as goal
+use Rattle.bq_serve.proofs.sessions.new_seats.Given as goal
 
 abbrev pub invariant-loop : goal.invariant-loop
 invariant-loop g l = record {

@@ -3,7 +3,7 @@ use Rattle.bq_core.specs.State.{settings_of}
 use Rattle.bq_desk.specs.DeskOf.{state_of}
 use Rattle.bq_desk.specs.DeskState.{HasMails}
 use Rattle.bq_serve.proofs.AloneLemmas.{IsServingAlone}
-use Rattle.bq_serve.proofs.run.one.run_one.Given as goal
+use Rattle.bq_serve.proofs.one.run_one.Given as goal
 
 abbrev pub invariant-loop : goal.invariant-loop
 invariant-loop g l = record {

@@ -1,6 +1,6 @@
 use Rattle.bq_desk.specs.Tending.{door_seen}
 use Rattle.bq_serve.proofs.TurnsLemmas.{serves_none, serves_then, somehow_on}
-use Rattle.bq_serve.proofs.run.sessions.serve_seats.Goals as goal
+use Rattle.bq_serve.proofs.sessions.serve_seats.Goals as goal
 
 pub loop-init : goal.loop-init
 loop-init g c =

@@ -2,7 +2,7 @@ use Rattle.std.proofs.Common.{◌<◌, length, refl, arith}
 use Rattle.bq_desk.specs.Tending.{door_seen}
 use Rattle.bq_desk.specs.DeskOf.{state_of}
 use Rattle.bq_serve.proofs.TurnsLemmas.{done_more, serves_none, serves_then, serves_turn, somehow_on, turn_placed, turn_within}
-use Rattle.bq_serve.proofs.run.sessions.serve_round.Goals as goal
+use Rattle.bq_serve.proofs.sessions.serve_round.Goals as goal
 
 pub loop-seat-init : goal.loop-seat-init
 loop-seat-init g c =

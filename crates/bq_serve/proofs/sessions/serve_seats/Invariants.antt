@@ -2,7 +2,7 @@ use Rattle.bq_desk.specs.DeskOf.{state_of}
 use Rattle.bq_desk.specs.DeskState.{HasMails}
 use Rattle.bq_desk.specs.Tending.{door_seen}
 use Rattle.bq_serve.specs.Turns.{ServesOn}
-use Rattle.bq_serve.proofs.run.sessions.serve_seats.Given as goal
+use Rattle.bq_serve.proofs.sessions.serve_seats.Given as goal
 
 abbrev pub invariant-loop : goal.invariant-loop
 invariant-loop g l = record {

@@ -11,7 +11,7 @@ use Rattle.bq_serve.specs.Turns.{AreServed}
 use Rattle.bq_desk.specs.declared.attendant.Attendant.{Attendant}
 use Rattle.bq_serve.proofs.AloneLemmas.{new_mails_are}
 use Rattle.bq_serve.proofs.SessionsLemmas.{begins_served, ends_closed, ends_joined, ends_settings}
-use Rattle.bq_serve.proofs.run.sessions.run_sessions.Goals as goal
+use Rattle.bq_serve.proofs.sessions.run_sessions.Goals as goal
 
 pub serve_seats-requires-clause-served : goal.serve_seats-requires-clause-served
 serve_seats-requires-clause-served g c κs within =
