@@ -20,9 +20,5 @@ mod fault;
 mod find;
 mod rotation;
 mod shelf;
-#[cfg(test)]
-mod tests;
 mod tree;
 mod walk;
-#[cfg(test)]
-mod walk_tests;

@@ -1,7 +1,7 @@
 //! What is read of a shelf without a count, and what is done with each of its entries.
 ghost use Rattle.std.specs.Prelude.{Bool};
 
-use crate::{Change, NoMemory, Shelf, Test, Visitor};
+use bq_index::{Change, NoMemory, Shelf, Test, Visitor};
 use std::alloc::Global;
 use std::test::Fail;
 

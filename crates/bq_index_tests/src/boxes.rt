@@ -1,0 +1,68 @@
+//! Boxes are asked for one by one, and those before a refusal are kept.
+
+use bq_index::{BoxSource, NoMemory, Shelf};
+use std::alloc::Global;
+use std::process::Abort;
+use std::test::Fail;
+
+/// A heap that refuses one of the boxes that it is asked for.
+#[derive(Drop)]
+struct Refusing {
+    heap: Global,
+    asked: usize,
+    refused: usize,
+}
+
+impl BoxSource for Refusing {
+    fn box_of<T: Drop>(&mut self, value: T) -> Result<Box<T>, NoMemory> {
+        self.asked = self.asked.saturating_add(1);
+        if self.asked == self.refused {
+            return Err(NoMemory);
+        }
+        self.heap.box_of(value)
+    }
+}
+
+/// Of three boxes this one is refused: so many are asked for, and so many are spare then.
+const REFUSALS: &[(usize, usize, usize)] = &[(4, 3, 3), (1, 1, 0), (2, 2, 1), (3, 3, 2)];
+
+fn reserve_three(rt: &impl Abort, heap: Global, refused: usize, asked: usize, spare: usize) {
+    let mut shelf: Shelf<u64, u64> = Shelf::new();
+    let mut source = Refusing {
+        heap,
+        asked: 0,
+        refused,
+    };
+    let made = shelf.reserve_from(&mut source, 3);
+    assert_eq!(rt; made.is_ok(), spare == 3);
+    assert_eq!(rt; (source.asked, shelf.spare()), (asked, spare));
+    // What is spare is not asked for again.
+    assert!(rt; shelf.reserve_from(&mut source, spare).is_ok());
+    assert_eq!(rt; source.asked, asked);
+}
+
+#[test]
+fn boxes_one_by_one(rt: HostRuntime) {
+    for (refused, asked, spare) in REFUSALS {
+        reserve_three(&rt, rt.alloc(), *refused, *asked, *spare);
+    }
+}
+
+/// The same through the heap itself, any of whose answers may be a refusal.
+#[test]
+fn boxes_of_the_heap(rt: HostRuntime) {
+    let mut shelf: Shelf<u64, u64> = Shelf::new();
+    let made = shelf.reserve(rt.alloc(), 3);
+    let spare = shelf.spare();
+    assert!(rt; made == Ok(()) && spare == 3 || made == Err(NoMemory) && spare < 3);
+}
+
+/// A chain of spare boxes that is far longer than a stack is deep is let go, one box after another.
+#[test]
+fn a_million_spare_boxes(rt: HostRuntime) -> Result<(), Fail> {
+    let mut shelf: Shelf<u64, u64> = Shelf::new();
+    shelf.reserve(rt.alloc(), 1_000_000)?;
+    assert_eq!(rt; shelf.spare(), 1_000_000);
+    drop(shelf);
+    Ok(())
+}

@@ -1,0 +1,84 @@
+//! Each call of a shelf, against values found by hand.
+
+use crate::putting::put;
+use bq_index::{NoMemory, Shelf};
+use std::test::Fail;
+
+#[test]
+fn shelf_by_hand(rt: HostRuntime) -> Result<(), Fail> {
+    let mut shelf: Shelf<u64, char> = Shelf::new();
+    assert_eq!(rt;
+        (shelf.len(), shelf.spare(), shelf.comparisons()),
+        (0, 0, 0)
+    );
+    shelf.reserve(rt.alloc(), 2)?;
+    assert!(rt; put(&mut shelf, 5, 'a'));
+    assert!(rt; put(&mut shelf, 3, 'b'));
+    assert_eq!(rt; (shelf.len(), shelf.spare()), (2, 0));
+    assert_eq!(rt; shelf.next_from(&4), Some((&5, &'a')));
+    assert_eq!(rt; shelf.next_from(&3), Some((&3, &'b')));
+    assert_eq!(rt; shelf.next_from(&6), None);
+    assert_eq!(rt; shelf.remove(&4), None);
+    assert_eq!(rt; shelf.spare(), 0);
+    assert_eq!(rt; shelf.remove(&3), Some('b'));
+    assert_eq!(rt; (shelf.len(), shelf.spare()), (1, 1));
+    if let Some(value) = shelf.get_mut(&5) {
+        *value = 'c';
+    }
+    assert_eq!(rt; shelf.get(&5), Some(&'c'));
+    assert_eq!(rt; shelf.get(&3), None);
+    Ok(())
+}
+
+#[test]
+fn number_of_the_fault(rt: HostRuntime) {
+    assert_eq!(rt; NoMemory.code(), 301);
+}
+
+/// A key of several fields, in whose order the first one counts most.
+#[derive(Clone, Copy, PartialEq, Eq, PartialOrd, Ord)]
+struct DueKey {
+    moment: u64,
+    tube: [u8; 4],
+    id: u64,
+}
+
+/// Entries, none of which stands where it belongs: the fields of a key, and a value.
+const ENTRIES: &[(u64, [u8; 4], u64, u8)] = &[
+    (2, *b"fast", 1, b'a'),
+    (1, *b"slow", 9, b'b'),
+    (2, *b"fast", 0, b'c'),
+    (2, *b"fasq", 7, b'd'),
+];
+
+/// Keys to look from, and the entry that is next.
+const NEXT: &[(u64, [u8; 4], u64, Option<u8>)] = &[
+    (0, *b"zzzz", 9, Some(b'b')),
+    (2, *b"zzzz", 9, None),
+    (2, *b"fasa", 0, Some(b'd')),
+    (2, *b"fast", 0, Some(b'c')),
+    (2, *b"fast", 1, Some(b'a')),
+    (2, *b"fast", 2, None),
+];
+
+fn due(moment: u64, tube: [u8; 4], id: u64) -> DueKey {
+    DueKey { moment, tube, id }
+}
+
+fn value_from(shelf: &mut Shelf<DueKey, u8>, from: DueKey) -> Option<u8> {
+    shelf.next_from(&from).map(|(_, value)| *value)
+}
+
+#[test]
+fn keys_of_several_fields(rt: HostRuntime) -> Result<(), Fail> {
+    let mut shelf: Shelf<DueKey, u8> = Shelf::new();
+    shelf.reserve(rt.alloc(), 4)?;
+    for (moment, tube, id, value) in ENTRIES {
+        assert!(rt; put(&mut shelf, due(*moment, *tube, *id), *value));
+    }
+    for (moment, tube, id, wanted) in NEXT {
+        let found = value_from(&mut shelf, due(*moment, *tube, *id));
+        assert_eq!(rt; found, *wanted);
+    }
+    Ok(())
+}

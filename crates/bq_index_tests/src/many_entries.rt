@@ -1,0 +1,54 @@
+//! A shelf of more entries than any usual queue has jobs.
+
+use crate::putting::put;
+use bq_index::Shelf;
+use std::test::Fail;
+
+const ENTRIES: u64 = 30_011;
+
+/// The place of a key in the order in which they are put: far from that of the key before it.
+fn key_at(place: u64) -> u64 {
+    place % ENTRIES * 389 % ENTRIES
+}
+
+fn fill(shelf: &mut Shelf<u64, u64>) -> bool {
+    for place in 0..ENTRIES {
+        if !put(shelf, key_at(place), place) {
+            return false;
+        }
+    }
+    true
+}
+
+/// Whether each key is the next one from itself, and none stands behind the last one.
+fn is_full(shelf: &mut Shelf<u64, u64>) -> bool {
+    for key in 0..ENTRIES {
+        match shelf.next_from(&key) {
+            Some((found, _)) if *found == key => {}
+            _ => return false,
+        }
+    }
+    shelf.next_from(&ENTRIES).is_none()
+}
+
+fn empty(shelf: &mut Shelf<u64, u64>) -> bool {
+    for place in 0..ENTRIES {
+        if shelf.remove(&key_at(place)) != Some(place) {
+            return false;
+        }
+    }
+    true
+}
+
+#[test]
+fn thirty_thousand_entries(rt: HostRuntime) -> Result<(), Fail> {
+    let mut shelf: Shelf<u64, u64> = Shelf::new();
+    shelf.reserve(rt.alloc(), 30_011)?;
+    assert!(rt; fill(&mut shelf));
+    assert_eq!(rt; (shelf.len(), shelf.spare()), (30_011, 0));
+    shelf.reserve(rt.alloc(), 2)?;
+    assert!(rt; is_full(&mut shelf));
+    assert!(rt; empty(&mut shelf));
+    assert_eq!(rt; (shelf.len(), shelf.spare()), (0, 30_013));
+    Ok(())
+}
