@@ -92,8 +92,9 @@ impl Jobs {
         self.reserve_one_from(&mut heap)
     }
 
-    // The boxes of the other orders come first, so that room for a job is only told where all are there.
-    pub(crate) fn reserve_one_from<S: BoxSource>(&mut self, source: &mut S) -> Result<(), NoMemory>
+    /// The same, out of boxes of a source. The boxes of the other orders come first, so that room for a
+    /// job is only told where all are there.
+    pub fn reserve_one_from<S: BoxSource>(&mut self, source: &mut S) -> Result<(), NoMemory>
         ensures ok { OnOk result (self.new ≡ record self.old { room = max self.old.room 1 }) }
         ensures refused { OnErr result (self.old.room ≡ 0) }
         ensures same { OnErr result (self.new ≡ self.old) }

@@ -9,7 +9,7 @@ use std::cmp::Ordering;
 
 /// A tube's name as a part of a key: shorter names come first, and names of one length in the order of
 /// their bytes. So most names are told apart without a look at their bytes.
-#[derive(Clone, Copy, Debug)]
+#[derive(Clone, Copy)]
 pub struct OrderedName(pub TubeName);
 
 impl PartialEq for OrderedName {

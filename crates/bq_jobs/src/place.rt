@@ -6,7 +6,7 @@ use super::name::OrderedName;
 use bq_job::{Job, JobId, JobState, Seat, TubeName};
 
 /// A place in an order: by group, then by a number, then by the id of the job.
-#[derive(Clone, Copy, Debug, PartialEq, Eq, PartialOrd, Ord)]
+#[derive(Clone, Copy, PartialEq, Eq, PartialOrd, Ord)]
 pub struct Place<G> {
     pub group: G,
     pub at: u64,
@@ -14,7 +14,7 @@ pub struct Place<G> {
 }
 
 /// A state in which jobs stand in an order of their tube.
-#[derive(Clone, Copy, Debug, PartialEq, Eq, PartialOrd, Ord)]
+#[derive(Clone, Copy, PartialEq, Eq, PartialOrd, Ord)]
 pub enum JobList {
     Ready,
     Delayed,
@@ -22,14 +22,14 @@ pub enum JobList {
 }
 
 /// The jobs of a tube in one state. The state is told quicker than the tube, and so it comes first.
-#[derive(Clone, Copy, Debug, PartialEq, Eq, PartialOrd, Ord)]
+#[derive(Clone, Copy, PartialEq, Eq, PartialOrd, Ord)]
 pub struct TubeList {
     pub list: JobList,
     pub tube: OrderedName,
 }
 
 /// What ends at a moment: a delay or a lease.
-#[derive(Clone, Copy, Debug, PartialEq, Eq, PartialOrd, Ord)]
+#[derive(Clone, Copy, PartialEq, Eq, PartialOrd, Ord)]
 pub enum Timer {
     Due,
     Lease,

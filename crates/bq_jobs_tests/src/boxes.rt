@@ -1,0 +1,92 @@
+//! The four boxes of a job, of which any may be refused.
+
+use crate::putting::{job, put, tube};
+use bq_index::{BoxSource, NoMemory as Refused};
+use bq_job::{JobState, NoMemory, TubeName};
+use bq_jobs::Jobs;
+use std::alloc::Global;
+use std::mem::size_of_val;
+use std::process::Abort;
+use std::test::Fail;
+
+/// A heap that refuses one of the boxes that it is asked for.
+#[derive(Drop)]
+struct Refusing {
+    heap: Global,
+    asked: usize,
+    refused: usize,
+}
+
+impl BoxSource for Refusing {
+    fn box_of<T: Drop>(&mut self, value: T) -> Result<Box<T>, Refused> {
+        self.asked = self.asked.saturating_add(1);
+        if self.asked == self.refused {
+            return Err(Refused);
+        }
+        self.heap.box_of(value)
+    }
+}
+
+/// Whichever box is refused, the others are kept for the next call, which asks for those that are left.
+fn refuse_one(
+    rt: &impl Abort,
+    alloc: Global,
+    name: TubeName,
+    refused: usize,
+    left: usize,
+) -> Result<(), Fail> {
+    let mut jobs = Jobs::new();
+    jobs.reserve_one(alloc)?;
+    assert!(rt; put(&mut jobs, job(alloc, 1, name, 0, JobState::Ready)?));
+    let mut source = Refusing {
+        heap: alloc,
+        asked: 0,
+        refused,
+    };
+    assert!(rt; jobs.reserve_one_from(&mut source) == Err(NoMemory));
+    assert_eq!(rt; (source.asked, jobs.len(), jobs.room()), (refused, 1, 0));
+    assert_eq!(rt; jobs.first_ready(&name), Some(1));
+    source.asked = 0;
+    source.refused = 5;
+    assert!(rt; jobs.reserve_one_from(&mut source).is_ok());
+    assert_eq!(rt; (source.asked, jobs.room()), (left, 1));
+    assert!(rt; put(&mut jobs, job(alloc, 2, name, 0, JobState::Ready)?));
+    Ok(())
+}
+
+#[test]
+fn each_box_refused_in_turn(rt: HostRuntime) -> Result<(), Fail> {
+    let name = tube(&rt, "default");
+    refuse_one(&rt, rt.alloc(), name, 1, 4)?;
+    refuse_one(&rt, rt.alloc(), name, 2, 3)?;
+    refuse_one(&rt, rt.alloc(), name, 3, 2)?;
+    refuse_one(&rt, rt.alloc(), name, 4, 1)
+}
+
+/// A heap that notes how large the last four boxes are that it is asked for.
+#[derive(Drop)]
+struct Weighing {
+    heap: Global,
+    sizes: [usize; 4],
+}
+
+impl BoxSource for Weighing {
+    fn box_of<T: Drop>(&mut self, value: T) -> Result<Box<T>, Refused> {
+        let [_, a, b, c] = self.sizes;
+        self.sizes = [a, b, c, size_of_val(&value)];
+        self.heap.box_of(value)
+    }
+}
+
+/// The sizes that the first page of `bq_jobs` adds up: its place in its tube, its place among delays and
+/// leases, its place among the leases of its holder, and its box by id.
+#[test]
+fn bytes_of_a_job(rt: HostRuntime) -> Result<(), Fail> {
+    let mut source = Weighing {
+        heap: rt.alloc(),
+        sizes: [0; 4],
+    };
+    Jobs::new().reserve_one_from(&mut source)?;
+    assert_eq!(rt; source.sizes, [272, 72, 72, 352]);
+    Ok(())
+}

@@ -1,0 +1,46 @@
+//! More jobs than stand in any other test.
+
+use crate::putting::{job, put, tube};
+use bq_job::{JobState, NoMemory, TubeName};
+use bq_jobs::Jobs;
+use std::alloc::Global;
+use std::test::Fail;
+
+const JOBS: u64 = 3_000;
+
+/// Puts all jobs in, each one more urgent than the one before it.
+fn fill(alloc: Global, jobs: &mut Jobs, name: TubeName) -> Result<bool, NoMemory> {
+    for id in 0..JOBS {
+        let pri = (JOBS - id) as u32;
+        jobs.reserve_one(alloc)?;
+        if !put(jobs, job(alloc, id, name, pri, JobState::Ready)?) {
+            return Ok(false);
+        }
+    }
+    Ok(true)
+}
+
+/// Takes all jobs out in the order in which they would be handed out: the last one first.
+fn empty(jobs: &mut Jobs, name: &TubeName) -> bool {
+    for taken in 1..=JOBS {
+        match jobs.first_ready(name) {
+            Some(id) if id == JOBS - taken => {}
+            _ => return false,
+        }
+        if jobs.remove(JOBS - taken).is_none() {
+            return false;
+        }
+    }
+    true
+}
+
+#[test]
+fn three_thousand_jobs(rt: HostRuntime) -> Result<(), Fail> {
+    let name = tube(&rt, "default");
+    let mut jobs = Jobs::new();
+    assert!(rt; fill(rt.alloc(), &mut jobs, name)?);
+    assert_eq!(rt; (jobs.len(), jobs.room()), (3_000, 0));
+    assert!(rt; empty(&mut jobs, &name));
+    assert_eq!(rt; (jobs.len(), jobs.room()), (0, 3_000));
+    Ok(())
+}

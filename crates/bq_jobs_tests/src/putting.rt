@@ -1,0 +1,51 @@
+//! How the tests put jobs in and change them.
+
+use bq_job::{Body, Counts, Job, JobId, JobState, NoMemory, Pri, TubeName};
+use bq_jobs::Jobs;
+use std::alloc::Global;
+use std::process::Abort;
+
+pub fn tube(rt: &impl Abort, name: &str) -> TubeName {
+    TubeName::new(name.as_bytes()).expect(rt, "the name of a tube")
+}
+
+/// A job with a body of three bytes.
+pub fn job(
+    alloc: Global,
+    id: JobId,
+    tube: TubeName,
+    pri: Pri,
+    state: JobState,
+) -> Result<Job, NoMemory> {
+    Ok(Job {
+        id,
+        tube,
+        pri,
+        delay: 0,
+        ttr: 1,
+        body: Body::new(alloc, b"abc")?,
+        put_at: 0,
+        counts: Counts::default(),
+        state,
+    })
+}
+
+/// Adds a job, where there is room and no job of its id.
+pub fn put(jobs: &mut Jobs, job: Job) -> bool {
+    if jobs.room() == 0 || jobs.get(job.id).is_some() {
+        return false;
+    }
+    jobs.add(job);
+    true
+}
+
+/// Changes the state of a job by taking it out and adding it again.
+pub fn change(jobs: &mut Jobs, id: JobId, state: JobState) -> bool {
+    match jobs.remove(id) {
+        None => false,
+        Some(mut job) => {
+            job.state = state;
+            put(jobs, job)
+        }
+    }
+}

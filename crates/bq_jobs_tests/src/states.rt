@@ -1,0 +1,58 @@
+//! A job that goes from state to state in the room of one job.
+
+use crate::putting::{change, job, put, tube};
+use bq_job::{JobState, TubeName};
+use bq_jobs::Jobs;
+use std::test::Fail;
+
+/// States of a job, and of which kinds it is then: ready, delayed, buried, due, a lease, held.
+const STATES: &[(JobState, [bool; 6])] = &[
+    (JobState::Ready, [true, false, false, false, false, false]),
+    (
+        JobState::Delayed(8),
+        [false, true, false, true, false, false],
+    ),
+    (
+        JobState::Reserved(4, 9),
+        [false, false, false, false, true, true],
+    ),
+    (
+        JobState::Buried(1),
+        [false, false, true, false, false, false],
+    ),
+    (JobState::Ready, [true, false, false, false, false, false]),
+];
+
+fn kinds_with_jobs(jobs: &mut Jobs, name: &TubeName) -> [bool; 6] {
+    [
+        jobs.first_ready(name).is_some(),
+        jobs.first_delayed(name).is_some(),
+        jobs.first_buried(name).is_some(),
+        jobs.first_due().is_some(),
+        jobs.first_lease().is_some(),
+        jobs.first_held(4).is_some(),
+    ]
+}
+
+#[test]
+fn all_states_in_one_room(rt: HostRuntime) -> Result<(), Fail> {
+    let name = tube(&rt, "default");
+    let mut jobs = Jobs::new();
+    assert_eq!(rt; (jobs.len(), jobs.room(), jobs.comparisons()), (0, 0, 0));
+    jobs.reserve_one(rt.alloc())?;
+    jobs.reserve_one(rt.alloc())?;
+    assert_eq!(rt; jobs.room(), 1);
+    assert!(rt; put(&mut jobs, job(rt.alloc(), 1, name, 3, JobState::Ready)?));
+    for (state, kinds) in STATES {
+        let before = jobs.comparisons();
+        assert!(rt; change(&mut jobs, 1, *state));
+        assert!(rt; jobs.comparisons() > before);
+        assert_eq!(rt; (jobs.len(), jobs.room()), (1, 0));
+        assert!(rt; jobs.get(1).map(|job| job.state) == Some(*state));
+        assert_eq!(rt; kinds_with_jobs(&mut jobs, &name), *kinds);
+    }
+    assert!(rt; jobs.remove(1).is_some());
+    assert!(rt; jobs.remove(1).is_none());
+    assert_eq!(rt; (jobs.len(), jobs.room()), (0, 1));
+    Ok(())
+}
