@@ -52,8 +52,6 @@ mod line_end;
 mod refusal;
 mod request;
 mod step;
-#[cfg(test)]
-mod tests;
 mod text;
 mod tube_name;
 

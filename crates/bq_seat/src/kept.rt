@@ -8,7 +8,7 @@ use std::marker::Model;
 pub const PIECE_ROOM: usize = 4096;
 
 /// Bytes that were handed in and that nobody has read yet. Contracts see it as these bytes.
-#[derive(Debug, Drop)]
+#[derive(Drop)]
 pub struct Kept {
     room: Vec<u8, Global>,
     from: usize,

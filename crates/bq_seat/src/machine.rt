@@ -48,7 +48,7 @@ pub enum Action {
 }
 
 /// What the machine did last, and so which events answer it.
-#[derive(Clone, Copy, Debug, PartialEq, Eq)]
+#[derive(Clone, Copy, PartialEq, Eq)]
 enum Stage {
     /// No line is open, and an opened one is awaited.
     Between,
@@ -344,6 +344,3 @@ fn stage_of(request: &Request) -> Stage
         _ => Stage::Asking { waits: false },
     }
 }
-
-#[cfg(test)]
-mod tests;

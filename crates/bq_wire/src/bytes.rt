@@ -11,6 +11,3 @@ pub fn push_bytes<const ROOM: usize>(buf: &mut ArrayVec<u8, ROOM>, more: &[u8])
         unreachable!()
     };
 }
-
-#[cfg(test)]
-mod tests;

@@ -4,7 +4,7 @@ ghost use Rattle.bq_job.specs.TubeName.{is_same_name};
 ghost use Rattle.bq_wire.specs.Asked.{command_of};
 
 /// The commands of a client.
-#[derive(Clone, Copy, Debug, PartialEq, Eq)]
+#[derive(Clone, Copy, PartialEq, Eq)]
 pub enum Command {
     Put,
     Reserve,

@@ -9,7 +9,7 @@ use std::marker::Model;
 pub const MOST_KEPT: usize = LONGEST_LINE + 1;
 
 /// The bytes of a line that isn't whole. Its memory is given when it is made.
-#[derive(Debug, Drop)]
+#[derive(Drop)]
 pub struct KeptLine {
     bytes: Vec<u8, Global>,
 }

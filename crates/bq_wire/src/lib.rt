@@ -16,7 +16,5 @@ mod pieces;
 mod put_body;
 mod reader;
 mod state;
-#[cfg(test)]
-mod tests;
 mod texts;
 mod words;

@@ -4,7 +4,7 @@ ghost use Rattle.bq_wire.specs.LineEnds as spec;
 use memchr::memchr;
 
 // A line feed that was found.
-#[derive(Clone, Copy, Debug)]
+#[derive(Clone, Copy)]
 struct LineFeed {
     at: usize,
     behind_cr: bool,

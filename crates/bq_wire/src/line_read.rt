@@ -14,7 +14,7 @@ use bq_job::{JobId, Pri, Refusal, Request, TubeName};
 pub const LONGEST_LINE: usize = 222;
 
 /// The numbers of a put's line, as they are written.
-#[derive(Clone, Copy, Debug)]
+#[derive(Clone, Copy)]
 pub struct PutLine {
     pub pri: Pri,
     /// Seconds.
@@ -26,7 +26,7 @@ pub struct PutLine {
 }
 
 /// What a line asks for.
-#[derive(Debug, Drop)]
+#[derive(Drop)]
 pub enum LineRead {
     /// A whole request.
     Whole(Request),
@@ -219,6 +219,3 @@ fn refused(why: Refusal) -> LineRead
 {
     LineRead::Whole(Request::Refused(why))
 }
-
-#[cfg(test)]
-mod tests;

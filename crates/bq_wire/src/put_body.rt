@@ -9,7 +9,7 @@ use bq_job::{BodyBuilder, Refusal, Request};
 use std::alloc::Global;
 
 /// The body of a put, as far as it has come, with the two bytes after it.
-#[derive(Debug, Drop)]
+#[derive(Drop)]
 pub struct PutBody {
     pub put: PutLine,
     /// How many bytes were taken, of the body and of the two behind it.

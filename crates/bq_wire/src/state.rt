@@ -2,7 +2,7 @@ use crate::kept_line::KeptLine;
 use crate::put_body::PutBody;
 
 /// What a reader is in the middle of.
-#[derive(Debug, Drop)]
+#[derive(Drop)]
 pub enum Place {
     /// A line, whose bytes are kept.
     InLine,
@@ -15,7 +15,7 @@ pub enum Place {
 }
 
 /// What a reader holds.
-#[derive(Debug, Drop)]
+#[derive(Drop)]
 pub struct State {
     pub max_job_size: u32,
     pub kept: KeptLine,

@@ -118,6 +118,3 @@ pub fn answer_tail(answer: &Answer) -> &[u8]
         _ => &[],
     }
 }
-
-#[cfg(test)]
-mod tests;

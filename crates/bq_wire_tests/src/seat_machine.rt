@@ -3,14 +3,14 @@
 
 ghost use Rattle.bq_seat.specs.SeatMoves.{FitsPiece};
 
-use super::{Action, Event, SeatMachine};
-use crate::kept::PIECE_ROOM;
 use bq_job::{Answer, LineEnd, Request, Step};
+use bq_seat::{Action, Event, PIECE_ROOM, SeatMachine};
+use std::alloc::Global;
 use std::process::Abort;
 use std::test::Fail;
 
 // An event of a session.
-#[derive(Clone, Copy, Debug, PartialEq, Eq)]
+#[derive(Clone, Copy, PartialEq, Eq)]
 enum Cue {
     Opened,
     Submitted,
@@ -24,7 +24,7 @@ enum Cue {
     WriteFault,
 }
 
-const ALL_CUES: [Cue; 10] = [
+const ALL_CUES: &[Cue] = &[
     Cue::Opened,
     Cue::Submitted,
     Cue::Bytes("delete 1\r\n"),
@@ -99,26 +99,34 @@ fn answers(cue: Cue, last: &str) -> bool {
     }
 }
 
+// The name of the action that answers an event.
+fn told(machine: &mut SeatMachine, cue: Cue) -> &'static str {
+    name_of(&machine.on(event_of(cue)))
+}
+
+// Tells the machine each event that doesn't answer an action of this name.
+fn stray(rt: &impl Abort, machine: &mut SeatMachine, last: &str) {
+    for cue in ALL_CUES {
+        if !answers(*cue, last) {
+            assert_eq!(rt; told(machine, *cue), "stray");
+        }
+    }
+}
+
 // Lines, one behind another: each event, and the action that answers it.
 fn play(rt: &impl Abort, machine: &mut SeatMachine, session: &[(Cue, &'static str)], strays: bool) {
     let mut last = "over";
     for (cue, want) in session {
         if strays {
-            for other in ALL_CUES {
-                if !answers(other, last) {
-                    let action = machine.on(event_of(other));
-                    assert_eq!(rt; name_of(&action), "stray", "{other:?} after {last}");
-                }
-            }
+            stray(rt, machine, last);
         }
-        let action = machine.on(event_of(*cue));
-        assert_eq!(rt; name_of(&action), *want, "{cue:?} after {last}");
-        last = name_of(&action);
+        last = told(machine, *cue);
+        assert_eq!(rt; last, *want);
     }
 }
 
 // A line with commands behind a wait, and then one that comes in pieces and quits inside a body first.
-const WAITS: [(Cue, &str); 33] = [
+const WAITS: &[(Cue, &str)] = &[
     (Cue::Opened, "connect"),
     (Cue::Submitted, "read"),
     (Cue::NothingYet, "read"),
@@ -155,7 +163,7 @@ const WAITS: [(Cue, &str); 33] = [
 ];
 
 // Ends of the input: behind a wait it is told, and the line is closed after the answer.
-const ENDS: [(Cue, &str); 18] = [
+const ENDS: &[(Cue, &str)] = &[
     (Cue::Opened, "connect"),
     (Cue::Submitted, "read"),
     (Cue::Bytes("reserve\r\n"), "reserve"),
@@ -177,7 +185,7 @@ const ENDS: [(Cue, &str); 18] = [
 ];
 
 // Faults: a line is closed after one, and the next line begins anew.
-const FAULTS: [(Cue, &str); 23] = [
+const FAULTS: &[(Cue, &str)] = &[
     (Cue::Opened, "connect"),
     (Cue::Submitted, "read"),
     (Cue::Bytes("reserve\r\n"), "reserve"),
@@ -203,20 +211,19 @@ const FAULTS: [(Cue, &str); 23] = [
     (Cue::NothingYet, "poll"),
 ];
 
-#[test]
-fn whole_lines(rt: HostRuntime) -> Result<(), Fail> {
-    for session in [WAITS.as_slice(), ENDS.as_slice(), FAULTS.as_slice()] {
-        let mut machine = SeatMachine::new(rt.alloc(), 65535)?;
-        play(&rt, &mut machine, session, false);
-    }
+fn play_all(rt: &impl Abort, alloc: Global, strays: bool) -> Result<(), Fail> {
+    play(rt, &mut SeatMachine::new(alloc, 65535)?, WAITS, strays);
+    play(rt, &mut SeatMachine::new(alloc, 65535)?, ENDS, strays);
+    play(rt, &mut SeatMachine::new(alloc, 65535)?, FAULTS, strays);
     Ok(())
 }
 
 #[test]
+fn whole_lines(rt: HostRuntime) -> Result<(), Fail> {
+    play_all(&rt, rt.alloc(), false)
+}
+
+#[test]
 fn stray_events(rt: HostRuntime) -> Result<(), Fail> {
-    for session in [WAITS.as_slice(), ENDS.as_slice(), FAULTS.as_slice()] {
-        let mut machine = SeatMachine::new(rt.alloc(), 65535)?;
-        play(&rt, &mut machine, session, true);
-    }
-    Ok(())
+    play_all(&rt, rt.alloc(), true)
 }

@@ -1,0 +1,26 @@
+//! The tests of values and texts of the protocol, and of the machine of a connection. Each uses public
+//! calls alone.
+#![tactic(auto)]
+
+#[cfg(test)]
+mod answers;
+#[cfg(test)]
+mod bodies;
+#[cfg(test)]
+mod cut_readings;
+#[cfg(test)]
+mod large_bodies;
+#[cfg(test)]
+mod lines;
+#[cfg(test)]
+mod noted;
+#[cfg(test)]
+mod numbers;
+#[cfg(test)]
+mod pieces;
+#[cfg(test)]
+mod readers;
+#[cfg(test)]
+mod seat_machine;
+#[cfg(test)]
+mod tube_names;

@@ -1,0 +1,48 @@
+//! Which bytes are the name of a tube, and how names stand in order.
+
+use bq_job::TubeName;
+use std::process::Abort;
+use std::test::Fail;
+
+const NAMES: &[&str] = &["default", "aZ09-+/;.$_()", "+"];
+
+const NO_NAMES: &[&str] = &["", "-a", "a b", "a\r", "\u{e9}"];
+
+fn expect_name(rt: &impl Abort, bytes: &[u8]) -> Result<(), Fail> {
+    let name = TubeName::new(bytes).ok_or("no name")?;
+    assert_eq!(rt; name.as_slice(), bytes);
+    assert!(rt; name.clone()? == name);
+    assert!(rt; TubeName::new(b"other") != Some(name));
+    Ok(())
+}
+
+#[test]
+fn tube_names(rt: HostRuntime) -> Result<(), Fail> {
+    for name in NAMES {
+        expect_name(&rt, name.as_bytes())?;
+    }
+    for text in NO_NAMES {
+        assert!(rt; TubeName::new(text.as_bytes()).is_none());
+    }
+    expect_name(&rt, &[b'a'; 200])?;
+    assert!(rt; TubeName::new(&[b'a'; 201]).is_none());
+    Ok(())
+}
+
+const IN_ORDER: &[(&str, &str)] = &[("a", "b"), ("B", "a"), ("ab", "b"), ("a", "ab")];
+
+fn expect_order(rt: &impl Abort, first: &str, second: &str) -> Result<(), Fail> {
+    let first = TubeName::new(first.as_bytes()).ok_or("no name")?;
+    let second = TubeName::new(second.as_bytes()).ok_or("no name")?;
+    assert!(rt; first < second);
+    assert!(rt; first.cmp(&first).is_eq());
+    Ok(())
+}
+
+#[test]
+fn order_of_tube_names(rt: HostRuntime) -> Result<(), Fail> {
+    for (first, second) in IN_ORDER {
+        expect_order(&rt, first, second)?;
+    }
+    Ok(())
+}
