@@ -6,6 +6,7 @@ pub mod ChoiceLemmas
 pub mod ComputedLemmas
 pub mod ComputedRunLemmas
 pub mod DispatchLemmas
+pub mod HeadlineLemmas
 pub mod JobMoves
 pub mod KeptJobLemmas
 pub mod KeptLemmas

@@ -52,3 +52,4 @@ pub mod Headline
 pub mod HistoryExamples
 pub mod LineOwed
 pub mod SeatDid
+pub mod TheHeadline

@@ -12,7 +12,7 @@ pub use job::{Counts, Job, JobState};
 pub use journal::Entry;
 pub use laws_of_clients::{
     asks_give_at_most, line_joins, one_line_more, others_give_what_waits, parts_join,
-    steps_keep_settings,
+    steps_keep_settings, the_headline,
 };
 pub use laws_of_machine::{
     ample_steps_are_computed, computed_is_step, dispatched_is_least, new_machine_is_lawful,

@@ -1,0 +1,42 @@
+-- The headline whole, from a history and the laws of runs.
+use Rattle.std.proofs.Common.{◌≡◌, ℕ, Bool, List, [], ◌∷◌, ◌++◌, Option, refl, sym, ◌∙◌, subst}
+use Rattle.bq_job.specs.Happenings.{happenings, parts_of_run}
+use Rattle.bq_job.specs.Headline.{IsHistoryOf}
+use Rattle.bq_job.specs.History.{LineOver}
+use Rattle.bq_job.specs.Machine.{Machine, Settings, new_machine}
+use Rattle.bq_job.specs.Runs.{GoesBy, Transition}
+use Rattle.bq_job.specs.TheHeadline.{AreJobsServed, HeadlineHolds}
+use Rattle.bq_job.proofs.AnswerPlaces.{none_after_drain, none_after_last_id, run_deletes, run_gives_least}
+use Rattle.bq_job.proofs.KeptJobLemmas.{accepted_is_kept, held_by_one_always}
+use Rattle.bq_job.proofs.RunLawLemmas.{at_most_once, in_order}
+
+jobs_served : (settings : Settings) (taken : List Transition) (last : Machine) → GoesBy (new_machine settings) taken last → AreJobsServed taken (happenings (parts_of_run taken))
+jobs_served settings taken last goes = let first : Machine = new_machine settings in
+    record {
+      least = λ t i. run_gives_least first taken last t goes i;
+      once = λ j u. at_most_once settings taken last j goes u;
+      in_order = λ a b ua ub pri tube before out_a out_b. in_order settings taken last a b goes ua ub pri tube before out_a out_b;
+      kept = λ early late p j is there gone. accepted_is_kept settings taken last early late p j goes is there gone;
+      held = λ p i. held_by_one_always settings taken last p goes i;
+      deleted = λ t seat i d. run_deletes first taken last t seat goes i d;
+      drained = λ early more t is drains. none_after_drain first early t more last (subst (λ (ts : List Transition). GoesBy first ts last) is goes) drains;
+      last_id_given = λ early more seat is. none_after_last_id first taken last early seat more goes is;
+    }
+
+pub headline_holds : (settings : Settings) (doors : List (List LineOver)) (control : List ℕ) (failed : Bool) (readings : List (Option ℕ)) (last : Machine)
+    → IsHistoryOf settings doors control failed readings last → HeadlineHolds settings doors control failed readings last
+headline_holds settings doors control failed readings last h = let run = h.run.runs.1 in
+    record {
+      history = h.history;
+      given = h.given;
+      taken = run.taken;
+      goes = run.goes;
+      history_is = run.history_is;
+      given_is = run.given_is;
+      timed = h.run.timed;
+      many = h.many;
+      of_doors = h.of_doors;
+      of_control = h.of_control;
+      of_nobody_else = h.of_nobody_else;
+      jobs = jobs_served settings run.taken last run.goes;
+    }
