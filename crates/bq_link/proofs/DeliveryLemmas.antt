@@ -6,17 +6,18 @@ use Rattle.crossbeam_queue.specs.Fifo.{Pushes, Pops, Learns}
 use Rattle.bq_job.specs.declared.step.Step.{Step}
 use Rattle.bq_link.specs.declared.delivery.View.{View}
 use Rattle.bq_link.specs.Delivery.{Delivers, IsCorePass, IsSeatPass, WaitsOf, core_view}
-use Rattle.bq_link.specs.Submissions.{AreBelow, Covers, steps_of}
+use Rattle.bq_link.specs.Submissions.{AreBelow, Covers, MaySubmit, MayTake, Past, steps_of}
 use Rattle.bq_link.proofs.ViewLemmas.{apart, differ, each_more, each_set, no}
 use Rattle.bq_link.proofs.SubmissionLemmas.{below_at, below_push, covers_push, of_other, of_own}
 
-pub begins : Delivers [] (core_view [] [] 0 ∷ [])
-begins = record {
+pub begins : (was : Past) → was [] [] → Delivers was [] (core_view [] [] 0 ∷ [])
+begins was start = record {
   core = 0;
   owner = λ _. None;
   history = [];
   taken = [];
   whole = refl;
+  real = start;
   seats = each_more (IsSeatPass (λ _. None) []) [] (core_view [] [] 0) (λ j u e. absurd (some-ne-none u (sym e))) (λ e. no e);
   takes = each_more (IsCorePass 0 (λ _. None) [] []) [] (core_view [] [] 0) (λ j u e. absurd (some-ne-none u (sym e))) (λ _. (refl, refl, (λ _ _. refl), tt, tt));
 }
@@ -31,8 +32,8 @@ core_grows core owner history taken t from j u is old may = let o = old may in (
   covers_push history t u.told o.4,
 )
 
-pub submits : (n pass : ℕ) (v : View) (step : Step) → v.submits ≡ true → Pushes Delivers n pass v (v.number, step) (λ w. w ≡ record v { submitted = v.submitted ++ step ∷ [] })
-submits n pass v step may items views room h at =
+pub submits : (was : Past) (n pass : ℕ) (v : View) (step : Step) → v.submits ≡ true → MaySubmit was n v.number step → Pushes (Delivers was) n pass v (v.number, step) (λ w. w ≡ record v { submitted = v.submitted ++ step ∷ [] })
+submits was n pass v step may stays items views room h at =
     let w : View = record v { submitted = v.submitted ++ step ∷ [] } in
     let t : ℕ × Step = (v.number, step) in
     let history = h.history ++ t ∷ [] in
@@ -44,6 +45,7 @@ submits n pass v step may items views room h at =
         history = history;
         taken = h.taken;
         whole = ap (λ l. l ++ t ∷ []) h.whole ∙ append_assoc h.taken items (t ∷ []);
+        real = stays h.taken items room h.real;
         seats = each_set (IsSeatPass h.owner history) views pass w (λ _. (mine.0, of_own v.number step h.history ∙ ap (λ l. l ++ step ∷ []) mine.1))
             (λ j u other e may'. let theirs = h.seats j u e may' in (theirs.0, of_other u.number v.number step h.history (differ h.owner v.number u.number pass j mine.0 theirs.0 (λ q. other (sym q))) ∙ theirs.1));
         takes = each_set (IsCorePass h.core h.owner history h.taken) views pass w (core_grows h.core h.owner h.history h.taken t pass pass v mine.0 (h.takes pass v at))
@@ -53,11 +55,11 @@ submits n pass v step may items views room h at =
     )
 
 -- the same, where the pass's number is known by another name
-pub submits_as : (n pass : ℕ) (v : View) (number : ℕ) (step : Step) → v.submits ≡ true → v.number ≡ number → Pushes Delivers n pass v (number, step) (λ w. w ≡ record v { submitted = v.submitted ++ step ∷ [] })
-submits_as n pass v number step may is = subst (λ k. Pushes Delivers n pass v (k, step) (λ w. w ≡ record v { submitted = v.submitted ++ step ∷ [] })) is (submits n pass v step may)
+pub submits_as : (was : Past) (n pass : ℕ) (v : View) (number : ℕ) (step : Step) → v.submits ≡ true → v.number ≡ number → MaySubmit was n number step → Pushes (Delivers was) n pass v (number, step) (λ w. w ≡ record v { submitted = v.submitted ++ step ∷ [] })
+submits_as was n pass v number step may is = subst (λ k. MaySubmit was n k step → Pushes (Delivers was) n pass v (k, step) (λ w. w ≡ record v { submitted = v.submitted ++ step ∷ [] })) is (submits was n pass v step may)
 
-pub takes : (pass : ℕ) (v : View) → v.takes ≡ true → Pops Delivers pass v (λ x w. (w ≡ record v { taken = v.taken ++ x ∷ [] }) × (x.0 < v.made))
-takes pass v may x items views h at =
+pub takes : (was : Past) (pass : ℕ) (v : View) → v.takes ≡ true → MayTake was → Pops (Delivers was) pass v (λ x w. (w ≡ record v { taken = v.taken ++ x ∷ [] }) × (x.0 < v.made))
+takes was pass v may stays x items views h at =
     let w : View = record v { taken = v.taken ++ x ∷ [] } in
     let taken = h.taken ++ x ∷ [] in
     let mine = h.takes pass v at may in (
@@ -68,6 +70,7 @@ takes pass v may x items views h at =
         history = h.history;
         taken = taken;
         whole = h.whole ∙ sym (append_assoc h.taken (x ∷ []) items);
+        real = stays h.taken items x h.real;
         seats = each_set (IsSeatPass h.owner h.history) views pass w (h.seats pass v at) (λ j u other e. h.seats j u e);
         takes = each_set (IsCorePass h.core h.owner h.history taken) views pass w (λ _. (mine.0, ap (λ l. l ++ x ∷ []) mine.1, mine.2, mine.3, mine.4))
             (λ j u other e may'. absurd (other ((h.takes j u e may').0 ∙ sym mine.0)));
@@ -76,16 +79,20 @@ takes pass v may x items views h at =
     )
 
 -- where the intake is full
-pub waits : (pass : ℕ) (v : View) → v.submits ≡ true → Learns Delivers pass v (WaitsOf v)
-waits pass v may items views h at = (h.taken, ap (steps_of v.number) (sym h.whole) ∙ (h.seats pass v at may).1)
+pub waits : (was : Past) (pass : ℕ) (v : View) → v.submits ≡ true → Learns (Delivers was) pass v (WaitsOf was v)
+waits was pass v may items views h at = (h.taken, h.real, ap (steps_of v.number) (sym h.whole) ∙ (h.seats pass v at may).1)
 
 -- what was taken and what waits, as the core's pass sees it
-seen : (pass : ℕ) (v : View) (items : List (ℕ × Step)) (views : List View) → v.takes ≡ true → (h : Delivers items views) → get_elem? views pass ≡ some v → h.history ≡ v.taken ++ items
-seen pass v items views may h at = h.whole ∙ ap (λ l. l ++ items) (sym (h.takes pass v at may).1)
+seen : (was : Past) (pass : ℕ) (v : View) (items : List (ℕ × Step)) (views : List View) → v.takes ≡ true → (h : Delivers was items views) → get_elem? views pass ≡ some v → h.history ≡ v.taken ++ items
+seen was pass v items views may h at = h.whole ∙ ap (λ l. l ++ items) (sym (h.takes pass v at may).1)
+
+-- that it is so of both
+real : (was : Past) (pass : ℕ) (v : View) (items : List (ℕ × Step)) (views : List View) → v.takes ≡ true → (h : Delivers was items views) → get_elem? views pass ≡ some v → was v.taken items
+real was pass v items views may h at = subst (λ l. was l items) (sym (h.takes pass v at may).1) h.real
 
 -- where the intake is empty
-pub covered : (pass : ℕ) (v : View) → v.takes ≡ true → Learns Delivers pass v (λ items. Covers (v.taken ++ items) v.told)
-covered pass v may items views h at = subst (λ l. Covers l v.told) (seen pass v items views may h at) (h.takes pass v at may).4
+pub covered : (was : Past) (pass : ℕ) (v : View) → v.takes ≡ true → Learns (Delivers was) pass v (λ items. was v.taken items × Covers (v.taken ++ items) v.told)
+covered was pass v may items views h at = (real was pass v items views may h at, subst (λ l. Covers l v.told) (seen was pass v items views may h at) (h.takes pass v at may).4)
 
-pub compares : (pass : ℕ) (v : View) → v.takes ≡ true → v.submits ≡ true → Learns Delivers pass v (λ items. steps_of v.number (v.taken ++ items) ≡ v.submitted)
-compares pass v may and items views h at = ap (steps_of v.number) (sym (seen pass v items views may h at)) ∙ (h.seats pass v at and).1
+pub compares : (was : Past) (pass : ℕ) (v : View) → v.takes ≡ true → v.submits ≡ true → Learns (Delivers was) pass v (λ items. was v.taken items × (steps_of v.number (v.taken ++ items) ≡ v.submitted))
+compares was pass v may and items views h at = (real was pass v items views may h at, ap (steps_of v.number) (sym (seen was pass v items views may h at)) ∙ (h.seats pass v at and).1)

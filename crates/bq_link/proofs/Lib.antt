@@ -1,4 +1,5 @@
 pub mod DeliveryLemmas
+pub mod LookLemmas
 pub mod NewLemmas
 pub mod PassLemmas
 pub mod RingLemmas

@@ -7,25 +7,27 @@ use Rattle.crossbeam_queue.specs.Fifo.{Forks, Merges}
 use Rattle.crossbeam_queue.proofs.Lists.{at_set}
 use Rattle.bq_link.specs.declared.delivery.View.{View}
 use Rattle.bq_link.specs.Delivery.{Delivers, IsCorePass, IsSeatPass, blank_view, seat_view}
+use Rattle.bq_link.specs.Submissions.{Past}
 use Rattle.bq_link.proofs.SubmissionLemmas.{below_more, of_none}
 use Rattle.bq_link.proofs.ViewLemmas.{Each, apart, differ, each_more, each_set, given, given_else, given_here, no}
 
 -- a pass that may do nothing
-pub blanks : (pass : ℕ) (v : View) → Forks Delivers pass v v blank_view
-blanks pass v items views h at = record {
+pub blanks : (was : Past) (pass : ℕ) (v : View) → Forks (Delivers was) pass v v blank_view
+blanks was pass v items views h at = record {
   core = h.core;
   owner = h.owner;
   history = h.history;
   taken = h.taken;
   whole = h.whole;
+  real = h.real;
   seats = each_more (IsSeatPass h.owner h.history) (set views pass v) blank_view (each_set (IsSeatPass h.owner h.history) views pass v (h.seats pass v at) (λ j u _ e. h.seats j u e)) (λ e. no e);
   takes = each_more (IsCorePass h.core h.owner h.history h.taken) (set views pass v) blank_view
       (each_set (IsCorePass h.core h.owner h.history h.taken) views pass v (h.takes pass v at) (λ j u _ e. h.takes j u e)) (λ e. no e);
 }
 
 -- the next end
-pub makes : (pass : ℕ) (v : View) → v.takes ≡ true → Forks Delivers pass v (record v { made = v.made + 1 }) (seat_view v.made [])
-makes pass v may items views h at =
+pub makes : (was : Past) (pass : ℕ) (v : View) → v.takes ≡ true → Forks (Delivers was) pass v (record v { made = v.made + 1 }) (seat_view v.made [])
+makes was pass v may items views h at =
     let left : View = record v { made = v.made + 1 } in
     let right : View = seat_view v.made [] in
     let vs : List View = set views pass left in
@@ -39,6 +41,7 @@ makes pass v may items views h at =
       history = h.history;
       taken = h.taken;
       whole = h.whole;
+      real = h.real;
       seats = each_more (IsSeatPass owner h.history) vs right (each_set (IsSeatPass owner h.history) views pass left (kept pass left (h.seats pass v at)) (λ j u _ e. kept j u (h.seats j u e)))
           (λ _. (given_here h.owner v.made (length vs), of_none v.made h.history mine.3));
       takes = each_more (IsCorePass h.core owner h.history h.taken) vs right
@@ -49,9 +52,9 @@ makes pass v may items views h at =
     }
 
 -- the core's pass takes an end's in
-pub joins : (pass : ℕ) (v : View) (other : ℕ) (w : View) → v.takes ≡ true → w.submits ≡ true
-    → Merges Delivers pass v other w (record v { submits = true; number = w.number; submitted = w.submitted; told = (w.number, w.submitted) ∷ v.told }) blank_view
-joins pass v other w may and items views h at two at' =
+pub joins : (was : Past) (pass : ℕ) (v : View) (other : ℕ) (w : View) → v.takes ≡ true → w.submits ≡ true
+    → Merges (Delivers was) pass v other w (record v { submits = true; number = w.number; submitted = w.submitted; told = (w.number, w.submitted) ∷ v.told }) blank_view
+joins was pass v other w may and items views h at two at' =
     let both : View = record v { submits = true; number = w.number; submitted = w.submitted; told = (w.number, w.submitted) ∷ v.told } in
     let vs : List View = set views pass both in
     let was : get_elem? views other ≡ some w = ⊎_elim (λ x. absurd (two x.0)) (λ x. x.1) (at_set views pass other both w at') in
@@ -71,13 +74,14 @@ joins pass v other w may and items views h at two at' =
       history = h.history;
       taken = h.taken;
       whole = h.whole;
+      real = h.real;
       seats = each_set (IsSeatPass owner h.history) vs other blank_view (λ e. no e) (λ j u apart' e. now j u e apart');
       takes = each_set Then vs other blank_view (λ e. no e) (λ j u _ e. then' j u e);
     }
 
 -- and gives it back
-pub parts : (pass : ℕ) (v : View) → v.takes ≡ true → v.submits ≡ true → Forks Delivers pass v (record v { submits = false }) (seat_view v.number v.submitted)
-parts pass v may and items views h at =
+pub parts : (was : Past) (pass : ℕ) (v : View) → v.takes ≡ true → v.submits ≡ true → Forks (Delivers was) pass v (record v { submits = false }) (seat_view v.number v.submitted)
+parts was pass v may and items views h at =
     let left : View = record v { submits = false } in
     let right : View = seat_view v.number v.submitted in
     let vs : List View = set views pass left in
@@ -90,6 +94,7 @@ parts pass v may and items views h at =
       history = h.history;
       taken = h.taken;
       whole = h.whole;
+      real = h.real;
       seats = each_more (IsSeatPass owner h.history) vs right
           (each_set (IsSeatPass owner h.history) views pass left (λ e. no e)
           (λ j u apart' e may'. let old = h.seats j u e may' in (given_else h.owner v.number (length vs) u.number (differ h.owner u.number v.number j pass old.0 own.0 apart') ∙ old.0, old.1)))

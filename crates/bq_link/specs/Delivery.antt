@@ -4,7 +4,7 @@ use mathlib.Core.Option.{some}
 use lib.ListN.{get_elem?}
 use Rattle.bq_job.specs.declared.step.Step.{Step}
 use Rattle.bq_link.specs.declared.delivery.View.{View}
-use Rattle.bq_link.specs.Submissions.{AreBelow, Covers, steps_of}
+use Rattle.bq_link.specs.Submissions.{AreBelow, Covers, Past, steps_of}
 
 -- what an end's thread knows: the steps that it submitted
 abbrev pub seat_view : ℕ → List Step → View
@@ -41,18 +41,20 @@ IsSeatPass owner history pass v = v.submits ≡ true → (owner v.number ≡ Som
 -- one pass alone takes, and it knows all that was taken; nobody has submitted under a number that isn't given
 abbrev pub IsCorePass : ℕ → (ℕ → Option ℕ) → List (ℕ × Step) → List (ℕ × Step) → ℕ → View → Type 0
 IsCorePass core owner history taken pass v = v.takes ≡ true
-    → (pass ≡ core) × (v.taken ≡ taken) × ((number : ℕ) → v.made ≤ number → owner number ≡ None) × AreBelow v.made history × Covers history v.told
+    → (pass ≡ core) × (v.taken ≡ taken) × ((number : ℕ) → v.made ≤ number → owner number ≡ None)
+    × AreBelow v.made history × Covers history v.told
 
--- what was submitted is what was taken and then what waits, and each pass knows its part of it
-pub record Delivers (items : List (ℕ × Step)) (views : List View) : Type 0 where
+-- what was submitted is what was taken and then what waits, each pass knows its part of it, and this is so of what was taken and what waits
+pub record Delivers (was : Past) (items : List (ℕ × Step)) (views : List View) : Type 0 where
   pub core : ℕ
   pub owner : ℕ → Option ℕ
   pub history : List (ℕ × Step)
   pub taken : List (ℕ × Step)
   pub whole : history ≡ taken ++ items
+  pub real : was taken items
   pub seats : (pass : ℕ) (v : View) → get_elem? views pass ≡ some v → IsSeatPass owner history pass v
   pub takes : (pass : ℕ) (v : View) → get_elem? views pass ≡ some v → IsCorePass core owner history taken pass v
 
 -- some steps were taken, and with those that wait the end's are all that it submitted
-abbrev pub WaitsOf : View → List (ℕ × Step) → Type 0
-WaitsOf v items = (taken : List (ℕ × Step)) × (steps_of v.number (taken ++ items) ≡ v.submitted)
+abbrev pub WaitsOf : Past → View → List (ℕ × Step) → Type 0
+WaitsOf was v items = (taken : List (ℕ × Step)) × was taken items × (steps_of v.number (taken ++ items) ≡ v.submitted)

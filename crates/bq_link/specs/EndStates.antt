@@ -4,7 +4,7 @@ use denote.RawPtr.{Ptr}
 use Rattle.atomic_table.specs.Seated.{TableId}
 use Rattle.bq_job.specs.declared.answer.Answer.{Answer}
 use Rattle.bq_job.specs.declared.step.Step.{Step}
-use Rattle.bq_link.specs.Submissions.{steps_of}
+use Rattle.bq_link.specs.Submissions.{Past, steps_of}
 
 -- which ring it is
 pub record RingId : Type 0 where
@@ -56,9 +56,10 @@ IsSameCore first last = (last.intake ≡ first.intake) × (last.rings ≡ first.
 abbrev pub IsPair : CoreState → SeatState → Type 0
 IsPair core seat = (core.intake ≡ seat.intake) × (slice_get core.rings seat.number ≡ Some seat.ring)
 
--- at one moment so many steps waited, and all that the end submitted was taken or was one of them
-abbrev pub WasFull : ℕ → SeatState → Type 0
-WasFull places seat = (taken waiting : List (ℕ × Step)) × (length waiting ≡ places) × (steps_of seat.number (taken ++ waiting) ≡ seat.submitted)
+-- at one moment of the intake so many steps waited, and all that the end submitted was taken or was one of them
+abbrev pub WasFull : Past → ℕ → SeatState → Type 0
+WasFull was places seat = (taken waiting : List (ℕ × Step)) × was taken waiting
+    × (length waiting ≡ places) × (steps_of seat.number (taken ++ waiting) ≡ seat.submitted)
 
 -- a ring has room for so many answers
 abbrev pub ring_places : ℕ
@@ -66,4 +67,5 @@ ring_places = 4
 
 -- the later values of two ends are still a pair
 abbrev pub PairsStay : Type 0
-PairsStay = (core later : CoreState) (seat last : SeatState) → IsSameCore core later → IsSameSeat seat last → IsPair core seat → IsPair later last
+PairsStay = (core later : CoreState) (seat last : SeatState)
+    → IsSameCore core later → IsSameSeat seat last → IsPair core seat → IsPair later last

@@ -1,5 +1,5 @@
 -- Steps, each with the number of the end that submitted it.
-use Rattle.std.specs.Prelude.{ℕ, ◌≡◌, ◌<◌, ◌++◌, ◌==◌, List, map}
+use Rattle.std.specs.Prelude.{ℕ, ◌≡◌, ◌<◌, ◌++◌, ◌==◌, List, [], ◌∷◌, length, map}
 use Rattle.std.specs.List.{AllByRecursion, filter}
 use Rattle.bq_job.specs.declared.step.Step.{Step}
 
@@ -14,3 +14,16 @@ Covers all known = AllByRecursion (λ k. (more : List Step) × (steps_of k.0 all
 -- they came from ends with a number below this one
 abbrev pub AreBelow : ℕ → List (ℕ × Step) → Type 0
 AreBelow ends all = AllByRecursion (λ t. t.0 < ends) all
+
+-- what is so of an intake at each moment: of the steps that were taken by then, and of those that waited
+abbrev pub Past : Type 1
+Past = List (ℕ × Step) → List (ℕ × Step) → Type 0
+
+-- it stays so where this step joins at the back of an intake that isn't full
+abbrev pub MaySubmit : Past → ℕ → ℕ → Step → Type 0
+MaySubmit was places number step = (taken waiting : List (ℕ × Step))
+    → length waiting < places → was taken waiting → was taken (waiting ++ (number, step) ∷ [])
+
+-- it stays so where the oldest step leaves
+abbrev pub MayTake : Past → Type 0
+MayTake was = (taken waiting : List (ℕ × Step)) (t : ℕ × Step) → was taken (t ∷ waiting) → was (taken ++ t ∷ []) waiting

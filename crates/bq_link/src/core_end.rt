@@ -1,11 +1,11 @@
-ghost use Rattle.std.specs.Prelude.{◌≡◌, ◌+◌, ◌<◌, ◌≤◌, ◌∷◌, ◌++◌, [], List, IfErr, IfNone, IfOk, IfSome, IsOk, OnErr, OnOk, length};
+ghost use Rattle.std.specs.Prelude.{ℕ, ◌≡◌, ◌+◌, ◌<◌, ◌≤◌, ◌∷◌, ◌++◌, [], List, IfErr, IfNone, IfOk, IfSome, IsOk, OnErr, OnOk, length};
 ghost use Rattle.bq_job.specs.declared.step.Step.{Step as AStep};
 ghost use Rattle.bq_link.specs.EndChanges.{with_room, with_sent, with_told};
 ghost use Rattle.bq_link.specs.EndStates.{IsPair, ring_places, room_for, sent_to};
 ghost use Rattle.bq_link.specs.NewEnds.{next_seat, with_ring};
-ghost use Rattle.bq_link.specs.Submissions.{Covers, steps_of};
+ghost use Rattle.bq_link.specs.Submissions.{Covers, MayTake, steps_of};
 
-use crate::delivery::{Blank, Compares, InHand, NextEnd, Takes, View};
+use crate::delivery::{Blank, Compares, InHand, NextEnd, Record, Takes, View};
 use crate::intake::Intake;
 use crate::seat_end::SeatEnd;
 use bq_job::{Answer, Seat, Step};
@@ -41,7 +41,11 @@ const RING_PLACES: usize = 4;
 
 impl CoreEnd {
     // Makes the next seat's end, and the ring between the two.
-    pub(crate) fn next_end(&mut self, alloc: Global, intake: &Intake) -> Result<SeatEnd, AllocError>
+    pub(crate) fn next_end<J: Record>(
+        &mut self,
+        alloc: Global,
+        intake: &Intake<J>,
+    ) -> Result<SeatEnd, AllocError>
         requires intake { self.old.intake ≡ intake.now.id }
         requires few { length self.old.rings < 65536 }
         ensures core { IfOk result (λ seat. self.new ≡ with_ring self.old seat.ring) }
@@ -54,16 +58,20 @@ impl CoreEnd {
         Ok(SeatEnd { number, pass, mail })
     }
 
-    /// Takes the oldest step that waits, with the number of its end. Where it is told that there is none,
-    /// the intake was empty at some moment of the call: all that the core was told of is taken.
-    pub fn take<R: Wait>(&mut self, rt: &R, intake: &Intake) -> Option<(Seat, Step)>
-        requires { self.old.intake ≡ intake.now.id }
+    /// Takes the oldest step that waits, with the number of its end.
+    ///
+    /// Where there is none the contract tells a moment at which the intake was empty, after the last step that
+    /// was taken: all that the core was told of is taken. The queue can't tell whether that moment is one of
+    /// this call.
+    pub fn take<J: Record, R: Wait>(&mut self, rt: &R, intake: &Intake<J>) -> Option<(Seat, Step)>
+        requires intake { self.old.intake ≡ intake.now.id }
+        requires may { MayTake J.was }
         ensures taken { IfSome result (λ t. self.new ≡ record self.old { taken = self.old.taken ++ t ∷ [] }) }
         ensures number { IfSome result (λ t. t.0 < length self.old.rings) }
         ensures none { IfNone result (self.new ≡ self.old) }
-        ensures empty { IfNone result (Covers self.old.taken self.old.told) }
+        ensures empty { IfNone result (J.was self.old.taken [] × Covers self.old.taken self.old.told) }
     {
-        intake.queue.pop_as::<Takes, R>(rt, &mut self.pass)
+        intake.queue.pop_as::<Takes<J>, R>(rt, &mut self.pass)
     }
 
     /// Sends an answer to the end with this number, or hands it back where its ring is full (refusal 402).
@@ -99,10 +107,11 @@ impl CoreEnd {
 
     /// With both ends in one hand: the core's end is told what the seat's end submitted. What it took of
     /// that, and then what waits, is all of it.
-    pub fn compare(&mut self, intake: &Intake, seat: &mut SeatEnd)
+    pub fn compare<J: Record>(&mut self, intake: &Intake<J>, seat: &mut SeatEnd)
         requires core { self.old.intake ≡ intake.now.id }
         requires seat { seat.old.intake ≡ intake.now.id }
-        ensures waits { (waits : List AStep) × (seat.old.submitted ≡ steps_of seat.old.number self.old.taken ++ waits) }
+        ensures waits { (waiting : List (ℕ × AStep)) × J.was self.old.taken waiting
+            × (seat.old.submitted ≡ steps_of seat.old.number self.old.taken ++ steps_of seat.old.number waiting) }
         ensures told { self.new ≡ with_told self.old seat.old }
         ensures seat { seat.new ≡ seat.old }
     {
@@ -110,13 +119,13 @@ impl CoreEnd {
         let blank = queue.another::<Blank>(&mut self.pass);
         let pass = mem::replace(&mut seat.pass, blank);
         queue.absorb::<InHand>(&mut self.pass, pass);
-        queue.learn_as::<Compares>(&mut self.pass);
+        queue.learn_as::<Compares<J>>(&mut self.pass);
         seat.pass = queue.another::<InHand>(&mut self.pass);
     }
 
     /// Waits until a step is submitted, or some time has passed. It may return at once, and says nothing
     /// of why it returned.
-    pub fn wait<R: Wait>(&mut self, rt: &R, intake: &Intake, most: Duration)
+    pub fn wait<J: Record, R: Wait>(&mut self, rt: &R, intake: &Intake<J>, most: Duration)
         ensures { self.new ≡ self.old }
     {
         intake.core.park_timeout(rt, most);

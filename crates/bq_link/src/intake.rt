@@ -1,4 +1,4 @@
-use crate::delivery::{Delivery, View};
+use crate::delivery::{Delivery, Record, View};
 use bq_job::{Seat, Step};
 use crossbeam_queue::RuledArrayQueue;
 use std::marker::Model;
@@ -6,13 +6,13 @@ use std::thread::Parker;
 
 /// What all ends share: the steps that were submitted and not taken, and a bell for each end.
 #[derive(Drop)]
-pub struct Intake {
-    pub(crate) queue: RuledArrayQueue<(Seat, Step), View, Delivery>,
+pub struct Intake<J: Record> {
+    pub(crate) queue: RuledArrayQueue<(Seat, Step), View, Delivery<J>>,
     pub(crate) core: Parker,
     pub(crate) seats: Vec<Parker>,
 }
 
-impl Model for Intake {
+impl<J: Record> Model for Intake<J> {
     ghost use Rattle.std.specs.Prelude.{ℕ};
     ghost use Rattle.bq_link.specs.EndStates.{IntakeState};
 
@@ -23,7 +23,7 @@ impl Model for Intake {
     ghost view = { λ i. record { id = i.queue.table.shared.table_id; places = ruled_capacity i.queue } };
 }
 
-impl Intake {
+impl<J: Record> Intake<J> {
     /// Rings the bell of an end, so that it looks at its mail. An end that doesn't wait now will not wait
     /// the next time. A number of no end does nothing.
     pub fn wake(&self, seat: Seat) {

@@ -5,8 +5,9 @@
 #![tactic(auto)]
 
 pub use core_end::CoreEnd;
+pub use delivery::Record;
 pub use intake::Intake;
-pub use laws::pairs_stay;
+pub use laws::{empty_looks_are_of_empty_intakes, pairs_stay, refusals_are_of_full_intakes};
 pub use making::links;
 pub use seat_end::SeatEnd;
 

@@ -2,6 +2,7 @@ ghost use Rattle.std.specs.Prelude.{◌≡◌, ◌+◌, ◌*◌, ◌≤◌, [], 
 ghost use Rattle.bq_link.specs.NewEnds.{AreNewSeats, IsNewCore};
 
 use crate::core_end::CoreEnd;
+use crate::delivery::Record;
 use crate::intake::Intake;
 use crate::seat_end::SeatEnd;
 use bq_job::NoMemory;
@@ -11,8 +12,12 @@ use std::thread::Parker;
 
 /// Makes an intake for so many seats, and an end for each of them, one for the control line behind them,
 /// and one for the core. All memory that the links ever take is taken here.
-pub fn links(alloc: Global, seats: u16) -> Result<(Intake, CoreEnd, Vec<SeatEnd>), NoMemory>
-    requires { (1 ≤ seats) × (seats ≤ 256) }
+pub fn links<J: Record>(
+    alloc: Global,
+    seats: u16,
+) -> Result<(Intake<J>, CoreEnd, Vec<SeatEnd>), NoMemory>
+    requires seats { (1 ≤ seats) × (seats ≤ 256) }
+    requires start { J.was [] [] }
     ensures intake { IfOk result (λ r. r.0.places ≡ 2 * (seats + 1)) }
     ensures core { IfOk result (λ r. (r.1.intake ≡ r.0.id) × IsNewCore (seats + 1) r.1) }
     ensures seats { IfOk result (λ r. (length r.2.items ≡ seats + 1) × AreNewSeats r.1 r.2.items) }
@@ -23,8 +28,12 @@ pub fn links(alloc: Global, seats: u16) -> Result<(Intake, CoreEnd, Vec<SeatEnd>
     }
 }
 
-fn all_ends(alloc: Global, ends: usize) -> Result<(Intake, CoreEnd, Vec<SeatEnd>), AllocError>
-    requires { (1 ≤ ends) × (ends ≤ 257) }
+fn all_ends<J: Record>(
+    alloc: Global,
+    ends: usize,
+) -> Result<(Intake<J>, CoreEnd, Vec<SeatEnd>), AllocError>
+    requires ends { (1 ≤ ends) × (ends ≤ 257) }
+    requires start { J.was [] [] }
     ensures intake { IfOk result (λ r. r.0.places ≡ 2 * ends) }
     ensures core { IfOk result (λ r. (r.1.intake ≡ r.0.id) × IsNewCore ends r.1) }
     ensures seats { IfOk result (λ r. (length r.2.items ≡ ends) × AreNewSeats r.1 r.2.items) }
@@ -34,9 +43,9 @@ fn all_ends(alloc: Global, ends: usize) -> Result<(Intake, CoreEnd, Vec<SeatEnd>
     Ok((intake, core, seats))
 }
 
-fn seat_ends(
+fn seat_ends<J: Record>(
     alloc: Global,
-    intake: &Intake,
+    intake: &Intake<J>,
     core: &mut CoreEnd,
     ends: usize,
 ) -> Result<Vec<SeatEnd>, AllocError>
@@ -55,8 +64,9 @@ fn seat_ends(
 }
 
 // The intake, and the core's end before any seat's is made.
-fn no_ends(alloc: Global, ends: usize) -> Result<(Intake, CoreEnd), AllocError>
-    requires { (1 ≤ ends) × (ends ≤ 257) }
+fn no_ends<J: Record>(alloc: Global, ends: usize) -> Result<(Intake<J>, CoreEnd), AllocError>
+    requires ends { (1 ≤ ends) × (ends ≤ 257) }
+    requires start { J.was [] [] }
     ensures intake { IfOk result (λ r. r.0.places ≡ 2 * ends) }
     ensures core { IfOk result (λ r. (r.1.intake ≡ r.0.id) × IsNewCore 0 r.1) }
 {

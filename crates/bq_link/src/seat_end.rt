@@ -1,8 +1,9 @@
 ghost use Rattle.std.specs.Prelude.{◌≡◌, ◌∷◌, ◌++◌, [], IfErr, IfNone, IfSome, OnErr, OnOk};
 ghost use mathlib.Core.List.{IsPrefix};
 ghost use Rattle.bq_link.specs.EndStates.{WasFull};
+ghost use Rattle.bq_link.specs.Submissions.{MaySubmit};
 
-use crate::delivery::{Submits, View};
+use crate::delivery::{Record, Submits, View};
 use crate::intake::Intake;
 use bq_job::{Answer, Seat, Step};
 use crossbeam_queue::Pass;
@@ -39,19 +40,26 @@ impl SeatEnd {
         self.number
     }
 
-    /// Submits a step and wakes the core. Where the intake was full at some moment of the call the step is
-    /// handed back, and nothing was submitted (refusal 401).
-    pub fn submit<R: Wait>(&mut self, rt: &R, intake: &Intake, step: Step) -> Result<(), Step>
-        requires { self.old.intake ≡ intake.now.id }
+    /// Submits a step and wakes the core. Where the intake is full the step is handed back, and nothing was
+    /// submitted (refusal 401).
+    ///
+    /// Of a step that is handed back the contract tells a moment at which the intake was full, after the last
+    /// step that this end submitted. The queue can't tell whether that moment is one of this call.
+    pub fn submit<J: Record, R: Wait>(
+        &mut self,
+        rt: &R,
+        intake: &Intake<J>,
+        step: Step,
+    ) -> Result<(), Step>
+        requires intake { self.old.intake ≡ intake.now.id }
+        requires may { MaySubmit J.was intake.now.places self.old.number step }
         ensures submitted { OnOk result (self.new ≡ record self.old { submitted = self.old.submitted ++ step ∷ [] }) }
         ensures handed_back { IfErr result (λ back. back ≡ step) }
         ensures unchanged { OnErr result (self.new ≡ self.old) }
-        ensures full { OnErr result (WasFull intake.now.places self.old) }
+        ensures full { OnErr result (WasFull J.was intake.now.places self.old) }
     {
-        match intake
-            .queue
-            .push_as::<Submits, R>(rt, &mut self.pass, (self.number, step))
-        {
+        let queue = &intake.queue;
+        match queue.push_as::<Submits<J>, R>(rt, &mut self.pass, (self.number, step)) {
             Ok(()) => {
                 intake.core.unpark();
                 Ok(())
@@ -62,7 +70,8 @@ impl SeatEnd {
 
     /// Takes the oldest answer that was sent to this end. Each answer that is known to wait is taken.
     pub fn mail(&mut self) -> Option<Answer>
-        ensures taken { IfSome result (λ answer. self.new ≡ record self.old { taken = self.old.taken ++ answer ∷ []; waiting = self.new.waiting }) }
+        ensures taken { IfSome result (λ answer.
+            self.new ≡ record self.old { taken = self.old.taken ++ answer ∷ []; waiting = self.new.waiting }) }
         ensures next { IfSome result (λ answer. IsPrefix self.old.waiting (answer ∷ self.new.waiting)) }
         ensures none { IfNone result ((self.old.waiting ≡ []) × (self.new ≡ self.old)) }
     {
@@ -71,7 +80,7 @@ impl SeatEnd {
 
     /// Waits until an answer is sent to this end, or some time has passed. It may return at once, and says
     /// nothing of why it returned.
-    pub fn wait<R: Wait>(&mut self, rt: &R, intake: &Intake, most: Duration)
+    pub fn wait<J: Record, R: Wait>(&mut self, rt: &R, intake: &Intake<J>, most: Duration)
         ensures { self.new ≡ self.old }
     {
         if let Some(bell) = intake.seats.get(usize::from(self.number)) {

@@ -1,9 +1,9 @@
 //! Steps and answers through links, by hand and between threads.
-ghost use Rattle.std.specs.Prelude.{◌≡◌, ◌+◌, ◌<◌, ◌∷◌, ◌++◌, [], All, IfOk, length};
+ghost use Rattle.std.specs.Prelude.{◌≡◌, ◌+◌, ◌<◌, ◌∷◌, ◌++◌, [], All, IfOk, length, ⊤};
 ghost use Rattle.bq_job.specs.declared.step.Step.TheVariants.{Tick};
 ghost use Rattle.bq_link.specs.EndStates.{IsPair, IsSameCore, IsSameSeat};
 
-use crate::{CoreEnd, Intake, SeatEnd, links};
+use crate::{CoreEnd, Intake, Record, SeatEnd, links};
 use bq_job::{Answer, NoMemory, Request, Seat, Step};
 use std::alloc::{AllocError, Global};
 use std::ops::Range;
@@ -14,8 +14,15 @@ use std::thread;
 use std::thread::{Promise, Threads};
 use std::time::{Clock, Duration, Instant};
 
+// Nothing is asked of the steps.
+struct Anything;
+
+impl Record for Anything {
+    ghost was = { λ taken waiting. ⊤ };
+}
+
 // The links of one seat: the intake, the core's end, the seat's and the control line's.
-fn links_of_one(alloc: Global) -> Result<(Intake, CoreEnd, SeatEnd, SeatEnd), NoMemory>
+fn links_of_one(alloc: Global) -> Result<(Intake<Anything>, CoreEnd, SeatEnd, SeatEnd), NoMemory>
     ensures core { IfOk result (λ r. r.1.intake ≡ r.0.id) }
     ensures first { IfOk result (λ r. IsPair r.1 r.2) }
     ensures second { IfOk result (λ r. IsPair r.1 r.3) }
@@ -107,7 +114,7 @@ fn ring_by_hand(rt: HostRuntime) -> Result<(), Fail> {
 }
 
 // Submits a step, again and again while the intake is full.
-fn submit_one<R: Wait>(rt: &R, intake: &Intake, end: &mut SeatEnd, step: Step)
+fn submit_one<R: Wait>(rt: &R, intake: &Intake<Anything>, end: &mut SeatEnd, step: Step)
     requires { end.old.intake ≡ intake.now.id }
     ensures { end.new.intake ≡ end.old.intake }
 {
@@ -123,7 +130,7 @@ fn submit_one<R: Wait>(rt: &R, intake: &Intake, end: &mut SeatEnd, step: Step)
 }
 
 // Submits touches of the jobs from 1 on, so many.
-fn submit_all<R: Wait>(rt: &R, intake: &Intake, end: SeatEnd, count: u64)
+fn submit_all<R: Wait>(rt: &R, intake: &Intake<Anything>, end: SeatEnd, count: u64)
     requires { end.intake ≡ intake.now.id }
 {
     let mut end = end;
@@ -137,7 +144,7 @@ fn submit_all<R: Wait>(rt: &R, intake: &Intake, end: SeatEnd, count: u64)
     }
 }
 
-fn take_one<R: Wait>(rt: &R, intake: &Intake, core: &mut CoreEnd) -> (Seat, Step)
+fn take_one<R: Wait>(rt: &R, intake: &Intake<Anything>, core: &mut CoreEnd) -> (Seat, Step)
     requires { core.old.intake ≡ intake.now.id }
     ensures { core.new.intake ≡ core.old.intake }
 {
@@ -151,7 +158,13 @@ fn take_one<R: Wait>(rt: &R, intake: &Intake, core: &mut CoreEnd) -> (Seat, Step
 }
 
 // Takes so many steps, and says whether each seat's were its touches, once and in order.
-fn take_all<R: Wait>(rt: &R, intake: &Intake, core: CoreEnd, next: &mut [u64], count: u64) -> bool
+fn take_all<R: Wait>(
+    rt: &R,
+    intake: &Intake<Anything>,
+    core: CoreEnd,
+    next: &mut [u64],
+    count: u64,
+) -> bool
     requires { core.intake ≡ intake.now.id }
 {
     let mut core = core;
@@ -172,7 +185,7 @@ fn take_all<R: Wait>(rt: &R, intake: &Intake, core: CoreEnd, next: &mut [u64], c
 // As many steps as each seat submits.
 const STEPS: u64 = 1000;
 
-fn submit_two<R: Threads + Wait + Sync>(rt: &R, intake: &Intake, a: SeatEnd, b: SeatEnd)
+fn submit_two<R: Threads + Wait + Sync>(rt: &R, intake: &Intake<Anything>, a: SeatEnd, b: SeatEnd)
     requires { (a.intake ≡ intake.now.id) × (b.intake ≡ intake.now.id) }
 {
     thread::join(
@@ -188,7 +201,7 @@ fn submit_two<R: Threads + Wait + Sync>(rt: &R, intake: &Intake, a: SeatEnd, b: 
 
 fn two_beside_the_core<R: Threads + Wait + Sync>(
     rt: &R,
-    intake: &Intake,
+    intake: &Intake<Anything>,
     core: CoreEnd,
     a: SeatEnd,
     b: SeatEnd,
@@ -222,10 +235,15 @@ fn two_seats_in_order(rt: HostRuntime) -> Result<(), Fail> {
 }
 
 // The links of four seats, without the control line's end: the intake, the core's end and the seats'.
-type Four = (Intake, CoreEnd, (SeatEnd, SeatEnd), (SeatEnd, SeatEnd));
+type Four = (
+    Intake<Anything>,
+    CoreEnd,
+    (SeatEnd, SeatEnd),
+    (SeatEnd, SeatEnd),
+);
 
 // Takes out the last end.
-fn last_end(intake: &Intake, seats: &mut Vec<SeatEnd>) -> SeatEnd
+fn last_end(intake: &Intake<Anything>, seats: &mut Vec<SeatEnd>) -> SeatEnd
     requires some { 0 < length seats.old.items }
     requires here { All (λ s. s.intake ≡ intake.now.id) seats.old.items }
     ensures end { result.intake ≡ intake.now.id }
@@ -292,7 +310,7 @@ impl Promise<SeatEnd> for OneTickMore {
     ghost kept_by = { λ p r. IsSameSeat p.end.value r × (r.submitted ≡ p.end.value.submitted ++ Tick ∷ []) };
 }
 
-fn tick_here<R: Wait>(rt: &R, intake: &Intake, end: SeatEnd) -> SeatEnd
+fn tick_here<R: Wait>(rt: &R, intake: &Intake<Anything>, end: SeatEnd) -> SeatEnd
     requires { end.intake ≡ intake.now.id }
     ensures { IsSameSeat end result × (result.submitted ≡ end.submitted ++ Tick ∷ []) }
 {
@@ -307,7 +325,7 @@ fn tick_here<R: Wait>(rt: &R, intake: &Intake, end: SeatEnd) -> SeatEnd
 
 fn tick_there<R: Threads + Wait + Sync>(
     rt: &R,
-    intake: &Intake,
+    intake: &Intake<Anything>,
     end: SeatEnd,
 ) -> Result<SeatEnd, AllocError>
     requires { end.intake ≡ intake.now.id }
@@ -354,7 +372,7 @@ fn was_woken<R: Clock>(rt: &R, start: Instant) -> bool {
 }
 
 // Submits a step when the core has most likely begun to wait.
-fn submit_late<R: Wait + Clock>(rt: &R, intake: &Intake, end: SeatEnd)
+fn submit_late<R: Wait + Clock>(rt: &R, intake: &Intake<Anything>, end: SeatEnd)
     requires { end.intake ≡ intake.now.id }
 {
     let mut end = end;
@@ -363,7 +381,7 @@ fn submit_late<R: Wait + Clock>(rt: &R, intake: &Intake, end: SeatEnd)
 }
 
 // Sends an answer when the seat has most likely begun to wait.
-fn send_late<R: Clock>(rt: &R, intake: &Intake, core: CoreEnd) -> bool
+fn send_late<R: Clock>(rt: &R, intake: &Intake<Anything>, core: CoreEnd) -> bool
     requires { 0 < length core.rings }
 {
     let mut core = core;
@@ -374,7 +392,7 @@ fn send_late<R: Clock>(rt: &R, intake: &Intake, core: CoreEnd) -> bool
 }
 
 // A wait may end for no reason, so there are three.
-fn wait_and_take<R: Wait>(rt: &R, intake: &Intake, core: CoreEnd) -> bool
+fn wait_and_take<R: Wait>(rt: &R, intake: &Intake<Anything>, core: CoreEnd) -> bool
     requires { core.intake ≡ intake.now.id }
 {
     let mut core = core;
@@ -387,7 +405,7 @@ fn wait_and_take<R: Wait>(rt: &R, intake: &Intake, core: CoreEnd) -> bool
     false
 }
 
-fn wait_for_mail<R: Wait>(rt: &R, intake: &Intake, end: SeatEnd) -> bool {
+fn wait_for_mail<R: Wait>(rt: &R, intake: &Intake<Anything>, end: SeatEnd) -> bool {
     let mut end = end;
     for _again in 0..3 {
         end.wait(rt, intake, long());

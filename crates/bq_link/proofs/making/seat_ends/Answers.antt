@@ -4,7 +4,7 @@ use Rattle.bq_link.proofs.NewLemmas.{core_more, seats_more}
 use Rattle.bq_link.proofs.making.seat_ends.Goals as goal
 
 pub loop-number-preserved : goal.loop-number-preserved
-loop-number-preserved c =
+loop-number-preserved g c =
     let so_far = c.loop-number.invariant in
     let seat = c.in_ok-seat.seat in
     let made = c.in_ok-seat.ensures in

@@ -4,7 +4,7 @@ use Rattle.bq_link.specs.NewEnds.{AreNewSeats, IsNewCore}
 use Rattle.bq_link.proofs.making.seat_ends.Given as goal
 
 abbrev pub invariant-loop-number : goal.invariant-loop-number
-invariant-loop-number l = record {
+invariant-loop-number g l = record {
   intake : l.core.intake ≡ l.fn.core.intake;
   core : IsNewCore l._number l.core;
   seats : AreNewSeats l.core l.seats.items;
