@@ -1,11 +1,11 @@
 -- The headline whole, from a history and the laws of runs.
-use Rattle.std.proofs.Common.{◌≡◌, ℕ, Bool, List, [], ◌∷◌, ◌++◌, Option, refl, sym, ◌∙◌, subst}
+use Rattle.std.proofs.Common.{ℕ, Bool, List, Option, subst}
 use Rattle.bq_job.specs.Happenings.{happenings, parts_of_run}
-use Rattle.bq_job.specs.Headline.{IsHistoryOf}
+use Rattle.bq_job.specs.Headline.{IsHistoryOf, IsHistoryOfLine}
 use Rattle.bq_job.specs.History.{LineOver}
 use Rattle.bq_job.specs.Machine.{Machine, Settings, new_machine}
 use Rattle.bq_job.specs.Runs.{GoesBy, Transition}
-use Rattle.bq_job.specs.TheHeadline.{AreJobsServed, HeadlineHolds}
+use Rattle.bq_job.specs.TheHeadline.{AreJobsServed, HeadlineHolds, LineHeadlineHolds}
 use Rattle.bq_job.proofs.AnswerPlaces.{none_after_drain, none_after_last_id, run_deletes, run_gives_least}
 use Rattle.bq_job.proofs.KeptJobLemmas.{accepted_is_kept, held_by_one_always}
 use Rattle.bq_job.proofs.RunLawLemmas.{at_most_once, in_order}
@@ -39,4 +39,20 @@ headline_holds settings doors control failed readings last h = let run = h.run.r
       of_control = h.of_control;
       of_nobody_else = h.of_nobody_else;
       jobs = jobs_served settings run.taken last run.goes;
+    }
+
+pub line_headline_holds : (settings : Settings) (seat : ℕ) (line : LineOver) (readings : List (Option ℕ)) → IsHistoryOfLine settings seat line readings → LineHeadlineHolds settings seat line readings
+line_headline_holds settings seat line readings h = let run = h.run.runs.1 in
+    record {
+      history = h.history;
+      given = h.given;
+      taken = run.taken;
+      last = h.last;
+      goes = run.goes;
+      history_is = run.history_is;
+      given_is = run.given_is;
+      timed = h.run.timed;
+      of_line = h.of_line;
+      of_nobody_else = h.of_nobody_else;
+      jobs = jobs_served settings run.taken h.last run.goes;
     }

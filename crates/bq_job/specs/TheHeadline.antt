@@ -1,7 +1,7 @@
 -- The headline whole: of a run that left a history, the one run of the machine along it, the bytes of each
 -- line, and what became of jobs.
-use Rattle.std.specs.Prelude.{ℕ, Bool, false, ◌≡◌, ◌≤◌, List, [], ◌∷◌, ◌++◌, Option, Contains, count_by, flat_map, length, map}
-use Rattle.std.specs.List.{list_any}
+use Rattle.std.specs.Prelude.{ℕ, Bool, false, ◌≡◌, ◌≤◌, ◌==◌, List, [], ◌∷◌, ◌++◌, Option, Contains, IsTrue, count_by, flat_map, length, map}
+use Rattle.std.specs.List.{list_all, list_any}
 use Rattle.bq_job.specs.declared.answer.Answer.TheVariants.{Deleted, Inserted}
 use Rattle.bq_job.specs.declared.job.Job.{Job}
 use Rattle.bq_job.specs.declared.step.Step.TheVariants.{Drain}
@@ -9,11 +9,12 @@ use Rattle.bq_job.specs.ControlDid.{IsControlDone}
 use Rattle.bq_job.specs.Dispatch.{GivenAnswer}
 use Rattle.bq_job.specs.Happenings.{Happening, Part, happenings, parts_of_run, put}
 use Rattle.bq_job.specs.Headline.{AreDoorsOwed, AreSeatsUpTo}
-use Rattle.bq_job.specs.History.{IsTimedBy, LineOver, steps_at}
+use Rattle.bq_job.specs.History.{IsTimedBy, LineOver, steps_at, without_ticks}
 use Rattle.bq_job.specs.JobCommands.{last_id}
 use Rattle.bq_job.specs.LawsOfRuns.{GivesLeast, IsDeletion, IsHeldByOne, IsKept, has_inserted}
+use Rattle.bq_job.specs.LineOwed.{AreLinesOwed}
 use Rattle.bq_job.specs.Machine.{Machine, Settings, new_machine}
-use Rattle.bq_job.specs.Runs.{Entry, GoesBy, Transition}
+use Rattle.bq_job.specs.Runs.{Entry, GoesBy, Transition, answers_to}
 use Rattle.bq_job.specs.Undisturbed.{IsHandedOut, IsHandedOutBefore, IsPutBefore, IsUndisturbed, is_deletion, is_hand_out}
 
 -- What becomes of jobs as these steps are taken, and these things happen to jobs.
@@ -56,4 +57,18 @@ pub record HeadlineHolds (settings : Settings) (doors : List (List LineOver)) (c
   -- The control line has the seat behind them, and nobody else has a step.
   pub of_control : IsControlDone control failed (steps_at settings.seats history)
   pub of_nobody_else : AreSeatsUpTo settings.seats history
+  pub jobs : AreJobsServed taken (happenings (parts_of_run taken))
+
+-- The same of a lone line at a seat.
+pub record LineHeadlineHolds (settings : Settings) (seat : ℕ) (line : LineOver) (readings : List (Option ℕ)) : Type 0 where
+  pub history : List Entry
+  pub given : List GivenAnswer
+  pub taken : List Transition
+  pub last : Machine
+  pub goes : GoesBy (new_machine settings) taken last
+  pub history_is : map (λ t. t.entry) taken ≡ history
+  pub given_is : flat_map (λ t. t.given) taken ≡ given
+  pub timed : IsTimedBy readings history
+  pub of_line : AreLinesOwed settings.max_job_size (line ∷ []) (steps_at seat history) (answers_to seat given)
+  pub of_nobody_else : IsTrue (list_all (λ e. e.seat == seat) (without_ticks history))
   pub jobs : AreJobsServed taken (happenings (parts_of_run taken))

@@ -13,7 +13,7 @@ ghost use Rattle.bq_job.specs.OneClient.{GetsAtMost, GetsWhatWaits, is_connected
 ghost use Rattle.bq_job.specs.Runs.{Entry, answers_to};
 ghost use Rattle.bq_job.specs.SeatDid.{AreLinesServed, IsLineServed};
 ghost use Rattle.bq_job.specs.Steps.{IsStep, Outcome};
-ghost use Rattle.bq_job.specs.TheHeadline.{HeadlineHolds};
+ghost use Rattle.bq_job.specs.TheHeadline.{HeadlineHolds, LineHeadlineHolds};
 
 /// A step of another seat gives a client at most the answer that it waits for, and nothing else.
 pub fn others_give_what_waits()
@@ -60,14 +60,17 @@ pub fn one_line_more()
         → AreLinesServed max_job_size (lines ++ line ∷ []) (submitted ++ more) (taken ++ got) }
 {}
 
-/// The headline, whole. Where a run left a history of everybody's steps, the machine with one plain list of jobs
-/// takes that history by one run, and each line was written exactly the bytes that its answers come to. In that
-/// run each job that is handed out is the least that the client may have, an undisturbed one is handed out at most
-/// once and in its order, none is lost before a delete, one client at most holds a job, and once draining no put
-/// is accepted.
+/// The headline, whole, of a run over doors and of a lone line. Where a run left a history of everybody's steps,
+/// the machine with one plain list of jobs takes that history by one run, and each line was written exactly the
+/// bytes that its answers come to. In that run each job that is handed out is the least that the client may have,
+/// an undisturbed one is handed out at most once and in its order, none is lost before a delete, one client at
+/// most holds a job, and once draining no put is accepted.
 pub fn the_headline()
-    ensures { (settings : Settings) (doors : List (List LineOver)) (control : List ℕ) (failed : Bool)
+    ensures run { (settings : Settings) (doors : List (List LineOver)) (control : List ℕ) (failed : Bool)
         (readings : List (Option ℕ)) (last : Machine)
         → IsHistoryOf settings doors control failed readings last
         → HeadlineHolds settings doors control failed readings last }
+    ensures line { (settings : Settings) (seat : ℕ) (line : LineOver) (readings : List (Option ℕ))
+        → IsHistoryOfLine settings seat line readings
+        → LineHeadlineHolds settings seat line readings }
 {}
