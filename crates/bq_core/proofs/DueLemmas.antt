@@ -137,10 +137,6 @@ all_turned : {A B : Type 0} (p : A → B → Bool) (xs : List A) (ys : List B) �
 all_turned p [] ys = sym (all_always_true ys)
 all_turned p (x ∷ xs) ys = ap (λ b. list_all (p x) ys && b) (all_turned p xs ys) ∙ all_of_both (p x) (λ y. list_all (λ x. p x y) xs) ys
 
-either_all : {A : Type 0} (b : Bool) (p : A → Bool) (xs : List A) → (b || list_all p xs) ≡ list_all (λ x. b || p x) xs
-either_all true p xs = sym (all_always_true xs)
-either_all false p xs = refl
-
 not_all : {A : Type 0} (p : A → Bool) (xs : List A) (x : A) → Contains xs x → p x ≡ false → list_all p xs ≡ false
 not_all p xs x here h = elim (cases_Bool (list_all p xs)) [
   | inl all ↦ absurd (let e : p x ≡ true = all_at (λ y. p y ≡ true) xs x (all_pass p xs all) here in cc)

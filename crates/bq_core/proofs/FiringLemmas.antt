@@ -271,9 +271,6 @@ dues_are t j = due_is t j.state
 pub expiries_are : (t : ℕ) (j : Job) → is_expired t j.state ≡ (is_reserved j.state && nat_le (deadline_of j.state) t)
 expiries_are t j = expired_is t j.state
 
-pub endings_are : (seat t : ℕ) (j : Job) → is_ending_lease t seat j.state ≡ (is_held_by seat j && nat_le (deadline_of j.state) (t + 1000))
-endings_are seat t j = ending_is t seat j.state
-
 -- one job is given back
 held_back : (seat : ℕ) (j : Job) → is_held_by seat j ≡ true → given_back seat j ≡ in_state states.Ready j
 held_back seat j h = rw h refl

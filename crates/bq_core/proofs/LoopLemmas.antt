@@ -1,5 +1,5 @@
 -- What loops over lists keep from turn to turn.
-use Rattle.std.proofs.Common.{◌≡◌, ℕ, zero, suc, ◌+◌, ◌<◌, Bool, List, [], ◌∷◌, ◌++◌, Option, length, get_or, set, take, drop, map, refl, sym, ap, ◌∙◌, cond, ◌&&◌, None, Some, arith, add-one}
+use Rattle.std.proofs.Common.{◌≡◌, ℕ, zero, suc, ◌+◌, ◌<◌, Bool, List, [], ◌∷◌, ◌++◌, Option, length, get_or, set, take, drop, map, refl, sym, ap, ◌∙◌, cond, ◌&&◌, None, Some, arith}
 use Rattle.std.specs.Prelude.{fold}
 use Rattle.std.proofs.lemmas.List.Sums.{fold_more}
 use Rattle.std.proofs.lemmas.Option.{slice_get-get_or, slice_get_read}
@@ -25,18 +25,6 @@ length_changed f [] zero = refl
 length_changed f [] (suc i) = refl
 length_changed f (x ∷ xs) zero = refl
 length_changed f (x ∷ xs) (suc i) = ap suc (length_changed f xs i)
-
--- a turn of a loop that changes each element in its place
-pub change_more : {A : Type 0} (f : A → A) (now start : List A) (i : ℕ) (d y : A) → now ≡ changed_before f i start → i < length now → y ≡ f (get_or now i d) → set now i y ≡ changed_before f (i + 1) start
-change_more f now start i d y shape fits made =
-    let len : length now ≡ length start = ap length shape ∙ length_changed f start i in
-    let within : i < length start = omega arith in
-    let same : get_or now i d ≡ get_or start i d = ap (λ xs. get_or xs i d) shape ∙ read_next f start i d within in
-    rw add-one (
-    ap (λ xs. set xs i y) shape
-    ∙ ap (set (changed_before f i start) i) (made ∙ ap f same)
-    ∙ write_next f start i d within
-    )
 
 -- a turn of a loop that looks for the first one by an order
 pub first_of_more : {A : Type 0} (passes : A → Bool) (before : A → A → Bool) (xs : List A) (i : ℕ) (best : Option A) → i < length xs → best ≡ first_of passes before (take i xs) → better_at passes before xs best i ≡ first_of passes before (take (i + 1) xs)

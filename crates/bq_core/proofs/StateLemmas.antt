@@ -1,9 +1,9 @@
 -- What changes of the state keep.
-use Rattle.std.proofs.Common.{◌≡◌, ℕ, zero, suc, Bool, true, false, ◌&&◌, ◌||◌, ◌==◌, List, [], ◌∷◌, ◌++◌, Option, Some, None, map, refl, sym, ap, ◌∙◌, if◌then◌else◌, subst, inl, inr, length, ◌≤◌, ◌<◌, ◌+◌, arith, set, slice_get}
+use Rattle.std.proofs.Common.{◌≡◌, ℕ, zero, suc, Bool, true, false, ◌&&◌, ◌||◌, ◌==◌, List, [], ◌∷◌, ◌++◌, Some, None, map, refl, sym, ap, ◌∙◌, if◌then◌else◌, subst, inl, inr, length, ◌≤◌, ◌<◌, ◌+◌, arith, set, slice_get}
 use Rattle.std.proofs.Math.Bool.{and-false}
 use Rattle.std.proofs.lemmas.Bool.Decides.{nat_tests}
 use Rattle.std.proofs.lemmas.List.{length-map}
-use Rattle.std.specs.Prelude.{filter, nat_lt, IfSome}
+use Rattle.std.specs.Prelude.{filter, nat_lt}
 use Rattle.std.specs.List.{AllByRecursion as All, Contains, list_any}
 use Rattle.std.proofs.lemmas.Bool.{cases_Bool, eq-eqb, ne_eqb, or_cases, or_left, or_right, and_parts, and_from}
 use Rattle.bq_job.specs.declared.job.Job.{Job}
@@ -47,20 +47,6 @@ all_filtered {A = A} P p (x ∷ xs) all = kept (p x) (all_filtered P p xs all.1)
 pub all_with : {A : Type 0} (P : A → Type 0) (xs : List A) (x : A) → All P xs → P x → All P (xs ++ x ∷ [])
 all_with P [] x all h = (h, tt)
 all_with P (y ∷ xs) x all h = (all.0, all_with P xs x all.1 h)
-
-same_tube : (b : Bool) (x y : Job) (tube : List ℕ) → x.tube ≡ tube → y.tube ≡ tube → (if b then x else y).tube ≡ tube
-same_tube true x y tube h i = h
-same_tube false x y tube h i = i
-
--- no change moves a job to another tube
-pub tube_kept : (change : JobChange) (j : Job) → (changed change j).tube ≡ j.tube
-tube_kept (FireTimers moment) j = same_tube (is_due moment j.state) _ _ j.tube refl (same_tube (is_expired moment j.state) _ _ j.tube refl refl)
-tube_kept (HandOut seat moment) j = refl
-tube_kept GiveBack j = refl
-tube_kept (Release pri delay moment) j = refl
-tube_kept (Bury number pri) j = refl
-tube_kept (Touch seat deadline) j = refl
-tube_kept Kick j = refl
 
 same_id : (b : Bool) (x y : Job) (id : ℕ) → x.id ≡ id → y.id ≡ id → (if b then x else y).id ≡ id
 same_id true x y id h i = h
@@ -155,11 +141,6 @@ no_job_changed id f (k ∷ jobs) h = elim (cases_Bool (k.id == id)) [
   | inl same ↦ absurd (let e : Some k ≡ None = rw same at h in cc)
   | inr other ↦ let rest : job_with id jobs ≡ None = rw other at h in rw other (ap (λ ks. k ∷ ks) (no_job_changed id f jobs rest))
 ]
-
--- what is told of a thing if there is one
-pub if_some : {A : Type 0} (o : Option A) (P : A → Type 0) → ((x : A) → o ≡ Some x → P x) → IfSome o P
-if_some None P h = tt
-if_some (Some x) P h = h x refl
 
 -- comparisons change nothing else
 pub compared_sound : (old new : State) → OnlyCompares old new → IsSound old → IsSound new
@@ -295,9 +276,6 @@ has_provided name entries = go (has_entry name entries) refl
     go false h = has_inserted (fresh_tube name) entries
 
 -- Which tubes exist.
-default_is_tube : (jobs : List Job) (seats : List SeatRecord) → is_tube_of jobs seats default_tube ≡ true
-default_is_tube jobs seats = refl
-
 job_is_in_tube : (jobs : List Job) (seats : List SeatRecord) (j : Job) → Contains jobs j → is_tube_of jobs seats j.tube ≡ true
 job_is_in_tube jobs seats j here =
     or_left _ (list_any (is_seated_at j.tube) seats)

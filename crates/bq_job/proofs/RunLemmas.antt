@@ -1,5 +1,5 @@
 -- Runs, one step at a time: what a run of no step, of a first step, of a last step and of two parts is.
-use Rattle.std.proofs.Common.{◌≡◌, List, [], ◌∷◌, ◌++◌, map, refl, sym, ap, ◌∙◌, subst, append_assoc, append-nil}
+use Rattle.std.proofs.Common.{◌≡◌, List, [], ◌∷◌, ◌++◌, map, refl, sym, ap, ◌∙◌, subst, append_assoc}
 use Rattle.std.specs.Prelude.{flat_map}
 use Rattle.bq_job.specs.Dispatch.{GivenAnswer}
 use Rattle.bq_job.specs.Machine.{Machine}
@@ -81,12 +81,6 @@ run_append first next last (e ∷ history) more given later r s =
     let b = run_first first next e history given r in
     subst (λ (xs : List GivenAnswer). Run first (e ∷ history ++ more) xs last) (sym (append_assoc b.now b.more later) ∙ ap (λ (xs : List GivenAnswer). xs ++ later) (sym b.given_is))
     (run_from first b.next last e (history ++ more) b.outcome b.now (b.more ++ later) b.step (run_append b.next next last history more b.more later b.rest s))
-
--- a run, and one step more
-pub run_more : (first : Machine) (history : List Entry) (so_far : List GivenAnswer) (last next : Machine) (e : Entry) (outcome : Outcome) (given : List GivenAnswer) → Run first history so_far last → IsStep last e.moment e.seat e.what outcome given next → Run first (history ++ e ∷ []) (so_far ++ given) next
-run_more first history so_far last next e outcome given r step =
-    run_append first last next history (e ∷ []) so_far given r
-    (subst (λ (xs : List GivenAnswer). Run last (e ∷ []) xs next) (append-nil given) (run_from last next next e [] outcome given [] step (run_none next)))
 
 pub run_split : (first last : Machine) (history more : List Entry) (given : List GivenAnswer) → Run first (history ++ more) given last → Splits first history more given last
 run_split first last [] more given r = record { given_first = []; given_then = given; middle = first; run_first = run_none first; run_then = r; given_is = refl }

@@ -1,7 +1,6 @@
 -- Runs of the machine over a history.
-use Rattle.std.specs.Prelude.{ℕ, ◌≡◌, ◌==◌, List, [], ◌∷◌, map, filter, flat_map, slice_index_or}
+use Rattle.std.specs.Prelude.{ℕ, ◌≡◌, ◌==◌, List, [], ◌∷◌, map, filter, flat_map}
 use Rattle.bq_job.specs.declared.answer.Answer.{Answer}
-use Rattle.bq_job.specs.declared.answer.Answer.TheVariants as answers
 use Rattle.bq_job.specs.declared.step.Step.{Step}
 use Rattle.bq_job.specs.Dispatch.{GivenAnswer}
 use Rattle.bq_job.specs.Machine.{Machine}
@@ -77,17 +76,3 @@ Run first history given last = (outcomes : List Outcome) × RunBy first history 
 -- the answers that go to a seat
 abbrev pub answers_to : ℕ → List GivenAnswer → List Answer
 answers_to seat given = map (λ g. g.1) (filter (λ g. g.0 == seat) given)
-
-abbrev pub begun_with : Answer → List (List Answer) → List (List Answer)
-begun_with answer [] = (answer ∷ []) ∷ []
-begun_with answer (part ∷ parts) = (answer ∷ part) ∷ parts
-
--- A connection's answers end at its `Closed`; the last part is of a connection that isn't closed yet.
-abbrev pub by_connection : List Answer → List (List Answer)
-by_connection [] = [] ∷ []
-by_connection (answers.Closed ∷ more) = [] ∷ by_connection more
-by_connection (answer ∷ more) = begun_with answer (by_connection more)
-
--- the answers to the nth connection at the seat, counted from 0
-abbrev pub answers_of_line : ℕ → ℕ → List GivenAnswer → List Answer
-answers_of_line seat n given = slice_index_or (by_connection (answers_to seat given)) n []

@@ -23,11 +23,6 @@ equal_from Less h = absurd cc
 equal_from Equal h = refl
 equal_from Greater h = absurd cc
 
-pub greater_from : (a : Ordering) → is_gt a ≡ true → a ≡ Greater
-greater_from Less h = absurd cc
-greater_from Equal h = absurd cc
-greater_from Greater h = refl
-
 -- two comparisons, one after the other
 pub then_equal_first : (a b : Ordering) → ordering_then a b ≡ Equal → a ≡ Equal
 then_equal_first Less b h = absurd cc

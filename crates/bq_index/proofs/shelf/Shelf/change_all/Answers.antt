@@ -1,4 +1,4 @@
-use Rattle.std.proofs.Common.{◌≡◌, ◌∙◌, ap, length, subst, sym}
+use Rattle.std.proofs.Common.{◌∙◌, ap, length, subst, sym}
 use Rattle.std.proofs.lemmas.List.{length-map}
 use Rattle.std.specs.List.Sorted.{IsStrictlySortedBy}
 use Rattle.bq_index.specs.Order.{InOrder}
