@@ -1,11 +1,12 @@
 -- Searches add up.
-use Rattle.std.proofs.Common.{◌≡◌, ◌==◌, not, ℕ, zero, suc, ◌+◌, ◌*◌, ◌/◌, ◌≤◌, true, false, length, max, ap, refl, sym, ◌∙◌, arith, inl, inr, subst}
+use Rattle.std.proofs.Common.{◌≡◌, ◌==◌, not, Bool, List, ℕ, zero, suc, ◌+◌, ◌*◌, ◌/◌, ◌<◌, ◌≤◌, true, false, cond, get_or, take, length, max, ap, refl, sym, ◌∙◌, arith, inl, inr, subst}
+use Rattle.std.specs.List.{count_by}
 use Rattle.std.proofs.Math.Nat.{add-mul}
 use Rattle.std.proofs.lemmas.Nat.{mul-le}
 use Rattle.std.proofs.lemmas.Bool.{cases_Bool}
 use Rattle.std.proofs.lemmas.Bool.Decides.{nat_tests}
 use Rattle.bq_index.specs.Digits.{binary_digits, digits_up_to}
-use Rattle.std.proofs.lemmas.List.Sums.{count_by-le-length, length-filter}
+use Rattle.std.proofs.lemmas.List.Sums.{count_by-le-length, length-filter, sum_by_more}
 use Rattle.bq_job.specs.declared.job.Job.{Job}
 use Rattle.bq_jobs.specs.Kept.{ComparesAtMost, Kept, without}
 use Rattle.bq_core.specs.Asking.{Asks, AsksAsChanged, AsksWithin, search_among}
@@ -31,7 +32,7 @@ search_grows i j l = omega (arith, digits_rise (2 * i + 2) (2 * j + 2) (2 * i + 
 
 -- nothing is asked
 pub asks_none : (k : Kept) → Asks 0 k k
-asks_none k = record { many = refl; rise = omega arith }
+asks_none k = record { many = refl; stays = omega arith; rise = omega arith }
 
 -- the same jobs are as they were
 pub asks_same : {old new : Kept} → new ≡ old → Asks 0 old new
@@ -39,33 +40,39 @@ asks_same {old = old} e = subst (Asks 0 old) (sym e) (asks_none old)
 
 -- what the jobs are asked alone
 pub asked : (n : ℕ) {old new : Kept} → new ≡ record old { comparisons = new.comparisons } → ComparesAtMost n old new → Asks n old new
-asked n e h = record { many = ap (λ (k : Kept). length k.jobs) e; rise = h.1 }
+asked n e h = record { many = ap (λ (k : Kept). length k.jobs) e; stays = h.0; rise = h.1 }
 
 -- first these searches, and then those
 pub asks_then : {n k : ℕ} {first between last : Kept} → Asks n first between → Asks k between last → Asks (n + k) first last
 asks_then {n = n} {k = k} {first = first} {between = between} {last = last} a b =
     let s = search_among (length first.jobs) in
     let same : k * search_among (length between.jobs) ≡ k * s = ap (λ i. k * search_among i) a.many in
-    record { many = b.many ∙ a.many; rise = omega (arith, a.rise, b.rise, same, add-mul n k s) }
+    record { many = b.many ∙ a.many; stays = omega (arith, a.stays, b.stays); rise = omega (arith, a.rise, b.rise, same, add-mul n k s) }
+
+-- a turn of a loop that asks once for each element that passes
+pub asks_counted : {A : Type 0} (p : A → Bool) (xs : List A) (i : ℕ) (x : A) {first between last : Kept} → i < length xs → x ≡ get_or xs i x → Asks (count_by p (take i xs)) first between → Asks (cond (p x) 1 0) between last → Asks (count_by p (take (i + 1) xs)) first last
+asks_counted p xs i x {first = first} {last = last} fits read a b =
+    let sum : count_by p (take (i + 1) xs) ≡ count_by p (take i xs) + cond (p x) 1 0 = sum_by_more (λ y. cond (p y) 1 0) xs i x fits ∙ ap (λ y. count_by p (take i xs) + cond (p y) 1 0) (sym read) in
+    subst (λ n. Asks n first last) (sym sum) (asks_then a b)
 
 -- so many searches are no more than more of them
 pub asks_more : {n : ℕ} (k : ℕ) {old new : Kept} → n ≤ k → Asks n old new → Asks k old new
 asks_more {n = n} k {old = old} l a =
     let s = search_among (length old.jobs) in
-    record { many = a.many; rise = omega (arith, a.rise, mul-le n s k s l (omega arith)) }
+    record { many = a.many; stays = a.stays; rise = omega (arith, a.rise, mul-le n s k s l (omega arith)) }
 
 pub within : {n : ℕ} (k : ℕ) {old new : Kept} → n ≤ k → Asks n old new → AsksWithin k old new
 within {n = n} k {old = old} {new = new} l a =
     let s = search_among (length old.jobs) in
     let t = search_among (max (length old.jobs) (length new.jobs)) in
-    record { rise = omega (arith, a.rise, mul-le n s k t l (search_grows (length old.jobs) (max (length old.jobs) (length new.jobs)) (omega arith))) }
+    record { stays = a.stays; rise = omega (arith, a.rise, mul-le n s k t l (search_grows (length old.jobs) (max (length old.jobs) (length new.jobs)) (omega arith))) }
 
 -- a job is taken out and put back
 pub moved : (old between new : Kept) (id : ℕ) → between.jobs ≡ without id old.jobs → length new.jobs ≡ length old.jobs → ComparesAtMost 4 old between → ComparesAtMost 4 between new → Asks 8 old new
 moved old between new id out back a b =
     let fewer : length between.jobs ≤ length old.jobs =
     omega (arith, ap length out, length-filter (λ (k : Job). not (k.id == id)) old.jobs, count_by-le-length (λ (k : Job). not (k.id == id)) old.jobs) in
-    record { many = back; rise = omega (arith, a.1, b.1, search_grows (length between.jobs) (length old.jobs) fewer) }
+    record { many = back; stays = omega (arith, a.0, b.0); rise = omega (arith, a.1, b.1, search_grows (length between.jobs) (length old.jobs) fewer) }
 
 -- what is asked at most of few jobs
 pub few_asked : {n : ℕ} {old new : Kept} → n ≤ 10 → Asks n old new → AsksAsChanged old new
@@ -83,4 +90,4 @@ asked_before n k {old = old} {between = between} {new = new} few a b =
     let all = 9 * changed_jobs old.jobs new.jobs + 10 in
     let same : k * search_among (length between.jobs) ≡ k * s = ap (λ i. k * search_among i) a.many in
     let sum : (n + k) * s ≤ all * t = mul-le (n + k) s all t (omega arith) (search_grows (length old.jobs) most (omega arith)) in
-    record { rise = omega (arith, a.rise, b.1, same, sum, add-mul n k s) }
+    record { stays = omega (arith, a.stays, b.0); rise = omega (arith, a.rise, b.1, same, sum, add-mul n k s) }

@@ -119,6 +119,7 @@ step_within first at seat what begun between asked new acted_state left last emp
     omega (arith, here, (leaves_acted b.acts.memory before seat what kept).waiting, fewer, v)) in
     record {
       step = whole_step first at seat what begun between asked new acted_state left last empty in_it shared b y;
+      stays = omega (arith, timers.stays, serves.stays, acts.stays, serves_then.stays);
       comparisons = summed first.jobs b.fired.jobs b.served_state.jobs left.jobs last.jobs _ _ 0 _ _ timers serves acts serves_then
           (bounded (ripening at m) (length b.serves.handed) (changed_jobs b.served_state.jobs.jobs left.jobs.jobs) (length y.handed) q (waited fired) (waiting_count fired) (waited (machine_of left)) (waiting_count (machine_of left)) w v x z);
     }

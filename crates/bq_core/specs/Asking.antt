@@ -10,13 +10,15 @@ use Rattle.bq_core.specs.Outbox.{Outbox}
 abbrev pub search_among : ℕ → ℕ
 search_among jobs = 2 * binary_digits (2 * jobs + 2)
 
--- There are as many jobs as before, and no more comparisons than in n searches among them.
+-- There are as many jobs as before. The comparisons don't fall, and there are no more than in n searches among them.
 pub record Asks (n : ℕ) (old new : Kept) : Type 0 where
   pub many : length new.jobs ≡ length old.jobs
+  pub stays : old.comparisons ≤ new.comparisons
   pub rise : new.comparisons ≤ old.comparisons + n * search_among (length old.jobs)
 
--- No more comparisons than in n searches among as many jobs as there are before or after.
+-- The comparisons don't fall, and there are no more than in n searches among as many jobs as there are before or after.
 pub record AsksWithin (n : ℕ) (old new : Kept) : Type 0 where
+  pub stays : old.comparisons ≤ new.comparisons
   pub rise : new.comparisons ≤ old.comparisons + n * search_among (max (length old.jobs) (length new.jobs))
 
 -- For each answer that was added so many searches and nine, and once so many.

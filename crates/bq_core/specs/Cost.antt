@@ -64,10 +64,17 @@ entries seat m = sum_by (entries_with seat) m.seats
 -- A step, and from how many comparisons to how many it came. Its changes are the jobs that ripened, those
 -- that were handed out, or would have been but for the share of a body, and those that the command added,
 -- took out or changed. No part of a step adds a job and none takes one out but the command: so there were
--- never more jobs than before or after it.
+-- never more jobs than before or after it. The comparisons don't fall.
 pub record IsStepWithin (first : Machine) (at seat : ℕ) (what : Step) (outcome : Outcome) (answers : List GivenAnswer) (last : Machine) (old new : ℕ) : Type 0 where
   pub step : IsStep first at seat what outcome answers last
+  pub stays : old ≤ new
   pub comparisons :
       let changes = ripening at first + length step.handed + length step.handed_then + changed_jobs step.before.jobs step.after.jobs in
       let jobs = max (length first.jobs) (length last.jobs) in
       new ≤ old + (changes + 8) * (entries seat first + 16) * (2 * binary_digits (2 * jobs + 2))
+
+-- From how many comparisons to how many a look for the next due moment came: no fewer, and no more than in two
+-- searches and one for each client that waits.
+pub record IsLookWithin (m : Machine) (old new : ℕ) : Type 0 where
+  pub stays : old ≤ new
+  pub comparisons : new ≤ old + (count_by is_waiting m.seats + 2) * (2 * binary_digits (2 * length m.jobs + 2))

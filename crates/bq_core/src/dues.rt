@@ -1,8 +1,9 @@
-ghost use Rattle.std.specs.Prelude.{◌≡◌, None, fold, ℕ};
+ghost use Rattle.std.specs.Prelude.{◌≡◌, ◌+◌, None, count_by, fold, if◌then◌else◌, ℕ};
 ghost use Rattle.std.specs.List.{list_any};
 ghost use Rattle.std.specs.Option.{option_map};
 ghost use Rattle.bq_job.specs.Changes.{is_waiting};
 ghost use Rattle.bq_job.specs.NextDue.{next_due as next_due_of};
+ghost use Rattle.bq_core.specs.Asking.{Asks};
 ghost use Rattle.bq_core.specs.Dues.{earlier_of_both, jobs_due, warning_due, with_seat_due, with_warning_due};
 ghost use Rattle.bq_core.specs.State.{machine_of, IsSound, OnlyCompares};
 
@@ -35,6 +36,7 @@ fn moment_of(found: Option<(Moment, JobId)>) -> Option<Moment>
 fn warning_due(jobs: &mut Jobs, place: &Place) -> Option<Moment>
     ensures due { result ≡ warning_due jobs.old.jobs place.now }
     ensures same { jobs.new ≡ record jobs.old { comparisons = jobs.new.comparisons } }
+    ensures asks { Asks (if is_waiting place.now then 1 else 0) jobs.old jobs.new }
 {
     if !place.is_waiting() {
         return None;
@@ -48,6 +50,7 @@ fn warning_due(jobs: &mut Jobs, place: &Place) -> Option<Moment>
 fn first_warning(jobs: &mut Jobs, seats: &[Place]) -> Option<Moment>
     ensures due { result ≡ fold (with_warning_due jobs.old.jobs) None seats.now }
     ensures same { jobs.new ≡ record jobs.old { comparisons = jobs.new.comparisons } }
+    ensures asks { Asks (count_by is_waiting seats.now) jobs.old jobs.new }
 {
     let mut best = None;
     for i in 0..seats.len() {
@@ -61,6 +64,7 @@ fn warnings_due(jobs: &mut Jobs, seats: &[Place], has_waiter: bool) -> Option<Mo
     requires { has_waiter ≡ list_any is_waiting seats.now }
     ensures due { result ≡ fold (with_warning_due jobs.old.jobs) None seats.now }
     ensures same { jobs.new ≡ record jobs.old { comparisons = jobs.new.comparisons } }
+    ensures asks { Asks (count_by is_waiting seats.now) jobs.old jobs.new }
 {
     if has_waiter {
         first_warning(jobs, seats)
@@ -74,6 +78,7 @@ fn jobs_due(jobs: &mut Jobs, seats: &[Place], has_waiter: bool) -> Option<Moment
     requires { has_waiter ≡ list_any is_waiting seats.now }
     ensures due { result ≡ jobs_due jobs.old.jobs seats.now }
     ensures same { jobs.new ≡ record jobs.old { comparisons = jobs.new.comparisons } }
+    ensures asks { Asks (count_by is_waiting seats.now + 2) jobs.old jobs.new }
 {
     let due = moment_of(jobs.next_due());
     let deadline = moment_of(jobs.next_deadline());
@@ -110,6 +115,7 @@ pub(crate) fn next_due(state: &mut State) -> Option<Moment>
     requires { IsSound state.old }
     ensures due { result ≡ next_due_of (machine_of state.old) }
     ensures same { OnlyCompares state.old state.new }
+    ensures asks { Asks (count_by is_waiting state.old.seats.items + 2) state.old.jobs state.new.jobs }
     ensures sound { IsSound state.new }
 {
     let has_waiter = state.has_waiter();

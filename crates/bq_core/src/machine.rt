@@ -4,7 +4,7 @@ ghost use Rattle.bq_job.specs.Lawful.{IsLawful};
 ghost use Rattle.bq_job.specs.Machine.{new_machine};
 ghost use Rattle.bq_job.specs.NextDue.{next_due};
 ghost use Rattle.bq_job.specs.Steps.{IsStep};
-ghost use Rattle.bq_core.specs.Cost.{IsStepWithin};
+ghost use Rattle.bq_core.specs.Cost.{IsLookWithin, IsStepWithin};
 ghost use Rattle.bq_core.specs.Limits.{is_body_size, is_seat_count};
 ghost use Rattle.bq_core.specs.State.{machine_of, settings_of, IsSound};
 ghost use Rattle.bq_core.specs.Serving.{NoneIsGone, ServesAsking};
@@ -134,6 +134,7 @@ impl Core {
     pub fn next_due(&mut self) -> Option<Moment>
         ensures due { result ≡ next_due self.old.machine }
         ensures same { self.new.machine ≡ self.old.machine }
+        ensures comparisons { IsLookWithin self.old.machine self.old.comparisons self.new.comparisons }
     {
         dues::next_due(&mut self.state)
     }

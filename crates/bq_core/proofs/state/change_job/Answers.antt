@@ -36,5 +36,6 @@ pub returns-in_default-clause-asks : goal.returns-in_default-clause-asks
 returns-in_default-clause-asks c =
     asks_more 8 (omega arith) (record {
       many = ap (λ (x : Machine). length x.jobs) (returns-in_default-clause-after c) ∙ length-map (machine_of c.args.state.now).jobs _;
+      stays = c.in_default.ensures.asks.0;
       rise = c.in_default.ensures.asks.1;
     })
