@@ -7,7 +7,7 @@ use crate::place::Place;
 
 /// How many clients are connected, and how many wait. A count stops at 2^64 - 1, which no number of seats
 /// comes to.
-#[derive(Clone, Copy, Debug, Default, PartialEq, Eq)]
+#[derive(Clone, Copy, Default, PartialEq, Eq)]
 pub(crate) struct Clients {
     pub(crate) connected: u64,
     pub(crate) waiting: u64,

@@ -3,7 +3,7 @@ ghost use Rattle.std.specs.Prelude.{◌≡◌};
 ghost use Rattle.bq_core.specs.Crowds.{crowd_with, crowd_without, has_seats, is_none, recounted};
 
 /// What a seat counts for at a tube: whether its client uses it, watches it, and waits at it.
-#[derive(Clone, Copy, Debug)]
+#[derive(Clone, Copy)]
 pub(crate) struct Share {
     pub(crate) using: bool,
     pub(crate) watching: bool,
@@ -12,7 +12,7 @@ pub(crate) struct Share {
 
 /// How many clients use a tube, watch it, and wait at it. A count stops at 2^64 - 1, which no number of
 /// seats comes to.
-#[derive(Clone, Copy, Debug, Default, PartialEq, Eq)]
+#[derive(Clone, Copy, Default, PartialEq, Eq)]
 pub(crate) struct Crowd {
     pub(crate) using: u64,
     pub(crate) watching: u64,
@@ -20,7 +20,7 @@ pub(crate) struct Crowd {
 }
 
 /// Whether a share is counted from now on, or no longer.
-#[derive(Clone, Copy, Debug)]
+#[derive(Clone, Copy)]
 pub(crate) enum Moving {
     Comes,
     Goes,

@@ -24,7 +24,7 @@ use std::alloc::Global;
 const LAST_ID: JobId = u64::MAX - 1;
 
 /// A new job, as its client wants it.
-#[derive(Debug, Drop)]
+#[derive(Drop)]
 pub(crate) struct NewJob {
     pub(crate) pri: Pri,
     pub(crate) delay: u32,
@@ -33,7 +33,7 @@ pub(crate) struct NewJob {
 }
 
 /// What a released job gets.
-#[derive(Clone, Copy, Debug)]
+#[derive(Clone, Copy)]
 pub(crate) struct NewTurn {
     pub(crate) pri: Pri,
     pub(crate) delay: u32,

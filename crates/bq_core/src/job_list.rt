@@ -19,7 +19,7 @@ use bq_job::{Body, Job, JobId, JobState, Moment, NoMemory, Pri, Seat, TubeName};
 use bq_jobs::Jobs;
 
 /// What happens to a job.
-#[derive(Clone, Copy, Debug)]
+#[derive(Clone, Copy)]
 pub(crate) enum JobChange {
     /// Timers fire at this moment.
     FireTimers(Moment),
@@ -38,7 +38,7 @@ pub(crate) enum JobChange {
 }
 
 /// The jobs of a tube that a client can choose the first of.
-#[derive(Clone, Copy, Debug)]
+#[derive(Clone, Copy)]
 pub(crate) enum JobKind {
     Ready,
     Delayed,
@@ -173,7 +173,7 @@ pub(crate) fn first(jobs: &mut Jobs, kind: JobKind, tube: &TubeName) -> Option<J
 }
 
 /// What a command asks of a job.
-#[derive(Clone, Copy, Debug)]
+#[derive(Clone, Copy)]
 pub(crate) enum JobTest {
     /// The client at this seat holds it.
     HeldBy(Seat),

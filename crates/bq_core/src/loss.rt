@@ -6,7 +6,7 @@ use bq_job::TubeName;
 
 /// Which tubes may be gone while their entries are still kept: only those are looked at when entries are
 /// dropped.
-#[derive(Clone, Copy, Debug)]
+#[derive(Clone, Copy)]
 pub(crate) enum Loss {
     /// None: each entry is of a tube that exists.
     Nothing,

@@ -21,7 +21,7 @@ use std::marker::Model;
 pub(crate) type Turn = (u64, Seat);
 
 /// A client that waits for a job.
-#[derive(Clone, Copy, Debug)]
+#[derive(Clone, Copy)]
 pub(crate) struct Waiting {
     ticket: u64,
     until: Option<Moment>,
@@ -38,7 +38,7 @@ impl Model for Waiting {
 }
 
 /// A place for one connection at a time. Who comes there uses and watches the default tube alone.
-#[derive(Debug, Drop)]
+#[derive(Drop)]
 pub(crate) struct Place {
     number: Seat,
     connected: bool,

@@ -1,7 +1,7 @@
 use bq_job::Answer;
 
 /// What a request comes to.
-#[derive(Debug, Drop)]
+#[derive(Drop)]
 pub(crate) enum Reply {
     Silent,
     Told(Answer),

@@ -16,7 +16,7 @@ use bq_job::{Moment, NoMemory, Seat, TubeName};
 use std::alloc::Global;
 
 /// What happens at a seat.
-#[derive(Clone, Copy, Debug)]
+#[derive(Clone, Copy)]
 pub(crate) enum SeatChange {
     /// The client waits no longer.
     StopWaiting,

@@ -8,7 +8,7 @@ const URGENT_BELOW: Pri = 1024;
 
 /// How many jobs are in each state. Urgent ones count as ready too. A count stops at 2^64 - 1, which no
 /// number of jobs comes to.
-#[derive(Clone, Copy, Debug, Default, PartialEq, Eq)]
+#[derive(Clone, Copy, Default, PartialEq, Eq)]
 pub(crate) struct Tally {
     pub(crate) urgent: u64,
     pub(crate) ready: u64,

@@ -12,7 +12,7 @@ use bq_job::{Job, Moment};
 use std::marker::Model;
 
 /// A pause of a tube.
-#[derive(Clone, Copy, Debug)]
+#[derive(Clone, Copy)]
 pub(crate) struct Pausing {
     seconds: u32,
     until: Moment,
@@ -45,7 +45,7 @@ impl Pausing {
 }
 
 /// What is kept of a tube that exists, beside its name.
-#[derive(Debug, Drop)]
+#[derive(Drop)]
 pub(crate) struct TubeEntry {
     pause: Option<Pausing>,
     puts: u64,
@@ -64,7 +64,7 @@ impl Model for TubeEntry {
 }
 
 /// What happens to a tube.
-#[derive(Clone, Copy, Debug)]
+#[derive(Clone, Copy)]
 pub(crate) enum TubeChange {
     CountPut,
     CountDelete,

@@ -13,7 +13,7 @@ use bq_job::{Moment, NoMemory, TubeName};
 use std::alloc::Global;
 
 /// Pauses that are over end.
-#[derive(Clone, Copy, Debug)]
+#[derive(Clone, Copy)]
 pub(crate) struct EndPauses {
     moment: Moment,
 }
@@ -35,7 +35,7 @@ impl Change<TubeName, TubeEntry> for EndPauses {
 }
 
 /// When the first pause ends among those that were seen.
-#[derive(Clone, Copy, Debug)]
+#[derive(Clone, Copy)]
 pub(crate) struct FirstEnd {
     moment: Option<Moment>,
 }
@@ -64,7 +64,7 @@ impl Visitor<TubeName, TubeEntry> for FirstEnd {
 }
 
 /// How many of those that were seen are of tubes that exist. The count stops at 2^64 - 1.
-#[derive(Clone, Copy, Debug)]
+#[derive(Clone, Copy)]
 pub(crate) struct HowMany {
     count: u64,
 }

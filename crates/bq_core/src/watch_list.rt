@@ -9,7 +9,7 @@ use std::alloc::Global;
 use std::marker::Model;
 
 /// The tubes that a client watches, in the order in which they were watched. There is one at least.
-#[derive(Debug, Drop)]
+#[derive(Drop)]
 pub(crate) struct WatchList {
     names: Vec<TubeName, Global>,
 }

@@ -6,7 +6,7 @@ use std::alloc::Global;
 use std::marker::Model;
 
 /// A text that is being written. All its memory is given when it is made.
-#[derive(Debug, Drop)]
+#[derive(Drop)]
 pub(crate) struct TextBuilder {
     bytes: Vec<u8, Global>,
 }

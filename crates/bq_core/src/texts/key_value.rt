@@ -8,7 +8,7 @@ use std::alloc::Global;
 use std::marker::Model;
 
 /// What stands behind a key.
-#[derive(Clone, Copy, Debug)]
+#[derive(Clone, Copy)]
 pub(crate) enum Value<'a> {
     Number(u64),
     Word(&'a [u8]),
@@ -37,7 +37,7 @@ impl<'a> Value<'a> {
 }
 
 /// A line of statistics: a key and its value.
-#[derive(Debug, Drop)]
+#[derive(Drop)]
 pub(crate) struct KeyValue<'a> {
     key: &'a [u8],
     value: Value<'a>,

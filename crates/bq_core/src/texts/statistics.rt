@@ -10,7 +10,7 @@ use bq_job::{Job, JobState, Moment, NoMemory, Text, TubeName};
 use std::alloc::Global;
 
 /// What is told of a tube.
-#[derive(Clone, Copy, Debug)]
+#[derive(Clone, Copy)]
 pub(crate) struct TubeNumbers {
     pub(crate) jobs: Tally,
     pub(crate) puts: u64,
@@ -25,7 +25,7 @@ pub(crate) struct TubeNumbers {
 }
 
 /// What is told of the server.
-#[derive(Clone, Copy, Debug)]
+#[derive(Clone, Copy)]
 pub(crate) struct ServerNumbers {
     pub(crate) jobs: Tally,
     pub(crate) timeouts: u64,
