@@ -2,7 +2,7 @@
 use Rattle.std.specs.Prelude.{false, ◌≡◌, ◌≤◌}
 use Rattle.bq_job.specs.JobCommands.{last_id}
 use Rattle.bq_job.specs.Lawful.{AreIdsWithin}
-use Rattle.bq_job.specs.Machine.{Machine, Settings}
+use Rattle.bq_job.specs.Machine.{Machine}
 use Rattle.bq_core.specs.Clients.{clients_of}
 use Rattle.bq_core.specs.Crowds.{AreCrowds}
 use Rattle.bq_core.specs.Dues.{first_pause_end}
@@ -10,15 +10,11 @@ use Rattle.bq_core.specs.Losses.{AreAlive}
 use Rattle.bq_core.specs.SeatChanges.{AreNumbered}
 use Rattle.bq_core.specs.Tallies.{AreCounted}
 use Rattle.bq_core.specs.TubeEntries.{AreEntries, counted}
-use Rattle.bq_core.specs.declared.config.Config.{Config}
 use Rattle.bq_core.specs.declared.state.State.{State}
-
-abbrev pub settings_of : Config → Settings
-settings_of config = record { seats = config.seats; max_job_size = config.max_job_size }
 
 abbrev pub machine_of : State → Machine
 machine_of s = record {
-  settings = settings_of s.config;
+  settings = s.config;
   jobs = s.jobs.jobs;
   seats = s.seats.items;
   tubes = counted s.tubes.entries;

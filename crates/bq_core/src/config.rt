@@ -2,13 +2,7 @@ ghost use Rattle.std.specs.Prelude.{◌≡◌};
 ghost use Rattle.bq_core.specs.Codes.{fault_code};
 
 /// What is chosen when a core is made.
-#[derive(Clone, Copy, Debug)]
-pub struct Config {
-    /// How many clients can be connected at a time, 1 to 256.
-    pub seats: u16,
-    /// How many bytes a job's body may have, 1 to 1,048,576.
-    pub max_job_size: u32,
-}
+pub use bq_job::Settings as Config;
 
 /// Why no core was made.
 #[derive(Clone, Copy, Debug, PartialEq, Eq)]

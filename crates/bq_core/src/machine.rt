@@ -6,7 +6,7 @@ ghost use Rattle.bq_job.specs.NextDue.{next_due};
 ghost use Rattle.bq_job.specs.Steps.{IsStep};
 ghost use Rattle.bq_core.specs.Cost.{IsLookWithin, IsStepWithin};
 ghost use Rattle.bq_core.specs.Limits.{is_body_size, is_seat_count};
-ghost use Rattle.bq_core.specs.State.{machine_of, settings_of, IsSound};
+ghost use Rattle.bq_core.specs.State.{machine_of, IsSound};
 ghost use Rattle.bq_core.specs.Serving.{NoneIsGone, ServesAsking};
 ghost use Rattle.bq_core.specs.Turns.{HasRoom};
 
@@ -87,7 +87,7 @@ fn is_body_size(bytes: u32) -> bool
 impl Core {
     /// A core with no jobs and all seats free.
     pub fn new(alloc: Global, config: Config) -> Result<Core, CoreFault>
-        ensures made { IfOk result (λ core. core ≡ record { machine = new_machine (settings_of config); comparisons = 0 }) }
+        ensures made { IfOk result (λ core. core ≡ record { machine = new_machine config; comparisons = 0 }) }
         ensures bad_seats { IsErrOf result CoreFault.BadSeats ↔ IsTrue (not (is_seat_count config.seats)) }
         ensures bad_max_job_size { IsErrOf result CoreFault.BadMaxJobSize ↔ (IsTrue (is_seat_count config.seats) × IsTrue (not (is_body_size config.max_job_size))) }
     {

@@ -13,7 +13,7 @@ ghost use Rattle.bq_core.specs.Crowds.{may_wait};
 ghost use Rattle.bq_core.specs.JobChanges.{changed};
 ghost use Rattle.bq_core.specs.KeptTubes.{first_tubes};
 ghost use Rattle.bq_core.specs.SeatChanges.{seat_changed, has_tube_of};
-ghost use Rattle.bq_core.specs.State.{machine_of, settings_of, IsSound, OnlyCompares};
+ghost use Rattle.bq_core.specs.State.{machine_of, IsSound, OnlyCompares};
 ghost use Rattle.bq_core.specs.Texts.{names_of};
 ghost use Rattle.bq_core.specs.TubeEntries.{has_entry, is_tube_of, tube_changed};
 
@@ -392,7 +392,7 @@ pub(crate) fn raise_moment(state: &mut State, at: Moment)
 pub(crate) fn first_state(config: Config, seats: Vec<Place, Global>, tubes: Tubes) -> State
     requires free { seats.items ≡ map empty_seat (numbers 0 config.seats) }
     requires first { tubes ≡ first_tubes }
-    ensures empty { machine_of result ≡ new_machine (settings_of config) }
+    ensures empty { machine_of result ≡ new_machine config }
     ensures comparisons { result.jobs.comparisons ≡ 0 }
     ensures sound { IsSound result }
 {

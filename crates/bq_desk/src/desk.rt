@@ -30,7 +30,6 @@ impl<C: Clock + Drop> Desk<C> {
     ghost use Rattle.bq_desk.specs.DeskOf.{GaveReadings, WentAt, state_of};
     ghost use Rattle.bq_desk.specs.DeskState.{HasMails, IsNewDesk, IsSorted, IsStuck};
     ghost use Rattle.bq_core.specs.Limits.{is_body_size, is_seat_count};
-    ghost use Rattle.bq_core.specs.State.{settings_of};
     ghost use Rattle.bq_desk.specs.Links.{Submits, as_submitted};
     ghost use Rattle.bq_desk.specs.TimePassing.{PassesTime};
     ghost use Rattle.std.specs.Prelude.{if◌then◌else◌};
@@ -39,7 +38,7 @@ impl<C: Clock + Drop> Desk<C> {
     ///
     /// The fault is `BadConfiguration` where the configuration is out of its ranges, and else `NoMemory`.
     pub fn new(alloc: Global, config: Config, clock: C) -> Result<Desk<C>, RunFault>
-        ensures made { IfOk result (λ desk. IsNewDesk (settings_of config) (state_of desk)) }
+        ensures made { IfOk result (λ desk. IsNewDesk config (state_of desk)) }
         ensures clock { IfOk result (λ desk. desk.clock ≡ clock) }
         ensures bad_configuration { IsErrOf result RunFault.BadConfiguration ↔ IsTrue (not (is_seat_count config.seats && is_body_size config.max_job_size)) }
         ensures no_thread { IsErrOf result RunFault.ThreadRefused ↔ ⊥ }

@@ -1,6 +1,7 @@
 -- The one-list machine: what a work queue server holds, with nothing kept to make it fast.
 use Rattle.std.specs.Prelude.{ℕ, zero, suc, Bool, false, List, [], ◌∷◌, Option, None, codes, map}
 use Rattle.bq_job.specs.declared.job.Job.{Job}
+pub use Rattle.bq_job.specs.declared.settings.Settings.{Settings}
 
 -- a client that waits for a job: its turn among those that wait, and the moment at which it gives up, if any
 pub record Wait : Type 0 where
@@ -32,12 +33,6 @@ pub record TubeRecord : Type 0 where
   pub puts : ℕ
   pub deletes : ℕ
   pub pauses : ℕ
-
--- what is chosen when the server starts
-pub record Settings : Type 0 where
-  pub seats : ℕ
-  -- how many bytes a job's body may have
-  pub max_job_size : ℕ
 
 pub record Machine : Type 0 where
   pub settings : Settings

@@ -2,9 +2,10 @@
 use Rattle.std.specs.Prelude.{ℕ, Bool, true, ◌≡◌, ◌≤◌, List, [], length, replicate, slice_index_or}
 use Rattle.bq_job.specs.declared.answer.Answer.{Answer}
 use Rattle.bq_job.specs.declared.journal.Entry.{Entry}
+use Rattle.bq_job.specs.declared.settings.Settings.{Settings}
 use Rattle.bq_job.specs.Dispatch.{GivenAnswer}
 use Rattle.bq_job.specs.Lawful.{IsLawful}
-use Rattle.bq_job.specs.Machine.{Machine, Settings, new_machine}
+use Rattle.bq_job.specs.Machine.{Machine, new_machine}
 use Rattle.bq_job.specs.Replay.{Replay}
 use Rattle.bq_job.specs.Runs.{answers_to}
 use Rattle.bq_desk.specs.LastParts.{EndsWith}

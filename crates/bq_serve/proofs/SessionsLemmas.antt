@@ -4,13 +4,14 @@ use Rattle.std.specs.Prelude.{◌==◌}
 use Rattle.std.specs.List.{All, list_all}
 use Rattle.std.proofs.lemmas.Bool.{cases_Bool, eq-eqb, leb-false}
 use Rattle.bq_job.specs.declared.answer.Answer.{Answer}
+use Rattle.bq_job.specs.declared.settings.Settings.{Settings}
 use Rattle.bq_job.specs.declared.step.Step.{Step}
 use Rattle.bq_job.specs.ControlDid.{IsControlDone}
 use Rattle.bq_job.specs.Dispatch.{GivenAnswer}
 use Rattle.bq_job.specs.Headline.{AreTied, IsJoined}
 use Rattle.bq_job.specs.History.{ArePickedFrom, LineOver, is_tick, moments_heard, steps_at, without_ticks}
 use Rattle.bq_job.specs.LineSteps.{LineSeen}
-use Rattle.bq_job.specs.Machine.{Machine, Settings}
+use Rattle.bq_job.specs.Machine.{Machine}
 use Rattle.bq_job.specs.Runs.{Entry, GoesBy, Run, Transition, answers_to}
 use Rattle.bq_job.specs.SeatDid.{IsSeatDone}
 use Rattle.bq_job.specs.Steps.{IsStep, Outcome}

@@ -1,7 +1,6 @@
 -- What a run over doors comes to.
 use Rattle.std.specs.Prelude.{ℕ, Bool, List, [], ◌∷◌, Option}
-use Rattle.bq_core.specs.State.{settings_of}
-use Rattle.bq_core.specs.declared.config.Config.{Config}
+use Rattle.bq_job.specs.declared.settings.Settings.{Settings}
 use Rattle.bq_job.specs.Headline.{IsHistoryOf}
 use Rattle.bq_job.specs.History.{LineOver}
 use Rattle.bq_desk.specs.ControlRead.{IsReadToEnd}
@@ -17,7 +16,7 @@ AreAllKept lines_over _ _ = ⊥
 -- The run came from this clock and this control line. The clock gave these readings. These lines are over at
 -- the doors, where they keep them. This text was read of the control line to its end, where it tells it. And
 -- one history of them all leads to the machine that the core stands for.
-pub record IsRunOf {D C I : Type 0} (given : C → List (Option ℕ) → C → Type 0) (lines_over : D → Option (List LineOver)) (left : I → Option (List ℕ)) (config : Config) (clock : C) (control : I) (run : Run D C I) : Type 0 where
+pub record IsRunOf {D C I : Type 0} (given : C → List (Option ℕ) → C → Type 0) (lines_over : D → Option (List LineOver)) (left : I → Option (List ℕ)) (config : Settings) (clock : C) (control : I) (run : Run D C I) : Type 0 where
   pub readings : List (Option ℕ)
   pub lines : List (List LineOver)
   pub text : List ℕ
@@ -25,4 +24,4 @@ pub record IsRunOf {D C I : Type 0} (given : C → List (Option ℕ) → C → T
   pub gave : given clock readings run.clock
   pub kept : AreAllKept lines_over run.doors.items lines
   pub read : IsReadToEnd (left control) (left run.control) text failed
-  pub history : IsHistoryOf (settings_of config) lines text failed readings run.core.machine
+  pub history : IsHistoryOf config lines text failed readings run.core.machine

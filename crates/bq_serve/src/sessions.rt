@@ -2,7 +2,6 @@
 ghost use Rattle.std.specs.Prelude.{◌≡◌, ◌<◌, ◌≤◌, ◌↔◌, ◌⊎◌, ◌&&◌, ◌==◌, true, false, not, length, IfOk, IsErrOf, IsTrue, slice_index_or, vec_len};
 ghost use Rattle.std.specs.List.{All};
 ghost use Rattle.bq_core.specs.Limits.{is_body_size, is_seat_count};
-ghost use Rattle.bq_core.specs.State.{settings_of};
 ghost use Rattle.bq_seat.specs.Past.{Awaited};
 ghost use Rattle.bq_seat.specs.SeatStands.{awaited};
 ghost use Rattle.bq_desk.specs.DeskOf.{state_of};
@@ -81,7 +80,7 @@ pub fn run_sessions<
     ensures served { IfOk result (IsRunOf C.given D.lines_over I.remaining config clock control) }
     ensures at_end { IfOk result (λ run. All (λ door. (D.is_out door ≡ false) × (D.is_at_end door ≡ true)) run.doors.items) }
     // The core can go on.
-    ensures settings { IfOk result (λ run. run.core.machine.settings ≡ settings_of config) }
+    ensures settings { IfOk result (λ run. run.core.machine.settings ≡ config) }
     ensures bad_configuration { IsErrOf result RunFault.BadConfiguration
         ↔ IsTrue (not (is_seat_count config.seats && is_body_size config.max_job_size && vec_len doors == config.seats)) }
 {

@@ -1,5 +1,4 @@
 use Rattle.std.proofs.Common.{◌<◌, ℕ, List, Option, length}
-use Rattle.bq_core.specs.State.{settings_of}
 use Rattle.bq_desk.specs.DeskOf.{state_of}
 use Rattle.bq_desk.specs.DeskState.{HasMails}
 use Rattle.bq_serve.proofs.AloneLemmas.{IsServingAlone}
@@ -9,7 +8,7 @@ abbrev pub invariant-loop : goal.invariant-loop
 invariant-loop g l = record {
   iterator : (goal.iterator-loop g).can_next l.iterator' × (goal.iterator-loop g).is_finite l.iterator';
   serves : (readings : List (Option ℕ)) × g.C.Clock.given l.fn.clock readings l.desk.clock
-      × IsServingAlone (settings_of l.fn.config) 0 readings (state_of l.desk) l.machine (g.L.Line.seen l.line) l.action;
+      × IsServingAlone l.fn.config 0 readings (state_of l.desk) l.machine (g.L.Line.seen l.line) l.action;
   mails : HasMails (state_of l.desk);
   within : 0 < length (state_of l.desk).mails;
 }

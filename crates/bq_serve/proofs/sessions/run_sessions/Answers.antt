@@ -3,7 +3,6 @@ use Rattle.std.specs.List.{All}
 use Rattle.std.proofs.lemmas.Bool.{cases_Bool, eq-eqb}
 use Rattle.std.proofs.lemmas.List.{with_items_is}
 use Rattle.bq_core.specs.Limits.{is_body_size, is_seat_count}
-use Rattle.bq_core.specs.State.{settings_of}
 use Rattle.bq_desk.specs.DeskOf.{state_of}
 use Rattle.bq_serve.specs.Sessions.{AreAllKept}
 use Rattle.bq_desk.specs.Tending.{IsNewDoor, IsNewSeat, door_seen}
@@ -17,7 +16,7 @@ pub serve_seats-requires-clause-served : goal.serve_seats-requires-clause-served
 serve_seats-requires-clause-served g c κs within =
     let at = door_seen g.D.Door.is_out g.D.Door.is_at_end g.D.Door.lines_over in
     let size = c.args.config.max_job_size in
-    let settings = settings_of c.args.config in
+    let settings = c.args.config in
     let first = state_of c.in_ok-desk.desk in
     let h = c.serve_control.ensures.done in
     let seats_are = c.as_mut_slice.ensures.value in
@@ -39,7 +38,7 @@ pub returns-clause-served : goal.returns-clause-served
 returns-clause-served g c =
     let at = door_seen g.D.Door.is_out g.D.Door.is_at_end g.D.Door.lines_over in
     let size = c.args.config.max_job_size in
-    let settings = settings_of c.args.config in
+    let settings = c.args.config in
     let first = state_of c.in_ok-desk.desk in
     let last = state_of c.serve_seats.new.desk in
     let made = c.in_ok-desk.ensures.made in
@@ -77,7 +76,7 @@ pub returns-clause-at_end : goal.returns-clause-at_end
 returns-clause-at_end g c =
     let at = door_seen g.D.Door.is_out g.D.Door.is_at_end g.D.Door.lines_over in
     let size = c.args.config.max_job_size in
-    let settings = settings_of c.args.config in
+    let settings = c.args.config in
     let first = state_of c.in_ok-desk.desk in
     let last = state_of c.serve_seats.new.desk in
     let made = c.in_ok-desk.ensures.made in
@@ -104,7 +103,7 @@ pub returns-clause-settings : goal.returns-clause-settings
 returns-clause-settings g c =
     let at = door_seen g.D.Door.is_out g.D.Door.is_at_end g.D.Door.lines_over in
     let size = c.args.config.max_job_size in
-    let settings = settings_of c.args.config in
+    let settings = c.args.config in
     let first = state_of c.in_ok-desk.desk in
     let last = state_of c.serve_seats.new.desk in
     let made = c.in_ok-desk.ensures.made in

@@ -1,12 +1,11 @@
 use Rattle.std.proofs.Common.{sym, subst}
 use Rattle.bq_job.specs.Lawful.{IsLawful}
 use Rattle.bq_job.proofs.LawfulLemmas.{new_is_lawful}
-use Rattle.bq_core.specs.State.{settings_of}
 use Rattle.bq_core.proofs.machine.Core.new.Goals as goal
 
 pub invariant_of-result : goal.invariant_of-result
 invariant_of-result c =
-    (subst IsLawful (sym c.first_state.ensures.empty) (new_is_lawful (settings_of c.args.config)), c.first_state.ensures.sound)
+    (subst IsLawful (sym c.first_state.ensures.empty) (new_is_lawful c.args.config), c.first_state.ensures.sound)
 
 pub returns-clause-made : goal.returns-clause-made
 returns-clause-made c = let empty = c.first_state.ensures.empty in let none = c.first_state.ensures.comparisons in cc

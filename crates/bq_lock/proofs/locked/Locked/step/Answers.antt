@@ -1,6 +1,6 @@
 use Rattle.std.proofs.Common.{◌≡◌, ap, ◌∙◌, arith, subst}
 use Rattle.bq_core.specs.Outbox.{Outbox}
-use Rattle.bq_job.specs.Machine.{Settings}
+use Rattle.bq_job.specs.declared.settings.Settings.{Settings}
 use Rattle.bq_job.proofs.LawfulLemmas.{few_answers}
 use Rattle.bq_lock.specs.LockedState.{IsLawfulHold, LockedState, locked_of}
 use Rattle.bq_lock.specs.LockedSteps.{TakesStep}

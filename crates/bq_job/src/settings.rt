@@ -1,0 +1,8 @@
+/// What is chosen when a server starts.
+#[derive(Clone, Copy, Debug)]
+pub struct Settings {
+    /// How many clients can be connected at a time, 1 to 256.
+    pub seats: u16,
+    /// How many bytes a job's body may have, 1 to 1,048,576.
+    pub max_job_size: u32,
+}
