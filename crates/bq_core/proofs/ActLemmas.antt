@@ -12,7 +12,7 @@ use Rattle.bq_job.specs.declared.request.Request.{Request}
 use Rattle.bq_job.specs.Acts.{Effect, on_job, showing, telling}
 use Rattle.bq_job.specs.Asked.{after_close, after_connect, asked, at_found, effect, with_end}
 use Rattle.bq_job.specs.Changes.{is_held_by, is_waiting, job_with, seat_with, with_job, with_seat}
-use Rattle.bq_job.specs.JobCommands.{after_delete, delete_effect, is_free_for, last_id, new_job, put_effect, reserve_job_effect, with_delete, with_put}
+use Rattle.bq_job.specs.JobCommands.{after_delete, delete_effect, is_free_for, is_full, last_id, new_job, put_effect, reserve_job_effect, with_delete, with_put}
 use Rattle.bq_job.specs.Dispatch.{reserved_by}
 use Rattle.bq_job.specs.JobStates.{is_reserved}
 use Rattle.bq_job.specs.TubeCommands.{ignore_effect, watch_effect, watching, watching_or_refused}
@@ -81,8 +81,8 @@ delete_done m s seat id j at found free =
     ∙ ap (λ n. telling answers.Deleted (record (with_tube j.tube with_delete m) { jobs = filter (λ k. not (k.id == n)) m.jobs })) (id_found id m.jobs j found)
 
 -- what a put comes to that is accepted
-pub put_done : (m : Machine) (s : SeatRecord) (pri delay ttr : ℕ) (body tube : List ℕ) (j : Job) → s.used ≡ tube → m.draining ≡ false → j ≡ new_job m s pri delay ttr body → put_effect pri delay ttr body m s ≡ telling (answers.Inserted m.next_id) (record (with_tube tube with_put m) { jobs = m.jobs ++ j ∷ []; next_id = m.next_id + 1; puts = raised m.puts; draining = nat_le last_id m.next_id })
-put_done m s pri delay ttr body tube j used accepts is = rw (accepts, is, used) refl
+pub put_done : (m : Machine) (s : SeatRecord) (pri delay ttr : ℕ) (body tube : List ℕ) (j : Job) → s.used ≡ tube → m.draining ≡ false → is_full m.settings.max_jobs m.jobs ≡ false → j ≡ new_job m s pri delay ttr body → put_effect pri delay ttr body m s ≡ telling (answers.Inserted m.next_id) (record (with_tube tube with_put m) { jobs = m.jobs ++ j ∷ []; next_id = m.next_id + 1; puts = raised m.puts; draining = nat_le last_id m.next_id })
+put_done m s pri delay ttr body tube j used accepts free is = rw (accepts, free, is, used) refl
 
 -- a tube that is watched already
 same_set : {A : Type 0} (xs : List A) (i : ℕ) (x : A) → slice_get xs i ≡ Some x → set xs i x ≡ xs

@@ -15,7 +15,7 @@ use Rattle.bq_job.specs.Acts.{Effect, on_found, silent, telling}
 use Rattle.bq_job.specs.Asked.{after_close, after_connect, asked, at_found, effect, with_end}
 use Rattle.bq_job.specs.Changes.{first_of, given_back, in_state, is_held_by, is_ready, is_ready_state, is_waiting, job_with, seat_with, with_job, with_seat}
 use Rattle.bq_job.specs.Dispatch.{is_job_before, reserved_by}
-use Rattle.bq_job.specs.JobCommands.{after_delete, after_kick, after_put, buried, is_buried_in, is_delayed_in, is_free_for, kickable, kicked, new_job, released, waiting_from, with_put}
+use Rattle.bq_job.specs.JobCommands.{after_delete, after_kick, after_put, buried, is_buried_in, is_delayed_in, is_free_for, kickable, kicked, new_job, put_effect, released, waiting_from, with_put}
 use Rattle.bq_job.specs.JobStates.{is_buried, is_buried_before, is_delayed, is_due_before, is_reserved}
 use Rattle.bq_job.specs.Limits.{later, raised}
 use Rattle.bq_job.specs.Machine.{Machine, Pause, SeatRecord, empty_seat, numbers}
@@ -25,6 +25,7 @@ use Rattle.bq_job.specs.TubeName.{is_same_name}
 use Rattle.bq_job.specs.Tubes.{is_paused, is_tube, with_tube}
 use Rattle.bq_job.proofs.KeptLemmas.{only_seat}
 use Rattle.bq_job.proofs.ListLemmas.{all_always, all_at, all_weaker, found_passes}
+use Rattle.bq_job.proofs.PutLemmas.{each_put}
 use Rattle.bq_core.specs.Stirring.{ends_pause, has_stirred}
 use Rattle.bq_core.proofs.ActLemmas.{job_told_same, shown_same, tube_told_same}
 use Rattle.bq_core.proofs.QuietLemmas.{IsNoFuller, no_fuller_deleted, no_fuller_end, no_fuller_itself, no_fuller_job, no_fuller_map, no_fuller_put, no_fuller_seat, none_newer, pauses_kept, ready_itself, waiting_itself}
@@ -74,10 +75,11 @@ refused_quiet : (names : List (List ℕ)) (m : Machine) (s : SeatRecord) → All
 refused_quiet [] m s alone quiet = no_fuller_itself m
 refused_quiet (name ∷ names) m s alone quiet = asker_quiet (watching (name ∷ names)) m s (λ t. refl) alone quiet
 
-put_quiet : (j : Job) (m : Machine) (b : Bool) → count_by is_ready (if b then telling answers.Draining m else telling (answers.Inserted m.next_id) (after_put m j)).machine.jobs ≤ count_by is_ready m.jobs
-    → IsNoFuller m (if b then telling answers.Draining m else telling (answers.Inserted m.next_id) (after_put m j)).machine
-put_quiet j m true h = no_fuller_itself m
-put_quiet j m false h = record { jobs = no_fuller_put m.jobs j h; seats = waiting_itself m.seats; paused = pauses_kept j.tube with_put m (λ t. refl) (λ p. p) }
+put_quiet : (pri delay ttr : ℕ) (body : List ℕ) (m : Machine) (s : SeatRecord) → count_by is_ready (put_effect pri delay ttr body m s).machine.jobs ≤ count_by is_ready m.jobs → IsNoFuller m (put_effect pri delay ttr body m s).machine
+put_quiet pri delay ttr body m s =
+    let j = new_job m s pri delay ttr body in
+    each_put pri delay ttr body m s (λ (e : Effect). count_by is_ready e.machine.jobs ≤ count_by is_ready m.jobs → IsNoFuller m e.machine) (λ d h. no_fuller_itself m) (λ d f h. no_fuller_itself m)
+    (λ d f h. record { jobs = no_fuller_put m.jobs j h; seats = waiting_itself m.seats; paused = pauses_kept j.tube with_put m (λ t. refl) (λ p. p) })
 
 -- who reserves waits then
 reserve_quiet : (ticket : ℕ) (until : Option ℕ) (m : Machine) (s : SeatRecord) → Contains m.seats s → is_waiting s ≡ false → count_by is_waiting (with_seat s.number (waiting_from ticket until) m).seats ≤ count_by is_waiting m.seats → ⊥
@@ -137,7 +139,7 @@ put_aside : (id : ℕ) (f : Job → Job) (m : Machine) → ((j : Job) → is_rea
 put_aside id f m aside same h = record { jobs = no_fuller_job false id f m.jobs aside same h; seats = waiting_itself m.seats; paused = λ name p. p }
 
 asked_quiet : (request : Request) (m : Machine) (s : SeatRecord) → All (λ t. t.number ≡ s.number → t ≡ s) m.seats → Contains m.seats s → is_waiting s ≡ false → IsCalm (steps.Ask request) m (asked request m s).machine → IsNoFuller m (asked request m s).machine
-asked_quiet (requests.Put pri delay ttr body) m s alone member quiet calm = put_quiet (new_job m s pri delay ttr body) m m.draining calm.jobs
+asked_quiet (requests.Put pri delay ttr body) m s alone member quiet calm = put_quiet pri delay ttr body m s calm.jobs
 asked_quiet requests.Reserve m s alone member quiet calm = absurd (reserve_quiet (raised m.tickets) None m s member quiet calm.waits)
 asked_quiet (requests.ReserveWithTimeout seconds) m s alone member quiet calm = absurd (reserve_quiet (raised m.tickets) (Some (later m.moment seconds)) m s member quiet calm.waits)
 asked_quiet (requests.ReserveJob id) m s alone member quiet calm =

@@ -29,6 +29,7 @@ use Rattle.bq_job.specs.TubeName.{is_same_name}
 use Rattle.bq_job.specs.Tubes.{is_tube, with_tube}
 use Rattle.bq_job.proofs.KeptLemmas.{only_seat}
 use Rattle.bq_job.proofs.ListLemmas.{all_always, all_pass, all_weaker, count_cons, found_passes}
+use Rattle.bq_job.proofs.PutLemmas.{each_put}
 use Rattle.bq_core.specs.Cost.{entries, entries_with, waited, waited_entries}
 
 sum_no_more : {X : Type 0} (f g : X → ℕ) (xs : List X) → All (λ x. f x ≤ g x) xs → sum_by f xs ≤ sum_by g xs
@@ -111,7 +112,8 @@ refused_few (name ∷ names) m s alone quiet = watching_few (name ∷ names) m s
 
 -- every request
 asked_few : (request : Request) (m : Machine) (s : SeatRecord) → All (λ t. t.number ≡ s.number → t ≡ s) m.seats → is_waiting s ≡ false → waited (asked request m s).machine ≤ entries s.number m
-asked_few (requests.Put pri delay ttr body) m s alone quiet = either_few s.number m.draining (telling answers.Draining m) (telling (answers.Inserted m.next_id) (after_put m (new_job m s pri delay ttr body))) m (waited_few s.number m) (waited_few s.number m)
+asked_few (requests.Put pri delay ttr body) m s alone quiet =
+    each_put pri delay ttr body m s (λ (e : Effect). waited e.machine ≤ entries s.number m) (λ d. waited_few s.number m) (λ d f. waited_few s.number m) (λ d f. waited_few s.number m)
 asked_few requests.Reserve m s alone quiet = always_few s.number (waiting_from (raised m.tickets) None) m (λ t. omega arith)
 asked_few (requests.ReserveWithTimeout seconds) m s alone quiet = always_few s.number (waiting_from (raised m.tickets) (Some (later m.moment seconds))) m (λ t. omega arith)
 asked_few (requests.ReserveJob id) m s alone quiet =

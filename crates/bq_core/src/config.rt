@@ -11,18 +11,21 @@ pub enum CoreFault {
     BadSeats,
     /// The size of bodies is 0 or above 1,048,576.
     BadMaxJobSize,
+    /// The limit on jobs is 0.
+    BadMaxJobs,
     /// A growth of memory was refused.
     NoMemory,
 }
 
 impl CoreFault {
-    /// The number of this fault: 302, 303 and 301.
+    /// The number of this fault: 302, 303, 304 and 301.
     pub fn code(self) -> u16
         ensures { result ≡ fault_code self }
     {
         match self {
             CoreFault::BadSeats => 302,
             CoreFault::BadMaxJobSize => 303,
+            CoreFault::BadMaxJobs => 304,
             CoreFault::NoMemory => 301,
         }
     }

@@ -1,7 +1,7 @@
 ghost use Rattle.std.specs.Prelude.{◌≡◌, ◌==◌, ◌+◌, ◌++◌, ◌∷◌, [], true, false, Some, None, nat_le};
 ghost use Rattle.bq_job.specs.Acts.{silent, telling};
 ghost use Rattle.bq_job.specs.Changes.{seat_with};
-ghost use Rattle.bq_job.specs.JobCommands.{bury_effect, delete_effect, kick_job_effect, last_id, new_job as job_of_put, put_effect, release_effect, reserve_effect, reserve_job_effect, touch_effect};
+ghost use Rattle.bq_job.specs.JobCommands.{bury_effect, delete_effect, is_full as is_full_of, kick_job_effect, last_id, new_job as job_of_put, put_effect, release_effect, reserve_effect, reserve_job_effect, touch_effect};
 ghost use Rattle.bq_job.specs.Limits.{later as later_by, raised};
 ghost use Rattle.bq_job.specs.Machine.{SeatRecord};
 ghost use Rattle.bq_core.specs.Acting.{Replies, is_asking};
@@ -69,7 +69,18 @@ fn count_put(state: &mut State)
     state.puts = state.puts.saturating_add(1);
 }
 
-/// Puts a job. The one growth that it needs comes before any change.
+// Whether there are as many jobs as there may be.
+fn is_full(state: &State) -> bool
+    ensures { result ≡ is_full_of state.now.config.max_jobs (machine_of state.now).jobs }
+{
+    match state.config.max_jobs {
+        None => false,
+        Some(most) => state.jobs.len() >= most as usize,
+    }
+}
+
+/// Puts a job. The one growth that it needs comes before any change, and where there are as many jobs as
+/// there may be, none is asked for.
 pub(crate) fn put(state: &mut State, alloc: Global, seat: Seat, new: NewJob) -> Reply
     requires sound { IsSound state.old }
     requires asks { is_asking (seat_with seat state.old.seats.items) ≡ true }
@@ -80,6 +91,9 @@ pub(crate) fn put(state: &mut State, alloc: Global, seat: Seat, new: NewJob) -> 
 {
     if state.draining {
         return Reply::Told(Answer::Draining);
+    }
+    if is_full(state) {
+        return Reply::Told(Answer::OutOfMemory);
     }
     let Some(place) = seat_list::find(state.seats.as_slice(), seat) else {
         return Reply::Silent;

@@ -1,11 +1,11 @@
-ghost use Rattle.std.specs.Prelude.{◌≡◌, ◌<◌, ◌↔◌, None, false, not, IsTrue, IfOk, IsErrOf};
+ghost use Rattle.std.specs.Prelude.{◌≡◌, ◌<◌, ◌↔◌, ◌&&◌, None, false, not, IsTrue, IfOk, IsErrOf};
 ghost use Rattle.bq_job.specs.Dispatch.{next_job};
 ghost use Rattle.bq_job.specs.Lawful.{IsLawful};
 ghost use Rattle.bq_job.specs.Machine.{new_machine};
 ghost use Rattle.bq_job.specs.NextDue.{next_due};
 ghost use Rattle.bq_job.specs.Steps.{IsStep};
 ghost use Rattle.bq_core.specs.Cost.{IsLookWithin, IsStepWithin};
-ghost use Rattle.bq_core.specs.Limits.{is_body_size, is_seat_count};
+ghost use Rattle.bq_core.specs.Limits.{is_body_size, is_job_limit, is_seat_count};
 ghost use Rattle.bq_core.specs.State.{machine_of, IsSound};
 ghost use Rattle.bq_core.specs.Serving.{NoneIsGone, ServesAsking};
 ghost use Rattle.bq_core.specs.Turns.{HasRoom};
@@ -84,18 +84,31 @@ fn is_body_size(bytes: u32) -> bool
     1 <= bytes && bytes <= LARGEST_BODY
 }
 
+fn is_job_limit(most: Option<u32>) -> bool
+    ensures { result ≡ is_job_limit most }
+{
+    match most {
+        None => true,
+        Some(most) => 1 <= most,
+    }
+}
+
 impl Core {
     /// A core with no jobs and all seats free.
     pub fn new(alloc: Global, config: Config) -> Result<Core, CoreFault>
         ensures made { IfOk result (λ core. core ≡ record { machine = new_machine config; comparisons = 0 }) }
         ensures bad_seats { IsErrOf result CoreFault.BadSeats ↔ IsTrue (not (is_seat_count config.seats)) }
         ensures bad_max_job_size { IsErrOf result CoreFault.BadMaxJobSize ↔ (IsTrue (is_seat_count config.seats) × IsTrue (not (is_body_size config.max_job_size))) }
+        ensures bad_max_jobs { IsErrOf result CoreFault.BadMaxJobs ↔ (IsTrue (is_seat_count config.seats && is_body_size config.max_job_size) × IsTrue (not (is_job_limit config.max_jobs))) }
     {
         if !is_seat_count(config.seats) {
             return Err(CoreFault::BadSeats);
         }
         if !is_body_size(config.max_job_size) {
             return Err(CoreFault::BadMaxJobSize);
+        }
+        if !is_job_limit(config.max_jobs) {
+            return Err(CoreFault::BadMaxJobs);
         }
         let Ok(seats) = seat_list::new_places(alloc, config.seats) else {
             return Err(CoreFault::NoMemory);

@@ -29,7 +29,7 @@ impl<C: Clock + Drop> Desk<C> {
     ghost use Rattle.bq_job.specs.NextDue.{next_due};
     ghost use Rattle.bq_desk.specs.DeskOf.{GaveReadings, WentAt, state_of};
     ghost use Rattle.bq_desk.specs.DeskState.{HasMails, IsNewDesk, IsSorted, IsStuck};
-    ghost use Rattle.bq_core.specs.Limits.{is_body_size, is_seat_count};
+    ghost use Rattle.bq_core.specs.Limits.{are_in_range};
     ghost use Rattle.bq_desk.specs.Links.{Submits, as_submitted};
     ghost use Rattle.bq_desk.specs.TimePassing.{PassesTime};
     ghost use Rattle.std.specs.Prelude.{if◌then◌else◌};
@@ -40,7 +40,7 @@ impl<C: Clock + Drop> Desk<C> {
     pub fn new(alloc: Global, config: Config, clock: C) -> Result<Desk<C>, RunFault>
         ensures made { IfOk result (λ desk. IsNewDesk config (state_of desk)) }
         ensures clock { IfOk result (λ desk. desk.clock ≡ clock) }
-        ensures bad_configuration { IsErrOf result RunFault.BadConfiguration ↔ IsTrue (not (is_seat_count config.seats && is_body_size config.max_job_size)) }
+        ensures bad_configuration { IsErrOf result RunFault.BadConfiguration ↔ IsTrue (not (are_in_range config)) }
         ensures no_thread { IsErrOf result RunFault.ThreadRefused ↔ ⊥ }
     {
         let core = match Core::new(alloc, config) {

@@ -26,6 +26,7 @@ use Rattle.bq_job.specs.TubeCommands.{pause_effect, using, watched_with, watchin
 use Rattle.bq_job.specs.Tubes.{is_tube}
 use Rattle.bq_job.proofs.KeptLemmas.{IsMild, Keeps, has_holder, kept_of_close, kept_of_drain, kept_of_filter, kept_of_job, kept_of_jobs, kept_of_push, kept_of_seat, numbers_above, only_seat}
 use Rattle.bq_job.proofs.ListLemmas.{all_always, all_weaker, count_cons, count_of_map, found_passes, list_any_with}
+use Rattle.bq_job.proofs.PutLemmas.{each_put}
 
 abbrev pub answer_count : Option Answer → ℕ
 answer_count None = 0
@@ -82,9 +83,8 @@ held_here m s j deadline there c e =
 
 leaves_put : (pri delay ttr : ℕ) (body : List ℕ) (m : Machine) (s : SeatRecord) → Keeps m → Leaves m (put_effect pri delay ttr body m s)
 leaves_put pri delay ttr body m s h =
-    cond_both m.draining (telling answers.Draining m) (telling (answers.Inserted m.next_id) (after_put m (new_job m s pri delay ttr body))) (Leaves m)
-    (λ e. leaves_jobs m m answers.Draining h refl)
-    (λ e. leaves_jobs m (after_put m (new_job m s pri delay ttr body)) (answers.Inserted m.next_id)
+    each_put pri delay ttr body m s (Leaves m) (λ e. leaves_jobs m m answers.Draining h refl) (λ e f. leaves_jobs m m answers.OutOfMemory h refl)
+    (λ e f. leaves_jobs m (after_put m (new_job m s pri delay ttr body)) (answers.Inserted m.next_id)
     (kept_of_push (new_job m s pri delay ttr body) h e refl (free_by_delay delay m.moment)) refl)
 
 -- Jobs of one id change.

@@ -15,7 +15,7 @@ use Rattle.bq_job.specs.Acts.{Effect, on_found, on_job, showing, silent, telling
 use Rattle.bq_job.specs.Asked.{after_close, after_connect, asked, at_found, at_seat, effect, with_end}
 use Rattle.bq_job.specs.Changes.{in_state, is_held_by, is_holder, is_ready, is_ready_state, is_waiting, job_with, seat_with, with_job, with_seat}
 use Rattle.bq_job.specs.Dispatch.{reserved_by}
-use Rattle.bq_job.specs.JobCommands.{after_put, buried, delayed_by, is_free_for, in_order, is_buried_in, is_delayed_in, kickable, kicked, kicked_first, put_in_order, new_job, put_effect, released}
+use Rattle.bq_job.specs.JobCommands.{buried, delayed_by, is_free_for, in_order, is_buried_in, is_delayed_in, kickable, kicked, kicked_first, put_in_order, new_job, put_effect, released}
 use Rattle.bq_job.specs.JobStates.{is_buried, is_buried_before, is_delayed, is_due_before, is_reserved}
 use Rattle.bq_job.specs.Lawful.{AreIdsWithin}
 use Rattle.bq_job.specs.Limits.{later, raised}
@@ -30,6 +30,7 @@ use Rattle.bq_job.specs.Undisturbed.{disturbs}
 use Rattle.bq_job.proofs.ChangeLemmas.{Becomes, JobsAfter, becomes_itself, changed, removed_one, added, one_changed, unchanged}
 use Rattle.bq_job.proofs.ListLemmas.{all_from_members, all_of_filter, all_weaker}
 use Rattle.bq_job.proofs.LookupLemmas.{found_job, job_found}
+use Rattle.bq_job.proofs.PutLemmas.{each_put}
 
 -- the ids of a machine's jobs
 abbrev pub Ids : Machine → Type 0
@@ -146,9 +147,8 @@ chosen_not_held jobs (k ∷ chosen) j found h any held =
 
 after_put_effect : (what : Step) (pri delay ttr : ℕ) (body : List ℕ) (m : Machine) (s : SeatRecord) → After what m (put_effect pri delay ttr body m s).machine
 after_put_effect what pri delay ttr body m s =
-    cond_both m.draining (telling answers.Draining m) (telling (answers.Inserted m.next_id) (after_put m (new_job m s pri delay ttr body))) (λ (e : Effect). After what m e.machine)
-    (λ d. after_itself what m)
-    (λ d. added (new_job m s pri delay ttr body) refl (omega arith) refl (λ now. let here : is_ready_state (delayed_by 0 m.moment) ≡ true = refl in subst (λ n. is_ready_state (delayed_by n m.moment) ≡ true) (sym now) here))
+    each_put pri delay ttr body m s (λ (e : Effect). After what m e.machine) (λ d. after_itself what m) (λ d f. after_itself what m)
+    (λ d f. added (new_job m s pri delay ttr body) refl (omega arith) refl (λ now. let here : is_ready_state (delayed_by 0 m.moment) ≡ true = refl in subst (λ n. is_ready_state (delayed_by n m.moment) ≡ true) (sym now) here))
 
 after_showing : (what : Step) (m : Machine) (o : Option Job) → After what m (showing m o).machine
 after_showing what m None = after_itself what m

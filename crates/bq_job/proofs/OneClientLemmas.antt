@@ -36,6 +36,7 @@ use Rattle.bq_job.proofs.DispatchLemmas.{turn_of}
 use Rattle.bq_job.proofs.KeptLemmas.{only_seat}
 use Rattle.bq_job.proofs.LawfulLemmas.{end_of}
 use Rattle.bq_job.proofs.ListLemmas.{all_always, all_of_map, all_weaker, found_passes, keys_of_map, list_any_not, list_any_of_map, list_any_with}
+use Rattle.bq_job.proofs.PutLemmas.{each_put}
 
 -- whether the client at the seat waits, and whether there is one
 abbrev pub waits_in : ℕ → List SeatRecord → Bool
@@ -343,9 +344,9 @@ refusal_stays refusals.OutOfMemory = refl
 -- every request
 replies_asked : (request : Request) (m : Machine) (s : SeatRecord) → Contains m.seats s → waits_in s.number m.seats ≡ false → Replies s.number (answers_wanted request) (is_waiting_request request) m.seats (asked request m s)
 replies_asked (requests.Put pri delay ttr body) m s there w =
-    cond_both m.draining (telling answers.Draining m) (telling (answers.Inserted m.next_id) (after_put m (new_job m s pri delay ttr body))) (Replies s.number 1 false m.seats)
-    (λ e. replies_jobs s.number m m answers.Draining w refl refl)
-    (λ e. replies_jobs s.number m (after_put m (new_job m s pri delay ttr body)) (answers.Inserted m.next_id) w refl refl)
+    each_put pri delay ttr body m s (Replies s.number 1 false m.seats) (λ e. replies_jobs s.number m m answers.Draining w refl refl)
+    (λ e f. replies_jobs s.number m m answers.OutOfMemory w refl refl)
+    (λ e f. replies_jobs s.number m (after_put m (new_job m s pri delay ttr body)) (answers.Inserted m.next_id) w refl refl)
 replies_asked requests.Reserve m s there w = replies_reserve None m s there
 replies_asked (requests.ReserveWithTimeout seconds) m s there w = replies_reserve (Some (later m.moment seconds)) m s there
 replies_asked (requests.ReserveJob id) m s there w =
@@ -461,9 +462,9 @@ stays_watching client (tube ∷ tubes) m s = stays_seat client s.number (watchin
 
 stays_asked : (client : ℕ) (request : Request) (m : Machine) (s : SeatRecord) → Stays client s.number m (asked request m s)
 stays_asked client (requests.Put pri delay ttr body) m s =
-    cond_both m.draining (telling answers.Draining m) (telling (answers.Inserted m.next_id) (after_put m (new_job m s pri delay ttr body))) (Stays client s.number m)
-    (λ e. stays_same client s.number m (telling answers.Draining m) refl refl)
-    (λ e. stays_same client s.number m (telling (answers.Inserted m.next_id) (after_put m (new_job m s pri delay ttr body))) refl refl)
+    each_put pri delay ttr body m s (Stays client s.number m) (λ e. stays_same client s.number m (telling answers.Draining m) refl refl)
+    (λ e f. stays_same client s.number m (telling answers.OutOfMemory m) refl refl)
+    (λ e f. stays_same client s.number m (telling (answers.Inserted m.next_id) (after_put m (new_job m s pri delay ttr body))) refl refl)
 stays_asked client requests.Reserve m s = stays_seat client s.number (waiting_from (raised m.tickets) None) m (reserve_effect None m s) (λ t. refl) refl refl
 stays_asked client (requests.ReserveWithTimeout seconds) m s = stays_seat client s.number (waiting_from (raised m.tickets) (Some (later m.moment seconds))) m (reserve_effect (Some (later m.moment seconds)) m s) (λ t. refl) refl refl
 stays_asked client (requests.ReserveJob id) m s =

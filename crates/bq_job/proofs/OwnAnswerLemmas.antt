@@ -16,7 +16,7 @@ use Rattle.bq_job.specs.Acts.{Effect, on_found, on_job, showing, silent, telling
 use Rattle.bq_job.specs.Asked.{after_close, after_connect, asked, at_found, at_seat, effect, refusal_answer, with_end}
 use Rattle.bq_job.specs.Changes.{in_state, is_held_by, is_waiting, job_with, seat_with, with_job, with_seat}
 use Rattle.bq_job.specs.Dispatch.{reserved_by}
-use Rattle.bq_job.specs.JobCommands.{after_delete, after_put, buried, is_free_for, kicked, last_id, new_job, released}
+use Rattle.bq_job.specs.JobCommands.{after_delete, buried, is_free_for, kicked, last_id, released}
 use Rattle.bq_job.specs.JobStates.{is_buried, is_delayed, is_reserved}
 use Rattle.bq_job.specs.Limits.{later, raised}
 use Rattle.bq_job.specs.Machine.{Machine, SeatRecord}
@@ -26,6 +26,7 @@ use Rattle.bq_job.specs.TubeCommands.{watching_or_refused}
 use Rattle.bq_job.specs.Tubes.{is_tube}
 use Rattle.bq_job.proofs.ListLemmas.{found_passes}
 use Rattle.bq_job.proofs.LookupLemmas.{found_job}
+use Rattle.bq_job.proofs.PutLemmas.{each_put}
 
 -- none of RESERVED, INSERTED and DELETED
 abbrev pub is_common : Option Answer → Bool
@@ -76,9 +77,8 @@ free_or_held seat j h = of_bool (is_reserved j.state) h
 
 tells_asked : (request : Request) (m : Machine) (seat : ℕ) (s : SeatRecord) → s.number ≡ seat → Tells m seat (steps.Ask request) (asked request m s)
 tells_asked (requests.Put pri delay ttr body) m seat s at =
-    cond_both m.draining (telling answers.Draining m) (telling (answers.Inserted m.next_id) (after_put m (new_job m s pri delay ttr body))) (Tells m seat (steps.Ask (requests.Put pri delay ttr body)))
-    (λ d. commonly refl)
-    (λ d. inserting refl d (λ last. or_right m.draining (nat_le last_id m.next_id) last))
+    each_put pri delay ttr body m s (Tells m seat (steps.Ask (requests.Put pri delay ttr body))) (λ d. commonly refl) (λ d f. commonly refl)
+    (λ d f. inserting refl d (λ last. or_right m.draining (nat_le last_id m.next_id) last))
 tells_asked requests.Reserve m seat s at = commonly refl
 tells_asked (requests.ReserveWithTimeout seconds) m seat s at = commonly refl
 tells_asked (requests.ReserveJob id) m seat s at =
@@ -163,7 +163,7 @@ drains_statistics m (Some j) d = d
 
 drains_asked : (request : Request) (m : Machine) (s : SeatRecord) → m.draining ≡ true → Drains (asked request m s)
 drains_asked (requests.Put pri delay ttr body) m s d =
-    cond_both m.draining (telling answers.Draining m) (telling (answers.Inserted m.next_id) (after_put m (new_job m s pri delay ttr body))) Drains (λ e. d) (λ e. or_left m.draining (nat_le last_id m.next_id) d)
+    each_put pri delay ttr body m s Drains (λ e. d) (λ e f. d) (λ e f. or_left m.draining (nat_le last_id m.next_id) d)
 drains_asked requests.Reserve m s d = d
 drains_asked (requests.ReserveWithTimeout seconds) m s d = d
 drains_asked (requests.ReserveJob id) m s d = drains_on_job m id (λ j. not (is_reserved j.state)) (λ j. telling (answers.Reserved j.id j.body) (with_job id (reserved_by m.moment s.number) m)) d (λ j. d)

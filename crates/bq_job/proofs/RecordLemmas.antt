@@ -18,7 +18,7 @@ use Rattle.bq_job.specs.Acts.{Effect, on_found, on_job, showing, silent, telling
 use Rattle.bq_job.specs.Asked.{after_close, after_connect, asked, at_found, at_seat, effect, with_end}
 use Rattle.bq_job.specs.Changes.{in_state, is_held_by, is_waiting, job_with, seat_with, with_job, with_seat, without_wait}
 use Rattle.bq_job.specs.Dispatch.{DispatchTurn, GivenAnswer, IsHandOut, reserved_by}
-use Rattle.bq_job.specs.JobCommands.{after_delete, after_put, buried, is_free_for, kicked, new_job, released, reserve_effect, waiting_from, with_delete, with_put}
+use Rattle.bq_job.specs.JobCommands.{after_delete, buried, is_free_for, kicked, released, reserve_effect, waiting_from, with_delete, with_put}
 use Rattle.bq_job.specs.Lawful.{IsLawful, has_one, none_twice, watches_once}
 use Rattle.bq_job.specs.Limits.{greatest, grown, later, raised}
 use Rattle.bq_job.specs.Machine.{Machine, SeatRecord, TubeRecord, empty_seat}
@@ -34,6 +34,7 @@ use Rattle.bq_job.specs.Waits.{Chain, WaitEndTurn, end_of_wait, next_end}
 use Rattle.bq_job.proofs.DispatchLemmas.{turn_of}
 use Rattle.bq_job.proofs.ListLemmas.{all_at, all_always, all_before_map, all_of_filter, all_of_map, all_pass, all_weaker, found_passes, keys_of_map, list_any_not, none_pass}
 use Rattle.bq_job.proofs.NameOrderLemmas.{after, first_of_order, in_order_from, rest_in_order}
+use Rattle.bq_job.proofs.PutLemmas.{each_put}
 
 -- all that is kept beside the jobs
 pub record Books (timeouts puts connections burials tickets : ℕ) (tubes : List TubeRecord) (seats : List SeatRecord) : Type 0 where
@@ -261,8 +262,8 @@ booked_reserve until m s h = let k = booked_seat s.number (waiting_from (raised 
 -- every request
 booked_asked : (request : Request) (m : Machine) (s : SeatRecord) → Booked m → watches_once s ≡ true → Booked (asked request m s).machine
 booked_asked (requests.Put pri delay ttr body) m s h w =
-    cond_both m.draining (telling answers.Draining m) (telling (answers.Inserted m.next_id) (after_put m (new_job m s pri delay ttr body))) (λ e. Booked e.machine) (λ e. h)
-    (λ e. booked_tube (with_put (tube_record s.used m)) m (raised m.puts) (grown_fits 1 m.puts) h)
+    each_put pri delay ttr body m s (λ (e : Effect). Booked e.machine) (λ e. h) (λ e f. h)
+    (λ e f. booked_tube (with_put (tube_record s.used m)) m (raised m.puts) (grown_fits 1 m.puts) h)
 booked_asked requests.Reserve m s h w = booked_reserve None m s h
 booked_asked (requests.ReserveWithTimeout seconds) m s h w = booked_reserve (Some (later m.moment seconds)) m s h
 booked_asked (requests.ReserveJob id) m s h w = booked_on_job id _ (λ j. telling (answers.Reserved j.id j.body) (with_job id (reserved_by m.moment s.number) m)) m h (λ j. h)

@@ -29,6 +29,7 @@ use Rattle.bq_job.specs.TubeName.{is_same_name}
 use Rattle.bq_job.specs.Tubes.{forgetting, is_tube, with_tube}
 use Rattle.bq_job.proofs.KeptLemmas.{kept_of_lawful}
 use Rattle.bq_job.proofs.LawfulLemmas.{kept_of_timers, lawful_when_served}
+use Rattle.bq_job.proofs.PutLemmas.{each_put}
 use Rattle.bq_job.proofs.QuietLemmas.{forgets_nothing, serves_nobody}
 use Rattle.bq_job.proofs.RecordLemmas.{booked_of_lawful, booked_timers}
 
@@ -67,8 +68,8 @@ honest_watching (tube ∷ tubes) m s = carried_out m _ (answers.Watching (length
 -- every request
 honest_asked : (request : Request) (m : Machine) (s : SeatRecord) → Honest m (asked request m s)
 honest_asked (requests.Put pri delay ttr body) m s =
-    cond_both m.draining (telling answers.Draining m) (telling (answers.Inserted m.next_id) (after_put m (new_job m s pri delay ttr body))) (Honest m)
-    (λ e. unchanged m answers.Draining) (λ e. carried_out m (after_put m (new_job m s pri delay ttr body)) (answers.Inserted m.next_id) refl)
+    each_put pri delay ttr body m s (Honest m) (λ e. unchanged m answers.Draining) (λ e f. unchanged m answers.OutOfMemory)
+    (λ e f. carried_out m (after_put m (new_job m s pri delay ttr body)) (answers.Inserted m.next_id) refl)
 honest_asked requests.Reserve m s = unanswered m _
 honest_asked (requests.ReserveWithTimeout seconds) m s = unanswered m _
 honest_asked (requests.ReserveJob id) m s =

@@ -1,7 +1,8 @@
 -- Short words for worked examples: what the machine answers to a list of steps, by evaluation.
-use Rattle.std.specs.Prelude.{ℕ, ◌≡◌, if◌then◌else◌, List, [], ◌∷◌, ◌++◌, map, flat_map, Option}
+use Rattle.std.specs.Prelude.{ℕ, ◌≡◌, if◌then◌else◌, List, [], ◌∷◌, ◌++◌, map, flat_map, Option, None, Some}
 use Rattle.bq_job.specs.declared.answer.Answer.{Answer}
 use Rattle.bq_job.specs.declared.request.Request.{Request}
+use Rattle.bq_job.specs.declared.settings.Settings.{Settings}
 use Rattle.bq_job.specs.declared.step.Step.{Step}
 use Rattle.bq_job.specs.declared.step.Step.TheVariants as steps
 use Rattle.bq_job.specs.Computed.{stepped}
@@ -49,14 +50,26 @@ infix 70 ◌gives◌
 abbrev pub ◌gives◌ : Entry → List GivenAnswer → Entry × List GivenAnswer
 e gives answers = (e, answers)
 
+-- so many seats, bodies of at most so many bytes, and nothing else chosen
+abbrev pub plain : ℕ → ℕ → Settings
+plain seats max_job_size = record { seats = seats; max_job_size = max_job_size; max_jobs = None }
+
+-- the same with at most so many jobs
+abbrev pub at_most : ℕ → Settings → Settings
+at_most most settings = record settings { max_jobs = Some most }
+
 -- a machine with so many seats and nobody there
 abbrev pub server : ℕ → ℕ → Machine
-server seats max_job_size = new_machine (record { seats = seats; max_job_size = max_job_size })
+server seats max_job_size = new_machine (plain seats max_job_size)
 
--- Once a client has come to each of three seats at the moment 0, the steps give the answers beside them.
+-- Once a client has come to each of three seats at the moment 0, the steps give the answers beside them,
+abbrev pub PlaysWith : Settings → List (Entry × List GivenAnswer) → Type 0
+PlaysWith settings play =
+    ran (new_machine settings) (connect 0 ∷ connect 1 ∷ connect 2 ∷ map (λ p. p.0) play) ≡ [] ∷ [] ∷ [] ∷ map (λ p. p.1) play
+
+-- where nothing else is chosen.
 abbrev pub Plays : List (Entry × List GivenAnswer) → Type 0
-Plays play =
-    ran (server 3 65535) (connect 0 ∷ connect 1 ∷ connect 2 ∷ map (λ p. p.0) play) ≡ [] ∷ [] ∷ [] ∷ map (λ p. p.1) play
+Plays play = PlaysWith (plain 3 65535) play
 
 -- the machine after these steps
 abbrev pub played : Machine → List Entry → Machine
@@ -74,12 +87,15 @@ lone_line requests =
     connect 0 ∷ map (ask 0) requests ++ (if ends_by_wait requests then end 0 ∷ [] else []) ++ close 0 ∷ []
 
 -- the answers to a lone client, by a clock that stands at 0
-abbrev pub session : ℕ → List Request → List Answer
-session max_job_size requests = flat_map (map (λ g. g.1)) (ran (server 1 max_job_size) (lone_line requests))
+abbrev pub session : Settings → List Request → List Answer
+session settings requests = flat_map (map (λ g. g.1)) (ran (new_machine settings) (lone_line requests))
 
 -- the bytes that are written to a lone client which sends these bytes and no more
+abbrev pub replies_with : Settings → List ℕ → List ℕ
+replies_with settings sent = answers_text (session settings (reading settings.max_job_size sent).0)
+
 abbrev pub replies_within : ℕ → List ℕ → List ℕ
-replies_within max_job_size sent = answers_text (session max_job_size (reading max_job_size sent).0)
+replies_within max_job_size sent = replies_with (plain 1 max_job_size) sent
 
 abbrev pub replies : List ℕ → List ℕ
 replies sent = replies_within 65535 sent

@@ -5,7 +5,7 @@ use Rattle.bq_job.specs.declared.line_end.LineFault.TheVariants as faults
 use Rattle.bq_job.specs.declared.step.Step.TheVariants as steps
 use Rattle.bq_job.specs.ComputedRuns.{machine_after, transitions}
 use Rattle.bq_job.specs.Dispatch.{GivenAnswer}
-use Rattle.bq_job.specs.Examples.{event}
+use Rattle.bq_job.specs.Examples.{event, plain}
 use Rattle.bq_job.specs.Headline.{IsHistoryOf}
 use Rattle.bq_job.specs.History.{LineOver}
 use Rattle.bq_job.specs.Machine.{Settings, new_machine}
@@ -16,7 +16,7 @@ abbrev pub usual : ℕ
 usual = 65535
 
 abbrev pub seated : ℕ → Settings
-seated seats = record { seats = seats; max_job_size = usual }
+seated seats = plain seats usual
 
 -- lines that were read and written these bytes: over by the end of the input,
 abbrev pub ended_line : List ℕ → List ℕ → LineOver

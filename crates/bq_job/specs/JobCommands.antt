@@ -1,5 +1,5 @@
 -- The commands put, reserve, delete, release, bury, touch, kick and their kin.
-use Rattle.std.specs.Prelude.{ℕ, Bool, ◌+◌, ◌-◌, ◌^◌, ◌&&◌, ◌||◌, ◌==◌, not, nat_le, if◌then◌else◌, max, Option, Some, List, [], ◌∷◌, ◌++◌, map, filter, length, take}
+use Rattle.std.specs.Prelude.{ℕ, Bool, false, ◌+◌, ◌-◌, ◌^◌, ◌&&◌, ◌||◌, ◌==◌, not, nat_le, if◌then◌else◌, max, Option, None, Some, List, [], ◌∷◌, ◌++◌, map, filter, length, take}
 use Rattle.std.specs.List.{list_any}
 use Rattle.bq_job.specs.declared.answer.Answer.TheVariants as answers
 use Rattle.bq_job.specs.declared.job.Counts.{Counts}
@@ -51,11 +51,17 @@ after_put m j = record (with_tube j.tube with_put m) {
   draining = m.draining || nat_le last_id m.next_id;
 }
 
--- a new job in the used tube, unless the machine is draining
+-- whether there are as many jobs as there may be, in whatever states
+abbrev pub is_full : Option ℕ → List Job → Bool
+is_full None jobs = false
+is_full (Some most) jobs = nat_le most (length jobs)
+
+-- a new job in the used tube, unless the machine is draining or has as many jobs as there may be
 abbrev pub put_effect : ℕ → ℕ → ℕ → List ℕ → Machine → SeatRecord → Effect
 put_effect pri delay ttr body m s =
     if m.draining then telling answers.Draining m
-    else telling (answers.Inserted m.next_id) (after_put m (new_job m s pri delay ttr body))
+    else (if is_full m.settings.max_jobs m.jobs then telling answers.OutOfMemory m
+    else telling (answers.Inserted m.next_id) (after_put m (new_job m s pri delay ttr body)))
 
 abbrev pub waiting_from : ℕ → Option ℕ → SeatRecord → SeatRecord
 waiting_from ticket until s = record s { wait = Some (record { ticket = ticket; until = until }) }

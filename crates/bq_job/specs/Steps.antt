@@ -36,11 +36,12 @@ abbrev pub step_takes_memory : Step → Bool
 step_takes_memory (steps.Ask request) = takes_memory request
 step_takes_memory _ = false
 
--- No answer, DRAINING and NOT_FOUND want no growth.
+-- No answer, DRAINING, NOT_FOUND and the OUT_OF_MEMORY of a put that finds no place for its job want no growth.
 abbrev pub may_be_left_out : Option Answer → Bool
 may_be_left_out None = false
 may_be_left_out (Some answers.Draining) = false
 may_be_left_out (Some answers.NotFound) = false
+may_be_left_out (Some answers.OutOfMemory) = false
 may_be_left_out (Some _) = true
 
 abbrev pub shares_body : Option Answer → Bool

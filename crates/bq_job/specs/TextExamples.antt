@@ -2,11 +2,12 @@
 use Rattle.std.specs.Prelude.{true, [], ◌∷◌, codes, None}
 use Rattle.bq_job.specs.declared.job.Job.{Job}
 use Rattle.bq_job.specs.declared.job.JobState.TheVariants as states
+use Rattle.bq_job.specs.Examples.{plain}
 use Rattle.bq_job.specs.JobCommands.{no_counts}
 use Rattle.bq_job.specs.Machine.{Machine, Settings, default_tube, empty_seat, new_machine}
 
 abbrev pub one_seat : Settings
-one_seat = record { seats = 1; max_job_size = 65535 }
+one_seat = plain 1 65535
 
 -- after the first client has connected
 abbrev pub first_client : Machine

@@ -38,7 +38,7 @@ pub enum Answer {
     NotIgnored,
     /// `DRAINING`: no put is accepted any more.
     Draining,
-    /// `OUT_OF_MEMORY`: memory was refused, and nothing was changed.
+    /// `OUT_OF_MEMORY`: memory was refused, or a put found as many jobs as there may be. Nothing was changed.
     OutOfMemory,
     /// `TIMED_OUT`: the wait has ended without a job.
     TimedOut,

@@ -2,7 +2,7 @@
 //! is a clause that holds by evaluating the definitions of the reading, the machine and the texts, and
 //! none runs our code.
 
-ghost use Rattle.bq_job.specs.Examples.{replies, replies_within};
+ghost use Rattle.bq_job.specs.Examples.{at_most, plain, replies, replies_with, replies_within};
 ghost use Rattle.std.specs.Prelude.{List, [], ◌≡◌, ◌++◌, codes, replicate};
 
 /// A job is put, reserved and deleted.
@@ -47,6 +47,14 @@ fn body_too_big()
 /// After a put that is too big the next one is the first that is accepted.
 fn small_limit()
     ensures { replies_within 2 (codes "put 0 0 1 3\r\nabc\r\nput 0 0 1 2\r\nab\r\n") ≡ codes "JOB_TOO_BIG\r\nINSERTED 1\r\n" }
+{}
+
+/// Where there may be one job, a put is refused until that job is deleted, in whatever state it is; and
+/// the refused puts took no id.
+fn limit_of_one()
+    ensures { replies_with (at_most 1 (plain 1 65535))
+        (codes "put 0 0 9 1\r\nx\r\nput 0 0 9 1\r\ny\r\nreserve\r\nput 0 0 9 1\r\nz\r\ndelete 1\r\nput 0 0 9 1\r\nw\r\n")
+        ≡ codes "INSERTED 1\r\nOUT_OF_MEMORY\r\nRESERVED 1 1\r\nx\r\nOUT_OF_MEMORY\r\nDELETED\r\nINSERTED 2\r\n" }
 {}
 
 /// Upper case names no command; a put with too few words and a tube that begins with - are refused.
@@ -200,6 +208,7 @@ fn examples_of_sessions() {
     bad_end_swallowed();
     body_too_big();
     small_limit();
+    limit_of_one();
     bad_lines();
     least_across_tubes();
     bury_and_kick_order();

@@ -1,8 +1,8 @@
 //! Worked examples of the machine. Each is a clause that holds by evaluating the definitions, and none
 //! runs our code.
-ghost use Rattle.bq_job.specs.declared.answer.Answer.TheVariants.{Closed, DeadlineSoon, Draining, Found, Inserted, NotFound, Ok, Paused, Released, Reserved, TimedOut, Touched, Using, Watching};
-ghost use Rattle.bq_job.specs.declared.request.Request.TheVariants.{Delete, Ignore, PauseTube, Peek, Put, Release, Reserve, ReserveWithTimeout, StatsJob, Touch, Use, Watch};
-ghost use Rattle.bq_job.specs.Examples.{Plays, ask, at, close, drain, due_after, end, tick, ◌gives◌};
+ghost use Rattle.bq_job.specs.declared.answer.Answer.TheVariants.{Buried, Closed, DeadlineSoon, Deleted, Draining, Found, Inserted, NotFound, Ok, OutOfMemory, Paused, Released, Reserved, TimedOut, Touched, Using, Watching};
+ghost use Rattle.bq_job.specs.declared.request.Request.TheVariants.{Bury, Delete, Ignore, PauseTube, Peek, Put, Release, Reserve, ReserveWithTimeout, StatsJob, Touch, Use, Watch};
+ghost use Rattle.bq_job.specs.Examples.{Plays, PlaysWith, ask, at, at_most, close, drain, due_after, end, plain, tick, ◌gives◌};
 ghost use Rattle.std.specs.Prelude.{List, [], ◌∷◌, ◌++◌, ◌≡◌, None, Some, codes};
 
 /// Of two waiting clients each gets the job of a tube that it watches, whoever has waited longer.
@@ -82,6 +82,42 @@ fn draining()
         ∷ []) }
 {}
 
+/// A machine that drains says so, though there are as many jobs as there may be.
+fn draining_before_the_limit()
+    ensures { PlaysWith (at_most 1 (plain 3 65535))
+        (ask 0 (Put 0 0 9 (codes "x")) gives ((0, Inserted 1) ∷ [])
+        ∷ drain gives []
+        ∷ ask 0 (Put 0 0 9 (codes "y")) gives ((0, Draining) ∷ [])
+        ∷ []) }
+{}
+
+/// Jobs of every state count: a delayed, a buried and a reserved one leave no place for a fourth. A delete
+/// makes room for one, and no put that was refused has taken an id.
+fn jobs_of_every_state_count()
+    ensures { PlaysWith (at_most 3 (plain 3 65535))
+        (ask 0 (Put 0 9 9 (codes "x")) gives ((0, Inserted 1) ∷ [])
+        ∷ ask 0 (Put 0 0 9 (codes "y")) gives ((0, Inserted 2) ∷ [])
+        ∷ ask 1 Reserve gives ((1, Reserved 2 (codes "y")) ∷ [])
+        ∷ ask 1 (Bury 2 0) gives ((1, Buried) ∷ [])
+        ∷ ask 0 (Put 0 0 9 (codes "z")) gives ((0, Inserted 3) ∷ [])
+        ∷ ask 1 Reserve gives ((1, Reserved 3 (codes "z")) ∷ [])
+        ∷ ask 0 (Put 0 0 9 (codes "u")) gives ((0, OutOfMemory) ∷ [])
+        ∷ ask 2 (Delete 3) gives ((2, NotFound) ∷ [])
+        ∷ ask 0 (Put 0 0 9 (codes "v")) gives ((0, OutOfMemory) ∷ [])
+        ∷ ask 2 (Delete 2) gives ((2, Deleted) ∷ [])
+        ∷ ask 0 (Put 0 0 9 (codes "w")) gives ((0, Inserted 4) ∷ [])
+        ∷ ask 0 (Put 0 0 9 (codes "q")) gives ((0, OutOfMemory) ∷ [])
+        ∷ []) }
+{}
+
+/// The greatest limit refuses no put while there are fewer jobs.
+fn greatest_limit()
+    ensures { PlaysWith (at_most 4294967295 (plain 3 65535))
+        (ask 0 (Put 0 0 9 (codes "x")) gives ((0, Inserted 1) ∷ [])
+        ∷ ask 0 (Put 0 0 9 (codes "y")) gives ((0, Inserted 2) ∷ [])
+        ∷ []) }
+{}
+
 /// A touch begins the time to run anew. Once it is over, the client holds the job no more.
 fn touch_moves_the_lease()
     ensures { Plays
@@ -154,6 +190,9 @@ fn examples_of_steps() {
     pause_and_delay_end_together();
     close_hands_on();
     draining();
+    draining_before_the_limit();
+    jobs_of_every_state_count();
+    greatest_limit();
     touch_moves_the_lease();
     release_with_delay();
     timed_waits_by_ticket();

@@ -5,4 +5,6 @@ pub struct Settings {
     pub seats: u16,
     /// How many bytes a job's body may have, 1 to 1,048,576.
     pub max_job_size: u32,
+    /// How many jobs there can be at a time, in whatever states, at least 1; None where there is no limit.
+    pub max_jobs: Option<u32>,
 }

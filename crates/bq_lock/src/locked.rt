@@ -1,6 +1,6 @@
 //! What the one lock of a server holds.
-ghost use Rattle.std.specs.Prelude.{◌≡◌, ◌&&◌, ◌↔◌, IfOk, IsErrOf, IsTrue, drop, not, slice_get, slice_set};
-ghost use Rattle.bq_core.specs.Limits.{is_body_size, is_seat_count};
+ghost use Rattle.std.specs.Prelude.{◌≡◌, ◌↔◌, IfOk, IsErrOf, IsTrue, drop, not, slice_get, slice_set};
+ghost use Rattle.bq_core.specs.Limits.{are_in_range};
 ghost use Rattle.bq_job.specs.NextDue.{next_due};
 ghost use Rattle.bq_lock.specs.LockedState.{IsLawfulHold, new_locked, outbox_at};
 ghost use Rattle.bq_lock.specs.LockedSteps.{TakesStep};
@@ -50,7 +50,7 @@ impl Locked {
     /// The fault is `BadConfiguration` where the configuration is out of its ranges, and else `NoMemory`.
     pub fn new(alloc: Global, config: Config, room: usize) -> Result<Locked, RunFault>
         ensures made { IfOk result (λ locked. locked ≡ new_locked config room) }
-        ensures bad_configuration { IsErrOf result RunFault.BadConfiguration ↔ IsTrue (not (is_seat_count config.seats && is_body_size config.max_job_size)) }
+        ensures bad_configuration { IsErrOf result RunFault.BadConfiguration ↔ IsTrue (not (are_in_range config)) }
         ensures no_thread { IsErrOf result RunFault.ThreadRefused ↔ ⊥ }
     {
         let core = match Core::new(alloc, config) {

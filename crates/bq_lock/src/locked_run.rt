@@ -1,7 +1,7 @@
 //! A run around one lock, with a thread for each door.
 ghost use Rattle.std.specs.Prelude.{◌≡◌, ◌↔◌, ◌≤◌, ◌&&◌, ◌==◌, not, IfOk, IfSome, IsErrOf, IsTrue, vec_len};
 ghost use Rattle.std.specs.List.{All};
-ghost use Rattle.bq_core.specs.Limits.{is_body_size, is_seat_count};
+ghost use Rattle.bq_core.specs.Limits.{are_in_range, is_body_size};
 ghost use Rattle.bq_lock.specs.LockedRuns.{IsServedToEnd};
 ghost use Rattle.bq_lock.specs.LockedState.{IsLawfulHold};
 ghost use Rattle.bq_desk.specs.Tending.{IsNewDoor, door_seen};
@@ -63,7 +63,7 @@ pub fn run_locked<
     ensures many { IfOk result (λ run. vec_len run.doors ≡ config.seats) }
     ensures holds { IfOk result (λ run. IsLawfulHold run.locked) }
     ensures bad_configuration { IsErrOf result RunFault.BadConfiguration
-        ↔ IsTrue (not (is_seat_count config.seats && is_body_size config.max_job_size && vec_len doors == config.seats)) }
+        ↔ IsTrue (not (are_in_range config && vec_len doors == config.seats)) }
 {
     if doors.len() != usize::from(config.seats) {
         return Err(RunFault::BadConfiguration);

@@ -1,7 +1,7 @@
 //! Many doors, which one thread serves in turn.
 ghost use Rattle.std.specs.Prelude.{◌≡◌, ◌<◌, ◌≤◌, ◌↔◌, ◌⊎◌, ◌&&◌, ◌==◌, true, false, not, length, IfOk, IsErrOf, IsTrue, slice_index_or, vec_len};
 ghost use Rattle.std.specs.List.{All};
-ghost use Rattle.bq_core.specs.Limits.{is_body_size, is_seat_count};
+ghost use Rattle.bq_core.specs.Limits.{are_in_range, is_body_size};
 ghost use Rattle.bq_seat.specs.Past.{Awaited};
 ghost use Rattle.bq_seat.specs.SeatStands.{awaited};
 ghost use Rattle.bq_desk.specs.DeskOf.{state_of};
@@ -82,7 +82,7 @@ pub fn run_sessions<
     // The core can go on.
     ensures settings { IfOk result (λ run. run.core.machine.settings ≡ config) }
     ensures bad_configuration { IsErrOf result RunFault.BadConfiguration
-        ↔ IsTrue (not (is_seat_count config.seats && is_body_size config.max_job_size && vec_len doors == config.seats)) }
+        ↔ IsTrue (not (are_in_range config && vec_len doors == config.seats)) }
 {
     if doors.len() != usize::from(config.seats) {
         return Err(RunFault::BadConfiguration);

@@ -77,7 +77,7 @@ returns-clause-reply c s found =
     let last : with_added job m.jobs ≡ m.jobs ++ job ∷ [] = c.adds_at_the_end.ensures 1 m.jobs job (subst (AreIdsWithin 1 m.jobs) (sym id) c.requires.sound.ids) in
     let done : machine_of c.add.new.state ≡ record (after_given W) { jobs = m.jobs ++ job ∷ [] } =
     c.add.ensures.after ∙ ap (λ (x : Machine). record x { jobs = with_added job x.jobs }) given ∙ ap (λ js. record (after_given W) { jobs = js }) last in
-    put_done m s c.args.new.pri c.args.new.delay c.args.new.ttr c.args.new.body tube job used c.if-state.false is
+    put_done m s c.args.new.pri c.args.new.delay c.args.new.ttr c.args.new.body tube job used c.if-state.false (sym c.if-is_full.ensures) is
     ∙ ap (λ n. telling (answers.Inserted n) (record (after_given W) { jobs = m.jobs ++ job ∷ [] })) (sym id)
     ∙ ap (telling (answers.Inserted job.id)) (sym done)
 

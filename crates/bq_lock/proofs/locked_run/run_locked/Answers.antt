@@ -2,7 +2,7 @@ use Rattle.std.proofs.Common.{◌≡◌, ◌==◌, ◌&&◌, ◌∙◌, true, ap
 use Rattle.std.proofs.lemmas.Bool.{cases_Bool, eq-eqb}
 use denote.Exit.{yes}
 use denote.Param.Send.{arg_sync, param_sync}
-use Rattle.bq_core.specs.Limits.{is_body_size, is_seat_count}
+use Rattle.bq_core.specs.Limits.{are_in_range}
 use Rattle.bq_desk.specs.declared.fault.RunFault.TheVariants.{BadConfiguration}
 use Rattle.bq_lock.proofs.SendLemmas.{desk_sends}
 use Rattle.std.proofs.sync.Mutex.TheSendSync.{the_sync}
@@ -12,7 +12,27 @@ pub returns-clause-bad_configuration : goal.returns-clause-bad_configuration
 returns-clause-bad_configuration g c =
     let fits : (vec_len c.args.doors == c.args.config.seats) ≡ true = eq-eqb (vec_len c.args.doors) c.args.config.seats (let b = c.if-len-from.false in let d = c.len.ensures in let e = c.from.ensures in omega arith) in (
       λ e. absurd cc,
-      λ h. elim (cases_Bool (is_seat_count c.args.config.seats && is_body_size c.args.config.max_job_size)) [
+      λ h. elim (cases_Bool (are_in_range c.args.config)) [
+        | inl good ↦ let no = rw (good, fits) at h in absurd cc
+        | inr bad ↦ let no = c.in_ok-locked.ensures.bad_configuration.1 (rw bad refl) in absurd cc
+      ],
+    )
+
+pub returns-in_default-clause-bad_configuration : goal.returns-in_default-clause-bad_configuration
+returns-in_default-clause-bad_configuration g c =
+    let fits : (vec_len c.args.doors == c.args.config.seats) ≡ true = eq-eqb (vec_len c.args.doors) c.args.config.seats (let b = c.if-len-from.false in let d = c.len.ensures in let e = c.from.ensures in omega arith) in (
+      λ e. absurd cc,
+      λ h. elim (cases_Bool (are_in_range c.args.config)) [
+        | inl good ↦ let no = rw (good, fits) at h in absurd cc
+        | inr bad ↦ let no = c.in_ok-locked.ensures.bad_configuration.1 (rw bad refl) in absurd cc
+      ],
+    )
+
+pub returns-in_default-new_posts-clause-bad_configuration : goal.returns-in_default-new_posts-clause-bad_configuration
+returns-in_default-new_posts-clause-bad_configuration g c =
+    let fits : (vec_len c.args.doors == c.args.config.seats) ≡ true = eq-eqb (vec_len c.args.doors) c.args.config.seats (let b = c.if-len-from.false in let d = c.len.ensures in let e = c.from.ensures in omega arith) in (
+      λ e. absurd cc,
+      λ h. elim (cases_Bool (are_in_range c.args.config)) [
         | inl good ↦ let no = rw (good, fits) at h in absurd cc
         | inr bad ↦ let no = c.in_ok-locked.ensures.bad_configuration.1 (rw bad refl) in absurd cc
       ],
@@ -22,7 +42,7 @@ pub returns-in-Err-clause-bad_configuration : goal.returns-in-Err-clause-bad_con
 returns-in-Err-clause-bad_configuration g c =
     let fits : (vec_len c.args.doors == c.args.config.seats) ≡ true = eq-eqb (vec_len c.args.doors) c.args.config.seats (let b = c.if-len-from.false in let d = c.len.ensures in let e = c.from.ensures in omega arith) in (
       λ e. let same : c.in-Err.fault ≡ BadConfiguration = cc in absurd (c.serve_in_scope-served.ensures.fault (c.in-Err.is ∙ ap (λ f. Err f) same)),
-      λ h. elim (cases_Bool (is_seat_count c.args.config.seats && is_body_size c.args.config.max_job_size)) [
+      λ h. elim (cases_Bool (are_in_range c.args.config)) [
         | inl good ↦ let no = rw (good, fits) at h in absurd cc
         | inr bad ↦ let no = c.in_ok-locked.ensures.bad_configuration.1 (rw bad refl) in absurd cc
       ],

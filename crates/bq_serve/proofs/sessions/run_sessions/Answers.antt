@@ -2,7 +2,7 @@ use Rattle.std.proofs.Common.{◌≡◌, ◌==◌, ◌&&◌, ◌++◌, ◌∙◌
 use Rattle.std.specs.List.{All}
 use Rattle.std.proofs.lemmas.Bool.{cases_Bool, eq-eqb}
 use Rattle.std.proofs.lemmas.List.{with_items_is}
-use Rattle.bq_core.specs.Limits.{is_body_size, is_seat_count}
+use Rattle.bq_core.specs.Limits.{are_in_range}
 use Rattle.bq_desk.specs.DeskOf.{state_of}
 use Rattle.bq_serve.specs.Sessions.{AreAllKept}
 use Rattle.bq_desk.specs.Tending.{IsNewDoor, IsNewSeat, door_seen}
@@ -127,7 +127,7 @@ pub returns-clause-bad_configuration : goal.returns-clause-bad_configuration
 returns-clause-bad_configuration g c =
     let fits : (vec_len c.args.doors == c.args.config.seats) ≡ true = eq-eqb (vec_len c.args.doors) c.args.config.seats (let b = c.if-len-from.false in let d = c.len.ensures in let e = c.from.ensures in omega arith) in (
       λ e. absurd cc,
-      λ h. elim (cases_Bool (is_seat_count c.args.config.seats && is_body_size c.args.config.max_job_size)) [
+      λ h. elim (cases_Bool (are_in_range c.args.config)) [
         | inl good ↦ let no = rw (good, fits) at h in absurd cc
         | inr bad ↦ let no = c.in_ok-desk.ensures.bad_configuration.1 (rw bad refl) in absurd cc
       ],

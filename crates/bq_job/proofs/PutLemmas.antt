@@ -1,0 +1,19 @@
+-- What a put does: one of three things.
+use Rattle.std.proofs.Common.{ℕ, ◌≡◌, true, false, List, cond}
+use Rattle.std.proofs.lemmas.Bool.{cond_both}
+use Rattle.bq_job.specs.declared.answer.Answer.TheVariants as answers
+use Rattle.bq_job.specs.Acts.{Effect, telling}
+use Rattle.bq_job.specs.JobCommands.{after_put, is_full, new_job, put_effect}
+use Rattle.bq_job.specs.Machine.{Machine, SeatRecord}
+
+-- What holds where it finds the machine draining, where it finds no place for a job, and where its job
+-- comes in, holds of every put.
+pub each_put : (pri delay ttr : ℕ) (body : List ℕ) (m : Machine) (s : SeatRecord) (P : Effect → Type 0)
+    → (m.draining ≡ true → P (telling answers.Draining m))
+    → (m.draining ≡ false → is_full m.settings.max_jobs m.jobs ≡ true → P (telling answers.OutOfMemory m))
+    → (m.draining ≡ false → is_full m.settings.max_jobs m.jobs ≡ false → P (telling (answers.Inserted m.next_id) (after_put m (new_job m s pri delay ttr body))))
+    → P (put_effect pri delay ttr body m s)
+each_put pri delay ttr body m s P drains full accepted =
+    let done = telling (answers.Inserted m.next_id) (after_put m (new_job m s pri delay ttr body)) in
+    cond_both m.draining (telling answers.Draining m) (cond (is_full m.settings.max_jobs m.jobs) (telling answers.OutOfMemory m) done) P drains
+    (λ d. cond_both (is_full m.settings.max_jobs m.jobs) (telling answers.OutOfMemory m) done P (full d) (accepted d))
