@@ -97,6 +97,7 @@ fn serve_by<R: Wait, S: Read + Write + Drop, C: Clock + Drop>(
         seats: options.seats,
         max_job_size: options.max_job_size,
         max_jobs: None,
+        requeue_delay: 0,
     };
     match run_one(rt, alloc, config, IoLine::new(stream), clock) {
         Ok(One { line, end, .. }) => Ran {

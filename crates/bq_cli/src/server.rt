@@ -100,6 +100,7 @@ fn serve_all<R: Threads + Wait + Clock + Print + Eprint + Sync, I: BufRead + Dro
         seats: options.seats,
         max_job_size: options.max_job_size,
         max_jobs: None,
+        requeue_delay: 0,
     };
     let run = run_locked(rt, alloc, config, doors, MachineClock::new(rt), control, 0)?;
     if run.doors.iter().any(|door| door.met_fault()) {

@@ -14,6 +14,7 @@ use Rattle.bq_job.specs.Changes.{given_back, in_state, is_held_by, is_holder, is
 use Rattle.bq_job.specs.Computed.{waiting_count}
 use Rattle.bq_job.specs.Dispatch.{DispatchTurn, GivenAnswer, IsHandOut}
 use Rattle.bq_job.specs.JobCommands.{kicked}
+use Rattle.bq_job.specs.JobStates.{is_reserved}
 use Rattle.bq_job.specs.Lawful.{AreIdsWithin}
 use Rattle.bq_job.specs.Machine.{Machine, SeatRecord}
 use Rattle.bq_job.specs.Waits.{Chain, WaitEndTurn}
@@ -125,26 +126,29 @@ module _ (f : Job → Job) (keeps : (j : Job) → (f j).id ≡ j.id) (q : Job �
       each (k ∷ ks) all = (found_changed f keeps k.id jobs ∙ ap (option_map f) all.0, each ks all.1)
 
 -- the jobs that a client gives back are changed
-pub given_back_changed : (seat low next : ℕ) (jobs : List Job) → AreIdsWithin low jobs next → count_by (is_held_by seat) jobs ≤ changed_jobs jobs (map (given_back seat) jobs)
-given_back_changed seat low next jobs ids = changed_of (given_back seat) keeps (is_held_by seat) other low next jobs ids
+pub given_back_changed : (state : JobState) (seat low next : ℕ) (jobs : List Job) → is_reserved state ≡ false → AreIdsWithin low jobs next → count_by (is_held_by seat) jobs ≤ changed_jobs jobs (map (given_back state seat) jobs)
+given_back_changed state seat low next jobs free ids = changed_of (given_back state seat) keeps (is_held_by seat) other low next jobs ids
   where
-    keeps : (j : Job) → (given_back seat j).id ≡ j.id
+    keeps : (j : Job) → (given_back state seat j).id ≡ j.id
     keeps j = go (is_held_by seat j)
       where
-        go : (b : Bool) → (if b then in_state states.Ready j else j).id ≡ j.id
+        go : (b : Bool) → (if b then in_state state j else j).id ≡ j.id
         go true = refl
         go false = refl
 
-    not_ready : (s : JobState) → is_holder seat s ≡ true → is_same_state s states.Ready ≡ false
-    not_ready states.Ready h = absurd cc
-    not_ready (states.Delayed due) h = refl
-    not_ready (states.Reserved holder deadline) h = refl
-    not_ready (states.Buried number) h = refl
+    apart : (s t : JobState) → is_holder seat s ≡ true → is_reserved t ≡ false → is_same_state s t ≡ false
+    apart states.Ready t h i = absurd cc
+    apart (states.Delayed due) t h i = absurd cc
+    apart (states.Buried number) t h i = absurd cc
+    apart (states.Reserved holder deadline) states.Ready h i = refl
+    apart (states.Reserved holder deadline) (states.Delayed due) h i = refl
+    apart (states.Reserved holder deadline) (states.Reserved other until) h i = absurd cc
+    apart (states.Reserved holder deadline) (states.Buried number) h i = refl
 
-    other : (j : Job) → is_held_by seat j ≡ true → is_same_job j (given_back seat j) ≡ false
+    other : (j : Job) → is_held_by seat j ≡ true → is_same_job j (given_back state seat j) ≡ false
     other j h =
-        let ready : given_back seat j ≡ in_state states.Ready j = rw h refl in
-        ap (is_same_job j) ready ∙ rw (not_ready j.state h) refl
+        let back : given_back state seat j ≡ in_state state j = rw h refl in
+        ap (is_same_job j) back ∙ rw (apart j.state state h free) refl
 
 -- what no longer passes was counted once
 passing_apart : (p : Job → Bool) (f : Job → Job) (jobs : List Job) → count_by p jobs ≤ count_by p (map f jobs) + count_by (λ j. p j && not (p (f j))) jobs

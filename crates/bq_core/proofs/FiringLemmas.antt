@@ -272,26 +272,35 @@ pub expiries_are : (t : ℕ) (j : Job) → is_expired t j.state ≡ (is_reserved
 expiries_are t j = expired_is t j.state
 
 -- one job is given back
-held_back : (seat : ℕ) (j : Job) → is_held_by seat j ≡ true → given_back seat j ≡ in_state states.Ready j
-held_back seat j h = rw h refl
+held_back : (state : JobState) (seat : ℕ) (j : Job) → is_held_by seat j ≡ true → given_back state seat j ≡ in_state state j
+held_back state seat j h = rw h refl
 
-pub given_one : (seat : ℕ) (m : Machine) (id : ℕ) → AreIdsWithin 1 m.jobs m.next_id → Some id ≡ option_map (λ j. j.id) (first_of (is_held_by seat) is_lease_before m.jobs) → after_giving_back seat (with_job id (in_state states.Ready) m) ≡ after_giving_back seat m
-given_one seat m id ids first =
+pub held_by_none : (seat : ℕ) (state : JobState) → is_reserved state ≡ false → is_holder seat state ≡ false
+held_by_none seat states.Ready free = refl
+held_by_none seat (states.Delayed due) free = refl
+held_by_none seat (states.Reserved holder deadline) free = absurd cc
+held_by_none seat (states.Buried number) free = refl
+
+pub given_one : (state : JobState) (seat : ℕ) (m : Machine) (id : ℕ) → is_reserved state ≡ false → AreIdsWithin 1 m.jobs m.next_id → Some id ≡ option_map (λ j. j.id) (first_of (is_held_by seat) is_lease_before m.jobs)
+    → after_giving_back state seat (with_job id (in_state state) m) ≡ after_giving_back state seat m
+given_one state seat m id free ids first =
     let one = chosen (is_held_by seat) is_lease_before 1 m.next_id m.jobs id ids first in
     let single = one_of_id id 1 m.next_id m.jobs one.job ids one.found in
+    let back : (k : Job) → given_back state seat (in_state state k) ≡ in_state state k = λ k. rw (held_by_none seat state free) refl in
     ap (λ js. record m { jobs = js })
-    (absorbed (given_back seat) (in_state states.Ready) id m.jobs (all_weaker (λ k. (k.id == id) ≡ true → k ≡ one.job) (λ k. (k.id == id) ≡ true → given_back seat (in_state states.Ready k) ≡ given_back seat k) m.jobs (λ k is e.
-    sym (held_back seat k (ap (is_held_by seat) (is e) ∙ one.passes_is))) single))
+    (absorbed (given_back state seat) (in_state state) id m.jobs (all_weaker (λ k. (k.id == id) ≡ true → k ≡ one.job) (λ k. (k.id == id) ≡ true → given_back state seat (in_state state k) ≡ given_back state seat k) m.jobs (λ k is e.
+    back k ∙ sym (held_back state seat k (ap (is_held_by seat) (is e) ∙ one.passes_is))) single))
 
-pub given_fewer : (seat : ℕ) (m : Machine) (id : ℕ) → AreIdsWithin 1 m.jobs m.next_id → Some id ≡ option_map (λ j. j.id) (first_of (is_held_by seat) is_lease_before m.jobs) → count_by (is_held_by seat) (with_job id (in_state states.Ready) m).jobs < count_by (is_held_by seat) m.jobs
-given_fewer seat m id ids first =
+pub given_fewer : (state : JobState) (seat : ℕ) (m : Machine) (id : ℕ) → is_reserved state ≡ false → AreIdsWithin 1 m.jobs m.next_id → Some id ≡ option_map (λ j. j.id) (first_of (is_held_by seat) is_lease_before m.jobs)
+    → count_by (is_held_by seat) (with_job id (in_state state) m).jobs < count_by (is_held_by seat) m.jobs
+given_fewer state seat m id free ids first =
     let one = chosen (is_held_by seat) is_lease_before 1 m.next_id m.jobs id ids first in
-    omega (arith, one_fewer (is_held_by seat) (in_state states.Ready) id 1 m.next_id m.jobs one.job ids one.found one.passes_is refl)
+    omega (arith, one_fewer (is_held_by seat) (in_state state) id 1 m.next_id m.jobs one.job ids one.found one.passes_is (held_by_none seat state free))
 
-pub given_none : (seat : ℕ) (m : Machine) → None ≡ option_map (λ j. j.id) (first_of (is_held_by seat) is_lease_before m.jobs) → m ≡ after_giving_back seat m
-given_none seat m e =
+pub given_none : (state : JobState) (seat : ℕ) (m : Machine) → None ≡ option_map (λ j. j.id) (first_of (is_held_by seat) is_lease_before m.jobs) → m ≡ after_giving_back state seat m
+given_none state seat m e =
     let none = none_pass (is_held_by seat) m.jobs (first_of_none (is_held_by seat) is_lease_before m.jobs (no_id (first_of (is_held_by seat) is_lease_before m.jobs) e)) in
-    ap (λ js. record m { jobs = js }) (sym (map_all_same (given_back seat) m.jobs (all_weaker (λ k. is_held_by seat k ≡ false) (λ k. given_back seat k ≡ k) m.jobs (λ k h. rw h refl) none)))
+    ap (λ js. record m { jobs = js }) (sym (map_all_same (given_back state seat) m.jobs (all_weaker (λ k. is_held_by seat k ≡ false) (λ k. given_back state seat k ≡ k) m.jobs (λ k h. rw h refl) none)))
   where
     no_id : (o : Option Job) → None ≡ option_map (λ j. j.id) o → o ≡ None
     no_id None h = refl

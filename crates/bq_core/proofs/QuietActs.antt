@@ -12,8 +12,8 @@ use Rattle.bq_job.specs.declared.request.Request.TheVariants as requests
 use Rattle.bq_job.specs.declared.step.Step.{Step}
 use Rattle.bq_job.specs.declared.step.Step.TheVariants as steps
 use Rattle.bq_job.specs.Acts.{Effect, on_found, silent, telling}
-use Rattle.bq_job.specs.Asked.{after_close, after_connect, asked, at_found, effect, with_end}
-use Rattle.bq_job.specs.Changes.{first_of, given_back, in_state, is_held_by, is_ready, is_ready_state, is_waiting, job_with, seat_with, with_job, with_seat}
+use Rattle.bq_job.specs.Asked.{after_close, after_connect, asked, at_found, effect, with_end, state_once_left}
+use Rattle.bq_job.specs.Changes.{first_of, given_back, in_state, is_held_by, is_ready, is_ready_state, is_waiting, job_with, seat_with, with_job, with_seat, is_holder}
 use Rattle.bq_job.specs.Dispatch.{is_job_before, reserved_by}
 use Rattle.bq_job.specs.JobCommands.{after_delete, after_kick, after_put, buried, is_buried_in, is_delayed_in, is_free_for, kickable, kicked, new_job, put_effect, released, waiting_from, with_put}
 use Rattle.bq_job.specs.JobStates.{is_buried, is_buried_before, is_delayed, is_due_before, is_reserved}
@@ -26,6 +26,7 @@ use Rattle.bq_job.specs.Tubes.{is_paused, is_tube, with_tube}
 use Rattle.bq_job.proofs.KeptLemmas.{only_seat}
 use Rattle.bq_job.proofs.ListLemmas.{all_always, all_at, all_weaker, found_passes}
 use Rattle.bq_job.proofs.PutLemmas.{each_put}
+use Rattle.bq_job.specs.declared.job.JobState.{JobState}
 use Rattle.bq_core.specs.Stirring.{ends_pause, has_stirred}
 use Rattle.bq_core.proofs.ActLemmas.{job_told_same, shown_same, tube_told_same}
 use Rattle.bq_core.proofs.QuietLemmas.{IsNoFuller, no_fuller_deleted, no_fuller_end, no_fuller_itself, no_fuller_job, no_fuller_map, no_fuller_put, no_fuller_seat, none_newer, pauses_kept, ready_itself, waiting_itself}
@@ -219,17 +220,25 @@ close_quiet : (m : Machine) (o : Option SeatRecord) → count_by is_ready (at_fo
 close_quiet m None h = no_fuller_itself m
 close_quiet m (Some s) h = go s.connected h
   where
-    readier : (j : Job) → is_ready j ≡ true → (c : Bool) → is_ready (if c then in_state states.Ready j else j) ≡ true
-    readier j r true = refl
-    readier j r false = r
+    left : JobState
+    left = state_once_left m
 
-    alike : (j : Job) (c : Bool) → (if c then in_state states.Ready j else j).tube ≡ j.tube
+    ready_unheld : (t : JobState) → is_ready_state t ≡ true → is_holder s.number t ≡ false
+    ready_unheld states.Ready r = refl
+    ready_unheld (states.Delayed due) r = absurd cc
+    ready_unheld (states.Reserved holder deadline) r = absurd cc
+    ready_unheld (states.Buried number) r = absurd cc
+
+    readier : (j : Job) → is_ready j ≡ true → is_ready (given_back left s.number j) ≡ true
+    readier j r = rw (ready_unheld j.state r) r
+
+    alike : (j : Job) (c : Bool) → (if c then in_state left j else j).tube ≡ j.tube
     alike j true = refl
     alike j false = refl
 
     go : (c : Bool) → count_by is_ready (if c then telling answers.Closed (after_close m s.number) else silent m).machine.jobs ≤ count_by is_ready m.jobs → IsNoFuller m (if c then telling answers.Closed (after_close m s.number) else silent m).machine
     go true h = record {
-      jobs = no_fuller_map (given_back s.number) m.jobs (λ j r. readier j r (is_held_by s.number j)) (λ j. alike j (is_held_by s.number j)) h;
+      jobs = no_fuller_map (given_back left s.number) m.jobs readier (λ j. alike j (is_held_by s.number j)) h;
       seats = no_fuller_seat s.number (λ t. empty_seat t.number) m (all_always (λ t. t.number ≡ s.number → false ≡ false) m.seats (λ t e. refl));
       paused = λ name p. p;
     }

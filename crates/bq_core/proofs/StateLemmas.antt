@@ -56,7 +56,7 @@ same_id false x y id h i = i
 pub id_kept : (change : JobChange) (j : Job) → (changed change j).id ≡ j.id
 id_kept (FireTimers moment) j = same_id (is_due moment j.state) _ _ j.id refl (same_id (is_expired moment j.state) _ _ j.id refl refl)
 id_kept (HandOut seat moment) j = refl
-id_kept GiveBack j = refl
+id_kept (GiveBack state) j = refl
 id_kept (Release pri delay moment) j = refl
 id_kept (Bury number pri) j = refl
 id_kept (Touch seat deadline) j = refl

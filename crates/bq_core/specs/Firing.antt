@@ -2,6 +2,7 @@
 use Rattle.std.specs.Prelude.{ℕ, Bool, ◌≡◌, ◌||◌, IsTrue, List, Some, count_by, map, nat_lt}
 use Rattle.std.specs.List.{list_any}
 use Rattle.bq_job.specs.declared.job.Job.{Job}
+use Rattle.bq_job.specs.declared.job.JobState.{JobState}
 use Rattle.bq_job.specs.Changes.{given_back, job_with, with_job}
 use Rattle.bq_job.specs.Limits.{grown}
 use Rattle.bq_job.specs.Machine.{Machine}
@@ -27,9 +28,9 @@ has_timer_due m = nat_lt 0 (count_by (is_ripe m.moment) m.jobs) || list_any (is_
 abbrev pub with_pauses_ended : Machine → Machine
 with_pauses_ended m = record m { tubes = map (tube_after_timers m.moment) m.tubes }
 
--- the machine once the client at the seat has given back all that it holds
-abbrev pub after_giving_back : ℕ → Machine → Machine
-after_giving_back seat m = record m { jobs = map (given_back seat) m.jobs }
+-- the machine once the client at the seat has given back all that it holds, which then stands so
+abbrev pub after_giving_back : JobState → ℕ → Machine → Machine
+after_giving_back state seat m = record m { jobs = map (given_back state seat) m.jobs }
 
 -- There is a job of this id, and it passes.
 pub record IsOne (passes : Job → Bool) (jobs : List Job) (id : ℕ) : Type 0 where

@@ -15,7 +15,7 @@ use Rattle.bq_core.specs.declared.job_list.JobTest.TheVariants.{HeldBy, FreeFor,
 abbrev pub changed : JobChange → Job → Job
 changed (FireTimers moment) j = job_after_timers moment j
 changed (HandOut seat moment) j = reserved_by moment seat j
-changed GiveBack j = in_state states.Ready j
+changed (GiveBack state) j = in_state state j
 changed (Release pri delay moment) j = released moment pri delay j
 changed (Bury number pri) j = buried number pri j
 changed (Touch seat deadline) j = in_state (states.Reserved seat deadline) j

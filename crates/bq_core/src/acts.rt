@@ -46,7 +46,7 @@ fn end(state: &mut State, seat: Seat)
     }
 }
 
-// The jobs that the client holds become ready, and the seat is free.
+// The jobs that the client holds become ready or delayed, and the seat is free.
 fn close(state: &mut State, seat: Seat) -> Option<Answer>
     requires { IsSound state.old }
     ensures reply { effect (machine_of state.old) seat steps.Close ≡ record { machine = machine_of state.new; answer = result } }
@@ -57,7 +57,8 @@ fn close(state: &mut State, seat: Seat) -> Option<Answer>
     if !state.is_connected(seat) {
         return None;
     }
-    leases::give_back_all(state, seat);
+    let becomes = leases::state_once_left(state);
+    leases::give_back_all(state, seat, becomes);
     state::change_seat(state, seat, &SeatChange::Clear);
     Some(Answer::Closed)
 }

@@ -25,8 +25,8 @@ pub(crate) enum JobChange {
     FireTimers(Moment),
     /// It goes to the client at this seat, at this moment.
     HandOut(Seat, Moment),
-    /// The client that holds it is gone: it becomes ready.
-    GiveBack,
+    /// The client that holds it is gone: it stands so from now on.
+    GiveBack(JobState),
     /// It gets this priority and this delay, counted from this moment.
     Release(Pri, u32, Moment),
     /// It is buried, with this burial number and this priority.
@@ -151,7 +151,7 @@ pub(crate) fn change(job: &mut Job, change: &JobChange)
     match *change {
         JobChange::FireTimers(moment) => fire_timers(job, moment),
         JobChange::HandOut(seat, moment) => hand_out(job, seat, moment),
-        JobChange::GiveBack => job.state = JobState::Ready,
+        JobChange::GiveBack(becomes) => job.state = becomes,
         JobChange::Release(pri, delay, moment) => release(job, pri, delay, moment),
         JobChange::Bury(number, pri) => bury(job, number, pri),
         JobChange::Touch(seat, deadline) => job.state = JobState::Reserved(seat, deadline),

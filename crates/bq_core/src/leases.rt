@@ -1,20 +1,30 @@
 //! The jobs that a client holds.
 ghost use Rattle.std.specs.Prelude.{◌≡◌, ◌<◌, ◌+◌, ◌*◌, true, false, count_by};
+ghost use Rattle.bq_job.specs.Asked.{state_once_left};
 ghost use Rattle.bq_job.specs.Changes.{is_held_by};
+ghost use Rattle.bq_job.specs.JobStates.{is_reserved};
 ghost use Rattle.bq_core.specs.Asking.{Asks};
 ghost use Rattle.bq_core.specs.Firing.{after_giving_back};
 ghost use Rattle.bq_core.specs.State.{machine_of, IsSound};
 
 use crate::job_list::JobChange;
-use crate::state;
 use crate::state::State;
-use bq_job::Seat;
+use crate::{job_list, state};
+use bq_job::{JobState, Seat};
 
-// The client at the seat gives one job back, if it holds one.
-fn give_back_one(state: &mut State, seat: Seat) -> bool
-    requires { IsSound state.old }
-    ensures done { result ≡ false → machine_of state.new ≡ after_giving_back seat (machine_of state.old) }
-    ensures given { after_giving_back seat (machine_of state.new) ≡ after_giving_back seat (machine_of state.old) }
+/// Where a job stands whose client is gone.
+pub(crate) fn state_once_left(state: &State) -> JobState
+    ensures { result ≡ state_once_left (machine_of state.now) }
+{
+    job_list::delayed_by(state.config.requeue_delay, state.moment)
+}
+
+// The client at the seat gives one job back, if it holds one. The job then stands so.
+fn give_back_one(state: &mut State, seat: Seat, becomes: JobState) -> bool
+    requires sound { IsSound state.old }
+    requires free { is_reserved becomes ≡ false }
+    ensures done { result ≡ false → machine_of state.new ≡ after_giving_back becomes seat (machine_of state.old) }
+    ensures given { after_giving_back becomes seat (machine_of state.new) ≡ after_giving_back becomes seat (machine_of state.old) }
     ensures fewer { result ≡ true → count_by (is_held_by seat) (machine_of state.new).jobs < count_by (is_held_by seat) (machine_of state.old).jobs }
     ensures asks { result ≡ true → Asks 9 state.old.jobs state.new.jobs }
     ensures asks_last { result ≡ false → Asks 1 state.old.jobs state.new.jobs }
@@ -24,17 +34,18 @@ fn give_back_one(state: &mut State, seat: Seat) -> bool
     let Some(id) = state.jobs.first_held(seat) else {
         return false;
     };
-    state::change_job(state, id, &JobChange::GiveBack);
+    state::change_job(state, id, &JobChange::GiveBack(becomes));
     true
 }
 
-/// The jobs that the client at the seat holds become ready.
-pub(crate) fn give_back_all(state: &mut State, seat: Seat)
-    requires { IsSound state.old }
-    ensures after { machine_of state.new ≡ after_giving_back seat (machine_of state.old) }
+/// The client at the seat gives back the jobs that it holds. They then stand so.
+pub(crate) fn give_back_all(state: &mut State, seat: Seat, becomes: JobState)
+    requires sound { IsSound state.old }
+    requires free { is_reserved becomes ≡ false }
+    ensures after { machine_of state.new ≡ after_giving_back becomes seat (machine_of state.old) }
     ensures asks { Asks (9 * count_by (is_held_by seat) (machine_of state.old).jobs + 1) state.old.jobs state.new.jobs }
     ensures sound { IsSound state.new }
     ensures config { state.new.config ≡ state.old.config }
 {
-    while give_back_one(state, seat) {}
+    while give_back_one(state, seat, becomes) {}
 }

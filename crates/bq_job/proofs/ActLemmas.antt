@@ -13,7 +13,7 @@ use Rattle.bq_job.specs.declared.request.Request.TheVariants as requests
 use Rattle.bq_job.specs.declared.step.Step.{Step}
 use Rattle.bq_job.specs.declared.step.Step.TheVariants as steps
 use Rattle.bq_job.specs.Acts.{Effect, on_found, on_job, showing, silent, telling}
-use Rattle.bq_job.specs.Asked.{after_close, after_connect, asked, at_found, at_seat, effect, refusal_answer, with_end}
+use Rattle.bq_job.specs.Asked.{after_close, after_connect, asked, at_found, at_seat, effect, refusal_answer, state_once_left, with_end}
 use Rattle.bq_job.specs.Changes.{in_state, is_held_by, is_waiting, job_with, seat_with, with_job, with_seat}
 use Rattle.bq_job.specs.Computed.{waiting_count}
 use Rattle.bq_job.specs.Dispatch.{reserved_by}
@@ -68,7 +68,7 @@ leaves_statistics m None h = leaves_jobs m m answers.NotFound h refl
 leaves_statistics m (Some j) h = leaves_jobs m m _ h refl
 
 -- a job that is ready or delayed is held by nobody
-free_by_delay : (delay moment : ℕ) → is_reserved (delayed_by delay moment) ≡ false
+pub free_by_delay : (delay moment : ℕ) → is_reserved (delayed_by delay moment) ≡ false
 free_by_delay delay moment = cond_both (delay == 0) states.Ready (states.Delayed (later moment delay)) (λ s. is_reserved s ≡ false) (λ e. refl) (λ e. refl)
 
 pub free_has_holder : (seats : List SeatRecord) (j : Job) → is_reserved j.state ≡ false → has_holder seats j ≡ true
@@ -208,7 +208,7 @@ leaves_connect m seat h =
 
 leaves_close : (m : Machine) (seat : ℕ) → Keeps m → Leaves m (telling answers.Closed (after_close m seat))
 leaves_close m seat h =
-    leaves_telling m (after_close m seat) answers.Closed (kept_of_close seat h) (no_more_wait seat (λ s. empty_seat s.number) m (λ s w. absurd cc))
+    leaves_telling m (after_close m seat) answers.Closed (kept_of_close (state_once_left m) seat (free_by_delay m.settings.requeue_delay m.moment) h) (no_more_wait seat (λ s. empty_seat s.number) m (λ s w. absurd cc))
 
 leaves_itself : (m : Machine) → Keeps m → Leaves m (silent m)
 leaves_itself m h = leaves_silent m m h (omega arith)

@@ -12,8 +12,8 @@ use Rattle.bq_job.specs.declared.request.Request.TheVariants as requests
 use Rattle.bq_job.specs.declared.step.Step.{Step}
 use Rattle.bq_job.specs.declared.step.Step.TheVariants as steps
 use Rattle.bq_job.specs.Acts.{Effect, on_found, on_job, showing, silent, telling}
-use Rattle.bq_job.specs.Asked.{after_close, after_connect, asked, at_found, at_seat, effect, with_end}
-use Rattle.bq_job.specs.Changes.{in_state, is_held_by, is_holder, is_ready, is_ready_state, is_waiting, job_with, seat_with, with_job, with_seat}
+use Rattle.bq_job.specs.Asked.{after_close, after_connect, asked, at_found, at_seat, effect, state_once_left, with_end}
+use Rattle.bq_job.specs.Changes.{given_back, in_state, is_held_by, is_holder, is_ready, is_ready_state, is_waiting, job_with, seat_with, with_job, with_seat}
 use Rattle.bq_job.specs.Dispatch.{reserved_by}
 use Rattle.bq_job.specs.JobCommands.{buried, delayed_by, is_free_for, in_order, is_buried_in, is_delayed_in, kickable, kicked, kicked_first, put_in_order, new_job, put_effect, released}
 use Rattle.bq_job.specs.JobStates.{is_buried, is_buried_before, is_delayed, is_due_before, is_reserved}
@@ -209,10 +209,12 @@ after_asked (requests.Refused why) m s ids = after_itself (steps.Ask (requests.R
 
 after_closed : (m : Machine) (seat : ℕ) → After steps.Close m (after_close m seat)
 after_closed m seat =
-    changed (λ j. cond (is_held_by seat j) (in_state states.Ready j) j) refl refl
-    (λ j. cond_both (is_held_by seat j) (in_state states.Ready j) j (λ k. k.id ≡ j.id) (λ e. refl) (λ e. refl))
-    (λ j i. cond_both (is_held_by seat j) (in_state states.Ready j) j (Becomes steps.Close j)
-    (λ e. record { id = refl; tube = refl; body = refl; ready = λ h. inl (refl, refl); held = λ h. inr (told_if_given_up steps.Close j.id j.state 0 0 h (itself_told j.id)) }) (λ e. becomes_itself steps.Close j))
+    let left = state_once_left m in
+    changed (given_back left seat) refl refl
+    (λ j. cond_both (is_held_by seat j) (in_state left j) j (λ k. k.id ≡ j.id) (λ e. refl) (λ e. refl))
+    (λ j i. cond_both (is_held_by seat j) (in_state left j) j (Becomes steps.Close j)
+    (λ e. record { id = refl; tube = refl; body = refl; ready = λ h. absurd (held_not_ready seat j e h); held = λ h. inr (told_if_given_up steps.Close j.id j.state m.settings.requeue_delay m.moment h (itself_told j.id)) })
+    (λ e. becomes_itself steps.Close j))
 
 after_at_seat : (what : Step) (m : Machine) (s : SeatRecord) → Ids m → After what m (at_seat what m s).machine
 after_at_seat steps.Connect m s ids = cond_both s.connected (silent m) (silent (after_connect m s.number)) (λ (e : Effect). After steps.Connect m e.machine) (λ e. after_itself steps.Connect m) (λ e. after_itself steps.Connect m)

@@ -4,7 +4,7 @@ use Rattle.std.specs.Prelude.{nat_le, filter, find, ◌==◌}
 use Rattle.std.specs.List.{AllByRecursion as All, list_any}
 use Rattle.std.proofs.lemmas.Bool.{cases_Bool, and_parts, and_from, or_parts, or_left, or_right, or_cases, both_ways, cond_both, eqb-true, eqb-false, leb-false}
 use Rattle.bq_job.specs.declared.job.Job.{Job}
-use Rattle.bq_job.specs.declared.job.JobState.TheVariants as states
+use Rattle.bq_job.specs.declared.job.JobState.{JobState}
 use Rattle.bq_job.specs.Changes.{given_back, in_state, is_held_by, is_waiting}
 use Rattle.bq_job.specs.JobCommands.{last_id}
 use Rattle.bq_job.specs.JobStates.{is_reserved}
@@ -171,15 +171,15 @@ held_elsewhere seat seats j e h =
           (λ s. holder_stays seat j s e)) f)
     ]
 
--- A client goes: the jobs that it holds are ready, and its seat is empty.
-pub kept_of_close : {places next : ℕ} {jobs : List Job} {seats : List SeatRecord} {draining : Bool} (seat : ℕ) → Kept places jobs seats next draining → Kept places (map (given_back seat) jobs) (map (λ s. cond (s.number == seat) (empty_seat s.number) s) seats) next draining
-kept_of_close {next = next} {jobs = jobs} {seats = seats} seat h = record {
-  ids = ids_of_map (given_back seat) 1 next jobs (λ j. cond_both (is_held_by seat j) (in_state states.Ready j) j (λ k. k.id ≡ j.id) (λ e. refl) (λ e. refl)) h.ids;
+-- A client goes: the jobs that it holds are held by nobody, and its seat is empty.
+pub kept_of_close : {places next : ℕ} {jobs : List Job} {seats : List SeatRecord} {draining : Bool} (state : JobState) (seat : ℕ) → is_reserved state ≡ false → Kept places jobs seats next draining → Kept places (map (given_back state seat) jobs) (map (λ s. cond (s.number == seat) (empty_seat s.number) s) seats) next draining
+kept_of_close {next = next} {jobs = jobs} {seats = seats} state seat free h = record {
+  ids = ids_of_map (given_back state seat) 1 next jobs (λ j. cond_both (is_held_by seat j) (in_state state j) j (λ k. k.id ≡ j.id) (λ e. refl) (λ e. refl)) h.ids;
   accepts = h.accepts;
   fits = h.fits;
-  holders = all_of_map (λ j. has_holder (map (emptied seat) seats) j ≡ true) (given_back seat) jobs
-      (all_weaker (λ j. has_holder seats j ≡ true) (λ j. has_holder (map (emptied seat) seats) (given_back seat j) ≡ true) jobs
-      (λ j i. cond_both (is_held_by seat j) (in_state states.Ready j) j (λ k. has_holder (map (emptied seat) seats) k ≡ true) (λ e. refl)
+  holders = all_of_map (λ j. has_holder (map (emptied seat) seats) j ≡ true) (given_back state seat) jobs
+      (all_weaker (λ j. has_holder seats j ≡ true) (λ j. has_holder (map (emptied seat) seats) (given_back state seat j) ≡ true) jobs
+      (λ j i. cond_both (is_held_by seat j) (in_state state j) j (λ k. has_holder (map (emptied seat) seats) k ≡ true) (λ e. rw free refl)
       (λ e. held_elsewhere seat seats j e i)) h.holders);
   seated = keys_of_map (λ s. s.number) (emptied seat) seats
       (all_always (λ s. (emptied seat s).number ≡ s.number) seats

@@ -2,6 +2,7 @@
 use Rattle.std.specs.Prelude.{ℕ, true, ◌&&◌, not, if◌then◌else◌, Option, Some, None, map}
 use Rattle.bq_job.specs.declared.answer.Answer.{Answer}
 use Rattle.bq_job.specs.declared.answer.Answer.TheVariants as answers
+use Rattle.bq_job.specs.declared.job.JobState.{JobState}
 use Rattle.bq_job.specs.declared.refusal.Refusal.{Refusal}
 use Rattle.bq_job.specs.declared.refusal.Refusal.TheVariants as refusals
 use Rattle.bq_job.specs.declared.request.Request.{Request}
@@ -10,7 +11,7 @@ use Rattle.bq_job.specs.declared.step.Step.{Step}
 use Rattle.bq_job.specs.declared.step.Step.TheVariants as steps
 use Rattle.bq_job.specs.Acts.{Effect, telling, silent}
 use Rattle.bq_job.specs.Changes.{given_back, is_waiting, seat_with, with_seat}
-use Rattle.bq_job.specs.JobCommands.{bury_effect, delete_effect, kick_effect, kick_job_effect, put_effect, release_effect, reserve_effect, reserve_job_effect, touch_effect}
+use Rattle.bq_job.specs.JobCommands.{bury_effect, delayed_by, delete_effect, kick_effect, kick_job_effect, put_effect, release_effect, reserve_effect, reserve_job_effect, touch_effect}
 use Rattle.bq_job.specs.Limits.{raised, later}
 use Rattle.bq_job.specs.Machine.{Machine, SeatRecord, empty_seat}
 use Rattle.bq_job.specs.StatisticsCommands.{list_tubes_effect, list_watched_effect, stats_effect, stats_job_effect, stats_tube_effect}
@@ -61,10 +62,14 @@ after_connect m seat =
 abbrev pub with_end : SeatRecord → SeatRecord
 with_end s = record s { ended = true }
 
--- The client is gone: the jobs that it holds become ready.
+-- where a job stands whose client is gone: ready, or delayed where a delay was chosen
+abbrev pub state_once_left : Machine → JobState
+state_once_left m = delayed_by m.settings.requeue_delay m.moment
+
+-- The client is gone: the jobs that it holds become ready or delayed, and are otherwise as they were.
 abbrev pub after_close : Machine → ℕ → Machine
 after_close m seat =
-    record (with_seat seat (λ s. empty_seat s.number) m) { jobs = map (given_back seat) m.jobs }
+    record (with_seat seat (λ s. empty_seat s.number) m) { jobs = map (given_back (state_once_left m) seat) m.jobs }
 
 abbrev pub at_seat : Step → Machine → SeatRecord → Effect
 at_seat steps.Connect m s = if s.connected then silent m else silent (after_connect m s.number)

@@ -56,6 +56,6 @@ is_held_by seat j = is_holder seat j.state
 abbrev pub in_state : JobState → Job → Job
 in_state state j = record j { state = state }
 
--- the job, once the client at the seat is gone: ready, if that client held it
-abbrev pub given_back : ℕ → Job → Job
-given_back seat j = if is_held_by seat j then in_state states.Ready j else j
+-- the job, once the client at the seat is gone: in this state, if that client held it
+abbrev pub given_back : JobState → ℕ → Job → Job
+given_back state seat j = if is_held_by seat j then in_state state j else j

@@ -52,11 +52,15 @@ e gives answers = (e, answers)
 
 -- so many seats, bodies of at most so many bytes, and nothing else chosen
 abbrev pub plain : ℕ → ℕ → Settings
-plain seats max_job_size = record { seats = seats; max_job_size = max_job_size; max_jobs = None }
+plain seats max_job_size = record { seats = seats; max_job_size = max_job_size; max_jobs = None; requeue_delay = 0 }
 
 -- the same with at most so many jobs
 abbrev pub at_most : ℕ → Settings → Settings
 at_most most settings = record settings { max_jobs = Some most }
+
+-- the same with so many seconds of delay for the jobs of a lost connection
+abbrev pub requeued_after : ℕ → Settings → Settings
+requeued_after seconds settings = record settings { requeue_delay = seconds }
 
 -- a machine with so many seats and nobody there
 abbrev pub server : ℕ → ℕ → Machine
@@ -77,8 +81,11 @@ played m [] = m
 played m (e ∷ history) = played (stepped m e.moment e.seat e.what).machine history
 
 -- when something is due, once a client has come to each of three seats at the moment 0 and these steps were taken
+abbrev pub due_with : Settings → List Entry → Option ℕ
+due_with settings history = next_due (played (new_machine settings) (connect 0 ∷ connect 1 ∷ connect 2 ∷ history))
+
 abbrev pub due_after : List Entry → Option ℕ
-due_after history = next_due (played (server 3 65535) (connect 0 ∷ connect 1 ∷ connect 2 ∷ history))
+due_after history = due_with (plain 3 65535) history
 
 -- The steps of a lone client's line: it connects, asks, tells that it sends no more where it may still
 -- wait for its last answer, and is closed.

@@ -4,7 +4,7 @@ use Rattle.std.specs.List.{list_any}
 use Rattle.bq_job.specs.declared.job.Job.{Job}
 use Rattle.bq_job.specs.Happenings.{Happening, put, handed_out, reserved_by_id, expired, released, buried, given_back, deleted}
 
--- The job is released, buried, given back by a close or reserved by reserve-job, or it expires.
+-- The job is released, buried, given back by a close, ready or delayed, or reserved by reserve-job, or it expires.
 abbrev pub disturbs : ℕ → Happening → Bool
 disturbs id (released other) = other == id
 disturbs id (buried other) = other == id

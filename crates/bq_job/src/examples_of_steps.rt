@@ -1,8 +1,8 @@
 //! Worked examples of the machine. Each is a clause that holds by evaluating the definitions, and none
 //! runs our code.
-ghost use Rattle.bq_job.specs.declared.answer.Answer.TheVariants.{Buried, Closed, DeadlineSoon, Deleted, Draining, Found, Inserted, NotFound, Ok, OutOfMemory, Paused, Released, Reserved, TimedOut, Touched, Using, Watching};
-ghost use Rattle.bq_job.specs.declared.request.Request.TheVariants.{Bury, Delete, Ignore, PauseTube, Peek, Put, Release, Reserve, ReserveWithTimeout, StatsJob, Touch, Use, Watch};
-ghost use Rattle.bq_job.specs.Examples.{Plays, PlaysWith, ask, at, at_most, close, drain, due_after, end, plain, tick, ◌gives◌};
+ghost use Rattle.bq_job.specs.declared.answer.Answer.TheVariants.{Buried, Closed, DeadlineSoon, Deleted, Draining, Found, Inserted, KickedCount, NotFound, Ok, OutOfMemory, Paused, Released, Reserved, TimedOut, Touched, Using, Watching};
+ghost use Rattle.bq_job.specs.declared.request.Request.TheVariants.{Bury, Delete, Ignore, Kick, PauseTube, Peek, Put, Release, Reserve, ReserveWithTimeout, StatsJob, Touch, Use, Watch};
+ghost use Rattle.bq_job.specs.Examples.{Plays, PlaysWith, ask, at, at_most, close, drain, due_after, due_with, end, plain, requeued_after, tick, ◌gives◌};
 ghost use Rattle.std.specs.Prelude.{List, [], ◌∷◌, ◌++◌, ◌≡◌, None, Some, codes};
 
 /// Of two waiting clients each gets the job of a tube that it watches, whoever has waited longer.
@@ -69,6 +69,71 @@ fn close_hands_on()
         ∷ ask 0 (Delete 1) gives ((0, NotFound) ∷ [])
         ∷ ask 0 (Peek 1) gives ((0, Found 1 (codes "x")) ∷ [])
         ∷ close 1 gives ((1, Closed) ∷ (2, Reserved 1 (codes "x")) ∷ [])
+        ∷ []) }
+{}
+
+/// With a delay for the jobs of a lost connection, such a job comes back when the delay is over, with its
+/// own delay and counts. An expired lease is ready at once.
+fn requeue_after_close()
+    ensures lost { PlaysWith (requeued_after 5 (plain 3 65535))
+        (ask 0 (Put 0 0 9 (codes "x")) gives ((0, Inserted 1) ∷ [])
+        ∷ ask 1 Reserve gives ((1, Reserved 1 (codes "x")) ∷ [])
+        ∷ ask 2 Reserve gives []
+        ∷ at 1000 (close 1) gives ((1, Closed) ∷ [])
+        ∷ at 2000 (ask 0 (StatsJob 1)) gives ((
+          0,
+          Ok
+              (codes "---\nid: 1\ntube: default\nstate: delayed\npri: 0\nage: 2\ndelay: 0\nttr: 9\n"
+              ++ codes "time-left: 4\nreserves: 1\ntimeouts: 0\nreleases: 0\nburies: 0\nkicks: 0\n"),
+        ) ∷ [])
+        ∷ tick 6000 gives ((2, Reserved 1 (codes "x")) ∷ [])
+        ∷ []) }
+    ensures due { due_with (requeued_after 5 (plain 3 65535))
+        (ask 0 (Put 0 0 9 (codes "x"))
+        ∷ ask 1 Reserve
+        ∷ ask 2 Reserve
+        ∷ at 1000 (close 1)
+        ∷ []) ≡ Some 6000 }
+    ensures expired { PlaysWith (requeued_after 5 (plain 3 65535))
+        (ask 0 (Put 0 0 2 (codes "x")) gives ((0, Inserted 1) ∷ [])
+        ∷ ask 1 Reserve gives ((1, Reserved 1 (codes "x")) ∷ [])
+        ∷ ask 2 Reserve gives []
+        ∷ at 2000 (close 1) gives ((2, Reserved 1 (codes "x")) ∷ (1, Closed) ∷ [])
+        ∷ []) }
+{}
+
+/// A kick brings a job of a lost connection back before its delay is over.
+fn kick_before_requeue()
+    ensures { PlaysWith (requeued_after 5 (plain 3 65535))
+        (ask 0 (Put 0 0 9 (codes "x")) gives ((0, Inserted 1) ∷ [])
+        ∷ ask 1 Reserve gives ((1, Reserved 1 (codes "x")) ∷ [])
+        ∷ ask 2 Reserve gives []
+        ∷ at 1000 (close 1) gives ((1, Closed) ∷ [])
+        ∷ at 1500 (ask 0 (Kick 1)) gives ((0, KickedCount 1) ∷ (2, Reserved 1 (codes "x")) ∷ [])
+        ∷ []) }
+{}
+
+/// The delay of a lost connection's job ends no later than moments do.
+fn requeue_at_the_end_of_moments()
+    ensures { due_with (requeued_after 4294967295 (plain 3 65535))
+        (ask 0 (Put 0 0 9 (codes "x"))
+        ∷ at 18446744073709551000 (ask 1 Reserve)
+        ∷ at 18446744073709551000 (close 1)
+        ∷ []) ≡ Some 18446744073709551615 }
+{}
+
+/// A job that comes back into a paused tube waits for the end of the pause, and draining holds none back.
+fn requeue_while_paused_and_draining()
+    ensures { PlaysWith (requeued_after 5 (plain 3 65535))
+        (ask 0 (Put 0 0 9 (codes "x")) gives ((0, Inserted 1) ∷ [])
+        ∷ ask 1 Reserve gives ((1, Reserved 1 (codes "x")) ∷ [])
+        ∷ drain gives []
+        ∷ ask 0 (PauseTube (codes "default") 7) gives ((0, Paused) ∷ [])
+        ∷ ask 2 Reserve gives []
+        ∷ close 1 gives ((1, Closed) ∷ [])
+        ∷ tick 5000 gives []
+        ∷ tick 6999 gives []
+        ∷ tick 7000 gives ((2, Reserved 1 (codes "x")) ∷ [])
         ∷ []) }
 {}
 
@@ -189,6 +254,10 @@ fn examples_of_steps() {
     lease_expires_to_its_waiter();
     pause_and_delay_end_together();
     close_hands_on();
+    requeue_after_close();
+    kick_before_requeue();
+    requeue_at_the_end_of_moments();
+    requeue_while_paused_and_draining();
     draining();
     draining_before_the_limit();
     jobs_of_every_state_count();

@@ -7,4 +7,6 @@ pub struct Settings {
     pub max_job_size: u32,
     /// How many jobs there can be at a time, in whatever states, at least 1; None where there is no limit.
     pub max_jobs: Option<u32>,
+    /// For how many seconds a job is delayed whose client's connection was closed; 0 where it is ready at once.
+    pub requeue_delay: u32,
 }

@@ -1,28 +1,40 @@
 use Rattle.std.proofs.Common.{◌∙◌, ap, arith, subst, sym}
 use Rattle.bq_job.specs.declared.answer.Answer.TheVariants as answers
+use Rattle.bq_job.specs.declared.job.JobState.{JobState}
 use Rattle.bq_job.specs.Acts.{telling}
 use Rattle.bq_job.specs.Changes.{with_seat}
+use Rattle.bq_job.specs.JobStates.{is_reserved}
 use Rattle.bq_job.specs.Machine.{Machine}
+use Rattle.bq_job.proofs.ActLemmas.{free_by_delay}
 use Rattle.bq_jobs.specs.Kept.{Kept}
 use Rattle.bq_core.specs.Asking.{AsksAsChanged}
 use Rattle.bq_core.specs.Cost.{changed_jobs}
 use Rattle.bq_core.specs.declared.seat_list.SeatChange.TheVariants.{Clear}
 use Rattle.bq_core.specs.SeatChanges.{seat_changed}
+use Rattle.bq_core.specs.Firing.{after_giving_back}
 use Rattle.bq_core.specs.State.{machine_of}
 use Rattle.bq_core.proofs.ActLemmas.{closed_connected}
 use Rattle.bq_core.proofs.AskLemmas.{within}
 use Rattle.bq_core.proofs.CostLemmas.{given_back_changed}
 use Rattle.bq_core.proofs.acts.close.Goals as goal
 
+pub give_back_all-requires-clause-free : goal.give_back_all-requires-clause-free
+give_back_all-requires-clause-free c =
+    let st = c.args.state.now in
+    ap is_reserved c.state_once_left-becomes.ensures ∙ free_by_delay st.config.requeue_delay st.moment
+
 pub returns-clause-reply : goal.returns-clause-reply
 returns-clause-reply c =
-    closed_connected (machine_of c.args.state.now) c.args.seat (sym c.if-not-is_connected.ensures)
+    let m = machine_of c.args.state.now in
+    closed_connected m c.args.seat (sym c.if-not-is_connected.ensures)
+    ∙ ap (λ (s : JobState). telling answers.Closed (with_seat c.args.seat (seat_changed Clear) (after_giving_back s c.args.seat m))) (sym c.state_once_left-becomes.ensures)
     ∙ ap (telling answers.Closed) (sym (c.change_seat.ensures.after ∙ ap (with_seat c.args.seat (seat_changed Clear)) c.give_back_all.ensures.after))
 
 pub returns-clause-asks : goal.returns-clause-asks
 returns-clause-asks c =
     let st = c.args.state.now in
     let made = ap (λ (x : Machine). x.jobs) c.give_back_all.ensures.after in
-    let few = given_back_changed c.args.seat 1 st.next_id st.jobs.jobs c.requires.ids in
+    let free = ap is_reserved c.state_once_left-becomes.ensures ∙ free_by_delay st.config.requeue_delay st.moment in
+    let few = given_back_changed c.state_once_left-becomes.result c.args.seat 1 st.next_id st.jobs.jobs free c.requires.ids in
     subst (λ (k : Kept). AsksAsChanged st.jobs k) (sym c.change_seat.ensures.jobs)
     (within _ (omega (arith, few, ap (changed_jobs st.jobs.jobs) made)) c.give_back_all.ensures.asks)

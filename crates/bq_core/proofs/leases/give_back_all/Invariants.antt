@@ -7,14 +7,14 @@ use Rattle.bq_core.specs.Firing.{after_giving_back}
 use Rattle.bq_core.specs.State.{IsSound, machine_of}
 use Rattle.bq_core.proofs.leases.give_back_all.Given as goal
 
-abbrev pub invariant-loop : goal.invariant-loop
-invariant-loop l = record {
-  left : after_giving_back l.seat (machine_of l.state) ≡ after_giving_back l.seat (machine_of l.fn.state);
+abbrev pub invariant-loop-becomes : goal.invariant-loop-becomes
+invariant-loop-becomes l = record {
+  left : after_giving_back l.becomes l.seat (machine_of l.state) ≡ after_giving_back l.becomes l.seat (machine_of l.fn.state);
   asks : Asks (9 * (count_by (is_held_by l.seat) (machine_of l.fn.state).jobs - count_by (is_held_by l.seat) (machine_of l.state).jobs)) l.fn.state.jobs l.state.jobs;
   fewer : count_by (is_held_by l.seat) (machine_of l.state).jobs ≤ count_by (is_held_by l.seat) (machine_of l.fn.state).jobs;
   sound : IsSound l.state;
   config : l.state.config ≡ l.fn.state.config;
 }
 
-abbrev pub decreases-loop : goal.decreases-loop
-decreases-loop l = count_by (is_held_by l.seat) (machine_of l.state).jobs
+abbrev pub decreases-loop-becomes : goal.decreases-loop-becomes
+decreases-loop-becomes l = count_by (is_held_by l.seat) (machine_of l.state).jobs
