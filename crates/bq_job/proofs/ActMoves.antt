@@ -36,11 +36,11 @@ use Rattle.bq_job.proofs.PutLemmas.{each_put}
 abbrev pub Ids : Machine → Type 0
 Ids m = AreIdsWithin 1 m.jobs m.next_id
 
-abbrev After : Step → Machine → Machine → Type 0
-After what m n = JobsAfter what m.jobs m.next_id n.jobs n.next_id
+abbrev pub After : Step → Machine → Machine → Type 0
+After what m n = JobsAfter what m.settings.max_jobs m.jobs m.next_id n.jobs n.next_id
 
 after_itself : (what : Step) (m : Machine) → After what m m
-after_itself what m = unchanged what m.jobs m.next_id
+after_itself what m = unchanged what m.settings.max_jobs m.jobs m.next_id
 
 after_on_job : (what : Step) (id : ℕ) (passes : Job → Bool) (act : Job → Effect) (m : Machine) → ((j : Job) → job_with id m.jobs ≡ Some j → passes j ≡ true → After what m (act j).machine) → After what m (on_job id passes act m).machine
 after_on_job what id passes act m each = of_found (job_with id m.jobs) refl
@@ -148,7 +148,7 @@ chosen_not_held jobs (k ∷ chosen) j found h any held =
 after_put_effect : (what : Step) (pri delay ttr : ℕ) (body : List ℕ) (m : Machine) (s : SeatRecord) → After what m (put_effect pri delay ttr body m s).machine
 after_put_effect what pri delay ttr body m s =
     each_put pri delay ttr body m s (λ (e : Effect). After what m e.machine) (λ d. after_itself what m) (λ d f. after_itself what m)
-    (λ d f. added (new_job m s pri delay ttr body) refl (omega arith) refl (λ now. let here : is_ready_state (delayed_by 0 m.moment) ≡ true = refl in subst (λ n. is_ready_state (delayed_by n m.moment) ≡ true) (sym now) here))
+    (λ d f. added (new_job m s pri delay ttr body) refl (omega arith) refl (λ now. let here : is_ready_state (delayed_by 0 m.moment) ≡ true = refl in subst (λ n. is_ready_state (delayed_by n m.moment) ≡ true) (sym now) here) f)
 
 after_showing : (what : Step) (m : Machine) (o : Option Job) → After what m (showing m o).machine
 after_showing what m None = after_itself what m

@@ -11,6 +11,7 @@ use Rattle.bq_job.specs.declared.step.Step.{Step}
 use Rattle.bq_job.specs.declared.step.Step.TheVariants as steps
 use Rattle.bq_job.specs.Changes.{is_ready, job_with}
 use Rattle.bq_job.specs.Happenings.{Happening, buried, change, change_or_removal, changes, deleted, given_up, named, put, released, removed, reserved_by_id, taken_up}
+use Rattle.bq_job.specs.JobCommands.{is_full}
 use Rattle.bq_job.specs.JobStates.{is_reserved}
 use Rattle.bq_job.specs.Lawful.{AreIdsWithin}
 use Rattle.bq_job.specs.Machine.{Machine}
@@ -32,21 +33,22 @@ pub record Becomes (what : Step) (j k : Job) : Type 0 where
 pub becomes_itself : (what : Step) (j : Job) → Becomes what j j
 becomes_itself what j = record { id = refl; tube = refl; body = refl; ready = λ h. inl (h, refl); held = λ h. inl h }
 
--- the jobs and the next id before and after a command: jobs changed, one was removed, or one was added
-pub data JobsAfter (what : Step) (jobs : List Job) (next : ℕ) (later : List Job) (next_then : ℕ) : Type 0 where
-  changed : (f : Job → Job) → later ≡ map f jobs → next_then ≡ next → ((j : Job) → (f j).id ≡ j.id) → ((j : Job) → Contains jobs j → Becomes what j (f j)) → JobsAfter what jobs next later next_then
-  removed_one : (id : ℕ) → removed what id ≡ deleted id ∷ [] → later ≡ filter (λ k. not (k.id == id)) jobs → next_then ≡ next → JobsAfter what jobs next later next_then
-  added : (j : Job) → later ≡ jobs ++ j ∷ [] → next_then ≡ suc next → j.id ≡ next → (j.delay ≡ 0 → is_ready j ≡ true) → JobsAfter what jobs next later next_then
+-- the jobs and the next id before and after a command: jobs changed, one was removed, or one was added for
+-- which there was a place
+pub data JobsAfter (what : Step) (limit : Option ℕ) (jobs : List Job) (next : ℕ) (later : List Job) (next_then : ℕ) : Type 0 where
+  changed : (f : Job → Job) → later ≡ map f jobs → next_then ≡ next → ((j : Job) → (f j).id ≡ j.id) → ((j : Job) → Contains jobs j → Becomes what j (f j)) → JobsAfter what limit jobs next later next_then
+  removed_one : (id : ℕ) → removed what id ≡ deleted id ∷ [] → later ≡ filter (λ k. not (k.id == id)) jobs → next_then ≡ next → JobsAfter what limit jobs next later next_then
+  added : (j : Job) → later ≡ jobs ++ j ∷ [] → next_then ≡ suc next → j.id ≡ next → (j.delay ≡ 0 → is_ready j ≡ true) → is_full limit jobs ≡ false → JobsAfter what limit jobs next later next_then
 
 map_itself : (jobs : List Job) → map (λ j. j) jobs ≡ jobs
 map_itself [] = refl
 map_itself (j ∷ jobs) = ap (λ ks. j ∷ ks) (map_itself jobs)
 
-pub unchanged : (what : Step) (jobs : List Job) (next : ℕ) → JobsAfter what jobs next jobs next
-unchanged what jobs next = changed (λ j. j) (sym (map_itself jobs)) refl (λ j. refl) (λ j i. becomes_itself what j)
+pub unchanged : (what : Step) (limit : Option ℕ) (jobs : List Job) (next : ℕ) → JobsAfter what limit jobs next jobs next
+unchanged what limit jobs next = changed (λ j. j) (sym (map_itself jobs)) refl (λ j. refl) (λ j i. becomes_itself what j)
 
 -- the job of one id changes
-pub one_changed : (what : Step) (id : ℕ) (f : Job → Job) (jobs : List Job) (next : ℕ) (j : Job) → AreIdsWithin 1 jobs next → job_with id jobs ≡ Some j → ((k : Job) → (f k).id ≡ k.id) → Becomes what j (f j) → JobsAfter what jobs next (map (λ k. cond (k.id == id) (f k) k) jobs) next
+pub one_changed : {limit : Option ℕ} (what : Step) (id : ℕ) (f : Job → Job) (jobs : List Job) (next : ℕ) (j : Job) → AreIdsWithin 1 jobs next → job_with id jobs ≡ Some j → ((k : Job) → (f k).id ≡ k.id) → Becomes what j (f j) → JobsAfter what limit jobs next (map (λ k. cond (k.id == id) (f k) k) jobs) next
 one_changed what id f jobs next j ids found same becomes =
     changed (λ k. cond (k.id == id) (f k) k) refl refl (λ k. cond_both (k.id == id) (f k) k (λ l. l.id ≡ k.id) (λ e. same k) (λ e. refl))
     (λ k i. cond_both (k.id == id) (f k) k (λ l. Becomes what k l)
@@ -276,7 +278,7 @@ removed_fate what before after gone id (Some j) told e g =
     (λ h. goes_on_as_itself id j (changes what before after))
 
 -- A command is a move: quiet, or a put.
-pub move_of_jobs : (what : Step) (m n : Machine) → AreIdsWithin 1 m.jobs m.next_id → JobsAfter what m.jobs m.next_id n.jobs n.next_id → Move m (changes what m.jobs n.jobs) n
+pub move_of_jobs : (what : Step) (m n : Machine) → AreIdsWithin 1 m.jobs m.next_id → JobsAfter what m.settings.max_jobs m.jobs m.next_id n.jobs n.next_id → Move m (changes what m.jobs n.jobs) n
 move_of_jobs what m n ids (changed f after next same becomes) =
     let lookup : (id : ℕ) → job_with id n.jobs ≡ option_map f (job_with id m.jobs) = λ id. ap (job_with id) after ∙ job_in_map f id m.jobs same in
     quiet (record {
@@ -297,7 +299,7 @@ move_of_jobs what m n ids (removed_one gone told after next) =
           (all_of_filter (λ j. is_none (job_with j.id m.jobs) ≡ false) (λ k. not (k.id == gone)) m.jobs (were_there m.jobs m.next_id ids))));
       fates = λ id. subst (Fate id (changes what m.jobs n.jobs) (job_with id m.jobs)) (sym (lookup id)) (removed_fate what m.jobs n.jobs gone id (job_with id m.jobs) told refl (lookup id));
     })
-move_of_jobs what m n ids (added j after next is at_once) =
+move_of_jobs what m n ids (added j after next is at_once free) =
     let silent : All (λ k. change_or_removal what k (job_with k.id n.jobs) ≡ []) m.jobs =
     all_from_members (λ k. change_or_removal what k (job_with k.id n.jobs) ≡ []) m.jobs (λ k i.
     let found = job_found 1 m.next_id m.jobs k ids i in

@@ -11,6 +11,7 @@ pub mod JobMoves
 pub mod KeptJobLemmas
 pub mod KeptLemmas
 pub mod LawfulLemmas
+pub mod LimitLemmas
 pub mod LineLemmas
 pub mod ListLemmas
 pub mod LookupLemmas

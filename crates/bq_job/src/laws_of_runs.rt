@@ -11,7 +11,7 @@ ghost use Rattle.bq_job.specs.LawsOfRuns.{GivesLeast, IsDeletion, IsHeldByOne, I
 ghost use Rattle.bq_job.specs.Machine.{Machine, Settings, new_machine};
 ghost use Rattle.bq_job.specs.Runs.{Entry, GoesBy, Transition};
 ghost use Rattle.bq_job.specs.Undisturbed.{IsHandedOut, IsHandedOutBefore, IsPutBefore, IsUndisturbed, is_deletion, is_hand_out};
-ghost use Rattle.std.specs.Prelude.{ℕ, ◌≡◌, ◌≤◌, false, List, [], ◌∷◌, ◌++◌, Contains, count_by, flat_map};
+ghost use Rattle.std.specs.Prelude.{ℕ, ◌≡◌, ◌≤◌, false, List, [], ◌∷◌, ◌++◌, Contains, Some, count_by, flat_map, length};
 ghost use Rattle.std.specs.List.{list_any};
 
 /// Each RESERVED of a run is the command's own answer to a reserve-job, or dispatch gave the client the
@@ -64,6 +64,13 @@ pub fn accepted_jobs_stay_until_deleted()
 pub fn jobs_are_held_by_one_client()
     ensures { (settings : Settings) (taken : List Transition) (last : Machine) (p : Part)
         → GoesBy (new_machine settings) taken last → Contains (parts_of_run taken) p → IsHeldByOne p.machine }
+{}
+
+/// Where a limit on jobs was chosen, there are no more jobs after any part of a step, in whatever states.
+pub fn jobs_stay_within_their_limit()
+    ensures { (settings : Settings) (taken : List Transition) (last : Machine) (p : Part) (most : ℕ)
+        → GoesBy (new_machine settings) taken last → Contains (parts_of_run taken) p
+        → settings.max_jobs ≡ Some most → length p.machine.jobs ≤ most }
 {}
 
 /// DELETED goes to who asked for it, and only where the job was there and nobody else held it.

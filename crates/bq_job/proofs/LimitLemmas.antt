@@ -1,0 +1,128 @@
+-- There are never more jobs than there may be.
+use Rattle.std.proofs.Common.{ℕ, suc, ◌≡◌, ◌≤◌, Bool, false, not, cond, List, [], ◌∷◌, ◌++◌, length, length-append, arith, refl, sym, ap, ◌∙◌, subst, inl, inr, Option, Some, None}
+use Rattle.std.specs.Prelude.{filter, ◌==◌}
+use Rattle.std.specs.List.{AllByRecursion as All, Contains}
+use Rattle.std.proofs.lemmas.Bool.{cases_Bool, leb-false}
+use Rattle.std.proofs.lemmas.List.{length-map}
+use Rattle.bq_job.specs.declared.job.Job.{Job}
+use Rattle.bq_job.specs.declared.settings.Settings.{Settings}
+use Rattle.bq_job.specs.declared.step.Step.{Step}
+use Rattle.bq_job.specs.Dispatch.{DispatchTurn, GivenAnswer, IsHandOut, after_hand_out, reserved_by}
+use Rattle.bq_job.specs.Happenings.{Part, parts_in, parts_of_run}
+use Rattle.bq_job.specs.JobCommands.{is_full}
+use Rattle.bq_job.specs.Lawful.{IsLawful}
+use Rattle.bq_job.specs.Machine.{Machine, SeatRecord, new_machine}
+use Rattle.bq_job.specs.Runs.{GoesBy, IsTransition, Parts, Transition}
+use Rattle.bq_job.specs.Steps.{Dispatches, EndsWaits, acted}
+use Rattle.bq_job.specs.Timers.{after_timers, at_moment, job_after_timers}
+use Rattle.bq_job.specs.Tubes.{forgetting}
+use Rattle.bq_job.specs.Waits.{Chain, WaitEndTurn}
+use Rattle.bq_job.proofs.ActMoves.{After, after_acted}
+use Rattle.bq_job.proofs.ChangeLemmas.{changed, removed_one, added}
+use Rattle.bq_job.proofs.DispatchLemmas.{turn_of}
+use Rattle.bq_job.proofs.KeptLemmas.{Keeps, kept_of_lawful}
+use Rattle.bq_job.proofs.LawfulLemmas.{end_of, kept_of_timers, new_is_lawful, served, step_is_lawful}
+use Rattle.bq_job.proofs.ListLemmas.{all_at, all_of_append}
+use Rattle.bq_job.proofs.OneClientLemmas.{stays_acted}
+
+-- what was chosen, and no more jobs than may be by it
+record IsWithin (settings : Settings) (m : Machine) : Type 0 where
+  chosen : m.settings ≡ settings
+  few : (most : ℕ) → settings.max_jobs ≡ Some most → length m.jobs ≤ most
+
+-- no more jobs than before
+record AddsNone (m n : Machine) : Type 0 where
+  same : n.settings ≡ m.settings
+  fewer : length n.jobs ≤ length m.jobs
+
+adds_none : (m n l : Machine) → n ≡ l → l.settings ≡ m.settings → length l.jobs ≡ length m.jobs → AddsNone m n
+adds_none m n l e same jobs = record { same = ap (λ (k : Machine). k.settings) e ∙ same; fewer = let many : length n.jobs ≡ length m.jobs = ap (λ (k : Machine). length k.jobs) e ∙ jobs in omega arith }
+
+then_adds_none : (m k n : Machine) → AddsNone m k → AddsNone k n → AddsNone m n
+then_adds_none m k n a b = record { same = b.same ∙ a.same; fewer = let x = a.fewer in let y = b.fewer in omega arith }
+
+within_then : (settings : Settings) (m n : Machine) → IsWithin settings m → AddsNone m n → IsWithin settings n
+within_then settings m n w a = record { chosen = a.same ∙ w.chosen; few = λ most e. let x = w.few most e in let y = a.fewer in omega arith }
+
+-- one turn after another
+by_turns : (Turns : Machine → GivenAnswer → Machine → Type 0) (first : Machine) (given : List GivenAnswer) (last : Machine) → ((m : Machine) (g : GivenAnswer) (n : Machine) → Turns m g n → AddsNone m n) → Chain Turns first given last → AddsNone first last
+by_turns Turns first [] last each chain = adds_none first last first chain refl refl
+by_turns Turns first (g ∷ given) last each chain = then_adds_none first chain.0 last (each first g chain.0 chain.1) (by_turns Turns chain.0 given last each chain.2)
+
+by_hand_out : (m : Machine) (j : Job) (s : SeatRecord) (given : GivenAnswer) (next : Machine) → IsHandOut m j s given next → AddsNone m next
+by_hand_out m j s given next (inl h) =
+    adds_none m next (after_hand_out m j s) h.1 refl (length-map m.jobs (λ k. cond (k.id == j.id) (reserved_by m.moment s.number k) k))
+by_hand_out m j s given next (inr h) = adds_none m next _ h.1 refl refl
+
+by_dispatch : (m : Machine) (given : List GivenAnswer) (n : Machine) → Dispatches m given n → AddsNone m n
+by_dispatch m given n d =
+    then_adds_none m d.end n (by_turns DispatchTurn m given d.end (λ k g l turn. let t = turn_of k g l turn in by_hand_out k t.job t.client g l t.hands) d.turns)
+    (adds_none d.end n (forgetting d.end) d.forgets refl refl)
+
+by_ends : (m : Machine) (given : List GivenAnswer) (n : Machine) → EndsWaits m given n → AddsNone m n
+by_ends m given n w =
+    then_adds_none m w.end n (by_turns WaitEndTurn m given w.end (λ k g l turn. adds_none k l _ (end_of k g l turn).next_is refl refl) w.turns)
+    (adds_none w.end n (forgetting w.end) w.forgets refl refl)
+
+by_timers : (at : ℕ) (m : Machine) → AddsNone m (forgetting (after_timers (at_moment at m)))
+by_timers at m =
+    adds_none m (forgetting (after_timers (at_moment at m))) (forgetting (after_timers (at_moment at m))) refl refl (length-map m.jobs (job_after_timers (at_moment at m).moment))
+
+rest_no_longer : (p : Job → Bool) (jobs : List Job) → length (filter p jobs) ≤ length jobs
+rest_no_longer p [] = omega arith
+rest_no_longer p (j ∷ jobs) = elim (cases_Bool (p j)) [
+  | inl e ↦ rw e (omega (arith, rest_no_longer p jobs))
+  | inr e ↦ rw e (omega (arith, rest_no_longer p jobs))
+]
+
+-- Where there is a place for a job, there may be one job more.
+one_more_fits : (limit : Option ℕ) (jobs : List Job) (most : ℕ) → is_full limit jobs ≡ false → limit ≡ Some most → suc (length jobs) ≤ most
+one_more_fits None jobs most free e = absurd cc
+one_more_fits (Some limit) jobs most free e = let same : limit ≡ most = (cc) in let above = leb-false limit (length jobs) free in omega arith
+
+-- A command adds a job only where there is a place for it.
+by_command : (settings : Settings) (what : Step) (m n : Machine) → n.settings ≡ m.settings → After what m n → IsWithin settings m → IsWithin settings n
+by_command settings what m n same (changed f after next ids becomes) w =
+    within_then settings m n w (record { same = same; fewer = let many : length n.jobs ≡ length m.jobs = ap length after ∙ length-map m.jobs f in omega arith })
+by_command settings what m n same (removed_one id told after next) w =
+    within_then settings m n w (record { same = same; fewer = let many = ap length after in let less = rest_no_longer (λ k. not (k.id == id)) m.jobs in omega arith })
+by_command settings what m n same (added j after next is at_once free) w = record {
+  chosen = same ∙ w.chosen;
+  few = λ most e.
+      let fits = one_more_fits m.settings.max_jobs m.jobs most free (ap (λ (s : Settings). s.max_jobs) w.chosen ∙ e) in
+      let many : length n.jobs ≡ length (m.jobs ++ j ∷ []) = ap length after in
+      let one = length-append m.jobs (j ∷ []) in
+      omega arith;
+}
+
+-- the parts of a step
+within_parts : (settings : Settings) (t : Transition) → Keeps t.first → IsTransition t → IsWithin settings t.first → All (λ p. IsWithin settings p.machine) (parts_in t) × IsWithin settings t.last
+within_parts settings t keeps is w =
+    let s = is.step in
+    let m = t.first in
+    let timed = forgetting (after_timers (at_moment t.entry.moment m)) in
+    let k0 = kept_of_timers t.entry.moment m keeps in
+    let k2 = (served timed s.handed s.ended s.before k0 s.serves).keeps in
+    let done = (acted s.memory s.before t.entry.seat t.entry.what).machine in
+    let w0 = within_then settings m timed w (by_timers t.entry.moment m) in
+    let w1 = within_then settings timed s.serves.between w0 (by_dispatch timed s.handed s.serves.between s.serves.dispatches) in
+    let w2 = within_then settings s.serves.between s.before w1 (by_ends s.serves.between s.ended s.before s.serves.ends_waits) in
+    let a = by_command settings t.entry.what s.before done (stays_acted 0 s.memory s.before t.entry.seat t.entry.what).settings (after_acted s.memory s.before t.entry.seat t.entry.what k2.ids) w2 in
+    let w3 = within_then settings done s.after a (adds_none done s.after (forgetting done) s.acts refl refl) in
+    let w4 = within_then settings s.after s.serves_then.between w3 (by_dispatch s.after s.handed_then s.serves_then.between s.serves_then.dispatches) in
+    let w5 = within_then settings s.serves_then.between t.last w4 (by_ends s.serves_then.between s.ended_then t.last s.serves_then.ends_waits) in
+    (subst (λ (ps : Parts). All (λ p. IsWithin settings p.machine) (parts_in (record t { parts = ps }))) (sym is.parts_are) (w0, (w1, (w2, (w3, (w4, (w5, tt)))))), w5)
+
+-- the parts of a run
+within_run : (settings : Settings) (first : Machine) (taken : List Transition) (last : Machine) → IsLawful first → GoesBy first taken last → IsWithin settings first → All (λ p. IsWithin settings p.machine) (parts_of_run taken)
+within_run settings first [] last lawful goes w = tt
+within_run settings first (t ∷ taken) last lawful goes w =
+    let here : IsLawful t.first = subst IsLawful (sym goes.0) lawful in
+    let now = within_parts settings t (kept_of_lawful t.first here) goes.1 (subst (IsWithin settings) (sym goes.0) w) in
+    let lawful_then = step_is_lawful t.first t.last t.entry.moment t.entry.seat t.entry.what t.outcome t.given here goes.1.step in
+    all_of_append (λ p. IsWithin settings p.machine) (parts_in t) (parts_of_run taken) now.0 (within_run settings t.last taken last lawful_then goes.2 now.1)
+
+pub few_always : (settings : Settings) (taken : List Transition) (last : Machine) (p : Part) (most : ℕ) → GoesBy (new_machine settings) taken last → Contains (parts_of_run taken) p → settings.max_jobs ≡ Some most → length p.machine.jobs ≤ most
+few_always settings taken last p most goes i e =
+    let none : IsWithin settings (new_machine settings) = record { chosen = refl; few = λ n f. omega arith } in
+    (all_at (λ (q : Part). IsWithin settings q.machine) (parts_of_run taken) p (within_run settings (new_machine settings) taken last (new_is_lawful settings) goes none) i).few most e
