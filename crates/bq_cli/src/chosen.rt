@@ -1,4 +1,6 @@
 //! What is chosen for a program.
+ghost use Rattle.std.specs.Prelude.{◌≡◌};
+ghost use Rattle.bq_cli.specs.Programs.{name_of};
 
 /// The programs that take options.
 #[derive(Clone, Copy, Debug, PartialEq, Eq)]
@@ -7,6 +9,18 @@ pub enum Program {
     Bq,
     /// Serves many clients, each over a connection.
     Bqd,
+}
+
+impl Program {
+    /// What the program is called.
+    pub fn name(self) -> &'static str
+        ensures { result.now ≡ name_of self }
+    {
+        match self {
+            Program::Bq => "bq",
+            Program::Bqd => "bqd",
+        }
+    }
 }
 
 /// What is chosen for a program. A program that doesn't take an option has its default.
@@ -29,7 +43,7 @@ pub struct Options {
 pub enum OptionFault {
     /// The words are no options of the program; the text says why.
     BadOptions(String),
-    /// The text is the help that was asked for.
+    /// The text is the help that was asked for, or the version.
     AskedHelp(String),
     /// A growth of memory was refused.
     NoMemory,

@@ -174,6 +174,3 @@ fn fault_of(alloc: Global, e: &clap::Error) -> OptionFault {
         }
     }
 }
-
-#[cfg(test)]
-mod tests;

@@ -1,58 +1,22 @@
-//! All that the server does from its bound listener to its status.
-ghost use Rattle.std.specs.Prelude.{◌≡◌, ◌≤◌, IfOk};
-ghost use Rattle.bq_cli.specs.FaultTexts.{fault_of_run, serve_fault_text};
-ghost use Rattle.std.specs.List.{All};
+//! All that the server does, from its options to its status.
+ghost use Rattle.std.specs.Prelude.{◌≡◌, ◌≤◌, IfErr, IfOk};
+ghost use Rattle.std.specs.List.{All, list_any};
 ghost use Rattle.bq_desk.specs.Tending.{IsNewDoor, door_seen};
+ghost use Rattle.bq_cli.specs.Servers.{came_of_run};
 
 use crate::chosen::Options;
-use bq_core::Config;
+use crate::fault::Fault;
+use crate::session::config_of;
+use crate::told::tell_server;
 use bq_job::NoMemory;
 use bq_serve::clock::MachineClock;
-use bq_serve::{Door, RunFault, TcpDoor, run_locked};
+use bq_serve::{Door, LockedRun, RunFault, TcpDoor, run_locked};
 use std::alloc::Global;
-use std::io::{BufRead, Eprint, Print};
-use std::net::TcpListener;
+use std::io::{BufRead, BufReader, Eprint, Print, Read};
+use std::net::{Net, TcpListener, TcpStream};
 use std::rt::Clock;
 use std::sync::Wait;
 use std::thread::Threads;
-
-/// Why the server ends with status 1.
-#[derive(Clone, Copy, Debug, PartialEq, Eq)]
-pub enum ServeFault {
-    CannotListen,
-    NoMemory,
-    ThreadRefused,
-    BadConfiguration,
-    /// Some seat ended because a connection could not be accepted.
-    NotAccepted,
-}
-
-impl ServeFault {
-    /// What is told of the fault.
-    pub fn text(self) -> &'static str
-        ensures { result.now ≡ serve_fault_text self }
-    {
-        match self {
-            ServeFault::CannotListen => "cannot listen",
-            ServeFault::NoMemory => "no memory",
-            ServeFault::ThreadRefused => "a thread was refused",
-            ServeFault::BadConfiguration => "bad configuration",
-            ServeFault::NotAccepted => "a connection could not be accepted",
-        }
-    }
-}
-
-impl From<RunFault> for ServeFault {
-    fn from(fault: RunFault) -> ServeFault
-        ensures { result ≡ fault_of_run fault }
-    {
-        match fault {
-            RunFault::NoMemory => ServeFault::NoMemory,
-            RunFault::ThreadRefused => ServeFault::ThreadRefused,
-            RunFault::BadConfiguration => ServeFault::BadConfiguration,
-        }
-    }
-}
 
 /// Serves the connections that the listener accepts, as the options choose, and tells on standard output
 /// where it listens. The control is the control line. It returns the status of the program: 0 when all
@@ -67,51 +31,113 @@ pub fn serve<R: Threads + Wait + Clock + Print + Eprint + Sync, I: BufRead + Dro
 ) -> u8
     ensures { result ≤ 1 }
 {
-    match serve_all(rt, alloc, options, &listener, control) {
-        Ok(()) => 0,
-        Err(fault) => {
-            tell_fault(rt, fault);
-            1
-        }
+    tell_server(rt, serve_at(rt, alloc, options, &listener, control))
+}
+
+/// Binds the address and serves until all is over: the status of the program. The input is the control
+/// line.
+pub(crate) fn listen_and_serve<
+    R: Net<Listener = TcpListener, Stream = TcpStream>
+        + Threads
+        + Wait
+        + Clock
+        + Print
+        + Eprint
+        + Sync,
+    I: Read + Drop,
+>(rt: &R, alloc: Global, options: &Options, input: I) -> u8
+    ensures { result ≤ 1 }
+{
+    let came = match bound(rt, options) {
+        Ok(listener) => serve_input(rt, alloc, options, &listener, input),
+        Err(fault) => Err(fault),
+    };
+    tell_server(rt, came)
+}
+
+// A listener at the address that is chosen.
+fn bound<R: Net<Listener = TcpListener, Stream = TcpStream>>(
+    rt: &R,
+    options: &Options,
+) -> Result<TcpListener, Fault>
+    ensures { IfErr result (λ fault. fault ≡ Fault.CannotListen) }
+{
+    // The options have an address, since the program can't do without.
+    let Some(address) = &options.listen else {
+        return Err(Fault::CannotListen);
+    };
+    match TcpListener::bind(rt, address.as_str()) {
+        Ok(listener) => Ok(listener),
+        Err(_) => Err(Fault::CannotListen),
     }
 }
 
-/// Tells a fault on standard error, where that can be written. No clause sees what was written there.
-pub fn tell_fault<R: Eprint>(rt: &R, fault: ServeFault) {
-    let _told = eprintln!(rt; "bqd: {}", fault.text());
+// Serves with this input as the control line.
+fn serve_input<R: Threads + Wait + Clock + Print + Sync, I: Read + Drop>(
+    rt: &R,
+    alloc: Global,
+    options: &Options,
+    listener: &TcpListener,
+    input: I,
+) -> Result<(), Fault> {
+    let Ok(control) = BufReader::new(alloc, input) else {
+        return Err(Fault::NoMemory);
+    };
+    serve_at(rt, alloc, options, listener, control)
 }
 
-fn serve_all<R: Threads + Wait + Clock + Print + Eprint + Sync, I: BufRead + Drop>(
+fn serve_at<R: Threads + Wait + Clock + Print + Sync, I: BufRead + Drop>(
     rt: &R,
     alloc: Global,
     options: &Options,
     listener: &TcpListener,
     control: I,
-) -> Result<(), ServeFault> {
+) -> Result<(), Fault> {
     let Ok(address) = listener.local_addr() else {
-        return Err(ServeFault::CannotListen);
+        return Err(Fault::CannotListen);
     };
     // Who closes standard output doesn't want to know.
     let _told = println!(rt; "listening {address}");
     let Ok(doors) = new_doors(alloc, options, listener) else {
-        return Err(ServeFault::NoMemory);
+        return Err(Fault::NoMemory);
     };
-    let config = Config {
-        seats: options.seats,
-        max_job_size: options.max_job_size,
-        max_jobs: None,
-        requeue_delay: 0,
-    };
-    let run = run_locked(rt, alloc, config, doors, MachineClock::new(rt), control, 0)?;
-    if run.doors.iter().any(|door| door.met_fault()) {
-        return Err(ServeFault::NotAccepted);
+    came_of(run_locked(
+        rt,
+        alloc,
+        config_of(options),
+        doors,
+        MachineClock::new(rt),
+        control,
+        0,
+    ))
+}
+
+// What came of a run: its fault, or that some connection could not be accepted.
+fn came_of<'l, C: Drop>(run: Result<LockedRun<TcpDoor<'l>, C>, RunFault>) -> Result<(), Fault>
+    ensures { result ≡ came_of_run (λ door. door.met_fault) run.entry }
+{
+    match run {
+        Ok(run) => {
+            if met_fault(run.doors.as_slice()) {
+                Err(Fault::NotAccepted)
+            } else {
+                Ok(())
+            }
+        }
+        Err(fault) => Err(Fault::from(fault)),
     }
-    Ok(())
+}
+
+fn met_fault(doors: &[TcpDoor<'_>]) -> bool
+    ensures { result ≡ list_any (λ door. door.met_fault) doors.now }
+{
+    doors.iter().any(|door| door.met_fault())
 }
 
 // A door at which nothing was done.
 fn new_door<'l>(listener: &'l TcpListener, sessions: Option<u32>) -> TcpDoor<'l>
-    ensures { IsNewDoor (door_seen ⟦<TcpDoor<'l> as Door>⟧.is_out ⟦<TcpDoor<'l> as Door>⟧.is_at_end ⟦<TcpDoor<'l> as Door>⟧.lines_over result) }
+    ensures { IsNewDoor (door_seen ⟦<TcpDoor<'l> as Door>⟧.is_out ⟦<TcpDoor<'l> as Door>⟧.is_at_end
+        ⟦<TcpDoor<'l> as Door>⟧.lines_over result) }
 {
     TcpDoor::new(listener, sessions)
 }
@@ -122,7 +148,8 @@ fn new_doors<'l>(
     options: &Options,
     listener: &'l TcpListener,
 ) -> Result<Vec<TcpDoor<'l>, Global>, NoMemory>
-    ensures { IfOk result (λ all. All (λ door. IsNewDoor (door_seen ⟦<TcpDoor<'l> as Door>⟧.is_out ⟦<TcpDoor<'l> as Door>⟧.is_at_end ⟦<TcpDoor<'l> as Door>⟧.lines_over door)) all.items) }
+    ensures { IfOk result (λ all. All (λ door. IsNewDoor (door_seen ⟦<TcpDoor<'l> as Door>⟧.is_out
+        ⟦<TcpDoor<'l> as Door>⟧.is_at_end ⟦<TcpDoor<'l> as Door>⟧.lines_over door)) all.items) }
 {
     let Ok(mut doors) = Vec::with_capacity(alloc, usize::from(options.seats)) else {
         return Err(NoMemory);
@@ -135,6 +162,3 @@ fn new_doors<'l>(
     }
     Ok(doors)
 }
-
-#[cfg(test)]
-mod tests;

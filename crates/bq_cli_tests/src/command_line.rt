@@ -1,7 +1,6 @@
 //! Words of a command line and the options in them.
 
-use super::options;
-use crate::chosen::{OptionFault, Options, Program};
+use bq_cli::{OptionFault, Options, Program, options};
 use std::alloc::Global;
 use std::process::Abort;
 use std::test::Fail;

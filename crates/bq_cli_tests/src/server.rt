@@ -1,12 +1,9 @@
 //! Runs of the server beside clients, which are threads of the test. Each client and each wait of one ends
 //! by itself, and each run serves as many connections as there are clients.
 
-mod heard;
-mod in_time;
 mod told;
 
-use super::serve;
-use crate::Options;
+use bq_cli::{Options, serve};
 use std::alloc::Global;
 use std::io::{Eprint, Print, Read, Write};
 use std::net::{Net, Shutdown, SocketAddr, TcpListener, TcpStream};
@@ -47,7 +44,7 @@ enum Does {
 /// How many such clients there are, and what each does. Then it closes its connection.
 type Clients = (u32, &'static [Does]);
 
-/// How often it is run, the seats, the connections of each, and the clients.
+/// What it is about, how often it is run, the seats, the connections of each, and the clients.
 type Example = (&'static str, u32, u16, u32, &'static [Clients]);
 
 static EXAMPLES: [Example; 8] = [
@@ -387,12 +384,8 @@ fn run_often<
     for _ in 0..example.1 {
         let content = AtomicU64::new(0);
         let status = serve_example(rt, alloc, example, &content)?;
-        assert!(rt; status == Some(0), "{}", example.0);
-        assert!(rt;
-            content.load(Ordering::SeqCst) == clients_of(example),
-            "{}",
-            example.0
-        );
+        assert!(rt; status == Some(0));
+        assert!(rt; content.load(Ordering::SeqCst) == clients_of(example));
     }
     Ok(())
 }

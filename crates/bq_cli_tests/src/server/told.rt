@@ -1,7 +1,7 @@
 //! What the server tells on its streams: where it listens, before it serves anybody, and its faults.
 
 use super::{awaits, connected, hears_end, options, sends, tells};
-use crate::server::{ServeFault, serve, tell_fault};
+use bq_cli::{Fault, Program, serve, tell_fault};
 use std::alloc::Global;
 use std::fmt::Display;
 use std::io::{Eprint, ErrorKind, Print};
@@ -157,24 +157,36 @@ fn address_is_told_first(rt: HostRuntime) -> Result<(), Fail> {
     Ok(())
 }
 
-/// Each fault, and what is told of it.
-static FAULTS: [(ServeFault, &str); 5] = [
-    (ServeFault::CannotListen, "bqd: cannot listen\n"),
-    (ServeFault::NoMemory, "bqd: no memory\n"),
-    (ServeFault::ThreadRefused, "bqd: a thread was refused\n"),
-    (ServeFault::BadConfiguration, "bqd: bad configuration\n"),
+/// Each fault of a program, and what is told of it.
+const FAULTS: &[(Program, Fault, &str)] = &[
+    (Program::Bq, Fault::ReadFailed, "bq: read failed\n"),
+    (Program::Bq, Fault::WriteFailed, "bq: write failed\n"),
+    (Program::Bq, Fault::NoMemory, "bq: no memory\n"),
+    (Program::Bqd, Fault::CannotListen, "bqd: cannot listen\n"),
+    (Program::Bqd, Fault::NoMemory, "bqd: no memory\n"),
     (
-        ServeFault::NotAccepted,
+        Program::Bqd,
+        Fault::ThreadRefused,
+        "bqd: a thread was refused\n",
+    ),
+    (
+        Program::Bqd,
+        Fault::BadConfiguration,
+        "bqd: bad configuration\n",
+    ),
+    (
+        Program::Bqd,
+        Fault::NotAccepted,
         "bqd: a connection could not be accepted\n",
     ),
 ];
 
 #[test]
 fn faults_are_told(rt: HostRuntime) -> Result<(), Fail> {
-    for (fault, text) in &FAULTS {
+    for (program, fault, text) in FAULTS {
         let heard = Heard::new(rt, rt.alloc());
-        tell_fault(&heard, *fault);
-        assert!(rt; heard.has(&heard.errors, text), "{text}");
+        let _status = tell_fault(&heard, *program, *fault);
+        assert!(rt; heard.has(&heard.errors, text));
         assert!(rt; heard.has(&heard.output, ""));
     }
     Ok(())

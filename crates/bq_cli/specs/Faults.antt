@@ -1,0 +1,29 @@
+-- Which fault of a program a fault of its run is, or the end of its client's line, and what is told of each.
+use Rattle.std.specs.Prelude.{ℕ, List, Option, Some, None, codes}
+use Rattle.bq_job.specs.declared.line_end.LineEnd.{LineEnd}
+use Rattle.bq_job.specs.declared.line_end.LineEnd.TheVariants as ends
+use Rattle.bq_cli.specs.declared.fault.Fault.{Fault}
+use Rattle.bq_cli.specs.declared.fault.Fault.TheVariants as faults
+use Rattle.bq_desk.specs.declared.fault.RunFault.{RunFault}
+use Rattle.bq_desk.specs.declared.fault.RunFault.TheVariants as runs
+
+abbrev pub fault_of_run : RunFault → Fault
+fault_of_run runs.NoMemory = faults.NoMemory
+fault_of_run runs.ThreadRefused = faults.ThreadRefused
+fault_of_run runs.BadConfiguration = faults.BadConfiguration
+
+-- None: all is well
+abbrev pub fault_of_end : LineEnd → Option Fault
+fault_of_end ends.Quit = None
+fault_of_end ends.EndOfInput = None
+fault_of_end ends.ReadFault = Some faults.ReadFailed
+fault_of_end ends.WriteFault = Some faults.WriteFailed
+
+abbrev pub fault_text : Fault → List ℕ
+fault_text faults.ReadFailed = codes "read failed"
+fault_text faults.WriteFailed = codes "write failed"
+fault_text faults.CannotListen = codes "cannot listen"
+fault_text faults.NoMemory = codes "no memory"
+fault_text faults.ThreadRefused = codes "a thread was refused"
+fault_text faults.BadConfiguration = codes "bad configuration"
+fault_text faults.NotAccepted = codes "a connection could not be accepted"

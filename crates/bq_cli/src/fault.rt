@@ -1,0 +1,86 @@
+//! Why a program ends otherwise than well, and its status then.
+ghost use Rattle.std.specs.Prelude.{◌≡◌, option_map};
+ghost use Rattle.bq_cli.specs.Faults.{fault_of_end, fault_of_run, fault_text};
+
+use crate::chosen::OptionFault;
+use bq_job::LineEnd;
+use bq_serve::RunFault;
+
+/// Why a program ends with status 1.
+#[derive(Clone, Copy, Debug, PartialEq, Eq)]
+pub enum Fault {
+    /// The client's bytes could not be read to their end.
+    ReadFailed,
+    /// What the client is owed, or help that was asked for, could not be written.
+    WriteFailed,
+    CannotListen,
+    NoMemory,
+    ThreadRefused,
+    BadConfiguration,
+    /// Some seat ended because a connection could not be accepted.
+    NotAccepted,
+}
+
+impl Fault {
+    /// What is told of the fault.
+    pub fn text(self) -> &'static str
+        ensures { result.now ≡ fault_text self }
+    {
+        match self {
+            Fault::ReadFailed => "read failed",
+            Fault::WriteFailed => "write failed",
+            Fault::CannotListen => "cannot listen",
+            Fault::NoMemory => "no memory",
+            Fault::ThreadRefused => "a thread was refused",
+            Fault::BadConfiguration => "bad configuration",
+            Fault::NotAccepted => "a connection could not be accepted",
+        }
+    }
+}
+
+impl From<RunFault> for Fault {
+    fn from(fault: RunFault) -> Fault
+        ensures { result ≡ fault_of_run fault }
+    {
+        match fault {
+            RunFault::NoMemory => Fault::NoMemory,
+            RunFault::ThreadRefused => Fault::ThreadRefused,
+            RunFault::BadConfiguration => Fault::BadConfiguration,
+        }
+    }
+}
+
+/// Which fault it is that a client's line was over in this way.
+pub(crate) fn fault_of_end(end: LineEnd) -> Option<Fault>
+    ensures { result ≡ fault_of_end end }
+{
+    match end {
+        LineEnd::Quit | LineEnd::EndOfInput => None,
+        LineEnd::ReadFault => Some(Fault::ReadFailed),
+        LineEnd::WriteFault => Some(Fault::WriteFailed),
+    }
+}
+
+/// Why a program didn't do its work, or not to its end.
+#[derive(Debug, Drop)]
+pub enum Stop {
+    /// Its words choose nothing.
+    Options(OptionFault),
+    Fault(Fault),
+}
+
+impl From<OptionFault> for Stop {
+    fn from(fault: OptionFault) -> Stop
+        ensures { result ≡ Stop.Options fault }
+    {
+        Stop::Options(fault)
+    }
+}
+
+impl From<Fault> for Stop {
+    fn from(fault: Fault) -> Stop
+        ensures { result ≡ Stop.Fault fault }
+    {
+        Stop::Fault(fault)
+    }
+}

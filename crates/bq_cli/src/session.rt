@@ -1,0 +1,102 @@
+//! All that `bq` does for its client, on any stream: from its words to how the client's line is over.
+ghost use Rattle.std.specs.Prelude.{◌≡◌, ◌≢◌, IfErr, IfOk};
+ghost use Rattle.bq_cli.specs.Ranges.{AreInRange};
+ghost use Rattle.bq_cli.specs.Sessions.{IsSession, IsSessionFor};
+
+use crate::chosen::{Options, Program};
+use crate::command_line::options;
+use crate::fault::{Fault, Stop};
+use bq_core::Config;
+use bq_job::LineEnd;
+use bq_serve::clock::{Clock, MachineClock, ScriptClock};
+use bq_serve::line::{IoLine, Line};
+use bq_serve::run_one;
+use std::alloc::{AllocError, Global};
+use std::convert::AsStr;
+use std::io::{Read, Write};
+use std::rt;
+use std::sync::Wait;
+
+/// A client that was served until its line was over.
+#[derive(Drop)]
+pub struct Served<S> {
+    pub line: IoLine<S>,
+    pub end: LineEnd,
+}
+
+/// Serves the client at the other end of the stream, as the words choose. The first word is the program's
+/// name.
+pub fn serve_client<'a, R: Wait, W: AsStr, S: Read + Write + Drop, K: rt::Clock + Drop>(
+    rt: &R,
+    alloc: Global,
+    words: &'a [W],
+    stream: S,
+    clock: MachineClock<K>,
+) -> Result<Served<S>, Stop>
+    // There are options in their ranges, and one history of the client's steps, which the one-list machine
+    // takes by these options. The line was written exactly what it is owed along it.
+    ensures served { IfOk result (λ served. IsSessionFor (⟦<IoLine<S> as Line>⟧.seen served.line) served.end) }
+{
+    let options = options(alloc, Program::Bq, words)?;
+    let served = serve_chosen(rt, alloc, &options, stream, clock)?;
+    Ok(served)
+}
+
+// Serves the client by these options.
+fn serve_chosen<R: Wait, S: Read + Write + Drop, K: rt::Clock + Drop>(
+    rt: &R,
+    alloc: Global,
+    options: &Options,
+    stream: S,
+    clock: MachineClock<K>,
+) -> Result<Served<S>, Fault>
+    requires { AreInRange Program.Bq options.now }
+    ensures served { IfOk result (λ served. IsSession options.now (⟦<IoLine<S> as Line>⟧.seen served.line) served.end) }
+    ensures fault { IfErr result (λ fault. fault ≡ Fault.NoMemory) }
+{
+    if !options.still {
+        return serve_by(rt, alloc, options, stream, clock);
+    }
+    let Ok(still) = still_clock(alloc) else {
+        return Err(Fault::NoMemory);
+    };
+    serve_by(rt, alloc, options, stream, still)
+}
+
+// Serves the client by this clock: the line lies over the stream, and what is promised of it is what
+// `run_one` promises.
+fn serve_by<R: Wait, S: Read + Write + Drop, C: Clock + Drop>(
+    rt: &R,
+    alloc: Global,
+    options: &Options,
+    stream: S,
+    clock: C,
+) -> Result<Served<S>, Fault>
+    requires { AreInRange Program.Bq options.now }
+    ensures served { IfOk result (λ served. IsSession options.now (⟦<IoLine<S> as Line>⟧.seen served.line) served.end) }
+    ensures fault { IfErr result (λ fault. fault ≡ Fault.NoMemory) }
+{
+    match run_one(rt, alloc, config_of(options), IoLine::new(stream), clock) {
+        Ok(one) => Ok(Served {
+            line: one.line,
+            end: one.end,
+        }),
+        Err(fault) => Err(Fault::from(fault)),
+    }
+}
+
+/// What the options say to a run.
+pub(crate) fn config_of(options: &Options) -> Config
+    ensures { result ≡ record { seats = options.now.seats; max_job_size = options.now.max_job_size } }
+{
+    Config {
+        seats: options.seats,
+        max_job_size: options.max_job_size,
+    }
+}
+
+// A clock that stands at 0.
+fn still_clock(alloc: Global) -> Result<ScriptClock, AllocError> {
+    let script = vec![in alloc; Some(0)]?;
+    Ok(ScriptClock::new(script))
+}

@@ -1,0 +1,76 @@
+//! What a program tells whoever started it: a status, and beside it a text on one of its streams. No clause
+//! sees what was written there.
+ghost use Rattle.std.specs.Prelude.{◌≡◌};
+ghost use Rattle.bq_cli.specs.Statuses.{IsStatusOfClient, IsStatusOfOptionFault, IsStatusOfStop, status_of_end, status_of_server};
+
+use crate::chosen::{OptionFault, Program};
+use crate::fault::{Fault, Stop, fault_of_end};
+use crate::session::Served;
+use bq_job::LineEnd;
+use std::io::{Eprint, Print};
+
+/// Tells a fault on standard error, where that can be written, as one line behind the program's name. The
+/// status is 1.
+pub fn tell_fault<R: Eprint>(rt: &R, program: Program, fault: Fault) -> u8
+    ensures { result ≡ 1 }
+{
+    let _told = eprintln!(rt; "{}: {}", program.name(), fault.text());
+    1
+}
+
+// Help goes to standard output; what the words have wrong goes to standard error.
+fn tell_option_fault<R: Print + Eprint>(rt: &R, program: Program, fault: &OptionFault) -> u8
+    ensures { IsStatusOfOptionFault fault.now result }
+{
+    match fault {
+        OptionFault::AskedHelp(text) => match print!(rt; "{text}") {
+            Ok(()) => 0,
+            Err(_) => tell_fault(rt, program, Fault::WriteFailed),
+        },
+        OptionFault::BadOptions(text) => {
+            let _told = eprint!(rt; "{text}");
+            2
+        }
+        OptionFault::NoMemory => tell_fault(rt, program, Fault::NoMemory),
+    }
+}
+
+/// Tells why the program stops: its status.
+pub(crate) fn tell_stop<R: Print + Eprint>(rt: &R, program: Program, stop: &Stop) -> u8
+    ensures { IsStatusOfStop stop.now result }
+{
+    match stop {
+        Stop::Options(fault) => tell_option_fault(rt, program, fault),
+        Stop::Fault(fault) => tell_fault(rt, program, *fault),
+    }
+}
+
+// Tells how the line of a client was over.
+fn tell_end<R: Eprint>(rt: &R, end: LineEnd) -> u8
+    ensures { result ≡ status_of_end end }
+{
+    match fault_of_end(end) {
+        None => 0,
+        Some(fault) => tell_fault(rt, Program::Bq, fault),
+    }
+}
+
+/// Tells what came of a client: the status of `bq`.
+pub(crate) fn tell_client<R: Print + Eprint, S>(rt: &R, came: &Result<Served<S>, Stop>) -> u8
+    ensures { IsStatusOfClient came.now result }
+{
+    match came {
+        Ok(served) => tell_end(rt, served.end),
+        Err(stop) => tell_stop(rt, Program::Bq, stop),
+    }
+}
+
+/// Tells what came of a server that listened: the status of `bqd`.
+pub(crate) fn tell_server<R: Eprint>(rt: &R, came: Result<(), Fault>) -> u8
+    ensures { result ≡ status_of_server came }
+{
+    match came {
+        Ok(()) => 0,
+        Err(fault) => tell_fault(rt, Program::Bqd, fault),
+    }
+}

@@ -1,0 +1,10 @@
+//! Tests of the options, of a lone client's session and of the server. They stand above the crate that they
+//! test, so that it isn't proved once more for them.
+#![tactic(auto)]
+
+#[cfg(test)]
+mod command_line;
+#[cfg(test)]
+mod server;
+#[cfg(test)]
+mod session;

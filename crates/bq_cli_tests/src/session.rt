@@ -1,0 +1,199 @@
+//! The session of `bq`: from its words to how the client's line is over, over a console in memory.
+
+use bq_cli::{Console, OptionFault, Served, Stop, serve_client};
+use bq_job::LineEnd;
+use bq_serve::clock::MachineClock;
+use std::alloc::Global;
+use std::io;
+use std::io::{ErrorKind, Read, Write};
+use std::rt::Clock;
+use std::sync::Wait;
+use std::test::Fail;
+
+/// What comes behind the client's bytes.
+#[derive(Clone, Copy, PartialEq, Eq)]
+enum Behind {
+    SendsNoMore,
+    Fails,
+}
+
+/// The client's bytes.
+#[derive(Drop)]
+struct Sends {
+    bytes: &'static [u8],
+    behind: Behind,
+}
+
+impl Read for Sends {
+    fn read(&mut self, buf: &mut [u8]) -> io::Result<usize> {
+        if self.bytes.is_empty() && self.behind == Behind::Fails {
+            return Err(io::Error::from(ErrorKind::BrokenPipe));
+        }
+        let count = self.bytes.len().min(buf.len());
+        buf[..count].copy_from_slice(&self.bytes[..count]);
+        self.bytes = &self.bytes[count..];
+        Ok(count)
+    }
+}
+
+/// Where the client reads: what is written arrives only with a flush, in room for so many bytes. A flush
+/// fails where something was written into the last of the room.
+#[derive(Drop)]
+struct Reads {
+    held: Vec<u8>,
+    arrived: Vec<u8>,
+    room: usize,
+}
+
+impl Write for Reads {
+    fn write(&mut self, buf: &[u8]) -> io::Result<usize> {
+        let count = buf.len().min(self.room);
+        if count == 0 || self.held.extend_from_slice(&buf[..count]).is_err() {
+            return Err(io::Error::from(ErrorKind::StorageFull));
+        }
+        self.room -= count;
+        Ok(count)
+    }
+
+    fn flush(&mut self) -> io::Result<()> {
+        if self.room == 0 || self.arrived.extend_from_slice(&self.held).is_err() {
+            return Err(io::Error::from(ErrorKind::StorageFull));
+        }
+        self.held.clear();
+        Ok(())
+    }
+}
+
+/// The words behind the program's name, what the client sends, in how much room it reads, how its line is over,
+/// and what arrives there.
+struct Example {
+    words: &'static [&'static str],
+    sends: &'static str,
+    behind: Behind,
+    room: usize,
+    end: LineEnd,
+    arrives: &'static str,
+}
+
+static EXAMPLES: [Example; 6] = [
+    Example {
+        words: &[],
+        sends: "put 5 0 10 3\r\nabc\r\nquit\r\n",
+        behind: Behind::Fails,
+        room: 100,
+        end: LineEnd::Quit,
+        arrives: "INSERTED 1\r\n",
+    },
+    Example {
+        words: &["--still"],
+        sends: "reserve\r\n",
+        behind: Behind::SendsNoMore,
+        room: 100,
+        end: LineEnd::EndOfInput,
+        arrives: "TIMED_OUT\r\n",
+    },
+    Example {
+        words: &["--still", "--max-job-size", "2"],
+        sends: "put 0 0 1 3\r\nabc\r\nput 0 0 1 2\r\nab\r\n",
+        behind: Behind::SendsNoMore,
+        room: 100,
+        end: LineEnd::EndOfInput,
+        arrives: "JOB_TOO_BIG\r\nINSERTED 1\r\n",
+    },
+    Example {
+        words: &[],
+        sends: "put 0 0 9 1\r\nx\r\nput",
+        behind: Behind::Fails,
+        room: 100,
+        end: LineEnd::ReadFault,
+        arrives: "INSERTED 1\r\n",
+    },
+    Example {
+        words: &[],
+        sends: "put 0 0 9 1\r\nx\r\n",
+        behind: Behind::SendsNoMore,
+        room: 5,
+        end: LineEnd::WriteFault,
+        arrives: "",
+    },
+    // All of the answer is written, and the flush fails.
+    Example {
+        words: &[],
+        sends: "put 0 0 9 1\r\nx\r\n",
+        behind: Behind::SendsNoMore,
+        room: 12,
+        end: LineEnd::WriteFault,
+        arrives: "",
+    },
+];
+
+fn words_of(alloc: Global, words: &[&str]) -> Result<Vec<String>, Fail> {
+    let mut all: Vec<String> = Vec::new(alloc);
+    all.push(String::from_str(alloc, "bq")?)?;
+    for word in words {
+        all.push(String::from_str(alloc, word)?)?;
+    }
+    Ok(all)
+}
+
+// What comes of a client that sends this, by these words.
+fn came<R: Wait + Clock>(
+    rt: &R,
+    alloc: Global,
+    words: &[String],
+    sends: Sends,
+    room: usize,
+) -> Result<Served<Console<Sends, Reads>>, Stop> {
+    let reads = Reads {
+        held: Vec::new(alloc),
+        arrived: Vec::new(alloc),
+        room,
+    };
+    let console = Console::new(sends, reads);
+    serve_client(rt, alloc, words, console, MachineClock::new(rt))
+}
+
+// Whether an example comes out as it has to.
+fn is_met<R: Wait + Clock>(rt: &R, alloc: Global, words: &[String], example: &Example) -> bool {
+    let sends = Sends {
+        bytes: example.sends.as_bytes(),
+        behind: example.behind,
+    };
+    match came(rt, alloc, words, sends, example.room) {
+        Ok(served) => {
+            let reads = served.line.into_stream().into_output();
+            served.end == example.end && reads.arrived.as_slice() == example.arrives.as_bytes()
+        }
+        Err(_) => false,
+    }
+}
+
+// From the words to how the line is over, and the bytes that arrive.
+#[test]
+fn sessions_of_words(rt: HostRuntime) -> Result<(), Fail> {
+    let alloc = rt.alloc();
+    for example in &EXAMPLES {
+        let words = words_of(alloc, example.words)?;
+        assert!(rt; is_met(&rt, alloc, words.as_slice(), example));
+    }
+    Ok(())
+}
+
+// Where the words ask for help, or have something wrong, nobody is served.
+#[test]
+fn nobody_is_served(rt: HostRuntime) -> Result<(), Fail> {
+    let alloc = rt.alloc();
+    for (word, asks) in [("--help", true), ("--max-job-size=0", false)] {
+        let words = words_of(alloc, &[word])?;
+        let sends = Sends {
+            bytes: b"reserve\r\n",
+            behind: Behind::SendsNoMore,
+        };
+        match came(&rt, alloc, words.as_slice(), sends, 100) {
+            Err(Stop::Options(OptionFault::AskedHelp(_))) => assert!(rt; asks),
+            Err(Stop::Options(OptionFault::BadOptions(_))) => assert!(rt; !asks),
+            _ => return Err(Fail::from("served")),
+        }
+    }
+    Ok(())
+}
