@@ -1,5 +1,5 @@
 //! The options in the words of a command line.
-ghost use Rattle.std.specs.Prelude.{◌≤◌, IfOk, IfSome};
+ghost use Rattle.std.specs.Prelude.{◌≡◌, ◌≤◌, ℕ, IfOk, IfSome, None, Some, string_bytes};
 ghost use Rattle.bq_cli.specs.Ranges.{AreInRange};
 
 use crate::chosen::{OptionFault, Options, Program};
@@ -9,12 +9,17 @@ use clap::{Arg, ArgAction, ArgMatches, Command};
 use std::alloc::{AllocError, Global};
 use std::convert::AsStr;
 
+/// The version of both programs.
+const VERSION: &str = "0.1.0";
+
 /// How many seats a server has, where nothing else is chosen.
 const USUAL_SEATS: u16 = 16;
 
 const LISTEN: &str = "listen";
 
 const MAX_JOB_SIZE: &str = "max-job-size";
+
+const PORT: &str = "port";
 
 const SEATS: &str = "seats";
 
@@ -30,8 +35,8 @@ impl From<AllocError> for OptionFault {
 
 /// The options in a program's words, of which the first is its name.
 ///
-/// The fault is `AskedHelp` where help was asked for, `BadOptions` where the words are no options of the
-/// program or a number is out of its range, and `NoMemory`.
+/// The fault is `AskedHelp` where help or the version was asked for, `BadOptions` where the words are no
+/// options of the program or a number is out of its range, and `NoMemory`.
 pub fn options<'a, S: AsStr>(
     alloc: Global,
     program: Program,
@@ -48,15 +53,7 @@ pub fn options<'a, S: AsStr>(
 fn bq_options<'a, S: AsStr>(alloc: Global, words: &'a [S]) -> Result<Options, OptionFault>
     ensures { IfOk result (λ o. AreInRange Program.Bq o) }
 {
-    let still = Arg::new(alloc, STILL)
-        .long(STILL)
-        .help("The clock stands at 0; it is the machine's unless chosen")
-        .action(ArgAction::SetTrue);
-    let command = Command::new(alloc, "bq")
-        .about("Serves one client of a work queue over standard input and output")
-        .arg(still)?
-        .arg(max_job_size_arg(alloc))?;
-    match command.try_get_matches_from(words) {
+    match bq_command(alloc)?.try_get_matches_from(words) {
         Ok(matches) => Ok(bq_chosen(&matches)),
         Err(e) => Err(fault_of(alloc, &e)),
     }
@@ -65,69 +62,129 @@ fn bq_options<'a, S: AsStr>(alloc: Global, words: &'a [S]) -> Result<Options, Op
 fn bqd_options<'a, S: AsStr>(alloc: Global, words: &'a [S]) -> Result<Options, OptionFault>
     ensures { IfOk result (λ o. AreInRange Program.Bqd o) }
 {
-    let listen = Arg::new(alloc, LISTEN)
-        .long(LISTEN)
-        .value_name("ADDR")
-        .help("The address to listen at")
-        .required(true);
-    let seats = Arg::new(alloc, SEATS)
-        .long(SEATS)
-        .value_name("N")
-        .help("How many clients can be connected at a time, 1 to 256; 16 unless chosen")
-        .value_parser(clap::value_parser!(u16).range(1..=i64::from(MOST_SEATS)));
-    let sessions = Arg::new(alloc, SESSIONS)
-        .long(SESSIONS)
-        .value_name("K")
-        .help("How many connections each seat serves, 1 to 4294967295; without end unless chosen")
-        .value_parser(clap::value_parser!(u32).range(1..=4_294_967_295));
-    let command = Command::new(alloc, "bqd")
-        .about("Serves a work queue to many clients over TCP")
-        .arg(listen)?
-        .arg(seats)?
-        .arg(max_job_size_arg(alloc))?
-        .arg(sessions)?;
-    match command.try_get_matches_from(words) {
+    match bqd_command(alloc)?.try_get_matches_from(words) {
         Ok(matches) => bqd_chosen(alloc, &matches),
         Err(e) => Err(fault_of(alloc, &e)),
     }
 }
 
+fn bq_command<'a>(alloc: Global) -> Result<Command<'a>, AllocError> {
+    Command::new(alloc, "bq")
+        .version(VERSION)
+        .about("Serves one client of a work queue over standard input and output")
+        .arg(still_arg(alloc))?
+        .arg(max_job_size_arg(alloc))
+}
+
+fn bqd_command<'a>(alloc: Global) -> Result<Command<'a>, AllocError> {
+    Command::new(alloc, "bqd")
+        .version(VERSION)
+        .about("Serves a work queue to many clients over TCP")
+        .arg(listen_arg(alloc))?
+        .arg(port_arg(alloc))?
+        .arg(seats_arg(alloc))?
+        .arg(max_job_size_arg(alloc).short('z'))?
+        .arg(sessions_arg(alloc))
+}
+
+fn still_arg<'a>(alloc: Global) -> Arg<'a> {
+    Arg::new(alloc, STILL)
+        .long(STILL)
+        .help("The clock stands at 0; it is the machine's unless chosen")
+        .action(ArgAction::SetTrue)
+}
+
+fn listen_arg<'a>(alloc: Global) -> Arg<'a> {
+    Arg::new(alloc, LISTEN)
+        .short('l')
+        .long(LISTEN)
+        .value_name("ADDR")
+        .help(
+            "The address and port to listen at, as 127.0.0.1:11300; the address alone beside --port",
+        )
+        .required(true)
+}
+
+fn port_arg<'a>(alloc: Global) -> Arg<'a> {
+    Arg::new(alloc, PORT)
+        .short('p')
+        .long(PORT)
+        .value_name("PORT")
+        .help("The port to listen at, 0 to 65535, where ADDR has none; 0 takes a free one")
+        .value_parser(clap::value_parser!(u16).range(0..=65_535))
+}
+
+fn seats_arg<'a>(alloc: Global) -> Arg<'a> {
+    Arg::new(alloc, SEATS)
+        .long(SEATS)
+        .value_name("N")
+        .help("How many clients can be connected at a time, 1 to 256; 16 unless chosen")
+        .value_parser(clap::value_parser!(u16).range(1..=i64::from(MOST_SEATS)))
+}
+
+fn sessions_arg<'a>(alloc: Global) -> Arg<'a> {
+    Arg::new(alloc, SESSIONS)
+        .long(SESSIONS)
+        .value_name("K")
+        .help("How many connections each seat serves, 1 to 4294967295; without end unless chosen")
+        .value_parser(clap::value_parser!(u32).range(1..=4_294_967_295))
+}
+
 fn max_job_size_arg<'a>(alloc: Global) -> Arg<'a> {
     Arg::new(alloc, MAX_JOB_SIZE)
         .long(MAX_JOB_SIZE)
-        .value_name("B")
+        .value_name("BYTES")
         .help("How many bytes a job's body may have, 1 to 1048576; 65535 unless chosen")
         .value_parser(clap::value_parser!(u32).range(1..=i64::from(LARGEST_BODY)))
 }
 
 // The parser has refused numbers that are out of range; the bounds here say so where they are read.
 
-fn max_job_size(matches: &ArgMatches<'_>) -> u32
+fn max_job_size(asked: Option<u32>) -> u32
     ensures least { 1 ≤ result }
     ensures most { result ≤ LARGEST_BODY }
+    ensures usual { asked ≡ None → result ≡ USUAL_BODY }
+    ensures chosen { (bytes : ℕ) → asked ≡ Some bytes → 1 ≤ bytes → bytes ≤ LARGEST_BODY → result ≡ bytes }
 {
-    matches
-        .get_one::<u32>(MAX_JOB_SIZE)
-        .unwrap_or(USUAL_BODY)
-        .clamp(1, LARGEST_BODY)
+    asked.unwrap_or(USUAL_BODY).clamp(1, LARGEST_BODY)
 }
 
-fn seats(matches: &ArgMatches<'_>) -> u16
+fn seats(asked: Option<u16>) -> u16
     ensures least { 1 ≤ result }
     ensures most { result ≤ MOST_SEATS }
+    ensures usual { asked ≡ None → result ≡ USUAL_SEATS }
+    ensures chosen { (many : ℕ) → asked ≡ Some many → 1 ≤ many → many ≤ MOST_SEATS → result ≡ many }
 {
-    matches
-        .get_one::<u16>(SEATS)
-        .unwrap_or(USUAL_SEATS)
-        .clamp(1, MOST_SEATS)
+    asked.unwrap_or(USUAL_SEATS).clamp(1, MOST_SEATS)
 }
 
-fn sessions(matches: &ArgMatches<'_>) -> Option<u32>
-    ensures { IfSome result (λ k. 1 ≤ k) }
+fn sessions(asked: Option<u32>) -> Option<u32>
+    ensures least { IfSome result (λ k. 1 ≤ k) }
+    ensures endless { asked ≡ None → result ≡ None }
+    ensures chosen { (many : ℕ) → asked ≡ Some many → 1 ≤ many → result ≡ Some many }
 {
-    match matches.get_one::<u32>(SESSIONS) {
+    match asked {
         None => None,
         Some(count) => Some(count.max(1)),
+    }
+}
+
+// The word of the address that the listener is bound to: the address as it was written, or with the port that
+// was chosen beside it. The colons of an address are no port's then.
+fn listen_word(alloc: Global, address: &str, port: Option<u16>) -> Result<String, AllocError>
+    ensures alone { port ≡ None → IfOk result (λ word. string_bytes word ≡ address.now) }
+{
+    match port {
+        None => String::from_str(alloc, address),
+        Some(port) => with_port(alloc, address, port),
+    }
+}
+
+fn with_port(alloc: Global, address: &str, port: u16) -> Result<String, AllocError> {
+    if address.contains(":") && !address.starts_with("[") {
+        format!(in alloc; "[{address}]:{port}")
+    } else {
+        format!(in alloc; "{address}:{port}")
     }
 }
 
@@ -138,7 +195,7 @@ fn bq_chosen(matches: &ArgMatches<'_>) -> Options
         listen: None,
         still: matches.get_flag(STILL),
         seats: 1,
-        max_job_size: max_job_size(matches),
+        max_job_size: max_job_size(matches.get_one::<u32>(MAX_JOB_SIZE)),
         sessions: None,
     }
 }
@@ -148,28 +205,28 @@ fn bqd_chosen(alloc: Global, matches: &ArgMatches<'_>) -> Result<Options, Option
 {
     // The parser has refused words without an address.
     let address = matches.get_str(LISTEN).unwrap_or("");
+    let listen = listen_word(alloc, address, matches.get_one::<u16>(PORT))?;
     Ok(Options {
-        listen: Some(String::from_str(alloc, address)?),
+        listen: Some(listen),
         still: false,
-        seats: seats(matches),
-        max_job_size: max_job_size(matches),
-        sessions: sessions(matches),
+        seats: seats(matches.get_one::<u16>(SEATS)),
+        max_job_size: max_job_size(matches.get_one::<u32>(MAX_JOB_SIZE)),
+        sessions: sessions(matches.get_one::<u32>(SESSIONS)),
     })
 }
 
-// What the parse says, as text.
+// What the parse says, as text: help and the version for standard output, what is wrong for standard error.
 fn fault_of(alloc: Global, e: &clap::Error) -> OptionFault {
-    let kind = e.kind();
-    if kind == ErrorKind::OutOfMemory {
+    if e.kind() == ErrorKind::OutOfMemory {
         return OptionFault::NoMemory;
     }
     match format!(in alloc; "{e}") {
         Err(_) => OptionFault::NoMemory,
         Ok(text) => {
-            if kind == ErrorKind::DisplayHelp {
-                OptionFault::AskedHelp(text)
-            } else {
+            if e.use_stderr() {
                 OptionFault::BadOptions(text)
+            } else {
+                OptionFault::AskedHelp(text)
             }
         }
     }

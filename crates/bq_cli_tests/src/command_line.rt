@@ -1,139 +1,149 @@
 //! Words of a command line and the options in them.
 
-use bq_cli::{OptionFault, Options, Program, options};
-use std::alloc::Global;
-use std::process::Abort;
+use bq_cli::{OptionFault, Program, options};
 use std::test::Fail;
 
-// The options in these words, which have some.
-fn chosen(
-    rt: &impl Abort,
-    alloc: Global,
-    program: Program,
-    words: &[&str],
-) -> Result<Options, Fail> {
-    match options(alloc, program, words) {
-        Ok(options) => Ok(options),
-        Err(_) => {
-            assert!(rt; false, "{words:?}");
-            Err(Fail::from("no options"))
+/// The words of `bq`, whether the clock stands still, and the size of bodies.
+type OfBq = (&'static [&'static str], bool, u32);
+
+const OF_BQ: &[OfBq] = &[
+    (&["bq"], false, 65_535),
+    (&["bq", "--still"], true, 65_535),
+    (&["bq", "--max-job-size", "1"], false, 1),
+    (&["bq", "--max-job-size", "65536"], false, 65_536),
+    (
+        &["bq", "--still", "--max-job-size=1048576"],
+        true,
+        1_048_576,
+    ),
+];
+
+#[test]
+fn options_of_bq(rt: HostRuntime) -> Result<(), Fail> {
+    for (words, still, max_job_size) in OF_BQ {
+        match options(rt.alloc(), Program::Bq, *words) {
+            Ok(bq) => {
+                assert!(rt; bq.still == *still && bq.max_job_size == *max_job_size);
+                assert!(rt; bq.seats == 1 && bq.listen.is_none() && bq.sessions.is_none());
+            }
+            Err(_) => return Err(Fail::from("no options of bq")),
         }
     }
-}
-
-#[test]
-fn usual_options(rt: HostRuntime) -> Result<(), Fail> {
-    let bq = chosen(&rt, rt.alloc(), Program::Bq, &["bq"])?;
-    assert!(rt; !bq.still && bq.listen.is_none() && bq.sessions.is_none());
-    assert!(rt; bq.seats == 1 && bq.max_job_size == 65_535);
-    let bqd = chosen(&rt, rt.alloc(), Program::Bqd, &["bqd", "--listen", "a:1"])?;
-    assert!(rt; !bqd.still && bqd.sessions.is_none());
-    assert!(rt; bqd.seats == 16 && bqd.max_job_size == 65_535);
     Ok(())
 }
 
-#[test]
-fn chosen_options(rt: HostRuntime) -> Result<(), Fail> {
-    let words = ["bq", "--still", "--max-job-size", "1048576"];
-    let bq = chosen(&rt, rt.alloc(), Program::Bq, &words)?;
-    assert!(rt; bq.still && bq.max_job_size == 1_048_576);
-    Ok(())
-}
+/// The words of `bqd`, and what they choose: the address, the seats, the size of bodies and the connections
+/// of each seat.
+type OfBqd = (&'static [&'static str], &'static str, u16, u32, Option<u32>);
 
-#[test]
-fn listen_options(rt: HostRuntime) -> Result<(), Fail> {
-    let words = ["bqd", "--listen", "a", "--seats", "2", "--sessions", "1"];
-    let bqd = chosen(&rt, rt.alloc(), Program::Bqd, &words)?;
-    assert!(rt; bqd.listen.as_deref() == Some("a"));
-    assert!(rt; bqd.seats == 2 && bqd.sessions == Some(1) && bqd.max_job_size == 65_535);
-    Ok(())
-}
-
-#[test]
-fn ends_of_ranges(rt: HostRuntime) -> Result<(), Fail> {
-    let words = [
-        "bqd",
-        "--listen",
+const OF_BQD: &[OfBqd] = &[
+    (
+        &["bqd", "--listen", "127.0.0.1:11300"],
+        "127.0.0.1:11300",
+        16,
+        65_535,
+        None,
+    ),
+    (
+        &["bqd", "--listen=[::1]:11300", "--seats", "1"],
+        "[::1]:11300",
+        1,
+        65_535,
+        None,
+    ),
+    (
+        &["bqd", "--listen", "a", "--seats", "2", "--sessions", "1"],
         "a",
-        "--seats",
-        "256",
-        "--sessions",
-        "4294967295",
-        "--max-job-size",
-        "1",
-    ];
-    let bqd = chosen(&rt, rt.alloc(), Program::Bqd, &words)?;
-    assert!(rt; bqd.seats == 256 && bqd.sessions == Some(4_294_967_295) && bqd.max_job_size == 1);
+        2,
+        65_535,
+        Some(1),
+    ),
+    (
+        &["bqd", "--listen", "a", "--max-job-size", "1"],
+        "a",
+        16,
+        1,
+        None,
+    ),
+    (
+        &["bqd", "--listen", "a", "--seats", "256"],
+        "a",
+        256,
+        65_535,
+        None,
+    ),
+    (
+        &["bqd", "--listen", "a", "--sessions", "4294967295"],
+        "a",
+        16,
+        65_535,
+        Some(4_294_967_295),
+    ),
+    (
+        &["bqd", "-l", "127.0.0.1", "-p", "11300", "-z", "1048576"],
+        "127.0.0.1:11300",
+        16,
+        1_048_576,
+        None,
+    ),
+    (
+        &["bqd", "-p", "0", "-l", "::1"],
+        "[::1]:0",
+        16,
+        65_535,
+        None,
+    ),
+    (
+        &["bqd", "-l", "[::1]", "--port", "65535", "-z65536"],
+        "[::1]:65535",
+        16,
+        65_536,
+        None,
+    ),
+];
+
+#[test]
+fn options_of_bqd(rt: HostRuntime) -> Result<(), Fail> {
+    for (words, listen, seats, max_job_size, sessions) in OF_BQD {
+        match options(rt.alloc(), Program::Bqd, *words) {
+            Ok(bqd) => {
+                assert!(rt; !bqd.still && bqd.listen.as_deref() == Some(*listen));
+                assert!(rt; bqd.seats == *seats && bqd.sessions == *sessions);
+                assert!(rt; bqd.max_job_size == *max_job_size);
+            }
+            Err(_) => return Err(Fail::from("no options of bqd")),
+        }
+    }
     Ok(())
 }
+
+const BAD: &[(Program, &[&str])] = &[
+    (Program::Bq, &["bq", "--max-job-size", "0"]),
+    (Program::Bq, &["bq", "--max-job-size", "1048577"]),
+    (Program::Bq, &["bq", "--max-job-size", "x"]),
+    (Program::Bq, &["bq", "--still", "more"]),
+    (Program::Bq, &["bq", "--listen", "a"]),
+    (Program::Bq, &["bq", "-z", "1"]),
+    (Program::Bqd, &["bqd"]),
+    (Program::Bqd, &["bqd", "-p", "11300"]),
+    (Program::Bqd, &["bqd", "--listen", "a", "--still"]),
+    (Program::Bqd, &["bqd", "--listen", "a", "--seats", "0"]),
+    (Program::Bqd, &["bqd", "--listen", "a", "--seats", "257"]),
+    (Program::Bqd, &["bqd", "--listen", "a", "--sessions", "0"]),
+    (Program::Bqd, &["bqd", "--listen", "a", "-p", "65536"]),
+    (
+        Program::Bqd,
+        &["bqd", "--listen", "a", "--sessions", "4294967296"],
+    ),
+    (Program::Bqd, &["bqd", "--listen"]),
+];
 
 #[test]
 fn bad_options(rt: HostRuntime) -> Result<(), Fail> {
-    let table: [(Program, &[&str]); 12] = [
-        (Program::Bq, &["bq", "--max-job-size", "0"]),
-        (Program::Bq, &["bq", "--max-job-size", "1048577"]),
-        (Program::Bq, &["bq", "--max-job-size", "x"]),
-        (Program::Bq, &["bq", "--still", "more"]),
-        (Program::Bq, &["bq", "--listen", "a"]),
-        (Program::Bqd, &["bqd"]),
-        (Program::Bqd, &["bqd", "--listen", "a", "--still"]),
-        (Program::Bqd, &["bqd", "--listen", "a", "--seats", "0"]),
-        (Program::Bqd, &["bqd", "--listen", "a", "--seats", "257"]),
-        (Program::Bqd, &["bqd", "--listen", "a", "--sessions", "0"]),
-        (
-            Program::Bqd,
-            &["bqd", "--listen", "a", "--sessions", "4294967296"],
-        ),
-        (Program::Bqd, &["bqd", "--listen"]),
-    ];
-    for (program, words) in &table {
-        let refused = options(rt.alloc(), *program, *words);
-        match &refused {
+    for (program, words) in BAD {
+        match options(rt.alloc(), *program, *words) {
             Err(OptionFault::BadOptions(text)) => assert!(rt; !text.is_empty()),
-            _ => assert!(rt; false, "{words:?}"),
-        }
-    }
-    Ok(())
-}
-
-// Help says what the program is, and each option with what it is unless chosen.
-#[test]
-fn asked_help(rt: HostRuntime) -> Result<(), Fail> {
-    let table: [(Program, &[&str], &[&str]); 2] = [
-        (
-            Program::Bq,
-            &["bq", "--help"],
-            &[
-                "Serves one client",
-                "bq",
-                "--still",
-                "--max-job-size",
-                "65535",
-            ],
-        ),
-        (
-            Program::Bqd,
-            &["bqd", "--help"],
-            &[
-                "many clients",
-                "bqd",
-                "--listen",
-                "--seats",
-                "16 unless",
-                "--sessions",
-                "65535",
-            ],
-        ),
-    ];
-    for (program, words, parts) in &table {
-        let asked = options(rt.alloc(), *program, *words);
-        match &asked {
-            Err(OptionFault::AskedHelp(text)) => {
-                for part in *parts {
-                    assert!(rt; text.contains(*part), "{part}");
-                }
-            }
-            _ => assert!(rt; false, "{words:?}"),
+            _ => return Err(Fail::from("no bad options")),
         }
     }
     Ok(())
