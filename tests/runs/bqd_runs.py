@@ -1,0 +1,294 @@
+"""Runs of bqd, the server over TCP."""
+import socket
+import time
+
+from programs import Ended, ended, has_all, has_no_memory, limits, refuses_words, same, tells_version
+from servers import Server, awaits, free_port
+
+LOOPBACK = "127.0.0.1"
+
+# How late a job may come to who waits for it, in seconds. A seat that waits rests for twice as long between two
+# looks, unless it is woken.
+LATE = 0.05
+
+# How often it is tried, since a busy machine can be late without the server.
+TRIES = 8
+
+
+def run_no_words(bqd):
+    """An address has to be given."""
+    refuses_words(bqd)
+
+
+def run_bad_options(bqd):
+    """Bad options are status 2, with what is wrong on standard error."""
+    listen = ["--listen", "127.0.0.1:0"]
+    for words in [
+        ["--seats", "1"],
+        ["-p", "11300"],
+        ["--listen"],
+        listen + ["-p", "65536"],
+        listen + ["--seats", "0"],
+        listen + ["--seats", "257"],
+        listen + ["--seats", "many"],
+        listen + ["--sessions", "0"],
+        listen + ["--sessions", "4294967296"],
+        listen + ["--max-job-size", "0"],
+        listen + ["--max-job-size", "1048577"],
+        listen + ["--still"],
+        listen + ["more"],
+        listen + [b"\xff"],
+    ]:
+        refuses_words(bqd, *words)
+
+
+def run_help(bqd):
+    """Help goes to standard output, and has the options with their ranges and what they are unless chosen."""
+    found = ended(bqd, "--help")
+    same((found.status, found.errors), (0, b""))
+    has_all(found.output.decode(), ["bqd", "--listen", "--seats", "1 to 256", "16", "--max-job-size"])
+    has_all(found.output.decode(), ["1 to 1048576", "65535", "--sessions", "1 to 4294967295"])
+    has_all(found.output.decode(), ["-l", "-p", "--port", "0 to 65535", "-z", "--version", "--help"])
+
+
+def run_help_unwritten(bqd):
+    """Help that can't be written is a fault."""
+    with open("/dev/full", "wb") as full:
+        same(ended(bqd, "--help", stdout=full), Ended(1, None, b"bqd: write failed\n"))
+
+
+def run_version(bqd):
+    """The version goes to standard output."""
+    tells_version(bqd, "bqd")
+
+
+def run_cannot_listen(bqd):
+    """An address that is taken, one without a port, and a text that is none."""
+    wanted = Ended(1, b"", b"bqd: cannot listen\n")
+    with socket.create_server((LOOPBACK, 0)) as listener:
+        same(ended(bqd, "--listen", f"{LOOPBACK}:{listener.getsockname()[1]}"), wanted)
+    same(ended(bqd, "--listen", LOOPBACK), wanted)
+    same(ended(bqd, "--listen", ""), wanted)
+
+
+def run_one_client(bqd):
+    """It tells where it listens, serves a client there, and ends with status 0 once its seat has ended."""
+    with Server(bqd, "--seats", "1", "--sessions", "1") as server:
+        same(server.told, f"listening {LOOPBACK}:{server.port}\n".encode())
+        client = server.client()
+        client.asks(b"put 5 0 10 3\r\nabc\r\n", b"INSERTED 1\r\n")
+        client.asks(b"reserve\r\n", b"RESERVED 1 3\r\nabc\r\n")
+        client.asks(b"delete 1\r\n", b"DELETED\r\n")
+        client.sends(b"quit\r\n")
+        client.hears_end()
+        same(server.end(), Ended(0, b"", b""))
+
+
+def run_listens_there_alone(bqd):
+    """It listens at the address that is chosen, and at no other of the machine."""
+    with Server(bqd, "--seats", "1") as server:
+        server.client().asks(b"list-tube-used\r\n", b"USING default\r\n")
+        with socket.socket() as other:
+            same(other.connect_ex(("127.0.0.2", server.port)) != 0, True)
+
+
+def run_chosen_port(bqd):
+    """Port 0 takes a free one, which is told."""
+    with Server(bqd, listen=["--listen", f"{LOOPBACK}:0"]) as server:
+        address, _, port = server.told.decode().rstrip("\n").rpartition(":")
+        same(address, f"listening {LOOPBACK}")
+        server.port = int(port)
+        server.client().asks(b"list-tube-used\r\n", b"USING default\r\n")
+
+
+def run_words_of_beanstalkd(bqd):
+    """Address, port and size of bodies can be chosen by -l, -p and -z."""
+    port = free_port()
+    words = ["-l", LOOPBACK, "-p", str(port), "-z", "3"]
+    with Server(bqd, "--seats", "1", listen=words, port=port) as server:
+        same(server.told, f"listening {LOOPBACK}:{port}\n".encode())
+        client = server.client()
+        client.asks(b"put 0 0 9 4\r\nabcd\r\n", b"JOB_TOO_BIG\r\n")
+        client.asks(b"put 0 0 9 3\r\nabc\r\n", b"INSERTED 1\r\n")
+
+
+def run_drain(bqd):
+    """The line drain on standard input begins draining: puts are refused, and jobs are handed out."""
+    with Server(bqd, "--seats", "1", "--sessions", "1") as server:
+        client = server.client()
+        server.control(b"other\ndraining\n dra")
+        client.asks(b"put 0 0 9 1\r\nx\r\n", b"INSERTED 1\r\n")
+        server.control(b"in\ndrain\n")
+        is_draining = False
+        for _ in range(10000):
+            client.sends(b"put 0 0 9 1\r\ny\r\n")
+            if client.stream.recv(64) == b"DRAINING\r\n":
+                is_draining = True
+                break
+        same(is_draining, True)
+        client.asks(b"put 0 0 9 1\r\nx\r\n", b"DRAINING\r\n")
+        client.asks(b"reserve\r\n", b"RESERVED 1 1\r\nx\r\n")
+        client.asks(b"delete 1\r\n", b"DELETED\r\n")
+        client.close()
+        same(server.end(), Ended(0, b"", b""))
+
+
+def run_ends_with_its_input(bqd):
+    """It ends once all seats and standard input have ended, and not before."""
+    with Server(bqd, "--seats", "1", "--sessions", "1") as server:
+        client = server.client()
+        client.sends(b"quit\r\n")
+        client.hears_end()
+        same(server.goes_on(0.2), True)
+        same(server.end(), Ended(0, b"", b""))
+
+
+def run_goes_on_behind_its_input(bqd):
+    """It serves as long as seats do, also when standard input has ended."""
+    with Server(bqd, "--seats", "1", "--sessions", "2") as server:
+        server.process.stdin.close()
+        for _ in range(2):
+            client = server.client()
+            client.asks(b"list-tube-used\r\n", b"USING default\r\n")
+            client.close()
+        same(server.process.wait(20), 0)
+
+
+def run_one_seat(bqd):
+    """One seat serves one client at a time; the next one is served when that has gone."""
+    with Server(bqd, "--seats", "1") as server:
+        first, second = server.client(), server.client()
+        first.asks(b"list-tube-used\r\n", b"USING default\r\n")
+        second.sends(b"list-tube-used\r\n")
+        second.hears_nothing(0.2)
+        first.close()
+        second.hears(b"USING default\r\n")
+
+
+def run_seats_unless_chosen(bqd):
+    """There are 16 seats unless chosen."""
+    with Server(bqd) as server:
+        for _ in range(16):
+            server.client().asks(b"list-tube-used\r\n", b"USING default\r\n")
+        last = server.client()
+        last.sends(b"list-tube-used\r\n")
+        last.hears_nothing(0.2)
+
+
+def run_most_seats(bqd):
+    """256 clients are served at a time, also where each waits for what the last one puts."""
+    with Server(bqd, "--seats", "256", "--sessions", "1") as server:
+        clients = [server.client() for _ in range(256)]
+        for client in clients:
+            client.asks(b"list-tube-used\r\n", b"USING default\r\n")
+        putter = clients.pop()
+        for client in clients:
+            client.sends(b"reserve\r\n")
+        putter.asks(b"put 0 0 9 1\r\nx\r\n" * 255, b"".join(b"INSERTED %d\r\n" % (k + 1) for k in range(255)))
+        heard = set()
+        for client in clients:
+            client.hears(b"RESERVED ")
+            heard.add(int(client.stream.makefile("rb", buffering=0).readline().split()[0]))
+            client.close()
+        putter.close()
+        same(heard, set(range(1, 256)))
+        same(server.end(), Ended(0, b"", b""))
+
+
+def run_sizes(bqd):
+    """A body may have 65,535 bytes unless chosen, and as many as are chosen: 1 to 1,048,576."""
+    for words, most in [([], 65535), (["--max-job-size", "1048576"], 1048576), (["--max-job-size", "1"], 1)]:
+        body = b"x" * most
+        with Server(bqd, "--seats", "1", "--sessions", "1", *words) as server:
+            client = server.client()
+            client.asks(b"put 0 0 9 %d\r\n%sy\r\n" % (most + 1, body), b"JOB_TOO_BIG\r\n")
+            client.asks(b"put 0 0 9 %d\r\n%s\r\n" % (most, body), b"INSERTED 1\r\n")
+            client.asks(b"reserve\r\n", b"RESERVED 1 %d\r\n%s\r\n" % (most, body))
+            client.close()
+            same(server.end(), Ended(0, b"", b""))
+
+
+def run_wait(bqd):
+    """A client that waits is given the job that another one puts."""
+    with Server(bqd, "--seats", "2", "--sessions", "1") as server:
+        one, other = server.client(), server.client()
+        one.sends(b"reserve\r\n")
+        other.asks(b"put 5 0 10 3\r\nabc\r\n", b"INSERTED 1\r\n")
+        one.hears(b"RESERVED 1 3\r\nabc\r\n")
+        one.close()
+        other.close()
+        same(server.end(), Ended(0, b"", b""))
+
+
+def run_put_goes_on_at_once(bqd):
+    """A job that is put goes to a client that waits as soon as it is put, once at least."""
+    with Server(bqd, "--seats", "2") as server:
+        one, other = server.client(), server.client()
+        for number in range(1, TRIES + 1):
+            one.sends(b"reserve\r\n")
+            time.sleep(0.02)
+            start = time.monotonic()
+            other.sends(b"put 0 0 9 1\r\nx\r\n")
+            one.hears(b"RESERVED %d 1\r\nx\r\n" % number)
+            took = time.monotonic() - start
+            other.hears(b"INSERTED %d\r\n" % number)
+            if took <= LATE:
+                return
+    raise AssertionError("it was handed out late each time")
+
+
+def run_lease_goes_on_in_time(bqd):
+    """A lease of a silent client ends never before its time, and once at least as soon as it is over."""
+    with Server(bqd, "--seats", "2") as server:
+        one, other = server.client(), server.client()
+        for number in range(1, TRIES + 1):
+            start = time.monotonic()
+            one.sends(b"put 0 0 1 1\r\nx\r\nreserve\r\n")
+            one.hears(b"INSERTED %d\r\nRESERVED %d 1\r\nx\r\n" % (number, number))
+            other.sends(b"reserve\r\n")
+            other.hears(b"RESERVED %d 1\r\nx\r\n" % number)
+            took = time.monotonic() - start
+            other.asks(b"delete %d\r\n" % number, b"DELETED\r\n")
+            # The server counts whole milliseconds.
+            same(took >= 0.999, True)
+            if took <= 1 + LATE:
+                return
+    raise AssertionError("the lease was passed on late each time")
+
+
+def run_output_unwritten(bqd):
+    """Where standard output takes nothing, it serves all the same."""
+    port = free_port()
+    with open("/dev/full", "wb") as full:
+        words = [f"{LOOPBACK}:{port}", "--seats", "1", "--sessions", "1"]
+        with Server(bqd, listen=["--listen", *words], stdout=full, port=port) as server:
+            client = server.client()
+            client.asks(b"list-tube-used\r\n", b"USING default\r\n")
+            client.close()
+            same(server.end(), Ended(0, None, b""))
+
+
+def run_not_accepted(bqd):
+    """A seat that is refused a file descriptor ends, and that is told once all have ended, with status 1."""
+    told = b"bqd: a connection could not be accepted\n"
+    # Its streams and its listener.
+    with Server(bqd, "--seats", "2", before=limits(NOFILE=4)) as server:
+        same(server.end(), Ended(1, b"", told))
+    # One more: one seat serves its client, and the other one ends meanwhile.
+    with Server(bqd, "--seats", "2", "--sessions", "1", before=limits(NOFILE=5)) as server:
+        client = server.client()
+        client.asks(b"list-tube-used\r\n", b"USING default\r\n")
+        awaits(lambda: server.threads() <= 2)
+        client.close()
+        same(server.end(), Ended(1, b"", told))
+
+
+def run_thread_refused(bqd):
+    """Where a seat's thread is refused, nobody is served, with status 1."""
+    with Server(bqd, "--seats", "256", before=limits(AS=512 << 20)) as server:
+        same(server.end(), Ended(1, b"", b"bqd: a thread was refused\n"))
+
+
+def run_no_memory(bqd):
+    """Memory that is refused from the first request on is told on standard error, with status 1."""
+    has_no_memory(bqd, "bqd", "--listen", f"{LOOPBACK}:0")

@@ -1,0 +1,125 @@
+"""A server that runs, and its clients."""
+import os
+import select
+import socket
+import subprocess
+import time
+
+from programs import PATIENCE, Ended, same
+
+
+def free_port():
+    """A port of the loopback at which nobody listens."""
+    with socket.create_server(("127.0.0.1", 0)) as listener:
+        return listener.getsockname()[1]
+
+
+def awaits(is_so):
+    """Waits until something is so."""
+    for _ in range(1000):
+        if is_so():
+            return
+        time.sleep(0.01)
+    raise AssertionError("it never came about")
+
+
+def connected(port):
+    """A connection to a server, which may not listen yet where it can't tell that."""
+    for _ in range(1000):
+        try:
+            return socket.create_connection(("127.0.0.1", port), PATIENCE)
+        except ConnectionRefusedError:
+            time.sleep(0.01)
+    raise AssertionError("nobody listens")
+
+
+class Server:
+    """bqd with these words behind the address, 127.0.0.1 and a port that is free unless given.
+
+    What it told of its address is in `told`. Its standard input stays open until it is left.
+    """
+
+    def __init__(self, bqd, *words, listen=None, port=None, stdout=subprocess.PIPE, before=None):
+        self.port = port or free_port()
+        self.process = subprocess.Popen(
+            [bqd, *(listen or ["--listen", f"127.0.0.1:{self.port}"]), *words],
+            stdin=subprocess.PIPE,
+            stdout=stdout,
+            stderr=subprocess.PIPE,
+            preexec_fn=before,
+        )
+        self.clients = []
+        self.told = self.process.stdout.readline() if self.process.stdout else None
+
+    def __enter__(self):
+        return self
+
+    def __exit__(self, *why):
+        for client in self.clients:
+            client.close()
+        if self.process.poll() is None:
+            self.process.kill()
+            self.process.communicate()
+
+    def client(self):
+        """A client that is connected."""
+        client = Client(self.port)
+        self.clients.append(client)
+        return client
+
+    def control(self, line):
+        """Sends bytes on the control line, and leaves it open."""
+        self.process.stdin.write(line)
+        self.process.stdin.flush()
+
+    def threads(self):
+        """How many threads the server has now."""
+        return len(os.listdir(f"/proc/{self.process.pid}/task"))
+
+    def goes_on(self, seconds):
+        """Whether the server hasn't ended so many seconds later."""
+        try:
+            self.process.wait(seconds)
+            return False
+        except subprocess.TimeoutExpired:
+            return True
+
+    def end(self):
+        """Ends the control line, and waits for the end of the server."""
+        output, errors = self.process.communicate(b"", PATIENCE)
+        return Ended(self.process.returncode, output, errors)
+
+
+class Client:
+    """A connection to a server."""
+
+    def __init__(self, port):
+        self.stream = connected(port)
+
+    def sends(self, text):
+        self.stream.sendall(text)
+
+    def hears(self, text):
+        """That these bytes come next."""
+        heard = b""
+        while len(heard) < len(text):
+            piece = self.stream.recv(len(text) - len(heard))
+            if not piece:
+                break
+            heard += piece
+        same(heard, text)
+
+    def asks(self, text, answer):
+        self.sends(text)
+        self.hears(answer)
+
+    def hears_nothing(self, seconds):
+        """That no byte comes for so many seconds."""
+        came, _, _ = select.select([self.stream], [], [], seconds)
+        same(came, [])
+
+    def hears_end(self):
+        same(self.stream.recv(1), b"")
+
+    def close(self):
+        self.stream.close()
