@@ -33,8 +33,6 @@ mod shares;
 mod state;
 mod statistics_acts;
 mod tally;
-#[cfg(test)]
-mod tests;
 mod texts;
 mod timers;
 mod tube_acts;

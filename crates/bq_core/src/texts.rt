@@ -6,5 +6,3 @@ mod builder;
 mod key_value;
 mod names;
 mod statistics;
-#[cfg(test)]
-mod tests;

@@ -1,0 +1,77 @@
+//! A core beside the room for its answers.
+ghost use Rattle.std.specs.Prelude.{◌≡◌};
+
+use bq_core::{Config, Core, Outs};
+use bq_job::{Answer, Moment, Request, Seat, Step};
+use std::alloc::Global;
+use std::marker::Model;
+use std::test::Fail;
+
+/// A core and its answers.
+#[derive(Drop)]
+pub(crate) struct Bench {
+    core: Core,
+    outs: Outs,
+}
+
+impl Model for Bench {
+    ghost use Rattle.std.specs.Prelude.{◌<◌};
+
+    ghost Value = { Unit {0} };
+
+    ghost view = { λ _. tt };
+
+    // The answers of each step find room.
+    ghost invariant = { λ b. b.core.machine.settings.seats < b.outs.most };
+}
+
+/// So many seats, and bodies of so many bytes.
+pub(crate) fn config(seats: u16, max_job_size: u32) -> Config
+    ensures { result.seats ≡ seats }
+{
+    Config {
+        seats,
+        max_job_size,
+    }
+}
+
+impl Bench {
+    /// A new core, where nobody is connected.
+    pub(crate) fn new(alloc: Global, seats: u16, max_job_size: u32) -> Result<Bench, Fail> {
+        let core = Core::new(alloc, config(seats, max_job_size))?;
+        let outs = Outs::new(alloc, seats)?;
+        Ok(Bench { core, outs })
+    }
+
+    pub(crate) fn step(&mut self, at: Moment, seat: Seat, what: Step) {
+        self.core.step(at, seat, what, &mut self.outs);
+    }
+
+    /// The client at the seat asks, at the first moment.
+    pub(crate) fn ask(&mut self, seat: Seat, request: Request) {
+        self.step(0, seat, Step::Ask(request));
+    }
+
+    /// Takes out the oldest answer of the last step.
+    pub(crate) fn answer(&mut self) -> Option<(Seat, Answer)> {
+        self.outs.take_first()
+    }
+
+    /// Whether the last step left its command out for want of memory.
+    pub(crate) fn left_out(&self) -> bool {
+        self.outs.left_out()
+    }
+
+    /// Whether memory was ample in the last step.
+    pub(crate) fn was_ample(&self) -> bool {
+        !self.outs.left_out() && !self.outs.unshared()
+    }
+
+    pub(crate) fn next_due(&mut self) -> Option<Moment> {
+        self.core.next_due()
+    }
+
+    pub(crate) fn comparisons(&self) -> u64 {
+        self.core.comparisons()
+    }
+}

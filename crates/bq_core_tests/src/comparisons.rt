@@ -1,0 +1,173 @@
+//! How many comparisons a step makes.
+use crate::bench::Bench;
+use crate::event::{Do, tube};
+use crate::play::{Example, start, take_all};
+use crate::scale::put_jobs;
+use crate::want::Want;
+use bq_job::{Answer, Request, Seat, Step};
+use std::alloc::Global;
+use std::test::Fail;
+
+/// How many clients wait at seats from 1 on.
+const WAITERS: u16 = 200;
+
+static HAND_OUT: &[Example] = &[(0, 0, Do::Reserve, &[(0, Want::Reserved(1, b"x"))])];
+
+static NOTHING_DUE: &[Example] = &[(0, 0, Do::Tick, &[])];
+
+static PUT: &[Example] = &[(0, 0, Do::Put(0, 0, 9, b"x"), &[(0, Want::Inserted(1))])];
+
+static CALM: &[Example] = &[
+    (0, 0, Do::Put(0, 5, 9, b"x"), &[(0, Want::Inserted(1))]),
+    (0, 0, Do::Release(1, 0, 0), &[(0, Want::NotFound)]),
+    (0, 0, Do::Bury(1, 0), &[(0, Want::NotFound)]),
+    (0, 0, Do::KickJob(7), &[(0, Want::NotFound)]),
+    (0, 0, Do::PauseTube(b"default", 5), &[(0, Want::Paused)]),
+    (0, 0, Do::End, &[]),
+];
+
+static ONE_HELD: &[Example] = &[
+    (0, 0, Do::Put(0, 0, 99, b"x"), &[(0, Want::Inserted(1))]),
+    (0, 0, Do::Reserve, &[(0, Want::Reserved(1, b"x"))]),
+];
+
+/// No job changes. Who waits watches 200 tubes, and who asks one. There is one job: 2 * 1 + 2 has three
+/// binary digits.
+const MOST_AT_THE_END: u64 = (0 + 8) * (201 + 16) * 2 * 3;
+
+// How many comparisons the steps make, which are answered as the examples say.
+fn comparisons_of(
+    alloc: Global,
+    bench: &mut Bench,
+    examples: &'static [Example],
+) -> Result<u64, Fail> {
+    let before = bench.comparisons();
+    take_all(alloc, bench, ("comparisons", examples))?;
+    Ok(bench.comparisons().saturating_sub(before))
+}
+
+// Else the failure tells both numbers.
+fn at_most(made: u64, most: u64) -> Result<(), Fail> {
+    if made <= most {
+        Ok(())
+    } else {
+        Err(Fail::from((made, most)))
+    }
+}
+
+fn compare_steps(alloc: Global, bench: &mut Bench) -> Result<(), Fail> {
+    put_jobs(alloc, bench, 10_000)?;
+    let reserve = comparisons_of(alloc, bench, HAND_OUT)?;
+    at_most(reserve, 4590)?;
+    at_most(1, reserve)?;
+    let tick = comparisons_of(alloc, bench, NOTHING_DUE)?;
+    at_most(tick, 3840)
+}
+
+#[test]
+fn comparisons_of_a_step(rt: HostRuntime) -> Result<(), Fail> {
+    let mut bench = start(rt.alloc())?;
+    compare_steps(rt.alloc(), &mut bench)
+}
+
+// The client at this seat watches an empty tube alone.
+fn watch_empty(bench: &mut Bench, seat: Seat) -> Result<(), Fail> {
+    bench.step(0, seat, Step::Connect);
+    bench.ask(
+        seat,
+        Request::Watch {
+            tube: tube(b"empty")?,
+        },
+    );
+    bench.ask(
+        seat,
+        Request::Ignore {
+            tube: tube(b"default")?,
+        },
+    );
+    Ok(())
+}
+
+// Clients watch another tube than the client at seat 0, and wait or don't.
+fn watch_all(bench: &mut Bench, do_wait: bool) -> Result<(), Fail> {
+    bench.step(0, 0, Step::Connect);
+    for number in 0..WAITERS {
+        watch_empty(bench, number + 1)?;
+        if do_wait {
+            bench.ask(number + 1, Request::Reserve);
+        }
+    }
+    Ok(())
+}
+
+// How many comparisons these steps make beside those clients.
+fn comparisons_beside(
+    alloc: Global,
+    do_wait: bool,
+    examples: &'static [Example],
+) -> Result<u64, Fail> {
+    let mut bench = Bench::new(alloc, 256, 10)?;
+    watch_all(&mut bench, do_wait)?;
+    comparisons_of(alloc, &mut bench, examples)
+}
+
+#[test]
+fn waiters_of_another_tube_cost_little(rt: HostRuntime) -> Result<(), Fail> {
+    let without = comparisons_beside(rt.alloc(), false, PUT)?;
+    let with = comparisons_beside(rt.alloc(), true, PUT)?;
+    let most = without.saturating_add(2 * u64::from(WAITERS));
+    at_most(with, most)
+}
+
+// Where no job becomes ready and nobody begins to wait, no tube is asked for the clients that wait: of each step's
+// two parts either asks at most for the first end of a time to run.
+#[test]
+fn calm_steps_ask_for_no_waiter(rt: HostRuntime) -> Result<(), Fail> {
+    let without = comparisons_beside(rt.alloc(), false, CALM)?;
+    let with = comparisons_beside(rt.alloc(), true, CALM)?;
+    let most = without.saturating_add(48);
+    at_most(with, most)
+}
+
+// Clients begin to wait, each for a second.
+fn let_wait(bench: &mut Bench) {
+    for number in 0..WAITERS {
+        bench.step(0, number + 1, Step::Connect);
+        bench.ask(number + 1, Request::ReserveWithTimeout { seconds: 1 });
+    }
+}
+
+// The waits of so many clients have ended in the last step.
+fn have_all_timed_out(bench: &mut Bench) -> bool {
+    for _ in 0..WAITERS {
+        if !matches!(bench.answer(), Some((_, Answer::TimedOut))) {
+            return false;
+        }
+    }
+    bench.answer().is_none()
+}
+
+// How many comparisons the step makes in which they end.
+fn comparisons_of_the_end(bench: &mut Bench) -> u64 {
+    let before = bench.comparisons();
+    bench.step(1000, 0, Step::Tick);
+    bench.comparisons().saturating_sub(before)
+}
+
+fn end_waits(alloc: Global, bench: &mut Bench) -> Result<(), Fail> {
+    bench.step(0, 0, Step::Connect);
+    take_all(alloc, bench, ("one_held", ONE_HELD))?;
+    let_wait(bench);
+    at_most(comparisons_of_the_end(bench), MOST_AT_THE_END)?;
+    if have_all_timed_out(bench) {
+        Ok(())
+    } else {
+        Err(Fail::from("somebody waits on"))
+    }
+}
+
+#[test]
+fn waits_that_end_together_cost_little(rt: HostRuntime) -> Result<(), Fail> {
+    let mut bench = Bench::new(rt.alloc(), 256, 10)?;
+    end_waits(rt.alloc(), &mut bench)
+}

@@ -1,0 +1,30 @@
+//! The tests of the core, which use its public calls alone. The answers are found by hand, by the rules
+//! of the queue.
+#![tactic(auto)]
+
+#[cfg(test)]
+mod bench;
+#[cfg(test)]
+mod comparisons;
+#[cfg(test)]
+mod each_answer;
+#[cfg(test)]
+mod event;
+#[cfg(test)]
+mod large_bodies;
+#[cfg(test)]
+mod many_tubes;
+#[cfg(test)]
+mod new_core;
+#[cfg(test)]
+mod no_memory;
+#[cfg(test)]
+mod one_tube;
+#[cfg(test)]
+mod play;
+#[cfg(test)]
+mod scale;
+#[cfg(test)]
+mod statistics;
+#[cfg(test)]
+mod want;

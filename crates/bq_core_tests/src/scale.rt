@@ -1,0 +1,159 @@
+//! Many jobs and many tubes: each is put, used, watched and listed.
+use crate::bench::Bench;
+use crate::event::{Do, tube};
+use crate::play::{Example, start, take_all};
+use crate::want::Want;
+use bq_job::{Answer, Body, Request, Seat};
+use std::alloc::Global;
+use std::test::Fail;
+
+/// How many tubes there are beside the default tube.
+const TUBES: u32 = 1200;
+
+static AMONG_MANY_TUBES: &[Example] = &[
+    (
+        0,
+        1,
+        Do::Stats,
+        &[(1, Want::Tells(b"current-jobs-ready: 1200\n"))],
+    ),
+    (
+        0,
+        1,
+        Do::Stats,
+        &[(1, Want::Tells(b"current-tubes: 1201\n"))],
+    ),
+    (0, 1, Do::Reserve, &[(1, Want::Reserved(1, b"x"))]),
+];
+
+fn is_inserted(answer: &Option<(Seat, Answer)>, number: u32) -> bool {
+    matches!(answer, Some((0, Answer::Inserted(id))) if *id == u64::from(number))
+}
+
+// A put of the client at seat 0, which is accepted under this number.
+fn put(alloc: Global, bench: &mut Bench, number: u32) -> Result<(), Fail> {
+    let put = Request::Put {
+        pri: number,
+        delay: 0,
+        ttr: 9,
+        body: Body::new(alloc, b"x")?,
+    };
+    bench.ask(0, put);
+    if !is_inserted(&bench.answer(), number) {
+        return Err(Fail::from(number));
+    }
+    Ok(())
+}
+
+/// So many jobs more are put, of which the first is the most urgent, into a core that had none.
+pub(crate) fn put_jobs(alloc: Global, bench: &mut Bench, jobs: u32) -> Result<(), Fail> {
+    for number in 1..=jobs {
+        put(alloc, bench, number)?;
+    }
+    Ok(())
+}
+
+#[test]
+fn many_jobs(rt: HostRuntime) -> Result<(), Fail> {
+    let mut bench = start(rt.alloc())?;
+    put_jobs(rt.alloc(), &mut bench, 25_000)
+}
+
+// A name of 200 bytes. Names are in the order of their numbers.
+fn long_name(number: u32) -> [u8; 200] {
+    let mut name = [b'a'; 200];
+    name[0] = b'0' + (number / 1000 % 10) as u8;
+    name[1] = b'0' + (number / 100 % 10) as u8;
+    name[2] = b'0' + (number / 10 % 10) as u8;
+    name[3] = b'0' + (number % 10) as u8;
+    name
+}
+
+// The name of a turn: another order than that of the names' bytes.
+fn name_of(turn: u32) -> [u8; 200] {
+    long_name(turn.saturating_mul(7) % TUBES)
+}
+
+// Puts of the client at seat 0 go into this tube.
+fn is_using(answer: &Option<(Seat, Answer)>, name: &[u8]) -> bool {
+    match answer {
+        Some((0, Answer::Using(used))) => used.as_slice() == name,
+        _ => false,
+    }
+}
+
+// The client at seat 1 watches so many tubes.
+fn is_watching(answer: &Option<(Seat, Answer)>, tubes: u32) -> bool {
+    matches!(answer, Some((1, Answer::Watching(count))) if *count == u64::from(tubes))
+}
+
+// The client at seat 0 uses each tube in turn, and puts a job there.
+fn use_tubes(alloc: Global, bench: &mut Bench) -> Result<(), Fail> {
+    for turn in 0..TUBES {
+        let name = name_of(turn);
+        bench.ask(0, Request::Use { tube: tube(&name)? });
+        if !is_using(&bench.answer(), &name) {
+            return Err(Fail::from(("used", turn)));
+        }
+        put(alloc, bench, turn + 1)?;
+    }
+    Ok(())
+}
+
+// The client at seat 1 watches each tube.
+fn watch_tubes(bench: &mut Bench) -> Result<(), Fail> {
+    for turn in 0..TUBES {
+        let tube = tube(&name_of(turn))?;
+        bench.ask(1, Request::Watch { tube });
+        if !is_watching(&bench.answer(), turn + 2) {
+            return Err(Fail::from(("watched", turn)));
+        }
+    }
+    Ok(())
+}
+
+// The list of the long names and of the default tube.
+fn list_of_tubes(alloc: Global) -> Result<Vec<u8, Global>, Fail> {
+    let mut list = Vec::from_slice(alloc, b"---\n")?;
+    for number in 0..TUBES {
+        list.extend_from_slice(b"- ")?;
+        list.extend_from_slice(&long_name(number))?;
+        list.extend_from_slice(b"\n")?;
+    }
+    list.extend_from_slice(b"- default\n")?;
+    Ok(list)
+}
+
+// The client at seat 1 is shown this list.
+fn is_shown(bench: &mut Bench, request: Request, list: &[u8]) -> bool {
+    bench.ask(1, request);
+    match bench.answer() {
+        Some((1, Answer::Ok(text))) => text.as_slice() == list,
+        _ => false,
+    }
+}
+
+// Both lists have all names.
+fn see_lists(alloc: Global, bench: &mut Bench) -> Result<(), Fail> {
+    let list = list_of_tubes(alloc)?;
+    if is_shown(bench, Request::ListTubes, &list)
+        && is_shown(bench, Request::ListTubesWatched, &list)
+    {
+        Ok(())
+    } else {
+        Err(Fail::from("a list"))
+    }
+}
+
+fn see_tubes(alloc: Global, bench: &mut Bench) -> Result<(), Fail> {
+    use_tubes(alloc, bench)?;
+    watch_tubes(bench)?;
+    see_lists(alloc, bench)?;
+    take_all(alloc, bench, ("many_tubes", AMONG_MANY_TUBES))
+}
+
+#[test]
+fn many_tubes(rt: HostRuntime) -> Result<(), Fail> {
+    let mut bench = start(rt.alloc())?;
+    see_tubes(rt.alloc(), &mut bench)
+}
