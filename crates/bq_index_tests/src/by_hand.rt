@@ -2,31 +2,53 @@
 
 use crate::putting::put;
 use bq_index::{NoMemory, Shelf};
+use std::process::Abort;
 use std::test::Fail;
+
+fn room(shelf: &Shelf<u64, char>) -> (usize, usize) {
+    (shelf.len(), shelf.spare())
+}
+
+fn next(shelf: &mut Shelf<u64, char>, key: u64) -> Option<(u64, char)> {
+    shelf.next_from(&key).map(|(key, value)| (*key, *value))
+}
+
+fn put_two(rt: &impl Abort, shelf: &mut Shelf<u64, char>) {
+    assert!(rt; room(shelf) == (0, 2));
+    assert!(rt; put(shelf, 5, 'a'));
+    assert!(rt; put(shelf, 3, 'b'));
+    assert!(rt; room(shelf) == (2, 0));
+}
+
+fn look_on(rt: &impl Abort, shelf: &mut Shelf<u64, char>) {
+    assert!(rt; next(shelf, 4) == Some((5, 'a')));
+    assert!(rt; next(shelf, 3) == Some((3, 'b')));
+    assert!(rt; next(shelf, 6).is_none());
+}
+
+fn take_out(rt: &impl Abort, shelf: &mut Shelf<u64, char>) {
+    assert!(rt; shelf.remove(&4).is_none() && room(shelf) == (2, 0));
+    assert!(rt; shelf.remove(&3) == Some('b'));
+    assert!(rt; room(shelf) == (1, 1));
+}
+
+fn write_over(rt: &impl Abort, shelf: &mut Shelf<u64, char>) {
+    if let Some(value) = shelf.get_mut(&5) {
+        *value = 'c';
+    }
+    assert!(rt; shelf.get(&5) == Some(&'c'));
+    assert!(rt; shelf.get(&3).is_none());
+}
 
 #[test]
 fn shelf_by_hand(rt: HostRuntime) -> Result<(), Fail> {
     let mut shelf: Shelf<u64, char> = Shelf::new();
-    assert_eq!(rt;
-        (shelf.len(), shelf.spare(), shelf.comparisons()),
-        (0, 0, 0)
-    );
+    assert!(rt; room(&shelf) == (0, 0) && shelf.comparisons() == 0);
     shelf.reserve(rt.alloc(), 2)?;
-    assert!(rt; put(&mut shelf, 5, 'a'));
-    assert!(rt; put(&mut shelf, 3, 'b'));
-    assert_eq!(rt; (shelf.len(), shelf.spare()), (2, 0));
-    assert_eq!(rt; shelf.next_from(&4), Some((&5, &'a')));
-    assert_eq!(rt; shelf.next_from(&3), Some((&3, &'b')));
-    assert_eq!(rt; shelf.next_from(&6), None);
-    assert_eq!(rt; shelf.remove(&4), None);
-    assert_eq!(rt; shelf.spare(), 0);
-    assert_eq!(rt; shelf.remove(&3), Some('b'));
-    assert_eq!(rt; (shelf.len(), shelf.spare()), (1, 1));
-    if let Some(value) = shelf.get_mut(&5) {
-        *value = 'c';
-    }
-    assert_eq!(rt; shelf.get(&5), Some(&'c'));
-    assert_eq!(rt; shelf.get(&3), None);
+    put_two(&rt, &mut shelf);
+    look_on(&rt, &mut shelf);
+    take_out(&rt, &mut shelf);
+    write_over(&rt, &mut shelf);
     Ok(())
 }
 

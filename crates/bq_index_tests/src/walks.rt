@@ -3,6 +3,7 @@ ghost use Rattle.std.specs.Prelude.{Bool};
 
 use bq_index::{Change, NoMemory, Shelf, Test, Visitor};
 use std::alloc::Global;
+use std::process::Abort;
 use std::test::Fail;
 
 /// What was shown last.
@@ -57,24 +58,43 @@ fn four(alloc: Global) -> Result<Shelf<u64, u64>, NoMemory> {
     Ok(shelf)
 }
 
+fn pair(found: Option<(&u64, &u64)>) -> Option<(u64, u64)> {
+    found.map(|(key, value)| (*key, *value))
+}
+
+fn peek_two(rt: &impl Abort, shelf: &Shelf<u64, u64>) {
+    assert!(rt; shelf.peek(&3) == Some(&30));
+    assert!(rt; shelf.peek(&5).is_none());
+}
+
+fn find_first(rt: &impl Abort, shelf: &Shelf<u64, u64>) {
+    assert!(rt; pair(shelf.first(&Is(20))) == Some((2, 20)));
+    assert!(rt; shelf.first(&Is(50)).is_none());
+    assert!(rt; pair(shelf.first_from(&2, &Is(30))) == Some((3, 30)));
+    assert!(rt; shelf.first_from(&4, &Is(30)).is_none());
+}
+
+fn list_four(rt: &impl Abort, alloc: Global, shelf: &Shelf<u64, u64>) -> Result<(), Fail> {
+    let list = shelf.list(alloc)?;
+    assert!(rt; list.as_slice() == [(&1, &10), (&2, &20), (&3, &30), (&4, &40)].as_slice());
+    Ok(())
+}
+
+fn last_of(shelf: &Shelf<u64, u64>) -> (u64, u64) {
+    let mut last = Last { key: 0, value: 0 };
+    shelf.walk(&mut last);
+    (last.key, last.value)
+}
+
 #[test]
 fn reads_that_count_nothing(rt: HostRuntime) -> Result<(), Fail> {
     let shelf = four(rt.alloc())?;
     let before = shelf.comparisons();
-    assert_eq!(rt; shelf.peek(&3), Some(&30));
-    assert_eq!(rt; shelf.peek(&5), None);
-    assert_eq!(rt; shelf.first(&Is(20)), Some((&2, &20)));
-    assert_eq!(rt; shelf.first(&Is(50)), None);
-    assert_eq!(rt; shelf.first_from(&2, &Is(30)), Some((&3, &30)));
-    assert_eq!(rt; shelf.first_from(&4, &Is(30)), None);
-    assert_eq!(rt;
-        shelf.list(rt.alloc())?.as_slice(),
-        [(&1, &10), (&2, &20), (&3, &30), (&4, &40)].as_slice()
-    );
-    let mut last = Last { key: 0, value: 0 };
-    shelf.walk(&mut last);
-    assert_eq!(rt; (last.key, last.value), (4, 40));
-    assert_eq!(rt; shelf.comparisons(), before);
+    peek_two(&rt, &shelf);
+    find_first(&rt, &shelf);
+    list_four(&rt, rt.alloc(), &shelf)?;
+    assert!(rt; last_of(&shelf) == (4, 40));
+    assert!(rt; shelf.comparisons() == before);
     Ok(())
 }
 
@@ -82,8 +102,7 @@ fn reads_that_count_nothing(rt: HostRuntime) -> Result<(), Fail> {
 fn each_value_is_changed(rt: HostRuntime) -> Result<(), Fail> {
     let mut shelf = four(rt.alloc())?;
     shelf.change_all(&Become(7));
-    assert_eq!(rt; shelf.first_from(&4, &Is(7)), Some((&4, &7)));
-    assert_eq!(rt; shelf.peek(&1), Some(&7));
-    assert_eq!(rt; shelf.len(), 4);
+    assert!(rt; pair(shelf.first_from(&4, &Is(7))) == Some((4, 7)));
+    assert!(rt; shelf.peek(&1) == Some(&7) && shelf.len() == 4);
     Ok(())
 }
