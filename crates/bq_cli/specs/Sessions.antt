@@ -1,19 +1,23 @@
 -- What a client is promised whose session is over.
 use Rattle.std.specs.Prelude.{ℕ, List, Option}
-use Rattle.bq_core.specs.State.{settings_of}
 use Rattle.bq_job.specs.declared.line_end.LineEnd.{LineEnd}
 use Rattle.bq_job.specs.Headline.{IsHistoryOfLine}
 use Rattle.bq_job.specs.LineSteps.{LineSeen}
+use Rattle.bq_job.specs.declared.settings.Settings.{Settings}
 use Rattle.bq_cli.specs.Ranges.{AreInRange}
 use Rattle.bq_cli.specs.declared.chosen.Options.{Options}
 use Rattle.bq_cli.specs.declared.chosen.Program.TheVariants.{Bq}
+
+-- what the options say to a run
+abbrev pub settings_of : Options → Settings
+settings_of options = record
+    { seats = options.seats; max_job_size = options.max_job_size; max_jobs = options.max_jobs; requeue_delay = options.requeue_delay }
 
 -- There is one history of the client's steps, each at the moment of one of these readings. The one-list machine
 -- takes it by these options, and the line was written exactly what it is owed along it.
 abbrev pub IsSession : Options → LineSeen → LineEnd → Type 0
 IsSession options seen end =
-    let settings = settings_of (record { seats = options.seats; max_job_size = options.max_job_size }) in
-    (readings : List (Option ℕ)) × IsHistoryOfLine settings 0 (record { seen = seen; over = end }) readings
+    (readings : List (Option ℕ)) × IsHistoryOfLine (settings_of options) 0 (record { seen = seen; over = end }) readings
 
 -- The same by some options that are in their ranges.
 abbrev pub IsSessionFor : LineSeen → LineEnd → Type 0

@@ -19,7 +19,11 @@ const LISTEN: &str = "listen";
 
 const MAX_JOB_SIZE: &str = "max-job-size";
 
+const MAX_JOBS: &str = "max-jobs";
+
 const PORT: &str = "port";
+
+const REQUEUE_DELAY: &str = "requeue-delay";
 
 const SEATS: &str = "seats";
 
@@ -73,7 +77,8 @@ fn bq_command<'a>(alloc: Global) -> Result<Command<'a>, AllocError> {
         .version(VERSION)
         .about("Serves one client of a work queue over standard input and output")
         .arg(still_arg(alloc))?
-        .arg(max_job_size_arg(alloc))
+        .arg(max_job_size_arg(alloc))?
+        .arg(max_jobs_arg(alloc))
 }
 
 fn bqd_command<'a>(alloc: Global) -> Result<Command<'a>, AllocError> {
@@ -84,6 +89,8 @@ fn bqd_command<'a>(alloc: Global) -> Result<Command<'a>, AllocError> {
         .arg(port_arg(alloc))?
         .arg(seats_arg(alloc))?
         .arg(max_job_size_arg(alloc).short('z'))?
+        .arg(max_jobs_arg(alloc))?
+        .arg(requeue_delay_arg(alloc))?
         .arg(sessions_arg(alloc))
 }
 
@@ -138,6 +145,24 @@ fn max_job_size_arg<'a>(alloc: Global) -> Arg<'a> {
         .value_parser(clap::value_parser!(u32).range(1..=i64::from(LARGEST_BODY)))
 }
 
+fn max_jobs_arg<'a>(alloc: Global) -> Arg<'a> {
+    Arg::new(alloc, MAX_JOBS)
+        .long(MAX_JOBS)
+        .value_name("N")
+        .help("How many jobs there can be at a time, 1 to 4294967295; no limit unless chosen")
+        .value_parser(clap::value_parser!(u32).range(1..=4_294_967_295))
+}
+
+fn requeue_delay_arg<'a>(alloc: Global) -> Arg<'a> {
+    Arg::new(alloc, REQUEUE_DELAY)
+        .long(REQUEUE_DELAY)
+        .value_name("SECONDS")
+        .help(
+            "For how long a job of a lost connection is delayed, 0 to 4294967295; 0 unless chosen",
+        )
+        .value_parser(clap::value_parser!(u32).range(0..=4_294_967_295))
+}
+
 // The parser has refused numbers that are out of range; the bounds here say so where they are read.
 
 fn max_job_size(asked: Option<u32>) -> u32
@@ -158,14 +183,15 @@ fn seats(asked: Option<u16>) -> u16
     asked.unwrap_or(USUAL_SEATS).clamp(1, MOST_SEATS)
 }
 
-fn sessions(asked: Option<u32>) -> Option<u32>
+// A number that may be left out: how many connections a seat serves, or how many jobs there can be.
+fn count(asked: Option<u32>) -> Option<u32>
     ensures least { IfSome result (λ k. 1 ≤ k) }
-    ensures endless { asked ≡ None → result ≡ None }
+    ensures left_out { asked ≡ None → result ≡ None }
     ensures chosen { (many : ℕ) → asked ≡ Some many → 1 ≤ many → result ≡ Some many }
 {
     match asked {
         None => None,
-        Some(count) => Some(count.max(1)),
+        Some(many) => Some(many.max(1)),
     }
 }
 
@@ -196,6 +222,8 @@ fn bq_chosen(matches: &ArgMatches<'_>) -> Options
         still: matches.get_flag(STILL),
         seats: 1,
         max_job_size: max_job_size(matches.get_one::<u32>(MAX_JOB_SIZE)),
+        max_jobs: count(matches.get_one::<u32>(MAX_JOBS)),
+        requeue_delay: 0,
         sessions: None,
     }
 }
@@ -211,7 +239,9 @@ fn bqd_chosen(alloc: Global, matches: &ArgMatches<'_>) -> Result<Options, Option
         still: false,
         seats: seats(matches.get_one::<u16>(SEATS)),
         max_job_size: max_job_size(matches.get_one::<u32>(MAX_JOB_SIZE)),
-        sessions: sessions(matches.get_one::<u32>(SESSIONS)),
+        max_jobs: count(matches.get_one::<u32>(MAX_JOBS)),
+        requeue_delay: matches.get_one::<u32>(REQUEUE_DELAY).unwrap_or(0),
+        sessions: count(matches.get_one::<u32>(SESSIONS)),
     })
 }
 

@@ -1,7 +1,7 @@
 //! All that `bq` does for its client, on any stream: from its words to how the client's line is over.
 ghost use Rattle.std.specs.Prelude.{◌≡◌, ◌≢◌, IfErr, IfOk};
 ghost use Rattle.bq_cli.specs.Ranges.{AreInRange};
-ghost use Rattle.bq_cli.specs.Sessions.{IsSession, IsSessionFor};
+ghost use Rattle.bq_cli.specs.Sessions.{IsSession, IsSessionFor, settings_of};
 
 use crate::chosen::{Options, Program};
 use crate::command_line::options;
@@ -87,11 +87,13 @@ fn serve_by<R: Wait, S: Read + Write + Drop, C: Clock + Drop>(
 
 /// What the options say to a run.
 pub(crate) fn config_of(options: &Options) -> Config
-    ensures { result ≡ record { seats = options.now.seats; max_job_size = options.now.max_job_size } }
+    ensures { result ≡ settings_of options.now }
 {
     Config {
         seats: options.seats,
         max_job_size: options.max_job_size,
+        max_jobs: options.max_jobs,
+        requeue_delay: options.requeue_delay,
     }
 }
 

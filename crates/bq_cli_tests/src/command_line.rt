@@ -117,6 +117,46 @@ fn options_of_bqd(rt: HostRuntime) -> Result<(), Fail> {
     Ok(())
 }
 
+/// The words that choose a limit on jobs and the delay of a lost connection's jobs, and what they choose.
+type OfLimits = (Program, &'static [&'static str], Option<u32>, u32);
+
+const OF_LIMITS: &[OfLimits] = &[
+    (Program::Bq, &["bq"], None, 0),
+    (Program::Bq, &["bq", "--max-jobs", "1"], Some(1), 0),
+    (Program::Bqd, &["bqd", "--listen", "a"], None, 0),
+    (
+        Program::Bqd,
+        &["bqd", "--listen", "a", "--max-jobs", "4294967295"],
+        Some(4_294_967_295),
+        0,
+    ),
+    (
+        Program::Bqd,
+        &["bqd", "--listen", "a", "--requeue-delay", "5"],
+        None,
+        5,
+    ),
+    (
+        Program::Bqd,
+        &["bqd", "--listen", "a", "--requeue-delay=4294967295"],
+        None,
+        4_294_967_295,
+    ),
+];
+
+#[test]
+fn limits_that_are_chosen(rt: HostRuntime) -> Result<(), Fail> {
+    for (program, words, max_jobs, requeue_delay) in OF_LIMITS {
+        match options(rt.alloc(), *program, *words) {
+            Ok(chosen) => {
+                assert!(rt; chosen.max_jobs == *max_jobs && chosen.requeue_delay == *requeue_delay);
+            }
+            Err(_) => return Err(Fail::from("no limits")),
+        }
+    }
+    Ok(())
+}
+
 const BAD: &[(Program, &[&str])] = &[
     (Program::Bq, &["bq", "--max-job-size", "0"]),
     (Program::Bq, &["bq", "--max-job-size", "1048577"]),
@@ -124,6 +164,8 @@ const BAD: &[(Program, &[&str])] = &[
     (Program::Bq, &["bq", "--still", "more"]),
     (Program::Bq, &["bq", "--listen", "a"]),
     (Program::Bq, &["bq", "-z", "1"]),
+    (Program::Bq, &["bq", "--max-jobs", "0"]),
+    (Program::Bq, &["bq", "--requeue-delay", "1"]),
     (Program::Bqd, &["bqd"]),
     (Program::Bqd, &["bqd", "-p", "11300"]),
     (Program::Bqd, &["bqd", "--listen", "a", "--still"]),
@@ -134,6 +176,14 @@ const BAD: &[(Program, &[&str])] = &[
     (
         Program::Bqd,
         &["bqd", "--listen", "a", "--sessions", "4294967296"],
+    ),
+    (
+        Program::Bqd,
+        &["bqd", "--listen", "a", "--max-jobs", "4294967296"],
+    ),
+    (
+        Program::Bqd,
+        &["bqd", "--listen", "a", "--requeue-delay", "4294967296"],
     ),
     (Program::Bqd, &["bqd", "--listen"]),
 ];

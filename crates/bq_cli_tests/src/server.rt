@@ -326,6 +326,8 @@ fn options(seats: u16, sessions: u32) -> Options {
         still: false,
         seats,
         max_job_size: 65535,
+        max_jobs: None,
+        requeue_delay: 0,
         sessions: Some(sessions),
     }
 }

@@ -32,6 +32,8 @@ pub(crate) fn config(seats: u16, max_job_size: u32) -> Config
     Config {
         seats,
         max_job_size,
+        max_jobs: None,
+        requeue_delay: 0,
     }
 }
 
