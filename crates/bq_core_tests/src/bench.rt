@@ -25,7 +25,7 @@ impl Model for Bench {
     ghost invariant = { λ b. b.core.machine.settings.seats < b.outs.most };
 }
 
-/// So many seats, and bodies of so many bytes.
+/// So many seats, bodies of so many bytes, and nothing else chosen.
 pub(crate) fn config(seats: u16, max_job_size: u32) -> Config
     ensures { result.seats ≡ seats }
 {
@@ -40,8 +40,13 @@ pub(crate) fn config(seats: u16, max_job_size: u32) -> Config
 impl Bench {
     /// A new core, where nobody is connected.
     pub(crate) fn new(alloc: Global, seats: u16, max_job_size: u32) -> Result<Bench, Fail> {
-        let core = Core::new(alloc, config(seats, max_job_size))?;
-        let outs = Outs::new(alloc, seats)?;
+        Bench::of(alloc, config(seats, max_job_size))
+    }
+
+    /// A new core of this configuration, where nobody is connected.
+    pub(crate) fn of(alloc: Global, config: Config) -> Result<Bench, Fail> {
+        let core = Core::new(alloc, config)?;
+        let outs = Outs::new(alloc, config.seats)?;
         Ok(Bench { core, outs })
     }
 

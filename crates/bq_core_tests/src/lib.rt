@@ -13,6 +13,8 @@ mod event;
 #[cfg(test)]
 mod large_bodies;
 #[cfg(test)]
+mod limits;
+#[cfg(test)]
 mod many_tubes;
 #[cfg(test)]
 mod new_core;
@@ -22,6 +24,8 @@ mod no_memory;
 mod one_tube;
 #[cfg(test)]
 mod play;
+#[cfg(test)]
+mod requeue;
 #[cfg(test)]
 mod scale;
 #[cfg(test)]

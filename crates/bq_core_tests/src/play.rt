@@ -1,7 +1,8 @@
 //! Tables of steps, taken and answered.
-use crate::bench::Bench;
+use crate::bench::{Bench, config};
 use crate::event::{Do, step_of};
 use crate::want::{Want, is_wanted};
+use bq_core::Config;
 use bq_job::{Moment, Seat, Step};
 use std::alloc::Global;
 use std::test::Fail;
@@ -51,7 +52,12 @@ pub(crate) fn take_all(alloc: Global, bench: &mut Bench, scene: Scene) -> Result
 
 /// A core with four seats and bodies of 10 bytes, where the first three are connected.
 pub(crate) fn start(alloc: Global) -> Result<Bench, Fail> {
-    let mut bench = Bench::new(alloc, 4, 10)?;
+    start_with(alloc, config(4, 10))
+}
+
+// A core of this configuration, where the first three seats are connected.
+fn start_with(alloc: Global, config: Config) -> Result<Bench, Fail> {
+    let mut bench = Bench::of(alloc, config)?;
     for seat in 0..3 {
         bench.step(0, seat, Step::Connect);
     }
@@ -60,8 +66,13 @@ pub(crate) fn start(alloc: Global) -> Result<Bench, Fail> {
 
 /// Each scene is played, from its start.
 pub(crate) fn play(alloc: Global, scenes: &[Scene]) -> Result<(), Fail> {
+    play_with(alloc, config(4, 10), scenes)
+}
+
+/// Each scene is played, from the start of a core of this configuration.
+pub(crate) fn play_with(alloc: Global, config: Config, scenes: &[Scene]) -> Result<(), Fail> {
     for scene in scenes {
-        let mut bench = start(alloc)?;
+        let mut bench = start_with(alloc, config)?;
         take_all(alloc, &mut bench, *scene)?;
     }
     Ok(())
