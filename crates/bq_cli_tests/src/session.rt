@@ -75,7 +75,7 @@ struct Example {
     arrives: &'static str,
 }
 
-static EXAMPLES: [Example; 6] = [
+static EXAMPLES: [Example; 7] = [
     Example {
         words: &[],
         sends: "put 5 0 10 3\r\nabc\r\nquit\r\n",
@@ -99,6 +99,14 @@ static EXAMPLES: [Example; 6] = [
         room: 100,
         end: LineEnd::EndOfInput,
         arrives: "JOB_TOO_BIG\r\nINSERTED 1\r\n",
+    },
+    Example {
+        words: &["--still", "--max-jobs", "1"],
+        sends: "put 0 0 9 1\r\nx\r\nput 0 0 9 1\r\ny\r\nreserve\r\nput 0 0 9 1\r\nz\r\ndelete 1\r\nput 0 0 9 1\r\nw\r\n",
+        behind: Behind::SendsNoMore,
+        room: 100,
+        end: LineEnd::EndOfInput,
+        arrives: "INSERTED 1\r\nOUT_OF_MEMORY\r\nRESERVED 1 1\r\nx\r\nOUT_OF_MEMORY\r\nDELETED\r\nINSERTED 2\r\n",
     },
     Example {
         words: &[],
