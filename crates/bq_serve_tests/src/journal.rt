@@ -1,0 +1,142 @@
+//! The journal of a run around a lock: a core by itself is given it entry by entry, and what each line was
+//! written is what that core answers.
+ghost use Rattle.std.specs.Prelude.{◌≡◌, ◌<◌};
+
+use crate::doors::CountedDoor;
+use bq_core::{Config, Core, CoreFault, Outs};
+use bq_job::{Answer, Entry, LineEnd, Moment, Seat, Step};
+use bq_serve::LockedRun;
+use bq_serve::clock::ScriptClock;
+use bq_wire::{HeadBuf, answer_body, answer_head, answer_tail};
+use std::alloc::Global;
+use std::process::Abort;
+use std::test::Fail;
+
+/// What stands behind each line in the joined text of a seat. No answer has it.
+const LINE_OVER: u8 = 0;
+
+/// A core by itself.
+#[derive(Drop)]
+pub struct Alone {
+    core: Core,
+    outs: Outs,
+    ghost room: { core.machine.settings.seats < outs.most },
+}
+
+impl Alone {
+    fn new(alloc: Global, config: Config) -> Result<Alone, Fail> {
+        let core = Core::new(alloc, config)?;
+        let outs = Outs::new(alloc, config.seats)?;
+        Ok(Alone { core, outs })
+    }
+
+    /// A core of so many seats.
+    pub fn of(alloc: Global, core: Core, seats: u16) -> Result<Alone, Fail>
+        requires { core.machine.settings.seats ≡ seats }
+    {
+        let outs = Outs::new(alloc, seats)?;
+        Ok(Alone { core, outs })
+    }
+
+    /// Takes a step, and says whether its command was left out for want of memory.
+    pub fn step(&mut self, at: Moment, seat: Seat, what: Step) -> bool {
+        self.core.step(at, seat, what, &mut self.outs);
+        self.outs.left_out()
+    }
+
+    /// Adds the answers of the last step to one seat.
+    pub fn add_answers(&mut self, text: &mut Vec<u8, Global>, seat: Seat) -> Result<(), Fail> {
+        while let Some((to, answer)) = self.outs.take_first() {
+            if to == seat {
+                add_answer(text, &answer)?;
+            }
+        }
+        Ok(())
+    }
+}
+
+/// Adds the text of an answer. A line that is closed has its mark.
+pub fn add_answer(text: &mut Vec<u8, Global>, answer: &Answer) -> Result<(), Fail> {
+    if let Answer::Closed = answer {
+        text.push(LINE_OVER)?;
+        return Ok(());
+    }
+    let mut head = HeadBuf::new();
+    answer_head(answer, &mut head);
+    text.extend_from_slice(head.as_slice())?;
+    text.extend_from_slice(answer_body(answer))?;
+    text.extend_from_slice(answer_tail(answer))?;
+    Ok(())
+}
+
+/// The joined texts of what a new core answers a seat, where it is given these entries.
+pub fn replayed(
+    rt: &impl Abort,
+    alloc: Global,
+    config: Config,
+    entries: &[Entry],
+    seat: Seat,
+) -> Result<Vec<u8, Global>, Fail> {
+    let mut text: Vec<u8> = Vec::new(alloc);
+    let mut alone = Alone::new(alloc, config)?;
+    for entry in entries {
+        let step = entry.step.share()?;
+        let left_out = alone.step(entry.moment, entry.seat, step);
+        assert!(rt; left_out == entry.left_out);
+        alone.add_answers(&mut text, seat)?;
+    }
+    Ok(text)
+}
+
+// What was written at a door, each line with the mark of its end.
+fn written(alloc: Global, door: &CountedDoor) -> Result<Vec<u8, Global>, Fail> {
+    let mut text: Vec<u8> = Vec::new(alloc);
+    for over in door.door.over() {
+        text.extend_from_slice(over.0.written())?;
+        text.push(LINE_OVER)?;
+    }
+    Ok(text)
+}
+
+// Whether a line of the door had no room for all of its answers.
+fn is_cut_off(door: &CountedDoor) -> bool {
+    for over in door.door.over() {
+        if over.1 == LineEnd::WriteFault {
+            return true;
+        }
+    }
+    false
+}
+
+/// How often a seat went, by these entries.
+pub fn times_gone(entries: &[Entry], seat: Seat) -> u64 {
+    let mut times: u64 = 0;
+    for entry in entries {
+        if entry.seat == seat && matches!(entry.step, Step::Gone) {
+            times = times.saturating_add(1);
+        }
+    }
+    times
+}
+
+/// The journal is whole, each seat and the control line went once, and at each door that was written which
+/// a core by itself answers, where there was room for it.
+pub fn expect_whole_journal(
+    rt: &impl Abort,
+    alloc: Global,
+    config: Config,
+    run: &LockedRun<CountedDoor, ScriptClock>,
+) -> Result<(), Fail> {
+    let entries = run.locked.journal();
+    assert!(rt; run.locked.whole());
+    assert!(rt; times_gone(entries, config.seats) == 1);
+    let mut seat: Seat = 0;
+    for door in run.doors.as_slice() {
+        assert!(rt; times_gone(entries, seat) == 1);
+        let text = written(alloc, door)?;
+        let wanted = replayed(rt, alloc, config, entries, seat)?;
+        assert!(rt; text.as_slice() == wanted.as_slice() || is_cut_off(door));
+        seat = seat.saturating_add(1);
+    }
+    Ok(())
+}

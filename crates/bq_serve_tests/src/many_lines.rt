@@ -1,0 +1,153 @@
+//! Worked runs over doors, by hand. Each is played in turn once, and around a lock many times.
+
+use crate::clients::{Client, Does, INSERTED, Outcome, PUTS, RESERVED, ROOM, WAITS};
+use crate::doors::are_left_so;
+use crate::runs::{Way, served};
+use bq_job::LineEnd;
+use std::alloc::Global;
+use std::process::Abort;
+use std::sync::Wait;
+use std::sync::atomic::{AtomicU64, Ordering};
+use std::test::Fail;
+use std::thread::Threads;
+
+/// How often each run around a lock is made.
+const TIMES: usize = 10;
+
+/// Clients at each door, and what comes of them.
+type Example = (
+    &'static [&'static [Client<'static>]],
+    &'static [&'static [Outcome<'static>]],
+);
+
+static EXAMPLES: [Example; 10] = [
+    // No client at all.
+    (&[&[], &[]], &[&[], &[]]),
+    // A job of a lost line.
+    (
+        &[&[
+            (&[Does::Sends("put 0 0 9 1\r\nx\r\nreserve\r\n")], ROOM),
+            (&[Does::Sends("reserve\r\nquit\r\n")], ROOM),
+        ]],
+        &[&[
+            ("INSERTED 1\r\nRESERVED 1 1\r\nx\r\n", LineEnd::EndOfInput),
+            ("RESERVED 1 1\r\nx\r\n", LineEnd::Quit),
+        ]],
+    ),
+    // A job of a lost line, for another door.
+    (
+        &[
+            &[(
+                &[
+                    Does::Sends("put 0 0 9 1\r\nx\r\nreserve\r\n"),
+                    Does::Awaits(29),
+                ],
+                ROOM,
+            )],
+            &[(&[Does::Sends("reserve\r\n"), Does::Awaits(17)], ROOM)],
+        ],
+        &[
+            &[("INSERTED 1\r\nRESERVED 1 1\r\nx\r\n", LineEnd::EndOfInput)],
+            &[("RESERVED 1 1\r\nx\r\n", LineEnd::EndOfInput)],
+        ],
+    ),
+    // A job of a broken line.
+    (
+        &[&[
+            (&[Does::Sends("put 0 0 9 1\r\nx\r\nreserve\r\n")], 20),
+            (&[Does::Sends("reserve\r\nquit\r\n")], ROOM),
+        ]],
+        &[&[
+            ("INSERTED 1\r\nRESERVED", LineEnd::WriteFault),
+            ("RESERVED 1 1\r\nx\r\n", LineEnd::Quit),
+        ]],
+    ),
+    // A wait across doors.
+    (
+        &[&[(WAITS, ROOM)], &[(PUTS, ROOM)]],
+        &[
+            &[(RESERVED, LineEnd::EndOfInput)],
+            &[(INSERTED, LineEnd::EndOfInput)],
+        ],
+    ),
+    // Only the second door has a client.
+    (
+        &[&[], &[(PUTS, ROOM)]],
+        &[&[], &[(INSERTED, LineEnd::EndOfInput)]],
+    ),
+    // A fault after an answer.
+    (
+        &[&[(&[Does::Sends("put 0 0 9 1\r\nx\r\nput"), Does::Fails], ROOM)]],
+        &[&[(INSERTED, LineEnd::ReadFault)]],
+    ),
+    // A fault behind a wait.
+    (
+        &[&[(&[Does::Sends("reserve\r\n"), Does::Fails], ROOM)]],
+        &[&[("", LineEnd::ReadFault)]],
+    ),
+    // A fault behind a wait that was answered.
+    (
+        &[
+            &[(
+                &[Does::Sends("reserve\r\n"), Does::Awaits(19), Does::Fails],
+                ROOM,
+            )],
+            &[(PUTS, ROOM)],
+        ],
+        &[
+            &[(RESERVED, LineEnd::ReadFault)],
+            &[(INSERTED, LineEnd::EndOfInput)],
+        ],
+    ),
+    // A fault behind a put.
+    (
+        &[
+            &[(WAITS, ROOM)],
+            &[(&[Does::Sends("put 5 0 10 3\r\nabc\r\n"), Does::Fails], ROOM)],
+        ],
+        &[
+            &[(RESERVED, LineEnd::EndOfInput)],
+            &[(INSERTED, LineEnd::ReadFault)],
+        ],
+    ),
+];
+
+// How many lines come, and how often no more do.
+fn opens_of(clients: &[&[Client]]) -> u64 {
+    let mut opens: u64 = 0;
+    for clients in clients {
+        opens = opens.saturating_add(clients.len() as u64).saturating_add(1);
+    }
+    opens
+}
+
+// Whether the run comes out so. Each door is opened for each of its lines, and once more.
+fn is_right<R: Threads + Wait + Abort + Sync>(
+    rt: &R,
+    alloc: Global,
+    way: Way,
+    example: &Example,
+) -> Result<bool, Fail> {
+    let (clients, outcomes) = *example;
+    let opened = AtomicU64::new(0);
+    let doors = served(rt, alloc, way, clients, &opened)?;
+    Ok(
+        are_left_so(doors.as_slice(), outcomes)
+            && opened.load(Ordering::SeqCst) == opens_of(clients),
+    )
+}
+
+#[test]
+fn worked_runs(rt: HostRuntime) -> Result<(), Fail> {
+    let alloc = rt.alloc();
+    let mut number: u64 = 0;
+    for example in &EXAMPLES {
+        let mut right = is_right(&rt, alloc, Way::InTurn, example)?;
+        for _ in 0..TIMES {
+            right = is_right(&rt, alloc, Way::AroundALock, example)? && right;
+        }
+        assert!(rt; right, "example {number}");
+        number = number.saturating_add(1);
+    }
+    Ok(())
+}

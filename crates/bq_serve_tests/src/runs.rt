@@ -1,0 +1,172 @@
+//! Runs: of one line, of doors in turn, and of doors around a lock.
+ghost use Rattle.std.specs.Prelude.{◌≡◌, IfOk};
+
+use crate::clients::{Client, STILL, clock};
+use crate::control::{Control, Gives};
+use crate::doors::{CountedDoor, NewDoors, doors};
+use crate::journal::expect_whole_journal;
+use bq_core::Config;
+use bq_job::{Moment, USUAL_BODY};
+use bq_serve::clock::ScriptClock;
+use bq_serve::line::{MemLine, Part};
+use bq_serve::{LockedRun, One, Run, RunFault, run_locked, run_one, run_sessions};
+use std::alloc::Global;
+use std::process::Abort;
+use std::sync::Wait;
+use std::sync::atomic::AtomicU64;
+use std::test::Fail;
+use std::thread::Threads;
+
+/// Room in a journal for all steps of a run, the ticks among them too.
+pub const JOURNAL_ROOM: usize = 2000;
+
+/// A control line that has nothing to say.
+pub const SILENT: &[Gives] = &[];
+
+pub fn config(seats: u16, max_job_size: u32) -> Config
+    ensures { result.seats ≡ seats }
+{
+    Config {
+        seats,
+        max_job_size,
+        max_jobs: None,
+        requeue_delay: 0,
+    }
+}
+
+/// A run of one line, which has these parts, by a clock of these readings.
+pub fn on_one_line<R: Wait>(
+    rt: &R,
+    alloc: Global,
+    config: Config,
+    parts: Vec<Part, Global>,
+    room: usize,
+    readings: &[Option<Moment>],
+) -> Result<One<MemLine, ScriptClock>, RunFault> {
+    let Ok(line) = MemLine::new(alloc, parts, room) else {
+        return Err(RunFault::NoMemory);
+    };
+    let Ok(clock) = clock(alloc, readings) else {
+        return Err(RunFault::NoMemory);
+    };
+    run_one(rt, alloc, config, line, clock)
+}
+
+/// A run in turn over doors at which these clients come, by a clock that stands still.
+pub fn in_turn<'c, R: Threads + Wait + Sync>(
+    rt: &R,
+    alloc: Global,
+    config: Config,
+    clients: &[&[Client]],
+    control: &'static [Gives],
+    opened: &'c AtomicU64,
+) -> Result<Run<CountedDoor<'c>, ScriptClock, Control>, RunFault>
+    ensures { IfOk result (λ run. run.core.machine.settings.seats ≡ config.seats) }
+{
+    let Ok(doors) = doors(alloc, clients, opened) else {
+        return Err(RunFault::NoMemory);
+    };
+    in_turn_at(rt, alloc, config, doors, control)
+}
+
+/// The same at these doors.
+pub fn in_turn_at<'c, R: Threads + Wait + Sync>(
+    rt: &R,
+    alloc: Global,
+    config: Config,
+    doors: NewDoors<'c>,
+    control: &'static [Gives],
+) -> Result<Run<CountedDoor<'c>, ScriptClock, Control>, RunFault>
+    ensures { IfOk result (λ run. run.core.machine.settings.seats ≡ config.seats) }
+{
+    let Ok(clock) = clock(alloc, STILL) else {
+        return Err(RunFault::NoMemory);
+    };
+    run_sessions(rt, alloc, config, doors.all, clock, Control::new(control))
+}
+
+/// A run around a lock over doors at which these clients come, by a clock of these readings.
+pub fn around_a_lock<'c, R: Threads + Wait + Sync>(
+    rt: &R,
+    alloc: Global,
+    config: Config,
+    clients: &[&[Client]],
+    readings: &[Option<Moment>],
+    control: &'static [Gives],
+    room: usize,
+    opened: &'c AtomicU64,
+) -> Result<LockedRun<CountedDoor<'c>, ScriptClock>, RunFault> {
+    let Ok(doors) = doors(alloc, clients, opened) else {
+        return Err(RunFault::NoMemory);
+    };
+    around_a_lock_at(rt, alloc, config, doors, readings, control, room)
+}
+
+/// The same at these doors.
+pub fn around_a_lock_at<'c, R: Threads + Wait + Sync>(
+    rt: &R,
+    alloc: Global,
+    config: Config,
+    doors: NewDoors<'c>,
+    readings: &[Option<Moment>],
+    control: &'static [Gives],
+    room: usize,
+) -> Result<LockedRun<CountedDoor<'c>, ScriptClock>, RunFault> {
+    let Ok(clock) = clock(alloc, readings) else {
+        return Err(RunFault::NoMemory);
+    };
+    let control = Control::new(control);
+    run_locked(rt, alloc, config, doors.all, clock, control, room)
+}
+
+/// How doors are served.
+#[derive(Clone, Copy)]
+pub enum Way {
+    InTurn,
+    AroundALock,
+}
+
+pub const WAYS: &[Way] = &[Way::InTurn, Way::AroundALock];
+
+// The doors of these clients, once they were served in turn.
+fn served_in_turn<'c, R: Threads + Wait + Sync>(
+    rt: &R,
+    alloc: Global,
+    config: Config,
+    clients: &[&[Client]],
+    opened: &'c AtomicU64,
+) -> Result<Vec<CountedDoor<'c>, Global>, RunFault> {
+    match in_turn(rt, alloc, config, clients, SILENT, opened) {
+        Ok(run) => Ok(run.doors),
+        Err(fault) => Err(fault),
+    }
+}
+
+// The same around a lock. The journal has to be whole, and to give what was written.
+fn served_around_a_lock<'c, R: Threads + Wait + Abort + Sync>(
+    rt: &R,
+    alloc: Global,
+    config: Config,
+    clients: &[&[Client]],
+    opened: &'c AtomicU64,
+) -> Result<Vec<CountedDoor<'c>, Global>, Fail> {
+    let room = JOURNAL_ROOM;
+    let run = around_a_lock(rt, alloc, config, clients, STILL, SILENT, room, opened)?;
+    expect_whole_journal(rt, alloc, config, &run)?;
+    Ok(run.doors)
+}
+
+/// The doors of these clients, once they are served.
+pub fn served<'c, R: Threads + Wait + Abort + Sync>(
+    rt: &R,
+    alloc: Global,
+    way: Way,
+    clients: &[&[Client]],
+    opened: &'c AtomicU64,
+) -> Result<Vec<CountedDoor<'c>, Global>, Fail> {
+    let config = config(clients.len().min(256) as u16, USUAL_BODY);
+    match way {
+        Way::InTurn => Ok(served_in_turn(rt, alloc, config, clients, opened)?),
+        Way::AroundALock => served_around_a_lock(rt, alloc, config, clients, opened),
+    }
+}
