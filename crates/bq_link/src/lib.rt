@@ -17,5 +17,3 @@ mod intake;
 mod laws;
 mod making;
 mod seat_end;
-#[cfg(test)]
-mod tests;

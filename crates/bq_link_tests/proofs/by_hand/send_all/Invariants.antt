@@ -1,6 +1,6 @@
 -- the end stays the same one
 use Rattle.bq_link.specs.EndStates.{IsSameCore}
-use Rattle.bq_link.proofs.tests.send_all.Given as goal
+use Rattle.bq_link_tests.proofs.by_hand.send_all.Given as goal
 
 abbrev pub invariant-loop-id : goal.invariant-loop-id
 invariant-loop-id l = IsSameCore l.fn.core l.core

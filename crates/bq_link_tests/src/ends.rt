@@ -1,0 +1,114 @@
+//! Ends to test, and what they do in more than one test.
+ghost use Rattle.std.specs.Prelude.{◌≡◌, ◌+◌, ◌<◌, ◌≤◌, All, IfOk, length, ⊤};
+ghost use Rattle.bq_link.specs.EndStates.{IsPair, IsSameCore, IsSameSeat};
+
+use bq_job::{NoMemory, Seat, Step};
+use bq_link::{CoreEnd, Intake, Record, SeatEnd, links};
+use std::alloc::Global;
+use std::sync::Wait;
+use std::thread;
+
+/// Nothing is asked of the steps.
+pub struct Anything;
+
+impl Record for Anything {
+    ghost was = { λ taken waiting. ⊤ };
+}
+
+/// The intake of all tests.
+pub type Shared = Intake<Anything>;
+
+/// The links of so many seats: the intake, the core's end, the last seat's and the control line's.
+pub fn last_ends(alloc: Global, count: u16) -> Result<(Shared, CoreEnd, SeatEnd, SeatEnd), NoMemory>
+    requires { (1 ≤ count) × (count ≤ 256) }
+    ensures core { IfOk result (λ r. r.1.intake ≡ r.0.id) }
+    ensures rings { IfOk result (λ r. length r.1.rings ≡ count + 1) }
+    ensures first { IfOk result (λ r. IsPair r.1 r.2) }
+    ensures second { IfOk result (λ r. IsPair r.1 r.3) }
+{
+    let (intake, core, mut seats) = links(alloc, count)?;
+    let second = seats.pop().unwrap();
+    let first = seats.pop().unwrap();
+    Ok((intake, core, first, second))
+}
+
+/// The links of four seats, without the control line's end: the intake, the core's end and the seats'.
+pub type Four = (Shared, CoreEnd, (SeatEnd, SeatEnd), (SeatEnd, SeatEnd));
+
+// Takes out the last end.
+fn last_end(intake: &Shared, seats: &mut Vec<SeatEnd>) -> SeatEnd
+    requires some { 0 < length seats.old.items }
+    requires here { All (λ s. s.intake ≡ intake.now.id) seats.old.items }
+    ensures end { result.intake ≡ intake.now.id }
+    ensures here { All (λ s. s.intake ≡ intake.now.id) seats.new.items }
+    ensures count { length seats.old.items ≡ length seats.new.items + 1 }
+{
+    seats.pop().unwrap()
+}
+
+pub fn links_of_four(alloc: Global) -> Result<Four, NoMemory>
+    ensures core { IfOk result (λ r. r.1.intake ≡ r.0.id) }
+    ensures first { IfOk result (λ r. (r.2.0.intake ≡ r.0.id) × (r.2.1.intake ≡ r.0.id)) }
+    ensures second { IfOk result (λ r. (r.3.0.intake ≡ r.0.id) × (r.3.1.intake ≡ r.0.id)) }
+{
+    let (intake, core, mut seats) = links(alloc, 4)?;
+    let _control = last_end(&intake, &mut seats);
+    let a = last_end(&intake, &mut seats);
+    let b = last_end(&intake, &mut seats);
+    let c = last_end(&intake, &mut seats);
+    let d = last_end(&intake, &mut seats);
+    Ok((intake, core, (a, b), (c, d)))
+}
+
+/// Submits a step, again and again while the intake is full.
+pub fn submit_one<R: Wait>(rt: &R, intake: &Shared, end: &mut SeatEnd, step: Step)
+    requires { end.old.intake ≡ intake.now.id }
+    ensures { end.new.intake ≡ end.old.intake }
+{
+    let mut step = step;
+    for _ in rt.forever() {
+        match end.submit(rt, intake, step) {
+            Ok(()) => return,
+            Err(back) => step = back,
+        }
+        thread::yield_now();
+    }
+    unreachable!()
+}
+
+/// Whether the intake had room for a step.
+pub fn submits<R: Wait>(rt: &R, intake: &Shared, end: &mut SeatEnd, step: Step) -> bool
+    requires { end.old.intake ≡ intake.now.id }
+    ensures { IsSameSeat end.old end.new }
+{
+    end.submit(rt, intake, step).is_ok()
+}
+
+/// Whether the core takes a step of the end with this number, and which it is.
+pub fn takes<R: Wait>(rt: &R, intake: &Shared, core: &mut CoreEnd, seat: Seat) -> Option<Did>
+    requires { core.old.intake ≡ intake.now.id }
+    ensures { IsSameCore core.old core.new }
+{
+    match core.take(rt, intake) {
+        Some((from, step)) if from == seat => Some(kind_of(&step)),
+        _ => None,
+    }
+}
+
+/// The steps of these tests.
+#[derive(Clone, Copy, PartialEq, Eq)]
+pub enum Did {
+    Connect,
+    Tick,
+    Drain,
+    Other,
+}
+
+fn kind_of(step: &Step) -> Did {
+    match step {
+        Step::Connect => Did::Connect,
+        Step::Tick => Did::Tick,
+        Step::Drain => Did::Drain,
+        _ => Did::Other,
+    }
+}

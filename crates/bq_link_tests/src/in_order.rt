@@ -1,0 +1,142 @@
+//! Seats that submit numbered steps from threads of their own, which the core takes once and in order.
+ghost use Rattle.std.specs.Prelude.{◌≡◌};
+
+use crate::ends::{Shared, last_ends, links_of_four, submit_one};
+use bq_job::{Request, Seat, Step};
+use bq_link::{CoreEnd, SeatEnd};
+use std::sync::Wait;
+use std::test::Fail;
+use std::thread;
+use std::thread::Threads;
+
+// Submits touches of the jobs from 1 on, so many.
+fn submit_all<R: Wait>(rt: &R, intake: &Shared, end: SeatEnd, count: u64)
+    requires { end.intake ≡ intake.now.id }
+{
+    let mut end = end;
+    for id in 0..count {
+        submit_one(
+            rt,
+            intake,
+            &mut end,
+            Step::Ask(Request::Touch { id: id + 1 }),
+        );
+    }
+}
+
+fn take_one<R: Wait>(rt: &R, intake: &Shared, core: &mut CoreEnd) -> (Seat, Step)
+    requires { core.old.intake ≡ intake.now.id }
+    ensures { core.new.intake ≡ core.old.intake }
+{
+    for _ in rt.forever() {
+        if let Some(taken) = core.take(rt, intake) {
+            return taken;
+        }
+        thread::yield_now();
+    }
+    unreachable!()
+}
+
+// Takes so many steps, and says whether each seat's were its touches, once and in order.
+fn take_all<R: Wait>(rt: &R, intake: &Shared, core: CoreEnd, next: &mut [u64], count: u64) -> bool
+    requires { core.intake ≡ intake.now.id }
+{
+    let mut core = core;
+    for _taken in 0..count {
+        let (seat, step) = take_one(rt, intake, &mut core);
+        let (Some(want), Step::Ask(Request::Touch { id })) = (next.get_mut(usize::from(seat)), step)
+        else {
+            return false;
+        };
+        if *want != id {
+            return false;
+        }
+        *want = id.wrapping_add(1);
+    }
+    core.take(rt, intake).is_none()
+}
+
+// As many steps as each seat submits.
+const STEPS: u64 = 1000;
+
+fn submit_two<R: Threads + Wait + Sync>(rt: &R, intake: &Shared, a: SeatEnd, b: SeatEnd)
+    requires { (a.intake ≡ intake.now.id) × (b.intake ≡ intake.now.id) }
+{
+    thread::join(
+        rt,
+        move ||
+            requires { a.intake ≡ intake.now.id }
+        { submit_all(rt, intake, a, STEPS) },
+        move ||
+            requires { b.intake ≡ intake.now.id }
+        { submit_all(rt, intake, b, STEPS) },
+    );
+}
+
+fn two_beside_the_core<R: Threads + Wait + Sync>(
+    rt: &R,
+    intake: &Shared,
+    core: CoreEnd,
+    a: SeatEnd,
+    b: SeatEnd,
+    next: [u64; 2],
+) -> (bool, [u64; 2])
+    requires { (core.intake ≡ intake.now.id) × (a.intake ≡ intake.now.id) × (b.intake ≡ intake.now.id) }
+{
+    let (_, took) = thread::join(
+        rt,
+        move ||
+            requires { (a.intake ≡ intake.now.id) × (b.intake ≡ intake.now.id) }
+        { submit_two(rt, intake, a, b) },
+        move ||
+            requires { core.intake ≡ intake.now.id }
+        {
+            let mut next = next;
+            let in_order = take_all(rt, intake, core, &mut next, 2 * STEPS);
+            (in_order, next)
+        },
+    );
+    took
+}
+
+#[test]
+fn two_seats_in_order(rt: HostRuntime) -> Result<(), Fail> {
+    let (intake, core, first, second) = last_ends(rt.alloc(), 1)?;
+    let (in_order, next) = two_beside_the_core(&rt, &intake, core, first, second, [1, 1]);
+    assert!(rt; in_order);
+    assert_eq!(rt; next, [STEPS + 1, STEPS + 1]);
+    Ok(())
+}
+
+// Four seats submit 4,000 steps through an intake of ten places, so that many find it full and try again.
+#[test]
+fn four_seats_in_order(rt: HostRuntime) -> Result<(), Fail> {
+    let (intake, core, (a, b), (c, d)) = links_of_four(rt.alloc())?;
+    let shared = &intake;
+    let (_, (in_order, next)) = thread::join(
+        &rt,
+        move ||
+            requires { (a.intake ≡ shared.now.id) × (b.intake ≡ shared.now.id) × (c.intake ≡ shared.now.id) × (d.intake ≡ shared.now.id) }
+        {
+            thread::join(
+                &rt,
+                move ||
+                    requires { (a.intake ≡ shared.now.id) × (b.intake ≡ shared.now.id) }
+                { submit_two(&rt, shared, a, b) },
+                move ||
+                    requires { (c.intake ≡ shared.now.id) × (d.intake ≡ shared.now.id) }
+                { submit_two(&rt, shared, c, d) },
+            )
+        },
+        move ||
+            requires { core.intake ≡ shared.now.id }
+        {
+            let mut next = [1; 4];
+            let in_order = take_all(&rt, shared, core, &mut next, 4 * STEPS);
+            (in_order, next)
+        },
+    );
+    assert!(rt; in_order);
+    assert_eq!(rt; next, [STEPS + 1; 4]);
+    Ok(())
+}

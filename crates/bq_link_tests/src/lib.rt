@@ -1,0 +1,15 @@
+//! The tests of the links between seats and core. Each uses public calls alone.
+#![tactic(auto)]
+
+#[cfg(test)]
+mod bells;
+#[cfg(test)]
+mod by_hand;
+#[cfg(test)]
+mod ends;
+#[cfg(test)]
+mod in_order;
+#[cfg(test)]
+mod many_ends;
+#[cfg(test)]
+mod there_and_back;
