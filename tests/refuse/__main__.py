@@ -1,0 +1,75 @@
+"""Requests for memory refused in turn, over the programs that were built.
+
+    python3 tests/refuse --bq PATH --bqd PATH [--minutes M] [--self-check]
+
+A small library (refuse.c) is loaded before libc's own and answers the Nth request of the program with
+NULL. Each case is run for N = 1, 2, .. until a run ends in which no request was refused, and what the
+program did has to be one of the outcomes that the rules leave. Runs are bounded in count and in time, and
+servers listen on loopback alone. With --self-check programs that are broken on purpose (broken.py) are
+swept in place of these, and each has to be found. The last line is 'N passed, M failed'; the status is 1 where one failed.
+"""
+import argparse
+import pathlib
+import subprocess
+import sys
+import tempfile
+import time
+
+HERE = pathlib.Path(__file__).resolve().parent
+sys.path.insert(0, str(HERE.parent / "model"))
+sys.path.insert(0, str(HERE))
+
+from refusal import Host, Program  # noqa: E402
+import broken  # noqa: E402
+import server_cases  # noqa: E402
+import session_cases  # noqa: E402
+
+
+def library(folder):
+    """Builds the library that refuses."""
+    made = f"{folder}/librefuse.so"
+    subprocess.run(["cc", "-O2", "-shared", "-fPIC", "-o", made, HERE / "refuse.c", "-ldl"], check=True)
+    return made
+
+
+def broken_cases(bq, folder):
+    """A case for each broken program: it is well where the sweep finds it."""
+    for name, (turn, always) in broken.SESSIONS.items():
+        cases = dict(session_cases.cases(broken.Broken(bq, turn, always)))
+        yield name, lambda it=cases["bq: put"]: found(it)
+    cases = dict(server_cases.cases(broken.early_server(bq.host, folder)))
+    yield "doors_opened_before_the_last_request", lambda: found(cases["bqd: start"])
+
+
+def found(case):
+    """The case turned round: it is wrong where the sweep finds nothing."""
+    runs, wrong = case()
+    return runs, None if wrong else "the sweep lets it through"
+
+
+def main():
+    parser = argparse.ArgumentParser(description=__doc__, formatter_class=argparse.RawDescriptionHelpFormatter)
+    parser.add_argument("--bq", required=True)
+    parser.add_argument("--bqd", required=True)
+    parser.add_argument("--minutes", type=float, default=2.5, help="begin no further case after so many minutes")
+    parser.add_argument("--self-check", action="store_true", help="sweep programs that are broken on purpose")
+    asked = parser.parse_args()
+    begun, passed, failed = time.monotonic(), 0, 0
+    with tempfile.TemporaryDirectory(prefix="refuse-") as folder:
+        host = Host(library(folder), folder)
+        bq, bqd = Program(asked.bq, host), Program(asked.bqd, host)
+        cases = broken_cases(bq, folder) if asked.self_check else [*session_cases.cases(bq), *server_cases.cases(bqd)]
+        for name, case in cases:
+            if time.monotonic() - begun > 60 * asked.minutes:
+                print(f"{name}: not begun, the time is over")
+                failed += 1
+                continue
+            runs, wrong = case()
+            print(f"{name}: {runs} runs, {wrong or 'well'}", flush=True)
+            passed, failed = passed + (not wrong), failed + bool(wrong)
+    print(f"{passed} passed, {failed} failed")
+    return 1 if failed else 0
+
+
+if __name__ == "__main__":
+    sys.exit(main())

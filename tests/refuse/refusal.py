@@ -1,0 +1,56 @@
+"""Running a program with chosen requests for memory refused."""
+import itertools
+import os
+import subprocess
+
+MOST_RUNS = 5000
+
+
+class Host:
+    """The library that refuses, and a folder for what it tells."""
+
+    def __init__(self, library, folder):
+        self.library = library
+        self.told = f"{folder}/told"
+
+    def environment(self, **chosen):
+        """The environment of a run, and nothing told yet. chosen: at, from_, every, later."""
+        open(self.told, "wb").close()
+        named = {f"REFUSE_{it.strip('_').upper()}": str(value) for it, value in chosen.items()}
+        # One arena, so that libc's own requests for a thread are the same in each run.
+        return {**os.environ, **named, "LD_PRELOAD": self.library, "REFUSE_TOLD": self.told, "MALLOC_ARENA_MAX": "1"}
+
+    def was_refused(self):
+        """Whether a request of the last run was refused."""
+        return os.path.getsize(self.told) > 0
+
+
+class Program:
+    """A program under that host."""
+
+    def __init__(self, path, host):
+        self.path, self.host = os.path.abspath(path), host
+
+    def run(self, words, given, **chosen):
+        """One whole run on standard input: status, standard output, standard error. A hang is status None."""
+        try:
+            ran = subprocess.run([self.path, *words], input=given, capture_output=True, timeout=10, env=self.host.environment(**chosen))
+        except subprocess.TimeoutExpired as late:
+            return None, late.stdout or b"", late.stderr or b""
+        return ran.returncode, ran.stdout, ran.stderr
+
+
+def each_in_turn(run):
+    """Calls run(N) for N = 1, 2, .. until one in which nothing was refused.
+
+    run answers whether something was refused and what is wrong with it, or None. It returns how many runs
+    there were, and the first wrong one.
+    """
+    for nth in itertools.count(1):
+        refused, wrong = run(nth)
+        if wrong:
+            return nth, f"request {nth}: {wrong}"
+        if not refused:
+            return nth, None
+        if nth == MOST_RUNS:
+            return nth, "requests without end"

@@ -1,0 +1,110 @@
+/* Loaded before libc's own (LD_PRELOAD): the program's requests for memory are counted, and chosen ones
+   are refused.
+
+   REFUSE_AT=N      the Nth request is refused
+   REFUSE_FROM=N    the Nth request and all behind it are refused
+   REFUSE_EVERY=N   every Nth request is refused
+   REFUSE_LATER=1   nothing is refused or counted before a signal SIGUSR2, nor after a second one
+   REFUSE_TOLD=FILE at the first refusal one byte is written to FILE, which has to be there
+   REFUSE_MARKS=FILE each time the program writes a line to standard output, the line `requests COUNT`
+                    and that line are written to FILE
+
+   A request is a call of malloc, calloc, realloc (but of one that gives memory back) or an aligned
+   one. With none of the variables nothing is refused. */
+#define _GNU_SOURCE
+#include <dlfcn.h>
+#include <errno.h>
+#include <fcntl.h>
+#include <signal.h>
+#include <stdatomic.h>
+#include <stddef.h>
+#include <stdio.h>
+#include <stdlib.h>
+#include <string.h>
+#include <unistd.h>
+
+extern void *__libc_malloc(size_t);
+extern void *__libc_calloc(size_t, size_t);
+extern void *__libc_realloc(void *, size_t);
+extern void *__libc_memalign(size_t, size_t);
+
+static atomic_ulong requests;
+static atomic_int is_told, is_idle;
+static unsigned long at, from, every;
+static int told = -1, marks = -1;
+
+static unsigned long number(const char *name) {
+    const char *text = getenv(name);
+    return text ? strtoul(text, NULL, 10) : 0;
+}
+
+static void turn(int signal) {
+    (void)signal;
+    atomic_store(&is_idle, !atomic_load(&is_idle));
+}
+
+/* The count begins where the program does: what the loader asked for before isn't the program's. */
+__attribute__((constructor)) static void begin(void) {
+    const char *told_to = getenv("REFUSE_TOLD"), *marks_to = getenv("REFUSE_MARKS");
+    if (told_to)
+        told = open(told_to, O_WRONLY | O_CLOEXEC);
+    if (marks_to)
+        marks = open(marks_to, O_WRONLY | O_APPEND | O_CLOEXEC);
+    from = number("REFUSE_FROM");
+    every = number("REFUSE_EVERY");
+    at = number("REFUSE_AT");
+    atomic_store(&requests, 0);
+    if (number("REFUSE_LATER")) {
+        struct sigaction by = {.sa_handler = turn, .sa_flags = SA_RESTART};
+        sigaction(SIGUSR2, &by, NULL);
+        atomic_store(&is_idle, 1);
+    }
+}
+
+static int is_refused(void) {
+    if (atomic_load(&is_idle))
+        return 0;
+    unsigned long nth = atomic_fetch_add(&requests, 1) + 1;
+    int refused = (at && nth == at) || (from && nth >= from) || (every && nth % every == 0);
+    if (refused) {
+        if (told >= 0 && !atomic_exchange(&is_told, 1) && write(told, "!", 1) < 0)
+            _exit(99);
+        errno = ENOMEM;
+    }
+    return refused;
+}
+
+void *malloc(size_t size) { return is_refused() ? NULL : __libc_malloc(size); }
+
+void *calloc(size_t count, size_t size) { return is_refused() ? NULL : __libc_calloc(count, size); }
+
+void *realloc(void *old, size_t size) {
+    if (old && size == 0)
+        return __libc_realloc(old, size);
+    return is_refused() ? NULL : __libc_realloc(old, size);
+}
+
+void *aligned_alloc(size_t align, size_t size) { return is_refused() ? NULL : __libc_memalign(align, size); }
+
+void *memalign(size_t align, size_t size) { return is_refused() ? NULL : __libc_memalign(align, size); }
+
+int posix_memalign(void **room, size_t align, size_t size) {
+    if (is_refused())
+        return ENOMEM;
+    *room = __libc_memalign(align, size);
+    return *room ? 0 : ENOMEM;
+}
+
+/* What the program writes to its standard output is noted beside the count, as far as it is asked for. */
+ssize_t write(int file, const void *bytes, size_t length) {
+    static ssize_t (*libc_write)(int, const void *, size_t);
+    if (!libc_write)
+        libc_write = (ssize_t (*)(int, const void *, size_t))dlsym(RTLD_NEXT, "write");
+    if (file == 1 && marks >= 0) {
+        char head[32];
+        int n = snprintf(head, sizeof head, "requests %lu ", atomic_load(&requests));
+        if (libc_write(marks, head, (size_t)n) < 0 || libc_write(marks, bytes, length) < 0)
+            _exit(98);
+    }
+    return libc_write(file, bytes, length);
+}

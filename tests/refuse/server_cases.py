@@ -1,0 +1,177 @@
+"""`bqd` with refused memory: at its start, and in the middle of a load."""
+import random
+import signal
+import socket
+import subprocess
+import threading
+
+from refusal import each_in_turn
+
+FAULTS = (b"bqd: no memory\n", b"bqd: a thread was refused\n")
+SEATS = 2
+CLIENTS, ROUNDS = 8, 150
+EACH_NTH = (1, 2, 5, 31)
+MAY_BE_REFUSED = (b"put", b"use", b"watch", b"stats", b"stats-job", b"stats-tube", b"list-tubes", b"list-tubes-watched")
+
+
+class Client:
+    """One connection, one command at a time."""
+
+    def __init__(self, address):
+        self.socket = socket.create_connection(address, timeout=10)
+        self.file = self.socket.makefile("rb")
+
+    def ask(self, line, body=None):
+        """The answer's words, and its body where it has one. A connection that is gone gives no words."""
+        try:
+            self.socket.sendall(line + b"\r\n" + (b"" if body is None else body + b"\r\n"))
+            words = self.file.readline().rstrip(b"\r\n").split(b" ")
+            if words[0] in (b"OK", b"RESERVED", b"FOUND"):
+                return words, self.file.read(int(words[-1]) + 2)[:-2]
+            return words, None
+        except OSError:
+            return [b""], None
+
+    def close(self):
+        self.file.close()
+        self.socket.close()
+
+
+def started(bqd, words, **chosen):
+    """A server whose requests are refused by that pattern, and where it listens: None where it doesn't."""
+    server = subprocess.Popen(
+        [bqd.path, "--listen", "127.0.0.1:0", *words], env=bqd.host.environment(**chosen),
+        stdin=subprocess.PIPE, stdout=subprocess.PIPE, stderr=subprocess.PIPE,
+    )
+    said = server.stdout.readline().split()
+    if said[:1] != [b"listening"]:
+        return server, None
+    host, _, port = said[1].decode().rpartition(":")
+    return server, (host, int(port))
+
+
+def ended(server):
+    """The status of a server that ends by itself, and what it complained of."""
+    try:
+        _, complaint = server.communicate(timeout=10)
+        return server.returncode, complaint
+    except subprocess.TimeoutExpired:
+        return None, b""
+    finally:
+        server.kill()
+        server.communicate()
+
+
+def start_refused(bqd, nth):
+    """One start with the nth request refused: it serves whom it accepted, or ends with a fault and has told nobody anything."""
+    server, address = started(bqd, ["--seats", str(SEATS), "--sessions", "1"], at=nth)
+    told = []
+    try:
+        for _ in range(SEATS if address else 0):
+            client = Client(address)
+            told.append(client.ask(b"list-tube-used")[0])
+            client.close()
+    except OSError:
+        told.append([b""])
+    status, complaint = ended(server)
+    refused = bqd.host.was_refused()
+    if status == 0 and not complaint and told == SEATS * [[b"USING", b"default"]]:
+        return refused, None
+    if refused and status == 1 and complaint in FAULTS and all(it == [b""] for it in told):
+        return refused, None
+    return refused, f"status {status}, {complaint!r}, clients were told {told}"
+
+
+class Load:
+    """What the clients of one server did, and the first thing that was wrong."""
+
+    def __init__(self, address):
+        self.address, self.lock = address, threading.Lock()
+        self.accepted, self.deleted, self.refusals, self.wrong = {}, set(), 0, None
+
+    def complain(self, text):
+        with self.lock:
+            self.wrong = self.wrong or text
+
+    def ask(self, client, line, body=None):
+        """Asks, and sees that only a command that may be is answered OUT_OF_MEMORY."""
+        words, text = client.ask(line, body)
+        if words == [b"OUT_OF_MEMORY"]:
+            with self.lock:
+                self.refusals += 1
+            if line.split(b" ")[0] not in MAY_BE_REFUSED:
+                self.complain(f"{line!r} was answered OUT_OF_MEMORY")
+        elif words[0] in (b"", b"BAD_FORMAT", b"UNKNOWN_COMMAND"):
+            self.complain(f"{line!r} was answered {words}")
+        return words, text
+
+    def put(self, client, chance):
+        body = b"%d" % chance.getrandbits(64)
+        words, _ = self.ask(client, b"put %d 0 60 %d" % (chance.randrange(9), len(body)), body)
+        if words[0] == b"INSERTED":
+            with self.lock:
+                self.accepted[words[1]] = body
+
+    def take(self, client):
+        """Reserves a job, sees that it is one that was accepted, and deletes it. It answers whether there was one."""
+        words, body = self.ask(client, b"reserve-with-timeout 0")
+        if words[0] != b"RESERVED":
+            return False
+        gone, _ = self.ask(client, b"delete " + words[1])
+        with self.lock:
+            is_twice = words[1] in self.deleted
+            self.deleted.add(words[1])
+        # Who put it may hear of it later than who takes it.
+        if is_twice or gone != [b"DELETED"] or self.accepted.get(words[1], body) != body:
+            self.complain(f"job {words[1]!r}, body {body!r}, twice: {is_twice}, delete answered {gone}")
+        return True
+
+    def work(self, seed):
+        """One client's commands."""
+        chance, client = random.Random(seed), Client(self.address)
+        for _ in range(ROUNDS):
+            kind = chance.randrange(10)
+            if kind < 5:
+                self.put(client, chance)
+            elif kind < 8:
+                self.take(client)
+            else:
+                tube = b"default" if kind == 8 else b"t%d" % chance.randrange(5)
+                self.ask(client, chance.choice((b"watch " + tube, b"stats", b"list-tubes", b"stats-tube " + tube, b"list-tubes-watched")))
+        client.close()
+
+
+def load_refused(bqd, every):
+    """A load in which every so manyth request is refused: nothing is lost, nothing doubled, and no other command refused."""
+    server, address = started(bqd, ["--seats", str(CLIENTS + 1)], every=every, later=1)
+    try:
+        load = Load(address)
+        # Who is answered knows that the start is over.
+        first = Client(address)
+        first.ask(b"list-tube-used")
+        first.close()
+        server.send_signal(signal.SIGUSR2)
+        threads = [threading.Thread(target=load.work, args=(f"{every}/{it}",)) for it in range(CLIENTS)]
+        for it in threads:
+            it.start()
+        for it in threads:
+            it.join(60)
+        server.send_signal(signal.SIGUSR2)
+        client = Client(address)
+        while load.take(client):
+            pass
+        if load.deleted != set(load.accepted):
+            load.complain(f"{len(load.accepted)} accepted, {len(load.deleted)} handed out and deleted")
+        if not load.refusals:
+            load.complain("no command was refused")
+        return 1, load.wrong
+    finally:
+        server.kill()
+        server.communicate()
+
+
+def cases(bqd):
+    """The cases by name: each a call that answers how many runs it made, and what is wrong or None."""
+    yield "bqd: start", lambda: each_in_turn(lambda nth: start_refused(bqd, nth))
+    for every in EACH_NTH:
+        yield f"bqd: load, one request in {every} refused", lambda it=every: load_refused(bqd, it)
