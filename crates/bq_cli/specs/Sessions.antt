@@ -4,21 +4,25 @@ use Rattle.bq_job.specs.declared.line_end.LineEnd.{LineEnd}
 use Rattle.bq_job.specs.Headline.{IsHistoryOfLine}
 use Rattle.bq_job.specs.LineSteps.{LineSeen}
 use Rattle.bq_job.specs.declared.settings.Settings.{Settings}
-use Rattle.bq_cli.specs.Ranges.{AreInRange}
+use Rattle.bq_options.specs.Ranges.{IsForBq}
+use Rattle.bq_options.specs.declared.chosen.BqOptions.{BqOptions}
 use Rattle.bq_cli.specs.declared.chosen.Options.{Options}
-use Rattle.bq_cli.specs.declared.chosen.Program.TheVariants.{Bq}
 
--- what the options say to a run
+-- what the options say to a run of many clients
 abbrev pub settings_of : Options → Settings
 settings_of options = record
     { seats = options.seats; max_job_size = options.max_job_size; max_jobs = options.max_jobs; requeue_delay = options.requeue_delay }
 
+-- and to that of a lone one, no job of which waits once its connection is lost
+abbrev pub settings_of_bq : BqOptions → Settings
+settings_of_bq options = record { seats = 1; max_job_size = options.max_job_size; max_jobs = options.max_jobs; requeue_delay = 0 }
+
 -- There is one history of the client's steps, each at the moment of one of these readings. The one-list machine
 -- takes it by these options, and the line was written exactly what it is owed along it.
-abbrev pub IsSession : Options → LineSeen → LineEnd → Type 0
+abbrev pub IsSession : BqOptions → LineSeen → LineEnd → Type 0
 IsSession options seen end =
-    (readings : List (Option ℕ)) × IsHistoryOfLine (settings_of options) 0 (record { seen = seen; over = end }) readings
+    (readings : List (Option ℕ)) × IsHistoryOfLine (settings_of_bq options) 0 (record { seen = seen; over = end }) readings
 
 -- The same by some options that are in their ranges.
 abbrev pub IsSessionFor : LineSeen → LineEnd → Type 0
-IsSessionFor seen end = (options : Options) × AreInRange Bq options × IsSession options seen end
+IsSessionFor seen end = (options : BqOptions) × IsForBq options × IsSession options seen end

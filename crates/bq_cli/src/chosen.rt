@@ -1,29 +1,10 @@
-//! What is chosen for a program.
+//! What is chosen for either program, in one form.
 ghost use Rattle.std.specs.Prelude.{◌≡◌};
-ghost use Rattle.bq_cli.specs.Programs.{name_of};
+ghost use Rattle.bq_cli.specs.Chosen.{of_bq, of_bqd};
 
-/// The programs that take options.
-#[derive(Clone, Copy, Debug, PartialEq, Eq)]
-pub enum Program {
-    /// Serves one client over its standard input and output.
-    Bq,
-    /// Serves many clients, each over a connection.
-    Bqd,
-}
+use bq_options::{BqOptions, BqdOptions};
 
-impl Program {
-    /// What the program is called.
-    pub fn name(self) -> &'static str
-        ensures { result.now ≡ name_of self }
-    {
-        match self {
-            Program::Bq => "bq",
-            Program::Bqd => "bqd",
-        }
-    }
-}
-
-/// What is chosen for a program. A program that doesn't take an option has its default.
+/// What is chosen for a program. A program that doesn't take an option has its default, and `bq` one seat.
 #[derive(Debug, Drop)]
 pub struct Options {
     /// The address to listen at, as it was written.
@@ -42,13 +23,34 @@ pub struct Options {
     pub sessions: Option<u32>,
 }
 
-/// Why there are no options.
-#[derive(Debug, Drop)]
-pub enum OptionFault {
-    /// The words are no options of the program; the text says why.
-    BadOptions(String),
-    /// The text is the help that was asked for, or the version.
-    AskedHelp(String),
-    /// A growth of memory was refused.
-    NoMemory,
+impl From<BqOptions> for Options {
+    fn from(bq: BqOptions) -> Options
+        ensures { result ≡ of_bq bq }
+    {
+        Options {
+            listen: None,
+            still: bq.still,
+            seats: 1,
+            max_job_size: bq.max_job_size,
+            max_jobs: bq.max_jobs,
+            requeue_delay: 0,
+            sessions: None,
+        }
+    }
+}
+
+impl From<BqdOptions> for Options {
+    fn from(bqd: BqdOptions) -> Options
+        ensures { result ≡ of_bqd bqd }
+    {
+        Options {
+            listen: Some(bqd.listen),
+            still: false,
+            seats: bqd.seats,
+            max_job_size: bqd.max_job_size,
+            max_jobs: bqd.max_jobs,
+            requeue_delay: bqd.requeue_delay,
+            sessions: bqd.sessions,
+        }
+    }
 }

@@ -2,8 +2,8 @@
 ghost use Rattle.std.specs.Prelude.{◌≡◌, option_map};
 ghost use Rattle.bq_cli.specs.Faults.{fault_of_end, fault_of_run, fault_text};
 
-use crate::chosen::OptionFault;
 use bq_job::LineEnd;
+use bq_options::OptionFault;
 use bq_serve::RunFault;
 
 /// Why a program ends with status 1.

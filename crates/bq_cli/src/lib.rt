@@ -1,8 +1,9 @@
-//! What the programs are made of: their options, out of the words of their command lines, the session of a
-//! lone client, the server, and what each tells whoever started it.
+//! What the programs are made of: the session of a lone client, the server, what each tells whoever started
+//! it, and what is chosen for them, which `bq_options` reads out of the words of their command lines.
 #![tactic(auto)]
 
-pub use chosen::{OptionFault, Options, Program};
+pub use bq_options::{OptionFault, Program};
+pub use chosen::Options;
 pub use command_line::options;
 pub use console::Console;
 pub use fault::{Fault, Stop};

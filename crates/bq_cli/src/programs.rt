@@ -5,12 +5,11 @@ ghost use Rattle.bq_cli.specs.Statuses.{IsStatusOfClient};
 ghost use Rattle.bq_cli.specs.declared.fault.Stop.{Stop};
 ghost use Rattle.bq_cli.specs.declared.session.Served.{Served};
 
-use crate::chosen::{OptionFault, Options, Program};
-use crate::command_line::options;
 use crate::fault::Stop;
 use crate::server::listen_and_serve;
 use crate::session::{Served, serve_client};
 use crate::told::{tell_client, tell_stop};
+use bq_options::{BqdOptions, OptionFault, Program, bqd_options};
 use bq_serve::clock::MachineClock;
 use bq_serve::line::{IoLine, Line};
 use std::alloc::Global;
@@ -69,14 +68,14 @@ pub fn run_bqd<
     ensures { result ≤ 2 }
 {
     match server_options(rt) {
-        Ok(options) => listen_and_serve(rt, rt.alloc(), &options, input),
+        Ok(options) => listen_and_serve(rt, rt.alloc(), options, input),
         Err(fault) => tell_stop(rt, Program::Bqd, &Stop::Options(fault)),
     }
 }
 
-fn server_options<R: AllocGlobal + Env>(rt: &R) -> Result<Options, OptionFault> {
+fn server_options<R: AllocGlobal + Env>(rt: &R) -> Result<BqdOptions, OptionFault> {
     let words = words(rt)?;
-    options(rt.alloc(), Program::Bqd, words.as_slice())
+    bqd_options(rt.alloc(), words.as_slice())
 }
 
 // The words of the command line, the program's name first.

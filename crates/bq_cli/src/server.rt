@@ -3,12 +3,14 @@ ghost use Rattle.std.specs.Prelude.{◌≡◌, ◌≤◌, IfErr, IfOk};
 ghost use Rattle.std.specs.List.{All, list_any};
 ghost use Rattle.bq_desk.specs.Tending.{IsNewDoor, door_seen};
 ghost use Rattle.bq_cli.specs.Servers.{came_of_run};
+ghost use Rattle.bq_cli.specs.Sessions.{settings_of};
 
 use crate::chosen::Options;
 use crate::fault::Fault;
-use crate::session::config_of;
 use crate::told::tell_server;
+use bq_core::Config;
 use bq_job::NoMemory;
+use bq_options::BqdOptions;
 use bq_serve::clock::MachineClock;
 use bq_serve::{Door, LockedRun, RunFault, TcpDoor, run_locked};
 use std::alloc::Global;
@@ -45,28 +47,24 @@ pub(crate) fn listen_and_serve<
         + Eprint
         + Sync,
     I: Read + Drop,
->(rt: &R, alloc: Global, options: &Options, input: I) -> u8
+>(rt: &R, alloc: Global, options: BqdOptions, input: I) -> u8
     ensures { result ≤ 1 }
 {
-    let came = match bound(rt, options) {
-        Ok(listener) => serve_input(rt, alloc, options, &listener, input),
+    let came = match bound(rt, options.listen.as_str()) {
+        Ok(listener) => serve_input(rt, alloc, &Options::from(options), &listener, input),
         Err(fault) => Err(fault),
     };
     tell_server(rt, came)
 }
 
-// A listener at the address that is chosen.
+// A listener at this address.
 fn bound<R: Net<Listener = TcpListener, Stream = TcpStream>>(
     rt: &R,
-    options: &Options,
+    address: &str,
 ) -> Result<TcpListener, Fault>
     ensures { IfErr result (λ fault. fault ≡ Fault.CannotListen) }
 {
-    // The options have an address, since the program can't do without.
-    let Some(address) = &options.listen else {
-        return Err(Fault::CannotListen);
-    };
-    match TcpListener::bind(rt, address.as_str()) {
+    match TcpListener::bind(rt, address) {
         Ok(listener) => Ok(listener),
         Err(_) => Err(Fault::CannotListen),
     }
@@ -110,6 +108,18 @@ fn serve_at<R: Threads + Wait + Clock + Print + Sync, I: BufRead + Drop>(
         control,
         0,
     ))
+}
+
+// What the options say to a run.
+fn config_of(options: &Options) -> Config
+    ensures { result ≡ settings_of options.now }
+{
+    Config {
+        seats: options.seats,
+        max_job_size: options.max_job_size,
+        max_jobs: options.max_jobs,
+        requeue_delay: options.requeue_delay,
+    }
 }
 
 // What came of a run: its fault, or that some connection could not be accepted.

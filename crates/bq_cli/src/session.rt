@@ -1,13 +1,12 @@
 //! All that `bq` does for its client, on any stream: from its words to how the client's line is over.
 ghost use Rattle.std.specs.Prelude.{◌≡◌, ◌≢◌, IfErr, IfOk};
-ghost use Rattle.bq_cli.specs.Ranges.{AreInRange};
-ghost use Rattle.bq_cli.specs.Sessions.{IsSession, IsSessionFor, settings_of};
+ghost use Rattle.bq_cli.specs.Sessions.{IsSession, IsSessionFor, settings_of_bq};
+ghost use Rattle.bq_options.specs.Ranges.{IsForBq};
 
-use crate::chosen::{Options, Program};
-use crate::command_line::options;
 use crate::fault::{Fault, Stop};
 use bq_core::Config;
 use bq_job::LineEnd;
+use bq_options::{BqOptions, bq_options};
 use bq_serve::clock::{Clock, MachineClock, ScriptClock};
 use bq_serve::line::{IoLine, Line};
 use bq_serve::run_one;
@@ -37,7 +36,7 @@ pub fn serve_client<'a, R: Wait, W: AsStr, S: Read + Write + Drop, K: rt::Clock 
     // takes by these options. The line was written exactly what it is owed along it.
     ensures served { IfOk result (λ served. IsSessionFor (⟦<IoLine<S> as Line>⟧.seen served.line) served.end) }
 {
-    let options = options(alloc, Program::Bq, words)?;
+    let options = bq_options(alloc, words)?;
     let served = serve_chosen(rt, alloc, &options, stream, clock)?;
     Ok(served)
 }
@@ -46,11 +45,11 @@ pub fn serve_client<'a, R: Wait, W: AsStr, S: Read + Write + Drop, K: rt::Clock 
 fn serve_chosen<R: Wait, S: Read + Write + Drop, K: rt::Clock + Drop>(
     rt: &R,
     alloc: Global,
-    options: &Options,
+    options: &BqOptions,
     stream: S,
     clock: MachineClock<K>,
 ) -> Result<Served<S>, Fault>
-    requires { AreInRange Program.Bq options.now }
+    requires { IsForBq options.now }
     ensures served { IfOk result (λ served. IsSession options.now (⟦<IoLine<S> as Line>⟧.seen served.line) served.end) }
     ensures fault { IfErr result (λ fault. fault ≡ Fault.NoMemory) }
 {
@@ -68,11 +67,11 @@ fn serve_chosen<R: Wait, S: Read + Write + Drop, K: rt::Clock + Drop>(
 fn serve_by<R: Wait, S: Read + Write + Drop, C: Clock + Drop>(
     rt: &R,
     alloc: Global,
-    options: &Options,
+    options: &BqOptions,
     stream: S,
     clock: C,
 ) -> Result<Served<S>, Fault>
-    requires { AreInRange Program.Bq options.now }
+    requires { IsForBq options.now }
     ensures served { IfOk result (λ served. IsSession options.now (⟦<IoLine<S> as Line>⟧.seen served.line) served.end) }
     ensures fault { IfErr result (λ fault. fault ≡ Fault.NoMemory) }
 {
@@ -85,15 +84,15 @@ fn serve_by<R: Wait, S: Read + Write + Drop, C: Clock + Drop>(
     }
 }
 
-/// What the options say to a run.
-pub(crate) fn config_of(options: &Options) -> Config
-    ensures { result ≡ settings_of options.now }
+// What the options say to a run. No other client is there for whom a job would wait.
+fn config_of(options: &BqOptions) -> Config
+    ensures { result ≡ settings_of_bq options.now }
 {
     Config {
-        seats: options.seats,
+        seats: 1,
         max_job_size: options.max_job_size,
         max_jobs: options.max_jobs,
-        requeue_delay: options.requeue_delay,
+        requeue_delay: 0,
     }
 }
 

@@ -3,10 +3,10 @@
 ghost use Rattle.std.specs.Prelude.{◌≡◌};
 ghost use Rattle.bq_cli.specs.Statuses.{IsStatusOfClient, IsStatusOfOptionFault, IsStatusOfStop, status_of_end, status_of_server};
 
-use crate::chosen::{OptionFault, Program};
 use crate::fault::{Fault, Stop, fault_of_end};
 use crate::session::Served;
 use bq_job::LineEnd;
+use bq_options::{OptionFault, Program};
 use std::io::{Eprint, Print};
 
 /// Tells a fault on standard error, where that can be written, as one line behind the program's name. The
