@@ -220,6 +220,61 @@ def run_wait(bqd):
         same(server.end(), Ended(0, b"", b""))
 
 
+def run_many_commands_at_once(bqd):
+    """A hundred commands in one packet, and a put in two with a quit behind it, are answered in their order."""
+    with Server(bqd, "--seats", "1", "--sessions", "2") as server:
+        client = server.client()
+        client.asks(b"list-tube-used\r\n" * 100, b"USING default\r\n" * 100)
+        client.close()
+        client = server.client()
+        client.sends(b"put 0 0 9 3\r\na")
+        time.sleep(0.03)
+        client.asks(b"bc\r\nreserve\r\nquit\r\n", b"INSERTED 1\r\nRESERVED 1 3\r\nabc\r\n")
+        client.hears_end()
+        same(server.end(), Ended(0, b"", b""))
+
+
+def run_sends_no_more(bqd):
+    """A client that sends no more is answered what it asked, a wait too."""
+    with Server(bqd, "--seats", "1", "--sessions", "20") as server:
+        for number in range(1, 11):
+            put = b"put 0 0 9 1\r\nx\r\ndelete %d\r\n" % number, b"INSERTED %d\r\nDELETED\r\n" % number
+            for text, answer in [(b"reserve\r\n", b"TIMED_OUT\r\n"), put]:
+                client = server.client()
+                client.sends(text)
+                client.stream.shutdown(socket.SHUT_WR)
+                client.hears(answer)
+                client.hears_end()
+                client.close()
+        same(server.end(), Ended(0, b"", b""))
+
+
+def run_job_of_a_lost_client(bqd):
+    """A job that a client held when it went goes to one that waits."""
+    with Server(bqd, "--seats", "2") as server:
+        other = server.client()
+        for number in range(1, 11):
+            one = server.client()
+            one.asks(b"put 0 0 60 1\r\nx\r\nreserve\r\n", b"INSERTED %d\r\nRESERVED %d 1\r\nx\r\n" % (number, number))
+            other.sends(b"reserve\r\n")
+            time.sleep(0.02)
+            one.close()
+            other.hears(b"RESERVED %d 1\r\nx\r\n" % number)
+            other.asks(b"delete %d\r\n" % number, b"DELETED\r\n")
+
+
+def run_more_clients_than_seats(bqd):
+    """Of 48 clients that come at once each is served by one of 16 seats."""
+    with Server(bqd, "--sessions", "3") as server:
+        clients = [server.client() for _ in range(48)]
+        for client in clients:
+            client.sends(b"list-tube-used\r\nquit\r\n")
+        for client in clients:
+            client.hears(b"USING default\r\n")
+            client.hears_end()
+        same(server.end(), Ended(0, b"", b""))
+
+
 def run_put_goes_on_at_once(bqd):
     """A job that is put goes to a client that waits as soon as it is put, once at least."""
     with Server(bqd, "--seats", "2") as server:
@@ -235,6 +290,20 @@ def run_put_goes_on_at_once(bqd):
             if took <= LATE:
                 return
     raise AssertionError("it was handed out late each time")
+
+
+def run_rests(bqd):
+    """While clients wait or say nothing, the server does next to no work."""
+    with Server(bqd) as server:
+        clients = [server.client() for _ in range(16)]
+        for client in clients:
+            client.asks(b"list-tube-used\r\n", b"USING default\r\n")
+        clients[0].sends(b"reserve\r\n")
+        clients[1].sends(b"reserve-with-timeout 60\r\n")
+        time.sleep(0.1)
+        before = server.time_worked()
+        time.sleep(1)
+        same(server.time_worked() - before < 0.2, True)
 
 
 def run_lease_goes_on_in_time(bqd):

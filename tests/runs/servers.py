@@ -76,6 +76,12 @@ class Server:
         """How many threads the server has now."""
         return len(os.listdir(f"/proc/{self.process.pid}/task"))
 
+    def time_worked(self):
+        """How many seconds of a processor the server has taken."""
+        with open(f"/proc/{self.process.pid}/stat") as stat:
+            ticks = stat.read().rsplit(")", 1)[1].split()[11:13]
+        return sum(map(int, ticks)) / os.sysconf("SC_CLK_TCK")
+
     def goes_on(self, seconds):
         """Whether the server hasn't ended so many seconds later."""
         try:

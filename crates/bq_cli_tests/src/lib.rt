@@ -5,6 +5,6 @@
 #[cfg(test)]
 mod command_line;
 #[cfg(test)]
-mod server;
-#[cfg(test)]
 mod session;
+#[cfg(test)]
+mod told;

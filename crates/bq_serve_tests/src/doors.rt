@@ -98,21 +98,6 @@ pub fn doors<'c>(
     Ok(doors)
 }
 
-/// So many doors at which nobody comes.
-pub fn doors_of_nobody<'c>(
-    alloc: Global,
-    many: u16,
-    opened: &'c AtomicU64,
-) -> Result<NewDoors<'c>, NoMemory> {
-    let mut doors = NewDoors {
-        all: Vec::new(alloc),
-    };
-    for _ in 0..many {
-        doors.push(door(alloc, &[])?, opened)?;
-    }
-    Ok(doors)
-}
-
 /// Whether these lines are over at the door, in this order, and none is left.
 pub fn is_left_so(door: &CountedDoor, outcomes: &[Outcome]) -> bool {
     let over = door.door.over();

@@ -3,10 +3,9 @@ ghost use Rattle.std.specs.Prelude.{◌≡◌, IfOk};
 
 use crate::clients::STILL;
 use crate::control::Gives;
-use crate::journal::{Alone, add_answer};
 use crate::runs::{around_a_lock, config, in_turn};
-use bq_core::Core;
-use bq_job::{Body, NoMemory, Request, Step, USUAL_BODY};
+use bq_core::{Core, Outs};
+use bq_job::{Answer, Body, NoMemory, Request, Step, USUAL_BODY};
 use bq_serve::{Locked, RunFault};
 use std::alloc::Global;
 use std::sync::Wait;
@@ -14,16 +13,12 @@ use std::sync::atomic::AtomicU64;
 use std::test::Fail;
 use std::thread::Threads;
 
-/// What the control line comes to, and what a put is then answered.
-type Example = (&'static [Gives], &'static str);
-
-const DRAINING: &str = "DRAINING\r\n";
-
-const ACCEPTED: &str = "INSERTED 1\r\n";
+/// What the control line comes to, and whether a put is refused then.
+type Example = (&'static [Gives], bool);
 
 const EXAMPLES: &[Example] = &[
-    (&[Gives::Text("drain\ndrains\ndrain")], DRAINING),
-    (&[Gives::Text("drains\n\ndrain ")], ACCEPTED),
+    (&[Gives::Text("drain\ndrains\ndrain")], true),
+    (&[Gives::Text("drains\n\ndrain ")], false),
     // A longer line, of which not all has come yet, and a last one that comes in pieces.
     (
         &[
@@ -34,19 +29,19 @@ const EXAMPLES: &[Example] = &[
             Gives::NothingYet,
             Gives::Text("ain"),
         ],
-        DRAINING,
+        true,
     ),
     (
         &[Gives::Text("a longer line"), Gives::Text("\ndrain\n")],
-        DRAINING,
+        true,
     ),
     (
         &[Gives::NothingYet, Gives::Text("x"), Gives::Text("drain\n")],
-        ACCEPTED,
+        false,
     ),
     // A line that isn't over where the reader fails says nothing, and one that is does.
-    (&[Gives::Text("drain"), Gives::Fault], ACCEPTED),
-    (&[Gives::Text("drain\nd"), Gives::Fault], DRAINING),
+    (&[Gives::Text("drain"), Gives::Fault], false),
+    (&[Gives::Text("drain\nd"), Gives::Fault], true),
 ];
 
 fn put(alloc: Global) -> Result<Step, NoMemory> {
@@ -88,56 +83,47 @@ fn locked_left<R: Threads + Wait + Sync>(
     }
 }
 
-// What a core answers the first client, which puts.
-fn answer_of_core(alloc: Global, core: Core) -> Result<Vec<u8, Global>, Fail>
-    requires { core.machine.settings.seats ≡ 1 }
+// Whether the core refuses the first client's put.
+fn core_drains(alloc: Global, core: &mut Core) -> Result<bool, NoMemory>
+    requires { core.old.machine.settings.seats ≡ 1 }
 {
+    let mut outs = Outs::new(alloc, 1)?;
     let put = put(alloc)?;
-    let mut text: Vec<u8> = Vec::new(alloc);
-    let mut alone = Alone::of(alloc, core, 1)?;
-    alone.step(0, 0, Step::Connect);
-    alone.step(0, 0, put);
-    alone.add_answers(&mut text, 0)?;
-    Ok(text)
+    core.step(0, 0, Step::Connect, &mut outs);
+    core.step(0, 0, put, &mut outs);
+    Ok(matches!(outs.take_first(), Some((0, Answer::Draining))))
 }
 
-fn answer_of_lock(alloc: Global, mut locked: Locked) -> Result<Vec<u8, Global>, Fail> {
+fn lock_drains(alloc: Global, locked: &mut Locked) -> Result<bool, NoMemory> {
     let put = put(alloc)?;
-    let mut text: Vec<u8> = Vec::new(alloc);
     locked.step(0, 0, Step::Connect);
     locked.step(0, 0, put);
-    if let Some(answer) = locked.fetch(0) {
-        add_answer(&mut text, &answer)?;
-    }
-    Ok(text)
+    Ok(matches!(locked.fetch(0), Some(Answer::Draining)))
 }
 
-fn text_in_turn<R: Threads + Wait + Sync>(
+fn drains_in_turn<R: Threads + Wait + Sync>(
     rt: &R,
     alloc: Global,
     control: &'static [Gives],
-) -> Result<Vec<u8, Global>, Fail> {
-    let core = core_left(rt, alloc, control)?;
-    answer_of_core(alloc, core)
+) -> Result<bool, Fail> {
+    let mut core = core_left(rt, alloc, control)?;
+    Ok(core_drains(alloc, &mut core)?)
 }
 
-fn text_around_a_lock<R: Threads + Wait + Sync>(
+fn drains_around_a_lock<R: Threads + Wait + Sync>(
     rt: &R,
     alloc: Global,
     control: &'static [Gives],
-) -> Result<Vec<u8, Global>, Fail> {
-    let locked = locked_left(rt, alloc, control)?;
-    answer_of_lock(alloc, locked)
+) -> Result<bool, Fail> {
+    let mut locked = locked_left(rt, alloc, control)?;
+    Ok(lock_drains(alloc, &mut locked)?)
 }
 
 #[test]
 fn control_lines(rt: HostRuntime) -> Result<(), Fail> {
-    let alloc = rt.alloc();
-    for (control, answer) in EXAMPLES {
-        let text = text_in_turn(&rt, alloc, control)?;
-        assert!(rt; text.as_slice() == answer.as_bytes());
-        let text = text_around_a_lock(&rt, alloc, control)?;
-        assert!(rt; text.as_slice() == answer.as_bytes());
+    for (control, drains) in EXAMPLES {
+        assert!(rt; drains_in_turn(&rt, rt.alloc(), control)? == *drains);
+        assert!(rt; drains_around_a_lock(&rt, rt.alloc(), control)? == *drains);
     }
     Ok(())
 }

@@ -15,9 +15,9 @@ use std::test::Fail;
 /// What stands behind each line in the joined text of a seat. No answer has it.
 const LINE_OVER: u8 = 0;
 
-/// A core by itself.
+// A core by itself.
 #[derive(Drop)]
-pub struct Alone {
+struct Alone {
     core: Core,
     outs: Outs,
     ghost room: { core.machine.settings.seats < outs.most },
@@ -30,22 +30,14 @@ impl Alone {
         Ok(Alone { core, outs })
     }
 
-    /// A core of so many seats.
-    pub fn of(alloc: Global, core: Core, seats: u16) -> Result<Alone, Fail>
-        requires { core.machine.settings.seats ≡ seats }
-    {
-        let outs = Outs::new(alloc, seats)?;
-        Ok(Alone { core, outs })
-    }
-
-    /// Takes a step, and says whether its command was left out for want of memory.
-    pub fn step(&mut self, at: Moment, seat: Seat, what: Step) -> bool {
+    // Takes a step, and says whether its command was left out for want of memory.
+    fn step(&mut self, at: Moment, seat: Seat, what: Step) -> bool {
         self.core.step(at, seat, what, &mut self.outs);
         self.outs.left_out()
     }
 
-    /// Adds the answers of the last step to one seat.
-    pub fn add_answers(&mut self, text: &mut Vec<u8, Global>, seat: Seat) -> Result<(), Fail> {
+    // Adds the answers of the last step to one seat.
+    fn add_answers(&mut self, text: &mut Vec<u8, Global>, seat: Seat) -> Result<(), Fail> {
         while let Some((to, answer)) = self.outs.take_first() {
             if to == seat {
                 add_answer(text, &answer)?;
@@ -108,8 +100,8 @@ fn is_cut_off(door: &CountedDoor) -> bool {
     false
 }
 
-/// How often a seat went, by these entries.
-pub fn times_gone(entries: &[Entry], seat: Seat) -> u64 {
+// How often a seat went, by these entries.
+fn times_gone(entries: &[Entry], seat: Seat) -> u64 {
     let mut times: u64 = 0;
     for entry in entries {
         if entry.seat == seat && matches!(entry.step, Step::Gone) {

@@ -2,13 +2,9 @@
 #![tactic(auto)]
 
 #[cfg(test)]
-mod all_seats;
-#[cfg(test)]
 mod clients;
 #[cfg(test)]
 mod control;
-#[cfg(test)]
-mod door_in_memory;
 #[cfg(test)]
 mod doors;
 #[cfg(test)]
@@ -18,20 +14,12 @@ mod failing_lines;
 #[cfg(test)]
 mod journal;
 #[cfg(test)]
-mod line_in_memory;
-#[cfg(test)]
 mod many_lines;
-#[cfg(test)]
-mod no_memory;
 #[cfg(test)]
 mod one_line;
 #[cfg(test)]
 mod refused;
 #[cfg(test)]
-mod rests;
-#[cfg(test)]
 mod runs;
 #[cfg(test)]
 mod steps;
-#[cfg(test)]
-mod streams;

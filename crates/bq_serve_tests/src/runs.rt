@@ -3,7 +3,7 @@ ghost use Rattle.std.specs.Prelude.{◌≡◌, IfOk};
 
 use crate::clients::{Client, STILL, clock};
 use crate::control::{Control, Gives};
-use crate::doors::{CountedDoor, NewDoors, doors};
+use crate::doors::{CountedDoor, doors};
 use crate::journal::expect_whole_journal;
 use bq_core::Config;
 use bq_job::{Moment, USUAL_BODY};
@@ -66,19 +66,6 @@ pub fn in_turn<'c, R: Threads + Wait + Sync>(
     let Ok(doors) = doors(alloc, clients, opened) else {
         return Err(RunFault::NoMemory);
     };
-    in_turn_at(rt, alloc, config, doors, control)
-}
-
-/// The same at these doors.
-pub fn in_turn_at<'c, R: Threads + Wait + Sync>(
-    rt: &R,
-    alloc: Global,
-    config: Config,
-    doors: NewDoors<'c>,
-    control: &'static [Gives],
-) -> Result<Run<CountedDoor<'c>, ScriptClock, Control>, RunFault>
-    ensures { IfOk result (λ run. run.core.machine.settings.seats ≡ config.seats) }
-{
     let Ok(clock) = clock(alloc, STILL) else {
         return Err(RunFault::NoMemory);
     };
@@ -99,19 +86,6 @@ pub fn around_a_lock<'c, R: Threads + Wait + Sync>(
     let Ok(doors) = doors(alloc, clients, opened) else {
         return Err(RunFault::NoMemory);
     };
-    around_a_lock_at(rt, alloc, config, doors, readings, control, room)
-}
-
-/// The same at these doors.
-pub fn around_a_lock_at<'c, R: Threads + Wait + Sync>(
-    rt: &R,
-    alloc: Global,
-    config: Config,
-    doors: NewDoors<'c>,
-    readings: &[Option<Moment>],
-    control: &'static [Gives],
-    room: usize,
-) -> Result<LockedRun<CountedDoor<'c>, ScriptClock>, RunFault> {
     let Ok(clock) = clock(alloc, readings) else {
         return Err(RunFault::NoMemory);
     };

@@ -2,7 +2,7 @@
 
 use crate::journal::{add_answer, replayed};
 use crate::runs::config;
-use bq_job::{Answer, Body, JobId, Moment, NoMemory, Request, Seat, Step};
+use bq_job::{Body, JobId, Moment, NoMemory, Request, Seat, Step};
 use bq_serve::{Locked, RunFault};
 use std::alloc::Global;
 use std::process::Abort;
@@ -139,59 +139,6 @@ fn whole_journal(rt: HostRuntime) -> Result<(), Fail> {
     expect_whole_script(&rt, rt.alloc(), &mut locked)
 }
 
-// There is room for two entries.
-fn is_whole_for_two(locked: &mut Locked) -> bool {
-    let at_first = locked.whole() && locked.journal().is_empty();
-    locked.step(0, 0, Step::Connect);
-    locked.step(5, 0, Step::Tick);
-    let full = locked.whole();
-    locked.step(6, 0, Step::Close);
-    at_first && full && !locked.whole()
-}
-
-#[test]
-fn journal_that_is_full(rt: HostRuntime) -> Result<(), Fail> {
-    let mut locked = Locked::new(rt.alloc(), config(2, 100), 2)?;
-    assert!(rt; is_whole_for_two(&mut locked));
-    Ok(())
-}
-
-#[test]
-fn journal_without_room(rt: HostRuntime) -> Result<(), Fail> {
-    let locked = Locked::new(rt.alloc(), config(2, 100), 0)?;
-    assert!(rt; locked.whole());
-    Ok(())
-}
-
-// The answers don't hang on the journal's room.
-fn expect_script_in(rt: &impl Abort, alloc: Global, room: usize) -> Result<(), Fail> {
-    let mut locked = played(rt, alloc, room)?;
-    assert!(rt; !locked.whole() && locked.journal().len() == room);
-    expect_unread(rt, alloc, &mut locked)
-}
-
-#[test]
-fn small_journals(rt: HostRuntime) -> Result<(), Fail> {
-    expect_script_in(&rt, rt.alloc(), 0)?;
-    expect_script_in(&rt, rt.alloc(), 2)
-}
-
-fn answers_nobody(locked: &mut Locked) -> bool {
-    locked.step(0, 2, Step::Connect);
-    locked.whole()
-        && locked.answered().is_empty()
-        && locked.fetch(2).is_none()
-        && locked.fetch(u16::MAX).is_none()
-        && locked.next_due().is_none()
-}
-
-#[test]
-fn seats_that_there_are_not(rt: HostRuntime) -> Result<(), Fail> {
-    let mut locked = Locked::new(rt.alloc(), config(2, 100), 1)?;
-    assert!(rt; answers_nobody(&mut locked));
-    Ok(())
-}
-
 /// How many seats are asked for, how big a job's body may be, the room of the journal, and the fault.
 const REFUSED: &[(u16, u32, usize, RunFault)] = &[
     (0, 1, 1, RunFault::BadConfiguration),
@@ -206,30 +153,5 @@ fn refused_locks(rt: HostRuntime) {
     for (seats, max_job_size, room, fault) in REFUSED {
         let refused = Locked::new(rt.alloc(), config(*seats, *max_job_size), *room).err();
         assert!(rt; refused == Some(*fault));
-    }
-}
-
-// Where memory is refused, a put is left out, and its entry says so.
-fn tells_what_is_left_out(locked: &mut Locked, put: Request) -> bool {
-    locked.step(0, 0, Step::Connect);
-    locked.step(0, 0, Step::Ask(put));
-    let left_out = match locked.fetch(0) {
-        Some(Answer::OutOfMemory) => Some(true),
-        Some(Answer::Inserted(1)) => Some(false),
-        _ => None,
-    };
-    match locked.journal().last() {
-        Some(entry) => locked.whole() && Some(entry.left_out) == left_out,
-        None => false,
-    }
-}
-
-#[test]
-fn step_with_no_memory(rt: HostRuntime) {
-    let Ok(mut locked) = Locked::new(rt.alloc(), config(1, 100), 2) else {
-        return;
-    };
-    if let Ok(put) = put(rt.alloc(), b"a") {
-        assert!(rt; tells_what_is_left_out(&mut locked, put));
     }
 }

@@ -1,10 +1,10 @@
-//! What the server tells on its streams: where it listens, before it serves anybody, and its faults.
+//! What the server tells on its streams: where it listens, before it serves anybody, and its faults. What it
+//! answers over TCP, the programs' runs and the model show.
 
-use super::{awaits, connected, hears_end, options, sends, tells};
-use bq_cli::{Fault, Program, serve, tell_fault};
+use bq_cli::{Fault, Options, Program, serve, tell_fault};
 use std::alloc::Global;
 use std::fmt::Display;
-use std::io::{Eprint, ErrorKind, Print};
+use std::io::{Eprint, ErrorKind, Print, Read, Write};
 use std::net::{Net, SocketAddr, TcpListener, TcpStream};
 use std::process::Abort;
 use std::rt::Clock;
@@ -14,6 +14,9 @@ use std::test::Fail;
 use std::thread::Threads;
 use std::time::Duration;
 use std::{io, thread};
+
+/// How long a client waits at most for bytes or until it is told, in milliseconds.
+const PATIENCE: u64 = 10_000;
 
 /// A host whose standard output and standard error are kept.
 #[derive(Drop)]
@@ -105,19 +108,53 @@ impl<R: Wait> Eprint for Heard<R> {
     }
 }
 
+fn tells(told: &AtomicU64, much: u64) {
+    told.store(much, Ordering::SeqCst);
+}
+
+fn is_told<R: Clock>(rt: &R, told: &AtomicU64) -> bool {
+    for _ in 0..PATIENCE {
+        if told.load(Ordering::SeqCst) == 1 {
+            return true;
+        }
+        thread::sleep(rt, Duration::from_millis(1));
+    }
+    false
+}
+
+// Whether a client that quits is served. Its connection is closed at the end.
+fn is_served<R: Net<Stream = TcpStream>>(rt: &R, address: SocketAddr) -> bool {
+    let Ok(mut stream) = TcpStream::connect(rt, address) else {
+        return false;
+    };
+    let patience = Some(Duration::from_millis(PATIENCE));
+    let mut room = [0; 1];
+    stream.set_read_timeout(patience).is_ok()
+        && stream.write_all(b"quit\r\n").is_ok()
+        && matches!(stream.read(&mut room), Ok(0))
+}
+
 // Whether the server had told where it listens before a client came. The client comes in any case, or the
 // server would wait for it.
 fn comes_when_told<R: Clock + Net<Stream = TcpStream>>(
     rt: &R,
-    alloc: Global,
     address: SocketAddr,
     told: &AtomicU64,
 ) -> bool {
-    let is_told = awaits(rt, told, 1);
-    let Some(stream) = connected(rt, address) else {
-        return false;
-    };
-    sends(&stream, alloc, "quit\r\n", 1) && hears_end(&stream) && is_told
+    let is_told = is_told(rt, told);
+    is_served(rt, address) && is_told
+}
+
+fn options() -> Options {
+    Options {
+        listen: None,
+        still: false,
+        seats: 1,
+        max_job_size: 65535,
+        max_jobs: None,
+        requeue_delay: 0,
+        sessions: Some(1),
+    }
 }
 
 // The status of a server that one client comes to, and whether that one found it told.
@@ -129,9 +166,9 @@ fn serve_told<R: Threads + Wait + Clock + Net<Listener = TcpListener, Stream = T
 ) -> Option<(u8, bool)> {
     let (host, told) = (&heard.host, &heard.told);
     let is_content = &AtomicU64::new(0);
-    let options = options(1, 1);
+    let options = options();
     let status = thread::scope(thread::scope_env(), host, |scope| {
-        let spawned = scope.spawn(move || if comes_when_told(host, alloc, address, told) {
+        let spawned = scope.spawn(move || if comes_when_told(host, address, told) {
             tells(is_content, 1);
         });
         if spawned.is_err() {
