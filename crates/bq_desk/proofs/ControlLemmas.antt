@@ -9,6 +9,8 @@ use Rattle.bq_job.specs.declared.step.Step.{Step}
 use Rattle.bq_job.specs.declared.step.Step.TheVariants.{Drain}
 use Rattle.std.specs.Io.KnownBytes.{Consumes, IsAtEnd, Keeps}
 use Rattle.bq_desk.specs.ControlRead.{HasRead, IsReadToEnd}
+use Rattle.bq_desk.specs.ControlSeen.{ControlSeen, after_heard, new_control}
+use Rattle.bq_desk.specs.declared.control_line.Heard.TheVariants as hears
 
 and_if : (a b : Bool) → (a && b) ≡ (if a then b else false)
 and_if true b = refl
@@ -46,21 +48,17 @@ kept_serves line (byte ∷ bytes) failed = elim (cases_Bool (byte == 10)) [
       ∙ kept_serves (line ++ byte ∷ []) bytes failed)
 ]
 
--- one byte more, which is no LF
-pub byte_read : (kept bytes now later : List ℕ) (byte : ℕ) → HasRead kept bytes false now → (byte == 10) ≡ false → later ≡ take 6 (now ++ byte ∷ []) → HasRead kept (bytes ++ byte ∷ []) false later
-byte_read kept bytes now later byte h other is rest failed =
-    ap (λ xs. drains_from kept xs failed) (append_assoc bytes (byte ∷ []) rest)
-    ∙ h (byte ∷ rest) failed
-    ∙ ap (λ b. if b then one_if (are_same now drain_word) + drains_from [] rest failed else drains_from (now ++ byte ∷ []) rest failed) other
-    ∙ sym (kept_serves (now ++ byte ∷ []) rest failed)
+-- one byte of a line, which is no LF
+pub byte_read : (kept later : List ℕ) (byte : ℕ) → (byte == 10) ≡ false → later ≡ take 6 (kept ++ byte ∷ []) → HasRead kept (byte ∷ []) false later
+byte_read kept later byte other is rest failed =
+    ap (λ b. if b then one_if (are_same kept drain_word) + drains_from [] rest failed else drains_from (kept ++ byte ∷ []) rest failed) other
+    ∙ sym (kept_serves (kept ++ byte ∷ []) rest failed)
     ∙ ap (λ xs. drains_from xs rest failed) (sym is)
 
--- one byte more, which is a LF
-pub line_read : (kept bytes now : List ℕ) (byte : ℕ) → HasRead kept bytes false now → (byte == 10) ≡ true → HasRead kept (bytes ++ byte ∷ []) true now
-line_read kept bytes now byte h feed rest failed =
-    ap (λ xs. drains_from kept xs failed) (append_assoc bytes (byte ∷ []) rest)
-    ∙ h (byte ∷ rest) failed
-    ∙ ap (λ b. if b then one_if (are_same now drain_word) + drains_from [] rest failed else drains_from (now ++ byte ∷ []) rest failed) feed
+-- and a LF
+pub line_read : (kept : List ℕ) (byte : ℕ) → (byte == 10) ≡ true → HasRead kept (byte ∷ []) true kept
+line_read kept byte feed rest failed =
+    ap (λ b. if b then one_if (are_same kept drain_word) + drains_from [] rest failed else drains_from (kept ++ byte ∷ []) rest failed) feed
 
 -- a reader that shows nothing is at its end
 pub shows_nothing : (before after : Option (List ℕ)) (shown : List ℕ) → Keeps before after → IfSome before (λ xs. length shown ≡ 0 → xs ≡ []) → length shown ≡ 0 → IfSome before (λ bytes. IsAtEnd after)
@@ -88,11 +86,11 @@ read_same (Some x) (Some y) None text h i = absurd i
 read_same (Some x) (Some y) (Some z) text h i = h ∙ ap (λ xs. text ++ xs) i
 
 -- the end was met, or a fault
-pub ends_read : (before next after : Option (List ℕ)) (text : List ℕ) → Consumes before next text → Consumes next after [] → IfSome next (λ bytes. IsAtEnd after) → IsReadToEnd before after text false
-ends_read None next after text h i end = tt
-ends_read (Some x) None after text h i end = absurd h
-ends_read (Some x) (Some y) None text h i end = absurd i
-ends_read (Some x) (Some y) (Some z) text h i end = (h ∙ ap (λ xs. text ++ xs) i, λ f. end)
+pub ends_read : (before next after : Option (List ℕ)) (text : List ℕ) (failed : Bool) → Consumes before next text → Consumes next after [] → IfSome next (λ bytes. IsAtEnd after) → IsReadToEnd before after text failed
+ends_read None next after text failed h i end = tt
+ends_read (Some x) None after text failed h i end = absurd h
+ends_read (Some x) (Some y) None text failed h i end = absurd i
+ends_read (Some x) (Some y) (Some z) text failed h i end = (h ∙ ap (λ xs. text ++ xs) i, λ f. end)
 
 pub fails_read : (before next after : Option (List ℕ)) (text : List ℕ) → Consumes before next text → Consumes next after [] → IsReadToEnd before after text true
 fails_read None next after text h i = tt
@@ -100,27 +98,86 @@ fails_read (Some x) None after text h i = absurd h
 fails_read (Some x) (Some y) None text h i = absurd i
 fails_read (Some x) (Some y) (Some z) text h i = (h ∙ ap (λ xs. text ++ xs) i, λ f. absurd (true≢false f))
 
--- what is said of the text so far, after more bytes of a line
-pub counts_on : (kept now text bytes : List ℕ) (count : ℕ) → ((rest : List ℕ) (failed : Bool) → drains (text ++ rest) failed ≡ count + drains_from kept rest failed) → HasRead kept bytes false now
-    → (rest : List ℕ) (failed : Bool) → drains ((text ++ bytes) ++ rest) failed ≡ count + drains_from now rest failed
-counts_on kept now text bytes count h i rest failed =
-    ap (λ xs. drains xs failed) (append_assoc text bytes rest) ∙ h (bytes ++ rest) failed ∙ ap (λ n. count + n) (i rest failed)
-
--- and after the end of the line
-pub counts_line : (kept now text bytes : List ℕ) (count : ℕ) → ((rest : List ℕ) (failed : Bool) → drains (text ++ rest) failed ≡ count + drains_from kept rest failed) → HasRead kept bytes true now
-    → (rest : List ℕ) (failed : Bool) → drains ((text ++ bytes) ++ rest) failed ≡ (count + one_if (are_same now drain_word)) + drains_from [] rest failed
-counts_line kept now text bytes count h i rest failed =
-    ap (λ xs. drains xs failed) (append_assoc text bytes rest) ∙ h (bytes ++ rest) failed ∙ ap (λ n. count + n) (i rest failed)
-    ∙ omega (arith)
-
--- the whole text, after which nothing comes
-pub counts_all : (kept text : List ℕ) (count : ℕ) (failed : Bool) → ((rest : List ℕ) (failed : Bool) → drains (text ++ rest) failed ≡ count + drains_from kept rest failed)
-    → drains text failed ≡ count + drains_from kept [] failed
-counts_all kept text count failed h = ap (λ xs. drains xs failed) (sym (append-nil text)) ∙ h [] failed
-
 -- so many drains, and then so many
-pub submits_both : {K : Type 0} (went : K → List Step → K → Type 0) (first last : K) (before : List Step) (n m total : ℕ) → total ≡ n + m
+submits_both : {K : Type 0} (went : K → List Step → K → Type 0) (first last : K) (before : List Step) (n m total : ℕ) → total ≡ n + m
     → went first ((before ++ replicate n Drain) ++ replicate m Drain) last → went first (before ++ replicate total Drain) last
 submits_both went first last before n m total is h =
     subst (λ (xs : List Step). went first xs last)
     (append_assoc before (replicate n Drain) (replicate m Drain) ∙ ap (λ xs. before ++ xs) (replicate-append-replicate n m Drain) ∙ ap (λ k. before ++ replicate k Drain) (sym is)) h
+
+-- From a link to another so many drains were submitted.
+abbrev pub Drained : {K : Type 0} → (K → List Step → K → Type 0) → K → ℕ → K → Type 0
+Drained went old count new = (first : _) (before : List Step) → went first before old → went first (before ++ replicate count Drain) new
+
+-- What was read of a control line up to some byte, and the drains for its lines that are over. This much is
+-- kept of the line that isn't.
+pub record HasDrained {K : Type 0} (went : K → List Step → K → Type 0) (at_first left : Option (List ℕ)) (old : K) (kept : List ℕ) (seen : ControlSeen) (new : K) : Type 0 where
+  pub count : ℕ
+  pub read : Consumes at_first left seen.text
+  pub well : seen.failed ≡ false
+  pub counted : (rest : List ℕ) (failed : Bool) → drains (seen.text ++ rest) failed ≡ count + drains_from kept rest failed
+  pub drained : Drained went old count new
+
+pub drained_none : {K : Type 0} (went : K → List Step → K → Type 0) (left : Option (List ℕ)) (link : K) → HasDrained went left left link [] new_control link
+drained_none went left link = record {
+  count = 0;
+  read = read_none left;
+  well = refl;
+  counted = λ rest failed. omega (arith);
+  drained = λ first before h. subst (λ (xs : List Step). went first xs link) (sym (append-nil before)) h;
+}
+
+-- a byte of a line
+pub drained_byte : {K : Type 0} (went : K → List Step → K → Type 0) (at_first left after : Option (List ℕ)) (old new : K) (kept later : List ℕ) (seen : ControlSeen) (byte : ℕ)
+    → HasDrained went at_first left old kept seen new → Consumes left after (byte ∷ []) → HasRead kept (byte ∷ []) false later
+    → HasDrained went at_first after old later (after_heard (hears.Byte byte) seen) new
+drained_byte went at_first left after old new kept later seen byte h read noted = record {
+  count = h.count;
+  read = read_on at_first left after seen.text (byte ∷ []) h.read read;
+  well = h.well;
+  counted = λ rest failed. ap (λ xs. drains xs failed) (append_assoc seen.text (byte ∷ []) rest) ∙ h.counted (byte ∷ rest) failed ∙ ap (λ n. h.count + n) (noted rest failed);
+  drained = h.drained;
+}
+
+-- the byte that ends a line
+pub drained_line : {K : Type 0} (went : K → List Step → K → Type 0) (at_first left after : Option (List ℕ)) (old new last : K) (kept later : List ℕ) (seen : ControlSeen) (byte : ℕ)
+    → HasDrained went at_first left old kept seen new → Consumes left after (byte ∷ []) → HasRead kept (byte ∷ []) true later → Drained went new (one_if (are_same later drain_word)) last
+    → HasDrained went at_first after old [] (after_heard (hears.Byte byte) seen) last
+drained_line went at_first left after old new last kept later seen byte h read noted drained = record {
+  count = h.count + one_if (are_same later drain_word);
+  read = read_on at_first left after seen.text (byte ∷ []) h.read read;
+  well = h.well;
+  counted = λ rest failed.
+      ap (λ xs. drains xs failed) (append_assoc seen.text (byte ∷ []) rest) ∙ h.counted (byte ∷ rest) failed ∙ ap (λ n. h.count + n) (noted rest failed)
+      ∙ omega (arith);
+  drained = λ first before w. submits_both went first last before h.count (one_if (are_same later drain_word)) _ refl (drained first _ (h.drained first before w));
+}
+
+-- no byte yet
+pub drained_still : {K : Type 0} (went : K → List Step → K → Type 0) (at_first left after : Option (List ℕ)) (old new : K) (kept : List ℕ) (seen : ControlSeen)
+    → HasDrained went at_first left old kept seen new → Consumes left after [] → HasDrained went at_first after old kept seen new
+drained_still went at_first left after old new kept seen h read = record {
+  count = h.count;
+  read = read_same at_first left after seen.text h.read read;
+  well = h.well;
+  counted = h.counted;
+  drained = h.drained;
+}
+
+-- the text that was read, behind which nothing comes
+counts_all : (kept text : List ℕ) (count : ℕ) (failed : Bool) → ((rest : List ℕ) (failed : Bool) → drains (text ++ rest) failed ≡ count + drains_from kept rest failed)
+    → drains text failed ≡ count + drains_from kept [] failed
+counts_all kept text count failed h = ap (λ xs. drains xs failed) (sym (append-nil text)) ∙ h [] failed
+
+-- the end of the input, where the last line is over too
+pub drained_all : {K : Type 0} (went : K → List Step → K → Type 0) (at_first left : Option (List ℕ)) (old new last : K) (kept : List ℕ) (seen : ControlSeen)
+    → HasDrained went at_first left old kept seen new → Drained went new (one_if (are_same kept drain_word)) last → Drained went old (drains seen.text seen.failed) last
+drained_all went at_first left old new last kept seen h drained first before w =
+    submits_both went first last before h.count (one_if (are_same kept drain_word)) _
+    (ap (λ b. drains seen.text b) h.well ∙ counts_all kept seen.text h.count false h.counted) (drained first _ (h.drained first before w))
+
+-- a fault, before which an unfinished line is none
+pub drained_before : {K : Type 0} (went : K → List Step → K → Type 0) (at_first left : Option (List ℕ)) (old new : K) (kept : List ℕ) (seen : ControlSeen)
+    → HasDrained went at_first left old kept seen new → Drained went old (drains seen.text true) new
+drained_before went at_first left old new kept seen h first before w =
+    subst (λ (n : ℕ). went first (before ++ replicate n Drain) new) (sym (counts_all kept seen.text h.count true h.counted ∙ omega (arith))) (h.drained first before w)

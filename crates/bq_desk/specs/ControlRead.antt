@@ -1,11 +1,13 @@
 -- How the control line is read.
-use Rattle.std.specs.Prelude.{ℕ, Bool, true, false, ◌≡◌, ◌+◌, List, [], ◌++◌, Option, Some, None, IfSome, Result, Ok, Err}
-use Rattle.std.specs.Io.KnownBytes.{Consumes, IsAtEnd}
+use Rattle.std.specs.Prelude.{ℕ, Bool, true, false, ◌≡◌, ◌+◌, ◌||◌, IsTrue, List, [], ◌++◌, Option, Some, None, Result, Ok, Err}
 use Rattle.bq_job.specs.declared.step.Step.{Step}
-use Rattle.bq_desk.specs.declared.control.Looked.TheVariants as looks
-use Rattle.bq_desk.specs.declared.control.Looked.{Looked}
 use Rattle.bq_job.specs.ControlDid.{are_same, drain_word, drains_from, one_if}
+use Rattle.bq_desk.specs.ControlSeen.{ControlSeen}
 use Rattle.bq_desk.specs.Links.{as_submitted}
+
+-- A read met the end of the input, or failed.
+abbrev pub IsOver : ControlSeen → Type 0
+IsOver seen = IsTrue (seen.ended || seen.failed)
 
 -- This text was read, where the reader tells its bytes: all that there was, unless the reader failed.
 abbrev pub IsReadToEnd : Option (List ℕ) → Option (List ℕ) → List ℕ → Bool → Type 0
@@ -23,10 +25,3 @@ HasRead kept bytes false new = (rest : List ℕ) (failed : Bool) → drains_from
 abbrev pub SubmitsOn : {K : Type 0} → (K → List Step → K → Type 0) → K → List Step → Step → Result (Unit {0}) Step → K → Type 0
 SubmitsOn went first before step (Ok done) new = went first (before ++ as_submitted step) new
 SubmitsOn went first before step (Err back) new = went first before new
-
--- What one look at the reader came to. With bytes, they are of one line; none are passed.
-abbrev pub HasLooked : List ℕ → Option (List ℕ) → Option (List ℕ) → Looked → List ℕ → Type 0
-HasLooked kept before after looks.Nothing new = (bytes : List ℕ) × Consumes before after bytes × HasRead kept bytes false new
-HasLooked kept before after looks.Line new = (bytes : List ℕ) × Consumes before after bytes × HasRead kept bytes true new
-HasLooked kept before after looks.End new = Consumes before after [] × IfSome before (λ bytes. IsAtEnd after) × (new ≡ kept)
-HasLooked kept before after looks.Fault new = Consumes before after [] × (new ≡ kept)

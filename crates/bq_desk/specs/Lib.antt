@@ -1,6 +1,7 @@
 pub mod Attending
 pub mod Carried
 pub mod ControlRead
+pub mod ControlSeen
 pub mod DeskOf
 pub mod DeskState
 pub mod DeskWent

@@ -1,18 +1,18 @@
 //! The control line, whose lines `drain` begin the drain.
-ghost use Rattle.std.specs.Prelude.{◌≡◌, ◌≤◌, ◌++◌, ◌∷◌, [], ℕ, Bool, List, length, replicate, take, IfErr, IsTrue, false};
+ghost use Rattle.std.specs.Prelude.{◌≡◌, ◌++◌, ◌∷◌, [], List, length, replicate, take, IfErr};
 ghost use Rattle.bq_job.specs.ControlDid.{IsControlDone, are_same, drain_word, drains, one_if};
 ghost use Rattle.bq_job.specs.declared.step.Step.{Step};
-ghost use Rattle.bq_desk.specs.ControlRead.{HasLooked, HasRead, IsReadToEnd, SubmitsOn};
+ghost use Rattle.bq_desk.specs.ControlRead.{HasRead, IsOver, IsReadToEnd, SubmitsOn};
+ghost use Rattle.bq_desk.specs.ControlSeen.{new_control};
 ghost use Rattle.bq_desk.specs.DeskOf.{WentAt, state_of};
 ghost use Rattle.bq_desk.specs.DeskState.{HasMails};
 ghost use Rattle.bq_desk.specs.Links.{as_submitted};
 
+use crate::control_line::{ControlInput, Heard};
 use crate::desk::Desk;
 use arrayvec::ArrayVec;
 use bq_job::{Seat, Step};
 use bq_line::clock::Clock;
-use bq_line::line::is_nothing_yet;
-use std::io::BufRead;
 use std::marker::Model;
 use std::sync::Wait;
 use std::thread;
@@ -70,68 +70,21 @@ impl LineSoFar {
         let _full = self.first.try_push(byte);
     }
 
+    // Whether the line is over by this byte; else it is noted.
+    fn ends_by(&mut self, byte: u8) -> bool
+        ensures { HasRead self.old (byte ∷ []) result self.new }
+    {
+        if byte == b'\n' {
+            return true;
+        }
+        self.note(byte);
+        false
+    }
+
     fn says_drain(&self) -> bool
         ensures { result ≡ are_same self.now drain_word }
     {
         self.first.as_slice() == DRAIN_WORD
-    }
-}
-
-// What one look at the reader came to.
-#[derive(Clone, Copy)]
-enum Looked {
-    // Bytes came, and no line is over.
-    Nothing,
-    // A line is over.
-    Line,
-    // The input has ended, in a last line perhaps.
-    End,
-    // The reader failed.
-    Fault,
-}
-
-// Goes over bytes up to the end of a line. How many it took, and whether the line is over.
-fn note_line(line: &mut LineSoFar, bytes: &[u8]) -> (usize, bool)
-    ensures within { result.0 ≤ length bytes.now }
-    ensures none { length bytes.now ≡ 0 → (result.0 ≡ 0) × (result.1 ≡ false) }
-    ensures some { 1 ≤ length bytes.now → 1 ≤ result.0 }
-    ensures read { HasRead line.old (take result.0 bytes.now) result.1 line.new }
-{
-    let mut taken = 0;
-    while taken < bytes.len() {
-        let byte = bytes[taken];
-        taken += 1;
-        if byte == b'\n' {
-            return (taken, true);
-        }
-        line.note(byte);
-    }
-    (taken, false)
-}
-
-// Looks once at what the reader has.
-fn look<I: BufRead>(control: &mut I, line: &mut LineSoFar) -> Looked
-    ensures { HasLooked line.old (I.remaining control.old) (I.remaining control.new) result line.new }
-{
-    let available = match control.fill_buf() {
-        Ok(available) => available,
-        Err(e) => {
-            return if is_nothing_yet(&e) {
-                Looked::Nothing
-            } else {
-                Looked::Fault
-            };
-        }
-    };
-    if available.is_empty() {
-        return Looked::End;
-    }
-    let (taken, is_over) = note_line(line, available);
-    control.consume(taken);
-    if is_over {
-        Looked::Line
-    } else {
-        Looked::Nothing
     }
 }
 
@@ -162,22 +115,27 @@ fn submit_drain_if<R: Wait, K: ControlLink>(rt: &R, link: &mut K, says_drain: bo
     }
 }
 
-// Submits a drain for each line that says so, up to the end of the input or a fault of the reader.
-fn submit_drains<R: Wait, I: BufRead, K: ControlLink>(rt: &R, control: &mut I, link: &mut K)
+// Submits a drain for each line that says so, up to the end of the input or a fault of it.
+fn submit_drains<R: Wait, I: ControlInput, K: ControlLink>(rt: &R, control: &mut I, link: &mut K)
+    requires new { I.seen control.old ≡ new_control }
     requires ready { K.is_ready link.old }
     ensures ready { K.is_ready link.new }
-    ensures done { (text : List ℕ) × (failed : Bool) × IsReadToEnd (I.remaining control.old) (I.remaining control.new) text failed × ((first : K) (before : List Step) → K.went first before link.old → K.went first (before ++ replicate (drains text failed) Step.Drain) link.new) }
+    ensures over { IsOver (I.seen control.new) }
+    ensures read { IsReadToEnd (I.remaining control.old) (I.remaining control.new) (I.seen control.new).text (I.seen control.new).failed }
+    ensures went { (first : K) (before : List Step) → K.went first before link.old → K.went first (before ++ replicate (drains (I.seen control.new).text (I.seen control.new).failed) Step.Drain) link.new }
 {
     let mut line = LineSoFar::new();
     for _ in rt.forever() {
-        match look(control, &mut line) {
-            Looked::Nothing => {}
-            Looked::Line => {
-                submit_drain_if(rt, link, line.says_drain());
-                line = LineSoFar::new();
+        match control.next() {
+            Heard::Byte(byte) => {
+                if line.ends_by(byte) {
+                    submit_drain_if(rt, link, line.says_drain());
+                    line = LineSoFar::new();
+                }
             }
-            Looked::End => return submit_drain_if(rt, link, line.says_drain()),
-            Looked::Fault => return,
+            Heard::NothingYet => {}
+            Heard::End => return submit_drain_if(rt, link, line.says_drain()),
+            Heard::Fault => return,
         }
     }
     unreachable!()
@@ -185,10 +143,19 @@ fn submit_drains<R: Wait, I: BufRead, K: ControlLink>(rt: &R, control: &mut I, l
 
 /// Reads the control line to its end or its fault, and submits a drain for each of its lines that says so,
 /// and at last that it is gone. It takes no memory, however long a line is.
-pub fn submit_control<R: Wait, I: BufRead, K: ControlLink>(rt: &R, control: &mut I, link: &mut K)
+pub fn submit_control<R: Wait, I: ControlInput, K: ControlLink>(
+    rt: &R,
+    control: &mut I,
+    link: &mut K,
+)
+    requires new { I.seen control.old ≡ new_control }
     requires ready { K.is_ready link.old }
     ensures ready { K.is_ready link.new }
-    ensures done { (text : List ℕ) × (failed : Bool) × IsReadToEnd (I.remaining control.old) (I.remaining control.new) text failed × (submitted : List Step) × IsControlDone text failed submitted × ((first : K) (before : List Step) → K.went first before link.old → K.went first (before ++ submitted) link.new) }
+    // The end of the input was met, or it failed: which of them, and after which bytes, it tells itself.
+    ensures over { IsOver (I.seen control.new) }
+    ensures read { IsReadToEnd (I.remaining control.old) (I.remaining control.new) (I.seen control.new).text (I.seen control.new).failed }
+    ensures done { (submitted : List Step) × IsControlDone (I.seen control.new).text (I.seen control.new).failed submitted
+        × ((first : K) (before : List Step) → K.went first before link.old → K.went first (before ++ submitted) link.new) }
 {
     submit_drains(rt, control, link);
     submit(rt, link, Step::Gone);
@@ -213,16 +180,20 @@ impl<'a, C: Clock + Drop> ControlLink for DeskControl<'a, C> {
 }
 
 /// Serves the control line at a desk, where its steps are those of this seat.
-pub fn serve_control<R: Wait, C: Clock + Drop, I: BufRead>(
+pub fn serve_control<R: Wait, C: Clock + Drop, I: ControlInput>(
     rt: &R,
     control: &mut I,
     desk: &mut Desk<C>,
     seat: Seat,
 )
+    requires new { I.seen control.old ≡ new_control }
     requires mails { HasMails (state_of desk.old) }
     ensures mails { HasMails (state_of desk.new) }
     ensures many { length (state_of desk.new).mails ≡ length (state_of desk.old).mails }
-    ensures done { (text : List ℕ) × (failed : Bool) × IsReadToEnd (I.remaining control.old) (I.remaining control.new) text failed × (submitted : List Step) × WentAt C.given seat desk.old submitted [] desk.new × IsControlDone text failed submitted }
+    ensures over { IsOver (I.seen control.new) }
+    ensures read { IsReadToEnd (I.remaining control.old) (I.remaining control.new) (I.seen control.new).text (I.seen control.new).failed }
+    ensures done { (submitted : List Step) × IsControlDone (I.seen control.new).text (I.seen control.new).failed submitted
+        × WentAt C.given seat desk.old submitted [] desk.new }
 {
     let mut link = DeskControl { desk, seat };
     submit_control(rt, control, &mut link);

@@ -10,6 +10,7 @@ mod answer_write;
 pub mod attendant;
 pub mod client;
 pub mod control;
+pub mod control_line;
 pub mod desk;
 pub mod desk_seat;
 mod fault;

@@ -5,6 +5,7 @@ ghost use Rattle.std.specs.IoError.{error_kind};
 ghost use Rattle.bq_job.specs.LineSteps.{LineSeen};
 ghost use Rattle.bq_line.specs.LineCalls.{after_flush, after_read, after_write, first_fault, is_nothing_yet};
 
+pub use byte_record::ByteRecord;
 pub use io_line::IoLine;
 pub use mem_line::{MemLine, Part};
 

@@ -15,6 +15,7 @@ use crate::start::Start;
 use bq_core::Config;
 use bq_desk::RunFault;
 use bq_desk::control::submit_control;
+use bq_desk::control_line::ControlLine;
 use bq_job::{NoMemory, Seat};
 use bq_line::Door;
 use bq_line::clock::Clock;
@@ -229,7 +230,7 @@ fn serve_all<
         seat: control_seat,
         at_hand: None,
     };
-    submit_control(rt, control, &mut link);
+    submit_control(rt, &mut ControlLine::new(control), &mut link);
     join_all(rt, threads, doors, served)
 }
 

@@ -1,5 +1,5 @@
 -- What a run over doors comes to.
-use Rattle.std.specs.Prelude.{ℕ, Bool, List, [], ◌∷◌, Option}
+use Rattle.std.specs.Prelude.{ℕ, ◌||◌, IsTrue, List, [], ◌∷◌, Option}
 use Rattle.bq_job.specs.declared.settings.Settings.{Settings}
 use Rattle.bq_job.specs.Headline.{IsHistoryOf}
 use Rattle.bq_job.specs.History.{LineOver}
@@ -14,14 +14,14 @@ AreAllKept lines_over (door ∷ doors) (lines ∷ more) = AreKept (lines_over do
 AreAllKept lines_over _ _ = ⊥
 
 -- The run came from this clock and this control line. The clock gave these readings. These lines are over at
--- the doors, where they keep them. This text was read of the control line to its end, where it tells it. And
--- one history of them all leads to the machine that the core stands for.
+-- the doors, where they keep them. The control line was read to its end or until it failed, and what was read
+-- of it, and which of the two it was, it tells itself. And one history of them all leads to the machine that
+-- the core stands for.
 pub record IsRunOf {D C I : Type 0} (given : C → List (Option ℕ) → C → Type 0) (lines_over : D → Option (List LineOver)) (left : I → Option (List ℕ)) (config : Settings) (clock : C) (control : I) (run : Run D C I) : Type 0 where
   pub readings : List (Option ℕ)
   pub lines : List (List LineOver)
-  pub text : List ℕ
-  pub failed : Bool
   pub gave : given clock readings run.clock
   pub kept : AreAllKept lines_over run.doors.items lines
-  pub read : IsReadToEnd (left control) (left run.control) text failed
-  pub history : IsHistoryOf config lines text failed readings run.core.machine
+  pub over : IsTrue (run.control.ended || run.control.failed)
+  pub read : IsReadToEnd (left control) (left run.control.reader) run.control.read run.control.failed
+  pub history : IsHistoryOf config lines run.control.read run.control.failed readings run.core.machine

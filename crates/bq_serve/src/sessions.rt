@@ -15,6 +15,7 @@ use bq_desk::RunFault;
 use bq_desk::attendant::Attendant;
 use bq_desk::client::Room;
 use bq_desk::control::serve_control;
+use bq_desk::control_line::ControlLine;
 use bq_desk::desk::Desk;
 use bq_desk::desk_seat::attend;
 use bq_job::{NoMemory, parts_join, steps_keep_settings};
@@ -37,7 +38,7 @@ const REST: u64 = 1;
 pub struct Run<D, C, I> {
     pub doors: Vec<D, Global>,
     pub clock: C,
-    pub control: I,
+    pub control: ControlLine<I>,
     pub core: Core,
 }
 
@@ -70,7 +71,7 @@ pub fn run_sessions<
     config: Config,
     mut doors: Vec<D, Global>,
     clock: C,
-    mut control: I,
+    control: I,
 ) -> Result<Run<D, C, I>, RunFault>
     // No line is out or over at any door, and none is at its end.
     requires new { All (λ door. IsNewDoor (door_seen D.is_out D.is_at_end D.lines_over door)) doors.items }
@@ -91,6 +92,7 @@ pub fn run_sessions<
     let Ok(mut seats) = new_seats(alloc, config.seats, config.max_job_size) else {
         return Err(RunFault::NoMemory);
     };
+    let mut control = ControlLine::new(control);
     serve_control(rt, &mut control, &mut desk, config.seats);
     serve_seats(rt, seats.as_mut_slice(), doors.as_mut_slice(), &mut desk);
     parts_join();
