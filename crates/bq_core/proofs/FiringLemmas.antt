@@ -1,8 +1,8 @@
 -- Timers of jobs fire one after another, and jobs are given back one after another.
-use Rattle.std.proofs.Common.{◌≡◌, ℕ, suc, Bool, true, false, ◌≤◌, ◌<◌, ◌+◌, ◌-◌, ◌==◌, ◌||◌, ◌&&◌, List, [], ◌∷◌, Option, Some, None, map, refl, sym, ap, ◌∙◌, arith, ◌⊎◌, inl, inr, min, if◌then◌else◌}
-use Rattle.std.specs.Prelude.{count_by, nat_le, nat_lt, option_map}
+use Rattle.std.proofs.Common.{◌≡◌, ℕ, suc, Bool, true, false, ◌≤◌, ◌<◌, ◌+◌, ◌-◌, ◌==◌, ◌||◌, ◌&&◌, List, [], ◌∷◌, Option, Some, None, map, refl, sym, ap, ◌∙◌, arith, inl, inr, min, if◌then◌else◌}
+use Rattle.std.specs.Prelude.{count_by, nat_le, option_map}
 use Rattle.std.specs.List.{AllByRecursion as All, list_any}
-use Rattle.std.proofs.lemmas.Bool.{cases_Bool, eqb-true, or_cases, or_left, or_right}
+use Rattle.std.proofs.lemmas.Bool.{cases_Bool, eqb-true, or_left, or_right}
 use Rattle.std.proofs.lemmas.Bool.Decides.{nat_tests}
 use Rattle.bq_job.specs.declared.job.Job.{Job}
 use Rattle.bq_job.specs.declared.job.JobState.{JobState}
@@ -13,15 +13,15 @@ use Rattle.bq_job.specs.Lawful.{AreIdsWithin}
 use Rattle.bq_job.specs.Limits.{greatest, grown, raised}
 use Rattle.bq_job.specs.Machine.{Machine, Pause, SeatRecord, TubeRecord}
 use Rattle.bq_job.specs.Timers.{is_due, is_expired, job_after_timers, pause_after_timers, tube_after_timers, with_timeout}
-use Rattle.bq_job.specs.Dispatch.{is_wait_before, next_job}
-use Rattle.bq_core.specs.TubeEntries.{IsFreshUnlessCounted, counted, is_counted, is_over, is_pause_over}
+use Rattle.bq_job.specs.Dispatch.{is_wait_before}
+use Rattle.bq_core.specs.TubeEntries.{counted, is_counted, is_over, is_pause_over}
 use Rattle.bq_job.specs.Waits.{ends_waiting, is_deadline_soon, is_ending_lease, is_timed_out, is_timed_out_at, next_end}
 use Rattle.bq_core.specs.EndingWaits.{has_waited, is_lease_short}
 use Rattle.bq_job.proofs.ChoiceLemmas.{first_of_contains, first_of_is_least, first_of_none, first_of_none_passes, first_of_passes, pair_order}
 use Rattle.bq_job.proofs.ListLemmas.{all_always, all_at, all_from_members, all_of_filter, all_weaker, count_all_not, count_cons, list_any_not, list_any_with, map_all_same, none_pass}
 use Rattle.bq_jobs.specs.Kept.{ranked}
 use Rattle.bq_jobs.specs.Leases.{deadline_of, is_lease_before}
-use Rattle.bq_core.specs.Firing.{ExpiresOne, IsOne, after_giving_back, after_job_timers, has_timer_due, is_ripe}
+use Rattle.bq_core.specs.Firing.{ExpiresOne, IsOne, after_giving_back, after_job_timers, is_ripe}
 use Rattle.bq_core.proofs.KickLemmas.{finds_each, none_with, one_of_id}
 
 -- changing one job and then all is changing all, where the second change makes up for the first
@@ -349,19 +349,6 @@ none_counted moment entries h =
     list_any_not (is_pause_over moment) (counted entries)
     (all_weaker (λ t. (is_pause_over moment t ≡ false) × (is_counted t ≡ true)) (λ t. is_pause_over moment t ≡ false) (counted entries) (λ t k. k.0) (all_of_filter (λ t. is_pause_over moment t ≡ false) is_counted entries (none_pass (is_pause_over moment) entries h)))
 
--- a pause that is over is one of the machine's
-pub some_counted : (moment : ℕ) (entries : List TubeRecord) → All IsFreshUnlessCounted entries → list_any (is_pause_over moment) entries ≡ true → list_any (is_pause_over moment) (counted entries) ≡ true
-some_counted moment [] fresh h = h
-some_counted moment (t ∷ entries) fresh h = go (is_counted t) refl (or_cases (is_pause_over moment t) (list_any (is_pause_over moment) entries) h) (some_counted moment entries fresh.1)
-  where
-    go : (b : Bool) → is_counted t ≡ b → (is_pause_over moment t ≡ true) ⊎ (list_any (is_pause_over moment) entries ≡ true)
-        → (list_any (is_pause_over moment) entries ≡ true → list_any (is_pause_over moment) (counted entries) ≡ true)
-        → list_any (is_pause_over moment) (if b then t ∷ counted entries else counted entries) ≡ true
-    go true e (inl over) rest = or_left (is_pause_over moment t) (list_any (is_pause_over moment) (counted entries)) over
-    go true e (inr more) rest = or_right (is_pause_over moment t) (list_any (is_pause_over moment) (counted entries)) (rest more)
-    go false e (inl over) rest = absurd (let none = ap (is_pause_over moment) (fresh.0 e) in cc)
-    go false e (inr more) rest = rest more
-
 pub no_pause_ends : (moment : ℕ) (tubes : List TubeRecord) → list_any (is_pause_over moment) tubes ≡ false → map (tube_after_timers moment) tubes ≡ tubes
 no_pause_ends moment tubes h = map_all_same (tube_after_timers moment) tubes (all_weaker (λ t. is_pause_over moment t ≡ false) (λ t. tube_after_timers moment t ≡ t) tubes (λ t none. stays t t.pause refl none) (none_pass (is_pause_over moment) tubes h))
   where
@@ -370,19 +357,3 @@ no_pause_ends moment tubes h = map_all_same (tube_after_timers moment) tubes (al
     stays t (Some p) e h =
         let same : pause_after_timers moment (Some p) ≡ Some p = rw h refl in
         ap (λ q. record t { pause = pause_after_timers moment q }) e ∙ ap (λ q. record t { pause = q }) (same ∙ sym e)
-
--- a timer of a job had come, or a pause was over
-pub due_by_job : (m : Machine) → 1 ≤ count_by (is_ripe m.moment) m.jobs → has_timer_due m ≡ true
-due_by_job m some =
-    let come : nat_lt 0 (count_by (is_ripe m.moment) m.jobs) ≡ true = grind (arith, nat_tests) in
-    or_left _ (list_any (is_pause_over m.moment) m.tubes) come
-
-pub due_by_pause : (m mid : Machine) → mid ≡ after_job_timers m → list_any (is_pause_over mid.moment) mid.tubes ≡ true → has_timer_due m ≡ true
-due_by_pause m mid after over =
-    or_right (nat_lt 0 (count_by (is_ripe m.moment) m.jobs)) _ (ap (λ (x : Machine). list_any (is_pause_over x.moment) x.tubes) (sym after) ∙ over)
-
--- where no timer of a job fired and no pause ended, the same job is next
-pub quiet_next : (m mid last : Machine) → mid ≡ after_job_timers m → mid.jobs ≡ m.jobs → last ≡ mid → next_job last ≡ next_job m
-quiet_next m mid last after jobs same =
-    let kept : map (job_after_timers m.moment) m.jobs ≡ m.jobs = sym (ap (λ (x : Machine). x.jobs) after) ∙ jobs in
-    ap next_job (same ∙ after) ∙ ap (λ js. next_job (record m { jobs = js })) kept

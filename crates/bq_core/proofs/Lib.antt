@@ -16,12 +16,11 @@ pub mod LossLemmas
 pub mod NameLemmas
 pub mod NamedLemmas
 pub mod PauseLemmas
-pub mod QuietActs
-pub mod QuietLemmas
 pub mod SeatPlaces
 pub mod StateLemmas
 pub mod StepCosts
 pub mod StepLemmas
+pub mod StirLemmas
 pub mod TallyLemmas
 pub mod TallyPlaces
 pub mod TextLemmas

@@ -98,10 +98,3 @@ end_to_come moment best (t ∷ entries) hb none =
     over : (moment : ℕ) (p : Option PauseRecord) → is_over moment p ≡ false → is_end_over moment (earliest (dues_of_pause p)) ≡ false
     over moment None h = refl
     over moment (Some pause) h = h
-
-pub some_over : (moment : ℕ) (entries : List TubeRecord) → is_end_over moment (first_pause_end entries) ≡ true → list_any (is_pause_over moment) entries ≡ true
-some_over moment entries h = go (list_any (is_pause_over moment) entries) refl
-  where
-    go : (b : Bool) → list_any (is_pause_over moment) entries ≡ b → b ≡ true
-    go true e = refl
-    go false e = absurd (let never = end_to_come moment None entries refl e in cc)

@@ -71,7 +71,7 @@ entries_of_fewer p jobs seats entries e = record {
   of_seats = e.of_seats;
 }
 
-all_added : (P : Job → Type 0) (j : Job) (jobs : List Job) → P j → All P jobs → All P (with_added j jobs)
+pub all_added : (P : Job → Type 0) (j : Job) (jobs : List Job) → P j → All P jobs → All P (with_added j jobs)
 all_added P j [] h all = (h, tt)
 all_added P j (k ∷ jobs) h all = go (nat_lt k.id j.id) (all_added P j jobs h all.1)
   where
@@ -145,7 +145,7 @@ no_job_changed id f (k ∷ jobs) h = elim (cases_Bool (k.id == id)) [
 -- comparisons change nothing else
 pub compared_sound : (old new : State) → OnlyCompares old new → IsSound old → IsSound new
 compared_sound old new same s =
-    let was : IsSound (record old { jobs = record old.jobs { comparisons = new.jobs.comparisons } }) = record { entries = s.entries; numbered = s.numbered; next = s.next; ids = s.ids; counts = s.counts; clients = s.clients; crowds = s.crowds; alive = s.alive; pauses = s.pauses } in
+    let was : IsSound (record old { jobs = record old.jobs { comparisons = new.jobs.comparisons } }) = record { entries = s.entries; numbered = s.numbered; next = s.next; ids = s.ids; counts = s.counts; clients = s.clients; crowds = s.crowds; alive = s.alive; stirs = s.stirs; pauses = s.pauses } in
     subst IsSound (sym same) was
 
 -- a change of a seat leaves it at tubes with entries

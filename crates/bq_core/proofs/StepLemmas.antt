@@ -23,9 +23,6 @@ use Rattle.bq_job.specs.TubeName.{is_same_name}
 use Rattle.bq_job.proofs.DispatchLemmas.{turn_of}
 use Rattle.bq_job.proofs.KeptLemmas.{Keeps, kept_of_lawful}
 use Rattle.bq_job.proofs.RecordLemmas.{Booked, booked_of_lawful, booked_timers}
-use Rattle.bq_core.specs.Stirring.{has_stirred}
-use Rattle.bq_core.proofs.QuietActs.{acted_quiet}
-use Rattle.bq_core.proofs.QuietLemmas.{IsNoFuller, none_for_fewer, none_for_forgotten}
 use Rattle.bq_job.proofs.LawfulLemmas.{end_of, lawful_when_served, kept_of_timers, only_tubes, leaves_acted, length_addressed, seats_many, served}
 use Rattle.bq_core.specs.declared.state.State.{State}
 use Rattle.bq_core.specs.Acting.{Acts}
@@ -256,11 +253,3 @@ lawful_before_act first fired served_state at begun between lawful fires serves 
     (subst Keeps (begins first fired at lawful fires) (kept_of_timers at (machine_of first) (kept_of_lawful (machine_of first) lawful)))
     (subst Booked (begins first fired at lawful fires) (booked_timers at (machine_of first) (booked_of_lawful (machine_of first) lawful)))
     serves.serves
-
--- where the command's own effect stirred nothing, no client may have a job after it
-pub quiet_after_act : (first : State) (at seat : ℕ) (what : Step) (begun between asked : Outbox) (acted_state left : State) (b : Begun first at seat what begun between asked acted_state left) → has_stirred what (machine_of b.served_state) (machine_of acted_state) ≡ false → next_job (machine_of left) ≡ None
-quiet_after_act first at seat what begun between asked acted_state left b quiet =
-    let lawful = lawful_before_act first b.fired b.served_state at begun between b.lawful b.fires b.serves in
-    let before = machine_of b.served_state in
-    let fewer = subst (IsNoFuller before) (sym b.acts.after) (acted_quiet b.acts.memory before seat what lawful.seats (subst (λ n. has_stirred what before n ≡ false) b.acts.after quiet)) in
-    ap next_job b.forgotten ∙ none_for_forgotten (machine_of acted_state) (none_for_fewer before (machine_of acted_state) fewer lawful.dispatched)

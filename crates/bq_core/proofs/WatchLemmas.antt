@@ -16,7 +16,7 @@ use Rattle.bq_job.specs.Asked.{after_close, after_connect, asked, at_found, at_s
 use Rattle.bq_job.specs.Changes.{first_of, in_state, is_held_by, is_waiting, job_with, seat_with, with_job, with_seat}
 use Rattle.bq_job.specs.Computed.{waiting_count}
 use Rattle.bq_job.specs.Dispatch.{is_job_before, reserved_by}
-use Rattle.bq_job.specs.JobCommands.{after_delete, after_put, buried, is_buried_in, is_delayed_in, is_free_for, kicked, new_job, released, waiting_from}
+use Rattle.bq_job.specs.JobCommands.{after_delete, buried, is_buried_in, is_delayed_in, is_free_for, kicked, released, waiting_from}
 use Rattle.bq_job.specs.JobStates.{is_buried, is_buried_before, is_delayed, is_due_before, is_reserved}
 use Rattle.bq_job.specs.Lawful.{IsLawful, has_one, none_twice, watches_once}
 use Rattle.bq_job.specs.Limits.{later, raised}

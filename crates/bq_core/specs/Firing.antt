@@ -1,13 +1,11 @@
 -- Timers of jobs fire, one job after another.
-use Rattle.std.specs.Prelude.{ℕ, Bool, ◌≡◌, ◌||◌, IsTrue, List, Some, count_by, map, nat_lt}
-use Rattle.std.specs.List.{list_any}
+use Rattle.std.specs.Prelude.{ℕ, Bool, ◌≡◌, ◌||◌, IsTrue, List, Some, count_by, map}
 use Rattle.bq_job.specs.declared.job.Job.{Job}
 use Rattle.bq_job.specs.declared.job.JobState.{JobState}
 use Rattle.bq_job.specs.Changes.{given_back, job_with, with_job}
 use Rattle.bq_job.specs.Limits.{grown}
 use Rattle.bq_job.specs.Machine.{Machine}
 use Rattle.bq_job.specs.Timers.{is_due, is_expired, job_after_timers, tube_after_timers}
-use Rattle.bq_core.specs.TubeEntries.{is_pause_over}
 
 -- the machine once all timers of jobs have fired
 abbrev pub after_job_timers : Machine → Machine
@@ -19,10 +17,6 @@ after_job_timers m = record m {
 -- a timer of the job has come
 abbrev pub is_ripe : ℕ → Job → Bool
 is_ripe moment j = is_due moment j.state || is_expired moment j.state
-
--- a timer of a job has come, or a pause is over
-abbrev pub has_timer_due : Machine → Bool
-has_timer_due m = nat_lt 0 (count_by (is_ripe m.moment) m.jobs) || list_any (is_pause_over m.moment) m.tubes
 
 -- the machine once pauses have ended
 abbrev pub with_pauses_ended : Machine → Machine

@@ -24,7 +24,7 @@ pub mod Putting
 pub mod SeatChanges
 pub mod Serving
 pub mod State
-pub mod Stirring
+pub mod Stirs
 pub mod Tallies
 pub mod Texts
 pub mod TubeEntries

@@ -8,6 +8,7 @@ use Rattle.bq_core.specs.Crowds.{AreCrowds}
 use Rattle.bq_core.specs.Dues.{first_pause_end}
 use Rattle.bq_core.specs.Losses.{AreAlive}
 use Rattle.bq_core.specs.SeatChanges.{AreNumbered}
+use Rattle.bq_core.specs.Stirs.{AreKnown}
 use Rattle.bq_core.specs.Tallies.{AreCounted}
 use Rattle.bq_core.specs.TubeEntries.{AreEntries, counted}
 use Rattle.bq_core.specs.declared.state.State.{State}
@@ -43,6 +44,8 @@ pub record IsSound (s : State) : Type 0 where
   pub crowds : AreCrowds s.tubes.crowds s.seats.items s.tubes.entries
   -- It is known which entries may be of tubes that are gone.
   pub alive : AreAlive s.loss s.jobs.jobs s.seats.items s.tubes.entries
+  -- It is known which jobs waiting clients may have.
+  pub stirs : AreKnown s.stir s.jobs.jobs s.seats.items (counted s.tubes.entries)
   -- The end of the first pause is known.
   pub pauses : s.pause_end ≡ first_pause_end s.tubes.entries
 

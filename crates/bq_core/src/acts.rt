@@ -1,14 +1,12 @@
-ghost use Rattle.std.specs.Prelude.{◌≡◌, ◌==◌, ◌&&◌, Some, true};
+ghost use Rattle.std.specs.Prelude.{◌≡◌, Some, true};
 ghost use Rattle.bq_job.specs.declared.step.Step.TheVariants as steps;
 ghost use Rattle.bq_job.specs.Asked.{asked, effect, refusal_answer as answer_of_refusal};
 ghost use Rattle.bq_job.specs.Changes.{seat_with};
 ghost use Rattle.bq_job.specs.Machine.{SeatRecord};
 ghost use Rattle.bq_job.specs.Steps.{step_takes_memory, takes_memory};
-ghost use Rattle.bq_job.specs.Tubes.{is_paused};
 ghost use Rattle.bq_core.specs.Acting.{Acts, Replies, is_asking};
 ghost use Rattle.bq_core.specs.Asking.{AsksAsChanged};
 ghost use Rattle.bq_core.specs.State.{machine_of, IsSound};
-ghost use Rattle.bq_core.specs.Stirring.{ends_pause, has_stirred};
 ghost use Rattle.bq_core.specs.Turns.{HasRoom};
 
 use crate::job_acts::{NewJob, NewTurn};
@@ -18,7 +16,7 @@ use crate::reply::Reply;
 use crate::seat_list::SeatChange;
 use crate::state::State;
 use crate::{job_acts, kicks, leases, state, statistics_acts, tube_acts};
-use bq_job::{Answer, Refusal, Request, Seat, Step, TubeName};
+use bq_job::{Answer, Refusal, Request, Seat, Step};
 use std::alloc::Global;
 
 fn connect(state: &mut State, seat: Seat)
@@ -173,8 +171,8 @@ fn reply_to(state: &mut State, alloc: Global, seat: Seat, what: Step) -> Reply
     }
 }
 
-// Carries out the command's own effect, and adds its answer.
-fn carry_out(state: &mut State, alloc: Global, seat: Seat, what: Step, outs: &mut Outs)
+/// Carries out the command's own effect, and adds its answer.
+pub(crate) fn act(state: &mut State, alloc: Global, seat: Seat, what: Step, outs: &mut Outs)
     requires sound { IsSound state.old }
     requires room { HasRoom 1 (machine_of state.old) outs.old }
     ensures acts { Acts (machine_of state.old) seat what outs.old outs.new (machine_of state.new) }
@@ -194,41 +192,4 @@ fn carry_out(state: &mut State, alloc: Global, seat: Seat, what: Step, outs: &mu
             outs.push(seat, Answer::OutOfMemory);
         }
     }
-}
-
-// Whether a pause for so many seconds ends one of this tube.
-fn lifts_pause(state: &State, tube: &TubeName, seconds: u32) -> bool
-    requires { IsSound state.now }
-    ensures { result ≡ (seconds == 0 && is_paused tube.now (machine_of state.now)) }
-{
-    seconds == 0 && state.tubes.is_paused(tube)
-}
-
-// Whether the step, where it is carried out, ends the pause of a tube.
-fn ends_pause(state: &State, what: &Step) -> bool
-    requires { IsSound state.now }
-    ensures { result ≡ ends_pause what.now (machine_of state.now) }
-{
-    match what {
-        Step::Ask(Request::PauseTube { tube, delay }) => lifts_pause(state, tube, *delay),
-        _ => false,
-    }
-}
-
-/// Carries out the command's own effect, and adds its answer. Tells whether it stirred something, so that a
-/// client may have a job that none could have before.
-pub(crate) fn act(state: &mut State, alloc: Global, seat: Seat, what: Step, outs: &mut Outs) -> bool
-    requires sound { IsSound state.old }
-    requires room { HasRoom 1 (machine_of state.old) outs.old }
-    ensures acts { Acts (machine_of state.old) seat what outs.old outs.new (machine_of state.new) }
-    ensures stirred { result ≡ has_stirred what (machine_of state.old) (machine_of state.new) }
-    ensures asks { AsksAsChanged state.old.jobs state.new.jobs }
-    ensures sound { IsSound state.new }
-    ensures config { state.new.config ≡ state.old.config }
-{
-    let has_ended = ends_pause(state, &what);
-    let ready = state.tally.ready;
-    let waiting = state.clients.waiting;
-    carry_out(state, alloc, seat, what, outs);
-    has_ended || ready < state.tally.ready || waiting < state.clients.waiting
 }

@@ -13,6 +13,7 @@ ghost use Rattle.bq_core.specs.Cost.{waited, waited_entries};
 ghost use Rattle.bq_core.specs.HandOuts.{HandsOut};
 ghost use Rattle.bq_core.specs.Offers.{better_rank, offered, with_offer, with_offers};
 ghost use Rattle.bq_core.specs.State.{machine_of, IsSound, OnlyCompares};
+ghost use Rattle.bq_core.specs.Stirs.{is_nothing};
 ghost use Rattle.bq_core.specs.Turns.{Gives, HasRoom};
 
 use crate::job_list::JobChange;
@@ -20,6 +21,7 @@ use crate::outs::Outs;
 use crate::place::Place;
 use crate::seat_list::SeatChange;
 use crate::state::State;
+use crate::stir::Stir;
 use crate::tubes::Tubes;
 use crate::{seat_list, state};
 use bq_job::{Answer, Body, JobId, NoMemory, Seat, TubeName};
@@ -225,19 +227,19 @@ fn dispatch_all(state: &mut State, outs: &mut Outs)
 }
 
 /// While some waiting client may have a ready job, the least of them goes to the client that has waited
-/// longest. Where nothing has stirred, nobody may have one.
-pub(crate) fn dispatch(state: &mut State, outs: &mut Outs, has_stirred: bool)
+/// longest. Where it is known that nobody may have one, none is looked for.
+pub(crate) fn dispatch(state: &mut State, outs: &mut Outs)
     requires sound { IsSound state.old }
     requires room { HasRoom 0 (machine_of state.old) outs.old }
-    requires quiet { has_stirred ≡ false → next_job (machine_of state.old) ≡ None }
     ensures given { Gives DispatchTurn has_refused_share (machine_of state.old) (machine_of state.new) outs.old outs.new }
     ensures done { next_job (machine_of state.new) ≡ None }
-    ensures idle { has_stirred ≡ false → (state.new.jobs ≡ state.old.jobs) × (machine_of state.new ≡ machine_of state.old) }
+    ensures idle { is_nothing state.old.stir ≡ true → state.new.jobs ≡ state.old.jobs }
     ensures asks { AsksByTurn (waited (machine_of state.old)) outs.old outs.new state.old.jobs state.new.jobs }
     ensures sound { IsSound state.new }
     ensures config { state.new.config ≡ state.old.config }
 {
-    if has_stirred {
+    if !state.stir.is_nothing() {
         dispatch_all(state, outs);
+        state.stir = Stir::Nothing;
     }
 }

@@ -1,6 +1,6 @@
 ghost use Rattle.std.specs.Prelude.{◌≡◌, ◌||◌, not, Some, is_some, IfSome, IfOk};
 ghost use Rattle.std.specs.Option.{option_map};
-ghost use Rattle.bq_job.specs.Changes.{first_of, job_with};
+ghost use Rattle.bq_job.specs.Changes.{first_of, is_ready, job_with};
 ghost use Rattle.bq_job.specs.Changes.{is_held_by as held_by};
 ghost use Rattle.bq_job.specs.Dispatch.{reserved_by};
 ghost use Rattle.bq_job.specs.JobStates.{is_buried, is_delayed, is_reserved};
@@ -86,6 +86,13 @@ pub(crate) fn is_held_by(job: &Job, seat: Seat) -> bool
         JobState::Reserved(holder, _) => holder == seat,
         _ => false,
     }
+}
+
+/// Whether the job is ready.
+pub(crate) fn is_ready(job: &Job) -> bool
+    ensures { result ≡ is_ready job.now }
+{
+    matches!(job.state, JobState::Ready)
 }
 
 /// Whether some client holds the job.

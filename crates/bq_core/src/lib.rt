@@ -32,6 +32,7 @@ mod seat_list;
 mod shares;
 mod state;
 mod statistics_acts;
+mod stir;
 mod tally;
 mod texts;
 mod timers;

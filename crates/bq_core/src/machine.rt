@@ -1,5 +1,4 @@
 ghost use Rattle.std.specs.Prelude.{◌≡◌, ◌<◌, ◌↔◌, ◌&&◌, None, false, not, IsTrue, IfOk, IsErrOf};
-ghost use Rattle.bq_job.specs.Dispatch.{next_job};
 ghost use Rattle.bq_job.specs.Lawful.{IsLawful};
 ghost use Rattle.bq_job.specs.Machine.{new_machine};
 ghost use Rattle.bq_job.specs.NextDue.{next_due};
@@ -39,16 +38,15 @@ impl Model for Core {
 }
 
 // Jobs are dispatched, and then waits end.
-fn serve(state: &mut State, outs: &mut Outs, has_stirred: bool)
+fn serve(state: &mut State, outs: &mut Outs)
     requires sound { IsSound state.old }
-    requires quiet { has_stirred ≡ false → next_job (machine_of state.old) ≡ None }
     requires tubes { NoneIsGone (machine_of state.old) }
     requires room { HasRoom 0 (machine_of state.old) outs.old }
     ensures served { ServesAsking (machine_of state.old) outs.old outs.new (machine_of state.new) state.old.jobs state.new.jobs }
     ensures sound { IsSound state.new }
     ensures config { state.new.config ≡ state.old.config }
 {
-    dispatch::dispatch(state, outs, has_stirred);
+    dispatch::dispatch(state, outs);
     waits::end_waits(state, outs);
 }
 
@@ -65,11 +63,11 @@ fn take_step(state: &mut State, alloc: Global, at: Moment, seat: Seat, what: Ste
 {
     outs.begin();
     state::raise_moment(state, at);
-    let has_fired = timers::fire(state);
-    serve(state, outs, has_fired);
-    let has_stirred = acts::act(state, alloc, seat, what, outs);
+    timers::fire(state);
+    serve(state, outs);
+    acts::act(state, alloc, seat, what, outs);
     state::forget_tubes(state);
-    serve(state, outs, has_stirred);
+    serve(state, outs);
 }
 
 fn is_seat_count(seats: u16) -> bool

@@ -25,10 +25,11 @@ use crate::loss::Loss;
 use crate::name_lists::Names;
 use crate::place::Place;
 use crate::seat_list::SeatChange;
+use crate::stir::Stir;
 use crate::tally::Tally;
 use crate::tube_entry::TubeChange;
 use crate::tubes::Tubes;
-use crate::{job_list, leaving, loss, seat_list, shares};
+use crate::{job_list, leaving, loss, seat_list, shares, stir};
 use bq_job::{Body, Job, JobId, Moment, NoMemory, Seat, TubeName};
 use bq_jobs::{Jobs, laws};
 use std::alloc::Global;
@@ -47,6 +48,8 @@ pub(crate) struct State {
     pub(crate) clients: Clients,
     /// Which tubes may be gone whose entries are still there.
     pub(crate) loss: Loss,
+    /// Which jobs the clients that wait may have.
+    pub(crate) stir: Stir,
     /// When the first pause of a tube ends.
     pub(crate) pause_end: Option<Moment>,
     pub(crate) moment: Moment,
@@ -60,12 +63,13 @@ pub(crate) struct State {
 }
 
 impl State {
-    ghost use Rattle.std.specs.Prelude.{is_some};
+    ghost use Rattle.std.specs.Prelude.{◌&&◌, is_some};
     ghost use Rattle.std.specs.Option.{option_map};
     ghost use Rattle.bq_job.specs.declared.job.Job.{Job};
-    ghost use Rattle.bq_job.specs.Changes.{first_of, is_waiting};
+    ghost use Rattle.bq_job.specs.Changes.{first_of, is_ready, is_waiting};
     ghost use Rattle.bq_core.specs.JobKinds.{is_before_of, is_of};
     ghost use Rattle.bq_core.specs.Acting.{is_asking, is_connected, is_free};
+    ghost use Rattle.bq_core.specs.Crowds.{is_waiter};
     ghost use Rattle.bq_core.specs.JobChanges.{is_passed_by, passes, ttr_held_by};
 
     /// Whether there is a seat of this number, and nobody is connected there.
@@ -153,6 +157,22 @@ impl State {
     {
         self.clients.waiting > 0
     }
+
+    /// Whether somebody waits at the tube.
+    pub(crate) fn has_waiter_at(&self, tube: &TubeName) -> bool
+        requires { IsSound self.now }
+        ensures { result ≡ list_any (is_waiter tube.now) self.now.seats.items }
+    {
+        self.has_waiter() && self.tubes.crowd_of(tube).waiting > 0
+    }
+
+    // Whether the job is ready, and somebody waits at its tube.
+    fn is_wanted(&self, job: &Job) -> bool
+        requires { IsSound self.now }
+        ensures { result ≡ (is_ready job.now && list_any (is_waiter job.now.tube) self.now.seats.items) }
+    {
+        job_list::is_ready(job) && self.has_waiter_at(&job.tube)
+    }
 }
 
 /// Makes room for a job, where there is none.
@@ -181,6 +201,8 @@ pub(crate) fn add(state: &mut State, job: Job)
     ensures sound { IsSound state.new }
     ensures config { state.new.config ≡ state.old.config }
 {
+    let is_wanted = state.is_wanted(&job);
+    stir::stir_tube_if(&mut state.stir, &job.tube, is_wanted);
     state.tally.add(&job);
     state.tubes.add_job(&job);
     loss::find(&mut state.loss, &job.tube);
@@ -244,6 +266,7 @@ pub(crate) fn change_seat(state: &mut State, seat: Seat, what: &SeatChange)
     let place = seat_list::find(state.seats.as_slice(), seat);
     state.clients.add(place);
     shares::recount(&mut state.tubes, place, Moving::Comes, touched);
+    stir::stir_seat(&mut state.stir, seat, what);
     // So many seats there can be, and no count comes to its end.
     let _seats = state.seats.len();
 }
@@ -258,6 +281,7 @@ pub(crate) fn change_tube(state: &mut State, tube: &TubeName, what: TubeChange)
     ensures config { state.new.config ≡ state.old.config }
 {
     state.tubes.change(tube, what);
+    stir::stir_change(&mut state.stir, tube, what);
     state.pause_end = state.tubes.pause_end_after(what, state.pause_end);
 }
 
@@ -309,6 +333,7 @@ pub(crate) fn watch_tube(
     match seat_list::watch(&mut state.seats, alloc, seat, tube) {
         Ok(count) => {
             state.tubes.recount(tube, Moving::Comes, share);
+            stir::stir_all_if(&mut state.stir, share.waiting);
             Ok(count)
         }
         Err(fault) => Err(fault),
@@ -404,6 +429,7 @@ pub(crate) fn first_state(config: Config, seats: Vec<Place, Global>, tubes: Tube
         tally: Tally::default(),
         clients: Clients::default(),
         loss: Loss::Nothing,
+        stir: Stir::Nothing,
         pause_end: None,
         moment: 0,
         next_id: 1,

@@ -1,16 +1,15 @@
 //! Timers that are due fire.
 ghost use Rattle.std.specs.Prelude.{◌≡◌, ◌<◌, ◌≤◌, ◌+◌, ◌*◌, true, false, IfSome, None, count_by, if◌then◌else◌};
 ghost use Rattle.std.specs.List.{list_any};
-ghost use Rattle.bq_job.specs.Dispatch.{next_job};
 ghost use Rattle.bq_job.specs.Timers.{after_timers, is_due, is_expired};
 ghost use Rattle.bq_jobs.specs.Kept.{ComparesAtMost};
 ghost use Rattle.bq_core.specs.Asking.{Asks};
-ghost use Rattle.bq_core.specs.Firing.{ExpiresOne, IsOne, after_job_timers, has_timer_due, is_ripe, with_pauses_ended};
+ghost use Rattle.bq_core.specs.Firing.{ExpiresOne, IsOne, after_job_timers, is_ripe, with_pauses_ended};
 ghost use Rattle.bq_core.specs.State.{machine_of, IsSound};
-ghost use Rattle.bq_core.specs.TubeEntries.{is_pause_over};
 
 use crate::job_list::JobChange;
 use crate::state::State;
+use crate::stir::Stir;
 use crate::{pauses, state};
 use bq_job::{JobId, Moment};
 use bq_jobs::Jobs;
@@ -116,8 +115,8 @@ fn fire_one(state: &mut State) -> bool
     ripen(state) || expire(state)
 }
 
-// The timers of jobs fire that are left to fire.
-fn fire_more(state: &mut State)
+// The timers of jobs fire.
+fn fire_jobs(state: &mut State)
     requires { IsSound state.old }
     ensures after { machine_of state.new ≡ after_job_timers (machine_of state.old) }
     ensures asks { Asks (10 * count_by (is_ripe state.old.moment) (machine_of state.old).jobs + 2) state.old.jobs state.new.jobs }
@@ -127,53 +126,30 @@ fn fire_more(state: &mut State)
     while fire_one(state) {}
 }
 
-// The timers of jobs fire. Tells whether one did.
-fn fire_jobs(state: &mut State) -> bool
-    requires { IsSound state.old }
-    ensures after { machine_of state.new ≡ after_job_timers (machine_of state.old) }
-    ensures fired { result ≡ true → 1 ≤ count_by (is_ripe state.old.moment) (machine_of state.old).jobs }
-    ensures same { result ≡ false → (machine_of state.new).jobs ≡ (machine_of state.old).jobs }
-    ensures asks { Asks (10 * count_by (is_ripe state.old.moment) (machine_of state.old).jobs + 2) state.old.jobs state.new.jobs }
-    ensures sound { IsSound state.new }
-    ensures config { state.new.config ≡ state.old.config }
-{
-    if fire_one(state) {
-        fire_more(state);
-        true
-    } else {
-        false
-    }
-}
-
-// Pauses end. Tells whether one did. Where none does, no tube is looked at.
-fn end_pauses(state: &mut State) -> bool
+// Pauses end. Where none does, no tube is looked at.
+fn end_pauses(state: &mut State)
     requires { IsSound state.old }
     ensures after { machine_of state.new ≡ with_pauses_ended (machine_of state.old) }
-    ensures ended { result ≡ true → list_any (is_pause_over state.old.moment) (machine_of state.old).tubes ≡ true }
-    ensures same { result ≡ false → machine_of state.new ≡ machine_of state.old }
     ensures jobs { state.new.jobs ≡ state.old.jobs }
     ensures sound { IsSound state.new }
     ensures config { state.new.config ≡ state.old.config }
 {
     if !pauses::is_over(state.pause_end, state.moment) {
-        return false;
+        return;
     }
     state.tubes.fire_timers(state.moment);
     state.pause_end = state.tubes.first_pause_end();
-    true
+    state.stir = Stir::Any;
 }
 
-/// Timers that are due fire. Tells whether one did: something may have become ready by that, or can be had now.
-pub(crate) fn fire(state: &mut State) -> bool
+/// Timers that are due fire.
+pub(crate) fn fire(state: &mut State)
     requires { IsSound state.old }
     ensures after { machine_of state.new ≡ after_timers (machine_of state.old) }
-    ensures fired { result ≡ true → has_timer_due (machine_of state.old) ≡ true }
-    ensures quiet { result ≡ false → next_job (machine_of state.new) ≡ next_job (machine_of state.old) }
     ensures asks { Asks (10 * count_by (is_ripe state.old.moment) (machine_of state.old).jobs + 2) state.old.jobs state.new.jobs }
     ensures sound { IsSound state.new }
     ensures config { state.new.config ≡ state.old.config }
 {
-    let has_fired = fire_jobs(state);
-    let has_ended = end_pauses(state);
-    has_fired || has_ended
+    fire_jobs(state);
+    end_pauses(state);
 }

@@ -1,9 +1,30 @@
-use Rattle.std.proofs.Common.{refl}
+use Rattle.std.proofs.Common.{refl, sym}
 use Rattle.bq_job.specs.Dispatch.{DispatchTurn}
 use Rattle.bq_job.specs.Steps.{has_refused_share}
 use Rattle.bq_core.specs.State.{machine_of}
+use Rattle.bq_core.proofs.StirLemmas.{known_nothing, none_known}
 use Rattle.bq_core.proofs.TurnLemmas.{gives_nothing}
 use Rattle.bq_core.proofs.dispatch.dispatch.Goals as goal
 
-pub returns-else-has_stirred-clause-given : goal.returns-else-has_stirred-clause-given
-returns-else-has_stirred-clause-given c = gives_nothing DispatchTurn has_refused_share refl (machine_of c.args.state.now) c.args.outs.now
+pub returns-then-not-is_nothing-clause-sound : goal.returns-then-not-is_nothing-clause-sound
+returns-then-not-is_nothing-clause-sound c =
+    let was = c.dispatch_all.ensures.sound in
+    record {
+      entries = was.entries;
+      numbered = was.numbered;
+      next = was.next;
+      ids = was.ids;
+      counts = was.counts;
+      clients = was.clients;
+      crowds = was.crowds;
+      alive = was.alive;
+      stirs = known_nothing (machine_of c.dispatch_all.new.state) c.dispatch_all.ensures.done;
+      pauses = was.pauses;
+    }
+
+pub returns-else-not-is_nothing-clause-done : goal.returns-else-not-is_nothing-clause-done
+returns-else-not-is_nothing-clause-done c =
+    none_known c.args.state.now.stir (machine_of c.args.state.now) (sym c.if-not-is_nothing.ensures) c.requires.sound.stirs
+
+pub returns-else-not-is_nothing-clause-given : goal.returns-else-not-is_nothing-clause-given
+returns-else-not-is_nothing-clause-given c = gives_nothing DispatchTurn has_refused_share refl (machine_of c.args.state.now) c.args.outs.now

@@ -16,5 +16,6 @@ returns-clause-sound c =
       clients = was.clients;
       crowds = was.crowds;
       alive = was.alive;
+      stirs = was.stirs;
       pauses = was.pauses;
     }

@@ -1,4 +1,4 @@
-use Rattle.std.proofs.Common.{◌∙◌, ap, sym}
+use Rattle.std.proofs.Common.{◌∙◌, ap, subst, sym}
 use Rattle.bq_core.specs.Dues.{first_pause_end, pause_end_after}
 use Rattle.bq_core.specs.State.{machine_of}
 use Rattle.bq_core.specs.TubeEntries.{counted, tube_changed, tube_changed_at}
@@ -8,6 +8,9 @@ use Rattle.bq_core.proofs.PauseLemmas.{end_after_change}
 use Rattle.bq_core.proofs.StateLemmas.{entries_of_tube, name_kept_at, tube_counts, tube_name_kept}
 use Rattle.bq_core.proofs.TallyPlaces.{counted_kept}
 use Rattle.bq_core.proofs.TubeLemmas.{record_changed}
+use Rattle.bq_job.specs.Machine.{Machine}
+use Rattle.bq_core.specs.Stirs.{AreKnown, stirred_by_change}
+use Rattle.bq_core.proofs.StirLemmas.{known_of_change}
 use Rattle.bq_core.proofs.state.change_tube.Goals as goal
 
 pub returns-clause-after : goal.returns-clause-after
@@ -31,6 +34,9 @@ returns-clause-sound c =
       clients = was.clients;
       crowds = rw (c.change.ensures.entries, c.change.ensures.crowds) (crowds_kept (tube_changed_at c.args.tube.now c.args.what) (name_kept_at c.args.tube.now c.args.what) s.tubes.crowds s.seats.items s.tubes.entries was.crowds);
       alive = rw c.change.ensures.entries (alive_renamed (tube_changed_at c.args.tube.now c.args.what) (name_kept_at c.args.tube.now c.args.what) s.loss s.jobs.jobs s.seats.items s.tubes.entries was.alive);
+      stirs =
+          let known = known_of_change c.args.tube.now c.args.what (machine_of s) s.stir was.stirs in
+          rw c.stir_change.ensures (subst (λ ts. AreKnown (stirred_by_change c.args.tube.now c.args.what s.stir) s.jobs.jobs s.seats.items ts) (ap (λ (m : Machine). m.tubes) (sym (returns-clause-after c))) known);
       pauses =
           c.pause_end_after-state.ensures
           ∙ ap (λ ts. pause_end_after ts c.args.what s.pause_end) c.change.ensures.entries

@@ -1,12 +1,14 @@
-use Rattle.std.proofs.Common.{◌≡◌, ◌∙◌, ap, arith, sym}
+use Rattle.std.proofs.Common.{◌≡◌, ◌∙◌, ap, arith, subst, sym}
 use Rattle.std.specs.Prelude.{filter}
-use Rattle.bq_job.specs.Machine.{TubeRecord}
+use Rattle.bq_job.specs.Machine.{Machine, TubeRecord}
 use Rattle.bq_core.specs.Dues.{first_pause_end, pause_end_left}
 use Rattle.bq_core.specs.State.{machine_of}
 use Rattle.bq_core.specs.TubeEntries.{counted, is_counted, is_tube_of}
 use Rattle.bq_core.proofs.LossLemmas.{alive_forgotten, end_of_those_left}
 use Rattle.bq_core.proofs.StateLemmas.{entries_forgotten}
 use Rattle.bq_core.proofs.TubeLemmas.{filters_swap}
+use Rattle.bq_core.specs.Stirs.{AreKnown}
+use Rattle.bq_core.proofs.StirLemmas.{known_forgotten}
 use Rattle.bq_core.proofs.state.forget_tubes.Goals as goal
 
 pub returns-clause-after : goal.returns-clause-after
@@ -32,6 +34,7 @@ returns-clause-sound c =
       clients = was.clients;
       crowds = record { each = (c.forget_lost.ensures.kept s.jobs.jobs s.seats.items was.counts.each was.crowds.each).1; seated = was.crowds.seated };
       alive = rw left (alive_forgotten s.jobs.jobs s.seats.items s.tubes.entries);
+      stirs = subst (λ ts. AreKnown s.stir s.jobs.jobs s.seats.items ts) (ap (λ (m : Machine). m.tubes) (sym (returns-clause-after c))) (known_forgotten (machine_of s) s.stir was.stirs);
       pauses =
           c.pause_end_left-state.ensures
           ∙ ap (λ ts. pause_end_left ts c.len-entries.result s.pause_end) left

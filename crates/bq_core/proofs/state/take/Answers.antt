@@ -3,9 +3,11 @@ use Rattle.bq_job.proofs.KeptLemmas.{ids_of_filter}
 use Rattle.bq_jobs.proofs.Changes.{without_none}
 use Rattle.bq_core.specs.Dues.{first_pause_end}
 use Rattle.bq_core.specs.Tallies.{tallies_of, tally_of}
-use Rattle.bq_core.specs.TubeEntries.{has_entry}
+use Rattle.bq_core.specs.Stirs.{IsKnown}
+use Rattle.bq_core.specs.TubeEntries.{counted, has_entry}
+use Rattle.std.specs.List.{AllByRecursion as All}
 use Rattle.bq_core.proofs.LossLemmas.{alive_taken}
-use Rattle.bq_core.proofs.StateLemmas.{entries_of_fewer, given_of_job, has_of_job}
+use Rattle.bq_core.proofs.StateLemmas.{all_filtered, entries_of_fewer, given_of_job, has_of_job}
 use Rattle.bq_core.proofs.TallyPlaces.{counted_taken}
 use Rattle.bq_core.proofs.state.take.Goals as goal
 
@@ -22,6 +24,7 @@ returns-in_err-job-clause-sound c =
       clients = c.requires.clients;
       crowds = c.requires.crowds;
       alive = rw same c.requires.alive;
+      stirs = rw same c.requires.stirs;
       pauses = c.requires.pauses;
     }
 
@@ -54,5 +57,6 @@ returns-clause-sound c =
       clients = was.clients;
       crowds = rw (c.remove_job.ensures.crowds, c.remove_job.ensures.entries) was.crowds;
       alive = rw (c.lose.ensures, c.remove.ensures.jobs, c.remove_job.ensures.entries) (alive_taken 1 st.next_id c.args.id j st.loss st.jobs.jobs st.seats.items st.tubes.entries was.ids found was.alive);
+      stirs = rw (c.remove.ensures.jobs, c.remove_job.ensures.entries) (all_filtered (λ k. All (IsKnown st.stir (counted st.tubes.entries) k) st.seats.items) (λ k. not (k.id == c.args.id)) st.jobs.jobs was.stirs);
       pauses = was.pauses ∙ ap first_pause_end (sym c.remove_job.ensures.entries);
     }

@@ -13,6 +13,8 @@ use Rattle.bq_core.specs.TubeEntries.{counted}
 use Rattle.bq_core.proofs.CrowdWatching.{crowds_watching}
 use Rattle.bq_core.proofs.LossLemmas.{alive_watching}
 use Rattle.bq_core.proofs.StateLemmas.{changed_there, seat_read, seat_there, watching_more, watching_numbered}
+use Rattle.bq_core.specs.declared.crowd.Share.{Share}
+use Rattle.bq_core.proofs.StirLemmas.{known_watching}
 use Rattle.bq_core.proofs.state.watch_tube.Goals as goal
 
 pub returns-then-from-len-clause-count : goal.returns-then-from-len-clause-count
@@ -66,5 +68,6 @@ returns-in-Ok-clause-sound c =
       clients = p.sound.clients ∙ sym (clients_watching (t.watched ++ c.args.tube.now ∷ []) c.args.seat t mid.seats.items here p.sound.numbered) ∙ ap clients_of (sym seats);
       crowds = rw (seats, entries, c.recount.ensures.crowds, share) (crowds_watching c.args.tube.now c.args.seat t mid.tubes.crowds mid.seats.items mid.tubes.entries here p.sound.numbered few p.sound.entries.order fresh p.sound.crowds);
       alive = rw (seats, entries) (alive_watching c.args.tube.now c.args.seat t mid.loss mid.jobs.jobs mid.seats.items mid.tubes.entries here p.sound.alive);
+      stirs = rw (c.stir_all_if.ensures, ap (λ (s : Share). s.waiting) share, seats, entries) (known_watching (t.watched ++ c.args.tube.now ∷ []) c.args.seat t mid.stir mid.jobs.jobs mid.seats.items (counted mid.tubes.entries) p.sound.stirs);
       pauses = p.sound.pauses ∙ ap first_pause_end (sym entries);
     }

@@ -1,16 +1,17 @@
-use Rattle.std.proofs.Common.{◌≡◌, ◌∙◌, ap, refl, false, sym, true}
+use Rattle.std.proofs.Common.{◌≡◌, ◌∙◌, ap, refl, false, sym}
 use Rattle.std.specs.List.{list_any}
 use Rattle.bq_job.specs.Timers.{tube_after_timers}
-use Rattle.bq_core.specs.Dues.{first_pause_end, is_end_over}
+use Rattle.bq_core.specs.Dues.{is_end_over}
 use Rattle.bq_core.specs.State.{machine_of}
 use Rattle.bq_core.specs.TubeEntries.{counted, is_counted, is_pause_over}
-use Rattle.bq_core.proofs.FiringLemmas.{no_pause_ends, none_counted, some_counted}
+use Rattle.bq_core.proofs.FiringLemmas.{no_pause_ends, none_counted}
 use Rattle.bq_core.proofs.CrowdPlaces.{crowds_kept}
 use Rattle.bq_core.proofs.LossLemmas.{alive_renamed}
-use Rattle.bq_core.proofs.PauseLemmas.{none_over, some_over}
+use Rattle.bq_core.proofs.PauseLemmas.{none_over}
 use Rattle.bq_core.proofs.StateLemmas.{entries_of_timers}
 use Rattle.bq_core.proofs.TallyPlaces.{counted_kept}
 use Rattle.bq_core.proofs.TubeLemmas.{filter_of_map}
+use Rattle.bq_core.proofs.StirLemmas.{known_any}
 use Rattle.bq_core.proofs.timers.end_pauses.Goals as goal
 
 pub returns-clause-after : goal.returns-clause-after
@@ -31,6 +32,7 @@ returns-clause-sound c =
       clients = was.clients;
       crowds = rw (c.fire_timers.ensures.entries, c.fire_timers.ensures.crowds) (crowds_kept (tube_after_timers s.moment) (λ t. refl) s.tubes.crowds s.seats.items s.tubes.entries was.crowds);
       alive = rw c.fire_timers.ensures.entries (alive_renamed (tube_after_timers s.moment) (λ t. refl) s.loss s.jobs.jobs s.seats.items s.tubes.entries was.alive);
+      stirs = known_any s.jobs.jobs s.seats.items (counted c.fire_timers.new.self.entries);
       pauses = c.first_pause_end-state.ensures;
     }
 
@@ -39,9 +41,3 @@ returns-then-not-is_over-clause-after c =
     let s = c.args.state.now in
     let none : list_any (is_pause_over s.moment) s.tubes.entries ≡ false = none_over s.moment s.tubes.entries (ap (is_end_over s.moment) (sym c.requires.pauses) ∙ sym c.if-not-is_over.ensures) in
     ap (λ tubes. record (machine_of s) { tubes = tubes }) (sym (no_pause_ends s.moment (counted s.tubes.entries) (none_counted s.moment s.tubes.entries none)))
-
-pub returns-clause-ended : goal.returns-clause-ended
-returns-clause-ended c _ =
-    let s = c.args.state.now in
-    let over : is_end_over s.moment (first_pause_end s.tubes.entries) ≡ true = ap (is_end_over s.moment) (sym c.requires.pauses) ∙ sym c.if-not-is_over.ensures in
-    some_counted s.moment s.tubes.entries c.requires.entries.fresh (some_over s.moment s.tubes.entries over)

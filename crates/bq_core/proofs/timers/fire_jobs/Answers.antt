@@ -1,18 +1,35 @@
-use Rattle.std.proofs.Common.{◌≡◌, ◌∙◌, ◌+◌, ◌*◌, ap, arith, refl, subst}
+use Rattle.std.proofs.Common.{◌≡◌, ◌<◌, ap, arith, refl, subst, ◌∙◌}
 use Rattle.std.specs.Prelude.{count_by}
 use Rattle.bq_job.specs.Machine.{Machine}
-use Rattle.bq_core.specs.Asking.{Asks}
 use Rattle.bq_core.specs.Firing.{is_ripe}
 use Rattle.bq_core.specs.State.{machine_of}
-use Rattle.bq_core.proofs.AskLemmas.{asks_more, asks_then}
+use Rattle.bq_core.proofs.AskLemmas.{asks_more, asks_none, asks_then}
 use Rattle.bq_core.proofs.timers.fire_jobs.Goals as goal
 
-pub returns-then-fire_one-clause-after : goal.returns-then-fire_one-clause-after
-returns-then-fire_one-clause-after c = c.fire_more.ensures.after ∙ c.if-fire_one.ensures.fired
+pub loop-init : goal.loop-init
+loop-init c = record {
+  left = refl;
+  asks = asks_more _ (omega arith) (asks_none c.args.state.now.jobs);
+  fewer = omega arith;
+  sound = c.requires;
+  config = refl;
+}
 
-pub returns-then-fire_one-clause-asks : goal.returns-then-fire_one-clause-asks
-returns-then-fire_one-clause-asks c =
-    let at : c.fire_one.new.state.moment ≡ c.args.state.now.moment = ap (λ (x : Machine). x.moment) c.if-fire_one.ensures.fired in
-    let more = subst (λ t. Asks (10 * count_by (is_ripe t) (machine_of c.fire_one.new.state).jobs + 2) c.fire_one.new.state.jobs c.fire_more.new.state.jobs) at c.fire_more.ensures.asks in
-    let falls = c.if-fire_one.ensures.fewer refl in
-    asks_more _ (omega arith) (asks_then (c.if-fire_one.ensures.asks refl) more)
+pub loop-preserved : goal.loop-preserved
+loop-preserved c =
+    let was = c.loop.invariant in
+    let at : c.loop.state.moment ≡ c.args.state.now.moment = ap (λ (x : Machine). x.moment) was.left in
+    let falls = subst (λ t. count_by (is_ripe t) (machine_of c.fire_one.new.state).jobs < count_by (is_ripe t) (machine_of c.loop.state).jobs) at (c.loop-test.ensures.fewer refl) in
+    let most = was.fewer in
+    record {
+      left = c.loop-test.ensures.fired ∙ was.left;
+      asks = asks_more _ (omega arith) (asks_then was.asks (c.loop-test.ensures.asks refl));
+      fewer = omega arith;
+      sound = c.loop-test.ensures.sound;
+      config = c.loop-test.ensures.config ∙ was.config;
+    }
+
+pub returns-clause-asks : goal.returns-clause-asks
+returns-clause-asks c =
+    let most = c.loop.invariant.fewer in
+    asks_more _ (omega arith) (asks_then c.loop.invariant.asks (c.loop-test.ensures.asks_last refl))

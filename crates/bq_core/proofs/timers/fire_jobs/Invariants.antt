@@ -4,7 +4,7 @@ use Rattle.std.specs.Prelude.{count_by}
 use Rattle.bq_core.specs.Asking.{Asks}
 use Rattle.bq_core.specs.Firing.{after_job_timers, is_ripe}
 use Rattle.bq_core.specs.State.{IsSound, machine_of}
-use Rattle.bq_core.proofs.timers.fire_more.Given as goal
+use Rattle.bq_core.proofs.timers.fire_jobs.Given as goal
 
 abbrev pub invariant-loop : goal.invariant-loop
 invariant-loop l = record {

@@ -1,5 +1,5 @@
 use Rattle.bq_core.proofs.ActLemmas.{acts_silent, acts_told}
-use Rattle.bq_core.proofs.acts.carry_out.Goals as goal
+use Rattle.bq_core.proofs.acts.act.Goals as goal
 
 pub returns-in-Silent-clause-acts : goal.returns-in-Silent-clause-acts
 returns-in-Silent-clause-acts c = acts_silent _ _ _ _ _ c.in-Silent.ensures.reply
