@@ -1,3 +1,4 @@
+pub mod Ends
 pub mod RunSettings
 pub mod Sessions
 pub mod Turns

@@ -7,8 +7,10 @@
 pub use bq_desk::RunFault;
 pub use bq_line::{Door, DoorFault, MemDoor, TcpDoor, clock, line};
 pub use bq_lock::{Locked, LockedRun, run_locked};
+pub use no_ticks::NoTicks;
 pub use one::{One, run_one};
 pub use sessions::{Run, run_sessions};
 
+mod no_ticks;
 mod one;
 mod sessions;
