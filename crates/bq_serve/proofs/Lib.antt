@@ -1,3 +1,5 @@
 pub mod AloneLemmas
+pub mod EndLemmas
+pub mod SeatWorkLemmas
 pub mod SessionsLemmas
 pub mod TurnsLemmas

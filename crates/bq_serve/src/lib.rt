@@ -11,6 +11,9 @@ pub use no_ticks::NoTicks;
 pub use one::{One, run_one};
 pub use sessions::{Run, run_sessions};
 
+pub mod control_work;
+mod end_seat;
 mod no_ticks;
 mod one;
+pub mod seat_work;
 mod sessions;

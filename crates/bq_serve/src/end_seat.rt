@@ -1,0 +1,107 @@
+//! An end of the links, as a seat and as the control line see it.
+ghost use Rattle.std.specs.Prelude.{◌≡◌, [], ℕ, Bool, List};
+ghost use Rattle.bq_job.specs.ControlDid.{IsControlDone};
+ghost use Rattle.bq_job.specs.declared.step.Step.{Step};
+ghost use Rattle.bq_desk.specs.ControlRead.{IsReadToEnd};
+ghost use Rattle.bq_desk.specs.Links.{Submits};
+ghost use Rattle.bq_desk.specs.Tending.{GoesOn, IsPlaced, door_seen};
+ghost use Rattle.bq_link.specs.EndStates.{IsSameSeat};
+ghost use Rattle.bq_serve.specs.Ends.{EndWent};
+
+use crate::no_ticks::NoTicks;
+use bq_desk::attendant::Attendant;
+use bq_desk::client::Room;
+use bq_desk::control::{ControlLink, submit_control};
+use bq_desk::link::Link;
+use bq_job::{Answer, Step};
+use bq_line::Door;
+use bq_line::line::Line;
+use bq_link::{Intake, SeatEnd};
+use std::io::BufRead;
+use std::sync::Wait;
+
+/// The end of a seat, or of the control line, with the intake into which it submits.
+#[derive(Drop)]
+pub struct EndSeat<'a, R> {
+    rt: &'a R,
+    intake: &'a Intake<NoTicks>,
+    end: &'a mut SeatEnd,
+}
+
+impl<'a, R: Wait> Link for EndSeat<'a, R> {
+    ghost is_ready = { λ l. l.end.now.intake ≡ l.intake.now.id };
+
+    // Who drops the link knows the end by it.
+    ghost went = { λ first submitted taken last. (last.end.ghost_name ≡ first.end.ghost_name) × (last.intake ≡ first.intake)
+        × EndWent first.end.now submitted taken last.end.now };
+
+    fn submit(&mut self, step: Step) -> Result<(), Step> {
+        submit_at(self.rt, self.intake, self.end, step)
+    }
+
+    fn mail(&mut self) -> Option<Answer> {
+        self.end.mail()
+    }
+}
+
+impl<'a, R: Wait> ControlLink for EndSeat<'a, R> {
+    ghost is_ready = { λ l. l.end.now.intake ≡ l.intake.now.id };
+
+    ghost went = { λ first submitted last. (last.end.ghost_name ≡ first.end.ghost_name) × (last.intake ≡ first.intake)
+        × EndWent first.end.now submitted [] last.end.now };
+
+    fn submit(&mut self, step: Step) -> Result<(), Step> {
+        submit_at(self.rt, self.intake, self.end, step)
+    }
+}
+
+// Submits a step at an end, or hands it back where the intake is full. A tick is no seat's own, and is passed.
+fn submit_at<R: Wait>(
+    rt: &R,
+    intake: &Intake<NoTicks>,
+    end: &mut SeatEnd,
+    step: Step,
+) -> Result<(), Step>
+    requires intake { end.old.intake ≡ intake.now.id }
+    ensures intake { end.new.intake ≡ intake.now.id }
+    ensures went { Submits EndWent end.old step result end.new }
+{
+    match step {
+        Step::Tick => Ok(()),
+        other => end.submit(rt, intake, other),
+    }
+}
+
+/// One action of a seat that attends to a door, by its end of the links. Says whether something moved.
+pub fn attend_at<R: Wait, L: Line + Drop, D: Door<Line = L>>(
+    rt: &R,
+    intake: &Intake<NoTicks>,
+    end: &mut SeatEnd,
+    attendant: &mut Attendant<L>,
+    door: &mut D,
+    room: &mut Room,
+) -> bool
+    requires intake { end.old.intake ≡ intake.now.id }
+    requires placed { IsPlaced attendant.old.place (door_seen D.is_out D.is_at_end D.lines_over door.old) }
+    ensures same { IsSameSeat end.old end.new }
+    ensures went { let at = door_seen D.is_out D.is_at_end D.lines_over in
+        GoesOn EndWent end.old end.new L.seen attendant.old (at door.old) attendant.new (at door.new) }
+{
+    let mut link = EndSeat { rt, intake, end };
+    attendant.go_on(door, &mut link, room)
+}
+
+/// Serves the control line by its end of the links.
+pub fn control_at<R: Wait, I: BufRead>(
+    rt: &R,
+    intake: &Intake<NoTicks>,
+    end: &mut SeatEnd,
+    control: &mut I,
+)
+    requires intake { end.old.intake ≡ intake.now.id }
+    ensures done { (text : List ℕ) × (failed : Bool) × IsReadToEnd (I.remaining control.old) (I.remaining control.new) text failed
+        × (submitted : List Step) × EndWent end.old submitted [] end.new × IsControlDone text failed submitted }
+{
+    let mut link = EndSeat { rt, intake, end };
+    submit_control(rt, control, &mut link);
+}
