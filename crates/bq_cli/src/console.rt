@@ -1,6 +1,7 @@
 //! An input and an output as one stream.
 ghost use Rattle.std.specs.Prelude.{◌≡◌};
 
+use bq_serve::line::ReadNow;
 use std::io;
 use std::io::{Read, Write};
 
@@ -37,6 +38,9 @@ impl<I: Read, O> Read for Console<I, O> {
         self.input.read(buf)
     }
 }
+
+// A program's input is waited for, whatever else comes.
+impl<I: Read, O> ReadNow for Console<I, O> {}
 
 impl<I, O: Write> Write for Console<I, O> {
     ghost contents = { λ console. O.contents console.output };

@@ -11,7 +11,7 @@ use crate::session::{Served, serve_client};
 use crate::told::{tell_client, tell_stop};
 use bq_options::{BqdOptions, OptionFault, Program, bqd_options};
 use bq_serve::clock::MachineClock;
-use bq_serve::line::{IoLine, Line};
+use bq_serve::line::{IoLine, Line, ReadNow};
 use std::alloc::Global;
 use std::io::{Eprint, ErrorKind, Print, Read, Write};
 use std::net::{Net, TcpListener, TcpStream};
@@ -22,7 +22,7 @@ use std::{env, io};
 
 /// All that `bq` does: it serves the client at the other end of the stream, as the program's words choose, and
 /// tells what came of it. It returns the status of the program.
-pub fn run_bq<R: AllocGlobal + Env + Wait + Clock + Print + Eprint, S: Read + Write + Drop>(
+pub fn run_bq<R: AllocGlobal + Env + Wait + Clock + Print + Eprint, S: ReadNow + Write + Drop>(
     rt: &R,
     stream: S,
 ) -> u8
@@ -35,7 +35,7 @@ pub fn run_bq<R: AllocGlobal + Env + Wait + Clock + Print + Eprint, S: Read + Wr
     tell_client(rt, &came)
 }
 
-fn came_of_client<R: AllocGlobal + Env + Wait + Clock, S: Read + Write + Drop>(
+fn came_of_client<R: AllocGlobal + Env + Wait + Clock, S: ReadNow + Write + Drop>(
     rt: &R,
     stream: S,
 ) -> Result<Served<S>, Stop>

@@ -8,11 +8,11 @@ use bq_core::Config;
 use bq_job::LineEnd;
 use bq_options::{BqOptions, bq_options};
 use bq_serve::clock::{Clock, MachineClock, ScriptClock};
-use bq_serve::line::{IoLine, Line};
+use bq_serve::line::{IoLine, Line, ReadNow};
 use bq_serve::run_one;
 use std::alloc::{AllocError, Global};
 use std::convert::AsStr;
-use std::io::{Read, Write};
+use std::io::Write;
 use std::rt;
 use std::sync::Wait;
 
@@ -25,7 +25,7 @@ pub struct Served<S> {
 
 /// Serves the client at the other end of the stream, as the words choose. The first word is the program's
 /// name.
-pub fn serve_client<'a, R: Wait, W: AsStr, S: Read + Write + Drop, K: rt::Clock + Drop>(
+pub fn serve_client<'a, R: Wait, W: AsStr, S: ReadNow + Write + Drop, K: rt::Clock + Drop>(
     rt: &R,
     alloc: Global,
     words: &'a [W],
@@ -42,7 +42,7 @@ pub fn serve_client<'a, R: Wait, W: AsStr, S: Read + Write + Drop, K: rt::Clock 
 }
 
 // Serves the client by these options.
-fn serve_chosen<R: Wait, S: Read + Write + Drop, K: rt::Clock + Drop>(
+fn serve_chosen<R: Wait, S: ReadNow + Write + Drop, K: rt::Clock + Drop>(
     rt: &R,
     alloc: Global,
     options: &BqOptions,
@@ -64,7 +64,7 @@ fn serve_chosen<R: Wait, S: Read + Write + Drop, K: rt::Clock + Drop>(
 
 // Serves the client by this clock: the line lies over the stream, and what is promised of it is what
 // `run_one` promises.
-fn serve_by<R: Wait, S: Read + Write + Drop, C: Clock + Drop>(
+fn serve_by<R: Wait, S: ReadNow + Write + Drop, C: Clock + Drop>(
     rt: &R,
     alloc: Global,
     options: &BqOptions,

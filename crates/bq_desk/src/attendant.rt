@@ -56,6 +56,11 @@ impl<L: Line + Drop> Attendant<L> {
         matches!(self.place, Place::Done)
     }
 
+    /// Whether nothing but its line can move it: the line is to be read, and no answer is outstanding.
+    pub fn awaits_line(&self) -> bool {
+        matches!(self.place, Place::On(_, Action::Read)) && !self.machine.has_outstanding()
+    }
+
     /// One action of the seat, and whether something moved by it. A step that was handed back is submitted
     /// again at the next turn.
     pub fn go_on<D: Door<Line = L>, K: Link>(

@@ -1,7 +1,9 @@
 //! A seat's machine at work on a line.
 ghost use Rattle.std.specs.Prelude.{◌≡◌, ◌++◌, [], ℕ, List, IsTrue};
+ghost use Rattle.std.specs.Io.{ReadsAtMost};
 ghost use Rattle.bq_job.specs.declared.answer.Answer.{Answer};
 ghost use Rattle.bq_job.specs.declared.step.Step.{Step};
+ghost use Rattle.bq_line.specs.LineCalls.{after_read};
 ghost use Rattle.bq_desk.specs.Carried.{Carried, HasGone};
 
 use crate::answer_write::write_answer;
@@ -9,6 +11,7 @@ use crate::link::Link;
 use bq_job::Answer;
 use bq_line::line::{Line, is_nothing_yet};
 use bq_seat::{Action, Event, PIECE_ROOM, SeatMachine};
+use std::io;
 
 /// Room for one read of a line. It is made once a run, since a new one would be filled with zeros first.
 pub type Room = [u8; PIECE_ROOM];
@@ -48,7 +51,7 @@ pub fn carry_out<L: Line, K: Link>(
 fn read<L: Line>(machine: &mut SeatMachine, line: &mut L, room: &mut Room) -> (Action, bool)
     ensures { Carried machine.old (L.seen line.old) Action.Read machine.new (L.seen line.new) result.0 [] [] }
 {
-    match line.read(room) {
+    match read_line(machine, line, room) {
         Ok(0) => (machine.on(Event::EndOfInput), true),
         Ok(count) => (machine.on(Event::Bytes(&room[..count])), true),
         Err(e) => {
@@ -58,6 +61,18 @@ fn read<L: Line>(machine: &mut SeatMachine, line: &mut L, room: &mut Room) -> (A
                 (machine.on(Event::ReadFault), true)
             }
         }
+    }
+}
+
+// The line is waited for only where no answer is outstanding.
+fn read_line<L: Line>(machine: &SeatMachine, line: &mut L, room: &mut Room) -> io::Result<usize>
+    ensures bound { ReadsAtMost result room.new }
+    ensures seen { L.seen line.new ≡ after_read result room.new (L.seen line.old) }
+{
+    if machine.has_outstanding() {
+        line.read_now(room)
+    } else {
+        line.read(room)
     }
 }
 

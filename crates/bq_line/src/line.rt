@@ -6,12 +6,16 @@ ghost use Rattle.bq_job.specs.LineSteps.{LineSeen};
 ghost use Rattle.bq_line.specs.LineCalls.{after_flush, after_read, after_write, first_fault, is_nothing_yet};
 
 pub use byte_record::ByteRecord;
+pub use connection::Connection;
 pub use io_line::IoLine;
 pub use mem_line::{MemLine, Part};
+pub use read_now::ReadNow;
 
 mod byte_record;
+mod connection;
 mod io_line;
 mod mem_line;
+mod read_now;
 
 use bq_job::LineFault;
 use std::io;
@@ -25,8 +29,14 @@ pub trait Line {
 
     /// Reads at most as many bytes as the buffer has, as `std::io::Read` does. 0 bytes are the end of the
     /// input. `WouldBlock`, `TimedOut` and `Interrupted` say that there are none yet; any other error is
-    /// a read fault.
+    /// a read fault. It may wait for bytes, without end.
     fn read(&mut self, buf: &mut [u8]) -> io::Result<usize>
+        requires { 0 < length buf.old }
+        ensures bound { ReadsAtMost result buf.new }
+        ensures seen { seen self.new ≡ after_read result buf.new (seen self.old) };
+
+    /// The same where nothing may be waited for: without bytes it says so at once, if the line can.
+    fn read_now(&mut self, buf: &mut [u8]) -> io::Result<usize>
         requires { 0 < length buf.old }
         ensures bound { ReadsAtMost result buf.new }
         ensures seen { seen self.new ≡ after_read result buf.new (seen self.old) };

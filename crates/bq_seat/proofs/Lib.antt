@@ -4,5 +4,6 @@ pub mod InTurnLemmas
 pub mod LooksLemmas
 pub mod MoveLemmas
 pub mod OpenLemmas
+pub mod OutstandingLemmas
 pub mod ReadingLemmas
 pub mod StepLemmas

@@ -1,6 +1,7 @@
 pub mod Finds
 pub mod InTurn
 pub mod Looks
+pub mod Outstanding
 pub mod Past
 pub mod SeatMoves
 pub mod SeatParts

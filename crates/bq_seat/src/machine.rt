@@ -88,6 +88,7 @@ pub struct SeatMachine {
 impl SeatMachine {
     ghost use Rattle.bq_seat.specs.Past.{Awaited};
     ghost use Rattle.bq_job.specs.OneClient.{is_closed_answer};
+    ghost use Rattle.bq_seat.specs.Outstanding.{ReadsWith};
     ghost use Rattle.bq_seat.specs.SeatMoves.{FitsPiece, IsMove};
     ghost use Rattle.bq_seat.specs.SeatParts.{GoesOn, IsStagedMove, asking_stage, in_stage, reads_on};
     ghost use Rattle.bq_seat.specs.SeatStands.{awaited};
@@ -121,6 +122,17 @@ impl SeatMachine {
         ensures { IsMove self.old event.entry result self.new }
     {
         self.answered(event)
+    }
+
+    /// Whether a request waits for its answer while the line is read. Where it does, a read that waits would
+    /// keep the answer from the client.
+    pub fn has_outstanding(&self) -> bool
+        ensures { ReadsWith result self.now }
+    {
+        match self.stage {
+            Stage::ReadingOn => true,
+            _ => false,
+        }
     }
 
     fn answered(&mut self, event: Event<'_>) -> Action

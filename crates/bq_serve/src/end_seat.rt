@@ -1,5 +1,6 @@
 //! An end of the links, as a seat and as the control line see it.
 ghost use Rattle.std.specs.Prelude.{◌≡◌, [], ℕ, Bool, List};
+ghost use Rattle.std.specs.Option.{option_to_list};
 ghost use Rattle.bq_job.specs.ControlDid.{IsControlDone};
 ghost use Rattle.bq_job.specs.declared.step.Step.{Step};
 ghost use Rattle.bq_desk.specs.ControlRead.{IsReadToEnd};
@@ -19,6 +20,15 @@ use bq_line::line::Line;
 use bq_link::{Intake, SeatEnd};
 use std::io::BufRead;
 use std::sync::Wait;
+use std::thread;
+use std::time::Duration;
+
+/// How often an end looks whether an answer has come before it rests.
+const LOOKS: u32 = 50;
+
+/// How long an end rests whose answer hasn't come, in milliseconds. Then the line of a seat whose reserve waits is
+/// read again: a client that has gone is noticed.
+const LONGEST_REST: u64 = 100;
 
 /// The end of a seat, or of the control line, with the intake into which it submits.
 #[derive(Drop)]
@@ -40,7 +50,7 @@ impl<'a, R: Wait> Link for EndSeat<'a, R> {
     }
 
     fn mail(&mut self) -> Option<Answer> {
-        self.end.mail()
+        mail_at(self.rt, self.intake, self.end)
     }
 }
 
@@ -70,6 +80,22 @@ fn submit_at<R: Wait>(
         Step::Tick => Ok(()),
         other => end.submit(rt, intake, other),
     }
+}
+
+// Takes the oldest answer that came to an end. Where there is none yet the end looks again some times, since most
+// steps are answered at once, and then it rests until its bell is rung.
+fn mail_at<R: Wait>(rt: &R, intake: &Intake<NoTicks>, end: &mut SeatEnd) -> Option<Answer>
+    ensures { EndWent end.old [] (option_to_list result) end.new }
+{
+    for _ in 0..LOOKS {
+        let answer = end.mail();
+        if answer.is_some() {
+            return answer;
+        }
+        thread::yield_now();
+    }
+    end.wait(rt, intake, Duration::from_millis(LONGEST_REST));
+    end.mail()
 }
 
 /// One action of a seat that attends to a door, by its end of the links. Says whether something moved.

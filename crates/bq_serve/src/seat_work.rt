@@ -16,10 +16,11 @@ use bq_line::line::Line;
 use bq_link::{Intake, SeatEnd};
 use bq_seat::{PIECE_ROOM, SeatMachine};
 use std::sync::Wait;
+use std::thread;
 use std::time::Duration;
 
-/// How long a seat rests at most where nothing moved, in milliseconds.
-const REST: u64 = 1;
+/// How long a seat rests whose line has no bytes yet and didn't wait for any, in milliseconds.
+const LINE_REST: u64 = 10;
 
 /// Serves the lines of a door one after another, until no more come. Steps are submitted at an end of the
 /// links, and their answers taken there.
@@ -51,8 +52,20 @@ pub fn seat_work<R: Wait, L: Line + Drop, D: Door<Line = L> + Drop>(
             return (end, door);
         }
         if !attend_at(rt, intake, &mut end, &mut attendant, &mut door, room) {
-            end.wait(rt, intake, Duration::from_millis(REST));
+            rest(rt, intake, &mut end, attendant.awaits_line());
         }
     }
     unreachable!()
+}
+
+// Before the same is tried again where nothing moved. A look at the mail has rested by itself, and a full intake
+// has room again soon.
+fn rest<R: Wait>(rt: &R, intake: &Intake<NoTicks>, end: &mut SeatEnd, awaits_line: bool)
+    ensures { end.new ≡ end.old }
+{
+    if awaits_line {
+        end.wait(rt, intake, Duration::from_millis(LINE_REST));
+    } else {
+        thread::yield_now();
+    }
 }

@@ -2,15 +2,11 @@ ghost use Rattle.std.specs.Prelude.{◌≡◌, ◌+◌, ℕ, IsTrue, None, OnErr
 ghost use Rattle.bq_line.specs.Doors.{IsOpened};
 
 use super::{Door, DoorFault};
-use crate::line::{IoLine, Line};
+use crate::line::{Connection, IoLine, Line};
 use bq_job::LineEnd;
 use std::io;
 use std::io::ErrorKind;
 use std::net::{TcpListener, TcpStream};
-use std::time::Duration;
-
-/// How long a read waits for bytes, in milliseconds.
-const READ_TIMEOUT: u64 = 10;
 
 /// A door at which connections come that a listener accepts. Many doors can share a listener: a connection
 /// comes at one of them.
@@ -69,7 +65,7 @@ impl<'l> TcpDoor<'l> {
 }
 
 impl<'l> Door for TcpDoor<'l> {
-    type Line = IoLine<TcpStream>;
+    type Line = IoLine<Connection>;
 
     ghost is_out = { λ door. door.is_out };
 
@@ -77,10 +73,10 @@ impl<'l> Door for TcpDoor<'l> {
 
     ghost lines_over = { λ door. None };
 
-    fn open(&mut self) -> Result<Option<IoLine<TcpStream>>, DoorFault>
+    fn open(&mut self) -> Result<Option<IoLine<Connection>>, DoorFault>
         requires inside { self.old.is_out ≡ false }
         requires more { self.old.is_at_end ≡ false }
-        ensures opened { IsOpened ⟦<IoLine<TcpStream> as Line>⟧.seen self.new.is_out self.new.is_at_end result }
+        ensures opened { IsOpened ⟦<IoLine<Connection> as Line>⟧.seen self.new.is_out self.new.is_at_end result }
         // A fault is kept for `met_fault`.
         ensures fault { OnErr result (self.new.met_fault ≡ true) }
         ensures no_fault { OnOk result (self.new.met_fault ≡ self.old.met_fault) }
@@ -103,17 +99,16 @@ impl<'l> Door for TcpDoor<'l> {
     }
 
     // The connection is closed where the line is dropped.
-    fn shut(&mut self, _line: IoLine<TcpStream>, _end: LineEnd) {
+    fn shut(&mut self, _line: IoLine<Connection>, _end: LineEnd) {
         self.is_out = false;
     }
 }
 
-// The next connection. A read of it waits for a short time only, and what is written goes out at once.
-fn accept(listener: &TcpListener) -> io::Result<TcpStream> {
+// The next connection. What is written to it goes out at once.
+fn accept(listener: &TcpListener) -> io::Result<Connection> {
     let stream = next_stream(listener)?;
-    stream.set_read_timeout(Some(Duration::from_millis(READ_TIMEOUT)))?;
     stream.set_nodelay(true)?;
-    Ok(stream)
+    Ok(Connection::new(stream))
 }
 
 // A peer that is gone before its connection is accepted is passed.

@@ -4,10 +4,11 @@ ghost use Rattle.std.specs.Io.KnownBytes.{Keeps, ReadConsumes, WriteAppends};
 ghost use Rattle.bq_line.specs.LineCalls.{after_flush, after_read, after_write};
 
 use super::byte_record::ByteRecord;
+use super::read_now::ReadNow;
 use super::{Line, is_nothing_yet, note_fault};
 use bq_job::LineFault;
 use std::io;
-use std::io::{Read, Write};
+use std::io::Write;
 
 /// A line over any stream. Beside the stream it keeps the two marks, and records of the bytes that the
 /// stream's reads gave and its writes took, which take no memory.
@@ -42,9 +43,28 @@ impl<S> IoLine<S> {
     }
 }
 
+impl<S: ReadNow + Write> IoLine<S> {
+    // Keeps what came of a read.
+    fn note_read(&mut self, came: &io::Result<usize>, buf: &[u8])
+        requires { ReadsAtMost came.now buf.now }
+        ensures seen { ⟦<IoLine<S> as Line>⟧.seen self.new ≡ after_read came.now buf.now (⟦<IoLine<S> as Line>⟧.seen self.old) }
+        ensures stream { self.new.stream ≡ self.old.stream }
+    {
+        match came {
+            Ok(0) => self.ended = true,
+            Ok(count) => self.read.note(&buf[..*count]),
+            Err(e) => {
+                if !is_nothing_yet(e) {
+                    note_fault(&mut self.fault, LineFault::Read);
+                }
+            }
+        }
+    }
+}
+
 // The clauses `stream` hold the line to its stream: where the stream tells the bytes that it has left and
 // that it holds, a line that answers other bytes than its stream, or makes no call, meets none of them.
-impl<S: Read + Write> Line for IoLine<S> {
+impl<S: ReadNow + Write> Line for IoLine<S> {
     ghost seen = { λ line. record { read = line.read; written = line.written; ended = line.ended; fault = line.fault } };
 
     fn read(&mut self, buf: &mut [u8]) -> io::Result<usize>
@@ -54,15 +74,18 @@ impl<S: Read + Write> Line for IoLine<S> {
         ensures stream { ReadConsumes (S.remaining self.old.stream) (S.remaining self.new.stream) result buf.new }
     {
         let result = self.stream.read(buf);
-        match &result {
-            Ok(0) => self.ended = true,
-            Ok(count) => self.read.note(&buf[..*count]),
-            Err(e) => {
-                if !is_nothing_yet(e) {
-                    note_fault(&mut self.fault, LineFault::Read);
-                }
-            }
-        }
+        self.note_read(&result, buf);
+        result
+    }
+
+    fn read_now(&mut self, buf: &mut [u8]) -> io::Result<usize>
+        requires { 0 < length buf.old }
+        ensures bound { ReadsAtMost result buf.new }
+        ensures seen { ⟦<IoLine<S> as Line>⟧.seen self.new ≡ after_read result buf.new (⟦<IoLine<S> as Line>⟧.seen self.old) }
+        ensures stream { ReadConsumes (S.remaining self.old.stream) (S.remaining self.new.stream) result buf.new }
+    {
+        let result = self.stream.read_now(buf);
+        self.note_read(&result, buf);
         result
     }
 

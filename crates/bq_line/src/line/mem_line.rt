@@ -105,6 +105,20 @@ impl Line for MemLine {
         }
     }
 
+    // A client in memory is never waited for.
+    fn read_now(&mut self, buf: &mut [u8]) -> io::Result<usize>
+        requires { 0 < length buf.old }
+        ensures bound { ReadsAtMost result buf.new }
+        ensures seen { ⟦<MemLine as Line>⟧.seen self.new ≡ after_read result buf.new (⟦<MemLine as Line>⟧.seen self.old) }
+        // The first part that isn't over answers, and no other is passed.
+        ensures answered { IsAnsweredBy (slice_get self.old.parts.items (open_place self.old.parts.items self.old.place self.old.offset (vec_len self.old.written))) result }
+        ensures place { self.new.place ≡ place_after (slice_get self.old.parts.items (open_place self.old.parts.items self.old.place self.old.offset (vec_len self.old.written))) (open_place self.old.parts.items self.old.place self.old.offset (vec_len self.old.written)) }
+        ensures parts { self.new.parts ≡ self.old.parts }
+        ensures room { self.new.room ≡ self.old.room }
+    {
+        self.read(buf)
+    }
+
     fn write(&mut self, buf: &[u8]) -> io::Result<usize>
         requires { 0 < length buf.now }
         ensures bound { WritesAtMost result buf.now }
