@@ -1,12 +1,12 @@
 -- A seat goes on with its door, by each thing that it does.
-use Rattle.std.proofs.Common.{ℕ, ◌≡◌, true, false, List, [], ◌∷◌, ◌++◌, Option, Some, None, refl, sym, ap, ◌∙◌, subst, append-nil, append_assoc, inl, inr}
+use Rattle.std.proofs.Common.{ℕ, ◌≡◌, true, false, List, [], ◌∷◌, ◌++◌, refl, sym, ap, ◌∙◌, subst, append-nil, append_assoc, inl, inr}
 use Rattle.bq_job.specs.declared.answer.Answer.{Answer}
 use Rattle.bq_job.specs.declared.line_end.LineEnd.{LineEnd}
 use Rattle.bq_job.specs.declared.step.Step.{Step}
 use Rattle.bq_job.specs.declared.step.Step.TheVariants.{Gone}
 use Rattle.bq_job.specs.History.{LineOver}
 use Rattle.bq_job.specs.LineSteps.{LineSeen}
-use Rattle.bq_job.specs.SeatDid.{AreLinesServed, IsLineServed, IsSeatDone}
+use Rattle.bq_job.specs.SeatDid.{AreLinesServed, IsLineServed}
 use Rattle.bq_seat.specs.Past.{Awaited}
 use Rattle.bq_seat.specs.SeatMoves.{IsMove}
 use Rattle.bq_seat.specs.SeatStands.{awaited}
@@ -15,10 +15,9 @@ use Rattle.bq_seat.specs.declared.machine.Action.TheVariants as actions
 use Rattle.bq_seat.specs.declared.machine.Event.TheVariants as events
 use Rattle.bq_seat.specs.declared.machine.SeatMachine.{SeatMachine}
 use Rattle.bq_desk.specs.Carried.{Carried, HasGone}
-use Rattle.bq_line.specs.Doors.{IsLeftBy}
 use Rattle.bq_line.specs.LineCalls.{new_line}
 use Rattle.bq_desk.specs.Links.{Calls}
-use Rattle.bq_desk.specs.Tending.{AreKept, DoorSeen, GoesOn, IsNewDoor, IsNewSeat, IsTended, Tends, attendant}
+use Rattle.bq_desk.specs.Tending.{DoorSeen, GoesOn, IsDoorServed, IsNewDoor, IsNewSeat, IsTended, Tends, attendant}
 use Rattle.bq_desk.specs.declared.attendant.Attendant.{Attendant}
 use Rattle.bq_desk.specs.declared.attendant.Place.{Place}
 use Rattle.bq_desk.specs.declared.attendant.Place.TheVariants as places
@@ -42,18 +41,16 @@ tends_opened seen old new line action door next move over out more fresh size be
     let a = t.attends in
     let at = a.at_place in
     none_more seen size (attendant new (places.On line action)) next before got (record {
-      lines = t.lines;
       attends = record {
         before = a.before;
         now = [];
         got = a.got;
         getting = [];
-        of_lines = a.of_lines;
+        of_lines = subst (λ (lines : List LineOver). AreLinesServed size lines a.before a.got) (sym over) a.of_lines;
         at_place = opened_on size old new action (seen line) at.2 at.3 move fresh;
         submitted_is = a.submitted_is ∙ ap (λ (xs : List Step). a.before ++ xs) at.0;
         taken_is = a.taken_is ∙ ap (λ (xs : List Answer). a.got ++ xs) at.1;
       };
-      kept = subst (λ (o : Option (List LineOver)). AreKept o t.lines) (sym over) t.kept;
       placed = (out, more);
     })
 
@@ -65,25 +62,18 @@ tends_at_end seen machine door next over inside ended size before got t =
     let a = t.attends in
     let at = a.at_place in
     none_more seen size (attendant machine places.Leaving) next before got (record {
-      lines = t.lines;
       attends = record {
         before = a.before;
         now = a.now;
         got = a.got;
         getting = a.getting;
-        of_lines = a.of_lines;
+        of_lines = subst (λ (lines : List LineOver). AreLinesServed size lines a.before a.got) (sym over) a.of_lines;
         at_place = (at.0, at.1);
         submitted_is = a.submitted_is;
         taken_is = a.taken_is;
       };
-      kept = subst (λ (o : Option (List LineOver)). AreKept o t.lines) (sym over) t.kept;
       placed = (inside, ended);
     })
-
-kept_one_more : (line : LineOver) (old new : Option (List LineOver)) (lines : List LineOver) → IsLeftBy line old new → AreKept old lines → AreKept new (lines ++ line ∷ [])
-kept_one_more line None new lines left kept = subst (λ (o : Option (List LineOver)). AreKept o (lines ++ line ∷ [])) (sym left) tt
-kept_one_more line (Some old) new lines left kept =
-    subst (λ (o : Option (List LineOver)). AreKept o (lines ++ line ∷ [])) (sym left) (ap (λ (ls : List LineOver). ls ++ line ∷ []) kept)
 
 abbrev pub OneLineMore : Type 0
 OneLineMore = (size : ℕ) (lines : List LineOver) (line : LineOver) (submitted more : List Step) (taken got : List Answer)
@@ -91,25 +81,24 @@ OneLineMore = (size : ℕ) (lines : List LineOver) (line : LineOver) (submitted 
 
 -- A line that is over was shut.
 pub tends_shut : {L : Type 0} (seen : L → LineSeen) (machine : SeatMachine) (line : L) (end : LineEnd) (door next : DoorSeen)
-    → OneLineMore → IsLeftBy (record { seen = seen line; over = end }) door.lines_over next.lines_over → next.is_out ≡ false → next.is_at_end ≡ door.is_at_end
+    → OneLineMore → next.lines_over ≡ door.lines_over ++ record { seen = seen line; over = end } ∷ [] → next.is_out ≡ false → next.is_at_end ≡ door.is_at_end
     → Tends seen (attendant machine (places.On line (actions.LineOver end))) door [] [] (attendant machine places.Between) next
 tends_shut seen machine line end door next law left inside still size before got t =
     let a = t.attends in
     let over : LineOver = record { seen = seen line; over = end } in
     let waits : awaited machine ≡ Awaited.ALine = let e = a.at_place.awaits in cc in
     none_more seen size (attendant machine places.Between) next before got (record {
-      lines = t.lines ++ over ∷ [];
       attends = record {
         before = a.before ++ a.now;
         now = [];
         got = a.got ++ a.getting;
         getting = [];
-        of_lines = law size t.lines over a.before a.now a.got a.getting a.of_lines (line_served size machine (seen line) end a.now a.getting a.at_place);
+        of_lines = subst (λ (lines : List LineOver). AreLinesServed size lines (a.before ++ a.now) (a.got ++ a.getting)) (sym left)
+            (law size door.lines_over over a.before a.now a.got a.getting a.of_lines (line_served size machine (seen line) end a.now a.getting a.at_place));
         at_place = (refl, refl, waits, a.at_place.limit_is);
         submitted_is = a.submitted_is ∙ sym (append-nil (a.before ++ a.now));
         taken_is = a.taken_is ∙ sym (append-nil (a.got ++ a.getting));
       };
-      kept = kept_one_more over door.lines_over next.lines_over t.lines left t.kept;
       placed = (inside, still ∙ t.placed.1);
     })
 
@@ -120,7 +109,6 @@ tends_carried : {L : Type 0} (seen : L → LineSeen) (old new : SeatMachine) (li
 tends_carried seen old new line later action next submitted taken door carried size before got t =
     let a = t.attends in
     record {
-      lines = t.lines;
       attends = record {
         before = a.before;
         now = a.now ++ submitted;
@@ -131,7 +119,6 @@ tends_carried seen old new line later action next submitted taken door carried s
         submitted_is = ap (λ (xs : List Step). xs ++ submitted) a.submitted_is ∙ append_assoc a.before a.now submitted;
         taken_is = ap (λ (xs : List Answer). xs ++ taken) a.taken_is ∙ append_assoc a.got a.getting taken;
       };
-      kept = t.kept;
       placed = t.placed;
     }
 
@@ -151,7 +138,6 @@ tends_gone seen machine door size before got t =
     let a = t.attends in
     let at = a.at_place in
     record {
-      lines = t.lines;
       attends = record {
         before = a.before;
         now = Gone ∷ [];
@@ -162,7 +148,6 @@ tends_gone seen machine door size before got t =
         submitted_is = ap (λ (xs : List Step). xs ++ Gone ∷ []) (a.submitted_is ∙ ap (λ (xs : List Step). a.before ++ xs) at.0 ∙ append-nil a.before);
         taken_is = append-nil got ∙ a.taken_is ∙ ap (λ (xs : List Answer). a.got ++ xs) at.1;
       };
-      kept = t.kept;
       placed = t.placed;
     }
 
@@ -170,31 +155,35 @@ tends_gone seen machine door size before got t =
 pub tended_new : {L : Type 0} (seen : L → LineSeen) (size : ℕ) (a : Attendant L) (door : DoorSeen) → IsNewSeat size a → IsNewDoor door → IsTended seen size a door [] []
 tended_new {L} seen size a door seat new =
     subst (λ (q : Place L). IsTended seen size (attendant a.machine q) door [] []) (sym seat.place) (record {
-      lines = [];
       attends = record {
         before = [];
         now = [];
         got = [];
         getting = [];
-        of_lines = (refl, refl);
+        of_lines = subst (λ (lines : List LineOver). AreLinesServed size lines [] []) (sym new.none_over) (refl, refl);
         at_place = (refl, refl, seat.awaits, seat.limit);
         submitted_is = refl;
         taken_is = refl;
       };
-      kept = new.none_over;
       placed = (new.inside, new.more);
     })
 
 -- A seat that is done.
-pub tended_done : {L : Type 0} (seen : L → LineSeen) (size : ℕ) (machine : SeatMachine) (door : DoorSeen) (submitted : List Step) (taken : List Answer)
-    → (t : IsTended seen size (attendant machine places.Done) door submitted taken) → IsSeatDone size t.lines submitted taken
-tended_done seen size machine door submitted taken t =
-    let a = t.attends in
-    let at = a.at_place in
+pub tended_done : {L : Type 0} (seen : L → LineSeen) (size : ℕ) (a : Attendant L) (door : DoorSeen) (submitted : List Step) (taken : List Answer)
+    → a.place ≡ places.Done → IsTended seen size a door submitted taken → IsDoorServed size door submitted taken
+tended_done {L} seen size a door submitted taken e tended =
+    let t : IsTended seen size (attendant a.machine places.Done) door submitted taken = subst (λ (q : Place L). IsTended seen size (attendant a.machine q) door submitted taken) e tended in
+    let did = t.attends in
+    let at = did.at_place in
+    let lines_served = subst (AreLinesServed size door.lines_over did.before) (sym (did.taken_is ∙ ap (λ (xs : List Answer). did.got ++ xs) at.1 ∙ append-nil did.got)) did.of_lines in
     record {
-      own = a.before;
-      of_lines = subst (AreLinesServed size t.lines a.before) (sym (a.taken_is ∙ ap (λ (xs : List Answer). a.got ++ xs) at.1 ∙ append-nil a.got)) a.of_lines;
-      submitted_is = a.submitted_is ∙ ap (λ (xs : List Step). a.before ++ xs) at.0;
+      done = record {
+        own = did.before;
+        of_lines = lines_served;
+        submitted_is = did.submitted_is ∙ ap (λ (xs : List Step). did.before ++ xs) at.0;
+      };
+      inside = t.placed.0;
+      at_end = t.placed.1;
     }
 
 -- the place at which a seat begins, by an equation

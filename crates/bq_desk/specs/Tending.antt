@@ -1,9 +1,10 @@
 -- A seat that attends to a door, and what it does at each of its turns.
-use Rattle.std.specs.Prelude.{ℕ, ◌≡◌, Bool, true, false, List, [], ◌++◌, Option, Some, None}
+use Rattle.std.specs.Prelude.{ℕ, ◌≡◌, Bool, true, false, List, [], ◌++◌}
 use Rattle.bq_job.specs.declared.answer.Answer.{Answer}
 use Rattle.bq_job.specs.declared.step.Step.{Step}
 use Rattle.bq_job.specs.History.{LineOver}
 use Rattle.bq_job.specs.LineSteps.{LineSeen}
+use Rattle.bq_job.specs.SeatDid.{IsSeatDone}
 use Rattle.bq_seat.specs.Past.{Awaited}
 use Rattle.bq_seat.specs.SeatStands.{awaited}
 use Rattle.bq_seat.specs.declared.machine.SeatMachine.{SeatMachine}
@@ -20,22 +21,17 @@ attendant machine place = record { machine = machine; place = place }
 pub record DoorSeen : Type 0 where
   pub is_out : Bool
   pub is_at_end : Bool
-  pub lines_over : Option (List LineOver)
+  pub lines_over : List LineOver
 
 -- the same by the members of the trait Door
-abbrev pub door_seen : {D : Type 0} → (D → Bool) → (D → Bool) → (D → Option (List LineOver)) → D → DoorSeen
+abbrev pub door_seen : {D : Type 0} → (D → Bool) → (D → Bool) → (D → List LineOver) → D → DoorSeen
 door_seen is_out is_at_end lines_over door = record { is_out = is_out door; is_at_end = is_at_end door; lines_over = lines_over door }
-
--- These lines are over, where the door keeps them.
-abbrev pub AreKept : Option (List LineOver) → List LineOver → Type 0
-AreKept None lines = Unit {0}
-AreKept (Some kept) lines = lines ≡ kept
 
 -- No line is out or over, and more may come.
 pub record IsNewDoor (door : DoorSeen) : Type 0 where
   pub inside : door.is_out ≡ false
   pub more : door.is_at_end ≡ false
-  pub none_over : AreKept door.lines_over []
+  pub none_over : door.lines_over ≡ []
 
 -- A line is out exactly while the seat is on it. A door is at its end once its seat goes.
 abbrev pub IsPlaced : {L : Type 0} → Place L → DoorSeen → Type 0
@@ -46,9 +42,7 @@ IsPlaced places.Done door = (door.is_out ≡ false) × (door.is_at_end ≡ true)
 
 -- What a seat did so far: it submitted these steps and took these answers, and its door with it.
 pub record IsTended {L : Type 0} (seen : L → LineSeen) (max_job_size : ℕ) (a : Attendant L) (door : DoorSeen) (submitted : List Step) (taken : List Answer) : Type 0 where
-  pub lines : List LineOver
-  pub attends : IsAttending seen max_job_size a.machine a.place lines submitted taken
-  pub kept : AreKept door.lines_over lines
+  pub attends : IsAttending seen max_job_size a.machine a.place door.lines_over submitted taken
   pub placed : IsPlaced a.place door
 
 -- Whatever the seat did before, it went on by these steps and answers.
@@ -66,3 +60,10 @@ pub record IsNewSeat {L : Type 0} (max_job_size : ℕ) (a : Attendant L) : Type 
   pub place : a.place ≡ places.Between
   pub awaits : awaited a.machine ≡ Awaited.ALine
   pub limit : a.machine.reader.max_job_size ≡ max_job_size
+
+-- A door that was served to its end by a seat. For each line that is over the seat submitted the line's steps,
+-- took an answer to each of its requests, and wrote these answers; and then it said that no more come.
+pub record IsDoorServed (max_job_size : ℕ) (door : DoorSeen) (submitted : List Step) (taken : List Answer) : Type 0 where
+  pub done : IsSeatDone max_job_size door.lines_over submitted taken
+  pub inside : door.is_out ≡ false
+  pub at_end : door.is_at_end ≡ true

@@ -1,3 +1,4 @@
+pub mod LineNumberLemmas
 pub mod PartLemmas
 pub mod ReadingsLemmas
 pub mod SeenLemmas

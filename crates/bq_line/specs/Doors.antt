@@ -1,6 +1,5 @@
 -- What a door does with its lines.
-use Rattle.std.specs.Prelude.{◌≡◌, Bool, true, false, List, [], ◌∷◌, ◌++◌, Option, Some, None, Result, Ok, Err}
-use Rattle.bq_job.specs.History.{LineOver}
+use Rattle.std.specs.Prelude.{◌≡◌, Bool, true, false, Option, Some, None, Result, Ok, Err}
 use Rattle.bq_job.specs.LineSteps.{LineSeen}
 use Rattle.bq_line.specs.LineCalls.{new_line}
 
@@ -9,8 +8,3 @@ abbrev pub IsOpened : {L E : Type 0} → (L → LineSeen) → Bool → Bool → 
 IsOpened seen is_out is_at_end (Ok (Some line)) = (is_out ≡ true) × (is_at_end ≡ false) × (seen line ≡ new_line)
 IsOpened seen is_out is_at_end (Ok None) = (is_out ≡ false) × (is_at_end ≡ true)
 IsOpened seen is_out is_at_end (Err e) = (is_out ≡ false) × (is_at_end ≡ true)
-
--- This line is over: it comes behind those that were, where the door keeps them.
-abbrev pub IsLeftBy : LineOver → Option (List LineOver) → Option (List LineOver) → Type 0
-IsLeftBy line None new = new ≡ None
-IsLeftBy line (Some old) new = new ≡ Some (old ++ line ∷ [])

@@ -1,5 +1,6 @@
 pub mod Doors
 pub mod LineCalls
+pub mod LineNumbers
 pub mod LineParts
 pub mod MemDoors
 pub mod ReadingNumbers

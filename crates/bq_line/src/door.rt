@@ -1,11 +1,12 @@
 //! Doors, at which clients come one after another.
-ghost use Rattle.std.specs.Prelude.{◌≡◌, Bool, List, Option, true, false};
+ghost use Rattle.std.specs.Prelude.{◌≡◌, Bool, List, [], ◌∷◌, ◌++◌, true, false};
 ghost use Rattle.bq_job.specs.History.{LineOver};
-ghost use Rattle.bq_line.specs.Doors.{IsLeftBy, IsOpened};
+ghost use Rattle.bq_line.specs.Doors.{IsOpened};
 
 pub use mem_door::MemDoor;
 pub use tcp_door::TcpDoor;
 
+mod line_record;
 mod mem_door;
 mod tcp_door;
 
@@ -37,8 +38,8 @@ pub trait Door {
     /// Whether no more lines come.
     ghost is_at_end: { Self → Bool };
 
-    /// The lines that are over, in the order in which they were shut, where the door keeps them.
-    ghost lines_over: { Self → Option (List LineOver) };
+    /// The lines that are over, in the order in which they were shut.
+    ghost lines_over: { Self → List LineOver };
 
     /// The next line. None says that no more come, and so does a fault.
     fn open(&mut self) -> Result<Option<Self::Line>, DoorFault>
@@ -52,5 +53,5 @@ pub trait Door {
         requires { is_out self.old ≡ true }
         ensures inside { is_out self.new ≡ false }
         ensures at_end { is_at_end self.new ≡ is_at_end self.old }
-        ensures over { IsLeftBy (record { seen = Self.Line.seen line; over = end }) (lines_over self.old) (lines_over self.new) };
+        ensures over { lines_over self.new ≡ lines_over self.old ++ record { seen = Self.Line.seen line; over = end } ∷ [] };
 }

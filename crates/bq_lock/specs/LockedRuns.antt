@@ -1,19 +1,11 @@
 -- What a run around one lock comes to.
-use Rattle.std.specs.Prelude.{ℕ, ◌≡◌, true, false, List}
+use Rattle.std.specs.Prelude.{ℕ, List}
 use Rattle.bq_job.specs.declared.answer.Answer.{Answer}
 use Rattle.bq_job.specs.declared.step.Step.{Step}
-use Rattle.bq_job.specs.History.{LineOver}
-use Rattle.bq_job.specs.SeatDid.{IsSeatDone}
-use Rattle.bq_desk.specs.Tending.{AreKept, DoorSeen}
+use Rattle.bq_desk.specs.Tending.{DoorSeen, IsDoorServed}
 
--- A door that was served to its end by a seat. These lines of it are over, where it keeps them. For each the
--- seat submitted the line's steps, took an answer to each of its requests, and wrote these answers; and then
--- it said that no more come.
+-- A door that was served to its end by a seat, whatever the seat submitted and took.
 pub record IsServedToEnd (max_job_size : ℕ) (door : DoorSeen) : Type 0 where
-  pub lines : List LineOver
   pub submitted : List Step
   pub taken : List Answer
-  pub kept : AreKept door.lines_over lines
-  pub done : IsSeatDone max_job_size lines submitted taken
-  pub inside : door.is_out ≡ false
-  pub at_end : door.is_at_end ≡ true
+  pub served : IsDoorServed max_job_size door submitted taken

@@ -1,7 +1,6 @@
 //! A seat with its door, which a thread of its own serves.
-ghost use Rattle.std.specs.Prelude.{◌≡◌, IfOk, IfSome, IsTrue, false, length};
+ghost use Rattle.std.specs.Prelude.{◌≡◌, IfOk, IfSome, IsTrue, false, []};
 ghost use Rattle.std.specs.List.{All};
-ghost use Rattle.std.specs.Option.{ForSome};
 ghost use Rattle.bq_core.specs.Limits.{is_body_size};
 ghost use Rattle.bq_seat.specs.Past.{Awaited};
 ghost use Rattle.bq_seat.specs.SeatStands.{awaited};
@@ -34,7 +33,7 @@ pub struct Post<L: Line + Drop, D: Door<Line = L>> {
     ghost waits: { awaited attendant.machine ≡ Awaited.ALine },
     ghost inside: { D.is_out door ≡ false },
     ghost more: { D.is_at_end door ≡ false },
-    ghost none_over: { ForSome (D.lines_over door) (λ lines. length lines ≡ 0) },
+    ghost none_over: { D.lines_over door ≡ [] },
 }
 
 impl<L: Line + Drop, D: Door<Line = L> + Drop> Post<L, D> {

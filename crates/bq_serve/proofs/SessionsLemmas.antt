@@ -2,6 +2,7 @@
 use Rattle.std.proofs.Common.{◌≡◌, ◌≢◌, ℕ, suc, ◌+◌, ◌<◌, Bool, true, false, List, [], ◌∷◌, ◌++◌, Option, map, length, refl, sym, ap, ◌∙◌, arith, subst, inl, inr, add-zero, slice_index_or, nat_le}
 use Rattle.std.specs.Prelude.{◌==◌}
 use Rattle.std.specs.List.{All, list_all}
+use Rattle.std.proofs.lemmas.List.{length-map}
 use Rattle.std.proofs.lemmas.Bool.{cases_Bool, eq-eqb, leb-false}
 use Rattle.bq_job.specs.declared.answer.Answer.{Answer}
 use Rattle.bq_job.specs.declared.settings.Settings.{Settings}
@@ -9,20 +10,16 @@ use Rattle.bq_job.specs.declared.step.Step.{Step}
 use Rattle.bq_job.specs.ControlDid.{IsControlDone}
 use Rattle.bq_job.specs.Dispatch.{GivenAnswer}
 use Rattle.bq_job.specs.Headline.{AreTied, IsJoined}
-use Rattle.bq_job.specs.History.{ArePickedFrom, LineOver, is_tick, moments_heard, steps_at, without_ticks}
+use Rattle.bq_job.specs.History.{ArePickedFrom, is_tick, moments_heard, steps_at, without_ticks}
 use Rattle.bq_job.specs.LineSteps.{LineSeen}
 use Rattle.bq_job.specs.Machine.{Machine}
 use Rattle.bq_job.specs.Runs.{Entry, GoesBy, Run, Transition, answers_to}
-use Rattle.bq_job.specs.SeatDid.{IsSeatDone}
 use Rattle.bq_job.specs.Steps.{IsStep, Outcome}
 use Rattle.bq_desk.specs.DeskState.{DeskState, IsNewDesk, waiting}
 use Rattle.bq_desk.specs.DeskWent.{SeatWent}
-use Rattle.bq_serve.specs.Sessions.{AreAllKept}
-use Rattle.bq_desk.specs.Tending.{AreKept, DoorSeen, IsNewDoor, IsNewSeat, IsTended, attendant}
+use Rattle.bq_desk.specs.Tending.{DoorSeen, IsDoorServed, IsNewDoor, IsNewSeat, IsTended}
 use Rattle.bq_serve.specs.Turns.{AreDone, AreServed}
 use Rattle.bq_desk.specs.declared.attendant.Attendant.{Attendant}
-use Rattle.bq_desk.specs.declared.attendant.Place.{Place}
-use Rattle.bq_desk.specs.declared.attendant.Place.TheVariants.{Done}
 use Rattle.bq_serve.proofs.AloneLemmas.{new_mails_are, none_waits}
 use Rattle.bq_desk.proofs.TendingLemmas.{tended_done, tended_new}
 
@@ -85,18 +82,8 @@ module _ {L D : Type 0} (seen : L → LineSeen) (at : D → DoorSeen) (settings 
 
   -- a door whose seat is done, and its answers
   record IsDoorDone (history : List Entry) (took : ℕ → List Answer) (given : List GivenAnswer) (desk : DeskState) (t : ℕ) (door : DoorSeen) : Type 0 where
-    lines : List LineOver
-    kept : AreKept door.lines_over lines
-    done : IsSeatDone settings.max_job_size lines (steps_at t history) (took t)
+    served : IsDoorServed settings.max_job_size door (steps_at t history) (took t)
     answers_are : answers_to t given ≡ took t ++ waiting t desk
-    at_end : (door.is_out ≡ false) × (door.is_at_end ≡ true)
-
-  -- a seat that is done, with its door
-  seat_done : (a : Attendant L) (door : DoorSeen) (submitted : List Step) (taken : List Answer) → a.place ≡ Done → IsTended seen settings.max_job_size a door submitted taken
-      → (lines : List LineOver) × AreKept door.lines_over lines × IsSeatDone settings.max_job_size lines submitted taken × ((door.is_out ≡ false) × (door.is_at_end ≡ true))
-  seat_done a door submitted taken e t =
-      let s : IsTended seen settings.max_job_size (attendant a.machine Done) door submitted taken = subst (λ (q : Place L). IsTended seen settings.max_job_size (attendant a.machine q) door submitted taken) e t in
-      (s.lines, s.kept, tended_done seen settings.max_job_size a.machine door submitted taken s, s.placed)
 
   module _ (control : List Step) (readings : List (Option ℕ)) (desk : DeskState) (seats : List (Attendant L)) (doors : List D) (new : IsNewDesk settings first) (many : length seats ≡ settings.seats)
       (s : AreServed seen at settings.max_job_size control first readings desk seats doors) (all_done : AreDone seats) where
@@ -105,13 +92,9 @@ module _ {L D : Type 0} (seen : L → LineSeen) (at : D → DoorSeen) (settings 
         let here : t < length seats = let e = s.doored in omega arith in
         let mailed : t < length first.mails = let e = s.mailed in omega arith in
         let some : Attendant L = slice_index_or seats t (first_of seats here) in
-        let h = seat_done (slice_index_or seats t some) (at (slice_index_or doors t d)) (steps_at t s.history) (s.took t) (all_done t here some) (s.each t here some d) in
         record {
-          lines = h.0;
-          kept = h.1;
-          done = h.2;
+          served = tended_done seen settings.max_job_size (slice_index_or seats t some) (at (slice_index_or doors t d)) (steps_at t s.history) (s.took t) (all_done t here some) (s.each t here some d);
           answers_are = ap (λ (xs : List Answer). xs ++ answers_to t s.went.given) (sym (none_waits settings first t new)) ∙ s.went.tied t mailed;
-          at_end = h.3;
         }
       where
         first_of : (xs : List (Attendant L)) → t < length xs → Attendant L
@@ -120,45 +103,41 @@ module _ {L D : Type 0} (seen : L → LineSeen) (at : D → DoorSeen) (settings 
 
     -- the doors from this seat on
     doors_tied : (k : ℕ) (rest : List D) → ((j : ℕ) → j < length rest → (d : D) → IsDoorDone s.history s.took s.went.given desk (k + j) (at (slice_index_or rest j d)))
-        → (lines : List (List LineOver)) × (length lines ≡ length rest) × AreAllKept (λ (d : D). (at d).lines_over) rest lines
-        × AreTied settings.max_job_size k lines (λ t. steps_at t s.history) s.took (λ t. waiting t desk) s.history s.went.given
-    doors_tied k [] h = ([], refl, tt, tt)
+        → AreTied settings.max_job_size k (map (λ (d : D). (at d).lines_over) rest) (λ t. steps_at t s.history) s.took (λ t. waiting t desk) s.history s.went.given
+    doors_tied k [] h = tt
     doors_tied k (d ∷ rest) h =
         let more = doors_tied (suc k) rest (λ j below e. subst (λ (n : ℕ). IsDoorDone s.history s.took s.went.given desk n (at (slice_index_or rest j e))) (let e : k + suc j ≡ suc k + j = omega arith in e) (h (suc j) (omega (arith, below)) e)) in
         let here : IsDoorDone s.history s.took s.went.given desk k (at d) = subst (λ (n : ℕ). IsDoorDone s.history s.took s.went.given desk n (at d)) (add-zero k) (h 0 (omega arith) d) in (
-          here.lines ∷ more.0,
-          ap suc more.1,
-          (here.kept, more.2),
-          (refl, here.answers_are, here.done, more.3),
+          refl,
+          here.answers_are,
+          here.served.done,
+          more,
         )
 
     -- All doors are at their end.
     pub ends_closed : All (λ (d : D). ((at d).is_out ≡ false) × ((at d).is_at_end ≡ true)) doors
-    ends_closed t d below = (door_done t below d).at_end
+    ends_closed t d below = let served = (door_done t below d).served in (served.inside, served.at_end)
 
     pub ends_settings : StepsKeepSettings → desk.core.settings ≡ settings
     ends_settings law = run_keeps law first.core s.went.runs.1.taken desk.core s.went.runs.1.goes ∙ ap (λ (m : Machine). m.settings) new.core
 
     -- The parts, tied.
     pub ends_joined : (text : List ℕ) (failed : Bool) → IsControlDone text failed control
-        → (lines : List (List LineOver)) × AreAllKept (λ (d : D). (at d).lines_over) doors lines × IsJoined settings lines text failed readings s.history s.went.given desk.core
+        → IsJoined settings (map (λ (d : D). (at d).lines_over) doors) text failed readings s.history s.went.given desk.core
     ends_joined text failed said =
         let t = doors_tied 0 doors (λ j below d. subst (λ (n : ℕ). IsDoorDone s.history s.took s.went.given desk n (at (slice_index_or doors j d))) (let e : j ≡ 0 + j = omega arith in e) (door_done j below d)) in
-        let control_is : steps_at settings.seats s.history ≡ control = ap (λ n. steps_at n s.history) (sym many) ∙ s.control_is in (
-          t.0,
-          t.2,
-          record {
-            submitted = λ n. steps_at n s.history;
-            taken = s.took;
-            waiting = λ n. waiting n desk;
-            run = record {
-              runs = subst (λ (m : Machine). Run m s.history s.went.given desk.core) new.core s.went.runs;
-              timed = subst (λ (n : ℕ). ArePickedFrom (map (λ (e : Entry). e.moment) s.history) (moments_heard n readings)) new.heard s.went.timed.picked;
-            };
-            many = t.1 ∙ s.doored ∙ many;
-            tied = t.3;
-            control_tied = refl;
-            control_done = subst (λ (xs : List Step). IsControlDone text failed xs) (sym control_is) said;
-            of_nobody_else = up_to settings.seats s.history (λ n above. s.nobody_else n (omega arith));
-          },
-        )
+        let control_is : steps_at settings.seats s.history ≡ control = ap (λ n. steps_at n s.history) (sym many) ∙ s.control_is in
+        record {
+          submitted = λ n. steps_at n s.history;
+          taken = s.took;
+          waiting = λ n. waiting n desk;
+          run = record {
+            runs = subst (λ (m : Machine). Run m s.history s.went.given desk.core) new.core s.went.runs;
+            timed = subst (λ (n : ℕ). ArePickedFrom (map (λ (e : Entry). e.moment) s.history) (moments_heard n readings)) new.heard s.went.timed.picked;
+          };
+          many = length-map doors (λ (d : D). (at d).lines_over) ∙ s.doored ∙ many;
+          tied = t;
+          control_tied = refl;
+          control_done = subst (λ (xs : List Step). IsControlDone text failed xs) (sym control_is) said;
+          of_nobody_else = up_to settings.seats s.history (λ n above. s.nobody_else n (omega arith));
+        }

@@ -1,27 +1,17 @@
 -- What a run over doors comes to.
-use Rattle.std.specs.Prelude.{ℕ, ◌||◌, IsTrue, List, [], ◌∷◌, Option}
+use Rattle.std.specs.Prelude.{ℕ, ◌||◌, IsTrue, List, Option, map}
 use Rattle.bq_job.specs.declared.settings.Settings.{Settings}
 use Rattle.bq_job.specs.Headline.{IsHistoryOf}
 use Rattle.bq_job.specs.History.{LineOver}
 use Rattle.bq_desk.specs.ControlRead.{IsReadToEnd}
-use Rattle.bq_desk.specs.Tending.{AreKept}
 use Rattle.bq_serve.specs.declared.sessions.Run.{Run}
 
--- these lines are over at each door, where it keeps them
-abbrev pub AreAllKept : {D : Type 0} → (D → Option (List LineOver)) → List D → List (List LineOver) → Type 0
-AreAllKept lines_over [] [] = Unit {0}
-AreAllKept lines_over (door ∷ doors) (lines ∷ more) = AreKept (lines_over door) lines × AreAllKept lines_over doors more
-AreAllKept lines_over _ _ = ⊥
-
--- The run came from this clock and this control line. The clock gave these readings. These lines are over at
--- the doors, where they keep them. The control line was read to its end or until it failed, and what was read
--- of it, and which of the two it was, it tells itself. And one history of them all leads to the machine that
--- the core stands for.
-pub record IsRunOf {D C I : Type 0} (given : C → List (Option ℕ) → C → Type 0) (lines_over : D → Option (List LineOver)) (left : I → Option (List ℕ)) (config : Settings) (clock : C) (control : I) (run : Run D C I) : Type 0 where
+-- The run came from this clock and this control line. The clock gave these readings. The control line was read to
+-- its end or until it failed, and what was read of it, and which of the two it was, it tells itself. And one
+-- history of that and of the lines that are over at the doors leads to the machine that the core stands for.
+pub record IsRunOf {D C I : Type 0} (given : C → List (Option ℕ) → C → Type 0) (lines_over : D → List LineOver) (left : I → Option (List ℕ)) (config : Settings) (clock : C) (control : I) (run : Run D C I) : Type 0 where
   pub readings : List (Option ℕ)
-  pub lines : List (List LineOver)
   pub gave : given clock readings run.clock
-  pub kept : AreAllKept lines_over run.doors.items lines
   pub over : IsTrue (run.control.ended || run.control.failed)
   pub read : IsReadToEnd (left control) (left run.control.reader) run.control.read run.control.failed
-  pub history : IsHistoryOf config lines run.control.read run.control.failed readings run.core.machine
+  pub history : IsHistoryOf config (map lines_over run.doors.items) run.control.read run.control.failed readings run.core.machine

@@ -1,5 +1,5 @@
 //! Doors in memory, at which clients come.
-ghost use Rattle.std.specs.Prelude.{◌≡◌, false, IfOk, None};
+ghost use Rattle.std.specs.Prelude.{◌≡◌, false, IfOk, []};
 ghost use Rattle.std.specs.List.{All};
 ghost use Rattle.bq_line.specs.MemDoors.{IsFresh};
 ghost use Rattle.bq_desk.specs.Tending.{IsNewDoor};
@@ -26,8 +26,7 @@ impl<'c> Door for CountedDoor<'c> {
 
     ghost is_at_end = { λ d. ⟦<MemDoor as Door>⟧.is_at_end d.door };
 
-    // What the door keeps it tells itself.
-    ghost lines_over = { λ d. None };
+    ghost lines_over = { λ d. ⟦<MemDoor as Door>⟧.lines_over d.door };
 
     fn open(&mut self) -> Result<Option<MemLine>, DoorFault> {
         self.opened.fetch_add(1, Ordering::SeqCst);
@@ -43,7 +42,11 @@ impl<'c> Door for CountedDoor<'c> {
 #[derive(Drop)]
 pub struct NewDoors<'c> {
     pub all: Vec<CountedDoor<'c>, Global>,
-    ghost new: { All (λ door. IsNewDoor (record { is_out = ⟦<MemDoor as Door>⟧.is_out door.door; is_at_end = ⟦<MemDoor as Door>⟧.is_at_end door.door; lines_over = None })) all.items },
+    ghost new: { All (λ door. IsNewDoor (record {
+      is_out = ⟦<MemDoor as Door>⟧.is_out door.door;
+      is_at_end = ⟦<MemDoor as Door>⟧.is_at_end door.door;
+      lines_over = ⟦<MemDoor as Door>⟧.lines_over door.door;
+    })) all.items },
 }
 
 impl<'c> NewDoors<'c> {
@@ -51,6 +54,7 @@ impl<'c> NewDoors<'c> {
     fn push(&mut self, door: MemDoor, opened: &'c AtomicU64) -> Result<(), NoMemory>
         requires inside { ⟦<MemDoor as Door>⟧.is_out door ≡ false }
         requires more { ⟦<MemDoor as Door>⟧.is_at_end door ≡ false }
+        requires none_over { ⟦<MemDoor as Door>⟧.lines_over door ≡ [] }
     {
         match self.all.push(CountedDoor { door, opened }) {
             Ok(()) => Ok(()),
@@ -70,6 +74,7 @@ fn line(alloc: Global, client: &Client) -> Result<MemLine, NoMemory>
 pub fn door(alloc: Global, clients: &[Client]) -> Result<MemDoor, NoMemory>
     ensures inside { IfOk result (λ door. ⟦<MemDoor as Door>⟧.is_out door ≡ false) }
     ensures more { IfOk result (λ door. ⟦<MemDoor as Door>⟧.is_at_end door ≡ false) }
+    ensures none_over { IfOk result (λ door. ⟦<MemDoor as Door>⟧.lines_over door ≡ []) }
 {
     let Ok(mut lines) = VecDeque::with_capacity(alloc, clients.len()) else {
         return Err(NoMemory);

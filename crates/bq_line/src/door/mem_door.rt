@@ -1,4 +1,4 @@
-ghost use Rattle.std.specs.Prelude.{◌≡◌, ◌≤◌, ◌+◌, ◌++◌, ◌∷◌, [], length, map, Some, true, false, IfOk, IfErr, vec_len, if◌then◌else◌, IsNone, ◌↔◌};
+ghost use Rattle.std.specs.Prelude.{◌≡◌, ◌≤◌, ◌+◌, ◌++◌, ◌∷◌, [], length, map, true, false, IfOk, IfErr, vec_len, if◌then◌else◌, IsNone, ◌↔◌};
 ghost use Rattle.std.specs.List.{All};
 ghost use Rattle.std.specs.Option.{option_to_list};
 ghost use Rattle.std.specs.Vec.{vec_capacity};
@@ -30,7 +30,7 @@ impl MemDoor {
     pub fn new(alloc: Global, lines: VecDeque<MemLine, Global>) -> Result<MemDoor, NoMemory>
         requires { All IsFresh lines.items }
         ensures coming { IfOk result (λ door. door.coming ≡ lines) }
-        ensures none_over { IfOk result (λ door. ⟦<MemDoor as Door>⟧.lines_over door ≡ Some []) }
+        ensures none_over { IfOk result (λ door. ⟦<MemDoor as Door>⟧.lines_over door ≡ []) }
         ensures inside { IfOk result (λ door. ⟦<MemDoor as Door>⟧.is_out door ≡ false) }
         ensures more { IfOk result (λ door. ⟦<MemDoor as Door>⟧.is_at_end door ≡ false) }
     {
@@ -68,7 +68,7 @@ impl Door for MemDoor {
 
     ghost is_at_end = { λ door. door.is_at_end };
 
-    ghost lines_over = { λ door. Some (map line_over door.over.items) };
+    ghost lines_over = { λ door. map line_over door.over.items };
 
     fn open(&mut self) -> Result<Option<MemLine>, DoorFault>
         requires inside { self.old.is_out ≡ false }

@@ -1,6 +1,7 @@
-ghost use Rattle.std.specs.Prelude.{◌≡◌, ◌+◌, ℕ, IsTrue, None, OnErr, OnOk, Some, false, true};
+ghost use Rattle.std.specs.Prelude.{◌≡◌, ◌+◌, ℕ, IsTrue, None, [], OnErr, OnOk, Some, false, true};
 ghost use Rattle.bq_line.specs.Doors.{IsOpened};
 
+use super::line_record::LineRecord;
 use super::{Door, DoorFault};
 use crate::line::{Connection, IoLine, Line};
 use bq_job::LineEnd;
@@ -18,6 +19,8 @@ pub struct TcpDoor<'l> {
     is_out: bool,
     is_at_end: bool,
     met_fault: bool,
+    // For proofs alone.
+    over: LineRecord,
 }
 
 impl<'l> TcpDoor<'l> {
@@ -25,7 +28,7 @@ impl<'l> TcpDoor<'l> {
     pub fn new(listener: &'l TcpListener, sessions: Option<u32>) -> TcpDoor<'l>
         ensures inside { ⟦<TcpDoor<'l> as Door>⟧.is_out result ≡ false }
         ensures more { ⟦<TcpDoor<'l> as Door>⟧.is_at_end result ≡ false }
-        ensures none_kept { ⟦<TcpDoor<'l> as Door>⟧.lines_over result ≡ None }
+        ensures none_over { ⟦<TcpDoor<'l> as Door>⟧.lines_over result ≡ [] }
         ensures no_fault { result.met_fault ≡ false }
     {
         TcpDoor {
@@ -34,6 +37,7 @@ impl<'l> TcpDoor<'l> {
             is_out: false,
             is_at_end: false,
             met_fault: false,
+            over: LineRecord::new(),
         }
     }
 
@@ -49,6 +53,7 @@ impl<'l> TcpDoor<'l> {
         ensures inside { self.new.is_out ≡ self.old.is_out }
         ensures at_end { self.new.is_at_end ≡ self.old.is_at_end }
         ensures fault { self.new.met_fault ≡ self.old.met_fault }
+        ensures over { self.new.over ≡ self.old.over }
         ensures endless { self.old.left ≡ None → IsTrue result × (self.new.left ≡ None) }
         ensures last { self.old.left ≡ Some 0 → result ≡ false }
         ensures counted { (more : ℕ) → self.old.left ≡ Some (more + 1) → IsTrue result × (self.new.left ≡ Some more) }
@@ -71,12 +76,13 @@ impl<'l> Door for TcpDoor<'l> {
 
     ghost is_at_end = { λ door. door.is_at_end };
 
-    ghost lines_over = { λ door. None };
+    ghost lines_over = { λ door. door.over };
 
     fn open(&mut self) -> Result<Option<IoLine<Connection>>, DoorFault>
         requires inside { self.old.is_out ≡ false }
         requires more { self.old.is_at_end ≡ false }
         ensures opened { IsOpened ⟦<IoLine<Connection> as Line>⟧.seen self.new.is_out self.new.is_at_end result }
+        ensures over { self.new.over ≡ self.old.over }
         // A fault is kept for `met_fault`.
         ensures fault { OnErr result (self.new.met_fault ≡ true) }
         ensures no_fault { OnOk result (self.new.met_fault ≡ self.old.met_fault) }
@@ -99,8 +105,9 @@ impl<'l> Door for TcpDoor<'l> {
     }
 
     // The connection is closed where the line is dropped.
-    fn shut(&mut self, _line: IoLine<Connection>, _end: LineEnd) {
+    fn shut(&mut self, line: IoLine<Connection>, end: LineEnd) {
         self.is_out = false;
+        self.over.note(&line, end);
     }
 }
 

@@ -1,4 +1,4 @@
-use Rattle.std.proofs.Common.{List, None, subst, sym}
+use Rattle.std.proofs.Common.{List, subst, sym}
 use Rattle.std.specs.List.{All}
 use Rattle.bq_desk.specs.Tending.{IsNewDoor}
 use Rattle.bq_line.specs.declared.door.tcp_door.TcpDoor.{TcpDoor}
@@ -6,7 +6,7 @@ use Rattle.bq_lock.proofs.ListLemmas.{all_more}
 use Rattle.bq_cli.proofs.server.new_doors.Goals as goal
 
 IsNew : TcpDoor → Type 0
-IsNew d = IsNewDoor (record { is_out = d.is_out; is_at_end = d.is_at_end; lines_over = None })
+IsNew d = IsNewDoor (record { is_out = d.is_out; is_at_end = d.is_at_end; lines_over = d.over })
 
 pub loop-preserved : goal.loop-preserved
 unfolding IsNew

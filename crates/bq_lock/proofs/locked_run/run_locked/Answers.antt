@@ -1,4 +1,4 @@
-use Rattle.std.proofs.Common.{◌≡◌, ◌==◌, ◌&&◌, ◌∙◌, true, ap, vec_len, refl, inl, inr, arith, Err}
+use Rattle.std.proofs.Common.{◌≡◌, ◌==◌, ◌∙◌, true, ap, vec_len, refl, inl, inr, arith, Err}
 use Rattle.std.proofs.lemmas.Bool.{cases_Bool, eq-eqb}
 use denote.Exit.{yes}
 use denote.Param.Send.{arg_sync, param_sync}

@@ -1,4 +1,4 @@
-use Rattle.std.proofs.Common.{◌≡◌, ◌==◌, ◌&&◌, ◌++◌, ◌∙◌, List, [], true, false, length, vec_len, ap, subst, sym, arith, refl, inl, inr}
+use Rattle.std.proofs.Common.{◌≡◌, ◌==◌, ◌&&◌, ◌++◌, ◌∙◌, List, [], true, false, length, map, vec_len, ap, subst, sym, arith, refl, inl, inr}
 use Rattle.std.specs.List.{All}
 use Rattle.std.proofs.lemmas.Bool.{cases_Bool, eq-eqb}
 use Rattle.std.proofs.lemmas.List.{with_items_is}
@@ -6,7 +6,7 @@ use Rattle.bq_core.specs.Limits.{are_in_range}
 use Rattle.bq_desk.specs.ControlRead.{IsReadToEnd}
 use Rattle.bq_desk.specs.DeskOf.{state_of}
 use Rattle.bq_desk.specs.declared.control_line.ControlLine.{ControlLine}
-use Rattle.bq_serve.specs.Sessions.{AreAllKept}
+use Rattle.bq_job.specs.Headline.{IsHistoryOf}
 use Rattle.bq_desk.specs.Tending.{IsNewDoor, IsNewSeat, door_seen}
 use Rattle.bq_serve.specs.Turns.{AreServed}
 use Rattle.bq_desk.specs.declared.attendant.Attendant.{Attendant}
@@ -65,16 +65,15 @@ returns-clause-served g c =
     let j = ends_joined g.L.Line.seen at settings first h.0 (h.2.0 ++ w.0) last seats doors made many s c.serve_seats.ensures.done text failed h.1 in
     record {
       readings = h.2.0 ++ w.0;
-      lines = j.0;
       gave =
           let begun = subst (λ clock. g.C.Clock.given c.args.clock [] clock) (sym c.in_ok-desk.ensures.clock) ((g.met.C.Clock g.world.𝓛 g.world.𝓜 g.world.𝓡 ((λ s x. x), (λ x. x), (λ x. x), λ x. x)).none_given c.args.clock) in
           w.1 c.args.clock h.2.0 (h.2.1 c.args.clock [] begun);
-      kept = subst (λ (xs : List g.row.D.Denot). AreAllKept g.D.Door.lines_over xs j.0) (sym items_are) j.1;
       over = c.serve_control.ensures.over;
       read =
           subst (λ (from : g.row.I.Denot). IsReadToEnd (g.I.Read.remaining from) (g.I.Read.remaining c.serve_control.new.control.reader) text failed) (ap (λ (line : ControlLine g.row.I.Denot). line.reader) c.new-control.ensures)
           c.serve_control.ensures.read;
-      history = c.parts_join.ensures settings j.0 text failed (h.2.0 ++ w.0) s.history s.went.given last.core j.2;
+      history = subst (λ (xs : List g.row.D.Denot). IsHistoryOf settings (map g.D.Door.lines_over xs) text failed (h.2.0 ++ w.0) last.core) (sym items_are)
+          (c.parts_join.ensures settings (map g.D.Door.lines_over doors) text failed (h.2.0 ++ w.0) s.history s.went.given last.core j);
     }
 
 pub returns-clause-at_end : goal.returns-clause-at_end
