@@ -268,16 +268,7 @@ module _ (m : Machine) (t : ℕ) where
 pub jobs_due_is : (m : Machine) → jobs_due m.jobs m.seats ≡ earliest (flat_map (λ j. dues_of_state m j.state) m.jobs)
 jobs_due_is m = told_by_before (jobs_due m.jobs m.seats) (earliest (flat_map (λ j. dues_of_state m j.state) m.jobs)) (λ t. jobs_later m t)
 
--- where nobody waits, nobody is warned and nobody gives up
-pub none_warned : (jobs : List Job) (seats : List SeatRecord) → list_any is_waiting seats ≡ false → fold (with_warning_due jobs) None seats ≡ None
-none_warned jobs [] none = refl
-none_warned jobs (s ∷ seats) none = go (is_waiting s) none (λ h. none_warned jobs seats h)
-  where
-    go : (w : Bool) → (w || list_any is_waiting seats) ≡ false → (list_any is_waiting seats ≡ false → fold (with_warning_due jobs) None seats ≡ None)
-        → fold (with_warning_due jobs) (earlier_of_both None (if w then option_map (λ j. deadline_of j.state - 1000) (first_of (is_held_by s.number) is_lease_before jobs) else None)) seats ≡ None
-    go true h rest = absurd cc
-    go false h rest = rest h
-
+-- where nobody waits, nobody gives up
 pub none_gives_up : (seats : List SeatRecord) → list_any is_waiting seats ≡ false → fold with_seat_due None seats ≡ None
 none_gives_up [] none = refl
 none_gives_up (s ∷ seats) none = go s.wait none (λ h. none_gives_up seats h)

@@ -27,4 +27,5 @@ pub mod TextLemmas
 pub mod TubeLemmas
 pub mod TurnLemmas
 pub mod WaitLemmas
+pub mod WarningLemmas
 pub mod WatchLemmas

@@ -48,11 +48,13 @@ is_end_over moment (Some end) = nat_le end moment
 abbrev pub with_seat_due : Option ℕ → SeatRecord → Option ℕ
 with_seat_due best s = earlier_of_both best (earliest (dues_of_wait s.wait))
 
--- the first due moment, the first deadline, or what comes a second before it
-abbrev pub jobs_due : List Job → List SeatRecord → Option ℕ
-jobs_due jobs seats =
+-- the first due moment, or the first deadline
+abbrev pub timers_due : List Job → Option ℕ
+timers_due jobs =
     earlier_of_both
-    (earlier_of_both
     (option_map (λ j. due_of j.state) (first_of (λ j. is_delayed j.state) is_due_before jobs))
-    (option_map (λ j. deadline_of j.state) (first_of (λ j. is_reserved j.state) is_lease_before jobs)))
-    (fold (with_warning_due jobs) None seats)
+    (option_map (λ j. deadline_of j.state) (first_of (λ j. is_reserved j.state) is_lease_before jobs))
+
+-- one of them, or what comes a second before it
+abbrev pub jobs_due : List Job → List SeatRecord → Option ℕ
+jobs_due jobs seats = earlier_of_both (timers_due jobs) (fold (with_warning_due jobs) None seats)

@@ -30,3 +30,4 @@ pub mod Texts
 pub mod TubeEntries
 pub mod Turns
 pub mod WaitEnds
+pub mod Warnings

@@ -11,6 +11,7 @@ use Rattle.bq_core.specs.SeatChanges.{AreNumbered}
 use Rattle.bq_core.specs.Stirs.{AreKnown}
 use Rattle.bq_core.specs.Tallies.{AreCounted}
 use Rattle.bq_core.specs.TubeEntries.{AreEntries, counted}
+use Rattle.bq_core.specs.Warnings.{AreWarned}
 use Rattle.bq_core.specs.declared.state.State.{State}
 
 abbrev pub machine_of : State → Machine
@@ -46,6 +47,8 @@ pub record IsSound (s : State) : Type 0 where
   pub alive : AreAlive s.loss s.jobs.jobs s.seats.items s.tubes.entries
   -- It is known which jobs waiting clients may have.
   pub stirs : AreKnown s.stir s.jobs.jobs s.seats.items (counted s.tubes.entries)
+  -- It is known whether a waiting client holds a job.
+  pub warnings : AreWarned s.warns s.jobs.jobs s.seats.items
   -- The end of the first pause is known.
   pub pauses : s.pause_end ≡ first_pause_end s.tubes.entries
 

@@ -146,8 +146,9 @@ fn give(state: &mut State, outs: &mut Outs, number: Seat, id: JobId, body: Body)
     ensures config { state.new.config ≡ state.old.config }
 {
     let change = JobChange::HandOut(number, state.moment);
-    state::change_job(state, id, &change);
+    // Nobody comes to hold a job while waiting.
     state::change_seat(state, number, &SeatChange::StopWaiting);
+    state::change_job(state, id, &change);
     outs.push(number, Answer::Reserved(id, body));
 }
 

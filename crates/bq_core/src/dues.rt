@@ -4,8 +4,9 @@ ghost use Rattle.std.specs.Option.{option_map};
 ghost use Rattle.bq_job.specs.Changes.{is_waiting};
 ghost use Rattle.bq_job.specs.NextDue.{next_due as next_due_of};
 ghost use Rattle.bq_core.specs.Asking.{Asks};
-ghost use Rattle.bq_core.specs.Dues.{earlier_of_both, jobs_due, warning_due, with_seat_due, with_warning_due};
-ghost use Rattle.bq_core.specs.State.{machine_of, IsSound, OnlyCompares};
+ghost use Rattle.bq_core.specs.Dues.{earlier_of_both, timers_due, warning_due, with_seat_due, with_warning_due};
+ghost use Rattle.bq_core.specs.State.{machine_of, IsSound};
+ghost use Rattle.bq_core.specs.Warnings.{AreWarned};
 
 use crate::place::Place;
 use crate::state::State;
@@ -59,33 +60,29 @@ fn first_warning(jobs: &mut Jobs, seats: &[Place]) -> Option<Moment>
     best
 }
 
-// When the first of the clients that wait is told so. Where nobody waits, no seat is looked at.
-fn warnings_due(jobs: &mut Jobs, seats: &[Place], has_waiter: bool) -> Option<Moment>
-    requires { has_waiter ≡ list_any is_waiting seats.now }
+// When the first of the clients that wait is told so. Where none of them holds a job, no seat is looked at.
+fn warnings_due(jobs: &mut Jobs, seats: &[Place], warns: bool) -> Option<Moment>
+    requires { AreWarned warns jobs.old.jobs seats.now }
     ensures due { result ≡ fold (with_warning_due jobs.old.jobs) None seats.now }
     ensures same { jobs.new ≡ record jobs.old { comparisons = jobs.new.comparisons } }
     ensures asks { Asks (count_by is_waiting seats.now) jobs.old jobs.new }
 {
-    if has_waiter {
+    if warns {
         first_warning(jobs, seats)
     } else {
         None
     }
 }
 
-// When something is due of a job.
-fn jobs_due(jobs: &mut Jobs, seats: &[Place], has_waiter: bool) -> Option<Moment>
-    requires { has_waiter ≡ list_any is_waiting seats.now }
-    ensures due { result ≡ jobs_due jobs.old.jobs seats.now }
+// When something is due of a job, but for the warnings.
+fn jobs_due(jobs: &mut Jobs) -> Option<Moment>
+    ensures due { result ≡ timers_due jobs.old.jobs }
     ensures same { jobs.new ≡ record jobs.old { comparisons = jobs.new.comparisons } }
-    ensures asks { Asks (count_by is_waiting seats.now + 2) jobs.old jobs.new }
+    ensures asks { Asks 2 jobs.old jobs.new }
 {
     let due = moment_of(jobs.next_due());
     let deadline = moment_of(jobs.next_deadline());
-    earlier_of(
-        earlier_of(due, deadline),
-        warnings_due(jobs, seats, has_waiter),
-    )
+    earlier_of(due, deadline)
 }
 
 fn first_to_give_up(seats: &[Place]) -> Option<Moment>
@@ -114,12 +111,17 @@ fn seats_due(seats: &[Place], has_waiter: bool) -> Option<Moment>
 pub(crate) fn next_due(state: &mut State) -> Option<Moment>
     requires { IsSound state.old }
     ensures due { result ≡ next_due_of (machine_of state.old) }
-    ensures same { OnlyCompares state.old state.new }
+    ensures same { machine_of state.new ≡ machine_of state.old }
     ensures asks { Asks (count_by is_waiting state.old.seats.items + 2) state.old.jobs state.new.jobs }
     ensures sound { IsSound state.new }
 {
     let has_waiter = state.has_waiter();
-    let jobs = jobs_due(&mut state.jobs, state.seats.as_slice(), has_waiter);
+    let jobs = jobs_due(&mut state.jobs);
+    let warning = warnings_due(&mut state.jobs, state.seats.as_slice(), state.warns);
+    state.warns = warning.is_some();
     let seats = seats_due(state.seats.as_slice(), has_waiter);
-    earlier_of(jobs, earlier_of(state.pause_end, seats))
+    earlier_of(
+        earlier_of(jobs, warning),
+        earlier_of(state.pause_end, seats),
+    )
 }

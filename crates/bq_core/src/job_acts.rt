@@ -121,6 +121,7 @@ pub(crate) fn reserve(state: &mut State, seat: Seat, until: Option<Moment>)
     ensures sound { IsSound state.new }
     ensures config { state.new.config ≡ state.old.config }
 {
+    state::note_leases(state, seat);
     state.tickets = state.tickets.saturating_add(1);
     let change = SeatChange::Wait(state.tickets, until);
     state::change_seat(state, seat, &change);

@@ -95,6 +95,15 @@ pub(crate) fn is_ready(job: &Job) -> bool
     matches!(job.state, JobState::Ready)
 }
 
+/// Whether the client at the seat holds a job.
+pub(crate) fn holds_some(jobs: &mut Jobs, seat: Seat) -> bool
+    ensures holds { result ≡ list_any (held_by seat) jobs.old.jobs }
+    ensures same { jobs.new ≡ record jobs.old { comparisons = jobs.new.comparisons } }
+    ensures comparisons { ComparesAtMost 1 jobs.old jobs.new }
+{
+    jobs.next_deadline_of(seat).is_some()
+}
+
 /// Whether some client holds the job.
 pub(crate) fn is_reserved(job: &Job) -> bool
     ensures { result ≡ is_reserved job.now.state }

@@ -1,6 +1,6 @@
-ghost use Rattle.std.specs.Prelude.{◌≡◌, ◌<◌, ◌≤◌, ◌++◌, ◌∷◌, [], OnErr, Some, None, true, false, length, map, max, filter, not, IfSome, IfOk};
+ghost use Rattle.std.specs.Prelude.{◌≡◌, ◌<◌, ◌≤◌, ◌++◌, ◌∷◌, [], OnErr, Some, None, true, false, length, map, max, filter, not, if◌then◌else◌, IfSome, IfOk};
 ghost use Rattle.std.specs.List.{list_any};
-ghost use Rattle.bq_job.specs.Changes.{job_with, seat_with, with_job, with_seat};
+ghost use Rattle.bq_job.specs.Changes.{is_held_by, job_with, seat_with, with_job, with_seat};
 ghost use Rattle.bq_job.specs.Machine.{SeatRecord, empty_seat, new_machine, numbers};
 ghost use Rattle.bq_job.specs.Timers.{at_moment};
 ghost use Rattle.bq_job.specs.TubeCommands.{watching};
@@ -16,6 +16,7 @@ ghost use Rattle.bq_core.specs.SeatChanges.{seat_changed, has_tube_of};
 ghost use Rattle.bq_core.specs.State.{machine_of, IsSound, OnlyCompares};
 ghost use Rattle.bq_core.specs.Texts.{names_of};
 ghost use Rattle.bq_core.specs.TubeEntries.{has_entry, is_tube_of, tube_changed};
+ghost use Rattle.bq_core.specs.Warnings.{may_hold};
 
 use crate::clients::Clients;
 use crate::config::Config;
@@ -30,7 +31,7 @@ use crate::tally::Tally;
 use crate::tube_entry::TubeChange;
 use crate::tubes::Tubes;
 use crate::{job_list, leaving, loss, seat_list, shares, stir};
-use bq_job::{Body, Job, JobId, Moment, NoMemory, Seat, TubeName};
+use bq_job::{Body, Job, JobId, JobState, Moment, NoMemory, Seat, TubeName};
 use bq_jobs::{Jobs, laws};
 use std::alloc::Global;
 
@@ -50,6 +51,8 @@ pub(crate) struct State {
     pub(crate) loss: Loss,
     /// Which jobs the clients that wait may have.
     pub(crate) stir: Stir,
+    /// Whether a client that waits may hold a job, and so be told when its time to run ends soon.
+    pub(crate) warns: bool,
     /// When the first pause of a tube ends.
     pub(crate) pause_end: Option<Moment>,
     pub(crate) moment: Moment,
@@ -70,6 +73,7 @@ impl State {
     ghost use Rattle.bq_core.specs.JobKinds.{is_before_of, is_of};
     ghost use Rattle.bq_core.specs.Acting.{is_asking, is_connected, is_free};
     ghost use Rattle.bq_core.specs.Crowds.{is_waiter};
+    ghost use Rattle.bq_core.specs.Warnings.{has_waiting_holder, is_waiting_there};
     ghost use Rattle.bq_core.specs.JobChanges.{is_passed_by, passes, ttr_held_by};
 
     /// Whether there is a seat of this number, and nobody is connected there.
@@ -173,6 +177,28 @@ impl State {
     {
         job_list::is_ready(job) && self.has_waiter_at(&job.tube)
     }
+
+    // Whether the client waits that holds the job, if one does.
+    fn has_waiting_holder(&self, job: &Job) -> bool
+        requires { IsSound self.now }
+        ensures { result ≡ has_waiting_holder job.now.state self.now.seats.items }
+    {
+        match job.state {
+            JobState::Reserved(seat, _) => self.is_waiting(seat),
+            _ => false,
+        }
+    }
+
+    // Whether the client at the seat, if there is one, waits.
+    fn is_waiting(&self, seat: Seat) -> bool
+        requires { IsSound self.now }
+        ensures { result ≡ is_waiting_there (seat_with seat self.now.seats.items) }
+    {
+        match seat_list::find(self.seats.as_slice(), seat) {
+            None => false,
+            Some(place) => place.is_waiting(),
+        }
+    }
 }
 
 /// Makes room for a job, where there is none.
@@ -189,6 +215,15 @@ pub(crate) fn make_room(state: &mut State, alloc: Global) -> Result<(), NoMemory
     state.jobs.reserve_one(alloc)
 }
 
+// A client that waits may hold a job, if that is so.
+fn warn_if(warns: &mut bool, holds: bool)
+    ensures { warns.new ≡ (if holds then true else warns.old) }
+{
+    if holds {
+        *warns = true;
+    }
+}
+
 /// Puts a job in, where there is room for it. Its id is one that was given, and its tube has an entry.
 pub(crate) fn add(state: &mut State, job: Job)
     requires sound { IsSound state.old }
@@ -202,7 +237,9 @@ pub(crate) fn add(state: &mut State, job: Job)
     ensures config { state.new.config ≡ state.old.config }
 {
     let is_wanted = state.is_wanted(&job);
+    let holds = state.has_waiting_holder(&job);
     stir::stir_tube_if(&mut state.stir, &job.tube, is_wanted);
+    warn_if(&mut state.warns, holds);
     state.tally.add(&job);
     state.tubes.add_job(&job);
     loss::find(&mut state.loss, &job.tube);
@@ -252,6 +289,7 @@ pub(crate) fn change_seat(state: &mut State, seat: Seat, what: &SeatChange)
     requires sound { IsSound state.old }
     requires entry { has_tube_of what.now state.old.tubes.entries ≡ true }
     requires waits { may_wait what.now (seat_with seat state.old.seats.items) ≡ true }
+    requires holds { may_hold what.now seat state.old.warns state.old.jobs.jobs ≡ true }
     ensures after { machine_of state.new ≡ with_seat seat (seat_changed what.now) (machine_of state.old) }
     ensures jobs { state.new.jobs ≡ state.old.jobs }
     ensures sound { IsSound state.new }
@@ -269,6 +307,22 @@ pub(crate) fn change_seat(state: &mut State, seat: Seat, what: &SeatChange)
     stir::stir_seat(&mut state.stir, seat, what);
     // So many seats there can be, and no count comes to its end.
     let _seats = state.seats.len();
+}
+
+/// Takes down whether the client at the seat, which is about to wait, holds a job.
+pub(crate) fn note_leases(state: &mut State, seat: Seat)
+    requires { IsSound state.old }
+    ensures known { state.new.warns ≡ (if list_any (is_held_by seat) state.old.jobs.jobs then true else state.old.warns) }
+    ensures tickets { state.new.tickets ≡ state.old.tickets }
+    ensures seats { state.new.seats ≡ state.old.seats }
+    ensures tubes { state.new.tubes ≡ state.old.tubes }
+    ensures after { machine_of state.new ≡ machine_of state.old }
+    ensures asks { Asks 1 state.old.jobs state.new.jobs }
+    ensures sound { IsSound state.new }
+    ensures config { state.new.config ≡ state.old.config }
+{
+    let holds = job_list::holds_some(&mut state.jobs, seat);
+    warn_if(&mut state.warns, holds);
 }
 
 /// Changes what is kept of a tube that has an entry.
@@ -430,6 +484,7 @@ pub(crate) fn first_state(config: Config, seats: Vec<Place, Global>, tubes: Tube
         clients: Clients::default(),
         loss: Loss::Nothing,
         stir: Stir::Nothing,
+        warns: false,
         pause_end: None,
         moment: 0,
         next_id: 1,

@@ -19,6 +19,7 @@ returns-then-not-is_nothing-clause-sound c =
       crowds = was.crowds;
       alive = was.alive;
       stirs = known_nothing (machine_of c.dispatch_all.new.state) c.dispatch_all.ensures.done;
+      warnings = was.warnings;
       pauses = was.pauses;
     }
 

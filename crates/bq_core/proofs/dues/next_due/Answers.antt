@@ -3,11 +3,19 @@ use Rattle.std.specs.Prelude.{flat_map, fold}
 use Rattle.bq_job.specs.declared.job.Job.{Job}
 use Rattle.bq_job.specs.Machine.{SeatRecord, TubeRecord}
 use Rattle.bq_job.specs.NextDue.{dues_of_pause, dues_of_state, dues_of_wait, earliest}
-use Rattle.bq_core.specs.Dues.{earlier_of_both, jobs_due, with_seat_due}
+use Rattle.bq_jobs.specs.Kept.{Kept}
+use Rattle.bq_core.specs.Dues.{earlier_of_both, with_seat_due, with_warning_due}
 use Rattle.bq_core.specs.State.{machine_of}
 use Rattle.bq_core.specs.TubeEntries.{counted}
 use Rattle.bq_core.proofs.DueLemmas.{all_due, earliest_of_all, jobs_due_is, pauses_counted}
+use Rattle.bq_core.proofs.StateLemmas.{compared_sound}
+use Rattle.bq_core.proofs.WarningLemmas.{warned_by_due}
 use Rattle.bq_core.proofs.dues.next_due.Goals as goal
+
+pub warnings_due-warning-requires : goal.warnings_due-warning-requires
+warnings_due-warning-requires c =
+    let same = ap (λ (k : Kept). k.jobs) c.jobs_due-jobs.ensures.same in
+    rw (same, c.as_slice.ensures.value) c.requires.warnings
 
 pub returns-clause-due : goal.returns-clause-due
 returns-clause-due c =
@@ -16,14 +24,40 @@ returns-clause-due c =
     let of_job = λ (j : Job). dues_of_state m j.state in
     let of_tube = λ (t : TubeRecord). dues_of_pause t.pause in
     let of_seat = λ (s : SeatRecord). dues_of_wait s.wait in
-    let jobs : c.jobs_due-jobs.result ≡ earliest (flat_map of_job st.jobs.jobs) = c.jobs_due-jobs.ensures.due ∙ ap (jobs_due st.jobs.jobs) c.as_slice.ensures.value ∙ jobs_due_is m in
+    let kept = ap (λ (k : Kept). k.jobs) c.jobs_due-jobs.ensures.same in
+    let warning : c.warnings_due-warning.result ≡ fold (with_warning_due st.jobs.jobs) None st.seats.items =
+    c.warnings_due-warning.ensures.due ∙ (λ i. fold (with_warning_due (kept i)) None (c.as_slice.ensures.value i)) in
+    let jobs : earlier_of_both c.jobs_due-jobs.result c.warnings_due-warning.result ≡ earliest (flat_map of_job st.jobs.jobs) =
+    (λ i. earlier_of_both (c.jobs_due-jobs.ensures.due i) (warning i)) ∙ jobs_due_is m in
     let tubes : st.pause_end ≡ earliest (flat_map of_tube (counted st.tubes.entries)) =
     c.requires.pauses ∙ earliest_of_all of_tube st.tubes.entries ∙ ap earliest (pauses_counted st.tubes.entries c.requires.entries.fresh) in
     let seats : c.seats_due-seats.result ≡ earliest (flat_map of_seat st.seats.items) =
     c.seats_due-seats.ensures ∙ ap (fold with_seat_due None) c.as_slice-2.ensures.value ∙ earliest_of_all of_seat st.seats.items in
-    c.earlier_of-2.ensures
-    ∙ ap (earlier_of_both c.jobs_due-jobs.result) c.earlier_of.ensures
-    ∙ ap (λ o. earlier_of_both o (earlier_of_both st.pause_end c.seats_due-seats.result)) jobs
-    ∙ ap (λ o. earlier_of_both (earliest (flat_map of_job st.jobs.jobs)) (earlier_of_both o c.seats_due-seats.result)) tubes
-    ∙ ap (λ o. earlier_of_both (earliest (flat_map of_job st.jobs.jobs)) (earlier_of_both (earliest (flat_map of_tube (counted st.tubes.entries))) o)) seats
+    c.earlier_of-3.ensures
+    ∙ (λ i. earlier_of_both ((c.earlier_of.ensures ∙ jobs) i) ((c.earlier_of-2.ensures ∙ (λ k. earlier_of_both (tubes k) (seats k))) i))
     ∙ sym (all_due (flat_map of_job st.jobs.jobs) (flat_map of_tube (counted st.tubes.entries)) (flat_map of_seat st.seats.items))
+
+pub returns-clause-same : goal.returns-clause-same
+returns-clause-same c =
+    let st = c.args.state.now in
+    ap (λ (k : Kept). machine_of (record st { jobs = k })) (c.warnings_due-warning.ensures.same ∙ ap (λ (k : Kept). record k { comparisons = c.warnings_due-warning.new.jobs.comparisons }) c.jobs_due-jobs.ensures.same)
+
+pub returns-clause-sound : goal.returns-clause-sound
+returns-clause-sound c =
+    let st = c.args.state.now in
+    let kept = ap (λ (k : Kept). k.jobs) c.jobs_due-jobs.ensures.same in
+    let jobs = c.warnings_due-warning.ensures.same ∙ ap (λ (k : Kept). record k { comparisons = c.warnings_due-warning.new.jobs.comparisons }) c.jobs_due-jobs.ensures.same in
+    let was = compared_sound st (record st { jobs = c.warnings_due-warning.new.jobs }) (ap (λ (k : Kept). record st { jobs = k }) jobs) c.requires in
+    record {
+      entries = was.entries;
+      numbered = was.numbered;
+      next = was.next;
+      ids = was.ids;
+      counts = was.counts;
+      clients = was.clients;
+      crowds = was.crowds;
+      alive = was.alive;
+      stirs = was.stirs;
+      warnings = rw (c.is_some-state.ensures, c.warnings_due-warning.ensures.due, kept, c.as_slice.ensures.value, jobs) (warned_by_due st.jobs.jobs st.seats.items);
+      pauses = was.pauses;
+    }

@@ -17,5 +17,6 @@ returns-clause-sound c =
       crowds = was.crowds;
       alive = was.alive;
       stirs = was.stirs;
+      warnings = was.warnings;
       pauses = was.pauses;
     }

@@ -7,6 +7,7 @@ use Rattle.bq_core.proofs.StateLemmas.{entries_of_added, ids_of_added}
 use Rattle.bq_core.proofs.TallyPlaces.{counted_added}
 use Rattle.bq_core.specs.TubeEntries.{counted}
 use Rattle.bq_core.proofs.StirLemmas.{known_added}
+use Rattle.bq_core.proofs.WarningLemmas.{warned_added}
 use Rattle.bq_core.proofs.state.add.Goals as goal
 
 pub returns-clause-sound : goal.returns-clause-sound
@@ -31,5 +32,6 @@ returns-clause-sound c =
       crowds = rw (c.add_job.ensures.crowds, c.add_job.ensures.entries) was.crowds;
       alive = rw (c.find.ensures, c.add-2.ensures.jobs, c.add_job.ensures.entries) (alive_added j st.loss st.jobs.jobs st.seats.items st.tubes.entries was.alive);
       stirs = rw (c.stir_tube_if.ensures, c.is_wanted-is_wanted.ensures, c.add-2.ensures.jobs, c.add_job.ensures.entries) (known_added j st.stir st.jobs.jobs st.seats.items (counted st.tubes.entries) was.stirs);
+      warnings = rw (c.warn_if.ensures, c.has_waiting_holder-holds.ensures, c.add-2.ensures.jobs) (warned_added j st.warns st.jobs.jobs st.seats.items was.numbered was.warnings);
       pauses = was.pauses ∙ ap first_pause_end (sym c.add_job.ensures.entries);
     }

@@ -13,6 +13,7 @@ use Rattle.bq_core.proofs.LeavingLemmas.{alive_left}
 use Rattle.bq_core.proofs.StateLemmas.{entries_of_seat, numbered_after}
 use Rattle.bq_core.specs.TubeEntries.{counted}
 use Rattle.bq_core.proofs.StirLemmas.{known_of_seat}
+use Rattle.bq_core.proofs.WarningLemmas.{warned_of_seat}
 use Rattle.bq_core.proofs.state.change_seat.Goals as goal
 
 pub find-place-requires-2 : goal.find-place-requires-2
@@ -59,5 +60,6 @@ returns-clause-sound c =
           let loss : c.lose.new.loss ≡ loss_of (touched c.args.what.now) mid (there seats) st.loss = c.lose.ensures ∙ (λ i. loss_of (touches i) mid (taken i) st.loss) in
           rw (loss, c.change_at.ensures, entries) all;
       stirs = rw (c.stir_seat.ensures, c.change_at.ensures, entries) (known_of_seat c.args.seat c.args.what.now st.stir st.jobs.jobs seats (counted st.tubes.entries) was.stirs);
+      warnings = rw c.change_at.ensures (warned_of_seat c.args.seat c.args.what.now st.warns st.jobs.jobs seats c.requires.holds was.warnings);
       pauses = was.pauses ∙ ap first_pause_end (sym entries);
     }

@@ -37,6 +37,7 @@ returns-clause-sound c =
       stirs =
           let known = known_of_change c.args.tube.now c.args.what (machine_of s) s.stir was.stirs in
           rw c.stir_change.ensures (subst (λ ts. AreKnown (stirred_by_change c.args.tube.now c.args.what s.stir) s.jobs.jobs s.seats.items ts) (ap (λ (m : Machine). m.tubes) (sym (returns-clause-after c))) known);
+      warnings = was.warnings;
       pauses =
           c.pause_end_after-state.ensures
           ∙ ap (λ ts. pause_end_after ts c.args.what s.pause_end) c.change.ensures.entries

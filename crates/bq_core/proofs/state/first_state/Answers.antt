@@ -19,6 +19,7 @@ returns-clause-sound c =
       crowds = rw (ap (λ (k : KeptTubes). k.crowds) c.requires.first, c.requires.free, entries) (first_crowds (numbers 0 c.args.config.seats));
       alive = rw entries (refl, tt);
       stirs = rw (ap (λ (k : Kept). k.jobs) c.new.ensures) tt;
+      warnings = rw (ap (λ (k : Kept). k.jobs) c.new.ensures) tt;
       pauses = rw entries refl;
       counts = rw (ap (λ (k : Kept). k.jobs) c.new.ensures, entries) (record { whole = none_counted c.default.result c.default.ensures; each = ap (λ (k : KeptTubes). k.tallies) c.requires.first });
     }

@@ -35,6 +35,7 @@ returns-clause-sound c =
       crowds = record { each = (c.forget_lost.ensures.kept s.jobs.jobs s.seats.items was.counts.each was.crowds.each).1; seated = was.crowds.seated };
       alive = rw left (alive_forgotten s.jobs.jobs s.seats.items s.tubes.entries);
       stirs = subst (λ ts. AreKnown s.stir s.jobs.jobs s.seats.items ts) (ap (λ (m : Machine). m.tubes) (sym (returns-clause-after c))) (known_forgotten (machine_of s) s.stir was.stirs);
+      warnings = was.warnings;
       pauses =
           c.pause_end_left-state.ensures
           ∙ ap (λ ts. pause_end_left ts c.len-entries.result s.pause_end) left

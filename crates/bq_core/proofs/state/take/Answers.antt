@@ -9,6 +9,7 @@ use Rattle.std.specs.List.{AllByRecursion as All}
 use Rattle.bq_core.proofs.LossLemmas.{alive_taken}
 use Rattle.bq_core.proofs.StateLemmas.{all_filtered, entries_of_fewer, given_of_job, has_of_job}
 use Rattle.bq_core.proofs.TallyPlaces.{counted_taken}
+use Rattle.bq_core.specs.Warnings.{IsWarned}
 use Rattle.bq_core.proofs.state.take.Goals as goal
 
 pub returns-in_err-job-clause-sound : goal.returns-in_err-job-clause-sound
@@ -25,6 +26,7 @@ returns-in_err-job-clause-sound c =
       crowds = c.requires.crowds;
       alive = rw same c.requires.alive;
       stirs = rw same c.requires.stirs;
+      warnings = rw same c.requires.warnings;
       pauses = c.requires.pauses;
     }
 
@@ -58,5 +60,6 @@ returns-clause-sound c =
       crowds = rw (c.remove_job.ensures.crowds, c.remove_job.ensures.entries) was.crowds;
       alive = rw (c.lose.ensures, c.remove.ensures.jobs, c.remove_job.ensures.entries) (alive_taken 1 st.next_id c.args.id j st.loss st.jobs.jobs st.seats.items st.tubes.entries was.ids found was.alive);
       stirs = rw (c.remove.ensures.jobs, c.remove_job.ensures.entries) (all_filtered (λ k. All (IsKnown st.stir (counted st.tubes.entries) k) st.seats.items) (λ k. not (k.id == c.args.id)) st.jobs.jobs was.stirs);
+      warnings = rw c.remove.ensures.jobs (all_filtered (λ k. All (IsWarned st.warns k) st.seats.items) (λ k. not (k.id == c.args.id)) st.jobs.jobs was.warnings);
       pauses = was.pauses ∙ ap first_pause_end (sym c.remove_job.ensures.entries);
     }

@@ -15,6 +15,7 @@ use Rattle.bq_core.proofs.LossLemmas.{alive_watching}
 use Rattle.bq_core.proofs.StateLemmas.{changed_there, seat_read, seat_there, watching_more, watching_numbered}
 use Rattle.bq_core.specs.declared.crowd.Share.{Share}
 use Rattle.bq_core.proofs.StirLemmas.{known_watching}
+use Rattle.bq_core.proofs.WarningLemmas.{warned_watching}
 use Rattle.bq_core.proofs.state.watch_tube.Goals as goal
 
 pub returns-then-from-len-clause-count : goal.returns-then-from-len-clause-count
@@ -69,5 +70,6 @@ returns-in-Ok-clause-sound c =
       crowds = rw (seats, entries, c.recount.ensures.crowds, share) (crowds_watching c.args.tube.now c.args.seat t mid.tubes.crowds mid.seats.items mid.tubes.entries here p.sound.numbered few p.sound.entries.order fresh p.sound.crowds);
       alive = rw (seats, entries) (alive_watching c.args.tube.now c.args.seat t mid.loss mid.jobs.jobs mid.seats.items mid.tubes.entries here p.sound.alive);
       stirs = rw (c.stir_all_if.ensures, ap (λ (s : Share). s.waiting) share, seats, entries) (known_watching (t.watched ++ c.args.tube.now ∷ []) c.args.seat t mid.stir mid.jobs.jobs mid.seats.items (counted mid.tubes.entries) p.sound.stirs);
+      warnings = rw seats (warned_watching (t.watched ++ c.args.tube.now ∷ []) c.args.seat t mid.warns mid.jobs.jobs mid.seats.items here p.sound.warnings);
       pauses = p.sound.pauses ∙ ap first_pause_end (sym entries);
     }

@@ -33,6 +33,7 @@ returns-clause-sound c =
       crowds = rw (c.fire_timers.ensures.entries, c.fire_timers.ensures.crowds) (crowds_kept (tube_after_timers s.moment) (λ t. refl) s.tubes.crowds s.seats.items s.tubes.entries was.crowds);
       alive = rw c.fire_timers.ensures.entries (alive_renamed (tube_after_timers s.moment) (λ t. refl) s.loss s.jobs.jobs s.seats.items s.tubes.entries was.alive);
       stirs = known_any s.jobs.jobs s.seats.items (counted c.fire_timers.new.self.entries);
+      warnings = was.warnings;
       pauses = c.first_pause_end-state.ensures;
     }
 
