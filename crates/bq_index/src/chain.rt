@@ -15,9 +15,9 @@ where
 {
     source.box_of(Node {
         left: Tree::Leaf,
-        entry: None,
-        height: 0,
         right: Tree::Leaf,
+        height: 0,
+        entry: None,
     })
 }
 

@@ -11,14 +11,16 @@ pub(crate) enum Tree<K, V> {
     Fork(Box<Node<K, V>>),
 }
 
+// Fields lie in memory as they stand here. A search reads a box's sides and the front of its key, and they lie
+// side by side, before the value, which may be long.
 #[cycle(tree)]
 #[derive(Drop)]
 pub(crate) struct Node<K, V> {
     pub(crate) left: Tree<K, V>,
+    pub(crate) right: Tree<K, V>,
+    pub(crate) height: u64,
     // `None` in a spare box.
     pub(crate) entry: Option<(K, V)>,
-    pub(crate) height: u64,
-    pub(crate) right: Tree<K, V>,
 }
 
 impl<K, V> Tree<K, V> {

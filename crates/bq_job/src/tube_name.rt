@@ -10,11 +10,12 @@ use std::marker::Model;
 pub const LONGEST_NAME: usize = 200;
 
 /// The name of a tube: 1 to 200 bytes out of ASCII letters, digits and `- + / ; . $ _ ( )`, of which
-/// the first is no `-`. It lies in a fixed array, so making and cloning one take no memory.
+/// the first is no `-`. It lies in a fixed array, so making and cloning one take no memory. The length lies
+/// before the bytes, so that a short name is read from one place.
 #[derive(Clone, Copy, Debug)]
 pub struct TubeName {
-    bytes: [u8; LONGEST_NAME],
     len: u8,
+    bytes: [u8; LONGEST_NAME],
 }
 
 impl Model for TubeName {
@@ -53,8 +54,8 @@ impl TubeName {
             return None;
         }
         Some(TubeName {
-            bytes: filled(bytes),
             len: bytes.len() as u8,
+            bytes: filled(bytes),
         })
     }
 

@@ -18,10 +18,10 @@ use Rattle.bq_job.proofs.ListLemmas.{all_from_members, found_passes, list_any_no
 use Rattle.bq_jobs.specs.declared.place.Place.{Place}
 use Rattle.bq_jobs.specs.Inside.{IsOrderOf, Order, has_place, is_place}
 use Rattle.bq_jobs.specs.Kept.{ranked}
-use Rattle.bq_jobs.specs.PlaceOrder.{front, first_in_group, first_rank, holds_place, place_cmp, rank_in_group}
+use Rattle.bq_jobs.specs.PlaceOrder.{place_total, front, first_in_group, first_rank, holds_place, place_cmp, rank_in_group}
 use Rattle.bq_jobs.proofs.Changes.{found_by_id, found_id}
 use Rattle.bq_jobs.proofs.Choice.{equal_from, found_below, from_found, from_least, from_not_below, none_below, numbers_tie, pair_not_after, then_equal_first, then_equal_second, then_not_greater}
-use Rattle.bq_jobs.proofs.Orders.{held_place, place_total}
+use Rattle.bq_jobs.proofs.Orders.{held_place}
 
 -- whether a place is of the group
 abbrev pub in_group : {G : Type 0} → (G → G → Ordering) → G → Option (Place G) → Bool

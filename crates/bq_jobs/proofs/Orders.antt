@@ -2,7 +2,7 @@
 use Rattle.std.proofs.Common.{◌≡◌, ℕ, ◌+◌, ◌*◌, ◌<◌, ◌≤◌, Bool, true, false, cond, List, [], ◌∷◌, Option, Some, None, length, arith, refl, sym, ap, ◌∙◌, subst, inl, inr}
 use Rattle.std.specs.Prelude.{is_some, ◌==◌, count_by}
 use Rattle.std.specs.declared.cmp.Ordering.{Ordering}
-use Rattle.std.specs.Cmp.{IsTotalOrder, nat_cmp_total, on_total, then_total}
+use Rattle.std.specs.Cmp.{IsTotalOrder}
 use Rattle.std.specs.Ordering.{is_eq, nat_cmp, ordering_then}
 use Rattle.std.specs.Option.{IfSome}
 use Rattle.std.specs.BTreeMap.{is_at}
@@ -19,7 +19,7 @@ use Rattle.bq_job.proofs.ListLemmas.{count_cons}
 use Rattle.bq_jobs.specs.declared.place.Place.{Place}
 use Rattle.bq_jobs.specs.Inside.{IsOrderOf, Order, has_place, is_place}
 use Rattle.bq_jobs.specs.Kept.{search_bound, with_added, without}
-use Rattle.bq_jobs.specs.PlaceOrder.{place_cmp, holds_place, with_place, without_place}
+use Rattle.bq_jobs.specs.PlaceOrder.{place_cmp, place_total, holds_place, with_place, without_place}
 use Rattle.bq_jobs.proofs.Changes.{count_added, count_without, found_among_added, found_id, found_without, length_added, length_without}
 use Rattle.bq_jobs.proofs.Counting.{search_is_bounded}
 use Rattle.bq_jobs.proofs.Choice.{equal_from, lookup_inserted, lookup_removed, numbers_tie, then_equal_second}
@@ -45,9 +45,6 @@ none_from None h = refl
 none_from (Some x) h = absurd cc
 
 module _ {G : Type 0} {C : G → G → Ordering} (o : IsTotalOrder C) where
-  pub place_total : IsTotalOrder (place_cmp C)
-  place_total = then_total (on_total (λ p. p.group) o) (then_total (on_total (λ p. p.at) nat_cmp_total) (on_total (λ p. p.id) nat_cmp_total))
-
   -- places that tie are of one job
   pub same_id : (p q : Place G) → is_eq (place_cmp C p q) ≡ true → p.id ≡ q.id
   same_id p q h = numbers_tie p.id q.id (then_equal_second (nat_cmp p.at q.at) (nat_cmp p.id q.id) (then_equal_second (C p.group q.group) (ordering_then (nat_cmp p.at q.at) (nat_cmp p.id q.id)) (equal_from (place_cmp C p q) h)))
@@ -62,10 +59,10 @@ module _ {G : Type 0} {C : G → G → Ordering} (o : IsTotalOrder C) where
   tie_back : (p q : Place G) → is_eq (place_cmp C p q) ≡ is_eq (place_cmp C q p)
   tie_back p q =
       elim (cases_Bool (is_eq (place_cmp C p q))) [
-        | inl e ↦ e ∙ sym (ap is_eq (tied_back place_total p q (equal_from (place_cmp C p q) e)))
+        | inl e ↦ e ∙ sym (ap is_eq (tied_back (place_total o) p q (equal_from (place_cmp C p q) e)))
         | inr e ↦ e ∙ sym (elim (cases_Bool (is_eq (place_cmp C q p))) [
           | inr f ↦ f
-          | inl f ↦ absurd (let g = ap is_eq (tied_back place_total q p (equal_from (place_cmp C q p) f)) in cc)
+          | inl f ↦ absurd (let g = ap is_eq (tied_back (place_total o) q p (equal_from (place_cmp C q p) f)) in cc)
         ])
       ]
 
@@ -85,7 +82,7 @@ module _ {G : Type 0} {C : G → G → Ordering} (o : IsTotalOrder C) where
     held_place id j jobs room order h found p e =
         let same : p.id ≡ id = own_id j (place_of j) (own j) p e ∙ found_id id jobs j found in
         let found_then : job_with p.id jobs ≡ Some j = rw same found in
-        h.places p ∙ ap (has_place C place_of p) found_then ∙ ap (is_place C p) e ∙ ap is_eq (tied_itself place_total p)
+        h.places p ∙ ap (has_place C place_of p) found_then ∙ ap (is_place C p) e ∙ ap is_eq (tied_itself (place_total o) p)
       where
         own_id : (j : Job) (o : Option (Place G)) → IfSome o (λ p. p.id ≡ j.id) → (p : Place G) → o ≡ Some p → p.id ≡ j.id
         own_id j None h p e = absurd cc
@@ -104,7 +101,7 @@ module _ {G : Type 0} {C : G → G → Ordering} (o : IsTotalOrder C) where
         ]
     added_places j (Some p) jobs room order e own h free q =
         let gone = absent_place j jobs room order h free p own in
-        let after = ap is_some (lookup_inserted place_total q p tt order.entries gone) in
+        let after = ap is_some (lookup_inserted (place_total o) q p tt order.entries gone) in
         elim (cases_Bool (j.id == q.id)) [
           | inl here ↦
               let same : j.id ≡ q.id = eqb-true j.id q.id here in
@@ -148,7 +145,7 @@ module _ {G : Type 0} {C : G → G → Ordering} (o : IsTotalOrder C) where
               rw here (h.places q ∙ ap (has_place C place_of q) found_then ∙ ap (is_place C q) e)
         ]
     removed_places id j (Some p) jobs room order e own h found s q =
-        let after = ap is_some (lookup_removed place_total q p order.entries s) in
+        let after = ap is_some (lookup_removed (place_total o) q p order.entries s) in
         let mine = own ∙ found_id id jobs j found in
         elim (cases_Bool (id == q.id)) [
           | inl here ↦

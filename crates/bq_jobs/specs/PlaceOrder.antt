@@ -1,6 +1,7 @@
 -- The order of places, and lists of them in it.
 use Rattle.std.specs.Prelude.{ℕ, if◌then◌else◌, List, Option, Some, None}
 use Rattle.std.specs.declared.cmp.Ordering.{Ordering}
+use Rattle.std.specs.Cmp.{IsTotalOrder, nat_cmp_total, on_total, then_total}
 use Rattle.std.specs.Ordering.{is_eq, nat_cmp, on, then_cmp}
 use Rattle.std.specs.Option.{option_and_then, option_map}
 use Rattle.std.specs.Map.{lookup, remove_entry}
@@ -8,14 +9,18 @@ use Rattle.std.specs.BTreeMap.{is_at, insert_entry}
 use Rattle.bq_index.specs.Order.{entry_from}
 use Rattle.bq_jobs.specs.declared.place.Place.{Place}
 
+-- by number, by id
+abbrev pub numbers_cmp : {G : Type 0} → Place G → Place G → Ordering
+numbers_cmp = then_cmp (on (λ p. p.at) nat_cmp) (on (λ p. p.id) nat_cmp)
+
 module _ {G : Type 0} (compare : G → G → Ordering) where
   -- by group, by number, by id
   abbrev pub place_cmp : Place G → Place G → Ordering
-  place_cmp = then_cmp (on (λ p. p.group) compare) (then_cmp (on (λ p. p.at) nat_cmp) (on (λ p. p.id) nat_cmp))
+  place_cmp = then_cmp (on (λ p. p.group) compare) numbers_cmp
 
   -- the first place that a group can have
   abbrev pub front : G → Place G
-  front group = record { group = group; at = 0; id = 0 }
+  front group = record { at = 0; id = 0; group = group }
 
   abbrev pub rank_in_group : G → Place G × Unit {0} → Option (ℕ × ℕ)
   rank_in_group group e = if is_eq (compare group e.0.group) then Some (e.0.at, e.0.id) else None
@@ -38,3 +43,7 @@ module _ {G : Type 0} (compare : G → G → Ordering) where
   abbrev pub without_place : Option (Place G) → List (Place G × Unit {0}) → List (Place G × Unit {0})
   without_place None es = es
   without_place (Some p) es = remove_entry (is_at (place_cmp p)) es
+
+-- places are in order where their groups are
+pub place_total : {G : Type 0} {compare : G → G → Ordering} → IsTotalOrder compare → IsTotalOrder (place_cmp compare)
+place_total o = then_total (on_total (λ p. p.group) o) (then_total (on_total (λ p. p.at) nat_cmp_total) (on_total (λ p. p.id) nat_cmp_total))

@@ -11,7 +11,7 @@ use Rattle.bq_jobs.specs.declared.place.Timer.{Timer}
 use Rattle.bq_jobs.specs.declared.place.Timer.TheVariants as timers
 
 abbrev pub placed : {G : Type 0} → G → ℕ → Job → Option (Place G)
-placed group at j = Some (record { group = group; at = at; id = j.id })
+placed group at j = Some (record { at = at; id = j.id; group = group })
 
 abbrev pub list_of : List ℕ → JobList → TubeList
 list_of tube list = record { list = list; tube = record { 0 = tube } }

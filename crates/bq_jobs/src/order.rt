@@ -68,9 +68,9 @@ pub(crate) fn first_rank<G: Ord + Drop + Copy>(
 {
     let _places = order.len();
     let front = Place {
-        group,
         at: 0,
         id: 0,
+        group,
     };
     let (place, ()) = order.next_from(&front)?;
     if group.cmp(&place.group).is_eq() {

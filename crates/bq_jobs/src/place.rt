@@ -4,13 +4,70 @@ ghost use Rattle.bq_jobs.specs.Places.{tube_place, timer_place, lease_place};
 
 use super::name::OrderedName;
 use bq_job::{Job, JobId, JobState, Seat, TubeName};
+use std::cmp::Ordering;
 
-/// A place in an order: by group, then by a number, then by the id of the job.
-#[derive(Clone, Copy, PartialEq, Eq, PartialOrd, Ord)]
+/// A place in an order: by group, then by a number, then by the id of the job. The numbers lie before the
+/// group, whose end is the rest of a tube's name: so most places are told apart by what lies side by side.
+#[derive(Clone, Copy)]
 pub struct Place<G> {
-    pub group: G,
     pub at: u64,
     pub id: JobId,
+    pub group: G,
+}
+
+impl<G: Ord> PartialEq for Place<G> {
+    ghost use Rattle.std.specs.Cmp as Cmp;
+    ghost use Rattle.std.specs.Ordering.{eq_by_cmp};
+    ghost use Rattle.bq_jobs.specs.PlaceOrder.{place_cmp, place_total};
+
+    ghost eq = { eq_by_cmp (place_cmp G.cmp) };
+
+    ghost laws = { Cmp.partial_equiv_from_equiv (Cmp.eq_by_cmp_equiv (place_total G.total)) };
+
+    fn eq(&self, other: &Place<G>) -> bool {
+        self.cmp(other).is_eq()
+    }
+}
+
+impl<G: Ord> Eq for Place<G> {
+    ghost use Rattle.std.specs.Cmp as Cmp;
+    ghost use Rattle.bq_jobs.specs.PlaceOrder.{place_total};
+
+    ghost laws = { Cmp.eq_by_cmp_equiv (place_total G.total) };
+}
+
+impl<G: Ord> PartialOrd for Place<G> {
+    ghost use Rattle.std.proofs.Common.{refl};
+    ghost use Rattle.std.specs.Cmp as Cmp;
+    ghost use Rattle.std.specs.Ordering.{as_partial_cmp};
+    ghost use Rattle.bq_jobs.specs.PlaceOrder.{place_cmp, place_total};
+
+    ghost partial_cmp = { as_partial_cmp (place_cmp G.cmp) };
+
+    ghost laws = { Cmp.partial_order_from_agreeing_total (place_cmp G.cmp) (place_total G.total) (λ a b. refl) (λ a b. refl) };
+
+    fn partial_cmp(&self, other: &Place<G>) -> Option<Ordering> {
+        Some(self.cmp(other))
+    }
+}
+
+impl<G: Ord> Ord for Place<G> {
+    ghost use Rattle.std.proofs.Common.{refl};
+    ghost use Rattle.bq_jobs.specs.PlaceOrder.{place_cmp, place_total};
+
+    ghost cmp = { place_cmp G.cmp };
+
+    ghost total = { place_total G.total };
+
+    ghost matches_partial_cmp = { λ a b. refl };
+
+    ghost matches_eq = { λ a b. refl };
+
+    fn cmp(&self, other: &Place<G>) -> Ordering {
+        self.group
+            .cmp(&other.group)
+            .then_with(|| self.cmp_numbers(other))
+    }
 }
 
 /// A state in which jobs stand in an order of their tube.
@@ -49,15 +106,24 @@ impl TubeList {
 }
 
 impl<G> Place<G> {
+    ghost use Rattle.bq_jobs.specs.PlaceOrder.{numbers_cmp};
+
     /// The place of a job in a group.
     fn of(group: G, at: u64, job: &Job) -> Place<G>
-        ensures { result ≡ record { group = group; at = at; id = job.now.id } }
+        ensures { result ≡ record { at = at; id = job.now.id; group = group } }
     {
         Place {
-            group,
             at,
             id: job.id,
+            group,
         }
+    }
+
+    // The order within a group.
+    fn cmp_numbers(&self, other: &Place<G>) -> Ordering
+        ensures { result ≡ numbers_cmp self.now other.now }
+    {
+        self.at.cmp(&other.at).then_with(|| self.id.cmp(&other.id))
     }
 }
 
