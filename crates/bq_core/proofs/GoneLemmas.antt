@@ -1,4 +1,4 @@
--- Entries whose tubes are gone are dropped from the shelf of the tubes; the others are counted and listed.
+-- Entries whose tubes are gone are dropped from the catalog of the tubes; the others are counted and listed.
 use Rattle.std.proofs.Common.{◌≡◌, ◌∙◌, ◌+◌, ◌≤◌, ℕ, Bool, true, false, cond, ◌&&◌, not, if◌then◌else◌, List, [], ◌∷◌, ◌++◌, Option, Some, None, map, length, refl, subst, sym, ap, arith, inl, inr, append_assoc}
 use Rattle.std.specs.Prelude.{filter, find, fold}
 use Rattle.std.specs.Borrow.{Bor}

@@ -1,4 +1,4 @@
--- What lies in the shelf of the tubes: entries found by their names.
+-- What lies in the catalog of the tubes: entries found by their names.
 use Rattle.std.proofs.Common.{◌≡◌, ◌∙◌, ◌+◌, ℕ, suc, Bool, true, false, cond, ◌&&◌, ◌||◌, if◌then◌else◌, List, [], ◌∷◌, Option, Some, None, is_some, map, refl, sym, ap, arith, inl, inr}
 use Rattle.std.specs.Prelude.{find}
 use Rattle.std.specs.Borrow.{Bor}

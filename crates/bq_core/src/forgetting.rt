@@ -6,7 +6,7 @@ ghost use Rattle.bq_core.specs.KeptTubes.{is_alive_at, is_alive_with, is_gone_by
 
 use crate::tube_entry::TubeEntry;
 use crate::tube_walks::is_alive;
-use bq_index::{Shelf, Test};
+use bq_index::{Catalog, Test};
 use bq_job::TubeName;
 
 // The tube of an entry is gone.
@@ -25,31 +25,31 @@ impl Test<TubeName, TubeEntry> for Gone {
 }
 
 // Whether the tube of this name has an entry, and is gone.
-fn is_gone(shelf: &Shelf<TubeName, TubeEntry>, name: &TubeName) -> bool
-    ensures { result ≡ is_gone_by name.now (lookup (is_named_at name.now) shelf.now.entries) }
+fn is_gone(catalog: &Catalog<TubeName, TubeEntry>, name: &TubeName) -> bool
+    ensures { result ≡ is_gone_by name.now (lookup (is_named_at name.now) catalog.now.entries) }
 {
-    match shelf.peek(name) {
+    match catalog.peek(name) {
         None => false,
         Some(entry) => !is_alive(name, entry),
     }
 }
 
 /// Drops the entry of this name, where its tube is gone.
-pub(crate) fn forget_named(shelf: &mut Shelf<TubeName, TubeEntry>, name: &TubeName)
-    ensures { shelf.new.entries ≡ (if is_gone_by name.now (lookup (is_named_at name.now) shelf.old.entries) then remove_entry (is_named_at name.now) shelf.old.entries else shelf.old.entries) }
+pub(crate) fn forget_named(catalog: &mut Catalog<TubeName, TubeEntry>, name: &TubeName)
+    ensures { catalog.new.entries ≡ (if is_gone_by name.now (lookup (is_named_at name.now) catalog.old.entries) then remove_entry (is_named_at name.now) catalog.old.entries else catalog.old.entries) }
 {
-    if is_gone(shelf, name) {
-        let _entry = shelf.remove(name);
+    if is_gone(catalog, name) {
+        let _entry = catalog.remove(name);
     }
 }
 
 // The name of the first entry whose tube is gone, or of the first from this name on.
-fn next_gone(shelf: &Shelf<TubeName, TubeEntry>, from: &Option<TubeName>) -> Option<TubeName>
-    ensures { result ≡ option_map (λ e. e.0) (find (is_gone_from from.now) shelf.now.entries) }
+fn next_gone(catalog: &Catalog<TubeName, TubeEntry>, from: &Option<TubeName>) -> Option<TubeName>
+    ensures { result ≡ option_map (λ e. e.0) (find (is_gone_from from.now) catalog.now.entries) }
 {
     let found = match from {
-        None => shelf.first(&Gone),
-        Some(name) => shelf.first_from(name, &Gone),
+        None => catalog.first(&Gone),
+        Some(name) => catalog.first_from(name, &Gone),
     };
     match found {
         None => None,
@@ -58,14 +58,14 @@ fn next_gone(shelf: &Shelf<TubeName, TubeEntry>, from: &Option<TubeName>) -> Opt
 }
 
 /// Drops all entries whose tubes are gone. After each, the search goes on from there.
-pub(crate) fn forget_all(shelf: &mut Shelf<TubeName, TubeEntry>)
-    ensures { shelf.new.entries ≡ filter is_alive_at shelf.old.entries }
+pub(crate) fn forget_all(catalog: &mut Catalog<TubeName, TubeEntry>)
+    ensures { catalog.new.entries ≡ filter is_alive_at catalog.old.entries }
 {
     let mut last = None;
-    while let Some(name) = next_gone(shelf, &last) {
+    while let Some(name) = next_gone(catalog, &last) {
         // The names are in order.
-        let _entries = shelf.len();
-        let _entry = shelf.remove(&name);
+        let _entries = catalog.len();
+        let _entry = catalog.remove(&name);
         last = Some(name);
     }
 }

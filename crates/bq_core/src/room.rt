@@ -2,7 +2,7 @@
 ghost use Rattle.std.specs.Prelude.{◌≡◌, ◌<◌, vec_len, IfOk};
 ghost use Rattle.std.specs.Vec.{vec_capacity};
 
-use bq_index::Shelf;
+use bq_index::Catalog;
 use bq_job::NoMemory;
 use std::alloc::Global;
 
@@ -31,13 +31,13 @@ pub(crate) fn reserve_one<T: Drop>(list: &mut Vec<T, Global>, alloc: Global) -> 
 
 /// Makes room for one more entry, where there is none.
 pub(crate) fn reserve_box<K: Ord + Drop, V: Drop>(
-    shelf: &mut Shelf<K, V>,
+    catalog: &mut Catalog<K, V>,
     alloc: Global,
 ) -> Result<(), NoMemory>
-    ensures entries { shelf.new.entries ≡ shelf.old.entries }
-    ensures room { IfOk result (λ _. 0 < shelf.new.spare) }
+    ensures entries { catalog.new.entries ≡ catalog.old.entries }
+    ensures room { IfOk result (λ _. 0 < catalog.new.spare) }
 {
-    match shelf.reserve(alloc, 1) {
+    match catalog.reserve(alloc, 1) {
         Ok(()) => Ok(()),
         Err(_) => Err(NoMemory),
     }

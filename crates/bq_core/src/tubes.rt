@@ -21,7 +21,7 @@ use crate::tube_entry::{TubeChange, TubeEntry};
 use crate::tube_walks::{self, EndPauses, FirstEnd, HowMany};
 use crate::watch_list::default_tube;
 use crate::{forgetting, room, tube_edits};
-use bq_index::Shelf;
+use bq_index::Catalog;
 use bq_job::{Job, Moment, NoMemory, TubeName};
 use std::alloc::Global;
 use std::marker::Model;
@@ -29,7 +29,7 @@ use std::marker::Model;
 /// An entry for each tube that exists, found by its name. They are in the order of the names' bytes.
 #[derive(Drop)]
 pub(crate) struct Tubes {
-    kept: Shelf<TubeName, TubeEntry>,
+    kept: Catalog<TubeName, TubeEntry>,
 }
 
 impl Model for Tubes {
@@ -47,7 +47,7 @@ impl Tubes {
     pub(crate) fn first(alloc: Global) -> Result<Tubes, NoMemory>
         ensures { IfOk result (λ tubes. tubes ≡ first_tubes) }
     {
-        let mut kept = Shelf::new();
+        let mut kept = Catalog::new();
         room::reserve_box(&mut kept, alloc)?;
         kept.insert(default_tube(), TubeEntry::new());
         Ok(Tubes { kept })

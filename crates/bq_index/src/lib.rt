@@ -4,14 +4,18 @@
 //! beside them the spare boxes of entries to come. Memory is asked for by [`Shelf::reserve`] alone, so
 //! that who has reserved first can insert, remove and move entries with no refusal in between. Each call
 //! compares few keys, by a bound that its contract states over the count [`Shelf::comparisons`].
+//!
+//! A [`Catalog`] is the same without the count. It can be read by who only looks, and gone over.
 #![tactic(auto)]
 
 pub use boxes::BoxSource;
+pub use catalog::Catalog;
 pub use fault::NoMemory;
 pub use shelf::Shelf;
 pub use walk::{Change, Test, Visitor};
 
 mod boxes;
+mod catalog;
 mod chain;
 mod change;
 mod compare;

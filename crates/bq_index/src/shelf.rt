@@ -17,10 +17,9 @@ use std::mem;
 /// An ordered map whose insertions take no memory, as long as there are spare boxes.
 ///
 /// Contracts see three things: the entries in the order of their keys, the number of spare boxes, and how
-/// often two keys were compared. `insert`, `remove`, `get`, `get_mut` and `next_from` look at few entries:
-/// they make at most two comparisons for each binary digit of one more than the entries that there were.
-/// `peek`, `first` and `first_from` read a shelf that isn't theirs alone, and count nothing; `walk`, `list`
-/// and `change_all` go over all entries, and compare no keys.
+/// often two keys were compared. Each call looks at few entries: it makes at most two comparisons for each
+/// binary digit of one more than the entries that there were. There is none that goes over the entries, so a
+/// structure that is made of shelves alone finds nothing in them by asking each.
 pub struct Shelf<K: Ord, V> {
     tree: Tree<K, V>,
     len: usize,
@@ -196,41 +195,38 @@ impl<K: Ord + Drop, V: Drop> Shelf<K, V> {
         find::next_from(&self.tree, key, &mut self.comparisons)
     }
 
-    /// The value at a key, where no comparison is counted.
-    pub fn peek(&self, key: &K) -> Option<&V>
+    // What follows up to `change_all` is for a catalog, which counts no comparisons: the value at a key.
+    pub(crate) fn peek(&self, key: &K) -> Option<&V>
         ensures { option_map (λ v. v.now) result ≡ lookup (is_at (K.cmp key.now)) self.now.entries }
     {
         let mut uncounted = 0;
         find::get(&self.tree, key, &mut uncounted)
     }
 
-    /// Shows a visitor each entry, in the order of the keys. No keys are compared.
-    pub fn walk<T: Visitor<K, V>>(&self, visitor: &mut T)
+    // Shows a visitor each entry, in the order of the keys. No keys are compared.
+    pub(crate) fn walk<T: Visitor<K, V>>(&self, visitor: &mut T)
         ensures { visitor.new ≡ fold (seen_by T.after) visitor.old self.now.entries }
     {
         walk::walk(&self.tree, visitor);
     }
 
-    /// The first entry that passes a test, where no comparison is counted.
-    pub fn first<T: Test<K, V>>(&self, test: &T) -> Option<(&K, &V)>
+    // The first entry that passes a test.
+    pub(crate) fn first<T: Test<K, V>>(&self, test: &T) -> Option<(&K, &V)>
         ensures { option_map entry_of result ≡ find (passes_by (T.passed test.now)) self.now.entries }
     {
         walk::first(&self.tree, test)
     }
 
-    /// The first entry that passes a test among those whose key is not below `from`, where no comparison is
-    /// counted.
-    pub fn first_from<T: Test<K, V>>(&self, from: &K, test: &T) -> Option<(&K, &V)>
+    // The first entry that passes a test among those whose key is not below `from`.
+    pub(crate) fn first_from<T: Test<K, V>>(&self, from: &K, test: &T) -> Option<(&K, &V)>
         ensures { option_map entry_of result ≡ find (passes_from (K.cmp from.now) (T.passed test.now)) self.now.entries }
     {
         walk::first_from(&self.tree, from, test)
     }
 
-    /// The entries, in the order of their keys. The memory of the list is asked for before.
-    ///
-    /// # Errors
-    /// `NoMemory` where it is refused.
-    pub fn list(&self, alloc: Global) -> Result<Vec<(&K, &V), Global>, NoMemory>
+    // The entries, in the order of their keys. The memory of the list is asked for before, and where it is
+    // refused there is no list.
+    pub(crate) fn list(&self, alloc: Global) -> Result<Vec<(&K, &V), Global>, NoMemory>
         ensures { IfOk result (λ listed. map entry_of listed.items ≡ self.now.entries) }
     {
         let Ok(mut listed) = Vec::with_capacity(alloc, self.len()) else {
@@ -240,8 +236,8 @@ impl<K: Ord + Drop, V: Drop> Shelf<K, V> {
         Ok(listed)
     }
 
-    /// Changes each value in its place. No keys are compared, and no memory is taken.
-    pub fn change_all<C: Change<K, V>>(&mut self, change: &C)
+    // Changes each value in its place. No keys are compared, and no memory is taken.
+    pub(crate) fn change_all<C: Change<K, V>>(&mut self, change: &C)
         ensures entries { self.new.entries ≡ map (changed_by (C.changed change.now)) self.old.entries }
         ensures spare { self.new.spare ≡ self.old.spare }
         ensures comparisons { self.new.comparisons ≡ self.old.comparisons }

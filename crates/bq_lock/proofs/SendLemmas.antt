@@ -6,20 +6,20 @@ use denote.Struct.Declared.{fields, shape}
 use denote.Struct.Struct.{Struct}
 use Rattle.bq_core.specs.contracts.machine.Core as Core
 use Rattle.bq_core.specs.contracts.outs.Outs as Outs
+use Rattle.bq_core.specs.contracts.tubes.Tubes as Tubes
 use Rattle.bq_index.proofs.tree.Tree.TheLaws.TheKnot as TheKnot
 use Rattle.bq_job.specs.contracts.journal.Entry as Entry
-use Rattle.bq_job.specs.contracts.settings.Settings as Settings
 use Rattle.bq_lock.specs.contracts.locked.Locked as Locked
 use Rattle.bq_lock.specs.contracts.locked.journal.Journal as Journal
 use Rattle.bq_lock.specs.contracts.locked.outboxes.Outboxes as Outboxes
 use Rattle.bq_lock.specs.contracts.locked_desk.LockedDesk as LockedDesk
 use Rattle.std.proofs.Crossing as Crossing
 
-settings_send : IsSend Settings.the_row
-settings_send = search (Crossing.crosses, sendable) depth 60 fits 20000
+tubes_sends : IsSend (Tubes.the_field).row
+tubes_sends = search (Crossing.crosses, TheKnot.crosses, sendable) depth 60 fits 20000
 
 core_sends : IsSend (Core.the_field).row
-core_sends = search (settings_send, Crossing.crosses, TheKnot.crosses, sendable) depth 60 fits 20000
+core_sends = search (tubes_sends, Crossing.crosses, TheKnot.crosses, sendable) depth 60 fits 20000
 
 outs_sends : IsSend (Outs.the_field).row
 outs_sends = search (Crossing.crosses, sendable) depth 60 fits 20000

@@ -6,9 +6,9 @@ use Rattle.bq_core.proofs.forgetting.forget_all.Given as goal
 
 abbrev pub invariant-loop-name : goal.invariant-loop-name
 invariant-loop-name l = record {
-  left : filter is_alive_at l.shelf.entries ≡ filter is_alive_at l.fn.shelf.entries;
-  before : AllLeftBefore l.last l.shelf.entries;
+  left : filter is_alive_at l.catalog.entries ≡ filter is_alive_at l.fn.catalog.entries;
+  before : AllLeftBefore l.last l.catalog.entries;
 }
 
 abbrev pub decreases-loop-name : goal.decreases-loop-name
-decreases-loop-name l = length l.shelf.entries
+decreases-loop-name l = length l.catalog.entries

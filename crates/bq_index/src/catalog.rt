@@ -1,0 +1,143 @@
+// An ordered map that is read by who only looks, and whose comparisons nobody counts.
+ghost use Rattle.std.specs.Prelude.{◌≡◌, ◌+◌, ◌<◌, ◌≤◌, [], find, fold, length, map, is_some, if◌then◌else◌, None, IfOk, OnOk};
+ghost use Rattle.std.specs.Option.{option_map, option_copied_mut};
+ghost use Rattle.bq_index.specs.Order.{InOrder};
+ghost use Rattle.std.specs.Map.{lookup, remove_entry};
+ghost use Rattle.std.specs.BTreeMap.{is_at, insert_entry};
+
+use super::NoMemory;
+use super::shelf::Shelf;
+use super::walk::{Change, Test, Visitor};
+use std::alloc::Global;
+use std::marker::Model;
+
+/// An ordered map whose insertions take no memory, as long as there are spare boxes, and that tells nothing of
+/// how many keys it compares: it can be read, and gone over, by who shares it. Who has to keep a bound on
+/// comparisons makes use of a `Shelf`, which has no call that goes uncounted.
+#[derive(Drop)]
+pub struct Catalog<K: Ord + Drop, V: Drop> {
+    shelf: Shelf<K, V>,
+}
+
+impl<K: Ord + Drop, V: Drop> Model for Catalog<K, V> {
+    ghost use Rattle.bq_index.specs.Catalog.{CatalogSeen};
+
+    ghost Value = { CatalogSeen K V };
+
+    ghost view = { λ c. record { entries = c.shelf.entries; spare = c.shelf.spare } };
+}
+
+impl<K: Ord + Drop, V: Drop> Catalog<K, V> {
+    ghost use Rattle.std.specs.Borrow.{sem};
+    ghost use Rattle.bq_index.specs.CatalogLent.{LendsEntry};
+    ghost use Rattle.bq_index.specs.Walk.{changed_by, entry_of, passes_by, passes_from, seen_by};
+
+    /// A catalog with no entries and no spare boxes. It takes no memory.
+    pub fn new() -> Self
+        ensures { result ≡ record { entries = []; spare = 0 } }
+    {
+        Catalog {
+            shelf: Shelf::new(),
+        }
+    }
+
+    /// The number of entries. The contract tells besides that their keys ascend.
+    pub fn len(&self) -> usize
+        ensures len { result ≡ length self.now.entries }
+        ensures ordered { InOrder K.cmp self.now.entries }
+    {
+        self.shelf.len()
+    }
+
+    /// The number of spare boxes: so many insertions take no memory.
+    pub fn spare(&self) -> usize
+        ensures { result ≡ self.now.spare }
+    {
+        self.shelf.spare()
+    }
+
+    /// Sets aside boxes until `n` are spare: none where there are as many already.
+    ///
+    /// # Errors
+    /// `NoMemory` where a box is refused. The boxes are made one by one, and those before it are kept.
+    pub fn reserve(&mut self, alloc: Global, n: usize) -> Result<(), NoMemory>
+        ensures ok { OnOk result (n ≤ self.new.spare) }
+        ensures entries { self.new.entries ≡ self.old.entries }
+        ensures not_fewer { self.old.spare ≤ self.new.spare }
+    {
+        self.shelf.reserve(alloc, n)
+    }
+
+    /// Adds an entry whose key is not there yet. Its box is a spare one.
+    pub fn insert(&mut self, key: K, value: V)
+        requires spare { 0 < self.old.spare }
+        requires absent { lookup (is_at (K.cmp key)) self.old.entries ≡ None }
+        ensures entries { self.new.entries ≡ insert_entry K.cmp self.old.entries key value }
+        ensures spare { self.new.spare + 1 ≡ self.old.spare }
+    {
+        self.shelf.insert(key, value);
+    }
+
+    /// Takes out the entry of a key, whose box becomes spare; `None` where there is none.
+    pub fn remove(&mut self, key: &K) -> Option<V>
+        ensures value { result ≡ lookup (is_at (K.cmp key.now)) self.old.entries }
+        ensures entries { self.new.entries ≡ remove_entry (is_at (K.cmp key.now)) self.old.entries }
+        ensures spare { self.new.spare ≡ self.old.spare + (if is_some result then 1 else 0) }
+    {
+        self.shelf.remove(key)
+    }
+
+    /// The value at a key.
+    pub fn peek(&self, key: &K) -> Option<&V>
+        ensures { option_map (λ v. v.now) result ≡ lookup (is_at (K.cmp key.now)) self.now.entries }
+    {
+        self.shelf.peek(key)
+    }
+
+    /// The value at a key, to be changed in its place.
+    pub fn get_mut(&mut self, key: &K) -> Option<&mut V>
+        ensures* writes_back { sem 𝓛 (LendsEntry K.row V.row K.Ord self.entry (K.cmp key.now) result) }
+        ensures value { option_copied_mut result ≡ lookup (is_at (K.cmp key.now)) self.old.entries }
+    {
+        self.shelf.get_mut(key)
+    }
+
+    /// Shows a visitor each entry, in the order of the keys.
+    pub fn walk<T: Visitor<K, V>>(&self, visitor: &mut T)
+        ensures { visitor.new ≡ fold (seen_by T.after) visitor.old self.now.entries }
+    {
+        self.shelf.walk(visitor);
+    }
+
+    /// The first entry that passes a test.
+    pub fn first<T: Test<K, V>>(&self, test: &T) -> Option<(&K, &V)>
+        ensures { option_map entry_of result ≡ find (passes_by (T.passed test.now)) self.now.entries }
+    {
+        self.shelf.first(test)
+    }
+
+    /// The first entry that passes a test among those whose key is not below `from`.
+    pub fn first_from<T: Test<K, V>>(&self, from: &K, test: &T) -> Option<(&K, &V)>
+        ensures { option_map entry_of result ≡ find (passes_from (K.cmp from.now) (T.passed test.now)) self.now.entries }
+    {
+        self.shelf.first_from(from, test)
+    }
+
+    /// The entries, in the order of their keys. The memory of the list is asked for before.
+    ///
+    /// # Errors
+    /// `NoMemory` where it is refused.
+    pub fn list(&self, alloc: Global) -> Result<Vec<(&K, &V), Global>, NoMemory>
+        ensures { IfOk result (λ listed. map entry_of listed.items ≡ self.now.entries) }
+    {
+        self.shelf.list(alloc)
+    }
+
+    /// Changes each value in its place. It takes no memory.
+    pub fn change_all<C: Change<K, V>>(&mut self, change: &C)
+        ensures entries { self.new.entries ≡ map (changed_by (C.changed change.now)) self.old.entries }
+        ensures spare { self.new.spare ≡ self.old.spare }
+    {
+        self.shelf.change_all(change);
+    }
+}
