@@ -13,7 +13,7 @@ use Rattle.bq_job.specs.declared.step.Step.{Step}
 use Rattle.bq_job.specs.declared.step.Step.TheVariants as steps
 use Rattle.bq_job.specs.Changes.{is_waiting}
 use Rattle.bq_job.specs.Dispatch.{GivenAnswer}
-use Rattle.bq_job.specs.Headline.{AreDoorsOwed, AreTied, IsHistoryOf, IsHistoryOfLine, IsJoined, IsLineJoined}
+use Rattle.bq_job.specs.Headline.{AreDoorsOwed, IsHistoryOf, IsHistoryOfLine}
 use Rattle.bq_job.specs.History.{LineOver, steps_at}
 use Rattle.bq_job.specs.LineOwed.{AreLinesOwed, IsLineOwed}
 use Rattle.bq_job.specs.LineSteps.{AreAllAnswered, IsWritten, answered_count, answers_text, ends_by_wait}
@@ -21,6 +21,7 @@ use Rattle.bq_job.specs.Machine.{Machine, SeatRecord, Settings, empty_seat, new_
 use Rattle.bq_job.specs.OneClient.{has_closed, is_connected_at, owing}
 use Rattle.bq_job.specs.Runs.{Entry, Run, answers_to}
 use Rattle.bq_job.specs.SeatDid.{AreLinesServed, IsLineServed, IsNoneUnwritten}
+use Rattle.bq_job.specs.Ties.{AreTied, IsJoined, IsLineJoined}
 use Rattle.bq_job.proofs.CutLemmas.{closes, closes_append, closes_unclosed, lines_close, parts_close, same_cut}
 use Rattle.bq_job.proofs.GivenLemmas.{AreParts, Serves, are_gone, gives_parts, most_of_lines, none_in, unclosed_both}
 use Rattle.bq_job.proofs.LawfulLemmas.{new_is_lawful}

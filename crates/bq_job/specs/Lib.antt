@@ -53,3 +53,4 @@ pub mod HistoryExamples
 pub mod LineOwed
 pub mod SeatDid
 pub mod TheHeadline
+pub mod Ties

@@ -5,7 +5,7 @@ ghost use Rattle.bq_job.specs.declared.request.Request.{Request};
 ghost use Rattle.bq_job.specs.declared.step.Step.{Step};
 ghost use Rattle.bq_job.specs.declared.step.Step.TheVariants.{Ask};
 ghost use Rattle.bq_job.specs.Dispatch.{GivenAnswer};
-ghost use Rattle.bq_job.specs.Headline.{IsHistoryOf, IsHistoryOfLine, IsJoined, IsLineJoined};
+ghost use Rattle.bq_job.specs.Headline.{IsHistoryOf, IsHistoryOfLine};
 ghost use Rattle.bq_job.specs.History.{LineOver};
 ghost use Rattle.bq_job.specs.Lawful.{IsLawful};
 ghost use Rattle.bq_job.specs.Machine.{Machine, Settings};
@@ -14,6 +14,7 @@ ghost use Rattle.bq_job.specs.Runs.{Entry, answers_to};
 ghost use Rattle.bq_job.specs.SeatDid.{AreLinesServed, IsLineServed};
 ghost use Rattle.bq_job.specs.Steps.{IsStep, Outcome};
 ghost use Rattle.bq_job.specs.TheHeadline.{HeadlineHolds, LineHeadlineHolds};
+ghost use Rattle.bq_job.specs.Ties.{IsJoined, IsLineJoined};
 
 /// A step of another seat gives a client at most the answer that it waits for, and nothing else.
 pub fn others_give_what_waits()

@@ -9,12 +9,12 @@ use Rattle.bq_job.specs.declared.settings.Settings.{Settings}
 use Rattle.bq_job.specs.declared.step.Step.{Step}
 use Rattle.bq_job.specs.ControlDid.{IsControlDone}
 use Rattle.bq_job.specs.Dispatch.{GivenAnswer}
-use Rattle.bq_job.specs.Headline.{AreTied, IsJoined}
 use Rattle.bq_job.specs.History.{ArePickedFrom, is_tick, moments_heard, steps_at, without_ticks}
 use Rattle.bq_job.specs.LineSteps.{LineSeen}
 use Rattle.bq_job.specs.Machine.{Machine}
 use Rattle.bq_job.specs.Runs.{Entry, GoesBy, Run, Transition, answers_to}
 use Rattle.bq_job.specs.Steps.{IsStep, Outcome}
+use Rattle.bq_job.specs.Ties.{AreTied, IsJoined}
 use Rattle.bq_desk.specs.DeskState.{DeskState, IsNewDesk, waiting}
 use Rattle.bq_desk.specs.DeskWent.{SeatWent}
 use Rattle.bq_desk.specs.Tending.{DoorSeen, IsDoorServed, IsNewDoor, IsNewSeat, IsTended}
