@@ -22,7 +22,7 @@ use Rattle.bq_desk.specs.declared.attendant.Attendant.{Attendant}
 use Rattle.bq_desk.specs.declared.attendant.Place.{Place}
 use Rattle.bq_desk.specs.declared.attendant.Place.TheVariants as places
 use Rattle.bq_desk.proofs.CarriedLemmas.{gone}
-use Rattle.bq_desk.proofs.SeatLemmas.{carried_on, line_served, opened_on}
+use Rattle.bq_desk.proofs.SeatLemmas.{PastsAreOrderly, carried_on, line_served, opened_on}
 
 -- nothing more was submitted and taken
 none_more : {L : Type 0} (seen : L → LineSeen) (size : ℕ) (a : Attendant L) (door : DoorSeen) (before : List Step) (got : List Answer) → IsTended seen size a door before got → IsTended seen size a door (before ++ []) (got ++ [])
@@ -103,10 +103,10 @@ tends_shut seen machine line end door next law left inside still size before got
     })
 
 -- An action of the line was carried out.
-tends_carried : {L : Type 0} (seen : L → LineSeen) (old new : SeatMachine) (line later : L) (action next : Action) (submitted : List Step) (taken : List Answer) (door : DoorSeen)
+tends_carried : {L : Type 0} → PastsAreOrderly → (seen : L → LineSeen) (old new : SeatMachine) (line later : L) (action next : Action) (submitted : List Step) (taken : List Answer) (door : DoorSeen)
     → Carried old (seen line) action new (seen later) next submitted taken
     → Tends seen (attendant old (places.On line action)) door submitted taken (attendant new (places.On later next)) door
-tends_carried seen old new line later action next submitted taken door carried size before got t =
+tends_carried law seen old new line later action next submitted taken door carried size before got t =
     let a = t.attends in
     record {
       attends = record {
@@ -115,7 +115,7 @@ tends_carried seen old new line later action next submitted taken door carried s
         got = a.got;
         getting = a.getting ++ taken;
         of_lines = a.of_lines;
-        at_place = carried_on size old new (seen line) (seen later) action next a.now submitted a.getting taken carried a.at_place;
+        at_place = carried_on law size old new (seen line) (seen later) action next a.now submitted a.getting taken carried a.at_place;
         submitted_is = ap (λ (xs : List Step). xs ++ submitted) a.submitted_is ∙ append_assoc a.before a.now submitted;
         taken_is = ap (λ (xs : List Answer). xs ++ taken) a.taken_is ∙ append_assoc a.got a.getting taken;
       };
@@ -123,12 +123,12 @@ tends_carried seen old new line later action next submitted taken door carried s
     }
 
 -- the same with the link's calls
-pub tends_acted : {K L : Type 0} (went : K → List Step → List Answer → K → Type 0) (first last : K) (seen : L → LineSeen) (old new : SeatMachine) (line later : L) (action next : Action) (submitted : List Step) (taken : List Answer)
+pub tends_acted : {K L : Type 0} → PastsAreOrderly → (went : K → List Step → List Answer → K → Type 0) (first last : K) (seen : L → LineSeen) (old new : SeatMachine) (line later : L) (action next : Action) (submitted : List Step) (taken : List Answer)
     → HasGone went first action submitted taken last → Carried old (seen line) action new (seen later) next submitted taken
     → (Calls went first submitted taken last) × ((door : DoorSeen) → Tends seen (attendant old (places.On line action)) door submitted taken (attendant new (places.On later next)) door)
-tends_acted went first last seen old new line later action next submitted taken h carried = (
+tends_acted law went first last seen old new line later action next submitted taken h carried = (
   gone went (λ s t. Calls went first s t last) old new (seen line) (seen later) first last action next submitted taken (λ s t w. inl w) (λ e. inr (e, refl, refl)) h carried,
-  λ door. tends_carried seen old new line later action next submitted taken door carried,
+  λ door. tends_carried law seen old new line later action next submitted taken door carried,
 )
 
 -- It was submitted that no more lines come.

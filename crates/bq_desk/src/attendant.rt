@@ -10,7 +10,7 @@ use crate::link::Link;
 use bq_job::{LARGEST_BODY, LineEnd, NoMemory, Step, one_line_more};
 use bq_line::Door;
 use bq_line::line::Line;
-use bq_seat::{Action, Event, SeatMachine};
+use bq_seat::{Action, Event, SeatMachine, pasts_are_orderly};
 use std::alloc::Global;
 use std::mem;
 
@@ -149,6 +149,7 @@ fn act<L: Line + Drop, K: Link>(
     ensures went { (door : DoorSeen)
         → GoesOn K.went link.old link.new L.seen (attendant machine.old (Place.On line action)) door (attendant machine.new result.0) door }
 {
+    pasts_are_orderly();
     let (next, moved) = carry_out(machine, action, &mut line, link, room);
     (Place::On(line, next), moved)
 }
