@@ -1,6 +1,6 @@
 """Requests for memory refused in turn, over the programs that were built.
 
-    python3 tests/refuse --bq PATH --bqd PATH [--minutes M] [--self-check]
+    python3 tests/refuse --bq PATH --bqd PATH --library PATH [--minutes M] [--self-check]
 
 A small library (refuse.c) is loaded before libc's own and answers the Nth request of the program with
 NULL. Each case is run for N = 1, 2, .. until a run ends in which no request was refused, and what the
@@ -21,6 +21,7 @@ sys.path.insert(0, str(HERE))
 
 from refusal import Host, Program  # noqa: E402
 import broken  # noqa: E402
+import library_cases  # noqa: E402
 import server_cases  # noqa: E402
 import session_cases  # noqa: E402
 
@@ -32,11 +33,14 @@ def library(folder):
     return made
 
 
-def broken_cases(bq, folder):
+def broken_cases(bq, library_calls, folder):
     """A case for each broken program: it is well where the sweep finds it."""
     for name, (turn, always) in broken.SESSIONS.items():
         cases = dict(session_cases.cases(broken.Broken(bq, turn, always)))
         yield name, lambda it=cases["bq: put"]: found(it)
+    for name, turn in broken.LIBRARY.items():
+        cases = dict(library_cases.cases(broken.Broken(library_calls, turn)))
+        yield name, lambda it=cases["library: calls"]: found(it)
     cases = dict(server_cases.cases(broken.early_server(bq.host, folder)))
     yield "doors_opened_before_the_last_request", lambda: found(cases["bqd: start"])
 
@@ -51,14 +55,17 @@ def main():
     parser = argparse.ArgumentParser(description=__doc__, formatter_class=argparse.RawDescriptionHelpFormatter)
     parser.add_argument("--bq", required=True)
     parser.add_argument("--bqd", required=True)
+    parser.add_argument("--library", required=True, help="the program of tests bq_refused")
     parser.add_argument("--minutes", type=float, default=2.5, help="begin no further case after so many minutes")
     parser.add_argument("--self-check", action="store_true", help="sweep programs that are broken on purpose")
     asked = parser.parse_args()
     begun, passed, failed = time.monotonic(), 0, 0
     with tempfile.TemporaryDirectory(prefix="refuse-") as folder:
         host = Host(library(folder), folder)
-        bq, bqd = Program(asked.bq, host), Program(asked.bqd, host)
-        cases = broken_cases(bq, folder) if asked.self_check else [*session_cases.cases(bq), *server_cases.cases(bqd)]
+        bq, bqd, library_calls = (Program(it, host) for it in (asked.bq, asked.bqd, asked.library))
+        cases = [*session_cases.cases(bq), *library_cases.cases(library_calls), *server_cases.cases(bqd)]
+        if asked.self_check:
+            cases = broken_cases(bq, library_calls, folder)
         for name, case in cases:
             if time.monotonic() - begun > 60 * asked.minutes:
                 print(f"{name}: not begun, the time is over")

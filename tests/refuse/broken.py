@@ -60,6 +60,22 @@ SESSIONS = {
     "fault_not_told": (fault_not_told, False),
 }
 
+
+def door_opened_and_then_refused(status, out, complaint):
+    return status, out.replace(b"run_locked: refused", b"run_locked: wrong"), complaint
+
+
+def refusal_hidden(status, out, complaint):
+    """A call that was refused says that it was made."""
+    return status, out.replace(b"links: refused", b"links: made"), complaint
+
+
+# The same of the calls of the libraries.
+LIBRARY = {
+    "door_opened_and_then_refused": door_opened_and_then_refused,
+    "refusal_hidden": refusal_hidden,
+}
+
 # A server that serves whom it accepted before it asked for all its memory, and then has none.
 EARLY = """#!%s
 import os, socket, sys

@@ -64,11 +64,6 @@ impl Bench {
         self.outs.take_first()
     }
 
-    /// Whether the last step left its command out for want of memory.
-    pub(crate) fn left_out(&self) -> bool {
-        self.outs.left_out()
-    }
-
     /// Whether memory was ample in the last step.
     pub(crate) fn was_ample(&self) -> bool {
         !self.outs.left_out() && !self.outs.unshared()

@@ -19,8 +19,6 @@ mod many_tubes;
 #[cfg(test)]
 mod new_core;
 #[cfg(test)]
-mod no_memory;
-#[cfg(test)]
 mod one_tube;
 #[cfg(test)]
 mod play;

@@ -1,0 +1,132 @@
+//! Calls that ask for memory: each succeeds, or is refused and changes nothing.
+ghost use Rattle.std.specs.Prelude.{⊤};
+
+use crate::outcome::{Outcome, tell};
+use bq_core::{Config, Core, CoreFault, Outs};
+use bq_index::Shelf;
+use bq_job::{Body, Counts, Job, JobState, TubeName, USUAL_BODY};
+use bq_jobs::Jobs;
+use bq_link::{Record, links};
+use bq_seat::SeatMachine;
+use bq_serve::{Locked, RunFault};
+use bq_wire::RequestReader;
+use std::alloc::Global;
+use std::io;
+use std::io::Print;
+
+/// So many seats, and what is usual else.
+pub fn config(seats: u16) -> Config {
+    Config {
+        seats,
+        max_job_size: USUAL_BODY,
+        max_jobs: None,
+        requeue_delay: 0,
+    }
+}
+
+fn made_or_refused(is_made: bool) -> Outcome {
+    if is_made {
+        Outcome::Made
+    } else {
+        Outcome::Refused
+    }
+}
+
+// A shelf of one entry is to have room for four more.
+fn shelf(alloc: Global) -> Outcome {
+    let mut shelf: Shelf<u64, u64> = Shelf::new();
+    if shelf.reserve(alloc, 3).is_err() || shelf.spare() == 0 || shelf.get(&7).is_some() {
+        return Outcome::NotBegun;
+    }
+    shelf.insert(7, 70);
+    let before = shelf.spare();
+    let is_made = shelf.reserve(alloc, 4).is_ok();
+    let spare = shelf.spare();
+    let is_same = shelf.len() == 1 && shelf.get(&7) == Some(&70);
+    if !is_same || spare < before || is_made != (spare >= 4) {
+        return Outcome::Wrong;
+    }
+    made_or_refused(is_made)
+}
+
+fn job(alloc: Global) -> Option<Job> {
+    Some(Job {
+        id: 1,
+        tube: TubeName::new(b"default")?,
+        pri: 0,
+        delay: 0,
+        ttr: 1,
+        body: Body::new(alloc, b"abc").ok()?,
+        put_at: 0,
+        counts: Counts::default(),
+        state: JobState::Ready,
+    })
+}
+
+// Jobs, of which there is one, are to have room for one more.
+fn jobs(alloc: Global) -> Outcome {
+    let mut jobs = Jobs::new();
+    let Some(job) = job(alloc) else {
+        return Outcome::NotBegun;
+    };
+    if jobs.reserve_one(alloc).is_err() || jobs.room() == 0 || jobs.get(job.id).is_some() {
+        return Outcome::NotBegun;
+    }
+    jobs.add(job);
+    let is_made = jobs.reserve_one(alloc).is_ok();
+    let is_same = jobs.len() == 1 && jobs.get(1).is_some();
+    if !is_same || is_made != (jobs.room() == 1) {
+        return Outcome::Wrong;
+    }
+    made_or_refused(is_made)
+}
+
+fn core(alloc: Global) -> Outcome {
+    match Core::new(alloc, config(2)) {
+        Ok(_) => Outcome::Made,
+        Err(CoreFault::NoMemory) => Outcome::Refused,
+        Err(_) => Outcome::Wrong,
+    }
+}
+
+// What is under the lock, with a journal.
+fn lock(alloc: Global) -> Outcome {
+    match Locked::new(alloc, config(2), 10) {
+        Ok(_) => Outcome::Made,
+        Err(RunFault::NoMemory) => Outcome::Refused,
+        Err(_) => Outcome::Wrong,
+    }
+}
+
+// Nothing is asked of the steps.
+struct Anything;
+
+impl Record for Anything {
+    ghost was = { λ taken waiting. ⊤ };
+}
+
+fn links_of_two(alloc: Global) -> Outcome {
+    made_or_refused(links::<Anything>(alloc, 2).is_ok())
+}
+
+fn tell_of_core<R: Print>(rt: &R, alloc: Global) -> io::Result<()> {
+    tell(rt, "shelf", shelf(alloc))?;
+    tell(rt, "jobs", jobs(alloc))?;
+    tell(rt, "core", core(alloc))?;
+    tell(rt, "outs", made_or_refused(Outs::new(alloc, 2).is_ok()))
+}
+
+fn tell_of_lines<R: Print>(rt: &R, alloc: Global) -> io::Result<()> {
+    let reader = RequestReader::new(alloc, USUAL_BODY).is_ok();
+    tell(rt, "reader", made_or_refused(reader))?;
+    let machine = SeatMachine::new(alloc, USUAL_BODY).is_ok();
+    tell(rt, "seat", made_or_refused(machine))
+}
+
+/// Each of them in turn.
+pub fn tell_all<R: Print>(rt: &R, alloc: Global) -> io::Result<()> {
+    tell_of_core(rt, alloc)?;
+    tell(rt, "links", links_of_two(alloc))?;
+    tell_of_lines(rt, alloc)?;
+    tell(rt, "lock", lock(alloc))
+}

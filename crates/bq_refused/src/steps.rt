@@ -1,0 +1,218 @@
+//! Steps of a core, row by row. A step stands between two lines, its words before it is taken and `taken` behind
+//! it, and then its answers. From the first bury on none may take any memory.
+ghost use Rattle.std.specs.Prelude.{◌≡◌, ◌<◌};
+
+use bq_core::{Config, Core, Outs};
+use bq_job::{Answer, Body, Moment, Request, Seat, Step, USUAL_BODY};
+use bq_wire::{HeadBuf, RequestReader, answer_body, answer_head, answer_tail};
+use std::alloc::Global;
+use std::io;
+use std::io::Print;
+
+/// What happens at a seat.
+#[derive(Clone, Copy)]
+enum Does {
+    Connects,
+    /// Delay in seconds. The priority is 0, the time to run nine seconds, and the body one byte.
+    Puts(u32),
+    Asks(&'static str),
+    SendsNoMore,
+    Closes,
+    /// Nothing happens: time passes.
+    Rests,
+}
+
+impl Does {
+    fn words(self) -> &'static str {
+        match self {
+            Does::Connects => "connect",
+            Does::Puts(_) => "put",
+            Does::Asks(words) => words,
+            Does::SendsNoMore => "end",
+            Does::Closes => "close",
+            Does::Rests => "tick",
+        }
+    }
+}
+
+/// A moment, a seat, and what happens there.
+type Row = (Moment, Seat, Does);
+
+static WITH_MEMORY: &[Row] = &[
+    (0, 0, Does::Connects),
+    (0, 1, Does::Connects),
+    (0, 2, Does::Connects),
+    (0, 0, Does::Puts(0)),
+    (0, 0, Does::Puts(0)),
+    (0, 0, Does::Puts(100)),
+    (0, 0, Does::Asks("use a")),
+    (0, 0, Does::Asks("watch a")),
+    (0, 0, Does::Asks("list-tubes")),
+    (0, 0, Does::Asks("list-tubes-watched")),
+    (0, 0, Does::Asks("stats-job 1")),
+    (0, 0, Does::Asks("stats-tube a")),
+    (0, 0, Does::Asks("stats")),
+    (0, 0, Does::Asks("use default")),
+    (0, 0, Does::Asks("reserve")),
+    (0, 0, Does::Asks("reserve")),
+];
+
+static BURIES_AND_PEEKS: &[Row] = &[
+    (0, 0, Does::Asks("bury 2 0")),
+    (0, 0, Does::Asks("bury 1 0")),
+    (0, 0, Does::Asks("peek-buried")),
+    (0, 0, Does::Asks("kick 5")),
+    (0, 0, Does::Asks("reserve")),
+    (0, 0, Does::Asks("touch 1")),
+    (0, 0, Does::Asks("release 1 0 0")),
+    (0, 0, Does::Asks("list-tube-used")),
+    (0, 0, Does::Asks("peek 1")),
+    (0, 0, Does::Asks("peek-ready")),
+    (0, 0, Does::Asks("peek-delayed")),
+    (0, 0, Does::Asks("reserve-job 2")),
+    (0, 0, Does::Asks("bury 2 7")),
+    (0, 0, Does::Asks("kick-job 2")),
+    (0, 0, Does::Asks("ignore a")),
+    (0, 0, Does::Asks("ignore default")),
+    (0, 0, Does::Asks("delete 4")),
+    (0, 0, Does::Asks("bad words")),
+];
+
+static WAITS_AND_LEASES: &[Row] = &[
+    (0, 0, Does::Asks("reserve")),
+    (0, 0, Does::Asks("reserve")),
+    (0, 1, Does::Asks("reserve")),
+    (0, 0, Does::Asks("release 1 0 0")),
+    (0, 2, Does::Asks("reserve-with-timeout 1")),
+    (1000, 0, Does::Rests),
+    (1000, 0, Does::Asks("delete 2")),
+    (1000, 1, Does::Asks("release 1 0 1")),
+    (1000, 2, Does::Asks("reserve")),
+    (2000, 0, Does::Rests),
+    (2000, 1, Does::Asks("reserve")),
+    (11_000, 0, Does::Rests),
+    (11_000, 2, Does::Asks("reserve")),
+    (11_000, 1, Does::Closes),
+    (11_000, 2, Does::Asks("pause-tube default 5")),
+    (11_000, 2, Does::Asks("release 1 0 0")),
+    (11_000, 0, Does::Asks("reserve")),
+    (11_000, 0, Does::SendsNoMore),
+    (11_000, 2, Does::Asks("delete 1")),
+    (11_000, 0, Does::Closes),
+];
+
+/// A core of three seats, the room for its answers, and a reader of what clients ask.
+#[derive(Drop)]
+struct Bench {
+    core: Core,
+    outs: Outs,
+    reader: RequestReader,
+    ghost room: { core.machine.settings.seats < outs.most },
+}
+
+impl Bench {
+    fn new(alloc: Global) -> Option<Bench> {
+        let config = Config {
+            seats: 3,
+            max_job_size: USUAL_BODY,
+            max_jobs: None,
+            requeue_delay: 0,
+        };
+        let core = Core::new(alloc, config).ok()?;
+        let outs = Outs::new(alloc, config.seats).ok()?;
+        let reader = RequestReader::new(alloc, USUAL_BODY).ok()?;
+        Some(Bench { core, outs, reader })
+    }
+
+    // What the client asks by a line of these words.
+    fn asked(&mut self, words: &str) -> Option<Step> {
+        let _ = self.reader.feed(words.as_bytes());
+        let (_, request) = self.reader.feed(b"\r\n");
+        Some(Step::Ask(request?))
+    }
+
+    fn step_of(&mut self, alloc: Global, does: Does) -> Option<Step> {
+        match does {
+            Does::Connects => Some(Step::Connect),
+            Does::Puts(delay) => put(alloc, delay),
+            Does::Asks(words) => self.asked(words),
+            Does::SendsNoMore => Some(Step::End),
+            Does::Closes => Some(Step::Close),
+            Does::Rests => Some(Step::Tick),
+        }
+    }
+
+    fn step(&mut self, at: Moment, seat: Seat, what: Step) {
+        self.core.step(at, seat, what, &mut self.outs);
+    }
+
+    // Tells the answers of the last step. There are two at most.
+    fn tell_answers<R: Print>(&mut self, rt: &R) -> io::Result<()> {
+        for _ in 0..3 {
+            if let Some((seat, answer)) = self.outs.take_first() {
+                tell_answer(rt, seat, &answer)?;
+            }
+        }
+        Ok(())
+    }
+}
+
+fn put(alloc: Global, delay: u32) -> Option<Step> {
+    Some(Step::Ask(Request::Put {
+        pri: 0,
+        delay,
+        ttr: 9,
+        body: Body::new(alloc, b"x").ok()?,
+    }))
+}
+
+fn tell_answer<R: Print>(rt: &R, seat: Seat, answer: &Answer) -> io::Result<()> {
+    if let Answer::Closed = answer {
+        return println!(rt; "to {seat}: closed");
+    }
+    let mut head = HeadBuf::new();
+    answer_head(answer, &mut head);
+    println!(rt; "to {seat}:")?;
+    rt.write_all(head.as_slice())?;
+    rt.write_all(answer_body(answer))?;
+    rt.write_all(answer_tail(answer))
+}
+
+// Takes the steps of the rows. Where what a client asks is refused memory itself, they end there.
+fn tell_rows<R: Print>(rt: &R, alloc: Global, bench: &mut Bench, rows: &[Row]) -> io::Result<()> {
+    for (at, seat, does) in rows {
+        let Some(step) = bench.step_of(alloc, *does) else {
+            return println!(rt; "not begun");
+        };
+        let words = does.words();
+        println!(rt; "step {words}")?;
+        bench.step(*at, *seat, step);
+        println!(rt; "taken")?;
+        bench.tell_answers(rt)?;
+    }
+    Ok(())
+}
+
+// Each table has a function of its own, which is what it costs least to prove.
+fn tell_first<R: Print>(rt: &R, alloc: Global, bench: &mut Bench) -> io::Result<()> {
+    tell_rows(rt, alloc, bench, WITH_MEMORY)
+}
+
+fn tell_buries<R: Print>(rt: &R, alloc: Global, bench: &mut Bench) -> io::Result<()> {
+    tell_rows(rt, alloc, bench, BURIES_AND_PEEKS)
+}
+
+fn tell_waits<R: Print>(rt: &R, alloc: Global, bench: &mut Bench) -> io::Result<()> {
+    tell_rows(rt, alloc, bench, WAITS_AND_LEASES)
+}
+
+/// All rows, by one core.
+pub fn tell_all<R: Print>(rt: &R, alloc: Global) -> io::Result<()> {
+    let Some(mut bench) = Bench::new(alloc) else {
+        return println!(rt; "steps: not begun");
+    };
+    println!(rt; "steps: begun")?;
+    tell_first(rt, alloc, &mut bench)?;
+    tell_buries(rt, alloc, &mut bench)?;
+    tell_waits(rt, alloc, &mut bench)
+}

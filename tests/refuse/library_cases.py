@@ -1,0 +1,95 @@
+"""Calls of the libraries, by the program of tests bq_refused: each with its requests for memory refused in turn.
+
+It tells what came of each call in a line, then the steps of a core, one after another (its steps.rt). What it
+tells where nothing is refused stands in its file stdout, which the gate compares.
+"""
+import os
+import re
+
+from refusal import each_in_turn
+
+# What may come of a call where one request was refused, beside `made`.
+OUTCOMES = {
+    **dict.fromkeys((b"shelf", b"jobs"), {b"refused", b"not begun"}),
+    **dict.fromkeys((b"core", b"outs", b"links", b"reader", b"seat", b"lock"), {b"refused"}),
+    **dict.fromkeys((b"run_sessions", b"run_locked"), {b"refused", b"a thread was refused", b"a command was left out", b"not begun"}),
+}
+STEPS = b"steps: "
+FIRST_FREE = b"step bury 2 0\n"
+# How many requests a step may make at most: a put the four boxes of a job, a use and a watch the box of a new
+# tube, a watch also a growth of its client's list, and what tells a text that text and the lists that it gathers
+# for it. All others make none.
+MOST = {b"put": 4, b"use": 1, b"watch": 2, b"list-tubes": 3, b"list-tubes-watched": 2, b"stats-job": 1, b"stats-tube": 1, b"stats": 1}
+
+
+def parted(out):
+    """What came of each call, and what is told of the steps."""
+    calls, _, steps = out.partition(STEPS)
+    return dict(line.split(b": ", 1) for line in calls.splitlines()), steps
+
+
+def refused_once(program, full, nth):
+    """One run with the nth request refused: whether it was, and what is wrong."""
+    status, out, complaint = program.run([], b"", at=nth)
+    refused = program.host.was_refused()
+    if status != 0 or complaint:
+        return refused, f"status {status}, {complaint[-120:]!r} on standard error"
+    if not refused:
+        return False, None if out == full else "it tells something else though nothing was refused"
+    calls, steps = parted(out)
+    whole, all_steps = parted(full)
+    turned = [it for it in whole if calls.get(it) != whole[it]] + [STEPS] * (steps != all_steps)
+    if calls.keys() != whole.keys() or len(turned) != 1:
+        return True, f"one refusal turned {turned}"
+    for name in turned:
+        if name != STEPS and calls[name] not in OUTCOMES[name]:
+            return True, f"{name.decode()}: {calls[name].decode()}"
+    return True, None
+
+
+def calls_refused(program):
+    """Each request of the whole program refused in turn."""
+    status, full, complaint = program.run([], b"")
+    if status != 0 or complaint or b"wrong" in full:
+        return 1, f"status {status} though nothing was refused"
+    return each_in_turn(lambda nth: refused_once(program, full, nth))
+
+
+def marked(program):
+    """The lines that the program tells, each with how many requests there were before it."""
+    marks = f"{program.host.told}.marks"
+    open(marks, "wb").close()
+    program.run([], b"", marks=marks)
+    with open(marks, "rb") as told:
+        found = re.findall(rb"requests (\d+) (step .*\n|taken\n)", told.read())
+    os.remove(marks)
+    return [(int(count), line) for count, line in found]
+
+
+def steps_counted(program):
+    """No step makes more requests than it may."""
+    lines = marked(program)
+    pairs = list(zip(lines[::2], lines[1::2]))
+    if len(pairs) < 50:
+        return 1, f"only {len(pairs)} steps"
+    for (before, step), (after, _) in pairs:
+        word = step.split()[1]
+        if after - before > MOST.get(word, 0):
+            return 1, f"{step.decode().strip()} made {after - before} requests"
+    return 1, None
+
+
+def steps_without_memory(program):
+    """All requests refused from the first bury on change nothing: what comes then takes no memory."""
+    full = program.run([], b"")
+    begun = next((count for count, line in marked(program) if line == FIRST_FREE), None)
+    if begun is None:
+        return 2, "no step that buries"
+    ran = program.run([], b"", from_=begun + 1)
+    return 3, None if ran == full else f"another end of {ran[1][-80:]!r}"
+
+
+def cases(program):
+    yield "library: calls", lambda: calls_refused(program)
+    yield "library: requests of a step", lambda: steps_counted(program)
+    yield "library: steps without memory", lambda: steps_without_memory(program)
