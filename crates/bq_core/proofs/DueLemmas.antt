@@ -1,6 +1,6 @@
 -- The next due moment, out of those of jobs, tubes and seats.
 use Rattle.std.proofs.Common.{◌≡◌, ℕ, Bool, true, false, ◌++◌, ◌+◌, ◌-◌, ◌<◌, ◌≤◌, ◌==◌, ◌&&◌, ◌||◌, not, inl, inr, List, [], ◌∷◌, Option, Some, None, refl, sym, ap, ◌∙◌, arith, take, get_or, length, if◌then◌else◌}
-use Rattle.std.specs.Prelude.{flat_map, fold, is_some, min, nat_lt, option_map}
+use Rattle.std.specs.Prelude.{flat_map, fold, min, nat_lt, option_map}
 use Rattle.std.specs.List.{AllByRecursion as All, Contains, list_all, list_any}
 use Rattle.std.proofs.lemmas.Bool.{cases_Bool}
 use Rattle.std.proofs.lemmas.Bool.Decides.{nat_tests}
@@ -10,13 +10,13 @@ use Rattle.bq_job.specs.declared.job.JobState.{JobState}
 use Rattle.bq_job.specs.declared.job.JobState.TheVariants as states
 use Rattle.bq_job.specs.Changes.{first_of, is_held_by, is_holder, is_pair_before, is_waiting}
 use Rattle.bq_job.specs.JobStates.{due_of, is_delayed, is_due_before, is_reserved}
-use Rattle.bq_job.specs.Machine.{Machine, SeatRecord, TubeRecord, Wait}
+use Rattle.bq_job.specs.Machine.{Machine, SeatRecord, TubeRecord}
 use Rattle.bq_job.specs.OneClient.{is_waiting_at}
 use Rattle.bq_job.proofs.ChoiceLemmas.{first_of_contains, first_of_is_least, first_of_none, first_of_passes, pair_order}
 use Rattle.bq_job.proofs.ListLemmas.{all_at, all_from_members, all_pass, all_weaker, list_all_from, none_pass}
 use Rattle.bq_jobs.specs.Leases.{deadline_of, is_lease_before}
-use Rattle.bq_job.specs.NextDue.{dues_of_pause, dues_of_state, dues_of_wait, earliest, is_before}
-use Rattle.bq_core.specs.Dues.{earlier_of_both, jobs_due, warning_due, with_seat_due, with_warning_due}
+use Rattle.bq_job.specs.NextDue.{dues_of_pause, dues_of_state, earliest, is_before}
+use Rattle.bq_core.specs.Dues.{earlier_of_both, jobs_due, warning_due, with_warning_due}
 use Rattle.bq_core.specs.TubeEntries.{IsFreshUnlessCounted, counted, is_counted}
 
 no_other : (a : Option ℕ) → earlier_of_both a None ≡ a
@@ -267,13 +267,3 @@ module _ (m : Machine) (t : ℕ) where
 -- the first due moment of jobs, found by the first of each kind
 pub jobs_due_is : (m : Machine) → jobs_due m.jobs m.seats ≡ earliest (flat_map (λ j. dues_of_state m j.state) m.jobs)
 jobs_due_is m = told_by_before (jobs_due m.jobs m.seats) (earliest (flat_map (λ j. dues_of_state m j.state) m.jobs)) (λ t. jobs_later m t)
-
--- where nobody waits, nobody gives up
-pub none_gives_up : (seats : List SeatRecord) → list_any is_waiting seats ≡ false → fold with_seat_due None seats ≡ None
-none_gives_up [] none = refl
-none_gives_up (s ∷ seats) none = go s.wait none (λ h. none_gives_up seats h)
-  where
-    go : (w : Option Wait) → (is_some w || list_any is_waiting seats) ≡ false → (list_any is_waiting seats ≡ false → fold with_seat_due None seats ≡ None)
-        → fold with_seat_due (earlier_of_both None (earliest (dues_of_wait w))) seats ≡ None
-    go (Some wait) h rest = absurd cc
-    go None h rest = rest h

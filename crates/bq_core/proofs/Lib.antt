@@ -8,6 +8,7 @@ pub mod CrowdWatching
 pub mod DispatchLemmas
 pub mod DueLemmas
 pub mod FiringLemmas
+pub mod FirstEndLemmas
 pub mod GoneLemmas
 pub mod KickLemmas
 pub mod LeavingLemmas

@@ -145,7 +145,7 @@ no_job_changed id f (k ∷ jobs) h = elim (cases_Bool (k.id == id)) [
 -- comparisons change nothing else
 pub compared_sound : (old new : State) → OnlyCompares old new → IsSound old → IsSound new
 compared_sound old new same s =
-    let was : IsSound (record old { jobs = record old.jobs { comparisons = new.jobs.comparisons } }) = record { entries = s.entries; numbered = s.numbered; next = s.next; ids = s.ids; counts = s.counts; clients = s.clients; crowds = s.crowds; alive = s.alive; stirs = s.stirs; warnings = s.warnings; pauses = s.pauses } in
+    let was : IsSound (record old { jobs = record old.jobs { comparisons = new.jobs.comparisons } }) = record { entries = s.entries; numbered = s.numbered; next = s.next; ids = s.ids; counts = s.counts; clients = s.clients; crowds = s.crowds; alive = s.alive; stirs = s.stirs; warnings = s.warnings; timeouts = s.timeouts; pauses = s.pauses } in
     subst IsSound (sym same) was
 
 -- a change of a seat leaves it at tubes with entries

@@ -8,6 +8,7 @@ pub mod Crowds
 pub mod Dues
 pub mod EndingWaits
 pub mod Firing
+pub mod FirstEnds
 pub mod HandOuts
 pub mod JobChanges
 pub mod JobKinds

@@ -6,6 +6,7 @@ use Rattle.bq_job.specs.Machine.{Machine}
 use Rattle.bq_core.specs.Clients.{clients_of}
 use Rattle.bq_core.specs.Crowds.{AreCrowds}
 use Rattle.bq_core.specs.Dues.{first_pause_end}
+use Rattle.bq_core.specs.FirstEnds.{AreTimeouts}
 use Rattle.bq_core.specs.Losses.{AreAlive}
 use Rattle.bq_core.specs.SeatChanges.{AreNumbered}
 use Rattle.bq_core.specs.Stirs.{AreKnown}
@@ -49,6 +50,8 @@ pub record IsSound (s : State) : Type 0 where
   pub stirs : AreKnown s.stir s.jobs.jobs s.seats.items (counted s.tubes.entries)
   -- It is known whether a waiting client holds a job.
   pub warnings : AreWarned s.warns s.jobs.jobs s.seats.items
+  -- So it is for the ends of waits by timeouts.
+  pub timeouts : AreTimeouts s.first_end s.seats.items
   -- The end of the first pause is known.
   pub pauses : s.pause_end ≡ first_pause_end s.tubes.entries
 

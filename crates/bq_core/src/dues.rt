@@ -5,9 +5,11 @@ ghost use Rattle.bq_job.specs.Changes.{is_waiting};
 ghost use Rattle.bq_job.specs.NextDue.{next_due as next_due_of};
 ghost use Rattle.bq_core.specs.Asking.{Asks};
 ghost use Rattle.bq_core.specs.Dues.{earlier_of_both, timers_due, warning_due, with_seat_due, with_warning_due};
+ghost use Rattle.bq_core.specs.FirstEnds.{AreTimeouts};
 ghost use Rattle.bq_core.specs.State.{machine_of, IsSound};
 ghost use Rattle.bq_core.specs.Warnings.{AreWarned};
 
+use crate::first_end::FirstEnd;
 use crate::place::Place;
 use crate::state::State;
 use bq_job::{JobId, Moment};
@@ -85,7 +87,8 @@ fn jobs_due(jobs: &mut Jobs) -> Option<Moment>
     earlier_of(due, deadline)
 }
 
-fn first_to_give_up(seats: &[Place]) -> Option<Moment>
+/// When the first of the clients that wait gives up.
+pub(crate) fn first_to_give_up(seats: &[Place]) -> Option<Moment>
     ensures { result ≡ fold with_seat_due None seats.now }
 {
     let mut best = None;
@@ -95,15 +98,14 @@ fn first_to_give_up(seats: &[Place]) -> Option<Moment>
     best
 }
 
-// When the first of the clients that wait gives up. Where nobody waits, no seat is looked at.
-fn seats_due(seats: &[Place], has_waiter: bool) -> Option<Moment>
-    requires { has_waiter ≡ list_any is_waiting seats.now }
+// The same. Where it is known, no seat is looked at.
+fn seats_due(first: &FirstEnd, seats: &[Place]) -> Option<Moment>
+    requires { AreTimeouts first.now seats.now }
     ensures { result ≡ fold with_seat_due None seats.now }
 {
-    if has_waiter {
-        first_to_give_up(seats)
-    } else {
-        None
+    match first {
+        FirstEnd::Known(first) => *first,
+        FirstEnd::Unknown => first_to_give_up(seats),
     }
 }
 
@@ -115,11 +117,10 @@ pub(crate) fn next_due(state: &mut State) -> Option<Moment>
     ensures asks { Asks (count_by is_waiting state.old.seats.items + 2) state.old.jobs state.new.jobs }
     ensures sound { IsSound state.new }
 {
-    let has_waiter = state.has_waiter();
     let jobs = jobs_due(&mut state.jobs);
     let warning = warnings_due(&mut state.jobs, state.seats.as_slice(), state.warns);
     state.warns = warning.is_some();
-    let seats = seats_due(state.seats.as_slice(), has_waiter);
+    let seats = seats_due(&state.first_end, state.seats.as_slice());
     earlier_of(
         earlier_of(jobs, warning),
         earlier_of(state.pause_end, seats),

@@ -14,6 +14,7 @@ mod config;
 mod crowd;
 mod dispatch;
 mod dues;
+mod first_end;
 mod forgetting;
 mod job_acts;
 mod job_list;

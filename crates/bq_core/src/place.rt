@@ -123,6 +123,13 @@ impl Place {
         self.wait.is_some()
     }
 
+    /// Whether the client sends no more.
+    pub(crate) fn has_ended(&self) -> bool
+        ensures { result ≡ self.now.ended }
+    {
+        self.ended
+    }
+
     fn ticket(&self) -> u64
         ensures { result ≡ ticket_of self.now.wait }
     {

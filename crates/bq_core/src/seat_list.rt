@@ -9,6 +9,7 @@ ghost use Rattle.bq_job.specs.TubeName.{is_same_name};
 ghost use Rattle.bq_core.specs.SeatChanges.{AreNumbered, seat_changed, seat_changed_at};
 ghost use Rattle.bq_core.specs.Places.{item_at, better_if};
 ghost use Rattle.bq_core.specs.EndingWaits.{has_waited, waits_after};
+ghost use Rattle.bq_core.specs.FirstEnds.{is_gone_in_wait};
 ghost use Rattle.bq_core.specs.Offers.{waits_at};
 
 use crate::place::{Place, Turn};
@@ -166,6 +167,19 @@ pub(crate) fn is_some_wait_over(seats: &[Place], moment: Moment) -> bool
     ensures { result ≡ list_any (has_waited moment) seats.now }
 {
     seats.iter().any(|place| has_waited(place, moment))
+}
+
+fn is_gone_in_wait(place: &Place) -> bool
+    ensures { result ≡ is_gone_in_wait place.now }
+{
+    place.is_waiting() && place.has_ended()
+}
+
+/// Whether some client waits that sends no more.
+pub(crate) fn is_some_waiter_gone(seats: &[Place]) -> bool
+    ensures { result ≡ list_any is_gone_in_wait seats.now }
+{
+    seats.iter().any(is_gone_in_wait)
 }
 
 /// So many seats, with nobody there.

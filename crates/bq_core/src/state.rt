@@ -21,6 +21,7 @@ ghost use Rattle.bq_core.specs.Warnings.{may_hold};
 use crate::clients::Clients;
 use crate::config::Config;
 use crate::crowd::Moving;
+use crate::first_end::FirstEnd;
 use crate::job_list::{JobChange, JobKind, JobTest};
 use crate::loss::Loss;
 use crate::name_lists::Names;
@@ -30,7 +31,7 @@ use crate::stir::Stir;
 use crate::tally::Tally;
 use crate::tube_entry::TubeChange;
 use crate::tubes::Tubes;
-use crate::{job_list, leaving, loss, seat_list, shares, stir};
+use crate::{first_end, job_list, leaving, loss, seat_list, shares, stir};
 use bq_job::{Body, Job, JobId, JobState, Moment, NoMemory, Seat, TubeName};
 use bq_jobs::{Jobs, laws};
 use std::alloc::Global;
@@ -53,6 +54,8 @@ pub(crate) struct State {
     pub(crate) stir: Stir,
     /// Whether a client that waits may hold a job, and so be told when its time to run ends soon.
     pub(crate) warns: bool,
+    /// When the first wait of a client is over by its timeout.
+    pub(crate) first_end: FirstEnd,
     /// When the first pause of a tube ends.
     pub(crate) pause_end: Option<Moment>,
     pub(crate) moment: Moment,
@@ -298,6 +301,7 @@ pub(crate) fn change_seat(state: &mut State, seat: Seat, what: &SeatChange)
     let touched = shares::touched(what);
     let place = seat_list::find(state.seats.as_slice(), seat);
     state.clients.remove(place);
+    first_end::change(&mut state.first_end, place, what);
     shares::recount(&mut state.tubes, place, Moving::Goes, touched);
     leaving::lose(&mut state.loss, &state.tubes, place, touched);
     seat_list::change_at(&mut state.seats, seat, what);
@@ -323,6 +327,17 @@ pub(crate) fn note_leases(state: &mut State, seat: Seat)
 {
     let holds = job_list::holds_some(&mut state.jobs, seat);
     warn_if(&mut state.warns, holds);
+}
+
+/// Looks for when the first wait of a client is over by its timeout, where that isn't known.
+pub(crate) fn find_first_end(state: &mut State)
+    requires { IsSound state.old }
+    ensures same { state.new ≡ record state.old { first_end = state.new.first_end } }
+    ensures sound { IsSound state.new }
+{
+    if let FirstEnd::Unknown = &state.first_end {
+        state.first_end = first_end::find(state.seats.as_slice());
+    }
 }
 
 /// Changes what is kept of a tube that has an entry.
@@ -485,6 +500,7 @@ pub(crate) fn first_state(config: Config, seats: Vec<Place, Global>, tubes: Tube
         loss: Loss::Nothing,
         stir: Stir::Nothing,
         warns: false,
+        first_end: FirstEnd::Known(None),
         pause_end: None,
         moment: 0,
         next_id: 1,

@@ -1,18 +1,20 @@
 ghost use Rattle.std.specs.Prelude.{◌≡◌, ◌<◌, ◌+◌, None, Some, true, false, length, slice_get};
+ghost use Rattle.std.specs.List.{list_any};
 ghost use Rattle.bq_job.specs.Computed.{waiting_count};
 ghost use Rattle.bq_job.specs.Waits.{WaitEndTurn, next_end};
 ghost use Rattle.bq_job.specs.Machine.{SeatRecord};
 ghost use Rattle.bq_core.specs.Asking.{Asks};
-ghost use Rattle.bq_core.specs.EndingWaits.{AreLookedAt, left_after, may_end, told_at_end};
+ghost use Rattle.bq_core.specs.EndingWaits.{AreLookedAt, has_waited, left_after, may_end, told_at_end};
 ghost use Rattle.bq_core.specs.State.{machine_of, IsSound, OnlyCompares};
 ghost use Rattle.bq_core.specs.Turns.{Gives, HasRoom, none_refused};
 ghost use Rattle.bq_core.specs.WaitEnds.{EndsWait, LooksAt};
 
+use crate::first_end::FirstEnd;
 use crate::outs::Outs;
 use crate::place::Turn;
 use crate::seat_list::SeatChange;
 use crate::state::State;
-use crate::{job_list, seat_list, state};
+use crate::{job_list, pauses, seat_list, state};
 use bq_job::Answer;
 
 // What the client at place k, which waits, is told if its wait ends now. Its first lease is asked for once.
@@ -103,20 +105,35 @@ fn end_all(state: &mut State, outs: &mut Outs)
     while turn(state, outs, &mut last) {}
 }
 
+// Whether some wait is over by its timeout, or because its client sends no more.
+fn is_some_wait_over(state: &mut State) -> bool
+    requires { IsSound state.old }
+    ensures over { result ≡ list_any (has_waited state.old.moment) state.old.seats.items }
+    ensures same { state.new ≡ record state.old { first_end = state.new.first_end } }
+    ensures sound { IsSound state.new }
+{
+    state::find_first_end(state);
+    match &state.first_end {
+        FirstEnd::Known(first) => pauses::is_over(*first, state.moment),
+        FirstEnd::Unknown => seat_list::is_some_wait_over(state.seats.as_slice(), state.moment),
+    }
+}
+
 // Whether some wait may end now: a time to run ends within a second, or a timeout has come. Where nobody
 // waits, no shelf is asked.
 fn may_end(state: &mut State) -> bool
     requires { IsSound state.old }
     ensures none { result ≡ false → next_end (machine_of state.old) ≡ None }
     ensures some { result ≡ may_end (machine_of state.old) }
-    ensures same { OnlyCompares state.old state.new }
+    ensures same { machine_of state.new ≡ machine_of state.old }
+    ensures config { state.new.config ≡ state.old.config }
     ensures asks { Asks 1 state.old.jobs state.new.jobs }
     ensures sound { IsSound state.new }
 {
     if !state.has_waiter() {
         return false;
     }
-    if seat_list::is_some_wait_over(state.seats.as_slice(), state.moment) {
+    if is_some_wait_over(state) {
         return true;
     }
     job_list::is_some_deadline_soon(&mut state.jobs, state.moment)

@@ -20,6 +20,7 @@ returns-then-not-is_nothing-clause-sound c =
       alive = was.alive;
       stirs = known_nothing (machine_of c.dispatch_all.new.state) c.dispatch_all.ensures.done;
       warnings = was.warnings;
+      timeouts = was.timeouts;
       pauses = was.pauses;
     }
 

@@ -59,5 +59,6 @@ returns-clause-sound c =
       alive = was.alive;
       stirs = was.stirs;
       warnings = rw (c.is_some-state.ensures, c.warnings_due-warning.ensures.due, kept, c.as_slice.ensures.value, jobs) (warned_by_due st.jobs.jobs st.seats.items);
+      timeouts = was.timeouts;
       pauses = was.pauses;
     }

@@ -18,5 +18,6 @@ returns-clause-sound c =
       alive = was.alive;
       stirs = was.stirs;
       warnings = was.warnings;
+      timeouts = was.timeouts;
       pauses = was.pauses;
     }

@@ -33,5 +33,6 @@ returns-clause-sound c =
       alive = rw (c.find.ensures, c.add-2.ensures.jobs, c.add_job.ensures.entries) (alive_added j st.loss st.jobs.jobs st.seats.items st.tubes.entries was.alive);
       stirs = rw (c.stir_tube_if.ensures, c.is_wanted-is_wanted.ensures, c.add-2.ensures.jobs, c.add_job.ensures.entries) (known_added j st.stir st.jobs.jobs st.seats.items (counted st.tubes.entries) was.stirs);
       warnings = rw (c.warn_if.ensures, c.has_waiting_holder-holds.ensures, c.add-2.ensures.jobs) (warned_added j st.warns st.jobs.jobs st.seats.items was.numbered was.warnings);
+      timeouts = was.timeouts;
       pauses = was.pauses ∙ ap first_pause_end (sym c.add_job.ensures.entries);
     }

@@ -14,6 +14,8 @@ use Rattle.bq_core.proofs.StateLemmas.{entries_of_seat, numbered_after}
 use Rattle.bq_core.specs.TubeEntries.{counted}
 use Rattle.bq_core.proofs.StirLemmas.{known_of_seat}
 use Rattle.bq_core.proofs.WarningLemmas.{warned_of_seat}
+use Rattle.bq_core.specs.FirstEnds.{end_after}
+use Rattle.bq_core.proofs.FirstEndLemmas.{timeouts_of_seat}
 use Rattle.bq_core.proofs.state.change_seat.Goals as goal
 
 pub find-place-requires-2 : goal.find-place-requires-2
@@ -61,5 +63,8 @@ returns-clause-sound c =
           rw (loss, c.change_at.ensures, entries) all;
       stirs = rw (c.stir_seat.ensures, c.change_at.ensures, entries) (known_of_seat c.args.seat c.args.what.now st.stir st.jobs.jobs seats (counted st.tubes.entries) was.stirs);
       warnings = rw c.change_at.ensures (warned_of_seat c.args.seat c.args.what.now st.warns st.jobs.jobs seats c.requires.holds was.warnings);
+      timeouts =
+          let end : c.change.new.first ≡ end_after c.args.what.now (there seats) st.first_end = c.change.ensures ∙ (λ i. end_after c.args.what.now (taken i) st.first_end) in
+          rw (end, c.change_at.ensures) (timeouts_of_seat c.args.seat c.args.what.now st.first_end seats was.numbered was.timeouts);
       pauses = was.pauses ∙ ap first_pause_end (sym entries);
     }

@@ -38,6 +38,7 @@ returns-clause-sound c =
           let known = known_of_change c.args.tube.now c.args.what (machine_of s) s.stir was.stirs in
           rw c.stir_change.ensures (subst (λ ts. AreKnown (stirred_by_change c.args.tube.now c.args.what s.stir) s.jobs.jobs s.seats.items ts) (ap (λ (m : Machine). m.tubes) (sym (returns-clause-after c))) known);
       warnings = was.warnings;
+      timeouts = was.timeouts;
       pauses =
           c.pause_end_after-state.ensures
           ∙ ap (λ ts. pause_end_after ts c.args.what s.pause_end) c.change.ensures.entries

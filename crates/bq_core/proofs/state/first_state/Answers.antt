@@ -6,6 +6,7 @@ use Rattle.bq_core.proofs.ClientLemmas.{first_clients}
 use Rattle.bq_core.proofs.CrowdPlaces.{first_crowds}
 use Rattle.bq_core.proofs.StateLemmas.{first_entries, first_numbered}
 use Rattle.bq_core.proofs.TallyPlaces.{none_counted}
+use Rattle.bq_core.proofs.FirstEndLemmas.{first_timeouts}
 use Rattle.bq_core.proofs.state.first_state.Goals as goal
 
 pub returns-clause-sound : goal.returns-clause-sound
@@ -20,6 +21,7 @@ returns-clause-sound c =
       alive = rw entries (refl, tt);
       stirs = rw (ap (λ (k : Kept). k.jobs) c.new.ensures) tt;
       warnings = rw (ap (λ (k : Kept). k.jobs) c.new.ensures) tt;
+      timeouts = rw c.requires.free (first_timeouts (numbers 0 c.args.config.seats));
       pauses = rw entries refl;
       counts = rw (ap (λ (k : Kept). k.jobs) c.new.ensures, entries) (record { whole = none_counted c.default.result c.default.ensures; each = ap (λ (k : KeptTubes). k.tallies) c.requires.first });
     }

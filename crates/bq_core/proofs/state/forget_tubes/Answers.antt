@@ -36,6 +36,7 @@ returns-clause-sound c =
       alive = rw left (alive_forgotten s.jobs.jobs s.seats.items s.tubes.entries);
       stirs = subst (λ ts. AreKnown s.stir s.jobs.jobs s.seats.items ts) (ap (λ (m : Machine). m.tubes) (sym (returns-clause-after c))) (known_forgotten (machine_of s) s.stir was.stirs);
       warnings = was.warnings;
+      timeouts = was.timeouts;
       pauses =
           c.pause_end_left-state.ensures
           ∙ ap (λ ts. pause_end_left ts c.len-entries.result s.pause_end) left

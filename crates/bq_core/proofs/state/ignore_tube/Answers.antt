@@ -14,6 +14,7 @@ use Rattle.bq_core.proofs.LossLemmas.{alive_ignoring}
 use Rattle.bq_core.proofs.StateLemmas.{changed_there, seat_read, seat_there, watching_fewer, watching_numbered}
 use Rattle.bq_core.proofs.StirLemmas.{known_ignoring}
 use Rattle.bq_core.proofs.WarningLemmas.{warned_watching}
+use Rattle.bq_core.proofs.FirstEndLemmas.{timeouts_watching}
 use Rattle.bq_core.proofs.state.ignore_tube.Goals as goal
 
 pub ignore-requires-clause-other : goal.ignore-requires-clause-other
@@ -51,6 +52,7 @@ returns-then-from-len-clause-sound c =
       alive = rw (seats, c.lose.ensures, entries) (alive_ignoring c.args.tube.now c.args.seat t old.loss old.jobs.jobs old.seats.items old.tubes.entries here was.alive);
       stirs = rw (seats, entries) (known_ignoring (λ other. not (is_same_name c.args.tube.now other)) c.args.seat t old.stir old.jobs.jobs old.seats.items (counted old.tubes.entries) here was.stirs);
       warnings = rw seats (warned_watching (filter (λ other. not (is_same_name c.args.tube.now other)) t.watched) c.args.seat t old.warns old.jobs.jobs old.seats.items here was.warnings);
+      timeouts = rw seats (timeouts_watching (filter (λ other. not (is_same_name c.args.tube.now other)) t.watched) c.args.seat t old.first_end old.seats.items here was.timeouts);
       pauses = was.pauses ∙ ap first_pause_end (sym entries);
     }
 

@@ -37,6 +37,7 @@ returns-in-Ok-clause-sound c =
           let st = c.args.state.now in
           subst (λ ts. AreKnown st.stir st.jobs.jobs st.seats.items ts) (sym (ap counted c.in-Ok.ensures.entries ∙ counted_provided c.args.tube.now st.tubes.entries)) was.stirs;
       warnings = was.warnings;
+      timeouts = was.timeouts;
       pauses = was.pauses ∙ sym (end_provided c.args.tube.now c.args.state.now.tubes.entries) ∙ ap first_pause_end (sym c.in-Ok.ensures.entries);
     }
 
@@ -46,4 +47,4 @@ returns-in-Err-clause-after c = ap (λ tubes. record (machine_of c.args.state.no
 pub returns-in-Err-clause-sound : goal.returns-in-Err-clause-sound
 returns-in-Err-clause-sound c =
     let was = c.requires in
-    record { entries = rw c.in-Err.ensures.entries was.entries; numbered = was.numbered; next = was.next; ids = was.ids; counts = rw (c.in-Err.ensures.entries, c.in-Err.ensures.tallies) was.counts; clients = was.clients; crowds = rw (c.in-Err.ensures.entries, c.in-Err.ensures.crowds) was.crowds; alive = rw c.in-Err.ensures.entries was.alive; stirs = rw c.in-Err.ensures.entries was.stirs; warnings = was.warnings; pauses = rw c.in-Err.ensures.entries was.pauses }
+    record { entries = rw c.in-Err.ensures.entries was.entries; numbered = was.numbered; next = was.next; ids = was.ids; counts = rw (c.in-Err.ensures.entries, c.in-Err.ensures.tallies) was.counts; clients = was.clients; crowds = rw (c.in-Err.ensures.entries, c.in-Err.ensures.crowds) was.crowds; alive = rw c.in-Err.ensures.entries was.alive; stirs = rw c.in-Err.ensures.entries was.stirs; warnings = was.warnings; timeouts = was.timeouts; pauses = rw c.in-Err.ensures.entries was.pauses }

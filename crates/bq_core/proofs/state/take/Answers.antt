@@ -27,6 +27,7 @@ returns-in_err-job-clause-sound c =
       alive = rw same c.requires.alive;
       stirs = rw same c.requires.stirs;
       warnings = rw same c.requires.warnings;
+      timeouts = c.requires.timeouts;
       pauses = c.requires.pauses;
     }
 
@@ -61,5 +62,6 @@ returns-clause-sound c =
       alive = rw (c.lose.ensures, c.remove.ensures.jobs, c.remove_job.ensures.entries) (alive_taken 1 st.next_id c.args.id j st.loss st.jobs.jobs st.seats.items st.tubes.entries was.ids found was.alive);
       stirs = rw (c.remove.ensures.jobs, c.remove_job.ensures.entries) (all_filtered (λ k. All (IsKnown st.stir (counted st.tubes.entries) k) st.seats.items) (λ k. not (k.id == c.args.id)) st.jobs.jobs was.stirs);
       warnings = rw c.remove.ensures.jobs (all_filtered (λ k. All (IsWarned st.warns k) st.seats.items) (λ k. not (k.id == c.args.id)) st.jobs.jobs was.warnings);
+      timeouts = was.timeouts;
       pauses = was.pauses ∙ ap first_pause_end (sym c.remove_job.ensures.entries);
     }

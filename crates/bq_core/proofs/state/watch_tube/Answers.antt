@@ -16,6 +16,7 @@ use Rattle.bq_core.proofs.StateLemmas.{changed_there, seat_read, seat_there, wat
 use Rattle.bq_core.specs.declared.crowd.Share.{Share}
 use Rattle.bq_core.proofs.StirLemmas.{known_watching}
 use Rattle.bq_core.proofs.WarningLemmas.{warned_watching}
+use Rattle.bq_core.proofs.FirstEndLemmas.{timeouts_watching}
 use Rattle.bq_core.proofs.state.watch_tube.Goals as goal
 
 pub returns-then-from-len-clause-count : goal.returns-then-from-len-clause-count
@@ -71,5 +72,6 @@ returns-in-Ok-clause-sound c =
       alive = rw (seats, entries) (alive_watching c.args.tube.now c.args.seat t mid.loss mid.jobs.jobs mid.seats.items mid.tubes.entries here p.sound.alive);
       stirs = rw (c.stir_all_if.ensures, ap (λ (s : Share). s.waiting) share, seats, entries) (known_watching (t.watched ++ c.args.tube.now ∷ []) c.args.seat t mid.stir mid.jobs.jobs mid.seats.items (counted mid.tubes.entries) p.sound.stirs);
       warnings = rw seats (warned_watching (t.watched ++ c.args.tube.now ∷ []) c.args.seat t mid.warns mid.jobs.jobs mid.seats.items here p.sound.warnings);
+      timeouts = rw seats (timeouts_watching (t.watched ++ c.args.tube.now ∷ []) c.args.seat t mid.first_end mid.seats.items here p.sound.timeouts);
       pauses = p.sound.pauses ∙ ap first_pause_end (sym entries);
     }

@@ -34,6 +34,7 @@ returns-clause-sound c =
       alive = rw c.fire_timers.ensures.entries (alive_renamed (tube_after_timers s.moment) (λ t. refl) s.loss s.jobs.jobs s.seats.items s.tubes.entries was.alive);
       stirs = known_any s.jobs.jobs s.seats.items (counted c.fire_timers.new.self.entries);
       warnings = was.warnings;
+      timeouts = was.timeouts;
       pauses = c.first_pause_end-state.ensures;
     }
 

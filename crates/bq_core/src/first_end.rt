@@ -1,0 +1,57 @@
+//! When the first wait of a client is over by its timeout.
+ghost use Rattle.std.specs.Prelude.{◌≡◌};
+ghost use Rattle.std.specs.Option.{option_copied};
+ghost use Rattle.bq_core.specs.FirstEnds.{AreTimeouts, end_after, keeps_end};
+
+use crate::place::Place;
+use crate::seat_list::SeatChange;
+use crate::{dues, seat_list};
+use bq_job::Moment;
+
+/// When the first wait of a client is over by its timeout.
+#[derive(Clone, Copy)]
+pub(crate) enum FirstEnd {
+    /// Then, if ever. Nobody waits who sends no more.
+    Known(Option<Moment>),
+    /// That has to be looked for.
+    Unknown,
+}
+
+// Whether a change of a seat leaves it as it was.
+fn keeps(place: &Place, what: &SeatChange) -> bool
+    ensures { result ≡ keeps_end what.now place.now }
+{
+    match what {
+        SeatChange::StopWaiting | SeatChange::Connect | SeatChange::Clear => {
+            place.gives_up_at().is_none()
+        }
+        SeatChange::Wait(_, until) => {
+            until.is_none() && place.gives_up_at().is_none() && !place.has_ended()
+        }
+        SeatChange::End => !place.is_waiting(),
+        SeatChange::Use(_) => true,
+    }
+}
+
+/// What is known of it once a seat, as it stands yet, is changed.
+pub(crate) fn change(first: &mut FirstEnd, place: Option<&Place>, what: &SeatChange)
+    ensures { first.new ≡ end_after what.now (option_copied place.entry) first.old }
+{
+    let Some(place) = place else {
+        return;
+    };
+    if !keeps(place, what) {
+        *first = FirstEnd::Unknown;
+    }
+}
+
+/// What is known once it was looked for.
+pub(crate) fn find(seats: &[Place]) -> FirstEnd
+    ensures { AreTimeouts result seats.now }
+{
+    if seat_list::is_some_waiter_gone(seats) {
+        FirstEnd::Unknown
+    } else {
+        FirstEnd::Known(dues::first_to_give_up(seats))
+    }
+}
