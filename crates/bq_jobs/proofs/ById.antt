@@ -1,17 +1,19 @@
 -- The jobs by their ids.
-use Rattle.std.proofs.Common.{◌≡◌, ℕ, suc, true, false, cond, List, [], ◌∷◌, Some, None, map, arith, refl, sym, ap, subst, inl, inr}
+use Rattle.std.proofs.Common.{◌≡◌, ℕ, suc, true, false, cond, List, [], ◌∷◌, Some, None, map, arith, refl, sym, ap, ◌∙◌, subst, inl, inr}
 use Rattle.std.specs.Prelude.{◌==◌, nat_lt}
 use Rattle.std.specs.Ordering.{is_eq, nat_cmp}
-use Rattle.std.specs.Map.{lookup, remove_entry}
+use Rattle.std.specs.List.{AllByRecursion as All}
+use Rattle.std.specs.Map.{lookup, remove_entry, set_value}
 use Rattle.std.specs.BTreeMap.{is_at, insert_entry}
-use Rattle.std.proofs.lemmas.Bool.{cases_Bool}
+use Rattle.std.proofs.lemmas.Bool.{cases_Bool, eqb-true}
 use Rattle.std.proofs.lemmas.Bool.Decides.{nat_tests}
 use Rattle.bq_job.specs.declared.job.Job.{Job}
 use Rattle.bq_job.specs.Changes.{job_with}
 use Rattle.bq_job.specs.Lawful.{AreIdsWithin}
+use Rattle.bq_jobs.specs.Changed.{with_changed}
 use Rattle.bq_jobs.specs.Inside.{jobs_of, with_id}
 use Rattle.bq_jobs.specs.Kept.{with_added, without}
-use Rattle.bq_jobs.proofs.Changes.{without_first}
+use Rattle.bq_jobs.proofs.Changes.{none_changed, others_above, without_first}
 
 -- a comparison of numbers tells whether they are the same
 pub is_eq_nat : (a b : ℕ) → is_eq (nat_cmp a b) ≡ (b == a)
@@ -59,4 +61,19 @@ remove_by_id low next id (k ∷ jobs) h =
           let rest : without id jobs ≡ jobs = subst (λ n. without n jobs ≡ jobs) at (without_first low next k jobs h) in
           rw (is_eq_nat id k.id, out) (ap (map with_id) (sym rest))
       | inr kept ↦ rw (is_eq_nat id k.id, kept) (ap (λ es. with_id k ∷ es) (remove_by_id (suc k.id) next id jobs h.1))
+    ]
+
+-- the changed job stands at its id
+pub set_by_id : (low next id : ℕ) (f : Job → Job) (j : Job) (jobs : List Job) → AreIdsWithin low jobs next → job_with id jobs ≡ Some j → (f j).id ≡ id
+    → set_value (is_at (nat_cmp id)) (map with_id jobs) (f j) ≡ map with_id (with_changed id f jobs)
+set_by_id low next id f j [] h found same = refl
+set_by_id low next id f j (k ∷ jobs) h found same =
+    elim (cases_Bool (k.id == id)) [
+      | inl out ↦
+          let is : k ≡ j = (let e : Some k ≡ Some j = rw out at found in cc) in
+          let at : k.id ≡ id = eqb-true k.id id out in
+          let rest = none_changed id f jobs (subst (λ n. All (λ i. (i.id == n) ≡ false) jobs) at (others_above k.id (suc k.id) next jobs (omega arith) h.1)) in
+          let own : (f j).id ≡ k.id = same ∙ sym at in
+          rw (is_eq_nat id k.id, out) (ap (λ n. (n, f j) ∷ map with_id jobs) (sym own) ∙ ap (λ z. with_id (f z) ∷ map with_id jobs) (sym is) ∙ ap (λ ks. with_id (f k) ∷ map with_id ks) (sym rest))
+      | inr kept ↦ rw (is_eq_nat id k.id, kept) (ap (λ es. with_id k ∷ es) (set_by_id (suc k.id) next id f j jobs h.1 (rw kept at found) same))
     ]

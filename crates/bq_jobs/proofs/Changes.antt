@@ -36,11 +36,11 @@ all_kept : (id : ℕ) (jobs : List Job) → All (λ j. (j.id == id) ≡ false) j
 all_kept id [] h = refl
 all_kept id (j ∷ jobs) h = rw h.0 (ap (λ ks. j ∷ ks) (all_kept id jobs h.1))
 
-none_changed : (id : ℕ) (f : Job → Job) (jobs : List Job) → All (λ j. (j.id == id) ≡ false) jobs → map (λ k. if k.id == id then f k else k) jobs ≡ jobs
+pub none_changed : (id : ℕ) (f : Job → Job) (jobs : List Job) → All (λ j. (j.id == id) ≡ false) jobs → map (λ k. if k.id == id then f k else k) jobs ≡ jobs
 none_changed id f [] h = refl
 none_changed id f (j ∷ jobs) h = rw h.0 (ap (λ ks. j ∷ ks) (none_changed id f jobs h.1))
 
-others_above : (id low next : ℕ) (jobs : List Job) → id < low → AreIdsWithin low jobs next → All (λ j. (j.id == id) ≡ false) jobs
+pub others_above : (id low next : ℕ) (jobs : List Job) → id < low → AreIdsWithin low jobs next → All (λ j. (j.id == id) ≡ false) jobs
 others_above id low next jobs l h = all_weaker (λ j. low ≤ j.id) (λ j. (j.id == id) ≡ false) jobs (λ j m. grind (arith, nat_tests)) (all_from_low low next jobs h)
 
 pub next_is_free : NextIsFree
@@ -202,7 +202,7 @@ without_none id (k ∷ jobs) h =
     ]
 
 -- a removal, and an addition of the changed job
-changed : (low next id : ℕ) (f : Job → Job) (j : Job) (jobs : List Job) → AreIdsWithin low jobs next → job_with id jobs ≡ Some j → (f j).id ≡ id → with_added (f j) (without id jobs) ≡ map (λ k. if k.id == id then f k else k) jobs
+pub changed : (low next id : ℕ) (f : Job → Job) (j : Job) (jobs : List Job) → AreIdsWithin low jobs next → job_with id jobs ≡ Some j → (f j).id ≡ id → with_added (f j) (without id jobs) ≡ map (λ k. if k.id == id then f k else k) jobs
 changed low next id f j [] h found same = absurd cc
 changed low next id f j (k ∷ jobs) h found same =
     elim (cases_Bool (k.id == id)) [

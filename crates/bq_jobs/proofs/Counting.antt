@@ -21,6 +21,10 @@ digits_rise (suc most) (suc more) n m l u =
           rw (e, f) (omega (arith, i))
     ]
 
+pub digits_grow : (n m : ℕ) → n ≤ m → binary_digits n ≤ binary_digits m
+unfolding binary_digits
+digits_grow n m l = digits_rise n m n m l (omega arith)
+
 -- a search among no more entries than there are jobs
 pub search_is_bounded : (jobs : List Job) (n : ℕ) → n ≤ length jobs → 2 * binary_digits (n + 1) ≤ search_bound jobs
 unfolding binary_digits

@@ -7,3 +7,4 @@ pub mod FirstOfGroup
 pub mod Firsts
 pub mod Orders
 pub mod Shelved
+pub mod Told

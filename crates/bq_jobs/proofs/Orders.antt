@@ -5,6 +5,7 @@ use Rattle.std.specs.declared.cmp.Ordering.{Ordering}
 use Rattle.std.specs.Cmp.{IsTotalOrder}
 use Rattle.std.specs.Ordering.{is_eq, nat_cmp, ordering_then}
 use Rattle.std.specs.Option.{IfSome}
+use Rattle.std.specs.Map.{remove_entry}
 use Rattle.std.specs.BTreeMap.{is_at}
 use Rattle.std.proofs.lemmas.Bool.{cases_Bool, eqb-true}
 use Rattle.std.proofs.lemmas.Bool.Decides.{nat_tests}
@@ -20,7 +21,7 @@ use Rattle.bq_jobs.specs.declared.place.Place.{Place}
 use Rattle.bq_jobs.specs.Inside.{IsOrderOf, Order, has_place, is_place}
 use Rattle.bq_jobs.specs.Kept.{search_bound, with_added, without}
 use Rattle.bq_jobs.specs.PlaceOrder.{place_cmp, place_total, holds_place, with_place, without_place}
-use Rattle.bq_jobs.proofs.Changes.{count_added, count_without, found_among_added, found_id, found_without, length_added, length_without}
+use Rattle.bq_jobs.proofs.Changes.{count_added, count_without, found_among_added, found_id, found_without, length_added, length_without, not_there}
 use Rattle.bq_jobs.proofs.Counting.{search_is_bounded}
 use Rattle.bq_jobs.proofs.Choice.{equal_from, lookup_inserted, lookup_removed, numbers_tie, then_equal_second}
 
@@ -43,6 +44,22 @@ some_unit (Some tt) h = refl
 none_from : {X : Type 0} (u : Option X) → is_some u ≡ false → u ≡ None
 none_from None h = refl
 none_from (Some x) h = absurd cc
+
+fewer_entries : {K X : Type 0} (test : K → Bool) (es : List (K × X)) → length (remove_entry test es) ≤ length es
+fewer_entries test [] = omega arith
+fewer_entries test (e ∷ es) = elim (cases_Bool (test e.0)) [
+  | inl out ↦ rw out (omega arith)
+  | inr kept ↦ rw kept (omega (arith, fewer_entries test es))
+]
+
+-- without a place there are no more
+pub fewer_places : {G : Type 0} (C : G → G → Ordering) (place : Option (Place G)) (es : List (Place G × Unit {0})) → length (without_place C place es) ≤ length es
+fewer_places C None es = omega arith
+fewer_places C (Some p) es = fewer_entries (is_at (place_cmp C p)) es
+
+own_id : {G : Type 0} (j : Job) (place : Option (Place G)) → IfSome place (λ p. p.id ≡ j.id) → (p : Place G) → place ≡ Some p → p.id ≡ j.id
+own_id j None h p e = absurd cc
+own_id j (Some q) h p e = let is : q ≡ p = (cc) in subst (λ z. z.id ≡ j.id) is h
 
 module _ {G : Type 0} {C : G → G → Ordering} (o : IsTotalOrder C) where
   -- places that tie are of one job
@@ -83,10 +100,6 @@ module _ {G : Type 0} {C : G → G → Ordering} (o : IsTotalOrder C) where
         let same : p.id ≡ id = own_id j (place_of j) (own j) p e ∙ found_id id jobs j found in
         let found_then : job_with p.id jobs ≡ Some j = rw same found in
         h.places p ∙ ap (has_place C place_of p) found_then ∙ ap (is_place C p) e ∙ ap is_eq (tied_itself (place_total o) p)
-      where
-        own_id : (j : Job) (o : Option (Place G)) → IfSome o (λ p. p.id ≡ j.id) → (p : Place G) → o ≡ Some p → p.id ≡ j.id
-        own_id j None h p e = absurd cc
-        own_id j (Some q) h p e = let is : q ≡ p = (cc) in subst (λ z. z.id ≡ j.id) is h
 
     -- after an addition
     added_places : (j : Job) (place : Option (Place G)) (jobs : List Job) (room : ℕ) (order : Order G) → place_of j ≡ place → IfSome place (λ p. p.id ≡ j.id) → IsOrderOf C place_of jobs room order → job_with j.id jobs ≡ None
@@ -179,3 +192,26 @@ module _ {G : Type 0} {C : G → G → Ordering} (o : IsTotalOrder C) where
           counted = omega (arith, long, now, h.counted, count_without (λ k. is_some (place_of k)) low next id j jobs ids found);
           roomy = omega (arith, long, now, spare, h.roomy, length_without low next id j jobs ids found, m);
         }
+
+    -- where a job goes from its place to that of k, which has its id
+    module _ (low next id : ℕ) (j k : Job) (jobs : List Job) (room : ℕ) (order : Order G) (h : IsOrderOf C place_of jobs room order)
+        (ids : AreIdsWithin low jobs next) (found : job_with id jobs ≡ Some j) (same : k.id ≡ id) (s : InOrder (place_cmp C) order.entries) where
+      abbrev left : Order G
+      left = record { entries = without_place C (place_of j) order.entries; spare = order.spare + cond (is_some (place_of j)) 1 0; comparisons = order.comparisons }
+
+      -- once it left
+      once_left : IsOrderOf C place_of (without id jobs) (room + 1) left
+      once_left = order_removed low next id j jobs room (room + 1) order left h ids found s refl refl refl
+
+      free_then : job_with k.id (without id jobs) ≡ None
+      free_then = ap (λ n. job_with n (without id jobs)) same ∙ not_there id jobs
+
+      pub has_spare_then : 0 < order.spare + cond (is_some (place_of j)) 1 0
+      has_spare_then = has_spare (without id jobs) (room + 1) left once_left (omega arith)
+
+      pub absent_then : (p : Place G) → place_of k ≡ Some p → holds_place C p (without_place C (place_of j) order.entries) ≡ None
+      absent_then p e = absent_place k (without id jobs) (room + 1) left once_left free_then p (own_id k (place_of k) (own k) p e)
+
+      pub order_moved : (new : Order G) → new.entries ≡ with_place C (place_of k) (without_place C (place_of j) order.entries)
+          → new.spare + cond (is_some (place_of k)) 1 0 ≡ order.spare + cond (is_some (place_of j)) 1 0 → IsOrderOf C place_of (with_added k (without id jobs)) room new
+      order_moved new entries spare = order_added k (without id jobs) (room + 1) room left new once_left free_then refl entries spare

@@ -1,27 +1,30 @@
 -- What additions, removals and growths leave of what is kept.
-use Rattle.std.proofs.Common.{◌≡◌, ℕ, suc, ◌+◌, ◌<◌, ◌≤◌, ◌^◌, ◌*◌, List, [], ◌∷◌, Some, None, map, length, cond, arith, refl, sym, ap, ◌∙◌, subst}
-use Rattle.std.specs.Prelude.{is_some}
+use Rattle.std.proofs.Common.{◌≡◌, ℕ, suc, ◌+◌, ◌<◌, ◌≤◌, ◌^◌, ◌*◌, List, [], ◌∷◌, Some, None, map, length, cond, arith, refl, sym, ap, ◌∙◌, subst, inl, inr}
+use Rattle.std.specs.Prelude.{is_some, ◌==◌}
 use Rattle.std.specs.Cmp.{nat_cmp_total}
 use Rattle.std.specs.Ordering.{nat_cmp}
-use Rattle.std.specs.Map.{lookup, remove_entry}
+use Rattle.std.specs.Map.{lookup, remove_entry, set_value}
 use Rattle.std.specs.BTreeMap.{is_at, insert_entry}
+use Rattle.std.proofs.lemmas.Bool.{cases_Bool}
 use Rattle.bq_index.specs.Digits.{binary_digits}
 use Rattle.bq_index.specs.Order.{InOrder}
 use Rattle.bq_job.specs.declared.job.Job.{Job}
 use Rattle.bq_job.specs.Changes.{job_with}
 use Rattle.bq_job.specs.Lawful.{AreIdsWithin}
+use Rattle.bq_job.proofs.KeptLemmas.{ids_of_map}
 use Rattle.bq_jobs.specs.contracts.place.TubeListOrd.TheImpl.Laws as tube_list_laws
 use Rattle.bq_jobs.specs.contracts.place.TimerOrd.TheImpl.Laws as timer_laws
 use Rattle.bq_jobs.specs.declared.jobs.Jobs.TheInside.{Inside as Parts}
+use Rattle.bq_jobs.specs.Changed.{KeepsId, with_changed}
 use Rattle.bq_jobs.specs.Inside.{ById, IsOrderOf, IsShelved, jobs_of, with_id}
 use Rattle.bq_jobs.specs.Kept.{search_bound, with_added, without}
 use Rattle.bq_jobs.specs.PlaceOrder.{place_cmp, with_place, without_place}
 use Rattle.bq_jobs.specs.Places.{lease_place, timer_place, tube_place}
-use Rattle.bq_jobs.proofs.ById.{insert_by_id, lookup_by_id, remove_by_id, same_jobs}
-use Rattle.bq_jobs.proofs.Changes.{added_within, not_there, without_none, without_within}
+use Rattle.bq_jobs.proofs.ById.{insert_by_id, lookup_by_id, remove_by_id, same_jobs, set_by_id}
+use Rattle.bq_jobs.proofs.Changes.{added_within, changed, found_id, not_there, without_none, without_within}
 use Rattle.bq_jobs.proofs.Counting.{search_is_bounded}
 use Rattle.bq_jobs.proofs.Firsts.{lease_own, list_cmp, timer_cmp, timer_own, tube_own}
-use Rattle.bq_jobs.proofs.Orders.{order_added, order_removed, order_search}
+use Rattle.bq_jobs.proofs.Orders.{order_added, order_moved, order_removed, order_search}
 
 abbrev pub AreShelved : Parts → Type 0
 AreShelved s = IsShelved list_cmp timer_cmp s.by_id s.by_tube s.timers s.leases
@@ -143,3 +146,45 @@ shelved_same id s by_id h none entries spare =
 -- no job has an id after its removal
 pub gone_after : (id : ℕ) (s : Parts) → AreShelved s → job_with id (jobs_of (remove_entry (is_at (nat_cmp id)) s.by_id.entries)) ≡ None
 gone_after id s h = ap (job_with id) (jobs_removed id s h) ∙ not_there id (jobs_of s.by_id.entries)
+
+-- after a change
+pub record Changed (j k : Job) (s n : Parts) : Type 0 where
+  pub room : n.by_id.spare ≡ s.by_id.spare
+  pub by_tube : n.by_tube.entries ≡ with_place list_cmp (tube_place k) (without_place list_cmp (tube_place j) s.by_tube.entries)
+  pub tube_order : InOrder (place_cmp list_cmp) s.by_tube.entries
+  pub tube_spare : n.by_tube.spare + cond (is_some (tube_place k)) 1 0 ≡ s.by_tube.spare + cond (is_some (tube_place j)) 1 0
+  pub timers : n.timers.entries ≡ with_place timer_cmp (timer_place k) (without_place timer_cmp (timer_place j) s.timers.entries)
+  pub timer_order : InOrder (place_cmp timer_cmp) s.timers.entries
+  pub timer_spare : n.timers.spare + cond (is_some (timer_place k)) 1 0 ≡ s.timers.spare + cond (is_some (timer_place j)) 1 0
+  pub leases : n.leases.entries ≡ with_place nat_cmp (lease_place k) (without_place nat_cmp (lease_place j) s.leases.entries)
+  pub lease_order : InOrder (place_cmp nat_cmp) s.leases.entries
+  pub lease_spare : n.leases.spare + cond (is_some (lease_place k)) 1 0 ≡ s.leases.spare + cond (is_some (lease_place j)) 1 0
+
+module _ (id : ℕ) (f : Job → Job) (keeps : KeepsId f) (s : Parts) (h : AreShelved s) (j : Job) (found : job_with id (jobs_of s.by_id.entries) ≡ Some j) where
+  id_then : (f j).id ≡ id
+  id_then = keeps j ∙ found_id id (jobs_of s.by_id.entries) j found
+
+  pub entries_changed : set_value (is_at (nat_cmp id)) s.by_id.entries (f j) ≡ map with_id (with_changed id f (jobs_of s.by_id.entries))
+  entries_changed = ap (λ es. set_value (is_at (nat_cmp id)) es (f j)) h.by_own_id ∙ set_by_id 0 (2 ^ 64) id f j (jobs_of s.by_id.entries) h.ids found id_then
+
+  pub jobs_changed : jobs_of (set_value (is_at (nat_cmp id)) s.by_id.entries (f j)) ≡ with_changed id f (jobs_of s.by_id.entries)
+  jobs_changed = ap jobs_of entries_changed ∙ same_jobs (with_changed id f (jobs_of s.by_id.entries))
+
+  changed_keeps : (k : Job) → (cond (k.id == id) (f k) k).id ≡ k.id
+  changed_keeps k = elim (cases_Bool (k.id == id)) [ inl e ↦ rw e (keeps k) | inr e ↦ rw e refl ]
+
+  pub shelved_changed : (n : Parts) → n.by_id.entries ≡ set_value (is_at (nat_cmp id)) s.by_id.entries (f j) → Changed j (f j) s n → AreShelved n
+  shelved_changed n entries a =
+      let jobs = jobs_of s.by_id.entries in
+      let room = s.by_id.spare in
+      let made : with_added (f j) (without id jobs) ≡ with_changed id f jobs = changed 0 (2 ^ 64) id f j jobs h.ids found id_then in
+      shelved_from n (with_changed id f jobs) (record {
+        own = entries ∙ entries_changed;
+        ids = ids_of_map (λ k. cond (k.id == id) (f k) k) 0 (2 ^ 64) jobs changed_keeps h.ids;
+        tubes = subst (λ r. IsOrderOf list_cmp tube_place (with_changed id f jobs) r n.by_tube) (sym a.room) (subst (λ js. IsOrderOf list_cmp tube_place js room n.by_tube) made
+            (order_moved tube_list_laws.total-law tube_place tube_own 0 (2 ^ 64) id j (f j) jobs room s.by_tube h.in_tubes h.ids found id_then a.tube_order n.by_tube a.by_tube a.tube_spare));
+        timed = subst (λ r. IsOrderOf timer_cmp timer_place (with_changed id f jobs) r n.timers) (sym a.room) (subst (λ js. IsOrderOf timer_cmp timer_place js room n.timers) made
+            (order_moved timer_laws.total-law timer_place timer_own 0 (2 ^ 64) id j (f j) jobs room s.timers h.in_timers h.ids found id_then a.timer_order n.timers a.timers a.timer_spare));
+        leased = subst (λ r. IsOrderOf nat_cmp lease_place (with_changed id f jobs) r n.leases) (sym a.room) (subst (λ js. IsOrderOf nat_cmp lease_place js room n.leases) made
+            (order_moved nat_cmp_total lease_place lease_own 0 (2 ^ 64) id j (f j) jobs room s.leases h.in_leases h.ids found id_then a.lease_order n.leases a.leases a.lease_spare));
+      })

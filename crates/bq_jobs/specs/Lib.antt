@@ -1,3 +1,4 @@
+pub mod Changed
 pub mod Inside
 pub mod Kept
 pub mod Laws

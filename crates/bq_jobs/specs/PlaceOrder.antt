@@ -1,12 +1,14 @@
 -- The order of places, and lists of them in it.
-use Rattle.std.specs.Prelude.{ℕ, if◌then◌else◌, List, Option, Some, None}
+use Rattle.std.specs.Prelude.{ℕ, ◌+◌, ◌*◌, ◌≤◌, if◌then◌else◌, length, List, Option, Some, None}
 use Rattle.std.specs.declared.cmp.Ordering.{Ordering}
 use Rattle.std.specs.Cmp.{IsTotalOrder, nat_cmp_total, on_total, then_total}
 use Rattle.std.specs.Ordering.{is_eq, nat_cmp, on, then_cmp}
 use Rattle.std.specs.Option.{option_and_then, option_map}
 use Rattle.std.specs.Map.{lookup, remove_entry}
 use Rattle.std.specs.BTreeMap.{is_at, insert_entry}
+use Rattle.bq_index.specs.Digits.{binary_digits}
 use Rattle.bq_index.specs.Order.{entry_from}
+use Rattle.bq_index.specs.Shelf.{Seen}
 use Rattle.bq_jobs.specs.declared.place.Place.{Place}
 
 -- by number, by id
@@ -47,3 +49,7 @@ module _ {G : Type 0} (compare : G → G → Ordering) where
 -- places are in order where their groups are
 pub place_total : {G : Type 0} {compare : G → G → Ordering} → IsTotalOrder compare → IsTotalOrder (place_cmp compare)
 place_total o = then_total (on_total (λ p. p.group) o) (then_total (on_total (λ p. p.at) nat_cmp_total) (on_total (λ p. p.id) nat_cmp_total))
+
+-- the comparisons of two searches in an order that doesn't grow
+abbrev pub ComparesTwice : {G : Type 0} → Seen (Place G) (Unit {0}) → Seen (Place G) (Unit {0}) → Type 0
+ComparesTwice old new = (old.comparisons ≤ new.comparisons) × (new.comparisons ≤ old.comparisons + 4 * binary_digits (length old.entries + 1))

@@ -7,9 +7,12 @@ ghost use Rattle.bq_job.specs.JobCommands.{is_buried_in, is_delayed_in};
 ghost use Rattle.bq_job.specs.JobStates.{due_of, is_buried_before, is_delayed, is_due_before, is_reserved};
 ghost use Rattle.bq_job.specs.Lawful.{AreIdsWithin};
 ghost use Rattle.bq_job.specs.TubeCommands.{is_ready_in};
+ghost use Rattle.bq_index.specs.Shelf.{ComparesFew};
+ghost use Rattle.bq_jobs.specs.Changed.{KeepsId, KeepsTube, entry_at, moved_by, with_changed, with_edited};
 ghost use Rattle.bq_jobs.specs.Kept.{ComparesAtMost, ranked, with_added, without};
 ghost use Rattle.bq_jobs.specs.Leases.{deadline_of, is_lease_before};
 
+use super::edit::{JobEdit, Moved, Standing};
 use super::order;
 use super::place::{self, JobList, Place, Timer, TubeList};
 use bq_index::{BoxSource, Shelf};
@@ -144,6 +147,36 @@ impl Jobs {
         Some(job)
     }
 
+    /// Changes the job of this id, if there is one. Its record stays where it lies, and it goes from its
+    /// places in the orders to those where it stands then. No memory is taken.
+    pub fn change<E: JobEdit>(&mut self, id: JobId, edit: &E) -> Option<Moved>
+        requires id { KeepsId (E.edited edit.now) }
+        requires tube { KeepsTube (E.edited edit.now) }
+        ensures moved { result ≡ option_map (moved_by (E.edited edit.now)) (job_with id self.old.jobs) }
+        ensures jobs { self.new.jobs ≡ with_changed id (E.edited edit.now) self.old.jobs }
+        ensures room { self.new.room ≡ self.old.room }
+        ensures comparisons { ComparesAtMost 7 self.old self.new }
+    {
+        let moved = edit_at(&mut self.by_id, id, edit)?;
+        let (from, to) = (moved.from, moved.to);
+        let (left, entered) = (
+            place::place_in_tube(id, &moved.tube, from),
+            place::place_in_tube(id, &moved.tube, to),
+        );
+        order::shift(&mut self.by_tube, left, entered);
+        order::shift(
+            &mut self.timers,
+            place::place_in_timers(id, from),
+            place::place_in_timers(id, to),
+        );
+        order::shift(
+            &mut self.leases,
+            place::place_in_leases(id, from),
+            place::place_in_leases(id, to),
+        );
+        Some(moved)
+    }
+
     /// The job of this id.
     pub fn get(&mut self, id: JobId) -> Option<&Job>
         ensures* after { sem 𝓛 (LeavesJobs self.entry) }
@@ -249,4 +282,33 @@ fn id_of(job: &Job) -> JobId
     ensures { result ≡ job.now.id }
 {
     job.id
+}
+
+// Changes a job where it lies.
+fn apply<E: JobEdit>(edit: &E, job: &mut Job) -> Moved
+    requires { KeepsTube (E.edited edit.now) }
+    ensures job { job.new ≡ E.edited edit.now job.old }
+    ensures moved { result ≡ moved_by (E.edited edit.now) job.old }
+{
+    let from = Standing::of(job);
+    edit.edit(job);
+    Moved {
+        tube: job.tube,
+        from,
+        to: Standing::of(job),
+    }
+}
+
+// Changes the job of this id where it lies, if there is one.
+fn edit_at<E: JobEdit>(by_id: &mut Shelf<JobId, Job>, id: JobId, edit: &E) -> Option<Moved>
+    requires { KeepsTube (E.edited edit.now) }
+    ensures moved { result ≡ option_map (moved_by (E.edited edit.now)) (entry_at id by_id.old.entries) }
+    ensures entries { by_id.new.entries ≡ with_edited id (E.edited edit.now) (entry_at id by_id.old.entries) by_id.old.entries }
+    ensures spare { by_id.new.spare ≡ by_id.old.spare }
+    ensures comparisons { ComparesFew by_id.old by_id.new }
+{
+    if let Some(job) = by_id.get_mut(&id) {
+        return Some(apply(edit, job));
+    }
+    None
 }

@@ -16,8 +16,10 @@
 //! | together | 976 at most |
 #![tactic(auto)]
 
+pub use edit::{JobEdit, Moved, Standing};
 pub use jobs::Jobs;
 
+mod edit;
 mod jobs;
 pub mod laws;
 mod name;

@@ -2,7 +2,7 @@
 ghost use Rattle.std.specs.Prelude.{◌≡◌, ◌+◌, ◌<◌, ◌≤◌, length, is_some, if◌then◌else◌, IsSome, OnOk};
 ghost use Rattle.bq_index.specs.Order.{InOrder};
 ghost use Rattle.bq_index.specs.Shelf.{ComparesFew};
-ghost use Rattle.bq_jobs.specs.PlaceOrder.{first_in_group, first_rank, holds_place, place_cmp, with_place, without_place};
+ghost use Rattle.bq_jobs.specs.PlaceOrder.{ComparesTwice, first_in_group, first_rank, holds_place, place_cmp, with_place, without_place};
 ghost use Rattle.std.specs.Option.{ForSome};
 ghost use Rattle.std.specs.Prelude.{None};
 
@@ -53,6 +53,24 @@ pub(crate) fn leave<G: Ord + Drop>(order: &mut Shelf<Place<G>, ()>, place: Optio
     if let Some(place) = place {
         let _held = order.remove(&place);
     }
+}
+
+/// Takes a place out, if there is one, and puts another one in, if there is one.
+pub(crate) fn shift<G: Ord + Drop>(
+    order: &mut Shelf<Place<G>, ()>,
+    from: Option<Place<G>>,
+    to: Option<Place<G>>,
+)
+    requires held { ForSome from (λ p. IsSome (holds_place G.cmp p order.old.entries)) }
+    requires spare { InOrder (place_cmp G.cmp) order.old.entries → ForSome to (λ _. 0 < order.old.spare + (if is_some from then 1 else 0)) }
+    requires absent { InOrder (place_cmp G.cmp) order.old.entries → ForSome to (λ p. holds_place G.cmp p (without_place G.cmp from order.old.entries) ≡ None) }
+    ensures entries { order.new.entries ≡ with_place G.cmp to (without_place G.cmp from order.old.entries) }
+    ensures spare { order.new.spare + (if is_some to then 1 else 0) ≡ order.old.spare + (if is_some from then 1 else 0) }
+    ensures ordered { InOrder (place_cmp G.cmp) order.old.entries }
+    ensures comparisons { ComparesTwice order.old order.new }
+{
+    leave(order, from);
+    enter(order, to);
 }
 
 /// The number and the id at the first place of a group.

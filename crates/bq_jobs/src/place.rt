@@ -1,7 +1,8 @@
 //! Where a job stands in an order.
 ghost use Rattle.std.specs.Prelude.{◌≡◌};
-ghost use Rattle.bq_jobs.specs.Places.{tube_place, timer_place, lease_place};
+ghost use Rattle.bq_jobs.specs.Places.{in_leases_at, in_timers_at, in_tube_at, lease_place, timer_place, tube_place};
 
+use super::edit::Standing;
 use super::name::OrderedName;
 use bq_job::{Job, JobId, JobState, Seat, TubeName};
 use std::cmp::Ordering;
@@ -109,14 +110,10 @@ impl<G> Place<G> {
     ghost use Rattle.bq_jobs.specs.PlaceOrder.{numbers_cmp};
 
     /// The place of a job in a group.
-    fn of(group: G, at: u64, job: &Job) -> Place<G>
-        ensures { result ≡ record { at = at; id = job.now.id; group = group } }
+    fn of(group: G, at: u64, id: JobId) -> Place<G>
+        ensures { result ≡ record { at = at; id = id; group = group } }
     {
-        Place {
-            at,
-            id: job.id,
-            group,
-        }
+        Place { at, id, group }
     }
 
     // The order within a group.
@@ -131,32 +128,53 @@ impl<G> Place<G> {
 pub(crate) fn tube_place(job: &Job) -> Option<Place<TubeList>>
     ensures { result ≡ tube_place job.now }
 {
-    let (list, at) = match job.state {
-        JobState::Ready => (JobList::Ready, u64::from(job.pri)),
-        JobState::Delayed(due) => (JobList::Delayed, due),
-        JobState::Buried(number) => (JobList::Buried, number),
-        JobState::Reserved(..) => return None,
-    };
-    Some(Place::of(TubeList::new(list, job.tube), at, job))
+    place_in_tube(job.id, &job.tube, Standing::of(job))
 }
 
 /// The place of a job among all delays and leases.
 pub(crate) fn timer_place(job: &Job) -> Option<Place<Timer>>
     ensures { result ≡ timer_place job.now }
 {
-    match job.state {
-        JobState::Delayed(due) => Some(Place::of(Timer::Due, due, job)),
-        JobState::Reserved(_, deadline) => Some(Place::of(Timer::Lease, deadline, job)),
-        JobState::Ready | JobState::Buried(_) => None,
-    }
+    place_in_timers(job.id, Standing::of(job))
 }
 
 /// The place of a job among the leases of its holder.
 pub(crate) fn lease_place(job: &Job) -> Option<Place<Seat>>
     ensures { result ≡ lease_place job.now }
 {
-    match job.state {
-        JobState::Reserved(seat, deadline) => Some(Place::of(seat, deadline, job)),
+    place_in_leases(job.id, Standing::of(job))
+}
+
+/// The place in its tube of the job of this id that stands so.
+pub(crate) fn place_in_tube(id: JobId, tube: &TubeName, at: Standing) -> Option<Place<TubeList>>
+    ensures { result ≡ in_tube_at at.state at.pri tube.now id }
+{
+    let (list, number) = match at.state {
+        JobState::Ready => (JobList::Ready, u64::from(at.pri)),
+        JobState::Delayed(due) => (JobList::Delayed, due),
+        JobState::Buried(number) => (JobList::Buried, number),
+        JobState::Reserved(..) => return None,
+    };
+    Some(Place::of(TubeList::new(list, *tube), number, id))
+}
+
+/// The place among all delays and leases of the job of this id that stands so.
+pub(crate) fn place_in_timers(id: JobId, at: Standing) -> Option<Place<Timer>>
+    ensures { result ≡ in_timers_at at.state id }
+{
+    match at.state {
+        JobState::Delayed(due) => Some(Place::of(Timer::Due, due, id)),
+        JobState::Reserved(_, deadline) => Some(Place::of(Timer::Lease, deadline, id)),
+        JobState::Ready | JobState::Buried(_) => None,
+    }
+}
+
+/// The place among the leases of its holder of the job of this id that stands so.
+pub(crate) fn place_in_leases(id: JobId, at: Standing) -> Option<Place<Seat>>
+    ensures { result ≡ in_leases_at at.state id }
+{
+    match at.state {
+        JobState::Reserved(seat, deadline) => Some(Place::of(seat, deadline, id)),
         _ => None,
     }
 }

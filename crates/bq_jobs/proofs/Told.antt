@@ -1,0 +1,84 @@
+-- What is told of a changed job is of the job that was there.
+use Rattle.std.proofs.Common.{◌≡◌, ℕ, List, [], ◌∷◌, Option, Some, None, refl, sym, ap, ◌∙◌, inl, inr}
+use Rattle.std.specs.Prelude.{◌==◌, option_map}
+use Rattle.std.proofs.lemmas.Bool.{cases_Bool}
+use Rattle.bq_job.specs.declared.job.Job.{Job}
+use Rattle.bq_job.specs.Changes.{job_with}
+use Rattle.bq_jobs.specs.declared.edit.Moved.{Moved}
+use Rattle.bq_jobs.specs.declared.jobs.Jobs.TheInside.{Inside as Parts}
+use Rattle.bq_jobs.specs.Changed.{KeepsId, KeepsTube, entry_at, moved_by, with_changed}
+use Rattle.bq_jobs.specs.Inside.{jobs_of}
+use Rattle.bq_jobs.specs.Places.{in_leases_at, in_timers_at, in_tube_at, lease_place, timer_place, tube_place}
+use Rattle.bq_jobs.proofs.Changes.{found_id}
+use Rattle.bq_jobs.proofs.Shelved.{AreShelved, found_in}
+
+-- the job of which m is told
+pub record IsOf (f : Job → Job) (o : Option Job) (m : Moved) : Type 0 where
+  pub job : Job
+  pub there : o ≡ Some job
+  pub is : m ≡ moved_by f job
+
+pub told_of : (f : Job → Job) (o : Option Job) (m : Moved) → option_map (moved_by f) o ≡ Some m → IsOf f o m
+told_of f None m e = absurd cc
+told_of f (Some j) m e = record { job = j; there = refl; is = cc }
+
+module _ (id : ℕ) (f : Job → Job) (keeps : KeepsId f) (stays : KeepsTube f) (s : Parts) (h : AreShelved s) (m : Moved) (told : option_map (moved_by f) (entry_at id s.by_id.entries) ≡ Some m) where
+  of : IsOf f (entry_at id s.by_id.entries) m
+  of = told_of f (entry_at id s.by_id.entries) m told
+
+  pub job_then : Job
+  job_then = of.job
+
+  pub entry_then : entry_at id s.by_id.entries ≡ Some job_then
+  unfolding job_then
+  entry_then = of.there
+
+  pub told_is : m ≡ moved_by f job_then
+  unfolding job_then
+  told_is = of.is
+
+  pub found_then : job_with id (jobs_of s.by_id.entries) ≡ Some job_then
+  found_then = sym (found_in id s h) ∙ entry_then
+
+  its_id : id ≡ job_then.id
+  its_id = sym (found_id id (jobs_of s.by_id.entries) job_then found_then)
+
+  pub id_after : (f job_then).id ≡ id
+  id_after = keeps job_then ∙ sym its_id
+
+  pub left_tube : in_tube_at m.from.state m.from.pri m.tube id ≡ tube_place job_then
+  left_tube = ap (λ (n : Moved). in_tube_at n.from.state n.from.pri n.tube id) told_is ∙ ap (in_tube_at job_then.state job_then.pri job_then.tube) its_id
+
+  pub entered_tube : in_tube_at m.to.state m.to.pri m.tube id ≡ tube_place (f job_then)
+  entered_tube = ap (λ (n : Moved). in_tube_at n.to.state n.to.pri n.tube id) told_is ∙ ap (λ t. in_tube_at (f job_then).state (f job_then).pri t id) (sym (stays job_then)) ∙ ap (in_tube_at (f job_then).state (f job_then).pri (f job_then).tube) (sym id_after)
+
+  pub left_timer : in_timers_at m.from.state id ≡ timer_place job_then
+  left_timer = ap (λ (n : Moved). in_timers_at n.from.state id) told_is ∙ ap (in_timers_at job_then.state) its_id
+
+  pub entered_timer : in_timers_at m.to.state id ≡ timer_place (f job_then)
+  entered_timer = ap (λ (n : Moved). in_timers_at n.to.state id) told_is ∙ ap (in_timers_at (f job_then).state) (sym id_after)
+
+  pub left_lease : in_leases_at m.from.state id ≡ lease_place job_then
+  left_lease = ap (λ (n : Moved). in_leases_at n.from.state id) told_is ∙ ap (in_leases_at job_then.state) its_id
+
+  pub entered_lease : in_leases_at m.to.state id ≡ lease_place (f job_then)
+  entered_lease = ap (λ (n : Moved). in_leases_at n.to.state id) told_is ∙ ap (in_leases_at (f job_then).state) (sym id_after)
+
+-- where nothing is told, nothing is changed
+pub nothing_told : (id : ℕ) (f : Job → Job) (es : List (ℕ × Job)) → option_map (moved_by f) (entry_at id es) ≡ None → entry_at id es ≡ None
+nothing_told id f es e = mapped_none (entry_at id es) e
+  where
+    mapped_none : (o : Option Job) → option_map (moved_by f) o ≡ None → o ≡ None
+    mapped_none None e = refl
+    mapped_none (Some j) e = absurd cc
+
+none_changed_in : (id : ℕ) (f : Job → Job) (jobs : List Job) → job_with id jobs ≡ None → with_changed id f jobs ≡ jobs
+none_changed_in id f [] h = refl
+none_changed_in id f (k ∷ jobs) h =
+    elim (cases_Bool (k.id == id)) [
+      | inl out ↦ absurd (let g = rw out at h in cc)
+      | inr kept ↦ rw kept (ap (λ ks. k ∷ ks) (none_changed_in id f jobs (rw kept at h)))
+    ]
+
+pub unchanged : (id : ℕ) (f : Job → Job) (s : Parts) → AreShelved s → entry_at id s.by_id.entries ≡ None → jobs_of s.by_id.entries ≡ with_changed id f (jobs_of s.by_id.entries)
+unchanged id f s h none = sym (none_changed_in id f (jobs_of s.by_id.entries) (sym (found_in id s h) ∙ none))

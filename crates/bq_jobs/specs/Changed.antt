@@ -1,0 +1,34 @@
+-- A job that is changed and stays.
+use Rattle.std.specs.Prelude.{◌≡◌, ℕ, ◌==◌, if◌then◌else◌, List, map, Option, Some, None}
+use Rattle.std.specs.Ordering.{nat_cmp}
+use Rattle.std.specs.Map.{lookup, set_value}
+use Rattle.std.specs.BTreeMap.{is_at}
+use Rattle.bq_job.specs.declared.job.Job.{Job}
+use Rattle.bq_jobs.specs.declared.edit.Moved.{Moved}
+use Rattle.bq_jobs.specs.declared.edit.Standing.{Standing}
+
+abbrev pub standing : Job → Standing
+standing j = record { pri = j.pri; state = j.state }
+
+-- the jobs with the one of this id changed by f
+abbrev pub with_changed : ℕ → (Job → Job) → List Job → List Job
+with_changed id f jobs = map (λ k. if k.id == id then f k else k) jobs
+
+-- what is told of a job that f changed
+abbrev pub moved_by : (Job → Job) → Job → Moved
+moved_by f j = record { tube = j.tube; from = standing j; to = standing (f j) }
+
+abbrev pub KeepsId : (Job → Job) → Type 0
+KeepsId f = (j : Job) → (f j).id ≡ j.id
+
+abbrev pub KeepsTube : (Job → Job) → Type 0
+KeepsTube f = (j : Job) → (f j).tube ≡ j.tube
+
+-- the job of this id
+abbrev pub entry_at : ℕ → List (ℕ × Job) → Option Job
+entry_at id es = lookup (is_at (nat_cmp id)) es
+
+-- the entries with the one that is found at this id changed by f
+abbrev pub with_edited : ℕ → (Job → Job) → Option Job → List (ℕ × Job) → List (ℕ × Job)
+with_edited id f None es = es
+with_edited id f (Some j) es = set_value (is_at (nat_cmp id)) es (f j)
