@@ -1,4 +1,9 @@
+pub mod CoreWork
 pub mod Ends
+pub mod Flags
+pub mod Rests
 pub mod RunSettings
+pub mod Sending
 pub mod Sessions
 pub mod Turns
+pub mod Worked

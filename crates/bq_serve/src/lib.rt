@@ -12,6 +12,7 @@ pub use one::{One, run_one};
 pub use sessions::{Run, run_sessions};
 
 pub mod control_work;
+pub mod core_work;
 mod end_seat;
 mod no_ticks;
 mod one;
