@@ -8,7 +8,7 @@ pub use command_line::options;
 pub use console::Console;
 pub use fault::{Fault, Stop};
 pub use programs::{run_bq, run_bqd};
-pub use server::serve;
+pub use server::{serve, serve_doors};
 pub use session::{Served, serve_client};
 pub use told::tell_fault;
 

@@ -1,8 +1,9 @@
 //! All that the server does, from its options to its status.
 ghost use Rattle.std.specs.Prelude.{◌≡◌, ◌≤◌, IfErr, IfOk};
 ghost use Rattle.std.specs.List.{All, list_any};
-ghost use Rattle.bq_desk.specs.Tending.{IsNewDoor, door_seen};
-ghost use Rattle.bq_cli.specs.Servers.{came_of_run};
+ghost use Rattle.bq_desk.specs.Tending.{AreSame, IsNewDoor, door_seen};
+ghost use Rattle.bq_lock.specs.LockedRuns.{IsServedToEnd};
+ghost use Rattle.bq_cli.specs.Servers.{came_of_doors};
 ghost use Rattle.bq_cli.specs.Sessions.{settings_of};
 
 use crate::chosen::Options;
@@ -12,7 +13,7 @@ use bq_core::Config;
 use bq_job::NoMemory;
 use bq_options::BqdOptions;
 use bq_serve::clock::MachineClock;
-use bq_serve::{Door, LockedRun, RunFault, TcpDoor, run_locked};
+use bq_serve::{Door, RunFault, TcpDoor, run_locked};
 use std::alloc::Global;
 use std::io::{BufRead, BufReader, Eprint, Print, Read};
 use std::net::{Net, TcpListener, TcpStream};
@@ -23,7 +24,7 @@ use std::thread::Threads;
 /// Serves the connections that the listener accepts, as the options choose, and tells on standard output
 /// where it listens. The control is the control line. It returns the status of the program: 0 when all
 /// seats and the control line have ended, and 1 after a fault, which is told on standard error. What was
-/// served, and what was written where, no clause can tell.
+/// served `serve_doors` tells.
 pub fn serve<R: Threads + Wait + Clock + Print + Eprint + Sync, I: BufRead + Drop>(
     rt: &R,
     alloc: Global,
@@ -96,10 +97,32 @@ fn serve_at<R: Threads + Wait + Clock + Print + Sync, I: BufRead + Drop>(
     };
     // Who closes standard output doesn't want to know.
     let _told = println!(rt; "listening {address}");
-    let Ok(doors) = new_doors(alloc, options, listener) else {
+    let Ok(doors) = new_doors(rt, alloc, options, listener) else {
         return Err(Fault::NoMemory);
     };
-    came_of(run_locked(
+    came_of(serve_doors(rt, alloc, options, doors, control))
+}
+
+/// Serves the connections that come at the doors, each door at a seat of its own, as the options choose. The
+/// control is the control line. With a fault no door was opened, and the doors are given up.
+pub fn serve_doors<'l, R: Threads + Wait + Clock + Sync, I: BufRead + Drop>(
+    rt: &R,
+    alloc: Global,
+    options: &Options,
+    doors: Vec<TcpDoor<'l, R>, Global>,
+    control: I,
+) -> Result<Vec<TcpDoor<'l, R>, Global>, RunFault>
+    requires new { All (λ door. IsNewDoor (door_seen ⟦<TcpDoor<'l, R> as Door>⟧.is_out
+        ⟦<TcpDoor<'l, R> as Door>⟧.is_at_end ⟦<TcpDoor<'l, R> as Door>⟧.lines_over door)) doors.items }
+    // Each door was served to its end: of each of its connections the bytes that the reads gave were taken for
+    // requests, whose steps were submitted, and the writes took the answers that were given to them.
+    ensures served { IfOk result (λ served. All (λ door. IsServedToEnd options.now.max_job_size
+        (door_seen ⟦<TcpDoor<'l, R> as Door>⟧.is_out ⟦<TcpDoor<'l, R> as Door>⟧.is_at_end
+        ⟦<TcpDoor<'l, R> as Door>⟧.lines_over door)) served.items) }
+    // They are the doors that were handed in, in their order.
+    ensures same { IfOk result (λ served. AreSame ⟦<TcpDoor<'l, R> as Door>⟧.same doors.items served.items) }
+{
+    let run = run_locked(
         rt,
         alloc,
         config_of(options),
@@ -107,7 +130,8 @@ fn serve_at<R: Threads + Wait + Clock + Print + Sync, I: BufRead + Drop>(
         MachineClock::new(rt),
         control,
         0,
-    ))
+    )?;
+    Ok(run.doors)
 }
 
 // What the options say to a run.
@@ -122,13 +146,13 @@ fn config_of(options: &Options) -> Config
     }
 }
 
-// What came of a run: its fault, or that some connection could not be accepted.
-fn came_of<'l, C: Drop>(run: Result<LockedRun<TcpDoor<'l>, C>, RunFault>) -> Result<(), Fault>
-    ensures { result ≡ came_of_run (λ door. door.met_fault) run.entry }
+// What came of the doors: the fault of their run, or that some connection could not be accepted.
+fn came_of<'l, R: Clock>(served: Result<Vec<TcpDoor<'l, R>, Global>, RunFault>) -> Result<(), Fault>
+    ensures { result ≡ came_of_doors (λ doors. list_any (λ door. door.met_fault) doors.items) served.entry }
 {
-    match run {
-        Ok(run) => {
-            if met_fault(run.doors.as_slice()) {
+    match served {
+        Ok(doors) => {
+            if met_fault(doors.as_slice()) {
                 Err(Fault::NotAccepted)
             } else {
                 Ok(())
@@ -138,34 +162,39 @@ fn came_of<'l, C: Drop>(run: Result<LockedRun<TcpDoor<'l>, C>, RunFault>) -> Res
     }
 }
 
-fn met_fault(doors: &[TcpDoor<'_>]) -> bool
+fn met_fault<R: Clock>(doors: &[TcpDoor<'_, R>]) -> bool
     ensures { result ≡ list_any (λ door. door.met_fault) doors.now }
 {
     doors.iter().any(|door| door.met_fault())
 }
 
 // A door at which nothing was done.
-fn new_door<'l>(listener: &'l TcpListener, sessions: Option<u32>) -> TcpDoor<'l>
-    ensures { IsNewDoor (door_seen ⟦<TcpDoor<'l> as Door>⟧.is_out ⟦<TcpDoor<'l> as Door>⟧.is_at_end
-        ⟦<TcpDoor<'l> as Door>⟧.lines_over result) }
+fn new_door<'l, R: Clock>(
+    rt: &'l R,
+    listener: &'l TcpListener,
+    sessions: Option<u32>,
+) -> TcpDoor<'l, R>
+    ensures { IsNewDoor (door_seen ⟦<TcpDoor<'l, R> as Door>⟧.is_out ⟦<TcpDoor<'l, R> as Door>⟧.is_at_end
+        ⟦<TcpDoor<'l, R> as Door>⟧.lines_over result) }
 {
-    TcpDoor::new(listener, sessions)
+    TcpDoor::new(rt, listener, sessions)
 }
 
 // A door for each seat, all at one listener.
-fn new_doors<'l>(
+fn new_doors<'l, R: Clock>(
+    rt: &'l R,
     alloc: Global,
     options: &Options,
     listener: &'l TcpListener,
-) -> Result<Vec<TcpDoor<'l>, Global>, NoMemory>
-    ensures { IfOk result (λ all. All (λ door. IsNewDoor (door_seen ⟦<TcpDoor<'l> as Door>⟧.is_out
-        ⟦<TcpDoor<'l> as Door>⟧.is_at_end ⟦<TcpDoor<'l> as Door>⟧.lines_over door)) all.items) }
+) -> Result<Vec<TcpDoor<'l, R>, Global>, NoMemory>
+    ensures { IfOk result (λ all. All (λ door. IsNewDoor (door_seen ⟦<TcpDoor<'l, R> as Door>⟧.is_out
+        ⟦<TcpDoor<'l, R> as Door>⟧.is_at_end ⟦<TcpDoor<'l, R> as Door>⟧.lines_over door)) all.items) }
 {
     let Ok(mut doors) = Vec::with_capacity(alloc, usize::from(options.seats)) else {
         return Err(NoMemory);
     };
     for _ in 0..options.seats {
-        let door = new_door(listener, options.sessions);
+        let door = new_door(rt, listener, options.sessions);
         let Ok(()) = doors.push(door) else {
             return Err(NoMemory);
         };

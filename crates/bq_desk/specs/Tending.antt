@@ -1,5 +1,5 @@
 -- A seat that attends to a door, and what it does at each of its turns.
-use Rattle.std.specs.Prelude.{ℕ, ◌≡◌, Bool, true, false, List, [], ◌++◌}
+use Rattle.std.specs.Prelude.{ℕ, ◌≡◌, Bool, true, false, List, [], ◌∷◌, ◌++◌}
 use Rattle.bq_job.specs.declared.answer.Answer.{Answer}
 use Rattle.bq_job.specs.declared.step.Step.{Step}
 use Rattle.bq_job.specs.History.{LineOver}
@@ -67,3 +67,9 @@ pub record IsDoorServed (max_job_size : ℕ) (door : DoorSeen) (submitted : List
   pub done : IsSeatDone max_job_size door.lines_over submitted taken
   pub inside : door.is_out ≡ false
   pub at_end : door.is_at_end ≡ true
+
+-- The doors that came back are those that were handed in, in their order.
+abbrev pub AreSame : {D : Type 0} → (D → D → Type 0) → List D → List D → Type 0
+AreSame same [] [] = Unit {0}
+AreSame same (first ∷ firsts) (last ∷ lasts) = same first last × AreSame same firsts lasts
+AreSame same _ _ = ⊥

@@ -75,6 +75,8 @@ impl<L: Line + Drop> Attendant<L> {
         // Whatever it did before, it went on by the steps that it submitted and the answers that it took.
         ensures went { let at = door_seen D.is_out D.is_at_end D.lines_over in
             GoesOn K.went link.old link.new L.seen self.old (at door.old) self.new (at door.new) }
+        // It is the same door still.
+        ensures same { (first : D) → D.same first door.old → D.same first door.new }
     {
         let place = mem::replace(&mut self.place, Place::Done);
         let (place, moved) = turn(&mut self.machine, place, door, link, room);
@@ -96,6 +98,7 @@ fn turn<L: Line + Drop, D: Door<Line = L>, K: Link>(
     ensures ready { K.is_ready link.new }
     ensures went { let at = door_seen D.is_out D.is_at_end D.lines_over in
         GoesOn K.went link.old link.new L.seen (attendant machine.old place) (at door.old) (attendant machine.new result.0) (at door.new) }
+    ensures same { (first : D) → D.same first door.old → D.same first door.new }
 {
     match place {
         Place::Between => (open_line(machine, door), true),
@@ -118,6 +121,7 @@ fn open_line<L: Line + Drop, D: Door<Line = L>>(machine: &mut SeatMachine, door:
     ensures opened { result ≡ Place.Between → ⊥ }
     ensures went { let at = door_seen D.is_out D.is_at_end D.lines_over in
         Tends L.seen (attendant machine.old Place.Between) (at door.old) [] [] (attendant machine.new result) (at door.new) }
+    ensures same { (first : D) → D.same first door.old → D.same first door.new }
 {
     match door.open() {
         Ok(Some(line)) => Place::On(line, machine.on(Event::Opened)),
@@ -131,6 +135,7 @@ fn shut_line<L: Line + Drop, D: Door<Line = L>>(door: &mut D, line: L, end: Line
     requires { D.is_out door.old ≡ true }
     ensures went { let at = door_seen D.is_out D.is_at_end D.lines_over in (machine : SeatMachine)
         → Tends L.seen (attendant machine (Place.On line (Action.LineOver end))) (at door.old) [] [] (attendant machine Place.Between) (at door.new) }
+    ensures same { (first : D) → D.same first door.old → D.same first door.new }
 {
     one_line_more();
     door.shut(line, end);

@@ -6,6 +6,7 @@ ghost use Rattle.bq_line.specs.Doors.{IsOpened};
 pub use mem_door::MemDoor;
 pub use tcp_door::TcpDoor;
 
+mod accept;
 mod line_record;
 mod mem_door;
 mod tcp_door;
@@ -41,17 +42,25 @@ pub trait Door {
     /// The lines that are over, in the order in which they were shut.
     ghost lines_over: { Self → List LineOver };
 
+    /// The second is the first one, later: all that makes this door and no other is as it was.
+    ghost same: { Self → Self → Type 0 };
+
     /// The next line. None says that no more come, and so does a fault.
     fn open(&mut self) -> Result<Option<Self::Line>, DoorFault>
         requires inside { is_out self.old ≡ false }
         requires more { is_at_end self.old ≡ false }
         ensures opened { IsOpened Self.Line.seen (is_out self.new) (is_at_end self.new) result }
-        ensures over { lines_over self.new ≡ lines_over self.old };
+        ensures over { lines_over self.new ≡ lines_over self.old }
+        ensures same { (first : Self) → same first self.old → same first self.new };
 
     /// Takes the line back that is out. It was over in this way.
     fn shut(&mut self, line: Self::Line, end: LineEnd)
         requires { is_out self.old ≡ true }
         ensures inside { is_out self.new ≡ false }
         ensures at_end { is_at_end self.new ≡ is_at_end self.old }
-        ensures over { lines_over self.new ≡ lines_over self.old ++ record { seen = Self.Line.seen line; over = end } ∷ [] };
+        ensures over { lines_over self.new ≡ lines_over self.old ++ record { seen = Self.Line.seen line; over = end } ∷ [] }
+        ensures same { (first : Self) → same first self.old → same first self.new };
+
+    /// An unchanged door is the same.
+    ghost same_self: { (door : Self) → same door door };
 }

@@ -1,7 +1,9 @@
 -- What holds of each of a list, as it grows and is taken apart.
-use Rattle.std.proofs.Common.{◌≡◌, ℕ, zero, suc, List, [], ◌∷◌, ◌++◌, Some, subst, sym, arith, take}
+use Rattle.std.proofs.Common.{◌≡◌, ◌∙◌, ℕ, zero, suc, List, [], ◌∷◌, ◌++◌, Some, ap, subst, sym, arith, append_assoc, map, take}
+use Rattle.std.specs.Prelude.{reverse}
 use Rattle.std.specs.List.{All}
 use Rattle.std.specs.Option.{option_to_list}
+use Rattle.std.proofs.lemmas.List.{map-append, reverse-append}
 use Rattle.std.proofs.lemmas.List.Elements.{All-take}
 
 -- A further element passes too.
@@ -29,3 +31,21 @@ first_passes xs ys x P e h = let at : All P (x ∷ ys) = subst (All P) e h in at
 
 pub rest_passes : {X : Type 0} (xs ys : List X) (x : X) (P : X → Type 0) → xs ≡ x ∷ ys → All P xs → All P ys
 rest_passes xs ys x P e h = let at : All P (x ∷ ys) = subst (All P) e h in λ k d below. at (suc k) d (omega (arith, below))
+
+-- The last element comes first where they are turned round.
+turned : {X Y : Type 0} (f : X → Y) (xs : List X) (x : X) → reverse (map f (xs ++ x ∷ [])) ≡ f x ∷ reverse (map f xs)
+turned f xs x = ap reverse (map-append f xs (x ∷ [])) ∙ reverse-append (map f xs) (f x ∷ [])
+
+-- An element is taken from the end of a list and put behind those that are read from their end.
+pub put_behind : {X Y : Type 0} (f : X → Y) (all rest : List Y) (y : Y) (xs ys : List X) (x : X) → all ≡ rest ++ y ∷ [] → ys ≡ xs ++ x ∷ [] → f x ≡ y → rest ++ reverse (map f ys) ≡ all ++ reverse (map f xs)
+put_behind f all rest y xs ys x all_is ys_are same =
+    let here : reverse (map f ys) ≡ y ∷ reverse (map f xs) = ap (λ zs. reverse (map f zs)) ys_are ∙ turned f xs x ∙ ap (λ z. z ∷ reverse (map f xs)) same in
+    ap (λ zs. rest ++ zs) here ∙ sym (append_assoc rest (y ∷ []) (reverse (map f xs))) ∙ ap (λ zs. zs ++ reverse (map f xs)) (sym all_is)
+
+-- An element is taken from the end of a list, and what stands for it is put behind others.
+pub handed_on : {X Y Z : Type 0} (f : X → Z) (g : Y → Z) (all rest : List X) (x : X) (ys more : List Y) (y : Y) → all ≡ rest ++ x ∷ [] → more ≡ ys ++ y ∷ [] → g y ≡ f x
+    → map g more ++ reverse (map f rest) ≡ map g ys ++ reverse (map f all)
+handed_on f g all rest x ys more y all_is more_are same =
+    let there : reverse (map f all) ≡ f x ∷ reverse (map f rest) = ap (λ zs. reverse (map f zs)) all_is ∙ turned f rest x in
+    let here : map g more ≡ map g ys ++ f x ∷ [] = ap (map g) more_are ∙ map-append g ys (y ∷ []) ∙ ap (λ z. map g ys ++ z ∷ []) same in
+    ap (λ zs. zs ++ reverse (map f rest)) here ∙ append_assoc (map g ys) (f x ∷ []) (reverse (map f rest)) ∙ ap (λ zs. map g ys ++ zs) (sym there)

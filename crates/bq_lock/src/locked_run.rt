@@ -1,10 +1,10 @@
 //! A run around one lock, with a thread for each door.
-ghost use Rattle.std.specs.Prelude.{◌≡◌, ◌↔◌, ◌≤◌, ◌&&◌, ◌==◌, not, IfOk, IfSome, IsErrOf, IsTrue, vec_len};
+ghost use Rattle.std.specs.Prelude.{◌≡◌, ◌↔◌, ◌≤◌, ◌&&◌, ◌==◌, not, map, reverse, IfOk, IfSome, IsErrOf, IsTrue, vec_len};
 ghost use Rattle.std.specs.List.{All};
 ghost use Rattle.bq_core.specs.Limits.{are_in_range, is_body_size};
 ghost use Rattle.bq_lock.specs.LockedRuns.{IsServedToEnd};
 ghost use Rattle.bq_lock.specs.LockedState.{IsLawfulHold};
-ghost use Rattle.bq_desk.specs.Tending.{IsNewDoor, door_seen};
+ghost use Rattle.bq_desk.specs.Tending.{AreSame, IsNewDoor, door_seen};
 
 use crate::bells::Bells;
 use crate::locked::Locked;
@@ -22,6 +22,7 @@ use bq_line::clock::Clock;
 use bq_line::line::Line;
 use std::alloc::Global;
 use std::io::BufRead;
+use std::snapshot::Snapshot;
 use std::sync::{Mutex, Wait};
 use std::thread;
 use std::thread::{Promise, PromisedHandle, Scope, Threads};
@@ -61,6 +62,8 @@ pub fn run_locked<
     // Each door was served to its end: its lines' steps were submitted, and each line was written the answers
     // that were taken for it. What ties them to the steps of the core no clause tells.
     ensures served { IfOk result (λ run. All (λ door. IsServedToEnd config.max_job_size (door_seen D.is_out D.is_at_end D.lines_over door)) run.doors.items) }
+    // They are the doors that were handed in, in their order.
+    ensures same { IfOk result (λ run. AreSame D.same doors.items run.doors.items) }
     ensures many { IfOk result (λ run. vec_len run.doors ≡ config.seats) }
     ensures holds { IfOk result (λ run. IsLawfulHold run.locked) }
     ensures bad_configuration { IsErrOf result RunFault.BadConfiguration
@@ -125,6 +128,7 @@ fn serve_in_scope<
     ensures fault { IsErrOf result RunFault.BadConfiguration → ⊥ }
     ensures many { IfOk result (λ doors. vec_len doors ≡ vec_len posts.all) }
     ensures served { IfOk result (λ doors. All (λ door. IsServedToEnd posts.max_job_size (door_seen D.is_out D.is_at_end D.lines_over door)) doors.items) }
+    ensures same { IfOk result (λ doors. AreSame D.same (reverse (map (λ post. post.door) posts.all.items)) doors.items) }
 {
     thread::scope(
         thread::scope_env(),
@@ -133,6 +137,7 @@ fn serve_in_scope<
             ensures fault { IsErrOf result RunFault.BadConfiguration → ⊥ }
             ensures many { IfOk result (λ doors. vec_len doors ≡ vec_len posts.all) }
             ensures served { IfOk result (λ doors. All (λ door. IsServedToEnd posts.max_job_size (door_seen D.is_out D.is_at_end D.lines_over door)) doors.items) }
+            ensures same { IfOk result (λ doors. AreSame D.same (reverse (map (λ post. post.door) posts.all.items)) doors.items) }
         {
             serve_all(
                 scope,
@@ -160,6 +165,7 @@ fn new_posts<L: Line + Drop, D: Door<Line = L> + Drop>(
     requires new { All (λ door. IsNewDoor (door_seen D.is_out D.is_at_end D.lines_over door)) doors.items }
     ensures many { IfOk result (λ posts. vec_len posts ≡ vec_len doors) }
     ensures limits { IfOk result (λ posts. All (λ post. post.max_job_size ≡ max_job_size) posts.items) }
+    ensures doors { IfOk result (λ posts. reverse (map (λ post. post.door) posts.items) ≡ doors.items) }
 {
     let Ok(mut posts) = Vec::with_capacity(alloc, doors.len()) else {
         return Err(NoMemory);
@@ -173,14 +179,17 @@ fn new_posts<L: Line + Drop, D: Door<Line = L> + Drop>(
     Ok(posts)
 }
 
-// That a door was served to its end, where its thread began.
-#[derive(Clone, Copy)]
-struct Served {
+// That this door was served to its end, where its thread began.
+#[derive(Drop)]
+struct Served<D> {
     max_job_size: u32,
+    door: Snapshot<D>,
 }
 
-impl<D: Door> Promise<Option<D>> for Served {
-    ghost kept_by = { λ promise door. IfSome door (λ d. IsServedToEnd promise.max_job_size (door_seen D.is_out D.is_at_end D.lines_over d)) };
+impl<D: Door> Promise<Option<D>> for Served<D> {
+    ghost kept_by = { λ promise door.
+        IfSome door (λ d. IsServedToEnd promise.max_job_size (door_seen D.is_out D.is_at_end D.lines_over d))
+        × IfSome door (D.same promise.door.value) };
 }
 
 // Starts a thread for each seat, and serves the control line where all were started. The doors come back
@@ -207,6 +216,7 @@ fn serve_all<
     ensures fault { IsErrOf result RunFault.BadConfiguration → ⊥ }
     ensures many { IfOk result (λ doors. vec_len doors ≡ vec_len posts.all) }
     ensures served { IfOk result (λ doors. All (λ door. IsServedToEnd posts.max_job_size (door_seen D.is_out D.is_at_end D.lines_over door)) doors.items) }
+    ensures same { IfOk result (λ doors. AreSame D.same (reverse (map (λ post. post.door) posts.all.items)) doors.items) }
 {
     let Posts { all, max_job_size } = posts;
     let seats = all.len();
@@ -216,8 +226,16 @@ fn serve_all<
     ) else {
         return Err(RunFault::NoMemory);
     };
-    let served = Served { max_job_size };
-    let all_started = start_threads(scope, rt, all, desk, bells, start, served, &mut threads);
+    let all_started = start_threads(
+        scope,
+        rt,
+        all,
+        desk,
+        bells,
+        start,
+        max_job_size,
+        &mut threads,
+    );
     start.tell(rt, all_started);
     if !all_started {
         // The scope waits for those that were.
@@ -231,7 +249,7 @@ fn serve_all<
         at_hand: None,
     };
     submit_control(rt, &mut ControlLine::new(control), &mut link);
-    join_all(rt, threads, doors, served)
+    join_all(rt, threads, doors, max_job_size)
 }
 
 // Whether a thread was started for each seat.
@@ -249,17 +267,21 @@ fn start_threads<
     desk: &'s K,
     bells: &'s Bells,
     start: &'s Start,
-    served: Served,
-    threads: &mut Vec<PromisedHandle<Option<D>, Served>, Global>,
+    max_job_size: u32,
+    threads: &mut Vec<PromisedHandle<Option<D>, Served<D>>, Global>,
 ) -> bool
     requires none { vec_len threads.old ≡ 0 }
-    requires limits { All (λ post. post.max_job_size ≡ served.max_job_size) posts.items }
+    requires limits { All (λ post. post.max_job_size ≡ max_job_size) posts.items }
     ensures many { IsTrue result → vec_len threads.new ≡ vec_len posts }
-    ensures promised { IsTrue result → All (λ thread. thread.promise ≡ served) threads.new.items }
+    ensures limits { IsTrue result → All (λ thread. thread.promise.max_job_size ≡ max_job_size) threads.new.items }
+    // The last post's thread comes first.
+    ensures doors { IsTrue result
+        → map (λ thread. thread.promise.door.value) threads.new.items ≡ reverse (map (λ post. post.door) posts.items) }
 {
     while let Some(post) = posts.pop() {
         let promise = Served {
             max_job_size: post.max_job_size,
+            door: Snapshot::of(&post.door),
         };
         let Ok(thread) = scope.spawn_with(promise, move || post.serve(rt, desk, bells, start))
         else {
@@ -275,15 +297,16 @@ fn start_threads<
 // Waits for all threads. Their doors come behind one another, for which there is room.
 fn join_all<R: Threads, D: Door + Drop + Send>(
     rt: &R,
-    threads: Vec<PromisedHandle<Option<D>, Served>, Global>,
+    threads: Vec<PromisedHandle<Option<D>, Served<D>>, Global>,
     mut doors: Vec<D, Global>,
-    served: Served,
+    max_job_size: u32,
 ) -> Result<Vec<D, Global>, RunFault>
     requires none { vec_len doors ≡ 0 }
-    requires promised { All (λ thread. thread.promise ≡ served) threads.items }
+    requires limits { All (λ thread. thread.promise.max_job_size ≡ max_job_size) threads.items }
     ensures fault { IsErrOf result RunFault.BadConfiguration → ⊥ }
     ensures many { IfOk result (λ all. vec_len all ≡ vec_len threads) }
-    ensures served { IfOk result (λ all. All (λ door. IsServedToEnd served.max_job_size (door_seen D.is_out D.is_at_end D.lines_over door)) all.items) }
+    ensures served { IfOk result (λ all. All (λ door. IsServedToEnd max_job_size (door_seen D.is_out D.is_at_end D.lines_over door)) all.items) }
+    ensures same { IfOk result (λ all. AreSame D.same (map (λ thread. thread.promise.door.value) threads.items) all.items) }
 {
     for thread in threads {
         let Some(door) = thread.join(rt) else {

@@ -27,7 +27,7 @@ pub struct Post<L: Line + Drop, D: Door<Line = L>> {
     seat: Seat,
     pub max_job_size: u32,
     attendant: Attendant<L>,
-    door: D,
+    pub door: D,
     ghost at_first: { attendant.place ≡ places.Between },
     ghost limit: { attendant.machine.reader.max_job_size ≡ max_job_size },
     ghost waits: { awaited attendant.machine ≡ Awaited.ALine },
@@ -48,6 +48,7 @@ impl<L: Line + Drop, D: Door<Line = L> + Drop> Post<L, D> {
         requires new { IsNewDoor (door_seen D.is_out D.is_at_end D.lines_over door) }
         ensures seat { IfOk result (λ post. post.seat ≡ seat) }
         ensures limit { IfOk result (λ post. post.max_job_size ≡ max_job_size) }
+        ensures door { IfOk result (λ post. post.door ≡ door) }
     {
         let attendant = Attendant::new(alloc, max_job_size)?;
         Ok(Post {
@@ -67,7 +68,8 @@ impl<L: Line + Drop, D: Door<Line = L> + Drop> Post<L, D> {
         bells: &Bells,
         start: &Start,
     ) -> Option<D>
-        ensures { IfSome result (λ door. IsServedToEnd self.max_job_size (door_seen D.is_out D.is_at_end D.lines_over door)) }
+        ensures served { IfSome result (λ door. IsServedToEnd self.max_job_size (door_seen D.is_out D.is_at_end D.lines_over door)) }
+        ensures same { IfSome result (D.same self.door) }
     {
         let Post {
             seat,

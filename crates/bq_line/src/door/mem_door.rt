@@ -1,4 +1,4 @@
-ghost use Rattle.std.specs.Prelude.{◌≡◌, ◌≤◌, ◌+◌, ◌++◌, ◌∷◌, [], length, map, true, false, IfOk, IfErr, vec_len, if◌then◌else◌, IsNone, ◌↔◌};
+ghost use Rattle.std.specs.Prelude.{◌≡◌, ◌≤◌, ◌+◌, ◌++◌, ◌∷◌, ◌-◌, [], drop, length, map, true, false, IfOk, IfErr, vec_len, if◌then◌else◌, IsNone, ◌↔◌};
 ghost use Rattle.std.specs.List.{All};
 ghost use Rattle.std.specs.Option.{option_to_list};
 ghost use Rattle.std.specs.Vec.{vec_capacity};
@@ -10,6 +10,21 @@ use crate::line::{Line, MemLine};
 use bq_job::{LineEnd, NoMemory};
 use std::alloc::Global;
 use std::collections::VecDeque;
+use std::fmt;
+use std::fmt::{Debug, Formatter, Write};
+use std::snapshot::Snapshot;
+
+/// The lines that were put in at a door, for proofs alone.
+#[derive(Drop)]
+struct PutIn {
+    lines: Snapshot<VecDeque<MemLine, Global>>,
+}
+
+impl Debug for PutIn {
+    fn fmt<W: Write>(&self, f: &mut Formatter<W>) -> fmt::Result {
+        f.write_str("PutIn")
+    }
+}
 
 /// A door in memory: lines that come one after another, and those that are over.
 #[derive(Debug, Drop)]
@@ -18,10 +33,14 @@ pub struct MemDoor {
     over: Vec<(MemLine, LineEnd), Global>,
     is_out: bool,
     is_at_end: bool,
+    put_in: PutIn,
     // There is room for each line that is out or comes.
     ghost room: { vec_len over + (length coming.items + (if is_out then 1 else 0)) ≤ vec_capacity over },
     ghost fresh: { All IsFresh coming.items },
     ghost end: { is_at_end ≡ true → coming.items ≡ [] },
+    // All lines that were put in are over, out or to come; those to come are the last of them.
+    ghost all: { vec_len over + (length coming.items + (if is_out then 1 else 0)) ≡ length put_in.lines.value.items },
+    ghost last: { coming.items ≡ drop (length put_in.lines.value.items - length coming.items) put_in.lines.value.items },
 }
 
 impl MemDoor {
@@ -30,16 +49,21 @@ impl MemDoor {
     pub fn new(alloc: Global, lines: VecDeque<MemLine, Global>) -> Result<MemDoor, NoMemory>
         requires { All IsFresh lines.items }
         ensures coming { IfOk result (λ door. door.coming ≡ lines) }
+        ensures put_in { IfOk result (λ door. door.put_in.lines.value ≡ lines) }
         ensures none_over { IfOk result (λ door. ⟦<MemDoor as Door>⟧.lines_over door ≡ []) }
         ensures inside { IfOk result (λ door. ⟦<MemDoor as Door>⟧.is_out door ≡ false) }
         ensures more { IfOk result (λ door. ⟦<MemDoor as Door>⟧.is_at_end door ≡ false) }
     {
+        let put_in = PutIn {
+            lines: Snapshot::of(&lines),
+        };
         match Vec::with_capacity(alloc, lines.len()) {
             Ok(over) => Ok(MemDoor {
                 coming: lines,
                 over,
                 is_out: false,
                 is_at_end: false,
+                put_in,
             }),
             Err(_) => Err(NoMemory),
         }
@@ -62,6 +86,8 @@ impl MemDoor {
 }
 
 impl Door for MemDoor {
+    ghost use Rattle.std.proofs.Common.{refl};
+
     type Line = MemLine;
 
     ghost is_out = { λ door. door.is_out };
@@ -70,11 +96,17 @@ impl Door for MemDoor {
 
     ghost lines_over = { λ door. map line_over door.over.items };
 
+    // It is the door at which these lines were put in.
+    ghost same = { λ first last. last.put_in.lines.value ≡ first.put_in.lines.value };
+
+    ghost same_self = { λ door. refl };
+
     fn open(&mut self) -> Result<Option<MemLine>, DoorFault>
         requires inside { self.old.is_out ≡ false }
         requires more { self.old.is_at_end ≡ false }
         ensures opened { IsOpened ⟦<MemLine as Line>⟧.seen self.new.is_out self.new.is_at_end result }
         ensures over { self.new.over ≡ self.old.over }
+        ensures put_in { self.new.put_in ≡ self.old.put_in }
         // The next line comes out, and none only where none is left.
         ensures next { IfOk result (λ line. self.old.coming.items ≡ option_to_list line ++ self.new.coming.items) }
         ensures last { IfOk result (λ line. IsNone line ↔ (self.old.coming.items ≡ [])) }

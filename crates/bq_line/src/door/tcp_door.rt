@@ -1,18 +1,20 @@
-ghost use Rattle.std.specs.Prelude.{◌≡◌, ◌+◌, ℕ, IsTrue, None, [], OnErr, OnOk, Some, false, true};
+ghost use Rattle.std.specs.Prelude.{◌≡◌, [], OnErr, OnOk, Some, false, true};
 ghost use Rattle.bq_line.specs.Doors.{IsOpened};
+ghost use Rattle.bq_line.specs.InAll.{in_all};
 
+use super::accept::accept;
 use super::line_record::LineRecord;
 use super::{Door, DoorFault};
 use crate::line::{Connection, IoLine, Line};
 use bq_job::LineEnd;
-use std::io;
-use std::io::ErrorKind;
-use std::net::{TcpListener, TcpStream};
+use std::net::TcpListener;
+use std::rt::Clock;
 
 /// A door at which connections come that a listener accepts. Many doors can share a listener: a connection
 /// comes at one of them.
 #[derive(Drop)]
-pub struct TcpDoor<'l> {
+pub struct TcpDoor<'l, R> {
+    rt: &'l R,
     listener: &'l TcpListener,
     // How many connections still come. None: they come without end.
     left: Option<u32>,
@@ -23,15 +25,18 @@ pub struct TcpDoor<'l> {
     over: LineRecord,
 }
 
-impl<'l> TcpDoor<'l> {
+impl<'l, R: Clock> TcpDoor<'l, R> {
     /// A door at which so many connections of the listener come, or with None connections without end.
-    pub fn new(listener: &'l TcpListener, sessions: Option<u32>) -> TcpDoor<'l>
-        ensures inside { ⟦<TcpDoor<'l> as Door>⟧.is_out result ≡ false }
-        ensures more { ⟦<TcpDoor<'l> as Door>⟧.is_at_end result ≡ false }
-        ensures none_over { ⟦<TcpDoor<'l> as Door>⟧.lines_over result ≡ [] }
+    pub fn new(rt: &'l R, listener: &'l TcpListener, sessions: Option<u32>) -> TcpDoor<'l, R>
+        ensures inside { ⟦<TcpDoor<'l, R> as Door>⟧.is_out result ≡ false }
+        ensures more { ⟦<TcpDoor<'l, R> as Door>⟧.is_at_end result ≡ false }
+        ensures none_over { ⟦<TcpDoor<'l, R> as Door>⟧.lines_over result ≡ [] }
+        ensures at { result.listener ≡ listener.entry }
+        ensures allowed { result.left ≡ sessions }
         ensures no_fault { result.met_fault ≡ false }
     {
         TcpDoor {
+            rt,
             listener,
             left: sessions,
             is_out: false,
@@ -48,28 +53,27 @@ impl<'l> TcpDoor<'l> {
         self.met_fault
     }
 
-    // Whether a connection more comes, which then is counted.
-    fn count_one(&mut self) -> bool
-        ensures inside { self.new.is_out ≡ self.old.is_out }
+    // A connection is out, which is counted.
+    fn count_one(&mut self)
+        requires more { self.old.left ≡ Some 0 → ⊥ }
+        requires inside { self.old.is_out ≡ false }
+        ensures out { self.new.is_out ≡ true }
+        ensures counted { in_all self.new.left true self.new.over ≡ in_all self.old.left false self.old.over }
+        ensures listener { self.new.listener ≡ self.old.listener }
         ensures at_end { self.new.is_at_end ≡ self.old.is_at_end }
         ensures fault { self.new.met_fault ≡ self.old.met_fault }
         ensures over { self.new.over ≡ self.old.over }
-        ensures endless { self.old.left ≡ None → IsTrue result × (self.new.left ≡ None) }
-        ensures last { self.old.left ≡ Some 0 → result ≡ false }
-        ensures counted { (more : ℕ) → self.old.left ≡ Some (more + 1) → IsTrue result × (self.new.left ≡ Some more) }
     {
-        match self.left {
-            None => true,
-            Some(0) => false,
-            Some(left) => {
-                self.left = Some(left - 1);
-                true
-            }
+        self.is_out = true;
+        if let Some(left) = self.left {
+            self.left = Some(left - 1);
         }
     }
 }
 
-impl<'l> Door for TcpDoor<'l> {
+impl<'l, R: Clock> Door for TcpDoor<'l, R> {
+    ghost use Rattle.std.proofs.Common.{refl};
+
     type Line = IoLine<Connection>;
 
     ghost is_out = { λ door. door.is_out };
@@ -78,22 +82,28 @@ impl<'l> Door for TcpDoor<'l> {
 
     ghost lines_over = { λ door. door.over };
 
+    // It has the same listener, and as many connections come at it in all.
+    ghost same = { λ first last. (last.listener ≡ first.listener) × (in_all last.left last.is_out last.over ≡ in_all first.left first.is_out first.over) };
+
+    ghost same_self = { λ door. (refl, refl) };
+
     fn open(&mut self) -> Result<Option<IoLine<Connection>>, DoorFault>
         requires inside { self.old.is_out ≡ false }
         requires more { self.old.is_at_end ≡ false }
         ensures opened { IsOpened ⟦<IoLine<Connection> as Line>⟧.seen self.new.is_out self.new.is_at_end result }
         ensures over { self.new.over ≡ self.old.over }
+        ensures same { (first : _) → ⟦<TcpDoor<'l, R> as Door>⟧.same first self.old → ⟦<TcpDoor<'l, R> as Door>⟧.same first self.new }
         // A fault is kept for `met_fault`.
         ensures fault { OnErr result (self.new.met_fault ≡ true) }
         ensures no_fault { OnOk result (self.new.met_fault ≡ self.old.met_fault) }
     {
-        if !self.count_one() {
+        if self.left == Some(0) {
             self.is_at_end = true;
             return Ok(None);
         }
-        match accept(self.listener) {
+        match accept(self.rt, self.listener) {
             Ok(stream) => {
-                self.is_out = true;
+                self.count_one();
                 Ok(Some(IoLine::new(stream)))
             }
             Err(_) => {
@@ -109,31 +119,4 @@ impl<'l> Door for TcpDoor<'l> {
         self.is_out = false;
         self.over.note(&line, end);
     }
-}
-
-// The next connection. What is written to it goes out at once.
-fn accept(listener: &TcpListener) -> io::Result<Connection> {
-    let stream = next_stream(listener)?;
-    stream.set_nodelay(true)?;
-    Ok(Connection::new(stream))
-}
-
-// A peer that is gone before its connection is accepted is passed.
-fn next_stream(listener: &TcpListener) -> io::Result<TcpStream> {
-    for _ in 0..u64::MAX {
-        match listener.accept() {
-            Ok((stream, _peer)) => return Ok(stream),
-            Err(e) => {
-                if !is_of_peer(e.kind()) {
-                    return Err(e);
-                }
-            }
-        }
-    }
-    Err(io::Error::from(ErrorKind::ConnectionAborted))
-}
-
-// Whether an error of an accept says nothing of the listener.
-fn is_of_peer(kind: ErrorKind) -> bool {
-    kind == ErrorKind::Interrupted || kind == ErrorKind::ConnectionAborted
 }

@@ -1,7 +1,6 @@
 use Rattle.std.specs.List.{All}
 use Rattle.bq_desk.specs.Tending.{IsNewDoor}
-use Rattle.bq_line.specs.declared.door.tcp_door.TcpDoor.{TcpDoor}
 use Rattle.bq_cli.proofs.server.new_doors.Given as goal
 
 abbrev pub invariant-loop : goal.invariant-loop
-invariant-loop l = All (λ (d : TcpDoor). IsNewDoor (record { is_out = d.is_out; is_at_end = d.is_at_end; lines_over = d.over })) l.doors.items
+invariant-loop g l = All (λ d. IsNewDoor (record { is_out = d.is_out; is_at_end = d.is_at_end; lines_over = d.over })) l.doors.items

@@ -24,6 +24,7 @@ returns-in_default g c =
       ready = c.act.ensures.ready;
       went = from_place g.K.Link.went c.args.link.now c.act.new.link g.L.Line.seen c.args.machine.now c.act.new.machine c.args.place (places.On c.in-On.line c.in-On.action) c.act.result.0 (at c.args.door.now) (at c.args.door.now)
           c.in-On.is (c.act.ensures.went (at c.args.door.now));
+      same = λ first same. same;
     }
 
 pub returns-in-Leaving-clause-went : goal.returns-in-Leaving-clause-went

@@ -11,6 +11,7 @@ loop-init g c =
     record {
       iterator = (tt, tt);
       tended = ([], [], subst (λ (n : ℕ). IsTended g.L.Line.seen n post.attendant (at post.door) [] []) post.limit first);
+      same = g.met.D.Door.same_self post.door;
     }
 
 pub loop-preserved-then-not-go_on : goal.loop-preserved-then-not-go_on
@@ -20,6 +21,7 @@ loop-preserved-then-not-go_on g c =
     record {
       iterator = (tt, tt);
       tended = (t.0 ++ w.0, t.1 ++ w.1, w.3 c.args.self.max_job_size t.0 t.1 t.2);
+      same = c.go_on.ensures.same c.args.self.door c.loop.invariant.same;
     }
 
 pub loop-preserved : goal.loop-preserved
@@ -29,6 +31,7 @@ loop-preserved g c =
     record {
       iterator = (tt, tt);
       tended = (t.0 ++ w.0, t.1 ++ w.1, w.3 c.args.self.max_job_size t.0 t.1 t.2);
+      same = c.go_on.ensures.same c.args.self.door c.loop.invariant.same;
     }
 
 pub go_on-requires-clause-placed : goal.go_on-requires-clause-placed

@@ -1,0 +1,8 @@
+-- How many connections come at a door.
+use Rattle.std.specs.Prelude.{ℕ, ◌+◌, Bool, List, length, Option, Some, None, if◌then◌else◌}
+use Rattle.bq_job.specs.History.{LineOver}
+
+-- With those still to come, the one that is out, and those that are over; without end where those to come are.
+abbrev pub in_all : Option ℕ → Bool → List LineOver → Option ℕ
+in_all None is_out over = None
+in_all (Some left) is_out over = Some (left + ((if is_out then 1 else 0) + length over))
