@@ -6,6 +6,8 @@ mod clients;
 #[cfg(test)]
 mod control;
 #[cfg(test)]
+mod core_at_work;
+#[cfg(test)]
 mod doors;
 #[cfg(test)]
 mod drains;
