@@ -9,7 +9,7 @@ use std::alloc::Global;
 use std::test::Fail;
 
 /// How many clients wait at seats from 1 on.
-const WAITERS: u16 = 200;
+const WAITERS: u16 = 250;
 
 static HAND_OUT: &[Example] = &[(0, 0, Do::Reserve, &[(0, Want::Reserved(1, b"x"))])];
 
@@ -31,9 +31,9 @@ static ONE_HELD: &[Example] = &[
     (0, 0, Do::Reserve, &[(0, Want::Reserved(1, b"x"))]),
 ];
 
-/// No job changes. Who waits watches 200 tubes, and who asks one. There is one job: 2 * 1 + 2 has three
+/// No job changes. Those who wait watch 250 tubes, and who asks one. There is one job: 2 * 1 + 2 has three
 /// binary digits.
-const MOST_AT_THE_END: u64 = (0 + 8) * (201 + 16) * 2 * 3;
+const MOST_AT_THE_END: u64 = (0 + 8) * (251 + 16) * 2 * 3;
 
 // How many comparisons the steps make, which are answered as the examples say.
 fn comparisons_of(
@@ -111,16 +111,33 @@ fn comparisons_beside(
     comparisons_of(alloc, &mut bench, examples)
 }
 
+// A put into a tube at which nobody waits makes the comparisons of the insertion alone.
 #[test]
-fn waiters_of_another_tube_cost_little(rt: HostRuntime) -> Result<(), Fail> {
+fn waiters_of_another_tube_cost_nothing(rt: HostRuntime) -> Result<(), Fail> {
     let without = comparisons_beside(rt.alloc(), false, PUT)?;
     let with = comparisons_beside(rt.alloc(), true, PUT)?;
-    let most = without.saturating_add(2 * u64::from(WAITERS));
-    at_most(with, most)
+    at_most(with, without)
 }
 
-// Where no job becomes ready and nobody begins to wait, no tube is asked for the clients that wait: of each step's
-// two parts either asks at most for the first end of a time to run.
+// How many comparisons a look for the next due moment makes beside those clients, none of whom holds a job.
+fn comparisons_of_a_look(alloc: Global, do_wait: bool) -> Result<u64, Fail> {
+    let mut bench = Bench::new(alloc, 256, 10)?;
+    watch_all(&mut bench, do_wait)?;
+    take_all(alloc, &mut bench, ("one_held", ONE_HELD))?;
+    let before = bench.comparisons();
+    let _due = bench.next_due();
+    Ok(bench.comparisons().saturating_sub(before))
+}
+
+#[test]
+fn waiters_without_jobs_cost_a_look_nothing(rt: HostRuntime) -> Result<(), Fail> {
+    let without = comparisons_of_a_look(rt.alloc(), false)?;
+    let with = comparisons_of_a_look(rt.alloc(), true)?;
+    at_most(with, without)
+}
+
+// Where no waiting client may have a job, none is looked for: of each step's two parts either asks at most for the
+// first end of a time to run.
 #[test]
 fn calm_steps_ask_for_no_waiter(rt: HostRuntime) -> Result<(), Fail> {
     let without = comparisons_beside(rt.alloc(), false, CALM)?;
