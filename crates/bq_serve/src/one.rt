@@ -11,7 +11,7 @@ use bq_desk::desk_seat::act;
 use bq_job::{LineEnd, Seat, line_joins};
 use bq_line::clock::Clock;
 use bq_line::line::Line;
-use bq_seat::{Action, Event, PIECE_ROOM, SeatMachine};
+use bq_seat::{Action, Event, PIECE_ROOM, SeatMachine, pasts_are_orderly};
 use std::alloc::Global;
 use std::sync::Wait;
 use std::thread::Parker;
@@ -72,6 +72,7 @@ pub fn run_one<R: Wait, L: Line + Drop, C: Clock + Drop>(
                 });
             }
             other => {
+                pasts_are_orderly();
                 let looked = is_look(&other);
                 let (next, _moved) = act(
                     &mut machine,

@@ -40,7 +40,7 @@ loop-preserved g c =
       serves = (
         i.0 ++ w.0,
         w.1 c.args.clock i.0 i.1,
-        goes_on_alone c.args.config 0 i.0 w.0 (state_of c.loop.desk) next c.loop.machine c.act-next.new.machine (g.L.Line.seen c.loop.line) (g.L.Line.seen c.act-next.new.line) c.loop.action c.act-next.result.0 h.0 h.1 i.2 w.2 h.3,
+        goes_on_alone c.pasts_are_orderly.ensures c.args.config 0 i.0 w.0 (state_of c.loop.desk) next c.loop.machine c.act-next.new.machine (g.L.Line.seen c.loop.line) (g.L.Line.seen c.act-next.new.line) c.loop.action c.act-next.result.0 h.0 h.1 i.2 w.2 h.3,
       );
       mails = c.act-next.ensures.mails;
       within = omega (arith, w.2.went.many, c.loop.invariant.within);
