@@ -1,32 +1,51 @@
 //! Steps and answers through the links of one seat, by hand.
-ghost use Rattle.std.specs.Prelude.{◌<◌, length};
+ghost use Rattle.std.specs.Prelude.{◌≡◌, ◌<◌, length};
 ghost use Rattle.bq_link.specs.EndStates.{IsSameCore, IsSameSeat};
 
-use crate::ends::{Did, last_ends, submits, takes};
+use crate::ends::{Did, Shared, last_ends, submits, takes};
 use bq_job::{Answer, Step};
 use bq_link::{CoreEnd, SeatEnd};
 use std::ops::Range;
+use std::sync::Wait;
 use std::test::Fail;
 
 fn is_inserted(got: Option<Answer>, id: u64) -> bool {
     matches!(got, Some(Answer::Inserted(given)) if given == id)
 }
 
+// Whether the intake has room for four steps, and hands the fifth back.
+fn fills<R: Wait>(rt: &R, intake: &Shared, first: &mut SeatEnd, second: &mut SeatEnd) -> bool
+    requires first { first.old.intake ≡ intake.now.id }
+    requires second { second.old.intake ≡ intake.now.id }
+    ensures first { IsSameSeat first.old first.new }
+    ensures second { IsSameSeat second.old second.new }
+{
+    submits(rt, intake, first, Step::Connect)
+        && submits(rt, intake, first, Step::Tick)
+        && submits(rt, intake, first, Step::Tick)
+        && submits(rt, intake, second, Step::Drain)
+        && matches!(second.submit(rt, intake, Step::Gone), Err(Step::Gone))
+}
+
+// Whether the core takes the four steps, and then none.
+fn empties<R: Wait>(rt: &R, intake: &Shared, core: &mut CoreEnd) -> bool
+    requires { core.old.intake ≡ intake.now.id }
+    ensures { IsSameCore core.old core.new }
+{
+    takes(rt, intake, core, 0) == Some(Did::Connect)
+        && takes(rt, intake, core, 0) == Some(Did::Tick)
+        && takes(rt, intake, core, 0) == Some(Did::Tick)
+        && takes(rt, intake, core, 1) == Some(Did::Drain)
+        && core.take(rt, intake).is_none()
+}
+
 #[test]
 fn intake_by_hand(rt: HostRuntime) -> Result<(), Fail> {
     let (intake, mut core, mut first, mut second) = last_ends(rt.alloc(), 1)?;
     assert!(rt; (first.number(), second.number()) == (0, 1));
-    assert!(rt; submits(&rt, &intake, &mut first, Step::Connect));
-    assert!(rt; submits(&rt, &intake, &mut first, Step::Tick));
-    assert!(rt; submits(&rt, &intake, &mut first, Step::Tick));
-    assert!(rt; submits(&rt, &intake, &mut second, Step::Drain));
-    assert!(rt; matches!(second.submit(&rt, &intake, Step::Gone), Err(Step::Gone)));
+    assert!(rt; fills(&rt, &intake, &mut first, &mut second));
     core.compare(&intake, &mut first);
-    assert!(rt; takes(&rt, &intake, &mut core, 0) == Some(Did::Connect));
-    assert!(rt; takes(&rt, &intake, &mut core, 0) == Some(Did::Tick));
-    assert!(rt; takes(&rt, &intake, &mut core, 0) == Some(Did::Tick));
-    assert!(rt; takes(&rt, &intake, &mut core, 1) == Some(Did::Drain));
-    assert!(rt; core.take(&rt, &intake).is_none());
+    assert!(rt; empties(&rt, &intake, &mut core));
     assert!(rt; submits(&rt, &intake, &mut second, Step::Gone));
     Ok(())
 }
@@ -56,16 +75,21 @@ fn has_mail(end: &mut SeatEnd, ids: Range<u64>) -> bool
     true
 }
 
+// Whether its ring has room for four answers, and hands the fifth back.
+fn fills_ring(core: &mut CoreEnd) -> bool
+    requires { 0 < length core.old.rings }
+    ensures { IsSameCore core.old core.new }
+{
+    send_all(core, 1..5) && matches!(core.send(0, Answer::Inserted(5)), Err(Answer::Inserted(5)))
+}
+
 #[test]
 fn ring_by_hand(rt: HostRuntime) -> Result<(), Fail> {
     let (_intake, mut core, mut first, mut second) = last_ends(rt.alloc(), 1)?;
-    assert!(rt; send_all(&mut core, 1..5));
-    assert!(rt; matches!(core.send(0, Answer::Inserted(5)), Err(Answer::Inserted(5))));
-    assert!(rt; second.mail().is_none());
+    assert!(rt; fills_ring(&mut core) && second.mail().is_none());
     assert!(rt; has_mail(&mut first, 1..2));
     assert_eq!(rt; core.left(&mut first), 3);
-    assert!(rt; has_mail(&mut first, 2..5));
-    assert!(rt; first.mail().is_none());
+    assert!(rt; has_mail(&mut first, 2..5) && first.mail().is_none());
     assert_eq!(rt; core.left(&mut first), 0);
     assert!(rt; send_all(&mut core, 5..9));
     Ok(())

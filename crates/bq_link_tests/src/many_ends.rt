@@ -1,19 +1,46 @@
 //! The links of as many seats as a server may have.
+ghost use Rattle.std.specs.Prelude.{◌≡◌, ◌<◌, length};
+ghost use Rattle.bq_link.specs.EndStates.{IsSameCore, IsSameSeat};
 
-use crate::ends::{Did, last_ends, submits, takes};
+use crate::ends::{Did, Shared, last_ends, submits, takes};
 use bq_job::{Answer, Step};
+use bq_link::{CoreEnd, SeatEnd};
+use std::sync::Wait;
 use std::test::Fail;
+
+// Whether the core takes a step of the control line and one of the last seat.
+fn takes_both<R: Wait>(
+    rt: &R,
+    intake: &Shared,
+    core: &mut CoreEnd,
+    last: &mut SeatEnd,
+    control: &mut SeatEnd,
+) -> bool
+    requires core { core.old.intake ≡ intake.now.id }
+    requires last { last.old.intake ≡ intake.now.id }
+    requires control { control.old.intake ≡ intake.now.id }
+    ensures { IsSameCore core.old core.new }
+{
+    submits(rt, intake, control, Step::Drain)
+        && submits(rt, intake, last, Step::Tick)
+        && takes(rt, intake, core, 256) == Some(Did::Drain)
+        && takes(rt, intake, core, 255) == Some(Did::Tick)
+}
+
+// Whether an answer to the last seat comes to that one alone.
+fn sends_to_last(core: &mut CoreEnd, last: &mut SeatEnd, control: &mut SeatEnd) -> bool
+    requires { 255 < length core.old.rings }
+{
+    core.send(255, Answer::Kicked).is_ok()
+        && control.mail().is_none()
+        && matches!(last.mail(), Some(Answer::Kicked))
+}
 
 #[test]
 fn two_hundred_and_fifty_six_seats(rt: HostRuntime) -> Result<(), Fail> {
     let (intake, mut core, mut last, mut control) = last_ends(rt.alloc(), 256)?;
     assert!(rt; (last.number(), control.number()) == (255, 256));
-    assert!(rt; submits(&rt, &intake, &mut control, Step::Drain));
-    assert!(rt; submits(&rt, &intake, &mut last, Step::Tick));
-    assert!(rt; takes(&rt, &intake, &mut core, 256) == Some(Did::Drain));
-    assert!(rt; takes(&rt, &intake, &mut core, 255) == Some(Did::Tick));
-    assert!(rt; core.send(255, Answer::Kicked).is_ok());
-    assert!(rt; control.mail().is_none());
-    assert!(rt; matches!(last.mail(), Some(Answer::Kicked)));
+    assert!(rt; takes_both(&rt, &intake, &mut core, &mut last, &mut control));
+    assert!(rt; sends_to_last(&mut core, &mut last, &mut control));
     Ok(())
 }
