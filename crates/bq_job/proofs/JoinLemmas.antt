@@ -110,7 +110,7 @@ seat_owed settings size t lines own tail taken waiting history all last within g
     let parts = gives_parts t size lines own taken served (new_machine settings) last history all serves (starts_free t settings) (starts_quiet t settings) tail gone runs steps_are in
     (lines_owed size lines own taken waiting (answers_to t all) served parts answers_are).0
 
-doors_owed : (settings : Settings) (size : ℕ) (seat : ℕ) (doors : List (List LineOver)) (submitted : ℕ → List Step) (taken waiting : ℕ → List Answer) (history : List Entry) (all : List GivenAnswer) (last : Machine)
+pub doors_owed : (settings : Settings) (size : ℕ) (seat : ℕ) (doors : List (List LineOver)) (submitted : ℕ → List Step) (taken waiting : ℕ → List Answer) (history : List Entry) (all : List GivenAnswer) (last : Machine)
     → seat + length doors ≤ settings.seats → Run (new_machine settings) history all last → AreTied size seat doors submitted taken waiting history all → AreDoorsOwed size seat doors history all
 doors_owed settings size seat [] submitted taken waiting history all last few runs tied = tt
 doors_owed settings size seat (lines ∷ doors) submitted taken waiting history all last few runs tied =

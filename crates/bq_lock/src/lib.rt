@@ -4,6 +4,7 @@
 
 pub use locked::Locked;
 pub use locked_run::{LockedRun, run_locked};
+pub use start::Start;
 
 mod bell;
 mod bells;

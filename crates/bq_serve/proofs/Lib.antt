@@ -1,7 +1,10 @@
 pub mod AloneLemmas
 pub mod EndLemmas
+pub mod GoneLemmas
+pub mod LinkedLemmas
 pub mod SeatWorkLemmas
+pub mod SendLemmas
 pub mod SendingLemmas
-pub mod SessionsLemmas
-pub mod TurnsLemmas
+pub mod SettleLemmas
+pub mod ThreadLemmas
 pub mod WorkedLemmas

@@ -16,8 +16,8 @@ use Rattle.bq_job.proofs.OneClientLemmas.{answers_append}
 use Rattle.bq_job.proofs.RunLemmas.{run_append, run_from, run_none}
 use Rattle.bq_link.specs.EndStates.{CoreState, sent_to}
 use Rattle.bq_link.specs.NewEnds.{IsNewCore}
-use Rattle.bq_link.specs.Submissions.{steps_of}
-use Rattle.bq_link.proofs.SubmissionLemmas.{of_other, of_own}
+use Rattle.bq_link.specs.Submissions.{AreBelow, steps_of}
+use Rattle.bq_link.proofs.SubmissionLemmas.{below_push, of_other, of_own}
 use Rattle.bq_serve.specs.CoreWork.{HasGone, IsCoreDone, no_ticks, steps_made}
 use Rattle.bq_serve.specs.Flags.{AreAllSet}
 use Rattle.bq_serve.specs.Sending.{AreSent}
@@ -134,9 +134,9 @@ given_on t given now pending sent h =
 
 -- The core took a step that came by its end.
 pub worked_step : (settings : Settings) (readings : List (Option ℕ)) (o n : HubState) (seat : ℕ) (what : Step) (reading : Option ℕ) (outcome : Outcome) (now : List GivenAnswer)
-    → HasWorked settings readings o → IsStep o.core n.heard seat what outcome now n.core → n.heard ≡ moment_heard o.heard reading
+    → seat < length o.end.rings → HasWorked settings readings o → IsStep o.core n.heard seat what outcome now n.core → n.heard ≡ moment_heard o.heard reading
     → n.end ≡ record o.end { taken = o.end.taken ++ (seat, what) ∷ [] } → n.pending ≡ o.pending ++ now → AreMarked seat what o.gone n.gone → HasWorked settings (readings ++ reading ∷ []) n
-worked_step settings readings o n seat what reading outcome now w step heard end pending marked =
+worked_step settings readings o n seat what reading outcome now below w step heard end pending marked =
     let at = moment_heard o.heard reading in
     let r = ran_on settings readings w.history w.given now o.core n.core o.heard n.heard seat what reading outcome (record { runs = w.runs; timed = w.timed }) step heard in
     record {
@@ -147,6 +147,7 @@ worked_step settings readings o n seat what reading outcome now w step heard end
       taken_is =
           made_more w.history (entry_of at seat what ∷ []) ∙ ap (λ (all : List (ℕ × Step)). all ++ steps_made (entry_of at seat what ∷ [])) w.taken_is
           ∙ ap (λ (all : List (ℕ × Step)). no_ticks o.end.taken ++ all) (made_one at seat what) ∙ sym (no_ticks_more o.end.taken ((seat, what) ∷ [])) ∙ ap (λ (c : CoreState). no_ticks c.taken) (sym end);
+      numbers = subst (λ (c : CoreState). AreBelow (length c.rings) c.taken) (sym end) (below_push (length o.end.rings) o.end.taken (seat, what) w.numbers below);
       sent_is = λ t within.
           given_on t w.given now o.pending (sent_to o.end t) (w.sent_is t (subst (λ (c : CoreState). t < length c.rings) end within))
           ∙ ap (λ (c : CoreState). sent_to c t ++ answers_to t (o.pending ++ now)) (sym end) ∙ ap (λ (all : List GivenAnswer). sent_to n.end t ++ answers_to t all) (sym pending);
@@ -166,6 +167,7 @@ worked_tick settings readings o n reading outcome now w step heard end pending g
       runs = r.runs;
       timed = r.timed;
       taken_is = made_more w.history (entry_of at 0 Tick ∷ []) ∙ append-nil (steps_made w.history) ∙ w.taken_is ∙ ap (λ (c : CoreState). no_ticks c.taken) (sym end);
+      numbers = subst (λ (c : CoreState). AreBelow (length c.rings) c.taken) (sym end) w.numbers;
       sent_is = λ t within.
           given_on t w.given now o.pending (sent_to o.end t) (w.sent_is t (subst (λ (c : CoreState). t < length c.rings) end within))
           ∙ ap (λ (c : CoreState). sent_to c t ++ answers_to t (o.pending ++ now)) (sym end) ∙ ap (λ (all : List GivenAnswer). sent_to n.end t ++ answers_to t all) (sym pending);
@@ -182,6 +184,7 @@ worked_heard settings readings o n reading w core heard end pending gone =
       runs = subst (λ (m : Machine). Run (new_machine settings) w.history w.given m) (sym core) w.runs;
       timed = subst (λ (m : ℕ). IsTimedFrom 0 (readings ++ reading ∷ []) w.history m) (sym heard) (timed_heard readings w.history o.heard reading w.timed);
       taken_is = w.taken_is ∙ ap (λ (c : CoreState). no_ticks c.taken) (sym end);
+      numbers = subst (λ (c : CoreState). AreBelow (length c.rings) c.taken) (sym end) w.numbers;
       sent_is = λ t within.
           w.sent_is t (subst (λ (c : CoreState). t < length c.rings) end within)
           ∙ ap (λ (c : CoreState). sent_to c t ++ answers_to t o.pending) (sym end) ∙ ap (λ (all : List GivenAnswer). sent_to n.end t ++ answers_to t all) (sym pending);
@@ -197,6 +200,7 @@ worked_sent settings readings o n w sent core heard gone = record {
   runs = subst (λ (m : Machine). Run (new_machine settings) w.history w.given m) (sym core) w.runs;
   timed = subst (λ (m : ℕ). IsTimedFrom 0 readings w.history m) (sym heard) w.timed;
   taken_is = w.taken_is ∙ ap (λ (all : List (ℕ × Step)). no_ticks all) (sym sent.taken);
+  numbers = subst (λ (k : ℕ). AreBelow k n.end.taken) (sym (ap length sent.rings)) (subst (λ (all : List (ℕ × Step)). AreBelow (length o.end.rings) all) (sym sent.taken) w.numbers);
   sent_is = λ t within. let there = subst (λ (rings : List _). t < length rings) sent.rings within in w.sent_is t there ∙ sym (sent.each t there);
   marked = λ t set.
       subst (λ (all : List (ℕ × Step)). HasGone (steps_of t all)) (sym sent.taken) (w.marked t (subst (λ (flags : List Bool). slice_index_or flags t false ≡ true) gone set));
@@ -216,6 +220,7 @@ worked_none settings h ends core heard new pending gone = record {
   runs = subst (λ (m : Machine). Run (new_machine settings) [] [] m) (sym core) (run_none (new_machine settings));
   timed = record { picked = tt; last_is = heard };
   taken_is = ap no_ticks (sym new.taken);
+  numbers = subst (λ (all : List (ℕ × Step)). AreBelow (length h.end.rings) all) (sym new.taken) tt;
   sent_is = λ t within.
       sym (ap (λ (all : List (List Answer)). slice_index_or all t [] ++ answers_to t h.pending) new.sent
       ∙ ap (λ (all : List Answer). all ++ answers_to t h.pending) (all_same ends t [])
@@ -231,6 +236,7 @@ worked_all settings readings h w none ends many all = record {
   given = w.given;
   run = record { runs = w.runs; timed = w.timed.picked };
   taken_is = w.taken_is;
+  numbers = subst (λ (k : ℕ). AreBelow k h.end.taken) ends w.numbers;
   sent_is = λ t within.
       w.sent_is t (subst (λ (n : ℕ). t < n) (sym ends) within) ∙ ap (λ (rest : List GivenAnswer). sent_to h.end t ++ answers_to t rest) none ∙ append-nil (sent_to h.end t);
   all_gone = λ t within. w.marked t (all t (subst (λ (n : ℕ). t < n) (sym many) within));

@@ -10,7 +10,7 @@ use Rattle.bq_job.specs.History.{is_tick, without_ticks}
 use Rattle.bq_job.specs.Machine.{Machine}
 use Rattle.bq_job.specs.Runs.{Entry, answers_to}
 use Rattle.bq_link.specs.EndStates.{CoreState, sent_to}
-use Rattle.bq_link.specs.Submissions.{steps_of}
+use Rattle.bq_link.specs.Submissions.{AreBelow, steps_of}
 use Rattle.bq_serve.specs.declared.core_work.room.CoreRoom.{CoreRoom}
 
 -- Among these steps of an end it says that no more come.
@@ -34,13 +34,14 @@ pub record IsNewRoom (ends : ℕ) (room : CoreRoom) : Type 0 where
   pub none_gone : room.gone.items ≡ replicate ends false
 
 -- A core that is done. From the start it took the steps that came by its end of the links, in their order, and
--- ticks of its own, each at the moment of a reading. All that it gave to an end was sent to it, in its order, and
+-- ticks of its own, each at the moment of a reading; nobody but the ends submits any. All that it gave to an end was sent to it, in its order, and
 -- no end has more to submit.
 pub record IsCoreDone (settings : Settings) (readings : List (Option ℕ)) (core : CoreState) (last : Machine) : Type 0 where
   pub history : List Entry
   pub given : List GivenAnswer
   pub run : IsRun settings readings history given last
   pub taken_is : steps_made history ≡ no_ticks core.taken
+  pub numbers : AreBelow (settings.seats + 1) core.taken
   pub sent_is : (seat : ℕ) → seat < settings.seats + 1 → answers_to seat given ≡ sent_to core seat
   pub all_gone : (seat : ℕ) → seat < settings.seats + 1 → HasGone (steps_of seat core.taken)
 

@@ -1,9 +1,10 @@
 pub mod CoreWork
 pub mod Ends
 pub mod Flags
+pub mod Linked
 pub mod Rests
 pub mod RunSettings
 pub mod Sending
 pub mod Sessions
-pub mod Turns
+pub mod Threads
 pub mod Worked

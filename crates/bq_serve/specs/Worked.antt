@@ -10,7 +10,7 @@ use Rattle.bq_job.specs.Runs.{Entry, Run, answers_to}
 use Rattle.bq_job.specs.Steps.{IsStep, Outcome}
 use Rattle.bq_desk.specs.DeskOf.{GaveReadings}
 use Rattle.bq_link.specs.EndStates.{CoreState, sent_to}
-use Rattle.bq_link.specs.Submissions.{steps_of}
+use Rattle.bq_link.specs.Submissions.{AreBelow, steps_of}
 use Rattle.bq_serve.specs.CoreWork.{HasGone, no_ticks, steps_made}
 use Rattle.bq_serve.specs.Flags.{AreAllSet}
 use Rattle.bq_serve.specs.Sending.{IsAtRest}
@@ -43,6 +43,7 @@ pub record HasWorked (settings : Settings) (readings : List (Option ℕ)) (h : H
   pub runs : Run (new_machine settings) history given h.core
   pub timed : IsTimedFrom 0 readings history h.heard
   pub taken_is : steps_made history ≡ no_ticks h.end.taken
+  pub numbers : AreBelow (length h.end.rings) h.end.taken
   pub sent_is : (seat : ℕ) → seat < length h.end.rings → answers_to seat given ≡ sent_to h.end seat ++ answers_to seat h.pending
   pub marked : (seat : ℕ) → slice_index_or h.gone seat false ≡ true → HasGone (steps_of seat h.end.taken)
 

@@ -1,9 +1,10 @@
 //! An end of the links, as a seat and as the control line see it.
-ghost use Rattle.std.specs.Prelude.{◌≡◌, [], ℕ, Bool, List};
+ghost use Rattle.std.specs.Prelude.{◌≡◌, [], List};
 ghost use Rattle.std.specs.Option.{option_to_list};
 ghost use Rattle.bq_job.specs.ControlDid.{IsControlDone};
 ghost use Rattle.bq_job.specs.declared.step.Step.{Step};
-ghost use Rattle.bq_desk.specs.ControlRead.{IsReadToEnd};
+ghost use Rattle.bq_desk.specs.ControlRead.{IsOver, IsReadToEnd};
+ghost use Rattle.bq_desk.specs.ControlSeen.{new_control};
 ghost use Rattle.bq_desk.specs.Links.{Submits};
 ghost use Rattle.bq_desk.specs.Tending.{GoesOn, IsPlaced, door_seen};
 ghost use Rattle.bq_link.specs.EndStates.{IsSameSeat};
@@ -13,12 +14,12 @@ use crate::no_ticks::NoTicks;
 use bq_desk::attendant::Attendant;
 use bq_desk::client::Room;
 use bq_desk::control::{ControlLink, submit_control};
+use bq_desk::control_line::ControlInput;
 use bq_desk::link::Link;
 use bq_job::{Answer, Step};
 use bq_line::Door;
 use bq_line::line::Line;
 use bq_link::{Intake, SeatEnd};
-use std::io::BufRead;
 use std::sync::Wait;
 use std::thread;
 use std::time::Duration;
@@ -118,15 +119,18 @@ pub fn attend_at<R: Wait, L: Line + Drop, D: Door<Line = L>>(
 }
 
 /// Serves the control line by its end of the links.
-pub fn control_at<R: Wait, I: BufRead>(
+pub fn control_at<R: Wait, I: ControlInput>(
     rt: &R,
     intake: &Intake<NoTicks>,
     end: &mut SeatEnd,
     control: &mut I,
 )
+    requires new { I.seen control.old ≡ new_control }
     requires intake { end.old.intake ≡ intake.now.id }
-    ensures done { (text : List ℕ) × (failed : Bool) × IsReadToEnd (I.remaining control.old) (I.remaining control.new) text failed
-        × (submitted : List Step) × EndWent end.old submitted [] end.new × IsControlDone text failed submitted }
+    ensures over { IsOver (I.seen control.new) }
+    ensures read { IsReadToEnd (I.remaining control.old) (I.remaining control.new) (I.seen control.new).text (I.seen control.new).failed }
+    ensures done { (submitted : List Step) × IsControlDone (I.seen control.new).text (I.seen control.new).failed submitted
+        × EndWent end.old submitted [] end.new }
 {
     let mut link = EndSeat { rt, intake, end };
     submit_control(rt, control, &mut link);

@@ -1,7 +1,8 @@
 //! Serving clients over lines of bytes.
 //!
-//! Here are the runs by one thread: of one line, and of many doors in turn. With them come the lines, doors
-//! and clocks of `bq_line`, and the run around one lock of `bq_lock`.
+//! Here are the run of one line by one thread, and that of many doors, each by a thread of its own, over the
+//! links of `bq_link`. With them come the lines, doors and clocks of `bq_line`, and the run around one lock of
+//! `bq_lock`.
 #![tactic(auto)]
 
 pub use bq_desk::RunFault;

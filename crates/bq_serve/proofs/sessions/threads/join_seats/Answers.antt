@@ -1,0 +1,29 @@
+use Rattle.std.proofs.Common.{◌≡◌, ◌++◌, ◌∙◌, ◌∷◌, [], refl, subst, sym, ap}
+use Rattle.std.specs.Prelude.{IfSome}
+use Rattle.std.specs.List.{All}
+use Rattle.bq_desk.specs.DoorServed.{IsDoorServed}
+use Rattle.bq_desk.specs.Tending.{door_seen}
+use Rattle.bq_link.specs.EndStates.{IsSameSeat}
+use Rattle.bq_serve.specs.Threads.{AreServed}
+use Rattle.bq_lock.proofs.ListLemmas.{first_passes, rest_passes}
+use Rattle.bq_serve.proofs.ThreadLemmas.{joined_first, served_more}
+use Rattle.bq_serve.proofs.sessions.threads.join_seats.Goals as goal
+
+pub loop-thread-preserved : goal.loop-thread-preserved
+loop-thread-preserved g c =
+    let at = door_seen g.D.Door.is_out g.D.Door.is_at_end g.D.Door.lines_over in
+    let size = c.args.max_job_size in
+    let limits = c.loop-thread.invariant.limits in
+    let before = c.loop-thread.invariant.served in
+    let step = c.in-Some.ensures.steps in
+    let limit = first_passes c.loop-thread.thread-iterator.rest.items _ c.in-Some.thread (λ t. t.promise.max_job_size ≡ size) step.0 limits in
+    let here = rw (c.in-Some-join.is, limit) at c.join.ensures in
+    record {
+      limits = rest_passes c.loop-thread.thread-iterator.rest.items _ c.in-Some.thread (λ t. t.promise.max_job_size ≡ size) step.0 limits;
+      served = (
+        before.0 ++ c.in-Some.thread.promise.end.value ∷ [],
+        joined_first (λ t. t.promise.end.value) before.0 c.loop-thread.thread-iterator.rest.items _ c.in-Some.thread step.0 ∙ before.1,
+        rw (c.in-Ok-Ok.ensures.items, c.in-Ok-Ok.ensures'.items)
+        (served_more at size before.0 c.loop-thread.ends.items c.loop-thread.doors.items c.in-Some.thread.promise.end.value c.in-Some-join.end c.in-Some-join.door before.2 here.0 here.1),
+      );
+    }
