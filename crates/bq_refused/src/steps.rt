@@ -206,13 +206,17 @@ fn tell_waits<R: Print>(rt: &R, alloc: Global, bench: &mut Bench) -> io::Result<
     tell_rows(rt, alloc, bench, WAITS_AND_LEASES)
 }
 
+fn tell_with<R: Print>(rt: &R, alloc: Global, bench: &mut Bench) -> io::Result<()> {
+    println!(rt; "steps: begun")?;
+    tell_first(rt, alloc, bench)?;
+    tell_buries(rt, alloc, bench)?;
+    tell_waits(rt, alloc, bench)
+}
+
 /// All rows, by one core.
 pub fn tell_all<R: Print>(rt: &R, alloc: Global) -> io::Result<()> {
-    let Some(mut bench) = Bench::new(alloc) else {
-        return println!(rt; "steps: not begun");
-    };
-    println!(rt; "steps: begun")?;
-    tell_first(rt, alloc, &mut bench)?;
-    tell_buries(rt, alloc, &mut bench)?;
-    tell_waits(rt, alloc, &mut bench)
+    match Bench::new(alloc) {
+        Some(mut bench) => tell_with(rt, alloc, &mut bench),
+        None => println!(rt; "steps: not begun"),
+    }
 }
