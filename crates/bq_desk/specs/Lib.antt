@@ -5,7 +5,6 @@ pub mod ControlSeen
 pub mod DeskOf
 pub mod DeskState
 pub mod DeskWent
-pub mod DoorServed
 pub mod FaultCodes
 pub mod LastParts
 pub mod Links

@@ -89,11 +89,10 @@ fn mail_at<R: Wait>(rt: &R, intake: &Intake<NoTicks>, end: &mut SeatEnd) -> Opti
     ensures { EndWent end.old [] (option_to_list result) end.new }
 {
     for _ in 0..LOOKS {
-        let answer = end.mail();
-        if answer.is_some() {
-            return answer;
+        match end.mail() {
+            Some(answer) => return Some(answer),
+            None => thread::yield_now(),
         }
-        thread::yield_now();
     }
     end.wait(rt, intake, Duration::from_millis(LONGEST_REST));
     end.mail()

@@ -2,8 +2,7 @@
 ghost use Rattle.std.specs.Prelude.{◌≡◌};
 ghost use Rattle.bq_seat.specs.Past.{Awaited};
 ghost use Rattle.bq_seat.specs.SeatStands.{awaited};
-ghost use Rattle.bq_desk.specs.DoorServed.{IsDoorServed};
-ghost use Rattle.bq_desk.specs.Tending.{IsNewDoor, door_seen};
+ghost use Rattle.bq_desk.specs.Tending.{IsDoorServed, IsNewDoor, door_seen};
 ghost use Rattle.bq_link.specs.EndStates.{IsSameSeat};
 ghost use Rattle.bq_serve.specs.Ends.{IsNewEnd};
 

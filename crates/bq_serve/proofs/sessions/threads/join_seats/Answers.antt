@@ -1,8 +1,7 @@
 use Rattle.std.proofs.Common.{◌≡◌, ◌++◌, ◌∙◌, ◌∷◌, [], refl, subst, sym, ap}
 use Rattle.std.specs.Prelude.{IfSome}
 use Rattle.std.specs.List.{All}
-use Rattle.bq_desk.specs.DoorServed.{IsDoorServed}
-use Rattle.bq_desk.specs.Tending.{door_seen}
+use Rattle.bq_desk.specs.Tending.{IsDoorServed, door_seen}
 use Rattle.bq_link.specs.EndStates.{IsSameSeat}
 use Rattle.bq_serve.specs.Threads.{AreServed}
 use Rattle.bq_lock.proofs.ListLemmas.{first_passes, rest_passes}
@@ -24,6 +23,6 @@ loop-thread-preserved g c =
         before.0 ++ c.in-Some.thread.promise.end.value ∷ [],
         joined_first (λ t. t.promise.end.value) before.0 c.loop-thread.thread-iterator.rest.items _ c.in-Some.thread step.0 ∙ before.1,
         rw (c.in-Ok-Ok.ensures.items, c.in-Ok-Ok.ensures'.items)
-        (served_more at size before.0 c.loop-thread.ends.items c.loop-thread.doors.items c.in-Some.thread.promise.end.value c.in-Some-join.end c.in-Some-join.door before.2 here.0 here.1),
+            (served_more at size before.0 c.loop-thread.ends.items c.loop-thread.doors.items c.in-Some.thread.promise.end.value c.in-Some-join.end c.in-Some-join.door before.2 here.0 here.1),
       );
     }
