@@ -33,7 +33,6 @@ in_stage_reads stages.AskingQuit reader kept told p other reads s = absurd cc
 in_stage_reads (stages.Closing end) reader kept told p other reads s = absurd cc
 in_stage_reads (stages.Leaving end) reader kept told p other reads s = absurd cc
 
-
 pub reads_alone : (m : SeatMachine) → (m.stage ≡ stages.ReadingOn → ⊥) → ReadsWith false m
 unfolding StandsFor
 reads_alone m other reads p s = in_stage_reads m.stage m.reader m.kept m.end_told p other reads s.0
@@ -50,7 +49,6 @@ reads_on_in stages.Writing reader kept told p is s = absurd cc
 reads_on_in stages.AskingQuit reader kept told p is s = absurd cc
 reads_on_in (stages.Closing end) reader kept told p is s = absurd cc
 reads_on_in (stages.Leaving end) reader kept told p is s = absurd cc
-
 
 pub reads_with_one : (m : SeatMachine) → m.stage ≡ stages.ReadingOn → ReadsWith true m
 unfolding StandsFor

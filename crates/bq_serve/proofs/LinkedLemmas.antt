@@ -130,7 +130,7 @@ module _ {D : Type 0} (at : D → DoorSeen) (settings : Settings) (readings : Li
     | inr other ↦
         let less : place < length doors = let m = a.many in let d = a.doored in let n = eqb-false place settings.seats other in omega (arith, below) in
         door_ends_by_gone place e less
-    ]
+  ]
 
   submitted_is : (place : ℕ) (e : SeatState) → place < length ends → steps_at place history ≡ (end_at place e).submitted
   submitted_is place e below =

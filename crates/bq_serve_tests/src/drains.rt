@@ -3,7 +3,7 @@ ghost use Rattle.std.specs.Prelude.{◌≡◌, IfOk};
 
 use crate::clients::STILL;
 use crate::control::Gives;
-use crate::runs::{around_a_lock, config, in_turn};
+use crate::runs::{around_a_lock, by_threads, config};
 use bq_core::{Core, Outs};
 use bq_job::{Answer, Body, NoMemory, Request, Step, USUAL_BODY};
 use bq_serve::{Locked, RunFault};
@@ -53,7 +53,7 @@ fn put(alloc: Global) -> Result<Step, NoMemory> {
     }))
 }
 
-// The core that a run in turn leaves.
+// The core that a run by threads leaves.
 fn core_left<R: Threads + Wait + Sync>(
     rt: &R,
     alloc: Global,
@@ -63,7 +63,7 @@ fn core_left<R: Threads + Wait + Sync>(
 {
     let opened = AtomicU64::new(0);
     let config = config(1, USUAL_BODY);
-    match in_turn(rt, alloc, config, &[&[]], control, &opened) {
+    match by_threads(rt, alloc, config, &[&[]], control, &opened) {
         Ok(run) => Ok(run.core),
         Err(fault) => Err(fault),
     }
@@ -101,7 +101,7 @@ fn lock_drains(alloc: Global, locked: &mut Locked) -> Result<bool, NoMemory> {
     Ok(matches!(locked.fetch(0), Some(Answer::Draining)))
 }
 
-fn drains_in_turn<R: Threads + Wait + Sync>(
+fn drains_by_threads<R: Threads + Wait + Sync>(
     rt: &R,
     alloc: Global,
     control: &'static [Gives],
@@ -122,7 +122,7 @@ fn drains_around_a_lock<R: Threads + Wait + Sync>(
 #[test]
 fn control_lines(rt: HostRuntime) -> Result<(), Fail> {
     for (control, drains) in EXAMPLES {
-        assert!(rt; drains_in_turn(&rt, rt.alloc(), control)? == *drains);
+        assert!(rt; drains_by_threads(&rt, rt.alloc(), control)? == *drains);
         assert!(rt; drains_around_a_lock(&rt, rt.alloc(), control)? == *drains);
     }
     Ok(())

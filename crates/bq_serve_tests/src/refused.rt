@@ -1,7 +1,7 @@
 //! Runs that are refused: they open no door.
 
 use crate::clients::{Client, PUTS, ROOM, STILL, parts_of};
-use crate::runs::{SILENT, around_a_lock, config, in_turn, on_one_line};
+use crate::runs::{SILENT, around_a_lock, by_threads, config, on_one_line};
 use bq_serve::{DoorFault, RunFault};
 use std::alloc::Global;
 use std::sync::Wait;
@@ -29,13 +29,13 @@ fn opens_of(fault: Option<RunFault>) -> u64 {
 }
 
 // Only the journal asks for the room.
-fn fault_in_turn<R: Threads + Wait + Sync>(
+fn fault_by_threads<R: Threads + Wait + Sync>(
     rt: &R,
     alloc: Global,
     row: &Row,
     opened: &AtomicU64,
 ) -> Option<RunFault> {
-    in_turn(rt, alloc, config(row.0, row.1), CLIENTS, SILENT, opened).err()
+    by_threads(rt, alloc, config(row.0, row.1), CLIENTS, SILENT, opened).err()
 }
 
 fn fault_around_a_lock<R: Threads + Wait + Sync>(
@@ -62,7 +62,7 @@ fn refused_runs(rt: HostRuntime) {
     for row in ROWS {
         let opened = AtomicU64::new(0);
         let wanted = if row.2 == 0 { row.3 } else { None };
-        assert!(rt; fault_in_turn(&rt, alloc, row, &opened) == wanted);
+        assert!(rt; fault_by_threads(&rt, alloc, row, &opened) == wanted);
         assert!(rt; opened.load(Ordering::SeqCst) == opens_of(wanted));
         // A configuration isn't for one line either where it isn't for one seat.
         assert!(rt; fault_of_one(&rt, alloc, row) == wanted);

@@ -1,4 +1,4 @@
-//! Runs: of one line, of doors in turn, and of doors around a lock.
+//! Runs: of one line, of doors over links, and of doors around a lock.
 ghost use Rattle.std.specs.Prelude.{◌≡◌, IfOk};
 
 use crate::clients::{Client, STILL, clock};
@@ -52,8 +52,8 @@ pub fn on_one_line<R: Wait>(
     run_one(rt, alloc, config, line, clock)
 }
 
-/// A run in turn over doors at which these clients come, by a clock that stands still.
-pub fn in_turn<'c, R: Threads + Wait + Sync>(
+/// A run by threads over doors at which these clients come, by a clock that stands still.
+pub fn by_threads<'c, R: Threads + Wait + Sync>(
     rt: &R,
     alloc: Global,
     config: Config,
@@ -96,21 +96,21 @@ pub fn around_a_lock<'c, R: Threads + Wait + Sync>(
 /// How doors are served.
 #[derive(Clone, Copy)]
 pub enum Way {
-    InTurn,
+    ByThreads,
     AroundALock,
 }
 
-pub const WAYS: &[Way] = &[Way::InTurn, Way::AroundALock];
+pub const WAYS: &[Way] = &[Way::ByThreads, Way::AroundALock];
 
-// The doors of these clients, once they were served in turn.
-fn served_in_turn<'c, R: Threads + Wait + Sync>(
+// The doors of these clients, once they were served over links.
+fn served_by_threads<'c, R: Threads + Wait + Sync>(
     rt: &R,
     alloc: Global,
     config: Config,
     clients: &[&[Client]],
     opened: &'c AtomicU64,
 ) -> Result<Vec<CountedDoor<'c>, Global>, RunFault> {
-    match in_turn(rt, alloc, config, clients, SILENT, opened) {
+    match by_threads(rt, alloc, config, clients, SILENT, opened) {
         Ok(run) => Ok(run.doors),
         Err(fault) => Err(fault),
     }
@@ -140,7 +140,7 @@ pub fn served<'c, R: Threads + Wait + Abort + Sync>(
 ) -> Result<Vec<CountedDoor<'c>, Global>, Fail> {
     let config = config(clients.len().min(256) as u16, USUAL_BODY);
     match way {
-        Way::InTurn => Ok(served_in_turn(rt, alloc, config, clients, opened)?),
+        Way::ByThreads => Ok(served_by_threads(rt, alloc, config, clients, opened)?),
         Way::AroundALock => served_around_a_lock(rt, alloc, config, clients, opened),
     }
 }

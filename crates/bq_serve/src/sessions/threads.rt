@@ -79,9 +79,7 @@ pub fn serve_in_scope<
                 IfOk result (λ r. AreServed at posts.entry.max_job_size (last_first (map (λ p. p.end) posts.entry.seats.items)) r.ends.items r.doors.items) }
             ensures core { IfOk result (λ r. IsCoreOver C.given posts.entry.core.config posts.entry.core.end posts.entry.core.clock r.core_end r.core.machine r.clock) }
             ensures control { IfOk result (λ r. IsControlOver I.remaining posts.entry.control.end control r.control_end r.control) }
-        {
-            serve_all(scope, rt, alloc, posts, start, control)
-        },
+        { serve_all(scope, rt, alloc, posts, start, control) },
     )
 }
 
