@@ -24,6 +24,8 @@ struct CountedDoor<'c> {
 }
 
 impl<'c> Door for CountedDoor<'c> {
+    ghost use Rattle.std.proofs.Common.{refl};
+
     type Line = MemLine;
 
     ghost is_out = { λ d. ⟦<MemDoor as Door>⟧.is_out d.door };
@@ -31,6 +33,10 @@ impl<'c> Door for CountedDoor<'c> {
     ghost is_at_end = { λ d. ⟦<MemDoor as Door>⟧.is_at_end d.door };
 
     ghost lines_over = { λ d. ⟦<MemDoor as Door>⟧.lines_over d.door };
+
+    ghost same = { λ first last. ⟦<MemDoor as Door>⟧.same first.door last.door };
+
+    ghost same_self = { λ d. refl };
 
     fn open(&mut self) -> Result<Option<MemLine>, DoorFault> {
         self.opened.fetch_add(1, Ordering::SeqCst);
