@@ -14,6 +14,7 @@ pub mod KickLemmas
 pub mod LeavingLemmas
 pub mod LoopLemmas
 pub mod LossLemmas
+pub mod MovedLemmas
 pub mod NameLemmas
 pub mod NamedLemmas
 pub mod PauseLemmas

@@ -11,9 +11,10 @@ use Rattle.bq_job.specs.Machine.{Pause, TubeRecord, default_tube}
 use Rattle.bq_job.specs.NextDue.{dues_of_pause, earliest}
 use Rattle.bq_job.specs.Timers.{pause_after_timers}
 use Rattle.bq_job.specs.Tubes.{fresh_tube}
+use Rattle.bq_jobs.specs.declared.edit.Moved.{Moved}
 use Rattle.bq_core.specs.Crowds.{has_seats, no_crowd, recounted}
 use Rattle.bq_core.specs.Dues.{earlier_of_both}
-use Rattle.bq_core.specs.Tallies.{has_jobs, tally_of, tally_with, tally_without}
+use Rattle.bq_core.specs.Tallies.{has_jobs, tally_moved, tally_of, tally_with, tally_without}
 use Rattle.bq_core.specs.TubeEntries.{is_tube_by, tube_changed}
 use Rattle.bq_core.specs.declared.crowd.Crowd.{Crowd}
 use Rattle.bq_core.specs.declared.crowd.Moving.{Moving}
@@ -77,6 +78,10 @@ kept_with j t = record t { tally = tally_with j t.tally }
 
 abbrev pub kept_without : Job → KeptTube → KeptTube
 kept_without j t = record t { tally = tally_without j t.tally }
+
+-- with a job that stands otherwise
+abbrev pub kept_moved : Moved → KeptTube → KeptTube
+kept_moved m t = record t { tally = tally_moved m t.tally }
 
 -- with a share of a seat more, or without it
 abbrev pub kept_recounted : Moving → Share → KeptTube → KeptTube

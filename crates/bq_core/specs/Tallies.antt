@@ -1,14 +1,16 @@
 -- How many of the jobs are in each state.
-use Rattle.std.specs.Prelude.{ℕ, Bool, true, false, ◌≡◌, ◌-◌, ◌||◌, nat_lt, if◌then◌else◌, List, [], ◌∷◌, count_by, filter, map}
+use Rattle.std.specs.Prelude.{ℕ, Bool, true, false, ◌≡◌, ◌-◌, ◌&&◌, ◌||◌, nat_lt, if◌then◌else◌, List, [], ◌∷◌, count_by, filter, map}
 use Rattle.std.specs.List.{insert, prefix_len}
 use Rattle.bq_job.specs.declared.job.Job.{Job}
-use Rattle.bq_job.specs.Changes.{is_ready}
+use Rattle.bq_job.specs.Changes.{is_ready, is_ready_state}
 use Rattle.bq_job.specs.JobStates.{is_buried, is_delayed, is_reserved}
 use Rattle.bq_job.specs.Limits.{raised}
 use Rattle.bq_job.specs.Machine.{TubeRecord}
 use Rattle.bq_job.specs.Statistics.{is_urgent}
 use Rattle.bq_job.specs.TubeName.{is_same_name}
 use Rattle.bq_job.specs.Tubes.{is_name_before}
+use Rattle.bq_jobs.specs.declared.edit.Moved.{Moved}
+use Rattle.bq_jobs.specs.declared.edit.Standing.{Standing}
 use Rattle.bq_core.specs.TubeEntries.{has_entry}
 use Rattle.bq_core.specs.declared.tally.Tally.{Tally}
 
@@ -30,6 +32,30 @@ count_with false n = n
 abbrev pub count_without : Bool → ℕ → ℕ
 count_without true n = n - 1
 count_without false n = n
+
+-- the counts with those of a job that stands so
+abbrev pub tally_entered : Standing → Tally → Tally
+tally_entered at t = record {
+  urgent = count_with (is_ready_state at.state && nat_lt at.pri 1024) t.urgent;
+  ready = count_with (is_ready_state at.state) t.ready;
+  reserved = count_with (is_reserved at.state) t.reserved;
+  delayed = count_with (is_delayed at.state) t.delayed;
+  buried = count_with (is_buried at.state) t.buried;
+}
+
+-- the counts without those of a job that stood so
+abbrev pub tally_left : Standing → Tally → Tally
+tally_left at t = record {
+  urgent = count_without (is_ready_state at.state && nat_lt at.pri 1024) t.urgent;
+  ready = count_without (is_ready_state at.state) t.ready;
+  reserved = count_without (is_reserved at.state) t.reserved;
+  delayed = count_without (is_delayed at.state) t.delayed;
+  buried = count_without (is_buried at.state) t.buried;
+}
+
+-- the counts once a job that stood so stands otherwise
+abbrev pub tally_moved : Moved → Tally → Tally
+tally_moved m t = tally_entered m.to (tally_left m.from t)
 
 -- the counts with those of a job
 abbrev pub tally_with : Job → Tally → Tally

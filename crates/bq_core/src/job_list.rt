@@ -16,7 +16,7 @@ ghost use Rattle.bq_core.specs.JobChanges.{changed, is_passed_by, passes, ttr_he
 ghost use Rattle.bq_core.specs.JobKinds.{is_before_of, is_of};
 
 use bq_job::{Body, Job, JobId, JobState, Moment, NoMemory, Pri, Seat, TubeName};
-use bq_jobs::Jobs;
+use bq_jobs::{JobEdit, Jobs};
 
 /// What happens to a job.
 #[derive(Clone, Copy)]
@@ -172,6 +172,14 @@ pub(crate) fn change(job: &mut Job, change: &JobChange)
         JobChange::Bury(number, pri) => bury(job, number, pri),
         JobChange::Touch(seat, deadline) => job.state = JobState::Reserved(seat, deadline),
         JobChange::Kick => kick(job),
+    }
+}
+
+impl JobEdit for JobChange {
+    ghost edited = { changed };
+
+    fn edit(&self, job: &mut Job) {
+        change(job, self);
     }
 }
 

@@ -1,6 +1,6 @@
-ghost use Rattle.std.specs.Prelude.{◌≡◌, ◌<◌, ◌≤◌, ◌++◌, ◌∷◌, [], OnErr, Some, None, true, false, length, map, max, filter, not, if◌then◌else◌, IfSome, IfOk};
+ghost use Rattle.std.specs.Prelude.{◌≡◌, ◌&&◌, nat_lt, ◌<◌, ◌≤◌, ◌++◌, ◌∷◌, [], OnErr, Some, None, true, false, length, map, max, filter, not, if◌then◌else◌, IfSome, IfOk};
 ghost use Rattle.std.specs.List.{list_any};
-ghost use Rattle.bq_job.specs.Changes.{is_held_by, job_with, seat_with, with_job, with_seat};
+ghost use Rattle.bq_job.specs.Changes.{is_held_by, is_ready_state, job_with, seat_with, with_job, with_seat};
 ghost use Rattle.bq_job.specs.Machine.{SeatRecord, empty_seat, new_machine, numbers};
 ghost use Rattle.bq_job.specs.Timers.{at_moment};
 ghost use Rattle.bq_job.specs.TubeCommands.{watching};
@@ -9,14 +9,14 @@ ghost use Rattle.bq_job.specs.TubeOrder.{tubes};
 ghost use Rattle.bq_job.specs.Tubes.{forgetting, watches, with_tube};
 ghost use Rattle.bq_jobs.specs.Kept.{ComparesAtMost, with_added, without};
 ghost use Rattle.bq_core.specs.Asking.{Asks};
-ghost use Rattle.bq_core.specs.Crowds.{may_wait};
+ghost use Rattle.bq_core.specs.Crowds.{crowd_at, may_wait};
 ghost use Rattle.bq_core.specs.JobChanges.{changed};
 ghost use Rattle.bq_core.specs.KeptTubes.{first_tubes};
-ghost use Rattle.bq_core.specs.SeatChanges.{seat_changed, has_tube_of};
+ghost use Rattle.bq_core.specs.SeatChanges.{AreNumbered, seat_changed, has_tube_of};
 ghost use Rattle.bq_core.specs.State.{machine_of, IsSound, OnlyCompares};
 ghost use Rattle.bq_core.specs.Texts.{names_of};
 ghost use Rattle.bq_core.specs.TubeEntries.{has_entry, is_tube_of, tube_changed};
-ghost use Rattle.bq_core.specs.Warnings.{may_hold};
+ghost use Rattle.bq_core.specs.Warnings.{has_waiting_holder, is_waiting_there, may_hold};
 
 use crate::clients::Clients;
 use crate::config::Config;
@@ -33,7 +33,7 @@ use crate::tube_entry::TubeChange;
 use crate::tubes::Tubes;
 use crate::{first_end, job_list, leaving, loss, seat_list, shares, stir};
 use bq_job::{Body, Job, JobId, JobState, Moment, NoMemory, Seat, TubeName};
-use bq_jobs::{Jobs, laws};
+use bq_jobs::{Jobs, Moved};
 use std::alloc::Global;
 
 /// What a core holds.
@@ -69,14 +69,13 @@ pub(crate) struct State {
 }
 
 impl State {
-    ghost use Rattle.std.specs.Prelude.{◌&&◌, is_some};
+    ghost use Rattle.std.specs.Prelude.{is_some};
     ghost use Rattle.std.specs.Option.{option_map};
     ghost use Rattle.bq_job.specs.declared.job.Job.{Job};
     ghost use Rattle.bq_job.specs.Changes.{first_of, is_ready, is_waiting};
     ghost use Rattle.bq_core.specs.JobKinds.{is_before_of, is_of};
     ghost use Rattle.bq_core.specs.Acting.{is_asking, is_connected, is_free};
     ghost use Rattle.bq_core.specs.Crowds.{is_waiter};
-    ghost use Rattle.bq_core.specs.Warnings.{has_waiting_holder, is_waiting_there};
     ghost use Rattle.bq_core.specs.JobChanges.{is_passed_by, passes, ttr_held_by};
 
     /// Whether there is a seat of this number, and nobody is connected there.
@@ -186,21 +185,29 @@ impl State {
         requires { IsSound self.now }
         ensures { result ≡ has_waiting_holder job.now.state self.now.seats.items }
     {
-        match job.state {
-            JobState::Reserved(seat, _) => self.is_waiting(seat),
-            _ => false,
-        }
+        holder_waits(self.seats.as_slice(), job.state)
     }
+}
 
-    // Whether the client at the seat, if there is one, waits.
-    fn is_waiting(&self, seat: Seat) -> bool
-        requires { IsSound self.now }
-        ensures { result ≡ is_waiting_there (seat_with seat self.now.seats.items) }
-    {
-        match seat_list::find(self.seats.as_slice(), seat) {
-            None => false,
-            Some(place) => place.is_waiting(),
-        }
+// Whether the client waits that holds a job in this state, if one does.
+fn holder_waits(seats: &[Place], at: JobState) -> bool
+    requires { AreNumbered seats.now }
+    ensures { result ≡ has_waiting_holder at seats.now }
+{
+    match at {
+        JobState::Reserved(seat, _) => is_waiting_at(seats, seat),
+        _ => false,
+    }
+}
+
+// Whether the client at the seat, if there is one, waits.
+fn is_waiting_at(seats: &[Place], seat: Seat) -> bool
+    requires { AreNumbered seats.now }
+    ensures { result ≡ is_waiting_there (seat_with seat seats.now) }
+{
+    match seat_list::find(seats, seat) {
+        None => false,
+        Some(place) => place.is_waiting(),
     }
 }
 
@@ -272,6 +279,14 @@ pub(crate) fn take(state: &mut State, id: JobId) -> Option<Job>
     Some(job)
 }
 
+// Whether the job is ready now, and somebody waits at its tube, by the counts that are kept.
+fn counts_waiter_of(state: &State, moved: &Moved) -> bool
+    ensures { result ≡ (is_ready_state moved.now.to.state && (nat_lt 0 state.now.clients.waiting && nat_lt 0 (crowd_at moved.now.tube state.now.tubes.entries state.now.tubes.crowds).waiting)) }
+{
+    matches!(moved.to.state, JobState::Ready)
+        && (state.clients.waiting > 0 && state.tubes.crowd_of(&moved.tube).waiting > 0)
+}
+
 /// Changes the job of this id, if there is one.
 pub(crate) fn change_job(state: &mut State, id: JobId, what: &JobChange)
     requires { IsSound state.old }
@@ -280,11 +295,18 @@ pub(crate) fn change_job(state: &mut State, id: JobId, what: &JobChange)
     ensures sound { IsSound state.new }
     ensures config { state.new.config ≡ state.old.config }
 {
-    laws::changes_by_id();
-    if let Some(mut job) = take(state, id) {
-        job_list::change(&mut job, what);
-        add(state, job);
-    }
+    let Some(moved) = state.jobs.change(id, what) else {
+        return;
+    };
+    let is_wanted = counts_waiter_of(state, &moved);
+    let holds = holder_waits(state.seats.as_slice(), moved.to.state);
+    stir::stir_tube_if(&mut state.stir, &moved.tube, is_wanted);
+    warn_if(&mut state.warns, holds);
+    state.tally.leave(moved.from);
+    state.tally.enter(moved.to);
+    state.tubes.move_job(&moved);
+    // So many jobs there can be, and no count comes to its end.
+    let _jobs = state.jobs.len();
 }
 
 /// Changes the seat of this number. A tube that it uses then has an entry already.

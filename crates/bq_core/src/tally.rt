@@ -1,7 +1,8 @@
 ghost use Rattle.std.specs.Prelude.{◌≡◌};
-ghost use Rattle.bq_core.specs.Tallies.{has_jobs, tally_with, tally_without};
+ghost use Rattle.bq_core.specs.Tallies.{has_jobs, tally_entered, tally_left, tally_with, tally_without};
 
 use bq_job::{Job, JobState, Pri};
+use bq_jobs::Standing;
 
 /// Ready jobs with a priority below this are urgent.
 const URGENT_BELOW: Pri = 1024;
@@ -29,10 +30,24 @@ impl Tally {
     pub(crate) fn add(&mut self, job: &Job)
         ensures { self.new ≡ tally_with job.now self.old }
     {
-        match job.state {
+        self.enter(Standing::of(job));
+    }
+
+    /// Counts a job no longer.
+    pub(crate) fn remove(&mut self, job: &Job)
+        ensures { self.new ≡ tally_without job.now self.old }
+    {
+        self.leave(Standing::of(job));
+    }
+
+    /// A job stands so.
+    pub(crate) fn enter(&mut self, at: Standing)
+        ensures { self.new ≡ tally_entered at self.old }
+    {
+        match at.state {
             JobState::Ready => {
                 self.ready = self.ready.saturating_add(1);
-                if job.pri < URGENT_BELOW {
+                if at.pri < URGENT_BELOW {
                     self.urgent = self.urgent.saturating_add(1);
                 }
             }
@@ -42,14 +57,14 @@ impl Tally {
         }
     }
 
-    /// Counts a job no longer.
-    pub(crate) fn remove(&mut self, job: &Job)
-        ensures { self.new ≡ tally_without job.now self.old }
+    /// A job stands so no longer.
+    pub(crate) fn leave(&mut self, at: Standing)
+        ensures { self.new ≡ tally_left at self.old }
     {
-        match job.state {
+        match at.state {
             JobState::Ready => {
                 self.ready = self.ready.saturating_sub(1);
-                if job.pri < URGENT_BELOW {
+                if at.pri < URGENT_BELOW {
                     self.urgent = self.urgent.saturating_sub(1);
                 }
             }

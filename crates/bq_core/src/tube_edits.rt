@@ -1,12 +1,13 @@
 //! The entry of a name is changed in its place, if there is one.
 ghost use Rattle.std.specs.Prelude.{◌≡◌};
 ghost use Rattle.std.specs.Map.{lookup};
-ghost use Rattle.bq_core.specs.KeptTubes.{edited, is_named_at, kept_changed, kept_recounted, kept_with, kept_without};
+ghost use Rattle.bq_core.specs.KeptTubes.{edited, is_named_at, kept_changed, kept_moved, kept_recounted, kept_with, kept_without};
 
 use crate::crowd::{Moving, Share};
 use crate::tube_entry::{TubeChange, TubeEntry};
 use bq_index::Catalog;
 use bq_job::{Job, TubeName};
+use bq_jobs::Moved;
 
 /// Changes the tube of this name.
 pub(crate) fn change(catalog: &mut Catalog<TubeName, TubeEntry>, name: &TubeName, what: TubeChange)
@@ -32,6 +33,15 @@ pub(crate) fn remove_job(catalog: &mut Catalog<TubeName, TubeEntry>, job: &Job)
 {
     if let Some(entry) = catalog.get_mut(&job.tube) {
         entry.remove_job(job);
+    }
+}
+
+/// A job stands otherwise in its tube.
+pub(crate) fn move_job(catalog: &mut Catalog<TubeName, TubeEntry>, moved: &Moved)
+    ensures { catalog.new.entries ≡ edited moved.now.tube (kept_moved moved.now) (lookup (is_named_at moved.now.tube) catalog.old.entries) catalog.old.entries }
+{
+    if let Some(entry) = catalog.get_mut(&moved.tube) {
+        entry.move_job(moved);
     }
 }
 

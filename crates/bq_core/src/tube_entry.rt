@@ -2,13 +2,14 @@
 ghost use Rattle.std.specs.Prelude.{◌≡◌, [], is_some};
 ghost use Rattle.bq_job.specs.NextDue.{dues_of_pause, earliest};
 ghost use Rattle.bq_job.specs.TubeCommands.{with_pause};
-ghost use Rattle.bq_core.specs.KeptTubes.{ended, fresh_entry, kept_after, kept_changed, kept_recounted, record_of};
+ghost use Rattle.bq_core.specs.KeptTubes.{ended, fresh_entry, kept_after, kept_changed, kept_moved, kept_recounted, record_of};
 ghost use Rattle.bq_core.specs.Tallies.{tally_with, tally_without};
 
 use crate::crowd::{Crowd, Moving, Share};
 use crate::job_list::later;
 use crate::tally::Tally;
 use bq_job::{Job, Moment};
+use bq_jobs::Moved;
 use std::marker::Model;
 
 /// A pause of a tube.
@@ -181,6 +182,14 @@ impl TubeEntry {
         ensures { self.new ≡ record self.old { tally = tally_without job.now self.old.tally } }
     {
         self.tally.remove(job);
+    }
+
+    /// A job of the tube stands otherwise.
+    pub(crate) fn move_job(&mut self, moved: &Moved)
+        ensures { self.new ≡ kept_moved moved.now self.old }
+    {
+        self.tally.leave(moved.from);
+        self.tally.enter(moved.to);
     }
 
     /// Counts a share of a seat, or counts it no longer.

@@ -9,7 +9,7 @@ ghost use Rattle.bq_job.specs.Timers.{tube_after_timers};
 ghost use Rattle.bq_core.specs.Crowds.{crowd_at, crowds_at, crowds_of, crowds_provided, has_seats, recounted};
 ghost use Rattle.bq_core.specs.Dues.{first_pause_end, pause_end_after, pause_end_left};
 ghost use Rattle.bq_core.specs.Losses.{AreAlive};
-ghost use Rattle.bq_core.specs.Tallies.{has_jobs, tallies_of, tallies_provided, tallies_with, tallies_without, tally_at};
+ghost use Rattle.bq_core.specs.Tallies.{has_jobs, tallies_at, tallies_of, tallies_provided, tallies_with, tallies_without, tally_at, tally_moved};
 ghost use Rattle.bq_core.specs.Texts.{names_of};
 ghost use Rattle.bq_core.specs.TubeEntries.{AreInOrder, has_entry, is_tube_by, is_tube_of, names_alive, provided, tube_changed_at};
 
@@ -23,6 +23,7 @@ use crate::watch_list::default_tube;
 use crate::{forgetting, room, tube_edits};
 use bq_index::Catalog;
 use bq_job::{Job, Moment, NoMemory, TubeName};
+use bq_jobs::Moved;
 use std::alloc::Global;
 use std::marker::Model;
 
@@ -131,6 +132,15 @@ impl Tubes {
         ensures crowds { self.new.crowds ≡ self.old.crowds }
     {
         tube_edits::remove_job(&mut self.kept, job);
+    }
+
+    /// A job stands otherwise in its tube.
+    pub(crate) fn move_job(&mut self, moved: &Moved)
+        ensures entries { self.new.entries ≡ self.old.entries }
+        ensures tallies { self.new.tallies ≡ tallies_at moved.now.tube (tally_moved moved.now) self.old.entries self.old.tallies }
+        ensures crowds { self.new.crowds ≡ self.old.crowds }
+    {
+        tube_edits::move_job(&mut self.kept, moved);
     }
 
     /// The counts of the tube of this name; none where it has no entry.

@@ -64,13 +64,13 @@ module _ (id : ℕ) (f : Job → Job) (keeps : KeepsId f) (stays : KeepsTube f) 
   pub entered_lease : in_leases_at m.to.state id ≡ lease_place (f job_then)
   entered_lease = ap (λ (n : Moved). in_leases_at n.to.state id) told_is ∙ ap (in_leases_at (f job_then).state) (sym id_after)
 
--- where nothing is told, nothing is changed
+-- where nothing is told, there is no job
+pub nothing_told_of : (f : Job → Job) (o : Option Job) → option_map (moved_by f) o ≡ None → o ≡ None
+nothing_told_of f None e = refl
+nothing_told_of f (Some j) e = absurd cc
+
 pub nothing_told : (id : ℕ) (f : Job → Job) (es : List (ℕ × Job)) → option_map (moved_by f) (entry_at id es) ≡ None → entry_at id es ≡ None
-nothing_told id f es e = mapped_none (entry_at id es) e
-  where
-    mapped_none : (o : Option Job) → option_map (moved_by f) o ≡ None → o ≡ None
-    mapped_none None e = refl
-    mapped_none (Some j) e = absurd cc
+nothing_told id f es e = nothing_told_of f (entry_at id es) e
 
 none_changed_in : (id : ℕ) (f : Job → Job) (jobs : List Job) → job_with id jobs ≡ None → with_changed id f jobs ≡ jobs
 none_changed_in id f [] h = refl

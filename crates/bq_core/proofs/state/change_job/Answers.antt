@@ -1,41 +1,64 @@
-use Rattle.std.proofs.Common.{◌≡◌, ◌∙◌, arith, ap, length, sym, Some, None}
+use Rattle.std.proofs.Common.{◌∙◌, ◌&&◌, ◌≤◌, ◌==◌, if◌then◌else◌, ap, sym, arith, length}
+use Rattle.bq_job.specs.Changes.{is_ready_state, job_with}
+use Rattle.bq_job.proofs.KeptLemmas.{ids_of_map}
 use Rattle.std.proofs.lemmas.List.{length-map}
-use Rattle.bq_job.specs.Changes.{job_with}
-use Rattle.bq_job.specs.Machine.{Machine}
-use Rattle.bq_jobs.specs.Kept.{with_added, without}
+use Rattle.bq_jobs.proofs.Told.{nothing_told_of, told_of}
+use Rattle.bq_core.specs.Dues.{first_pause_end}
 use Rattle.bq_core.specs.JobChanges.{changed}
-use Rattle.bq_core.specs.State.{machine_of}
-use Rattle.bq_core.proofs.AskLemmas.{asks_more, moved}
-use Rattle.bq_core.proofs.StateLemmas.{id_kept, no_job_changed, none_out}
+use Rattle.bq_core.specs.Tallies.{tallies_of, tally_entered, tally_of}
+use Rattle.bq_core.specs.TubeEntries.{counted}
+use Rattle.bq_core.specs.Warnings.{has_waiting_holder}
+use Rattle.bq_core.proofs.MovedLemmas.{alive_changed, counted_moved, entries_of_changed, known_moved, one_id, one_tube, tube_kept, waiters_counted, warned_moved}
+use Rattle.bq_core.proofs.StateLemmas.{id_kept, no_job_changed}
 use Rattle.bq_core.proofs.state.change_job.Goals as goal
 
-pub returns-in-Some-clause-after : goal.returns-in-Some-clause-after
-returns-in-Some-clause-after c =
-    let m = machine_of c.args.state.now in
+pub returns-in_default-clause-sound : goal.returns-in_default-clause-sound
+returns-in_default-clause-sound c =
+    let st = c.args.state.now in
+    let none = nothing_told_of (changed c.args.what.now) (job_with c.args.id st.jobs.jobs) (sym c.in_default.ensures.moved) in
+    let same = c.in_default.ensures.jobs ∙ no_job_changed c.args.id (changed c.args.what.now) st.jobs.jobs none in
+    record {
+      entries = rw same c.requires.entries;
+      numbered = c.requires.numbered;
+      next = c.requires.next;
+      ids = rw same c.requires.ids;
+      counts = rw same c.requires.counts;
+      clients = c.requires.clients;
+      crowds = c.requires.crowds;
+      alive = rw same c.requires.alive;
+      stirs = rw same c.requires.stirs;
+      warnings = rw same c.requires.warnings;
+      timeouts = c.requires.timeouts;
+      pauses = c.requires.pauses;
+    }
+
+pub returns-clause-sound : goal.returns-clause-sound
+returns-clause-sound c =
+    let st = c.args.state.now in
+    let was = c.requires in
+    let id = c.args.id in
     let f = changed c.args.what.now in
-    let found : job_with c.args.id m.jobs ≡ Some c.in-Some.job = sym c.in-Some.ensures.job in
-    c.add.ensures.after
-    ∙ ap (λ (x : Machine). record x { jobs = with_added c.change.new.job x.jobs }) c.in-Some.ensures.after
-    ∙ ap (λ j. record m { jobs = with_added j (without c.args.id m.jobs) }) c.change.ensures
-    ∙ c.changes_by_id.ensures m 1 m.next_id c.args.id f c.in-Some.job c.requires.ids found (id_kept c.args.what.now c.in-Some.job ∙ c.in-Some.ensures.id)
-
-pub returns-in_default-clause-after : goal.returns-in_default-clause-after
-returns-in_default-clause-after c =
-    let m = machine_of c.args.state.now in
-    let none : job_with c.args.id m.jobs ≡ None = sym c.in_default.ensures.job in
-    c.in_default.ensures.after
-    ∙ ap (λ jobs. record m { jobs = jobs }) (none_out c.args.id m.jobs none ∙ sym (no_job_changed c.args.id (changed c.args.what.now) m.jobs none))
-
-pub returns-in-Some-clause-asks : goal.returns-in-Some-clause-asks
-returns-in-Some-clause-asks c =
-    moved c.args.state.now.jobs c.take.new.state.jobs c.add.new.state.jobs c.args.id (ap (λ (x : Machine). x.jobs) c.in-Some.ensures.after)
-    (ap (λ (x : Machine). length x.jobs) (returns-in-Some-clause-after c) ∙ length-map (machine_of c.args.state.now).jobs _)
-    c.in-Some.ensures.asks c.add.ensures.asks
-
-pub returns-in_default-clause-asks : goal.returns-in_default-clause-asks
-returns-in_default-clause-asks c =
-    asks_more 8 (omega arith) (record {
-      many = ap (λ (x : Machine). length x.jobs) (returns-in_default-clause-after c) ∙ length-map (machine_of c.args.state.now).jobs _;
-      stays = c.in_default.ensures.asks.0;
-      rise = c.in_default.ensures.asks.1;
-    })
+    let stays = one_tube id f (tube_kept c.args.what.now) in
+    let m = c.in-Some.moved in
+    let of = told_of f (job_with id st.jobs.jobs) m (sym c.in-Some.ensures.moved) in
+    let many = c.len-jobs.ensures.len ∙ ap length c.in-Some.ensures.jobs ∙ length-map st.jobs.jobs _ in
+    let fits : length st.jobs.jobs ≤ 18446744073709551615 = omega (arith, many) in
+    let wanted = c.counts_waiter_of-is_wanted.ensures ∙ ap (λ b. is_ready_state m.to.state && b) (waiters_counted m.tube st.clients st.tubes.crowds st.seats.items st.tubes.entries was.entries.of_seats was.crowds was.clients) in
+    let made = counted_moved 1 st.next_id id f (id_kept c.args.what.now) (tube_kept c.args.what.now) of.job m of.is st.tally st.tubes.tallies st.jobs.jobs st.tubes.entries was.ids of.there was.entries.order fits was.counts in
+    record {
+      entries = rw (c.in-Some.ensures.jobs, c.move_job.ensures.entries) (entries_of_changed (λ k. if k.id == id then f k else k) stays st.jobs.jobs st.seats.items st.tubes.entries was.entries);
+      numbered = was.numbered;
+      next = was.next;
+      ids = rw c.in-Some.ensures.jobs (ids_of_map (λ k. if k.id == id then f k else k) 1 st.next_id st.jobs.jobs (one_id id f (id_kept c.args.what.now)) was.ids);
+      counts = record {
+        whole = c.enter.ensures ∙ ap (tally_entered m.to) c.leave.ensures ∙ made.whole ∙ ap tally_of (sym c.in-Some.ensures.jobs);
+        each = c.move_job.ensures.tallies ∙ made.each ∙ (λ i. tallies_of (sym c.in-Some.ensures.jobs i) (sym c.move_job.ensures.entries i));
+      };
+      clients = was.clients;
+      crowds = rw (c.move_job.ensures.crowds, c.move_job.ensures.entries) was.crowds;
+      alive = rw (c.in-Some.ensures.jobs, c.move_job.ensures.entries) (alive_changed (λ k. if k.id == id then f k else k) stays st.loss st.jobs.jobs st.seats.items st.tubes.entries was.alive);
+      stirs = rw (c.stir_tube_if.ensures, c.in-Some.ensures.jobs, c.move_job.ensures.entries) (known_moved 1 st.next_id id f (id_kept c.args.what.now) (tube_kept c.args.what.now) of.job m of.is st.jobs.jobs was.ids of.there st.stir st.seats.items (counted st.tubes.entries) c.counts_waiter_of-is_wanted.result wanted was.stirs);
+      warnings = rw (c.warn_if.ensures, c.in-Some.ensures.jobs) (warned_moved 1 st.next_id id f (id_kept c.args.what.now) (tube_kept c.args.what.now) of.job m of.is st.jobs.jobs was.ids of.there st.warns st.seats.items c.holder_waits-holds.result was.numbered (c.holder_waits-holds.ensures ∙ ap (has_waiting_holder m.to.state) c.as_slice.ensures.value) was.warnings);
+      timeouts = was.timeouts;
+      pauses = was.pauses ∙ ap first_pause_end (sym c.move_job.ensures.entries);
+    }
