@@ -87,10 +87,10 @@ module _ (next : ℕ) (jobs : List Job) (ids : AreIdsWithin 1 jobs next) where
 
   module _ (entries : List TubeRecord) (paused : List ℕ → Bool) (paused_is : (name : List ℕ) → is_paused_among entries name ≡ paused name) where
     -- what a tube offers
-    abbrev offers : List ℕ → Job → Bool
+    abbrev pub offers : List ℕ → Job → Bool
     offers name j = is_ready_in name j && not (paused name)
 
-    offered_is : (name : List ℕ) → offered jobs entries name ≡ best_of (offers name)
+    pub offered_is : (name : List ℕ) → offered jobs entries name ≡ best_of (offers name)
     offered_is name = ap (λ b. if b then None else best_of (is_ready_in name)) (paused_is name) ∙ go (paused name) refl
       where
         with_true : (b : Bool) → (b && true) ≡ b

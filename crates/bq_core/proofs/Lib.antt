@@ -18,6 +18,7 @@ pub mod MovedLemmas
 pub mod NameLemmas
 pub mod NamedLemmas
 pub mod PauseLemmas
+pub mod SearchLemmas
 pub mod SeatPlaces
 pub mod StateLemmas
 pub mod StepCosts

@@ -74,7 +74,7 @@ wanted_parts true true false d h = absurd cc
 wanted_parts true false n d h = absurd cc
 wanted_parts false r n d h = absurd cc
 
-parts_of : (tubes : List TubeRecord) (j : Job) (s : SeatRecord) → is_wanted_by tubes j s ≡ true → (is_waiting s ≡ true) × (is_ready j ≡ true) × (watches j.tube s ≡ true) × (is_paused_by tubes j.tube ≡ false)
+pub parts_of : (tubes : List TubeRecord) (j : Job) (s : SeatRecord) → is_wanted_by tubes j s ≡ true → (is_waiting s ≡ true) × (is_ready j ≡ true) × (watches j.tube s ≡ true) × (is_paused_by tubes j.tube ≡ false)
 parts_of tubes j s h = wanted_parts (is_waiting s) (is_ready j) (watches j.tube s) (is_paused_by tubes j.tube) h
 
 -- a pause that goes on leaves no job to be had

@@ -35,7 +35,7 @@ now_known : (warns more : Bool) → more ≡ true → (if more then true else wa
 now_known warns true h = refl
 now_known warns false h = absurd cc
 
-none_found : (number : ℕ) (seats : List SeatRecord) → seat_with number seats ≡ None → All (λ t. (t.number == number) ≡ false) seats
+pub none_found : (number : ℕ) (seats : List SeatRecord) → seat_with number seats ≡ None → All (λ t. (t.number == number) ≡ false) seats
 none_found number [] h = tt
 none_found number (t ∷ seats) h = go (t.number == number) refl h (none_found number seats)
   where

@@ -1,14 +1,16 @@
 -- Of what waiting clients can have, the job that is handed out first, tube by tube.
-use Rattle.std.specs.Prelude.{ℕ, Bool, ◌&&◌, if◌then◌else◌, List, Option, Some, None, fold, is_some}
+use Rattle.std.specs.Prelude.{ℕ, Bool, ◌&&◌, if◌then◌else◌, List, [], ◌∷◌, Option, Some, None, fold, is_some, nat_lt}
 use Rattle.std.specs.Option.{option_map}
 use Rattle.std.specs.List.{list_any}
 use Rattle.bq_job.specs.declared.job.Job.{Job}
 use Rattle.bq_job.specs.Changes.{first_of, is_pair_before, is_waiting}
-use Rattle.bq_job.specs.Dispatch.{is_job_before}
-use Rattle.bq_job.specs.Machine.{SeatRecord, TubeRecord}
+use Rattle.bq_job.specs.Dispatch.{is_job_before, next_job}
+use Rattle.bq_job.specs.Machine.{Machine, SeatRecord, TubeRecord}
 use Rattle.bq_job.specs.TubeCommands.{is_ready_in}
 use Rattle.bq_job.specs.TubeName.{is_same_name}
 use Rattle.bq_jobs.specs.Kept.{ranked}
+use Rattle.bq_core.specs.Crowds.{crowd_at}
+use Rattle.bq_core.specs.KeptTubes.{KeptTubes}
 
 abbrev pub earlier_of_ranks : ℕ × ℕ → ℕ × ℕ → Option (ℕ × ℕ)
 earlier_of_ranks best other = if is_pair_before other.0 other.1 best.0 best.1 then Some other else Some best
@@ -38,3 +40,16 @@ with_offers jobs entries best s = if is_waiting s then fold (with_offer jobs ent
 -- a client waits at the tube
 abbrev pub waits_at : List ℕ → SeatRecord → Bool
 waits_at tube s = is_waiting s && list_any (is_same_name tube) s.watched
+
+-- the job that is handed out next, by its priority and its id
+abbrev pub next_rank : Machine → Option (ℕ × ℕ)
+next_rank m = option_map (ranked (λ j. j.pri)) (next_job m)
+
+-- this client alone, if there is one
+abbrev pub these : Option SeatRecord → List SeatRecord
+these None = []
+these (Some s) = s ∷ []
+
+-- a client is counted that waits at the tube
+abbrev pub is_waited_at : List ℕ → KeptTubes → Bool
+is_waited_at name tubes = nat_lt 0 (crowd_at name tubes.entries tubes.crowds).waiting

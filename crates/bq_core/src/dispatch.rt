@@ -1,17 +1,18 @@
 //! Ready jobs go to the clients that wait for them.
-ghost use Rattle.std.specs.Prelude.{◌≡◌, ◌<◌, ◌+◌, ◌++◌, ◌∷◌, [], None, Some, true, false, fold, is_some, length, IfSome, IfOk};
+ghost use Rattle.std.specs.Prelude.{◌≡◌, ◌<◌, ◌+◌, ◌++◌, ◌∷◌, [], None, Some, true, false, fold, if◌then◌else◌, is_some, length, IfSome, IfOk};
 ghost use Rattle.std.specs.List.{sum_by};
 ghost use Rattle.std.specs.Option.{option_map};
 ghost use Rattle.bq_job.specs.declared.answer.Answer.TheVariants as answers;
 ghost use Rattle.bq_job.specs.declared.job.Job.{Job};
-ghost use Rattle.bq_job.specs.Changes.{with_job, with_seat, without_wait};
+ghost use Rattle.bq_job.specs.Changes.{seat_with, with_job, with_seat, without_wait};
 ghost use Rattle.bq_job.specs.Computed.{waiting_count};
 ghost use Rattle.bq_job.specs.Dispatch.{DispatchTurn, next_job, next_seat, reserved_by};
 ghost use Rattle.bq_job.specs.Steps.{has_refused_share};
 ghost use Rattle.bq_core.specs.Asking.{Asks, AsksByTurn};
 ghost use Rattle.bq_core.specs.Cost.{waited, waited_entries};
 ghost use Rattle.bq_core.specs.HandOuts.{HandsOut};
-ghost use Rattle.bq_core.specs.Offers.{better_rank, offered, with_offer, with_offers};
+ghost use Rattle.bq_core.specs.Offers.{better_rank, is_waited_at, next_rank, offered, these, with_offer, with_offers};
+ghost use Rattle.bq_core.specs.SeatChanges.{AreNumbered};
 ghost use Rattle.bq_core.specs.State.{machine_of, IsSound, OnlyCompares};
 ghost use Rattle.bq_core.specs.Stirs.{is_nothing};
 ghost use Rattle.bq_core.specs.Turns.{Gives, HasRoom};
@@ -104,6 +105,53 @@ fn best_offer(jobs: &mut Jobs, tubes: &Tubes, seats: &[Place]) -> Option<Offer>
     best
 }
 
+// The most urgent ready job of the tube, unless it is paused or nobody waits at it.
+fn offer_to(jobs: &mut Jobs, tubes: &Tubes, tube: &TubeName) -> Option<Offer>
+    ensures offer { result ≡ (if is_waited_at tube.now tubes.now then offered jobs.old.jobs tubes.now.entries tube.now else None) }
+    ensures same { jobs.new ≡ record jobs.old { comparisons = jobs.new.comparisons } }
+    ensures asks { Asks (if is_waited_at tube.now tubes.now then 1 else 0) jobs.old jobs.new }
+{
+    if tubes.crowd_of(tube).waiting > 0 {
+        offer_of(jobs, tubes, tube)
+    } else {
+        None
+    }
+}
+
+// The best of the jobs that the client at this seat waits for, if there is one.
+fn best_of_client(jobs: &mut Jobs, tubes: &Tubes, seats: &[Place], seat: Seat) -> Option<Offer>
+    requires { AreNumbered seats.now }
+    ensures best { result ≡ fold (with_offers jobs.old.jobs tubes.now.entries) None (these (seat_with seat seats.now)) }
+    ensures same { jobs.new ≡ record jobs.old { comparisons = jobs.new.comparisons } }
+    ensures asks { Asks (sum_by waited_entries (these (seat_with seat seats.now))) jobs.old jobs.new }
+{
+    match seat_list::find(seats, seat) {
+        None => None,
+        Some(place) => best_for(jobs, tubes, place, None),
+    }
+}
+
+// The job that is handed out next. Only what may be had is looked at.
+fn next_offer(state: &mut State) -> Option<Offer>
+    requires { IsSound state.old }
+    ensures next { result ≡ next_rank (machine_of state.old) }
+    ensures same { OnlyCompares state.old state.new }
+    ensures asks { Asks (waited (machine_of state.old)) state.old.jobs state.new.jobs }
+    ensures sound { IsSound state.new }
+{
+    match &state.stir {
+        Stir::Nothing => None,
+        Stir::Tube(name) => offer_to(&mut state.jobs, &state.tubes, name),
+        Stir::Client(seat) => best_of_client(
+            &mut state.jobs,
+            &state.tubes,
+            state.seats.as_slice(),
+            *seat,
+        ),
+        Stir::Any => best_offer(&mut state.jobs, &state.tubes, state.seats.as_slice()),
+    }
+}
+
 // The id of the job that is handed out next.
 fn next_job(state: &mut State) -> Option<JobId>
     requires { IsSound state.old }
@@ -112,8 +160,7 @@ fn next_job(state: &mut State) -> Option<JobId>
     ensures asks { Asks (waited (machine_of state.old)) state.old.jobs state.new.jobs }
     ensures sound { IsSound state.new }
 {
-    let best = best_offer(&mut state.jobs, &state.tubes, state.seats.as_slice());
-    match best {
+    match next_offer(state) {
         None => None,
         Some((_, id)) => Some(id),
     }

@@ -1,0 +1,146 @@
+-- The next job, where it is known what may be had.
+use Rattle.std.proofs.Common.{◌≡◌, ◌≤◌, ◌==◌, ◌&&◌, ◌||◌, ℕ, Bool, true, false, not, List, Option, Some, None, [], ◌∷◌, length, refl, sym, ap, ◌∙◌, inl, inr, arith, subst, if◌then◌else◌}
+use Rattle.std.specs.Prelude.{option_map}
+use Rattle.std.specs.List.{AllByRecursion as All, Contains, list_any, sum_by}
+use Rattle.std.proofs.lemmas.Bool.{eqb-true, or_cases}
+use Rattle.std.proofs.lemmas.List.Sums.{sum_by-cons}
+use Rattle.bq_job.specs.declared.job.Job.{Job}
+use Rattle.bq_job.specs.Changes.{first_of, is_ready, is_waiting, seat_with}
+use Rattle.bq_job.specs.Dispatch.{is_job_before, is_waiting_for}
+use Rattle.bq_job.specs.Machine.{Machine, SeatRecord}
+use Rattle.bq_job.specs.TubeCommands.{is_ready_in}
+use Rattle.bq_job.specs.TubeName.{is_same_name}
+use Rattle.bq_job.specs.Tubes.{is_paused, watches}
+use Rattle.bq_job.proofs.ChoiceLemmas.{first_of_agrees}
+use Rattle.bq_job.proofs.KeptLemmas.{only_seat}
+use Rattle.bq_job.proofs.ListLemmas.{all_at, all_from_members, all_weaker, contains_head, contains_tail, found_passes, list_any_not, list_any_with}
+use Rattle.bq_jobs.specs.Kept.{ranked}
+use Rattle.bq_core.specs.Cost.{waited_entries}
+use Rattle.bq_core.specs.Crowds.{is_waiter}
+use Rattle.bq_core.specs.Offers.{next_rank, these}
+use Rattle.bq_core.specs.SeatChanges.{AreNumbered}
+use Rattle.bq_core.specs.Stirs.{AreKnown, IsKnown}
+use Rattle.bq_core.specs.declared.stir.Stir.TheVariants.{Tube, Client}
+use Rattle.bq_core.proofs.StirLemmas.{parts_of}
+use Rattle.bq_core.proofs.TubeLemmas.{same_name}
+use Rattle.bq_core.proofs.WarningLemmas.{none_found}
+
+-- the next one is the first of those that pass, where these are the ones that are waited for
+pub rank_agrees : (m : Machine) (p : Job → Bool) → All (λ j. list_any (is_waiting_for m j) m.seats ≡ p j) m.jobs → next_rank m ≡ option_map (ranked (λ j. j.pri)) (first_of p is_job_before m.jobs)
+rank_agrees m p same = ap (option_map (ranked (λ j. j.pri))) (first_of_agrees (λ j. list_any (is_waiting_for m j) m.seats) p is_job_before m.jobs same)
+
+-- of one client
+pub client_waits : (m : Machine) (seat : ℕ) (o : Option SeatRecord) → AreNumbered m.seats → seat_with seat m.seats ≡ o → AreKnown (Client seat) m.jobs m.seats m.tubes
+    → All (λ j. list_any (is_waiting_for m j) m.seats ≡ list_any (is_waiting_for m j) (these o)) m.jobs
+client_waits m seat None numbered found known =
+    all_weaker (λ j. All (IsKnown (Client seat) m.tubes j) m.seats) (λ j. list_any (is_waiting_for m j) m.seats ≡ false) m.jobs
+    (λ j all. list_any_not (is_waiting_for m j) m.seats
+    (all_from_members (λ t. is_waiting_for m j t ≡ false) m.seats (λ t c. unwanted (is_waiting_for m j t) (t.number == seat) (all_at (IsKnown (Client seat) m.tubes j) m.seats t all c) (all_at (λ u. (u.number == seat) ≡ false) m.seats t (none_found seat m.seats found) c)))) known
+  where
+    unwanted : (b n : Bool) → (b ≡ true → n ≡ true) → n ≡ false → b ≡ false
+    unwanted false n k e = refl
+    unwanted true n k e = sym (k refl) ∙ e
+client_waits m seat (Some s) numbered found known =
+    all_weaker (λ j. All (IsKnown (Client seat) m.tubes j) m.seats) (λ j. list_any (is_waiting_for m j) m.seats ≡ (is_waiting_for m j s || false)) m.jobs (λ j all. go j all (is_waiting_for m j s) refl) known
+  where
+    only : All (λ t. t.number ≡ seat → t ≡ s) m.seats
+    only = only_seat 0 (length m.seats) seat m.seats s numbered found
+
+    here : Contains m.seats s
+    here = (found_passes (λ t. t.number == seat) m.seats s found).1
+
+    unwanted : (j : Job) → is_waiting_for m j s ≡ false → (t : SeatRecord) → (t.number ≡ seat → t ≡ s) → IsKnown (Client seat) m.tubes j t → (b : Bool) → is_waiting_for m j t ≡ b → b ≡ false
+    unwanted j none t same k false e = refl
+    unwanted j none t same k true e = sym e ∙ ap (is_waiting_for m j) (same (eqb-true t.number seat (k e))) ∙ none
+
+    go : (j : Job) → All (IsKnown (Client seat) m.tubes j) m.seats → (b : Bool) → is_waiting_for m j s ≡ b → list_any (is_waiting_for m j) m.seats ≡ (b || false)
+    go j all true e = list_any_with (is_waiting_for m j) m.seats s here e
+    go j all false e =
+        list_any_not (is_waiting_for m j) m.seats
+        (all_from_members (λ t. is_waiting_for m j t ≡ false) m.seats
+        (λ t c. unwanted j e t (all_at (λ u. u.number ≡ seat → u ≡ s) m.seats t only c) (all_at (IsKnown (Client seat) m.tubes j) m.seats t all c) (is_waiting_for m j t) refl))
+
+-- some client passes
+record Passes (p : SeatRecord → Bool) (seats : List SeatRecord) : Type 0 where
+  client : SeatRecord
+  here : Contains seats client
+  passes : p client ≡ true
+
+some_passes : (p : SeatRecord → Bool) (seats : List SeatRecord) → list_any p seats ≡ true → Passes p seats
+some_passes p [] h = absurd cc
+some_passes p (s ∷ seats) h = elim (or_cases (p s) (list_any p seats) h) [
+  | inl e ↦ record { client = s; here = contains_head s seats; passes = e }
+  | inr e ↦ let more = some_passes p seats e in record { client = more.client; here = contains_tail s seats more.client more.here; passes = more.passes }
+]
+
+-- of one tube
+pub tube_waits : (m : Machine) (name : List ℕ) (w : Bool) → list_any (is_waiter name) m.seats ≡ w → AreKnown (Tube name) m.jobs m.seats m.tubes
+    → All (λ j. list_any (is_waiting_for m j) m.seats ≡ (w && (is_ready_in name j && not (is_paused name m)))) m.jobs
+tube_waits m name w waits known =
+    all_weaker (λ j. All (IsKnown (Tube name) m.tubes j) m.seats) (λ j. list_any (is_waiting_for m j) m.seats ≡ (w && (is_ready_in name j && not (is_paused name m)))) m.jobs
+    (λ j all. go j all (w && (is_ready_in name j && not (is_paused name m))) refl) known
+  where
+    both : (a b : Bool) → (a && b) ≡ true → (a ≡ true) × (b ≡ true)
+    both true true h = (refl, refl)
+    both true false h = absurd cc
+    both false b h = absurd cc
+
+    together : (a b c d : Bool) → a ≡ true → b ≡ true → c ≡ true → d ≡ true → (a && (b && c && d)) ≡ true
+    together a b c d e f g h = rw (e, f, g, h) refl
+
+    wanted : (j : Job) → (w && (is_ready_in name j && not (is_paused name m))) ≡ true → list_any (is_waiting_for m j) m.seats ≡ true
+    wanted j h =
+        let first = both w (is_ready_in name j && not (is_paused name m)) h in
+        let second = both (is_ready_in name j) (not (is_paused name m)) first.1 in
+        let third = both (is_ready j) (is_same_name name j.tube) second.0 in
+        let is : name ≡ j.tube = same_name name j.tube third.1 in
+        let s = some_passes (is_waiter name) m.seats (waits ∙ first.0) in
+        let seated = both (is_waiting s.client) (watches name s.client) s.passes in
+        let watched : watches j.tube s.client ≡ true = subst (λ n. watches n s.client ≡ true) is seated.1 in
+        let free : not (is_paused j.tube m) ≡ true = subst (λ n. not (is_paused n m) ≡ true) is second.1 in
+        list_any_with (is_waiting_for m j) m.seats s.client s.here (together (is_waiting s.client) (is_ready j) (watches j.tube s.client) (not (is_paused j.tube m)) seated.0 third.0 watched free)
+
+    unwanted : (j : Job) → (w && (is_ready_in name j && not (is_paused name m))) ≡ false → (t : SeatRecord) → Contains m.seats t → IsKnown (Tube name) m.tubes j t → (b : Bool) → is_waiting_for m j t ≡ b → b ≡ false
+    unwanted j none t c k false e = refl
+    unwanted j none t c k true e =
+        let parts = parts_of m.tubes j t e in
+        let same = k e in
+        let is : name ≡ j.tube = same_name name j.tube same in
+        let watched : watches name t ≡ true = subst (λ n. watches n t ≡ true) (sym is) parts.2 in
+        let some : list_any (is_waiter name) m.seats ≡ true = list_any_with (is_waiter name) m.seats t c (rw (parts.0, watched) refl) in
+        let waited : w ≡ true = sym waits ∙ some in
+        let free : is_paused name m ≡ false = subst (λ n. is_paused n m ≡ false) (sym is) parts.3 in
+        let all : (w && (is_ready_in name j && not (is_paused name m))) ≡ true = rw (waited, parts.1, same, free) refl in
+        sym all ∙ none
+
+    go : (j : Job) → All (IsKnown (Tube name) m.tubes j) m.seats → (b : Bool) → (w && (is_ready_in name j && not (is_paused name m))) ≡ b → list_any (is_waiting_for m j) m.seats ≡ b
+    go j all true e = wanted j e
+    go j all false e =
+        list_any_not (is_waiting_for m j) m.seats
+        (all_from_members (λ t. is_waiting_for m j t ≡ false) m.seats (λ t c. unwanted j e t c (all_at (IsKnown (Tube name) m.tubes j) m.seats t all c) (is_waiting_for m j t) refl))
+
+-- the watch entries of one client are some of all
+entries_within : (f : SeatRecord → ℕ) (seats : List SeatRecord) → All (λ s. f s ≤ sum_by f seats) seats
+entries_within f [] = tt
+entries_within f (s ∷ seats) =
+    let total = sum_by-cons f s seats in
+    (omega (arith, total), all_weaker (λ t. f t ≤ sum_by f seats) (λ t. f t ≤ sum_by f (s ∷ seats)) seats (λ t h. omega (arith, total, h)) (entries_within f seats))
+
+pub client_entries : (seats : List SeatRecord) (seat : ℕ) (o : Option SeatRecord) → seat_with seat seats ≡ o → sum_by waited_entries (these o) ≤ sum_by waited_entries seats
+client_entries seats seat None found = omega arith
+client_entries seats seat (Some s) found =
+    let one = sum_by-cons waited_entries s [] in
+    let within = all_at (λ t. waited_entries t ≤ sum_by waited_entries seats) seats s (entries_within waited_entries seats) (found_passes (λ t. t.number == seat) seats s found).1 in
+    omega (arith, one, within)
+
+pub tube_entries : (seats : List SeatRecord) (name : List ℕ) → list_any (is_waiter name) seats ≡ true → 1 ≤ sum_by waited_entries seats
+tube_entries seats name h =
+    let s = some_passes (is_waiter name) seats h in
+    let within = all_at (λ t. waited_entries t ≤ sum_by waited_entries seats) seats s.client (entries_within waited_entries seats) s.here in
+    let some : 1 ≤ waited_entries s.client = one (is_waiting s.client) s.client.watched s.passes in
+    omega (arith, within, some)
+  where
+    one : (w : Bool) (names : List (List ℕ)) → (w && list_any (is_same_name name) names) ≡ true → 1 ≤ (if w then length names else 0)
+    one true [] h = absurd cc
+    one true (n ∷ names) h = omega arith
+    one false names h = absurd cc

@@ -1,0 +1,93 @@
+use Rattle.std.proofs.Common.{◌≡◌, ◌∙◌, ◌&&◌, ◌≤◌, ℕ, Bool, List, None, ap, arith, false, not, refl, subst, sym, true, if◌then◌else◌}
+use Rattle.std.specs.Prelude.{fold, nat_lt, option_map}
+use Rattle.std.specs.List.{list_any, sum_by}
+use Rattle.bq_job.specs.Changes.{seat_with}
+use Rattle.bq_job.specs.Dispatch.{is_job_before, is_waiting_for}
+use Rattle.bq_job.specs.TubeCommands.{is_ready_in}
+use Rattle.bq_job.specs.Tubes.{is_paused}
+use Rattle.bq_job.proofs.ChoiceLemmas.{first_of_none_passes}
+use Rattle.bq_job.proofs.ListLemmas.{all_always, list_any_not}
+use Rattle.bq_jobs.specs.Kept.{ranked}
+use Rattle.bq_core.specs.Cost.{waited_entries}
+use Rattle.bq_core.specs.Crowds.{is_waiter}
+use Rattle.bq_core.specs.Offers.{is_waited_at, next_rank, offered, these, with_offers}
+use Rattle.bq_core.specs.State.{IsSound, machine_of}
+use Rattle.bq_core.specs.Stirs.{AreKnown}
+use Rattle.bq_core.specs.declared.crowd.Crowd.{Crowd}
+use Rattle.bq_core.specs.declared.state.State.{State}
+use Rattle.bq_core.specs.declared.stir.Stir.{Stir}
+use Rattle.bq_core.specs.declared.stir.Stir.TheVariants.{Nothing}
+use Rattle.bq_core.proofs.AskLemmas.{asks_more}
+use Rattle.bq_core.proofs.ClientLemmas.{some_pass}
+use Rattle.bq_core.proofs.CrowdPlaces.{crowd_there}
+use Rattle.bq_core.proofs.DispatchLemmas.{next_offer, offered_is}
+use Rattle.bq_core.proofs.SearchLemmas.{client_entries, client_waits, rank_agrees, tube_entries, tube_waits}
+use Rattle.bq_core.proofs.StirLemmas.{none_known}
+use Rattle.bq_core.proofs.TubeLemmas.{paused_is}
+use Rattle.bq_core.proofs.dispatch.next_offer.Goals as goal
+
+-- the tube's count tells whether somebody waits at it
+counted_there : (name : List ℕ) (st : State) → IsSound st → is_waited_at name st.tubes ≡ list_any (is_waiter name) st.seats.items
+counted_there name st sound =
+    ap (λ (k : Crowd). nat_lt 0 k.waiting) (crowd_there name st.tubes.crowds st.seats.items st.tubes.entries sound.entries.of_seats sound.crowds)
+    ∙ some_pass (is_waiter name) st.seats.items
+
+pub returns-in-Nothing-clause-next : goal.returns-in-Nothing-clause-next
+returns-in-Nothing-clause-next c =
+    let m = machine_of c.args.state.now in
+    let known = subst (λ (f : Stir). AreKnown f m.jobs m.seats m.tubes) c.in-Nothing.is c.requires.stirs in
+    sym (ap (option_map (ranked (λ j. j.pri))) (none_known Nothing m refl known))
+
+pub returns-in-Tube-clause-next : goal.returns-in-Tube-clause-next
+returns-in-Tube-clause-next c =
+    let st = c.args.state.now in
+    c.offer_to.ensures.offer ∙ go (is_waited_at c.in-Tube.name st.tubes) (sym (counted_there c.in-Tube.name st c.requires))
+  where
+    go : (w : Bool) → list_any (is_waiter c.in-Tube.name) (machine_of c.args.state.now).seats ≡ w
+        → (if w then offered c.args.state.now.jobs.jobs c.args.state.now.tubes.entries c.in-Tube.name else None) ≡ next_rank (machine_of c.args.state.now)
+    go false e =
+        let m = machine_of c.args.state.now in
+        let known = subst (λ (f : Stir). AreKnown f m.jobs m.seats m.tubes) c.in-Tube.is c.requires.stirs in
+        sym
+        (rank_agrees m (λ j. false) (tube_waits m c.in-Tube.name false e known)
+        ∙ ap (option_map (ranked (λ j. j.pri))) (first_of_none_passes (λ j. false) is_job_before m.jobs (list_any_not (λ j. false) m.jobs (all_always (λ j. false ≡ false) m.jobs (λ j. refl)))))
+    go true e =
+        let st = c.args.state.now in
+        let m = machine_of st in
+        let name = c.in-Tube.name in
+        let known = subst (λ (f : Stir). AreKnown f m.jobs m.seats m.tubes) c.in-Tube.is c.requires.stirs in
+        offered_is m.next_id m.jobs c.requires.ids st.tubes.entries (λ n. is_paused n m) (λ n. sym (paused_is n st.tubes.entries c.requires.entries.order c.requires.entries.fresh)) name
+        ∙ sym (rank_agrees m (λ j. is_ready_in name j && not (is_paused name m)) (tube_waits m name true e known))
+
+pub returns-in-Tube-clause-asks : goal.returns-in-Tube-clause-asks
+returns-in-Tube-clause-asks c = asks_more _ (go (is_waited_at c.in-Tube.name c.args.state.now.tubes) (sym (counted_there c.in-Tube.name c.args.state.now c.requires))) c.offer_to.ensures.asks
+  where
+    go : (w : Bool) → list_any (is_waiter c.in-Tube.name) c.args.state.now.seats.items ≡ w → (if w then 1 else 0) ≤ sum_by waited_entries c.args.state.now.seats.items
+    go true e = tube_entries c.args.state.now.seats.items c.in-Tube.name e
+    go false e = omega arith
+
+pub returns-in-Client-clause-next : goal.returns-in-Client-clause-next
+returns-in-Client-clause-next c =
+    let st = c.args.state.now in
+    let m = machine_of st in
+    let o = seat_with c.in-Client.seat m.seats in
+    let known = subst (λ (f : Stir). AreKnown f m.jobs m.seats m.tubes) c.in-Client.is c.requires.stirs in
+    c.best_of_client.ensures.best
+    ∙ ap (λ seats. fold (with_offers st.jobs.jobs st.tubes.entries) None (these (seat_with c.in-Client.seat seats))) c.as_slice.ensures.value
+    ∙ next_offer m.next_id m.jobs c.requires.ids st.tubes.entries (λ name. is_paused name m) (λ name. sym (paused_is name st.tubes.entries c.requires.entries.order c.requires.entries.fresh)) m (λ name. refl) (these o)
+    ∙ sym (rank_agrees m (λ j. list_any (is_waiting_for m j) (these o)) (client_waits m c.in-Client.seat o c.requires.numbered refl known))
+
+pub returns-in-Client-clause-asks : goal.returns-in-Client-clause-asks
+returns-in-Client-clause-asks c =
+    let seats = c.args.state.now.seats.items in
+    let slice = ap (λ ss. sum_by waited_entries (these (seat_with c.in-Client.seat ss))) c.as_slice.ensures.value in
+    let few = client_entries seats c.in-Client.seat (seat_with c.in-Client.seat seats) refl in
+    asks_more _ (omega (arith, slice, few)) c.best_of_client.ensures.asks
+
+pub returns-in-Any-clause-next : goal.returns-in-Any-clause-next
+returns-in-Any-clause-next c =
+    let st = c.args.state.now in
+    let m = machine_of st in
+    c.best_offer.ensures.best
+    ∙ ap (fold (with_offers st.jobs.jobs st.tubes.entries) None) c.as_slice-in-Any.ensures.value
+    ∙ next_offer m.next_id m.jobs c.requires.ids st.tubes.entries (λ name. is_paused name m) (λ name. sym (paused_is name st.tubes.entries c.requires.entries.order c.requires.entries.fresh)) m (λ name. refl) m.seats
