@@ -18,10 +18,10 @@ use Rattle.std.proofs.Crossing as Crossing
 tubes_sends : IsSend (Tubes.the_field).row
 tubes_sends = search (Crossing.crosses, TheKnot.crosses, sendable) depth 60 fits 20000
 
-core_sends : IsSend (Core.the_field).row
+pub core_sends : IsSend (Core.the_field).row
 core_sends = search (tubes_sends, Crossing.crosses, TheKnot.crosses, sendable) depth 60 fits 20000
 
-outs_sends : IsSend (Outs.the_field).row
+pub outs_sends : IsSend (Outs.the_field).row
 outs_sends = search (Crossing.crosses, sendable) depth 60 fits 20000
 
 outboxes_sends : IsSend (Outboxes.the_field).row

@@ -121,8 +121,9 @@ module _ {D : Type 0} (at : D → DoorSeen) (settings : Settings) (readings : Li
 
   door_ends_by_gone : (place : ℕ) (e : SeatState) → place < length doors → EndsByGone (end_at place e).submitted
   door_ends_by_gone place e less =
-      let s = a.served place (some_door doors place less) e less in
-      seat_ends_by_gone settings.max_job_size s.lines (end_at place e).submitted (end_at place e).taken s.done
+      let d = some_door doors place less in
+      let s = a.served place d e less in
+      seat_ends_by_gone settings.max_job_size (at (slice_index_or doors place d)).lines_over (end_at place e).submitted (end_at place e).taken s.done
 
   ends_by_gone : (place : ℕ) (e : SeatState) → place < length ends → EndsByGone (end_at place e).submitted
   ends_by_gone place e below = elim (cases_Bool (place == settings.seats)) [
@@ -202,7 +203,7 @@ module _ {D : Type 0} (at : D → DoorSeen) (settings : Settings) (readings : Li
 
   pub run_joined : IsJoinedRun
   run_joined =
-      let many : length (map lines_of doors) ≡ settings.seats = length-map lines_of doors ∙ a.doored in
+      let many : length (map lines_of doors) ≡ settings.seats = length-map doors lines_of ∙ a.doored in
       record {
         history = record {
           history = history;

@@ -1,5 +1,4 @@
--- What the core's thread takes with it may go to another thread. It is said step by step, since one search through
--- all its shelves would be too long.
+-- What the core's thread takes with it may go to another thread, the core as under the lock.
 use Rattle.std.proofs.Common.{ℕ, List, [], ◌∷◌, codes}
 use denote.Ref.{NamedLft}
 use denote.RattleType.{RattleType}
@@ -13,24 +12,16 @@ use denote.Struct.Field.{shr_ref_field}
 use denote.Struct.Tuple.{TupleAt, type_at}
 use denote.Struct.Struct.{Struct}
 use Rattle.bq_core.specs.contracts.machine.Core as Core
-use Rattle.bq_core.specs.contracts.outs.Outs as Outs
-use Rattle.bq_index.proofs.tree.Tree.TheLaws.TheKnot as TheKnot
 use Rattle.bq_job.specs.contracts.settings.Settings as Settings
 use Rattle.bq_link.proofs.core_end.CoreEnd.TheSendSync as CoreEnd
 use Rattle.bq_link.specs.contracts.core_end.CoreEnd as CoreEndRow
 use Rattle.bq_link.proofs.intake.Intake.TheSendSync as Intake
+use Rattle.bq_lock.proofs.SendLemmas.{core_sends, outs_sends}
 use Rattle.bq_lock.proofs.start.Start.TheSendSync as StartSync
 use Rattle.bq_lock.specs.contracts.start.Start as Start
 use Rattle.bq_serve.proofs.core_work.room.CoreRoom.TheSendSync as CoreRoom
 use Rattle.bq_serve.specs.contracts.sessions.core_post.CorePost as CorePost
-use Rattle.std.proofs.Crossing as Crossing
 use Rattle.std.specs.contracts.option.Option as Option
-
-core_sends : IsSend (Core.the_field).row
-core_sends = search (Crossing.crosses, TheKnot.crosses, sendable) depth 60 fits 20000
-
-outs_sends : IsSend (Outs.the_field).row
-outs_sends = search (Crossing.crosses, sendable) depth 60 fits 20000
 
 config_sends : IsSend (Settings.the_field).row
 config_sends = search sendable depth 60 fits 20000

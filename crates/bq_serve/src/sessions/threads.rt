@@ -66,8 +66,10 @@ pub fn serve_in_scope<
 ) -> Result<Ended<D, C, I>, RunFault>
     ensures fault { IsErrOf result RunFault.BadConfiguration → ⊥ }
     ensures served { let at = door_seen D.is_out D.is_at_end D.lines_over in
-        IfOk result (λ r. AreServed at posts.entry.max_job_size (last_first (map (λ p. p.end) posts.entry.seats.items)) r.ends.items r.doors.items) }
-    ensures core { IfOk result (λ r. IsCoreOver C.given posts.entry.core.config posts.entry.core.end posts.entry.core.clock r.core_end r.core.machine r.clock) }
+        let firsts = last_first (map (λ p. p.end) posts.entry.seats.items) in
+        IfOk result (λ r. AreServed at posts.entry.max_job_size firsts r.ends.items r.doors.items) }
+    ensures core { let core = posts.entry.core in
+        IfOk result (λ r. IsCoreOver C.given core.config core.end core.clock r.core_end r.core.machine r.clock) }
     ensures control { IfOk result (λ r. IsControlOver I.remaining posts.entry.control.end control r.control_end r.control) }
 {
     thread::scope(
@@ -76,8 +78,10 @@ pub fn serve_in_scope<
         move |scope| -> Result<Ended<D, C, I>, RunFault>
             ensures fault { IsErrOf result RunFault.BadConfiguration → ⊥ }
             ensures served { let at = door_seen D.is_out D.is_at_end D.lines_over in
-                IfOk result (λ r. AreServed at posts.entry.max_job_size (last_first (map (λ p. p.end) posts.entry.seats.items)) r.ends.items r.doors.items) }
-            ensures core { IfOk result (λ r. IsCoreOver C.given posts.entry.core.config posts.entry.core.end posts.entry.core.clock r.core_end r.core.machine r.clock) }
+                let firsts = last_first (map (λ p. p.end) posts.entry.seats.items) in
+                IfOk result (λ r. AreServed at posts.entry.max_job_size firsts r.ends.items r.doors.items) }
+            ensures core { let core = posts.entry.core in
+                IfOk result (λ r. IsCoreOver C.given core.config core.end core.clock r.core_end r.core.machine r.clock) }
             ensures control { IfOk result (λ r. IsControlOver I.remaining posts.entry.control.end control r.control_end r.control) }
         { serve_all(scope, rt, alloc, posts, start, control) },
     )
@@ -102,8 +106,10 @@ fn serve_all<
 ) -> Result<Ended<D, C, I>, RunFault>
     ensures fault { IsErrOf result RunFault.BadConfiguration → ⊥ }
     ensures served { let at = door_seen D.is_out D.is_at_end D.lines_over in
-        IfOk result (λ r. AreServed at posts.entry.max_job_size (last_first (map (λ p. p.end) posts.entry.seats.items)) r.ends.items r.doors.items) }
-    ensures core { IfOk result (λ r. IsCoreOver C.given posts.entry.core.config posts.entry.core.end posts.entry.core.clock r.core_end r.core.machine r.clock) }
+        let firsts = last_first (map (λ p. p.end) posts.entry.seats.items) in
+        IfOk result (λ r. AreServed at posts.entry.max_job_size firsts r.ends.items r.doors.items) }
+    ensures core { let core = posts.entry.core in
+        IfOk result (λ r. IsCoreOver C.given core.config core.end core.clock r.core_end r.core.machine r.clock) }
     ensures control { IfOk result (λ r. IsControlOver I.remaining posts.entry.control.end control r.control_end r.control) }
 {
     let Posts {

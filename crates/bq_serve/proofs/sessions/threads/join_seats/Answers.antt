@@ -1,9 +1,5 @@
-use Rattle.std.proofs.Common.{◌≡◌, ◌++◌, ◌∙◌, ◌∷◌, [], refl, subst, sym, ap}
-use Rattle.std.specs.Prelude.{IfSome}
-use Rattle.std.specs.List.{All}
-use Rattle.bq_desk.specs.Tending.{IsDoorServed, door_seen}
-use Rattle.bq_link.specs.EndStates.{IsSameSeat}
-use Rattle.bq_serve.specs.Threads.{AreServed}
+use Rattle.std.proofs.Common.{◌≡◌, ◌++◌, ◌∙◌, ◌∷◌, []}
+use Rattle.bq_desk.specs.Tending.{door_seen}
 use Rattle.bq_lock.proofs.ListLemmas.{first_passes, rest_passes}
 use Rattle.bq_serve.proofs.ThreadLemmas.{joined_first, served_more}
 use Rattle.bq_serve.proofs.sessions.threads.join_seats.Goals as goal
@@ -17,12 +13,15 @@ loop-thread-preserved g c =
     let step = c.in-Some.ensures.steps in
     let limit = first_passes c.loop-thread.thread-iterator.rest.items _ c.in-Some.thread (λ t. t.promise.max_job_size ≡ size) step.0 limits in
     let here = rw (c.in-Some-join.is, limit) at c.join.ensures in
+    let end = c.in-Some-join.end in
+    let door = c.in-Some-join.door in
+    let first = c.in-Some.thread.promise.end.value in
     record {
       limits = rest_passes c.loop-thread.thread-iterator.rest.items _ c.in-Some.thread (λ t. t.promise.max_job_size ≡ size) step.0 limits;
       served = (
-        before.0 ++ c.in-Some.thread.promise.end.value ∷ [],
+        before.0 ++ first ∷ [],
         joined_first (λ t. t.promise.end.value) before.0 c.loop-thread.thread-iterator.rest.items _ c.in-Some.thread step.0 ∙ before.1,
         rw (c.in-Ok-Ok.ensures.items, c.in-Ok-Ok.ensures'.items)
-            (served_more at size before.0 c.loop-thread.ends.items c.loop-thread.doors.items c.in-Some.thread.promise.end.value c.in-Some-join.end c.in-Some-join.door before.2 here.0 here.1),
+            (served_more at size before.0 c.loop-thread.ends.items c.loop-thread.doors.items first end door before.2 here.0 here.1),
       );
     }
