@@ -1,10 +1,10 @@
 //! All that the server does, from its options to its status.
-ghost use Rattle.std.specs.Prelude.{◌≡◌, ◌≤◌, IfErr, IfOk};
+ghost use Rattle.std.specs.Prelude.{◌≡◌, ◌≤◌, IfErr, IfOk, false, true};
 ghost use Rattle.std.specs.List.{All, list_any};
-ghost use Rattle.bq_desk.specs.Tending.{AreSame, IsNewDoor, door_seen};
-ghost use Rattle.bq_lock.specs.LockedRuns.{IsServedToEnd};
-ghost use Rattle.bq_cli.specs.Servers.{came_of_doors};
+ghost use Rattle.bq_desk.specs.Tending.{IsNewDoor, door_seen};
+ghost use Rattle.bq_cli.specs.Servers.{came_of_run};
 ghost use Rattle.bq_cli.specs.Sessions.{settings_of};
+ghost use Rattle.bq_serve.specs.Sessions.{IsRunOf};
 
 use crate::chosen::Options;
 use crate::fault::Fault;
@@ -13,7 +13,7 @@ use bq_core::Config;
 use bq_job::NoMemory;
 use bq_options::BqdOptions;
 use bq_serve::clock::MachineClock;
-use bq_serve::{Door, RunFault, TcpDoor, run_locked};
+use bq_serve::{Door, Run, RunFault, TcpDoor, clock, run_sessions};
 use std::alloc::Global;
 use std::io::{BufRead, BufReader, Eprint, Print, Read};
 use std::net::{Net, TcpListener, TcpStream};
@@ -100,38 +100,37 @@ fn serve_at<R: Threads + Wait + Clock + Print + Sync, I: BufRead + Drop>(
     let Ok(doors) = new_doors(rt, alloc, options, listener) else {
         return Err(Fault::NoMemory);
     };
-    came_of(serve_doors(rt, alloc, options, doors, control))
+    let clock = MachineClock::new(rt);
+    came_of(serve_doors(rt, alloc, options, doors, clock, control))
 }
 
-/// Serves the connections that come at the doors, each door at a seat of its own, as the options choose. The
-/// control is the control line. With a fault no door was opened, and the doors are given up.
-pub fn serve_doors<'l, R: Threads + Wait + Clock + Sync, I: BufRead + Drop>(
+/// Serves the connections that come at the doors, each door at a seat and in a thread of its own, as the
+/// options choose. The control is the control line. With a fault no door was opened, and the doors are given
+/// up.
+pub fn serve_doors<
+    'l,
+    R: Threads + Wait + Clock + Sync,
+    C: clock::Clock + Drop + Send,
+    I: BufRead + Drop,
+>(
     rt: &R,
     alloc: Global,
     options: &Options,
     doors: Vec<TcpDoor<'l, R>, Global>,
+    clock: C,
     control: I,
-) -> Result<Vec<TcpDoor<'l, R>, Global>, RunFault>
+) -> Result<Run<TcpDoor<'l, R>, C, I>, RunFault>
     requires new { All (λ door. IsNewDoor (door_seen ⟦<TcpDoor<'l, R> as Door>⟧.is_out
         ⟦<TcpDoor<'l, R> as Door>⟧.is_at_end ⟦<TcpDoor<'l, R> as Door>⟧.lines_over door)) doors.items }
-    // Each door was served to its end: of each of its connections the bytes that the reads gave were taken for
-    // requests, whose steps were submitted, and the writes took the answers that were given to them.
-    ensures served { IfOk result (λ served. All (λ door. IsServedToEnd options.now.max_job_size
-        (door_seen ⟦<TcpDoor<'l, R> as Door>⟧.is_out ⟦<TcpDoor<'l, R> as Door>⟧.is_at_end
-        ⟦<TcpDoor<'l, R> as Door>⟧.lines_over door)) served.items) }
-    // They are the doors that were handed in, in their order.
-    ensures same { IfOk result (λ served. AreSame ⟦<TcpDoor<'l, R> as Door>⟧.same doors.items served.items) }
+    // There is one history of all connections' steps and those of the control line, which the one-list machine
+    // takes by the options. Each connection of each door was written exactly what it is owed along it, as far
+    // as its reads and writes tell.
+    ensures served { IfOk result (IsRunOf C.given ⟦<TcpDoor<'l, R> as Door>⟧.lines_over I.remaining
+        (settings_of options.now) clock control) }
+    ensures at_end { IfOk result (λ run. All (λ door. (⟦<TcpDoor<'l, R> as Door>⟧.is_out door ≡ false)
+        × (⟦<TcpDoor<'l, R> as Door>⟧.is_at_end door ≡ true)) run.doors.items) }
 {
-    let run = run_locked(
-        rt,
-        alloc,
-        config_of(options),
-        doors,
-        MachineClock::new(rt),
-        control,
-        0,
-    )?;
-    Ok(run.doors)
+    run_sessions(rt, alloc, config_of(options), doors, clock, control)
 }
 
 // What the options say to a run.
@@ -146,13 +145,15 @@ fn config_of(options: &Options) -> Config
     }
 }
 
-// What came of the doors: the fault of their run, or that some connection could not be accepted.
-fn came_of<'l, R: Clock>(served: Result<Vec<TcpDoor<'l, R>, Global>, RunFault>) -> Result<(), Fault>
-    ensures { result ≡ came_of_doors (λ doors. list_any (λ door. door.met_fault) doors.items) served.entry }
+// What came of a run: its fault, or that some connection could not be accepted.
+fn came_of<'l, R: Clock, C: Drop, I: Drop>(
+    run: Result<Run<TcpDoor<'l, R>, C, I>, RunFault>,
+) -> Result<(), Fault>
+    ensures { result ≡ came_of_run (λ door. door.met_fault) run.entry }
 {
-    match served {
-        Ok(doors) => {
-            if met_fault(doors.as_slice()) {
+    match run {
+        Ok(run) => {
+            if met_fault(run.doors.as_slice()) {
                 Err(Fault::NotAccepted)
             } else {
                 Ok(())
