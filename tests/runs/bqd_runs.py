@@ -337,19 +337,20 @@ def run_output_unwritten(bqd):
             same(server.end(), Ended(0, None, b""))
 
 
-def run_not_accepted(bqd):
-    """A seat that is refused a file descriptor ends, and that is told once all have ended, with status 1."""
-    told = b"bqd: a connection could not be accepted\n"
-    # Its streams and its listener.
-    with Server(bqd, "--seats", "2", before=limits(NOFILE=4)) as server:
-        same(server.end(), Ended(1, b"", told))
-    # One more: one seat serves its client, and the other one ends meanwhile.
+def run_descriptors_refused(bqd):
+    """A seat that is refused a file descriptor rests, and serves once there is one."""
+    # Its streams, its listener and one connection.
     with Server(bqd, "--seats", "2", "--sessions", "1", before=limits(NOFILE=5)) as server:
-        client = server.client()
-        client.asks(b"list-tube-used\r\n", b"USING default\r\n")
-        awaits(lambda: server.threads() <= 2)
-        client.close()
-        same(server.end(), Ended(1, b"", told))
+        first, second = server.client(), server.client()
+        first.asks(b"list-tube-used\r\n", b"USING default\r\n")
+        second.sends(b"list-tube-used\r\n")
+        before = server.time_worked()
+        time.sleep(1)
+        same(server.time_worked() - before < 0.2, True)
+        first.close()
+        second.hears(b"USING default\r\n")
+        second.close()
+        same(server.end(), Ended(0, b"", b""))
 
 
 def run_thread_refused(bqd):
