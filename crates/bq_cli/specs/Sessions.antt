@@ -1,8 +1,8 @@
 -- What a client is promised whose session is over.
 use Rattle.std.specs.Prelude.{ℕ, List, Option}
 use Rattle.bq_job.specs.declared.line_end.LineEnd.{LineEnd}
-use Rattle.bq_job.specs.Headline.{IsHistoryOfLine}
-use Rattle.bq_job.specs.LineSteps.{LineSeen}
+use Rattle.bq_job.specs.promise.Headline.{IsHistoryOfLine}
+use Rattle.bq_job.specs.promise.LineSteps.{LineSeen}
 use Rattle.bq_job.specs.declared.settings.Settings.{Settings}
 use Rattle.bq_options.specs.Ranges.{IsForBq}
 use Rattle.bq_options.specs.declared.chosen.BqOptions.{BqOptions}

@@ -9,20 +9,20 @@ use Rattle.bq_job.specs.declared.job.Job.{Job}
 use Rattle.bq_job.specs.declared.step.Step.{Step}
 use Rattle.bq_job.specs.declared.step.Step.TheVariants as steps
 use Rattle.bq_job.specs.declared.request.Request.{Request}
-use Rattle.bq_job.specs.Acts.{Effect, on_job, showing, telling}
-use Rattle.bq_job.specs.Asked.{after_close, after_connect, asked, at_found, effect, with_end}
-use Rattle.bq_job.specs.Changes.{is_held_by, is_waiting, job_with, seat_with, with_job, with_seat}
-use Rattle.bq_job.specs.JobCommands.{after_delete, delete_effect, is_free_for, is_full, last_id, new_job, put_effect, reserve_job_effect, with_delete, with_put}
-use Rattle.bq_job.specs.Dispatch.{reserved_by}
-use Rattle.bq_job.specs.JobStates.{is_reserved}
-use Rattle.bq_job.specs.TubeCommands.{ignore_effect, watch_effect, watching, watching_or_refused}
-use Rattle.bq_job.specs.Statistics.{tube_statistics}
-use Rattle.bq_job.specs.StatisticsCommands.{job_statistics_or_not}
-use Rattle.bq_job.specs.Tubes.{watches, with_tube}
-use Rattle.bq_job.specs.Limits.{raised}
-use Rattle.bq_job.specs.Machine.{Machine, SeatRecord}
-use Rattle.bq_job.specs.Steps.{granted, share_refused, shares_body}
-use Rattle.bq_job.specs.TubeName.{is_same_name}
+use Rattle.bq_job.specs.machine.Acts.{Effect, on_job, showing, telling}
+use Rattle.bq_job.specs.machine.Asked.{after_close, after_connect, asked, at_found, effect, with_end}
+use Rattle.bq_job.specs.machine.Changes.{is_held_by, is_waiting, job_with, seat_with, with_job, with_seat}
+use Rattle.bq_job.specs.machine.JobCommands.{after_delete, delete_effect, is_free_for, is_full, last_id, new_job, put_effect, reserve_job_effect, with_delete, with_put}
+use Rattle.bq_job.specs.machine.Dispatch.{reserved_by}
+use Rattle.bq_job.specs.machine.JobStates.{is_reserved}
+use Rattle.bq_job.specs.machine.TubeCommands.{ignore_effect, watch_effect, watching, watching_or_refused}
+use Rattle.bq_job.specs.machine.Statistics.{tube_statistics}
+use Rattle.bq_job.specs.machine.StatisticsCommands.{job_statistics_or_not}
+use Rattle.bq_job.specs.machine.Tubes.{watches, with_tube}
+use Rattle.bq_job.specs.machine.Limits.{raised}
+use Rattle.bq_job.specs.machine.Machine.{Machine, SeatRecord}
+use Rattle.bq_job.specs.machine.Steps.{granted, share_refused, shares_body}
+use Rattle.bq_job.specs.reading.TubeName.{is_same_name}
 use Rattle.bq_core.specs.Acting.{Acts, is_asking, is_connected, is_free}
 use Rattle.bq_core.specs.JobChanges.{is_passed_by}
 use Rattle.bq_core.specs.Outbox.{Outbox}

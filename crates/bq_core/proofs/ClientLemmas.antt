@@ -5,10 +5,10 @@ use Rattle.std.specs.List.{list_any}
 use Rattle.std.proofs.lemmas.Bool.{cases_Bool, eqb-true, lt-ltb, ne_eqb}
 use Rattle.std.proofs.lemmas.List.{length-map}
 use Rattle.std.proofs.lemmas.List.Sums.{count_by-le-length}
-use Rattle.bq_job.specs.Changes.{is_waiting, seat_with}
-use Rattle.bq_job.specs.Limits.{greatest}
-use Rattle.bq_job.specs.Machine.{SeatRecord, empty_seat, numbers}
-use Rattle.bq_job.specs.TubeCommands.{watching}
+use Rattle.bq_job.specs.machine.Changes.{is_waiting, seat_with}
+use Rattle.bq_job.specs.machine.Limits.{greatest}
+use Rattle.bq_job.specs.machine.Machine.{SeatRecord, empty_seat, numbers}
+use Rattle.bq_job.specs.machine.TubeCommands.{watching}
 use Rattle.bq_job.proofs.ListLemmas.{count_cons}
 use Rattle.bq_core.specs.declared.clients.Clients.{Clients}
 use Rattle.bq_core.specs.declared.seat_list.SeatChange.{SeatChange}

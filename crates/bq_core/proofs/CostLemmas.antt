@@ -10,14 +10,14 @@ use Rattle.std.proofs.lemmas.Nat.{mul-le}
 use Rattle.bq_job.specs.declared.job.Job.{Job}
 use Rattle.bq_job.specs.declared.job.JobState.{JobState}
 use Rattle.bq_job.specs.declared.job.JobState.TheVariants as states
-use Rattle.bq_job.specs.Changes.{given_back, in_state, is_held_by, is_holder, is_waiting, job_with, with_seat, without_wait}
-use Rattle.bq_job.specs.Computed.{waiting_count}
-use Rattle.bq_job.specs.Dispatch.{DispatchTurn, GivenAnswer, IsHandOut}
-use Rattle.bq_job.specs.JobCommands.{kicked}
-use Rattle.bq_job.specs.JobStates.{is_reserved}
-use Rattle.bq_job.specs.Lawful.{AreIdsWithin}
-use Rattle.bq_job.specs.Machine.{Machine, SeatRecord}
-use Rattle.bq_job.specs.Waits.{Chain, WaitEndTurn}
+use Rattle.bq_job.specs.machine.Changes.{given_back, in_state, is_held_by, is_holder, is_waiting, job_with, with_seat, without_wait}
+use Rattle.bq_job.specs.beside.Computed.{waiting_count}
+use Rattle.bq_job.specs.machine.Dispatch.{DispatchTurn, GivenAnswer, IsHandOut}
+use Rattle.bq_job.specs.machine.JobCommands.{kicked}
+use Rattle.bq_job.specs.machine.JobStates.{is_reserved}
+use Rattle.bq_job.specs.beside.Lawful.{AreIdsWithin}
+use Rattle.bq_job.specs.machine.Machine.{Machine, SeatRecord}
+use Rattle.bq_job.specs.machine.Waits.{Chain, WaitEndTurn}
 use Rattle.bq_job.proofs.DispatchLemmas.{turn_of}
 use Rattle.bq_job.proofs.LawfulLemmas.{end_of}
 use Rattle.bq_job.proofs.ListLemmas.{count_cons}

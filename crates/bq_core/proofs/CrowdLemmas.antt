@@ -5,12 +5,12 @@ use Rattle.std.specs.Prelude.{count_by}
 use Rattle.std.specs.List.{AllByRecursion as All, list_any}
 use Rattle.std.specs.Cmp.Lexicographic.{bytes_decides}
 use Rattle.std.proofs.lemmas.Bool.{and_parts, cases_Bool}
-use Rattle.bq_job.specs.Changes.{is_waiting, seat_with}
-use Rattle.bq_job.specs.Lawful.{none_twice}
-use Rattle.bq_job.specs.Limits.{greatest}
-use Rattle.bq_job.specs.Machine.{SeatRecord, TubeRecord}
-use Rattle.bq_job.specs.TubeName.{is_same_name}
-use Rattle.bq_job.specs.Tubes.{is_name_before, is_seated_at, watches}
+use Rattle.bq_job.specs.machine.Changes.{is_waiting, seat_with}
+use Rattle.bq_job.specs.beside.Lawful.{none_twice}
+use Rattle.bq_job.specs.machine.Limits.{greatest}
+use Rattle.bq_job.specs.machine.Machine.{SeatRecord, TubeRecord}
+use Rattle.bq_job.specs.reading.TubeName.{is_same_name}
+use Rattle.bq_job.specs.machine.Tubes.{is_name_before, is_seated_at, watches}
 use Rattle.bq_core.specs.declared.crowd.Crowd.{Crowd}
 use Rattle.bq_core.specs.declared.crowd.Moving.{Moving}
 use Rattle.bq_core.specs.declared.crowd.Moving.TheVariants.{Comes, Goes}

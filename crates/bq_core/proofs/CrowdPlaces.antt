@@ -5,10 +5,10 @@ use Rattle.std.proofs.lemmas.List.{drop-map, map-append, take-map}
 use Rattle.std.specs.List.{AllByRecursion as All, insert, list_any, prefix_len}
 use Rattle.std.proofs.lemmas.Bool.{cases_Bool}
 use Rattle.bq_job.specs.declared.job.Job.{Job}
-use Rattle.bq_job.specs.Changes.{is_waiting}
-use Rattle.bq_job.specs.Machine.{SeatRecord, TubeRecord, default_tube, empty_seat}
-use Rattle.bq_job.specs.TubeName.{is_same_name}
-use Rattle.bq_job.specs.Tubes.{fresh_tube, is_name_before, is_seated_at, watches}
+use Rattle.bq_job.specs.machine.Changes.{is_waiting}
+use Rattle.bq_job.specs.machine.Machine.{SeatRecord, TubeRecord, default_tube, empty_seat}
+use Rattle.bq_job.specs.reading.TubeName.{is_same_name}
+use Rattle.bq_job.specs.machine.Tubes.{fresh_tube, is_name_before, is_seated_at, watches}
 use Rattle.bq_job.proofs.ListLemmas.{count_all_not}
 use Rattle.bq_core.specs.declared.crowd.Crowd.{Crowd}
 use Rattle.bq_core.specs.declared.tally.Tally.{Tally}

@@ -4,13 +4,13 @@ use Rattle.std.proofs.Math.Bool.{and-false, or-false}
 use Rattle.std.specs.Prelude.{count_by}
 use Rattle.std.specs.List.{list_any}
 use Rattle.std.proofs.lemmas.Bool.{and_from, and_parts}
-use Rattle.bq_job.specs.Changes.{is_waiting}
-use Rattle.bq_job.specs.Lawful.{none_twice}
-use Rattle.bq_job.specs.Limits.{greatest}
-use Rattle.bq_job.specs.Machine.{SeatRecord, TubeRecord}
-use Rattle.bq_job.specs.TubeCommands.{watching}
-use Rattle.bq_job.specs.TubeName.{is_same_name}
-use Rattle.bq_job.specs.Tubes.{watches}
+use Rattle.bq_job.specs.machine.Changes.{is_waiting}
+use Rattle.bq_job.specs.beside.Lawful.{none_twice}
+use Rattle.bq_job.specs.machine.Limits.{greatest}
+use Rattle.bq_job.specs.machine.Machine.{SeatRecord, TubeRecord}
+use Rattle.bq_job.specs.machine.TubeCommands.{watching}
+use Rattle.bq_job.specs.reading.TubeName.{is_same_name}
+use Rattle.bq_job.specs.machine.Tubes.{watches}
 use Rattle.bq_core.specs.declared.crowd.Crowd.{Crowd}
 use Rattle.bq_core.specs.Crowds.{AreCrowds, IsSeated, crowd_in, crowd_of, crowd_with, crowd_without, crowds_at, is_user, is_waiter, is_watcher, share_of_watcher, share_of_watching}
 use Rattle.bq_core.specs.SeatChanges.{AreNumbered}

@@ -5,13 +5,13 @@ use Rattle.std.specs.List.{Contains, list_any}
 use Rattle.std.proofs.lemmas.Bool.{cases_Bool, or_cases, or_left, or_right}
 use Rattle.std.proofs.lemmas.Bool.Decides.{nat_tests}
 use Rattle.bq_job.specs.declared.job.Job.{Job}
-use Rattle.bq_job.specs.Changes.{first_of, is_ready, is_waiting, job_with}
-use Rattle.bq_job.specs.Dispatch.{is_job_before, is_wait_before, is_waiting_for, may_have, next_job, next_seat}
-use Rattle.bq_job.specs.Lawful.{AreIdsWithin}
-use Rattle.bq_job.specs.Machine.{Machine, SeatRecord, TubeRecord}
-use Rattle.bq_job.specs.TubeCommands.{is_ready_in}
-use Rattle.bq_job.specs.TubeName.{is_same_name}
-use Rattle.bq_job.specs.Tubes.{is_paused}
+use Rattle.bq_job.specs.machine.Changes.{first_of, is_ready, is_waiting, job_with}
+use Rattle.bq_job.specs.machine.Dispatch.{is_job_before, is_wait_before, is_waiting_for, may_have, next_job, next_seat}
+use Rattle.bq_job.specs.beside.Lawful.{AreIdsWithin}
+use Rattle.bq_job.specs.machine.Machine.{Machine, SeatRecord, TubeRecord}
+use Rattle.bq_job.specs.machine.TubeCommands.{is_ready_in}
+use Rattle.bq_job.specs.reading.TubeName.{is_same_name}
+use Rattle.bq_job.specs.machine.Tubes.{is_paused}
 use Rattle.bq_job.proofs.ChoiceLemmas.{first_of_agrees, first_of_contains, first_of_is, first_of_is_least, first_of_none, first_of_none_passes, first_of_passes, pair_order}
 use Rattle.bq_job.proofs.ListLemmas.{all_always, all_at, all_weaker, list_any_not, none_pass}
 use Rattle.bq_jobs.specs.Kept.{ranked}

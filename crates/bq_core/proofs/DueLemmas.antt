@@ -8,14 +8,14 @@ use Rattle.std.proofs.lemmas.List.Sums.{fold_more}
 use Rattle.bq_job.specs.declared.job.Job.{Job}
 use Rattle.bq_job.specs.declared.job.JobState.{JobState}
 use Rattle.bq_job.specs.declared.job.JobState.TheVariants as states
-use Rattle.bq_job.specs.Changes.{first_of, is_held_by, is_holder, is_pair_before, is_waiting}
-use Rattle.bq_job.specs.JobStates.{due_of, is_delayed, is_due_before, is_reserved}
-use Rattle.bq_job.specs.Machine.{Machine, SeatRecord, TubeRecord}
-use Rattle.bq_job.specs.OneClient.{is_waiting_at}
+use Rattle.bq_job.specs.machine.Changes.{first_of, is_held_by, is_holder, is_pair_before, is_waiting}
+use Rattle.bq_job.specs.machine.JobStates.{due_of, is_delayed, is_due_before, is_reserved}
+use Rattle.bq_job.specs.machine.Machine.{Machine, SeatRecord, TubeRecord}
+use Rattle.bq_job.specs.machine.OneClient.{is_waiting_at}
 use Rattle.bq_job.proofs.ChoiceLemmas.{first_of_contains, first_of_is_least, first_of_none, first_of_passes, pair_order}
 use Rattle.bq_job.proofs.ListLemmas.{all_at, all_from_members, all_pass, all_weaker, list_all_from, none_pass}
 use Rattle.bq_jobs.specs.Leases.{deadline_of, is_lease_before}
-use Rattle.bq_job.specs.NextDue.{dues_of_pause, dues_of_state, earliest, is_before}
+use Rattle.bq_job.specs.beside.NextDue.{dues_of_pause, dues_of_state, earliest, is_before}
 use Rattle.bq_core.specs.Dues.{earlier_of_both, jobs_due, warning_due, with_warning_due}
 use Rattle.bq_core.specs.TubeEntries.{IsFreshUnlessCounted, counted, is_counted}
 

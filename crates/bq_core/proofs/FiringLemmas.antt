@@ -7,15 +7,15 @@ use Rattle.std.proofs.lemmas.Bool.Decides.{nat_tests}
 use Rattle.bq_job.specs.declared.job.Job.{Job}
 use Rattle.bq_job.specs.declared.job.JobState.{JobState}
 use Rattle.bq_job.specs.declared.job.JobState.TheVariants as states
-use Rattle.bq_job.specs.Changes.{first_of, given_back, in_state, is_held_by, is_holder, is_pair_before, is_waiting, job_with, with_job}
-use Rattle.bq_job.specs.JobStates.{due_of, is_delayed, is_reserved}
-use Rattle.bq_job.specs.Lawful.{AreIdsWithin}
-use Rattle.bq_job.specs.Limits.{greatest, grown, raised}
-use Rattle.bq_job.specs.Machine.{Machine, Pause, SeatRecord, TubeRecord}
-use Rattle.bq_job.specs.Timers.{is_due, is_expired, job_after_timers, pause_after_timers, tube_after_timers, with_timeout}
-use Rattle.bq_job.specs.Dispatch.{is_wait_before}
+use Rattle.bq_job.specs.machine.Changes.{first_of, given_back, in_state, is_held_by, is_holder, is_pair_before, is_waiting, job_with, with_job}
+use Rattle.bq_job.specs.machine.JobStates.{due_of, is_delayed, is_reserved}
+use Rattle.bq_job.specs.beside.Lawful.{AreIdsWithin}
+use Rattle.bq_job.specs.machine.Limits.{greatest, grown, raised}
+use Rattle.bq_job.specs.machine.Machine.{Machine, Pause, SeatRecord, TubeRecord}
+use Rattle.bq_job.specs.machine.Timers.{is_due, is_expired, job_after_timers, pause_after_timers, tube_after_timers, with_timeout}
+use Rattle.bq_job.specs.machine.Dispatch.{is_wait_before}
 use Rattle.bq_core.specs.TubeEntries.{counted, is_counted, is_over, is_pause_over}
-use Rattle.bq_job.specs.Waits.{ends_waiting, is_deadline_soon, is_ending_lease, is_timed_out, is_timed_out_at, next_end}
+use Rattle.bq_job.specs.machine.Waits.{ends_waiting, is_deadline_soon, is_ending_lease, is_timed_out, is_timed_out_at, next_end}
 use Rattle.bq_core.specs.EndingWaits.{has_waited, is_lease_short}
 use Rattle.bq_job.proofs.ChoiceLemmas.{first_of_contains, first_of_is_least, first_of_none, first_of_none_passes, first_of_passes, pair_order}
 use Rattle.bq_job.proofs.ListLemmas.{all_always, all_at, all_from_members, all_of_filter, all_weaker, count_all_not, count_cons, list_any_not, list_any_with, map_all_same, none_pass}

@@ -4,11 +4,11 @@ use Rattle.std.specs.Prelude.{fold, is_some, min, nat_le}
 use Rattle.std.specs.List.{AllByRecursion as All, list_any}
 use Rattle.std.proofs.lemmas.Bool.{cases_Bool, eqb-true}
 use Rattle.std.proofs.lemmas.Bool.Decides.{nat_tests}
-use Rattle.bq_job.specs.Changes.{is_waiting, seat_with}
-use Rattle.bq_job.specs.Machine.{SeatRecord, Wait, empty_seat}
-use Rattle.bq_job.specs.NextDue.{dues_of_until, dues_of_wait, earliest}
-use Rattle.bq_job.specs.TubeCommands.{watching}
-use Rattle.bq_job.specs.Waits.{is_past, is_until_over}
+use Rattle.bq_job.specs.machine.Changes.{is_waiting, seat_with}
+use Rattle.bq_job.specs.machine.Machine.{SeatRecord, Wait, empty_seat}
+use Rattle.bq_job.specs.beside.NextDue.{dues_of_until, dues_of_wait, earliest}
+use Rattle.bq_job.specs.machine.TubeCommands.{watching}
+use Rattle.bq_job.specs.machine.Waits.{is_past, is_until_over}
 use Rattle.bq_job.proofs.KeptLemmas.{only_seat}
 use Rattle.bq_job.proofs.ListLemmas.{all_both, all_of_map, all_weaker}
 use Rattle.bq_core.specs.Dues.{earlier_of_both, is_end_over, with_seat_due}

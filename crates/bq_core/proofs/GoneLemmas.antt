@@ -15,10 +15,10 @@ use Rattle.std.proofs.lemmas.List.{append-nil}
 use Rattle.bq_index.specs.Order.{InOrder}
 use Rattle.bq_index.specs.Walk.{changed_by, entry_of, seen_by}
 use Rattle.bq_job.specs.declared.job.Job.{Job}
-use Rattle.bq_job.specs.Limits.{greatest}
-use Rattle.bq_job.specs.Machine.{SeatRecord}
-use Rattle.bq_job.specs.Timers.{tube_after_timers}
-use Rattle.bq_job.specs.TubeName.{is_same_name}
+use Rattle.bq_job.specs.machine.Limits.{greatest}
+use Rattle.bq_job.specs.machine.Machine.{SeatRecord}
+use Rattle.bq_job.specs.machine.Timers.{tube_after_timers}
+use Rattle.bq_job.specs.reading.TubeName.{is_same_name}
 use Rattle.bq_core.specs.Crowds.{crowd_in, crowds_of, has_seats}
 use Rattle.bq_core.specs.Dues.{with_tube_due}
 use Rattle.bq_core.specs.KeptTubes.{KeptTube, Named, crowd_kept, ended, is_alive_at, is_alive_with, is_from, is_gone_by, is_gone_from, is_named_at, record_at, tally_kept, with_alive, with_end, with_name_of}

@@ -5,10 +5,10 @@ use Rattle.std.specs.List.{AllByRecursion as All, Contains, list_any}
 use Rattle.std.proofs.lemmas.Bool.{and_from, cases_Bool, eqb-true, ne_eqb}
 use Rattle.std.proofs.lemmas.Bool.Decides.{nat_tests}
 use Rattle.bq_job.specs.declared.job.Job.{Job}
-use Rattle.bq_job.specs.Changes.{first_of, is_pair_before, job_with}
-use Rattle.bq_job.specs.JobCommands.{in_order, is_buried_in, kickable, kicked, kicked_first, put_in_order}
-use Rattle.bq_job.specs.JobStates.{is_buried_before}
-use Rattle.bq_job.specs.Lawful.{AreIdsWithin}
+use Rattle.bq_job.specs.machine.Changes.{first_of, is_pair_before, job_with}
+use Rattle.bq_job.specs.machine.JobCommands.{in_order, is_buried_in, kickable, kicked, kicked_first, put_in_order}
+use Rattle.bq_job.specs.machine.JobStates.{is_buried_before}
+use Rattle.bq_job.specs.beside.Lawful.{AreIdsWithin}
 use Rattle.bq_job.proofs.ChoiceLemmas.{first_of_contains, first_of_is_least, first_of_is_some, first_of_none, first_of_passes, pair_order}
 use Rattle.bq_job.proofs.KeptLemmas.{ids_from_below, ids_of_filter}
 use Rattle.bq_job.proofs.ListLemmas.{all_at, all_from_members, list_any_with}

@@ -3,7 +3,7 @@ use Rattle.std.proofs.Common.{◌≡◌, ℕ, zero, suc, ◌+◌, ◌<◌, Bool,
 use Rattle.std.specs.Prelude.{fold}
 use Rattle.std.proofs.lemmas.List.Sums.{fold_more}
 use Rattle.std.proofs.lemmas.Option.{slice_get-get_or, slice_get_read}
-use Rattle.bq_job.specs.Changes.{better_of, first_of}
+use Rattle.bq_job.specs.machine.Changes.{better_of, first_of}
 use Rattle.bq_core.specs.Places.{better_at, better_if, better_with}
 
 -- the first i elements changed by f, and the others as they were

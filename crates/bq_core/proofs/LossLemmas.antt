@@ -5,12 +5,12 @@ use Rattle.std.specs.List.{AllByRecursion as All, list_any}
 use Rattle.std.proofs.lemmas.Bool.Decides.{nat_tests}
 use Rattle.std.proofs.lemmas.Bool.{cases_Bool, eqb-true, or_cases, or_left, or_right, and_parts, and_from}
 use Rattle.bq_job.specs.declared.job.Job.{Job}
-use Rattle.bq_job.specs.Changes.{job_with}
-use Rattle.bq_job.specs.Lawful.{AreIdsWithin}
-use Rattle.bq_job.specs.Machine.{SeatRecord, TubeRecord, default_tube}
-use Rattle.bq_job.specs.TubeCommands.{watching}
-use Rattle.bq_job.specs.TubeName.{is_same_name}
-use Rattle.bq_job.specs.Tubes.{fresh_tube, is_name_before, is_seated_at, watches, with_record}
+use Rattle.bq_job.specs.machine.Changes.{job_with}
+use Rattle.bq_job.specs.beside.Lawful.{AreIdsWithin}
+use Rattle.bq_job.specs.machine.Machine.{SeatRecord, TubeRecord, default_tube}
+use Rattle.bq_job.specs.machine.TubeCommands.{watching}
+use Rattle.bq_job.specs.reading.TubeName.{is_same_name}
+use Rattle.bq_job.specs.machine.Tubes.{fresh_tube, is_name_before, is_seated_at, watches, with_record}
 use Rattle.bq_job.proofs.ListLemmas.{all_weaker}
 use Rattle.bq_job.proofs.NameOrderLemmas.{not_same}
 use Rattle.bq_jobs.specs.Kept.{is_id_before, with_added, without}

@@ -5,13 +5,13 @@ use Rattle.std.specs.List.{AllByRecursion as All, list_any}
 use Rattle.std.proofs.lemmas.Bool.{cases_Bool}
 use Rattle.std.proofs.lemmas.List.{length-map}
 use Rattle.bq_job.specs.declared.job.Job.{Job}
-use Rattle.bq_job.specs.Changes.{is_ready, is_ready_state, is_waiting, job_with}
-use Rattle.bq_job.specs.Lawful.{AreIdsWithin}
-use Rattle.bq_job.specs.Limits.{greatest}
-use Rattle.bq_job.specs.Machine.{SeatRecord, TubeRecord, default_tube}
-use Rattle.bq_job.specs.Timers.{is_due, is_expired}
-use Rattle.bq_job.specs.TubeName.{is_same_name}
-use Rattle.bq_job.specs.Tubes.{is_seated_at, watches}
+use Rattle.bq_job.specs.machine.Changes.{is_ready, is_ready_state, is_waiting, job_with}
+use Rattle.bq_job.specs.beside.Lawful.{AreIdsWithin}
+use Rattle.bq_job.specs.machine.Limits.{greatest}
+use Rattle.bq_job.specs.machine.Machine.{SeatRecord, TubeRecord, default_tube}
+use Rattle.bq_job.specs.machine.Timers.{is_due, is_expired}
+use Rattle.bq_job.specs.reading.TubeName.{is_same_name}
+use Rattle.bq_job.specs.machine.Tubes.{is_seated_at, watches}
 use Rattle.bq_jobs.specs.declared.edit.Moved.{Moved}
 use Rattle.bq_jobs.specs.Changed.{KeepsId, KeepsTube, moved_by, with_changed}
 use Rattle.bq_jobs.specs.Kept.{with_added, without}

@@ -13,9 +13,9 @@ use Rattle.std.specs.Map.{keys_of, lookup}
 use Rattle.std.specs.Option.{option_map}
 use Rattle.std.proofs.lemmas.Bool.{cases_Bool}
 use Rattle.bq_index.specs.Order.{InOrder}
-use Rattle.bq_job.specs.Machine.{TubeRecord}
-use Rattle.bq_job.specs.TubeName.{is_same_name}
-use Rattle.bq_job.specs.Tubes.{fresh_tube, is_name_before, with_record}
+use Rattle.bq_job.specs.machine.Machine.{TubeRecord}
+use Rattle.bq_job.specs.reading.TubeName.{is_same_name}
+use Rattle.bq_job.specs.machine.Tubes.{fresh_tube, is_name_before, with_record}
 use Rattle.bq_core.specs.KeptTubes.{KeptTube, Named, crowd_by, crowd_kept, edited, fresh_entry, is_named_at, is_paused_by, kept_changed, record_at, record_of, tally_by, tally_kept}
 use Rattle.bq_core.specs.Tallies.{tallies_at, tallies_provided, tally_at, tally_of}
 use Rattle.bq_core.specs.TubeEntries.{AreInOrder, has_entry, provided, tube_changed, tube_changed_at}

@@ -3,11 +3,11 @@ use Rattle.std.proofs.Common.{◌≡◌, ℕ, Bool, true, false, ◌||◌, min, 
 use Rattle.std.specs.Prelude.{fold, nat_le}
 use Rattle.std.specs.List.{list_any}
 use Rattle.std.proofs.lemmas.Bool.Decides.{nat_tests}
-use Rattle.bq_job.specs.Machine.{TubeRecord}
-use Rattle.bq_job.specs.Machine.{Pause as PauseRecord}
-use Rattle.bq_job.specs.NextDue.{dues_of_pause, earliest}
-use Rattle.bq_job.specs.TubeName.{is_same_name}
-use Rattle.bq_job.specs.Tubes.{fresh_tube, is_name_before, with_record}
+use Rattle.bq_job.specs.machine.Machine.{TubeRecord}
+use Rattle.bq_job.specs.machine.Machine.{Pause as PauseRecord}
+use Rattle.bq_job.specs.beside.NextDue.{dues_of_pause, earliest}
+use Rattle.bq_job.specs.reading.TubeName.{is_same_name}
+use Rattle.bq_job.specs.machine.Tubes.{fresh_tube, is_name_before, with_record}
 use Rattle.bq_core.specs.declared.tube_entry.TubeChange.{TubeChange}
 use Rattle.bq_core.specs.declared.tube_entry.TubeChange.TheVariants.{CountPut, CountDelete, Pause}
 use Rattle.bq_core.specs.Dues.{earlier_of_both, first_pause_end, is_end_over, pause_end_after, with_tube_due}

@@ -5,12 +5,12 @@ use Rattle.std.specs.List.{AllByRecursion as All, Contains, list_any, sum_by}
 use Rattle.std.proofs.lemmas.Bool.{eqb-true, or_cases}
 use Rattle.std.proofs.lemmas.List.Sums.{sum_by-cons}
 use Rattle.bq_job.specs.declared.job.Job.{Job}
-use Rattle.bq_job.specs.Changes.{first_of, is_ready, is_waiting, seat_with}
-use Rattle.bq_job.specs.Dispatch.{is_job_before, is_waiting_for}
-use Rattle.bq_job.specs.Machine.{Machine, SeatRecord}
-use Rattle.bq_job.specs.TubeCommands.{is_ready_in}
-use Rattle.bq_job.specs.TubeName.{is_same_name}
-use Rattle.bq_job.specs.Tubes.{is_paused, watches}
+use Rattle.bq_job.specs.machine.Changes.{first_of, is_ready, is_waiting, seat_with}
+use Rattle.bq_job.specs.machine.Dispatch.{is_job_before, is_waiting_for}
+use Rattle.bq_job.specs.machine.Machine.{Machine, SeatRecord}
+use Rattle.bq_job.specs.machine.TubeCommands.{is_ready_in}
+use Rattle.bq_job.specs.reading.TubeName.{is_same_name}
+use Rattle.bq_job.specs.machine.Tubes.{is_paused, watches}
 use Rattle.bq_job.proofs.ChoiceLemmas.{first_of_agrees}
 use Rattle.bq_job.proofs.KeptLemmas.{only_seat}
 use Rattle.bq_job.proofs.ListLemmas.{all_at, all_from_members, all_weaker, contains_head, contains_tail, found_passes, list_any_not, list_any_with}

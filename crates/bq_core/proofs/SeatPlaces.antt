@@ -5,8 +5,8 @@ use Rattle.std.specs.List.{HoldsAt}
 use Rattle.std.specs.Option.{IfSome, MatchOption, option_copied}
 use Rattle.std.proofs.lemmas.Bool.{ne_eqb}
 use Rattle.std.proofs.lemmas.Option.{slice_get_past, slice_get_read}
-use Rattle.bq_job.specs.Changes.{seat_with}
-use Rattle.bq_job.specs.Machine.{SeatRecord, numbers}
+use Rattle.bq_job.specs.machine.Changes.{seat_with}
+use Rattle.bq_job.specs.machine.Machine.{SeatRecord, numbers}
 use Rattle.bq_core.specs.SeatChanges.{AreNumbered}
 use Rattle.bq_core.proofs.StateLemmas.{seat_read, seat_there}
 

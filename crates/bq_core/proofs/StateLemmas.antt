@@ -7,14 +7,14 @@ use Rattle.std.specs.Prelude.{filter, nat_lt}
 use Rattle.std.specs.List.{AllByRecursion as All, Contains, list_any}
 use Rattle.std.proofs.lemmas.Bool.{cases_Bool, eq-eqb, ne_eqb, or_cases, or_left, or_right, and_parts, and_from}
 use Rattle.bq_job.specs.declared.job.Job.{Job}
-use Rattle.bq_job.specs.Changes.{job_with, seat_with}
-use Rattle.bq_job.specs.Lawful.{AreIdsWithin}
-use Rattle.bq_job.specs.Machine.{SeatRecord, TubeRecord, default_tube, empty_seat, numbers}
-use Rattle.bq_job.specs.TubeName.{is_same_name}
-use Rattle.bq_job.specs.Timers.{is_due, is_expired, tube_after_timers}
-use Rattle.bq_job.specs.TubeCommands.{watching}
-use Rattle.bq_job.specs.Limits.{raised}
-use Rattle.bq_job.specs.Tubes.{fresh_tube, is_seated_at, watches, with_record}
+use Rattle.bq_job.specs.machine.Changes.{job_with, seat_with}
+use Rattle.bq_job.specs.beside.Lawful.{AreIdsWithin}
+use Rattle.bq_job.specs.machine.Machine.{SeatRecord, TubeRecord, default_tube, empty_seat, numbers}
+use Rattle.bq_job.specs.reading.TubeName.{is_same_name}
+use Rattle.bq_job.specs.machine.Timers.{is_due, is_expired, tube_after_timers}
+use Rattle.bq_job.specs.machine.TubeCommands.{watching}
+use Rattle.bq_job.specs.machine.Limits.{raised}
+use Rattle.bq_job.specs.machine.Tubes.{fresh_tube, is_seated_at, watches, with_record}
 use Rattle.bq_job.proofs.ListLemmas.{all_at, all_from_members, all_weaker, found_passes, list_any_with}
 use Rattle.bq_jobs.specs.Kept.{with_added, without}
 use Rattle.bq_core.specs.declared.state.State.{State}

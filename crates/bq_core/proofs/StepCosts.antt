@@ -4,13 +4,13 @@ use Rattle.std.proofs.Math.Nat.{add-mul}
 use Rattle.std.specs.List.{sum_by}
 use Rattle.std.proofs.lemmas.Nat.{mul-le}
 use Rattle.bq_job.specs.declared.step.Step.{Step}
-use Rattle.bq_job.specs.Changes.{is_waiting, without_wait}
-use Rattle.bq_job.specs.Computed.{waiting_count}
-use Rattle.bq_job.specs.Dispatch.{DispatchTurn, GivenAnswer}
-use Rattle.bq_job.specs.Machine.{Machine, SeatRecord}
-use Rattle.bq_job.specs.Steps.{Serves, acted, has_refused_share}
-use Rattle.bq_job.specs.Waits.{WaitEndTurn, next_end}
-use Rattle.bq_job.specs.Dispatch.{next_job}
+use Rattle.bq_job.specs.machine.Changes.{is_waiting, without_wait}
+use Rattle.bq_job.specs.beside.Computed.{waiting_count}
+use Rattle.bq_job.specs.machine.Dispatch.{DispatchTurn, GivenAnswer}
+use Rattle.bq_job.specs.machine.Machine.{Machine, SeatRecord}
+use Rattle.bq_job.specs.machine.Steps.{Serves, acted, has_refused_share}
+use Rattle.bq_job.specs.machine.Waits.{WaitEndTurn, next_end}
+use Rattle.bq_job.specs.machine.Dispatch.{next_job}
 use Rattle.bq_job.proofs.LawfulLemmas.{leaves_acted}
 use Rattle.bq_jobs.specs.Kept.{Kept}
 use Rattle.bq_core.specs.declared.state.State.{State}

@@ -9,17 +9,17 @@ use Rattle.std.proofs.lemmas.Bool.{and_parts}
 use Rattle.bq_job.specs.declared.step.Step.{Step}
 use Rattle.bq_job.specs.declared.job.Job.{Job}
 use Rattle.bq_job.specs.declared.job.JobState.TheVariants as states
-use Rattle.bq_job.specs.Changes.{in_state, is_waiting, with_seat, without_wait}
-use Rattle.bq_job.specs.Computed.{waiting_count}
-use Rattle.bq_job.specs.Dispatch.{DispatchTurn, GivenAnswer, IsHandOut, after_hand_out, reserved_by}
-use Rattle.bq_job.specs.Lawful.{IsLawful}
-use Rattle.bq_job.specs.Machine.{Machine, SeatRecord, TubeRecord, default_tube, empty_seat, numbers}
-use Rattle.bq_job.specs.Steps.{IsStep, acted, addressed, has_refused_share, is_growth_refused, is_share_refused}
-use Rattle.bq_job.specs.Timers.{after_timers, at_moment, is_due, is_expired, job_after_timers, tube_after_timers, with_timeout}
-use Rattle.bq_job.specs.Tubes.{forgetting, is_seated_at, is_tube}
-use Rattle.bq_job.specs.Waits.{Chain, WaitEndTurn, next_end}
-use Rattle.bq_job.specs.Dispatch.{next_job}
-use Rattle.bq_job.specs.TubeName.{is_same_name}
+use Rattle.bq_job.specs.machine.Changes.{in_state, is_waiting, with_seat, without_wait}
+use Rattle.bq_job.specs.beside.Computed.{waiting_count}
+use Rattle.bq_job.specs.machine.Dispatch.{DispatchTurn, GivenAnswer, IsHandOut, after_hand_out, reserved_by}
+use Rattle.bq_job.specs.beside.Lawful.{IsLawful}
+use Rattle.bq_job.specs.machine.Machine.{Machine, SeatRecord, TubeRecord, default_tube, empty_seat, numbers}
+use Rattle.bq_job.specs.machine.Steps.{IsStep, acted, addressed, has_refused_share, is_growth_refused, is_share_refused}
+use Rattle.bq_job.specs.machine.Timers.{after_timers, at_moment, is_due, is_expired, job_after_timers, tube_after_timers, with_timeout}
+use Rattle.bq_job.specs.machine.Tubes.{forgetting, is_seated_at, is_tube}
+use Rattle.bq_job.specs.machine.Waits.{Chain, WaitEndTurn, next_end}
+use Rattle.bq_job.specs.machine.Dispatch.{next_job}
+use Rattle.bq_job.specs.reading.TubeName.{is_same_name}
 use Rattle.bq_job.proofs.DispatchLemmas.{turn_of}
 use Rattle.bq_job.proofs.KeptLemmas.{Keeps, kept_of_lawful}
 use Rattle.bq_job.proofs.RecordLemmas.{Booked, booked_of_lawful, booked_timers}

@@ -4,14 +4,14 @@ use Rattle.std.specs.Prelude.{unwrap_or}
 use Rattle.std.specs.List.{AllByRecursion as All, Contains, list_any}
 use Rattle.std.proofs.lemmas.Bool.{cases_Bool}
 use Rattle.bq_job.specs.declared.job.Job.{Job}
-use Rattle.bq_job.specs.Changes.{is_ready, is_waiting}
-use Rattle.bq_job.specs.Dispatch.{is_job_before, is_waiting_for, next_job}
-use Rattle.bq_job.specs.JobCommands.{with_put, with_delete}
-use Rattle.bq_job.specs.Machine.{Machine, Pause, SeatRecord, TubeRecord, default_tube}
-use Rattle.bq_job.specs.Limits.{later}
-use Rattle.bq_job.specs.TubeCommands.{watching, with_pause}
-use Rattle.bq_job.specs.TubeName.{is_same_name}
-use Rattle.bq_job.specs.Tubes.{forgetting, fresh_tube, is_name_before, is_paused, is_tube, tube_record, watches, with_record, with_tube}
+use Rattle.bq_job.specs.machine.Changes.{is_ready, is_waiting}
+use Rattle.bq_job.specs.machine.Dispatch.{is_job_before, is_waiting_for, next_job}
+use Rattle.bq_job.specs.machine.JobCommands.{with_put, with_delete}
+use Rattle.bq_job.specs.machine.Machine.{Machine, Pause, SeatRecord, TubeRecord, default_tube}
+use Rattle.bq_job.specs.machine.Limits.{later}
+use Rattle.bq_job.specs.machine.TubeCommands.{watching, with_pause}
+use Rattle.bq_job.specs.reading.TubeName.{is_same_name}
+use Rattle.bq_job.specs.machine.Tubes.{forgetting, fresh_tube, is_name_before, is_paused, is_tube, tube_record, watches, with_record, with_tube}
 use Rattle.bq_job.proofs.ChoiceLemmas.{first_of_none, first_of_none_passes}
 use Rattle.bq_job.proofs.ListLemmas.{all_always, all_at, all_from_members, all_of_map, all_weaker, find_in_filter, found_passes, list_any_not, list_any_with, none_pass}
 use Rattle.bq_jobs.specs.Kept.{with_added}

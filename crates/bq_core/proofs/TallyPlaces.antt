@@ -8,13 +8,13 @@ use Rattle.std.proofs.lemmas.Bool.{cases_Bool, lt-ltb, or_left, or_right}
 use Rattle.bq_job.specs.declared.job.Job.{Job}
 use Rattle.bq_job.specs.declared.job.JobState.{JobState}
 use Rattle.bq_job.specs.declared.job.JobState.TheVariants as states
-use Rattle.bq_job.specs.Changes.{is_ready, is_ready_state, job_with}
-use Rattle.bq_job.specs.JobStates.{is_buried, is_delayed, is_reserved}
-use Rattle.bq_job.specs.Lawful.{AreIdsWithin}
-use Rattle.bq_job.specs.Limits.{greatest}
-use Rattle.bq_job.specs.Machine.{TubeRecord}
-use Rattle.bq_job.specs.TubeName.{is_same_name}
-use Rattle.bq_job.specs.Tubes.{fresh_tube, is_name_before}
+use Rattle.bq_job.specs.machine.Changes.{is_ready, is_ready_state, job_with}
+use Rattle.bq_job.specs.machine.JobStates.{is_buried, is_delayed, is_reserved}
+use Rattle.bq_job.specs.beside.Lawful.{AreIdsWithin}
+use Rattle.bq_job.specs.machine.Limits.{greatest}
+use Rattle.bq_job.specs.machine.Machine.{TubeRecord}
+use Rattle.bq_job.specs.reading.TubeName.{is_same_name}
+use Rattle.bq_job.specs.machine.Tubes.{fresh_tube, is_name_before}
 use Rattle.bq_job.proofs.ListLemmas.{count_cons}
 use Rattle.bq_job.proofs.NameOrderLemmas.{not_same}
 use Rattle.bq_jobs.specs.Kept.{with_added, without}

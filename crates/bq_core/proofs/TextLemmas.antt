@@ -1,6 +1,6 @@
 -- Texts that are made.
 use Rattle.std.proofs.Common.{◌≡◌, ◌∙◌, ℕ, List, IfOk, Result, Ok, Err, ap, decimal}
-use Rattle.bq_job.specs.Yaml.{KeyValue, key_number}
+use Rattle.bq_job.specs.texts.Yaml.{KeyValue, key_number}
 
 -- A text that is known tells the same of each machine that fits.
 pub told_of : {T E M : Type 0} (r : Result T E) (x : T) (Fits : M → Type 0) (f : M → T)

@@ -5,9 +5,9 @@ use Rattle.std.specs.Prelude.{filter, find, unwrap_or}
 use Rattle.std.specs.List.{AllByRecursion as All, insert, list_any, position, position_or_len, prefix_len}
 use Rattle.std.specs.Cmp.Lexicographic.{bytes_decides}
 use Rattle.std.proofs.lemmas.Bool.{cases_Bool, cases_lt, le-ltb, lt-ltb, or_cases}
-use Rattle.bq_job.specs.Machine.{TubeRecord}
-use Rattle.bq_job.specs.Tubes.{fresh_tube, is_name_before, with_record}
-use Rattle.bq_job.specs.TubeName.{is_same_name}
+use Rattle.bq_job.specs.machine.Machine.{TubeRecord}
+use Rattle.bq_job.specs.machine.Tubes.{fresh_tube, is_name_before, with_record}
+use Rattle.bq_job.specs.reading.TubeName.{is_same_name}
 use Rattle.bq_job.proofs.NameOrderLemmas.{after, before_trans, not_before}
 use Rattle.bq_core.specs.TubeEntries.{AreInOrder, IsFreshUnlessCounted, counted, has_entry, is_counted, provided}
 

@@ -9,12 +9,12 @@ use Rattle.bq_job.specs.declared.fault.NoMemory.{NoMemory}
 use Rattle.bq_job.specs.declared.answer.Answer.{Answer}
 use Rattle.bq_job.specs.declared.answer.Answer.TheVariants as answers
 use Rattle.bq_job.specs.declared.job.Job.{Job}
-use Rattle.bq_job.specs.Changes.{is_waiting, with_job, with_seat, without_wait}
-use Rattle.bq_job.specs.Computed.{waiting_count}
-use Rattle.bq_job.specs.Dispatch.{DispatchTurn, GivenAnswer, IsHandOut, is_job_before, is_waiting_for, next_job, next_seat, reserved_by}
-use Rattle.bq_job.specs.Machine.{Machine, SeatRecord}
-use Rattle.bq_job.specs.Steps.{has_refused_share, is_out_of_memory}
-use Rattle.bq_job.specs.Waits.{Chain, WaitEndTurn, end_of_wait, next_end}
+use Rattle.bq_job.specs.machine.Changes.{is_waiting, with_job, with_seat, without_wait}
+use Rattle.bq_job.specs.beside.Computed.{waiting_count}
+use Rattle.bq_job.specs.machine.Dispatch.{DispatchTurn, GivenAnswer, IsHandOut, is_job_before, is_waiting_for, next_job, next_seat, reserved_by}
+use Rattle.bq_job.specs.machine.Machine.{Machine, SeatRecord}
+use Rattle.bq_job.specs.machine.Steps.{has_refused_share, is_out_of_memory}
+use Rattle.bq_job.specs.machine.Waits.{Chain, WaitEndTurn, end_of_wait, next_end}
 use Rattle.bq_job.proofs.ChoiceLemmas.{first_of_none_passes}
 use Rattle.bq_job.proofs.ComputedLemmas.{next_seat_waits, waiting_falls}
 use Rattle.bq_core.specs.declared.state.State.{State}

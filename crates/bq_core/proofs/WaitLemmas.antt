@@ -6,11 +6,11 @@ use Rattle.std.proofs.lemmas.Bool.{and_parts, cases_Bool, eq-eqb, eqb-true}
 use Rattle.std.proofs.lemmas.Bool.Decides.{nat_tests}
 use Rattle.bq_job.specs.declared.answer.Answer.{Answer}
 use Rattle.bq_job.specs.declared.answer.Answer.TheVariants as answers
-use Rattle.bq_job.specs.Changes.{first_of, is_pair_before, is_waiting, with_seat, without_wait}
-use Rattle.bq_job.specs.Computed.{waiting_count}
-use Rattle.bq_job.specs.Dispatch.{is_wait_before, ticket_of}
-use Rattle.bq_job.specs.Machine.{Machine, SeatRecord}
-use Rattle.bq_job.specs.Waits.{WaitEndTurn, end_of_wait, ends_waiting, is_deadline_soon, is_timed_out, next_end}
+use Rattle.bq_job.specs.machine.Changes.{first_of, is_pair_before, is_waiting, with_seat, without_wait}
+use Rattle.bq_job.specs.beside.Computed.{waiting_count}
+use Rattle.bq_job.specs.machine.Dispatch.{is_wait_before, ticket_of}
+use Rattle.bq_job.specs.machine.Machine.{Machine, SeatRecord}
+use Rattle.bq_job.specs.machine.Waits.{WaitEndTurn, end_of_wait, ends_waiting, is_deadline_soon, is_timed_out, next_end}
 use Rattle.bq_job.proofs.ChoiceLemmas.{first_of_contains, first_of_is, first_of_is_least, first_of_none, first_of_none_passes, first_of_passes, pair_order}
 use Rattle.bq_job.proofs.ComputedLemmas.{waiting_falls}
 use Rattle.bq_job.proofs.KeptLemmas.{only_seat}

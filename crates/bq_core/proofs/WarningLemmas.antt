@@ -6,9 +6,9 @@ use Rattle.std.proofs.lemmas.Bool.{eq-eqb, eqb-true}
 use Rattle.bq_job.specs.declared.job.Job.{Job}
 use Rattle.bq_job.specs.declared.job.JobState.{JobState}
 use Rattle.bq_job.specs.declared.job.JobState.TheVariants as states
-use Rattle.bq_job.specs.Changes.{first_of, is_held_by, is_holder, is_waiting, seat_with}
-use Rattle.bq_job.specs.Machine.{SeatRecord}
-use Rattle.bq_job.specs.TubeCommands.{watching}
+use Rattle.bq_job.specs.machine.Changes.{first_of, is_held_by, is_holder, is_waiting, seat_with}
+use Rattle.bq_job.specs.machine.Machine.{SeatRecord}
+use Rattle.bq_job.specs.machine.TubeCommands.{watching}
 use Rattle.bq_job.proofs.ChoiceLemmas.{first_of_none, first_of_none_passes}
 use Rattle.bq_job.proofs.KeptLemmas.{only_seat}
 use Rattle.bq_job.proofs.ListLemmas.{all_always, all_at, all_from_members, all_of_map, all_weaker, list_any_not, list_any_with, none_pass}

@@ -11,22 +11,22 @@ use Rattle.bq_job.specs.declared.request.Request.{Request}
 use Rattle.bq_job.specs.declared.request.Request.TheVariants as requests
 use Rattle.bq_job.specs.declared.step.Step.{Step}
 use Rattle.bq_job.specs.declared.step.Step.TheVariants as steps
-use Rattle.bq_job.specs.Acts.{Effect, on_found, showing, silent, telling}
-use Rattle.bq_job.specs.Asked.{after_close, after_connect, asked, at_found, at_seat, effect, with_end}
-use Rattle.bq_job.specs.Changes.{first_of, in_state, is_held_by, is_waiting, job_with, seat_with, with_job, with_seat}
-use Rattle.bq_job.specs.Computed.{waiting_count}
-use Rattle.bq_job.specs.Dispatch.{is_job_before, reserved_by}
-use Rattle.bq_job.specs.JobCommands.{after_delete, buried, is_buried_in, is_delayed_in, is_free_for, kicked, released, waiting_from}
-use Rattle.bq_job.specs.JobStates.{is_buried, is_buried_before, is_delayed, is_due_before, is_reserved}
-use Rattle.bq_job.specs.Lawful.{IsLawful, has_one, none_twice, watches_once}
-use Rattle.bq_job.specs.Limits.{later, raised}
-use Rattle.bq_job.specs.Machine.{Machine, SeatRecord, empty_seat, numbers}
-use Rattle.bq_job.specs.StatisticsCommands.{job_statistics_or_not}
-use Rattle.bq_job.specs.Steps.{Memory, acted, granted, growth_refused, share_refused}
-use Rattle.bq_job.specs.Statistics.{tube_statistics}
-use Rattle.bq_job.specs.TubeCommands.{is_ready_in, using, watched_with, watching, watching_or_refused, with_pause}
-use Rattle.bq_job.specs.TubeName.{is_same_name}
-use Rattle.bq_job.specs.Tubes.{is_tube, with_tube}
+use Rattle.bq_job.specs.machine.Acts.{Effect, on_found, showing, silent, telling}
+use Rattle.bq_job.specs.machine.Asked.{after_close, after_connect, asked, at_found, at_seat, effect, with_end}
+use Rattle.bq_job.specs.machine.Changes.{first_of, in_state, is_held_by, is_waiting, job_with, seat_with, with_job, with_seat}
+use Rattle.bq_job.specs.beside.Computed.{waiting_count}
+use Rattle.bq_job.specs.machine.Dispatch.{is_job_before, reserved_by}
+use Rattle.bq_job.specs.machine.JobCommands.{after_delete, buried, is_buried_in, is_delayed_in, is_free_for, kicked, released, waiting_from}
+use Rattle.bq_job.specs.machine.JobStates.{is_buried, is_buried_before, is_delayed, is_due_before, is_reserved}
+use Rattle.bq_job.specs.beside.Lawful.{IsLawful, has_one, none_twice, watches_once}
+use Rattle.bq_job.specs.machine.Limits.{later, raised}
+use Rattle.bq_job.specs.machine.Machine.{Machine, SeatRecord, empty_seat, numbers}
+use Rattle.bq_job.specs.machine.StatisticsCommands.{job_statistics_or_not}
+use Rattle.bq_job.specs.machine.Steps.{Memory, acted, granted, growth_refused, share_refused}
+use Rattle.bq_job.specs.machine.Statistics.{tube_statistics}
+use Rattle.bq_job.specs.machine.TubeCommands.{is_ready_in, using, watched_with, watching, watching_or_refused, with_pause}
+use Rattle.bq_job.specs.reading.TubeName.{is_same_name}
+use Rattle.bq_job.specs.machine.Tubes.{is_tube, with_tube}
 use Rattle.bq_job.proofs.KeptLemmas.{only_seat}
 use Rattle.bq_job.proofs.ListLemmas.{all_always, all_pass, all_weaker, count_cons, found_passes}
 use Rattle.bq_job.proofs.PutLemmas.{each_put}

@@ -1,7 +1,7 @@
 -- How many clients there are.
 use Rattle.std.specs.Prelude.{Bool, false, List, Option, Some, None, count_by}
-use Rattle.bq_job.specs.Changes.{is_waiting}
-use Rattle.bq_job.specs.Machine.{SeatRecord}
+use Rattle.bq_job.specs.machine.Changes.{is_waiting}
+use Rattle.bq_job.specs.machine.Machine.{SeatRecord}
 use Rattle.bq_core.specs.Tallies.{count_with, count_without}
 use Rattle.bq_core.specs.declared.clients.Clients.{Clients}
 

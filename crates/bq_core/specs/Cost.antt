@@ -7,12 +7,12 @@ use Rattle.bq_job.specs.declared.job.Job.{Job}
 use Rattle.bq_job.specs.declared.job.JobState.{JobState}
 use Rattle.bq_job.specs.declared.job.JobState.TheVariants as states
 use Rattle.bq_job.specs.declared.step.Step.{Step}
-use Rattle.bq_job.specs.Changes.{is_waiting, job_with}
-use Rattle.bq_job.specs.Dispatch.{GivenAnswer}
-use Rattle.bq_job.specs.Machine.{Machine, SeatRecord}
-use Rattle.bq_job.specs.Steps.{IsStep, Outcome}
-use Rattle.bq_job.specs.Timers.{is_due, is_expired}
-use Rattle.bq_job.specs.TubeName.{is_same_name}
+use Rattle.bq_job.specs.machine.Changes.{is_waiting, job_with}
+use Rattle.bq_job.specs.machine.Dispatch.{GivenAnswer}
+use Rattle.bq_job.specs.machine.Machine.{Machine, SeatRecord}
+use Rattle.bq_job.specs.machine.Steps.{IsStep, Outcome}
+use Rattle.bq_job.specs.machine.Timers.{is_due, is_expired}
+use Rattle.bq_job.specs.reading.TubeName.{is_same_name}
 
 abbrev pub is_same_state : JobState → JobState → Bool
 is_same_state states.Ready states.Ready = true

@@ -2,10 +2,10 @@
 use Rattle.std.specs.Prelude.{ℕ, Bool, false, ◌-◌, nat_le, nat_lt, if◌then◌else◌, List, length, Option, Some, None, fold}
 use Rattle.std.specs.Option.{option_map}
 use Rattle.bq_job.specs.declared.job.Job.{Job}
-use Rattle.bq_job.specs.Changes.{first_of, is_held_by, is_waiting}
-use Rattle.bq_job.specs.JobStates.{due_of, is_delayed, is_due_before, is_reserved}
-use Rattle.bq_job.specs.Machine.{SeatRecord, TubeRecord}
-use Rattle.bq_job.specs.NextDue.{dues_of_pause, dues_of_wait, earlier, earliest}
+use Rattle.bq_job.specs.machine.Changes.{first_of, is_held_by, is_waiting}
+use Rattle.bq_job.specs.machine.JobStates.{due_of, is_delayed, is_due_before, is_reserved}
+use Rattle.bq_job.specs.machine.Machine.{SeatRecord, TubeRecord}
+use Rattle.bq_job.specs.beside.NextDue.{dues_of_pause, dues_of_wait, earlier, earliest}
 use Rattle.bq_jobs.specs.Leases.{deadline_of, is_lease_before}
 use Rattle.bq_core.specs.declared.tube_entry.TubeChange.{TubeChange}
 use Rattle.bq_core.specs.declared.tube_entry.TubeChange.TheVariants.{CountPut, CountDelete, Pause}

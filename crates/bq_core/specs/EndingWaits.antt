@@ -4,12 +4,12 @@ use Rattle.std.specs.List.{AllByRecursion, list_any}
 use Rattle.bq_job.specs.declared.answer.Answer.{Answer}
 use Rattle.bq_job.specs.declared.answer.Answer.TheVariants as answers
 use Rattle.bq_job.specs.declared.job.Job.{Job}
-use Rattle.bq_job.specs.Changes.{is_pair_before, is_waiting}
-use Rattle.bq_job.specs.Dispatch.{ticket_of}
-use Rattle.bq_job.specs.Machine.{Machine, SeatRecord}
-use Rattle.bq_job.specs.JobStates.{is_reserved}
+use Rattle.bq_job.specs.machine.Changes.{is_pair_before, is_waiting}
+use Rattle.bq_job.specs.machine.Dispatch.{ticket_of}
+use Rattle.bq_job.specs.machine.Machine.{Machine, SeatRecord}
+use Rattle.bq_job.specs.machine.JobStates.{is_reserved}
 use Rattle.bq_jobs.specs.Leases.{deadline_of}
-use Rattle.bq_job.specs.Waits.{ends_waiting, is_deadline_soon, is_timed_out, is_timed_out_at}
+use Rattle.bq_job.specs.machine.Waits.{ends_waiting, is_deadline_soon, is_timed_out, is_timed_out_at}
 
 -- a reservation whose time to run ends within a second
 abbrev pub is_lease_short : ℕ → Job → Bool

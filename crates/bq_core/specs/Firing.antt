@@ -2,10 +2,10 @@
 use Rattle.std.specs.Prelude.{ℕ, Bool, ◌≡◌, ◌||◌, IsTrue, List, Some, count_by, map}
 use Rattle.bq_job.specs.declared.job.Job.{Job}
 use Rattle.bq_job.specs.declared.job.JobState.{JobState}
-use Rattle.bq_job.specs.Changes.{given_back, job_with, with_job}
-use Rattle.bq_job.specs.Limits.{grown}
-use Rattle.bq_job.specs.Machine.{Machine}
-use Rattle.bq_job.specs.Timers.{is_due, is_expired, job_after_timers, tube_after_timers}
+use Rattle.bq_job.specs.machine.Changes.{given_back, job_with, with_job}
+use Rattle.bq_job.specs.machine.Limits.{grown}
+use Rattle.bq_job.specs.machine.Machine.{Machine}
+use Rattle.bq_job.specs.machine.Timers.{is_due, is_expired, job_after_timers, tube_after_timers}
 
 -- the machine once all timers of jobs have fired
 abbrev pub after_job_timers : Machine → Machine

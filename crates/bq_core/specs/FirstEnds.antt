@@ -1,9 +1,9 @@
 -- When the first wait of a client is over by its timeout.
 use Rattle.std.specs.Prelude.{ℕ, Bool, true, false, ◌≡◌, ◌&&◌, not, if◌then◌else◌, List, Option, Some, None, fold, is_some}
 use Rattle.std.specs.List.{AllByRecursion}
-use Rattle.bq_job.specs.Changes.{is_waiting}
-use Rattle.bq_job.specs.Machine.{SeatRecord}
-use Rattle.bq_job.specs.NextDue.{dues_of_wait, earliest}
+use Rattle.bq_job.specs.machine.Changes.{is_waiting}
+use Rattle.bq_job.specs.machine.Machine.{SeatRecord}
+use Rattle.bq_job.specs.beside.NextDue.{dues_of_wait, earliest}
 use Rattle.bq_core.specs.Dues.{with_seat_due}
 use Rattle.bq_core.specs.declared.first_end.FirstEnd.{FirstEnd}
 use Rattle.bq_core.specs.declared.first_end.FirstEnd.TheVariants.{Known, Unknown}

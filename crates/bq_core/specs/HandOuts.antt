@@ -2,9 +2,9 @@
 use Rattle.std.specs.Prelude.{ℕ, ◌≡◌, ◌||◌, ◌++◌, List, [], ◌∷◌, Result, IfOk}
 use Rattle.bq_job.specs.declared.fault.NoMemory.{NoMemory}
 use Rattle.bq_job.specs.declared.job.Job.{Job}
-use Rattle.bq_job.specs.Dispatch.{GivenAnswer, IsHandOut}
-use Rattle.bq_job.specs.Machine.{Machine, SeatRecord}
-use Rattle.bq_job.specs.Steps.{is_out_of_memory}
+use Rattle.bq_job.specs.machine.Dispatch.{GivenAnswer, IsHandOut}
+use Rattle.bq_job.specs.machine.Machine.{Machine, SeatRecord}
+use Rattle.bq_job.specs.machine.Steps.{is_out_of_memory}
 use Rattle.bq_core.specs.Outbox.{Outbox}
 
 -- One answer was added, and a refused share is marked.

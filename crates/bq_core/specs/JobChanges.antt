@@ -2,11 +2,11 @@
 use Rattle.std.specs.Prelude.{ℕ, Bool, false, ◌||◌, not, if◌then◌else◌, Option, Some, None}
 use Rattle.bq_job.specs.declared.job.Job.{Job}
 use Rattle.bq_job.specs.declared.job.JobState.TheVariants as states
-use Rattle.bq_job.specs.Changes.{in_state, is_held_by}
-use Rattle.bq_job.specs.Dispatch.{reserved_by}
-use Rattle.bq_job.specs.JobCommands.{buried, kicked, released}
-use Rattle.bq_job.specs.JobStates.{is_buried, is_delayed, is_reserved}
-use Rattle.bq_job.specs.Timers.{job_after_timers}
+use Rattle.bq_job.specs.machine.Changes.{in_state, is_held_by}
+use Rattle.bq_job.specs.machine.Dispatch.{reserved_by}
+use Rattle.bq_job.specs.machine.JobCommands.{buried, kicked, released}
+use Rattle.bq_job.specs.machine.JobStates.{is_buried, is_delayed, is_reserved}
+use Rattle.bq_job.specs.machine.Timers.{job_after_timers}
 use Rattle.bq_core.specs.declared.job_list.JobChange.{JobChange}
 use Rattle.bq_core.specs.declared.job_list.JobChange.TheVariants.{FireTimers, HandOut, GiveBack, Release, Bury, Touch, Kick}
 use Rattle.bq_core.specs.declared.job_list.JobTest.{JobTest}

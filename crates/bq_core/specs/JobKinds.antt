@@ -1,10 +1,10 @@
 -- The first job of a kind: by its priority, its due moment or its burial number, and then by its id.
 use Rattle.std.specs.Prelude.{ℕ, Bool, List}
 use Rattle.bq_job.specs.declared.job.Job.{Job}
-use Rattle.bq_job.specs.Changes.{is_pair_before}
-use Rattle.bq_job.specs.JobCommands.{is_buried_in, is_delayed_in}
-use Rattle.bq_job.specs.JobStates.{burial_of, due_of}
-use Rattle.bq_job.specs.TubeCommands.{is_ready_in}
+use Rattle.bq_job.specs.machine.Changes.{is_pair_before}
+use Rattle.bq_job.specs.machine.JobCommands.{is_buried_in, is_delayed_in}
+use Rattle.bq_job.specs.machine.JobStates.{burial_of, due_of}
+use Rattle.bq_job.specs.machine.TubeCommands.{is_ready_in}
 use Rattle.bq_core.specs.declared.job_list.JobKind.{JobKind}
 use Rattle.bq_core.specs.declared.job_list.JobKind.TheVariants.{Ready, Delayed, Buried}
 

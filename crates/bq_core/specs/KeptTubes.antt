@@ -6,11 +6,11 @@ use Rattle.std.specs.BTreeMap.{is_at}
 use Rattle.std.specs.Map.{set_value}
 use Rattle.std.specs.Cmp.Lexicographic.{slice_cmp}
 use Rattle.bq_job.specs.declared.job.Job.{Job}
-use Rattle.bq_job.specs.Limits.{raised}
-use Rattle.bq_job.specs.Machine.{Pause, TubeRecord, default_tube}
-use Rattle.bq_job.specs.NextDue.{dues_of_pause, earliest}
-use Rattle.bq_job.specs.Timers.{pause_after_timers}
-use Rattle.bq_job.specs.Tubes.{fresh_tube}
+use Rattle.bq_job.specs.machine.Limits.{raised}
+use Rattle.bq_job.specs.machine.Machine.{Pause, TubeRecord, default_tube}
+use Rattle.bq_job.specs.beside.NextDue.{dues_of_pause, earliest}
+use Rattle.bq_job.specs.machine.Timers.{pause_after_timers}
+use Rattle.bq_job.specs.machine.Tubes.{fresh_tube}
 use Rattle.bq_jobs.specs.declared.edit.Moved.{Moved}
 use Rattle.bq_core.specs.Crowds.{has_seats, no_crowd, recounted}
 use Rattle.bq_core.specs.Dues.{earlier_of_both}

@@ -1,6 +1,6 @@
 -- Which tubes may be gone once a client leaves them.
 use Rattle.std.specs.Prelude.{ℕ, Bool, true, false, List, [], ◌∷◌, Option, Some, None, fold}
-use Rattle.bq_job.specs.Machine.{SeatRecord}
+use Rattle.bq_job.specs.machine.Machine.{SeatRecord}
 use Rattle.bq_core.specs.Crowds.{crowd_at, has_seats}
 use Rattle.bq_core.specs.KeptTubes.{KeptTubes}
 use Rattle.bq_core.specs.Losses.{with_lost}

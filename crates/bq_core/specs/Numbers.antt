@@ -1,10 +1,10 @@
 -- The numbers that statistics tell are those of the machine.
 use Rattle.std.specs.Prelude.{ℕ, ◌≡◌, List, count_by, length}
-use Rattle.bq_job.specs.Changes.{is_waiting}
-use Rattle.bq_job.specs.Machine.{Machine}
-use Rattle.bq_job.specs.Statistics.{jobs_in, using_count, waiting_clients_of, watching_count}
-use Rattle.bq_job.specs.TubeOrder.{tubes}
-use Rattle.bq_job.specs.Tubes.{tube_record}
+use Rattle.bq_job.specs.machine.Changes.{is_waiting}
+use Rattle.bq_job.specs.machine.Machine.{Machine}
+use Rattle.bq_job.specs.machine.Statistics.{jobs_in, using_count, waiting_clients_of, watching_count}
+use Rattle.bq_job.specs.machine.TubeOrder.{tubes}
+use Rattle.bq_job.specs.machine.Tubes.{tube_record}
 use Rattle.bq_core.specs.Tallies.{tally_of}
 use Rattle.bq_core.specs.declared.texts.statistics.ServerNumbers.{ServerNumbers}
 use Rattle.bq_core.specs.declared.texts.statistics.TubeNumbers.{TubeNumbers}

@@ -3,11 +3,11 @@ use Rattle.std.specs.Prelude.{ℕ, Bool, ◌&&◌, if◌then◌else◌, List, []
 use Rattle.std.specs.Option.{option_map}
 use Rattle.std.specs.List.{list_any}
 use Rattle.bq_job.specs.declared.job.Job.{Job}
-use Rattle.bq_job.specs.Changes.{first_of, is_pair_before, is_waiting}
-use Rattle.bq_job.specs.Dispatch.{is_job_before, next_job}
-use Rattle.bq_job.specs.Machine.{Machine, SeatRecord, TubeRecord}
-use Rattle.bq_job.specs.TubeCommands.{is_ready_in}
-use Rattle.bq_job.specs.TubeName.{is_same_name}
+use Rattle.bq_job.specs.machine.Changes.{first_of, is_pair_before, is_waiting}
+use Rattle.bq_job.specs.machine.Dispatch.{is_job_before, next_job}
+use Rattle.bq_job.specs.machine.Machine.{Machine, SeatRecord, TubeRecord}
+use Rattle.bq_job.specs.machine.TubeCommands.{is_ready_in}
+use Rattle.bq_job.specs.reading.TubeName.{is_same_name}
 use Rattle.bq_jobs.specs.Kept.{ranked}
 use Rattle.bq_core.specs.Crowds.{crowd_at}
 use Rattle.bq_core.specs.KeptTubes.{KeptTubes}

@@ -1,6 +1,6 @@
 -- What stands at a place of a list.
 use Rattle.std.specs.Prelude.{ℕ, Bool, List, Option, Some, None, slice_get}
-use Rattle.bq_job.specs.Changes.{better_of}
+use Rattle.bq_job.specs.machine.Changes.{better_of}
 
 abbrev pub item_at : {A : Type 0} → List A → Option ℕ → Option A
 item_at xs None = None

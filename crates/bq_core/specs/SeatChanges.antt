@@ -1,10 +1,10 @@
 -- What happens at seats, one by one.
 use Rattle.std.specs.Prelude.{ℕ, Bool, true, ◌≡◌, ◌==◌, if◌then◌else◌, List, length, map}
-use Rattle.bq_job.specs.Asked.{with_end}
-use Rattle.bq_job.specs.Changes.{without_wait}
-use Rattle.bq_job.specs.JobCommands.{waiting_from}
-use Rattle.bq_job.specs.Machine.{SeatRecord, TubeRecord, empty_seat, numbers}
-use Rattle.bq_job.specs.TubeCommands.{using}
+use Rattle.bq_job.specs.machine.Asked.{with_end}
+use Rattle.bq_job.specs.machine.Changes.{without_wait}
+use Rattle.bq_job.specs.machine.JobCommands.{waiting_from}
+use Rattle.bq_job.specs.machine.Machine.{SeatRecord, TubeRecord, empty_seat, numbers}
+use Rattle.bq_job.specs.machine.TubeCommands.{using}
 use Rattle.bq_core.specs.TubeEntries.{has_entry}
 use Rattle.bq_core.specs.declared.seat_list.SeatChange.{SeatChange}
 use Rattle.bq_core.specs.declared.seat_list.SeatChange.TheVariants.{StopWaiting, Wait, Connect, Clear, End, Use}

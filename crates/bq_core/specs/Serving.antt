@@ -1,11 +1,11 @@
 -- Dispatch, and then the ends of waits, with their answers added.
 use Rattle.std.specs.Prelude.{ℕ, ◌≡◌, ◌+◌, ◌*◌, ◌||◌, ◌++◌, List, IsTrue, length}
 use Rattle.std.specs.List.{list_all}
-use Rattle.bq_job.specs.Computed.{waiting_count}
-use Rattle.bq_job.specs.Dispatch.{GivenAnswer}
-use Rattle.bq_job.specs.Machine.{Machine}
-use Rattle.bq_job.specs.Steps.{Serves, has_refused_share}
-use Rattle.bq_job.specs.Tubes.{is_tube}
+use Rattle.bq_job.specs.beside.Computed.{waiting_count}
+use Rattle.bq_job.specs.machine.Dispatch.{GivenAnswer}
+use Rattle.bq_job.specs.machine.Machine.{Machine}
+use Rattle.bq_job.specs.machine.Steps.{Serves, has_refused_share}
+use Rattle.bq_job.specs.machine.Tubes.{is_tube}
 use Rattle.bq_jobs.specs.Kept.{Kept}
 use Rattle.bq_core.specs.Asking.{Asks}
 use Rattle.bq_core.specs.Cost.{waited}

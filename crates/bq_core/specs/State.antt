@@ -1,8 +1,8 @@
 -- The machine that a core stands for.
 use Rattle.std.specs.Prelude.{false, ◌≡◌, ◌≤◌}
-use Rattle.bq_job.specs.JobCommands.{last_id}
-use Rattle.bq_job.specs.Lawful.{AreIdsWithin}
-use Rattle.bq_job.specs.Machine.{Machine}
+use Rattle.bq_job.specs.machine.JobCommands.{last_id}
+use Rattle.bq_job.specs.beside.Lawful.{AreIdsWithin}
+use Rattle.bq_job.specs.machine.Machine.{Machine}
 use Rattle.bq_core.specs.Clients.{clients_of}
 use Rattle.bq_core.specs.Crowds.{AreCrowds}
 use Rattle.bq_core.specs.Dues.{first_pause_end}

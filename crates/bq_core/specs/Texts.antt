@@ -1,7 +1,7 @@
 -- Texts of statistics and lists.
 use Rattle.std.specs.Prelude.{ℕ, Bool, false, ◌≡◌, ◌≤◌, ◌^◌, List, Option, Some, None, decimal, length, map}
 use Rattle.std.specs.Borrow.{Bor}
-use Rattle.bq_job.specs.TubeName.{is_same_name}
+use Rattle.bq_job.specs.reading.TubeName.{is_same_name}
 use Rattle.bq_core.specs.declared.texts.key_value.Value.{Value}
 use Rattle.bq_core.specs.declared.texts.key_value.Value.TheVariants.{Number, Word}
 

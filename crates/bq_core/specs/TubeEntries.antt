@@ -2,12 +2,12 @@
 use Rattle.std.specs.Prelude.{ℕ, Bool, true, false, ◌≡◌, ◌&&◌, ◌||◌, ◌==◌, not, nat_le, if◌then◌else◌, List, [], ◌∷◌, Option, Some, None, filter, map}
 use Rattle.std.specs.List.{AllByRecursion, list_any}
 use Rattle.bq_job.specs.declared.job.Job.{Job}
-use Rattle.bq_job.specs.JobCommands.{with_put, with_delete}
-use Rattle.bq_job.specs.Machine.{SeatRecord, TubeRecord, default_tube}
-use Rattle.bq_job.specs.Machine.{Pause as PauseRecord}
-use Rattle.bq_job.specs.TubeCommands.{with_pause}
-use Rattle.bq_job.specs.TubeName.{is_same_name}
-use Rattle.bq_job.specs.Tubes.{fresh_tube, is_name_before, is_seated_at, with_record}
+use Rattle.bq_job.specs.machine.JobCommands.{with_put, with_delete}
+use Rattle.bq_job.specs.machine.Machine.{SeatRecord, TubeRecord, default_tube}
+use Rattle.bq_job.specs.machine.Machine.{Pause as PauseRecord}
+use Rattle.bq_job.specs.machine.TubeCommands.{with_pause}
+use Rattle.bq_job.specs.reading.TubeName.{is_same_name}
+use Rattle.bq_job.specs.machine.Tubes.{fresh_tube, is_name_before, is_seated_at, with_record}
 use Rattle.bq_core.specs.declared.tube_entry.TubeChange.{TubeChange}
 use Rattle.bq_core.specs.declared.tube_entry.TubeChange.TheVariants.{CountPut, CountDelete, Pause}
 

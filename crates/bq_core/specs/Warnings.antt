@@ -4,8 +4,8 @@ use Rattle.std.specs.List.{AllByRecursion, list_any}
 use Rattle.bq_job.specs.declared.job.Job.{Job}
 use Rattle.bq_job.specs.declared.job.JobState.{JobState}
 use Rattle.bq_job.specs.declared.job.JobState.TheVariants as states
-use Rattle.bq_job.specs.Changes.{is_held_by, is_waiting, seat_with}
-use Rattle.bq_job.specs.Machine.{SeatRecord}
+use Rattle.bq_job.specs.machine.Changes.{is_held_by, is_waiting, seat_with}
+use Rattle.bq_job.specs.machine.Machine.{SeatRecord}
 use Rattle.bq_core.specs.declared.seat_list.SeatChange.{SeatChange}
 use Rattle.bq_core.specs.declared.seat_list.SeatChange.TheVariants.{Wait}
 

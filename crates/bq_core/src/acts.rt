@@ -1,9 +1,9 @@
 ghost use Rattle.std.specs.Prelude.{◌≡◌, Some, true};
 ghost use Rattle.bq_job.specs.declared.step.Step.TheVariants as steps;
-ghost use Rattle.bq_job.specs.Asked.{asked, effect, refusal_answer as answer_of_refusal};
-ghost use Rattle.bq_job.specs.Changes.{seat_with};
-ghost use Rattle.bq_job.specs.Machine.{SeatRecord};
-ghost use Rattle.bq_job.specs.Steps.{step_takes_memory, takes_memory};
+ghost use Rattle.bq_job.specs.machine.Asked.{asked, effect, refusal_answer as answer_of_refusal};
+ghost use Rattle.bq_job.specs.machine.Changes.{seat_with};
+ghost use Rattle.bq_job.specs.machine.Machine.{SeatRecord};
+ghost use Rattle.bq_job.specs.machine.Steps.{step_takes_memory, takes_memory};
 ghost use Rattle.bq_core.specs.Acting.{Acts, Replies, is_asking};
 ghost use Rattle.bq_core.specs.Asking.{AsksAsChanged};
 ghost use Rattle.bq_core.specs.State.{machine_of, IsSound};

@@ -1,8 +1,8 @@
 ghost use Rattle.std.specs.Prelude.{◌≡◌, ◌+◌, None, count_by, fold, if◌then◌else◌, ℕ};
 ghost use Rattle.std.specs.List.{list_any};
 ghost use Rattle.std.specs.Option.{option_map};
-ghost use Rattle.bq_job.specs.Changes.{is_waiting};
-ghost use Rattle.bq_job.specs.NextDue.{next_due as next_due_of};
+ghost use Rattle.bq_job.specs.machine.Changes.{is_waiting};
+ghost use Rattle.bq_job.specs.beside.NextDue.{next_due as next_due_of};
 ghost use Rattle.bq_core.specs.Asking.{Asks};
 ghost use Rattle.bq_core.specs.Dues.{earlier_of_both, timers_due, warning_due, with_seat_due, with_warning_due};
 ghost use Rattle.bq_core.specs.FirstEnds.{AreTimeouts};

@@ -1,9 +1,9 @@
 ghost use Rattle.std.specs.Prelude.{◌≡◌, ◌==◌, ◌+◌, ◌++◌, ◌∷◌, [], true, false, Some, None, nat_le};
-ghost use Rattle.bq_job.specs.Acts.{silent, telling};
-ghost use Rattle.bq_job.specs.Changes.{seat_with};
-ghost use Rattle.bq_job.specs.JobCommands.{bury_effect, delete_effect, is_full as is_full_of, kick_job_effect, last_id, new_job as job_of_put, put_effect, release_effect, reserve_effect, reserve_job_effect, touch_effect};
-ghost use Rattle.bq_job.specs.Limits.{later as later_by, raised};
-ghost use Rattle.bq_job.specs.Machine.{SeatRecord};
+ghost use Rattle.bq_job.specs.machine.Acts.{silent, telling};
+ghost use Rattle.bq_job.specs.machine.Changes.{seat_with};
+ghost use Rattle.bq_job.specs.machine.JobCommands.{bury_effect, delete_effect, is_full as is_full_of, kick_job_effect, last_id, new_job as job_of_put, put_effect, release_effect, reserve_effect, reserve_job_effect, touch_effect};
+ghost use Rattle.bq_job.specs.machine.Limits.{later as later_by, raised};
+ghost use Rattle.bq_job.specs.machine.Machine.{SeatRecord};
 ghost use Rattle.bq_core.specs.Acting.{Replies, is_asking};
 ghost use Rattle.bq_core.specs.Asking.{AsksAsChanged};
 ghost use Rattle.bq_core.specs.Putting.{after_given};

@@ -1,8 +1,8 @@
 ghost use Rattle.std.specs.Prelude.{◌≡◌, ◌<◌, ◌≤◌, ◌+◌, ◌*◌, [], Some, count_by, false, length, take, true};
 ghost use Rattle.bq_job.specs.declared.job.Job.{Job};
-ghost use Rattle.bq_job.specs.Changes.{seat_with};
-ghost use Rattle.bq_job.specs.JobCommands.{after_kick, kick_effect, kickable, kicked};
-ghost use Rattle.bq_job.specs.Machine.{SeatRecord};
+ghost use Rattle.bq_job.specs.machine.Changes.{seat_with};
+ghost use Rattle.bq_job.specs.machine.JobCommands.{after_kick, kick_effect, kickable, kicked};
+ghost use Rattle.bq_job.specs.machine.Machine.{SeatRecord};
 ghost use Rattle.bq_jobs.specs.Kept.{ComparesAtMost};
 ghost use Rattle.bq_core.specs.Acting.{Replies};
 ghost use Rattle.bq_core.specs.Asking.{Asks, AsksAsChanged};

@@ -1,8 +1,8 @@
 //! The jobs that a client holds.
 ghost use Rattle.std.specs.Prelude.{◌≡◌, ◌<◌, ◌+◌, ◌*◌, true, false, count_by};
-ghost use Rattle.bq_job.specs.Asked.{state_once_left};
-ghost use Rattle.bq_job.specs.Changes.{is_held_by};
-ghost use Rattle.bq_job.specs.JobStates.{is_reserved};
+ghost use Rattle.bq_job.specs.machine.Asked.{state_once_left};
+ghost use Rattle.bq_job.specs.machine.Changes.{is_held_by};
+ghost use Rattle.bq_job.specs.machine.JobStates.{is_reserved};
 ghost use Rattle.bq_core.specs.Asking.{Asks};
 ghost use Rattle.bq_core.specs.Firing.{after_giving_back};
 ghost use Rattle.bq_core.specs.State.{machine_of, IsSound};

@@ -1,8 +1,8 @@
 ghost use Rattle.std.specs.Prelude.{◌≡◌, ◌<◌, ◌↔◌, ◌&&◌, None, false, not, IsTrue, IfOk, IsErrOf};
-ghost use Rattle.bq_job.specs.Lawful.{IsLawful};
-ghost use Rattle.bq_job.specs.Machine.{new_machine};
-ghost use Rattle.bq_job.specs.NextDue.{next_due};
-ghost use Rattle.bq_job.specs.Steps.{IsStep};
+ghost use Rattle.bq_job.specs.beside.Lawful.{IsLawful};
+ghost use Rattle.bq_job.specs.machine.Machine.{new_machine};
+ghost use Rattle.bq_job.specs.beside.NextDue.{next_due};
+ghost use Rattle.bq_job.specs.machine.Steps.{IsStep};
 ghost use Rattle.bq_core.specs.Cost.{IsLookWithin, IsStepWithin};
 ghost use Rattle.bq_core.specs.Limits.{is_body_size, is_job_limit, is_seat_count};
 ghost use Rattle.bq_core.specs.State.{machine_of, IsSound};
@@ -26,7 +26,7 @@ pub struct Core {
 }
 
 impl Model for Core {
-    ghost use Rattle.bq_job.specs.Lawful.{IsLawful};
+    ghost use Rattle.bq_job.specs.beside.Lawful.{IsLawful};
     ghost use Rattle.bq_core.specs.CoreState.{CoreState};
     ghost use Rattle.bq_core.specs.State.{machine_of, IsSound};
 

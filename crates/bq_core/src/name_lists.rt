@@ -2,8 +2,8 @@
 ghost use Rattle.std.specs.Prelude.{◌≡◌, ◌<◌, ◌≤◌, ◌+◌, length, not, vec_len, IfOk};
 ghost use Rattle.std.specs.List.{position, prefix_len, slice_get};
 ghost use Rattle.std.specs.Vec.{vec_capacity};
-ghost use Rattle.bq_job.specs.TubeOrder.{in_name_order, with_name};
-ghost use Rattle.bq_job.specs.Tubes.{is_name_before};
+ghost use Rattle.bq_job.specs.machine.TubeOrder.{in_name_order, with_name};
+ghost use Rattle.bq_job.specs.machine.Tubes.{is_name_before};
 ghost use Rattle.bq_core.specs.Texts.{is_named, names_of};
 
 use bq_job::{NoMemory, TubeName};

@@ -1,15 +1,15 @@
 ghost use Rattle.std.specs.Prelude.{◌≡◌, ◌&&◌, ◌++◌, ◌∷◌, [], true, filter, length, not, IfOk, OnErr};
 ghost use Rattle.std.specs.List.{list_any};
-ghost use Rattle.bq_job.specs.Asked.{with_end};
-ghost use Rattle.bq_job.specs.Changes.{is_waiting, without_wait};
-ghost use Rattle.bq_job.specs.Dispatch.{is_wait_before, ticket_of};
-ghost use Rattle.bq_job.specs.JobCommands.{waiting_from};
-ghost use Rattle.bq_job.specs.Machine.{empty_seat};
-ghost use Rattle.bq_job.specs.NextDue.{dues_of_wait, earliest};
-ghost use Rattle.bq_job.specs.TubeCommands.{using, watching};
-ghost use Rattle.bq_job.specs.TubeName.{is_same_name};
-ghost use Rattle.bq_job.specs.Tubes.{watches};
-ghost use Rattle.bq_job.specs.Waits.{is_timed_out_at};
+ghost use Rattle.bq_job.specs.machine.Asked.{with_end};
+ghost use Rattle.bq_job.specs.machine.Changes.{is_waiting, without_wait};
+ghost use Rattle.bq_job.specs.machine.Dispatch.{is_wait_before, ticket_of};
+ghost use Rattle.bq_job.specs.machine.JobCommands.{waiting_from};
+ghost use Rattle.bq_job.specs.machine.Machine.{empty_seat};
+ghost use Rattle.bq_job.specs.beside.NextDue.{dues_of_wait, earliest};
+ghost use Rattle.bq_job.specs.machine.TubeCommands.{using, watching};
+ghost use Rattle.bq_job.specs.reading.TubeName.{is_same_name};
+ghost use Rattle.bq_job.specs.machine.Tubes.{watches};
+ghost use Rattle.bq_job.specs.machine.Waits.{is_timed_out_at};
 ghost use Rattle.bq_core.specs.EndingWaits.{is_after, turn_of};
 
 use crate::watch_list::{WatchList, default_tube};
@@ -28,7 +28,7 @@ pub(crate) struct Waiting {
 }
 
 impl Model for Waiting {
-    ghost use Rattle.bq_job.specs.Machine.{Wait};
+    ghost use Rattle.bq_job.specs.machine.Machine.{Wait};
 
     ghost Value = { Wait };
 
@@ -49,7 +49,7 @@ pub(crate) struct Place {
 }
 
 impl Model for Place {
-    ghost use Rattle.bq_job.specs.Machine.{SeatRecord};
+    ghost use Rattle.bq_job.specs.machine.Machine.{SeatRecord};
 
     ghost Value = { SeatRecord };
 

@@ -1,11 +1,11 @@
 ghost use Rattle.std.specs.Prelude.{◌≡◌, ◌<◌, ◌++◌, ◌∷◌, [], true, filter, map, length, not, set, slice_get, IfSome, IfOk, OnErr, Some};
 ghost use Rattle.std.specs.List.{list_any};
 ghost use Rattle.std.specs.Option.{option_copied, option_map};
-ghost use Rattle.bq_job.specs.Changes.{first_of, seat_with};
-ghost use Rattle.bq_job.specs.Dispatch.{is_wait_before};
-ghost use Rattle.bq_job.specs.Machine.{SeatRecord, empty_seat, numbers};
-ghost use Rattle.bq_job.specs.TubeCommands.{watching};
-ghost use Rattle.bq_job.specs.TubeName.{is_same_name};
+ghost use Rattle.bq_job.specs.machine.Changes.{first_of, seat_with};
+ghost use Rattle.bq_job.specs.machine.Dispatch.{is_wait_before};
+ghost use Rattle.bq_job.specs.machine.Machine.{SeatRecord, empty_seat, numbers};
+ghost use Rattle.bq_job.specs.machine.TubeCommands.{watching};
+ghost use Rattle.bq_job.specs.reading.TubeName.{is_same_name};
 ghost use Rattle.bq_core.specs.SeatChanges.{AreNumbered, seat_changed, seat_changed_at};
 ghost use Rattle.bq_core.specs.Places.{item_at, better_if};
 ghost use Rattle.bq_core.specs.EndingWaits.{has_waited, waits_after};

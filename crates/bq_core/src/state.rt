@@ -1,12 +1,12 @@
 ghost use Rattle.std.specs.Prelude.{◌≡◌, ◌&&◌, nat_lt, ◌<◌, ◌≤◌, ◌++◌, ◌∷◌, [], OnErr, Some, None, true, false, length, map, max, filter, not, if◌then◌else◌, IfSome, IfOk};
 ghost use Rattle.std.specs.List.{list_any};
-ghost use Rattle.bq_job.specs.Changes.{is_held_by, is_ready_state, job_with, seat_with, with_job, with_seat};
-ghost use Rattle.bq_job.specs.Machine.{SeatRecord, empty_seat, new_machine, numbers};
-ghost use Rattle.bq_job.specs.Timers.{at_moment};
-ghost use Rattle.bq_job.specs.TubeCommands.{watching};
-ghost use Rattle.bq_job.specs.TubeName.{is_same_name};
-ghost use Rattle.bq_job.specs.TubeOrder.{tubes};
-ghost use Rattle.bq_job.specs.Tubes.{forgetting, watches, with_tube};
+ghost use Rattle.bq_job.specs.machine.Changes.{is_held_by, is_ready_state, job_with, seat_with, with_job, with_seat};
+ghost use Rattle.bq_job.specs.machine.Machine.{SeatRecord, empty_seat, new_machine, numbers};
+ghost use Rattle.bq_job.specs.machine.Timers.{at_moment};
+ghost use Rattle.bq_job.specs.machine.TubeCommands.{watching};
+ghost use Rattle.bq_job.specs.reading.TubeName.{is_same_name};
+ghost use Rattle.bq_job.specs.machine.TubeOrder.{tubes};
+ghost use Rattle.bq_job.specs.machine.Tubes.{forgetting, watches, with_tube};
 ghost use Rattle.bq_jobs.specs.Kept.{ComparesAtMost, with_added, without};
 ghost use Rattle.bq_core.specs.Asking.{Asks};
 ghost use Rattle.bq_core.specs.Crowds.{crowd_at, may_wait};
@@ -72,7 +72,7 @@ impl State {
     ghost use Rattle.std.specs.Prelude.{is_some};
     ghost use Rattle.std.specs.Option.{option_map};
     ghost use Rattle.bq_job.specs.declared.job.Job.{Job};
-    ghost use Rattle.bq_job.specs.Changes.{first_of, is_ready, is_waiting};
+    ghost use Rattle.bq_job.specs.machine.Changes.{first_of, is_ready, is_waiting};
     ghost use Rattle.bq_core.specs.JobKinds.{is_before_of, is_of};
     ghost use Rattle.bq_core.specs.Acting.{is_asking, is_connected, is_free};
     ghost use Rattle.bq_core.specs.Crowds.{is_waiter};

@@ -1,10 +1,10 @@
 //! Commands that count or list. They change nothing.
 ghost use Rattle.std.specs.Prelude.{◌≡◌, true, is_some, Some, IfOk, IfSome};
 ghost use Rattle.bq_job.specs.declared.job.Job.{Job};
-ghost use Rattle.bq_job.specs.Changes.{job_with, seat_with};
-ghost use Rattle.bq_job.specs.Machine.{Machine, SeatRecord};
-ghost use Rattle.bq_job.specs.Statistics.{job_statistics};
-ghost use Rattle.bq_job.specs.StatisticsCommands.{list_tubes_effect, list_watched_effect, stats_effect, stats_job_effect, stats_tube_effect};
+ghost use Rattle.bq_job.specs.machine.Changes.{job_with, seat_with};
+ghost use Rattle.bq_job.specs.machine.Machine.{Machine, SeatRecord};
+ghost use Rattle.bq_job.specs.machine.Statistics.{job_statistics};
+ghost use Rattle.bq_job.specs.machine.StatisticsCommands.{list_tubes_effect, list_watched_effect, stats_effect, stats_job_effect, stats_tube_effect};
 ghost use Rattle.bq_jobs.specs.Kept.{ComparesAtMost};
 ghost use Rattle.bq_core.specs.Acting.{Replies};
 ghost use Rattle.bq_core.specs.Asking.{AsksAsChanged};

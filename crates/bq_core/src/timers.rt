@@ -1,7 +1,7 @@
 //! Timers that are due fire.
 ghost use Rattle.std.specs.Prelude.{◌≡◌, ◌<◌, ◌≤◌, ◌+◌, ◌*◌, true, false, IfSome, None, count_by, if◌then◌else◌};
 ghost use Rattle.std.specs.List.{list_any};
-ghost use Rattle.bq_job.specs.Timers.{after_timers, is_due, is_expired};
+ghost use Rattle.bq_job.specs.machine.Timers.{after_timers, is_due, is_expired};
 ghost use Rattle.bq_jobs.specs.Kept.{ComparesAtMost};
 ghost use Rattle.bq_core.specs.Asking.{Asks};
 ghost use Rattle.bq_core.specs.Firing.{ExpiresOne, IsOne, after_job_timers, is_ripe, with_pauses_ended};

@@ -1,10 +1,10 @@
 ghost use Rattle.std.specs.Prelude.{◌≡◌, true, false, Some};
 ghost use Rattle.std.specs.Option.{option_map};
-ghost use Rattle.bq_job.specs.Acts.{showing, telling};
+ghost use Rattle.bq_job.specs.machine.Acts.{showing, telling};
 ghost use Rattle.bq_job.specs.declared.answer.Answer.TheVariants as answers;
-ghost use Rattle.bq_job.specs.Changes.{first_of, job_with, seat_with};
-ghost use Rattle.bq_job.specs.Machine.{SeatRecord};
-ghost use Rattle.bq_job.specs.TubeCommands.{ignore_effect, pause_effect, peek_effect, use_effect, watch_effect};
+ghost use Rattle.bq_job.specs.machine.Changes.{first_of, job_with, seat_with};
+ghost use Rattle.bq_job.specs.machine.Machine.{SeatRecord};
+ghost use Rattle.bq_job.specs.machine.TubeCommands.{ignore_effect, pause_effect, peek_effect, use_effect, watch_effect};
 ghost use Rattle.bq_core.specs.Acting.{Replies};
 ghost use Rattle.bq_core.specs.Asking.{Asks, AsksAsChanged};
 ghost use Rattle.bq_core.specs.JobKinds.{is_before_of, is_of};

@@ -1,7 +1,7 @@
 //! What is kept of a tube.
 ghost use Rattle.std.specs.Prelude.{◌≡◌, [], is_some};
-ghost use Rattle.bq_job.specs.NextDue.{dues_of_pause, earliest};
-ghost use Rattle.bq_job.specs.TubeCommands.{with_pause};
+ghost use Rattle.bq_job.specs.beside.NextDue.{dues_of_pause, earliest};
+ghost use Rattle.bq_job.specs.machine.TubeCommands.{with_pause};
 ghost use Rattle.bq_core.specs.KeptTubes.{ended, fresh_entry, kept_after, kept_changed, kept_moved, kept_recounted, record_of};
 ghost use Rattle.bq_core.specs.Tallies.{tally_with, tally_without};
 
@@ -20,7 +20,7 @@ pub(crate) struct Pausing {
 }
 
 impl Model for Pausing {
-    ghost use Rattle.bq_job.specs.Machine.{Pause};
+    ghost use Rattle.bq_job.specs.machine.Machine.{Pause};
 
     ghost Value = { Pause };
 

@@ -3,9 +3,9 @@ ghost use Rattle.std.specs.Prelude.{◌≡◌, ◌&&◌, IfOk, filter, find, len
 ghost use Rattle.std.specs.List.{list_any};
 ghost use Rattle.std.specs.Option.{option_map};
 ghost use Rattle.bq_job.specs.declared.job.Job.{Job};
-ghost use Rattle.bq_job.specs.Machine.{SeatRecord};
-ghost use Rattle.bq_job.specs.TubeName.{is_same_name};
-ghost use Rattle.bq_job.specs.Timers.{tube_after_timers};
+ghost use Rattle.bq_job.specs.machine.Machine.{SeatRecord};
+ghost use Rattle.bq_job.specs.reading.TubeName.{is_same_name};
+ghost use Rattle.bq_job.specs.machine.Timers.{tube_after_timers};
 ghost use Rattle.bq_core.specs.Crowds.{crowd_at, crowds_at, crowds_of, crowds_provided, has_seats, recounted};
 ghost use Rattle.bq_core.specs.Dues.{first_pause_end, pause_end_after, pause_end_left};
 ghost use Rattle.bq_core.specs.Losses.{AreAlive};

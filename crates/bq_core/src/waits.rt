@@ -1,8 +1,8 @@
 ghost use Rattle.std.specs.Prelude.{◌≡◌, ◌<◌, ◌+◌, None, Some, true, false, length, slice_get};
 ghost use Rattle.std.specs.List.{list_any};
-ghost use Rattle.bq_job.specs.Computed.{waiting_count};
-ghost use Rattle.bq_job.specs.Waits.{WaitEndTurn, next_end};
-ghost use Rattle.bq_job.specs.Machine.{SeatRecord};
+ghost use Rattle.bq_job.specs.beside.Computed.{waiting_count};
+ghost use Rattle.bq_job.specs.machine.Waits.{WaitEndTurn, next_end};
+ghost use Rattle.bq_job.specs.machine.Machine.{SeatRecord};
 ghost use Rattle.bq_core.specs.Asking.{Asks};
 ghost use Rattle.bq_core.specs.EndingWaits.{AreLookedAt, has_waited, left_after, may_end, told_at_end};
 ghost use Rattle.bq_core.specs.State.{machine_of, IsSound, OnlyCompares};

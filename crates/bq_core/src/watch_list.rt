@@ -1,7 +1,7 @@
 ghost use Rattle.std.specs.Prelude.{◌≡◌, ◌++◌, ◌∷◌, [], true, filter, not, length, IfOk, OnErr};
 ghost use Rattle.std.specs.List.{list_any};
-ghost use Rattle.bq_job.specs.Machine.{default_tube};
-ghost use Rattle.bq_job.specs.TubeName.{is_same_name};
+ghost use Rattle.bq_job.specs.machine.Machine.{default_tube};
+ghost use Rattle.bq_job.specs.reading.TubeName.{is_same_name};
 
 use crate::room;
 use bq_job::{NoMemory, TubeName};

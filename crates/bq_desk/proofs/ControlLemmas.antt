@@ -4,7 +4,7 @@ use Rattle.std.proofs.lemmas.List.{replicate-append-replicate}
 use Rattle.std.proofs.lemmas.Bool.{cases_Bool}
 use Rattle.std.specs.Prelude.{nat_eq}
 use Rattle.std.specs.Cmp.Lexicographic.{pointwise}
-use Rattle.bq_job.specs.ControlDid.{are_same, drain_word, drains, drains_from, one_if}
+use Rattle.bq_job.specs.promise.ControlDid.{are_same, drain_word, drains, drains_from, one_if}
 use Rattle.bq_job.specs.declared.step.Step.{Step}
 use Rattle.bq_job.specs.declared.step.Step.TheVariants.{Drain}
 use Rattle.std.specs.Io.KnownBytes.{Consumes, IsAtEnd, Keeps}

@@ -5,8 +5,8 @@ use Rattle.bq_job.specs.declared.answer.Answer.{Answer}
 use Rattle.bq_job.specs.declared.line_end.LineFault.{LineFault}
 use Rattle.bq_job.specs.declared.line_end.LineFault.TheVariants as faults
 use Rattle.bq_job.specs.declared.step.Step.{Step}
-use Rattle.bq_job.specs.AnswerText.{answer_text}
-use Rattle.bq_job.specs.LineSteps.{IsBeginning, LineSeen, answers_text}
+use Rattle.bq_job.specs.texts.AnswerText.{answer_text}
+use Rattle.bq_job.specs.promise.LineSteps.{IsBeginning, LineSeen, answers_text}
 use Rattle.bq_seat.specs.Past.{Past, with_fault, with_mail}
 use Rattle.bq_seat.specs.Served.{seen_line}
 use Rattle.bq_desk.specs.Attending.{IsWrittenSo}

@@ -4,7 +4,7 @@ use Rattle.std.specs.Prelude.{◌==◌, if◌then◌else◌, slice_index_or}
 use Rattle.std.proofs.lemmas.Bool.{cases_Bool, eq-eqb, eqb-true, eqb-false}
 use Rattle.std.proofs.lemmas.List.{get_or-set_other, get_or-set_same, get_or_default, length-set, set-get_or}
 use Rattle.bq_job.specs.declared.answer.Answer.{Answer}
-use Rattle.bq_job.specs.Runs.{Run, answers_to}
+use Rattle.bq_job.specs.promise.Runs.{Run, answers_to}
 use Rattle.bq_job.proofs.RunLemmas.{run_none}
 use Rattle.bq_desk.specs.DeskState.{DeskState, waiting}
 use Rattle.bq_desk.specs.DeskWent.{SeatWent}

@@ -8,10 +8,10 @@ use Rattle.bq_job.specs.declared.line_end.LineFault.TheVariants as faults
 use Rattle.bq_job.specs.declared.request.Request.{Request}
 use Rattle.bq_job.specs.declared.step.Step.{Step}
 use Rattle.bq_job.specs.declared.step.Step.TheVariants as steps
-use Rattle.bq_job.specs.AnswerText.{answer_text}
-use Rattle.bq_job.specs.LineSteps.{IsOverBy, IsWritten, LineSeen, MayTellEnd, answers_text, heard}
-use Rattle.bq_job.specs.Reading.{Reads}
-use Rattle.bq_job.specs.SeatDid.{IsLineServed, IsNoneUnwritten}
+use Rattle.bq_job.specs.texts.AnswerText.{answer_text}
+use Rattle.bq_job.specs.promise.LineSteps.{IsOverBy, IsWritten, LineSeen, MayTellEnd, answers_text, heard}
+use Rattle.bq_job.specs.reading.Reading.{Reads}
+use Rattle.bq_job.specs.beside.SeatDid.{IsLineServed, IsNoneUnwritten}
 use Rattle.bq_seat.specs.Finds.{Finds}
 use Rattle.bq_seat.specs.InTurn.{IsInTurn}
 use Rattle.bq_seat.specs.Past.{Awaited, IsOrderly, Past, answers, awaited_by, is_stray, no_past, past_after, with_action, with_event, with_fault, with_mail}

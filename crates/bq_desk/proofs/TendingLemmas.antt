@@ -4,9 +4,9 @@ use Rattle.bq_job.specs.declared.answer.Answer.{Answer}
 use Rattle.bq_job.specs.declared.line_end.LineEnd.{LineEnd}
 use Rattle.bq_job.specs.declared.step.Step.{Step}
 use Rattle.bq_job.specs.declared.step.Step.TheVariants.{Gone}
-use Rattle.bq_job.specs.History.{LineOver}
-use Rattle.bq_job.specs.LineSteps.{LineSeen}
-use Rattle.bq_job.specs.SeatDid.{AreLinesServed, IsLineServed}
+use Rattle.bq_job.specs.promise.History.{LineOver}
+use Rattle.bq_job.specs.promise.LineSteps.{LineSeen}
+use Rattle.bq_job.specs.beside.SeatDid.{AreLinesServed, IsLineServed}
 use Rattle.bq_seat.specs.Past.{Awaited}
 use Rattle.bq_seat.specs.SeatMoves.{IsMove}
 use Rattle.bq_seat.specs.SeatStands.{awaited}

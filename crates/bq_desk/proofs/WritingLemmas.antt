@@ -2,7 +2,7 @@
 use Rattle.std.proofs.Common.{◌≡◌, ℕ, ◌+◌, ◌-◌, Bool, true, false, List, [], ◌++◌, sym, ap, ◌∙◌, arith, length, take, drop, take-add, append_assoc, append-nil}
 use Rattle.std.proofs.lemmas.Grind.{common_steps}
 use Rattle.std.proofs.lemmas.List.{take-append-drop}
-use Rattle.bq_job.specs.LineSteps.{LineSeen, IsBeginning}
+use Rattle.bq_job.specs.promise.LineSteps.{LineSeen, IsBeginning}
 use Rattle.bq_job.specs.declared.line_end.LineFault.TheVariants as faults
 use Rattle.bq_line.specs.LineCalls.{with_line_fault}
 use Rattle.bq_desk.specs.Writing.{BreaksOff, Writes, with_written}

@@ -5,9 +5,9 @@ use Rattle.bq_job.specs.declared.line_end.LineFault.{LineFault}
 use Rattle.bq_job.specs.declared.line_end.LineFault.TheVariants as faults
 use Rattle.bq_job.specs.declared.step.Step.{Step}
 use Rattle.bq_job.specs.declared.step.Step.TheVariants.{Gone}
-use Rattle.bq_job.specs.History.{LineOver}
-use Rattle.bq_job.specs.LineSteps.{IsCutOff, LineSeen, answers_text}
-use Rattle.bq_job.specs.SeatDid.{AreLinesServed}
+use Rattle.bq_job.specs.promise.History.{LineOver}
+use Rattle.bq_job.specs.promise.LineSteps.{IsCutOff, LineSeen, answers_text}
+use Rattle.bq_job.specs.beside.SeatDid.{AreLinesServed}
 use Rattle.bq_seat.specs.Past.{Awaited, Past, awaited_by, with_action}
 use Rattle.bq_seat.specs.Finds.{Finds}
 use Rattle.bq_seat.specs.SeatStands.{StandsFor, awaited}

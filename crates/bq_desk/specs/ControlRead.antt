@@ -1,7 +1,7 @@
 -- How the control line is read.
 use Rattle.std.specs.Prelude.{ℕ, Bool, true, false, ◌≡◌, ◌+◌, ◌||◌, IsTrue, List, [], ◌++◌, Option, Some, None, Result, Ok, Err}
 use Rattle.bq_job.specs.declared.step.Step.{Step}
-use Rattle.bq_job.specs.ControlDid.{are_same, drain_word, drains_from, one_if}
+use Rattle.bq_job.specs.promise.ControlDid.{are_same, drain_word, drains_from, one_if}
 use Rattle.bq_desk.specs.ControlSeen.{ControlSeen}
 use Rattle.bq_desk.specs.Links.{as_submitted}
 

@@ -2,9 +2,9 @@
 use Rattle.std.specs.Prelude.{ℕ, ◌≡◌, ◌<◌, ◌≤◌, List, [], ◌∷◌, ◌++◌, length, replicate, slice_index_or}
 use Rattle.bq_job.specs.declared.answer.Answer.{Answer}
 use Rattle.bq_job.specs.declared.settings.Settings.{Settings}
-use Rattle.bq_job.specs.Dispatch.{GivenAnswer}
-use Rattle.bq_job.specs.Machine.{Machine, new_machine}
-use Rattle.bq_job.specs.Runs.{answers_to}
+use Rattle.bq_job.specs.machine.Dispatch.{GivenAnswer}
+use Rattle.bq_job.specs.machine.Machine.{Machine, new_machine}
+use Rattle.bq_job.specs.promise.Runs.{answers_to}
 
 pub record DeskState : Type 0 where
   pub core : Machine

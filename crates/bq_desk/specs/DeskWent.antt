@@ -2,9 +2,9 @@
 use Rattle.std.specs.Prelude.{ℕ, ◌≡◌, ◌≢◌, ◌<◌, List, [], ◌++◌, length, Option}
 use Rattle.bq_job.specs.declared.answer.Answer.{Answer}
 use Rattle.bq_job.specs.declared.step.Step.{Step}
-use Rattle.bq_job.specs.Dispatch.{GivenAnswer}
-use Rattle.bq_job.specs.History.{IsTimedFrom, steps_at}
-use Rattle.bq_job.specs.Runs.{Entry, Run, answers_to}
+use Rattle.bq_job.specs.machine.Dispatch.{GivenAnswer}
+use Rattle.bq_job.specs.promise.History.{IsTimedFrom, steps_at}
+use Rattle.bq_job.specs.promise.Runs.{Entry, Run, answers_to}
 use Rattle.bq_desk.specs.DeskState.{DeskState, waiting}
 
 -- The core took the steps of this history at moments of these readings, and at each seat these answers were

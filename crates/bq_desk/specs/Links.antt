@@ -2,7 +2,7 @@
 use Rattle.std.specs.Prelude.{◌≡◌, ◌⊎◌, List, [], ◌∷◌, Result, Ok, Err, if◌then◌else◌}
 use Rattle.bq_job.specs.declared.answer.Answer.{Answer}
 use Rattle.bq_job.specs.declared.step.Step.{Step}
-use Rattle.bq_job.specs.History.{is_tick}
+use Rattle.bq_job.specs.promise.History.{is_tick}
 
 -- What a seat submits by a step: that step. A tick is no seat's own, and is not counted.
 abbrev pub as_submitted : Step → List Step

@@ -2,9 +2,9 @@
 use Rattle.std.specs.Prelude.{ℕ, ◌≡◌, Bool, true, false, List, [], ◌∷◌, ◌++◌}
 use Rattle.bq_job.specs.declared.answer.Answer.{Answer}
 use Rattle.bq_job.specs.declared.step.Step.{Step}
-use Rattle.bq_job.specs.History.{LineOver}
-use Rattle.bq_job.specs.LineSteps.{LineSeen}
-use Rattle.bq_job.specs.SeatDid.{IsSeatDone}
+use Rattle.bq_job.specs.promise.History.{LineOver}
+use Rattle.bq_job.specs.promise.LineSteps.{LineSeen}
+use Rattle.bq_job.specs.beside.SeatDid.{IsSeatDone}
 use Rattle.bq_seat.specs.Past.{Awaited}
 use Rattle.bq_seat.specs.SeatStands.{awaited}
 use Rattle.bq_seat.specs.declared.machine.SeatMachine.{SeatMachine}

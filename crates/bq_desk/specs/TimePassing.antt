@@ -1,8 +1,8 @@
 -- How time passes at a desk.
 use Rattle.std.specs.Prelude.{ℕ, ◌≡◌, MatchBool, nat_le, List, [], ◌∷◌, Option, Some, None}
 use Rattle.bq_job.specs.declared.step.Step.TheVariants.{Tick}
-use Rattle.bq_job.specs.History.{moment_heard}
-use Rattle.bq_job.specs.Steps.{IsStep, Outcome}
+use Rattle.bq_job.specs.promise.History.{moment_heard}
+use Rattle.bq_job.specs.machine.Steps.{IsStep, Outcome}
 use Rattle.bq_desk.specs.DeskOf.{GaveReadings, state_of}
 use Rattle.bq_desk.specs.declared.desk.Desk.{Desk}
 

@@ -1,7 +1,7 @@
 -- Texts that are written to a line.
 use Rattle.std.specs.Prelude.{ℕ, ◌≡◌, Bool, MatchBool, List, ◌++◌}
 use Rattle.bq_job.specs.declared.line_end.LineFault.TheVariants as faults
-use Rattle.bq_job.specs.LineSteps.{LineSeen, IsBeginning}
+use Rattle.bq_job.specs.promise.LineSteps.{LineSeen, IsBeginning}
 use Rattle.bq_line.specs.LineCalls.{with_line_fault}
 
 abbrev pub with_written : List ℕ → LineSeen → LineSeen

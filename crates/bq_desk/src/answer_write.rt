@@ -1,5 +1,5 @@
 ghost use Rattle.std.specs.Prelude.{◌≡◌, ◌≤◌, ◌+◌, ◌++◌, true, length};
-ghost use Rattle.bq_job.specs.AnswerText.{answer_text};
+ghost use Rattle.bq_job.specs.texts.AnswerText.{answer_text};
 ghost use Rattle.bq_desk.specs.Writing.{Writes};
 
 use arrayvec::ArrayVec;

@@ -1,6 +1,6 @@
 //! The control line, whose lines `drain` begin the drain.
 ghost use Rattle.std.specs.Prelude.{◌≡◌, ◌++◌, ◌∷◌, [], List, length, replicate, take, IfErr};
-ghost use Rattle.bq_job.specs.ControlDid.{IsControlDone, are_same, drain_word, drains, one_if};
+ghost use Rattle.bq_job.specs.promise.ControlDid.{IsControlDone, are_same, drain_word, drains, one_if};
 ghost use Rattle.bq_job.specs.declared.step.Step.{Step};
 ghost use Rattle.bq_desk.specs.ControlRead.{HasRead, IsOver, IsReadToEnd, SubmitsOn};
 ghost use Rattle.bq_desk.specs.ControlSeen.{new_control};

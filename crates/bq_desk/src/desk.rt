@@ -2,8 +2,8 @@
 ghost use Rattle.std.specs.Prelude.{◌≡◌, ◌<◌, ◌≤◌, ◌+◌, ◌++◌, ◌∷◌, [], ℕ, Bool, List, Option, IfOk, IfErr, IsErrOf, IsNone, IsTrue, MatchResult, length, true, false, not, ◌↔◌, ◌&&◌, replicate, slice_index_or};
 ghost use Rattle.std.specs.Option.{option_to_list};
 ghost use Rattle.bq_job.specs.declared.answer.Answer.{Answer};
-ghost use Rattle.bq_job.specs.History.{moment_heard};
-ghost use Rattle.bq_job.specs.Runs.{answers_to};
+ghost use Rattle.bq_job.specs.promise.History.{moment_heard};
+ghost use Rattle.bq_job.specs.promise.Runs.{answers_to};
 
 use crate::RunFault;
 use crate::mail::{Mail, new_mails};
@@ -26,7 +26,7 @@ pub struct Desk<C> {
 }
 
 impl<C: Clock + Drop> Desk<C> {
-    ghost use Rattle.bq_job.specs.NextDue.{next_due};
+    ghost use Rattle.bq_job.specs.beside.NextDue.{next_due};
     ghost use Rattle.bq_desk.specs.DeskOf.{GaveReadings, WentAt, state_of};
     ghost use Rattle.bq_desk.specs.DeskState.{HasMails, IsNewDesk, IsSorted, IsStuck};
     ghost use Rattle.bq_core.specs.Limits.{are_in_range};

@@ -12,18 +12,18 @@ use Rattle.bq_job.specs.declared.request.Request.{Request}
 use Rattle.bq_job.specs.declared.request.Request.TheVariants as requests
 use Rattle.bq_job.specs.declared.step.Step.{Step}
 use Rattle.bq_job.specs.declared.step.Step.TheVariants as steps
-use Rattle.bq_job.specs.Acts.{Effect, on_found, on_job, showing, silent, telling}
-use Rattle.bq_job.specs.Asked.{after_close, after_connect, asked, at_found, at_seat, effect, refusal_answer, state_once_left, with_end}
-use Rattle.bq_job.specs.Changes.{in_state, is_held_by, is_waiting, job_with, seat_with, with_job, with_seat}
-use Rattle.bq_job.specs.Computed.{waiting_count}
-use Rattle.bq_job.specs.Dispatch.{reserved_by}
-use Rattle.bq_job.specs.JobCommands.{after_delete, after_kick, after_put, buried, delayed_by, is_free_for, kickable, kicked, new_job, put_effect, released, reserve_effect, waiting_from}
-use Rattle.bq_job.specs.JobStates.{is_reserved}
-use Rattle.bq_job.specs.Limits.{later, raised}
-use Rattle.bq_job.specs.Machine.{Machine, SeatRecord, empty_seat, numbers}
-use Rattle.bq_job.specs.StatisticsCommands.{job_statistics_or_not}
-use Rattle.bq_job.specs.TubeCommands.{pause_effect, using, watched_with, watching, watching_or_refused}
-use Rattle.bq_job.specs.Tubes.{is_tube}
+use Rattle.bq_job.specs.machine.Acts.{Effect, on_found, on_job, showing, silent, telling}
+use Rattle.bq_job.specs.machine.Asked.{after_close, after_connect, asked, at_found, at_seat, effect, refusal_answer, state_once_left, with_end}
+use Rattle.bq_job.specs.machine.Changes.{in_state, is_held_by, is_waiting, job_with, seat_with, with_job, with_seat}
+use Rattle.bq_job.specs.beside.Computed.{waiting_count}
+use Rattle.bq_job.specs.machine.Dispatch.{reserved_by}
+use Rattle.bq_job.specs.machine.JobCommands.{after_delete, after_kick, after_put, buried, delayed_by, is_free_for, kickable, kicked, new_job, put_effect, released, reserve_effect, waiting_from}
+use Rattle.bq_job.specs.machine.JobStates.{is_reserved}
+use Rattle.bq_job.specs.machine.Limits.{later, raised}
+use Rattle.bq_job.specs.machine.Machine.{Machine, SeatRecord, empty_seat, numbers}
+use Rattle.bq_job.specs.machine.StatisticsCommands.{job_statistics_or_not}
+use Rattle.bq_job.specs.machine.TubeCommands.{pause_effect, using, watched_with, watching, watching_or_refused}
+use Rattle.bq_job.specs.machine.Tubes.{is_tube}
 use Rattle.bq_job.proofs.KeptLemmas.{IsMild, Keeps, has_holder, kept_of_close, kept_of_drain, kept_of_filter, kept_of_job, kept_of_jobs, kept_of_push, kept_of_seat, numbers_above, only_seat}
 use Rattle.bq_job.proofs.ListLemmas.{all_always, all_weaker, count_cons, count_of_map, found_passes, list_any_with}
 use Rattle.bq_job.proofs.PutLemmas.{each_put}

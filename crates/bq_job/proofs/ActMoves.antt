@@ -11,22 +11,22 @@ use Rattle.bq_job.specs.declared.request.Request.{Request}
 use Rattle.bq_job.specs.declared.request.Request.TheVariants as requests
 use Rattle.bq_job.specs.declared.step.Step.{Step}
 use Rattle.bq_job.specs.declared.step.Step.TheVariants as steps
-use Rattle.bq_job.specs.Acts.{Effect, on_found, on_job, showing, silent, telling}
-use Rattle.bq_job.specs.Asked.{after_close, after_connect, asked, at_found, at_seat, effect, state_once_left, with_end}
-use Rattle.bq_job.specs.Changes.{given_back, in_state, is_held_by, is_holder, is_ready, is_ready_state, is_waiting, job_with, seat_with, with_job, with_seat}
-use Rattle.bq_job.specs.Dispatch.{reserved_by}
-use Rattle.bq_job.specs.JobCommands.{buried, delayed_by, is_free_for, in_order, is_buried_in, is_delayed_in, kickable, kicked, kicked_first, put_in_order, new_job, put_effect, released}
-use Rattle.bq_job.specs.JobStates.{is_buried, is_buried_before, is_delayed, is_due_before, is_reserved}
-use Rattle.bq_job.specs.Lawful.{AreIdsWithin}
-use Rattle.bq_job.specs.Limits.{later, raised}
-use Rattle.bq_job.specs.Machine.{Machine, SeatRecord}
-use Rattle.bq_job.specs.StatisticsCommands.{job_statistics_or_not}
-use Rattle.bq_job.specs.Steps.{Memory, acted, granted, growth_refused, share_refused}
-use Rattle.bq_job.specs.TubeCommands.{watching_or_refused}
-use Rattle.bq_job.specs.Tubes.{is_tube}
-use Rattle.bq_job.specs.Happenings.{Happening, buried as happens_buried, change, given_up, named, released as happens_released, reserved_by_id, taken_up}
-use Rattle.bq_job.specs.TubeName.{is_same_name}
-use Rattle.bq_job.specs.Undisturbed.{disturbs}
+use Rattle.bq_job.specs.machine.Acts.{Effect, on_found, on_job, showing, silent, telling}
+use Rattle.bq_job.specs.machine.Asked.{after_close, after_connect, asked, at_found, at_seat, effect, state_once_left, with_end}
+use Rattle.bq_job.specs.machine.Changes.{given_back, in_state, is_held_by, is_holder, is_ready, is_ready_state, is_waiting, job_with, seat_with, with_job, with_seat}
+use Rattle.bq_job.specs.machine.Dispatch.{reserved_by}
+use Rattle.bq_job.specs.machine.JobCommands.{buried, delayed_by, is_free_for, in_order, is_buried_in, is_delayed_in, kickable, kicked, kicked_first, put_in_order, new_job, put_effect, released}
+use Rattle.bq_job.specs.machine.JobStates.{is_buried, is_buried_before, is_delayed, is_due_before, is_reserved}
+use Rattle.bq_job.specs.beside.Lawful.{AreIdsWithin}
+use Rattle.bq_job.specs.machine.Limits.{later, raised}
+use Rattle.bq_job.specs.machine.Machine.{Machine, SeatRecord}
+use Rattle.bq_job.specs.machine.StatisticsCommands.{job_statistics_or_not}
+use Rattle.bq_job.specs.machine.Steps.{Memory, acted, granted, growth_refused, share_refused}
+use Rattle.bq_job.specs.machine.TubeCommands.{watching_or_refused}
+use Rattle.bq_job.specs.machine.Tubes.{is_tube}
+use Rattle.bq_job.specs.laws.Happenings.{Happening, buried as happens_buried, change, given_up, named, released as happens_released, reserved_by_id, taken_up}
+use Rattle.bq_job.specs.reading.TubeName.{is_same_name}
+use Rattle.bq_job.specs.laws.Undisturbed.{disturbs}
 use Rattle.bq_job.proofs.ChangeLemmas.{Becomes, JobsAfter, becomes_itself, changed, removed_one, added, one_changed, unchanged}
 use Rattle.bq_job.proofs.ListLemmas.{all_from_members, all_of_filter, all_weaker}
 use Rattle.bq_job.proofs.LookupLemmas.{found_job, job_found}

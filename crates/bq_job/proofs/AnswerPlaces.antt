@@ -12,18 +12,18 @@ use Rattle.bq_job.specs.declared.job.Job.{Job}
 use Rattle.bq_job.specs.declared.request.Request.TheVariants as requests
 use Rattle.bq_job.specs.declared.step.Step.{Step}
 use Rattle.bq_job.specs.declared.step.Step.TheVariants as steps
-use Rattle.bq_job.specs.Acts.{Effect}
-use Rattle.bq_job.specs.Changes.{is_held_by, job_with}
-use Rattle.bq_job.specs.Dispatch.{DispatchTurn, GivenAnswer, IsHandOut}
-use Rattle.bq_job.specs.JobCommands.{last_id}
-use Rattle.bq_job.specs.JobStates.{is_reserved}
-use Rattle.bq_job.specs.LawsOfRuns.{GivesLeast, IsDeletion, IsDispatchedLeast, IsReservedById, has_inserted, is_inserted}
-use Rattle.bq_job.specs.Machine.{Machine, SeatRecord}
-use Rattle.bq_job.specs.Runs.{GoesBy, IsTransition, Parts, Transition, parts_of}
-use Rattle.bq_job.specs.Steps.{Dispatches, IsStep, Memory, Outcome, Serves, acted, addressed, granted, growth_refused, share_refused, is_possible}
-use Rattle.bq_job.specs.Timers.{after_timers, at_moment}
-use Rattle.bq_job.specs.Tubes.{forgetting}
-use Rattle.bq_job.specs.Waits.{Chain, WaitEndTurn, end_of_wait, is_deadline_soon}
+use Rattle.bq_job.specs.machine.Acts.{Effect}
+use Rattle.bq_job.specs.machine.Changes.{is_held_by, job_with}
+use Rattle.bq_job.specs.machine.Dispatch.{DispatchTurn, GivenAnswer, IsHandOut}
+use Rattle.bq_job.specs.machine.JobCommands.{last_id}
+use Rattle.bq_job.specs.machine.JobStates.{is_reserved}
+use Rattle.bq_job.specs.laws.LawsOfRuns.{GivesLeast, IsDeletion, IsDispatchedLeast, IsReservedById, has_inserted, is_inserted}
+use Rattle.bq_job.specs.machine.Machine.{Machine, SeatRecord}
+use Rattle.bq_job.specs.promise.Runs.{GoesBy, IsTransition, Parts, Transition, parts_of}
+use Rattle.bq_job.specs.machine.Steps.{Dispatches, IsStep, Memory, Outcome, Serves, acted, addressed, granted, growth_refused, share_refused, is_possible}
+use Rattle.bq_job.specs.machine.Timers.{after_timers, at_moment}
+use Rattle.bq_job.specs.machine.Tubes.{forgetting}
+use Rattle.bq_job.specs.machine.Waits.{Chain, WaitEndTurn, end_of_wait, is_deadline_soon}
 use Rattle.bq_job.proofs.DispatchLemmas.{reserved_is_least, turn_of}
 use Rattle.bq_job.proofs.LawfulLemmas.{end_of}
 use Rattle.bq_job.proofs.ListLemmas.{all_always, all_at, all_of_filter}

@@ -9,13 +9,13 @@ use Rattle.bq_job.specs.declared.job.JobState.TheVariants as states
 use Rattle.bq_job.specs.declared.request.Request.TheVariants as requests
 use Rattle.bq_job.specs.declared.step.Step.{Step}
 use Rattle.bq_job.specs.declared.step.Step.TheVariants as steps
-use Rattle.bq_job.specs.Changes.{is_ready, job_with}
-use Rattle.bq_job.specs.Happenings.{Happening, buried, change, change_or_removal, changes, deleted, given_up, named, put, released, removed, reserved_by_id, taken_up}
-use Rattle.bq_job.specs.JobCommands.{is_full}
-use Rattle.bq_job.specs.JobStates.{is_reserved}
-use Rattle.bq_job.specs.Lawful.{AreIdsWithin}
-use Rattle.bq_job.specs.Machine.{Machine}
-use Rattle.bq_job.specs.Undisturbed.{disturbs, is_deletion}
+use Rattle.bq_job.specs.machine.Changes.{is_ready, job_with}
+use Rattle.bq_job.specs.laws.Happenings.{Happening, buried, change, change_or_removal, changes, deleted, given_up, named, put, released, removed, reserved_by_id, taken_up}
+use Rattle.bq_job.specs.machine.JobCommands.{is_full}
+use Rattle.bq_job.specs.machine.JobStates.{is_reserved}
+use Rattle.bq_job.specs.beside.Lawful.{AreIdsWithin}
+use Rattle.bq_job.specs.machine.Machine.{Machine}
+use Rattle.bq_job.specs.laws.Undisturbed.{disturbs, is_deletion}
 use Rattle.bq_job.proofs.JobMoves.{Fate, GoesOnAs, Move, quiet, putting, is_plain}
 use Rattle.bq_job.proofs.ListLemmas.{all_from_members, all_of_append, all_of_filter, all_of_map, all_weaker, list_any_with}
 use Rattle.bq_job.proofs.LookupLemmas.{found_job, job_found, job_in_map, job_in_more, job_in_rest}

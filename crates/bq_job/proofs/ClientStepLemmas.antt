@@ -9,18 +9,18 @@ use Rattle.bq_job.specs.declared.job.Job.{Job}
 use Rattle.bq_job.specs.declared.request.Request.{Request}
 use Rattle.bq_job.specs.declared.step.Step.{Step}
 use Rattle.bq_job.specs.declared.step.Step.TheVariants as steps
-use Rattle.bq_job.specs.Acts.{Effect, silent, telling}
-use Rattle.bq_job.specs.Asked.{after_close, after_connect, asked, at_found, effect, with_end}
-use Rattle.bq_job.specs.Changes.{is_waiting, seat_with, with_seat}
-use Rattle.bq_job.specs.Dispatch.{DispatchTurn, GivenAnswer, IsHandOut, is_wait_before}
-use Rattle.bq_job.specs.Lawful.{IsLawful}
-use Rattle.bq_job.specs.Machine.{Machine, SeatRecord, empty_seat}
-use Rattle.bq_job.specs.OneClient.{GetsAnswer, GetsAtMost, GetsClosed, GetsWhatWaits, GivesClient, has_closed, is_connected_at, owing}
-use Rattle.bq_job.specs.Runs.{answers_to}
-use Rattle.bq_job.specs.Steps.{IsStep, Memory, Outcome, Serves, acted, addressed, granted, growth_refused, is_possible, share_refused, shares_body, step_takes_memory, may_be_left_out}
-use Rattle.bq_job.specs.Timers.{after_timers, at_moment}
-use Rattle.bq_job.specs.Tubes.{forgetting}
-use Rattle.bq_job.specs.Waits.{Chain, WaitEndTurn, ends_waiting, is_deadline_soon, is_until_over}
+use Rattle.bq_job.specs.machine.Acts.{Effect, silent, telling}
+use Rattle.bq_job.specs.machine.Asked.{after_close, after_connect, asked, at_found, effect, with_end}
+use Rattle.bq_job.specs.machine.Changes.{is_waiting, seat_with, with_seat}
+use Rattle.bq_job.specs.machine.Dispatch.{DispatchTurn, GivenAnswer, IsHandOut, is_wait_before}
+use Rattle.bq_job.specs.beside.Lawful.{IsLawful}
+use Rattle.bq_job.specs.machine.Machine.{Machine, SeatRecord, empty_seat}
+use Rattle.bq_job.specs.machine.OneClient.{GetsAnswer, GetsAtMost, GetsClosed, GetsWhatWaits, GivesClient, has_closed, is_connected_at, owing}
+use Rattle.bq_job.specs.promise.Runs.{answers_to}
+use Rattle.bq_job.specs.machine.Steps.{IsStep, Memory, Outcome, Serves, acted, addressed, granted, growth_refused, is_possible, share_refused, shares_body, step_takes_memory, may_be_left_out}
+use Rattle.bq_job.specs.machine.Timers.{after_timers, at_moment}
+use Rattle.bq_job.specs.machine.Tubes.{forgetting}
+use Rattle.bq_job.specs.machine.Waits.{Chain, WaitEndTurn, ends_waiting, is_deadline_soon, is_until_over}
 use Rattle.bq_job.proofs.ChoiceLemmas.{first_of_none}
 use Rattle.bq_job.proofs.DispatchLemmas.{turn_of}
 use Rattle.bq_job.proofs.KeptLemmas.{is_open_wait}

@@ -1,13 +1,13 @@
 -- What is computed over a history is a run.
 use Rattle.std.proofs.Common.{List, [], ◌∷◌, refl}
-use Rattle.bq_job.specs.Asked.{effect}
-use Rattle.bq_job.specs.Computed.{after_dispatch, after_wait_ends, waiting_count}
-use Rattle.bq_job.specs.ComputedRuns.{machine_after, transition, transitions}
-use Rattle.bq_job.specs.Machine.{Machine}
-use Rattle.bq_job.specs.Runs.{Entry, GoesBy, IsTransition}
-use Rattle.bq_job.specs.Steps.{Serves, granted}
-use Rattle.bq_job.specs.Timers.{after_timers, at_moment}
-use Rattle.bq_job.specs.Tubes.{forgetting}
+use Rattle.bq_job.specs.machine.Asked.{effect}
+use Rattle.bq_job.specs.beside.Computed.{after_dispatch, after_wait_ends, waiting_count}
+use Rattle.bq_job.specs.beside.ComputedRuns.{machine_after, transition, transitions}
+use Rattle.bq_job.specs.machine.Machine.{Machine}
+use Rattle.bq_job.specs.promise.Runs.{Entry, GoesBy, IsTransition}
+use Rattle.bq_job.specs.machine.Steps.{Serves, granted}
+use Rattle.bq_job.specs.machine.Timers.{after_timers, at_moment}
+use Rattle.bq_job.specs.machine.Tubes.{forgetting}
 use Rattle.bq_job.proofs.ComputedLemmas.{computed_dispatches, computed_ends_waits, dispatched_shared}
 
 serves_so : (m : Machine) → Serves m (after_dispatch m).given (after_wait_ends (after_dispatch m).machine).given (after_wait_ends (after_dispatch m).machine).machine

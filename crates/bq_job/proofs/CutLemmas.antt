@@ -3,9 +3,9 @@ use Rattle.std.proofs.Common.{◌≡◌, ℕ, suc, ◌+◌, ◌≤◌, false, Li
 use Rattle.bq_job.specs.declared.answer.Answer.{Answer}
 use Rattle.bq_job.specs.declared.answer.Answer.TheVariants as answers
 use Rattle.bq_job.specs.declared.step.Step.{Step}
-use Rattle.bq_job.specs.History.{LineOver}
-use Rattle.bq_job.specs.OneClient.{has_closed}
-use Rattle.bq_job.specs.SeatDid.{AreLinesServed}
+use Rattle.bq_job.specs.promise.History.{LineOver}
+use Rattle.bq_job.specs.machine.OneClient.{has_closed}
+use Rattle.bq_job.specs.beside.SeatDid.{AreLinesServed}
 use Rattle.bq_job.proofs.GivenLemmas.{AreParts, most_of_lines}
 
 -- how many `Closed` there are

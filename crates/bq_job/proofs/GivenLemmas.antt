@@ -10,19 +10,19 @@ use Rattle.bq_job.specs.declared.answer.Answer.TheVariants as answers
 use Rattle.bq_job.specs.declared.request.Request.{Request}
 use Rattle.bq_job.specs.declared.step.Step.{Step}
 use Rattle.bq_job.specs.declared.step.Step.TheVariants as steps
-use Rattle.bq_job.specs.Dispatch.{GivenAnswer}
-use Rattle.bq_job.specs.History.{LineOver, is_tick, steps_at}
-use Rattle.bq_job.specs.Lawful.{IsLawful}
-use Rattle.bq_job.specs.LineSteps.{LineHeard, heard, MayTellEnd, answered_count, wanted}
-use Rattle.bq_job.specs.Machine.{Machine, Settings}
-use Rattle.bq_job.specs.OneClient.{GetsAtMost, GetsClosed, GetsWhatWaits, has_closed, is_closed_answer, is_connected_at, owing}
-use Rattle.bq_job.specs.Runs.{Entry, Run, answers_to}
-use Rattle.bq_job.specs.Steps.{IsStep, Outcome}
+use Rattle.bq_job.specs.machine.Dispatch.{GivenAnswer}
+use Rattle.bq_job.specs.promise.History.{LineOver, is_tick, steps_at}
+use Rattle.bq_job.specs.beside.Lawful.{IsLawful}
+use Rattle.bq_job.specs.promise.LineSteps.{LineHeard, heard, MayTellEnd, answered_count, wanted}
+use Rattle.bq_job.specs.machine.Machine.{Machine, Settings}
+use Rattle.bq_job.specs.machine.OneClient.{GetsAtMost, GetsClosed, GetsWhatWaits, has_closed, is_closed_answer, is_connected_at, owing}
+use Rattle.bq_job.specs.promise.Runs.{Entry, Run, answers_to}
+use Rattle.bq_job.specs.machine.Steps.{IsStep, Outcome}
 use Rattle.bq_job.proofs.LawfulLemmas.{step_is_lawful}
 use Rattle.bq_job.proofs.OneClientLemmas.{answers_append}
 use Rattle.bq_job.proofs.ClientStepLemmas.{asks_at_most, others_give, step_gives_client, step_settings, tick_gives_client}
 use Rattle.bq_job.proofs.RunLemmas.{run_first, run_of_none}
-use Rattle.bq_job.specs.SeatDid.{AreLinesServed}
+use Rattle.bq_job.specs.beside.SeatDid.{AreLinesServed}
 
 -- the entry is a step of this seat
 abbrev pub is_here : ℕ → Entry → Bool

@@ -7,15 +7,15 @@ use Rattle.bq_job.specs.declared.request.Request.{Request}
 use Rattle.bq_job.specs.declared.request.Request.TheVariants.{Reserve}
 use Rattle.bq_job.specs.declared.step.Step.{Step}
 use Rattle.bq_job.specs.declared.step.Step.TheVariants as steps
-use Rattle.bq_job.specs.ComputedRuns.{machine_after, transition, transitions}
-use Rattle.bq_job.specs.CoreDid.{IsRun}
-use Rattle.bq_job.specs.Headline.{IsDoorOwed}
-use Rattle.bq_job.specs.History.{ArePickedFrom, IsTimedBy, LineOver}
-use Rattle.bq_job.specs.HistoryExamples.{given_over, usual}
-use Rattle.bq_job.specs.LineOwed.{AreLinesOwed}
-use Rattle.bq_job.specs.Machine.{Machine, Settings, new_machine}
-use Rattle.bq_job.specs.Runs.{Entry}
-use Rattle.bq_job.specs.SameRequests.{AreSameRequests}
+use Rattle.bq_job.specs.beside.ComputedRuns.{machine_after, transition, transitions}
+use Rattle.bq_job.specs.promise.CoreDid.{IsRun}
+use Rattle.bq_job.specs.promise.Headline.{IsDoorOwed}
+use Rattle.bq_job.specs.promise.History.{ArePickedFrom, IsTimedBy, LineOver}
+use Rattle.bq_job.specs.examples.HistoryExamples.{given_over, usual}
+use Rattle.bq_job.specs.promise.LineOwed.{AreLinesOwed}
+use Rattle.bq_job.specs.machine.Machine.{Machine, Settings, new_machine}
+use Rattle.bq_job.specs.promise.Runs.{Entry}
+use Rattle.bq_job.specs.beside.SameRequests.{AreSameRequests}
 use Rattle.bq_job.proofs.ComputedRunLemmas.{computed_goes}
 
 -- all of the moments are some of them

@@ -3,13 +3,13 @@ use Rattle.std.proofs.Common.{ℕ, suc, ◌≡◌, ◌<◌, Bool, true, false, c
 use Rattle.std.specs.Prelude.{◌==◌}
 use Rattle.std.specs.List.{AllByRecursion as All, Contains, list_any}
 use Rattle.bq_job.specs.declared.job.Job.{Job}
-use Rattle.bq_job.specs.Changes.{is_ready, job_with}
-use Rattle.bq_job.specs.Dispatch.{is_job_before, reserved_by}
-use Rattle.bq_job.specs.Happenings.{Happening, Part, put, handed_out, happenings}
-use Rattle.bq_job.specs.JobStates.{is_reserved}
-use Rattle.bq_job.specs.Lawful.{AreIdsWithin}
-use Rattle.bq_job.specs.Machine.{Machine}
-use Rattle.bq_job.specs.Undisturbed.{disturbs, is_deletion}
+use Rattle.bq_job.specs.machine.Changes.{is_ready, job_with}
+use Rattle.bq_job.specs.machine.Dispatch.{is_job_before, reserved_by}
+use Rattle.bq_job.specs.laws.Happenings.{Happening, Part, put, handed_out, happenings}
+use Rattle.bq_job.specs.machine.JobStates.{is_reserved}
+use Rattle.bq_job.specs.beside.Lawful.{AreIdsWithin}
+use Rattle.bq_job.specs.machine.Machine.{Machine}
+use Rattle.bq_job.specs.laws.Undisturbed.{disturbs, is_deletion}
 
 -- neither a put nor a hand-out
 abbrev pub is_plain : Happening → Bool

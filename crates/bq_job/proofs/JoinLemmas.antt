@@ -11,17 +11,17 @@ use Rattle.bq_job.specs.declared.line_end.LineEnd.TheVariants as ends
 use Rattle.bq_job.specs.declared.request.Request.{Request}
 use Rattle.bq_job.specs.declared.step.Step.{Step}
 use Rattle.bq_job.specs.declared.step.Step.TheVariants as steps
-use Rattle.bq_job.specs.Changes.{is_waiting}
-use Rattle.bq_job.specs.Dispatch.{GivenAnswer}
-use Rattle.bq_job.specs.Headline.{AreDoorsOwed, IsHistoryOf, IsHistoryOfLine}
-use Rattle.bq_job.specs.History.{LineOver, steps_at}
-use Rattle.bq_job.specs.LineOwed.{AreLinesOwed, IsLineOwed}
-use Rattle.bq_job.specs.LineSteps.{AreAllAnswered, IsWritten, answered_count, answers_text, ends_by_wait}
-use Rattle.bq_job.specs.Machine.{Machine, SeatRecord, Settings, empty_seat, new_machine, numbers}
-use Rattle.bq_job.specs.OneClient.{has_closed, is_connected_at, owing}
-use Rattle.bq_job.specs.Runs.{Entry, Run, answers_to}
-use Rattle.bq_job.specs.SeatDid.{AreLinesServed, IsLineServed, IsNoneUnwritten}
-use Rattle.bq_job.specs.Ties.{AreTied, IsJoined, IsLineJoined}
+use Rattle.bq_job.specs.machine.Changes.{is_waiting}
+use Rattle.bq_job.specs.machine.Dispatch.{GivenAnswer}
+use Rattle.bq_job.specs.promise.Headline.{AreDoorsOwed, IsHistoryOf, IsHistoryOfLine}
+use Rattle.bq_job.specs.promise.History.{LineOver, steps_at}
+use Rattle.bq_job.specs.promise.LineOwed.{AreLinesOwed, IsLineOwed}
+use Rattle.bq_job.specs.promise.LineSteps.{AreAllAnswered, IsWritten, answered_count, answers_text, ends_by_wait}
+use Rattle.bq_job.specs.machine.Machine.{Machine, SeatRecord, Settings, empty_seat, new_machine, numbers}
+use Rattle.bq_job.specs.machine.OneClient.{has_closed, is_connected_at, owing}
+use Rattle.bq_job.specs.promise.Runs.{Entry, Run, answers_to}
+use Rattle.bq_job.specs.beside.SeatDid.{AreLinesServed, IsLineServed, IsNoneUnwritten}
+use Rattle.bq_job.specs.beside.Ties.{AreTied, IsJoined, IsLineJoined}
 use Rattle.bq_job.proofs.CutLemmas.{closes, closes_append, closes_unclosed, lines_close, parts_close, same_cut}
 use Rattle.bq_job.proofs.GivenLemmas.{AreParts, Serves, are_gone, gives_parts, most_of_lines, none_in, unclosed_both}
 use Rattle.bq_job.proofs.LawfulLemmas.{new_is_lawful}

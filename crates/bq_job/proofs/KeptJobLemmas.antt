@@ -7,15 +7,15 @@ use Rattle.std.proofs.lemmas.List.Folds.{list_any-append}
 use Rattle.bq_job.specs.declared.job.Job.{Job}
 use Rattle.bq_job.specs.declared.job.JobState.{JobState}
 use Rattle.bq_job.specs.declared.job.JobState.TheVariants as states
-use Rattle.bq_job.specs.Changes.{is_held_by, is_holder, job_with}
-use Rattle.bq_job.specs.Dispatch.{reserved_by}
-use Rattle.bq_job.specs.Happenings.{Happening, Part, happenings, parts_of_run, put}
-use Rattle.bq_job.specs.JobStates.{is_reserved}
-use Rattle.bq_job.specs.LawsOfRuns.{IsHeldByOne, IsKept}
-use Rattle.bq_job.specs.Machine.{Machine, SeatRecord, Settings, new_machine}
-use Rattle.bq_job.specs.OneClient.{is_connected_at}
-use Rattle.bq_job.specs.Runs.{GoesBy, Transition}
-use Rattle.bq_job.specs.Undisturbed.{is_deletion}
+use Rattle.bq_job.specs.machine.Changes.{is_held_by, is_holder, job_with}
+use Rattle.bq_job.specs.machine.Dispatch.{reserved_by}
+use Rattle.bq_job.specs.laws.Happenings.{Happening, Part, happenings, parts_of_run, put}
+use Rattle.bq_job.specs.machine.JobStates.{is_reserved}
+use Rattle.bq_job.specs.laws.LawsOfRuns.{IsHeldByOne, IsKept}
+use Rattle.bq_job.specs.machine.Machine.{Machine, SeatRecord, Settings, new_machine}
+use Rattle.bq_job.specs.machine.OneClient.{is_connected_at}
+use Rattle.bq_job.specs.promise.Runs.{GoesBy, Transition}
+use Rattle.bq_job.specs.laws.Undisturbed.{is_deletion}
 use Rattle.bq_job.proofs.JobMoves.{Fate, Move, Moves, quiet, putting, handing}
 use Rattle.bq_job.proofs.KeptLemmas.{Keeps}
 use Rattle.bq_job.proofs.LawfulLemmas.{new_is_lawful}

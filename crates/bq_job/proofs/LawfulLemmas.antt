@@ -10,17 +10,17 @@ use Rattle.bq_job.specs.declared.answer.Answer.{Answer}
 use Rattle.bq_job.specs.declared.job.Job.{Job}
 use Rattle.bq_job.specs.declared.job.JobState.TheVariants as states
 use Rattle.bq_job.specs.declared.step.Step.{Step}
-use Rattle.bq_job.specs.Changes.{in_state, is_ready, is_waiting, with_job, with_seat, without_wait}
-use Rattle.bq_job.specs.Computed.{waiting_count}
-use Rattle.bq_job.specs.Dispatch.{DispatchTurn, GivenAnswer, IsHandOut, is_job_before, is_wait_before, is_waiting_for, next_job, next_seat, reserved_by}
-use Rattle.bq_job.specs.Lawful.{IsLawful, has_open_holder, watches_once}
-use Rattle.bq_job.specs.Limits.{greatest, later}
-use Rattle.bq_job.specs.Machine.{Machine, SeatRecord, Settings, TubeRecord, default_tube, empty_seat, new_machine, numbers}
-use Rattle.bq_job.specs.Steps.{Dispatches, EndsWaits, IsStep, Memory, Outcome, Serves, acted, addressed, granted, growth_refused, share_refused}
-use Rattle.bq_job.specs.Timers.{after_timers, at_moment, is_due, is_expired, job_after_timers, with_timeout}
-use Rattle.bq_job.specs.Tubes.{forgetting, fresh_tube, is_tube, is_seated_at, is_paused, watches}
-use Rattle.bq_job.specs.TubeName.{is_same_name}
-use Rattle.bq_job.specs.Waits.{Chain, WaitEndTurn, end_of_wait, ends_waiting, next_end}
+use Rattle.bq_job.specs.machine.Changes.{in_state, is_ready, is_waiting, with_job, with_seat, without_wait}
+use Rattle.bq_job.specs.beside.Computed.{waiting_count}
+use Rattle.bq_job.specs.machine.Dispatch.{DispatchTurn, GivenAnswer, IsHandOut, is_job_before, is_wait_before, is_waiting_for, next_job, next_seat, reserved_by}
+use Rattle.bq_job.specs.beside.Lawful.{IsLawful, has_open_holder, watches_once}
+use Rattle.bq_job.specs.machine.Limits.{greatest, later}
+use Rattle.bq_job.specs.machine.Machine.{Machine, SeatRecord, Settings, TubeRecord, default_tube, empty_seat, new_machine, numbers}
+use Rattle.bq_job.specs.machine.Steps.{Dispatches, EndsWaits, IsStep, Memory, Outcome, Serves, acted, addressed, granted, growth_refused, share_refused}
+use Rattle.bq_job.specs.machine.Timers.{after_timers, at_moment, is_due, is_expired, job_after_timers, with_timeout}
+use Rattle.bq_job.specs.machine.Tubes.{forgetting, fresh_tube, is_tube, is_seated_at, is_paused, watches}
+use Rattle.bq_job.specs.reading.TubeName.{is_same_name}
+use Rattle.bq_job.specs.machine.Waits.{Chain, WaitEndTurn, end_of_wait, ends_waiting, next_end}
 use Rattle.bq_job.proofs.ActLemmas.{Leaves, answer_count, held_here, leaves_effect}
 use Rattle.bq_job.proofs.ChoiceLemmas.{first_of_agrees, first_of_none, first_of_none_passes}
 use Rattle.bq_job.proofs.ComputedLemmas.{next_end_waits, next_seat_waits, waiting_falls}

@@ -1,7 +1,7 @@
 -- The first line of a text, and of a text that goes on.
 use Rattle.std.proofs.Common.{◌≡◌, ℕ, Bool, true, false, ◌==◌, ◌&&◌, List, [], ◌∷◌, ◌++◌, Option, Some, None, ◌⊎◌, inl, inr, refl, ap, arith, option_map, if◌then◌else◌}
 use Rattle.std.proofs.lemmas.Bool.Decides.{nat_tests}
-use Rattle.bq_job.specs.Line.{first_line, onto_line, are_line_end}
+use Rattle.bq_job.specs.reading.Line.{first_line, onto_line, are_line_end}
 
 -- a first line ends at the first two bytes, or behind the first byte
 pub first_line_cases : (t : Bool) (a : ℕ) (bytes : List ℕ) (later : Option (List ℕ × List ℕ)) (l : List ℕ × List ℕ)

@@ -15,22 +15,22 @@ use Rattle.bq_job.specs.declared.request.Request.{Request}
 use Rattle.bq_job.specs.declared.request.Request.TheVariants as requests
 use Rattle.bq_job.specs.declared.step.Step.{Step}
 use Rattle.bq_job.specs.declared.step.Step.TheVariants as steps
-use Rattle.bq_job.specs.Acts.{Effect, on_found, showing, silent, telling}
-use Rattle.bq_job.specs.Asked.{after_close, after_connect, asked, at_found, effect, refusal_answer, with_end}
-use Rattle.bq_job.specs.Changes.{in_state, is_held_by, is_waiting, job_with, seat_with, with_job, with_seat, without_wait}
-use Rattle.bq_job.specs.Dispatch.{DispatchTurn, GivenAnswer, IsHandOut, next_seat, reserved_by}
-use Rattle.bq_job.specs.JobCommands.{after_delete, after_put, buried, is_free_for, kicked, new_job, released, reserve_effect, waiting_from}
-use Rattle.bq_job.specs.JobStates.{is_reserved}
-use Rattle.bq_job.specs.LineSteps.{answers_wanted, is_waiting_request}
-use Rattle.bq_job.specs.Limits.{later, raised}
-use Rattle.bq_job.specs.Machine.{Machine, SeatRecord, empty_seat, numbers}
-use Rattle.bq_job.specs.OneClient.{has_closed, is_closed_answer}
-use Rattle.bq_job.specs.Runs.{answers_to}
-use Rattle.bq_job.specs.StatisticsCommands.{job_statistics_or_not}
-use Rattle.bq_job.specs.Steps.{Memory, Serves, acted, addressed, granted, growth_refused, is_possible, share_refused, shares_body, step_takes_memory}
-use Rattle.bq_job.specs.TubeCommands.{using, watched_with, watching, watching_or_refused}
-use Rattle.bq_job.specs.Tubes.{is_tube}
-use Rattle.bq_job.specs.Waits.{Chain, WaitEndTurn, end_of_wait, is_deadline_soon}
+use Rattle.bq_job.specs.machine.Acts.{Effect, on_found, showing, silent, telling}
+use Rattle.bq_job.specs.machine.Asked.{after_close, after_connect, asked, at_found, effect, refusal_answer, with_end}
+use Rattle.bq_job.specs.machine.Changes.{in_state, is_held_by, is_waiting, job_with, seat_with, with_job, with_seat, without_wait}
+use Rattle.bq_job.specs.machine.Dispatch.{DispatchTurn, GivenAnswer, IsHandOut, next_seat, reserved_by}
+use Rattle.bq_job.specs.machine.JobCommands.{after_delete, after_put, buried, is_free_for, kicked, new_job, released, reserve_effect, waiting_from}
+use Rattle.bq_job.specs.machine.JobStates.{is_reserved}
+use Rattle.bq_job.specs.promise.LineSteps.{answers_wanted, is_waiting_request}
+use Rattle.bq_job.specs.machine.Limits.{later, raised}
+use Rattle.bq_job.specs.machine.Machine.{Machine, SeatRecord, empty_seat, numbers}
+use Rattle.bq_job.specs.machine.OneClient.{has_closed, is_closed_answer}
+use Rattle.bq_job.specs.promise.Runs.{answers_to}
+use Rattle.bq_job.specs.machine.StatisticsCommands.{job_statistics_or_not}
+use Rattle.bq_job.specs.machine.Steps.{Memory, Serves, acted, addressed, granted, growth_refused, is_possible, share_refused, shares_body, step_takes_memory}
+use Rattle.bq_job.specs.machine.TubeCommands.{using, watched_with, watching, watching_or_refused}
+use Rattle.bq_job.specs.machine.Tubes.{is_tube}
+use Rattle.bq_job.specs.machine.Waits.{Chain, WaitEndTurn, end_of_wait, is_deadline_soon}
 use Rattle.bq_job.proofs.ComputedLemmas.{next_end_waits, next_seat_waits}
 use Rattle.bq_job.proofs.DispatchLemmas.{turn_of}
 use Rattle.bq_job.proofs.KeptLemmas.{only_seat}

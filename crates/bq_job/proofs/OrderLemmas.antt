@@ -7,11 +7,11 @@ use Rattle.std.proofs.lemmas.Bool.Decides.{nat_tests}
 use Rattle.std.proofs.lemmas.List.Elements.{Contains-append_cases}
 use Rattle.std.proofs.lemmas.List.Folds.{list_any-append}
 use Rattle.bq_job.specs.declared.job.Job.{Job}
-use Rattle.bq_job.specs.Changes.{is_pair_before, is_ready, job_with}
-use Rattle.bq_job.specs.Dispatch.{is_job_before, reserved_by}
-use Rattle.bq_job.specs.Happenings.{Happening, Part, put, handed_out, reserved_by_id, expired, released, buried, given_back, deleted, happenings}
-use Rattle.bq_job.specs.Machine.{Machine}
-use Rattle.bq_job.specs.Undisturbed.{comes_first, disturbs, is_hand_out, is_put}
+use Rattle.bq_job.specs.machine.Changes.{is_pair_before, is_ready, job_with}
+use Rattle.bq_job.specs.machine.Dispatch.{is_job_before, reserved_by}
+use Rattle.bq_job.specs.laws.Happenings.{Happening, Part, put, handed_out, reserved_by_id, expired, released, buried, given_back, deleted, happenings}
+use Rattle.bq_job.specs.machine.Machine.{Machine}
+use Rattle.bq_job.specs.laws.Undisturbed.{comes_first, disturbs, is_hand_out, is_put}
 use Rattle.bq_job.proofs.JobMoves.{Fate, IsHandOutMove, IsPutMove, IsQuiet, Move, Moves, quiet, putting, handing, is_plain}
 use Rattle.bq_job.proofs.ListLemmas.{all_at}
 use Rattle.bq_job.proofs.LookupLemmas.{found_job, job_at_end}

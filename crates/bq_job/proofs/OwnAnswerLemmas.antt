@@ -12,18 +12,18 @@ use Rattle.bq_job.specs.declared.request.Request.{Request}
 use Rattle.bq_job.specs.declared.request.Request.TheVariants as requests
 use Rattle.bq_job.specs.declared.step.Step.{Step}
 use Rattle.bq_job.specs.declared.step.Step.TheVariants as steps
-use Rattle.bq_job.specs.Acts.{Effect, on_found, on_job, showing, silent, telling}
-use Rattle.bq_job.specs.Asked.{after_close, after_connect, asked, at_found, at_seat, effect, refusal_answer, with_end}
-use Rattle.bq_job.specs.Changes.{in_state, is_held_by, is_waiting, job_with, seat_with, with_job, with_seat}
-use Rattle.bq_job.specs.Dispatch.{reserved_by}
-use Rattle.bq_job.specs.JobCommands.{after_delete, buried, is_free_for, kicked, last_id, released}
-use Rattle.bq_job.specs.JobStates.{is_buried, is_delayed, is_reserved}
-use Rattle.bq_job.specs.Limits.{later, raised}
-use Rattle.bq_job.specs.Machine.{Machine, SeatRecord}
-use Rattle.bq_job.specs.StatisticsCommands.{job_statistics_or_not}
-use Rattle.bq_job.specs.Steps.{Memory, acted, granted, growth_refused, share_refused}
-use Rattle.bq_job.specs.TubeCommands.{watching_or_refused}
-use Rattle.bq_job.specs.Tubes.{is_tube}
+use Rattle.bq_job.specs.machine.Acts.{Effect, on_found, on_job, showing, silent, telling}
+use Rattle.bq_job.specs.machine.Asked.{after_close, after_connect, asked, at_found, at_seat, effect, refusal_answer, with_end}
+use Rattle.bq_job.specs.machine.Changes.{in_state, is_held_by, is_waiting, job_with, seat_with, with_job, with_seat}
+use Rattle.bq_job.specs.machine.Dispatch.{reserved_by}
+use Rattle.bq_job.specs.machine.JobCommands.{after_delete, buried, is_free_for, kicked, last_id, released}
+use Rattle.bq_job.specs.machine.JobStates.{is_buried, is_delayed, is_reserved}
+use Rattle.bq_job.specs.machine.Limits.{later, raised}
+use Rattle.bq_job.specs.machine.Machine.{Machine, SeatRecord}
+use Rattle.bq_job.specs.machine.StatisticsCommands.{job_statistics_or_not}
+use Rattle.bq_job.specs.machine.Steps.{Memory, acted, granted, growth_refused, share_refused}
+use Rattle.bq_job.specs.machine.TubeCommands.{watching_or_refused}
+use Rattle.bq_job.specs.machine.Tubes.{is_tube}
 use Rattle.bq_job.proofs.ListLemmas.{found_passes}
 use Rattle.bq_job.proofs.LookupLemmas.{found_job}
 use Rattle.bq_job.proofs.PutLemmas.{each_put}

@@ -14,23 +14,23 @@ use Rattle.bq_job.specs.declared.request.Request.{Request}
 use Rattle.bq_job.specs.declared.request.Request.TheVariants as requests
 use Rattle.bq_job.specs.declared.step.Step.{Step}
 use Rattle.bq_job.specs.declared.step.Step.TheVariants as steps
-use Rattle.bq_job.specs.Acts.{Effect, on_found, on_job, showing, silent, telling}
-use Rattle.bq_job.specs.Asked.{after_close, after_connect, asked, at_found, at_seat, effect, with_end}
-use Rattle.bq_job.specs.Changes.{in_state, is_held_by, is_waiting, job_with, seat_with, with_job, with_seat, without_wait}
-use Rattle.bq_job.specs.Dispatch.{DispatchTurn, GivenAnswer, IsHandOut, reserved_by}
-use Rattle.bq_job.specs.JobCommands.{after_delete, buried, is_free_for, kicked, released, reserve_effect, waiting_from, with_delete, with_put}
-use Rattle.bq_job.specs.Lawful.{IsLawful, has_one, none_twice, watches_once}
-use Rattle.bq_job.specs.Limits.{greatest, grown, later, raised}
-use Rattle.bq_job.specs.Machine.{Machine, SeatRecord, TubeRecord, empty_seat}
-use Rattle.bq_job.specs.NameOrder.{is_in_order}
-use Rattle.bq_job.specs.Statistics.{tube_statistics}
-use Rattle.bq_job.specs.StatisticsCommands.{job_statistics_or_not}
-use Rattle.bq_job.specs.Steps.{Memory, Serves, acted, granted, growth_refused, share_refused}
-use Rattle.bq_job.specs.Timers.{after_timers, at_moment, tube_after_timers}
-use Rattle.bq_job.specs.TubeCommands.{using, watched_with, watching, watching_or_refused, with_pause}
-use Rattle.bq_job.specs.TubeName.{is_same_name}
-use Rattle.bq_job.specs.Tubes.{forgetting, is_name_before, is_tube, tube_record, watches, with_record, with_tube}
-use Rattle.bq_job.specs.Waits.{Chain, WaitEndTurn, end_of_wait, next_end}
+use Rattle.bq_job.specs.machine.Acts.{Effect, on_found, on_job, showing, silent, telling}
+use Rattle.bq_job.specs.machine.Asked.{after_close, after_connect, asked, at_found, at_seat, effect, with_end}
+use Rattle.bq_job.specs.machine.Changes.{in_state, is_held_by, is_waiting, job_with, seat_with, with_job, with_seat, without_wait}
+use Rattle.bq_job.specs.machine.Dispatch.{DispatchTurn, GivenAnswer, IsHandOut, reserved_by}
+use Rattle.bq_job.specs.machine.JobCommands.{after_delete, buried, is_free_for, kicked, released, reserve_effect, waiting_from, with_delete, with_put}
+use Rattle.bq_job.specs.beside.Lawful.{IsLawful, has_one, none_twice, watches_once}
+use Rattle.bq_job.specs.machine.Limits.{greatest, grown, later, raised}
+use Rattle.bq_job.specs.machine.Machine.{Machine, SeatRecord, TubeRecord, empty_seat}
+use Rattle.bq_job.specs.beside.NameOrder.{is_in_order}
+use Rattle.bq_job.specs.machine.Statistics.{tube_statistics}
+use Rattle.bq_job.specs.machine.StatisticsCommands.{job_statistics_or_not}
+use Rattle.bq_job.specs.machine.Steps.{Memory, Serves, acted, granted, growth_refused, share_refused}
+use Rattle.bq_job.specs.machine.Timers.{after_timers, at_moment, tube_after_timers}
+use Rattle.bq_job.specs.machine.TubeCommands.{using, watched_with, watching, watching_or_refused, with_pause}
+use Rattle.bq_job.specs.reading.TubeName.{is_same_name}
+use Rattle.bq_job.specs.machine.Tubes.{forgetting, is_name_before, is_tube, tube_record, watches, with_record, with_tube}
+use Rattle.bq_job.specs.machine.Waits.{Chain, WaitEndTurn, end_of_wait, next_end}
 use Rattle.bq_job.proofs.DispatchLemmas.{turn_of}
 use Rattle.bq_job.proofs.ListLemmas.{all_at, all_always, all_before_map, all_of_filter, all_of_map, all_pass, all_weaker, found_passes, keys_of_map, list_any_not, none_pass}
 use Rattle.bq_job.proofs.NameOrderLemmas.{after, first_of_order, in_order_from, rest_in_order}

@@ -10,23 +10,23 @@ use Rattle.bq_job.specs.declared.request.Request.{Request}
 use Rattle.bq_job.specs.declared.request.Request.TheVariants as requests
 use Rattle.bq_job.specs.declared.step.Step.{Step}
 use Rattle.bq_job.specs.declared.step.Step.TheVariants as steps
-use Rattle.bq_job.specs.Acts.{Effect, on_found, on_job, showing, silent, telling}
-use Rattle.bq_job.specs.Asked.{after_close, after_connect, asked, at_found, at_seat, effect, refusal_answer, with_end}
-use Rattle.bq_job.specs.Changes.{in_state, is_held_by, is_waiting, job_with, seat_with, with_job, with_seat}
-use Rattle.bq_job.specs.Dispatch.{GivenAnswer, reserved_by}
-use Rattle.bq_job.specs.JobCommands.{after_delete, after_put, buried, is_free_for, kickable, kicked, new_job, released}
-use Rattle.bq_job.specs.Lawful.{IsLawful}
-use Rattle.bq_job.specs.Limits.{later, raised}
-use Rattle.bq_job.specs.Machine.{Machine, SeatRecord}
-use Rattle.bq_job.specs.Refusals.{ChangesNothing, is_refusal}
-use Rattle.bq_job.specs.Runs.{parts_of}
-use Rattle.bq_job.specs.Statistics.{tube_statistics}
-use Rattle.bq_job.specs.StatisticsCommands.{job_statistics_or_not}
-use Rattle.bq_job.specs.Steps.{IsStep, Memory, Outcome, Serves, acted, granted, growth_refused, share_refused}
-use Rattle.bq_job.specs.Timers.{after_timers, at_moment}
-use Rattle.bq_job.specs.TubeCommands.{watching_or_refused, with_pause}
-use Rattle.bq_job.specs.TubeName.{is_same_name}
-use Rattle.bq_job.specs.Tubes.{forgetting, is_tube, with_tube}
+use Rattle.bq_job.specs.machine.Acts.{Effect, on_found, on_job, showing, silent, telling}
+use Rattle.bq_job.specs.machine.Asked.{after_close, after_connect, asked, at_found, at_seat, effect, refusal_answer, with_end}
+use Rattle.bq_job.specs.machine.Changes.{in_state, is_held_by, is_waiting, job_with, seat_with, with_job, with_seat}
+use Rattle.bq_job.specs.machine.Dispatch.{GivenAnswer, reserved_by}
+use Rattle.bq_job.specs.machine.JobCommands.{after_delete, after_put, buried, is_free_for, kickable, kicked, new_job, released}
+use Rattle.bq_job.specs.beside.Lawful.{IsLawful}
+use Rattle.bq_job.specs.machine.Limits.{later, raised}
+use Rattle.bq_job.specs.machine.Machine.{Machine, SeatRecord}
+use Rattle.bq_job.specs.beside.Refusals.{ChangesNothing, is_refusal}
+use Rattle.bq_job.specs.promise.Runs.{parts_of}
+use Rattle.bq_job.specs.machine.Statistics.{tube_statistics}
+use Rattle.bq_job.specs.machine.StatisticsCommands.{job_statistics_or_not}
+use Rattle.bq_job.specs.machine.Steps.{IsStep, Memory, Outcome, Serves, acted, granted, growth_refused, share_refused}
+use Rattle.bq_job.specs.machine.Timers.{after_timers, at_moment}
+use Rattle.bq_job.specs.machine.TubeCommands.{watching_or_refused, with_pause}
+use Rattle.bq_job.specs.reading.TubeName.{is_same_name}
+use Rattle.bq_job.specs.machine.Tubes.{forgetting, is_tube, with_tube}
 use Rattle.bq_job.proofs.KeptLemmas.{kept_of_lawful}
 use Rattle.bq_job.proofs.LawfulLemmas.{kept_of_timers, lawful_when_served}
 use Rattle.bq_job.proofs.PutLemmas.{each_put}

@@ -2,12 +2,12 @@
 use Rattle.std.proofs.Common.{◌≡◌, ℕ, ◌+◌, ◌<◌, Bool, true, false, List, [], ◌∷◌, ◌++◌, Option, Some, None, ◌⊎◌, inl, inr, refl, sym, ap, arith, length, take, drop, nat_lt, nat_le, MatchBool, MatchOption, if◌then◌else◌, length-append, append_assoc, take-append-drop, IsTrue}
 use Rattle.std.proofs.lemmas.Bool.Decides.{nat_tests}
 use Rattle.std.proofs.lemmas.Grind.{common_steps}
-use Rattle.bq_job.specs.TubeName.{is_same_name}
-use Rattle.bq_job.specs.Line.{first_line, line_end}
-use Rattle.bq_job.specs.LineRead.{LineRead, Whole, PutWaits, PutLine, read_line}
-use Rattle.bq_job.specs.Reading.{IsUnit, IsUnitAfter, IsPutRequest, put_with_body, BeginsNoUnit}
-use Rattle.bq_job.specs.ComputedReading.{first_unit, unit_after, unit_of_line, put_request}
-use Rattle.bq_job.specs.SameRequests.{IsRefusedMemory, had_memory}
+use Rattle.bq_job.specs.reading.TubeName.{is_same_name}
+use Rattle.bq_job.specs.reading.Line.{first_line, line_end}
+use Rattle.bq_job.specs.reading.LineRead.{LineRead, Whole, PutWaits, PutLine, read_line}
+use Rattle.bq_job.specs.reading.Reading.{IsUnit, IsUnitAfter, IsPutRequest, put_with_body, BeginsNoUnit}
+use Rattle.bq_job.specs.beside.ComputedReading.{first_unit, unit_after, unit_of_line, put_request}
+use Rattle.bq_job.specs.beside.SameRequests.{IsRefusedMemory, had_memory}
 use Rattle.bq_job.specs.declared.request.Request.{Request}
 use Rattle.bq_job.specs.declared.request.Request.TheVariants as requests
 use Rattle.bq_job.specs.declared.refusal.Refusal.TheVariants as refusals

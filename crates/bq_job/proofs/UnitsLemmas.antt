@@ -1,6 +1,6 @@
 -- One more request behind others.
 use Rattle.std.proofs.Common.{◌≡◌, ℕ, Bool, true, false, not, ◌&&◌, List, [], ◌∷◌, ◌++◌, refl, sym, append_assoc, append-nil, IsTrue}
-use Rattle.bq_job.specs.Reading.{AreUnits, IsUnit, is_quit, quits_last, ends_by_quit}
+use Rattle.bq_job.specs.reading.Reading.{AreUnits, IsUnit, is_quit, quits_last, ends_by_quit}
 use Rattle.bq_job.specs.declared.request.Request.{Request}
 
 -- a unit behind units

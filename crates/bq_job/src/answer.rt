@@ -1,5 +1,5 @@
 ghost use Rattle.std.specs.Prelude.{◌≡◌};
-ghost use Rattle.bq_job.specs.Codes.{answer_code};
+ghost use Rattle.bq_job.specs.beside.Codes.{answer_code};
 
 use super::{Body, JobId, Text, TubeName};
 

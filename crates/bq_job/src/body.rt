@@ -70,7 +70,7 @@ pub struct BodyBuilder {
 impl Model for BodyBuilder {
     ghost use Rattle.std.specs.Prelude.{◌-◌, vec_len};
     ghost use Rattle.std.specs.Vec.{vec_capacity};
-    ghost use Rattle.bq_job.specs.BodySoFar.{BodySoFar};
+    ghost use Rattle.bq_job.specs.beside.BodySoFar.{BodySoFar};
 
     ghost Value = { BodySoFar };
 

@@ -5,13 +5,13 @@ ghost use Rattle.bq_job.specs.declared.answer.Answer.TheVariants.{Closed, Delete
 ghost use Rattle.bq_job.specs.declared.request.Request.TheVariants.{Put, Quit, Reserve};
 ghost use Rattle.bq_job.specs.declared.step.Step.{Step};
 ghost use Rattle.bq_job.specs.declared.step.Step.TheVariants.{Ask, Close, Connect, Drain, Gone};
-ghost use Rattle.bq_job.specs.ControlDid.{IsControlDone};
-ghost use Rattle.bq_job.specs.Examples.{ask, at, close, connect};
-ghost use Rattle.bq_job.specs.Headline.{IsDoorOwed, IsHistoryOf};
-ghost use Rattle.bq_job.specs.History.{IsTimedBy, LineOver};
-ghost use Rattle.bq_job.specs.HistoryExamples.{AreServedOver, drain_at, ended_line, gone, quit_line, seated, shut_line, unread_line, unwritten_line, usual};
-ghost use Rattle.bq_job.specs.LineOwed.{IsLineOwed};
-ghost use Rattle.bq_job.specs.Machine.{Machine};
+ghost use Rattle.bq_job.specs.promise.ControlDid.{IsControlDone};
+ghost use Rattle.bq_job.specs.examples.Examples.{ask, at, close, connect};
+ghost use Rattle.bq_job.specs.promise.Headline.{IsDoorOwed, IsHistoryOf};
+ghost use Rattle.bq_job.specs.promise.History.{IsTimedBy, LineOver};
+ghost use Rattle.bq_job.specs.examples.HistoryExamples.{AreServedOver, drain_at, ended_line, gone, quit_line, seated, shut_line, unread_line, unwritten_line, usual};
+ghost use Rattle.bq_job.specs.promise.LineOwed.{IsLineOwed};
+ghost use Rattle.bq_job.specs.machine.Machine.{Machine};
 ghost use Rattle.std.specs.Prelude.{ℕ, Bool, false, ◌≡◌, List, [], ◌∷◌, Option, Some, codes};
 
 /// Two doors with one line each: a put answers the reserve of the other's client.

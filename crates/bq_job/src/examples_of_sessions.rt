@@ -2,7 +2,7 @@
 //! is a clause that holds by evaluating the definitions of the reading, the machine and the texts, and
 //! none runs our code.
 
-ghost use Rattle.bq_job.specs.Examples.{at_most, plain, replies, replies_with, replies_within};
+ghost use Rattle.bq_job.specs.examples.Examples.{at_most, plain, replies, replies_with, replies_within};
 ghost use Rattle.std.specs.Prelude.{List, [], ◌≡◌, ◌++◌, codes, replicate};
 
 /// A job is put, reserved and deleted.

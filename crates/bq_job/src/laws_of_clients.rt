@@ -4,17 +4,17 @@ ghost use Rattle.bq_job.specs.declared.answer.Answer.{Answer};
 ghost use Rattle.bq_job.specs.declared.request.Request.{Request};
 ghost use Rattle.bq_job.specs.declared.step.Step.{Step};
 ghost use Rattle.bq_job.specs.declared.step.Step.TheVariants.{Ask};
-ghost use Rattle.bq_job.specs.Dispatch.{GivenAnswer};
-ghost use Rattle.bq_job.specs.Headline.{IsHistoryOf, IsHistoryOfLine};
-ghost use Rattle.bq_job.specs.History.{LineOver};
-ghost use Rattle.bq_job.specs.Lawful.{IsLawful};
-ghost use Rattle.bq_job.specs.Machine.{Machine, Settings};
-ghost use Rattle.bq_job.specs.OneClient.{GetsAtMost, GetsWhatWaits, is_connected_at};
-ghost use Rattle.bq_job.specs.Runs.{Entry, answers_to};
-ghost use Rattle.bq_job.specs.SeatDid.{AreLinesServed, IsLineServed};
-ghost use Rattle.bq_job.specs.Steps.{IsStep, Outcome};
-ghost use Rattle.bq_job.specs.TheHeadline.{HeadlineHolds, LineHeadlineHolds};
-ghost use Rattle.bq_job.specs.Ties.{IsJoined, IsLineJoined};
+ghost use Rattle.bq_job.specs.machine.Dispatch.{GivenAnswer};
+ghost use Rattle.bq_job.specs.promise.Headline.{IsHistoryOf, IsHistoryOfLine};
+ghost use Rattle.bq_job.specs.promise.History.{LineOver};
+ghost use Rattle.bq_job.specs.beside.Lawful.{IsLawful};
+ghost use Rattle.bq_job.specs.machine.Machine.{Machine, Settings};
+ghost use Rattle.bq_job.specs.machine.OneClient.{GetsAtMost, GetsWhatWaits, is_connected_at};
+ghost use Rattle.bq_job.specs.promise.Runs.{Entry, answers_to};
+ghost use Rattle.bq_job.specs.beside.SeatDid.{AreLinesServed, IsLineServed};
+ghost use Rattle.bq_job.specs.machine.Steps.{IsStep, Outcome};
+ghost use Rattle.bq_job.specs.laws.TheHeadline.{HeadlineHolds, LineHeadlineHolds};
+ghost use Rattle.bq_job.specs.beside.Ties.{IsJoined, IsLineJoined};
 
 /// A step of another seat gives a client at most the answer that it waits for, and nothing else.
 pub fn others_give_what_waits()

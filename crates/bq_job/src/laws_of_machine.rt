@@ -3,17 +3,17 @@ ghost use Rattle.bq_job.specs.declared.step.Step.{Step};
 ghost use Rattle.bq_job.specs.declared.step.Step.TheVariants.{Tick};
 ghost use Rattle.bq_job.specs.declared.answer.Answer.{Answer};
 ghost use Rattle.bq_job.specs.declared.answer.Answer.TheVariants.{Reserved};
-ghost use Rattle.bq_job.specs.Computed.{ample, stepped};
-ghost use Rattle.bq_job.specs.Dispatch.{DispatchTurn, GivenAnswer};
-ghost use Rattle.bq_job.specs.Lawful.{IsLawful};
-ghost use Rattle.bq_job.specs.LeastJob.{GetsLeast};
-ghost use Rattle.bq_job.specs.Machine.{Machine, Settings, new_machine};
-ghost use Rattle.bq_job.specs.NextDue.{is_before, next_due};
-ghost use Rattle.bq_job.specs.OneClient.{GivesClient};
-ghost use Rattle.bq_job.specs.Refusals.{ChangesNothing, is_refusal};
-ghost use Rattle.bq_job.specs.Runs.{parts_of};
-ghost use Rattle.bq_job.specs.Steps.{IsStep, Outcome, acted};
-ghost use Rattle.bq_job.specs.Timers.{at_moment};
+ghost use Rattle.bq_job.specs.beside.Computed.{ample, stepped};
+ghost use Rattle.bq_job.specs.machine.Dispatch.{DispatchTurn, GivenAnswer};
+ghost use Rattle.bq_job.specs.beside.Lawful.{IsLawful};
+ghost use Rattle.bq_job.specs.laws.LeastJob.{GetsLeast};
+ghost use Rattle.bq_job.specs.machine.Machine.{Machine, Settings, new_machine};
+ghost use Rattle.bq_job.specs.beside.NextDue.{is_before, next_due};
+ghost use Rattle.bq_job.specs.machine.OneClient.{GivesClient};
+ghost use Rattle.bq_job.specs.beside.Refusals.{ChangesNothing, is_refusal};
+ghost use Rattle.bq_job.specs.promise.Runs.{parts_of};
+ghost use Rattle.bq_job.specs.machine.Steps.{IsStep, Outcome, acted};
+ghost use Rattle.bq_job.specs.machine.Timers.{at_moment};
 ghost use Rattle.std.specs.Prelude.{ℕ, ◌≡◌, ◌+◌, ◌<◌, ◌≤◌, IsTrue, false, List, [], Some, length};
 
 /// From every machine there is a step with enough memory, and it can be computed.

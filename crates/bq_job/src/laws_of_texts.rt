@@ -1,11 +1,11 @@
 //! What holds of every text of statistics and every list.
 ghost use Rattle.std.specs.Prelude.{◌≡◌, ℕ, List, IsTrue};
 ghost use Rattle.std.specs.List.{list_any};
-ghost use Rattle.bq_job.specs.Machine.{Machine};
-ghost use Rattle.bq_job.specs.NameOrder.{is_in_order};
-ghost use Rattle.bq_job.specs.TubeName.{is_same_name};
-ghost use Rattle.bq_job.specs.TubeOrder.{in_name_order, tubes};
-ghost use Rattle.bq_job.specs.Tubes.{is_tube};
+ghost use Rattle.bq_job.specs.machine.Machine.{Machine};
+ghost use Rattle.bq_job.specs.beside.NameOrder.{is_in_order};
+ghost use Rattle.bq_job.specs.reading.TubeName.{is_same_name};
+ghost use Rattle.bq_job.specs.machine.TubeOrder.{in_name_order, tubes};
+ghost use Rattle.bq_job.specs.machine.Tubes.{is_tube};
 
 #[cfg(test)]
 mod examples;

@@ -1,5 +1,5 @@
 ghost use Rattle.std.specs.Prelude.{◌≡◌};
-ghost use Rattle.bq_job.specs.Codes.{refusal_code};
+ghost use Rattle.bq_job.specs.beside.Codes.{refusal_code};
 
 /// Why the reader turned a request away.
 #[derive(Clone, Copy, Debug, PartialEq, Eq)]

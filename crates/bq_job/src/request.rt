@@ -1,5 +1,5 @@
 ghost use Rattle.std.specs.Prelude.{◌≡◌, IfOk, IsErr, IsTrue};
-ghost use Rattle.bq_job.specs.StepBody.{request_has_body};
+ghost use Rattle.bq_job.specs.beside.StepBody.{request_has_body};
 
 use super::{Body, JobId, NoMemory, Pri, Refusal, TubeName};
 

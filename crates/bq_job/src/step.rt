@@ -1,5 +1,5 @@
 ghost use Rattle.std.specs.Prelude.{◌≡◌, IfOk, IsErr, IsTrue};
-ghost use Rattle.bq_job.specs.StepBody.{has_body};
+ghost use Rattle.bq_job.specs.beside.StepBody.{has_body};
 
 use super::{NoMemory, Request};
 

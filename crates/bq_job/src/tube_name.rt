@@ -1,5 +1,5 @@
 ghost use Rattle.std.specs.Prelude.{◌≡◌, ◌↔◌, IsSome, IfSome, IsTrue, ◌≤◌, length};
-ghost use Rattle.bq_job.specs.TubeName.{is_tube_name, name_byte, is_same_name, begins_name, filled_up};
+ghost use Rattle.bq_job.specs.reading.TubeName.{is_tube_name, name_byte, is_same_name, begins_name, filled_up};
 ghost use Rattle.std.specs.List.{list_all};
 
 use std::alloc::AllocError;
@@ -20,7 +20,7 @@ pub struct TubeName {
 
 impl Model for TubeName {
     ghost use Rattle.std.specs.Prelude.{List, ℕ, ◌≡◌, ◌≤◌, take, length, IsTrue};
-    ghost use Rattle.bq_job.specs.TubeName.{is_tube_name, filled_up};
+    ghost use Rattle.bq_job.specs.reading.TubeName.{is_tube_name, filled_up};
     ghost use Rattle.std.specs.Prelude.{◌-◌, replicate};
     ghost use Rattle.std.proofs.Common.{sym, ap, arith};
     ghost use Rattle.std.proofs.lemmas.List.{length-take, length-append, length-replicate};

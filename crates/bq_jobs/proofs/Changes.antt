@@ -5,8 +5,8 @@ use Rattle.std.specs.List.{AllByRecursion as All, Contains}
 use Rattle.std.proofs.lemmas.Bool.{cases_Bool, eqb-true}
 use Rattle.std.proofs.lemmas.Bool.Decides.{nat_tests}
 use Rattle.bq_job.specs.declared.job.Job.{Job}
-use Rattle.bq_job.specs.Changes.{job_with}
-use Rattle.bq_job.specs.Lawful.{AreIdsWithin}
+use Rattle.bq_job.specs.machine.Changes.{job_with}
+use Rattle.bq_job.specs.beside.Lawful.{AreIdsWithin}
 use Rattle.bq_job.proofs.ChoiceLemmas.{first_of_contains}
 use Rattle.bq_job.proofs.ListLemmas.{all_at, all_weaker, count_cons}
 use Rattle.bq_jobs.specs.Kept.{with_added, without}

@@ -15,7 +15,7 @@ use Rattle.std.proofs.lemmas.Cmp.{alike_right, tied_back, tied_itself}
 use Rattle.std.proofs.lemmas.Map.{lookup-remove_entry}
 use Rattle.std.proofs.lemmas.Map.Keys.{IsDistinct-from_sorted}
 use Rattle.bq_index.specs.Order.{InOrder, entry_from}
-use Rattle.bq_job.specs.Changes.{is_pair_before}
+use Rattle.bq_job.specs.machine.Changes.{is_pair_before}
 
 -- what a test of an answer tells
 pub equal_from : (a : Ordering) → is_eq a ≡ true → a ≡ Equal

@@ -5,7 +5,7 @@ use Rattle.std.proofs.lemmas.Bool.{cases_Bool}
 use Rattle.std.proofs.lemmas.Bool.Decides.{nat_tests}
 use Rattle.bq_index.specs.Digits.{binary_digits, digits_up_to}
 use Rattle.bq_job.specs.declared.job.Job.{Job}
-use Rattle.bq_job.specs.Limits.{greatest}
+use Rattle.bq_job.specs.machine.Limits.{greatest}
 use Rattle.bq_jobs.specs.Kept.{Kept, search_bound}
 
 -- a smaller number has no more digits

@@ -5,12 +5,12 @@ use Rattle.std.specs.Cmp.{nat_cmp_total}
 use Rattle.std.specs.Ordering.{nat_cmp}
 use Rattle.bq_index.specs.Order.{InOrder}
 use Rattle.bq_job.specs.declared.job.Job.{Job}
-use Rattle.bq_job.specs.Changes.{first_of, is_held_by}
-use Rattle.bq_job.specs.Dispatch.{is_job_before}
-use Rattle.bq_job.specs.JobCommands.{is_buried_in, is_delayed_in}
-use Rattle.bq_job.specs.JobStates.{burial_of, due_of, is_buried_before, is_delayed, is_due_before, is_reserved}
-use Rattle.bq_job.specs.Lawful.{AreIdsWithin}
-use Rattle.bq_job.specs.TubeCommands.{is_ready_in}
+use Rattle.bq_job.specs.machine.Changes.{first_of, is_held_by}
+use Rattle.bq_job.specs.machine.Dispatch.{is_job_before}
+use Rattle.bq_job.specs.machine.JobCommands.{is_buried_in, is_delayed_in}
+use Rattle.bq_job.specs.machine.JobStates.{burial_of, due_of, is_buried_before, is_delayed, is_due_before, is_reserved}
+use Rattle.bq_job.specs.beside.Lawful.{AreIdsWithin}
+use Rattle.bq_job.specs.machine.TubeCommands.{is_ready_in}
 use Rattle.bq_jobs.specs.contracts.place.TubeListOrd.TheImpl.Laws as tube_list_laws
 use Rattle.bq_jobs.specs.contracts.place.TimerOrd.TheImpl.Laws as timer_laws
 use Rattle.bq_jobs.specs.declared.place.JobList.TheVariants as lists

@@ -11,8 +11,8 @@ use Rattle.std.proofs.lemmas.Bool.{cases_Bool}
 use Rattle.std.proofs.lemmas.Bool.Decides.{nat_tests}
 use Rattle.bq_index.specs.Order.{InOrder, entry_from}
 use Rattle.bq_job.specs.declared.job.Job.{Job}
-use Rattle.bq_job.specs.Changes.{first_of, is_pair_before, job_with}
-use Rattle.bq_job.specs.Lawful.{AreIdsWithin}
+use Rattle.bq_job.specs.machine.Changes.{first_of, is_pair_before, job_with}
+use Rattle.bq_job.specs.beside.Lawful.{AreIdsWithin}
 use Rattle.bq_job.proofs.ChoiceLemmas.{first_of_is, first_of_none_passes, pair_order}
 use Rattle.bq_job.proofs.ListLemmas.{all_from_members, found_passes, list_any_not}
 use Rattle.bq_jobs.specs.declared.place.Place.{Place}

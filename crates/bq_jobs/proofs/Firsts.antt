@@ -11,9 +11,9 @@ use Rattle.std.proofs.lemmas.Bool.Decides.{nat_tests}
 use Rattle.bq_job.specs.declared.job.Job.{Job}
 use Rattle.bq_job.specs.declared.job.JobState.{JobState}
 use Rattle.bq_job.specs.declared.job.JobState.TheVariants as states
-use Rattle.bq_job.specs.Changes.{is_holder, is_ready_state}
-use Rattle.bq_job.specs.JobStates.{burial_of, due_of, is_buried, is_delayed, is_reserved}
-use Rattle.bq_job.specs.TubeName.{is_same_name}
+use Rattle.bq_job.specs.machine.Changes.{is_holder, is_ready_state}
+use Rattle.bq_job.specs.machine.JobStates.{burial_of, due_of, is_buried, is_delayed, is_reserved}
+use Rattle.bq_job.specs.reading.TubeName.{is_same_name}
 use Rattle.bq_jobs.specs.contracts.place.TubeListOrd.TheImpl as tube_list_ord
 use Rattle.bq_jobs.specs.contracts.place.TimerOrd.TheImpl as timer_ord
 use Rattle.bq_jobs.specs.declared.place.Place.{Place}

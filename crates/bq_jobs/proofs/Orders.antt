@@ -14,8 +14,8 @@ use Rattle.bq_index.specs.Digits.{binary_digits}
 use Rattle.bq_index.specs.Order.{InOrder}
 use Rattle.bq_index.proofs.Order.{length_inserted, length_removed}
 use Rattle.bq_job.specs.declared.job.Job.{Job}
-use Rattle.bq_job.specs.Changes.{job_with}
-use Rattle.bq_job.specs.Lawful.{AreIdsWithin}
+use Rattle.bq_job.specs.machine.Changes.{job_with}
+use Rattle.bq_job.specs.beside.Lawful.{AreIdsWithin}
 use Rattle.bq_job.proofs.ListLemmas.{count_cons}
 use Rattle.bq_jobs.specs.declared.place.Place.{Place}
 use Rattle.bq_jobs.specs.Inside.{IsOrderOf, Order, has_place, is_place}

@@ -3,7 +3,7 @@ use Rattle.std.proofs.Common.{◌≡◌, ℕ, List, [], ◌∷◌, Option, Some,
 use Rattle.std.specs.Prelude.{◌==◌, option_map}
 use Rattle.std.proofs.lemmas.Bool.{cases_Bool}
 use Rattle.bq_job.specs.declared.job.Job.{Job}
-use Rattle.bq_job.specs.Changes.{job_with}
+use Rattle.bq_job.specs.machine.Changes.{job_with}
 use Rattle.bq_jobs.specs.declared.edit.Moved.{Moved}
 use Rattle.bq_jobs.specs.declared.jobs.Jobs.TheInside.{Inside as Parts}
 use Rattle.bq_jobs.specs.Changed.{KeepsId, KeepsTube, entry_at, moved_by, with_changed}

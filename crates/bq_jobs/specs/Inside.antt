@@ -4,9 +4,9 @@ use Rattle.std.specs.declared.cmp.Ordering.{Ordering}
 use Rattle.std.specs.Ordering.{is_eq, nat_cmp}
 use Rattle.bq_index.specs.Shelf.{Seen}
 use Rattle.bq_job.specs.declared.job.Job.{Job}
-use Rattle.bq_job.specs.Changes.{job_with}
-use Rattle.bq_job.specs.Lawful.{AreIdsWithin}
-use Rattle.bq_job.specs.Limits.{greatest}
+use Rattle.bq_job.specs.machine.Changes.{job_with}
+use Rattle.bq_job.specs.beside.Lawful.{AreIdsWithin}
+use Rattle.bq_job.specs.machine.Limits.{greatest}
 use Rattle.bq_jobs.specs.declared.place.Place.{Place}
 use Rattle.bq_jobs.specs.declared.place.TubeList.{TubeList}
 use Rattle.bq_jobs.specs.declared.place.Timer.{Timer}

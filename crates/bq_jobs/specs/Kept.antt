@@ -2,7 +2,7 @@
 use Rattle.std.specs.Prelude.{ℕ, Bool, ◌+◌, ◌*◌, ◌≤◌, ◌==◌, not, nat_lt, List, filter, length}
 use Rattle.bq_index.specs.Digits.{binary_digits}
 use Rattle.bq_job.specs.declared.job.Job.{Job}
-use Rattle.bq_job.specs.JobCommands.{put_in_order}
+use Rattle.bq_job.specs.machine.JobCommands.{put_in_order}
 
 -- the jobs in the order of their ids, how many more can be added without memory, and the comparisons of keys so far
 pub record Kept : Type 0 where

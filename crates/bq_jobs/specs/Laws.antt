@@ -1,9 +1,9 @@
 -- How removals and additions make up the changes that the machine's definitions speak of.
 use Rattle.std.specs.Prelude.{◌≡◌, ℕ, ◌++◌, ◌∷◌, [], Bool, List, Some, None}
 use Rattle.bq_job.specs.declared.job.Job.{Job}
-use Rattle.bq_job.specs.Changes.{first_of, job_with, with_job}
-use Rattle.bq_job.specs.Lawful.{AreIdsWithin}
-use Rattle.bq_job.specs.Machine.{Machine}
+use Rattle.bq_job.specs.machine.Changes.{first_of, job_with, with_job}
+use Rattle.bq_job.specs.beside.Lawful.{AreIdsWithin}
+use Rattle.bq_job.specs.machine.Machine.{Machine}
 use Rattle.bq_jobs.specs.Kept.{with_added, without}
 
 -- A job that is taken out and put back changed is changed by its id.

@@ -3,7 +3,7 @@ use Rattle.std.specs.Prelude.{ℕ, Bool}
 use Rattle.bq_job.specs.declared.job.Job.{Job}
 use Rattle.bq_job.specs.declared.job.JobState.{JobState}
 use Rattle.bq_job.specs.declared.job.JobState.TheVariants as states
-use Rattle.bq_job.specs.Changes.{is_pair_before}
+use Rattle.bq_job.specs.machine.Changes.{is_pair_before}
 
 -- the moment at which the lease of a reserved job ends
 abbrev pub deadline_of : JobState → ℕ

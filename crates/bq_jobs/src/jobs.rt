@@ -1,12 +1,12 @@
 //! The jobs of a work queue.
 ghost use Rattle.std.specs.Option.{option_map};
 ghost use Rattle.std.specs.Prelude.{◌≡◌, ◌+◌, ◌<◌, ◌^◌, if◌then◌else◌, [], length, max, is_some, IfSome, None, OnOk, OnErr};
-ghost use Rattle.bq_job.specs.Changes.{first_of, is_held_by, job_with};
-ghost use Rattle.bq_job.specs.Dispatch.{is_job_before};
-ghost use Rattle.bq_job.specs.JobCommands.{is_buried_in, is_delayed_in};
-ghost use Rattle.bq_job.specs.JobStates.{due_of, is_buried_before, is_delayed, is_due_before, is_reserved};
-ghost use Rattle.bq_job.specs.Lawful.{AreIdsWithin};
-ghost use Rattle.bq_job.specs.TubeCommands.{is_ready_in};
+ghost use Rattle.bq_job.specs.machine.Changes.{first_of, is_held_by, job_with};
+ghost use Rattle.bq_job.specs.machine.Dispatch.{is_job_before};
+ghost use Rattle.bq_job.specs.machine.JobCommands.{is_buried_in, is_delayed_in};
+ghost use Rattle.bq_job.specs.machine.JobStates.{due_of, is_buried_before, is_delayed, is_due_before, is_reserved};
+ghost use Rattle.bq_job.specs.beside.Lawful.{AreIdsWithin};
+ghost use Rattle.bq_job.specs.machine.TubeCommands.{is_ready_in};
 ghost use Rattle.bq_index.specs.Shelf.{ComparesFew};
 ghost use Rattle.bq_jobs.specs.Changed.{KeepsId, KeepsTube, entry_at, moved_by, with_changed, with_edited};
 ghost use Rattle.bq_jobs.specs.Kept.{ComparesAtMost, ranked, with_added, without};

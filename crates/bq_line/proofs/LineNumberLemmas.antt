@@ -5,7 +5,7 @@ use Rattle.bq_job.specs.declared.line_end.LineEnd.{LineEnd}
 use Rattle.bq_job.specs.declared.line_end.LineEnd.TheVariants as ends
 use Rattle.bq_job.specs.declared.line_end.LineFault.{LineFault}
 use Rattle.bq_job.specs.declared.line_end.LineFault.TheVariants as faults
-use Rattle.bq_job.specs.History.{LineOver}
+use Rattle.bq_job.specs.promise.History.{LineOver}
 use Rattle.bq_line.specs.LineNumbers.{numbers_with_group, into_first, groups_of_numbers, number_of_end, end_of_number, number_of_flag, flag_of_number, number_of_fault, fault_of_number, numbers_with_line, line_of_groups, lines_of_groups, lines_of_numbers}
 
 pub group_back : (group rest : List ℕ) → groups_of_numbers (numbers_with_group group rest) ≡ group ∷ groups_of_numbers rest

@@ -1,6 +1,6 @@
 -- What a door does with its lines.
 use Rattle.std.specs.Prelude.{◌≡◌, Bool, true, false, Option, Some, None, Result, Ok, Err}
-use Rattle.bq_job.specs.LineSteps.{LineSeen}
+use Rattle.bq_job.specs.promise.LineSteps.{LineSeen}
 use Rattle.bq_line.specs.LineCalls.{new_line}
 
 -- A line on which nothing was done is out, or the door is at its end.

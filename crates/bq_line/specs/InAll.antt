@@ -1,6 +1,6 @@
 -- How many connections come at a door.
 use Rattle.std.specs.Prelude.{ℕ, ◌+◌, Bool, List, length, Option, Some, None, if◌then◌else◌}
-use Rattle.bq_job.specs.History.{LineOver}
+use Rattle.bq_job.specs.promise.History.{LineOver}
 
 -- With those still to come, the one that is out, and those that are over; without end where those to come are.
 abbrev pub in_all : Option ℕ → Bool → List LineOver → Option ℕ

@@ -6,7 +6,7 @@ use Rattle.std.specs.declared.io.ErrorKind.TheVariants as kinds
 use Rattle.std.specs.IoError.{error_kind}
 use Rattle.bq_job.specs.declared.line_end.LineFault.{LineFault}
 use Rattle.bq_job.specs.declared.line_end.LineFault.TheVariants as faults
-use Rattle.bq_job.specs.LineSteps.{LineSeen}
+use Rattle.bq_job.specs.promise.LineSteps.{LineSeen}
 
 -- a line on which nothing was done
 abbrev pub new_line : LineSeen

@@ -1,9 +1,9 @@
 -- The lines of a door in memory.
 use Rattle.std.specs.Prelude.{◌≡◌}
 use Rattle.bq_job.specs.declared.line_end.LineEnd.{LineEnd}
-use Rattle.bq_job.specs.History.{LineOver}
+use Rattle.bq_job.specs.promise.History.{LineOver}
 use Rattle.bq_line.specs.LineCalls.{new_line}
-use Rattle.bq_job.specs.LineSteps.{LineSeen}
+use Rattle.bq_job.specs.promise.LineSteps.{LineSeen}
 use Rattle.bq_line.specs.LineParts.{bytes_up_to}
 use Rattle.bq_line.specs.declared.line.mem_line.MemLine.{MemLine}
 

@@ -1,6 +1,6 @@
 //! Doors, at which clients come one after another.
 ghost use Rattle.std.specs.Prelude.{◌≡◌, Bool, List, [], ◌∷◌, ◌++◌, true, false};
-ghost use Rattle.bq_job.specs.History.{LineOver};
+ghost use Rattle.bq_job.specs.promise.History.{LineOver};
 ghost use Rattle.bq_line.specs.Doors.{IsOpened};
 
 pub use mem_door::MemDoor;

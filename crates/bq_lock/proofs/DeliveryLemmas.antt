@@ -4,8 +4,8 @@ use Rattle.std.specs.Prelude.{if◌then◌else◌, is_ok}
 use Rattle.std.proofs.lemmas.Bool.{cases_lt}
 use Rattle.std.proofs.lemmas.List.{get_or_past, length-append, length-map, map-append}
 use Rattle.bq_job.specs.declared.answer.Answer.{Answer}
-use Rattle.bq_job.specs.Dispatch.{GivenAnswer}
-use Rattle.bq_job.specs.Runs.{answers_to}
+use Rattle.bq_job.specs.machine.Dispatch.{GivenAnswer}
+use Rattle.bq_job.specs.promise.Runs.{answers_to}
 use Rattle.bq_job.proofs.OneClientLemmas.{answers_append}
 use Rattle.bq_desk.specs.LastParts.{last_part}
 use Rattle.bq_lock.specs.LockedState.{AreFew, outbox_at}

@@ -1,7 +1,7 @@
 -- A seat with its door, before anything was done, and at its end.
 use Rattle.std.proofs.Common.{◌≡◌, ◌∙◌, ℕ, Bool, false, List, [], ◌∷◌, ◌++◌, map, ap, refl, sym, subst, append-nil, append_assoc}
-use Rattle.bq_job.specs.History.{LineOver}
-use Rattle.bq_job.specs.LineSteps.{LineSeen}
+use Rattle.bq_job.specs.promise.History.{LineOver}
+use Rattle.bq_job.specs.promise.LineSteps.{LineSeen}
 use Rattle.bq_job.specs.declared.answer.Answer.{Answer}
 use Rattle.bq_job.specs.declared.step.Step.{Step}
 use Rattle.bq_seat.specs.Past.{Awaited}

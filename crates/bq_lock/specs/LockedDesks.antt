@@ -3,9 +3,9 @@ use Rattle.std.specs.Prelude.{ℕ, drop, slice_get, slice_set, ◌≡◌, ◌+�
 use Rattle.bq_job.specs.declared.answer.Answer.{Answer}
 use Rattle.bq_job.specs.declared.step.Step.{Step}
 use Rattle.bq_job.specs.declared.step.Step.TheVariants.{Tick}
-use Rattle.bq_job.specs.History.{moment_heard}
+use Rattle.bq_job.specs.promise.History.{moment_heard}
 use Rattle.bq_desk.specs.DeskOf.{GaveReadings}
-use Rattle.bq_job.specs.NextDue.{next_due}
+use Rattle.bq_job.specs.beside.NextDue.{next_due}
 use Rattle.bq_lock.specs.LockedState.{outbox_at}
 use Rattle.bq_lock.specs.LockedSteps.{TakesStep}
 use Rattle.bq_lock.specs.declared.locked_desk.LockedDesk.{LockedDesk}

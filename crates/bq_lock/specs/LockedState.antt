@@ -3,11 +3,11 @@ use Rattle.std.specs.Prelude.{ℕ, Bool, true, ◌≡◌, ◌≤◌, List, [], l
 use Rattle.bq_job.specs.declared.answer.Answer.{Answer}
 use Rattle.bq_job.specs.declared.journal.Entry.{Entry}
 use Rattle.bq_job.specs.declared.settings.Settings.{Settings}
-use Rattle.bq_job.specs.Dispatch.{GivenAnswer}
-use Rattle.bq_job.specs.Lawful.{IsLawful}
-use Rattle.bq_job.specs.Machine.{Machine, new_machine}
-use Rattle.bq_job.specs.Replay.{Replay}
-use Rattle.bq_job.specs.Runs.{answers_to}
+use Rattle.bq_job.specs.machine.Dispatch.{GivenAnswer}
+use Rattle.bq_job.specs.beside.Lawful.{IsLawful}
+use Rattle.bq_job.specs.machine.Machine.{Machine, new_machine}
+use Rattle.bq_job.specs.beside.Replay.{Replay}
+use Rattle.bq_job.specs.promise.Runs.{answers_to}
 use Rattle.bq_desk.specs.LastParts.{EndsWith}
 
 -- the entries of a journal, for how many it has room in all, and whether it tells all that happened

@@ -3,10 +3,10 @@ use Rattle.std.specs.Prelude.{ℕ, Bool, false, ◌≡◌, ◌<◌, ◌⊎◌, �
 use Rattle.bq_job.specs.declared.answer.Answer.{Answer}
 use Rattle.bq_job.specs.declared.journal.Entry.{Entry}
 use Rattle.bq_job.specs.declared.step.Step.{Step}
-use Rattle.bq_job.specs.Dispatch.{GivenAnswer}
-use Rattle.bq_job.specs.Runs.{answers_to}
-use Rattle.bq_job.specs.StepBody.{has_body}
-use Rattle.bq_job.specs.Steps.{IsStep, Outcome}
+use Rattle.bq_job.specs.machine.Dispatch.{GivenAnswer}
+use Rattle.bq_job.specs.promise.Runs.{answers_to}
+use Rattle.bq_job.specs.beside.StepBody.{has_body}
+use Rattle.bq_job.specs.machine.Steps.{IsStep, Outcome}
 use Rattle.bq_desk.specs.LastParts.{last_part}
 use Rattle.bq_lock.specs.LockedState.{JournalState, LockedState, outbox_at}
 

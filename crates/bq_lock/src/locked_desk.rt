@@ -18,12 +18,12 @@ pub struct LockedDesk<C> {
 }
 
 impl<C: Clock + Drop> LockedDesk<C> {
-    ghost use Rattle.bq_job.specs.NextDue.{next_due};
+    ghost use Rattle.bq_job.specs.beside.NextDue.{next_due};
     ghost use Rattle.bq_desk.specs.DeskOf.{GaveReadings};
     ghost use Rattle.bq_lock.specs.LockedDesks.{EndsInTime, HasLooked, HasPassed, HasServed, HasTaken};
     ghost use Rattle.bq_lock.specs.Rung.{AreRung, AreRungByTick, others};
     ghost use Rattle.std.specs.Prelude.{[], ◌∷◌};
-    ghost use Rattle.bq_job.specs.History.{moment_heard};
+    ghost use Rattle.bq_job.specs.promise.History.{moment_heard};
 
     /// A desk at which nothing was done.
     pub fn new(locked: Locked, clock: C) -> LockedDesk<C>

@@ -6,7 +6,7 @@ use Rattle.bq_job.specs.declared.line_end.LineFault.{LineFault}
 use Rattle.bq_job.specs.declared.step.Step.{Step}
 use Rattle.bq_job.specs.declared.step.Step.TheVariants as steps
 use Rattle.bq_seat.specs.Finds.{Finds}
-use Rattle.bq_job.specs.LineSteps.{wanted}
+use Rattle.bq_job.specs.promise.LineSteps.{wanted}
 use Rattle.bq_seat.specs.Past.{Awaited, IsOrderly, Past, awaited_by, has_close, is_close, is_stray, past_after, with_action, with_event, with_fault, with_mail}
 use Rattle.bq_seat.specs.SeatMoves.{IsMove, OpensPast}
 use Rattle.bq_seat.specs.SeatParts.{IfLineOver, IsStagedMove, OpensLine}

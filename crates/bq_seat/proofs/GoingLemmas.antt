@@ -4,8 +4,8 @@ use Rattle.bq_job.specs.declared.line_end.LineEnd.TheVariants as ends
 use Rattle.bq_job.specs.declared.request.Request.{Request}
 use Rattle.bq_job.specs.declared.request.Request.TheVariants as requests
 use Rattle.bq_job.specs.declared.step.Step.TheVariants as steps
-use Rattle.bq_job.specs.Reading.{is_quit}
-use Rattle.bq_job.specs.LineSteps.{is_waiting_request}
+use Rattle.bq_job.specs.reading.Reading.{is_quit}
+use Rattle.bq_job.specs.promise.LineSteps.{is_waiting_request}
 use Rattle.bq_seat.specs.Past.{Past, with_action}
 use Rattle.bq_seat.specs.SeatParts.{GoesOn, in_stage, asking_stage}
 use Rattle.bq_seat.specs.SeatStands.{AgreesWith, IsOpen, StandsInStage}

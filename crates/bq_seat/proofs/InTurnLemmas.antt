@@ -8,7 +8,7 @@ use Rattle.bq_job.specs.declared.step.Step.{Step}
 use Rattle.bq_job.specs.declared.step.Step.TheVariants as steps
 use Rattle.bq_job.specs.declared.answer.Answer.{Answer}
 use Rattle.bq_job.specs.declared.line_end.LineEnd.TheVariants as ends
-use Rattle.bq_job.specs.LineSteps.{AreAllAnswered, answered_count, wanted}
+use Rattle.bq_job.specs.promise.LineSteps.{AreAllAnswered, answered_count, wanted}
 use Rattle.bq_seat.specs.InTurn.{IsInTurn}
 use Rattle.bq_seat.proofs.StepLemmas.{answered_count-asked}
 use Rattle.bq_seat.specs.Past.{Awaited, Past}

@@ -5,8 +5,8 @@ use Rattle.bq_job.specs.declared.request.Request.{Request}
 use Rattle.bq_job.specs.declared.request.Request.TheVariants as requests
 use Rattle.bq_job.specs.declared.step.Step.{Step}
 use Rattle.bq_job.specs.declared.step.Step.TheVariants as steps
-use Rattle.bq_job.specs.Reading.{is_quit}
-use Rattle.bq_job.specs.LineSteps.{ends_by_wait, wanted}
+use Rattle.bq_job.specs.reading.Reading.{is_quit}
+use Rattle.bq_job.specs.promise.LineSteps.{ends_by_wait, wanted}
 use Rattle.bq_job.specs.declared.line_end.LineEnd.{LineEnd}
 use Rattle.bq_wire.specs.declared.state.State.{State}
 use Rattle.bq_seat.specs.Looks.{GoesFurther, LooksBehindStep, asked_in, is_read_on, is_unanswered, last_step}

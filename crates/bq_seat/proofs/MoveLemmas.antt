@@ -1,13 +1,13 @@
 -- The moves of a seat machine, stage by stage.
 use Rattle.std.proofs.Common.{◌≡◌, ℕ, Bool, true, false, not, ◌&&◌, ◌==◌, List, [], ◌∷◌, inl, inr, refl, sym, ap, subst, ◌∙◌, length, if◌then◌else◌, arith, Bor, MatchBool}
 use Rattle.std.proofs.lemmas.Bool.Decides.{nat_tests}
-use Rattle.bq_job.specs.ComputedReading.{reading}
+use Rattle.bq_job.specs.beside.ComputedReading.{reading}
 use Rattle.bq_job.specs.declared.answer.Answer.{Answer}
 use Rattle.bq_job.specs.declared.line_end.LineEnd.{LineEnd}
 use Rattle.bq_job.specs.declared.line_end.LineEnd.TheVariants as ends
 use Rattle.bq_job.specs.declared.step.Step.TheVariants as steps
-use Rattle.bq_job.specs.OneClient.{is_closed_answer}
-use Rattle.bq_job.specs.Reading.{Reads}
+use Rattle.bq_job.specs.machine.OneClient.{is_closed_answer}
+use Rattle.bq_job.specs.reading.Reading.{Reads}
 use Rattle.bq_seat.specs.Looks.{GoesFurther, LooksOn, is_read_on}
 use Rattle.bq_seat.specs.Past.{Past, with_action, with_event, past_after, is_stray, answers, first_past}
 use Rattle.bq_seat.specs.SeatParts.{GoesOn, IfLineOver, IsStagedMove, OpensLine, in_stage, reads_on}

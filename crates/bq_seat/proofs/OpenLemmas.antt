@@ -11,9 +11,9 @@ use Rattle.bq_job.specs.declared.request.Request.{Request}
 use Rattle.bq_job.specs.declared.request.Request.TheVariants as requests
 use Rattle.bq_job.specs.declared.step.Step.{Step}
 use Rattle.bq_job.specs.declared.step.Step.TheVariants as steps
-use Rattle.bq_job.specs.Reading.{Reads, AreUnits, IsUnit, BeginsNoUnit, is_quit}
-use Rattle.bq_job.specs.LineSteps.{MayTellEnd, AreAllAnswered, is_waiting_request, ends_by_wait}
-use Rattle.bq_job.specs.OneClient.{has_closed, is_closed_answer}
+use Rattle.bq_job.specs.reading.Reading.{Reads, AreUnits, IsUnit, BeginsNoUnit, is_quit}
+use Rattle.bq_job.specs.promise.LineSteps.{MayTellEnd, AreAllAnswered, is_waiting_request, ends_by_wait}
+use Rattle.bq_job.specs.machine.OneClient.{has_closed, is_closed_answer}
 use Rattle.bq_seat.specs.Past.{Past, with_action, with_mail, with_fault, first_past}
 use Rattle.bq_seat.specs.Served.{IsLastBroken, IsServed, IsServedToClose}
 use Rattle.bq_seat.specs.SeatStands.{IsClosing, IsOpen, IsWaiting, StandsInStage, end_if}

@@ -1,6 +1,6 @@
 -- Readings that go on behind requests that were asked.
 use Rattle.std.proofs.Common.{◌≡◌, ℕ, Bool, true, false, ◌||◌, List, [], ◌∷◌, ◌++◌, ◌⊎◌, inl, inr, refl, sym, ap, ◌∙◌, append_assoc, append-nil, IsTrue}
-use Rattle.bq_job.specs.Reading.{Reads, AreUnits, IsUnit, BeginsNoUnit, is_quit, quits_last, ends_by_quit}
+use Rattle.bq_job.specs.reading.Reading.{Reads, AreUnits, IsUnit, BeginsNoUnit, is_quit, quits_last, ends_by_quit}
 use Rattle.bq_job.specs.declared.request.Request.{Request}
 use Rattle.bq_seat.specs.SeatStands.{has_quit}
 

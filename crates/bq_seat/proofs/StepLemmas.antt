@@ -1,7 +1,7 @@
 -- The steps of a line, as requests are asked one after another.
 use Rattle.std.proofs.Common.{◌≡◌, ◌≢◌, ◌+◌, ◌<◌, false, List, [], ◌∷◌, ◌++◌, refl, ap, ◌∙◌, map, length, arith, not, IsTrue}
-use Rattle.bq_job.specs.Reading.{is_quit, ends_by_quit}
-use Rattle.bq_job.specs.LineSteps.{answered_count, is_waiting_request, ends_by_wait}
+use Rattle.bq_job.specs.reading.Reading.{is_quit, ends_by_quit}
+use Rattle.bq_job.specs.promise.LineSteps.{answered_count, is_waiting_request, ends_by_wait}
 use Rattle.bq_job.specs.declared.request.Request.{Request}
 use Rattle.bq_job.specs.declared.request.Request.TheVariants as requests
 use Rattle.bq_job.specs.declared.step.Step.TheVariants as steps

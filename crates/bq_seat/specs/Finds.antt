@@ -1,6 +1,6 @@
 -- What an action finds: the line's past with the event that it answers.
 use Rattle.std.specs.Prelude.{ℕ, ◌≡◌, ◌≤◌, ◌+◌, false, List, length, None}
-use Rattle.bq_job.specs.LineSteps.{wanted}
+use Rattle.bq_job.specs.promise.LineSteps.{wanted}
 use Rattle.bq_seat.specs.InTurn.{IsInTurn}
 use Rattle.bq_seat.specs.Past.{Past}
 use Rattle.bq_seat.specs.Served.{IsServed}

@@ -4,7 +4,7 @@ use Rattle.bq_job.specs.declared.answer.Answer.{Answer}
 use Rattle.bq_job.specs.declared.request.Request.{Request}
 use Rattle.bq_job.specs.declared.step.Step.{Step}
 use Rattle.bq_job.specs.declared.step.Step.TheVariants as steps
-use Rattle.bq_job.specs.LineSteps.{wanted}
+use Rattle.bq_job.specs.promise.LineSteps.{wanted}
 use Rattle.bq_seat.specs.SeatStands.{end_if, has_quit}
 
 -- a client that has connected and asked these requests, none of them quit

@@ -4,8 +4,8 @@ use Rattle.bq_job.specs.declared.request.Request.{Request}
 use Rattle.bq_job.specs.declared.request.Request.TheVariants as requests
 use Rattle.bq_job.specs.declared.step.Step.{Step}
 use Rattle.bq_job.specs.declared.step.Step.TheVariants as steps
-use Rattle.bq_job.specs.LineSteps.{ends_by_wait, wanted}
-use Rattle.bq_job.specs.OneClient.{is_closed_answer}
+use Rattle.bq_job.specs.promise.LineSteps.{ends_by_wait, wanted}
+use Rattle.bq_job.specs.machine.OneClient.{is_closed_answer}
 use Rattle.bq_seat.specs.Past.{Awaited, Past}
 use Rattle.bq_seat.specs.declared.machine.Action.{Action}
 use Rattle.bq_seat.specs.declared.machine.Action.TheVariants as actions

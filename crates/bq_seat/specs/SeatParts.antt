@@ -3,8 +3,8 @@ use Rattle.std.specs.Prelude.{ℕ, ◌≡◌, ◌==◌, ◌&&◌, Bool, true, fa
 use Rattle.bq_job.specs.declared.line_end.LineEnd.{LineEnd}
 use Rattle.bq_job.specs.declared.request.Request.{Request}
 use Rattle.bq_job.specs.declared.step.Step.TheVariants as steps
-use Rattle.bq_job.specs.Reading.{is_quit}
-use Rattle.bq_job.specs.LineSteps.{is_waiting_request}
+use Rattle.bq_job.specs.reading.Reading.{is_quit}
+use Rattle.bq_job.specs.promise.LineSteps.{is_waiting_request}
 use Rattle.bq_seat.specs.Looks.{GoesFurther, LooksOn}
 use Rattle.bq_seat.specs.Past.{Past, answers, awaited_by, first_past, is_stray, past_after, with_action}
 use Rattle.bq_seat.specs.SeatStands.{AgreesWith, IsOpen, awaited}

@@ -9,9 +9,9 @@ use Rattle.bq_job.specs.declared.request.Request.{Request}
 use Rattle.bq_job.specs.declared.request.Request.TheVariants as requests
 use Rattle.bq_job.specs.declared.step.Step.{Step}
 use Rattle.bq_job.specs.declared.step.Step.TheVariants as steps
-use Rattle.bq_job.specs.Reading.{AreUnits, BeginsNoUnit, is_quit}
-use Rattle.bq_job.specs.LineSteps.{ends_by_wait}
-use Rattle.bq_job.specs.OneClient.{has_closed}
+use Rattle.bq_job.specs.reading.Reading.{AreUnits, BeginsNoUnit, is_quit}
+use Rattle.bq_job.specs.promise.LineSteps.{ends_by_wait}
+use Rattle.bq_job.specs.machine.OneClient.{has_closed}
 use Rattle.bq_wire.specs.Standing.{Stands}
 use Rattle.bq_wire.specs.declared.state.State.{State}
 use Rattle.bq_seat.specs.Past.{Past, Awaited, IsOrderly, with_action}

@@ -6,8 +6,8 @@ use Rattle.bq_job.specs.declared.line_end.LineEnd.{LineEnd}
 use Rattle.bq_job.specs.declared.line_end.LineEnd.TheVariants as ends
 use Rattle.bq_job.specs.declared.line_end.LineFault.{LineFault}
 use Rattle.bq_job.specs.declared.line_end.LineFault.TheVariants as faults
-use Rattle.bq_job.specs.LineSteps.{LineSeen, IsStepsOfLine, AreAllAnswered, heard}
-use Rattle.bq_job.specs.OneClient.{has_closed}
+use Rattle.bq_job.specs.promise.LineSteps.{LineSeen, IsStepsOfLine, AreAllAnswered, heard}
+use Rattle.bq_job.specs.machine.OneClient.{has_closed}
 use Rattle.bq_seat.specs.Past.{Past}
 
 -- the line, as far as the machine has seen it, if these bytes were written to it

@@ -87,7 +87,7 @@ pub struct SeatMachine {
 
 impl SeatMachine {
     ghost use Rattle.bq_seat.specs.Past.{Awaited};
-    ghost use Rattle.bq_job.specs.OneClient.{is_closed_answer};
+    ghost use Rattle.bq_job.specs.machine.OneClient.{is_closed_answer};
     ghost use Rattle.bq_seat.specs.Outstanding.{ReadsWith};
     ghost use Rattle.bq_seat.specs.SeatMoves.{FitsPiece, IsMove};
     ghost use Rattle.bq_seat.specs.SeatParts.{GoesOn, IsStagedMove, asking_stage, in_stage, reads_on};

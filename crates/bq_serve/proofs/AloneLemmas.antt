@@ -8,11 +8,11 @@ use Rattle.bq_job.specs.declared.answer.Answer.{Answer}
 use Rattle.bq_job.specs.declared.line_end.LineEnd.{LineEnd}
 use Rattle.bq_job.specs.declared.settings.Settings.{Settings}
 use Rattle.bq_job.specs.declared.step.Step.{Step}
-use Rattle.bq_job.specs.History.{ArePickedFrom, is_tick, moments_heard, steps_at, without_ticks}
-use Rattle.bq_job.specs.LineSteps.{LineSeen}
-use Rattle.bq_job.specs.Machine.{Machine}
-use Rattle.bq_job.specs.Runs.{Entry, Run, answers_to}
-use Rattle.bq_job.specs.Ties.{IsLineJoined}
+use Rattle.bq_job.specs.promise.History.{ArePickedFrom, is_tick, moments_heard, steps_at, without_ticks}
+use Rattle.bq_job.specs.promise.LineSteps.{LineSeen}
+use Rattle.bq_job.specs.machine.Machine.{Machine}
+use Rattle.bq_job.specs.promise.Runs.{Entry, Run, answers_to}
+use Rattle.bq_job.specs.beside.Ties.{IsLineJoined}
 use Rattle.bq_seat.specs.declared.machine.Action.{Action}
 use Rattle.bq_seat.specs.declared.machine.Action.TheVariants as actions
 use Rattle.bq_seat.specs.declared.machine.SeatMachine.{SeatMachine}

@@ -4,10 +4,10 @@ use Rattle.bq_job.specs.declared.answer.Answer.{Answer}
 use Rattle.bq_job.specs.declared.request.Request.{Request}
 use Rattle.bq_job.specs.declared.step.Step.{Step}
 use Rattle.bq_job.specs.declared.step.Step.TheVariants as steps
-use Rattle.bq_job.specs.ControlDid.{IsControlDone, drains}
-use Rattle.bq_job.specs.History.{LineOver}
-use Rattle.bq_job.specs.LineOwed.{IsLineOwed}
-use Rattle.bq_job.specs.SeatDid.{AreLinesServed, IsSeatDone}
+use Rattle.bq_job.specs.promise.ControlDid.{IsControlDone, drains}
+use Rattle.bq_job.specs.promise.History.{LineOver}
+use Rattle.bq_job.specs.promise.LineOwed.{IsLineOwed}
+use Rattle.bq_job.specs.beside.SeatDid.{AreLinesServed, IsSeatDone}
 use Rattle.bq_serve.specs.CoreWork.{HasGone}
 
 abbrev is_gone : Step → Bool

@@ -7,15 +7,15 @@ use Rattle.std.proofs.lemmas.Bool.{cases_Bool, eqb-true, eqb-false, le-leb}
 use Rattle.bq_job.specs.declared.answer.Answer.{Answer}
 use Rattle.bq_job.specs.declared.settings.Settings.{Settings}
 use Rattle.bq_job.specs.declared.step.Step.{Step}
-use Rattle.bq_job.specs.ControlDid.{IsControlDone}
-use Rattle.bq_job.specs.Dispatch.{GivenAnswer}
-use Rattle.bq_job.specs.Headline.{IsHistoryOf}
-use Rattle.bq_job.specs.History.{LineOver, is_tick, steps_at, without_ticks}
-use Rattle.bq_job.specs.Machine.{Machine, new_machine}
-use Rattle.bq_job.specs.Runs.{Entry, GoesBy, Transition, answers_to}
-use Rattle.bq_job.specs.SeatDid.{IsSeatDone}
-use Rattle.bq_job.specs.Steps.{IsStep, Outcome}
-use Rattle.bq_job.specs.Ties.{AreTied}
+use Rattle.bq_job.specs.promise.ControlDid.{IsControlDone}
+use Rattle.bq_job.specs.machine.Dispatch.{GivenAnswer}
+use Rattle.bq_job.specs.promise.Headline.{IsHistoryOf}
+use Rattle.bq_job.specs.promise.History.{LineOver, is_tick, steps_at, without_ticks}
+use Rattle.bq_job.specs.machine.Machine.{Machine, new_machine}
+use Rattle.bq_job.specs.promise.Runs.{Entry, GoesBy, Transition, answers_to}
+use Rattle.bq_job.specs.beside.SeatDid.{IsSeatDone}
+use Rattle.bq_job.specs.machine.Steps.{IsStep, Outcome}
+use Rattle.bq_job.specs.beside.Ties.{AreTied}
 use Rattle.bq_link.specs.EndStates.{CoreState, SeatState, sent_to}
 use Rattle.bq_link.specs.Submissions.{AreBelow, steps_of}
 use Rattle.bq_desk.specs.Tending.{DoorSeen, IsDoorServed}

@@ -2,7 +2,7 @@
 use Rattle.std.proofs.Common.{◌≡◌, ℕ, List, inl, inr, subst, sym, append-nil, ◌∙◌, ap, ◌++◌}
 use Rattle.bq_job.specs.declared.answer.Answer.{Answer}
 use Rattle.bq_job.specs.declared.step.Step.{Step}
-use Rattle.bq_job.specs.LineSteps.{LineSeen}
+use Rattle.bq_job.specs.promise.LineSteps.{LineSeen}
 use Rattle.bq_desk.specs.Links.{Calls}
 use Rattle.bq_desk.specs.Tending.{DoorSeen, GoesOn, IsTended}
 use Rattle.bq_desk.specs.declared.attendant.Attendant.{Attendant}

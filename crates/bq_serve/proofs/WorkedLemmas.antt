@@ -7,11 +7,11 @@ use Rattle.bq_job.specs.declared.answer.Answer.{Answer}
 use Rattle.bq_job.specs.declared.settings.Settings.{Settings}
 use Rattle.bq_job.specs.declared.step.Step.{Step}
 use Rattle.bq_job.specs.declared.step.Step.TheVariants.{Gone, Tick}
-use Rattle.bq_job.specs.Dispatch.{GivenAnswer}
-use Rattle.bq_job.specs.History.{ArePickedFrom, IsTimedFrom, is_tick, last_heard, moment_heard, moments_heard}
-use Rattle.bq_job.specs.Machine.{Machine, new_machine}
-use Rattle.bq_job.specs.Runs.{Entry, Run, answers_to}
-use Rattle.bq_job.specs.Steps.{IsStep, Outcome}
+use Rattle.bq_job.specs.machine.Dispatch.{GivenAnswer}
+use Rattle.bq_job.specs.promise.History.{ArePickedFrom, IsTimedFrom, is_tick, last_heard, moment_heard, moments_heard}
+use Rattle.bq_job.specs.machine.Machine.{Machine, new_machine}
+use Rattle.bq_job.specs.promise.Runs.{Entry, Run, answers_to}
+use Rattle.bq_job.specs.machine.Steps.{IsStep, Outcome}
 use Rattle.bq_job.proofs.OneClientLemmas.{answers_append}
 use Rattle.bq_job.proofs.RunLemmas.{run_append, run_from, run_none}
 use Rattle.bq_link.specs.EndStates.{CoreState, sent_to}

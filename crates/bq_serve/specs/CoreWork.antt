@@ -4,11 +4,11 @@ use Rattle.std.specs.VecDeque.{deque_capacity}
 use Rattle.bq_job.specs.declared.settings.Settings.{Settings}
 use Rattle.bq_job.specs.declared.step.Step.{Step}
 use Rattle.bq_job.specs.declared.step.Step.TheVariants.{Gone}
-use Rattle.bq_job.specs.CoreDid.{IsRun}
-use Rattle.bq_job.specs.Dispatch.{GivenAnswer}
-use Rattle.bq_job.specs.History.{is_tick, without_ticks}
-use Rattle.bq_job.specs.Machine.{Machine}
-use Rattle.bq_job.specs.Runs.{Entry, answers_to}
+use Rattle.bq_job.specs.promise.CoreDid.{IsRun}
+use Rattle.bq_job.specs.machine.Dispatch.{GivenAnswer}
+use Rattle.bq_job.specs.promise.History.{is_tick, without_ticks}
+use Rattle.bq_job.specs.machine.Machine.{Machine}
+use Rattle.bq_job.specs.promise.Runs.{Entry, answers_to}
 use Rattle.bq_link.specs.EndStates.{CoreState, sent_to}
 use Rattle.bq_link.specs.Submissions.{AreBelow, steps_of}
 use Rattle.bq_serve.specs.declared.core_work.room.CoreRoom.{CoreRoom}

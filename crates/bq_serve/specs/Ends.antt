@@ -3,7 +3,7 @@ use Rattle.std.specs.Prelude.{ℕ, ◌≡◌, false, List, [], ◌++◌}
 use Rattle.std.specs.List.{AllByRecursion}
 use Rattle.bq_job.specs.declared.answer.Answer.{Answer}
 use Rattle.bq_job.specs.declared.step.Step.{Step}
-use Rattle.bq_job.specs.History.{is_tick}
+use Rattle.bq_job.specs.promise.History.{is_tick}
 use Rattle.bq_link.specs.EndStates.{IsSameSeat, SeatState}
 
 -- Among these steps, each with the number of its end, is no tick.

@@ -1,9 +1,9 @@
 -- How the history of a run stands to the ends of its links.
 use Rattle.std.specs.Prelude.{ℕ, ◌≡◌, ◌+◌, ◌<◌, List, ◌++◌, length, map, slice_index_or}
 use Rattle.bq_job.specs.declared.step.Step.{Step}
-use Rattle.bq_job.specs.Dispatch.{GivenAnswer}
-use Rattle.bq_job.specs.History.{steps_at, without_ticks}
-use Rattle.bq_job.specs.Runs.{Entry, answers_to}
+use Rattle.bq_job.specs.machine.Dispatch.{GivenAnswer}
+use Rattle.bq_job.specs.promise.History.{steps_at, without_ticks}
+use Rattle.bq_job.specs.promise.Runs.{Entry, answers_to}
 use Rattle.bq_link.specs.EndStates.{CoreState, IsPair, IsSameCore, IsSameSeat, SeatState, sent_to}
 use Rattle.bq_link.specs.Submissions.{steps_of}
 use Rattle.bq_serve.specs.Ends.{IsTickless}

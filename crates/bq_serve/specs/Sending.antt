@@ -1,8 +1,8 @@
 -- Answers on their way to the ends.
 use Rattle.std.specs.Prelude.{ℕ, ◌≡◌, ◌<◌, ◌≤◌, ◌++◌, List, [], length}
 use Rattle.std.specs.VecDeque.{deque_capacity}
-use Rattle.bq_job.specs.Dispatch.{GivenAnswer}
-use Rattle.bq_job.specs.Runs.{answers_to}
+use Rattle.bq_job.specs.machine.Dispatch.{GivenAnswer}
+use Rattle.bq_job.specs.promise.Runs.{answers_to}
 use Rattle.bq_link.specs.EndStates.{CoreState, sent_to}
 use Rattle.bq_serve.specs.declared.core_work.sender.Sender.{Sender}
 

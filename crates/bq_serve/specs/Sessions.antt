@@ -1,8 +1,8 @@
 -- What a run over doors comes to.
 use Rattle.std.specs.Prelude.{ℕ, ◌≡◌, ◌||◌, IsTrue, List, Option, map}
 use Rattle.bq_job.specs.declared.settings.Settings.{Settings}
-use Rattle.bq_job.specs.Headline.{IsHistoryOf}
-use Rattle.bq_job.specs.History.{LineOver}
+use Rattle.bq_job.specs.promise.Headline.{IsHistoryOf}
+use Rattle.bq_job.specs.promise.History.{LineOver}
 use Rattle.bq_desk.specs.ControlRead.{IsReadToEnd}
 use Rattle.bq_serve.specs.Linked.{IsLinked}
 use Rattle.bq_serve.specs.declared.sessions.Run.{Run}

@@ -1,8 +1,8 @@
 -- What the threads of a run come to.
 use Rattle.std.specs.Prelude.{ℕ, ◌||◌, IsTrue, List, [], ◌∷◌, ◌++◌, Option}
 use Rattle.bq_job.specs.declared.settings.Settings.{Settings}
-use Rattle.bq_job.specs.ControlDid.{IsControlDone}
-use Rattle.bq_job.specs.Machine.{Machine}
+use Rattle.bq_job.specs.promise.ControlDid.{IsControlDone}
+use Rattle.bq_job.specs.machine.Machine.{Machine}
 use Rattle.bq_desk.specs.ControlRead.{IsReadToEnd}
 use Rattle.bq_desk.specs.Tending.{DoorSeen, IsDoorServed}
 use Rattle.bq_desk.specs.declared.control_line.ControlLine.{ControlLine}

@@ -3,11 +3,11 @@ use Rattle.std.specs.Prelude.{ℕ, ◌≡◌, ◌⊎◌, ◌<◌, ◌++◌, ◌�
 use Rattle.bq_job.specs.declared.settings.Settings.{Settings}
 use Rattle.bq_job.specs.declared.step.Step.{Step}
 use Rattle.bq_job.specs.declared.step.Step.TheVariants.{Gone}
-use Rattle.bq_job.specs.Dispatch.{GivenAnswer}
-use Rattle.bq_job.specs.History.{IsTimedFrom, moment_heard}
-use Rattle.bq_job.specs.Machine.{Machine, new_machine}
-use Rattle.bq_job.specs.Runs.{Entry, Run, answers_to}
-use Rattle.bq_job.specs.Steps.{IsStep, Outcome}
+use Rattle.bq_job.specs.machine.Dispatch.{GivenAnswer}
+use Rattle.bq_job.specs.promise.History.{IsTimedFrom, moment_heard}
+use Rattle.bq_job.specs.machine.Machine.{Machine, new_machine}
+use Rattle.bq_job.specs.promise.Runs.{Entry, Run, answers_to}
+use Rattle.bq_job.specs.machine.Steps.{IsStep, Outcome}
 use Rattle.bq_desk.specs.DeskOf.{GaveReadings}
 use Rattle.bq_link.specs.EndStates.{CoreState, sent_to}
 use Rattle.bq_link.specs.Submissions.{AreBelow, steps_of}

@@ -1,6 +1,6 @@
 //! The work of the thread that reads the control line.
 ghost use Rattle.std.specs.Prelude.{◌≡◌, ◌||◌, [], IsTrue};
-ghost use Rattle.bq_job.specs.ControlDid.{IsControlDone};
+ghost use Rattle.bq_job.specs.promise.ControlDid.{IsControlDone};
 ghost use Rattle.bq_desk.specs.ControlRead.{IsReadToEnd};
 ghost use Rattle.bq_link.specs.EndStates.{IsSameSeat};
 ghost use Rattle.bq_serve.specs.Ends.{IsNewEnd};

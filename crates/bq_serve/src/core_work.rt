@@ -1,6 +1,6 @@
 //! The core on a thread of its own.
 ghost use Rattle.std.specs.Prelude.{◌≡◌, ◌<◌, ◌+◌, []};
-ghost use Rattle.bq_job.specs.Machine.{new_machine};
+ghost use Rattle.bq_job.specs.machine.Machine.{new_machine};
 ghost use Rattle.bq_link.specs.EndStates.{IsSameCore};
 ghost use Rattle.bq_link.specs.NewEnds.{IsNewCore};
 ghost use Rattle.bq_serve.specs.CoreWork.{IsNewRoom, RanToEnd};

@@ -1,7 +1,7 @@
 //! An end of the links, as a seat and as the control line see it.
 ghost use Rattle.std.specs.Prelude.{◌≡◌, [], List};
 ghost use Rattle.std.specs.Option.{option_to_list};
-ghost use Rattle.bq_job.specs.ControlDid.{IsControlDone};
+ghost use Rattle.bq_job.specs.promise.ControlDid.{IsControlDone};
 ghost use Rattle.bq_job.specs.declared.step.Step.{Step};
 ghost use Rattle.bq_desk.specs.ControlRead.{IsOver, IsReadToEnd};
 ghost use Rattle.bq_desk.specs.ControlSeen.{new_control};

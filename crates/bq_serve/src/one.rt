@@ -1,5 +1,5 @@
 ghost use Rattle.std.specs.Prelude.{◌↔◌, ◌≡◌, List, Option, ℕ, IfOk, IsErrOf, IsTrue, not};
-ghost use Rattle.bq_job.specs.Headline.{IsHistoryOfLine};
+ghost use Rattle.bq_job.specs.promise.Headline.{IsHistoryOfLine};
 ghost use Rattle.bq_line.specs.LineCalls.{new_line};
 ghost use Rattle.bq_serve.specs.RunSettings.{is_lone};
 

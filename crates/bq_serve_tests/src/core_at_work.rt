@@ -1,6 +1,6 @@
 //! The core at work for ends that a test holds.
 ghost use Rattle.std.specs.Prelude.{◌≡◌, ◌+◌, ◌<◌, All, IfOk, false, length};
-ghost use Rattle.bq_job.specs.History.{is_tick};
+ghost use Rattle.bq_job.specs.promise.History.{is_tick};
 ghost use Rattle.bq_link.specs.NewEnds.{IsNewCore};
 
 use crate::clients::{STILL, clock};

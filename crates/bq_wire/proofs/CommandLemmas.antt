@@ -1,8 +1,8 @@
 -- The command that a word names, in the code's table and in that of the definitions.
 use Rattle.std.proofs.Common.{◌≡◌, ℕ, Bool, true, false, List, [], ◌∷◌, Option, Some, map, refl, ap, ◌∙◌, option_map, if◌then◌else◌}
 use Rattle.std.specs.Prelude.{find}
-use Rattle.bq_job.specs.CommandWords.{all_commands, command_named, word_of}
-use Rattle.bq_job.specs.TubeName.{is_same_name}
+use Rattle.bq_job.specs.reading.CommandWords.{all_commands, command_named, word_of}
+use Rattle.bq_job.specs.reading.TubeName.{is_same_name}
 use Rattle.bq_wire.specs.Asked.{command_of}
 use Rattle.bq_wire.specs.declared.command.Command.{Command}
 

@@ -5,7 +5,7 @@ use Rattle.std.proofs.lemmas.Bool.Decides.{nat_tests}
 use Rattle.std.proofs.lemmas.Grind.{common_steps}
 use Rattle.std.proofs.lemmas.List.{take-take, length-take-le}
 use Rattle.std.proofs.Math.Seq.{drop-append-add, take-append-add}
-use Rattle.bq_job.specs.Line.{first_line}
+use Rattle.bq_job.specs.reading.Line.{first_line}
 use Rattle.bq_wire.specs.LineEnds.{line_end_after, last_is_cr, later_by}
 use Rattle.memchr.specs.Find.{IsFirstByte, is_byte}
 

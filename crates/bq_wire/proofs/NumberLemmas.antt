@@ -3,7 +3,7 @@ use Rattle.std.proofs.Common.{◌≡◌, ◌<◌, ◌≤◌, ℕ, ◌^◌, suc, 
 use Rattle.std.proofs.lemmas.Bool.Decides.{nat_tests}
 use Rattle.std.proofs.lemmas.Grind.{common_steps}
 use Rattle.std.specs.List.{list_all}
-use Rattle.bq_job.specs.Words.{is_digit, with_digit, value_of_digits, job_id, number}
+use Rattle.bq_job.specs.reading.Words.{is_digit, with_digit, value_of_digits, job_id, number}
 
 -- more digits make no smaller number
 pub with_digits_le : (bytes : List ℕ) (n : ℕ) → n ≤ fold with_digit n bytes

@@ -2,13 +2,13 @@
 use Rattle.std.proofs.Common.{◌≡◌, ◌<◌, ◌≤◌, ℕ, ◌+◌, ◌-◌, zero, suc, Bool, true, false, List, [], ◌∷◌, ◌++◌, ◌⊎◌, inl, inr, Option, Some, None, refl, sym, ◌∙◌, ap, arith, length, length-append, append_assoc, append-nil, take, drop, take-add, take-append-drop, MatchBool, nat_lt, nat_le, if◌then◌else◌}
 use Rattle.std.proofs.lemmas.Bool.Decides.{nat_tests}
 use Rattle.std.proofs.lemmas.List.{length-take-le}
-use Rattle.bq_job.specs.Line.{first_line}
-use Rattle.bq_job.specs.LineRead as line_read
-use Rattle.bq_job.specs.LineRead.{longest_line}
-use Rattle.bq_job.specs.Reading.{IsUnit, IsPutRequest, BeginsNoUnit, is_quit, put_with_body}
-use Rattle.bq_job.specs.ComputedReading.{unit_after}
-use Rattle.bq_job.specs.TubeName.{is_same_name}
-use Rattle.bq_job.specs.Line.{line_end}
+use Rattle.bq_job.specs.reading.Line.{first_line}
+use Rattle.bq_job.specs.reading.LineRead as line_read
+use Rattle.bq_job.specs.reading.LineRead.{longest_line}
+use Rattle.bq_job.specs.reading.Reading.{IsUnit, IsPutRequest, BeginsNoUnit, is_quit, put_with_body}
+use Rattle.bq_job.specs.beside.ComputedReading.{unit_after}
+use Rattle.bq_job.specs.reading.TubeName.{is_same_name}
+use Rattle.bq_job.specs.reading.Line.{line_end}
 use Rattle.bq_job.specs.declared.request.Request.{Request}
 use Rattle.bq_job.specs.declared.request.Request.TheVariants as requests
 use Rattle.bq_job.specs.declared.refusal.Refusal.TheVariants as refusals

@@ -1,7 +1,7 @@
 -- The first word of a line.
 use Rattle.std.proofs.Common.{◌≡◌, ◌<◌, ℕ, ◌+◌, zero, suc, true, false, List, [], ◌∷◌, Option, Some, None, add-one, refl, arith, length, take, drop, get_or, MatchOption, ◌==◌}
 use Rattle.std.proofs.lemmas.Bool.Decides.{nat_tests}
-use Rattle.bq_job.specs.Words.{words}
+use Rattle.bq_job.specs.reading.Words.{words}
 use Rattle.memchr.specs.Find.{IsFirstByte, is_byte}
 
 -- where no space is, the line is one word

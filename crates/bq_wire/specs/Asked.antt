@@ -1,8 +1,8 @@
 -- What a line that was read asks for.
 use Rattle.std.specs.Prelude.{ℕ, ◌≡◌, List, [], ◌∷◌, Option, None}
-use Rattle.bq_job.specs.CommandWords as spec_words
-use Rattle.bq_job.specs.LineRead as spec
-use Rattle.bq_job.specs.Words.{number}
+use Rattle.bq_job.specs.reading.CommandWords as spec_words
+use Rattle.bq_job.specs.reading.LineRead as spec
+use Rattle.bq_job.specs.reading.Words.{number}
 use Rattle.bq_wire.specs.declared.command.Command.{Command}
 use Rattle.bq_wire.specs.declared.command.Command.TheVariants as commands
 use Rattle.bq_wire.specs.declared.line_read.LineRead.{LineRead}

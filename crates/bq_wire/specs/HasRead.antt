@@ -1,6 +1,6 @@
 -- What a reader has read since it was new, or since its last restart.
 use Rattle.std.specs.Prelude.{ℕ, ◌≡◌, ◌⊎◌, false, IsTrue, List, [], ◌++◌, take, Option, option_to_list}
-use Rattle.bq_job.specs.Reading.{AreUnits, quits_last, ends_by_quit}
+use Rattle.bq_job.specs.reading.Reading.{AreUnits, quits_last, ends_by_quit}
 use Rattle.bq_job.specs.declared.request.Request.{Request}
 use Rattle.bq_wire.specs.Standing.{Stands, IsOver}
 use Rattle.bq_wire.specs.declared.state.State.{State}

@@ -1,9 +1,9 @@
 -- The texts that a reader stands for.
 use Rattle.std.specs.Prelude.{ℕ, ◌≡◌, ◌<◌, ◌+◌, ◌-◌, false, MatchBool, List, [], ◌++◌, length, take, Option, Some, None, if◌then◌else◌}
-use Rattle.bq_job.specs.Line.{first_line}
-use Rattle.bq_job.specs.LineRead as line_read
-use Rattle.bq_job.specs.LineRead.{longest_line}
-use Rattle.bq_job.specs.Reading.{IsUnit, BeginsNoUnit, is_quit}
+use Rattle.bq_job.specs.reading.Line.{first_line}
+use Rattle.bq_job.specs.reading.LineRead as line_read
+use Rattle.bq_job.specs.reading.LineRead.{longest_line}
+use Rattle.bq_job.specs.reading.Reading.{IsUnit, BeginsNoUnit, is_quit}
 use Rattle.bq_job.specs.declared.request.Request.{Request}
 use Rattle.bq_wire.specs.Asked.{put_line_of}
 use Rattle.bq_wire.specs.LineEnds.{last_is_cr}

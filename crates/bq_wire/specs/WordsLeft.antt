@@ -1,7 +1,7 @@
 -- The words of a line that are left.
 use Rattle.std.specs.Prelude.{ℕ, List, [], Option, Some, None}
 use Rattle.std.specs.Borrow.{Bor}
-use Rattle.bq_job.specs.Words.{words}
+use Rattle.bq_job.specs.reading.Words.{words}
 
 abbrev pub words_left : Option (Bor (List ℕ)) → List (List ℕ)
 words_left None = []

@@ -1,6 +1,6 @@
 ghost use Rattle.std.specs.Prelude.{◌≡◌, find, option_map};
-ghost use Rattle.bq_job.specs.CommandWords as spec;
-ghost use Rattle.bq_job.specs.TubeName.{is_same_name};
+ghost use Rattle.bq_job.specs.reading.CommandWords as spec;
+ghost use Rattle.bq_job.specs.reading.TubeName.{is_same_name};
 ghost use Rattle.bq_wire.specs.Asked.{command_of};
 
 /// The commands of a client.

@@ -1,7 +1,7 @@
 ghost use Rattle.std.specs.Prelude.{◌≡◌, [], ◌∷◌, option_map, MatchOption, IfSome, IfNone, ℕ, List};
-ghost use Rattle.bq_job.specs.CommandWords as spec_words;
-ghost use Rattle.bq_job.specs.LineRead as spec;
-ghost use Rattle.bq_job.specs.Words as spec_numbers;
+ghost use Rattle.bq_job.specs.reading.CommandWords as spec_words;
+ghost use Rattle.bq_job.specs.reading.LineRead as spec;
+ghost use Rattle.bq_job.specs.reading.Words as spec_numbers;
 ghost use Rattle.bq_job.specs.declared.request.Request.{Request};
 ghost use Rattle.bq_wire.specs.Asked.{asked_by, command_of, only, IsNextNumber};
 

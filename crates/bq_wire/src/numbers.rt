@@ -1,6 +1,6 @@
 ghost use Rattle.std.specs.Prelude.{◌≡◌, ◌<◌, ◌≤◌, ◌^◌};
 ghost use Rattle.std.specs.Option.{SomeIff};
-ghost use Rattle.bq_job.specs.Words as spec;
+ghost use Rattle.bq_job.specs.reading.Words as spec;
 
 use bq_job::JobId;
 

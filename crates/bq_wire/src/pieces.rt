@@ -1,6 +1,6 @@
 ghost use Rattle.std.specs.Prelude.{◌≡◌, ◌≤◌, ◌++◌, ℕ, List, OnOk, IfOk};
 ghost use Rattle.std.specs.List.{flat_map};
-ghost use Rattle.bq_job.specs.Reading.{Reads};
+ghost use Rattle.bq_job.specs.reading.Reading.{Reads};
 ghost use Rattle.bq_wire.specs.HasRead.{HasRead, HasReadText};
 ghost use Rattle.bq_wire.specs.Standing.{IsOver};
 ghost use Rattle.bq_wire.specs.declared.state.State.{State};

@@ -1,6 +1,6 @@
 ghost use Rattle.std.specs.Prelude.{◌≡◌, ◌≤◌, ◌<◌, ◌+◌, ℕ, List, [], None, length, take, nat_le};
 ghost use Rattle.std.specs.Option.{ForSome};
-ghost use Rattle.bq_job.specs.Reading.{IsPutRequest};
+ghost use Rattle.bq_job.specs.reading.Reading.{IsPutRequest};
 ghost use Rattle.bq_wire.specs.Asked.{put_line_of};
 ghost use Rattle.bq_wire.specs.PutBodies.{IsBodySoFar, HasBodyRoom, TakesBytes, Stores};
 

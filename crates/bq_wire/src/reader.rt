@@ -1,6 +1,6 @@
 ghost use Rattle.std.specs.Prelude.{◌≡◌, ◌≤◌, ◌<◌, ◌+◌, ◌++◌, ℕ, List, [], length, take, IfOk, IfSome, Some, None, if◌then◌else◌};
-ghost use Rattle.bq_job.specs.LineRead as line_read;
-ghost use Rattle.bq_job.specs.Reading.{is_quit};
+ghost use Rattle.bq_job.specs.reading.LineRead as line_read;
+ghost use Rattle.bq_job.specs.reading.Reading.{is_quit};
 ghost use Rattle.bq_wire.specs.Asked.{asked_by};
 ghost use Rattle.bq_wire.specs.HasRead.{HasRead, ReadsOn};
 ghost use Rattle.bq_wire.specs.PutBodies.{HasBodyRoom, IsBodySoFar};

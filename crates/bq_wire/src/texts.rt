@@ -1,6 +1,6 @@
 ghost use Rattle.std.specs.Prelude.{◌≡◌, ◌+◌, ◌≤◌, ◌++◌, length, codes, decimal};
-ghost use Rattle.bq_job.specs.AnswerText as spec;
-ghost use Rattle.bq_job.specs.Line.{line_end};
+ghost use Rattle.bq_job.specs.texts.AnswerText as spec;
+ghost use Rattle.bq_job.specs.reading.Line.{line_end};
 
 use crate::bytes::push_bytes;
 use arrayvec::ArrayVec;

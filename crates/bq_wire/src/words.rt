@@ -1,5 +1,5 @@
 ghost use Rattle.std.specs.Prelude.{◌≡◌, [], ◌∷◌, MatchOption};
-ghost use Rattle.bq_job.specs.Words.{words};
+ghost use Rattle.bq_job.specs.reading.Words.{words};
 ghost use Rattle.bq_wire.specs.WordsLeft.{words_left};
 
 use memchr::memchr;

@@ -1,5 +1,5 @@
 ghost use Rattle.std.specs.Prelude.{◌≡◌, ◌+◌, ◌≤◌, ◌++◌, length, decimal, flat_map, IfOk};
-ghost use Rattle.bq_job.specs.Yaml.{key_value_line, statistics_text};
+ghost use Rattle.bq_job.specs.texts.Yaml.{key_value_line, statistics_text};
 ghost use Rattle.bq_core.specs.Texts.{IsSizeOf, value_text};
 
 use super::builder::{TextBuilder, digit_count};
@@ -45,7 +45,7 @@ pub(crate) struct KeyValue<'a> {
 
 impl<'a> Model for KeyValue<'a> {
     ghost use Rattle.bq_core.specs.Texts.{value_text};
-    ghost use Rattle.bq_job.specs.Yaml.{KeyValue as Pair};
+    ghost use Rattle.bq_job.specs.texts.Yaml.{KeyValue as Pair};
 
     ghost Value = { Pair };
 

@@ -17,7 +17,7 @@ pub struct LineRecord {
 
 impl Model for LineRecord {
     ghost use Rattle.std.specs.Prelude.{List};
-    ghost use Rattle.bq_job.specs.History.{LineOver};
+    ghost use Rattle.bq_job.specs.promise.History.{LineOver};
     ghost use Rattle.bq_line.specs.LineNumbers.{lines_of_numbers};
 
     ghost Value = { List LineOver };

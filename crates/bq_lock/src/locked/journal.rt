@@ -1,6 +1,6 @@
 //! The journal behind the lock.
 ghost use Rattle.std.specs.Prelude.{◌≡◌, ◌<◌, [], IfOk, IfSome, IsNone, IsSome, IsTrue, length, true};
-ghost use Rattle.bq_job.specs.StepBody.{has_body};
+ghost use Rattle.bq_job.specs.beside.StepBody.{has_body};
 ghost use Rattle.bq_lock.specs.LockedSteps.{with_entry, without_entry};
 
 use bq_job::{Entry, Moment, NoMemory, Seat, Step};

@@ -1,7 +1,7 @@
 //! The outboxes of the seats.
 ghost use Rattle.std.specs.Prelude.{◌≡◌, ◌≤◌, ◌<◌, ◌∷◌, [], IfOk, drop, length, map, replicate, slice_get, slice_set};
 ghost use Rattle.std.specs.Vec.{vec_capacity};
-ghost use Rattle.bq_job.specs.Dispatch.{GivenAnswer};
+ghost use Rattle.bq_job.specs.machine.Dispatch.{GivenAnswer};
 ghost use Rattle.bq_lock.specs.LockedState.{AreFew, outbox_at};
 ghost use Rattle.bq_lock.specs.LockedSteps.{AreDelivered};
 

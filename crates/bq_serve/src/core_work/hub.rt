@@ -1,6 +1,6 @@
 //! The core with all that it needs on a thread of its own.
 ghost use Rattle.std.specs.Prelude.{◌≡◌, ◌<◌, ◌+◌, ◌∷◌, [], true};
-ghost use Rattle.bq_job.specs.History.{moment_heard};
+ghost use Rattle.bq_job.specs.promise.History.{moment_heard};
 ghost use Rattle.bq_link.specs.EndStates.{IsSameCore};
 ghost use Rattle.bq_serve.specs.Rests.{rest_until};
 
@@ -40,7 +40,7 @@ pub struct Hub<C> {
 
 impl<C: Clock + Drop> Hub<C> {
     ghost use Rattle.bq_desk.specs.DeskOf.{GaveReadings};
-    ghost use Rattle.bq_job.specs.Machine.{new_machine};
+    ghost use Rattle.bq_job.specs.machine.Machine.{new_machine};
     ghost use Rattle.bq_link.specs.NewEnds.{IsNewCore};
     ghost use Rattle.bq_serve.specs.CoreWork.{IsNewRoom};
     ghost use Rattle.bq_serve.specs.Worked.{AreMarked, IsAtWork, IsInOrder, IsOver, TakesStep, WorksOn, hub_state};

@@ -1,6 +1,6 @@
 //! Answers on their way to the ends.
 ghost use Rattle.std.specs.Prelude.{◌≡◌, ◌<◌, ◌≤◌, ◌+◌, ◌++◌, ◌∷◌, [], IfErr, OnErr, OnOk, false, true, length};
-ghost use Rattle.bq_job.specs.Runs.{answers_to};
+ghost use Rattle.bq_job.specs.promise.Runs.{answers_to};
 
 use crate::no_ticks::NoTicks;
 use bq_core::Outs;

@@ -1,6 +1,6 @@
 //! The core with its end of the links and the clock, which a thread of its own serves.
 ghost use Rattle.std.specs.Prelude.{◌≡◌, ◌<◌, ◌+◌, [], IfSome};
-ghost use Rattle.bq_job.specs.Machine.{new_machine};
+ghost use Rattle.bq_job.specs.machine.Machine.{new_machine};
 ghost use Rattle.bq_link.specs.NewEnds.{IsNewCore};
 ghost use Rattle.bq_serve.specs.CoreWork.{IsNewRoom};
 ghost use Rattle.bq_serve.specs.Threads.{IsCoreOver};

@@ -2,7 +2,7 @@
 ghost use Rattle.std.specs.Prelude.{◌≡◌, ◌≤◌, ◌<◌, ◌++◌, ◌∷◌, ◌↔◌, ◌+◌, [], IfOk, IsErrOf, IsTrue, map, not, vec_len};
 ghost use Rattle.std.specs.List.{All};
 ghost use Rattle.bq_core.specs.Limits.{are_in_range, is_body_size};
-ghost use Rattle.bq_job.specs.Machine.{new_machine};
+ghost use Rattle.bq_job.specs.machine.Machine.{new_machine};
 ghost use Rattle.bq_desk.specs.Tending.{IsNewDoor, door_seen};
 ghost use Rattle.bq_link.specs.NewEnds.{AreNewSeats, IsNewCore};
 ghost use Rattle.bq_serve.specs.CoreWork.{IsNewRoom};

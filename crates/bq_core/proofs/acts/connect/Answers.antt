@@ -1,7 +1,7 @@
 use Rattle.std.proofs.Common.{◌∙◌, ap, sym}
-use Rattle.bq_job.specs.Changes.{with_seat}
-use Rattle.bq_job.specs.Limits.{raised}
-use Rattle.bq_job.specs.Machine.{Machine}
+use Rattle.bq_job.specs.machine.Changes.{with_seat}
+use Rattle.bq_job.specs.machine.Limits.{raised}
+use Rattle.bq_job.specs.machine.Machine.{Machine}
 use Rattle.bq_core.specs.declared.seat_list.SeatChange.TheVariants.{Connect}
 use Rattle.bq_core.specs.SeatChanges.{seat_changed}
 use Rattle.bq_core.specs.State.{machine_of}

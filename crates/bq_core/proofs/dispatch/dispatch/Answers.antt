@@ -1,6 +1,6 @@
 use Rattle.std.proofs.Common.{refl, sym}
-use Rattle.bq_job.specs.Dispatch.{DispatchTurn}
-use Rattle.bq_job.specs.Steps.{has_refused_share}
+use Rattle.bq_job.specs.machine.Dispatch.{DispatchTurn}
+use Rattle.bq_job.specs.machine.Steps.{has_refused_share}
 use Rattle.bq_core.specs.State.{machine_of}
 use Rattle.bq_core.proofs.StirLemmas.{known_nothing, none_known}
 use Rattle.bq_core.proofs.TurnLemmas.{gives_nothing}

@@ -1,6 +1,6 @@
 use Rattle.std.proofs.Common.{◌-◌, arith, length, refl, ap, ◌∙◌}
-use Rattle.bq_job.specs.Dispatch.{DispatchTurn}
-use Rattle.bq_job.specs.Steps.{has_refused_share}
+use Rattle.bq_job.specs.machine.Dispatch.{DispatchTurn}
+use Rattle.bq_job.specs.machine.Steps.{has_refused_share}
 use Rattle.bq_core.specs.Cost.{waited, waited_entries}
 use Rattle.bq_core.specs.Outbox.{Outbox}
 use Rattle.bq_core.specs.State.{machine_of}

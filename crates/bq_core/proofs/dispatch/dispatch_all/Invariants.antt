@@ -1,8 +1,8 @@
 -- what the turns so far gave, and how often they asked
 use Rattle.std.proofs.Common.{◌≡◌, ◌+◌, ◌-◌, ◌*◌, length}
-use Rattle.bq_job.specs.Computed.{waiting_count}
-use Rattle.bq_job.specs.Dispatch.{DispatchTurn}
-use Rattle.bq_job.specs.Steps.{has_refused_share}
+use Rattle.bq_job.specs.beside.Computed.{waiting_count}
+use Rattle.bq_job.specs.machine.Dispatch.{DispatchTurn}
+use Rattle.bq_job.specs.machine.Steps.{has_refused_share}
 use Rattle.bq_core.specs.Asking.{Asks}
 use Rattle.bq_core.specs.Cost.{waited}
 use Rattle.bq_core.specs.State.{IsSound, machine_of}

@@ -1,6 +1,6 @@
 use Rattle.std.proofs.Common.{◌∙◌, ℕ, ap}
 use Rattle.std.specs.Prelude.{option_map}
-use Rattle.bq_job.specs.Dispatch.{next_job}
+use Rattle.bq_job.specs.machine.Dispatch.{next_job}
 use Rattle.bq_core.specs.State.{machine_of}
 use Rattle.bq_core.proofs.DispatchLemmas.{id_of_best}
 use Rattle.bq_core.proofs.dispatch.next_job.Goals as goal

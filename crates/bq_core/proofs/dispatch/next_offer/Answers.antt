@@ -1,10 +1,10 @@
 use Rattle.std.proofs.Common.{◌≡◌, ◌∙◌, ◌&&◌, ◌≤◌, ℕ, Bool, List, None, ap, arith, false, not, refl, subst, sym, true, if◌then◌else◌}
 use Rattle.std.specs.Prelude.{fold, nat_lt, option_map}
 use Rattle.std.specs.List.{list_any, sum_by}
-use Rattle.bq_job.specs.Changes.{seat_with}
-use Rattle.bq_job.specs.Dispatch.{is_job_before, is_waiting_for}
-use Rattle.bq_job.specs.TubeCommands.{is_ready_in}
-use Rattle.bq_job.specs.Tubes.{is_paused}
+use Rattle.bq_job.specs.machine.Changes.{seat_with}
+use Rattle.bq_job.specs.machine.Dispatch.{is_job_before, is_waiting_for}
+use Rattle.bq_job.specs.machine.TubeCommands.{is_ready_in}
+use Rattle.bq_job.specs.machine.Tubes.{is_paused}
 use Rattle.bq_job.proofs.ChoiceLemmas.{first_of_none_passes}
 use Rattle.bq_job.proofs.ListLemmas.{all_always, list_any_not}
 use Rattle.bq_jobs.specs.Kept.{ranked}

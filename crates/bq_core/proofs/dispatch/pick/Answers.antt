@@ -1,9 +1,9 @@
 use Rattle.std.proofs.Common.{◌≡◌, ◌∙◌, ap, sym, Some, None}
 use Rattle.std.specs.Prelude.{option_map}
 use Rattle.bq_job.specs.declared.job.Job.{Job}
-use Rattle.bq_job.specs.Changes.{first_of}
-use Rattle.bq_job.specs.Dispatch.{is_wait_before, next_seat}
-use Rattle.bq_job.specs.Machine.{SeatRecord}
+use Rattle.bq_job.specs.machine.Changes.{first_of}
+use Rattle.bq_job.specs.machine.Dispatch.{is_wait_before, next_seat}
+use Rattle.bq_job.specs.machine.Machine.{SeatRecord}
 use Rattle.bq_job.proofs.ComputedLemmas.{next_has_seat}
 use Rattle.bq_core.specs.Offers.{waits_at}
 use Rattle.bq_core.specs.State.{machine_of}

@@ -1,6 +1,6 @@
 use Rattle.std.proofs.Common.{None, ◌∙◌, ap}
 use Rattle.bq_jobs.specs.Kept.{Kept}
-use Rattle.bq_job.specs.Changes.{is_waiting}
+use Rattle.bq_job.specs.machine.Changes.{is_waiting}
 use Rattle.bq_core.specs.Dues.{earlier_of_both, warning_due, with_warning_due}
 use Rattle.bq_core.proofs.AskLemmas.{asks_counted}
 use Rattle.bq_core.proofs.LoopLemmas.{folded_more}

@@ -1,7 +1,7 @@
 -- the least moment so far
 use Rattle.std.proofs.Common.{◌≡◌, None, take}
 use Rattle.std.specs.Prelude.{count_by, fold}
-use Rattle.bq_job.specs.Changes.{is_waiting}
+use Rattle.bq_job.specs.machine.Changes.{is_waiting}
 use Rattle.bq_core.specs.Asking.{Asks}
 use Rattle.bq_core.specs.Dues.{with_warning_due}
 use Rattle.bq_core.proofs.dues.first_warning.Given as goal

@@ -1,8 +1,8 @@
 use Rattle.std.proofs.Common.{◌≡◌, ◌∙◌, None, ap, sym}
 use Rattle.std.specs.Prelude.{flat_map, fold}
 use Rattle.bq_job.specs.declared.job.Job.{Job}
-use Rattle.bq_job.specs.Machine.{SeatRecord, TubeRecord}
-use Rattle.bq_job.specs.NextDue.{dues_of_pause, dues_of_state, dues_of_wait, earliest}
+use Rattle.bq_job.specs.machine.Machine.{SeatRecord, TubeRecord}
+use Rattle.bq_job.specs.beside.NextDue.{dues_of_pause, dues_of_state, dues_of_wait, earliest}
 use Rattle.bq_jobs.specs.Kept.{Kept}
 use Rattle.bq_core.specs.Dues.{earlier_of_both, with_seat_due, with_warning_due}
 use Rattle.bq_core.specs.State.{machine_of}

@@ -1,12 +1,12 @@
 use Rattle.std.proofs.Common.{◌≡◌, ◌∙◌, ◌==◌, ◌+◌, ◌++◌, ◌∷◌, [], ap, arith, subst, sym, Some}
 use Rattle.bq_job.specs.declared.answer.Answer.TheVariants as answers
 use Rattle.bq_job.specs.declared.job.Job.{Job}
-use Rattle.bq_job.specs.Acts.{telling}
-use Rattle.bq_job.specs.Changes.{job_with, seat_with}
-use Rattle.bq_job.specs.JobCommands.{new_job, with_put}
-use Rattle.bq_job.specs.Lawful.{AreIdsWithin}
-use Rattle.bq_job.specs.Machine.{Machine, SeatRecord}
-use Rattle.bq_job.specs.Tubes.{with_tube}
+use Rattle.bq_job.specs.machine.Acts.{telling}
+use Rattle.bq_job.specs.machine.Changes.{job_with, seat_with}
+use Rattle.bq_job.specs.machine.JobCommands.{new_job, with_put}
+use Rattle.bq_job.specs.beside.Lawful.{AreIdsWithin}
+use Rattle.bq_job.specs.machine.Machine.{Machine, SeatRecord}
+use Rattle.bq_job.specs.machine.Tubes.{with_tube}
 use Rattle.bq_job.proofs.ListLemmas.{all_at, found_passes}
 use Rattle.bq_jobs.specs.Kept.{Kept, with_added}
 use Rattle.bq_core.specs.Putting.{after_given}

@@ -1,6 +1,6 @@
 use Rattle.std.proofs.Common.{◌∙◌, ap}
-use Rattle.bq_job.specs.Changes.{seat_with}
-use Rattle.bq_job.specs.Machine.{Machine}
+use Rattle.bq_job.specs.machine.Changes.{seat_with}
+use Rattle.bq_job.specs.machine.Machine.{Machine}
 use Rattle.bq_core.specs.Acting.{is_connected}
 use Rattle.bq_core.proofs.CrowdLemmas.{asking_is_connected}
 use Rattle.bq_core.proofs.WarningLemmas.{known_holds}

@@ -1,10 +1,10 @@
 use Rattle.std.proofs.Common.{◌≡◌, ◌∙◌, ap, false, sym}
 use Rattle.bq_job.specs.declared.answer.Answer.TheVariants as answers
-use Rattle.bq_job.specs.Acts.{telling}
-use Rattle.bq_job.specs.Changes.{job_with, with_job}
-use Rattle.bq_job.specs.Dispatch.{reserved_by}
-use Rattle.bq_job.specs.JobStates.{is_reserved}
-use Rattle.bq_job.specs.Machine.{Machine}
+use Rattle.bq_job.specs.machine.Acts.{telling}
+use Rattle.bq_job.specs.machine.Changes.{job_with, with_job}
+use Rattle.bq_job.specs.machine.Dispatch.{reserved_by}
+use Rattle.bq_job.specs.machine.JobStates.{is_reserved}
+use Rattle.bq_job.specs.machine.Machine.{Machine}
 use Rattle.bq_core.specs.declared.job_list.JobTest.TheVariants.{Free}
 use Rattle.bq_core.specs.JobChanges.{passes}
 use Rattle.bq_core.specs.State.{machine_of}

@@ -1,7 +1,7 @@
 use Rattle.std.proofs.Common.{◌≡◌, ◌∙◌, Option, Some, None, ap, refl}
 use Rattle.std.specs.Prelude.{is_some, option_map}
 use Rattle.bq_job.specs.declared.job.Job.{Job}
-use Rattle.bq_job.specs.Changes.{first_of, is_held_by}
+use Rattle.bq_job.specs.machine.Changes.{first_of, is_held_by}
 use Rattle.bq_job.proofs.ChoiceLemmas.{first_of_is_some}
 use Rattle.bq_jobs.specs.Kept.{ranked}
 use Rattle.bq_jobs.specs.Leases.{deadline_of, is_lease_before}

@@ -2,7 +2,7 @@ use Rattle.std.proofs.Common.{ℕ, Bool, refl, sym, ◌∙◌, ◌&&◌, ◌+◌
 use Rattle.std.proofs.lemmas.Bool.{cases_Bool}
 use Rattle.std.proofs.lemmas.Bool.Decides.{nat_tests}
 use Rattle.bq_job.specs.declared.job.Job.{Job}
-use Rattle.bq_job.specs.JobStates.{is_reserved}
+use Rattle.bq_job.specs.machine.JobStates.{is_reserved}
 use Rattle.bq_jobs.specs.Leases.{deadline_of}
 use Rattle.bq_core.proofs.FiringLemmas.{any_past, none_past, none_there, soon_told}
 use Rattle.bq_core.proofs.job_list.is_some_deadline_soon.Goals as goal

@@ -1,9 +1,9 @@
 use Rattle.std.proofs.Common.{◌≡◌, ◌∙◌, ap, arith, length, sym, take, Some}
 use Rattle.bq_job.specs.declared.answer.Answer.TheVariants as answers
-use Rattle.bq_job.specs.Acts.{telling}
-use Rattle.bq_job.specs.Changes.{seat_with}
-use Rattle.bq_job.specs.JobCommands.{after_kick, kickable}
-use Rattle.bq_job.specs.Machine.{SeatRecord}
+use Rattle.bq_job.specs.machine.Acts.{telling}
+use Rattle.bq_job.specs.machine.Changes.{seat_with}
+use Rattle.bq_job.specs.machine.JobCommands.{after_kick, kickable}
+use Rattle.bq_job.specs.machine.Machine.{SeatRecord}
 use Rattle.bq_core.specs.State.{machine_of}
 use Rattle.bq_core.proofs.AskLemmas.{within}
 use Rattle.bq_core.proofs.kicks.kick.Goals as goal

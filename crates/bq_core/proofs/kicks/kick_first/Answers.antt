@@ -1,9 +1,9 @@
 use Rattle.std.proofs.Common.{◌≡◌, ◌∙◌, ◌==◌, ap, arith, map, subst, sym, if◌then◌else◌}
 use Rattle.std.specs.Prelude.{count_by}
 use Rattle.bq_job.specs.declared.job.Job.{Job}
-use Rattle.bq_job.specs.Changes.{first_of}
-use Rattle.bq_job.specs.JobCommands.{kicked}
-use Rattle.bq_job.specs.Machine.{Machine}
+use Rattle.bq_job.specs.machine.Changes.{first_of}
+use Rattle.bq_job.specs.machine.JobCommands.{kicked}
+use Rattle.bq_job.specs.machine.Machine.{Machine}
 use Rattle.bq_core.specs.JobKinds.{is_before_of, is_of}
 use Rattle.bq_core.specs.Kicking.{KicksFirst}
 use Rattle.bq_core.specs.State.{machine_of}

@@ -1,8 +1,8 @@
 use Rattle.std.proofs.Common.{◌≡◌, ◌∙◌, ap, arith, length, take}
 use Rattle.std.specs.Prelude.{count_by}
-use Rattle.bq_job.specs.JobCommands.{after_kick}
+use Rattle.bq_job.specs.machine.JobCommands.{after_kick}
 use Rattle.bq_jobs.specs.Kept.{Kept}
-use Rattle.bq_job.specs.Machine.{Machine}
+use Rattle.bq_job.specs.machine.Machine.{Machine}
 use Rattle.bq_core.specs.JobKinds.{is_of}
 use Rattle.bq_core.specs.Kicking.{all_kicked, jobs_of}
 use Rattle.bq_core.proofs.CostLemmas.{kicked_changed}

@@ -1,7 +1,7 @@
 -- what the turns so far left to give back, and how often they asked
 use Rattle.std.proofs.Common.{◌≡◌, ◌*◌, ◌-◌, ◌≤◌}
 use Rattle.std.specs.Prelude.{count_by}
-use Rattle.bq_job.specs.Changes.{is_held_by}
+use Rattle.bq_job.specs.machine.Changes.{is_held_by}
 use Rattle.bq_core.specs.Asking.{Asks}
 use Rattle.bq_core.specs.Firing.{after_giving_back}
 use Rattle.bq_core.specs.State.{IsSound, machine_of}

@@ -1,7 +1,7 @@
 use Rattle.std.proofs.Common.{◌∙◌, ap, sym, subst, ◌<◌}
 use Rattle.std.specs.Prelude.{count_by}
-use Rattle.bq_job.specs.Changes.{in_state, is_held_by, with_job}
-use Rattle.bq_job.specs.Machine.{Machine}
+use Rattle.bq_job.specs.machine.Changes.{in_state, is_held_by, with_job}
+use Rattle.bq_job.specs.machine.Machine.{Machine}
 use Rattle.bq_jobs.specs.Kept.{Kept}
 use Rattle.bq_core.specs.Firing.{after_giving_back}
 use Rattle.bq_core.specs.State.{machine_of}

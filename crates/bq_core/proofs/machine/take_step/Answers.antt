@@ -1,10 +1,10 @@
 use Rattle.std.proofs.Common.{◌∙◌, ◌+◌, ◌*◌, ap, arith, sym, subst, ◌<◌}
 use Rattle.std.specs.Prelude.{count_by}
-use Rattle.bq_job.specs.Machine.{Machine}
+use Rattle.bq_job.specs.machine.Machine.{Machine}
 use Rattle.bq_jobs.specs.Kept.{Kept}
 use Rattle.bq_core.specs.Asking.{Asks, AsksAsChanged}
 use Rattle.bq_core.specs.Firing.{is_ripe}
-use Rattle.bq_job.specs.Timers.{after_timers}
+use Rattle.bq_job.specs.machine.Timers.{after_timers}
 use Rattle.bq_core.specs.Serving.{NoneIsGone}
 use Rattle.bq_core.specs.State.{machine_of}
 use Rattle.bq_core.proofs.AskLemmas.{asks_more}

@@ -1,7 +1,7 @@
 use Rattle.std.proofs.Common.{◌≡◌, ◌∙◌, ap, refl, sym, slice_get, List, ℕ, false, true}
 use Rattle.std.specs.Borrow.{Bor}
 use Rattle.std.specs.List.{insert, prefix_len}
-use Rattle.bq_job.specs.Tubes.{is_name_before}
+use Rattle.bq_job.specs.machine.Tubes.{is_name_before}
 use Rattle.bq_core.specs.Texts.{is_named, names_of}
 use Rattle.bq_core.proofs.NameLemmas.{place_kept, place_new, when_ok}
 use Rattle.bq_core.proofs.TubeLemmas.{place_within}

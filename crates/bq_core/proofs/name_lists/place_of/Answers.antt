@@ -1,6 +1,6 @@
 use Rattle.std.proofs.Common.{◌∙◌, ap, length}
 use Rattle.std.specs.Prelude.{unwrap_or}
-use Rattle.bq_job.specs.Tubes.{is_name_before}
+use Rattle.bq_job.specs.machine.Tubes.{is_name_before}
 use Rattle.bq_core.proofs.TubeLemmas.{place_read}
 use Rattle.bq_core.proofs.name_lists.place_of.Goals as goal
 

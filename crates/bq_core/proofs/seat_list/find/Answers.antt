@@ -1,5 +1,5 @@
 use Rattle.std.proofs.Common.{◌∙◌, ap}
-use Rattle.bq_job.specs.Changes.{seat_with}
+use Rattle.bq_job.specs.machine.Changes.{seat_with}
 use Rattle.bq_core.proofs.SeatPlaces.{found_there}
 use Rattle.bq_core.proofs.seat_list.find.Goals as goal
 

@@ -1,7 +1,7 @@
 use Rattle.std.proofs.Common.{◌≡◌, ◌∙◌, ap, not, length, filter, get_or, set, refl}
 use Rattle.std.proofs.lemmas.Option.{slice_get_read}
-use Rattle.bq_job.specs.TubeCommands.{watching}
-use Rattle.bq_job.specs.TubeName.{is_same_name}
+use Rattle.bq_job.specs.machine.TubeCommands.{watching}
+use Rattle.bq_job.specs.reading.TubeName.{is_same_name}
 use Rattle.bq_core.proofs.seat_list.ignore.Goals as goal
 
 pub ignore-requires : goal.ignore-requires

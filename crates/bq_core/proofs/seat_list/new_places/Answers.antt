@@ -1,5 +1,5 @@
 use Rattle.std.proofs.Common.{◌∙◌, ap, ◌++◌, ◌∷◌, [], arith, map, sym}
-use Rattle.bq_job.specs.Machine.{SeatRecord, empty_seat, numbers}
+use Rattle.bq_job.specs.machine.Machine.{SeatRecord, empty_seat, numbers}
 use Rattle.bq_core.proofs.StepLemmas.{places_more}
 use Rattle.bq_core.proofs.seat_list.new_places.Goals as goal
 

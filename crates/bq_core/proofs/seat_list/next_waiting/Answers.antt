@@ -1,5 +1,5 @@
 use Rattle.std.proofs.Common.{◌∙◌}
-use Rattle.bq_job.specs.Dispatch.{is_wait_before}
+use Rattle.bq_job.specs.machine.Dispatch.{is_wait_before}
 use Rattle.bq_core.specs.EndingWaits.{waits_after}
 use Rattle.bq_core.proofs.LoopLemmas.{first_of_more_if}
 use Rattle.bq_core.proofs.seat_list.next_waiting.Goals as goal

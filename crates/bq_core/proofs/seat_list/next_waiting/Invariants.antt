@@ -1,7 +1,7 @@
 -- the best of the seats so far
 use Rattle.std.proofs.Common.{◌≡◌, ◌<◌, take, length, IfSome}
-use Rattle.bq_job.specs.Changes.{first_of}
-use Rattle.bq_job.specs.Dispatch.{is_wait_before}
+use Rattle.bq_job.specs.machine.Changes.{first_of}
+use Rattle.bq_job.specs.machine.Dispatch.{is_wait_before}
 use Rattle.bq_core.specs.EndingWaits.{waits_after}
 use Rattle.bq_core.specs.Places.{item_at}
 use Rattle.bq_core.proofs.seat_list.next_waiting.Given as goal

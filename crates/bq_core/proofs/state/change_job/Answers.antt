@@ -1,5 +1,5 @@
 use Rattle.std.proofs.Common.{◌∙◌, ◌&&◌, ◌≤◌, ◌==◌, if◌then◌else◌, ap, sym, arith, length}
-use Rattle.bq_job.specs.Changes.{is_ready_state, job_with}
+use Rattle.bq_job.specs.machine.Changes.{is_ready_state, job_with}
 use Rattle.bq_job.proofs.KeptLemmas.{ids_of_map}
 use Rattle.std.proofs.lemmas.List.{length-map}
 use Rattle.bq_jobs.proofs.Told.{nothing_told_of, told_of}

@@ -1,6 +1,6 @@
 use Rattle.std.proofs.Common.{◌≡◌, ◌≤◌, ◌∙◌, ap, arith, length, map, sym}
-use Rattle.bq_job.specs.Changes.{seat_with}
-use Rattle.bq_job.specs.Limits.{greatest}
+use Rattle.bq_job.specs.machine.Changes.{seat_with}
+use Rattle.bq_job.specs.machine.Limits.{greatest}
 use Rattle.bq_core.specs.Clients.{clients_of, clients_with, clients_without}
 use Rattle.bq_core.specs.Crowds.{crowds_of, crowds_recounted_for, touched}
 use Rattle.bq_core.specs.Dues.{first_pause_end}

@@ -8,7 +8,7 @@ use Rattle.bq_core.proofs.PauseLemmas.{end_after_change}
 use Rattle.bq_core.proofs.StateLemmas.{entries_of_tube, name_kept_at, tube_counts, tube_name_kept}
 use Rattle.bq_core.proofs.TallyPlaces.{counted_kept}
 use Rattle.bq_core.proofs.TubeLemmas.{record_changed}
-use Rattle.bq_job.specs.Machine.{Machine}
+use Rattle.bq_job.specs.machine.Machine.{Machine}
 use Rattle.bq_core.specs.Stirs.{AreKnown, stirred_by_change}
 use Rattle.bq_core.proofs.StirLemmas.{known_of_change}
 use Rattle.bq_core.proofs.state.change_tube.Goals as goal

@@ -1,5 +1,5 @@
 use Rattle.std.proofs.Common.{arith, ap, refl}
-use Rattle.bq_job.specs.Machine.{numbers}
+use Rattle.bq_job.specs.machine.Machine.{numbers}
 use Rattle.bq_jobs.specs.Kept.{Kept}
 use Rattle.bq_core.specs.KeptTubes.{KeptTubes}
 use Rattle.bq_core.proofs.ClientLemmas.{first_clients}

@@ -1,6 +1,6 @@
 use Rattle.std.proofs.Common.{◌≡◌, ◌∙◌, ap, arith, subst, sym}
 use Rattle.std.specs.Prelude.{filter}
-use Rattle.bq_job.specs.Machine.{Machine, TubeRecord}
+use Rattle.bq_job.specs.machine.Machine.{Machine, TubeRecord}
 use Rattle.bq_core.specs.Dues.{first_pause_end, pause_end_left}
 use Rattle.bq_core.specs.State.{machine_of}
 use Rattle.bq_core.specs.TubeEntries.{counted, is_counted, is_tube_of}

@@ -1,9 +1,9 @@
 use Rattle.std.proofs.Common.{◌≤◌, ◌≡◌, ◌∙◌, ◌++◌, ◌∷◌, [], ap, sym, arith, slice_get, set, Some, vec_len, get_or, length, refl}
 use Rattle.std.proofs.lemmas.Option.{slice_get_read, slice_get_within}
-use Rattle.bq_job.specs.Changes.{seat_with}
-use Rattle.bq_job.specs.Machine.{Machine}
-use Rattle.bq_job.specs.Limits.{greatest}
-use Rattle.bq_job.specs.TubeCommands.{watching}
+use Rattle.bq_job.specs.machine.Changes.{seat_with}
+use Rattle.bq_job.specs.machine.Machine.{Machine}
+use Rattle.bq_job.specs.machine.Limits.{greatest}
+use Rattle.bq_job.specs.machine.TubeCommands.{watching}
 use Rattle.bq_core.specs.Clients.{clients_of}
 use Rattle.bq_core.specs.Crowds.{share_of_watcher}
 use Rattle.bq_core.specs.Dues.{first_pause_end}

@@ -1,5 +1,5 @@
 use Rattle.std.proofs.Common.{◌∙◌, ap}
-use Rattle.bq_job.specs.NameOrder.{is_in_order}
+use Rattle.bq_job.specs.beside.NameOrder.{is_in_order}
 use Rattle.bq_core.specs.State.{machine_of}
 use Rattle.bq_core.specs.Texts.{names_of}
 use Rattle.bq_core.proofs.NameLemmas.{tubes_in_order}

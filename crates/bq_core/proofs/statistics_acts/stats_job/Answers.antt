@@ -1,9 +1,9 @@
 use Rattle.std.proofs.Common.{◌≡◌, ◌∙◌, ap, refl, sym}
 use Rattle.bq_job.specs.declared.answer.Answer.TheVariants as answers
-use Rattle.bq_job.specs.Acts.{telling}
-use Rattle.bq_job.specs.Changes.{job_with}
-use Rattle.bq_job.specs.Statistics.{job_statistics}
-use Rattle.bq_job.specs.StatisticsCommands.{job_statistics_or_not}
+use Rattle.bq_job.specs.machine.Acts.{telling}
+use Rattle.bq_job.specs.machine.Changes.{job_with}
+use Rattle.bq_job.specs.machine.Statistics.{job_statistics}
+use Rattle.bq_job.specs.machine.StatisticsCommands.{job_statistics_or_not}
 use Rattle.bq_jobs.specs.Kept.{Kept}
 use Rattle.bq_core.specs.State.{machine_of}
 use Rattle.bq_core.proofs.ActLemmas.{some_there}

@@ -1,6 +1,6 @@
 use Rattle.std.proofs.Common.{◌≡◌, ◌∙◌, ap, refl, false, sym}
 use Rattle.std.specs.List.{list_any}
-use Rattle.bq_job.specs.Timers.{tube_after_timers}
+use Rattle.bq_job.specs.machine.Timers.{tube_after_timers}
 use Rattle.bq_core.specs.Dues.{is_end_over}
 use Rattle.bq_core.specs.State.{machine_of}
 use Rattle.bq_core.specs.TubeEntries.{counted, is_counted, is_pause_over}

@@ -1,6 +1,6 @@
 use Rattle.std.proofs.Common.{◌∙◌, ap}
-use Rattle.bq_job.specs.Changes.{with_job}
-use Rattle.bq_job.specs.Timers.{job_after_timers}
+use Rattle.bq_job.specs.machine.Changes.{with_job}
+use Rattle.bq_job.specs.machine.Timers.{job_after_timers}
 use Rattle.bq_jobs.specs.Kept.{Kept}
 use Rattle.bq_core.specs.State.{machine_of}
 use Rattle.bq_core.proofs.timers.expire_first.Goals as goal

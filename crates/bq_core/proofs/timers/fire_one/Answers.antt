@@ -1,7 +1,7 @@
 use Rattle.std.proofs.Common.{◌≡◌, ◌∙◌, ap, subst, sym, false}
 use Rattle.std.specs.List.{list_any}
-use Rattle.bq_job.specs.Machine.{Machine}
-use Rattle.bq_job.specs.Timers.{is_due}
+use Rattle.bq_job.specs.machine.Machine.{Machine}
+use Rattle.bq_job.specs.machine.Timers.{is_due}
 use Rattle.bq_core.specs.Firing.{after_job_timers}
 use Rattle.bq_core.proofs.timers.fire_one.Goals as goal
 

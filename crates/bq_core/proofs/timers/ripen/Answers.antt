@@ -1,8 +1,8 @@
 use Rattle.std.proofs.Common.{◌∙◌, ap, sym, subst, ◌<◌}
 use Rattle.std.specs.Prelude.{count_by}
-use Rattle.bq_job.specs.Changes.{with_job}
-use Rattle.bq_job.specs.Machine.{Machine}
-use Rattle.bq_job.specs.Timers.{job_after_timers}
+use Rattle.bq_job.specs.machine.Changes.{with_job}
+use Rattle.bq_job.specs.machine.Machine.{Machine}
+use Rattle.bq_job.specs.machine.Timers.{job_after_timers}
 use Rattle.bq_jobs.specs.Kept.{Kept}
 use Rattle.bq_core.specs.Firing.{after_job_timers, is_ripe}
 use Rattle.bq_core.specs.State.{machine_of}

@@ -1,7 +1,7 @@
 use Rattle.std.proofs.Common.{◌≡◌, ◌∙◌, ap, false, subst, sym}
-use Rattle.bq_job.specs.Acts.{showing}
-use Rattle.bq_job.specs.Changes.{first_of, job_with}
-use Rattle.bq_job.specs.Machine.{Machine}
+use Rattle.bq_job.specs.machine.Acts.{showing}
+use Rattle.bq_job.specs.machine.Changes.{first_of, job_with}
+use Rattle.bq_job.specs.machine.Machine.{Machine}
 use Rattle.bq_core.specs.Acting.{Replies}
 use Rattle.bq_core.specs.JobKinds.{is_before_of, is_of}
 use Rattle.bq_core.specs.State.{machine_of}

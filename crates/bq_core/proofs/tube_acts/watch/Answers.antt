@@ -1,8 +1,8 @@
 use Rattle.std.proofs.Common.{◌≡◌, ◌∙◌, ap, sym, length}
 use Rattle.bq_job.specs.declared.answer.Answer.TheVariants as answers
-use Rattle.bq_job.specs.Acts.{telling}
-use Rattle.bq_job.specs.Machine.{SeatRecord}
-use Rattle.bq_job.specs.Tubes.{watches}
+use Rattle.bq_job.specs.machine.Acts.{telling}
+use Rattle.bq_job.specs.machine.Machine.{SeatRecord}
+use Rattle.bq_job.specs.machine.Tubes.{watches}
 use Rattle.bq_core.specs.State.{machine_of}
 use Rattle.bq_core.proofs.ActLemmas.{watched_already, watched_now}
 use Rattle.bq_core.proofs.tube_acts.watch.Goals as goal

@@ -1,5 +1,5 @@
 use Rattle.std.proofs.Common.{refl, ◌∙◌, arith}
-use Rattle.bq_job.specs.Waits.{WaitEndTurn}
+use Rattle.bq_job.specs.machine.Waits.{WaitEndTurn}
 use Rattle.bq_core.specs.Turns.{none_refused}
 use Rattle.bq_core.specs.State.{machine_of}
 use Rattle.bq_core.proofs.AskLemmas.{asks_more, asks_none, asks_then}

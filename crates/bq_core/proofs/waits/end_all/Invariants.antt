@@ -1,7 +1,7 @@
 -- what the looks so far gave, and how often they asked
 use Rattle.std.proofs.Common.{◌≡◌, ◌≤◌, ◌-◌}
-use Rattle.bq_job.specs.Computed.{waiting_count}
-use Rattle.bq_job.specs.Waits.{WaitEndTurn}
+use Rattle.bq_job.specs.beside.Computed.{waiting_count}
+use Rattle.bq_job.specs.machine.Waits.{WaitEndTurn}
 use Rattle.bq_core.specs.Asking.{Asks}
 use Rattle.bq_core.specs.EndingWaits.{AreLookedAt, left_after}
 use Rattle.bq_core.specs.State.{IsSound, machine_of}

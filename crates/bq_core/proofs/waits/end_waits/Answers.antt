@@ -1,6 +1,6 @@
 use Rattle.std.proofs.Common.{◌∙◌, ap, refl, subst, sym}
-use Rattle.bq_job.specs.Machine.{Machine}
-use Rattle.bq_job.specs.Waits.{WaitEndTurn, next_end}
+use Rattle.bq_job.specs.machine.Machine.{Machine}
+use Rattle.bq_job.specs.machine.Waits.{WaitEndTurn, next_end}
 use Rattle.bq_core.specs.State.{machine_of}
 use Rattle.bq_core.specs.Turns.{Gives, HasRoom, none_refused}
 use Rattle.bq_core.proofs.TurnLemmas.{gives_nothing}

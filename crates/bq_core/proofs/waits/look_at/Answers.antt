@@ -1,5 +1,5 @@
 use Rattle.std.proofs.Common.{ap, refl, subst}
-use Rattle.bq_job.specs.Machine.{Machine}
+use Rattle.bq_job.specs.machine.Machine.{Machine}
 use Rattle.bq_core.specs.State.{machine_of}
 use Rattle.bq_core.specs.WaitEnds.{EndsWait}
 use Rattle.bq_core.proofs.WaitLemmas.{told_is, told_nothing}

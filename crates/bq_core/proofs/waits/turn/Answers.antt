@@ -1,8 +1,8 @@
 use Rattle.std.proofs.Common.{◌≡◌, ◌∙◌, ◌<◌, List, None, Some, ap, arith, length, refl, slice_get, subst, sym}
 use Rattle.std.specs.Prelude.{ℕ}
-use Rattle.bq_job.specs.Changes.{first_of}
-use Rattle.bq_job.specs.Dispatch.{is_wait_before}
-use Rattle.bq_job.specs.Machine.{SeatRecord}
+use Rattle.bq_job.specs.machine.Changes.{first_of}
+use Rattle.bq_job.specs.machine.Dispatch.{is_wait_before}
+use Rattle.bq_job.specs.machine.Machine.{SeatRecord}
 use Rattle.bq_core.specs.EndingWaits.{AreLookedAt, left_after, turn_of, waits_after}
 use Rattle.bq_core.specs.State.{machine_of}
 use Rattle.bq_core.proofs.TurnLemmas.{same_read}

@@ -1,5 +1,5 @@
 use Rattle.std.proofs.Common.{◌∷◌, [], List, Bool, subst, sym}
-use Rattle.bq_job.specs.ControlDid.{are_same, drain_word, drains, one_if}
+use Rattle.bq_job.specs.promise.ControlDid.{are_same, drain_word, drains, one_if}
 use Rattle.bq_desk.specs.ControlRead.{HasRead, IsReadToEnd}
 use Rattle.bq_desk.specs.ControlSeen.{ControlSeen}
 use Rattle.bq_desk.proofs.ControlLemmas.{Drained, HasDrained, drained_all, drained_before, drained_byte, drained_line, drained_still, ends_read, fails_read}

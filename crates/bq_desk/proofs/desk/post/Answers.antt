@@ -1,7 +1,7 @@
 use Rattle.std.proofs.Common.{◌≡◌, ℕ, List, [], ◌∷◌, ◌++◌, ◌<◌, length, MatchResult, Result, Ok, Err, slice_set}
 use Rattle.std.specs.Prelude.{slice_index_or}
 use Rattle.bq_job.specs.declared.answer.Answer.{Answer}
-use Rattle.bq_job.specs.Runs.{answers_to}
+use Rattle.bq_job.specs.promise.Runs.{answers_to}
 use Rattle.bq_desk.proofs.MailLemmas.{posted_at, still_at}
 use Rattle.bq_desk.proofs.desk.post.Goals as goal
 

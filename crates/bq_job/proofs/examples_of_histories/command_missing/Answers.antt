@@ -3,7 +3,7 @@ use Rattle.std.specs.Prelude.{ℕ, codes}
 use Rattle.std.proofs.lemmas.List.{length-map}
 use Rattle.bq_job.specs.declared.request.Request.TheVariants.{Delete, Reserve}
 use Rattle.bq_job.specs.declared.step.Step.TheVariants as steps
-use Rattle.bq_job.specs.HistoryExamples.{usual}
+use Rattle.bq_job.specs.examples.HistoryExamples.{usual}
 use Rattle.bq_job.proofs.HistoryLemmas.{same_many}
 use Rattle.bq_job.proofs.ReadsLemmas.{Reads-unique, reading-Reads}
 use Rattle.bq_job.proofs.examples_of_histories.command_missing.Goals as goal

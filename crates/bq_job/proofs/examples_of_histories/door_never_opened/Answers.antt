@@ -1,7 +1,7 @@
 use Rattle.std.proofs.Common.{◌≡◌, [], ◌∷◌, ap, ◌∙◌, sym}
 use Rattle.bq_job.specs.declared.answer.Answer.TheVariants.{Kicked}
-use Rattle.bq_job.specs.History.{steps_at}
-use Rattle.bq_job.specs.Runs.{answers_to}
+use Rattle.bq_job.specs.promise.History.{steps_at}
+use Rattle.bq_job.specs.promise.Runs.{answers_to}
 use Rattle.bq_job.proofs.HistoryLemmas.{none_behind}
 use Rattle.bq_job.proofs.examples_of_histories.door_never_opened.Goals as goal
 

@@ -5,9 +5,9 @@ use Rattle.bq_job.specs.declared.answer.Answer.TheVariants.{Inserted, Reserved a
 use Rattle.bq_job.specs.declared.answer.Answer.TheVariants as answers
 use Rattle.bq_job.specs.declared.request.Request.TheVariants.{Put, Quit, Reserve}
 use Rattle.bq_job.specs.declared.step.Step.TheVariants as steps
-use Rattle.bq_job.specs.Examples.{ask, close, connect}
-use Rattle.bq_job.specs.HistoryExamples.{given_over, gone, readings_of, seated, usual}
-use Rattle.bq_job.specs.Runs.{Entry}
+use Rattle.bq_job.specs.examples.Examples.{ask, close, connect}
+use Rattle.bq_job.specs.examples.HistoryExamples.{given_over, gone, readings_of, seated, usual}
+use Rattle.bq_job.specs.promise.Runs.{Entry}
 use Rattle.bq_job.proofs.HistoryLemmas.{computed_IsRun, picked_all}
 use Rattle.bq_job.proofs.ReadsLemmas.{reading-Reads}
 use Rattle.bq_job.proofs.examples_of_histories.second_line_is_over_by_quit.Goals as goal

@@ -1,6 +1,6 @@
 use Rattle.std.proofs.Common.{◌≡◌, ℕ, ◌≤◌, ◌++◌, List, length, drop, replicate, refl}
 use Rattle.std.proofs.lemmas.List.{drop-replicate}
-use Rattle.bq_job.specs.TubeName.{filled_up}
+use Rattle.bq_job.specs.reading.TubeName.{filled_up}
 use Rattle.bq_job.proofs.tube_name.filled.Goals as goal
 
 filled_front : (front bytes : List ℕ) → front ≡ bytes → length bytes ≤ 200 → front ++ drop (length bytes) (replicate 200 0) ≡ filled_up bytes

@@ -1,6 +1,6 @@
 use Rattle.std.proofs.Common.{◌≡◌, ◌∙◌, ◌+◌, ap, length, subst, sym}
 use Rattle.bq_core.specs.CoreState.{CoreState as Cores}
-use Rattle.bq_job.specs.Machine.{Machine}
+use Rattle.bq_job.specs.machine.Machine.{Machine}
 use Rattle.bq_link.specs.EndStates.{CoreState}
 use Rattle.bq_serve.specs.CoreWork.{IsCoreDone}
 use Rattle.bq_serve.specs.Worked.{hub_state}

@@ -1,6 +1,6 @@
 use Rattle.std.proofs.Common.{◌≡◌, ◌∷◌, ◌++◌, [], ℕ, List, append_assoc, false, subst}
 use Rattle.bq_job.specs.declared.step.Step.{Step}
-use Rattle.bq_job.specs.History.{is_tick}
+use Rattle.bq_job.specs.promise.History.{is_tick}
 use Rattle.bq_link.proofs.RingLemmas.{all_push}
 use Rattle.bq_serve.specs.Ends.{IsTickless}
 use Rattle.bq_serve_tests.proofs.core_at_work.submits.Goals as goal

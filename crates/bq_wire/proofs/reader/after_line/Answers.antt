@@ -1,6 +1,6 @@
 use Rattle.std.proofs.Common.{◌≡◌, take, drop, arith, length, ◌-◌}
 use Rattle.std.proofs.lemmas.Grind.{common_steps}
-use Rattle.bq_job.specs.LineRead as line_read
+use Rattle.bq_job.specs.reading.LineRead as line_read
 use Rattle.bq_wire.specs.Asked.{put_line_of, asked_by}
 use Rattle.bq_wire.proofs.ReaderLemmas.{line_begins, feeds_behind}
 use Rattle.bq_wire.proofs.reader.after_line.Goals as goal

@@ -1,5 +1,5 @@
 use Rattle.std.proofs.Common.{sym, subst}
-use Rattle.bq_job.specs.Lawful.{IsLawful}
+use Rattle.bq_job.specs.beside.Lawful.{IsLawful}
 use Rattle.bq_job.proofs.LawfulLemmas.{new_is_lawful}
 use Rattle.bq_core.proofs.machine.Core.new.Goals as goal
 

@@ -1,6 +1,6 @@
 use Rattle.std.proofs.Common.{◌∙◌, ap}
 use Rattle.std.specs.Prelude.{nat_lt}
-use Rattle.bq_job.specs.Changes.{is_waiting}
+use Rattle.bq_job.specs.machine.Changes.{is_waiting}
 use Rattle.bq_core.specs.declared.clients.Clients.{Clients}
 use Rattle.bq_core.proofs.ClientLemmas.{some_pass}
 use Rattle.bq_core.proofs.state.State.has_waiter.Goals as goal

@@ -1,8 +1,8 @@
 use Rattle.std.proofs.Common.{◌≡◌, ◌∙◌, Bool, true, false, ◌&&◌, ap, sym}
 use Rattle.std.specs.Prelude.{nat_lt}
 use Rattle.std.specs.List.{list_any}
-use Rattle.bq_job.specs.Changes.{is_waiting}
-use Rattle.bq_job.specs.Tubes.{watches}
+use Rattle.bq_job.specs.machine.Changes.{is_waiting}
+use Rattle.bq_job.specs.machine.Tubes.{watches}
 use Rattle.bq_job.proofs.ListLemmas.{all_weaker, list_any_not, none_pass}
 use Rattle.bq_core.specs.Crowds.{is_waiter}
 use Rattle.bq_core.specs.declared.crowd.Crowd.{Crowd}

@@ -1,6 +1,6 @@
 -- Names in order are listed as they are.
 use Rattle.std.proofs.Common.{◌∙◌, ◌++◌, [], ap, sym, codes, flat_map}
-use Rattle.bq_job.specs.Yaml.{name_line}
+use Rattle.bq_job.specs.texts.Yaml.{name_line}
 use Rattle.bq_job.proofs.NameOrderLemmas.{stays_fold}
 use Rattle.bq_core.specs.Texts.{names_of}
 use Rattle.bq_core.proofs.texts.names.names_text.Goals as goal

@@ -1,6 +1,6 @@
 -- The bytes so far, and those of the lines that are left, are the text's.
 use Rattle.std.proofs.Common.{◌≡◌, ◌+◌, ◌++◌, length, flat_map, drop, codes}
-use Rattle.bq_job.specs.Yaml.{name_line}
+use Rattle.bq_job.specs.texts.Yaml.{name_line}
 use Rattle.bq_core.specs.Texts.{names_of}
 use Rattle.bq_core.proofs.texts.names.size_of.Given as goal
 

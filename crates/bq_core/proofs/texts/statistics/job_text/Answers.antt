@@ -1,7 +1,7 @@
 -- The lines are those of the definition, at a machine of this moment.
 use Rattle.std.proofs.Common.{◌≡◌, ◌∙◌, [], ◌∷◌, ap, sym}
-use Rattle.bq_job.specs.Statistics.{job_statistics, seconds_between, time_left}
-use Rattle.bq_job.specs.Yaml.{statistics_text}
+use Rattle.bq_job.specs.machine.Statistics.{job_statistics, seconds_between, time_left}
+use Rattle.bq_job.specs.texts.Yaml.{statistics_text}
 use Rattle.bq_core.proofs.TextLemmas.{told_of, with_number, with_word}
 use Rattle.bq_core.proofs.texts.statistics.job_text.Goals as goal
 

@@ -2,7 +2,7 @@ use Rattle.std.proofs.Common.{◌≡◌, ◌∙◌, Option, None, Some, ap}
 use Rattle.std.specs.Borrow.{Bor}
 use Rattle.std.specs.Option.{option_map}
 use Rattle.std.specs.Prelude.{find}
-use Rattle.bq_job.specs.TubeName.{is_same_name}
+use Rattle.bq_job.specs.reading.TubeName.{is_same_name}
 use Rattle.bq_core.specs.KeptTubes.{KeptTube, KeptTubes, record_of}
 use Rattle.bq_core.proofs.NamedLemmas.{found_entry}
 use Rattle.bq_core.proofs.tubes.Tubes.entry_of.Goals as goal

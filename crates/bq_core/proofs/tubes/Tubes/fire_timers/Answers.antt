@@ -1,5 +1,5 @@
 use Rattle.std.proofs.Common.{◌∙◌, ap, map}
-use Rattle.bq_job.specs.Timers.{tube_after_timers}
+use Rattle.bq_job.specs.machine.Timers.{tube_after_timers}
 use Rattle.bq_core.specs.KeptTubes.{KeptTubes, crowd_kept, record_at, tally_kept}
 use Rattle.bq_core.specs.declared.tube_walks.EndPauses.{EndPauses}
 use Rattle.bq_core.proofs.GoneLemmas.{ended_crowds, ended_records, ended_tallies}

@@ -1,6 +1,6 @@
 use Rattle.std.proofs.Common.{◌∙◌, ◌&&◌, None, ap, is_some}
 use Rattle.std.specs.List.{list_any}
-use Rattle.bq_job.specs.TubeName.{is_same_name}
+use Rattle.bq_job.specs.reading.TubeName.{is_same_name}
 use Rattle.bq_core.specs.KeptTubes.{KeptTubes}
 use Rattle.bq_core.proofs.NamedLemmas.{found_pause, in_order, lent_pause}
 use Rattle.bq_core.proofs.tubes.Tubes.is_paused.Goals as goal

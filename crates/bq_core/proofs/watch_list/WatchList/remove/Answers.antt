@@ -1,6 +1,6 @@
 use Rattle.std.proofs.Common.{not, ◌∙◌, ap}
 use Rattle.std.specs.List.{list_any}
-use Rattle.bq_job.specs.TubeName.{is_same_name}
+use Rattle.bq_job.specs.reading.TubeName.{is_same_name}
 use Rattle.bq_core.proofs.TubeLemmas.{some_left}
 use Rattle.bq_core.proofs.watch_list.WatchList.remove.Goals as goal
 

@@ -1,5 +1,5 @@
 use Rattle.std.proofs.Common.{◌≡◌, ◌∙◌, ap, rules}
-use Rattle.bq_job.specs.ControlDid.{are_same, drain_word}
+use Rattle.bq_job.specs.promise.ControlDid.{are_same, drain_word}
 use Rattle.bq_desk.proofs.ControlLemmas.{same_bytes}
 use Rattle.bq_desk.proofs.control.LineSoFar.says_drain.Goals as goal
 

@@ -1,6 +1,6 @@
 use Rattle.std.proofs.Common.{◌∙◌, ap, refl}
 use Rattle.bq_job.specs.declared.step.Step.TheVariants.{Tick}
-use Rattle.bq_job.specs.Machine.{Machine}
+use Rattle.bq_job.specs.machine.Machine.{Machine}
 use Rattle.bq_desk.specs.DeskOf.{state_of}
 use Rattle.bq_desk.proofs.DeskLemmas.{went_heard, went_same, went_step}
 use Rattle.bq_desk.proofs.desk.Desk.tick_if_due.Goals as goal

@@ -1,8 +1,8 @@
 use Rattle.std.proofs.Common.{arith, refl, ap, ◌∙◌}
 use Rattle.std.specs.Prelude.{option_map}
-use Rattle.bq_job.specs.Changes.{first_of}
-use Rattle.bq_job.specs.JobCommands.{is_delayed_in}
-use Rattle.bq_job.specs.JobStates.{is_due_before}
+use Rattle.bq_job.specs.machine.Changes.{first_of}
+use Rattle.bq_job.specs.machine.JobCommands.{is_delayed_in}
+use Rattle.bq_job.specs.machine.JobStates.{is_due_before}
 use Rattle.bq_jobs.specs.Inside.{jobs_of, kept_in}
 use Rattle.bq_jobs.specs.Kept.{Kept}
 use Rattle.bq_jobs.specs.PlaceOrder.{first_in_group}

@@ -1,6 +1,6 @@
 use Rattle.std.proofs.Common.{arith, refl, ap, ◌∙◌}
 use Rattle.std.specs.Prelude.{option_map}
-use Rattle.bq_job.specs.Changes.{first_of, is_held_by}
+use Rattle.bq_job.specs.machine.Changes.{first_of, is_held_by}
 use Rattle.bq_jobs.specs.Leases.{is_lease_before}
 use Rattle.bq_jobs.specs.Inside.{jobs_of, kept_in}
 use Rattle.bq_jobs.specs.Kept.{Kept}

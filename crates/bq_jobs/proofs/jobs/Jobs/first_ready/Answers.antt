@@ -1,8 +1,8 @@
 use Rattle.std.proofs.Common.{arith, refl, ap, ◌∙◌}
 use Rattle.std.specs.Prelude.{option_map}
-use Rattle.bq_job.specs.Changes.{first_of}
-use Rattle.bq_job.specs.Dispatch.{is_job_before}
-use Rattle.bq_job.specs.TubeCommands.{is_ready_in}
+use Rattle.bq_job.specs.machine.Changes.{first_of}
+use Rattle.bq_job.specs.machine.Dispatch.{is_job_before}
+use Rattle.bq_job.specs.machine.TubeCommands.{is_ready_in}
 use Rattle.bq_jobs.specs.Inside.{jobs_of, kept_in}
 use Rattle.bq_jobs.specs.Kept.{Kept}
 use Rattle.bq_jobs.specs.PlaceOrder.{first_in_group}

@@ -1,5 +1,5 @@
 use Rattle.std.proofs.Common.{arith, refl, ap, ◌∙◌}
-use Rattle.bq_job.specs.Changes.{job_with}
+use Rattle.bq_job.specs.machine.Changes.{job_with}
 use Rattle.bq_jobs.specs.Inside.{jobs_of, kept_in}
 use Rattle.bq_jobs.specs.Kept.{Kept}
 use Rattle.bq_jobs.proofs.Counting.{few_more}

@@ -1,7 +1,7 @@
 use Rattle.std.proofs.Common.{arith, refl, ap, ◌∙◌}
 use Rattle.std.specs.Prelude.{option_map}
-use Rattle.bq_job.specs.Changes.{first_of}
-use Rattle.bq_job.specs.JobStates.{is_reserved}
+use Rattle.bq_job.specs.machine.Changes.{first_of}
+use Rattle.bq_job.specs.machine.JobStates.{is_reserved}
 use Rattle.bq_jobs.specs.Leases.{deadline_of, is_lease_before}
 use Rattle.bq_jobs.specs.Inside.{jobs_of, kept_in}
 use Rattle.bq_jobs.specs.Kept.{Kept, ranked}

@@ -1,5 +1,5 @@
 use Rattle.std.proofs.Common.{ap, ◌∙◌, [], ◌∷◌, ◌++◌}
-use Rattle.bq_job.specs.History.{LineOver}
+use Rattle.bq_job.specs.promise.History.{LineOver}
 use Rattle.bq_line.specs.LineNumbers.{lines_of_numbers}
 use Rattle.bq_line.proofs.LineNumberLemmas.{lines_back}
 use Rattle.bq_line.proofs.door.line_record.LineRecord.note.Goals as goal

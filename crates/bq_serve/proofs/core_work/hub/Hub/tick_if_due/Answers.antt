@@ -1,7 +1,7 @@
 use Rattle.std.proofs.Common.{◌∙◌, ◌++◌, ◌∷◌, [], ap, subst}
 use Rattle.bq_job.specs.declared.step.Step.TheVariants.{Tick}
-use Rattle.bq_job.specs.Machine.{Machine}
-use Rattle.bq_job.specs.Steps.{IsStep, Outcome}
+use Rattle.bq_job.specs.machine.Machine.{Machine}
+use Rattle.bq_job.specs.machine.Steps.{IsStep, Outcome}
 use Rattle.bq_serve.specs.Worked.{hub_state}
 use Rattle.bq_serve.specs.declared.core_work.hub.Hub.{Hub}
 use Rattle.bq_serve.proofs.WorkedLemmas.{pending_on, worked_heard, worked_tick}

@@ -1,6 +1,6 @@
 use Rattle.std.proofs.Common.{◌≡◌}
 use Rattle.std.specs.VecDeque.Iter.{deque_iter_rest}
-use Rattle.bq_job.specs.Runs.{answers_to}
+use Rattle.bq_job.specs.promise.Runs.{answers_to}
 use Rattle.bq_serve.proofs.core_work.sender.Sender.has_kept.Given as goal
 
 abbrev pub invariant-loop-given : goal.invariant-loop-given

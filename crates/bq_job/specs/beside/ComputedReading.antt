@@ -1,0 +1,45 @@
+-- The reading of a text with ample memory, computed.
+use Rattle.std.specs.Prelude.{ℕ, zero, suc, ◌+◌, true, false, nat_lt, nat_le, List, [], ◌∷◌, length, take, drop, Option, Some, None, if◌then◌else◌}
+use Rattle.bq_job.specs.reading.Line.{first_line}
+use Rattle.bq_job.specs.reading.LineRead.{LineRead, Whole, PutWaits, PutLine, read_line}
+use Rattle.bq_job.specs.reading.Reading.{put_with_body, is_quit}
+use Rattle.bq_job.specs.declared.request.Request.{Request}
+use Rattle.bq_job.specs.declared.request.Request.TheVariants.{Refused}
+use Rattle.bq_job.specs.declared.refusal.Refusal.TheVariants.{JobTooBig}
+
+abbrev pub put_request : ℕ → PutLine → List ℕ → Request
+put_request max_job_size put bytes =
+    let read = put_with_body put bytes in
+    if nat_lt max_job_size put.bytes then Refused JobTooBig else read
+
+-- the request of a line and of what comes after it, and what is left then
+abbrev pub unit_after : ℕ → LineRead → List ℕ → Option (Request × List ℕ)
+unit_after max_job_size (Whole request) after = Some (request, after)
+unit_after max_job_size (PutWaits put) after =
+    let read = Some (put_request max_job_size put (take (put.bytes + 2) after), drop (put.bytes + 2) after) in
+    if nat_le (put.bytes + 2) (length after) then read else None
+
+abbrev pub unit_of_line : ℕ → Option (List ℕ × List ℕ) → Option (Request × List ℕ)
+unit_of_line max_job_size None = None
+unit_of_line max_job_size (Some (line, after)) = unit_after max_job_size (read_line line) after
+
+-- the first request of a text, and what is left after its bytes
+abbrev pub first_unit : ℕ → List ℕ → Option (Request × List ℕ)
+first_unit max_job_size text = unit_of_line max_job_size (first_line text)
+
+abbrev pub onto_reading : Request → List Request × List ℕ → List Request × List ℕ
+onto_reading request (requests, rest) = (request ∷ requests, rest)
+
+-- at most so many requests
+abbrev pub reading_within : ℕ → ℕ → List ℕ → List Request × List ℕ
+reading_within zero max_job_size text = ([], text)
+reading_within (suc n) max_job_size text =
+    elim (first_unit max_job_size text) [
+      | None ↦ ([], text)
+      | Some (request, after) ↦
+          elim (is_quit request) [ true ↦ (request ∷ [], after) | false ↦ onto_reading request (reading_within n max_job_size after) ]
+    ]
+
+-- A request has two bytes at least, so there are fewer of them than bytes.
+abbrev pub reading : ℕ → List ℕ → List Request × List ℕ
+reading max_job_size text = reading_within (length text) max_job_size text

@@ -1,0 +1,63 @@
+-- What holds of the machine after every step.
+use Rattle.std.specs.Prelude.{ℕ, suc, Bool, true, false, ◌≡◌, ◌≤◌, ◌&&◌, ◌||◌, not, nat_le, None, List, [], ◌∷◌, map, IsTrue}
+use Rattle.std.specs.List.{list_all, list_any}
+use Rattle.bq_job.specs.declared.job.Job.{Job}
+use Rattle.bq_job.specs.machine.Changes.{is_held_by, is_waiting}
+use Rattle.bq_job.specs.machine.Dispatch.{next_job}
+use Rattle.bq_job.specs.machine.JobCommands.{last_id}
+use Rattle.bq_job.specs.machine.JobStates.{is_reserved}
+use Rattle.bq_job.specs.machine.Limits.{greatest}
+use Rattle.bq_job.specs.machine.Machine.{Machine, SeatRecord, numbers}
+use Rattle.bq_job.specs.beside.NameOrder.{is_in_order}
+use Rattle.bq_job.specs.reading.TubeName.{is_same_name}
+use Rattle.bq_job.specs.machine.Tubes.{is_tube}
+use Rattle.bq_job.specs.machine.Waits.{next_end}
+
+-- The ids grow strictly along the list, are at least low and below next.
+abbrev pub AreIdsWithin : ℕ → List Job → ℕ → Type 0
+AreIdsWithin low [] next = low ≤ next
+AreIdsWithin low (j ∷ jobs) next = (low ≤ j.id) × AreIdsWithin (suc j.id) jobs next
+
+-- Who holds the job is connected.
+abbrev pub has_open_holder : Machine → Job → Bool
+has_open_holder m j = not (is_reserved j.state) || list_any (λ s. s.connected && is_held_by s.number j) m.seats
+
+-- the counts that the machine keeps
+abbrev pub counters : Machine → List ℕ
+counters m = m.timeouts ∷ m.puts ∷ m.connections ∷ m.burials ∷ m.tickets ∷ []
+
+abbrev pub has_one : List (List ℕ) → Bool
+has_one [] = false
+has_one (name ∷ names) = true
+
+abbrev pub none_twice : List (List ℕ) → Bool
+none_twice [] = true
+none_twice (name ∷ names) = not (list_any (is_same_name name) names) && none_twice names
+
+-- At least one tube is watched, and none twice.
+abbrev pub watches_once : SeatRecord → Bool
+watches_once s = has_one s.watched && none_twice s.watched
+
+pub record IsLawful (m : Machine) : Type 0 where
+  -- A job has one id, which no other has or gets.
+  pub ids : AreIdsWithin 1 m.jobs m.next_id
+  -- Before the ids run out the machine drains.
+  pub next : m.draining ≡ false → m.next_id ≤ last_id
+  pub next_fits : m.next_id ≤ suc last_id
+  -- A reserved job is held by one open connection, the one that its state names.
+  pub holders : IsTrue (list_all (has_open_holder m) m.jobs)
+  pub seats : map (λ s. s.number) m.seats ≡ numbers 0 m.settings.seats
+  -- A waiting client is connected,
+  pub waits : IsTrue (list_all (λ s. not (is_waiting s) || s.connected) m.seats)
+  -- there is no job that a waiting client may have,
+  pub dispatched : next_job m ≡ None
+  -- and no wait would end now.
+  pub wait_ends : next_end m ≡ None
+  -- Nothing is kept of tubes that are gone.
+  pub tubes : IsTrue (list_all (λ t. is_tube t.name m) m.tubes)
+  -- It stands in the order of the names, so that there is no name twice.
+  pub tube_order : IsTrue (is_in_order (map (λ t. t.name) m.tubes))
+  -- Each seat watches at least one tube, and none twice.
+  pub watched : IsTrue (list_all watches_once m.seats)
+  -- Counts stop at their end.
+  pub counts : IsTrue (list_all (λ n. nat_le n greatest) (counters m))

@@ -1,0 +1,43 @@
+-- What a seat did: the steps that it submitted and the answers that it took, line by line. Nothing of the
+-- core is in it.
+use Rattle.std.specs.Prelude.{ℕ, false, ◌≡◌, List, [], ◌∷◌, ◌++◌}
+use Rattle.bq_job.specs.declared.answer.Answer.{Answer}
+use Rattle.bq_job.specs.declared.answer.Answer.TheVariants.{Closed}
+use Rattle.bq_job.specs.declared.line_end.LineEnd.{LineEnd}
+use Rattle.bq_job.specs.declared.line_end.LineEnd.TheVariants as ends
+use Rattle.bq_job.specs.declared.step.Step.{Step}
+use Rattle.bq_job.specs.declared.step.Step.TheVariants.{Gone}
+use Rattle.bq_job.specs.promise.History.{LineOver}
+use Rattle.bq_job.specs.promise.LineOwed.{IsLineOwed}
+use Rattle.bq_job.specs.promise.LineSteps.{answers_text}
+use Rattle.bq_job.specs.machine.OneClient.{has_closed}
+
+-- A seat writes every answer that it takes for a line. So after a read fault none of them came too late.
+abbrev pub IsNoneUnwritten : LineEnd → List Answer → List ℕ → Type 0
+IsNoneUnwritten ends.ReadFault own written = written ≡ answers_text own
+IsNoneUnwritten _ own written = Unit {0}
+
+-- A line that is over, from its seat's side. The steps that were submitted are its steps. What was taken is
+-- an answer to each of its requests but quit (after a read fault that to a last request that may wait can be
+-- missing), then any others but `Closed`, then a `Closed`.
+pub record IsLineServed (max_job_size : ℕ) (line : LineOver) (submitted : List Step) (taken : List Answer) : Type 0 where
+  pub own : List Answer
+  pub others : List Answer
+  pub line_owed : IsLineOwed max_job_size line submitted own
+  pub none_unwritten : IsNoneUnwritten line.over own line.seen.written
+  pub taken_is : taken ≡ own ++ (others ++ Closed ∷ [])
+  pub none_closed : has_closed others ≡ false
+
+-- the lines in the order in which they were over
+abbrev pub AreLinesServed : ℕ → List LineOver → List Step → List Answer → Type 0
+AreLinesServed max_job_size [] submitted taken = (submitted ≡ []) × (taken ≡ [])
+AreLinesServed max_job_size (line ∷ lines) submitted taken =
+    (own more : List Step) × (got later : List Answer)
+    × IsLineServed max_job_size line own got × (submitted ≡ own ++ more) × (taken ≡ got ++ later)
+    × AreLinesServed max_job_size lines more later
+
+-- What a seat did whose door is done: its lines, and then it said that no more come.
+pub record IsSeatDone (max_job_size : ℕ) (lines : List LineOver) (submitted : List Step) (taken : List Answer) : Type 0 where
+  pub own : List Step
+  pub of_lines : AreLinesServed max_job_size lines own taken
+  pub submitted_is : submitted ≡ own ++ Gone ∷ []

@@ -1,0 +1,108 @@
+-- Short words for worked examples: what the machine answers to a list of steps, by evaluation.
+use Rattle.std.specs.Prelude.{ℕ, ◌≡◌, if◌then◌else◌, List, [], ◌∷◌, ◌++◌, map, flat_map, Option, None, Some}
+use Rattle.bq_job.specs.declared.answer.Answer.{Answer}
+use Rattle.bq_job.specs.declared.request.Request.{Request}
+use Rattle.bq_job.specs.declared.settings.Settings.{Settings}
+use Rattle.bq_job.specs.declared.step.Step.{Step}
+use Rattle.bq_job.specs.declared.step.Step.TheVariants as steps
+use Rattle.bq_job.specs.beside.Computed.{stepped}
+use Rattle.bq_job.specs.beside.ComputedReading.{reading}
+use Rattle.bq_job.specs.machine.Dispatch.{GivenAnswer}
+use Rattle.bq_job.specs.promise.LineSteps.{answers_text, ends_by_wait}
+use Rattle.bq_job.specs.machine.Machine.{Machine, new_machine}
+use Rattle.bq_job.specs.beside.NextDue.{next_due}
+use Rattle.bq_job.specs.promise.Runs.{Entry}
+
+-- what the machine answers to each step
+abbrev pub ran : Machine → List Entry → List (List GivenAnswer)
+ran m [] = []
+ran m (e ∷ history) = let s = stepped m e.moment e.seat e.what in s.given ∷ ran s.machine history
+
+-- a step at the moment 0
+abbrev pub event : ℕ → Step → Entry
+event seat what = record { moment = 0; seat = seat; what = what }
+
+abbrev pub connect : ℕ → Entry
+connect seat = event seat steps.Connect
+
+abbrev pub ask : ℕ → Request → Entry
+ask seat request = event seat (steps.Ask request)
+
+abbrev pub close : ℕ → Entry
+close seat = event seat steps.Close
+
+-- the client at the seat sends no more
+abbrev pub end : ℕ → Entry
+end seat = event seat steps.End
+
+abbrev pub drain : Entry
+drain = event 0 steps.Drain
+
+abbrev pub tick : ℕ → Entry
+tick moment = record { moment = moment; seat = 0; what = steps.Tick }
+
+-- the same step at this moment
+abbrev pub at : ℕ → Entry → Entry
+at moment e = record e { moment = moment }
+
+infix 70 ◌gives◌
+-- a step, and the answers that it gives, each with its seat
+abbrev pub ◌gives◌ : Entry → List GivenAnswer → Entry × List GivenAnswer
+e gives answers = (e, answers)
+
+-- so many seats, bodies of at most so many bytes, and nothing else chosen
+abbrev pub plain : ℕ → ℕ → Settings
+plain seats max_job_size = record { seats = seats; max_job_size = max_job_size; max_jobs = None; requeue_delay = 0 }
+
+-- the same with at most so many jobs
+abbrev pub at_most : ℕ → Settings → Settings
+at_most most settings = record settings { max_jobs = Some most }
+
+-- the same with so many seconds of delay for the jobs of a lost connection
+abbrev pub requeued_after : ℕ → Settings → Settings
+requeued_after seconds settings = record settings { requeue_delay = seconds }
+
+-- a machine with so many seats and nobody there
+abbrev pub server : ℕ → ℕ → Machine
+server seats max_job_size = new_machine (plain seats max_job_size)
+
+-- Once a client has come to each of three seats at the moment 0, the steps give the answers beside them,
+abbrev pub PlaysWith : Settings → List (Entry × List GivenAnswer) → Type 0
+PlaysWith settings play =
+    ran (new_machine settings) (connect 0 ∷ connect 1 ∷ connect 2 ∷ map (λ p. p.0) play) ≡ [] ∷ [] ∷ [] ∷ map (λ p. p.1) play
+
+-- where nothing else is chosen.
+abbrev pub Plays : List (Entry × List GivenAnswer) → Type 0
+Plays play = PlaysWith (plain 3 65535) play
+
+-- the machine after these steps
+abbrev pub played : Machine → List Entry → Machine
+played m [] = m
+played m (e ∷ history) = played (stepped m e.moment e.seat e.what).machine history
+
+-- when something is due, once a client has come to each of three seats at the moment 0 and these steps were taken
+abbrev pub due_with : Settings → List Entry → Option ℕ
+due_with settings history = next_due (played (new_machine settings) (connect 0 ∷ connect 1 ∷ connect 2 ∷ history))
+
+abbrev pub due_after : List Entry → Option ℕ
+due_after history = due_with (plain 3 65535) history
+
+-- The steps of a lone client's line: it connects, asks, tells that it sends no more where it may still
+-- wait for its last answer, and is closed.
+abbrev pub lone_line : List Request → List Entry
+lone_line requests =
+    connect 0 ∷ map (ask 0) requests ++ (if ends_by_wait requests then end 0 ∷ [] else []) ++ close 0 ∷ []
+
+-- the answers to a lone client, by a clock that stands at 0
+abbrev pub session : Settings → List Request → List Answer
+session settings requests = flat_map (map (λ g. g.1)) (ran (new_machine settings) (lone_line requests))
+
+-- the bytes that are written to a lone client which sends these bytes and no more
+abbrev pub replies_with : Settings → List ℕ → List ℕ
+replies_with settings sent = answers_text (session settings (reading settings.max_job_size sent).0)
+
+abbrev pub replies_within : ℕ → List ℕ → List ℕ
+replies_within max_job_size sent = replies_with (plain 1 max_job_size) sent
+
+abbrev pub replies : List ℕ → List ℕ
+replies sent = replies_within 65535 sent

@@ -1,0 +1,45 @@
+-- Short words for worked examples of runs: what happens to jobs, and in which order they are handed out.
+use Rattle.std.specs.Prelude.{ℕ, ◌≡◌, List, [], ◌∷◌, flat_map}
+use Rattle.std.specs.List.{AllByRecursion}
+use Rattle.bq_job.specs.declared.job.Job.{Job}
+use Rattle.bq_job.specs.beside.ComputedRuns.{transitions}
+use Rattle.bq_job.specs.examples.Examples.{connect, server}
+use Rattle.bq_job.specs.laws.Happenings.{Happening, happenings, handed_out, parts_of_run, put}
+use Rattle.bq_job.specs.promise.Runs.{Entry, Transition}
+use Rattle.bq_job.specs.laws.Undisturbed.{IsUndisturbed}
+
+-- the steps of a server with three seats, once a client has come to each of them at the moment 0
+abbrev pub played : List Entry → List Transition
+played history = transitions (server 3 65535) (connect 0 ∷ connect 1 ∷ connect 2 ∷ history)
+
+-- what happens to jobs in them
+abbrev pub happening_in : List Entry → List Happening
+happening_in history = happenings (parts_of_run (played history))
+
+abbrev pub job_put : Happening → List Job
+job_put (put j) = j ∷ []
+job_put _ = []
+
+-- the jobs that were put, in their order
+abbrev pub jobs_put : List Happening → List Job
+jobs_put happened = flat_map job_put happened
+
+abbrev pub id_handed_out : Happening → List ℕ
+id_handed_out (handed_out id) = id ∷ []
+id_handed_out _ = []
+
+-- the ids of the jobs that were handed out, in their order
+abbrev pub ids_handed_out : List Happening → List ℕ
+ids_handed_out happened = flat_map id_handed_out happened
+
+-- The jobs of these ids are handed out, in this order, and each job that is put is an undisturbed one,
+abbrev pub HandsOutUndisturbed : List ℕ → List Entry → Type 0
+HandsOutUndisturbed ids history =
+    let happened = happening_in history in
+    (ids_handed_out happened ≡ ids) × AllByRecursion (λ j. IsUndisturbed j happened) (jobs_put happened)
+
+-- or none is.
+abbrev pub HandsOutDisturbed : List ℕ → List Entry → Type 0
+HandsOutDisturbed ids history =
+    let happened = happening_in history in
+    (ids_handed_out happened ≡ ids) × AllByRecursion (λ j. IsUndisturbed j happened → ⊥) (jobs_put happened)

@@ -1,0 +1,84 @@
+-- What holds of whole runs.
+use Rattle.std.specs.Prelude.{ℕ, Bool, true, false, ◌≡◌, ◌==◌, ◌⊎◌, IsTrue, not, List, [], ◌∷◌, ◌++◌, Contains}
+use Rattle.std.specs.List.{list_any}
+use Rattle.bq_job.specs.declared.answer.Answer.{Answer}
+use Rattle.bq_job.specs.declared.answer.Answer.TheVariants as answers
+use Rattle.bq_job.specs.declared.job.Job.{Job}
+use Rattle.bq_job.specs.declared.request.Request.TheVariants as requests
+use Rattle.bq_job.specs.declared.step.Step.TheVariants as steps
+use Rattle.bq_job.specs.machine.Changes.{is_held_by}
+use Rattle.bq_job.specs.machine.Dispatch.{DispatchTurn, GivenAnswer}
+use Rattle.bq_job.specs.machine.JobStates.{is_reserved}
+use Rattle.bq_job.specs.laws.LeastJob.{GetsLeast}
+use Rattle.bq_job.specs.machine.Machine.{Machine}
+use Rattle.bq_job.specs.machine.OneClient.{is_connected_at}
+use Rattle.bq_job.specs.promise.Runs.{Transition}
+use Rattle.bq_job.specs.machine.Steps.{acted, addressed}
+use Rattle.bq_job.specs.machine.Timers.{after_timers, at_moment}
+use Rattle.bq_job.specs.machine.Tubes.{forgetting}
+use Rattle.bq_job.specs.machine.Waits.{Chain}
+
+-- The client gets the job as the command's own answer to its reserve-job.
+pub record IsReservedById (t : Transition) (early : List GivenAnswer) (seat id : ℕ) : Type 0 where
+  pub asks : t.entry.what ≡ steps.Ask (requests.ReserveJob id)
+  pub by : t.entry.seat ≡ seat
+  pub place : early ≡ t.parts.handed ++ t.parts.ended
+
+-- Dispatch, which begins at the machine after these answers and gives the answers handed, gives the job to
+-- the client: it is the least one that the client may have at that moment.
+pub record IsDispatchedLeast (first : Machine) (before handed early : List GivenAnswer) (seat id : ℕ) (body : List ℕ) : Type 0 where
+  pub given : List GivenAnswer
+  pub more : List GivenAnswer
+  pub place : early ≡ before ++ given
+  pub handed_is : handed ≡ given ++ (seat, answers.Reserved id body) ∷ more
+  pub moment : Machine
+  pub turns : Chain DispatchTurn first given moment
+  pub least : GetsLeast moment seat id body
+
+-- the answers of a step before its second dispatch
+abbrev pub answers_before : Transition → List GivenAnswer
+answers_before t =
+    t.parts.handed ++ t.parts.ended ++ addressed t.entry.seat (acted t.parts.memory t.parts.before t.entry.seat t.entry.what).answer
+
+-- Each RESERVED among the answers of the step, wherever it stands among them, is the command's own answer
+-- to a reserve-job, or the first or the second dispatch gave the client the least job that it might have.
+abbrev pub GivesLeast : Transition → Type 0
+GivesLeast t = (early more : List GivenAnswer) (seat id : ℕ) (body : List ℕ) → t.given ≡ early ++ (seat, answers.Reserved id body) ∷ more
+    → IsReservedById t early seat id
+    ⊎ IsDispatchedLeast (forgetting (after_timers (at_moment t.entry.moment t.first))) [] t.parts.handed early seat id body
+    ⊎ IsDispatchedLeast t.parts.after (answers_before t) t.parts.handed_then early seat id body
+
+abbrev pub is_inserted : Answer → Bool
+is_inserted (answers.Inserted id) = true
+is_inserted _ = false
+
+abbrev pub has_inserted : List GivenAnswer → Bool
+has_inserted given = list_any (λ g. is_inserted g.1) given
+
+-- There is one job of this id, and it has the tube and the body of this one.
+pub record IsKept (j : Job) (m : Machine) : Type 0 where
+  pub job : Job
+  pub there : Contains m.jobs job
+  pub id_is : job.id ≡ j.id
+  pub tube_is : job.tube ≡ j.tube
+  pub body_is : job.body ≡ j.body
+  pub alone : (k : Job) → Contains m.jobs k → k.id ≡ j.id → k ≡ job
+
+-- The client at the seat holds the job of this id.
+abbrev pub Holds : Machine → ℕ → ℕ → Type 0
+Holds m seat id = (j : Job) × Contains m.jobs j × (j.id ≡ id) × IsTrue (is_held_by seat j)
+
+-- Each job is held by one client at most, who is connected.
+abbrev pub IsHeldByOne : Machine → Type 0
+IsHeldByOne m = (seat other id : ℕ) → Holds m seat id → Holds m other id → (seat ≡ other) × IsTrue (is_connected_at seat m)
+
+-- DELETED is given to who asked for it alone. The job was there, the client's own or nobody's, and is gone.
+pub record IsDeletion (t : Transition) (seat : ℕ) : Type 0 where
+  pub id : ℕ
+  pub job : Job
+  pub asks : t.entry.what ≡ steps.Ask (requests.Delete id)
+  pub by : t.entry.seat ≡ seat
+  pub there : Contains t.parts.before.jobs job
+  pub id_is : job.id ≡ id
+  pub free : (is_reserved job.state ≡ false) ⊎ (is_held_by seat job ≡ true)
+  pub gone : (k : Job) → Contains t.parts.after.jobs k → not (k.id == id) ≡ true

@@ -1,0 +1,74 @@
+-- The headline whole: of a run that left a history, the one run of the machine along it, the bytes of each
+-- line, and what became of jobs.
+use Rattle.std.specs.Prelude.{ℕ, Bool, false, ◌≡◌, ◌≤◌, ◌==◌, List, [], ◌∷◌, ◌++◌, Option, Contains, IsTrue, count_by, flat_map, length, map}
+use Rattle.std.specs.List.{list_all, list_any}
+use Rattle.bq_job.specs.declared.answer.Answer.TheVariants.{Deleted, Inserted}
+use Rattle.bq_job.specs.declared.job.Job.{Job}
+use Rattle.bq_job.specs.declared.step.Step.TheVariants.{Drain}
+use Rattle.bq_job.specs.promise.ControlDid.{IsControlDone}
+use Rattle.bq_job.specs.machine.Dispatch.{GivenAnswer}
+use Rattle.bq_job.specs.laws.Happenings.{Happening, Part, happenings, parts_of_run, put}
+use Rattle.bq_job.specs.promise.Headline.{AreDoorsOwed, AreSeatsUpTo}
+use Rattle.bq_job.specs.promise.History.{IsTimedBy, LineOver, steps_at, without_ticks}
+use Rattle.bq_job.specs.machine.JobCommands.{last_id}
+use Rattle.bq_job.specs.laws.LawsOfRuns.{GivesLeast, IsDeletion, IsHeldByOne, IsKept, has_inserted}
+use Rattle.bq_job.specs.promise.LineOwed.{AreLinesOwed}
+use Rattle.bq_job.specs.machine.Machine.{Machine, Settings, new_machine}
+use Rattle.bq_job.specs.promise.Runs.{Entry, GoesBy, Transition, answers_to}
+use Rattle.bq_job.specs.laws.Undisturbed.{IsHandedOut, IsHandedOutBefore, IsPutBefore, IsUndisturbed, is_deletion, is_hand_out}
+
+-- What becomes of jobs as these steps are taken, and these things happen to jobs.
+pub record AreJobsServed (taken : List Transition) (happened : List Happening) : Type 0 where
+  -- Each RESERVED gives the least job that the client may have then, or the one that its reserve-job names.
+  pub least : (t : Transition) → Contains taken t → GivesLeast t
+  -- An undisturbed job is handed out at most once,
+  pub once : (j : Job) → IsUndisturbed j happened → count_by (is_hand_out j.id) happened ≤ 1
+  -- and two of them, of one priority and tube, in the order of their puts.
+  pub in_order : (a b : Job) → IsUndisturbed a happened → IsUndisturbed b happened → a.pri ≡ b.pri → a.tube ≡ b.tube
+      → IsPutBefore a.id b.id happened → IsHandedOut a.id happened → IsHandedOut b.id happened → IsHandedOutBefore a.id b.id happened
+  -- A job that was accepted is there, once, after each part of a step until it is deleted.
+  pub kept : (early late : List Part) (p : Part) (j : Job) → parts_of_run taken ≡ early ++ p ∷ late
+      → Contains (happenings (early ++ p ∷ [])) (put j) → list_any (is_deletion j.id) (happenings (early ++ p ∷ [])) ≡ false → IsKept j p.machine
+  -- One client at most holds a job, and it is connected.
+  pub held : (p : Part) → Contains (parts_of_run taken) p → IsHeldByOne p.machine
+  -- DELETED goes to who asked, for a job that nobody else held.
+  pub deleted : (t : Transition) (seat : ℕ) → Contains taken t → Contains t.given (seat, Deleted) → IsDeletion t seat
+  -- From the step that begins to drain on no put is accepted, and none is after the last id was given.
+  pub drained : (early more : List Transition) (t : Transition) → taken ≡ early ++ t ∷ more → t.entry.what ≡ Drain
+      → has_inserted (flat_map (λ (u : Transition). u.given) (t ∷ more)) ≡ false
+  pub last_id_given : (early more : List GivenAnswer) (seat : ℕ) → flat_map (λ (u : Transition). u.given) taken ≡ early ++ (seat, Inserted last_id) ∷ more
+      → has_inserted more ≡ false
+
+-- One list of everybody's steps, and of it all that is promised.
+pub record HeadlineHolds (settings : Settings) (doors : List (List LineOver)) (control : List ℕ) (failed : Bool) (readings : List (Option ℕ)) (last : Machine) : Type 0 where
+  pub history : List Entry
+  pub given : List GivenAnswer
+  pub taken : List Transition
+  -- The machine goes along it by one run, from the start to this machine, and gives these answers.
+  pub goes : GoesBy (new_machine settings) taken last
+  pub history_is : map (λ t. t.entry) taken ≡ history
+  pub given_is : flat_map (λ t. t.given) taken ≡ given
+  -- Each step is at the moment of a reading of its own.
+  pub timed : IsTimedBy readings history
+  -- There is a door at each seat. In the history are the steps of its lines, and each of them was written
+  -- exactly the bytes that the answers to it come to.
+  pub many : length doors ≡ settings.seats
+  pub of_doors : AreDoorsOwed settings.max_job_size 0 doors history given
+  -- The control line has the seat behind them, and nobody else has a step.
+  pub of_control : IsControlDone control failed (steps_at settings.seats history)
+  pub of_nobody_else : AreSeatsUpTo settings.seats history
+  pub jobs : AreJobsServed taken (happenings (parts_of_run taken))
+
+-- The same of a lone line at a seat.
+pub record LineHeadlineHolds (settings : Settings) (seat : ℕ) (line : LineOver) (readings : List (Option ℕ)) : Type 0 where
+  pub history : List Entry
+  pub given : List GivenAnswer
+  pub taken : List Transition
+  pub last : Machine
+  pub goes : GoesBy (new_machine settings) taken last
+  pub history_is : map (λ t. t.entry) taken ≡ history
+  pub given_is : flat_map (λ t. t.given) taken ≡ given
+  pub timed : IsTimedBy readings history
+  pub of_line : AreLinesOwed settings.max_job_size (line ∷ []) (steps_at seat history) (answers_to seat given)
+  pub of_nobody_else : IsTrue (list_all (λ e. e.seat == seat) (without_ticks history))
+  pub jobs : AreJobsServed taken (happenings (parts_of_run taken))

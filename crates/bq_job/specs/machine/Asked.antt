@@ -1,0 +1,95 @@
+-- The command's own effect: what each request and each other event does by itself.
+use Rattle.std.specs.Prelude.{ℕ, true, ◌&&◌, not, if◌then◌else◌, Option, Some, None, map}
+use Rattle.bq_job.specs.declared.answer.Answer.{Answer}
+use Rattle.bq_job.specs.declared.answer.Answer.TheVariants as answers
+use Rattle.bq_job.specs.declared.job.JobState.{JobState}
+use Rattle.bq_job.specs.declared.refusal.Refusal.{Refusal}
+use Rattle.bq_job.specs.declared.refusal.Refusal.TheVariants as refusals
+use Rattle.bq_job.specs.declared.request.Request.{Request}
+use Rattle.bq_job.specs.declared.request.Request.TheVariants as requests
+use Rattle.bq_job.specs.declared.step.Step.{Step}
+use Rattle.bq_job.specs.declared.step.Step.TheVariants as steps
+use Rattle.bq_job.specs.machine.Acts.{Effect, telling, silent}
+use Rattle.bq_job.specs.machine.Changes.{given_back, is_waiting, seat_with, with_seat}
+use Rattle.bq_job.specs.machine.JobCommands.{bury_effect, delayed_by, delete_effect, kick_effect, kick_job_effect, put_effect, release_effect, reserve_effect, reserve_job_effect, touch_effect}
+use Rattle.bq_job.specs.machine.Limits.{raised, later}
+use Rattle.bq_job.specs.machine.Machine.{Machine, SeatRecord, empty_seat}
+use Rattle.bq_job.specs.machine.StatisticsCommands.{list_tubes_effect, list_watched_effect, stats_effect, stats_job_effect, stats_tube_effect}
+use Rattle.bq_job.specs.machine.TubeCommands.{ignore_effect, pause_effect, peek_buried_effect, peek_delayed_effect, peek_effect, peek_ready_effect, use_effect, watch_effect}
+
+-- the answer to a request that the reader refused
+abbrev pub refusal_answer : Refusal → Answer
+refusal_answer refusals.UnknownCommand = answers.UnknownCommand
+refusal_answer refusals.BadFormat = answers.BadFormat
+refusal_answer refusals.JobTooBig = answers.JobTooBig
+refusal_answer refusals.ExpectedCrlf = answers.ExpectedCrlf
+refusal_answer refusals.OutOfMemory = answers.OutOfMemory
+
+-- what a request of an open seat that doesn't wait does
+abbrev pub asked : Request → Machine → SeatRecord → Effect
+asked (requests.Put pri delay ttr body) m s = put_effect pri delay ttr body m s
+asked requests.Reserve m s = reserve_effect None m s
+asked (requests.ReserveWithTimeout seconds) m s = reserve_effect (Some (later m.moment seconds)) m s
+asked (requests.ReserveJob id) m s = reserve_job_effect id m s
+asked (requests.Delete id) m s = delete_effect id m s
+asked (requests.Release id pri delay) m s = release_effect id pri delay m s
+asked (requests.Bury id pri) m s = bury_effect id pri m s
+asked (requests.Touch id) m s = touch_effect id m s
+asked (requests.Kick bound) m s = kick_effect bound m s
+asked (requests.KickJob id) m s = kick_job_effect id m s
+asked (requests.Use tube) m s = use_effect tube m s
+asked requests.ListTubeUsed m s = telling (answers.Using s.used) m
+asked (requests.Watch tube) m s = watch_effect tube m s
+asked (requests.Ignore tube) m s = ignore_effect tube m s
+asked (requests.Peek id) m s = peek_effect id m
+asked requests.PeekReady m s = peek_ready_effect m s
+asked requests.PeekDelayed m s = peek_delayed_effect m s
+asked requests.PeekBuried m s = peek_buried_effect m s
+asked (requests.PauseTube tube delay) m s = pause_effect tube delay m
+asked (requests.StatsJob id) m s = stats_job_effect id m
+asked (requests.StatsTube tube) m s = stats_tube_effect tube m
+asked requests.Stats m s = stats_effect m
+asked requests.ListTubes m s = list_tubes_effect m
+asked requests.ListTubesWatched m s = list_watched_effect m s
+asked requests.Quit m s = silent m
+asked (requests.Refused why) m s = telling (refusal_answer why) m
+
+-- a client comes to the seat
+abbrev pub after_connect : Machine → ℕ → Machine
+after_connect m seat =
+    record (with_seat seat (λ s. record (empty_seat s.number) { connected = true }) m) { connections = raised m.connections }
+
+abbrev pub with_end : SeatRecord → SeatRecord
+with_end s = record s { ended = true }
+
+-- where a job stands whose client is gone: ready, or delayed where a delay was chosen
+abbrev pub state_once_left : Machine → JobState
+state_once_left m = delayed_by m.settings.requeue_delay m.moment
+
+-- The client is gone: the jobs that it holds become ready or delayed, and are otherwise as they were.
+abbrev pub after_close : Machine → ℕ → Machine
+after_close m seat =
+    record (with_seat seat (λ s. empty_seat s.number) m) { jobs = map (given_back (state_once_left m) seat) m.jobs }
+
+abbrev pub at_seat : Step → Machine → SeatRecord → Effect
+at_seat steps.Connect m s = if s.connected then silent m else silent (after_connect m s.number)
+at_seat (steps.Ask request) m s = if s.connected && not (is_waiting s) then asked request m s else silent m
+at_seat steps.End m s = if s.connected then silent (with_seat s.number with_end m) else silent m
+at_seat steps.Close m s = if s.connected then telling answers.Closed (after_close m s.number) else silent m
+at_seat steps.Drain m s = silent (record m { draining = true })
+at_seat steps.Tick m s = silent m
+at_seat steps.Gone m s = silent m
+
+abbrev pub at_found : Step → Machine → Option SeatRecord → Effect
+at_found what m None = silent m
+at_found what m (Some s) = at_seat what m s
+
+-- Draining begins at whatever seat. Any other event at a seat that there isn't does nothing.
+abbrev pub effect : Machine → ℕ → Step → Effect
+effect m seat steps.Drain = silent (record m { draining = true })
+effect m seat steps.Connect = at_found steps.Connect m (seat_with seat m.seats)
+effect m seat (steps.Ask request) = at_found (steps.Ask request) m (seat_with seat m.seats)
+effect m seat steps.End = at_found steps.End m (seat_with seat m.seats)
+effect m seat steps.Close = at_found steps.Close m (seat_with seat m.seats)
+effect m seat steps.Tick = silent m
+effect m seat steps.Gone = silent m

@@ -1,0 +1,25 @@
+-- The tubes that exist, and the order in which names are listed.
+use Rattle.std.specs.Prelude.{ℕ, if◌then◌else◌, List, [], ◌∷◌, ◌++◌, fold, map, flat_map}
+use Rattle.bq_job.specs.machine.Machine.{Machine, SeatRecord, default_tube}
+use Rattle.bq_job.specs.reading.TubeName.{is_same_name}
+use Rattle.bq_job.specs.machine.Tubes.{is_name_before}
+
+-- the names with this one at its place in byte order, unless it is there
+abbrev pub with_name : List (List ℕ) → List ℕ → List (List ℕ)
+with_name [] name = name ∷ []
+with_name (other ∷ names) name =
+    if is_same_name name other then other ∷ names
+    else (if is_name_before name other then name ∷ other ∷ names else other ∷ with_name names name)
+
+-- the names in byte order, each once
+abbrev pub in_name_order : List (List ℕ) → List (List ℕ)
+in_name_order names = fold with_name [] names
+
+-- what the client at a seat uses and watches, where there is one
+abbrev pub seated_tubes : SeatRecord → List (List ℕ)
+seated_tubes s = if s.connected then s.used ∷ s.watched else []
+
+-- All tubes that exist, in byte order, each once: the default tube, those of jobs, and those that
+-- open seats use and watch.
+abbrev pub tubes : Machine → List (List ℕ)
+tubes m = in_name_order (default_tube ∷ map (λ j. j.tube) m.jobs ++ flat_map seated_tubes m.seats)

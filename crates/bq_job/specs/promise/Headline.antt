@@ -1,0 +1,51 @@
+-- One history of everybody's steps, and what each client is written along it.
+use Rattle.std.specs.Prelude.{ℕ, suc, Bool, ◌≡◌, ◌==◌, IsTrue, nat_le, List, [], ◌∷◌, ◌++◌, length, Option}
+use Rattle.std.specs.List.{list_all}
+use Rattle.bq_job.specs.declared.answer.Answer.{Answer}
+use Rattle.bq_job.specs.declared.step.Step.{Step}
+use Rattle.bq_job.specs.declared.step.Step.TheVariants.{Gone}
+use Rattle.bq_job.specs.promise.ControlDid.{IsControlDone}
+use Rattle.bq_job.specs.promise.CoreDid.{IsRun}
+use Rattle.bq_job.specs.machine.Dispatch.{GivenAnswer}
+use Rattle.bq_job.specs.promise.History.{LineOver, steps_at, without_ticks}
+use Rattle.bq_job.specs.promise.LineOwed.{AreLinesOwed}
+use Rattle.bq_job.specs.machine.Machine.{Machine, Settings}
+use Rattle.bq_job.specs.promise.Runs.{Entry, answers_to}
+
+-- A door that is done. At its seat are the steps of its lines, in the order in which they were over, and
+-- then it is said that no more come. Each line is owed what it was written, and nothing came after that.
+pub record IsDoorOwed (max_job_size : ℕ) (lines : List LineOver) (taken : List Step) (answers : List Answer) : Type 0 where
+  pub own : List Step
+  pub of_lines : AreLinesOwed max_job_size lines own answers
+  pub taken_is : taken ≡ own ++ Gone ∷ []
+
+-- the doors stand at the seats from this one on
+abbrev pub AreDoorsOwed : ℕ → ℕ → List (List LineOver) → List Entry → List GivenAnswer → Type 0
+AreDoorsOwed max_job_size seat [] history given = Unit {0}
+AreDoorsOwed max_job_size seat (lines ∷ doors) history given =
+    IsDoorOwed max_job_size lines (steps_at seat history) (answers_to seat given) × AreDoorsOwed max_job_size (suc seat) doors history given
+
+-- Ticks aside, no step is of a higher seat than this.
+abbrev pub AreSeatsUpTo : ℕ → List Entry → Type 0
+AreSeatsUpTo seat history = IsTrue (list_all (λ e. nat_le e.seat seat) (without_ticks history))
+
+-- One history holds the steps of each door's lines once and in their order, and for the control line so many
+-- drains and its end. Each entry has a reading of the clock of its own. The machine runs over it from the
+-- start, and each line was written exactly the bytes that it gives it there. There is a door at each seat.
+pub record IsHistoryOf (settings : Settings) (doors : List (List LineOver)) (control : List ℕ) (failed : Bool) (readings : List (Option ℕ)) (last : Machine) : Type 0 where
+  pub history : List Entry
+  pub given : List GivenAnswer
+  pub run : IsRun settings readings history given last
+  pub many : length doors ≡ settings.seats
+  pub of_doors : AreDoorsOwed settings.max_job_size 0 doors history given
+  pub of_control : IsControlDone control failed (steps_at settings.seats history)
+  pub of_nobody_else : AreSeatsUpTo settings.seats history
+
+-- The same of a lone line at a seat: the history has its steps alone, beside ticks.
+pub record IsHistoryOfLine (settings : Settings) (seat : ℕ) (line : LineOver) (readings : List (Option ℕ)) : Type 0 where
+  pub history : List Entry
+  pub given : List GivenAnswer
+  pub last : Machine
+  pub run : IsRun settings readings history given last
+  pub of_line : AreLinesOwed settings.max_job_size (line ∷ []) (steps_at seat history) (answers_to seat given)
+  pub of_nobody_else : IsTrue (list_all (λ e. e.seat == seat) (without_ticks history))

@@ -1,0 +1,23 @@
+-- What a client's line is owed, and the lines of a door one after another.
+use Rattle.std.specs.Prelude.{ℕ, false, ◌≡◌, List, [], ◌∷◌, ◌++◌}
+use Rattle.bq_job.specs.declared.answer.Answer.{Answer}
+use Rattle.bq_job.specs.declared.answer.Answer.TheVariants.{Closed}
+use Rattle.bq_job.specs.declared.step.Step.{Step}
+use Rattle.bq_job.specs.promise.History.{LineOver}
+use Rattle.bq_job.specs.promise.LineSteps.{AreAllAnswered, IsStepsOfLine, IsWritten, heard}
+use Rattle.bq_job.specs.machine.OneClient.{has_closed}
+
+-- One line that is over. These are its steps, each request was answered, and it was written exactly what it
+-- is owed of these answers.
+pub record IsLineOwed (max_job_size : ℕ) (line : LineOver) (taken : List Step) (answers : List Answer) : Type 0 where
+  pub steps : IsStepsOfLine max_job_size (heard line.seen) line.over taken
+  pub answered : AreAllAnswered line.over steps.asked answers
+  pub written : IsWritten line.over steps.asked answers line.seen.written
+
+-- Lines one after another. The answers to each are those up to the `Closed` of its close.
+abbrev pub AreLinesOwed : ℕ → List LineOver → List Step → List Answer → Type 0
+AreLinesOwed max_job_size [] taken answers = (taken ≡ []) × (answers ≡ [])
+AreLinesOwed max_job_size (line ∷ lines) taken answers =
+    (own more : List Step) × (got later : List Answer)
+    × IsLineOwed max_job_size line own got × (has_closed got ≡ false) × (taken ≡ own ++ more) × (answers ≡ got ++ Closed ∷ later)
+    × AreLinesOwed max_job_size lines more later

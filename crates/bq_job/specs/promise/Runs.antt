@@ -1,0 +1,78 @@
+-- Runs of the machine over a history.
+use Rattle.std.specs.Prelude.{ℕ, ◌≡◌, ◌==◌, List, [], ◌∷◌, map, filter, flat_map}
+use Rattle.bq_job.specs.declared.answer.Answer.{Answer}
+use Rattle.bq_job.specs.declared.step.Step.{Step}
+use Rattle.bq_job.specs.machine.Dispatch.{GivenAnswer}
+use Rattle.bq_job.specs.machine.Machine.{Machine}
+use Rattle.bq_job.specs.machine.Steps.{IsStep, Memory, Outcome}
+
+-- one step of a history
+pub record Entry : Type 0 where
+  pub moment : ℕ
+  pub seat : ℕ
+  pub what : Step
+
+-- the parts of a step: the answers that each part gave, and the machines between the parts
+pub record Parts : Type 0 where
+  -- first jobs are dispatched and waits end,
+  pub handed : List GivenAnswer
+  pub between : Machine
+  pub ended : List GivenAnswer
+  pub before : Machine
+  -- then comes the command's own effect,
+  pub memory : Memory
+  pub after : Machine
+  -- then jobs are dispatched and waits end once more.
+  pub handed_then : List GivenAnswer
+  pub between_then : Machine
+  pub ended_then : List GivenAnswer
+
+abbrev pub parts_of : {first last : Machine} {at seat : ℕ} {what : Step} {outcome : Outcome} {answers : List GivenAnswer}
+    → IsStep first at seat what outcome answers last → Parts
+parts_of step = record {
+  handed = step.handed;
+  between = step.serves.between;
+  ended = step.ended;
+  before = step.before;
+  memory = step.memory;
+  after = step.after;
+  handed_then = step.handed_then;
+  between_then = step.serves_then.between;
+  ended_then = step.ended_then;
+}
+
+-- a step that was taken: the machines before, between and after its parts, how it came out, and its answers
+pub record Transition : Type 0 where
+  pub entry : Entry
+  pub first : Machine
+  pub parts : Parts
+  pub last : Machine
+  pub outcome : Outcome
+  pub given : List GivenAnswer
+
+-- The machine may take this step so.
+pub record IsTransition (t : Transition) : Type 0 where
+  pub step : IsStep t.first t.entry.moment t.entry.seat t.entry.what t.outcome t.given t.last
+  pub parts_are : t.parts ≡ parts_of step
+
+-- The machine goes from the first to the last by these steps, each from where the one before it ended.
+abbrev pub GoesBy : Machine → List Transition → Machine → Type 0
+GoesBy first [] last = last ≡ first
+GoesBy first (t ∷ taken) last = (t.first ≡ first) × IsTransition t × GoesBy t.last taken last
+
+-- The machine takes the steps of the history, one after another. They come out so, and give these answers
+-- in this order. What is to be said of each step of the run is said of the list of steps taken.
+pub record RunBy (first : Machine) (history : List Entry) (outcomes : List Outcome) (given : List GivenAnswer) (last : Machine) : Type 0 where
+  pub taken : List Transition
+  pub goes : GoesBy first taken last
+  pub history_is : map (λ t. t.entry) taken ≡ history
+  pub outcomes_are : map (λ t. t.outcome) taken ≡ outcomes
+  pub given_is : flat_map (λ t. t.given) taken ≡ given
+
+-- The machine takes the steps of the history, however they come out.
+abbrev pub Run : Machine → List Entry → List GivenAnswer → Machine → Type 0
+Run first history given last = (outcomes : List Outcome) × RunBy first history outcomes given last
+
+-- the answers that go to a seat
+abbrev pub answers_to : ℕ → List GivenAnswer → List Answer
+answers_to seat given = map (λ g. g.1) (filter (λ g. g.0 == seat) given)

@@ -1,0 +1,3 @@
+-- The texts of the answers, to the byte.
+pub mod AnswerText
+pub mod Yaml
