@@ -4,8 +4,8 @@ use Rattle.bq_job.specs.declared.line_end.LineEnd.{LineEnd}
 use Rattle.bq_job.specs.declared.line_end.LineEnd.TheVariants as ends
 use Rattle.bq_cli.specs.declared.fault.Fault.{Fault}
 use Rattle.bq_cli.specs.declared.fault.Fault.TheVariants as faults
-use Rattle.bq_desk.specs.declared.fault.RunFault.{RunFault}
-use Rattle.bq_desk.specs.declared.fault.RunFault.TheVariants as runs
+use Rattle.bq_start.specs.declared.fault.RunFault.{RunFault}
+use Rattle.bq_start.specs.declared.fault.RunFault.TheVariants as runs
 
 abbrev pub fault_of_run : RunFault → Fault
 fault_of_run runs.NoMemory = faults.NoMemory

@@ -4,8 +4,8 @@ use Rattle.std.specs.List.{list_any}
 use Rattle.bq_cli.specs.Faults.{fault_of_run}
 use Rattle.bq_cli.specs.declared.fault.Fault.{Fault}
 use Rattle.bq_cli.specs.declared.fault.Fault.TheVariants.{NotAccepted}
-use Rattle.bq_desk.specs.declared.fault.RunFault.{RunFault}
-use Rattle.bq_serve.specs.declared.sessions.Run.{Run}
+use Rattle.bq_start.specs.declared.fault.RunFault.{RunFault}
+use Rattle.bq_run.specs.declared.sessions.Run.{Run}
 
 -- A run that did not begin, and one at some door of which a connection could not be accepted, end by a fault.
 abbrev pub came_of_run : {D C I : Type 0} → (D → Bool) → Result (Run D C I) RunFault → Result (Unit {0}) Fault

@@ -1,7 +1,7 @@
 //! An input and an output as one stream.
 ghost use Rattle.std.specs.Prelude.{◌≡◌};
 
-use bq_serve::line::ReadNow;
+use bq_line::line::ReadNow;
 use std::io;
 use std::io::{Read, Write};
 

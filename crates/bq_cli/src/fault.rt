@@ -4,7 +4,7 @@ ghost use Rattle.bq_cli.specs.Faults.{fault_of_end, fault_of_run, fault_text};
 
 use bq_job::LineEnd;
 use bq_options::OptionFault;
-use bq_serve::RunFault;
+use bq_start::RunFault;
 
 /// Why a program ends with status 1.
 #[derive(Clone, Copy, Debug, PartialEq, Eq)]

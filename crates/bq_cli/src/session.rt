@@ -5,11 +5,11 @@ ghost use Rattle.bq_options.specs.Ranges.{IsForBq};
 
 use crate::fault::{Fault, Stop};
 use bq_core::Config;
+use bq_desk::run_one;
 use bq_job::LineEnd;
+use bq_line::clock::{Clock, MachineClock, ScriptClock};
+use bq_line::line::{IoLine, Line, ReadNow};
 use bq_options::{BqOptions, bq_options};
-use bq_serve::clock::{Clock, MachineClock, ScriptClock};
-use bq_serve::line::{IoLine, Line, ReadNow};
-use bq_serve::run_one;
 use std::alloc::{AllocError, Global};
 use std::convert::AsStr;
 use std::io::Write;

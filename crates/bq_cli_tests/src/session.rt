@@ -2,7 +2,7 @@
 
 use bq_cli::{Console, OptionFault, Served, Stop, serve_client};
 use bq_job::LineEnd;
-use bq_serve::clock::MachineClock;
+use bq_line::clock::MachineClock;
 use std::alloc::Global;
 use std::io;
 use std::io::{ErrorKind, Read, Write};

@@ -20,6 +20,7 @@ pub mod NamedLemmas
 pub mod PauseLemmas
 pub mod SearchLemmas
 pub mod SeatPlaces
+pub mod SendLemmas
 pub mod StateLemmas
 pub mod StepCosts
 pub mod StepLemmas

@@ -13,7 +13,8 @@ use Rattle.bq_job.specs.machine.Steps.{IsStep, Outcome}
 use Rattle.std.specs.Prelude.{slice_index_or}
 use Rattle.bq_job.proofs.OneClientLemmas.{answers_append}
 use Rattle.bq_job.proofs.RunLemmas.{run_append, run_from, run_none}
-use Rattle.bq_desk.specs.DeskOf.{GaveReadings, WentAt, state_of}
+use Rattle.bq_desk.specs.DeskOf.{WentAt, state_of}
+use Rattle.bq_line.specs.GivenReadings.{GaveReadings}
 use Rattle.bq_desk.specs.DeskState.{DeskState, IsSorted, waiting}
 use Rattle.bq_desk.specs.DeskWent.{DeskWent, SeatWent}
 use Rattle.bq_desk.specs.declared.desk.Desk.{Desk}

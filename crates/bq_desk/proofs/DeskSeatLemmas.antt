@@ -5,10 +5,10 @@ use Rattle.bq_job.specs.declared.step.Step.{Step}
 use Rattle.bq_job.specs.promise.LineSteps.{LineSeen}
 use Rattle.bq_seat.specs.declared.machine.Action.{Action}
 use Rattle.bq_seat.specs.declared.machine.SeatMachine.{SeatMachine}
-use Rattle.bq_desk.specs.Carried.{Carried, HasGone}
+use Rattle.bq_attend.specs.Carried.{Carried, HasGone}
 use Rattle.bq_desk.specs.DeskOf.{WentAt}
 use Rattle.bq_desk.specs.declared.desk_seat.DeskSeat.{DeskSeat}
-use Rattle.bq_desk.proofs.CarriedLemmas.{gone}
+use Rattle.bq_attend.proofs.CarriedLemmas.{gone}
 use Rattle.bq_desk.proofs.DeskLemmas.{went_none}
 
 abbrev pub LinkWent : {C : Type 0} → (C → List (Option ℕ) → C → Type 0) → DeskSeat C → List Step → List Answer → DeskSeat C → Type 0

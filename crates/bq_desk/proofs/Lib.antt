@@ -1,10 +1,4 @@
-pub mod CarriedLemmas
-pub mod ControlLemmas
-pub mod DeskControlLemmas
+pub mod AloneLemmas
 pub mod DeskLemmas
 pub mod DeskSeatLemmas
-pub mod EventLemmas
 pub mod MailLemmas
-pub mod SeatLemmas
-pub mod TendingLemmas
-pub mod WritingLemmas

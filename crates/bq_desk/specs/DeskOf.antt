@@ -3,6 +3,7 @@ use Rattle.std.specs.Prelude.{ℕ, List, ◌++◌, Option}
 use Rattle.std.specs.Option.{option_to_list}
 use Rattle.bq_job.specs.declared.answer.Answer.{Answer}
 use Rattle.bq_job.specs.declared.step.Step.{Step}
+use Rattle.bq_line.specs.GivenReadings.{GaveReadings}
 use Rattle.bq_desk.specs.DeskState.{DeskState}
 use Rattle.bq_desk.specs.DeskWent.{SeatWent}
 use Rattle.bq_desk.specs.declared.desk.Desk.{Desk}
@@ -15,10 +16,6 @@ state_of d = record {
   heard = d.heard;
   most = d.outs.most;
 }
-
--- the readings that a clock gave between
-abbrev pub GaveReadings : {C : Type 0} → (C → List (Option ℕ) → C → Type 0) → C → List (Option ℕ) → C → Type 0
-GaveReadings {C} given old readings new = (first : C) (before : List (Option ℕ)) → given first before old → given first (before ++ readings) new
 
 -- what a seat did at a desk
 abbrev pub WentAt : {C : Type 0} → (C → List (Option ℕ) → C → Type 0) → ℕ → Desk C → List Step → List Answer → Desk C → Type 0

@@ -1,13 +1,6 @@
-pub mod Attending
-pub mod Carried
-pub mod ControlRead
-pub mod ControlSeen
 pub mod DeskOf
 pub mod DeskState
 pub mod DeskWent
-pub mod FaultCodes
 pub mod LastParts
-pub mod Links
-pub mod Tending
+pub mod RunSettings
 pub mod TimePassing
-pub mod Writing

@@ -3,7 +3,8 @@ use Rattle.std.specs.Prelude.{ℕ, ◌≡◌, MatchBool, nat_le, List, [], ◌�
 use Rattle.bq_job.specs.declared.step.Step.TheVariants.{Tick}
 use Rattle.bq_job.specs.promise.History.{moment_heard}
 use Rattle.bq_job.specs.machine.Steps.{IsStep, Outcome}
-use Rattle.bq_desk.specs.DeskOf.{GaveReadings, state_of}
+use Rattle.bq_desk.specs.DeskOf.{state_of}
+use Rattle.bq_line.specs.GivenReadings.{GaveReadings}
 use Rattle.bq_desk.specs.declared.desk.Desk.{Desk}
 
 -- The core took a tick at the moment that is heard now.

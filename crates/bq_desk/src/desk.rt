@@ -5,11 +5,11 @@ ghost use Rattle.bq_job.specs.declared.answer.Answer.{Answer};
 ghost use Rattle.bq_job.specs.promise.History.{moment_heard};
 ghost use Rattle.bq_job.specs.promise.Runs.{answers_to};
 
-use crate::RunFault;
 use crate::mail::{Mail, new_mails};
 use bq_core::{Config, Core, CoreFault, Outs};
 use bq_job::{Answer, Moment, NoMemory, Seat, Step};
-use bq_line::clock::Clock;
+use bq_line::clock::{Clock, moment_heard};
+use bq_start::RunFault;
 use std::alloc::Global;
 
 /// What serves all seats.
@@ -27,10 +27,11 @@ pub struct Desk<C> {
 
 impl<C: Clock + Drop> Desk<C> {
     ghost use Rattle.bq_job.specs.beside.NextDue.{next_due};
-    ghost use Rattle.bq_desk.specs.DeskOf.{GaveReadings, WentAt, state_of};
+    ghost use Rattle.bq_desk.specs.DeskOf.{WentAt, state_of};
+    ghost use Rattle.bq_line.specs.GivenReadings.{GaveReadings};
     ghost use Rattle.bq_desk.specs.DeskState.{HasMails, IsNewDesk, IsSorted, IsStuck};
     ghost use Rattle.bq_core.specs.Limits.{are_in_range};
-    ghost use Rattle.bq_desk.specs.Links.{Submits, as_submitted};
+    ghost use Rattle.bq_attend.specs.Links.{Submits, as_submitted};
     ghost use Rattle.bq_desk.specs.TimePassing.{PassesTime};
     ghost use Rattle.std.specs.Prelude.{if◌then◌else◌};
 
@@ -199,15 +200,5 @@ fn post(mails: &mut Vec<Mail, Global>, seat: Seat, answer: Answer) -> Result<(),
     match mails.get_mut(usize::from(seat)) {
         Some(mail) => mail.put(answer),
         None => Ok(()),
-    }
-}
-
-// No reading, or a smaller one than the last, counts as the last one.
-pub fn moment_heard(last: Moment, reading: Option<Moment>) -> Moment
-    ensures { result ≡ moment_heard last reading }
-{
-    match reading {
-        Some(moment) => last.max(moment),
-        None => last,
     }
 }

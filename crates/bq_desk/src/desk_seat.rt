@@ -2,17 +2,14 @@
 ghost use Rattle.std.specs.Prelude.{◌≡◌, ◌<◌, ℕ, List, length};
 ghost use Rattle.bq_job.specs.declared.answer.Answer.{Answer};
 ghost use Rattle.bq_job.specs.declared.step.Step.{Step};
-ghost use Rattle.bq_desk.specs.Carried.{Carried};
+ghost use Rattle.bq_attend.specs.Carried.{Carried};
 ghost use Rattle.bq_desk.specs.DeskOf.{WentAt, state_of};
 ghost use Rattle.bq_desk.specs.DeskState.{HasMails};
-ghost use Rattle.bq_desk.specs.Tending.{GoesOn, IsPlaced, door_seen};
 
-use crate::attendant::Attendant;
-use crate::client::{Room, carry_out};
 use crate::desk::Desk;
-use crate::link::Link;
+use bq_attend::client::{Room, carry_out};
+use bq_attend::link::Link;
 use bq_job::{Answer, Seat, Step};
-use bq_line::Door;
 use bq_line::clock::Clock;
 use bq_line::line::Line;
 use bq_seat::{Action, SeatMachine};
@@ -56,26 +53,4 @@ pub fn act<L: Line, C: Clock + Drop>(
 {
     let mut link = DeskSeat { desk, seat };
     carry_out(machine, action, line, &mut link, room)
-}
-
-/// One turn of a seat that attends to a door, at the desk. Says whether something moved.
-pub fn attend<L: Line + Drop, D: Door<Line = L>, C: Clock + Drop>(
-    attendant: &mut Attendant<L>,
-    door: &mut D,
-    desk: &mut Desk<C>,
-    seat: Seat,
-    room: &mut Room,
-) -> bool
-    requires placed { IsPlaced attendant.old.place (door_seen D.is_out D.is_at_end D.lines_over door.old) }
-    requires mails { HasMails (state_of desk.old) }
-    requires within { seat < length (state_of desk.old).mails }
-    ensures mails { HasMails (state_of desk.new) }
-    ensures went { let at = door_seen D.is_out D.is_at_end D.lines_over in
-        GoesOn (WentAt C.given seat) desk.old desk.new L.seen attendant.old (at door.old) attendant.new (at door.new) }
-{
-    if attendant.is_done() {
-        return false;
-    }
-    let mut link = DeskSeat { desk, seat };
-    attendant.go_on(door, &mut link, room)
 }

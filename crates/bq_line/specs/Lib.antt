@@ -1,4 +1,5 @@
 pub mod Doors
+pub mod GivenReadings
 pub mod InAll
 pub mod LineCalls
 pub mod LineNumbers

@@ -1,5 +1,6 @@
 //! Clocks, which a run reads.
 ghost use Rattle.std.specs.Prelude.{◌≡◌, ℕ, List, [], ◌∷◌, ◌++◌, Option};
+ghost use Rattle.bq_job.specs.promise.History.{moment_heard};
 
 pub use machine_clock::MachineClock;
 pub use script_clock::ScriptClock;
@@ -23,4 +24,14 @@ pub trait Clock {
 
     /// An unchanged clock gave no reading.
     ghost none_given: { (clock : Self) → given clock [] clock };
+}
+
+/// The moment heard after a reading: no reading, or a smaller one than the last, counts as the last one.
+pub fn moment_heard(last: Moment, reading: Option<Moment>) -> Moment
+    ensures { result ≡ moment_heard last reading }
+{
+    match reading {
+        Some(moment) => last.max(moment),
+        None => last,
+    }
 }

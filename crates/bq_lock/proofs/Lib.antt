@@ -1,6 +1,5 @@
 pub mod DeliveryLemmas
 pub mod LastPartLemmas
-pub mod ListLemmas
 pub mod LockedLemmas
 pub mod PostLemmas
 pub mod RungLemmas

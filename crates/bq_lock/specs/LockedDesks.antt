@@ -4,7 +4,7 @@ use Rattle.bq_job.specs.declared.answer.Answer.{Answer}
 use Rattle.bq_job.specs.declared.step.Step.{Step}
 use Rattle.bq_job.specs.declared.step.Step.TheVariants.{Tick}
 use Rattle.bq_job.specs.promise.History.{moment_heard}
-use Rattle.bq_desk.specs.DeskOf.{GaveReadings}
+use Rattle.bq_line.specs.GivenReadings.{GaveReadings}
 use Rattle.bq_job.specs.beside.NextDue.{next_due}
 use Rattle.bq_lock.specs.LockedState.{outbox_at}
 use Rattle.bq_lock.specs.LockedSteps.{TakesStep}

@@ -4,7 +4,6 @@
 
 pub use locked::Locked;
 pub use locked_run::{LockedRun, run_locked};
-pub use start::Start;
 
 mod bell;
 mod bells;
@@ -13,4 +12,3 @@ mod locked_desk;
 mod locked_run;
 mod post;
 mod shared_desk;
-mod start;

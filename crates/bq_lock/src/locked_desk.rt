@@ -4,9 +4,8 @@ ghost use Rattle.std.specs.Prelude.{◌≡◌, ◌≤◌};
 use crate::bells::Rings;
 use crate::locked::Locked;
 use crate::shared_desk::{LONGEST_REST, Look, SharedDesk};
-use bq_desk::desk::moment_heard;
 use bq_job::{Answer, Moment, Seat, Step};
-use bq_line::clock::Clock;
+use bq_line::clock::{Clock, moment_heard};
 use std::sync::{Mutex, Wait};
 
 /// What lies under the one lock of a run: the core with its outboxes, the clock, and the moment heard last.
@@ -19,7 +18,7 @@ pub struct LockedDesk<C> {
 
 impl<C: Clock + Drop> LockedDesk<C> {
     ghost use Rattle.bq_job.specs.beside.NextDue.{next_due};
-    ghost use Rattle.bq_desk.specs.DeskOf.{GaveReadings};
+    ghost use Rattle.bq_line.specs.GivenReadings.{GaveReadings};
     ghost use Rattle.bq_lock.specs.LockedDesks.{EndsInTime, HasLooked, HasPassed, HasServed, HasTaken};
     ghost use Rattle.bq_lock.specs.Rung.{AreRung, AreRungByTick, others};
     ghost use Rattle.std.specs.Prelude.{[], ◌∷◌};

@@ -2,8 +2,8 @@
 ghost use Rattle.std.specs.Prelude.{◌≡◌, ◌≤◌};
 
 use crate::bells::{Bells, Rings};
-use bq_desk::control::ControlLink;
-use bq_desk::link::Link;
+use bq_attend::control::ControlLink;
+use bq_attend::link::Link;
 use bq_job::{Answer, Seat, Step};
 use std::sync::Wait;
 use std::time::Duration;

@@ -1,21 +1,13 @@
-//! Serving clients over lines of bytes.
+//! Serving clients over lines of bytes: all that a caller names.
 //!
-//! Here are the run of one line by one thread, and that of many doors, each by a thread of its own, over the
-//! links of `bq_link`. With them come the lines, doors and clocks of `bq_line`, and the run around one lock of
-//! `bq_lock`.
+//! Here are the run of one line by one thread, that of many doors, each by a thread of its own, and that around
+//! one lock, with the lines, doors and clocks that they serve. Each is made in a crate of its own, so that what
+//! stands on one of them doesn't wait for the proofs of the others.
 #![tactic(auto)]
 
-pub use bq_desk::RunFault;
+pub use bq_desk::{One, run_one};
+pub use bq_ends::{NoTicks, control_work, seat_work};
 pub use bq_line::{Door, DoorFault, MemDoor, TcpDoor, clock, line};
 pub use bq_lock::{Locked, LockedRun, run_locked};
-pub use no_ticks::NoTicks;
-pub use one::{One, run_one};
-pub use sessions::{Run, run_sessions};
-
-pub mod control_work;
-pub mod core_work;
-mod end_seat;
-mod no_ticks;
-mod one;
-pub mod seat_work;
-mod sessions;
+pub use bq_run::{Run, core_work, run_sessions};
+pub use bq_start::RunFault;

@@ -1,8 +1,8 @@
 use Rattle.std.proofs.Common.{List, subst, sym}
 use Rattle.std.specs.List.{All}
-use Rattle.bq_desk.specs.Tending.{IsNewDoor}
+use Rattle.bq_attend.specs.Tending.{IsNewDoor}
 use Rattle.bq_line.specs.declared.door.tcp_door.TcpDoor.{TcpDoor}
-use Rattle.bq_lock.proofs.ListLemmas.{all_more}
+use Rattle.bq_start.proofs.ListLemmas.{all_more}
 use Rattle.bq_cli.proofs.server.new_doors.Goals as goal
 
 IsNew : {R : Type 0} → TcpDoor R → Type 0

@@ -1,5 +1,5 @@
 use Rattle.std.specs.List.{All}
-use Rattle.bq_desk.specs.Tending.{IsNewDoor}
+use Rattle.bq_attend.specs.Tending.{IsNewDoor}
 use Rattle.bq_cli.proofs.server.new_doors.Given as goal
 
 abbrev pub invariant-loop : goal.invariant-loop

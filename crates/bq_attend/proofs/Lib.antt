@@ -1,0 +1,6 @@
+pub mod CarriedLemmas
+pub mod ControlLemmas
+pub mod EventLemmas
+pub mod SeatLemmas
+pub mod TendingLemmas
+pub mod WritingLemmas

@@ -1,0 +1,12 @@
+use Rattle.std.proofs.Common.{◌≡◌, ◌≤◌, ◌-◌, length, take}
+use Rattle.bq_attend.specs.Writing.{with_written}
+use Rattle.bq_attend.proofs.answer_write.write_all.Given as goal
+
+abbrev pub invariant-loop-done : goal.invariant-loop-done
+invariant-loop-done g l = record {
+  within : l.done ≤ length l.bytes;
+  seen : (g.L.Line.seen l.line) ≡ with_written (take l.done l.bytes) (g.L.Line.seen l.fn.line);
+}
+
+abbrev pub decreases-loop-done : goal.decreases-loop-done
+decreases-loop-done g l = length l.bytes - l.done

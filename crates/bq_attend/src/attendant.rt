@@ -1,0 +1,173 @@
+//! A seat that attends to a door: it serves the door's lines one after another, one action at a time.
+ghost use Rattle.std.specs.Prelude.{◌≡◌, ◌≤◌, ◌↔◌, [], true, false, IfOk, IsTrue};
+ghost use Rattle.bq_seat.specs.Past.{Awaited};
+ghost use Rattle.bq_seat.specs.SeatStands.{awaited};
+ghost use Rattle.bq_seat.specs.declared.machine.SeatMachine.{SeatMachine};
+ghost use Rattle.bq_attend.specs.Tending.{DoorSeen, GoesOn, IsPlaced, Tends, attendant, door_seen};
+
+use crate::client::{Room, carry_out};
+use crate::link::Link;
+use bq_job::{LARGEST_BODY, LineEnd, NoMemory, Step, one_line_more};
+use bq_line::Door;
+use bq_line::line::Line;
+use bq_seat::{Action, Event, SeatMachine, pasts_are_orderly};
+use std::alloc::Global;
+use std::mem;
+
+/// Where a seat is with its door.
+#[derive(Drop)]
+pub enum Place<L> {
+    /// The next line is to be opened.
+    Between,
+    /// This line is out, and the action is the next one for it.
+    On(L, Action),
+    /// No more lines come, and that is to be submitted.
+    Leaving,
+    /// It was submitted that no more lines come.
+    Done,
+}
+
+/// A seat and where it is with its door.
+#[derive(Drop)]
+pub struct Attendant<L> {
+    pub machine: SeatMachine,
+    pub place: Place<L>,
+}
+
+impl<L: Line + Drop> Attendant<L> {
+    /// A seat whose door is to be opened first. All memory but that for bodies is asked for here.
+    pub fn new(alloc: Global, max_job_size: u32) -> Result<Attendant<L>, NoMemory>
+        requires { (1 ≤ max_job_size) × (max_job_size ≤ LARGEST_BODY) }
+        ensures place { IfOk result (λ a. a.place ≡ Place.Between) }
+        ensures awaits { IfOk result (λ a. awaited a.machine ≡ Awaited.ALine) }
+        ensures limit { IfOk result (λ a. a.machine.reader.max_job_size ≡ max_job_size) }
+    {
+        let machine = SeatMachine::new(alloc, max_job_size)?;
+        Ok(Attendant {
+            machine,
+            place: Place::Between,
+        })
+    }
+
+    /// Whether its door is at its end, and that was submitted.
+    pub fn is_done(&self) -> bool
+        ensures { IsTrue result ↔ (self.now.place ≡ Place.Done) }
+    {
+        matches!(self.place, Place::Done)
+    }
+
+    /// Whether nothing but its line can move it: the line is to be read, and no answer is outstanding.
+    pub fn awaits_line(&self) -> bool {
+        matches!(self.place, Place::On(_, Action::Read)) && !self.machine.has_outstanding()
+    }
+
+    /// One action of the seat, and whether something moved by it. A step that was handed back is submitted
+    /// again at the next turn.
+    pub fn go_on<D: Door<Line = L>, K: Link>(
+        &mut self,
+        door: &mut D,
+        link: &mut K,
+        room: &mut Room,
+    ) -> bool
+        requires placed { IsPlaced self.old.place (door_seen D.is_out D.is_at_end D.lines_over door.old) }
+        requires ready { K.is_ready link.old }
+        ensures ready { K.is_ready link.new }
+        // Whatever it did before, it went on by the steps that it submitted and the answers that it took.
+        ensures went { let at = door_seen D.is_out D.is_at_end D.lines_over in
+            GoesOn K.went link.old link.new L.seen self.old (at door.old) self.new (at door.new) }
+        // It is the same door still.
+        ensures same { (first : D) → D.same first door.old → D.same first door.new }
+    {
+        let place = mem::replace(&mut self.place, Place::Done);
+        let (place, moved) = turn(&mut self.machine, place, door, link, room);
+        self.place = place;
+        moved
+    }
+}
+
+// One action of a seat that is at this place, where it is then, and whether something moved.
+fn turn<L: Line + Drop, D: Door<Line = L>, K: Link>(
+    machine: &mut SeatMachine,
+    place: Place<L>,
+    door: &mut D,
+    link: &mut K,
+    room: &mut Room,
+) -> (Place<L>, bool)
+    requires placed { IsPlaced place (door_seen D.is_out D.is_at_end D.lines_over door.old) }
+    requires ready { K.is_ready link.old }
+    ensures ready { K.is_ready link.new }
+    ensures went { let at = door_seen D.is_out D.is_at_end D.lines_over in
+        GoesOn K.went link.old link.new L.seen (attendant machine.old place) (at door.old) (attendant machine.new result.0) (at door.new) }
+    ensures same { (first : D) → D.same first door.old → D.same first door.new }
+{
+    match place {
+        Place::Between => (open_line(machine, door), true),
+        Place::On(line, action) => match action {
+            Action::LineOver(end) => {
+                shut_line(door, line, end);
+                (Place::Between, true)
+            }
+            other => act(machine, line, other, link, room),
+        },
+        Place::Leaving => leave(link),
+        Place::Done => (Place::Done, false),
+    }
+}
+
+// The next line is opened, or no more come.
+fn open_line<L: Line + Drop, D: Door<Line = L>>(machine: &mut SeatMachine, door: &mut D) -> Place<L>
+    requires inside { D.is_out door.old ≡ false }
+    requires more { D.is_at_end door.old ≡ false }
+    ensures opened { result ≡ Place.Between → ⊥ }
+    ensures went { let at = door_seen D.is_out D.is_at_end D.lines_over in
+        Tends L.seen (attendant machine.old Place.Between) (at door.old) [] [] (attendant machine.new result) (at door.new) }
+    ensures same { (first : D) → D.same first door.old → D.same first door.new }
+{
+    match door.open() {
+        Ok(Some(line)) => Place::On(line, machine.on(Event::Opened)),
+        Ok(None) => Place::Leaving,
+        Err(_) => Place::Leaving,
+    }
+}
+
+// A line that is over is shut.
+fn shut_line<L: Line + Drop, D: Door<Line = L>>(door: &mut D, line: L, end: LineEnd)
+    requires { D.is_out door.old ≡ true }
+    ensures went { let at = door_seen D.is_out D.is_at_end D.lines_over in (machine : SeatMachine)
+        → Tends L.seen (attendant machine (Place.On line (Action.LineOver end))) (at door.old) [] [] (attendant machine Place.Between) (at door.new) }
+    ensures same { (first : D) → D.same first door.old → D.same first door.new }
+{
+    one_line_more();
+    door.shut(line, end);
+}
+
+// An action of the line that is out.
+fn act<L: Line + Drop, K: Link>(
+    machine: &mut SeatMachine,
+    mut line: L,
+    action: Action,
+    link: &mut K,
+    room: &mut Room,
+) -> (Place<L>, bool)
+    requires ready { K.is_ready link.old }
+    ensures ready { K.is_ready link.new }
+    ensures went { (door : DoorSeen)
+        → GoesOn K.went link.old link.new L.seen (attendant machine.old (Place.On line action)) door (attendant machine.new result.0) door }
+{
+    pasts_are_orderly();
+    let (next, moved) = carry_out(machine, action, &mut line, link, room);
+    (Place::On(line, next), moved)
+}
+
+// It is submitted that no more lines come.
+fn leave<L: Line + Drop, K: Link>(link: &mut K) -> (Place<L>, bool)
+    requires ready { K.is_ready link.old }
+    ensures ready { K.is_ready link.new }
+    ensures went { (machine : SeatMachine) (door : DoorSeen)
+        → GoesOn K.went link.old link.new L.seen (attendant machine Place.Leaving) door (attendant machine result.0) door }
+{
+    match link.submit(Step::Gone) {
+        Ok(()) => (Place::Done, true),
+        Err(_) => (Place::Leaving, false),
+    }
+}

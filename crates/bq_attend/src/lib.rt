@@ -1,0 +1,12 @@
+//! A seat at work: it serves the lines of a door one after another, and has a link to a core, at which it
+//! submits steps and looks at its mail. Beside it the control line, which has a link too.
+//!
+//! What lies behind a link nobody here knows.
+#![tactic(auto)]
+
+mod answer_write;
+pub mod attendant;
+pub mod client;
+pub mod control;
+pub mod control_line;
+pub mod link;

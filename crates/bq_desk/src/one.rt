@@ -1,0 +1,103 @@
+ghost use Rattle.std.specs.Prelude.{◌↔◌, ◌≡◌, List, Option, ℕ, IfOk, IsErrOf, IsTrue, not};
+ghost use Rattle.bq_job.specs.promise.Headline.{IsHistoryOfLine};
+ghost use Rattle.bq_line.specs.LineCalls.{new_line};
+ghost use Rattle.bq_desk.specs.RunSettings.{is_lone};
+
+use crate::desk::Desk;
+use crate::desk_seat::act;
+use bq_attend::client::Room;
+use bq_core::Config;
+use bq_job::{LineEnd, Seat, line_joins};
+use bq_line::clock::Clock;
+use bq_line::line::Line;
+use bq_seat::{Action, Event, PIECE_ROOM, SeatMachine, pasts_are_orderly};
+use bq_start::RunFault;
+use std::alloc::Global;
+use std::sync::Wait;
+use std::thread::Parker;
+use std::time::Duration;
+
+/// The seat of a lone client.
+const ONLY_SEAT: Seat = 0;
+
+/// How long a run rests between two looks at the mail, in milliseconds.
+const REST: u64 = 1;
+
+/// A line that is over: the line itself, how it was over, and the clock as it was left.
+#[derive(Drop)]
+pub struct One<L, C> {
+    pub line: L,
+    pub end: LineEnd,
+    pub clock: C,
+}
+
+/// Serves one line to its end on this thread. It may wait, where the line's read does, and it goes on as
+/// long as a reserve is answered by nothing.
+///
+/// The fault is `BadConfiguration` where the configuration is out of its ranges or the seats aren't 1,
+/// and else `NoMemory`. Either way the line was neither read nor written, and is given up.
+pub fn run_one<R: Wait, L: Line + Drop, C: Clock + Drop>(
+    rt: &R,
+    alloc: Global,
+    config: Config,
+    mut line: L,
+    clock: C,
+) -> Result<One<L, C>, RunFault>
+    // Nothing was done on the line yet.
+    requires new { L.seen line ≡ new_line }
+    // There is one history of the client's steps, each at the moment of a reading of the clock. The
+    // one-list machine takes it, and the line was written exactly what it is owed along it.
+    ensures served { IfOk result (λ one. (readings : List (Option ℕ)) × C.given clock readings one.clock × IsHistoryOfLine config 0 (record { seen = L.seen one.line; over = one.end }) readings) }
+    ensures bad_configuration { IsErrOf result RunFault.BadConfiguration ↔ IsTrue (not (is_lone config)) }
+    ensures no_thread { IsErrOf result RunFault.ThreadRefused ↔ ⊥ }
+{
+    if config.seats != 1 {
+        return Err(RunFault::BadConfiguration);
+    }
+    let mut desk = Desk::new(alloc, config, clock)?;
+    let Ok(mut machine) = SeatMachine::new(alloc, config.max_job_size) else {
+        return Err(RunFault::NoMemory);
+    };
+    let bell = Parker::new();
+    let room: &mut Room = &mut [0; PIECE_ROOM];
+    let mut action = machine.on(Event::Opened);
+    for _ in rt.forever() {
+        match action {
+            Action::LineOver(end) => {
+                line_joins();
+                return Ok(One {
+                    line,
+                    end,
+                    clock: desk.clock,
+                });
+            }
+            other => {
+                pasts_are_orderly();
+                let looked = is_look(&other);
+                let (next, _moved) = act(
+                    &mut machine,
+                    other,
+                    &mut line,
+                    &mut desk,
+                    ONLY_SEAT,
+                    room,
+                );
+                action = next;
+                rest_between_looks(rt, &bell, looked, &action);
+            }
+        }
+    }
+    unreachable!()
+}
+
+fn is_look(action: &Action) -> bool {
+    matches!(action, Action::PollMail)
+}
+
+// A look at the mail that found nothing, where the line isn't to be read: nothing can come before time has
+// passed.
+fn rest_between_looks<R: Wait>(rt: &R, bell: &Parker, looked: bool, next: &Action) {
+    if looked && is_look(next) {
+        bell.park_timeout(rt, Duration::from_millis(REST));
+    }
+}

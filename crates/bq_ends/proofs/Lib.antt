@@ -1,0 +1,2 @@
+pub mod EndLemmas
+pub mod SeatWorkLemmas

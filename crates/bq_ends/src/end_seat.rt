@@ -1,0 +1,136 @@
+//! An end of the links, as a seat and as the control line see it.
+ghost use Rattle.std.specs.Prelude.{◌≡◌, [], List};
+ghost use Rattle.std.specs.Option.{option_to_list};
+ghost use Rattle.bq_job.specs.promise.ControlDid.{IsControlDone};
+ghost use Rattle.bq_job.specs.declared.step.Step.{Step};
+ghost use Rattle.bq_attend.specs.ControlRead.{IsOver, IsReadToEnd};
+ghost use Rattle.bq_attend.specs.ControlSeen.{new_control};
+ghost use Rattle.bq_attend.specs.Links.{Submits};
+ghost use Rattle.bq_attend.specs.Tending.{GoesOn, IsPlaced, door_seen};
+ghost use Rattle.bq_link.specs.EndStates.{IsSameSeat};
+ghost use Rattle.bq_ends.specs.Ends.{EndWent};
+
+use crate::no_ticks::NoTicks;
+use bq_attend::attendant::Attendant;
+use bq_attend::client::Room;
+use bq_attend::control::{ControlLink, submit_control};
+use bq_attend::control_line::ControlInput;
+use bq_attend::link::Link;
+use bq_job::{Answer, Step};
+use bq_line::Door;
+use bq_line::line::Line;
+use bq_link::{Intake, SeatEnd};
+use std::sync::Wait;
+use std::thread;
+use std::time::Duration;
+
+/// How often an end looks whether an answer has come before it rests.
+const LOOKS: u32 = 50;
+
+/// How long an end rests whose answer hasn't come, in milliseconds. Then the line of a seat whose reserve waits is
+/// read again: a client that has gone is noticed.
+const LONGEST_REST: u64 = 100;
+
+/// The end of a seat, or of the control line, with the intake into which it submits.
+#[derive(Drop)]
+pub struct EndSeat<'a, R> {
+    rt: &'a R,
+    intake: &'a Intake<NoTicks>,
+    end: &'a mut SeatEnd,
+}
+
+impl<'a, R: Wait> Link for EndSeat<'a, R> {
+    ghost is_ready = { λ l. l.end.now.intake ≡ l.intake.now.id };
+
+    // Who drops the link knows the end by it.
+    ghost went = { λ first submitted taken last. (last.end.ghost_name ≡ first.end.ghost_name) × (last.intake ≡ first.intake)
+        × EndWent first.end.now submitted taken last.end.now };
+
+    fn submit(&mut self, step: Step) -> Result<(), Step> {
+        submit_at(self.rt, self.intake, self.end, step)
+    }
+
+    fn mail(&mut self) -> Option<Answer> {
+        mail_at(self.rt, self.intake, self.end)
+    }
+}
+
+impl<'a, R: Wait> ControlLink for EndSeat<'a, R> {
+    ghost is_ready = { λ l. l.end.now.intake ≡ l.intake.now.id };
+
+    ghost went = { λ first submitted last. (last.end.ghost_name ≡ first.end.ghost_name) × (last.intake ≡ first.intake)
+        × EndWent first.end.now submitted [] last.end.now };
+
+    fn submit(&mut self, step: Step) -> Result<(), Step> {
+        submit_at(self.rt, self.intake, self.end, step)
+    }
+}
+
+// Submits a step at an end, or hands it back where the intake is full. A tick is no seat's own, and is passed.
+fn submit_at<R: Wait>(
+    rt: &R,
+    intake: &Intake<NoTicks>,
+    end: &mut SeatEnd,
+    step: Step,
+) -> Result<(), Step>
+    requires intake { end.old.intake ≡ intake.now.id }
+    ensures intake { end.new.intake ≡ intake.now.id }
+    ensures went { Submits EndWent end.old step result end.new }
+{
+    match step {
+        Step::Tick => Ok(()),
+        other => end.submit(rt, intake, other),
+    }
+}
+
+// Takes the oldest answer that came to an end. Where there is none yet the end looks again some times, since most
+// steps are answered at once, and then it rests until its bell is rung.
+fn mail_at<R: Wait>(rt: &R, intake: &Intake<NoTicks>, end: &mut SeatEnd) -> Option<Answer>
+    ensures { EndWent end.old [] (option_to_list result) end.new }
+{
+    for _ in 0..LOOKS {
+        match end.mail() {
+            Some(answer) => return Some(answer),
+            None => thread::yield_now(),
+        }
+    }
+    end.wait(rt, intake, Duration::from_millis(LONGEST_REST));
+    end.mail()
+}
+
+/// One action of a seat that attends to a door, by its end of the links. Says whether something moved.
+pub fn attend_at<R: Wait, L: Line + Drop, D: Door<Line = L>>(
+    rt: &R,
+    intake: &Intake<NoTicks>,
+    end: &mut SeatEnd,
+    attendant: &mut Attendant<L>,
+    door: &mut D,
+    room: &mut Room,
+) -> bool
+    requires intake { end.old.intake ≡ intake.now.id }
+    requires placed { IsPlaced attendant.old.place (door_seen D.is_out D.is_at_end D.lines_over door.old) }
+    ensures same { IsSameSeat end.old end.new }
+    ensures went { let at = door_seen D.is_out D.is_at_end D.lines_over in
+        GoesOn EndWent end.old end.new L.seen attendant.old (at door.old) attendant.new (at door.new) }
+{
+    let mut link = EndSeat { rt, intake, end };
+    attendant.go_on(door, &mut link, room)
+}
+
+/// Serves the control line by its end of the links.
+pub fn control_at<R: Wait, I: ControlInput>(
+    rt: &R,
+    intake: &Intake<NoTicks>,
+    end: &mut SeatEnd,
+    control: &mut I,
+)
+    requires new { I.seen control.old ≡ new_control }
+    requires intake { end.old.intake ≡ intake.now.id }
+    ensures over { IsOver (I.seen control.new) }
+    ensures read { IsReadToEnd (I.remaining control.old) (I.remaining control.new) (I.seen control.new).text (I.seen control.new).failed }
+    ensures done { (submitted : List Step) × IsControlDone (I.seen control.new).text (I.seen control.new).failed submitted
+        × EndWent end.old submitted [] end.new }
+{
+    let mut link = EndSeat { rt, intake, end };
+    submit_control(rt, control, &mut link);
+}

@@ -1,0 +1,72 @@
+-- An end whose Gone was taken has nothing waiting.
+use Rattle.std.proofs.Common.{◌≡◌, ℕ, zero, suc, Bool, true, false, List, [], ◌∷◌, ◌++◌, map, replicate, refl, sym, ap, ◌∙◌, subst, inl, inr}
+use Rattle.bq_job.specs.declared.answer.Answer.{Answer}
+use Rattle.bq_job.specs.declared.request.Request.{Request}
+use Rattle.bq_job.specs.declared.step.Step.{Step}
+use Rattle.bq_job.specs.declared.step.Step.TheVariants as steps
+use Rattle.bq_job.specs.promise.ControlDid.{IsControlDone, drains}
+use Rattle.bq_job.specs.promise.History.{LineOver}
+use Rattle.bq_job.specs.promise.LineOwed.{IsLineOwed}
+use Rattle.bq_job.specs.beside.SeatDid.{AreLinesServed, IsSeatDone}
+use Rattle.bq_run.specs.CoreWork.{HasGone}
+
+abbrev is_gone : Step → Bool
+is_gone steps.Gone = true
+is_gone _ = false
+
+-- no step of these is Gone
+abbrev pub IsGoneless : List Step → Type 0
+IsGoneless [] = Unit {0}
+IsGoneless (step ∷ more) = (is_gone step ≡ false) × IsGoneless more
+
+goneless_both : (xs ys : List Step) → IsGoneless xs → IsGoneless ys → IsGoneless (xs ++ ys)
+goneless_both [] ys h k = k
+goneless_both (x ∷ xs) ys h k = (h.0, goneless_both xs ys h.1 k)
+
+goneless_asks : (asked : List Request) → IsGoneless (map steps.Ask asked)
+goneless_asks [] = tt
+goneless_asks (request ∷ asked) = (refl, goneless_asks asked)
+
+goneless_drains : (n : ℕ) → IsGoneless (replicate n steps.Drain)
+goneless_drains zero = tt
+goneless_drains (suc n) = (refl, goneless_drains n)
+
+goneless_line : (size : ℕ) (line : LineOver) (own : List Step) (answers : List Answer) → IsLineOwed size line own answers → IsGoneless own
+goneless_line size line own answers l =
+    let s = l.steps in
+    subst IsGoneless (sym s.steps_are) (refl, goneless_both (map steps.Ask s.asked ++ s.end_steps) (steps.Close ∷ []) (goneless_both (map steps.Ask s.asked) s.end_steps (goneless_asks s.asked) ends) (refl, tt))
+  where
+    ends : IsGoneless l.steps.end_steps
+    ends = elim l.steps.ends [
+      | inl none ↦ subst IsGoneless (sym none) tt
+      | inr one ↦ subst IsGoneless (sym one.0) (refl, tt)
+    ]
+
+goneless_lines : (size : ℕ) (lines : List LineOver) (own : List Step) (taken : List Answer) → AreLinesServed size lines own taken → IsGoneless own
+goneless_lines size [] own taken h = subst IsGoneless (sym h.0) tt
+goneless_lines size (line ∷ lines) own taken h = subst IsGoneless (sym h.5) (goneless_both h.0 h.1 (goneless_line size line h.0 h.4.own h.4.line_owed) (goneless_lines size lines h.1 h.3 h.7))
+
+-- An end says once that no more comes from it, and last of all.
+pub record EndsByGone (submitted : List Step) : Type 0 where
+  pub own : List Step
+  pub goneless : IsGoneless own
+  pub submitted_is : submitted ≡ own ++ steps.Gone ∷ []
+
+pub seat_ends_by_gone : (size : ℕ) (lines : List LineOver) (submitted : List Step) (taken : List Answer) → IsSeatDone size lines submitted taken → EndsByGone submitted
+seat_ends_by_gone size lines submitted taken d = record { own = d.own; goneless = goneless_lines size lines d.own taken d.of_lines; submitted_is = d.submitted_is }
+
+pub control_ends_by_gone : (text : List ℕ) (failed : Bool) (submitted : List Step) → IsControlDone text failed submitted → EndsByGone submitted
+control_ends_by_gone text failed submitted d = record { own = replicate (drains text failed) steps.Drain; goneless = goneless_drains (drains text failed); submitted_is = d }
+
+behind_gone : (own before after waiting : List Step) → IsGoneless own → own ++ steps.Gone ∷ [] ≡ (before ++ steps.Gone ∷ after) ++ waiting → waiting ≡ []
+behind_gone [] [] [] waiting g e = cc
+behind_gone [] [] (x ∷ after) waiting g e = absurd cc
+behind_gone [] (x ∷ []) after waiting g e = absurd cc
+behind_gone [] (x ∷ y ∷ before) after waiting g e = absurd cc
+behind_gone (o ∷ own) [] after waiting g e = let same : o ≡ steps.Gone = cc in let no : is_gone steps.Gone ≡ false = subst (λ (s : Step). is_gone s ≡ false) same g.0 in absurd cc
+behind_gone (o ∷ own) (x ∷ before) after waiting g e = behind_gone own before after waiting g.1 (let rest : own ++ steps.Gone ∷ [] ≡ (before ++ steps.Gone ∷ after) ++ waiting = cc in rest)
+
+-- Where these steps of the end were taken, among them a Gone, nothing of it waits.
+pub none_waits : (submitted taken waiting : List Step) → EndsByGone submitted → HasGone taken → submitted ≡ taken ++ waiting → waiting ≡ []
+none_waits submitted taken waiting e gone is =
+    behind_gone e.own gone.0 gone.1 waiting e.goneless (sym e.submitted_is ∙ is ∙ ap (λ (xs : List Step). xs ++ waiting) gone.2)

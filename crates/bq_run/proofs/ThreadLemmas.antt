@@ -1,0 +1,112 @@
+-- The threads of a run: their posts, their starts and what they gave back.
+use Rattle.std.proofs.Common.{◌≡◌, ℕ, zero, suc, ◌+◌, ◌<◌, Bool, true, false, Ok, List, [], ◌∷◌, ◌++◌, Some, map, length, refl, sym, ap, ◌∙◌, arith, subst, append-nil, append_assoc, slice_get, slice_index_or}
+use Rattle.std.specs.Prelude.{IsErrOf}
+use Rattle.std.specs.List.{All}
+use Rattle.std.specs.Option.{option_to_list}
+use Rattle.std.proofs.lemmas.List.{length-append}
+use Rattle.bq_attend.specs.Tending.{DoorSeen, IsDoorServed}
+use Rattle.bq_link.specs.EndStates.{CoreState, IsPair, IsSameCore, IsSameSeat, SeatState}
+use Rattle.bq_link.specs.NewEnds.{AreNewSeats}
+use Rattle.atomic_table.specs.Seated.{TableId}
+use Rattle.bq_ends.specs.Ends.{IsNewEnd}
+use Rattle.bq_run.specs.Linked.{ArePaired}
+use Rattle.bq_run.specs.Threads.{AreServed, last_first}
+
+last_comes_first : {X : Type 0} (xs : List X) (x : X) → last_first (xs ++ x ∷ []) ≡ x ∷ last_first xs
+last_comes_first [] x = refl
+last_comes_first (y ∷ xs) x = ap (λ ys. ys ++ y ∷ []) (last_comes_first xs x)
+
+mapped_push : {X Y : Type 0} (f : X → Y) (xs : List X) (x : X) → map f (xs ++ x ∷ []) ≡ map f xs ++ f x ∷ []
+mapped_push f [] x = refl
+mapped_push f (y ∷ xs) x = ap (λ ys. f y ∷ ys) (mapped_push f xs x)
+
+-- One was taken from the end of some, and one that shows the same was put behind others.
+pub moved_over : {X Y Z : Type 0} (f : X → Z) (g : Y → Z) (xs rest : List X) (x : X) (ys more : List Y) (y : Y)
+    → xs ≡ rest ++ option_to_list (Some x) → more ≡ ys ++ y ∷ [] → g y ≡ f x
+    → map g more ++ last_first (map f rest) ≡ map g ys ++ last_first (map f xs)
+moved_over {X} {Y} {Z} f g xs rest x ys more y taken put same =
+    ap (λ (zs : List Y). map g zs ++ last_first (map f rest)) put ∙ ap (λ (zs : List Z). zs ++ last_first (map f rest)) (mapped_push g ys y) ∙ append_assoc (map g ys) (g y ∷ []) (last_first (map f rest))
+    ∙ ap (λ (z : Z). map g ys ++ z ∷ last_first (map f rest)) same ∙ sym (ap (λ (zs : List X). map g ys ++ last_first (map f zs)) taken ∙ ap (λ (zs : List Z). map g ys ++ last_first zs) (mapped_push f rest x) ∙ ap (λ (zs : List Z). map g ys ++ zs) (last_comes_first (map f rest) (f x)))
+
+-- One was taken from the end of some, and was put behind others that stand from the last one on.
+pub moved_back : {X Y : Type 0} (f : X → Y) (ys rest : List Y) (y : Y) (xs more : List X) (x : X)
+    → ys ≡ rest ++ option_to_list (Some y) → more ≡ xs ++ x ∷ [] → f x ≡ y
+    → rest ++ last_first (map f more) ≡ ys ++ last_first (map f xs)
+moved_back {X} {Y} f ys rest y xs more x taken put same =
+    ap (λ (zs : List X). rest ++ last_first (map f zs)) put ∙ ap (λ (zs : List Y). rest ++ last_first zs) (mapped_push f xs x) ∙ ap (λ (zs : List Y). rest ++ zs) (last_comes_first (map f xs) (f x))
+    ∙ ap (λ (z : Y). rest ++ z ∷ last_first (map f xs)) same ∙ sym (append_assoc rest (y ∷ []) (last_first (map f xs))) ∙ ap (λ (zs : List Y). zs ++ last_first (map f xs)) (sym taken)
+
+-- One more thread was joined.
+pub served_more : {D : Type 0} (at : D → DoorSeen) (size : ℕ) (firsts lasts : List SeatState) (doors : List D) (first last : SeatState) (door : D)
+    → AreServed at size firsts lasts doors → IsSameSeat first last → IsDoorServed size (at door) last.submitted last.taken
+    → AreServed at size (firsts ++ first ∷ []) (lasts ++ last ∷ []) (doors ++ door ∷ [])
+served_more at size [] [] [] first last door h same served = ((same, served), tt)
+served_more at size [] [] (d ∷ ds) first last door h same served = absurd h
+served_more at size [] (e ∷ es) ds first last door h same served = absurd h
+served_more at size (f ∷ fs) [] ds first last door h same served = absurd h
+served_more at size (f ∷ fs) (e ∷ es) [] first last door h same served = absurd h
+served_more at size (f ∷ fs) (e ∷ es) (d ∷ ds) first last door h same served = (h.0, served_more at size fs es ds first last door h.1 same served)
+
+pub joined_first : {X Y : Type 0} (f : X → Y) (firsts : List Y) (xs rest : List X) (x : X) → xs ≡ x ∷ rest → (firsts ++ f x ∷ []) ++ map f rest ≡ firsts ++ map f xs
+joined_first {X} f firsts xs rest x e = append_assoc firsts (f x ∷ []) (map f rest) ∙ ap (λ (zs : List X). firsts ++ map f zs) (sym e)
+
+-- as many ends came back as threads were started
+pub lasts_many : {D : Type 0} (at : D → DoorSeen) (size : ℕ) (firsts lasts : List SeatState) (doors : List D) → AreServed at size firsts lasts doors → (length lasts ≡ length firsts) × (length doors ≡ length firsts)
+lasts_many at size [] [] [] h = (refl, refl)
+lasts_many at size [] [] (d ∷ ds) h = absurd h
+lasts_many at size [] (e ∷ es) ds h = absurd h
+lasts_many at size (f ∷ fs) [] ds h = absurd h
+lasts_many at size (f ∷ fs) (e ∷ es) [] h = absurd h
+lasts_many at size (f ∷ fs) (e ∷ es) (d ∷ ds) h = let more = lasts_many at size fs es ds h.1 in (ap suc more.0, ap suc more.1)
+
+-- each end that came back is the one that went to its thread, that of the control line behind the others
+same_at : {D : Type 0} (at : D → DoorSeen) (size : ℕ) (firsts lasts : List SeatState) (doors : List D) (first last : SeatState) → AreServed at size firsts lasts doors → IsSameSeat first last
+    → (place : ℕ) (d : SeatState) → place < length (lasts ++ last ∷ []) → IsSameSeat (slice_index_or (firsts ++ first ∷ []) place d) (slice_index_or (lasts ++ last ∷ []) place d)
+same_at at size [] [] [] first last h same zero d below = same
+same_at at size [] [] [] first last h same (suc place) d below = absurd (omega (arith, below))
+same_at at size [] [] (x ∷ xs) first last h same place d below = absurd h
+same_at at size [] (e ∷ es) ds first last h same place d below = absurd h
+same_at at size (f ∷ fs) [] ds first last h same place d below = absurd h
+same_at at size (f ∷ fs) (e ∷ es) [] first last h same place d below = absurd h
+same_at at size (f ∷ fs) (e ∷ es) (x ∷ xs) first last h same zero d below = h.0.0
+same_at at size (f ∷ fs) (e ∷ es) (x ∷ xs) first last h same (suc place) d below = same_at at size fs es xs first last h.1 same place d (omega (arith, below))
+
+pub back_paired : {D : Type 0} (at : D → DoorSeen) (size : ℕ) (core core_last : CoreState) (all firsts lasts : List SeatState) (doors : List D) (first last : SeatState)
+    → AreNewSeats core all → firsts ++ first ∷ [] ≡ all → AreServed at size firsts lasts doors → IsSameSeat first last → IsSameCore core core_last
+    → ArePaired core_last (lasts ++ last ∷ [])
+back_paired at size core core_last all firsts lasts doors first last new whole served same same_core place d below =
+    let new' : AreNewSeats core (firsts ++ first ∷ []) = subst (λ (xs : List SeatState). AreNewSeats core xs) (sym whole) new in
+    let within : place < length (firsts ++ first ∷ []) = let m = (lasts_many at size firsts lasts doors served).0 in omega (arith, below, length-append firsts (first ∷ []), length-append lasts (last ∷ [])) in
+    let n = new' place d within in
+    let s = same_at at size firsts lasts doors first last served same place d below in
+    (s.0 ∙ n.number, (same_core.0 ∙ n.pair.0 ∙ sym s.1, (λ i. slice_get (same_core.1 i) (s.0 i)) ∙ n.pair.1 ∙ ap Some (sym s.2)))
+
+-- each door was served by the end at its place
+pub served_at : {D : Type 0} (at : D → DoorSeen) (size : ℕ) (firsts lasts : List SeatState) (doors : List D) (last : SeatState) → AreServed at size firsts lasts doors
+    → (place : ℕ) (d : D) (e : SeatState) → place < length doors
+    → IsDoorServed size (at (slice_index_or doors place d)) (slice_index_or (lasts ++ last ∷ []) place e).submitted (slice_index_or (lasts ++ last ∷ []) place e).taken
+served_at at size [] [] [] last h place d e below = absurd (omega (arith, below))
+served_at at size [] [] (x ∷ xs) last h place d e below = absurd h
+served_at at size [] (y ∷ es) ds last h place d e below = absurd h
+served_at at size (f ∷ fs) [] ds last h place d e below = absurd h
+served_at at size (f ∷ fs) (y ∷ es) [] last h place d e below = absurd h
+served_at at size (f ∷ fs) (y ∷ es) (x ∷ xs) last h zero d e below = h.0.1
+served_at at size (f ∷ fs) (y ∷ es) (x ∷ xs) last h (suc place) d e below = served_at at size fs es xs last h.1 place d e (omega (arith, below))
+
+pub last_at : (lasts : List SeatState) (last e : SeatState) → slice_index_or (lasts ++ last ∷ []) (length lasts) e ≡ last
+last_at [] last e = refl
+last_at (x ∷ lasts) last e = last_at lasts last e
+
+-- New ends come from the intake of the core's, and nothing was done at them.
+pub new_intakes : (core : CoreState) (all : List SeatState) (intake : TableId) → AreNewSeats core all → core.intake ≡ intake → All (λ (e : SeatState). e.intake ≡ intake) all
+new_intakes core all intake new is place d below = let n = new place d below in sym n.pair.0 ∙ is
+
+pub new_ends : (core : CoreState) (all : List SeatState) → AreNewSeats core all → All (λ (e : SeatState). IsNewEnd e) all
+new_ends core all new place d below = let n = new place d below in record { submitted = n.submitted; taken = n.taken; waiting = n.waiting }
+
+-- what went well is no fault
+pub no_fault : {T E : Type 0} (t : T) (fault : E) → IsErrOf {T = T} {E = E} (Ok t) fault → ⊥
+no_fault t fault e = absurd cc
+
+pub never : false ≡ true → ⊥
+never e = absurd cc

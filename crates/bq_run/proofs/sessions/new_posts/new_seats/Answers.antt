@@ -1,0 +1,21 @@
+use Rattle.std.proofs.Common.{◌≡◌, ◌-◌, ◌∙◌, vec_len, List, subst, sym, arith}
+use Rattle.std.specs.List.{All}
+use Rattle.std.proofs.lemmas.List.Elements.{All-take}
+use Rattle.bq_attend.specs.Tending.{IsNewDoor, door_seen}
+use Rattle.bq_ends.specs.Ends.{IsNewEnd}
+use Rattle.bq_start.proofs.ListLemmas.{all_pushed, all_taken}
+use Rattle.bq_run.proofs.ThreadLemmas.{moved_back}
+use Rattle.bq_run.proofs.sessions.new_posts.new_seats.Goals as goal
+
+pub loop-door-preserved : goal.loop-door-preserved
+loop-door-preserved g c =
+    let at = door_seen g.D.Door.is_out g.D.Door.is_at_end g.D.Door.lines_over in
+    let i = c.loop-door.invariant in
+    record {
+      many = let h = i.many in let e = c.in-Some.ensures.len in let f = c.in-Some-pop.ensures.len in omega arith;
+      limits = all_pushed c.loop-door.posts.items _ c.in_ok-post.post (λ p. p.max_job_size ≡ c.args.max_job_size) c.in-Ok-push.ensures.items i.limits c.in_ok-post.ensures.limit;
+      of_intake = all_taken (vec_len c.loop-door.ends - 1) c.loop-door.ends.items _ (λ e. e.intake ≡ c.args.intake.now.id) c.pop-in-Some.ensures.rest i.of_intake;
+      new_ends = all_taken (vec_len c.loop-door.ends - 1) c.loop-door.ends.items _ (λ e. IsNewEnd e) c.pop-in-Some.ensures.rest i.new_ends;
+      new = all_taken (vec_len c.loop-door.doors - 1) c.loop-door.doors.items _ (λ d. IsNewDoor (at d)) c.pop.ensures.rest i.new;
+      whole = moved_back (λ p. p.end) c.loop-door.ends.items _ c.in-Some-pop.end c.loop-door.posts.items _ c.in_ok-post.post c.in-Some-pop.ensures.items c.in-Ok-push.ensures.items c.in_ok-post.ensures.end ∙ i.whole;
+    }

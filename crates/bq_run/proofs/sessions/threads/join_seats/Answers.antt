@@ -1,0 +1,27 @@
+use Rattle.std.proofs.Common.{◌≡◌, ◌++◌, ◌∙◌, ◌∷◌, []}
+use Rattle.bq_attend.specs.Tending.{door_seen}
+use Rattle.bq_start.proofs.ListLemmas.{first_passes, rest_passes}
+use Rattle.bq_run.proofs.ThreadLemmas.{joined_first, served_more}
+use Rattle.bq_run.proofs.sessions.threads.join_seats.Goals as goal
+
+pub loop-thread-preserved : goal.loop-thread-preserved
+loop-thread-preserved g c =
+    let at = door_seen g.D.Door.is_out g.D.Door.is_at_end g.D.Door.lines_over in
+    let size = c.args.max_job_size in
+    let limits = c.loop-thread.invariant.limits in
+    let before = c.loop-thread.invariant.served in
+    let step = c.in-Some.ensures.steps in
+    let limit = first_passes c.loop-thread.thread-iterator.rest.items _ c.in-Some.thread (λ t. t.promise.max_job_size ≡ size) step.0 limits in
+    let here = rw (c.in-Some-join.is, limit) at c.join.ensures in
+    let end = c.in-Some-join.end in
+    let door = c.in-Some-join.door in
+    let first = c.in-Some.thread.promise.end.value in
+    record {
+      limits = rest_passes c.loop-thread.thread-iterator.rest.items _ c.in-Some.thread (λ t. t.promise.max_job_size ≡ size) step.0 limits;
+      served = (
+        before.0 ++ first ∷ [],
+        joined_first (λ t. t.promise.end.value) before.0 c.loop-thread.thread-iterator.rest.items _ c.in-Some.thread step.0 ∙ before.1,
+        rw (c.in-Ok-Ok.ensures.items, c.in-Ok-Ok.ensures'.items)
+            (served_more at size before.0 c.loop-thread.ends.items c.loop-thread.doors.items first end door before.2 here.0 here.1),
+      );
+    }

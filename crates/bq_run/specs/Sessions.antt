@@ -1,0 +1,22 @@
+-- What a run over doors comes to.
+use Rattle.std.specs.Prelude.{ℕ, ◌≡◌, ◌||◌, IsTrue, List, Option, map}
+use Rattle.bq_job.specs.declared.settings.Settings.{Settings}
+use Rattle.bq_job.specs.promise.Headline.{IsHistoryOf}
+use Rattle.bq_job.specs.promise.History.{LineOver}
+use Rattle.bq_attend.specs.ControlRead.{IsReadToEnd}
+use Rattle.bq_run.specs.Linked.{IsLinked}
+use Rattle.bq_run.specs.declared.sessions.Run.{Run}
+
+-- The run came from this clock and this control line. The clock gave these readings. The control line was read to
+-- its end or until it failed, and what was read of it, and which of the two it was, it tells itself. And one
+-- history of that and of the lines that are over at the doors leads to the machine that the core stands for. The
+-- core took its steps, but for ticks, by its end of the links; each other end submitted those that the history has
+-- of it, and was sent what the run gave it.
+pub record IsRunOf {D C I : Type 0} (given : C → List (Option ℕ) → C → Type 0) (lines_over : D → List LineOver) (left : I → Option (List ℕ)) (config : Settings) (clock : C) (control : I) (run : Run D C I) : Type 0 where
+  pub readings : List (Option ℕ)
+  pub gave : given clock readings run.clock
+  pub over : IsTrue (run.control.ended || run.control.failed)
+  pub read : IsReadToEnd (left control) (left run.control.reader) run.control.read run.control.failed
+  pub history : IsHistoryOf config (map lines_over run.doors.items) run.control.read run.control.failed readings run.core.machine
+  pub linked : IsLinked config.seats history.history history.given run.core_end run.ends.items
+  pub of_intake : run.core_end.intake ≡ run.intake.id

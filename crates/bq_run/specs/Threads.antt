@@ -1,0 +1,37 @@
+-- What the threads of a run come to.
+use Rattle.std.specs.Prelude.{ℕ, ◌||◌, IsTrue, List, [], ◌∷◌, ◌++◌, Option}
+use Rattle.bq_job.specs.declared.settings.Settings.{Settings}
+use Rattle.bq_job.specs.promise.ControlDid.{IsControlDone}
+use Rattle.bq_job.specs.machine.Machine.{Machine}
+use Rattle.bq_attend.specs.ControlRead.{IsReadToEnd}
+use Rattle.bq_attend.specs.Tending.{DoorSeen, IsDoorServed}
+use Rattle.bq_attend.specs.declared.control_line.ControlLine.{ControlLine}
+use Rattle.bq_link.specs.EndStates.{CoreState, IsSameCore, IsSameSeat, SeatState}
+use Rattle.bq_run.specs.CoreWork.{IsCoreDone}
+
+-- The seats' threads are over, in the order of their seats: each has the end that it began with, and served its
+-- door to its end.
+abbrev pub AreServed : {D : Type 0} → (D → DoorSeen) → ℕ → List SeatState → List SeatState → List D → Type 0
+AreServed at max_job_size [] [] [] = Unit {0}
+AreServed at max_job_size (first ∷ firsts) (last ∷ lasts) (door ∷ doors) =
+    (IsSameSeat first last × IsDoorServed max_job_size (at door) last.submitted last.taken) × AreServed at max_job_size firsts lasts doors
+AreServed at max_job_size _ _ _ = ⊥
+
+-- The core's thread is over.
+pub record IsCoreOver {C : Type 0} (gives : C → List (Option ℕ) → C → Type 0) (settings : Settings) (first : CoreState) (clock : C) (last : CoreState) (machine : Machine) (after : C) : Type 0 where
+  pub same : IsSameCore first last
+  pub readings : List (Option ℕ)
+  pub gave : gives clock readings after
+  pub done : IsCoreDone settings readings last machine
+
+-- The control line was read to its end or until it failed.
+pub record IsControlOver {I : Type 0} (left : I → Option (List ℕ)) (first : SeatState) (control : I) (last : SeatState) (after : ControlLine I) : Type 0 where
+  pub same : IsSameSeat first last
+  pub over : IsTrue (after.ended || after.failed)
+  pub read : IsReadToEnd (left control) (left after.reader) after.read after.failed
+  pub done : IsControlDone after.read after.failed last.submitted
+
+-- the same from the last one on
+abbrev pub last_first : {X : Type 0} → List X → List X
+last_first [] = []
+last_first (x ∷ xs) = last_first xs ++ x ∷ []

@@ -1,0 +1,119 @@
+//! Many doors, each of which a thread of its own serves.
+ghost use Rattle.std.specs.Prelude.{◌≡◌, ◌↔◌, ◌++◌, ◌∷◌, ◌&&◌, ◌==◌, [], false, true, not, map, IfOk, IsErrOf, IsTrue, vec_len};
+ghost use Rattle.std.specs.List.{All};
+ghost use Rattle.bq_core.specs.Limits.{are_in_range};
+ghost use Rattle.bq_attend.specs.Tending.{IsNewDoor, door_seen};
+ghost use Rattle.bq_run.specs.Sessions.{IsRunOf};
+
+use bq_attend::control_line::ControlLine;
+use bq_core::{Config, Core};
+use bq_ends::NoTicks;
+use bq_job::steps_keep_settings;
+use bq_line::Door;
+use bq_line::clock::Clock;
+use bq_line::line::Line;
+use bq_link::{CoreEnd, Intake, SeatEnd, links};
+use bq_start::{RunFault, Start};
+use new_posts::{NewCore, new_posts};
+use posts::Ended;
+use settle::settle;
+use std::alloc::Global;
+use std::io::BufRead;
+use std::sync::Wait;
+use std::thread::Threads;
+use threads::serve_in_scope;
+
+mod core_post;
+mod new_posts;
+mod posts;
+mod seat_post;
+mod settle;
+mod threads;
+
+/// A run over doors that is over: the doors with their lines, the clock and the control line as they were
+/// left, the core, and the links between them.
+#[derive(Drop)]
+pub struct Run<D, C, I> {
+    pub doors: Vec<D, Global>,
+    pub clock: C,
+    pub control: ControlLine<I>,
+    pub core: Core,
+    /// What all ends shared.
+    pub intake: Intake<NoTicks>,
+    pub core_end: CoreEnd,
+    /// The ends in the order of their numbers, that of the control line behind those of the seats.
+    pub ends: Vec<SeatEnd, Global>,
+}
+
+/// Serves the lines of all doors, each at a seat and in a thread of its own, until no more lines come at any
+/// of them. The core has a thread too. The calling thread reads the control line, of which each line `drain`
+/// begins draining.
+///
+/// The fault is `BadConfiguration` where the configuration is out of its ranges or there isn't a door for
+/// each seat, and else `NoMemory` where a growth of memory was refused, or `ThreadRefused` where a thread was.
+/// With any fault no door was opened, and the doors are given up.
+pub fn run_sessions<
+    R: Threads + Wait + Sync,
+    L: Line + Drop + Send,
+    D: Door<Line = L> + Drop + Send,
+    C: Clock + Drop + Send,
+    I: BufRead + Drop,
+>(
+    rt: &R,
+    alloc: Global,
+    config: Config,
+    doors: Vec<D, Global>,
+    clock: C,
+    control: I,
+) -> Result<Run<D, C, I>, RunFault>
+    // No line is out or over at any door, and none is at its end.
+    requires new { All (λ door. IsNewDoor (door_seen D.is_out D.is_at_end D.lines_over door)) doors.items }
+    // There is one history of all clients' steps and those of the control line, each at the moment of a
+    // reading of the clock. The one-list machine takes it, the core stands for the machine after it, and each
+    // line was written exactly what it is owed along it. It is what the ends of the links submitted and took.
+    ensures served { IfOk result (IsRunOf C.given D.lines_over I.remaining config clock control) }
+    ensures at_end { IfOk result (λ run. All (λ door. (D.is_out door ≡ false) × (D.is_at_end door ≡ true)) run.doors.items) }
+    // The core can go on.
+    ensures settings { IfOk result (λ run. run.core.machine.settings ≡ config) }
+    ensures bad_configuration { IsErrOf result RunFault.BadConfiguration
+        ↔ IsTrue (not (are_in_range config && vec_len doors == config.seats)) }
+{
+    if doors.len() != usize::from(config.seats) {
+        return Err(RunFault::BadConfiguration);
+    }
+    let new = NewCore::new(alloc, config)?;
+    let Ok((intake, core_end, ends)) = links::<NoTicks>(alloc, config.seats) else {
+        return Err(RunFault::NoMemory);
+    };
+    let Ok(posts) = new_posts(alloc, config, &intake, new, core_end, ends, doors, clock) else {
+        return Err(RunFault::NoMemory);
+    };
+    let start = Start::new();
+    let ended = match serve_in_scope(rt, alloc, posts, &start, control) {
+        Ok(ended) => ended,
+        Err(fault) => return Err(fault),
+    };
+    let Ended {
+        mut ends,
+        doors,
+        mut core_end,
+        core,
+        clock,
+        control_end,
+        control,
+    } = ended;
+    let Ok(()) = ends.push(control_end) else {
+        return Err(RunFault::NoMemory);
+    };
+    settle(&intake, &mut core_end, ends.as_mut_slice());
+    steps_keep_settings();
+    Ok(Run {
+        doors,
+        clock,
+        control,
+        core,
+        intake,
+        core_end,
+        ends,
+    })
+}

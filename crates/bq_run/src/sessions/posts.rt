@@ -1,0 +1,44 @@
+//! What the threads of a run begin with, and what they give back.
+ghost use Rattle.std.specs.Prelude.{◌≡◌};
+ghost use Rattle.std.specs.List.{All};
+ghost use Rattle.bq_ends.specs.Ends.{IsNewEnd};
+
+use crate::sessions::core_post::CorePost;
+use crate::sessions::seat_post::SeatPost;
+use bq_attend::control_line::ControlLine;
+use bq_core::Core;
+use bq_ends::NoTicks;
+use bq_line::Door;
+use bq_link::{CoreEnd, Intake, SeatEnd};
+use std::alloc::Global;
+
+/// The control line's end of the links, at which nothing was done.
+#[derive(Drop)]
+pub struct ControlPost<'a> {
+    pub intake: &'a Intake<NoTicks>,
+    pub end: SeatEnd,
+    ghost of_intake: { end.intake ≡ intake.now.id },
+    ghost new_end: { IsNewEnd end },
+}
+
+/// The posts of a run. Those of the seats stand from the last one on, and have one limit of bodies.
+#[derive(Drop)]
+pub struct Posts<'a, D: Door, C> {
+    pub seats: Vec<SeatPost<'a, D>, Global>,
+    pub core: CorePost<'a, C>,
+    pub control: ControlPost<'a>,
+    pub max_job_size: u32,
+    ghost limits: { All (λ post. post.max_job_size ≡ max_job_size) seats.items },
+}
+
+/// What the threads of a run gave back. The ends and the doors stand in the order of their seats.
+#[derive(Drop)]
+pub struct Ended<D, C, I> {
+    pub ends: Vec<SeatEnd, Global>,
+    pub doors: Vec<D, Global>,
+    pub core_end: CoreEnd,
+    pub core: Core,
+    pub clock: C,
+    pub control_end: SeatEnd,
+    pub control: ControlLine<I>,
+}

@@ -1,0 +1,81 @@
+//! A seat with its door and its end of the links, which a thread of its own serves.
+ghost use Rattle.std.specs.Prelude.{◌≡◌, IfOk, IfSome, IsTrue};
+ghost use Rattle.bq_core.specs.Limits.{is_body_size};
+ghost use Rattle.bq_seat.specs.Past.{Awaited};
+ghost use Rattle.bq_seat.specs.SeatStands.{awaited};
+ghost use Rattle.bq_attend.specs.Tending.{IsDoorServed, IsNewDoor, door_seen};
+ghost use Rattle.bq_link.specs.EndStates.{IsSameSeat};
+ghost use Rattle.bq_ends.specs.Ends.{IsNewEnd};
+
+use bq_ends::NoTicks;
+use bq_ends::seat_work::seat_work;
+use bq_job::NoMemory;
+use bq_line::Door;
+use bq_line::line::Line;
+use bq_link::{Intake, SeatEnd};
+use bq_seat::SeatMachine;
+use bq_start::Start;
+use std::alloc::Global;
+use std::sync::Wait;
+
+/// A seat, its door and its end, at none of which anything was done.
+#[derive(Drop)]
+pub struct SeatPost<'a, D: Door> {
+    intake: &'a Intake<NoTicks>,
+    pub end: SeatEnd,
+    machine: SeatMachine,
+    door: D,
+    pub max_job_size: u32,
+    ghost of_intake: { end.intake ≡ intake.now.id },
+    ghost new_end: { IsNewEnd end },
+    ghost limit: { machine.reader.max_job_size ≡ max_job_size },
+    ghost waits: { awaited machine ≡ Awaited.ALine },
+    ghost new_door: { IsNewDoor (door_seen D.is_out D.is_at_end D.lines_over door) },
+}
+
+impl<'a, L: Line + Drop, D: Door<Line = L> + Drop> SeatPost<'a, D> {
+    /// A post at this end. All memory but that for bodies is asked for here.
+    pub fn new(
+        alloc: Global,
+        max_job_size: u32,
+        intake: &'a Intake<NoTicks>,
+        end: SeatEnd,
+        door: D,
+    ) -> Result<SeatPost<'a, D>, NoMemory>
+        requires size { IsTrue (is_body_size max_job_size) }
+        requires of_intake { end.intake ≡ intake.now.id }
+        requires new_end { IsNewEnd end }
+        requires new { IsNewDoor (door_seen D.is_out D.is_at_end D.lines_over door) }
+        ensures end { IfOk result (λ post. post.end ≡ end) }
+        ensures limit { IfOk result (λ post. post.max_job_size ≡ max_job_size) }
+    {
+        let machine = SeatMachine::new(alloc, max_job_size)?;
+        Ok(SeatPost {
+            intake,
+            end,
+            machine,
+            door,
+            max_job_size,
+        })
+    }
+
+    /// Serves the door to its end, and gives it back with the end. Where some thread was not started there is
+    /// nothing: the door was not opened.
+    pub fn serve<R: Wait>(self, rt: &R, start: &Start) -> Option<(SeatEnd, D)>
+        ensures { let at = door_seen D.is_out D.is_at_end D.lines_over in
+            IfSome result (λ r. IsSameSeat self.entry.end r.0 × IsDoorServed self.entry.max_job_size (at r.1) r.0.submitted r.0.taken) }
+    {
+        let SeatPost {
+            intake,
+            end,
+            machine,
+            door,
+            max_job_size: _,
+        } = self;
+        if start.wait(rt) {
+            Some(seat_work(rt, intake, end, machine, door))
+        } else {
+            None
+        }
+    }
+}

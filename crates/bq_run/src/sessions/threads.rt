@@ -1,0 +1,245 @@
+//! The threads of a run: they start together or not at all, and give back what they served.
+ghost use Rattle.std.specs.Prelude.{◌≡◌, ◌++◌, [], IfOk, IfSome, IsErrOf, IsTrue, map, vec_len};
+ghost use Rattle.std.specs.List.{All};
+ghost use Rattle.bq_attend.specs.Tending.{IsDoorServed, door_seen};
+ghost use Rattle.bq_link.specs.EndStates.{IsSameSeat};
+ghost use Rattle.bq_run.specs.Threads.{AreServed, IsControlOver, IsCoreOver, last_first};
+
+use crate::sessions::core_post::CorePost;
+use crate::sessions::posts::{ControlPost, Ended, Posts};
+use crate::sessions::seat_post::SeatPost;
+use bq_attend::control_line::ControlLine;
+use bq_core::{Config, Core};
+use bq_ends::control_work::control_work;
+use bq_job::NoMemory;
+use bq_line::Door;
+use bq_line::clock::Clock;
+use bq_line::line::Line;
+use bq_link::{CoreEnd, SeatEnd};
+use bq_start::{RunFault, Start};
+use std::alloc::Global;
+use std::io::BufRead;
+use std::snapshot::Snapshot;
+use std::sync::Wait;
+use std::thread;
+use std::thread::{Promise, PromisedHandle, Scope, Threads};
+
+// That a door was served to its end by an end of the links, where its thread began.
+#[derive(Drop)]
+struct SeatPromise {
+    end: Snapshot<SeatEnd>,
+    max_job_size: u32,
+}
+
+impl<D: Door> Promise<Option<(SeatEnd, D)>> for SeatPromise {
+    ghost kept_by = { λ p result. let at = door_seen D.is_out D.is_at_end D.lines_over in
+        IfSome result (λ r. IsSameSeat p.end.value r.0 × IsDoorServed p.max_job_size (at r.1) r.0.submitted r.0.taken) };
+}
+
+// What the core did, where its thread began.
+#[derive(Drop)]
+struct CorePromise<C> {
+    end: Snapshot<CoreEnd>,
+    clock: Snapshot<C>,
+    settings: Config,
+}
+
+impl<C: Clock> Promise<Option<(CoreEnd, Core, C)>> for CorePromise<C> {
+    ghost kept_by = { λ p result. IfSome result (λ r. IsCoreOver C.given p.settings p.end.value p.clock.value r.0 r.1.machine r.2) };
+}
+
+/// Serves all posts, those of the seats and the core each in a thread of its own, and the control line in this
+/// one. The threads begin once all of them were started.
+pub fn serve_in_scope<
+    R: Threads + Wait + Sync,
+    L: Line + Drop + Send,
+    D: Door<Line = L> + Drop + Send,
+    C: Clock + Drop + Send,
+    I: BufRead + Drop,
+>(
+    rt: &R,
+    alloc: Global,
+    posts: Posts<'_, D, C>,
+    start: &Start,
+    control: I,
+) -> Result<Ended<D, C, I>, RunFault>
+    ensures fault { IsErrOf result RunFault.BadConfiguration → ⊥ }
+    ensures served { let at = door_seen D.is_out D.is_at_end D.lines_over in
+        let firsts = last_first (map (λ p. p.end) posts.entry.seats.items) in
+        IfOk result (λ r. AreServed at posts.entry.max_job_size firsts r.ends.items r.doors.items) }
+    ensures core { let core = posts.entry.core in
+        IfOk result (λ r. IsCoreOver C.given core.config core.end core.clock r.core_end r.core.machine r.clock) }
+    ensures control { IfOk result (λ r. IsControlOver I.remaining posts.entry.control.end control r.control_end r.control) }
+{
+    thread::scope(
+        thread::scope_env(),
+        rt,
+        move |scope| -> Result<Ended<D, C, I>, RunFault>
+            ensures fault { IsErrOf result RunFault.BadConfiguration → ⊥ }
+            ensures served { let at = door_seen D.is_out D.is_at_end D.lines_over in
+                let firsts = last_first (map (λ p. p.end) posts.entry.seats.items) in
+                IfOk result (λ r. AreServed at posts.entry.max_job_size firsts r.ends.items r.doors.items) }
+            ensures core { let core = posts.entry.core in
+                IfOk result (λ r. IsCoreOver C.given core.config core.end core.clock r.core_end r.core.machine r.clock) }
+            ensures control { IfOk result (λ r. IsControlOver I.remaining posts.entry.control.end control r.control_end r.control) }
+        { serve_all(scope, rt, alloc, posts, start, control) },
+    )
+}
+
+// The same, in the scope of the threads.
+fn serve_all<
+    's,
+    E,
+    R: Threads + Wait + Sync,
+    L: Line + Drop + Send + 's,
+    D: Door<Line = L> + Drop + Send + 's,
+    C: Clock + Drop + Send + 's,
+    I: BufRead + Drop,
+>(
+    scope: &'s Scope<'s, E>,
+    rt: &'s R,
+    alloc: Global,
+    posts: Posts<'s, D, C>,
+    start: &'s Start,
+    control: I,
+) -> Result<Ended<D, C, I>, RunFault>
+    ensures fault { IsErrOf result RunFault.BadConfiguration → ⊥ }
+    ensures served { let at = door_seen D.is_out D.is_at_end D.lines_over in
+        let firsts = last_first (map (λ p. p.end) posts.entry.seats.items) in
+        IfOk result (λ r. AreServed at posts.entry.max_job_size firsts r.ends.items r.doors.items) }
+    ensures core { let core = posts.entry.core in
+        IfOk result (λ r. IsCoreOver C.given core.config core.end core.clock r.core_end r.core.machine r.clock) }
+    ensures control { IfOk result (λ r. IsControlOver I.remaining posts.entry.control.end control r.control_end r.control) }
+{
+    let Posts {
+        seats,
+        core,
+        control: control_post,
+        max_job_size,
+    } = posts;
+    let count = seats.len();
+    let (Ok(mut threads), Ok(doors), Ok(ends)) = (
+        Vec::with_capacity(alloc, count),
+        Vec::with_capacity(alloc, count),
+        Vec::with_capacity(alloc, count + 1),
+    ) else {
+        return Err(RunFault::NoMemory);
+    };
+    let Ok(core_thread) = start_core(scope, rt, core, start) else {
+        return Err(RunFault::ThreadRefused);
+    };
+    let all_started = start_seats(scope, rt, seats, start, max_job_size, &mut threads);
+    start.tell(rt, all_started);
+    if !all_started {
+        // The scope waits for those that were.
+        return Err(RunFault::ThreadRefused);
+    }
+    let (control_end, control) = serve_control(rt, control_post, control);
+    let (ends, doors) = join_seats(rt, threads, ends, doors, max_job_size)?;
+    let Some((core_end, core, clock)) = core_thread.join(rt) else {
+        return Err(RunFault::ThreadRefused);
+    };
+    Ok(Ended {
+        ends,
+        doors,
+        core_end,
+        core,
+        clock,
+        control_end,
+        control,
+    })
+}
+
+fn serve_control<R: Wait, I: BufRead + Drop>(
+    rt: &R,
+    post: ControlPost<'_>,
+    control: I,
+) -> (SeatEnd, ControlLine<I>)
+    ensures { IsControlOver I.remaining post.entry.end control result.0 result.1 }
+{
+    let ControlPost { intake, end } = post;
+    control_work(rt, intake, end, control)
+}
+
+// Starts the thread of the core.
+fn start_core<'s, E, R: Threads + Wait + Sync, C: Clock + Drop + Send + 's>(
+    scope: &'s Scope<'s, E>,
+    rt: &'s R,
+    post: CorePost<'s, C>,
+    start: &'s Start,
+) -> Result<PromisedHandle<Option<(CoreEnd, Core, C)>, CorePromise<C>>, NoMemory>
+    ensures settings { IfOk result (λ thread. thread.promise.settings ≡ post.entry.config) }
+    ensures end { IfOk result (λ thread. thread.promise.end.value ≡ post.entry.end) }
+    ensures clock { IfOk result (λ thread. thread.promise.clock.value ≡ post.entry.clock) }
+{
+    let promise = CorePromise {
+        end: Snapshot::of(&post.end),
+        clock: Snapshot::of(&post.clock),
+        settings: post.config,
+    };
+    match scope.spawn_with(promise, move || post.serve(rt, start)) {
+        Ok(thread) => Ok(thread),
+        Err(_) => Err(NoMemory),
+    }
+}
+
+// Whether a thread was started for each seat.
+fn start_seats<
+    's,
+    E,
+    R: Threads + Wait + Sync,
+    L: Line + Drop + Send + 's,
+    D: Door<Line = L> + Drop + Send + 's,
+>(
+    scope: &'s Scope<'s, E>,
+    rt: &'s R,
+    mut posts: Vec<SeatPost<'s, D>, Global>,
+    start: &'s Start,
+    max_job_size: u32,
+    threads: &mut Vec<PromisedHandle<Option<(SeatEnd, D)>, SeatPromise>, Global>,
+) -> bool
+    requires none { vec_len threads.old ≡ 0 }
+    requires limits { All (λ post. post.max_job_size ≡ max_job_size) posts.items }
+    ensures ends { IsTrue result → map (λ t. t.promise.end.value) threads.new.items ≡ last_first (map (λ p. p.end) posts.entry.items) }
+    ensures limits { IsTrue result → All (λ t. t.promise.max_job_size ≡ max_job_size) threads.new.items }
+{
+    while let Some(post) = posts.pop() {
+        let promise = SeatPromise {
+            end: Snapshot::of(&post.end),
+            max_job_size: post.max_job_size,
+        };
+        let Ok(thread) = scope.spawn_with(promise, move || post.serve(rt, start)) else {
+            return false;
+        };
+        let Ok(()) = threads.push(thread) else {
+            return false;
+        };
+    }
+    true
+}
+
+// Waits for the threads of all seats. Their ends and doors come behind one another, for which there is room.
+fn join_seats<R: Threads, D: Door + Drop + Send>(
+    rt: &R,
+    threads: Vec<PromisedHandle<Option<(SeatEnd, D)>, SeatPromise>, Global>,
+    mut ends: Vec<SeatEnd, Global>,
+    mut doors: Vec<D, Global>,
+    max_job_size: u32,
+) -> Result<(Vec<SeatEnd, Global>, Vec<D, Global>), RunFault>
+    requires no_ends { ends.items ≡ [] }
+    requires no_doors { doors.items ≡ [] }
+    requires limits { All (λ t. t.promise.max_job_size ≡ max_job_size) threads.items }
+    ensures fault { IsErrOf result RunFault.BadConfiguration → ⊥ }
+    ensures served { let at = door_seen D.is_out D.is_at_end D.lines_over in
+        IfOk result (λ r. AreServed at max_job_size (map (λ t. t.promise.end.value) threads.items) r.0.items r.1.items) }
+{
+    for thread in threads {
+        let Some((end, door)) = thread.join(rt) else {
+            return Err(RunFault::ThreadRefused);
+        };
+        let (Ok(()), Ok(())) = (ends.push(end), doors.push(door)) else {
+            return Err(RunFault::NoMemory);
+        };
+    }
+    Ok((ends, doors))
+}
