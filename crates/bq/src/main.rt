@@ -1,7 +1,7 @@
 //! Serves one client of the work queue over standard input and output.
 #![tactic(auto)]
 
-use bq_cli::{Console, run_bq};
+use bq_session::{Console, run_bq};
 use std::process::ExitCode;
 
 fn main(rt: HostRuntime) -> ExitCode {

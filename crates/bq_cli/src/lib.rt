@@ -1,22 +1,8 @@
 //! What the programs are made of: the session of a lone client, the server, what each tells whoever started
-//! it, and what is chosen for them, which `bq_options` reads out of the words of their command lines.
+//! it, and what is chosen for them. Each program stands on the crate of its own alone.
 #![tactic(auto)]
 
 pub use bq_options::{OptionFault, Program};
-pub use chosen::Options;
-pub use command_line::options;
-pub use console::Console;
-pub use fault::{Fault, Stop};
-pub use programs::{run_bq, run_bqd};
-pub use server::{serve, serve_doors};
-pub use session::{Served, serve_client};
-pub use told::tell_fault;
-
-mod chosen;
-mod command_line;
-mod console;
-mod fault;
-mod programs;
-mod server;
-mod session;
-mod told;
+pub use bq_program::{Fault, Options, Stop, options, tell_fault};
+pub use bq_server::{run_bqd, serve, serve_doors};
+pub use bq_session::{Console, Served, run_bq, serve_client};

@@ -4,10 +4,9 @@ use Rattle.bq_job.specs.declared.line_end.LineEnd.{LineEnd}
 use Rattle.bq_job.specs.declared.line_end.LineEnd.TheVariants as ends
 use Rattle.bq_options.specs.declared.chosen.OptionFault.{OptionFault}
 use Rattle.bq_options.specs.declared.chosen.OptionFault.TheVariants as words
-use Rattle.bq_cli.specs.declared.fault.Fault.{Fault}
-use Rattle.bq_cli.specs.declared.fault.Stop.{Stop}
-use Rattle.bq_cli.specs.declared.fault.Stop.TheVariants as stops
-use Rattle.bq_cli.specs.declared.session.Served.{Served}
+use Rattle.bq_program.specs.declared.fault.Fault.{Fault}
+use Rattle.bq_program.specs.declared.fault.Stop.{Stop}
+use Rattle.bq_program.specs.declared.fault.Stop.TheVariants as stops
 
 -- A client's line is over.
 abbrev pub status_of_end : LineEnd → ℕ
@@ -30,8 +29,3 @@ IsStatusOfOptionFault words.NoMemory status = status ≡ 1
 abbrev pub IsStatusOfStop : Stop → ℕ → Type 0
 IsStatusOfStop (stops.Options fault) status = IsStatusOfOptionFault fault status
 IsStatusOfStop (stops.Fault fault) status = status ≡ 1
-
--- what came of the client that a program serves
-abbrev pub IsStatusOfClient : {S : Type 0} → Result (Served S) Stop → ℕ → Type 0
-IsStatusOfClient (Ok served) status = status ≡ status_of_end served.end
-IsStatusOfClient (Err stop) status = IsStatusOfStop stop status

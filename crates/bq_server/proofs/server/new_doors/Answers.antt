@@ -3,7 +3,7 @@ use Rattle.std.specs.List.{All}
 use Rattle.bq_attend.specs.Tending.{IsNewDoor}
 use Rattle.bq_line.specs.declared.door.tcp_door.TcpDoor.{TcpDoor}
 use Rattle.bq_start.proofs.ListLemmas.{all_more}
-use Rattle.bq_cli.proofs.server.new_doors.Goals as goal
+use Rattle.bq_server.proofs.server.new_doors.Goals as goal
 
 IsNew : {R : Type 0} → TcpDoor R → Type 0
 IsNew d = IsNewDoor (record { is_out = d.is_out; is_at_end = d.is_at_end; lines_over = d.over })

@@ -2,18 +2,15 @@
 ghost use Rattle.std.specs.Prelude.{◌≡◌, ◌≤◌, IfErr, IfOk, false, true};
 ghost use Rattle.std.specs.List.{All, list_any};
 ghost use Rattle.bq_attend.specs.Tending.{IsNewDoor, door_seen};
-ghost use Rattle.bq_cli.specs.Servers.{came_of_run};
-ghost use Rattle.bq_cli.specs.Sessions.{settings_of};
+ghost use Rattle.bq_server.specs.Servers.{came_of_run, settings_of};
 ghost use Rattle.bq_run.specs.Sessions.{IsRunOf};
 
-use crate::chosen::Options;
-use crate::fault::Fault;
-use crate::told::tell_server;
 use bq_core::Config;
 use bq_job::NoMemory;
 use bq_line::clock::MachineClock;
 use bq_line::{Door, TcpDoor, clock};
 use bq_options::BqdOptions;
+use bq_program::{Fault, Options, tell_server};
 use bq_run::{Run, run_sessions};
 use bq_start::RunFault;
 use std::alloc::Global;

@@ -6,14 +6,8 @@ use Rattle.bq_job.specs.promise.LineSteps.{LineSeen}
 use Rattle.bq_job.specs.declared.settings.Settings.{Settings}
 use Rattle.bq_options.specs.Ranges.{IsForBq}
 use Rattle.bq_options.specs.declared.chosen.BqOptions.{BqOptions}
-use Rattle.bq_cli.specs.declared.chosen.Options.{Options}
 
--- what the options say to a run of many clients
-abbrev pub settings_of : Options → Settings
-settings_of options = record
-    { seats = options.seats; max_job_size = options.max_job_size; max_jobs = options.max_jobs; requeue_delay = options.requeue_delay }
-
--- and to that of a lone one, no job of which waits once its connection is lost
+-- what the options say to the run of a lone client, no job of whom waits once his connection is lost
 abbrev pub settings_of_bq : BqOptions → Settings
 settings_of_bq options = record { seats = 1; max_job_size = options.max_job_size; max_jobs = options.max_jobs; requeue_delay = 0 }
 

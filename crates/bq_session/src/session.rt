@@ -1,15 +1,15 @@
 //! All that `bq` does for its client, on any stream: from its words to how the client's line is over.
 ghost use Rattle.std.specs.Prelude.{◌≡◌, ◌≢◌, IfErr, IfOk};
-ghost use Rattle.bq_cli.specs.Sessions.{IsSession, IsSessionFor, settings_of_bq};
+ghost use Rattle.bq_session.specs.Sessions.{IsSession, IsSessionFor, settings_of_bq};
 ghost use Rattle.bq_options.specs.Ranges.{IsForBq};
 
-use crate::fault::{Fault, Stop};
 use bq_core::Config;
 use bq_desk::run_one;
 use bq_job::LineEnd;
 use bq_line::clock::{Clock, MachineClock, ScriptClock};
 use bq_line::line::{IoLine, Line, ReadNow};
 use bq_options::{BqOptions, bq_options};
+use bq_program::{Fault, Stop};
 use std::alloc::{AllocError, Global};
 use std::convert::AsStr;
 use std::io::Write;

@@ -1,6 +1,6 @@
 //! The options in the words of either program.
 ghost use Rattle.std.specs.Prelude.{IfOk};
-ghost use Rattle.bq_cli.specs.Chosen.{AreInRange};
+ghost use Rattle.bq_program.specs.Chosen.{AreInRange};
 
 use crate::chosen::Options;
 use bq_options::{OptionFault, Program, bq_options, bqd_options};

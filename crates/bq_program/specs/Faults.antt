@@ -2,8 +2,8 @@
 use Rattle.std.specs.Prelude.{ℕ, List, Option, Some, None, codes}
 use Rattle.bq_job.specs.declared.line_end.LineEnd.{LineEnd}
 use Rattle.bq_job.specs.declared.line_end.LineEnd.TheVariants as ends
-use Rattle.bq_cli.specs.declared.fault.Fault.{Fault}
-use Rattle.bq_cli.specs.declared.fault.Fault.TheVariants as faults
+use Rattle.bq_program.specs.declared.fault.Fault.{Fault}
+use Rattle.bq_program.specs.declared.fault.Fault.TheVariants as faults
 use Rattle.bq_start.specs.declared.fault.RunFault.{RunFault}
 use Rattle.bq_start.specs.declared.fault.RunFault.TheVariants as runs
 

@@ -1,6 +1,6 @@
 use Rattle.std.specs.List.{All}
 use Rattle.bq_attend.specs.Tending.{IsNewDoor}
-use Rattle.bq_cli.proofs.server.new_doors.Given as goal
+use Rattle.bq_server.proofs.server.new_doors.Given as goal
 
 abbrev pub invariant-loop : goal.invariant-loop
 invariant-loop g l = All (λ d. IsNewDoor (record { is_out = d.is_out; is_at_end = d.is_at_end; lines_over = d.over })) l.doors.items

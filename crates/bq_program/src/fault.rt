@@ -1,6 +1,6 @@
 //! Why a program ends otherwise than well, and its status then.
 ghost use Rattle.std.specs.Prelude.{◌≡◌, option_map};
-ghost use Rattle.bq_cli.specs.Faults.{fault_of_end, fault_of_run, fault_text};
+ghost use Rattle.bq_program.specs.Faults.{fault_of_end, fault_of_run, fault_text};
 
 use bq_job::LineEnd;
 use bq_options::OptionFault;
@@ -51,7 +51,7 @@ impl From<RunFault> for Fault {
 }
 
 /// Which fault it is that a client's line was over in this way.
-pub(crate) fn fault_of_end(end: LineEnd) -> Option<Fault>
+pub fn fault_of_end(end: LineEnd) -> Option<Fault>
     ensures { result ≡ fault_of_end end }
 {
     match end {

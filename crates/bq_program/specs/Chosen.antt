@@ -5,7 +5,7 @@ use Rattle.bq_options.specs.declared.chosen.BqOptions.{BqOptions}
 use Rattle.bq_options.specs.declared.chosen.BqdOptions.{BqdOptions}
 use Rattle.bq_options.specs.declared.chosen.Program.{Program}
 use Rattle.bq_options.specs.declared.chosen.Program.TheVariants.{Bq, Bqd}
-use Rattle.bq_cli.specs.declared.chosen.Options.{Options}
+use Rattle.bq_program.specs.declared.chosen.Options.{Options}
 
 -- A lone client has one seat, nobody listens, and no job waits once its connection is lost.
 abbrev pub of_bq : BqOptions → Options

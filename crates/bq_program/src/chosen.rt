@@ -1,6 +1,6 @@
 //! What is chosen for either program, in one form.
 ghost use Rattle.std.specs.Prelude.{◌≡◌};
-ghost use Rattle.bq_cli.specs.Chosen.{of_bq, of_bqd};
+ghost use Rattle.bq_program.specs.Chosen.{of_bq, of_bqd};
 
 use bq_options::{BqOptions, BqdOptions};
 

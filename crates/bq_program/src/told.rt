@@ -1,11 +1,9 @@
 //! What a program tells whoever started it: a status, and beside it a text on one of its streams. No clause
 //! sees what was written there.
 ghost use Rattle.std.specs.Prelude.{◌≡◌};
-ghost use Rattle.bq_cli.specs.Statuses.{IsStatusOfClient, IsStatusOfOptionFault, IsStatusOfStop, status_of_end, status_of_server};
+ghost use Rattle.bq_program.specs.Statuses.{IsStatusOfOptionFault, IsStatusOfStop, status_of_server};
 
-use crate::fault::{Fault, Stop, fault_of_end};
-use crate::session::Served;
-use bq_job::LineEnd;
+use crate::fault::{Fault, Stop};
 use bq_options::{OptionFault, Program};
 use std::io::{Eprint, Print};
 
@@ -36,7 +34,7 @@ fn tell_option_fault<R: Print + Eprint>(rt: &R, program: Program, fault: &Option
 }
 
 /// Tells why the program stops: its status.
-pub(crate) fn tell_stop<R: Print + Eprint>(rt: &R, program: Program, stop: &Stop) -> u8
+pub fn tell_stop<R: Print + Eprint>(rt: &R, program: Program, stop: &Stop) -> u8
     ensures { IsStatusOfStop stop.now result }
 {
     match stop {
@@ -45,28 +43,8 @@ pub(crate) fn tell_stop<R: Print + Eprint>(rt: &R, program: Program, stop: &Stop
     }
 }
 
-// Tells how the line of a client was over.
-fn tell_end<R: Eprint>(rt: &R, end: LineEnd) -> u8
-    ensures { result ≡ status_of_end end }
-{
-    match fault_of_end(end) {
-        None => 0,
-        Some(fault) => tell_fault(rt, Program::Bq, fault),
-    }
-}
-
-/// Tells what came of a client: the status of `bq`.
-pub(crate) fn tell_client<R: Print + Eprint, S>(rt: &R, came: &Result<Served<S>, Stop>) -> u8
-    ensures { IsStatusOfClient came.now result }
-{
-    match came {
-        Ok(served) => tell_end(rt, served.end),
-        Err(stop) => tell_stop(rt, Program::Bq, stop),
-    }
-}
-
 /// Tells what came of a server that listened: the status of `bqd`.
-pub(crate) fn tell_server<R: Eprint>(rt: &R, came: Result<(), Fault>) -> u8
+pub fn tell_server<R: Eprint>(rt: &R, came: Result<(), Fault>) -> u8
     ensures { result ≡ status_of_server came }
 {
     match came {

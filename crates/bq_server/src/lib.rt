@@ -1,0 +1,8 @@
+//! The program `bqd`: the server.
+#![tactic(auto)]
+
+pub use program::run_bqd;
+pub use server::{serve, serve_doors};
+
+mod program;
+mod server;

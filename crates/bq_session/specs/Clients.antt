@@ -1,0 +1,10 @@
+-- The status of a program that serves a client.
+use Rattle.std.specs.Prelude.{ℕ, ◌≡◌, Result, Ok, Err}
+use Rattle.bq_program.specs.Statuses.{IsStatusOfStop, status_of_end}
+use Rattle.bq_program.specs.declared.fault.Stop.{Stop}
+use Rattle.bq_session.specs.declared.session.Served.{Served}
+
+-- what came of the client that a program serves
+abbrev pub IsStatusOfClient : {S : Type 0} → Result (Served S) Stop → ℕ → Type 0
+IsStatusOfClient (Ok served) status = status ≡ status_of_end served.end
+IsStatusOfClient (Err stop) status = IsStatusOfStop stop status

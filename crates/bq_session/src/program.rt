@@ -1,0 +1,46 @@
+//! The session of a lone client as a program, from the words of its command line to its status.
+ghost use Rattle.std.specs.Prelude.{IfOk, Result};
+ghost use Rattle.bq_program.specs.declared.fault.Stop.{Stop};
+ghost use Rattle.bq_session.specs.Clients.{IsStatusOfClient};
+ghost use Rattle.bq_session.specs.Sessions.{IsSessionFor};
+ghost use Rattle.bq_session.specs.declared.session.Served.{Served};
+
+use crate::session::{Served, serve_client};
+use crate::told::tell_client;
+use bq_line::clock::MachineClock;
+use bq_line::line::{IoLine, Line, ReadNow};
+use bq_program::{Stop, words};
+use std::io::{Eprint, Print, Write};
+use std::rt::{Clock, Env};
+use std::sync::Wait;
+
+/// All that `bq` does: it serves the client at the other end of the stream, as the program's words choose, and
+/// tells what came of it. It returns the status of the program.
+pub fn run_bq<R: AllocGlobal + Env + Wait + Clock + Print + Eprint, S: ReadNow + Write + Drop>(
+    rt: &R,
+    stream: S,
+) -> u8
+    // The status is that of what came of the client. One that was served has the promise of `serve_client`.
+    ensures { (came : Result (Served S) Stop)
+        × IfOk came (λ served. IsSessionFor (⟦<IoLine<S> as Line>⟧.seen served.line) served.end)
+        × IsStatusOfClient came result }
+{
+    let came = came_of_client(rt, stream);
+    tell_client(rt, &came)
+}
+
+fn came_of_client<R: AllocGlobal + Env + Wait + Clock, S: ReadNow + Write + Drop>(
+    rt: &R,
+    stream: S,
+) -> Result<Served<S>, Stop>
+    ensures { IfOk result (λ served. IsSessionFor (⟦<IoLine<S> as Line>⟧.seen served.line) served.end) }
+{
+    let words = words(rt)?;
+    serve_client(
+        rt,
+        rt.alloc(),
+        words.as_slice(),
+        stream,
+        MachineClock::new(rt),
+    )
+}

@@ -1,0 +1,30 @@
+//! What is told of a client that was served.
+ghost use Rattle.std.specs.Prelude.{◌≡◌};
+ghost use Rattle.bq_program.specs.Statuses.{status_of_end};
+ghost use Rattle.bq_session.specs.Clients.{IsStatusOfClient};
+
+use crate::session::Served;
+use bq_job::LineEnd;
+use bq_options::Program;
+use bq_program::{Stop, fault_of_end, tell_fault, tell_stop};
+use std::io::{Eprint, Print};
+
+// Tells how the line of a client was over.
+fn tell_end<R: Eprint>(rt: &R, end: LineEnd) -> u8
+    ensures { result ≡ status_of_end end }
+{
+    match fault_of_end(end) {
+        None => 0,
+        Some(fault) => tell_fault(rt, Program::Bq, fault),
+    }
+}
+
+/// Tells what came of a client: the status of `bq`.
+pub(crate) fn tell_client<R: Print + Eprint, S>(rt: &R, came: &Result<Served<S>, Stop>) -> u8
+    ensures { IsStatusOfClient came.now result }
+{
+    match came {
+        Ok(served) => tell_end(rt, served.end),
+        Err(stop) => tell_stop(rt, Program::Bq, stop),
+    }
+}
