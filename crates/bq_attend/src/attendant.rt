@@ -65,6 +65,7 @@ impl<L: Line + Drop> Attendant<L> {
     /// again at the next turn.
     pub fn go_on<D: Door<Line = L>, K: Link>(
         &mut self,
+        alloc: Global,
         door: &mut D,
         link: &mut K,
         room: &mut Room,
@@ -79,7 +80,7 @@ impl<L: Line + Drop> Attendant<L> {
         ensures same { (first : D) → D.same first door.old → D.same first door.new }
     {
         let place = mem::replace(&mut self.place, Place::Done);
-        let (place, moved) = turn(&mut self.machine, place, door, link, room);
+        let (place, moved) = turn(alloc, &mut self.machine, place, door, link, room);
         self.place = place;
         moved
     }
@@ -87,6 +88,7 @@ impl<L: Line + Drop> Attendant<L> {
 
 // One action of a seat that is at this place, where it is then, and whether something moved.
 fn turn<L: Line + Drop, D: Door<Line = L>, K: Link>(
+    alloc: Global,
     machine: &mut SeatMachine,
     place: Place<L>,
     door: &mut D,
@@ -101,13 +103,13 @@ fn turn<L: Line + Drop, D: Door<Line = L>, K: Link>(
     ensures same { (first : D) → D.same first door.old → D.same first door.new }
 {
     match place {
-        Place::Between => (open_line(machine, door), true),
+        Place::Between => (open_line(alloc, machine, door), true),
         Place::On(line, action) => match action {
             Action::LineOver(end) => {
                 shut_line(door, line, end);
                 (Place::Between, true)
             }
-            other => act(machine, line, other, link, room),
+            other => act(alloc, machine, line, other, link, room),
         },
         Place::Leaving => leave(link),
         Place::Done => (Place::Done, false),
@@ -115,7 +117,11 @@ fn turn<L: Line + Drop, D: Door<Line = L>, K: Link>(
 }
 
 // The next line is opened, or no more come.
-fn open_line<L: Line + Drop, D: Door<Line = L>>(machine: &mut SeatMachine, door: &mut D) -> Place<L>
+fn open_line<L: Line + Drop, D: Door<Line = L>>(
+    alloc: Global,
+    machine: &mut SeatMachine,
+    door: &mut D,
+) -> Place<L>
     requires inside { D.is_out door.old ≡ false }
     requires more { D.is_at_end door.old ≡ false }
     ensures opened { result ≡ Place.Between → ⊥ }
@@ -124,7 +130,7 @@ fn open_line<L: Line + Drop, D: Door<Line = L>>(machine: &mut SeatMachine, door:
     ensures same { (first : D) → D.same first door.old → D.same first door.new }
 {
     match door.open() {
-        Ok(Some(line)) => Place::On(line, machine.on(Event::Opened)),
+        Ok(Some(line)) => Place::On(line, machine.on(alloc, Event::Opened)),
         Ok(None) => Place::Leaving,
         Err(_) => Place::Leaving,
     }
@@ -143,6 +149,7 @@ fn shut_line<L: Line + Drop, D: Door<Line = L>>(door: &mut D, line: L, end: Line
 
 // An action of the line that is out.
 fn act<L: Line + Drop, K: Link>(
+    alloc: Global,
     machine: &mut SeatMachine,
     mut line: L,
     action: Action,
@@ -155,7 +162,7 @@ fn act<L: Line + Drop, K: Link>(
         → GoesOn K.went link.old link.new L.seen (attendant machine.old (Place.On line action)) door (attendant machine.new result.0) door }
 {
     pasts_are_orderly();
-    let (next, moved) = carry_out(machine, action, &mut line, link, room);
+    let (next, moved) = carry_out(alloc, machine, action, &mut line, link, room);
     (Place::On(line, next), moved)
 }
 

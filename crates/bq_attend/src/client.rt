@@ -11,6 +11,7 @@ use crate::link::Link;
 use bq_job::Answer;
 use bq_line::line::{Line, is_nothing_yet};
 use bq_seat::{Action, Event, PIECE_ROOM, SeatMachine};
+use std::alloc::Global;
 use std::io;
 
 /// Room for one read of a line. It is made once a run, since a new one would be filled with zeros first.
@@ -22,6 +23,7 @@ pub type Room = [u8; PIECE_ROOM];
 /// It also says whether something moved. Nothing did where a step was handed back, no mail was there, or the
 /// line had no bytes yet: then the same may be tried again, after a rest.
 pub fn carry_out<L: Line, K: Link>(
+    alloc: Global,
     machine: &mut SeatMachine,
     action: Action,
     line: &mut L,
@@ -34,31 +36,36 @@ pub fn carry_out<L: Line, K: Link>(
 {
     match action {
         Action::Submit(step) => match link.submit(step) {
-            Ok(()) => (machine.on(Event::Submitted), true),
+            Ok(()) => (machine.on(alloc, Event::Submitted), true),
             Err(step) => (Action::Submit(step), false),
         },
-        Action::Read => read(machine, line, room),
+        Action::Read => read(alloc, machine, line, room),
         Action::PollMail => match link.mail() {
-            Some(answer) => (machine.on(Event::Mail(answer)), true),
-            None => (machine.on(Event::NothingYet), false),
+            Some(answer) => (machine.on(alloc, Event::Mail(answer)), true),
+            None => (machine.on(alloc, Event::NothingYet), false),
         },
-        Action::Write(answer) => (write(machine, &answer, line), true),
+        Action::Write(answer) => (write(alloc, machine, &answer, line), true),
         Action::LineOver(end) => (Action::LineOver(end), false),
         Action::Stray => (Action::Stray, false),
     }
 }
 
-fn read<L: Line>(machine: &mut SeatMachine, line: &mut L, room: &mut Room) -> (Action, bool)
+fn read<L: Line>(
+    alloc: Global,
+    machine: &mut SeatMachine,
+    line: &mut L,
+    room: &mut Room,
+) -> (Action, bool)
     ensures { Carried machine.old (L.seen line.old) Action.Read machine.new (L.seen line.new) result.0 [] [] }
 {
     match read_line(machine, line, room) {
-        Ok(0) => (machine.on(Event::EndOfInput), true),
-        Ok(count) => (machine.on(Event::Bytes(&room[..count])), true),
+        Ok(0) => (machine.on(alloc, Event::EndOfInput), true),
+        Ok(count) => (machine.on(alloc, Event::Bytes(&room[..count])), true),
         Err(e) => {
             if is_nothing_yet(&e) {
-                (machine.on(Event::NothingYet), false)
+                (machine.on(alloc, Event::NothingYet), false)
             } else {
-                (machine.on(Event::ReadFault), true)
+                (machine.on(alloc, Event::ReadFault), true)
             }
         }
     }
@@ -76,12 +83,12 @@ fn read_line<L: Line>(machine: &SeatMachine, line: &mut L, room: &mut Room) -> i
     }
 }
 
-fn write<L: Line>(machine: &mut SeatMachine, answer: &Answer, line: &mut L) -> Action
+fn write<L: Line>(alloc: Global, machine: &mut SeatMachine, answer: &Answer, line: &mut L) -> Action
     ensures { Carried machine.old (L.seen line.old) (Action.Write answer.now) machine.new (L.seen line.new) result [] [] }
 {
     if write_answer(line, answer) {
-        machine.on(Event::WriteDone)
+        machine.on(alloc, Event::WriteDone)
     } else {
-        machine.on(Event::WriteFault)
+        machine.on(alloc, Event::WriteFault)
     }
 }

@@ -22,7 +22,6 @@ use std::marker::Model;
 #[derive(Drop)]
 pub struct Core {
     state: State,
-    alloc: Global,
 }
 
 impl Model for Core {
@@ -116,13 +115,12 @@ impl Core {
         };
         Ok(Core {
             state: state::first_state(config, seats, tubes),
-            alloc,
         })
     }
 
     /// Takes a step: what happens at a seat, at a moment in milliseconds. `outs` then holds the answers in
     /// their order. Any moment, seat and step is accepted.
-    pub fn step(&mut self, at: Moment, seat: Seat, what: Step, outs: &mut Outs)
+    pub fn step(&mut self, alloc: Global, at: Moment, seat: Seat, what: Step, outs: &mut Outs)
         requires room { self.old.machine.settings.seats < outs.old.most }
         ensures step { IsStep self.old.machine at seat what (record { left_out = outs.new.left_out; unshared = outs.new.unshared }) outs.new.given self.new.machine }
         ensures comparisons { IsStepWithin self.old.machine at seat what (record { left_out = outs.new.left_out; unshared = outs.new.unshared }) outs.new.given self.new.machine self.old.comparisons self.new.comparisons }
@@ -130,7 +128,7 @@ impl Core {
         ensures most { outs.new.most ≡ outs.old.most }
         ensures settings { self.new.machine.settings ≡ self.old.machine.settings }
     {
-        take_step(&mut self.state, self.alloc, at, seat, what, outs);
+        take_step(&mut self.state, alloc, at, seat, what, outs);
     }
 
     /// The comparisons of keys among the jobs so far. The count stops at 2^64 - 1.

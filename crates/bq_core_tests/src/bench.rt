@@ -10,6 +10,7 @@ use std::test::Fail;
 /// A core and its answers.
 #[derive(Drop)]
 pub(crate) struct Bench {
+    alloc: Global,
     core: Core,
     outs: Outs,
 }
@@ -47,11 +48,11 @@ impl Bench {
     pub(crate) fn of(alloc: Global, config: Config) -> Result<Bench, Fail> {
         let core = Core::new(alloc, config)?;
         let outs = Outs::new(alloc, config.seats)?;
-        Ok(Bench { core, outs })
+        Ok(Bench { alloc, core, outs })
     }
 
     pub(crate) fn step(&mut self, at: Moment, seat: Seat, what: Step) {
-        self.core.step(at, seat, what, &mut self.outs);
+        self.core.step(self.alloc, at, seat, what, &mut self.outs);
     }
 
     /// The client at the seat asks, at the first moment.

@@ -15,6 +15,8 @@ use std::alloc::Global;
 /// What serves all seats.
 #[derive(Drop)]
 pub struct Desk<C> {
+    /// For the steps that may ask for memory.
+    pub alloc: Global,
     pub core: Core,
     pub outs: Outs,
     /// An answer that found its mail full.
@@ -56,6 +58,7 @@ impl<C: Clock + Drop> Desk<C> {
             return Err(RunFault::NoMemory);
         };
         Ok(Desk {
+            alloc,
             core,
             outs,
             held: None,
@@ -118,7 +121,8 @@ impl<C: Clock + Drop> Desk<C> {
         };
         self.hear();
         if due <= self.heard {
-            self.core.step(self.heard, seat, Step::Tick, &mut self.outs);
+            self.core
+                .step(self.alloc, self.heard, seat, Step::Tick, &mut self.outs);
         }
     }
 
@@ -172,7 +176,8 @@ impl<C: Clock + Drop> Desk<C> {
         ensures went { WentAt C.given seat self.old (as_submitted what) [] self.new }
     {
         self.hear();
-        self.core.step(self.heard, seat, what, &mut self.outs);
+        self.core
+            .step(self.alloc, self.heard, seat, what, &mut self.outs);
     }
 
     // Reads the clock once. The moment heard last follows the reading, which is answered.

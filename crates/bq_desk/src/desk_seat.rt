@@ -51,6 +51,7 @@ pub fn act<L: Line, C: Clock + Drop>(
     ensures mails { HasMails (state_of desk.new) }
     ensures carried { (submitted : List Step) × (taken : List Answer) × WentAt C.given seat desk.old submitted taken desk.new × Carried machine.old (L.seen line.old) action machine.new (L.seen line.new) result.0 submitted taken }
 {
+    let alloc = desk.alloc;
     let mut link = DeskSeat { desk, seat };
-    carry_out(machine, action, line, &mut link, room)
+    carry_out(alloc, machine, action, line, &mut link, room)
 }

@@ -60,7 +60,7 @@ pub fn run_one<R: Wait, L: Line + Drop, C: Clock + Drop>(
     };
     let bell = Parker::new();
     let room: &mut Room = &mut [0; PIECE_ROOM];
-    let mut action = machine.on(Event::Opened);
+    let mut action = machine.on(alloc, Event::Opened);
     for _ in rt.forever() {
         match action {
             Action::LineOver(end) => {

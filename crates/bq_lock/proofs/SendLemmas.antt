@@ -21,7 +21,7 @@ journal_sends : IsSend (Journal.the_field).row
 journal_sends = search (entry_sends, Crossing.crosses, sendable) depth 60 fits 20000
 
 locked_sends : IsSend (Locked.the_field).row
-locked_sends = search (core_sends, outs_sends, outboxes_sends, journal_sends, sendable) depth 60 fits 20000
+locked_sends = search (core_sends, outs_sends, outboxes_sends, journal_sends, Crossing.crosses, sendable) depth 60 fits 20000
 
 pub desk_sends : (C : RattleType) → IsSend C → IsSend (LockedDesk.the_row C)
 desk_sends C s =

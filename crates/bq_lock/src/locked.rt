@@ -23,6 +23,7 @@ use std::marker::Model;
 /// is given when it is made; with none, nothing is done for it.
 #[derive(Drop)]
 pub struct Locked {
+    alloc: Global,
     core: Core,
     outs: Outs,
     outboxes: Outboxes,
@@ -68,6 +69,7 @@ impl Locked {
             return Err(RunFault::NoMemory);
         };
         Ok(Locked {
+            alloc,
             core,
             outs,
             outboxes,
@@ -85,7 +87,7 @@ impl Locked {
         ensures holds { IsLawfulHold self.new }
     {
         let copy = self.journal.copy(&what);
-        self.core.step(at, seat, what, &mut self.outs);
+        self.core.step(self.alloc, at, seat, what, &mut self.outs);
         self.outboxes.deliver(&mut self.outs);
         self.journal
             .note(at, seat, copy, self.outs.left_out(), self.outs.unshared());

@@ -24,6 +24,7 @@ use std::thread;
 /// A seat and its door, on neither of which anything was done.
 #[derive(Drop)]
 pub struct Post<L: Line + Drop, D: Door<Line = L>> {
+    alloc: Global,
     seat: Seat,
     pub max_job_size: u32,
     attendant: Attendant<L>,
@@ -52,6 +53,7 @@ impl<L: Line + Drop, D: Door<Line = L> + Drop> Post<L, D> {
     {
         let attendant = Attendant::new(alloc, max_job_size)?;
         Ok(Post {
+            alloc,
             seat,
             max_job_size,
             attendant,
@@ -72,6 +74,7 @@ impl<L: Line + Drop, D: Door<Line = L> + Drop> Post<L, D> {
         ensures same { IfSome result (D.same self.door) }
     {
         let Post {
+            alloc,
             seat,
             max_job_size: _,
             mut attendant,
@@ -92,7 +95,7 @@ impl<L: Line + Drop, D: Door<Line = L> + Drop> Post<L, D> {
             if attendant.is_done() {
                 return Some(door);
             }
-            if !attendant.go_on(&mut door, &mut link, room) {
+            if !attendant.go_on(alloc, &mut door, &mut link, room) {
                 thread::yield_now();
             }
         }

@@ -125,9 +125,9 @@ impl Bench {
     }
 
     // What the client asks by a line of these words.
-    fn asked(&mut self, words: &str) -> Option<Step> {
-        let _ = self.reader.feed(words.as_bytes());
-        let (_, request) = self.reader.feed(b"\r\n");
+    fn asked(&mut self, alloc: Global, words: &str) -> Option<Step> {
+        let _ = self.reader.feed(alloc, words.as_bytes());
+        let (_, request) = self.reader.feed(alloc, b"\r\n");
         Some(Step::Ask(request?))
     }
 
@@ -135,15 +135,15 @@ impl Bench {
         match does {
             Does::Connects => Some(Step::Connect),
             Does::Puts(delay) => put(alloc, delay),
-            Does::Asks(words) => self.asked(words),
+            Does::Asks(words) => self.asked(alloc, words),
             Does::SendsNoMore => Some(Step::End),
             Does::Closes => Some(Step::Close),
             Does::Rests => Some(Step::Tick),
         }
     }
 
-    fn step(&mut self, at: Moment, seat: Seat, what: Step) {
-        self.core.step(at, seat, what, &mut self.outs);
+    fn step(&mut self, alloc: Global, at: Moment, seat: Seat, what: Step) {
+        self.core.step(alloc, at, seat, what, &mut self.outs);
     }
 
     // Tells the answers of the last step. There are two at most.
@@ -186,7 +186,7 @@ fn tell_rows<R: Print>(rt: &R, alloc: Global, bench: &mut Bench, rows: &[Row]) -
         };
         let words = does.words();
         println!(rt; "step {words}")?;
-        bench.step(*at, *seat, step);
+        bench.step(alloc, *at, *seat, step);
         println!(rt; "taken")?;
         bench.tell_answers(rt)?;
     }

@@ -21,6 +21,7 @@ use Rattle.bq_start.proofs.start.Start.TheSendSync as StartSync
 use Rattle.bq_start.specs.contracts.start.Start as Start
 use Rattle.bq_run.proofs.core_work.room.CoreRoom.TheSendSync as CoreRoom
 use Rattle.bq_run.specs.contracts.sessions.core_post.CorePost as CorePost
+use Rattle.std.proofs.Crossing as Crossing
 use Rattle.std.specs.contracts.option.Option as Option
 
 config_sends : IsSend (Settings.the_field).row
@@ -32,7 +33,7 @@ core_row_sends = core_sends
 pub post_sends : (κ : NamedLft) (C : RattleType) → IsSend C → IsSend (CorePost.the_row κ C)
 post_sends κ C s =
     let O = CorePost.the_type κ C in
-    let all : AllSend (fields O) = (search (Intake.the_sync, sendable), (CoreEnd.the_send, (config_sends, (core_sends, (outs_sends, (CoreRoom.the_field_send, (s, tt))))))) in
+    let all : AllSend (fields O) = (search (Crossing.crosses, sendable), (search (Intake.the_sync, sendable), (CoreEnd.the_send, (config_sends, (core_sends, (outs_sends, (CoreRoom.the_field_send, (s, tt)))))))) in
     recorded_send (Struct (shape O)) O.D O.to O.to_one (struct_send (shape O) all)
 
 -- what the thread begins with, beside the run's handle and the start,

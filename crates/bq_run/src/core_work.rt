@@ -17,6 +17,7 @@ use bq_core::{Core, Outs};
 use bq_ends::NoTicks;
 use bq_line::clock::Clock;
 use bq_link::{CoreEnd, Intake};
+use std::alloc::Global;
 use std::sync::Wait;
 
 /// The core takes the steps that come by its end of the links, and ticks where something is due, until no end has
@@ -26,6 +27,7 @@ use std::sync::Wait;
 /// and others are served meanwhile; so many can be kept as there are ends.
 pub fn core_work<R: Wait, C: Clock + Drop>(
     rt: &R,
+    alloc: Global,
     intake: &Intake<NoTicks>,
     end: CoreEnd,
     core: Core,
@@ -42,7 +44,7 @@ pub fn core_work<R: Wait, C: Clock + Drop>(
     ensures end { IsSameCore end result.0 }
     ensures ran { RanToEnd C.given core.machine.settings clock result.0 result.1.machine result.2 }
 {
-    let mut hub = Hub::new(end, core, outs, room, clock);
+    let mut hub = Hub::new(alloc, end, core, outs, room, clock);
     for _ in rt.forever() {
         if hub.turn(rt, intake) {
             return hub.into_parts();

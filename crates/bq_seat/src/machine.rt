@@ -114,14 +114,14 @@ impl SeatMachine {
     ///
     /// An event that doesn't answer the last action changes nothing, and the action is `Stray`. At most
     /// 4,096 bytes are handed in at once.
-    pub fn on(&mut self, event: Event<'_>) -> Action
+    pub fn on(&mut self, alloc: Global, event: Event<'_>) -> Action
         requires { FitsPiece event }
         // It is stray exactly where it doesn't answer the last action, and then nothing changes. Each past
         // of the line that the machine stands for goes on by this event and this action, finds the action
         // and says what is looked at next; where the line is over it was served.
         ensures { IsMove self.old event.entry result self.new }
     {
-        self.answered(event)
+        self.answered(alloc, event)
     }
 
     /// Whether a request waits for its answer while the line is read. Where it does, a read that waits would
@@ -135,19 +135,19 @@ impl SeatMachine {
         }
     }
 
-    fn answered(&mut self, event: Event<'_>) -> Action
+    fn answered(&mut self, alloc: Global, event: Event<'_>) -> Action
         requires { FitsPiece event }
         ensures { IsStagedMove self.old event.entry result self.new }
     {
         match event {
             Event::Opened => self.opened(),
-            Event::Submitted => self.submitted(),
-            Event::Bytes(bytes) => self.bytes(bytes),
+            Event::Submitted => self.submitted(alloc),
+            Event::Bytes(bytes) => self.bytes(alloc, bytes),
             Event::NothingYet => self.nothing_yet(),
             Event::EndOfInput => self.end_of_input(),
             Event::ReadFault => self.read_fault(),
             Event::Mail(answer) => self.mail(answer),
-            Event::WriteDone => self.write_done(),
+            Event::WriteDone => self.write_done(alloc),
             Event::WriteFault => self.write_fault(),
         }
     }
@@ -167,11 +167,11 @@ impl SeatMachine {
         }
     }
 
-    fn submitted(&mut self) -> Action
+    fn submitted(&mut self, alloc: Global) -> Action
         ensures { IsStagedMove self.old Event.Submitted result self.new }
     {
         match self.stage {
-            Stage::Connecting => self.go_on(),
+            Stage::Connecting => self.go_on(alloc),
             Stage::Asking { waits } => self.poll(waits),
             Stage::TellingEnd => self.poll(true),
             Stage::AskingQuit => self.close(LineEnd::Quit),
@@ -180,14 +180,14 @@ impl SeatMachine {
         }
     }
 
-    fn bytes(&mut self, bytes: &[u8]) -> Action
+    fn bytes(&mut self, alloc: Global, bytes: &[u8]) -> Action
         requires { length bytes.now ≤ PIECE_ROOM }
         ensures { IsStagedMove self.old (Event.Bytes bytes.entry) result self.new }
     {
         match self.stage {
             Stage::Reading => {
                 self.kept.replace(bytes);
-                self.go_on()
+                self.go_on(alloc)
             }
             Stage::ReadingOn => {
                 self.kept.replace(bytes);
@@ -246,11 +246,11 @@ impl SeatMachine {
         }
     }
 
-    fn write_done(&mut self) -> Action
+    fn write_done(&mut self, alloc: Global) -> Action
         ensures { IsStagedMove self.old Event.WriteDone result self.new }
     {
         match self.stage {
-            Stage::Writing => self.go_on(),
+            Stage::Writing => self.go_on(alloc),
             _ => Action::Stray,
         }
     }
@@ -270,13 +270,13 @@ impl SeatMachine {
 
     // Nothing is outstanding: the next request of the bytes that are kept is asked. Where they have
     // none, more is read, or the line is closed if the client sends no more.
-    fn go_on(&mut self) -> Action
+    fn go_on(&mut self, alloc: Global) -> Action
         ensures { GoesOn self.old result self.new }
     {
         if self.end_told {
             return self.close(LineEnd::EndOfInput);
         }
-        let (taken, request) = self.reader.feed(self.kept.as_slice());
+        let (taken, request) = self.reader.feed(alloc, self.kept.as_slice());
         self.kept.drop_front(taken);
         match request {
             None => {

@@ -88,7 +88,7 @@ impl<'a> CoreSide<'a> {
         let outs = Outs::new(alloc, 3)?;
         let room = CoreRoom::new(alloc, 3)?;
         let clock = clock(alloc, STILL)?;
-        let (_end, _core, _clock) = core_work(rt, intake, end, core, outs, room, clock);
+        let (_end, _core, _clock) = core_work(rt, alloc, intake, end, core, outs, room, clock);
         Ok(())
     }
 }

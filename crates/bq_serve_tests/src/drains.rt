@@ -89,8 +89,8 @@ fn core_drains(alloc: Global, core: &mut Core) -> Result<bool, NoMemory>
 {
     let mut outs = Outs::new(alloc, 1)?;
     let put = put(alloc)?;
-    core.step(0, 0, Step::Connect, &mut outs);
-    core.step(0, 0, put, &mut outs);
+    core.step(alloc, 0, 0, Step::Connect, &mut outs);
+    core.step(alloc, 0, 0, put, &mut outs);
     Ok(matches!(outs.take_first(), Some((0, Answer::Draining))))
 }
 

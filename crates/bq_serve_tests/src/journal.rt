@@ -18,6 +18,7 @@ const LINE_OVER: u8 = 0;
 // A core by itself.
 #[derive(Drop)]
 struct Alone {
+    alloc: Global,
     core: Core,
     outs: Outs,
     ghost room: { core.machine.settings.seats < outs.most },
@@ -27,12 +28,12 @@ impl Alone {
     fn new(alloc: Global, config: Config) -> Result<Alone, Fail> {
         let core = Core::new(alloc, config)?;
         let outs = Outs::new(alloc, config.seats)?;
-        Ok(Alone { core, outs })
+        Ok(Alone { alloc, core, outs })
     }
 
     // Takes a step, and says whether its command was left out for want of memory.
     fn step(&mut self, at: Moment, seat: Seat, what: Step) -> bool {
-        self.core.step(at, seat, what, &mut self.outs);
+        self.core.step(self.alloc, at, seat, what, &mut self.outs);
         self.outs.left_out()
     }
 

@@ -22,13 +22,14 @@ pub fn requests_of(
     let mut reader = RequestReader::new(alloc, max_job_size)?;
     let mut requests = Vec::new(alloc);
     for piece in pieces {
-        feed_all(&mut reader, piece.as_slice(), &mut requests)?;
+        feed_all(alloc, &mut reader, piece.as_slice(), &mut requests)?;
     }
     Ok(requests)
 }
 
 // Feeds a whole piece, up to a quit, and puts the requests at the end.
 fn feed_all(
+    alloc: Global,
     reader: &mut RequestReader,
     piece: &[u8],
     requests: &mut Vec<Request, Global>,
@@ -39,7 +40,7 @@ fn feed_all(
 {
     let mut from = 0;
     loop {
-        let (taken, request) = reader.feed(&piece[from..]);
+        let (taken, request) = reader.feed(alloc, &piece[from..]);
         let Some(request) = request else {
             return Ok(());
         };

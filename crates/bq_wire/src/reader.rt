@@ -20,7 +20,6 @@ use std::mem;
 /// Reads requests out of bytes that come in pieces.
 #[derive(Drop)]
 pub struct RequestReader {
-    alloc: Global,
     state: State,
 }
 
@@ -47,7 +46,6 @@ impl RequestReader {
     {
         let kept = KeptLine::new(alloc)?;
         Ok(RequestReader {
-            alloc,
             state: State {
                 max_job_size,
                 kept,
@@ -69,7 +67,7 @@ impl RequestReader {
     /// Takes bytes up to and with the last byte of the first whole request, else all, and says how many
     /// it took. After a quit it takes none until `restart`. It takes no memory but for the body of a put,
     /// which it asks for when its line is whole; where that is refused, the put is a refused request.
-    pub fn feed(&mut self, piece: &[u8]) -> (usize, Option<Request>)
+    pub fn feed(&mut self, alloc: Global, piece: &[u8]) -> (usize, Option<Request>)
         ensures within { result.0 ≤ length piece.now }
         ensures progress { IfSome result.1 (λ _. 0 < result.0) }
         // Whatever text it stood for, no beginning of that text and the piece is a request, all of the
@@ -84,7 +82,7 @@ impl RequestReader {
         ensures over { IsOver self.old → (result.0 ≡ 0) × (result.1 ≡ None) × (self.new ≡ self.old) }
         ensures limit { self.new.max_job_size ≡ self.old.max_job_size }
     {
-        feed_state(self.alloc, &mut self.state, piece)
+        feed_state(alloc, &mut self.state, piece)
     }
 }
 

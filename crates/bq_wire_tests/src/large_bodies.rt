@@ -23,7 +23,7 @@ fn only_request(alloc: Global, limit: u32, text: &[u8]) -> Result<Option<Request
     let mut reader = RequestReader::new(alloc, limit.max(1).min(1_048_576))?;
     let mut found = None;
     for piece in text.chunks(4096) {
-        let (_, request) = reader.feed(piece);
+        let (_, request) = reader.feed(alloc, piece);
         if request.is_some() {
             found = request;
         }

@@ -7,18 +7,24 @@ use std::test::Fail;
 // A quit holds until the restart.
 #[test]
 fn restarts(rt: HostRuntime) -> Result<(), Fail> {
-    let Ok(mut reader) = RequestReader::new(rt.alloc(), 10) else {
+    let alloc = rt.alloc();
+    let Ok(mut reader) = RequestReader::new(alloc, 10) else {
         return Ok(());
     };
-    assert!(rt; matches!(reader.feed(b"quit\r\nres"), (6, Some(Request::Quit))));
-    assert!(rt; matches!(reader.feed(b"reserve\r\n"), (0, None)));
-    reader.restart();
-    assert!(rt; matches!(reader.feed(b"reserve\r\n"), (9, Some(Request::Reserve))));
-    assert!(rt; matches!(reader.feed(b"res"), (3, None)));
+    assert!(rt; matches!(reader.feed(alloc, b"quit\r\nres"), (6, Some(Request::Quit))));
+    assert!(rt; matches!(reader.feed(alloc, b"reserve\r\n"), (0, None)));
     reader.restart();
     assert!(rt;
         matches!(
-            reader.feed(b"erve\r\n"),
+            reader.feed(alloc, b"reserve\r\n"),
+            (9, Some(Request::Reserve))
+        )
+    );
+    assert!(rt; matches!(reader.feed(alloc, b"res"), (3, None)));
+    reader.restart();
+    assert!(rt;
+        matches!(
+            reader.feed(alloc, b"erve\r\n"),
             (6, Some(Request::Refused(Refusal::UnknownCommand)))
         )
     );
@@ -28,12 +34,13 @@ fn restarts(rt: HostRuntime) -> Result<(), Fail> {
 // Where the memory for a body is refused, its bytes are taken all the same.
 #[test]
 fn bodies_without_memory(rt: HostRuntime) -> Result<(), Fail> {
-    let Ok(mut reader) = RequestReader::new(rt.alloc(), 10) else {
+    let alloc = rt.alloc();
+    let Ok(mut reader) = RequestReader::new(alloc, 10) else {
         return Ok(());
     };
     for _ in 0..2 {
-        assert!(rt; matches!(reader.feed(b"put 0 0 1 3\r\n"), (13, None)));
-        let (taken, request) = reader.feed(b"abc\r\nreserve\r\n");
+        assert!(rt; matches!(reader.feed(alloc, b"put 0 0 1 3\r\n"), (13, None)));
+        let (taken, request) = reader.feed(alloc, b"abc\r\nreserve\r\n");
         assert_eq!(rt; taken, 5);
         assert!(rt;
             matches!(
@@ -41,7 +48,12 @@ fn bodies_without_memory(rt: HostRuntime) -> Result<(), Fail> {
                 Some(Request::Put { .. } | Request::Refused(Refusal::OutOfMemory))
             )
         );
-        assert!(rt; matches!(reader.feed(b"reserve\r\n"), (9, Some(Request::Reserve))));
+        assert!(rt;
+            matches!(
+                reader.feed(alloc, b"reserve\r\n"),
+                (9, Some(Request::Reserve))
+            )
+        );
     }
     Ok(())
 }

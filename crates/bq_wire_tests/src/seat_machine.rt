@@ -100,29 +100,36 @@ fn answers(cue: Cue, last: &str) -> bool {
 }
 
 // The name of the action that answers an event.
-fn told(machine: &mut SeatMachine, cue: Cue) -> &'static str {
-    name_of(&machine.on(event_of(cue)))
+fn told(alloc: Global, machine: &mut SeatMachine, cue: Cue) -> &'static str {
+    name_of(&machine.on(alloc, event_of(cue)))
 }
 
 // Tells the machine each event that doesn't answer an action of this name.
-fn stray(rt: &impl Abort, machine: &mut SeatMachine, last: &str) {
+fn stray(rt: &impl Abort, alloc: Global, machine: &mut SeatMachine, last: &str) {
     for cue in ALL_CUES {
         if !answers(*cue, last) {
-            assert_eq!(rt; told(machine, *cue), "stray");
+            assert_eq!(rt; told(alloc, machine, *cue), "stray");
         }
     }
 }
 
 // Lines, one behind another: each event, and the action that answers it.
-fn play(rt: &impl Abort, machine: &mut SeatMachine, session: &[(Cue, &'static str)], strays: bool) {
+fn play(
+    rt: &impl Abort,
+    alloc: Global,
+    session: &[(Cue, &'static str)],
+    strays: bool,
+) -> Result<(), Fail> {
+    let mut machine = SeatMachine::new(alloc, 65535)?;
     let mut last = "over";
     for (cue, want) in session {
         if strays {
-            stray(rt, machine, last);
+            stray(rt, alloc, &mut machine, last);
         }
-        last = told(machine, *cue);
+        last = told(alloc, &mut machine, *cue);
         assert_eq!(rt; last, *want);
     }
+    Ok(())
 }
 
 // A line with commands behind a wait, and then one that comes in pieces and quits inside a body first.
@@ -212,10 +219,9 @@ const FAULTS: &[(Cue, &str)] = &[
 ];
 
 fn play_all(rt: &impl Abort, alloc: Global, strays: bool) -> Result<(), Fail> {
-    play(rt, &mut SeatMachine::new(alloc, 65535)?, WAITS, strays);
-    play(rt, &mut SeatMachine::new(alloc, 65535)?, ENDS, strays);
-    play(rt, &mut SeatMachine::new(alloc, 65535)?, FAULTS, strays);
-    Ok(())
+    play(rt, alloc, WAITS, strays)?;
+    play(rt, alloc, ENDS, strays)?;
+    play(rt, alloc, FAULTS, strays)
 }
 
 #[test]

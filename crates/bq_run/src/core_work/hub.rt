@@ -12,6 +12,7 @@ use bq_ends::NoTicks;
 use bq_job::{Moment, Seat, Step};
 use bq_line::clock::{Clock, moment_heard};
 use bq_link::{CoreEnd, Intake};
+use std::alloc::Global;
 use std::sync::Wait;
 use std::thread;
 use std::time::Duration;
@@ -25,6 +26,8 @@ const HOUR: u64 = 3_600_000;
 /// The core with its clock, its end of the links, and what isn't sent yet.
 #[derive(Drop)]
 pub struct Hub<C> {
+    /// For the steps that may ask for memory.
+    pub alloc: Global,
     pub core: Core,
     pub outs: Outs,
     pub sender: Sender,
@@ -45,7 +48,14 @@ impl<C: Clock + Drop> Hub<C> {
     ghost use Rattle.bq_run.specs.Worked.{AreMarked, IsAtWork, IsInOrder, IsOver, TakesStep, WorksOn, hub_state};
 
     /// Nothing was done yet.
-    pub fn new(end: CoreEnd, core: Core, outs: Outs, room: CoreRoom, clock: C) -> Hub<C>
+    pub fn new(
+        alloc: Global,
+        end: CoreEnd,
+        core: Core,
+        outs: Outs,
+        room: CoreRoom,
+        clock: C,
+    ) -> Hub<C>
         requires ends { IsNewCore (core.machine.settings.seats + 1) end }
         requires core { core.machine ≡ new_machine core.machine.settings }
         requires none_given { outs.given ≡ [] }
@@ -59,6 +69,7 @@ impl<C: Clock + Drop> Hub<C> {
         let CoreRoom { kept, aside, gone } = room;
         let ends = gone.len();
         Hub {
+            alloc,
             core,
             outs,
             sender: Sender {
@@ -149,7 +160,8 @@ impl<C: Clock + Drop> Hub<C> {
         self.looks = 0;
         self.mark(seat, &what);
         self.hear();
-        self.core.step(self.heard, seat, what, &mut self.outs);
+        self.core
+            .step(self.alloc, self.heard, seat, what, &mut self.outs);
     }
 
     // Time passes: the core takes a tick exactly where something is due by now. Whether it did.
@@ -169,7 +181,8 @@ impl<C: Clock + Drop> Hub<C> {
         if due > self.heard {
             return false;
         }
-        self.core.step(self.heard, 0, Step::Tick, &mut self.outs);
+        self.core
+            .step(self.alloc, self.heard, 0, Step::Tick, &mut self.outs);
         true
     }
 
@@ -223,6 +236,7 @@ impl<C: Clock + Drop> Hub<C> {
         ensures { (result.0 ≡ self.sender.end) × (result.1 ≡ self.core) × (result.2 ≡ self.clock) }
     {
         let Hub {
+            alloc: _,
             core,
             outs: _,
             sender,

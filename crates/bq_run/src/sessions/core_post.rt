@@ -11,11 +11,13 @@ use bq_ends::NoTicks;
 use bq_line::clock::Clock;
 use bq_link::{CoreEnd, Intake};
 use bq_start::Start;
+use std::alloc::Global;
 use std::sync::Wait;
 
 /// A core and its end, at neither of which anything was done, and what it needs.
 #[derive(Drop)]
 pub struct CorePost<'a, C> {
+    pub alloc: Global,
     pub intake: &'a Intake<NoTicks>,
     pub end: CoreEnd,
     pub config: Config,
@@ -38,6 +40,7 @@ impl<'a, C: Clock + Drop> CorePost<'a, C> {
         ensures { IfSome result (λ r. IsCoreOver C.given self.entry.config self.entry.end self.entry.clock r.0 r.1.machine r.2) }
     {
         let CorePost {
+            alloc,
             intake,
             end,
             config: _,
@@ -47,7 +50,7 @@ impl<'a, C: Clock + Drop> CorePost<'a, C> {
             clock,
         } = self;
         if start.wait(rt) {
-            Some(core_work(rt, intake, end, core, outs, room, clock))
+            Some(core_work(rt, alloc, intake, end, core, outs, room, clock))
         } else {
             None
         }

@@ -9,13 +9,13 @@ pub returns-in_default-clause-went : goal.returns-in_default-clause-went
 returns-in_default-clause-went g c =
     let old = c.args.self.now in
     let state = state_of old in
-    went_same g.C.Clock.given c.args.seat old (record { core = c.next_due.new.self; outs = old.outs; held = old.held; mails = old.mails; clock = old.clock; heard = old.heard })
+    went_same g.C.Clock.given c.args.seat old (record { alloc = old.alloc; core = c.next_due.new.self; outs = old.outs; held = old.held; mails = old.mails; clock = old.clock; heard = old.heard })
     (ap (λ (m : Machine). record { core = m; mails = state.mails; pending = state.pending; heard = state.heard; most = state.most }) c.next_due.ensures.same) refl
 
 pub returns-then-due-self-clause-went : goal.returns-then-due-self-clause-went
 returns-then-due-self-clause-went g c =
     let at = c.hear.new.self in
-    went_step g.C.Clock.given c.args.seat Tick c.args.self.now at (record { core = c.step.new.self; outs = c.step.new.outs; held = at.held; mails = at.mails; clock = at.clock; heard = at.heard }) c.hear.result _
+    went_step g.C.Clock.given c.args.seat Tick c.args.self.now at (record { alloc = at.alloc; core = c.step.new.self; outs = c.step.new.outs; held = at.held; mails = at.mails; clock = at.clock; heard = at.heard }) c.hear.result _
     c.hear.ensures.read c.hear.ensures.heard (ap (λ core. core.machine) c.hear.ensures.core ∙ c.next_due.ensures.same) c.step.ensures.step refl c.hear.ensures.mails c.hear.ensures.held c.requires.empty
 
 pub returns-else-due-self-clause-went : goal.returns-else-due-self-clause-went
