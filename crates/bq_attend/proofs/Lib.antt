@@ -1,3 +1,4 @@
+pub mod BackLemmas
 pub mod CarriedLemmas
 pub mod ControlLemmas
 pub mod EventLemmas

@@ -20,6 +20,7 @@ use bq_job::{Answer, Step};
 use bq_line::Door;
 use bq_line::line::Line;
 use bq_link::{Intake, SeatEnd};
+use std::alloc::Global;
 use std::sync::Wait;
 use std::thread;
 use std::time::Duration;
@@ -101,6 +102,7 @@ fn mail_at<R: Wait>(rt: &R, intake: &Intake<NoTicks>, end: &mut SeatEnd) -> Opti
 /// One action of a seat that attends to a door, by its end of the links. Says whether something moved.
 pub fn attend_at<R: Wait, L: Line + Drop, D: Door<Line = L>>(
     rt: &R,
+    alloc: Global,
     intake: &Intake<NoTicks>,
     end: &mut SeatEnd,
     attendant: &mut Attendant<L>,
@@ -112,9 +114,10 @@ pub fn attend_at<R: Wait, L: Line + Drop, D: Door<Line = L>>(
     ensures same { IsSameSeat end.old end.new }
     ensures went { let at = door_seen D.is_out D.is_at_end D.lines_over in
         GoesOn EndWent end.old end.new L.seen attendant.old (at door.old) attendant.new (at door.new) }
+    ensures door { (first : D) → D.same first door.old → D.same first door.new }
 {
     let mut link = EndSeat { rt, intake, end };
-    attendant.go_on(door, &mut link, room)
+    attendant.go_on(alloc, door, &mut link, room)
 }
 
 /// Serves the control line by its end of the links.

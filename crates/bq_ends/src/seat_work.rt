@@ -14,6 +14,7 @@ use bq_line::Door;
 use bq_line::line::Line;
 use bq_link::{Intake, SeatEnd};
 use bq_seat::{PIECE_ROOM, SeatMachine};
+use std::alloc::Global;
 use std::sync::Wait;
 use std::thread;
 use std::time::Duration;
@@ -25,6 +26,7 @@ const LINE_REST: u64 = 10;
 /// links, and their answers taken there.
 pub fn seat_work<R: Wait, L: Line + Drop, D: Door<Line = L> + Drop>(
     rt: &R,
+    alloc: Global,
     intake: &Intake<NoTicks>,
     end: SeatEnd,
     machine: SeatMachine,
@@ -38,6 +40,8 @@ pub fn seat_work<R: Wait, L: Line + Drop, D: Door<Line = L> + Drop>(
     // What was submitted and taken at the end is what the lines of the door asked for and were written.
     ensures served { let at = door_seen D.is_out D.is_at_end D.lines_over in
         IsDoorServed machine.reader.max_job_size (at result.1) result.0.submitted result.0.taken }
+    // It is the same door still.
+    ensures same { D.same door result.1 }
 {
     let mut end = end;
     let mut door = door;
@@ -50,7 +54,7 @@ pub fn seat_work<R: Wait, L: Line + Drop, D: Door<Line = L> + Drop>(
         if attendant.is_done() {
             return (end, door);
         }
-        if !attend_at(rt, intake, &mut end, &mut attendant, &mut door, room) {
+        if !attend_at(rt, alloc, intake, &mut end, &mut attendant, &mut door, room) {
             rest(rt, intake, &mut end, attendant.awaits_line());
         }
     }

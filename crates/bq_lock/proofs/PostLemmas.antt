@@ -1,5 +1,5 @@
 -- A seat with its door, before anything was done, and at its end.
-use Rattle.std.proofs.Common.{◌≡◌, ◌∙◌, ℕ, Bool, false, List, [], ◌∷◌, ◌++◌, map, ap, refl, sym, subst, append-nil, append_assoc}
+use Rattle.std.proofs.Common.{◌≡◌, ℕ, Bool, false, List, [], refl}
 use Rattle.bq_job.specs.promise.History.{LineOver}
 use Rattle.bq_job.specs.promise.LineSteps.{LineSeen}
 use Rattle.bq_job.specs.declared.answer.Answer.{Answer}
@@ -7,7 +7,7 @@ use Rattle.bq_job.specs.declared.step.Step.{Step}
 use Rattle.bq_seat.specs.Past.{Awaited}
 use Rattle.bq_seat.specs.SeatStands.{awaited}
 use Rattle.bq_lock.specs.LockedRuns.{IsServedToEnd}
-use Rattle.bq_attend.specs.Tending.{AreSame, DoorSeen, IsTended, door_seen}
+use Rattle.bq_attend.specs.Tending.{DoorSeen, IsTended, door_seen}
 use Rattle.bq_attend.specs.declared.attendant.Attendant.{Attendant}
 use Rattle.bq_attend.specs.declared.attendant.Place.TheVariants as places
 use Rattle.bq_attend.proofs.TendingLemmas.{tended_done, tended_new}
@@ -22,32 +22,3 @@ tended_first seen is_out is_at_end lines_over a door at waits inside more over =
 pub served_to_end : {L : Type 0} (seen : L → LineSeen) (size : ℕ) (a : Attendant L) (door : DoorSeen) (submitted : List Step) (taken : List Answer)
     → a.place ≡ places.Done → IsTended seen size a door submitted taken → IsServedToEnd size door
 served_to_end seen size a door submitted taken e t = record { submitted = submitted; taken = taken; served = tended_done seen size a door submitted taken e t }
-
--- One door more comes back.
-pub same_more : {D : Type 0} (same : D → D → Type 0) (firsts lasts : List D) (first last : D) → AreSame same firsts lasts → same first last → AreSame same (firsts ++ first ∷ []) (lasts ++ last ∷ [])
-same_more same [] [] first last h s = (s, tt)
-same_more same [] (l ∷ lasts) first last h s = absurd h
-same_more same (f ∷ firsts) [] first last h s = absurd h
-same_more same (f ∷ firsts) (l ∷ lasts) first last h s = (h.0, same_more same firsts lasts first last h.1 s)
-
--- The doors that came back so far, of those that were handed out and of which these still are to come.
-pub record AreBack {D T : Type 0} (same : D → D → Type 0) (door_of : T → D) (all rest : List T) (doors : List D) : Type 0 where
-  pub firsts : List D
-  pub back : AreSame same firsts doors
-  pub all_are : map door_of all ≡ firsts ++ map door_of rest
-
-pub none_back : {D T : Type 0} (same : D → D → Type 0) (door_of : T → D) (all : List T) (doors : List D) → doors ≡ [] → AreBack same door_of all all doors
-none_back same door_of all doors e = record { firsts = []; back = subst (AreSame same []) (sym e) tt; all_are = refl }
-
-pub one_back : {D T : Type 0} (same : D → D → Type 0) (door_of : T → D) (all rest more : List T) (t : T) (doors later : List D) (door : D)
-    → rest ≡ t ∷ more → later ≡ doors ++ door ∷ [] → same (door_of t) door → AreBack same door_of all rest doors → AreBack same door_of all more later
-one_back same door_of all rest more t doors later door rest_is later_is here b = record {
-  firsts = b.firsts ++ door_of t ∷ [];
-  back = subst (AreSame same (b.firsts ++ door_of t ∷ [])) (sym later_is) (same_more same b.firsts doors (door_of t) door b.back here);
-  all_are = b.all_are ∙ ap (λ ts. b.firsts ++ map door_of ts) rest_is ∙ sym (append_assoc b.firsts (door_of t ∷ []) (map door_of more));
-}
-
-pub all_back : {D T : Type 0} (same : D → D → Type 0) (door_of : T → D) (all rest : List T) (doors : List D) → rest ≡ [] → AreBack same door_of all rest doors → AreSame same (map door_of all) doors
-all_back {D} same door_of all rest doors e b =
-    let whole : map door_of all ≡ b.firsts = b.all_are ∙ ap (λ ts. b.firsts ++ map door_of ts) e ∙ append-nil b.firsts in
-    subst (λ (firsts : List D). AreSame same firsts doors) (sym whole) b.back

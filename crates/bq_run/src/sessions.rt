@@ -2,7 +2,7 @@
 ghost use Rattle.std.specs.Prelude.{◌≡◌, ◌↔◌, ◌++◌, ◌∷◌, ◌&&◌, ◌==◌, [], false, true, not, map, IfOk, IsErrOf, IsTrue, vec_len};
 ghost use Rattle.std.specs.List.{All};
 ghost use Rattle.bq_core.specs.Limits.{are_in_range};
-ghost use Rattle.bq_attend.specs.Tending.{IsNewDoor, door_seen};
+ghost use Rattle.bq_attend.specs.Tending.{AreSame, IsNewDoor, door_seen};
 ghost use Rattle.bq_run.specs.Sessions.{IsRunOf};
 
 use bq_attend::control_line::ControlLine;
@@ -73,6 +73,8 @@ pub fn run_sessions<
     // line was written exactly what it is owed along it. It is what the ends of the links submitted and took.
     ensures served { IfOk result (IsRunOf C.given D.lines_over I.remaining config clock control) }
     ensures at_end { IfOk result (λ run. All (λ door. (D.is_out door ≡ false) × (D.is_at_end door ≡ true)) run.doors.items) }
+    // They are the doors that were handed in, in their order.
+    ensures same { IfOk result (λ run. AreSame D.same doors.items run.doors.items) }
     // The core can go on.
     ensures settings { IfOk result (λ run. run.core.machine.settings ≡ config) }
     ensures bad_configuration { IsErrOf result RunFault.BadConfiguration

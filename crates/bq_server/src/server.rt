@@ -1,7 +1,7 @@
 //! All that the server does, from its options to its status.
 ghost use Rattle.std.specs.Prelude.{◌≡◌, ◌≤◌, IfErr, IfOk, false, true};
 ghost use Rattle.std.specs.List.{All, list_any};
-ghost use Rattle.bq_attend.specs.Tending.{IsNewDoor, door_seen};
+ghost use Rattle.bq_attend.specs.Tending.{AreSame, IsNewDoor, door_seen};
 ghost use Rattle.bq_server.specs.Servers.{came_of_run, settings_of};
 ghost use Rattle.bq_run.specs.Sessions.{IsRunOf};
 
@@ -128,6 +128,8 @@ pub fn serve_doors<
         (settings_of options.now) clock control) }
     ensures at_end { IfOk result (λ run. All (λ door. (⟦<TcpDoor<'l, R> as Door>⟧.is_out door ≡ false)
         × (⟦<TcpDoor<'l, R> as Door>⟧.is_at_end door ≡ true)) run.doors.items) }
+    // They are the doors that were handed in, in their order.
+    ensures same { IfOk result (λ run. AreSame ⟦<TcpDoor<'l, R> as Door>⟧.same doors.entry.items run.doors.items) }
 {
     run_sessions(rt, alloc, config_of(options), doors, clock, control)
 }

@@ -80,6 +80,7 @@ pub fn new_posts<'a, L: Line + Drop, D: Door<Line = L> + Drop, C: Clock + Drop>(
     ensures clock { IfOk result (λ posts. posts.core.clock ≡ clock) }
     ensures limit { IfOk result (λ posts. posts.max_job_size ≡ config.max_job_size) }
     ensures ends { IfOk result (λ posts. last_first (map (λ p. p.end) posts.seats.items) ++ posts.control.end ∷ [] ≡ ends.items) }
+    ensures doors { IfOk result (λ posts. last_first (map (λ p. p.door) posts.seats.items) ≡ doors.items) }
 {
     let Some(end) = ends.pop() else {
         unreachable!()
@@ -89,6 +90,7 @@ pub fn new_posts<'a, L: Line + Drop, D: Door<Line = L> + Drop, C: Clock + Drop>(
     Ok(Posts {
         seats,
         core: CorePost {
+            alloc,
             intake,
             end: core_end,
             config,
@@ -117,6 +119,7 @@ fn new_seats<'a, L: Line + Drop, D: Door<Line = L> + Drop>(
     requires new { All (λ door. IsNewDoor (door_seen D.is_out D.is_at_end D.lines_over door)) doors.items }
     ensures limits { IfOk result (λ posts. All (λ post. post.max_job_size ≡ max_job_size) posts.items) }
     ensures ends { IfOk result (λ posts. last_first (map (λ p. p.end) posts.items) ≡ ends.items) }
+    ensures doors { IfOk result (λ posts. last_first (map (λ p. p.door) posts.items) ≡ doors.items) }
 {
     let Ok(mut posts) = Vec::with_capacity(alloc, doors.len()) else {
         return Err(NoMemory);

@@ -21,10 +21,11 @@ use std::sync::Wait;
 /// A seat, its door and its end, at none of which anything was done.
 #[derive(Drop)]
 pub struct SeatPost<'a, D: Door> {
+    alloc: Global,
     intake: &'a Intake<NoTicks>,
     pub end: SeatEnd,
     machine: SeatMachine,
-    door: D,
+    pub door: D,
     pub max_job_size: u32,
     ghost of_intake: { end.intake ≡ intake.now.id },
     ghost new_end: { IsNewEnd end },
@@ -48,9 +49,11 @@ impl<'a, L: Line + Drop, D: Door<Line = L> + Drop> SeatPost<'a, D> {
         requires new { IsNewDoor (door_seen D.is_out D.is_at_end D.lines_over door) }
         ensures end { IfOk result (λ post. post.end ≡ end) }
         ensures limit { IfOk result (λ post. post.max_job_size ≡ max_job_size) }
+        ensures door { IfOk result (λ post. post.door ≡ door) }
     {
         let machine = SeatMachine::new(alloc, max_job_size)?;
         Ok(SeatPost {
+            alloc,
             intake,
             end,
             machine,
@@ -62,10 +65,12 @@ impl<'a, L: Line + Drop, D: Door<Line = L> + Drop> SeatPost<'a, D> {
     /// Serves the door to its end, and gives it back with the end. Where some thread was not started there is
     /// nothing: the door was not opened.
     pub fn serve<R: Wait>(self, rt: &R, start: &Start) -> Option<(SeatEnd, D)>
-        ensures { let at = door_seen D.is_out D.is_at_end D.lines_over in
+        ensures served { let at = door_seen D.is_out D.is_at_end D.lines_over in
             IfSome result (λ r. IsSameSeat self.entry.end r.0 × IsDoorServed self.entry.max_job_size (at r.1) r.0.submitted r.0.taken) }
+        ensures same { IfSome result (λ r. D.same self.entry.door r.1) }
     {
         let SeatPost {
+            alloc,
             intake,
             end,
             machine,
@@ -73,7 +78,7 @@ impl<'a, L: Line + Drop, D: Door<Line = L> + Drop> SeatPost<'a, D> {
             max_job_size: _,
         } = self;
         if start.wait(rt) {
-            Some(seat_work(rt, intake, end, machine, door))
+            Some(seat_work(rt, alloc, intake, end, machine, door))
         } else {
             None
         }

@@ -1,7 +1,7 @@
 //! The threads of a run: they start together or not at all, and give back what they served.
 ghost use Rattle.std.specs.Prelude.{◌≡◌, ◌++◌, [], IfOk, IfSome, IsErrOf, IsTrue, map, vec_len};
 ghost use Rattle.std.specs.List.{All};
-ghost use Rattle.bq_attend.specs.Tending.{IsDoorServed, door_seen};
+ghost use Rattle.bq_attend.specs.Tending.{AreSame, IsDoorServed, door_seen};
 ghost use Rattle.bq_link.specs.EndStates.{IsSameSeat};
 ghost use Rattle.bq_run.specs.Threads.{AreServed, IsControlOver, IsCoreOver, last_first};
 
@@ -24,16 +24,18 @@ use std::sync::Wait;
 use std::thread;
 use std::thread::{Promise, PromisedHandle, Scope, Threads};
 
-// That a door was served to its end by an end of the links, where its thread began.
+// That a door was served to its end by an end of the links, and comes back, where its thread began.
 #[derive(Drop)]
-struct SeatPromise {
+struct SeatPromise<D> {
     end: Snapshot<SeatEnd>,
+    door: Snapshot<D>,
     max_job_size: u32,
 }
 
-impl<D: Door> Promise<Option<(SeatEnd, D)>> for SeatPromise {
+impl<D: Door> Promise<Option<(SeatEnd, D)>> for SeatPromise<D> {
     ghost kept_by = { λ p result. let at = door_seen D.is_out D.is_at_end D.lines_over in
-        IfSome result (λ r. IsSameSeat p.end.value r.0 × IsDoorServed p.max_job_size (at r.1) r.0.submitted r.0.taken) };
+        IfSome result (λ r. IsSameSeat p.end.value r.0 × IsDoorServed p.max_job_size (at r.1) r.0.submitted r.0.taken)
+        × IfSome result (λ r. D.same p.door.value r.1) };
 }
 
 // What the core did, where its thread began.
@@ -67,6 +69,7 @@ pub fn serve_in_scope<
     ensures served { let at = door_seen D.is_out D.is_at_end D.lines_over in
         let firsts = last_first (map (λ p. p.end) posts.entry.seats.items) in
         IfOk result (λ r. AreServed at posts.entry.max_job_size firsts r.ends.items r.doors.items) }
+    ensures same { IfOk result (λ r. AreSame D.same (last_first (map (λ p. p.door) posts.entry.seats.items)) r.doors.items) }
     ensures core { let core = posts.entry.core in
         IfOk result (λ r. IsCoreOver C.given core.config core.end core.clock r.core_end r.core.machine r.clock) }
     ensures control { IfOk result (λ r. IsControlOver I.remaining posts.entry.control.end control r.control_end r.control) }
@@ -79,6 +82,7 @@ pub fn serve_in_scope<
             ensures served { let at = door_seen D.is_out D.is_at_end D.lines_over in
                 let firsts = last_first (map (λ p. p.end) posts.entry.seats.items) in
                 IfOk result (λ r. AreServed at posts.entry.max_job_size firsts r.ends.items r.doors.items) }
+            ensures same { IfOk result (λ r. AreSame D.same (last_first (map (λ p. p.door) posts.entry.seats.items)) r.doors.items) }
             ensures core { let core = posts.entry.core in
                 IfOk result (λ r. IsCoreOver C.given core.config core.end core.clock r.core_end r.core.machine r.clock) }
             ensures control { IfOk result (λ r. IsControlOver I.remaining posts.entry.control.end control r.control_end r.control) }
@@ -107,6 +111,7 @@ fn serve_all<
     ensures served { let at = door_seen D.is_out D.is_at_end D.lines_over in
         let firsts = last_first (map (λ p. p.end) posts.entry.seats.items) in
         IfOk result (λ r. AreServed at posts.entry.max_job_size firsts r.ends.items r.doors.items) }
+    ensures same { IfOk result (λ r. AreSame D.same (last_first (map (λ p. p.door) posts.entry.seats.items)) r.doors.items) }
     ensures core { let core = posts.entry.core in
         IfOk result (λ r. IsCoreOver C.given core.config core.end core.clock r.core_end r.core.machine r.clock) }
     ensures control { IfOk result (λ r. IsControlOver I.remaining posts.entry.control.end control r.control_end r.control) }
@@ -196,16 +201,18 @@ fn start_seats<
     mut posts: Vec<SeatPost<'s, D>, Global>,
     start: &'s Start,
     max_job_size: u32,
-    threads: &mut Vec<PromisedHandle<Option<(SeatEnd, D)>, SeatPromise>, Global>,
+    threads: &mut Vec<PromisedHandle<Option<(SeatEnd, D)>, SeatPromise<D>>, Global>,
 ) -> bool
     requires none { vec_len threads.old ≡ 0 }
     requires limits { All (λ post. post.max_job_size ≡ max_job_size) posts.items }
     ensures ends { IsTrue result → map (λ t. t.promise.end.value) threads.new.items ≡ last_first (map (λ p. p.end) posts.entry.items) }
+    ensures doors { IsTrue result → map (λ t. t.promise.door.value) threads.new.items ≡ last_first (map (λ p. p.door) posts.entry.items) }
     ensures limits { IsTrue result → All (λ t. t.promise.max_job_size ≡ max_job_size) threads.new.items }
 {
     while let Some(post) = posts.pop() {
         let promise = SeatPromise {
             end: Snapshot::of(&post.end),
+            door: Snapshot::of(&post.door),
             max_job_size: post.max_job_size,
         };
         let Ok(thread) = scope.spawn_with(promise, move || post.serve(rt, start)) else {
@@ -221,7 +228,7 @@ fn start_seats<
 // Waits for the threads of all seats. Their ends and doors come behind one another, for which there is room.
 fn join_seats<R: Threads, D: Door + Drop + Send>(
     rt: &R,
-    threads: Vec<PromisedHandle<Option<(SeatEnd, D)>, SeatPromise>, Global>,
+    threads: Vec<PromisedHandle<Option<(SeatEnd, D)>, SeatPromise<D>>, Global>,
     mut ends: Vec<SeatEnd, Global>,
     mut doors: Vec<D, Global>,
     max_job_size: u32,
@@ -232,6 +239,7 @@ fn join_seats<R: Threads, D: Door + Drop + Send>(
     ensures fault { IsErrOf result RunFault.BadConfiguration → ⊥ }
     ensures served { let at = door_seen D.is_out D.is_at_end D.lines_over in
         IfOk result (λ r. AreServed at max_job_size (map (λ t. t.promise.end.value) threads.items) r.0.items r.1.items) }
+    ensures same { IfOk result (λ r. AreSame D.same (map (λ t. t.promise.door.value) threads.items) r.1.items) }
 {
     for thread in threads {
         let Some((end, door)) = thread.join(rt) else {

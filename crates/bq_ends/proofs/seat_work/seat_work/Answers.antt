@@ -19,6 +19,7 @@ loop-init g c =
       same = (refl, refl, refl);
       tended = subst (λ (xs : List Step). IsTended g.L.Line.seen size a (at c.args.door) xs c.args.end.taken) (sym c.requires.end.submitted)
           (subst (λ (ys : List Answer). IsTended g.L.Line.seen size a (at c.args.door) [] ys) (sym c.requires.end.taken) first);
+      door = g.met.D.Door.same_self c.args.door;
     }
 
 pub loop-preserved-then-not-attend_at : goal.loop-preserved-then-not-attend_at
@@ -33,6 +34,7 @@ loop-preserved-then-not-attend_at g c =
       iterator = (tt, tt);
       same = subst (λ (e : SeatState). IsSameSeat c.args.end e) (sym c.rest.ensures) (same.0 ∙ before.0, same.1 ∙ before.1, same.2 ∙ before.2);
       tended = subst (λ (e : SeatState). IsTended g.L.Line.seen size new.attendant (at new.door) e.submitted e.taken) (sym c.rest.ensures) on;
+      door = c.attend_at.ensures.door c.args.door c.loop.invariant.door;
     }
 
 pub loop-preserved : goal.loop-preserved
@@ -45,4 +47,5 @@ loop-preserved g c =
       iterator = (tt, tt);
       same = (same.0 ∙ before.0, same.1 ∙ before.1, same.2 ∙ before.2);
       tended = tended_on g.L.Line.seen c.args.machine.reader.max_job_size c.loop.end new.end c.loop.attendant new.attendant (at c.loop.door) (at new.door) c.attend_at.ensures.went c.loop.invariant.tended;
+      door = c.attend_at.ensures.door c.args.door c.loop.invariant.door;
     }

@@ -3,7 +3,7 @@ use Rattle.std.specs.Prelude.{IfSome}
 use Rattle.bq_lock.specs.LockedRuns.{IsServedToEnd}
 use Rattle.bq_attend.specs.Tending.{door_seen}
 use Rattle.bq_start.proofs.ListLemmas.{all_pushed, first_passes, rest_passes}
-use Rattle.bq_lock.proofs.PostLemmas.{one_back}
+use Rattle.bq_attend.proofs.BackLemmas.{one_back}
 use Rattle.bq_lock.proofs.locked_run.join_all.Goals as goal
 
 pub loop-thread-preserved : goal.loop-thread-preserved

@@ -18,4 +18,5 @@ loop-door-preserved g c =
       new_ends = all_taken (vec_len c.loop-door.ends - 1) c.loop-door.ends.items _ (λ e. IsNewEnd e) c.pop-in-Some.ensures.rest i.new_ends;
       new = all_taken (vec_len c.loop-door.doors - 1) c.loop-door.doors.items _ (λ d. IsNewDoor (at d)) c.pop.ensures.rest i.new;
       whole = moved_back (λ p. p.end) c.loop-door.ends.items _ c.in-Some-pop.end c.loop-door.posts.items _ c.in_ok-post.post c.in-Some-pop.ensures.items c.in-Ok-push.ensures.items c.in_ok-post.ensures.end ∙ i.whole;
+      doors = moved_back (λ p. p.door) c.loop-door.doors.items _ c.in-Some.door c.loop-door.posts.items _ c.in_ok-post.post c.in-Some.ensures.items c.in-Ok-push.ensures.items c.in_ok-post.ensures.door ∙ i.doors;
     }

@@ -13,6 +13,7 @@ invariant-loop-door g l = record {
   new_ends : All (λ end. IsNewEnd end) l.ends.items;
   new : All (λ door. IsNewDoor (door_seen (g.D.Door.is_out) (g.D.Door.is_at_end) (g.D.Door.lines_over) door)) l.doors.items;
   whole : l.ends.items ++ last_first (map (λ p. p.end) l.posts.items) ≡ l.fn.ends.items;
+  doors : l.doors.items ++ last_first (map (λ p. p.door) l.posts.items) ≡ l.fn.doors.items;
 }
 
 abbrev pub decreases-loop-door : goal.decreases-loop-door

@@ -1,6 +1,7 @@
 use Rattle.std.proofs.Common.{◌≡◌, ◌++◌, ◌∙◌, ◌∷◌, []}
 use Rattle.bq_attend.specs.Tending.{door_seen}
 use Rattle.bq_start.proofs.ListLemmas.{first_passes, rest_passes}
+use Rattle.bq_attend.proofs.BackLemmas.{one_back}
 use Rattle.bq_run.proofs.ThreadLemmas.{joined_first, served_more}
 use Rattle.bq_run.proofs.sessions.threads.join_seats.Goals as goal
 
@@ -12,7 +13,8 @@ loop-thread-preserved g c =
     let before = c.loop-thread.invariant.served in
     let step = c.in-Some.ensures.steps in
     let limit = first_passes c.loop-thread.thread-iterator.rest.items _ c.in-Some.thread (λ t. t.promise.max_job_size ≡ size) step.0 limits in
-    let here = rw (c.in-Some-join.is, limit) at c.join.ensures in
+    let here = rw (c.in-Some-join.is, limit) at c.join.ensures.0 in
+    let same = rw c.in-Some-join.is at c.join.ensures.1 in
     let end = c.in-Some-join.end in
     let door = c.in-Some-join.door in
     let first = c.in-Some.thread.promise.end.value in
@@ -24,4 +26,5 @@ loop-thread-preserved g c =
         rw (c.in-Ok-Ok.ensures.items, c.in-Ok-Ok.ensures'.items)
             (served_more at size before.0 c.loop-thread.ends.items c.loop-thread.doors.items first end door before.2 here.0 here.1),
       );
+      back = one_back g.D.Door.same (λ t. t.promise.door.value) c.args.threads.items c.loop-thread.thread-iterator.rest.items _ c.in-Some.thread c.loop-thread.doors.items _ door step.0 c.in-Ok-Ok.ensures'.items same c.loop-thread.invariant.back;
     }

@@ -2,6 +2,7 @@ use Rattle.std.proofs.Common.{◌≡◌, ◌++◌, List, map}
 use Rattle.std.specs.List.{All}
 use Rattle.bq_attend.specs.Tending.{door_seen}
 use Rattle.bq_link.specs.EndStates.{SeatState}
+use Rattle.bq_attend.proofs.BackLemmas.{AreBack}
 use Rattle.bq_run.specs.Threads.{AreServed}
 use Rattle.bq_run.proofs.sessions.threads.join_seats.Given as goal
 
@@ -11,4 +12,5 @@ invariant-loop-thread g l = record {
   served : (firsts : List SeatState)
       × (firsts ++ map (λ t. t.promise.end.value) l.thread-iterator.rest.items ≡ map (λ t. t.promise.end.value) l.fn.threads.items)
       × AreServed (door_seen g.D.Door.is_out g.D.Door.is_at_end g.D.Door.lines_over) l.fn.max_job_size firsts l.ends.items l.doors.items;
+  back : AreBack g.D.Door.same (λ t. t.promise.door.value) l.fn.threads.items l.thread-iterator.rest.items l.doors.items;
 }

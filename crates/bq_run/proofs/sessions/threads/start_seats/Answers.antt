@@ -15,4 +15,7 @@ loop-post-preserved g c =
       whole =
           moved_over (λ p. p.end) (λ t. t.promise.end.value) c.loop-post.posts.items _ c.in-Some.post c.loop-post.threads.items _ c.in-Ok.thread c.in-Some.ensures.items c.in-Ok-push.ensures.items
           (ap (λ p. p.end.value) c.in-Ok.ensures.ok ∙ c.of.ensures) ∙ c.loop-post.invariant.whole;
+      doors =
+          moved_over (λ p. p.door) (λ t. t.promise.door.value) c.loop-post.posts.items _ c.in-Some.post c.loop-post.threads.items _ c.in-Ok.thread c.in-Some.ensures.items c.in-Ok-push.ensures.items
+          (ap (λ p. p.door.value) c.in-Ok.ensures.ok ∙ c.of-in-Some.ensures) ∙ c.loop-post.invariant.doors;
     }
