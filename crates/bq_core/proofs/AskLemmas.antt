@@ -1,14 +1,13 @@
 -- Searches add up.
-use Rattle.std.proofs.Common.{◌≡◌, ◌==◌, not, Bool, List, ℕ, zero, suc, ◌+◌, ◌*◌, ◌/◌, ◌<◌, ◌≤◌, true, false, cond, get_or, take, length, max, ap, refl, sym, ◌∙◌, arith, inl, inr, subst}
+use Rattle.std.proofs.Common.{◌≡◌, ◌==◌, Bool, List, ℕ, zero, suc, ◌+◌, ◌*◌, ◌/◌, ◌<◌, ◌≤◌, true, false, cond, get_or, take, length, max, ap, refl, sym, ◌∙◌, arith, inl, inr, subst}
 use Rattle.std.specs.List.{count_by}
 use Rattle.std.proofs.Math.Nat.{add-mul}
 use Rattle.std.proofs.lemmas.Nat.{mul-le}
 use Rattle.std.proofs.lemmas.Bool.{cases_Bool}
 use Rattle.std.proofs.lemmas.Bool.Decides.{nat_tests}
 use Rattle.bq_index.specs.Digits.{binary_digits, digits_up_to}
-use Rattle.std.proofs.lemmas.List.Sums.{count_by-le-length, length-filter, sum_by_more}
-use Rattle.bq_job.specs.declared.job.Job.{Job}
-use Rattle.bq_jobs.specs.Kept.{ComparesAtMost, Kept, without}
+use Rattle.std.proofs.lemmas.List.Sums.{sum_by_more}
+use Rattle.bq_jobs.specs.Kept.{ComparesAtMost, Kept}
 use Rattle.bq_core.specs.Asking.{Asks, AsksAsChanged, AsksWithin, search_among}
 use Rattle.bq_core.specs.Cost.{changed_jobs}
 
@@ -66,13 +65,6 @@ within {n = n} k {old = old} {new = new} l a =
     let s = search_among (length old.jobs) in
     let t = search_among (max (length old.jobs) (length new.jobs)) in
     record { stays = a.stays; rise = omega (arith, a.rise, mul-le n s k t l (search_grows (length old.jobs) (max (length old.jobs) (length new.jobs)) (omega arith))) }
-
--- a job is taken out and put back
-pub moved : (old between new : Kept) (id : ℕ) → between.jobs ≡ without id old.jobs → length new.jobs ≡ length old.jobs → ComparesAtMost 4 old between → ComparesAtMost 4 between new → Asks 8 old new
-moved old between new id out back a b =
-    let fewer : length between.jobs ≤ length old.jobs =
-    omega (arith, ap length out, length-filter (λ (k : Job). not (k.id == id)) old.jobs, count_by-le-length (λ (k : Job). not (k.id == id)) old.jobs) in
-    record { many = back; stays = omega (arith, a.0, b.0); rise = omega (arith, a.1, b.1, search_grows (length between.jobs) (length old.jobs) fewer) }
 
 -- what is asked at most of few jobs
 pub few_asked : {n : ℕ} {old new : Kept} → n ≤ 10 → Asks n old new → AsksAsChanged old new

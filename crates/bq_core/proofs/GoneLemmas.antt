@@ -13,20 +13,17 @@ use Rattle.std.specs.Option.{option_map}
 use Rattle.std.proofs.lemmas.Bool.{cases_Bool}
 use Rattle.std.proofs.lemmas.List.{append-nil}
 use Rattle.bq_index.specs.Order.{InOrder}
-use Rattle.bq_index.specs.Walk.{changed_by, entry_of, seen_by}
+use Rattle.bq_index.specs.Walk.{entry_of, seen_by}
 use Rattle.bq_job.specs.declared.job.Job.{Job}
 use Rattle.bq_job.specs.machine.Limits.{greatest}
 use Rattle.bq_job.specs.machine.Machine.{SeatRecord}
-use Rattle.bq_job.specs.machine.Timers.{tube_after_timers}
 use Rattle.bq_job.specs.reading.TubeName.{is_same_name}
 use Rattle.bq_core.specs.Crowds.{crowd_in, crowds_of, has_seats}
-use Rattle.bq_core.specs.Dues.{with_tube_due}
-use Rattle.bq_core.specs.KeptTubes.{KeptTube, Named, crowd_kept, ended, is_alive_at, is_alive_with, is_from, is_gone_by, is_gone_from, is_named_at, record_at, tally_kept, with_alive, with_end, with_name_of}
+use Rattle.bq_core.specs.KeptTubes.{KeptTube, Named, crowd_kept, is_alive_at, is_alive_with, is_from, is_gone_by, is_gone_from, is_named_at, record_at, tally_kept, with_alive, with_name_of}
 use Rattle.bq_core.specs.Losses.{AreAlive}
 use Rattle.bq_core.specs.Tallies.{has_jobs, tallies_of, tally_in}
 use Rattle.bq_core.specs.TubeEntries.{AreInOrder, is_tube_of, names_alive}
 use Rattle.bq_core.specs.declared.loss.Loss.TheVariants.{Of}
-use Rattle.bq_core.specs.declared.tube_walks.FirstEnd.{FirstEnd}
 use Rattle.bq_core.specs.declared.tube_walks.HowMany.{HowMany}
 use Rattle.bq_core.proofs.CrowdLemmas.{has_seats_of}
 use Rattle.bq_core.proofs.CrowdPlaces.{exists_by_counts}
@@ -34,24 +31,6 @@ use Rattle.bq_core.proofs.LossLemmas.{all_kept_alive, alive_but, alive_or, other
 use Rattle.bq_core.proofs.NamedLemmas.{ties}
 use Rattle.bq_core.proofs.TallyPlaces.{has_jobs_in}
 use Rattle.bq_core.proofs.TubeLemmas.{same_name}
-
--- When the first pause ends is seen by a walk.
-pub end_seen : (es : List Named) (best : Option ℕ) → (fold (seen_by (λ (s : FirstEnd) (n : List ℕ) (t : KeptTube). record { moment = with_end s.moment t })) (record { moment = best }) es).moment ≡ fold with_tube_due best (map record_at es)
-end_seen [] best = refl
-end_seen (x ∷ es) best = end_seen es (with_end best x.1)
-
--- Pauses end.
-pub ended_records : (moment : ℕ) (es : List Named) → map record_at (map (changed_by (λ n t. ended moment t)) es) ≡ map (tube_after_timers moment) (map record_at es)
-ended_records moment [] = refl
-ended_records moment (x ∷ es) = ap (λ ts. tube_after_timers moment (record_at x) ∷ ts) (ended_records moment es)
-
-pub ended_tallies : (moment : ℕ) (es : List Named) → map tally_kept (map (changed_by (λ n t. ended moment t)) es) ≡ map tally_kept es
-ended_tallies moment [] = refl
-ended_tallies moment (x ∷ es) = ap (λ ts. x.1.tally ∷ ts) (ended_tallies moment es)
-
-pub ended_crowds : (moment : ℕ) (es : List Named) → map crowd_kept (map (changed_by (λ n t. ended moment t)) es) ≡ map crowd_kept es
-ended_crowds moment [] = refl
-ended_crowds moment (x ∷ es) = ap (λ cs. x.1.crowd ∷ cs) (ended_crowds moment es)
 
 -- The counts are those of these jobs and of these seats.
 abbrev pub AreTallied : List Job → List SeatRecord → List Named → Type 0

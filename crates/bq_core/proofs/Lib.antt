@@ -7,6 +7,8 @@ pub mod CrowdPlaces
 pub mod CrowdWatching
 pub mod DispatchLemmas
 pub mod DueLemmas
+pub mod EndLemmas
+pub mod EndMoves
 pub mod FiringLemmas
 pub mod FirstEndLemmas
 pub mod GoneLemmas

@@ -18,13 +18,13 @@ use Rattle.bq_job.specs.reading.TubeName.{is_same_name}
 use Rattle.bq_job.specs.machine.Tubes.{fresh_tube, is_name_before, with_record}
 use Rattle.bq_core.specs.KeptTubes.{KeptTube, Named, crowd_by, crowd_kept, edited, fresh_entry, is_named_at, is_paused_by, kept_changed, record_at, record_of, tally_by, tally_kept}
 use Rattle.bq_core.specs.Tallies.{tallies_at, tallies_provided, tally_at, tally_of}
-use Rattle.bq_core.specs.TubeEntries.{AreInOrder, has_entry, provided, tube_changed, tube_changed_at}
+use Rattle.bq_core.specs.TubeEntries.{AreInOrder, has_entry, provided, tube_changed}
 use Rattle.bq_core.specs.Crowds.{crowd_at, crowds_at, crowds_provided, no_crowd}
 use Rattle.bq_core.specs.declared.crowd.Crowd.{Crowd}
 use Rattle.bq_core.specs.declared.tally.Tally.{Tally}
 use Rattle.bq_core.specs.declared.tube_entry.TubeChange.{TubeChange}
 use Rattle.bq_core.specs.declared.tube_entry.TubeChange.TheVariants.{CountPut, CountDelete, Pause}
-use Rattle.bq_core.proofs.TubeLemmas.{head_differs, none_later, same_name}
+use Rattle.bq_core.proofs.TubeLemmas.{changed_one, head_differs, none_later, same_name}
 
 -- a look-up asks whether names are the same
 pub ties : (a b : List ℕ) → is_named_at a b ≡ is_same_name a b
@@ -99,11 +99,11 @@ module _ (name : List ℕ) where
   ]
 
   -- Others stay.
-  unchanged : (what : TubeChange) (ts : List TubeRecord) → has_entry name ts ≡ false → map (tube_changed_at name what) ts ≡ ts
-  unchanged what [] h = refl
-  unchanged what (t ∷ ts) h =
+  unchanged : (g : TubeRecord → TubeRecord) (ts : List TubeRecord) → has_entry name ts ≡ false → map (changed_one name g) ts ≡ ts
+  unchanged g [] h = refl
+  unchanged g (t ∷ ts) h =
       let parts = head_differs (is_same_name name t.name) (has_entry name ts) h in
-      rw parts.0 (ap (λ us. t ∷ us) (unchanged what ts parts.1))
+      rw parts.0 (ap (λ us. t ∷ us) (unchanged g ts parts.1))
 
   -- The value there is changed:
   some_is : (a b : KeptTube) → Some a ≡ Some b → a ≡ b
@@ -165,15 +165,15 @@ module _ (name : List ℕ) where
       | inr e ↦ ap (map crowd_kept) (edited_past x es e) ∙ ap (λ cs. x.1.crowd ∷ cs) (edit_same_crowds same es)
     ]
 
-    pub edit_change : (what : TubeChange) → ((n : List ℕ) (t : KeptTube) → record_of n (f t) ≡ tube_changed what (record_of n t)) → (es : List Named) → AreInOrder (map record_at es)
-        → map record_at (edited name f (lookup (is_named_at name) es) es) ≡ map (tube_changed_at name what) (map record_at es)
-    edit_change what made [] order = refl
-    edit_change what made (x ∷ es) order = elim (cases_Bool (is_same_name name x.0)) [
+    pub edit_change : (g : TubeRecord → TubeRecord) → ((n : List ℕ) (t : KeptTube) → record_of n (f t) ≡ g (record_of n t)) → (es : List Named) → AreInOrder (map record_at es)
+        → map record_at (edited name f (lookup (is_named_at name) es) es) ≡ map (changed_one name g) (map record_at es)
+    edit_change g made [] order = refl
+    edit_change g made (x ∷ es) order = elim (cases_Bool (is_same_name name x.0)) [
       | inl e ↦
           let same : name ≡ x.0 = same_name name x.0 e in
           let none : has_entry name (records es) ≡ false = ap (λ n. has_entry n (records es)) same ∙ none_later x.0 (records es) order.0 in
-          ap (map record_at) (edited_here x es e) ∙ (λ i. made x.0 x.1 i ∷ sym (unchanged what (records es) none) i) ∙ sym (rw e refl)
-      | inr e ↦ ap (map record_at) (edited_past x es e) ∙ ap (λ ts. record_at x ∷ ts) (edit_change what made es order.1) ∙ sym (rw e refl)
+          ap (map record_at) (edited_here x es e) ∙ (λ i. made x.0 x.1 i ∷ sym (unchanged g (records es) none) i) ∙ sym (rw e refl)
+      | inr e ↦ ap (map record_at) (edited_past x es e) ∙ ap (λ ts. record_at x ∷ ts) (edit_change g made es order.1) ∙ sym (rw e refl)
     ]
 
   -- A new entry
@@ -193,7 +193,7 @@ module _ (name : List ℕ) where
   new_at x es Equal e other rest = absurd (let g : is_same_name name x.0 ≡ true = sym (ties name x.0) ∙ ap is_eq e in cc)
   new_at x es Greater e other rest = rw (other, ap is_lt e) (ap (λ ts. record_at x ∷ ts) rest)
 
-  new_record : (es : List Named) → has_entry name (map record_at es) ≡ false → map record_at (insert_entry (slice_cmp nat_cmp) es name fresh_entry) ≡ with_record (fresh_tube name) (map record_at es)
+  pub new_record : (es : List Named) → has_entry name (map record_at es) ≡ false → map record_at (insert_entry (slice_cmp nat_cmp) es name fresh_entry) ≡ with_record (fresh_tube name) (map record_at es)
   new_record [] h = refl
   new_record (x ∷ es) h =
       let parts = head_differs (is_same_name name x.0) (has_entry name (records es)) h in

@@ -16,7 +16,7 @@ use Rattle.bq_job.specs.machine.TubeCommands.{watching}
 use Rattle.bq_job.specs.machine.Limits.{raised}
 use Rattle.bq_job.specs.machine.Tubes.{fresh_tube, is_seated_at, watches, with_record}
 use Rattle.bq_job.proofs.ListLemmas.{all_at, all_from_members, all_weaker, found_passes, list_any_with}
-use Rattle.bq_jobs.specs.Kept.{with_added, without}
+use Rattle.bq_jobs.specs.Kept.{with_added}
 use Rattle.bq_core.specs.declared.state.State.{State}
 use Rattle.bq_core.specs.declared.job_list.JobChange.{JobChange}
 use Rattle.bq_core.specs.declared.job_list.JobChange.TheVariants.{FireTimers, HandOut, GiveBack, Release, Bury, Touch, Kick}
@@ -127,14 +127,7 @@ pub some_next : (low next : ℕ) (jobs : List Job) → AreIdsWithin low jobs nex
 some_next low next [] h = h
 some_next low next (k ∷ jobs) h = let a = h.0 in let b = some_next (suc k.id) next jobs h.1 in omega arith
 
--- where there is no job of the id, nothing is taken out or changed
-pub none_out : (id : ℕ) (jobs : List Job) → job_with id jobs ≡ None → without id jobs ≡ jobs
-none_out id [] h = refl
-none_out id (k ∷ jobs) h = elim (cases_Bool (k.id == id)) [
-  | inl same ↦ absurd (let e : Some k ≡ None = rw same at h in cc)
-  | inr other ↦ let rest : job_with id jobs ≡ None = rw other at h in rw other (ap (λ ks. k ∷ ks) (none_out id jobs rest))
-]
-
+-- where there is no job of the id, none is changed
 pub no_job_changed : (id : ℕ) (f : Job → Job) (jobs : List Job) → job_with id jobs ≡ None → map (λ j. if j.id == id then f j else j) jobs ≡ jobs
 no_job_changed id f [] h = refl
 no_job_changed id f (k ∷ jobs) h = elim (cases_Bool (k.id == id)) [

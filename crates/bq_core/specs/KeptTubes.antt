@@ -3,17 +3,15 @@ use Rattle.std.specs.Borrow.{Bor}
 use Rattle.std.specs.Prelude.{ℕ, Bool, false, true, ◌&&◌, not, is_some, if◌then◌else◌, List, [], ◌∷◌, ◌++◌, Option, Some, None, map}
 use Rattle.std.specs.Ordering.{is_gt, nat_cmp}
 use Rattle.std.specs.BTreeMap.{is_at}
-use Rattle.std.specs.Map.{set_value}
+use Rattle.std.specs.Map.{lookup, remove_entry, set_value}
 use Rattle.std.specs.Cmp.Lexicographic.{slice_cmp}
 use Rattle.bq_job.specs.declared.job.Job.{Job}
 use Rattle.bq_job.specs.machine.Limits.{raised}
 use Rattle.bq_job.specs.machine.Machine.{Pause, TubeRecord, default_tube}
-use Rattle.bq_job.specs.beside.NextDue.{dues_of_pause, earliest}
-use Rattle.bq_job.specs.machine.Timers.{pause_after_timers}
+use Rattle.bq_job.specs.machine.Timers.{pause_after_timers, tube_after_timers}
 use Rattle.bq_job.specs.machine.Tubes.{fresh_tube}
 use Rattle.bq_jobs.specs.declared.edit.Moved.{Moved}
 use Rattle.bq_core.specs.Crowds.{has_seats, no_crowd, recounted}
-use Rattle.bq_core.specs.Dues.{earlier_of_both}
 use Rattle.bq_core.specs.Tallies.{has_jobs, tally_moved, tally_of, tally_with, tally_without}
 use Rattle.bq_core.specs.TubeEntries.{is_tube_by, tube_changed}
 use Rattle.bq_core.specs.declared.crowd.Crowd.{Crowd}
@@ -96,6 +94,10 @@ abbrev pub edited : List ℕ → (KeptTube → KeptTube) → Option KeptTube →
 edited name f None es = es
 edited name f (Some t) es = set_value (is_named_at name) es (f t)
 
+-- the entries with the one of this name, if there is one, changed by f
+abbrev pub edited_at : List ℕ → (KeptTube → KeptTube) → List Named → List Named
+edited_at name f es = edited name f (lookup (is_named_at name) es) es
+
 -- whether a tube is paused, by its entry, if it has one
 abbrev pub is_paused_by : Option KeptTube → Bool
 is_paused_by None = false
@@ -114,9 +116,9 @@ crowd_by (Some t) = t.crowd
 abbrev pub ended : ℕ → KeptTube → KeptTube
 ended moment t = record t { pause = pause_after_timers moment t.pause }
 
--- the first end of a pause, once this entry was looked at
-abbrev pub with_end : Option ℕ → KeptTube → Option ℕ
-with_end best t = earlier_of_both best (earliest (dues_of_pause t.pause))
+-- the records once the pauses that are over have ended
+abbrev pub records_ended : ℕ → List Named → List TubeRecord
+records_ended moment es = map (tube_after_timers moment) (map record_at es)
 
 -- whether the tube of an entry exists
 abbrev pub is_alive_with : List ℕ → KeptTube → Bool
@@ -137,6 +139,10 @@ with_name_of names e = names ++ (if is_alive_with e.0.now e.1.now then e.0.now �
 abbrev pub is_gone_by : List ℕ → Option KeptTube → Bool
 is_gone_by name None = false
 is_gone_by name (Some t) = not (is_alive_with name t)
+
+-- without the entry of this name, where its tube is gone
+abbrev pub without_gone : List ℕ → List Named → List Named
+without_gone name es = if is_gone_by name (lookup (is_named_at name) es) then remove_entry (is_named_at name) es else es
 
 -- not before this name, if there is one
 abbrev pub is_from : Option (List ℕ) → Named → Bool

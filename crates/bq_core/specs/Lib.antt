@@ -20,6 +20,7 @@ pub mod Losses
 pub mod Offers
 pub mod Numbers
 pub mod Outbox
+pub mod PauseEnds
 pub mod Places
 pub mod Putting
 pub mod SeatChanges

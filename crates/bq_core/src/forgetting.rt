@@ -1,10 +1,13 @@
 //! Entries of tubes that are gone are dropped. Their boxes are kept for entries to come.
-ghost use Rattle.std.specs.Prelude.{◌≡◌, filter, find, if◌then◌else◌};
-ghost use Rattle.std.specs.Map.{lookup, remove_entry};
+ghost use Rattle.std.specs.Prelude.{◌≡◌, filter, find, map};
+ghost use Rattle.std.specs.Map.{lookup};
 ghost use Rattle.std.specs.Option.{option_map};
-ghost use Rattle.bq_core.specs.KeptTubes.{is_alive_at, is_alive_with, is_gone_by, is_gone_from, is_named_at};
+ghost use Rattle.bq_core.specs.KeptTubes.{is_alive_at, is_alive_with, is_gone_by, is_gone_from, is_named_at, record_at, without_gone};
+ghost use Rattle.bq_core.specs.PauseEnds.{AreEnds};
 
+use crate::pauses::PauseEnds;
 use crate::tube_entry::TubeEntry;
+use crate::tube_pauses;
 use crate::tube_walks::is_alive;
 use bq_index::{Catalog, Test};
 use bq_job::TubeName;
@@ -35,11 +38,17 @@ fn is_gone(catalog: &Catalog<TubeName, TubeEntry>, name: &TubeName) -> bool
 }
 
 /// Drops the entry of this name, where its tube is gone.
-pub(crate) fn forget_named(catalog: &mut Catalog<TubeName, TubeEntry>, name: &TubeName)
-    ensures { catalog.new.entries ≡ (if is_gone_by name.now (lookup (is_named_at name.now) catalog.old.entries) then remove_entry (is_named_at name.now) catalog.old.entries else catalog.old.entries) }
+pub(crate) fn forget_named(
+    catalog: &mut Catalog<TubeName, TubeEntry>,
+    ends: &mut PauseEnds,
+    name: &TubeName,
+)
+    requires { AreEnds (map record_at catalog.old.entries) ends.old }
+    ensures ends { AreEnds (map record_at catalog.new.entries) ends.new }
+    ensures kept { catalog.new.entries ≡ without_gone name.now catalog.old.entries }
 {
     if is_gone(catalog, name) {
-        let _entry = catalog.remove(name);
+        tube_pauses::drop_entry(catalog, ends, name);
     }
 }
 
@@ -58,14 +67,16 @@ fn next_gone(catalog: &Catalog<TubeName, TubeEntry>, from: &Option<TubeName>) ->
 }
 
 /// Drops all entries whose tubes are gone. After each, the search goes on from there.
-pub(crate) fn forget_all(catalog: &mut Catalog<TubeName, TubeEntry>)
-    ensures { catalog.new.entries ≡ filter is_alive_at catalog.old.entries }
+pub(crate) fn forget_all(catalog: &mut Catalog<TubeName, TubeEntry>, ends: &mut PauseEnds)
+    requires { AreEnds (map record_at catalog.old.entries) ends.old }
+    ensures ends { AreEnds (map record_at catalog.new.entries) ends.new }
+    ensures kept { catalog.new.entries ≡ filter is_alive_at catalog.old.entries }
 {
     let mut last = None;
     while let Some(name) = next_gone(catalog, &last) {
         // The names are in order.
         let _entries = catalog.len();
-        let _entry = catalog.remove(&name);
+        tube_pauses::drop_entry(catalog, ends, &name);
         last = Some(name);
     }
 }

@@ -1,8 +1,16 @@
-//! When the first of the pauses of tubes ends.
-ghost use Rattle.std.specs.Prelude.{◌≡◌};
+//! The ends of the pauses of tubes, in their order: the first of them, and what a change of a pause does to them.
+ghost use Rattle.std.specs.Prelude.{◌≡◌, ◌+◌, ◌<◌, ◌≤◌, length, is_some, if◌then◌else◌, IfOk, None, true};
+ghost use Rattle.std.specs.Option.{ForSome};
 ghost use Rattle.bq_core.specs.Dues.{is_end_over};
+ghost use Rattle.bq_core.specs.PauseEnds.{first_end, found_end, has_end, if_over, with_end, without_end};
 
-use bq_job::Moment;
+use crate::pause_end::PauseEnd;
+use bq_index::{Catalog, Test};
+use bq_job::{Moment, NoMemory};
+use std::alloc::Global;
+
+/// The ends of pauses, one for each tube that is paused.
+pub(crate) type PauseEnds = Catalog<PauseEnd, ()>;
 
 /// Whether a pause that ends then, if there is one, is over.
 pub(crate) fn is_over(end: Option<Moment>, moment: Moment) -> bool
@@ -11,5 +19,78 @@ pub(crate) fn is_over(end: Option<Moment>, moment: Moment) -> bool
     match end {
         None => false,
         Some(end) => end <= moment,
+    }
+}
+
+// Each end passes.
+#[derive(Clone, Copy)]
+struct Each;
+
+impl Test<PauseEnd, ()> for Each {
+    ghost use Rattle.std.specs.Prelude.{true};
+
+    ghost passed = { λ _ _ _. true };
+
+    fn passes(&self, _end: &PauseEnd, _none: &()) -> bool {
+        true
+    }
+}
+
+/// The first end, if there is one.
+pub(crate) fn first(ends: &PauseEnds) -> Option<PauseEnd>
+    ensures { result ≡ first_end ends.now.entries }
+{
+    match ends.first(&Each) {
+        None => None,
+        Some((end, _)) => Some(*end),
+    }
+}
+
+/// The first end, if it has come.
+pub(crate) fn first_over(ends: &PauseEnds, moment: Moment) -> Option<PauseEnd>
+    ensures { result ≡ if_over moment (first_end ends.now.entries) }
+{
+    match first(ends) {
+        None => None,
+        Some(end) => if end.until <= moment { Some(end) } else { None },
+    }
+}
+
+/// Sets boxes aside for the ends of the pauses of so many tubes and of one more.
+pub(crate) fn make_room(ends: &mut PauseEnds, alloc: Global, tubes: usize) -> Result<(), NoMemory>
+    ensures entries { ends.new.entries ≡ ends.old.entries }
+    ensures not_fewer { ends.old.spare ≤ ends.new.spare }
+    ensures room { IfOk result (λ _. tubes + 1 ≤ length ends.new.entries + ends.new.spare) }
+{
+    let Some(places) = tubes.checked_add(1) else {
+        return Err(NoMemory);
+    };
+    let more = places.saturating_sub(ends.len());
+    match ends.reserve(alloc, more) {
+        Ok(()) => Ok(()),
+        Err(_) => Err(NoMemory),
+    }
+}
+
+/// Puts an end in, if there is one.
+pub(crate) fn enter(ends: &mut PauseEnds, end: Option<PauseEnd>)
+    requires spare { ForSome end (λ _. 0 < ends.old.spare) }
+    requires absent { ForSome end (λ e. found_end e ends.old.entries ≡ None) }
+    ensures entries { ends.new.entries ≡ with_end end ends.old.entries }
+    ensures spare { ends.new.spare + (if is_some end then 1 else 0) ≡ ends.old.spare }
+{
+    if let Some(end) = end {
+        ends.insert(end, ());
+    }
+}
+
+/// Takes an end out, if there is one.
+pub(crate) fn leave(ends: &mut PauseEnds, end: Option<PauseEnd>)
+    requires { ForSome end (λ e. has_end e ends.old.entries ≡ true) }
+    ensures entries { ends.new.entries ≡ without_end end ends.old.entries }
+    ensures spare { ends.new.spare ≡ ends.old.spare + (if is_some end then 1 else 0) }
+{
+    if let Some(end) = end {
+        let _held = ends.remove(&end);
     }
 }

@@ -1,14 +1,15 @@
 //! What is kept of a tube.
 ghost use Rattle.std.specs.Prelude.{◌≡◌, [], is_some};
-ghost use Rattle.bq_job.specs.beside.NextDue.{dues_of_pause, earliest};
 ghost use Rattle.bq_job.specs.machine.TubeCommands.{with_pause};
 ghost use Rattle.bq_core.specs.KeptTubes.{ended, fresh_entry, kept_after, kept_changed, kept_moved, kept_recounted, record_of};
+ghost use Rattle.bq_core.specs.PauseEnds.{end_of};
 ghost use Rattle.bq_core.specs.Tallies.{tally_with, tally_without};
 
 use crate::crowd::{Crowd, Moving, Share};
 use crate::job_list::later;
+use crate::pause_end::PauseEnd;
 use crate::tally::Tally;
-use bq_job::{Job, Moment};
+use bq_job::{Job, Moment, TubeName};
 use bq_jobs::Moved;
 use std::marker::Model;
 
@@ -130,13 +131,16 @@ impl TubeEntry {
         self.crowd
     }
 
-    /// When its pause ends.
-    pub(crate) fn pause_end(&self) -> Option<Moment>
-        ensures { result ≡ earliest (dues_of_pause self.now.pause) }
+    /// The end of its pause, under the name of the tube.
+    pub(crate) fn end(&self, name: &TubeName) -> Option<PauseEnd>
+        ensures { result ≡ end_of name.now self.now.pause }
     {
         match &self.pause {
             None => None,
-            Some(pause) => Some(pause.until),
+            Some(pause) => Some(PauseEnd {
+                until: pause.until,
+                name: *name,
+            }),
         }
     }
 

@@ -1,67 +1,15 @@
 //! What is asked of all entries of tubes, one after another.
-ghost use Rattle.std.specs.Prelude.{◌≡◌, ◌<◌, ◌≤◌, ◌+◌, ◌++◌, [], ◌∷◌, None, vec_len, IfOk, fold, if◌then◌else◌};
+ghost use Rattle.std.specs.Prelude.{◌≡◌, ◌<◌, ◌≤◌, ◌+◌, ◌++◌, [], ◌∷◌, vec_len, IfOk, fold, if◌then◌else◌};
 ghost use Rattle.std.specs.Vec.{vec_capacity};
-ghost use Rattle.bq_core.specs.KeptTubes.{ended, is_alive_with, with_alive, with_end, with_name_of};
+ghost use Rattle.bq_core.specs.KeptTubes.{is_alive_with, with_alive, with_name_of};
 ghost use Rattle.bq_core.specs.Texts.{names_of};
 
-use crate::dues::earlier_of;
 use crate::name_lists::Names;
 use crate::tube_entry::TubeEntry;
 use crate::watch_list::default_tube;
-use bq_index::{Change, Visitor};
-use bq_job::{Moment, NoMemory, TubeName};
+use bq_index::Visitor;
+use bq_job::{NoMemory, TubeName};
 use std::alloc::Global;
-
-/// Pauses that are over end.
-#[derive(Clone, Copy)]
-pub(crate) struct EndPauses {
-    moment: Moment,
-}
-
-impl EndPauses {
-    pub(crate) fn at(moment: Moment) -> EndPauses
-        ensures { result ≡ record { moment = moment } }
-    {
-        EndPauses { moment }
-    }
-}
-
-impl Change<TubeName, TubeEntry> for EndPauses {
-    ghost changed = { λ c _ t. ended c.moment t };
-
-    fn change(&self, _name: &TubeName, entry: &mut TubeEntry) {
-        entry.fire_timer(self.moment);
-    }
-}
-
-/// When the first pause ends among those that were seen.
-#[derive(Clone, Copy)]
-pub(crate) struct FirstEnd {
-    moment: Option<Moment>,
-}
-
-impl FirstEnd {
-    /// Nothing was seen yet.
-    pub(crate) fn none() -> FirstEnd
-        ensures { result ≡ record { moment = None } }
-    {
-        FirstEnd { moment: None }
-    }
-
-    pub(crate) fn moment(&self) -> Option<Moment>
-        ensures { result ≡ self.now.moment }
-    {
-        self.moment
-    }
-}
-
-impl Visitor<TubeName, TubeEntry> for FirstEnd {
-    ghost after = { λ s _ t. record { moment = with_end s.moment t } };
-
-    fn visit(&mut self, _name: &TubeName, entry: &TubeEntry) {
-        self.moment = earlier_of(self.moment, entry.pause_end());
-    }
-}
 
 /// How many of those that were seen are of tubes that exist. The count stops at 2^64 - 1.
 #[derive(Clone, Copy)]

@@ -1,5 +1,5 @@
 //! The tubes: what is kept of each that exists.
-ghost use Rattle.std.specs.Prelude.{◌≡◌, ◌&&◌, IfOk, filter, find, length, map, not, is_some, is_ok, if◌then◌else◌, List};
+ghost use Rattle.std.specs.Prelude.{◌≡◌, ◌&&◌, [], IfOk, filter, find, length, map, not, is_some, is_ok, if◌then◌else◌, List};
 ghost use Rattle.std.specs.List.{list_any};
 ghost use Rattle.std.specs.Option.{option_map};
 ghost use Rattle.bq_job.specs.declared.job.Job.{Job};
@@ -16,11 +16,12 @@ ghost use Rattle.bq_core.specs.TubeEntries.{AreInOrder, has_entry, is_tube_by, i
 use crate::crowd::{Crowd, Moving, Share};
 use crate::loss::Loss;
 use crate::name_lists::Names;
+use crate::pauses::{self, PauseEnds};
 use crate::tally::Tally;
 use crate::tube_entry::{TubeChange, TubeEntry};
-use crate::tube_walks::{self, EndPauses, FirstEnd, HowMany};
+use crate::tube_walks::{self, HowMany};
 use crate::watch_list::default_tube;
-use crate::{forgetting, room, tube_edits};
+use crate::{forgetting, room, tube_edits, tube_pauses};
 use bq_index::Catalog;
 use bq_job::{Job, Moment, NoMemory, TubeName};
 use bq_jobs::Moved;
@@ -31,27 +32,42 @@ use std::marker::Model;
 #[derive(Drop)]
 pub(crate) struct Tubes {
     kept: Catalog<TubeName, TubeEntry>,
+    // The ends of their pauses.
+    ends: PauseEnds,
 }
 
 impl Model for Tubes {
-    ghost use Rattle.bq_core.specs.KeptTubes.{KeptTubes, tubes_kept};
+    ghost use Rattle.std.specs.Prelude.{map};
+    ghost use Rattle.bq_core.specs.KeptTubes.{KeptTubes, record_at, tubes_kept};
+    ghost use Rattle.bq_core.specs.PauseEnds.{AreEnds};
 
     ghost Value = { KeptTubes };
 
     ghost view = { λ t. tubes_kept t.kept.entries };
+
+    ghost invariant = { λ t. AreEnds (map record_at t.kept.entries) t.ends };
 }
 
 impl Tubes {
-    ghost use Rattle.bq_core.specs.KeptTubes.{first_tubes, record_of};
+    ghost use Rattle.bq_core.specs.KeptTubes.{first_tubes, record_of, tubes_kept};
 
     /// The default tube, which has no job and no client.
     pub(crate) fn first(alloc: Global) -> Result<Tubes, NoMemory>
         ensures { IfOk result (λ tubes. tubes ≡ first_tubes) }
     {
-        let mut kept = Catalog::new();
-        room::reserve_box(&mut kept, alloc)?;
-        kept.insert(default_tube(), TubeEntry::new());
-        Ok(Tubes { kept })
+        let mut tubes = Tubes::none();
+        let _is_new = tubes.provide(alloc, &default_tube())?;
+        Ok(tubes)
+    }
+
+    // No tube at all.
+    fn none() -> Tubes
+        ensures { result ≡ tubes_kept [] }
+    {
+        Tubes {
+            kept: Catalog::new(),
+            ends: Catalog::new(),
+        }
     }
 
     /// How many entries there are.
@@ -72,6 +88,7 @@ impl Tubes {
         if self.kept.peek(name).is_some() {
             return Ok(false);
         }
+        pauses::make_room(&mut self.ends, alloc, self.kept.len())?;
         room::reserve_box(&mut self.kept, alloc)?;
         self.kept.insert(*name, TubeEntry::new());
         Ok(true)
@@ -85,7 +102,7 @@ impl Tubes {
     {
         // The names are in order.
         let _entries = self.kept.len();
-        tube_edits::change(&mut self.kept, name, what);
+        tube_pauses::change(&mut self.kept, &mut self.ends, name, what);
     }
 
     /// Pauses that are over end.
@@ -94,7 +111,7 @@ impl Tubes {
         ensures tallies { self.new.tallies ≡ self.old.tallies }
         ensures crowds { self.new.crowds ≡ self.old.crowds }
     {
-        self.kept.change_all(&EndPauses::at(moment));
+        tube_pauses::end_all(&mut self.kept, &mut self.ends, moment);
     }
 
     /// The entry of this name.
@@ -207,22 +224,23 @@ impl Tubes {
     {
         match loss {
             Loss::Nothing => {}
-            Loss::Of(name) => forgetting::forget_named(&mut self.kept, name),
-            Loss::Any => forgetting::forget_all(&mut self.kept),
+            Loss::Of(name) => forgetting::forget_named(&mut self.kept, &mut self.ends, name),
+            Loss::Any => forgetting::forget_all(&mut self.kept, &mut self.ends),
         }
     }
 
-    /// When the first pause ends. It looks at each tube.
+    /// When the first pause ends. The ends are in order.
     pub(crate) fn first_pause_end(&self) -> Option<Moment>
         ensures { result ≡ first_pause_end self.now.entries }
     {
-        let mut first = FirstEnd::none();
-        self.kept.walk(&mut first);
-        first.moment()
+        let _ends = self.ends.len();
+        match pauses::first(&self.ends) {
+            None => None,
+            Some(end) => Some(end.until),
+        }
     }
 
-    /// When the first pause ends after a change of a tube, and when it did before. Only a new pause has
-    /// every tube looked at.
+    /// When the first pause ends after a change of a tube, and when it did before.
     pub(crate) fn pause_end_after(&self, what: TubeChange, last: Option<Moment>) -> Option<Moment>
         ensures { result ≡ pause_end_after self.now.entries what last }
     {
@@ -233,7 +251,7 @@ impl Tubes {
     }
 
     /// When the first pause ends once entries were dropped, of which there were so many, and when it did
-    /// before. Where none was dropped, no tube is looked at.
+    /// before.
     pub(crate) fn pause_end_left(&self, entries: usize, last: Option<Moment>) -> Option<Moment>
         ensures { result ≡ pause_end_left self.now.entries entries last }
     {

@@ -1,6 +1,7 @@
 -- the entries of tubes that are gone are dropped up to the last one that was found
-use Rattle.std.proofs.Common.{◌≡◌, filter, length}
-use Rattle.bq_core.specs.KeptTubes.{is_alive_at}
+use Rattle.std.proofs.Common.{◌≡◌, filter, length, map}
+use Rattle.bq_core.specs.KeptTubes.{is_alive_at, record_at}
+use Rattle.bq_core.specs.PauseEnds.{AreEnds}
 use Rattle.bq_core.proofs.GoneLemmas.{AllLeftBefore}
 use Rattle.bq_core.proofs.forgetting.forget_all.Given as goal
 
@@ -8,6 +9,7 @@ abbrev pub invariant-loop-name : goal.invariant-loop-name
 invariant-loop-name l = record {
   left : filter is_alive_at l.catalog.entries ≡ filter is_alive_at l.fn.catalog.entries;
   before : AllLeftBefore l.last l.catalog.entries;
+  ends : AreEnds (map record_at l.catalog.entries) l.ends;
 }
 
 abbrev pub decreases-loop-name : goal.decreases-loop-name
