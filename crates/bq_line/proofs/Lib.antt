@@ -1,3 +1,4 @@
+pub mod BufferLemmas
 pub mod LineNumberLemmas
 pub mod PartLemmas
 pub mod ReadingsLemmas

@@ -1,20 +1,24 @@
 //! Lines of bytes, each to one client and back.
-ghost use Rattle.std.specs.Prelude.{◌≡◌, ◌<◌, ℕ, length};
+ghost use Rattle.std.specs.Prelude.{◌≡◌, ◌<◌, ℕ, length, min, take};
 ghost use Rattle.std.specs.Io.{ReadsAtMost, WritesAtMost};
 ghost use Rattle.std.specs.IoError.{error_kind};
 ghost use Rattle.bq_job.specs.promise.LineSteps.{LineSeen};
 ghost use Rattle.bq_line.specs.LineCalls.{after_flush, after_read, after_write, first_fault, is_nothing_yet};
 
+pub use buffered::Buffered;
 pub use byte_record::ByteRecord;
 pub use connection::Connection;
 pub use io_line::IoLine;
 pub use mem_line::{MemLine, Part};
+pub use read_buffer::{READ_ROOM, ReadBuffer};
 pub use read_now::ReadNow;
 
+mod buffered;
 mod byte_record;
 mod connection;
 mod io_line;
 mod mem_line;
+mod read_buffer;
 mod read_now;
 
 use bq_job::LineFault;
@@ -70,4 +74,14 @@ fn note_fault(first: &mut Option<LineFault>, fault: LineFault)
     if first.is_none() {
         *first = Some(fault);
     }
+}
+
+// Copies as many first bytes as there is room for, and says how many.
+fn copy_first(bytes: &[u8], buf: &mut [u8]) -> usize
+    ensures count { result ≡ min (length bytes.now) (length buf.old) }
+    ensures copied { take result buf.new ≡ take result bytes.now }
+{
+    let count = bytes.len().min(buf.len());
+    buf[..count].copy_from_slice(&bytes[..count]);
+    count
 }

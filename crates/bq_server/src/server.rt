@@ -8,6 +8,7 @@ ghost use Rattle.bq_run.specs.Sessions.{IsRunOf};
 use bq_core::Config;
 use bq_job::NoMemory;
 use bq_line::clock::MachineClock;
+use bq_line::line::ReadBuffer;
 use bq_line::{Door, TcpDoor, clock};
 use bq_options::BqdOptions;
 use bq_program::{Fault, Options, tell_server};
@@ -175,11 +176,12 @@ fn new_door<'l, R: Clock>(
     rt: &'l R,
     listener: &'l TcpListener,
     sessions: Option<u32>,
+    buffer: ReadBuffer,
 ) -> TcpDoor<'l, R>
     ensures { IsNewDoor (door_seen ⟦<TcpDoor<'l, R> as Door>⟧.is_out ⟦<TcpDoor<'l, R> as Door>⟧.is_at_end
         ⟦<TcpDoor<'l, R> as Door>⟧.lines_over result) }
 {
-    TcpDoor::new(rt, listener, sessions)
+    TcpDoor::new(rt, listener, sessions, buffer)
 }
 
 // A door for each seat, all at one listener.
@@ -196,7 +198,10 @@ fn new_doors<'l, R: Clock>(
         return Err(NoMemory);
     };
     for _ in 0..options.seats {
-        let door = new_door(rt, listener, options.sessions);
+        let Ok(buffer) = ReadBuffer::new(alloc) else {
+            return Err(NoMemory);
+        };
+        let door = new_door(rt, listener, options.sessions, buffer);
         let Ok(()) = doors.push(door) else {
             return Err(NoMemory);
         };

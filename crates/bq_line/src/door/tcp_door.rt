@@ -1,11 +1,11 @@
-ghost use Rattle.std.specs.Prelude.{◌≡◌, [], OnErr, OnOk, Some, false, true};
+ghost use Rattle.std.specs.Prelude.{◌≡◌, [], IsSome, OnErr, OnOk, Some, false, true};
 ghost use Rattle.bq_line.specs.Doors.{IsOpened};
 ghost use Rattle.bq_line.specs.InAll.{in_all};
 
 use super::accept::accept;
 use super::line_record::LineRecord;
 use super::{Door, DoorFault};
-use crate::line::{Connection, IoLine, Line};
+use crate::line::{Buffered, Connection, IoLine, Line, ReadBuffer};
 use bq_job::LineEnd;
 use std::net::TcpListener;
 use std::rt::Clock;
@@ -18,16 +18,25 @@ pub struct TcpDoor<'l, R> {
     listener: &'l TcpListener,
     // How many connections still come. None: they come without end.
     left: Option<u32>,
+    // What the next connection is read through. It goes out with a connection, and comes back with it.
+    buffer: Option<ReadBuffer>,
     is_out: bool,
     is_at_end: bool,
     met_fault: bool,
     // For proofs alone.
     over: LineRecord,
+    ghost lent: { is_out ≡ false → IsSome buffer },
 }
 
 impl<'l, R: Clock> TcpDoor<'l, R> {
-    /// A door at which so many connections of the listener come, or with None connections without end.
-    pub fn new(rt: &'l R, listener: &'l TcpListener, sessions: Option<u32>) -> TcpDoor<'l, R>
+    /// A door at which so many connections of the listener come, or with None connections without end. They are
+    /// read through this buffer, one after another.
+    pub fn new(
+        rt: &'l R,
+        listener: &'l TcpListener,
+        sessions: Option<u32>,
+        buffer: ReadBuffer,
+    ) -> TcpDoor<'l, R>
         ensures inside { ⟦<TcpDoor<'l, R> as Door>⟧.is_out result ≡ false }
         ensures more { ⟦<TcpDoor<'l, R> as Door>⟧.is_at_end result ≡ false }
         ensures none_over { ⟦<TcpDoor<'l, R> as Door>⟧.lines_over result ≡ [] }
@@ -39,6 +48,7 @@ impl<'l, R: Clock> TcpDoor<'l, R> {
             rt,
             listener,
             left: sessions,
+            buffer: Some(buffer),
             is_out: false,
             is_at_end: false,
             met_fault: false,
@@ -53,8 +63,8 @@ impl<'l, R: Clock> TcpDoor<'l, R> {
         self.met_fault
     }
 
-    // A connection is out, which is counted.
-    fn count_one(&mut self)
+    // A connection goes out, which is counted, and the buffer with it.
+    fn lend(&mut self) -> ReadBuffer
         requires more { self.old.left ≡ Some 0 → ⊥ }
         requires inside { self.old.is_out ≡ false }
         ensures out { self.new.is_out ≡ true }
@@ -68,13 +78,17 @@ impl<'l, R: Clock> TcpDoor<'l, R> {
         if let Some(left) = self.left {
             self.left = Some(left - 1);
         }
+        let Some(buffer) = self.buffer.take() else {
+            unreachable!()
+        };
+        buffer
     }
 }
 
 impl<'l, R: Clock> Door for TcpDoor<'l, R> {
     ghost use Rattle.std.proofs.Common.{refl};
 
-    type Line = IoLine<Connection>;
+    type Line = IoLine<Buffered<Connection>>;
 
     ghost is_out = { λ door. door.is_out };
 
@@ -87,10 +101,10 @@ impl<'l, R: Clock> Door for TcpDoor<'l, R> {
 
     ghost same_self = { λ door. (refl, refl) };
 
-    fn open(&mut self) -> Result<Option<IoLine<Connection>>, DoorFault>
+    fn open(&mut self) -> Result<Option<IoLine<Buffered<Connection>>>, DoorFault>
         requires inside { self.old.is_out ≡ false }
         requires more { self.old.is_at_end ≡ false }
-        ensures opened { IsOpened ⟦<IoLine<Connection> as Line>⟧.seen self.new.is_out self.new.is_at_end result }
+        ensures opened { IsOpened ⟦<IoLine<Buffered<Connection>> as Line>⟧.seen self.new.is_out self.new.is_at_end result }
         ensures over { self.new.over ≡ self.old.over }
         ensures same { (first : _) → ⟦<TcpDoor<'l, R> as Door>⟧.same first self.old → ⟦<TcpDoor<'l, R> as Door>⟧.same first self.new }
         // A fault is kept for `met_fault`.
@@ -103,8 +117,8 @@ impl<'l, R: Clock> Door for TcpDoor<'l, R> {
         }
         match accept(self.rt, self.listener) {
             Ok(stream) => {
-                self.count_one();
-                Ok(Some(IoLine::new(stream)))
+                let buffer = self.lend();
+                Ok(Some(IoLine::new(Buffered::new(stream, buffer))))
             }
             Err(_) => {
                 self.is_at_end = true;
@@ -114,9 +128,10 @@ impl<'l, R: Clock> Door for TcpDoor<'l, R> {
         }
     }
 
-    // The connection is closed where the line is dropped.
-    fn shut(&mut self, line: IoLine<Connection>, end: LineEnd) {
+    // The connection is closed where its stream is dropped, and the buffer is kept for the next one.
+    fn shut(&mut self, line: IoLine<Buffered<Connection>>, end: LineEnd) {
         self.is_out = false;
         self.over.note(&line, end);
+        self.buffer = Some(line.into_stream().into_buffer());
     }
 }

@@ -4,7 +4,7 @@ ghost use Rattle.std.specs.Vec.{vec_capacity};
 ghost use Rattle.bq_line.specs.LineCalls.{after_flush, after_read, after_write, new_line};
 ghost use Rattle.bq_line.specs.LineParts.{IsAnsweredBy, bytes_up_to, is_over, open_place, place_after};
 
-use super::{Line, note_fault};
+use super::{Line, copy_first, note_fault};
 use bq_job::{LineFault, NoMemory};
 use std::alloc::Global;
 use std::io;
@@ -170,14 +170,4 @@ fn next_open(parts: &[Part], place: usize, offset: usize, written: usize) -> (us
         from = 0;
     }
     (at, from)
-}
-
-// Copies as many first bytes as there is room for, and says how many.
-fn copy_first(bytes: &[u8], buf: &mut [u8]) -> usize
-    ensures count { result ≡ min (length bytes.now) (length buf.old) }
-    ensures copied { take result buf.new ≡ take result bytes.now }
-{
-    let count = bytes.len().min(buf.len());
-    buf[..count].copy_from_slice(&bytes[..count]);
-    count
 }

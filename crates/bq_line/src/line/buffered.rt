@@ -1,0 +1,74 @@
+ghost use Rattle.std.specs.Prelude.{◌≡◌, []};
+ghost use Rattle.std.specs.Io.{ReadsAtMost};
+ghost use Rattle.std.specs.Io.KnownBytes.{ReadConsumes, prepend_known};
+
+use super::read_buffer::ReadBuffer;
+use super::read_now::ReadNow;
+use std::io;
+use std::io::{Read, Write};
+
+/// A stream that is read through a buffer: what lies in the buffer is given first, and only then is the stream
+/// asked, for as much as the buffer has room for. What is written goes to the stream at once.
+#[derive(Debug, Drop)]
+pub struct Buffered<S> {
+    stream: S,
+    buffer: ReadBuffer,
+}
+
+impl<S> Buffered<S> {
+    /// A stream from which nothing was read. What lay in the buffer is given up.
+    pub fn new(stream: S, buffer: ReadBuffer) -> Buffered<S>
+        ensures { result ≡ record { stream = stream; buffer = [] } }
+    {
+        let mut buffer = buffer;
+        buffer.clear();
+        Buffered { stream, buffer }
+    }
+
+    /// The buffer, and the stream is dropped.
+    pub fn into_buffer(self) -> ReadBuffer
+    where
+        S: Drop,
+        ensures { result ≡ self.buffer }
+    {
+        self.buffer
+    }
+}
+
+impl<S: ReadNow> Buffered<S> {
+    fn read_by(&mut self, buf: &mut [u8], waits: bool) -> io::Result<usize>
+        ensures bound { ReadsAtMost result buf.new }
+        ensures bytes { ReadConsumes (prepend_known self.old.buffer (S.remaining self.old.stream)) (prepend_known self.new.buffer (S.remaining self.new.stream)) result buf.new }
+    {
+        self.buffer.fill(&mut self.stream, waits)?;
+        Ok(self.buffer.give(buf))
+    }
+}
+
+impl<S: ReadNow> Read for Buffered<S> {
+    ghost use Rattle.std.specs.Io.KnownBytes.{prepend_known};
+
+    ghost remaining = { λ b. prepend_known b.buffer (S.remaining b.stream) };
+
+    fn read(&mut self, buf: &mut [u8]) -> io::Result<usize> {
+        self.read_by(buf, true)
+    }
+}
+
+impl<S: ReadNow> ReadNow for Buffered<S> {
+    fn read_now(&mut self, buf: &mut [u8]) -> io::Result<usize> {
+        self.read_by(buf, false)
+    }
+}
+
+impl<S: Write> Write for Buffered<S> {
+    ghost contents = { λ b. S.contents b.stream };
+
+    fn write(&mut self, buf: &[u8]) -> io::Result<usize> {
+        self.stream.write(buf)
+    }
+
+    fn flush(&mut self) -> io::Result<()> {
+        self.stream.flush()
+    }
+}
