@@ -362,3 +362,47 @@ def run_thread_refused(bqd):
 def run_no_memory(bqd):
     """Memory that is refused from the first request on is told on standard error, with status 1."""
     has_no_memory(bqd, "bqd", "--listen", f"{LOOPBACK}:0")
+
+
+def pieces(text, cuts):
+    """A text cut at these places."""
+    ends = [0] + [cut for cut in cuts if cut < len(text)] + [len(text)]
+    return [text[begin:end] for begin, end in zip(ends, ends[1:])]
+
+
+def run_bodies_at_the_edges(bqd):
+    """Bodies as long as a read or a write takes at once, and a byte less or more, come back as they were sent."""
+    sizes = [0, 1, 4095, 4096, 4097, 65535, 65536, 1048576]
+    with Server(bqd, "--seats", "1", "--max-job-size", "1048576") as server:
+        client = server.client()
+        number = 0
+        for size in sizes:
+            body = bytes(at * 7 % 251 for at in range(size))
+            text = b"put 0 0 9 %d\r\n" % size + body + b"\r\n"
+            for cuts in [[]] + [[edge - 1, edge, edge + 1] for edge in (4096, 65536, len(text) - 2)]:
+                for piece in pieces(text, cuts):
+                    client.sends(piece)
+                number += 1
+                client.hears(b"INSERTED %d\r\n" % number)
+                client.asks(b"reserve\r\n", b"RESERVED %d %d\r\n" % (number, size) + body + b"\r\n")
+                client.asks(b"delete %d\r\n" % number, b"DELETED\r\n")
+
+
+def run_commands_at_once(bqd):
+    """Commands that come together, more of them than a read takes at once, are answered one after another."""
+    puts = b"".join(b"put 0 0 9 %d\r\n%s\r\n" % (size, b"x" * size) for size in range(1000))
+    ids = range(1, 1001)
+    with Server(bqd, "--seats", "1") as server:
+        client = server.client()
+        client.asks(puts, b"".join(b"INSERTED %d\r\n" % it for it in ids))
+        client.asks(b"".join(b"delete %d\r\n" % it for it in ids), b"DELETED\r\n" * len(ids))
+
+
+def run_what_a_client_left(bqd):
+    """What a client sent and nobody read is no part of what the next one sends."""
+    with Server(bqd, "--seats", "1") as server:
+        first = server.client()
+        first.sends(b"list-tube-used\r\nquit\r\nuse other\r\nput 0 0 9 3\r\nab")
+        first.hears(b"USING default\r\n")
+        first.close()
+        server.client().asks(b"list-tube-used\r\n", b"USING default\r\n")

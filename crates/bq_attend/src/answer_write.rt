@@ -1,23 +1,18 @@
-ghost use Rattle.std.specs.Prelude.{◌≡◌, ◌≤◌, ◌+◌, ◌++◌, true, length};
+ghost use Rattle.std.specs.Prelude.{◌≡◌, ◌≤◌, ◌+◌, ◌++◌, true, length, take};
 ghost use Rattle.bq_job.specs.texts.AnswerText.{answer_text};
 ghost use Rattle.bq_attend.specs.Writing.{Writes};
 
-use arrayvec::ArrayVec;
 use bq_job::Answer;
 use bq_line::line::Line;
 use bq_wire::{HeadBuf, answer_body, answer_head, answer_tail, push_bytes};
 
-/// How many bytes a text has at most, whose parts are joined to go out in one write.
-const JOINED_ROOM: usize = 4096;
-
-/// How many bytes the head and the tail of an answer have at most, where they are joined.
-const END_ROOM: usize = 256;
-
 /// Writes the text of an answer and sends it off. Whether all of it was written.
-pub fn write_answer<L: Line>(line: &mut L, answer: &Answer) -> bool
+///
+/// As much of it as the room holds goes out in one write. What lies in the room before and after has no meaning.
+pub fn write_answer<L: Line>(line: &mut L, answer: &Answer, room: &mut [u8]) -> bool
     ensures { Writes (answer_text answer.now) (L.seen line.old) (L.seen line.new) result }
 {
-    if !write_text(line, answer) {
+    if !write_text(line, answer, room) {
         return false;
     }
     match line.flush() {
@@ -28,7 +23,7 @@ pub fn write_answer<L: Line>(line: &mut L, answer: &Answer) -> bool
 
 // Most texts have few bytes behind the head, or none. These go out from the room of the head, so that no
 // other has to be made.
-fn write_text<L: Line>(line: &mut L, answer: &Answer) -> bool
+fn write_text<L: Line>(line: &mut L, answer: &Answer, room: &mut [u8]) -> bool
     ensures { Writes (answer_text answer.now) (L.seen line.old) (L.seen line.new) result }
 {
     let mut head = HeadBuf::new();
@@ -38,7 +33,7 @@ fn write_text<L: Line>(line: &mut L, answer: &Answer) -> bool
     if have_room(&head, body, tail) {
         write_behind(line, &mut head, body, tail)
     } else {
-        write_long(line, head.as_slice(), body, tail)
+        write_long(line, room, head.as_slice(), body, tail)
     }
 }
 
@@ -60,45 +55,91 @@ fn write_behind<L: Line>(line: &mut L, head: &mut HeadBuf, body: &[u8], tail: &[
     write_all(line, head.as_slice())
 }
 
-// The parts of a text that isn't very long go out in one write, and those of a longer one after one another.
-fn write_long<L: Line>(line: &mut L, head: &[u8], body: &[u8], tail: &[u8]) -> bool
+// The parts of a text that the room holds go out in one write, and a longer one in as few as the room allows.
+fn write_long<L: Line>(line: &mut L, room: &mut [u8], head: &[u8], body: &[u8], tail: &[u8]) -> bool
     ensures { Writes (head.now ++ body.now ++ tail.now) (L.seen line.old) (L.seen line.new) result }
 {
-    if are_short(head, body, tail) {
-        write_joined(line, head, body, tail)
+    if fits(room.len(), head, body, tail) {
+        let behind_head = put(room, 0, head);
+        let behind_body = put(room, behind_head, body);
+        write_with(line, room, behind_body, tail)
     } else {
-        write_parts(line, head, body, tail)
+        write_parts(line, room, head, body, tail)
     }
 }
 
-// Whether the parts can be joined.
-fn are_short(head: &[u8], body: &[u8], tail: &[u8]) -> bool
-    ensures { result ≡ true → length head.now + length body.now + length tail.now ≤ 4096 }
+// Whether a room of so many bytes holds all three.
+fn fits(room: usize, head: &[u8], body: &[u8], tail: &[u8]) -> bool
+    ensures { result ≡ true → length head.now + length body.now + length tail.now ≤ room }
 {
-    head.len() <= END_ROOM && tail.len() <= END_ROOM && body.len() <= JOINED_ROOM - 2 * END_ROOM
+    head.len() <= room
+        && body.len() <= room - head.len()
+        && tail.len() <= room - head.len() - body.len()
 }
 
-fn write_joined<L: Line>(line: &mut L, head: &[u8], body: &[u8], tail: &[u8]) -> bool
-    requires { length head.now + length body.now + length tail.now ≤ 4096 }
+// Puts the bytes at this place of the room, and says where they end.
+fn put(room: &mut [u8], at: usize, bytes: &[u8]) -> usize
+    requires { at + length bytes.now ≤ length room.old }
+    ensures end { result ≡ at + length bytes.now }
+    ensures held { take result room.new ≡ take at room.old ++ bytes.now }
+{
+    let end = at + bytes.len();
+    room[at..end].copy_from_slice(bytes);
+    end
+}
+
+// Writes what lies in the room up to this place, and these bytes, together.
+fn write_with<L: Line>(line: &mut L, room: &mut [u8], at: usize, bytes: &[u8]) -> bool
+    requires { at + length bytes.now ≤ length room.old }
+    ensures { Writes (take at room.old ++ bytes.now) (L.seen line.old) (L.seen line.new) result }
+{
+    let end = put(room, at, bytes);
+    write_all(line, &room[..end])
+}
+
+// The head goes with the first bytes of the body, and the tail with its last ones. What lies between goes out
+// from where it is.
+fn write_parts<L: Line>(
+    line: &mut L,
+    room: &mut [u8],
+    head: &[u8],
+    body: &[u8],
+    tail: &[u8],
+) -> bool
     ensures { Writes (head.now ++ body.now ++ tail.now) (L.seen line.old) (L.seen line.new) result }
 {
-    let mut joined: ArrayVec<u8, JOINED_ROOM> = ArrayVec::new();
-    push_bytes(&mut joined, head);
-    push_bytes(&mut joined, body);
-    push_bytes(&mut joined, tail);
-    write_all(line, joined.as_slice())
+    let beside_head = room.len().saturating_sub(head.len());
+    let (first, rest) = body.split_at(body.len().min(beside_head));
+    if !write_pair(line, room, head, first) {
+        return false;
+    }
+    write_rest(line, room, rest, tail)
 }
 
-fn write_parts<L: Line>(line: &mut L, head: &[u8], body: &[u8], tail: &[u8]) -> bool
-    ensures { Writes (head.now ++ body.now ++ tail.now) (L.seen line.old) (L.seen line.new) result }
+// The rest of a body, and the tail with its last bytes.
+fn write_rest<L: Line>(line: &mut L, room: &mut [u8], rest: &[u8], tail: &[u8]) -> bool
+    ensures { Writes (rest.now ++ tail.now) (L.seen line.old) (L.seen line.new) result }
 {
-    if !write_all(line, head) {
+    let beside_tail = room.len().saturating_sub(tail.len());
+    let (middle, last) = rest.split_at(rest.len().saturating_sub(beside_tail));
+    if !write_all(line, middle) {
         return false;
     }
-    if !write_all(line, body) {
+    write_pair(line, room, last, tail)
+}
+
+// Two parts go out in one write where the room holds them.
+fn write_pair<L: Line>(line: &mut L, room: &mut [u8], first: &[u8], second: &[u8]) -> bool
+    ensures { Writes (first.now ++ second.now) (L.seen line.old) (L.seen line.new) result }
+{
+    if fits(room.len(), first, second, &[]) {
+        let behind_first = put(room, 0, first);
+        return write_with(line, room, behind_first, second);
+    }
+    if !write_all(line, first) {
         return false;
     }
-    write_all(line, tail)
+    write_all(line, second)
 }
 
 // Writes until all bytes are taken or a write fails.

@@ -1,5 +1,5 @@
 //! A seat's machine at work on a line.
-ghost use Rattle.std.specs.Prelude.{◌≡◌, ◌++◌, [], ℕ, List, IsTrue};
+ghost use Rattle.std.specs.Prelude.{◌≡◌, ◌<◌, ◌++◌, [], ℕ, List, IsTrue, length};
 ghost use Rattle.std.specs.Io.{ReadsAtMost};
 ghost use Rattle.bq_job.specs.declared.answer.Answer.{Answer};
 ghost use Rattle.bq_job.specs.declared.step.Step.{Step};
@@ -14,8 +14,12 @@ use bq_seat::{Action, Event, PIECE_ROOM, SeatMachine};
 use std::alloc::Global;
 use std::io;
 
-/// Room for one read of a line. It is made once a run, since a new one would be filled with zeros first.
-pub type Room = [u8; PIECE_ROOM];
+/// How many bytes a room has.
+pub const ROOM_BYTES: usize = 65536;
+
+/// Room for one read of a line, and for an answer that goes out in one write. It is made once a run, since a new
+/// one would be filled with zeros first.
+pub type Room = [u8; ROOM_BYTES];
 
 /// Carries out one action of a seat's machine, and says what the machine does next. Where a line is over,
 /// nothing is done. What lies in the room before and after has no meaning.
@@ -39,12 +43,12 @@ pub fn carry_out<L: Line, K: Link>(
             Ok(()) => (machine.on(alloc, Event::Submitted), true),
             Err(step) => (Action::Submit(step), false),
         },
-        Action::Read => read(alloc, machine, line, room),
+        Action::Read => read(alloc, machine, line, &mut room[..PIECE_ROOM]),
         Action::PollMail => match link.mail() {
             Some(answer) => (machine.on(alloc, Event::Mail(answer)), true),
             None => (machine.on(alloc, Event::NothingYet), false),
         },
-        Action::Write(answer) => (write(alloc, machine, &answer, line), true),
+        Action::Write(answer) => (write(alloc, machine, &answer, line, room), true),
         Action::LineOver(end) => (Action::LineOver(end), false),
         Action::Stray => (Action::Stray, false),
     }
@@ -54,8 +58,9 @@ fn read<L: Line>(
     alloc: Global,
     machine: &mut SeatMachine,
     line: &mut L,
-    room: &mut Room,
+    room: &mut [u8],
 ) -> (Action, bool)
+    requires { length room.old ≡ PIECE_ROOM }
     ensures { Carried machine.old (L.seen line.old) Action.Read machine.new (L.seen line.new) result.0 [] [] }
 {
     match read_line(machine, line, room) {
@@ -72,7 +77,8 @@ fn read<L: Line>(
 }
 
 // The line is waited for only where no answer is outstanding.
-fn read_line<L: Line>(machine: &SeatMachine, line: &mut L, room: &mut Room) -> io::Result<usize>
+fn read_line<L: Line>(machine: &SeatMachine, line: &mut L, room: &mut [u8]) -> io::Result<usize>
+    requires { 0 < length room.old }
     ensures bound { ReadsAtMost result room.new }
     ensures seen { L.seen line.new ≡ after_read result room.new (L.seen line.old) }
 {
@@ -83,10 +89,16 @@ fn read_line<L: Line>(machine: &SeatMachine, line: &mut L, room: &mut Room) -> i
     }
 }
 
-fn write<L: Line>(alloc: Global, machine: &mut SeatMachine, answer: &Answer, line: &mut L) -> Action
+fn write<L: Line>(
+    alloc: Global,
+    machine: &mut SeatMachine,
+    answer: &Answer,
+    line: &mut L,
+    room: &mut Room,
+) -> Action
     ensures { Carried machine.old (L.seen line.old) (Action.Write answer.now) machine.new (L.seen line.new) result [] [] }
 {
-    if write_answer(line, answer) {
+    if write_answer(line, answer, room) {
         machine.on(alloc, Event::WriteDone)
     } else {
         machine.on(alloc, Event::WriteFault)

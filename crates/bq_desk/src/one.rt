@@ -5,12 +5,12 @@ ghost use Rattle.bq_desk.specs.RunSettings.{is_lone};
 
 use crate::desk::Desk;
 use crate::desk_seat::act;
-use bq_attend::client::Room;
+use bq_attend::client::{ROOM_BYTES, Room};
 use bq_core::Config;
 use bq_job::{LineEnd, Seat, line_joins};
 use bq_line::clock::Clock;
 use bq_line::line::Line;
-use bq_seat::{Action, Event, PIECE_ROOM, SeatMachine, pasts_are_orderly};
+use bq_seat::{Action, Event, SeatMachine, pasts_are_orderly};
 use bq_start::RunFault;
 use std::alloc::Global;
 use std::sync::Wait;
@@ -59,7 +59,7 @@ pub fn run_one<R: Wait, L: Line + Drop, C: Clock + Drop>(
         return Err(RunFault::NoMemory);
     };
     let bell = Parker::new();
-    let room: &mut Room = &mut [0; PIECE_ROOM];
+    let room: &mut Room = &mut [0; ROOM_BYTES];
     let mut action = machine.on(alloc, Event::Opened);
     for _ in rt.forever() {
         match action {

@@ -9,11 +9,11 @@ ghost use Rattle.bq_ends.specs.Ends.{IsNewEnd};
 use crate::end_seat::attend_at;
 use crate::no_ticks::NoTicks;
 use bq_attend::attendant::{Attendant, Place};
-use bq_attend::client::Room;
+use bq_attend::client::{ROOM_BYTES, Room};
 use bq_line::Door;
 use bq_line::line::Line;
 use bq_link::{Intake, SeatEnd};
-use bq_seat::{PIECE_ROOM, SeatMachine};
+use bq_seat::SeatMachine;
 use std::alloc::Global;
 use std::sync::Wait;
 use std::thread;
@@ -49,7 +49,7 @@ pub fn seat_work<R: Wait, L: Line + Drop, D: Door<Line = L> + Drop>(
         machine,
         place: Place::Between,
     };
-    let room: &mut Room = &mut [0; PIECE_ROOM];
+    let room: &mut Room = &mut [0; ROOM_BYTES];
     for _ in rt.forever() {
         if attendant.is_done() {
             return (end, door);

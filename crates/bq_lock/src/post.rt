@@ -11,11 +11,10 @@ ghost use Rattle.bq_attend.specs.Tending.{IsNewDoor, door_seen};
 use crate::bells::Bells;
 use crate::shared_desk::{SharedDesk, SharedSeat};
 use bq_attend::attendant::Attendant;
-use bq_attend::client::Room;
+use bq_attend::client::{ROOM_BYTES, Room};
 use bq_job::{NoMemory, Seat};
 use bq_line::Door;
 use bq_line::line::Line;
-use bq_seat::PIECE_ROOM;
 use bq_start::Start;
 use std::alloc::Global;
 use std::sync::Wait;
@@ -90,7 +89,7 @@ impl<L: Line + Drop, D: Door<Line = L> + Drop> Post<L, D> {
             seat,
             at_hand: None,
         };
-        let room: &mut Room = &mut [0; PIECE_ROOM];
+        let room: &mut Room = &mut [0; ROOM_BYTES];
         for _ in rt.forever() {
             if attendant.is_done() {
                 return Some(door);
