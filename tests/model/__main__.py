@@ -3,9 +3,9 @@
 
     python3 tests/model --bq PATH --bqd PATH [--seed N] [--minutes M]
 
-Worked sessions, random sessions of `bq`, many clients of `bqd` one command at a time, and clients that are
-cut off. It ends with a line 'N passed, M failed', and status 0 where nothing failed. With --broken NAME the
-rules are turned in one place, and the run has to fail; --self-check tries all of these.
+Worked sessions, random sessions of `bq`, many clients of `bqd` one command at a time, many side by side, and
+clients that are cut off. It ends with a line 'N passed, M failed', and status 0 where nothing failed. With
+--broken NAME the rules are turned in one place, and the run has to fail; --self-check tries all of these.
 """
 import argparse
 import sys

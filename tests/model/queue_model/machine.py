@@ -272,7 +272,7 @@ class Machine:
 
     def forget_tubes(self):
         """A tube that is gone takes its counts and its pause with it."""
-        for name in [it for it in self.tubes if not self.is_tube(it)]:
+        for name in set(self.tubes).difference(self.tube_names()):
             del self.tubes[name]
 
     def own(self, seat, number):

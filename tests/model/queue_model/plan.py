@@ -3,14 +3,15 @@ import concurrent.futures
 import multiprocessing
 import time
 
-from . import lockstep, programs, sessions, soak, worked
+from . import beside, lockstep, programs, sessions, soak, worked
 from .broken import BROKEN
 from .machine import Machine
 
-# A round: batches of sessions, runs of 8 and of 60 clients, and soaks, with their sizes.
+# A round: batches of sessions, runs of 8 and of 60 clients, runs of clients side by side, and soaks, with their sizes.
 BATCHES, SESSIONS = 40, 40
 EIGHT, EIGHT_ACTIONS = 24, 300
 SIXTY, SIXTY_ACTIONS = 6, 500
+BESIDE, BESIDE_CLIENTS = 3, 64
 SOAKS, SOAK_SECONDS = 2, 10
 PROCESSES = 5
 
@@ -24,6 +25,7 @@ def round_of(bq, bqd, known, rules, seed):
     """The calls of a round. What takes longest comes first."""
     calls = [(lockstep.lockstep, bqd, known["bqd"], rules, "%s/sixty/%d" % (seed, at), 60, SIXTY_ACTIONS) for at in range(SIXTY)]
     calls += [(lockstep.lockstep, bqd, known["bqd"], rules, "%s/eight/%d" % (seed, at), 8, EIGHT_ACTIONS) for at in range(EIGHT)]
+    calls += [(beside.beside, bqd, rules, "%s/beside/%d" % (seed, at), BESIDE_CLIENTS) for at in range(BESIDE)]
     calls += [(soak.soak, bqd, "%s/soak/%d" % (seed, at), SOAK_SECONDS) for at in range(SOAKS)]
     return calls + [(sessions.batch, bq, known["bq"], rules, "%s/sessions/%d" % (seed, at), SESSIONS) for at in range(BATCHES)]
 
