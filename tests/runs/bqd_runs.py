@@ -1,4 +1,5 @@
 """Runs of bqd, the server over TCP."""
+import random
 import socket
 import time
 
@@ -7,12 +8,15 @@ from servers import Server, awaits, free_port
 
 LOOPBACK = "127.0.0.1"
 
-# How late a job may come to who waits for it, in seconds. A seat that waits rests for twice as long between two
-# looks, unless it is woken.
+# How late a job may come to who waits for it, in seconds, where it is put and where its lease has ended. A seat that
+# waits rests for twenty times and for twice as long between two looks, unless it is woken.
+SOON = 0.005
 LATE = 0.05
 
-# How often it is tried, since a busy machine can be late without the server.
+# How often it is tried, since a busy machine can be late without the server, and how often a job has to come soon,
+# since it may by chance.
 TRIES = 8
+SOON_TRIES = 3
 
 
 def run_no_words(bqd):
@@ -276,20 +280,22 @@ def run_more_clients_than_seats(bqd):
 
 
 def run_put_goes_on_at_once(bqd):
-    """A job that is put goes to a client that waits as soon as it is put, once at least."""
+    """A job that is put goes to a client that waits as soon as it is put, at some random moments at least."""
+    soon = 0
     with Server(bqd, "--seats", "2") as server:
         one, other = server.client(), server.client()
         for number in range(1, TRIES + 1):
             one.sends(b"reserve\r\n")
-            time.sleep(0.02)
+            time.sleep(random.uniform(0.02, 0.25))
             start = time.monotonic()
             other.sends(b"put 0 0 9 1\r\nx\r\n")
             one.hears(b"RESERVED %d 1\r\nx\r\n" % number)
             took = time.monotonic() - start
             other.hears(b"INSERTED %d\r\n" % number)
-            if took <= LATE:
+            soon += took <= SOON
+            if soon == SOON_TRIES:
                 return
-    raise AssertionError("it was handed out late each time")
+    raise AssertionError(f"it was handed out late but for {soon} times")
 
 
 def run_rests(bqd):
@@ -304,6 +310,20 @@ def run_rests(bqd):
         before = server.time_worked()
         time.sleep(1)
         same(server.time_worked() - before < 0.2, True)
+
+
+def run_seldom_wakes(bqd):
+    """While 16 clients say nothing and one waits, the server's threads wake fewer than 30 times a second in all."""
+    with Server(bqd, "--seats", "17") as server:
+        for _ in range(16):
+            server.client().asks(b"list-tube-used\r\n", b"USING default\r\n")
+        server.client().sends(b"reserve\r\n")
+        time.sleep(0.1)
+        before = server.times_woken()
+        time.sleep(2)
+        woken = server.times_woken() - before
+    if woken >= 60:
+        raise AssertionError(f"woken {woken} times in two seconds")
 
 
 def run_lease_goes_on_in_time(bqd):

@@ -82,6 +82,14 @@ class Server:
             ticks = stat.read().rsplit(")", 1)[1].split()[11:13]
         return sum(map(int, ticks)) / os.sysconf("SC_CLK_TCK")
 
+    def times_woken(self):
+        """How often the server's threads have given their processor up to rest. Each was woken as often, or rests still."""
+        times = 0
+        for thread in os.listdir(f"/proc/{self.process.pid}/task"):
+            with open(f"/proc/{self.process.pid}/task/{thread}/status") as status:
+                times += next(int(line.split()[1]) for line in status if line.startswith("voluntary_ctxt_switches"))
+        return times
+
     def goes_on(self, seconds):
         """Whether the server hasn't ended so many seconds later."""
         try:
