@@ -14,7 +14,7 @@ class Host:
         self.told = f"{folder}/told"
 
     def environment(self, **chosen):
-        """The environment of a run, and nothing told yet. chosen: at, from_, every, later."""
+        """The environment of a run, and nothing told yet. chosen: at, from_, every, later, accepts."""
         open(self.told, "wb").close()
         named = {f"REFUSE_{it.strip('_').upper()}": str(value) for it, value in chosen.items()}
         # One arena, so that libc's own requests for a thread are the same in each run.

@@ -4,6 +4,7 @@
    REFUSE_AT=N      the Nth request is refused
    REFUSE_FROM=N    the Nth request and all behind it are refused
    REFUSE_EVERY=N   every Nth request is refused
+   REFUSE_ACCEPTS=N the Nth call that accepts a connection, and all behind it, fail as at a listener that has ended
    REFUSE_LATER=1   nothing is refused or counted before a signal SIGUSR2, nor after a second one
    REFUSE_TOLD=FILE at the first refusal one byte is written to FILE, which has to be there
    REFUSE_MARKS=FILE each time the program writes a line to standard output, the line `requests COUNT`
@@ -21,6 +22,7 @@
 #include <stdio.h>
 #include <stdlib.h>
 #include <string.h>
+#include <sys/socket.h>
 #include <unistd.h>
 
 extern void *__libc_malloc(size_t);
@@ -28,9 +30,9 @@ extern void *__libc_calloc(size_t, size_t);
 extern void *__libc_realloc(void *, size_t);
 extern void *__libc_memalign(size_t, size_t);
 
-static atomic_ulong requests;
+static atomic_ulong requests, accepts;
 static atomic_int is_told, is_idle;
-static unsigned long at, from, every;
+static unsigned long at, from, every, last_accepts;
 static int told = -1, marks = -1;
 
 static unsigned long number(const char *name) {
@@ -53,6 +55,7 @@ __attribute__((constructor)) static void begin(void) {
     from = number("REFUSE_FROM");
     every = number("REFUSE_EVERY");
     at = number("REFUSE_AT");
+    last_accepts = number("REFUSE_ACCEPTS");
     atomic_store(&requests, 0);
     if (number("REFUSE_LATER")) {
         struct sigaction by = {.sa_handler = turn, .sa_flags = SA_RESTART};
@@ -94,6 +97,22 @@ int posix_memalign(void **room, size_t align, size_t size) {
     *room = __libc_memalign(align, size);
     return *room ? 0 : ENOMEM;
 }
+
+static int has_ended(void) {
+    int ended = last_accepts && atomic_fetch_add(&accepts, 1) + 1 >= last_accepts;
+    if (ended)
+        errno = EINVAL;
+    return ended;
+}
+
+int accept4(int listener, struct sockaddr *peer, socklen_t *length, int flags) {
+    static int (*libc_accept4)(int, struct sockaddr *, socklen_t *, int);
+    if (!libc_accept4)
+        libc_accept4 = (int (*)(int, struct sockaddr *, socklen_t *, int))dlsym(RTLD_NEXT, "accept4");
+    return has_ended() ? -1 : libc_accept4(listener, peer, length, flags);
+}
+
+int accept(int listener, struct sockaddr *peer, socklen_t *length) { return accept4(listener, peer, length, 0); }
 
 /* What the program writes to its standard output is noted beside the count, as far as it is asked for. */
 ssize_t write(int file, const void *bytes, size_t length) {

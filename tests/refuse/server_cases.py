@@ -1,4 +1,4 @@
-"""`bqd` with refused memory: at its start, and in the middle of a load."""
+"""`bqd` with refused memory, at its start and in the middle of a load; and with a listener that ends."""
 import random
 import signal
 import socket
@@ -8,6 +8,7 @@ import threading
 from refusal import each_in_turn
 
 FAULTS = (b"bqd: no memory\n", b"bqd: a thread was refused\n")
+NOT_ACCEPTED = b"bqd: a connection could not be accepted\n"
 SEATS = 2
 CLIENTS, ROUNDS = 8, 150
 EACH_NTH = (1, 2, 5, 31)
@@ -80,6 +81,20 @@ def start_refused(bqd, nth):
     if refused and status == 1 and complaint in FAULTS and all(it == [b""] for it in told):
         return refused, None
     return refused, f"status {status}, {complaint!r}, clients were told {told}"
+
+
+def listener_ends(bqd):
+    """A listener at which the third accept fails for good: both seats serve whom they accepted, and then the fault is told."""
+    server, address = started(bqd, ["--seats", str(SEATS)], accepts=SEATS + 1)
+    told = []
+    for _ in range(SEATS if address else 0):
+        client = Client(address)
+        told.append(client.ask(b"list-tube-used")[0])
+        client.close()
+    status, complaint = ended(server)
+    if (status, complaint) == (1, NOT_ACCEPTED) and told == SEATS * [[b"USING", b"default"]]:
+        return 1, None
+    return 1, f"status {status}, {complaint!r}, clients were told {told}"
 
 
 class Load:
@@ -173,5 +188,6 @@ def load_refused(bqd, every):
 def cases(bqd):
     """The cases by name: each a call that answers how many runs it made, and what is wrong or None."""
     yield "bqd: start", lambda: each_in_turn(lambda nth: start_refused(bqd, nth))
+    yield "bqd: a listener that ends", lambda: listener_ends(bqd)
     for every in EACH_NTH:
         yield f"bqd: load, one request in {every} refused", lambda it=every: load_refused(bqd, it)
