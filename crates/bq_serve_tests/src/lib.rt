@@ -18,6 +18,8 @@ mod journal;
 #[cfg(test)]
 mod many_lines;
 #[cfg(test)]
+mod meeting;
+#[cfg(test)]
 mod one_line;
 #[cfg(test)]
 mod refused;
