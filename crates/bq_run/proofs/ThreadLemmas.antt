@@ -1,10 +1,12 @@
 -- The threads of a run: their posts, their starts and what they gave back.
-use Rattle.std.proofs.Common.{◌≡◌, ℕ, zero, suc, ◌+◌, ◌<◌, Bool, true, false, Ok, List, [], ◌∷◌, ◌++◌, Some, map, length, refl, sym, ap, ◌∙◌, arith, subst, append-nil, append_assoc, slice_get, slice_index_or}
+use Rattle.std.proofs.Common.{◌≡◌, ℕ, zero, suc, ◌+◌, ◌<◌, Bool, true, false, Ok, Err, List, [], ◌∷◌, ◌++◌, Some, map, length, refl, sym, ap, ◌∙◌, arith, subst, append-nil, append_assoc, slice_get, slice_index_or}
 use Rattle.std.specs.Prelude.{IsErrOf}
 use Rattle.std.specs.List.{All}
 use Rattle.std.specs.Option.{option_to_list}
 use Rattle.std.proofs.lemmas.List.{length-append}
 use Rattle.bq_attend.specs.Tending.{DoorSeen, IsDoorServed}
+use Rattle.bq_start.specs.declared.fault.RunFault.{RunFault}
+use Rattle.bq_start.specs.declared.fault.RunFault.TheVariants.{BadConfiguration, NoMemory}
 use Rattle.bq_link.specs.EndStates.{CoreState, IsPair, IsSameCore, IsSameSeat, SeatState}
 use Rattle.bq_link.specs.NewEnds.{AreNewSeats}
 use Rattle.atomic_table.specs.Seated.{TableId}
@@ -107,6 +109,10 @@ new_ends core all new place d below = let n = new place d below in record { subm
 -- what went well is no fault
 pub no_fault : {T E : Type 0} (t : T) (fault : E) → IsErrOf {T = T} {E = E} (Ok t) fault → ⊥
 no_fault t fault e = absurd cc
+
+-- A want of memory is no bad configuration.
+pub other_fault : {T : Type 0} → IsErrOf {T = T} {E = RunFault} (Err NoMemory) BadConfiguration → ⊥
+other_fault e = absurd cc
 
 pub never : false ≡ true → ⊥
 never e = absurd cc

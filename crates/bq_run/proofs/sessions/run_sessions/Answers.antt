@@ -8,7 +8,7 @@ use Rattle.bq_link.specs.EndStates.{SeatState}
 use Rattle.bq_run.specs.Linked.{ArePaired, AreStill, IsLinked}
 use Rattle.bq_run.specs.Threads.{last_first}
 use Rattle.bq_run.proofs.LinkedLemmas.{all_at_end, all_done, core_keeps, core_over_of, run_joined, served_of, still_doored}
-use Rattle.bq_run.proofs.ThreadLemmas.{back_paired, never, no_fault}
+use Rattle.bq_run.proofs.ThreadLemmas.{back_paired, never, no_fault, other_fault}
 use Rattle.bq_run.proofs.sessions.run_sessions.Goals as goal
 
 pub returns-in-Err-clause-bad_configuration : goal.returns-in-Err-clause-bad_configuration
@@ -21,10 +21,30 @@ returns-in-Err-clause-bad_configuration g c =
       ],
     )
 
+pub returns-in_default-clause-bad_configuration : goal.returns-in_default-clause-bad_configuration
+returns-in_default-clause-bad_configuration g c =
+    let fits : (vec_len c.args.doors == c.args.config.seats) ≡ true = eq-eqb (vec_len c.args.doors) c.args.config.seats (let b = c.if-len-from.false in let d = c.len.ensures in let e = c.from.ensures in omega arith) in (
+      λ e. absurd (other_fault e),
+      λ h. elim (cases_Bool (are_in_range c.args.config)) [
+        | inl good ↦ absurd (never (rw (good, fits) at h))
+        | inr bad ↦ absurd (no_fault _ BadConfiguration (c.in_ok-new.ensures.bad_configuration.1 (rw bad refl)))
+      ],
+    )
+
+pub returns-in_default-new_posts-clause-bad_configuration : goal.returns-in_default-new_posts-clause-bad_configuration
+returns-in_default-new_posts-clause-bad_configuration g c =
+    let fits : (vec_len c.args.doors == c.args.config.seats) ≡ true = eq-eqb (vec_len c.args.doors) c.args.config.seats (let b = c.if-len-from.false in let d = c.len.ensures in let e = c.from.ensures in omega arith) in (
+      λ e. absurd (other_fault e),
+      λ h. elim (cases_Bool (are_in_range c.args.config)) [
+        | inl good ↦ absurd (never (rw (good, fits) at h))
+        | inr bad ↦ absurd (no_fault _ BadConfiguration (c.in_ok-new.ensures.bad_configuration.1 (rw bad refl)))
+      ],
+    )
+
 pub returns-in_default-push-clause-bad_configuration : goal.returns-in_default-push-clause-bad_configuration
 returns-in_default-push-clause-bad_configuration g c =
     let fits : (vec_len c.args.doors == c.args.config.seats) ≡ true = eq-eqb (vec_len c.args.doors) c.args.config.seats (let b = c.if-len-from.false in let d = c.len.ensures in let e = c.from.ensures in omega arith) in (
-      λ e. absurd cc,
+      λ e. absurd (other_fault e),
       λ h. elim (cases_Bool (are_in_range c.args.config)) [
         | inl good ↦ absurd (never (rw (good, fits) at h))
         | inr bad ↦ absurd (no_fault _ BadConfiguration (c.in_ok-new.ensures.bad_configuration.1 (rw bad refl)))
