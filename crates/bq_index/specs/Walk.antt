@@ -1,21 +1,13 @@
 -- What a walk over entries does.
 use Rattle.std.specs.Borrow.{Bor}
 use Rattle.std.specs.Ordering.{is_gt}
-use Rattle.std.specs.Prelude.{Bool, ◌&&◌, not, Option, None, Some}
+use Rattle.std.specs.Prelude.{Bool, ◌&&◌, not}
 use Rattle.std.specs.declared.cmp.Ordering.{Ordering}
 
 module _ {K V : Type 0} where
   -- who saw e beside what was seen before
   abbrev pub seen_by : {T : Type 0} → (T → K → V → T) → T → K × V → T
   seen_by after t e = after t e.0 e.1
-
-  -- e with its value changed
-  abbrev pub changed_by : (K → V → V) → K × V → K × V
-  changed_by f e = (e.0, f e.0 e.1)
-
-  abbrev pub entry_changed : (K → V → V) → Option (K × V) → Option (K × V)
-  entry_changed f None = None
-  entry_changed f (Some e) = Some (changed_by f e)
 
   -- the entry that is lent
   abbrev pub entry_of : Bor K × Bor V → K × V

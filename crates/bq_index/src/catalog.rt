@@ -7,7 +7,7 @@ ghost use Rattle.std.specs.BTreeMap.{is_at, insert_entry};
 
 use super::NoMemory;
 use super::shelf::Shelf;
-use super::walk::{Change, Test, Visitor};
+use super::walk::{Test, Visitor};
 use std::alloc::Global;
 use std::marker::Model;
 
@@ -30,7 +30,7 @@ impl<K: Ord + Drop, V: Drop> Model for Catalog<K, V> {
 impl<K: Ord + Drop, V: Drop> Catalog<K, V> {
     ghost use Rattle.std.specs.Borrow.{sem};
     ghost use Rattle.bq_index.specs.CatalogLent.{LendsEntry};
-    ghost use Rattle.bq_index.specs.Walk.{changed_by, entry_of, passes_by, passes_from, seen_by};
+    ghost use Rattle.bq_index.specs.Walk.{entry_of, passes_by, passes_from, seen_by};
 
     /// A catalog with no entries and no spare boxes. It takes no memory.
     pub fn new() -> Self
@@ -131,13 +131,5 @@ impl<K: Ord + Drop, V: Drop> Catalog<K, V> {
         ensures { IfOk result (λ listed. map entry_of listed.items ≡ self.now.entries) }
     {
         self.shelf.list(alloc)
-    }
-
-    /// Changes each value in its place. It takes no memory.
-    pub fn change_all<C: Change<K, V>>(&mut self, change: &C)
-        ensures entries { self.new.entries ≡ map (changed_by (C.changed change.now)) self.old.entries }
-        ensures spare { self.new.spare ≡ self.old.spare }
-    {
-        self.shelf.change_all(change);
     }
 }

@@ -12,7 +12,7 @@ pub use boxes::BoxSource;
 pub use catalog::Catalog;
 pub use fault::NoMemory;
 pub use shelf::Shelf;
-pub use walk::{Change, Test, Visitor};
+pub use walk::{Test, Visitor};
 
 mod boxes;
 mod catalog;

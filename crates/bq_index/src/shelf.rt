@@ -8,7 +8,7 @@ ghost use Rattle.std.specs.BTreeMap.{is_at, insert_entry};
 use super::boxes::BoxSource;
 use super::descent::{Deepest, Descent};
 use super::tree::Tree;
-use super::walk::{Change, Test, Visitor};
+use super::walk::{Test, Visitor};
 use super::{NoMemory, chain, change, find, walk};
 use std::alloc::Global;
 use std::marker::Model;
@@ -58,7 +58,7 @@ impl<K: Ord + Drop, V: Drop> Shelf<K, V> {
     ghost use Rattle.std.specs.Borrow.{sem};
     ghost use Rattle.bq_index.specs.Shelf.{ComparesFew};
     ghost use Rattle.bq_index.specs.ShelfLent.{LeavesEntries, LendsValue};
-    ghost use Rattle.bq_index.specs.Walk.{changed_by, entry_of, passes_by, passes_from, seen_by};
+    ghost use Rattle.bq_index.specs.Walk.{entry_of, passes_by, passes_from, seen_by};
 
     /// A shelf with no entries and no spare boxes. It takes no memory.
     pub fn new() -> Self
@@ -195,7 +195,7 @@ impl<K: Ord + Drop, V: Drop> Shelf<K, V> {
         find::next_from(&self.tree, key, &mut self.comparisons)
     }
 
-    // What follows up to `change_all` is for a catalog, which counts no comparisons: the value at a key.
+    // What follows up to `list` is for a catalog, which counts no comparisons: the value at a key.
     pub(crate) fn peek(&self, key: &K) -> Option<&V>
         ensures { option_map (λ v. v.now) result ≡ lookup (is_at (K.cmp key.now)) self.now.entries }
     {
@@ -234,16 +234,6 @@ impl<K: Ord + Drop, V: Drop> Shelf<K, V> {
         };
         walk::list(&self.tree, &mut listed);
         Ok(listed)
-    }
-
-    // Changes each value in its place. No keys are compared, and no memory is taken.
-    pub(crate) fn change_all<C: Change<K, V>>(&mut self, change: &C)
-        ensures entries { self.new.entries ≡ map (changed_by (C.changed change.now)) self.old.entries }
-        ensures spare { self.new.spare ≡ self.old.spare }
-        ensures comparisons { self.new.comparisons ≡ self.old.comparisons }
-    {
-        let tree = mem::replace(&mut self.tree, Tree::Leaf);
-        self.tree = walk::change_all(tree, change);
     }
 
     /// The value at a key, to be changed in its place.

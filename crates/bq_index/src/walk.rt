@@ -3,10 +3,10 @@ ghost use Rattle.std.specs.Prelude.{◌≡◌, ◌+◌, ◌≤◌, ◌++◌, Boo
 ghost use Rattle.std.specs.Option.{option_map};
 ghost use Rattle.std.specs.Vec.{vec_capacity};
 ghost use Rattle.bq_index.specs.Order.{InOrder};
-ghost use Rattle.bq_index.specs.Tree.{entries, height, IsBalanced};
-ghost use Rattle.bq_index.specs.Walk.{changed_by, entry_changed, entry_of, passes_by, passes_from, seen_by};
+ghost use Rattle.bq_index.specs.Tree.{entries, IsBalanced};
+ghost use Rattle.bq_index.specs.Walk.{entry_of, passes_by, passes_from, seen_by};
 
-use super::tree::{Node, Tree, open, parts, rejoin};
+use super::tree::{Tree, parts};
 use std::alloc::Global;
 
 /// Who is shown entries, one after another.
@@ -17,16 +17,6 @@ pub trait Visitor<K, V> {
     /// Sees an entry.
     fn visit(&mut self, key: &K, value: &V)
         ensures { self.new ≡ after self.old key.now value.now };
-}
-
-/// What becomes of the values of entries.
-pub trait Change<K, V> {
-    /// What a value becomes.
-    ghost changed: { Self → K → V → V };
-
-    /// Changes the value of an entry.
-    fn change(&self, key: &K, value: &mut V)
-        ensures { value.new ≡ changed self.now key.now value.old };
 }
 
 /// A test of entries.
@@ -109,32 +99,4 @@ pub(crate) fn list<'a, K, V>(tree: &'a Tree<K, V>, listed: &mut Vec<(&'a K, &'a 
     list(left, listed);
     listed.push_reserved((key, value));
     list(right, listed);
-}
-
-fn change_node<K, V, C: Change<K, V>>(node: &mut Node<K, V>, change: &C)
-    ensures entry { node.new.entry ≡ entry_changed (C.changed change.now) node.old.entry }
-    ensures height { node.new.height ≡ node.old.height }
-{
-    if let Some((key, value)) = &mut node.entry {
-        change.change(key, value);
-    }
-}
-
-// The tree with each value changed.
-pub(crate) fn change_all<K, V, C: Change<K, V>>(tree: Tree<K, V>, change: &C) -> Tree<K, V>
-where
-    K: Drop,
-    V: Drop,
-    requires { IsBalanced tree }
-    ensures is { entries result ≡ map (changed_by (C.changed change.now)) (entries tree) }
-    ensures balanced { IsBalanced result }
-    ensures high { height result ≡ height tree }
-{
-    let Some((left, mut here, right)) = open(tree) else {
-        return Tree::Leaf;
-    };
-    let left = change_all(left, change);
-    let right = change_all(right, change);
-    change_node(&mut here, change);
-    rejoin(here, left, right)
 }

@@ -1,7 +1,7 @@
-//! What is read of a catalog, and what is done with each of its entries.
+//! What is read of a catalog.
 ghost use Rattle.std.specs.Prelude.{Bool};
 
-use bq_index::{Catalog, Change, NoMemory, Test, Visitor};
+use bq_index::{Catalog, NoMemory, Test, Visitor};
 use std::alloc::Global;
 use std::process::Abort;
 use std::test::Fail;
@@ -19,17 +19,6 @@ impl Visitor<u64, u64> for Last {
     fn visit(&mut self, key: &u64, value: &u64) {
         self.key = *key;
         self.value = *value;
-    }
-}
-
-/// Values become this.
-struct Become(u64);
-
-impl Change<u64, u64> for Become {
-    ghost changed = { λ c _ _. c.0 };
-
-    fn change(&self, _key: &u64, value: &mut u64) {
-        *value = self.0;
     }
 }
 
@@ -93,14 +82,5 @@ fn reads_of_a_catalog(rt: HostRuntime) -> Result<(), Fail> {
     find_first(&rt, &catalog);
     list_four(&rt, rt.alloc(), &catalog)?;
     assert!(rt; last_of(&catalog) == (4, 40));
-    Ok(())
-}
-
-#[test]
-fn each_value_is_changed(rt: HostRuntime) -> Result<(), Fail> {
-    let mut catalog = four(rt.alloc())?;
-    catalog.change_all(&Become(7));
-    assert!(rt; pair(catalog.first_from(&4, &Is(7))) == Some((4, 7)));
-    assert!(rt; catalog.peek(&1) == Some(&7) && catalog.len() == 4);
     Ok(())
 }

@@ -10,7 +10,7 @@ use Rattle.bq_job.specs.beside.Lawful.{AreIdsWithin}
 use Rattle.bq_job.proofs.ChoiceLemmas.{first_of_contains}
 use Rattle.bq_job.proofs.ListLemmas.{all_at, all_weaker, count_cons}
 use Rattle.bq_jobs.specs.Kept.{with_added, without}
-use Rattle.bq_jobs.specs.Laws.{AddsAtTheEnd, ChangesById, ChosenHasItsId, NextIsFree}
+use Rattle.bq_jobs.specs.Laws.{AddsAtTheEnd, ChosenHasItsId, NextIsFree}
 
 -- the lowest id is below the next one
 pub low_below : (low next : ℕ) (jobs : List Job) → AreIdsWithin low jobs next → low ≤ next
@@ -229,9 +229,6 @@ changed low next id f j (k ∷ jobs) h found same =
               let none = not_found id jobs (others_above id (suc k.id) next jobs (grind (arith, nat_tests)) h) in
               absurd (cc)
         ]
-
-pub changes_by_id : ChangesById
-changes_by_id m low next id f j h found same = ap (λ jobs. record m { jobs = jobs }) (changed low next id f j m.jobs h found same)
 
 -- no job has an id after its removal
 pub not_there : (id : ℕ) (jobs : List Job) → job_with id (without id jobs) ≡ None

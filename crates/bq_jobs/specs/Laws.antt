@@ -1,16 +1,9 @@
--- How removals and additions make up the changes that the machine's definitions speak of.
+-- What the machine's definitions say of additions, and of jobs that are found by their ids.
 use Rattle.std.specs.Prelude.{◌≡◌, ℕ, ◌++◌, ◌∷◌, [], Bool, List, Some, None}
 use Rattle.bq_job.specs.declared.job.Job.{Job}
-use Rattle.bq_job.specs.machine.Changes.{first_of, job_with, with_job}
+use Rattle.bq_job.specs.machine.Changes.{first_of, job_with}
 use Rattle.bq_job.specs.beside.Lawful.{AreIdsWithin}
-use Rattle.bq_job.specs.machine.Machine.{Machine}
-use Rattle.bq_jobs.specs.Kept.{with_added, without}
-
--- A job that is taken out and put back changed is changed by its id.
-abbrev pub ChangesById : Type 0
-ChangesById = (m : Machine) (low next id : ℕ) (f : Job → Job) (j : Job)
-    → AreIdsWithin low m.jobs next → job_with id m.jobs ≡ Some j → (f j).id ≡ id
-    → record m { jobs = with_added (f j) (without id m.jobs) } ≡ with_job id f m
+use Rattle.bq_jobs.specs.Kept.{with_added}
 
 -- A job with an id above all others is added at the end.
 abbrev pub AddsAtTheEnd : Type 0

@@ -1,11 +1,5 @@
-//! How removals and additions make up what the machine's definitions say.
-ghost use Rattle.bq_jobs.specs.Laws.{AddsAtTheEnd, ChangesById, ChosenHasItsId, NextIsFree};
-
-/// A job that is taken out and added again with changes is the job changed by its id, where the ids grow
-/// along the list.
-pub fn changes_by_id()
-    ensures { ChangesById }
-{}
+//! What the machine's definitions say of additions, and of jobs that are found by their ids.
+ghost use Rattle.bq_jobs.specs.Laws.{AddsAtTheEnd, ChosenHasItsId, NextIsFree};
 
 /// A job with an id above all others comes last.
 pub fn adds_at_the_end()
