@@ -23,7 +23,7 @@ use Rattle.bq_job.proofs.LawfulLemmas.{end_of}
 use Rattle.bq_job.proofs.ListLemmas.{count_cons}
 use Rattle.bq_core.specs.declared.job_list.JobKind.{JobKind}
 use Rattle.bq_core.specs.declared.job_list.JobKind.TheVariants.{Ready, Delayed, Buried}
-use Rattle.bq_core.specs.Cost.{changed_jobs, entries_with, is_gone_or_changed, is_same_job, is_same_state, waited_entries}
+use Rattle.bq_core.specs.Cost.{changed_jobs, tubes_watched, is_gone_or_changed, is_same_job, is_same_state, waited_tubes}
 use Rattle.bq_core.specs.JobKinds.{is_of}
 use Rattle.bq_core.specs.Kicking.{all_kicked}
 use Rattle.bq_core.specs.Outbox.{Outbox}
@@ -64,10 +64,10 @@ module _ (f : SeatRecord → ℕ) (less : (s : SeatRecord) → f (without_wait s
       let one = subst (λ (n : Machine). sum_by f n.seats ≤ sum_by f first.seats) (sym e.next_is) (stops first e.client.number) in
       omega (arith, one, ended_stop chain.0 given last chain.2)
 
-pub waited_less : (s : SeatRecord) → waited_entries (without_wait s) ≤ waited_entries s
+pub waited_less : (s : SeatRecord) → waited_tubes (without_wait s) ≤ waited_tubes s
 waited_less s = omega arith
 
-pub entries_less : (seat : ℕ) (s : SeatRecord) → entries_with seat (without_wait s) ≤ entries_with seat s
+pub entries_less : (seat : ℕ) (s : SeatRecord) → tubes_watched seat (without_wait s) ≤ tubes_watched seat s
 entries_less seat s = go (s.number == seat) (is_waiting s)
   where
     go : (b w : Bool) → (if (false || b) then length s.watched else 0) ≤ (if (w || b) then length s.watched else 0)
@@ -89,7 +89,7 @@ no_shorter Turn refused first last old new gives = let long = ap length gives.ad
 pub given_length : (Turn : Machine → GivenAnswer → Machine → Type 0) (refused : List GivenAnswer → Bool) (first last : Machine) (old new : Outbox) → (gives : Gives Turn refused first last old new) → length new.given - length old.given ≡ length gives.given
 given_length Turn refused first last old new gives = let long = ap length gives.added ∙ length-append old.given gives.given in omega arith
 
--- one more turn, with no more watch entries
+-- one more turn, with no more tubes watched
 pub one_more_turn : (n more w v : ℕ) → n < more → v ≤ w → n * (w + 9) + (v + 9) ≤ more * (w + 9)
 one_more_turn n more w v l u = omega (arith, mul-le (suc n) (w + 9) more (w + 9) (omega arith) (omega arith), suc-mul n (w + 9))
 

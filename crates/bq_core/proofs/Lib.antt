@@ -23,6 +23,7 @@ pub mod PauseLemmas
 pub mod SearchLemmas
 pub mod SeatPlaces
 pub mod SendLemmas
+pub mod SettingLemmas
 pub mod StateLemmas
 pub mod StepCosts
 pub mod StepLemmas

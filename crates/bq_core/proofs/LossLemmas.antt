@@ -17,7 +17,7 @@ use Rattle.bq_jobs.specs.Kept.{is_id_before, with_added, without}
 use Rattle.bq_core.specs.declared.loss.Loss.{Loss}
 use Rattle.bq_core.specs.declared.loss.Loss.TheVariants.{Nothing, Of, Any}
 use Rattle.bq_core.specs.Dues.{first_pause_end, pause_end_left}
-use Rattle.bq_core.specs.Losses.{AreAlive, is_accounted, may_be_gone, with_found, with_lost}
+use Rattle.bq_core.specs.Losses.{AreAlive, is_accounted, may_be_gone, with_regained, with_lost}
 use Rattle.bq_core.specs.TubeEntries.{has_entry, is_tube_of, provided}
 use Rattle.bq_core.proofs.KickLemmas.{none_with}
 use Rattle.bq_core.proofs.TubeLemmas.{same_itself, same_name}
@@ -95,12 +95,12 @@ now_some p j (k ∷ jobs) h = go (is_id_before k j) (now_some p j jobs h)
     go true rest = or_right (p k) _ rest
     go false rest = or_left (p j) _ h
 
-pub alive_added : (j : Job) (loss : Loss) (jobs : List Job) (seats : List SeatRecord) (entries : List TubeRecord) → AreAlive loss jobs seats entries → AreAlive (with_found j.tube loss) (with_added j jobs) seats entries
+pub alive_added : (j : Job) (loss : Loss) (jobs : List Job) (seats : List SeatRecord) (entries : List TubeRecord) → AreAlive loss jobs seats entries → AreAlive (with_regained j.tube loss) (with_added j jobs) seats entries
 alive_added j loss jobs seats entries all =
-    all_weaker (λ t. is_accounted loss jobs seats t.name ≡ true) (λ t. is_accounted (with_found j.tube loss) (with_added j jobs) seats t.name ≡ true) entries
-    (λ t h. still_accounted loss (with_found j.tube loss) jobs (with_added j jobs) seats seats t.name
-    (λ some. by_job (with_found j.tube loss) (with_added j jobs) seats t.name (still_some (λ k. is_same_name t.name k.tube) j jobs some))
-    (by_seat (with_found j.tube loss) (with_added j jobs) seats t.name)
+    all_weaker (λ t. is_accounted loss jobs seats t.name ≡ true) (λ t. is_accounted (with_regained j.tube loss) (with_added j jobs) seats t.name ≡ true) entries
+    (λ t h. still_accounted loss (with_regained j.tube loss) jobs (with_added j jobs) seats seats t.name
+    (λ some. by_job (with_regained j.tube loss) (with_added j jobs) seats t.name (still_some (λ k. is_same_name t.name k.tube) j jobs some))
+    (by_seat (with_regained j.tube loss) (with_added j jobs) seats t.name)
     (lost t.name loss)
     h)
     all
@@ -112,7 +112,7 @@ alive_added j loss jobs seats entries all =
         by_job Nothing (with_added j jobs) seats name (now_some (λ k. is_same_name name k.tube) j jobs same)
     at name lost false e h = by_loss (Of lost) (with_added j jobs) seats name h
 
-    lost : (name : List ℕ) (loss : Loss) → may_be_gone loss name ≡ true → is_accounted (with_found j.tube loss) (with_added j jobs) seats name ≡ true
+    lost : (name : List ℕ) (loss : Loss) → may_be_gone loss name ≡ true → is_accounted (with_regained j.tube loss) (with_added j jobs) seats name ≡ true
     lost name Nothing h = absurd cc
     lost name (Of gone) h = at name gone (is_same_name gone j.tube) refl h
     lost name Any h = by_loss Any (with_added j jobs) seats name refl

@@ -16,7 +16,7 @@ use Rattle.bq_index.specs.Order.{InOrder}
 use Rattle.bq_job.specs.machine.Machine.{TubeRecord}
 use Rattle.bq_job.specs.reading.TubeName.{is_same_name}
 use Rattle.bq_job.specs.machine.Tubes.{fresh_tube, is_name_before, with_record}
-use Rattle.bq_core.specs.KeptTubes.{KeptTube, Named, crowd_by, crowd_kept, edited, fresh_entry, is_named_at, is_paused_by, kept_changed, record_at, record_of, tally_by, tally_kept}
+use Rattle.bq_core.specs.KeptTubes.{KeptTube, KeptTubes, Named, crowd_by, crowd_kept, edited, fresh_entry, is_named_at, is_paused_by, kept_changed, record_at, record_of, tally_by, tally_kept}
 use Rattle.bq_core.specs.Tallies.{tallies_at, tallies_provided, tally_at, tally_of}
 use Rattle.bq_core.specs.TubeEntries.{AreInOrder, has_entry, provided, tube_changed}
 use Rattle.bq_core.specs.Crowds.{crowd_at, crowds_at, crowds_provided, no_crowd}
@@ -277,3 +277,7 @@ tallies_provided_there name ts us h = ap (λ b. if b then us else insert us (pre
 
 pub crowds_provided_there : (name : List ℕ) (ts : List TubeRecord) (us : List Crowd) → has_entry name ts ≡ true → crowds_provided name ts us ≡ us
 crowds_provided_there name ts us h = ap (λ b. if b then us else insert us (prefix_len (λ t. is_name_before t.name name) ts) no_crowd) h
+
+-- what is kept is the same where its three lists are
+pub kept_alike : {k l : KeptTubes} → k.entries ≡ l.entries → k.tallies ≡ l.tallies → k.crowds ≡ l.crowds → k ≡ l
+kept_alike e t w = λ i. record { entries = e i; tallies = t i; crowds = w i }

@@ -15,7 +15,7 @@ use Rattle.bq_job.proofs.ChoiceLemmas.{first_of_agrees}
 use Rattle.bq_job.proofs.KeptLemmas.{only_seat}
 use Rattle.bq_job.proofs.ListLemmas.{all_at, all_from_members, all_weaker, contains_head, contains_tail, found_passes, list_any_not, list_any_with}
 use Rattle.bq_jobs.specs.Kept.{ranked}
-use Rattle.bq_core.specs.Cost.{waited_entries}
+use Rattle.bq_core.specs.Cost.{waited_tubes}
 use Rattle.bq_core.specs.Crowds.{is_waiter}
 use Rattle.bq_core.specs.Offers.{next_rank, these}
 use Rattle.bq_core.specs.SeatChanges.{AreNumbered}
@@ -119,25 +119,25 @@ tube_waits m name w waits known =
         list_any_not (is_waiting_for m j) m.seats
         (all_from_members (λ t. is_waiting_for m j t ≡ false) m.seats (λ t c. unwanted j e t c (all_at (IsKnown (Tube name) m.tubes j) m.seats t all c) (is_waiting_for m j t) refl))
 
--- the watch entries of one client are some of all
+-- the tubes that one client watches are some of all
 entries_within : (f : SeatRecord → ℕ) (seats : List SeatRecord) → All (λ s. f s ≤ sum_by f seats) seats
 entries_within f [] = tt
 entries_within f (s ∷ seats) =
     let total = sum_by-cons f s seats in
     (omega (arith, total), all_weaker (λ t. f t ≤ sum_by f seats) (λ t. f t ≤ sum_by f (s ∷ seats)) seats (λ t h. omega (arith, total, h)) (entries_within f seats))
 
-pub client_entries : (seats : List SeatRecord) (seat : ℕ) (o : Option SeatRecord) → seat_with seat seats ≡ o → sum_by waited_entries (these o) ≤ sum_by waited_entries seats
+pub client_entries : (seats : List SeatRecord) (seat : ℕ) (o : Option SeatRecord) → seat_with seat seats ≡ o → sum_by waited_tubes (these o) ≤ sum_by waited_tubes seats
 client_entries seats seat None found = omega arith
 client_entries seats seat (Some s) found =
-    let one = sum_by-cons waited_entries s [] in
-    let within = all_at (λ t. waited_entries t ≤ sum_by waited_entries seats) seats s (entries_within waited_entries seats) (found_passes (λ t. t.number == seat) seats s found).1 in
+    let one = sum_by-cons waited_tubes s [] in
+    let within = all_at (λ t. waited_tubes t ≤ sum_by waited_tubes seats) seats s (entries_within waited_tubes seats) (found_passes (λ t. t.number == seat) seats s found).1 in
     omega (arith, one, within)
 
-pub tube_entries : (seats : List SeatRecord) (name : List ℕ) → list_any (is_waiter name) seats ≡ true → 1 ≤ sum_by waited_entries seats
+pub tube_entries : (seats : List SeatRecord) (name : List ℕ) → list_any (is_waiter name) seats ≡ true → 1 ≤ sum_by waited_tubes seats
 tube_entries seats name h =
     let s = some_passes (is_waiter name) seats h in
-    let within = all_at (λ t. waited_entries t ≤ sum_by waited_entries seats) seats s.client (entries_within waited_entries seats) s.here in
-    let some : 1 ≤ waited_entries s.client = one (is_waiting s.client) s.client.watched s.passes in
+    let within = all_at (λ t. waited_tubes t ≤ sum_by waited_tubes seats) seats s.client (entries_within waited_tubes seats) s.here in
+    let some : 1 ≤ waited_tubes s.client = one (is_waiting s.client) s.client.watched s.passes in
     omega (arith, within, some)
   where
     one : (w : Bool) (names : List (List ℕ)) → (w && list_any (is_same_name name) names) ≡ true → 1 ≤ (if w then length names else 0)

@@ -15,7 +15,7 @@ use Rattle.bq_job.proofs.LawfulLemmas.{leaves_acted}
 use Rattle.bq_jobs.specs.Kept.{Kept}
 use Rattle.bq_core.specs.declared.state.State.{State}
 use Rattle.bq_core.specs.Asking.{Asks, AsksAsChanged, AsksByTurn, search_among}
-use Rattle.bq_core.specs.Cost.{IsStepWithin, changed_jobs, entries, entries_with, ripening, waited}
+use Rattle.bq_core.specs.Cost.{IsStepWithin, changed_jobs, watched_tubes, tubes_watched, ripening, waited}
 use Rattle.bq_core.specs.Outbox.{Outbox}
 use Rattle.bq_core.specs.Serving.{NoneIsGone, ServesAsking, ServesInto}
 use Rattle.bq_core.specs.State.{machine_of}
@@ -105,13 +105,13 @@ step_within first at seat what begun between asked new acted_state left last emp
     let m = machine_of first in
     let fired = machine_of b.fired in
     let before = machine_of b.served_state in
-    let q = entries seat m in
+    let q = watched_tubes seat m in
     let e = acted b.acts.memory before seat what in
     let kept = keeps first at seat what begun between asked acted_state left b in
     let w : waited fired ≤ q = subst (λ (x : Machine). waited x ≤ q) (sym b.fires) (waited_few seat m) in
     let v : waiting_count fired ≤ q = subst (λ (x : Machine). waiting_count x ≤ q) (sym b.fires) (waiting_few seat m b.lawful) in
-    let entered : entries seat fired ≤ q = subst (λ (x : Machine). entries seat x ≤ q) (sym b.fires) (omega arith) in
-    let falls = serve_falls (entries_with seat) (entries_less seat) fired b.serves.handed b.serves.ended before b.serves.serves in
+    let entered : watched_tubes seat fired ≤ q = subst (λ (x : Machine). watched_tubes seat x ≤ q) (sym b.fires) (omega arith) in
+    let falls = serve_falls (tubes_watched seat) (entries_less seat) fired b.serves.handed b.serves.ended before b.serves.serves in
     let fewer = serve_falls (λ s. cond (is_waiting s) 1 0) waits_less fired b.serves.handed b.serves.ended before b.serves.serves in
     let x : waited (machine_of left) ≤ q = (let here = ap waited b.forgotten ∙ ap waited b.acts.after in omega (arith, here, acted_few b.acts.memory before seat what kept.seated, falls, entered)) in
     let z : waiting_count (machine_of left) ≤ q + 1 =

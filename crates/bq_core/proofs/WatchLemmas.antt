@@ -1,4 +1,4 @@
--- The watch entries of the clients that wait, as commands change the seats.
+-- The tubes that the clients watch who wait, as commands change the seats.
 use Rattle.std.proofs.Common.{◌≡◌, ℕ, Bool, true, false, ◌≤◌, ◌==◌, ◌&&◌, ◌||◌, not, cond, List, [], ◌∷◌, Option, Some, None, map, length, refl, sym, ap, ◌∙◌, arith, subst, if◌then◌else◌}
 use Rattle.std.specs.Prelude.{count_by, filter}
 use Rattle.std.specs.List.{AllByRecursion as All, sum_by}
@@ -30,7 +30,7 @@ use Rattle.bq_job.specs.machine.Tubes.{is_tube, with_tube}
 use Rattle.bq_job.proofs.KeptLemmas.{only_seat}
 use Rattle.bq_job.proofs.ListLemmas.{all_always, all_pass, all_weaker, count_cons, found_passes}
 use Rattle.bq_job.proofs.PutLemmas.{each_put}
-use Rattle.bq_core.specs.Cost.{entries, entries_with, waited, waited_entries}
+use Rattle.bq_core.specs.Cost.{watched_tubes, tubes_watched, waited, waited_tubes}
 
 sum_no_more : {X : Type 0} (f g : X → ℕ) (xs : List X) → All (λ x. f x ≤ g x) xs → sum_by f xs ≤ sum_by g xs
 sum_no_more f g [] all = omega arith
@@ -40,7 +40,7 @@ sum_of_map : {X : Type 0} (f g : X → ℕ) (h : X → X) (xs : List X) → All 
 sum_of_map f g h [] all = omega arith
 sum_of_map f g h (x ∷ xs) all = omega (arith, sum_by-cons f (h x) (map h xs), sum_by-cons g x xs, all.0, sum_of_map f g h xs all.1)
 
-one_seat : (number : ℕ) (s : SeatRecord) → waited_entries s ≤ entries_with number s
+one_seat : (number : ℕ) (s : SeatRecord) → waited_tubes s ≤ tubes_watched number s
 one_seat number s = go (is_waiting s) (s.number == number)
   where
     go : (w b : Bool) → (if w then length s.watched else 0) ≤ (if (w || b) then length s.watched else 0)
@@ -49,10 +49,10 @@ one_seat number s = go (is_waiting s) (s.number == number)
     go false false = omega arith
 
 -- who waits is among those that wait or sit at the seat
-pub waited_few : (number : ℕ) (m : Machine) → waited m ≤ entries number m
-waited_few number m = sum_no_more waited_entries (entries_with number) m.seats (all_always (λ s. waited_entries s ≤ entries_with number s) m.seats (one_seat number))
+pub waited_few : (number : ℕ) (m : Machine) → waited m ≤ watched_tubes number m
+waited_few number m = sum_no_more waited_tubes (tubes_watched number) m.seats (all_always (λ s. waited_tubes s ≤ tubes_watched number s) m.seats (one_seat number))
 
-at_most_watched : (s : SeatRecord) → waited_entries s ≤ length s.watched
+at_most_watched : (s : SeatRecord) → waited_tubes s ≤ length s.watched
 at_most_watched s = go (is_waiting s)
   where
     go : (w : Bool) → (if w then length s.watched else 0) ≤ length s.watched
@@ -60,60 +60,60 @@ at_most_watched s = go (is_waiting s)
     go false = omega arith
 
 -- a change of one seat that lets no more be waited for than was watched there
-with_seat_few : (number : ℕ) (f : SeatRecord → SeatRecord) (m : Machine) → All (λ s. s.number ≡ number → waited_entries (f s) ≤ length s.watched) m.seats → waited (with_seat number f m) ≤ entries number m
+with_seat_few : (number : ℕ) (f : SeatRecord → SeatRecord) (m : Machine) → All (λ s. s.number ≡ number → waited_tubes (f s) ≤ length s.watched) m.seats → waited (with_seat number f m) ≤ watched_tubes number m
 with_seat_few number f m less =
-    sum_of_map waited_entries (entries_with number) (λ s. if s.number == number then f s else s) m.seats
-    (all_weaker (λ s. s.number ≡ number → waited_entries (f s) ≤ length s.watched) (λ s. waited_entries (if s.number == number then f s else s) ≤ entries_with number s) m.seats
+    sum_of_map waited_tubes (tubes_watched number) (λ s. if s.number == number then f s else s) m.seats
+    (all_weaker (λ s. s.number ≡ number → waited_tubes (f s) ≤ length s.watched) (λ s. waited_tubes (if s.number == number then f s else s) ≤ tubes_watched number s) m.seats
     (λ s h. here s h (s.number == number) refl) less)
   where
-    here : (s : SeatRecord) → (s.number ≡ number → waited_entries (f s) ≤ length s.watched) → (b : Bool) → (s.number == number) ≡ b → waited_entries (if b then f s else s) ≤ (if (is_waiting s || b) then length s.watched else 0)
+    here : (s : SeatRecord) → (s.number ≡ number → waited_tubes (f s) ≤ length s.watched) → (b : Bool) → (s.number == number) ≡ b → waited_tubes (if b then f s else s) ≤ (if (is_waiting s || b) then length s.watched else 0)
     here s h true e = there (is_waiting s) (h (eqb-true s.number number e))
       where
-        there : (w : Bool) → waited_entries (f s) ≤ length s.watched → waited_entries (f s) ≤ (if (w || true) then length s.watched else 0)
+        there : (w : Bool) → waited_tubes (f s) ≤ length s.watched → waited_tubes (f s) ≤ (if (w || true) then length s.watched else 0)
         there true l = l
         there false l = l
     here s h false e = there (is_waiting s) refl
       where
-        there : (w : Bool) → is_waiting s ≡ w → waited_entries s ≤ (if (w || false) then length s.watched else 0)
+        there : (w : Bool) → is_waiting s ≡ w → waited_tubes s ≤ (if (w || false) then length s.watched else 0)
         there true i = rw i (omega arith)
         there false i = rw i (omega arith)
 
-always_few : (number : ℕ) (f : SeatRecord → SeatRecord) (m : Machine) → ((s : SeatRecord) → waited_entries (f s) ≤ length s.watched) → waited (with_seat number f m) ≤ entries number m
-always_few number f m less = with_seat_few number f m (all_always (λ s. s.number ≡ number → waited_entries (f s) ≤ length s.watched) m.seats (λ s e. less s))
+always_few : (number : ℕ) (f : SeatRecord → SeatRecord) (m : Machine) → ((s : SeatRecord) → waited_tubes (f s) ≤ length s.watched) → waited (with_seat number f m) ≤ watched_tubes number m
+always_few number f m less = with_seat_few number f m (all_always (λ s. s.number ≡ number → waited_tubes (f s) ≤ length s.watched) m.seats (λ s e. less s))
 
-either_few : (number : ℕ) (b : Bool) (x y : Effect) (m : Machine) → waited x.machine ≤ entries number m → waited y.machine ≤ entries number m → waited (if b then x else y).machine ≤ entries number m
+either_few : (number : ℕ) (b : Bool) (x y : Effect) (m : Machine) → waited x.machine ≤ watched_tubes number m → waited y.machine ≤ watched_tubes number m → waited (if b then x else y).machine ≤ watched_tubes number m
 either_few number true x y m h i = h
 either_few number false x y m h i = i
 
 -- commands on a job leave the seats
-found_few : (number : ℕ) (passes : Job → Bool) (act : Job → Effect) (m : Machine) (o : Option Job) → ((j : Job) → (act j).machine.seats ≡ m.seats) → waited (on_found passes act m o).machine ≤ entries number m
+found_few : (number : ℕ) (passes : Job → Bool) (act : Job → Effect) (m : Machine) (o : Option Job) → ((j : Job) → (act j).machine.seats ≡ m.seats) → waited (on_found passes act m o).machine ≤ watched_tubes number m
 found_few number passes act m None same = waited_few number m
 found_few number passes act m (Some j) same =
-    either_few number (passes j) (act j) (telling answers.NotFound m) m (subst (λ seats. sum_by waited_entries seats ≤ entries number m) (sym (same j)) (waited_few number m)) (waited_few number m)
+    either_few number (passes j) (act j) (telling answers.NotFound m) m (subst (λ seats. sum_by waited_tubes seats ≤ watched_tubes number m) (sym (same j)) (waited_few number m)) (waited_few number m)
 
-showing_few : (number : ℕ) (m : Machine) (o : Option Job) → waited (showing m o).machine ≤ entries number m
+showing_few : (number : ℕ) (m : Machine) (o : Option Job) → waited (showing m o).machine ≤ watched_tubes number m
 showing_few number m None = waited_few number m
 showing_few number m (Some j) = waited_few number m
 
-statistics_few : (number : ℕ) (m : Machine) (o : Option Job) → waited (job_statistics_or_not m o).machine ≤ entries number m
+statistics_few : (number : ℕ) (m : Machine) (o : Option Job) → waited (job_statistics_or_not m o).machine ≤ watched_tubes number m
 statistics_few number m None = waited_few number m
 statistics_few number m (Some j) = waited_few number m
 
 -- who asks doesn't wait, whatever it watches then
-watching_few : (names : List (List ℕ)) (m : Machine) (s : SeatRecord) → All (λ t. t.number ≡ s.number → t ≡ s) m.seats → is_waiting s ≡ false → waited (with_seat s.number (watching names) m) ≤ entries s.number m
+watching_few : (names : List (List ℕ)) (m : Machine) (s : SeatRecord) → All (λ t. t.number ≡ s.number → t ≡ s) m.seats → is_waiting s ≡ false → waited (with_seat s.number (watching names) m) ≤ watched_tubes s.number m
 watching_few names m s alone quiet =
     with_seat_few s.number (watching names) m
-    (all_weaker (λ t. t.number ≡ s.number → t ≡ s) (λ t. t.number ≡ s.number → waited_entries (watching names t) ≤ length t.watched) m.seats
+    (all_weaker (λ t. t.number ≡ s.number → t ≡ s) (λ t. t.number ≡ s.number → waited_tubes (watching names t) ≤ length t.watched) m.seats
     (λ t only e. let w : is_waiting t ≡ false = ap is_waiting (only e) ∙ quiet in rw w (omega arith)) alone)
 
-refused_few : (names : List (List ℕ)) (m : Machine) (s : SeatRecord) → All (λ t. t.number ≡ s.number → t ≡ s) m.seats → is_waiting s ≡ false → waited (watching_or_refused names m s).machine ≤ entries s.number m
+refused_few : (names : List (List ℕ)) (m : Machine) (s : SeatRecord) → All (λ t. t.number ≡ s.number → t ≡ s) m.seats → is_waiting s ≡ false → waited (watching_or_refused names m s).machine ≤ watched_tubes s.number m
 refused_few [] m s alone quiet = waited_few s.number m
 refused_few (name ∷ names) m s alone quiet = watching_few (name ∷ names) m s alone quiet
 
 -- every request
-asked_few : (request : Request) (m : Machine) (s : SeatRecord) → All (λ t. t.number ≡ s.number → t ≡ s) m.seats → is_waiting s ≡ false → waited (asked request m s).machine ≤ entries s.number m
+asked_few : (request : Request) (m : Machine) (s : SeatRecord) → All (λ t. t.number ≡ s.number → t ≡ s) m.seats → is_waiting s ≡ false → waited (asked request m s).machine ≤ watched_tubes s.number m
 asked_few (requests.Put pri delay ttr body) m s alone quiet =
-    each_put pri delay ttr body m s (λ (e : Effect). waited e.machine ≤ entries s.number m) (λ d. waited_few s.number m) (λ d f. waited_few s.number m) (λ d f. waited_few s.number m)
+    each_put pri delay ttr body m s (λ (e : Effect). waited e.machine ≤ watched_tubes s.number m) (λ d. waited_few s.number m) (λ d f. waited_few s.number m) (λ d f. waited_few s.number m)
 asked_few requests.Reserve m s alone quiet = always_few s.number (waiting_from (raised m.tickets) None) m (λ t. omega arith)
 asked_few (requests.ReserveWithTimeout seconds) m s alone quiet = always_few s.number (waiting_from (raised m.tickets) (Some (later m.moment seconds))) m (λ t. omega arith)
 asked_few (requests.ReserveJob id) m s alone quiet =
@@ -148,12 +148,12 @@ asked_few requests.ListTubesWatched m s alone quiet = waited_few s.number m
 asked_few requests.Quit m s alone quiet = waited_few s.number m
 asked_few (requests.Refused why) m s alone quiet = waited_few s.number m
 
-at_seat_few : (what : Step) (m : Machine) (s : SeatRecord) → All (λ t. t.number ≡ s.number → t ≡ s) m.seats → waited (at_seat what m s).machine ≤ entries s.number m
+at_seat_few : (what : Step) (m : Machine) (s : SeatRecord) → All (λ t. t.number ≡ s.number → t ≡ s) m.seats → waited (at_seat what m s).machine ≤ watched_tubes s.number m
 at_seat_few steps.Connect m s alone =
     either_few s.number s.connected (silent m) (silent (after_connect m s.number)) m (waited_few s.number m) (always_few s.number (λ t. record (empty_seat t.number) { connected = true }) m (λ t. omega arith))
 at_seat_few (steps.Ask request) m s alone = go s.connected (is_waiting s) refl
   where
-    go : (c w : Bool) → is_waiting s ≡ w → waited (if (c && not w) then asked request m s else silent m).machine ≤ entries s.number m
+    go : (c w : Bool) → is_waiting s ≡ w → waited (if (c && not w) then asked request m s else silent m).machine ≤ watched_tubes s.number m
     go true true e = waited_few s.number m
     go true false e = asked_few request m s alone e
     go false w e = waited_few s.number m
@@ -163,14 +163,14 @@ at_seat_few steps.Drain m s alone = waited_few s.number m
 at_seat_few steps.Tick m s alone = waited_few s.number m
 at_seat_few steps.Gone m s alone = waited_few s.number m
 
-at_found_few : (what : Step) (m : Machine) (seat : ℕ) (o : Option SeatRecord) → map (λ s. s.number) m.seats ≡ numbers 0 m.settings.seats → seat_with seat m.seats ≡ o → waited (at_found what m o).machine ≤ entries seat m
+at_found_few : (what : Step) (m : Machine) (seat : ℕ) (o : Option SeatRecord) → map (λ s. s.number) m.seats ≡ numbers 0 m.settings.seats → seat_with seat m.seats ≡ o → waited (at_found what m o).machine ≤ watched_tubes seat m
 at_found_few what m seat None seated e = waited_few seat m
 at_found_few what m seat (Some s) seated e =
     let at : s.number ≡ seat = eqb-true s.number seat ((found_passes (λ t. t.number == seat) m.seats s e).0) in
     let alone = all_weaker (λ t. t.number ≡ seat → t ≡ s) (λ t. t.number ≡ s.number → t ≡ s) m.seats (λ t only i. only (i ∙ at)) (only_seat 0 m.settings.seats seat m.seats s seated e) in
-    subst (λ n. waited (at_seat what m s).machine ≤ entries n m) at (at_seat_few what m s alone)
+    subst (λ n. waited (at_seat what m s).machine ≤ watched_tubes n m) at (at_seat_few what m s alone)
 
-effect_few : (m : Machine) (seat : ℕ) (what : Step) → map (λ s. s.number) m.seats ≡ numbers 0 m.settings.seats → waited (effect m seat what).machine ≤ entries seat m
+effect_few : (m : Machine) (seat : ℕ) (what : Step) → map (λ s. s.number) m.seats ≡ numbers 0 m.settings.seats → waited (effect m seat what).machine ≤ watched_tubes seat m
 effect_few m seat steps.Drain seated = waited_few seat m
 effect_few m seat steps.Connect seated = at_found_few steps.Connect m seat (seat_with seat m.seats) seated refl
 effect_few m seat (steps.Ask request) seated = at_found_few (steps.Ask request) m seat (seat_with seat m.seats) seated refl
@@ -180,13 +180,13 @@ effect_few m seat steps.Tick seated = waited_few seat m
 effect_few m seat steps.Gone seated = waited_few seat m
 
 -- After the command's own effect, who waits is one that waited before it or the one that asked.
-pub acted_few : (memory : Memory) (m : Machine) (seat : ℕ) (what : Step) → map (λ s. s.number) m.seats ≡ numbers 0 m.settings.seats → waited (acted memory m seat what).machine ≤ entries seat m
+pub acted_few : (memory : Memory) (m : Machine) (seat : ℕ) (what : Step) → map (λ s. s.number) m.seats ≡ numbers 0 m.settings.seats → waited (acted memory m seat what).machine ≤ watched_tubes seat m
 acted_few granted m seat what seated = effect_few m seat what seated
 acted_few growth_refused m seat what seated = waited_few seat m
 acted_few share_refused m seat what seated = waited_few seat m
 
 -- each client watches at least one tube
-pub waiting_few : (seat : ℕ) (m : Machine) → IsLawful m → waiting_count m ≤ entries seat m
+pub waiting_few : (seat : ℕ) (m : Machine) → IsLawful m → waiting_count m ≤ watched_tubes seat m
 waiting_few seat m lawful = go m.seats (all_pass watches_once m.seats lawful.watched)
   where
     some_watched : (names : List (List ℕ)) (b : Bool) → (has_one names && b) ≡ true → 1 ≤ length names
@@ -197,8 +197,8 @@ waiting_few seat m lawful = go m.seats (all_pass watches_once m.seats lawful.wat
     one s true b l = l
     one s false b l = omega arith
 
-    go : (seats : List SeatRecord) → All (λ s. watches_once s ≡ true) seats → count_by is_waiting seats ≤ sum_by (entries_with seat) seats
+    go : (seats : List SeatRecord) → All (λ s. watches_once s ≡ true) seats → count_by is_waiting seats ≤ sum_by (tubes_watched seat) seats
     go [] all = omega arith
     go (s ∷ seats) all =
         let here = one s (is_waiting s) (s.number == seat) (some_watched s.watched (none_twice s.watched) all.0) in
-        omega (arith, count_cons is_waiting s seats, sum_by-cons (entries_with seat) s seats, here, go seats all.1)
+        omega (arith, count_cons is_waiting s seats, sum_by-cons (tubes_watched seat) s seats, here, go seats all.1)

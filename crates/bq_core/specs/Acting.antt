@@ -4,7 +4,8 @@ use Rattle.bq_job.specs.declared.step.Step.{Step}
 use Rattle.bq_job.specs.machine.Acts.{Effect}
 use Rattle.bq_job.specs.machine.Changes.{is_waiting}
 use Rattle.bq_job.specs.machine.Machine.{Machine, SeatRecord}
-use Rattle.bq_job.specs.machine.Steps.{Memory, acted, addressed, is_growth_refused, is_possible, is_share_refused, shares_body, may_be_left_out}
+use Rattle.bq_job.specs.machine.Steps.{Memory, acted, addressed, is_possible, shares_body}
+use Rattle.bq_job.specs.machine.Steps.{is_growth_refused, is_share_refused, may_be_left_out}
 use Rattle.bq_core.specs.declared.reply.Reply.{Reply}
 use Rattle.bq_core.specs.declared.reply.Reply.TheVariants.{Silent, Told, LeftOut, Unshared}
 use Rattle.bq_core.specs.Outbox.{Outbox}

@@ -1,5 +1,6 @@
 -- How many comparisons of keys a step may take.
-use Rattle.std.specs.Prelude.{ℕ, Bool, true, false, ◌≤◌, ◌+◌, ◌*◌, ◌&&◌, ◌||◌, ◌==◌, not, if◌then◌else◌, List, Option, Some, None, is_some, count_by, length, max}
+use Rattle.std.specs.Prelude.{ℕ, Bool, true, false, ◌≤◌, ◌+◌, ◌*◌, ◌&&◌, ◌||◌, ◌==◌, not, if◌then◌else◌}
+use Rattle.std.specs.Prelude.{List, Option, Some, None, is_some, count_by, length, max}
 use Rattle.std.specs.List.{sum_by}
 use Rattle.bq_index.specs.Digits.{binary_digits}
 use Rattle.bq_job.specs.declared.job.Counts.{Counts}
@@ -29,7 +30,8 @@ are_same_counts c d =
 abbrev pub is_same_job : Job → Job → Bool
 is_same_job j k =
     is_same_state j.state k.state
-    && (j.id == k.id && is_same_name j.tube k.tube && j.pri == k.pri && j.delay == k.delay && j.ttr == k.ttr && is_same_name j.body k.body && j.put_at == k.put_at && are_same_counts j.counts k.counts)
+    && (j.id == k.id && is_same_name j.tube k.tube && j.pri == k.pri && j.delay == k.delay && j.ttr == k.ttr
+    && is_same_name j.body k.body && j.put_at == k.put_at && are_same_counts j.counts k.counts)
 
 -- the job isn't there any more, or is another than before
 abbrev pub is_gone_or_changed : Job → Option Job → Bool
@@ -46,32 +48,33 @@ abbrev pub ripening : ℕ → Machine → ℕ
 ripening at m = count_by (λ j. is_due (max m.moment at) j.state || is_expired (max m.moment at) j.state) m.jobs
 
 -- how many tubes the client watches, if it waits
-abbrev pub waited_entries : SeatRecord → ℕ
-waited_entries s = if is_waiting s then length s.watched else 0
+abbrev pub waited_tubes : SeatRecord → ℕ
+waited_tubes s = if is_waiting s then length s.watched else 0
 
--- the watch entries of the clients that wait
+-- how many tubes the clients watch that wait
 abbrev pub waited : Machine → ℕ
-waited m = sum_by waited_entries m.seats
+waited m = sum_by waited_tubes m.seats
 
 -- how many tubes the client watches, if it waits or sits at this seat
-abbrev pub entries_with : ℕ → SeatRecord → ℕ
-entries_with seat s = if is_waiting s || s.number == seat then length s.watched else 0
+abbrev pub tubes_watched : ℕ → SeatRecord → ℕ
+tubes_watched seat s = if is_waiting s || s.number == seat then length s.watched else 0
 
--- the watch entries of the clients that wait and of the one at this seat
-abbrev pub entries : ℕ → Machine → ℕ
-entries seat m = sum_by (entries_with seat) m.seats
+-- how many tubes the clients watch that wait, and the one at this seat
+abbrev pub watched_tubes : ℕ → Machine → ℕ
+watched_tubes seat m = sum_by (tubes_watched seat) m.seats
 
 -- A step, and from how many comparisons to how many it came. Its changes are the jobs that ripened, those
 -- that were handed out, or would have been but for the share of a body, and those that the command added,
 -- took out or changed. No part of a step adds a job and none takes one out but the command: so there were
 -- never more jobs than before or after it. The comparisons don't fall.
-pub record IsStepWithin (first : Machine) (at seat : ℕ) (what : Step) (outcome : Outcome) (answers : List GivenAnswer) (last : Machine) (old new : ℕ) : Type 0 where
+pub record IsStepWithin (first : Machine) (at seat : ℕ) (what : Step) (outcome : Outcome) (answers : List GivenAnswer)
+    (last : Machine) (old new : ℕ) : Type 0 where
   pub step : IsStep first at seat what outcome answers last
   pub stays : old ≤ new
   pub comparisons :
       let changes = ripening at first + length step.handed + length step.handed_then + changed_jobs step.before.jobs step.after.jobs in
       let jobs = max (length first.jobs) (length last.jobs) in
-      new ≤ old + (changes + 8) * (entries seat first + 16) * (2 * binary_digits (2 * jobs + 2))
+      new ≤ old + (changes + 8) * (watched_tubes seat first + 16) * (2 * binary_digits (2 * jobs + 2))
 
 -- From how many comparisons to how many a look for the next due moment came: no fewer, and no more than in two
 -- searches and one for each client that waits.

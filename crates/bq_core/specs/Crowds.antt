@@ -1,5 +1,6 @@
 -- How many clients are at each tube.
-use Rattle.std.specs.Prelude.{ℕ, Bool, true, false, ◌≡◌, ◌&&◌, ◌||◌, nat_lt, not, if◌then◌else◌, List, [], ◌∷◌, Option, Some, None, count_by, fold, map}
+use Rattle.std.specs.Prelude.{ℕ, Bool, true, false, ◌≡◌, ◌&&◌, ◌||◌, nat_lt, not, if◌then◌else◌}
+use Rattle.std.specs.Prelude.{List, [], ◌∷◌, Option, Some, None, count_by, fold, map}
 use Rattle.std.specs.List.{AllByRecursion, insert, prefix_len}
 use Rattle.bq_job.specs.machine.Changes.{is_waiting}
 use Rattle.bq_job.specs.beside.Lawful.{none_twice}
@@ -115,7 +116,8 @@ crowds_at_all names f entries crowds = fold (λ some name. crowds_at name f entr
 -- the counts, once what a seat counts for comes or goes
 abbrev pub crowds_recounted : Moving → Share → SeatRecord → List TubeRecord → List Crowd → List Crowd
 crowds_recounted moving what s entries crowds =
-    crowds_at_all s.watched (recounted moving (share_as_watcher what s)) entries (crowds_at s.used (recounted moving (share_as_user what s)) entries crowds)
+    let as_user = crowds_at s.used (recounted moving (share_as_user what s)) entries crowds in
+    crowds_at_all s.watched (recounted moving (share_as_watcher what s)) entries as_user
 
 -- the same, if there is a seat
 abbrev pub crowds_recounted_for : Moving → Share → Option SeatRecord → List TubeRecord → List Crowd → List Crowd

@@ -1,5 +1,6 @@
 -- Timers of jobs fire, one job after another.
 use Rattle.std.specs.Prelude.{ℕ, Bool, ◌≡◌, ◌||◌, IsTrue, List, Some, count_by, map}
+use Rattle.std.specs.List.{list_any}
 use Rattle.bq_job.specs.declared.job.Job.{Job}
 use Rattle.bq_job.specs.declared.job.JobState.{JobState}
 use Rattle.bq_job.specs.machine.Changes.{given_back, job_with, with_job}
@@ -17,6 +18,14 @@ after_job_timers m = record m {
 -- a timer of the job has come
 abbrev pub is_ripe : ℕ → Job → Bool
 is_ripe moment j = is_due moment j.state || is_expired moment j.state
+
+-- some delayed job is due
+abbrev pub is_some_due : Machine → Bool
+is_some_due m = list_any (λ j. is_due m.moment j.state) m.jobs
+
+-- the time to run of some reserved job is over
+abbrev pub is_some_expired : Machine → Bool
+is_some_expired m = list_any (λ j. is_expired m.moment j.state) m.jobs
 
 -- the machine once pauses have ended
 abbrev pub with_pauses_ended : Machine → Machine

@@ -1,11 +1,21 @@
 -- One job is handed out.
-use Rattle.std.specs.Prelude.{ℕ, ◌≡◌, ◌||◌, ◌++◌, List, [], ◌∷◌, Result, IfOk}
+use Rattle.std.specs.Prelude.{ℕ, ◌≡◌, ◌||◌, ◌++◌, List, [], ◌∷◌, Some, Result, IfOk}
+use Rattle.std.specs.Option.{option_map}
 use Rattle.bq_job.specs.declared.fault.NoMemory.{NoMemory}
 use Rattle.bq_job.specs.declared.job.Job.{Job}
-use Rattle.bq_job.specs.machine.Dispatch.{GivenAnswer, IsHandOut}
+use Rattle.bq_job.specs.machine.Changes.{with_job, with_seat, without_wait}
+use Rattle.bq_job.specs.machine.Dispatch.{GivenAnswer, IsHandOut, next_job, next_seat, reserved_by}
 use Rattle.bq_job.specs.machine.Machine.{Machine, SeatRecord}
 use Rattle.bq_job.specs.machine.Steps.{is_out_of_memory}
 use Rattle.bq_core.specs.Outbox.{Outbox}
+
+-- the client at this seat is the one that gets the next job, if there is one
+abbrev pub IsPicked : Machine → ℕ → Type 0
+IsPicked m seat = (j : Job) → next_job m ≡ Some j → Some seat ≡ option_map (λ s. s.number) (next_seat m j)
+
+-- the machine once the client at this seat waits no longer and holds the job of this id
+abbrev pub handed_to : ℕ → ℕ → Machine → Machine
+handed_to seat id m = with_seat seat without_wait (with_job id (reserved_by m.moment seat) m)
 
 -- One answer was added, and a refused share is marked.
 pub record AddsHandOut (m : Machine) (j : Job) (s : SeatRecord) (old new : Outbox) (last : Machine) : Type 0 where

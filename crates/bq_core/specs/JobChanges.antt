@@ -1,5 +1,5 @@
 -- What happens to a job.
-use Rattle.std.specs.Prelude.{ℕ, Bool, false, ◌||◌, not, if◌then◌else◌, Option, Some, None}
+use Rattle.std.specs.Prelude.{ℕ, Bool, false, ◌≡◌, ◌||◌, not, if◌then◌else◌, List, Option, Some, None}
 use Rattle.bq_job.specs.declared.job.Job.{Job}
 use Rattle.bq_job.specs.declared.job.JobState.TheVariants as states
 use Rattle.bq_job.specs.machine.Changes.{in_state, is_held_by}
@@ -36,3 +36,7 @@ is_passed_by passes (Some j) = passes j
 abbrev pub ttr_held_by : ℕ → Option Job → Option ℕ
 ttr_held_by seat None = None
 ttr_held_by seat (Some j) = if is_held_by seat j then Some j.ttr else None
+
+-- the body is the job's, if there is one
+abbrev pub IsBodyOf : Option Job → List ℕ → Type 0
+IsBodyOf o body = (j : Job) → o ≡ Some j → body ≡ j.body

@@ -1,7 +1,7 @@
 -- The first job of a kind: by its priority, its due moment or its burial number, and then by its id.
-use Rattle.std.specs.Prelude.{ℕ, Bool, List}
+use Rattle.std.specs.Prelude.{ℕ, Bool, List, Option}
 use Rattle.bq_job.specs.declared.job.Job.{Job}
-use Rattle.bq_job.specs.machine.Changes.{is_pair_before}
+use Rattle.bq_job.specs.machine.Changes.{first_of, is_pair_before}
 use Rattle.bq_job.specs.machine.JobCommands.{is_buried_in, is_delayed_in}
 use Rattle.bq_job.specs.machine.JobStates.{burial_of, due_of}
 use Rattle.bq_job.specs.machine.TubeCommands.{is_ready_in}
@@ -20,3 +20,7 @@ rank_of Buried j = burial_of j.state
 
 abbrev pub is_before_of : JobKind → Job → Job → Bool
 is_before_of kind a b = is_pair_before (rank_of kind a) a.id (rank_of kind b) b.id
+
+-- the first job of this kind in this tube
+abbrev pub first_of_kind : JobKind → List ℕ → List Job → Option Job
+first_of_kind kind tube jobs = first_of (is_of kind tube) (is_before_of kind) jobs

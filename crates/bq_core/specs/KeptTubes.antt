@@ -131,9 +131,13 @@ is_alive_at e = is_alive_with e.0 e.1
 abbrev pub with_alive : ℕ → List ℕ → KeptTube → ℕ
 with_alive count name t = if is_alive_with name t then raised count else count
 
+-- the name, if the tube exists
+abbrev pub name_if_alive : List ℕ → KeptTube → List (List ℕ)
+name_if_alive name t = if is_alive_with name t then name ∷ [] else []
+
 -- one name more, if the tube exists
 abbrev pub with_name_of : List (List ℕ) → Bor (List ℕ) × Bor KeptTube → List (List ℕ)
-with_name_of names e = names ++ (if is_alive_with e.0.now e.1.now then e.0.now ∷ [] else [])
+with_name_of names e = names ++ name_if_alive e.0.now e.1.now
 
 -- whether the tube of this entry, if there is one, is gone
 abbrev pub is_gone_by : List ℕ → Option KeptTube → Bool

@@ -4,6 +4,7 @@ pub mod Clients
 pub mod Codes
 pub mod CoreState
 pub mod Cost
+pub mod Counting
 pub mod Crowds
 pub mod Dues
 pub mod EndingWaits
@@ -12,6 +13,7 @@ pub mod FirstEnds
 pub mod HandOuts
 pub mod JobChanges
 pub mod JobKinds
+pub mod Keeping
 pub mod KeptTubes
 pub mod Kicking
 pub mod Leaving
@@ -23,13 +25,16 @@ pub mod Outbox
 pub mod PauseEnds
 pub mod Places
 pub mod Putting
+pub mod Replying
 pub mod SeatChanges
+pub mod SeatView
 pub mod Serving
 pub mod State
 pub mod Stirs
 pub mod Tallies
 pub mod Texts
 pub mod TubeEntries
+pub mod TubeView
 pub mod Turns
 pub mod WaitEnds
 pub mod Warnings

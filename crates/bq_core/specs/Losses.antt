@@ -21,10 +21,10 @@ with_lost name (Of lost) = if is_same_name lost name then Of name else Any
 with_lost name Any = Any
 
 -- the tube exists
-abbrev pub with_found : List ℕ → Loss → Loss
-with_found name Nothing = Nothing
-with_found name (Of lost) = if is_same_name lost name then Nothing else Of lost
-with_found name Any = Any
+abbrev pub with_regained : List ℕ → Loss → Loss
+with_regained name Nothing = Nothing
+with_regained name (Of lost) = if is_same_name lost name then Nothing else Of lost
+with_regained name Any = Any
 
 -- the tube exists, or may be gone
 abbrev pub is_accounted : Loss → List Job → List SeatRecord → List ℕ → Bool

@@ -1,6 +1,7 @@
 -- Dispatch, and then the ends of waits, with their answers added.
-use Rattle.std.specs.Prelude.{ℕ, ◌≡◌, ◌+◌, ◌*◌, ◌||◌, ◌++◌, List, IsTrue, length}
+use Rattle.std.specs.Prelude.{ℕ, ◌≡◌, ◌+◌, ◌*◌, ◌||◌, ◌++◌, List, Option, None, IsTrue, length}
 use Rattle.std.specs.List.{list_all}
+use Rattle.bq_job.specs.declared.step.Step.{Step}
 use Rattle.bq_job.specs.beside.Computed.{waiting_count}
 use Rattle.bq_job.specs.machine.Dispatch.{GivenAnswer}
 use Rattle.bq_job.specs.machine.Machine.{Machine}
@@ -8,9 +9,15 @@ use Rattle.bq_job.specs.machine.Steps.{Serves, has_refused_share}
 use Rattle.bq_job.specs.machine.Tubes.{is_tube}
 use Rattle.bq_jobs.specs.Kept.{Kept}
 use Rattle.bq_core.specs.Asking.{Asks}
-use Rattle.bq_core.specs.Cost.{waited}
-use Rattle.bq_core.specs.Outbox.{Outbox}
+use Rattle.bq_core.specs.Cost.{IsStepWithin, waited}
+use Rattle.bq_core.specs.Outbox.{Outbox, outcome_of}
+use Rattle.bq_core.specs.State.{machine_of}
 use Rattle.bq_core.specs.Turns.{HasRoom}
+use Rattle.bq_core.specs.declared.state.State.{State}
+
+-- there was no next one, and nothing happened
+abbrev pub IsLastTurn : {A : Type 0} → Option A → State → State → Outbox → Outbox → Type 0
+IsLastTurn next old new outs more = (next ≡ None) × (machine_of new ≡ machine_of old) × (more ≡ outs)
 
 -- The machine keeps nothing of tubes that are gone.
 abbrev pub NoneIsGone : Machine → Type 0
@@ -32,3 +39,8 @@ pub record ServesInto (first : Machine) (old new : Outbox) (last : Machine) : Ty
 pub record ServesAsking (first : Machine) (old new : Outbox) (last : Machine) (before after : Kept) : Type 0 where
   pub serves : ServesInto first old new last
   pub asks : Asks (length serves.handed * (waited first + 9) + waited first + waiting_count first + 1) before after
+
+-- a step with these answers led from the first state to the last, within its bound of comparisons
+abbrev pub TakesStepWithin : ℕ → ℕ → Step → State → State → Outbox → Type 0
+TakesStepWithin at seat what old new outs =
+    IsStepWithin (machine_of old) at seat what (outcome_of outs) outs.given (machine_of new) old.jobs.comparisons new.jobs.comparisons

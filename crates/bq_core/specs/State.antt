@@ -1,13 +1,16 @@
 -- The machine that a core stands for.
-use Rattle.std.specs.Prelude.{false, ◌≡◌, ◌≤◌}
+use Rattle.std.specs.Prelude.{ℕ, Bool, false, ◌≡◌, ◌≤◌, ◌&&◌, List, count_by, nat_lt}
+use Rattle.bq_job.specs.declared.job.Job.{Job}
 use Rattle.bq_job.specs.machine.JobCommands.{last_id}
 use Rattle.bq_job.specs.beside.Lawful.{AreIdsWithin}
 use Rattle.bq_job.specs.machine.Machine.{Machine}
 use Rattle.bq_core.specs.Clients.{clients_of}
 use Rattle.bq_core.specs.Crowds.{AreCrowds}
 use Rattle.bq_core.specs.Dues.{first_pause_end}
+use Rattle.bq_core.specs.Firing.{after_job_timers}
 use Rattle.bq_core.specs.FirstEnds.{AreTimeouts}
 use Rattle.bq_core.specs.Losses.{AreAlive}
+use Rattle.bq_core.specs.Offers.{is_waited_at}
 use Rattle.bq_core.specs.SeatChanges.{AreNumbered}
 use Rattle.bq_core.specs.Stirs.{AreKnown}
 use Rattle.bq_core.specs.Tallies.{AreCounted}
@@ -58,3 +61,15 @@ pub record IsSound (s : State) : Type 0 where
 -- It is the same but for the count of comparisons.
 abbrev pub OnlyCompares : State → State → Type 0
 OnlyCompares old new = new ≡ record old { jobs = record old.jobs { comparisons = new.jobs.comparisons } }
+
+-- how many of its jobs pass
+abbrev pub count_jobs : (Job → Bool) → State → ℕ
+count_jobs passes s = count_by passes s.jobs.jobs
+
+-- somebody waits, and somebody waits at this tube, by the counts that are kept
+abbrev pub is_waited_for : List ℕ → State → Bool
+is_waited_for tube s = nat_lt 0 s.clients.waiting && is_waited_at tube s.tubes
+
+-- all timers of jobs have fired
+abbrev pub HaveFired : State → State → Type 0
+HaveFired old new = machine_of new ≡ after_job_timers (machine_of old)

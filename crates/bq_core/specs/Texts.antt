@@ -1,6 +1,9 @@
 -- Texts of statistics and lists.
 use Rattle.std.specs.Prelude.{ℕ, Bool, false, ◌≡◌, ◌≤◌, ◌^◌, List, Option, Some, None, decimal, length, map}
 use Rattle.std.specs.Borrow.{Bor}
+use Rattle.bq_job.specs.declared.job.Job.{Job}
+use Rattle.bq_job.specs.machine.Machine.{Machine}
+use Rattle.bq_job.specs.machine.Statistics.{job_statistics}
 use Rattle.bq_job.specs.reading.TubeName.{is_same_name}
 use Rattle.bq_core.specs.declared.texts.key_value.Value.{Value}
 use Rattle.bq_core.specs.declared.texts.key_value.Value.TheVariants.{Number, Word}
@@ -27,3 +30,7 @@ names_of names = map (λ name. name.now) names
 abbrev pub is_named : List ℕ → Option (Bor (List ℕ)) → Bool
 is_named name None = false
 is_named name (Some other) = is_same_name name other.now
+
+-- the text is the statistics of the job, if there is one, at this moment
+abbrev pub TellsJob : ℕ → Option Job → List ℕ → Type 0
+TellsJob moment o text = (m : Machine) (j : Job) → m.moment ≡ moment → o ≡ Some j → text ≡ job_statistics m j

@@ -8,7 +8,8 @@ use Rattle.bq_core.specs.Outbox.{Outbox}
 
 -- Turns of this kind led from the first machine to the last, and their answers were added. What they mean
 -- for the mark of refused shares is told by refused. Each took a waiting client away.
-pub record Gives (Turn : Machine → GivenAnswer → Machine → Type 0) (refused : List GivenAnswer → Bool) (first last : Machine) (old new : Outbox) : Type 0 where
+pub record Gives (Turn : Machine → GivenAnswer → Machine → Type 0) (refused : List GivenAnswer → Bool)
+    (first last : Machine) (old new : Outbox) : Type 0 where
   pub given : List GivenAnswer
   pub turns : Chain Turn first given last
   pub added : new.given ≡ old.given ++ given

@@ -1,11 +1,11 @@
-ghost use Rattle.std.specs.Prelude.{◌≡◌, Some, true};
+ghost use Rattle.std.specs.Prelude.{◌≡◌, true};
 ghost use Rattle.bq_job.specs.declared.step.Step.TheVariants as steps;
 ghost use Rattle.bq_job.specs.machine.Asked.{asked, effect, refusal_answer as answer_of_refusal};
 ghost use Rattle.bq_job.specs.machine.Changes.{seat_with};
-ghost use Rattle.bq_job.specs.machine.Machine.{SeatRecord};
 ghost use Rattle.bq_job.specs.machine.Steps.{step_takes_memory, takes_memory};
-ghost use Rattle.bq_core.specs.Acting.{Acts, Replies, is_asking};
-ghost use Rattle.bq_core.specs.Asking.{AsksAsChanged};
+ghost use Rattle.bq_core.specs.Acting.{Acts, is_asking};
+ghost use Rattle.bq_core.specs.Replying.{IsCarriedOut, RepliesAt, RepliesBy};
+ghost use Rattle.bq_core.specs.Keeping.{LeavesJobs};
 ghost use Rattle.bq_core.specs.State.{machine_of, IsSound};
 ghost use Rattle.bq_core.specs.Turns.{HasRoom};
 
@@ -22,9 +22,7 @@ use std::alloc::Global;
 fn connect(state: &mut State, seat: Seat)
     requires { IsSound state.old }
     ensures after { machine_of state.new ≡ (effect (machine_of state.old) seat steps.Connect).machine }
-    ensures jobs { state.new.jobs ≡ state.old.jobs }
-    ensures sound { IsSound state.new }
-    ensures config { state.new.config ≡ state.old.config }
+    ensures kept { LeavesJobs state.old state.new }
 {
     if state.is_free(seat) {
         state::change_seat(state, seat, &SeatChange::Connect);
@@ -35,9 +33,7 @@ fn connect(state: &mut State, seat: Seat)
 fn end(state: &mut State, seat: Seat)
     requires { IsSound state.old }
     ensures after { machine_of state.new ≡ (effect (machine_of state.old) seat steps.End).machine }
-    ensures jobs { state.new.jobs ≡ state.old.jobs }
-    ensures sound { IsSound state.new }
-    ensures config { state.new.config ≡ state.old.config }
+    ensures kept { LeavesJobs state.old state.new }
 {
     if state.is_connected(seat) {
         state::change_seat(state, seat, &SeatChange::End);
@@ -48,9 +44,7 @@ fn end(state: &mut State, seat: Seat)
 fn close(state: &mut State, seat: Seat) -> Option<Answer>
     requires { IsSound state.old }
     ensures reply { effect (machine_of state.old) seat steps.Close ≡ record { machine = machine_of state.new; answer = result } }
-    ensures asks { AsksAsChanged state.old.jobs state.new.jobs }
-    ensures sound { IsSound state.new }
-    ensures config { state.new.config ≡ state.old.config }
+    ensures kept { IsCarriedOut state.old state.new }
 {
     if !state.is_connected(seat) {
         return None;
@@ -77,10 +71,8 @@ fn refusal_answer(why: Refusal) -> Answer
 fn answer(state: &mut State, alloc: Global, seat: Seat, request: Request) -> Reply
     requires sound { IsSound state.old }
     requires asks { is_asking (seat_with seat state.old.seats.items) ≡ true }
-    ensures reply { (s : SeatRecord) → seat_with seat (machine_of state.old).seats ≡ Some s → Replies (takes_memory request) (machine_of state.old) (asked request (machine_of state.old) s) result (machine_of state.new) }
-    ensures asks { AsksAsChanged state.old.jobs state.new.jobs }
-    ensures sound { IsSound state.new }
-    ensures config { state.new.config ≡ state.old.config }
+    ensures reply { RepliesAt seat (takes_memory request) (asked request) state.old result state.new }
+    ensures kept { IsCarriedOut state.old state.new }
 {
     match request {
         Request::Put {
@@ -140,10 +132,8 @@ fn answer(state: &mut State, alloc: Global, seat: Seat, request: Request) -> Rep
 
 fn reply_to(state: &mut State, alloc: Global, seat: Seat, what: Step) -> Reply
     requires sound { IsSound state.old }
-    ensures reply { Replies (step_takes_memory what) (machine_of state.old) (effect (machine_of state.old) seat what) result (machine_of state.new) }
-    ensures asks { AsksAsChanged state.old.jobs state.new.jobs }
-    ensures sound { IsSound state.new }
-    ensures config { state.new.config ≡ state.old.config }
+    ensures reply { RepliesBy (step_takes_memory what) (λ m. effect m seat what) state.old result state.new }
+    ensures kept { IsCarriedOut state.old state.new }
 {
     match what {
         Step::Connect => {
@@ -176,9 +166,7 @@ pub(crate) fn act(state: &mut State, alloc: Global, seat: Seat, what: Step, outs
     requires sound { IsSound state.old }
     requires room { HasRoom 1 (machine_of state.old) outs.old }
     ensures acts { Acts (machine_of state.old) seat what outs.old outs.new (machine_of state.new) }
-    ensures asks { AsksAsChanged state.old.jobs state.new.jobs }
-    ensures sound { IsSound state.new }
-    ensures config { state.new.config ≡ state.old.config }
+    ensures kept { IsCarriedOut state.old state.new }
 {
     match reply_to(state, alloc, seat, what) {
         Reply::Silent => {}

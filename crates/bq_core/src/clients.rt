@@ -3,7 +3,7 @@ ghost use Rattle.std.specs.Prelude.{◌≡◌};
 ghost use Rattle.std.specs.Option.{option_copied};
 ghost use Rattle.bq_core.specs.Clients.{clients_with, clients_without};
 
-use crate::place::Place;
+use crate::seat_record::SeatRecord;
 
 /// How many clients are connected, and how many wait. A count stops at 2^64 - 1, which no number of seats
 /// comes to.
@@ -15,31 +15,31 @@ pub(crate) struct Clients {
 
 impl Clients {
     /// Counts what is at a seat, if there is this seat.
-    pub(crate) fn add(&mut self, place: Option<&Place>)
-        ensures { self.new ≡ clients_with (option_copied place.entry) self.old }
+    pub(crate) fn add(&mut self, client: Option<&SeatRecord>)
+        ensures { self.new ≡ clients_with (option_copied client.entry) self.old }
     {
-        let Some(place) = place else {
+        let Some(client) = client else {
             return;
         };
-        if place.is_connected() {
+        if client.is_connected() {
             self.connected = self.connected.saturating_add(1);
         }
-        if place.is_waiting() {
+        if client.is_waiting() {
             self.waiting = self.waiting.saturating_add(1);
         }
     }
 
     /// Counts it no longer.
-    pub(crate) fn remove(&mut self, place: Option<&Place>)
-        ensures { self.new ≡ clients_without (option_copied place.entry) self.old }
+    pub(crate) fn remove(&mut self, client: Option<&SeatRecord>)
+        ensures { self.new ≡ clients_without (option_copied client.entry) self.old }
     {
-        let Some(place) = place else {
+        let Some(client) = client else {
             return;
         };
-        if place.is_connected() {
+        if client.is_connected() {
             self.connected = self.connected.saturating_sub(1);
         }
-        if place.is_waiting() {
+        if client.is_waiting() {
             self.waiting = self.waiting.saturating_sub(1);
         }
     }

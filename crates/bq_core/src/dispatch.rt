@@ -1,26 +1,29 @@
 //! Ready jobs go to the clients that wait for them.
-ghost use Rattle.std.specs.Prelude.{◌≡◌, ◌<◌, ◌+◌, ◌++◌, ◌∷◌, [], None, Some, true, false, fold, if◌then◌else◌, is_some, length, IfSome, IfOk};
+ghost use Rattle.std.specs.Prelude.{◌≡◌, ◌<◌, ◌+◌, ◌++◌, ◌∷◌, [], None, Some, true, false, IfSome, IfOk};
+ghost use Rattle.std.specs.Prelude.{fold, if◌then◌else◌, is_some, length};
 ghost use Rattle.std.specs.List.{sum_by};
 ghost use Rattle.std.specs.Option.{option_map};
 ghost use Rattle.bq_job.specs.declared.answer.Answer.TheVariants as answers;
-ghost use Rattle.bq_job.specs.declared.job.Job.{Job};
-ghost use Rattle.bq_job.specs.machine.Changes.{seat_with, with_job, with_seat, without_wait};
+ghost use Rattle.bq_job.specs.machine.Changes.{seat_with, with_seat, without_wait};
 ghost use Rattle.bq_job.specs.beside.Computed.{waiting_count};
-ghost use Rattle.bq_job.specs.machine.Dispatch.{DispatchTurn, next_job, next_seat, reserved_by};
+ghost use Rattle.bq_job.specs.machine.Dispatch.{DispatchTurn, next_job};
 ghost use Rattle.bq_job.specs.machine.Steps.{has_refused_share};
 ghost use Rattle.bq_core.specs.Asking.{Asks, AsksByTurn};
-ghost use Rattle.bq_core.specs.Cost.{waited, waited_entries};
-ghost use Rattle.bq_core.specs.HandOuts.{HandsOut};
+ghost use Rattle.bq_core.specs.Cost.{waited, waited_tubes};
+ghost use Rattle.bq_core.specs.HandOuts.{HandsOut, IsPicked, handed_to};
+ghost use Rattle.bq_core.specs.JobChanges.{IsBodyOf};
 ghost use Rattle.bq_core.specs.Offers.{better_rank, is_waited_at, next_rank, offered, these, with_offer, with_offers};
 ghost use Rattle.bq_core.specs.SeatChanges.{AreNumbered};
-ghost use Rattle.bq_core.specs.State.{machine_of, IsSound, OnlyCompares};
+ghost use Rattle.bq_core.specs.Keeping.{LeavesJobs, Looks, StaysSound};
+ghost use Rattle.bq_core.specs.State.{machine_of, IsSound};
 ghost use Rattle.bq_core.specs.Stirs.{is_nothing};
 ghost use Rattle.bq_core.specs.Turns.{Gives, HasRoom};
+ghost use Rattle.bq_core.specs.Serving.{IsLastTurn};
 
 use crate::job_list::JobChange;
 use crate::outs::Outs;
-use crate::place::Place;
 use crate::seat_list::SeatChange;
+use crate::seat_record::SeatRecord;
 use crate::state::State;
 use crate::stir::Stir;
 use crate::tubes::Tubes;
@@ -80,23 +83,28 @@ fn best_among(
 }
 
 // The best of this job and those that the client waits for.
-fn best_for(jobs: &mut Jobs, tubes: &Tubes, place: &Place, first: Option<Offer>) -> Option<Offer>
-    ensures best { result ≡ with_offers jobs.old.jobs tubes.now.entries first place.now }
+fn best_for(
+    jobs: &mut Jobs,
+    tubes: &Tubes,
+    client: &SeatRecord,
+    first: Option<Offer>,
+) -> Option<Offer>
+    ensures best { result ≡ with_offers jobs.old.jobs tubes.now.entries first client.now }
     ensures same { jobs.new ≡ record jobs.old { comparisons = jobs.new.comparisons } }
-    ensures asks { Asks (waited_entries place.now) jobs.old jobs.new }
+    ensures asks { Asks (waited_tubes client.now) jobs.old jobs.new }
 {
-    if place.is_waiting() {
-        best_among(jobs, tubes, place.watched(), first)
+    if client.is_waiting() {
+        best_among(jobs, tubes, client.watched(), first)
     } else {
         first
     }
 }
 
 // The best of the jobs that waiting clients may have.
-fn best_offer(jobs: &mut Jobs, tubes: &Tubes, seats: &[Place]) -> Option<Offer>
+fn best_offer(jobs: &mut Jobs, tubes: &Tubes, seats: &[SeatRecord]) -> Option<Offer>
     ensures best { result ≡ fold (with_offers jobs.old.jobs tubes.now.entries) None seats.now }
     ensures same { jobs.new ≡ record jobs.old { comparisons = jobs.new.comparisons } }
-    ensures asks { Asks (sum_by waited_entries seats.now) jobs.old jobs.new }
+    ensures asks { Asks (sum_by waited_tubes seats.now) jobs.old jobs.new }
 {
     let mut best = None;
     for i in 0..seats.len() {
@@ -119,15 +127,15 @@ fn offer_to(jobs: &mut Jobs, tubes: &Tubes, tube: &TubeName) -> Option<Offer>
 }
 
 // The best of the jobs that the client at this seat waits for, if there is one.
-fn best_of_client(jobs: &mut Jobs, tubes: &Tubes, seats: &[Place], seat: Seat) -> Option<Offer>
+fn best_of_client(jobs: &mut Jobs, tubes: &Tubes, seats: &[SeatRecord], seat: Seat) -> Option<Offer>
     requires { AreNumbered seats.now }
     ensures best { result ≡ fold (with_offers jobs.old.jobs tubes.now.entries) None (these (seat_with seat seats.now)) }
     ensures same { jobs.new ≡ record jobs.old { comparisons = jobs.new.comparisons } }
-    ensures asks { Asks (sum_by waited_entries (these (seat_with seat seats.now))) jobs.old jobs.new }
+    ensures asks { Asks (sum_by waited_tubes (these (seat_with seat seats.now))) jobs.old jobs.new }
 {
     match seat_list::find(seats, seat) {
         None => None,
-        Some(place) => best_for(jobs, tubes, place, None),
+        Some(client) => best_for(jobs, tubes, client, None),
     }
 }
 
@@ -135,9 +143,7 @@ fn best_of_client(jobs: &mut Jobs, tubes: &Tubes, seats: &[Place], seat: Seat) -
 fn next_offer(state: &mut State) -> Option<Offer>
     requires { IsSound state.old }
     ensures next { result ≡ next_rank (machine_of state.old) }
-    ensures same { OnlyCompares state.old state.new }
-    ensures asks { Asks (waited (machine_of state.old)) state.old.jobs state.new.jobs }
-    ensures sound { IsSound state.new }
+    ensures kept { Looks (waited (machine_of state.old)) state.old state.new }
 {
     match &state.stir {
         Stir::Nothing => None,
@@ -156,9 +162,7 @@ fn next_offer(state: &mut State) -> Option<Offer>
 fn next_job(state: &mut State) -> Option<JobId>
     requires { IsSound state.old }
     ensures id { result ≡ option_map (λ j. j.id) (next_job (machine_of state.old)) }
-    ensures same { OnlyCompares state.old state.new }
-    ensures asks { Asks (waited (machine_of state.old)) state.old.jobs state.new.jobs }
-    ensures sound { IsSound state.new }
+    ensures kept { Looks (waited (machine_of state.old)) state.old state.new }
 {
     match next_offer(state) {
         None => None,
@@ -171,11 +175,9 @@ fn pick(state: &mut State, id: JobId) -> Option<(Seat, Result<Body, NoMemory>)>
     requires sound { IsSound state.old }
     requires next { Some id ≡ option_map (λ j. j.id) (next_job (machine_of state.old)) }
     ensures some { is_some result ≡ true }
-    ensures picked { IfSome result (λ p. (j : Job) → next_job (machine_of state.old) ≡ Some j → Some p.0 ≡ option_map (λ s. s.number) (next_seat (machine_of state.old) j)) }
-    ensures share { IfSome result (λ p. IfOk p.1 (λ body. (j : Job) → next_job (machine_of state.old) ≡ Some j → body ≡ j.body)) }
-    ensures same { OnlyCompares state.old state.new }
-    ensures asks { Asks 1 state.old.jobs state.new.jobs }
-    ensures sound { IsSound state.new }
+    ensures picked { IfSome result (λ p. IsPicked (machine_of state.old) p.0) }
+    ensures share { IfSome result (λ p. IfOk p.1 (IsBodyOf (next_job (machine_of state.old)))) }
+    ensures kept { Looks 1 state.old state.new }
 {
     let job = state.jobs.get(id)?;
     let seat = seat_list::first_waiting(state.seats.as_slice(), &job.tube)?;
@@ -186,11 +188,9 @@ fn pick(state: &mut State, id: JobId) -> Option<(Seat, Result<Body, NoMemory>)>
 fn give(state: &mut State, outs: &mut Outs, number: Seat, id: JobId, body: Body)
     requires sound { IsSound state.old }
     requires room { length outs.old.given < outs.old.most }
-    ensures after { machine_of state.new ≡ with_seat number without_wait (with_job id (reserved_by (machine_of state.old).moment number) (machine_of state.old)) }
+    ensures after { machine_of state.new ≡ handed_to number id (machine_of state.old) }
     ensures told { outs.new ≡ record outs.old { given = outs.old.given ++ (number, answers.Reserved id body) ∷ [] } }
-    ensures asks { Asks 8 state.old.jobs state.new.jobs }
-    ensures sound { IsSound state.new }
-    ensures config { state.new.config ≡ state.old.config }
+    ensures kept { StaysSound 8 state.old state.new }
 {
     let change = JobChange::HandOut(number, state.moment);
     // Nobody comes to hold a job while waiting.
@@ -205,9 +205,7 @@ fn refuse(state: &mut State, outs: &mut Outs, number: Seat)
     requires room { length outs.old.given < outs.old.most }
     ensures after { machine_of state.new ≡ with_seat number without_wait (machine_of state.old) }
     ensures told { outs.new ≡ record outs.old { given = outs.old.given ++ (number, answers.OutOfMemory) ∷ []; unshared = true } }
-    ensures jobs { state.new.jobs ≡ state.old.jobs }
-    ensures sound { IsSound state.new }
-    ensures config { state.new.config ≡ state.old.config }
+    ensures kept { LeavesJobs state.old state.new }
 {
     state::change_seat(state, number, &SeatChange::StopWaiting);
     outs.set_unshared();
@@ -225,9 +223,7 @@ fn hand_out(
     requires sound { IsSound state.old }
     requires room { length outs.old.given < outs.old.most }
     ensures given { HandsOut (machine_of state.old) id number shared outs.old outs.new (machine_of state.new) }
-    ensures asks { Asks 8 state.old.jobs state.new.jobs }
-    ensures sound { IsSound state.new }
-    ensures config { state.new.config ≡ state.old.config }
+    ensures kept { StaysSound 8 state.old state.new }
 {
     match shared {
         Ok(body) => give(state, outs, number, id, body),
@@ -239,13 +235,10 @@ fn hand_out(
 fn turn(state: &mut State, outs: &mut Outs) -> bool
     requires sound { IsSound state.old }
     requires room { HasRoom 0 (machine_of state.old) outs.old }
-    ensures done { result ≡ false → (next_job (machine_of state.old) ≡ None) × (machine_of state.new ≡ machine_of state.old) × (outs.new ≡ outs.old) }
+    ensures done { result ≡ false → IsLastTurn (next_job (machine_of state.old)) state.old state.new outs.old outs.new }
     ensures given { result ≡ true → Gives DispatchTurn has_refused_share (machine_of state.old) (machine_of state.new) outs.old outs.new }
     ensures fewer { result ≡ true → waiting_count (machine_of state.new) < waiting_count (machine_of state.old) }
-    ensures asks { result ≡ true → Asks (waited (machine_of state.old) + 9) state.old.jobs state.new.jobs }
-    ensures asks_last { result ≡ false → Asks (waited (machine_of state.old)) state.old.jobs state.new.jobs }
-    ensures sound { IsSound state.new }
-    ensures config { state.new.config ≡ state.old.config }
+    ensures kept { StaysSound (if result then waited (machine_of state.old) + 9 else waited (machine_of state.old)) state.old state.new }
 {
     if !state.has_waiter() {
         return false;
@@ -269,7 +262,6 @@ fn dispatch_all(state: &mut State, outs: &mut Outs)
     ensures done { next_job (machine_of state.new) ≡ None }
     ensures asks { AsksByTurn (waited (machine_of state.old)) outs.old outs.new state.old.jobs state.new.jobs }
     ensures sound { IsSound state.new }
-    ensures config { state.new.config ≡ state.old.config }
 {
     while turn(state, outs) {}
 }
@@ -284,7 +276,6 @@ pub(crate) fn dispatch(state: &mut State, outs: &mut Outs)
     ensures idle { is_nothing state.old.stir ≡ true → state.new.jobs ≡ state.old.jobs }
     ensures asks { AsksByTurn (waited (machine_of state.old)) outs.old outs.new state.old.jobs state.new.jobs }
     ensures sound { IsSound state.new }
-    ensures config { state.new.config ≡ state.old.config }
 {
     if !state.stir.is_nothing() {
         dispatch_all(state, outs);

@@ -1,16 +1,16 @@
-ghost use Rattle.std.specs.Prelude.{◌≡◌, ◌+◌, None, count_by, fold, if◌then◌else◌, ℕ};
-ghost use Rattle.std.specs.List.{list_any};
+ghost use Rattle.std.specs.Prelude.{◌≡◌, ◌+◌, None, count_by, fold, if◌then◌else◌};
 ghost use Rattle.std.specs.Option.{option_map};
 ghost use Rattle.bq_job.specs.machine.Changes.{is_waiting};
 ghost use Rattle.bq_job.specs.beside.NextDue.{next_due as next_due_of};
 ghost use Rattle.bq_core.specs.Asking.{Asks};
 ghost use Rattle.bq_core.specs.Dues.{earlier_of_both, timers_due, warning_due, with_seat_due, with_warning_due};
 ghost use Rattle.bq_core.specs.FirstEnds.{AreTimeouts};
+ghost use Rattle.bq_core.specs.Keeping.{StaysSound};
 ghost use Rattle.bq_core.specs.State.{machine_of, IsSound};
 ghost use Rattle.bq_core.specs.Warnings.{AreWarned};
 
 use crate::first_end::FirstEnd;
-use crate::place::Place;
+use crate::seat_record::SeatRecord;
 use crate::state::State;
 use bq_job::{JobId, Moment};
 use bq_jobs::Jobs;
@@ -36,21 +36,21 @@ fn moment_of(found: Option<(Moment, JobId)>) -> Option<Moment>
 }
 
 // When the client, if it waits, is told that the time to run of a job that it holds ends soon.
-fn warning_due(jobs: &mut Jobs, place: &Place) -> Option<Moment>
-    ensures due { result ≡ warning_due jobs.old.jobs place.now }
+fn warning_due(jobs: &mut Jobs, client: &SeatRecord) -> Option<Moment>
+    ensures due { result ≡ warning_due jobs.old.jobs client.now }
     ensures same { jobs.new ≡ record jobs.old { comparisons = jobs.new.comparisons } }
-    ensures asks { Asks (if is_waiting place.now then 1 else 0) jobs.old jobs.new }
+    ensures asks { Asks (if is_waiting client.now then 1 else 0) jobs.old jobs.new }
 {
-    if !place.is_waiting() {
+    if !client.is_waiting() {
         return None;
     }
-    match jobs.next_deadline_of(place.number()) {
+    match jobs.next_deadline_of(client.number()) {
         None => None,
         Some((deadline, _)) => Some(deadline.saturating_sub(1000)),
     }
 }
 
-fn first_warning(jobs: &mut Jobs, seats: &[Place]) -> Option<Moment>
+fn first_warning(jobs: &mut Jobs, seats: &[SeatRecord]) -> Option<Moment>
     ensures due { result ≡ fold (with_warning_due jobs.old.jobs) None seats.now }
     ensures same { jobs.new ≡ record jobs.old { comparisons = jobs.new.comparisons } }
     ensures asks { Asks (count_by is_waiting seats.now) jobs.old jobs.new }
@@ -63,7 +63,7 @@ fn first_warning(jobs: &mut Jobs, seats: &[Place]) -> Option<Moment>
 }
 
 // When the first of the clients that wait is told so. Where none of them holds a job, no seat is looked at.
-fn warnings_due(jobs: &mut Jobs, seats: &[Place], warns: bool) -> Option<Moment>
+fn warnings_due(jobs: &mut Jobs, seats: &[SeatRecord], warns: bool) -> Option<Moment>
     requires { AreWarned warns jobs.old.jobs seats.now }
     ensures due { result ≡ fold (with_warning_due jobs.old.jobs) None seats.now }
     ensures same { jobs.new ≡ record jobs.old { comparisons = jobs.new.comparisons } }
@@ -88,7 +88,7 @@ fn jobs_due(jobs: &mut Jobs) -> Option<Moment>
 }
 
 /// When the first of the clients that wait gives up.
-pub(crate) fn first_to_give_up(seats: &[Place]) -> Option<Moment>
+pub(crate) fn first_to_give_up(seats: &[SeatRecord]) -> Option<Moment>
     ensures { result ≡ fold with_seat_due None seats.now }
 {
     let mut best = None;
@@ -99,7 +99,7 @@ pub(crate) fn first_to_give_up(seats: &[Place]) -> Option<Moment>
 }
 
 // The same. Where it is known, no seat is looked at.
-fn seats_due(first: &FirstEnd, seats: &[Place]) -> Option<Moment>
+fn seats_due(first: &FirstEnd, seats: &[SeatRecord]) -> Option<Moment>
     requires { AreTimeouts first.now seats.now }
     ensures { result ≡ fold with_seat_due None seats.now }
 {
@@ -114,8 +114,7 @@ pub(crate) fn next_due(state: &mut State) -> Option<Moment>
     requires { IsSound state.old }
     ensures due { result ≡ next_due_of (machine_of state.old) }
     ensures same { machine_of state.new ≡ machine_of state.old }
-    ensures asks { Asks (count_by is_waiting state.old.seats.items + 2) state.old.jobs state.new.jobs }
-    ensures sound { IsSound state.new }
+    ensures kept { StaysSound (count_by is_waiting state.old.seats.items + 2) state.old state.new }
 {
     let jobs = jobs_due(&mut state.jobs);
     let warning = warnings_due(&mut state.jobs, state.seats.as_slice(), state.warns);

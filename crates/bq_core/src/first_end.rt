@@ -3,8 +3,8 @@ ghost use Rattle.std.specs.Prelude.{◌≡◌};
 ghost use Rattle.std.specs.Option.{option_copied};
 ghost use Rattle.bq_core.specs.FirstEnds.{AreTimeouts, end_after, keeps_end};
 
-use crate::place::Place;
 use crate::seat_list::SeatChange;
+use crate::seat_record::SeatRecord;
 use crate::{dues, seat_list};
 use bq_job::Moment;
 
@@ -18,35 +18,35 @@ pub(crate) enum FirstEnd {
 }
 
 // Whether a change of a seat leaves it as it was.
-fn keeps(place: &Place, what: &SeatChange) -> bool
-    ensures { result ≡ keeps_end what.now place.now }
+fn keeps(client: &SeatRecord, what: &SeatChange) -> bool
+    ensures { result ≡ keeps_end what.now client.now }
 {
     match what {
         SeatChange::StopWaiting | SeatChange::Connect | SeatChange::Clear => {
-            place.gives_up_at().is_none()
+            client.gives_up_at().is_none()
         }
         SeatChange::Wait(_, until) => {
-            until.is_none() && place.gives_up_at().is_none() && !place.has_ended()
+            until.is_none() && client.gives_up_at().is_none() && !client.has_ended()
         }
-        SeatChange::End => !place.is_waiting(),
+        SeatChange::End => !client.is_waiting(),
         SeatChange::Use(_) => true,
     }
 }
 
 /// What is known of it once a seat, as it stands yet, is changed.
-pub(crate) fn change(first: &mut FirstEnd, place: Option<&Place>, what: &SeatChange)
-    ensures { first.new ≡ end_after what.now (option_copied place.entry) first.old }
+pub(crate) fn change(first: &mut FirstEnd, client: Option<&SeatRecord>, what: &SeatChange)
+    ensures { first.new ≡ end_after what.now (option_copied client.entry) first.old }
 {
-    let Some(place) = place else {
+    let Some(client) = client else {
         return;
     };
-    if !keeps(place, what) {
+    if !keeps(client, what) {
         *first = FirstEnd::Unknown;
     }
 }
 
 /// What is known once it was looked for.
-pub(crate) fn find(seats: &[Place]) -> FirstEnd
+pub(crate) fn find(seats: &[SeatRecord]) -> FirstEnd
     ensures { AreTimeouts result seats.now }
 {
     if seat_list::is_some_waiter_gone(seats) {

@@ -1,14 +1,15 @@
-ghost use Rattle.std.specs.Prelude.{◌≡◌, ◌==◌, ◌+◌, ◌++◌, ◌∷◌, [], true, false, Some, None, nat_le};
-ghost use Rattle.bq_job.specs.machine.Acts.{silent, telling};
+ghost use Rattle.std.specs.Prelude.{◌≡◌, true, false, Some};
+ghost use Rattle.bq_job.specs.machine.Acts.{telling};
 ghost use Rattle.bq_job.specs.machine.Changes.{seat_with};
-ghost use Rattle.bq_job.specs.machine.JobCommands.{bury_effect, delete_effect, is_full as is_full_of, kick_job_effect, last_id, new_job as job_of_put, put_effect, release_effect, reserve_effect, reserve_job_effect, touch_effect};
-ghost use Rattle.bq_job.specs.machine.Limits.{later as later_by, raised};
+ghost use Rattle.bq_job.specs.machine.JobCommands.{is_full as is_full_of, new_job as job_of_put};
+ghost use Rattle.bq_job.specs.machine.JobCommands.{bury_effect, delete_effect, kick_job_effect, put_effect, release_effect};
+ghost use Rattle.bq_job.specs.machine.JobCommands.{reserve_job_effect, touch_effect};
+ghost use Rattle.bq_job.specs.machine.Limits.{later as later_by};
 ghost use Rattle.bq_job.specs.machine.Machine.{SeatRecord};
-ghost use Rattle.bq_core.specs.Acting.{Replies, is_asking};
-ghost use Rattle.bq_core.specs.Asking.{AsksAsChanged};
+ghost use Rattle.bq_core.specs.Acting.{is_asking};
 ghost use Rattle.bq_core.specs.Putting.{after_given};
+ghost use Rattle.bq_core.specs.Replying.{AnswersTo, IsCarriedOut, RepliesAt, RepliesTo, Waits};
 ghost use Rattle.bq_core.specs.State.{machine_of, IsSound};
-ghost use Rattle.bq_core.specs.TubeEntries.{has_entry};
 
 use crate::job_list::{JobChange, JobTest};
 use crate::reply::Reply;
@@ -84,10 +85,8 @@ fn is_full(state: &State) -> bool
 pub(crate) fn put(state: &mut State, alloc: Global, seat: Seat, new: NewJob) -> Reply
     requires sound { IsSound state.old }
     requires asks { is_asking (seat_with seat state.old.seats.items) ≡ true }
-    ensures reply { (s : SeatRecord) → seat_with seat (machine_of state.old).seats ≡ Some s → Replies true (machine_of state.old) (put_effect new.pri new.delay new.ttr new.body (machine_of state.old) s) result (machine_of state.new) }
-    ensures asks { AsksAsChanged state.old.jobs state.new.jobs }
-    ensures sound { IsSound state.new }
-    ensures config { state.new.config ≡ state.old.config }
+    ensures reply { RepliesAt seat true (put_effect new.pri new.delay new.ttr new.body) state.old result state.new }
+    ensures kept { IsCarriedOut state.old state.new }
 {
     if state.draining {
         return Reply::Told(Answer::Draining);
@@ -95,10 +94,10 @@ pub(crate) fn put(state: &mut State, alloc: Global, seat: Seat, new: NewJob) -> 
     if is_full(state) {
         return Reply::Told(Answer::OutOfMemory);
     }
-    let Some(place) = seat_list::find(state.seats.as_slice(), seat) else {
+    let Some(client) = seat_list::find(state.seats.as_slice(), seat) else {
         return Reply::Silent;
     };
-    let tube = *place.used();
+    let tube = *client.used();
     let Ok(()) = state::make_room(state, alloc) else {
         return Reply::LeftOut;
     };
@@ -116,10 +115,8 @@ pub(crate) fn put(state: &mut State, alloc: Global, seat: Seat, new: NewJob) -> 
 pub(crate) fn reserve(state: &mut State, seat: Seat, until: Option<Moment>)
     requires sound { IsSound state.old }
     requires asks { is_asking (seat_with seat state.old.seats.items) ≡ true }
-    ensures reply { (s : SeatRecord) → s.number ≡ seat → reserve_effect until (machine_of state.old) s ≡ silent (machine_of state.new) }
-    ensures asks { AsksAsChanged state.old.jobs state.new.jobs }
-    ensures sound { IsSound state.new }
-    ensures config { state.new.config ≡ state.old.config }
+    ensures reply { Waits seat until state.old state.new }
+    ensures kept { IsCarriedOut state.old state.new }
 {
     state::note_leases(state, seat);
     state.tickets = state.tickets.saturating_add(1);
@@ -131,10 +128,8 @@ pub(crate) fn reserve(state: &mut State, seat: Seat, until: Option<Moment>)
 pub(crate) fn reserve_until(state: &mut State, seat: Seat, seconds: u32)
     requires sound { IsSound state.old }
     requires asks { is_asking (seat_with seat state.old.seats.items) ≡ true }
-    ensures reply { (s : SeatRecord) → s.number ≡ seat → reserve_effect (Some (later_by (machine_of state.old).moment seconds)) (machine_of state.old) s ≡ silent (machine_of state.new) }
-    ensures asks { AsksAsChanged state.old.jobs state.new.jobs }
-    ensures sound { IsSound state.new }
-    ensures config { state.new.config ≡ state.old.config }
+    ensures reply { Waits seat (Some (later_by state.old.moment seconds)) state.old state.new }
+    ensures kept { IsCarriedOut state.old state.new }
 {
     let until = job_list::later(state.moment, seconds);
     reserve(state, seat, Some(until));
@@ -143,10 +138,8 @@ pub(crate) fn reserve_until(state: &mut State, seat: Seat, seconds: u32)
 /// Reserves a job that nobody holds, in whatever tube.
 pub(crate) fn reserve_job(state: &mut State, seat: Seat, id: JobId) -> Reply
     requires { IsSound state.old }
-    ensures reply { (s : SeatRecord) → s.number ≡ seat → Replies false (machine_of state.old) (reserve_job_effect id (machine_of state.old) s) result (machine_of state.new) }
-    ensures asks { AsksAsChanged state.old.jobs state.new.jobs }
-    ensures sound { IsSound state.new }
-    ensures config { state.new.config ≡ state.old.config }
+    ensures reply { RepliesTo seat false (reserve_job_effect id) state.old result state.new }
+    ensures kept { IsCarriedOut state.old state.new }
 {
     if !state.has_job(id, JobTest::Free) {
         return Reply::Told(Answer::NotFound);
@@ -165,10 +158,8 @@ pub(crate) fn reserve_job(state: &mut State, seat: Seat, id: JobId) -> Reply
 /// Takes out a job that nobody holds, or that the client holds itself.
 pub(crate) fn delete(state: &mut State, seat: Seat, id: JobId) -> Answer
     requires { IsSound state.old }
-    ensures reply { (s : SeatRecord) → s.number ≡ seat → delete_effect id (machine_of state.old) s ≡ telling result (machine_of state.new) }
-    ensures asks { AsksAsChanged state.old.jobs state.new.jobs }
-    ensures sound { IsSound state.new }
-    ensures config { state.new.config ≡ state.old.config }
+    ensures reply { AnswersTo seat (delete_effect id) state.old result state.new }
+    ensures kept { IsCarriedOut state.old state.new }
 {
     if !state.has_job(id, JobTest::FreeFor(seat)) {
         return Answer::NotFound;
@@ -183,10 +174,8 @@ pub(crate) fn delete(state: &mut State, seat: Seat, id: JobId) -> Answer
 /// Gives a job back that the client holds.
 pub(crate) fn release(state: &mut State, seat: Seat, id: JobId, with: NewTurn) -> Answer
     requires { IsSound state.old }
-    ensures reply { (s : SeatRecord) → s.number ≡ seat → release_effect id with.pri with.delay (machine_of state.old) s ≡ telling result (machine_of state.new) }
-    ensures asks { AsksAsChanged state.old.jobs state.new.jobs }
-    ensures sound { IsSound state.new }
-    ensures config { state.new.config ≡ state.old.config }
+    ensures reply { AnswersTo seat (release_effect id with.pri with.delay) state.old result state.new }
+    ensures kept { IsCarriedOut state.old state.new }
 {
     if !state.has_job(id, JobTest::HeldBy(seat)) {
         return Answer::NotFound;
@@ -199,10 +188,8 @@ pub(crate) fn release(state: &mut State, seat: Seat, id: JobId, with: NewTurn) -
 /// Puts a job aside that the client holds.
 pub(crate) fn bury(state: &mut State, seat: Seat, id: JobId, pri: Pri) -> Answer
     requires { IsSound state.old }
-    ensures reply { (s : SeatRecord) → s.number ≡ seat → bury_effect id pri (machine_of state.old) s ≡ telling result (machine_of state.new) }
-    ensures asks { AsksAsChanged state.old.jobs state.new.jobs }
-    ensures sound { IsSound state.new }
-    ensures config { state.new.config ≡ state.old.config }
+    ensures reply { AnswersTo seat (bury_effect id pri) state.old result state.new }
+    ensures kept { IsCarriedOut state.old state.new }
 {
     if !state.has_job(id, JobTest::HeldBy(seat)) {
         return Answer::NotFound;
@@ -216,10 +203,8 @@ pub(crate) fn bury(state: &mut State, seat: Seat, id: JobId, pri: Pri) -> Answer
 /// The time to run of a job that the client holds begins anew.
 pub(crate) fn touch(state: &mut State, seat: Seat, id: JobId) -> Answer
     requires { IsSound state.old }
-    ensures reply { (s : SeatRecord) → s.number ≡ seat → touch_effect id (machine_of state.old) s ≡ telling result (machine_of state.new) }
-    ensures asks { AsksAsChanged state.old.jobs state.new.jobs }
-    ensures sound { IsSound state.new }
-    ensures config { state.new.config ≡ state.old.config }
+    ensures reply { AnswersTo seat (touch_effect id) state.old result state.new }
+    ensures kept { IsCarriedOut state.old state.new }
 {
     let Some(ttr) = state.time_to_run(id, seat) else {
         return Answer::NotFound;
@@ -233,9 +218,7 @@ pub(crate) fn touch(state: &mut State, seat: Seat, id: JobId) -> Answer
 pub(crate) fn kick_job(state: &mut State, id: JobId) -> Answer
     requires { IsSound state.old }
     ensures reply { (s : SeatRecord) → kick_job_effect id (machine_of state.old) s ≡ telling result (machine_of state.new) }
-    ensures asks { AsksAsChanged state.old.jobs state.new.jobs }
-    ensures sound { IsSound state.new }
-    ensures config { state.new.config ≡ state.old.config }
+    ensures kept { IsCarriedOut state.old state.new }
 {
     if !state.has_job(id, JobTest::Kickable) {
         return Answer::NotFound;

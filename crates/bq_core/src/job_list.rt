@@ -1,19 +1,18 @@
-ghost use Rattle.std.specs.Prelude.{◌≡◌, ◌||◌, not, Some, is_some, IfSome, IfOk};
+ghost use Rattle.std.specs.Prelude.{◌≡◌, ◌||◌, not, is_some, IfSome, IfOk};
 ghost use Rattle.std.specs.Option.{option_map};
-ghost use Rattle.bq_job.specs.machine.Changes.{first_of, is_ready, job_with};
+ghost use Rattle.bq_job.specs.machine.Changes.{is_ready, job_with};
 ghost use Rattle.bq_job.specs.machine.Changes.{is_held_by as held_by};
 ghost use Rattle.bq_job.specs.machine.Dispatch.{reserved_by};
 ghost use Rattle.bq_job.specs.machine.JobStates.{is_buried, is_delayed, is_reserved};
 ghost use Rattle.bq_job.specs.machine.Limits.{later as later_by};
 ghost use Rattle.std.specs.List.{list_any};
-ghost use Rattle.bq_job.specs.declared.job.Job.{Job};
 ghost use Rattle.bq_job.specs.machine.Waits.{is_ending_lease};
 ghost use Rattle.bq_job.specs.machine.Timers.{job_after_timers};
 ghost use Rattle.bq_job.specs.machine.JobCommands.{buried, delayed_by as delayed_for, kicked, released};
 ghost use Rattle.bq_jobs.specs.Kept.{ComparesAtMost};
 ghost use Rattle.bq_core.specs.EndingWaits.{is_lease_short};
-ghost use Rattle.bq_core.specs.JobChanges.{changed, is_passed_by, passes, ttr_held_by};
-ghost use Rattle.bq_core.specs.JobKinds.{is_before_of, is_of};
+ghost use Rattle.bq_core.specs.JobChanges.{IsBodyOf, changed, is_passed_by, passes, ttr_held_by};
+ghost use Rattle.bq_core.specs.JobKinds.{first_of_kind};
 
 use bq_job::{Body, Job, JobId, JobState, Moment, NoMemory, Pri, Seat, TubeName};
 use bq_jobs::{JobEdit, Jobs};
@@ -185,7 +184,7 @@ impl JobEdit for JobChange {
 
 /// The id of the first job of this kind in this tube.
 pub(crate) fn first(jobs: &mut Jobs, kind: JobKind, tube: &TubeName) -> Option<JobId>
-    ensures id { result ≡ option_map (λ j. j.id) (first_of (is_of kind tube.now) (is_before_of kind) jobs.old.jobs) }
+    ensures id { result ≡ option_map (λ j. j.id) (first_of_kind kind tube.now jobs.old.jobs) }
     ensures same { jobs.new ≡ record jobs.old { comparisons = jobs.new.comparisons } }
     ensures comparisons { ComparesAtMost 1 jobs.old jobs.new }
 {
@@ -251,7 +250,7 @@ pub(crate) fn time_to_run(jobs: &mut Jobs, id: JobId, seat: Seat) -> Option<u32>
 /// One more owner of the body of the job of this id, unless it is refused; None where there is no job.
 pub(crate) fn share(jobs: &mut Jobs, id: JobId) -> Option<Result<Body, NoMemory>>
     ensures none { is_some result ≡ is_some (job_with id jobs.old.jobs) }
-    ensures share { IfSome result (λ shared. IfOk shared (λ body. (j : Job) → job_with id jobs.old.jobs ≡ Some j → body ≡ j.body)) }
+    ensures share { IfSome result (λ shared. IfOk shared (IsBodyOf (job_with id jobs.old.jobs))) }
     ensures same { jobs.new ≡ record jobs.old { comparisons = jobs.new.comparisons } }
     ensures comparisons { ComparesAtMost 1 jobs.old jobs.new }
 {

@@ -1,15 +1,13 @@
-ghost use Rattle.std.specs.Prelude.{◌≡◌, ◌<◌, ◌≤◌, ◌+◌, ◌*◌, [], Some, count_by, false, length, take, true};
+ghost use Rattle.std.specs.Prelude.{◌≡◌, ◌<◌, ◌≤◌, ◌+◌, ◌*◌, [], false, length, take, true, if◌then◌else◌};
 ghost use Rattle.bq_job.specs.declared.job.Job.{Job};
-ghost use Rattle.bq_job.specs.machine.Changes.{seat_with};
 ghost use Rattle.bq_job.specs.machine.JobCommands.{after_kick, kick_effect, kickable, kicked};
-ghost use Rattle.bq_job.specs.machine.Machine.{SeatRecord};
 ghost use Rattle.bq_jobs.specs.Kept.{ComparesAtMost};
-ghost use Rattle.bq_core.specs.Acting.{Replies};
-ghost use Rattle.bq_core.specs.Asking.{Asks, AsksAsChanged};
 ghost use Rattle.bq_core.specs.Cost.{changed_jobs};
 ghost use Rattle.bq_core.specs.JobKinds.{is_of};
-ghost use Rattle.bq_core.specs.Kicking.{KicksFirst, all_kicked, jobs_of};
-ghost use Rattle.bq_core.specs.State.{machine_of, IsSound};
+ghost use Rattle.bq_core.specs.Kicking.{KicksFirst, jobs_of};
+ghost use Rattle.bq_core.specs.Replying.{IsCarriedOut, RepliesAt};
+ghost use Rattle.bq_core.specs.Keeping.{StaysSound};
+ghost use Rattle.bq_core.specs.State.{machine_of, IsSound, count_jobs};
 
 use crate::job_list::{JobChange, JobKind};
 use crate::reply::Reply;
@@ -35,14 +33,11 @@ fn kind_to_kick(jobs: &mut Jobs, tube: &TubeName) -> JobKind
 fn kick_first(state: &mut State, kind: JobKind, tube: &TubeName) -> bool
     requires sound { IsSound state.old }
     requires out { (k : Job) → is_of kind tube.now (kicked k) ≡ false }
-    ensures none { result ≡ false → (jobs_of kind tube.now (machine_of state.old).jobs ≡ []) × (machine_of state.new ≡ machine_of state.old) }
+    ensures none { result ≡ false → (jobs_of kind tube.now state.old.jobs.jobs ≡ []) × (machine_of state.new ≡ machine_of state.old) }
     ensures kicked { result ≡ true → KicksFirst kind tube.now (machine_of state.old).jobs (machine_of state.new).jobs }
     ensures others { machine_of state.new ≡ record (machine_of state.old) { jobs = (machine_of state.new).jobs } }
-    ensures fewer { result ≡ true → count_by (is_of kind tube.now) (machine_of state.new).jobs < count_by (is_of kind tube.now) (machine_of state.old).jobs }
-    ensures asks { result ≡ true → Asks 9 state.old.jobs state.new.jobs }
-    ensures asks_last { result ≡ false → Asks 1 state.old.jobs state.new.jobs }
-    ensures sound { IsSound state.new }
-    ensures config { state.new.config ≡ state.old.config }
+    ensures fewer { result ≡ true → count_jobs (is_of kind tube.now) state.new < count_jobs (is_of kind tube.now) state.old }
+    ensures kept { StaysSound (if result then 9 else 1) state.old state.new }
 {
     let Some(id) = state.first(kind, tube) else {
         return false;
@@ -55,12 +50,10 @@ fn kick_first(state: &mut State, kind: JobKind, tube: &TubeName) -> bool
 fn kick_some(state: &mut State, kind: JobKind, tube: &TubeName, bound: u32) -> u64
     requires sound { IsSound state.old }
     requires out { (k : Job) → is_of kind tube.now (kicked k) ≡ false }
-    ensures kicked { machine_of state.new ≡ record (machine_of state.old) { jobs = all_kicked (take bound (jobs_of kind tube.now (machine_of state.old).jobs)) (machine_of state.old).jobs } }
+    ensures kicked { machine_of state.new ≡ after_kick (take bound (jobs_of kind tube.now state.old.jobs.jobs)) (machine_of state.old) }
     ensures count { result ≡ length (take bound (jobs_of kind tube.now (machine_of state.old).jobs)) }
-    ensures fewer { count_by (is_of kind tube.now) (machine_of state.new).jobs + result ≤ count_by (is_of kind tube.now) (machine_of state.old).jobs }
-    ensures asks { Asks (9 * result + 1) state.old.jobs state.new.jobs }
-    ensures sound { IsSound state.new }
-    ensures config { state.new.config ≡ state.old.config }
+    ensures fewer { count_jobs (is_of kind tube.now) state.new + result ≤ count_jobs (is_of kind tube.now) state.old }
+    ensures kept { StaysSound (9 * result + 1) state.old state.new }
 {
     for done in 0..bound {
         if !kick_first(state, kind, tube) {
@@ -76,9 +69,7 @@ fn kick_in(state: &mut State, tube: &TubeName, bound: u32) -> u64
     ensures kicked { machine_of state.new ≡ after_kick (take bound (kickable tube.now (machine_of state.old).jobs)) (machine_of state.old) }
     ensures count { result ≡ length (take bound (kickable tube.now (machine_of state.old).jobs)) }
     ensures changed { result ≤ changed_jobs (machine_of state.old).jobs (machine_of state.new).jobs }
-    ensures asks { Asks (9 * result + 2) state.old.jobs state.new.jobs }
-    ensures sound { IsSound state.new }
-    ensures config { state.new.config ≡ state.old.config }
+    ensures kept { StaysSound (9 * result + 2) state.old state.new }
 {
     let kind = kind_to_kick(&mut state.jobs, tube);
     kick_some(state, kind, tube, bound)
@@ -87,15 +78,13 @@ fn kick_in(state: &mut State, tube: &TubeName, bound: u32) -> u64
 /// Kicks jobs of the tube that the client uses, so many at most.
 pub(crate) fn kick(state: &mut State, seat: Seat, bound: u32) -> Reply
     requires sound { IsSound state.old }
-    ensures reply { (s : SeatRecord) → seat_with seat (machine_of state.old).seats ≡ Some s → Replies false (machine_of state.old) (kick_effect bound (machine_of state.old) s) result (machine_of state.new) }
-    ensures asks { AsksAsChanged state.old.jobs state.new.jobs }
-    ensures sound { IsSound state.new }
-    ensures config { state.new.config ≡ state.old.config }
+    ensures reply { RepliesAt seat false (kick_effect bound) state.old result state.new }
+    ensures kept { IsCarriedOut state.old state.new }
 {
-    let Some(place) = seat_list::find(state.seats.as_slice(), seat) else {
+    let Some(client) = seat_list::find(state.seats.as_slice(), seat) else {
         return Reply::Silent;
     };
-    let tube = *place.used();
+    let tube = *client.used();
     let count = kick_in(state, &tube, bound);
     Reply::Told(Answer::KickedCount(count))
 }

@@ -1,11 +1,11 @@
 //! The jobs that a client holds.
-ghost use Rattle.std.specs.Prelude.{◌≡◌, ◌<◌, ◌+◌, ◌*◌, true, false, count_by};
+ghost use Rattle.std.specs.Prelude.{◌≡◌, ◌<◌, ◌+◌, ◌*◌, true, false, if◌then◌else◌};
 ghost use Rattle.bq_job.specs.machine.Asked.{state_once_left};
 ghost use Rattle.bq_job.specs.machine.Changes.{is_held_by};
 ghost use Rattle.bq_job.specs.machine.JobStates.{is_reserved};
-ghost use Rattle.bq_core.specs.Asking.{Asks};
 ghost use Rattle.bq_core.specs.Firing.{after_giving_back};
-ghost use Rattle.bq_core.specs.State.{machine_of, IsSound};
+ghost use Rattle.bq_core.specs.Keeping.{StaysSound};
+ghost use Rattle.bq_core.specs.State.{machine_of, IsSound, count_jobs};
 
 use crate::job_list::JobChange;
 use crate::state::State;
@@ -25,11 +25,8 @@ fn give_back_one(state: &mut State, seat: Seat, becomes: JobState) -> bool
     requires free { is_reserved becomes ≡ false }
     ensures done { result ≡ false → machine_of state.new ≡ after_giving_back becomes seat (machine_of state.old) }
     ensures given { after_giving_back becomes seat (machine_of state.new) ≡ after_giving_back becomes seat (machine_of state.old) }
-    ensures fewer { result ≡ true → count_by (is_held_by seat) (machine_of state.new).jobs < count_by (is_held_by seat) (machine_of state.old).jobs }
-    ensures asks { result ≡ true → Asks 9 state.old.jobs state.new.jobs }
-    ensures asks_last { result ≡ false → Asks 1 state.old.jobs state.new.jobs }
-    ensures sound { IsSound state.new }
-    ensures config { state.new.config ≡ state.old.config }
+    ensures fewer { result ≡ true → count_jobs (is_held_by seat) state.new < count_jobs (is_held_by seat) state.old }
+    ensures kept { StaysSound (if result then 9 else 1) state.old state.new }
 {
     let Some(id) = state.jobs.first_held(seat) else {
         return false;
@@ -43,9 +40,7 @@ pub(crate) fn give_back_all(state: &mut State, seat: Seat, becomes: JobState)
     requires sound { IsSound state.old }
     requires free { is_reserved becomes ≡ false }
     ensures after { machine_of state.new ≡ after_giving_back becomes seat (machine_of state.old) }
-    ensures asks { Asks (9 * count_by (is_held_by seat) (machine_of state.old).jobs + 1) state.old.jobs state.new.jobs }
-    ensures sound { IsSound state.new }
-    ensures config { state.new.config ≡ state.old.config }
+    ensures kept { StaysSound (9 * count_jobs (is_held_by seat) state.old + 1) state.old state.new }
 {
     while give_back_one(state, seat, becomes) {}
 }

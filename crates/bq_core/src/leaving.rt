@@ -5,7 +5,7 @@ ghost use Rattle.bq_core.specs.Leaving.{exists_in, loss_of, lost_all, lost_if, l
 
 use crate::crowd::Share;
 use crate::loss::{self, Loss};
-use crate::place::Place;
+use crate::seat_record::SeatRecord;
 use crate::tubes::Tubes;
 use bq_job::TubeName;
 
@@ -45,12 +45,12 @@ fn lose_watched(loss: &mut Loss, tubes: &Tubes, names: &[TubeName], is_left: boo
 
 /// Of the tubes that a seat uses and watches, those may be gone that don't exist by their counts, in which
 /// it isn't counted any more: where it may be touched that it uses them, or watches them.
-pub(crate) fn lose(loss: &mut Loss, tubes: &Tubes, place: Option<&Place>, what: Share)
-    ensures { loss.new ≡ loss_of what tubes.now (option_copied place.entry) loss.old }
+pub(crate) fn lose(loss: &mut Loss, tubes: &Tubes, client: Option<&SeatRecord>, what: Share)
+    ensures { loss.new ≡ loss_of what tubes.now (option_copied client.entry) loss.old }
 {
-    let Some(place) = place else {
+    let Some(client) = client else {
         return;
     };
-    lose_used(loss, tubes, place.used(), what.using);
-    lose_watched(loss, tubes, place.watched(), what.watching);
+    lose_used(loss, tubes, client.used(), what.using);
+    lose_watched(loss, tubes, client.watched(), what.watching);
 }

@@ -1,6 +1,6 @@
 //! Which tubes may be gone while their entries are still kept.
 ghost use Rattle.std.specs.Prelude.{◌≡◌, if◌then◌else◌};
-ghost use Rattle.bq_core.specs.Losses.{with_found, with_lost};
+ghost use Rattle.bq_core.specs.Losses.{with_regained, with_lost};
 
 use bq_job::TubeName;
 
@@ -41,15 +41,15 @@ pub(crate) fn lose_if(loss: &mut Loss, name: &TubeName, may_be_gone: bool)
 }
 
 /// This tube exists.
-pub(crate) fn find(loss: &mut Loss, name: &TubeName)
-    ensures { loss.new ≡ with_found name.now loss.old }
+pub(crate) fn regain(loss: &mut Loss, name: &TubeName)
+    ensures { loss.new ≡ with_regained name.now loss.old }
 {
-    let is_found = match &*loss {
+    let is_regained = match &*loss {
         Loss::Nothing => false,
         Loss::Of(lost) => lost == name,
         Loss::Any => false,
     };
-    if is_found {
+    if is_regained {
         *loss = Loss::Nothing;
     }
 }

@@ -1,4 +1,4 @@
-ghost use Rattle.std.specs.Prelude.{◌≡◌, ◌<◌, ◌↔◌, ◌&&◌, None, false, not, IsTrue, IfOk, IsErrOf};
+ghost use Rattle.std.specs.Prelude.{◌≡◌, ◌<◌, ◌↔◌, ◌&&◌, not, IsTrue, IfOk, IsErrOf};
 ghost use Rattle.bq_job.specs.beside.Lawful.{IsLawful};
 ghost use Rattle.bq_job.specs.machine.Machine.{new_machine};
 ghost use Rattle.bq_job.specs.beside.NextDue.{next_due};
@@ -6,7 +6,8 @@ ghost use Rattle.bq_job.specs.machine.Steps.{IsStep};
 ghost use Rattle.bq_core.specs.Cost.{IsLookWithin, IsStepWithin};
 ghost use Rattle.bq_core.specs.Limits.{is_body_size, is_job_limit, is_seat_count};
 ghost use Rattle.bq_core.specs.State.{machine_of, IsSound};
-ghost use Rattle.bq_core.specs.Serving.{NoneIsGone, ServesAsking};
+ghost use Rattle.bq_core.specs.Outbox.{outcome_of};
+ghost use Rattle.bq_core.specs.Serving.{NoneIsGone, ServesAsking, TakesStepWithin};
 ghost use Rattle.bq_core.specs.Turns.{HasRoom};
 
 use crate::config::{Config, CoreFault};
@@ -43,7 +44,6 @@ fn serve(state: &mut State, outs: &mut Outs)
     requires room { HasRoom 0 (machine_of state.old) outs.old }
     ensures served { ServesAsking (machine_of state.old) outs.old outs.new (machine_of state.new) state.old.jobs state.new.jobs }
     ensures sound { IsSound state.new }
-    ensures config { state.new.config ≡ state.old.config }
 {
     dispatch::dispatch(state, outs);
     waits::end_waits(state, outs);
@@ -54,11 +54,10 @@ fn take_step(state: &mut State, alloc: Global, at: Moment, seat: Seat, what: Ste
     requires lawful { IsLawful (machine_of state.old) }
     requires sound { IsSound state.old }
     requires room { state.old.config.seats < outs.old.most }
-    ensures step { IsStep (machine_of state.old) at seat what (record { left_out = outs.new.left_out; unshared = outs.new.unshared }) outs.new.given (machine_of state.new) }
-    ensures comparisons { IsStepWithin (machine_of state.old) at seat what (record { left_out = outs.new.left_out; unshared = outs.new.unshared }) outs.new.given (machine_of state.new) state.old.jobs.comparisons state.new.jobs.comparisons }
+    ensures step { IsStep (machine_of state.old) at seat what (outcome_of outs.new) outs.new.given (machine_of state.new) }
+    ensures comparisons { TakesStepWithin at seat what state.old state.new outs.new }
     ensures most { outs.new.most ≡ outs.old.most }
     ensures sound { IsSound state.new }
-    ensures config { state.new.config ≡ state.old.config }
 {
     outs.begin();
     state::raise_moment(state, at);
@@ -107,14 +106,14 @@ impl Core {
         if !is_job_limit(config.max_jobs) {
             return Err(CoreFault::BadMaxJobs);
         }
-        let Ok(seats) = seat_list::new_places(alloc, config.seats) else {
+        let Ok(seats) = seat_list::free_seats(alloc, config.seats) else {
             return Err(CoreFault::NoMemory);
         };
-        let Ok(tubes) = Tubes::first(alloc) else {
+        let Ok(tubes) = Tubes::new(alloc) else {
             return Err(CoreFault::NoMemory);
         };
         Ok(Core {
-            state: state::first_state(config, seats, tubes),
+            state: state::new_state(config, seats, tubes),
         })
     }
 

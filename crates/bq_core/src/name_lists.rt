@@ -1,5 +1,5 @@
 //! Lists of names, each once, in byte order.
-ghost use Rattle.std.specs.Prelude.{◌≡◌, ◌<◌, ◌≤◌, ◌+◌, length, not, vec_len, IfOk};
+ghost use Rattle.std.specs.Prelude.{◌≡◌, ◌<◌, ◌≤◌, ◌+◌, not, vec_len, IfOk};
 ghost use Rattle.std.specs.List.{position, prefix_len, slice_get};
 ghost use Rattle.std.specs.Vec.{vec_capacity};
 ghost use Rattle.bq_job.specs.machine.TubeOrder.{in_name_order, with_name};
@@ -55,7 +55,7 @@ fn add<'a>(names: &mut Names<'a>, name: &'a [u8])
     }
 }
 
-/// These names, each once, in byte order. Their room is asked for before.
+/// These names, each once, in byte order. Their memory is asked for before.
 pub(crate) fn in_order<'a>(alloc: Global, tubes: &'a [TubeName]) -> Result<Names<'a>, NoMemory>
     ensures { IfOk result (λ names. names_of names.items ≡ in_name_order tubes.now) }
 {

@@ -62,10 +62,10 @@ pub(crate) fn make_room(ends: &mut PauseEnds, alloc: Global, tubes: usize) -> Re
     ensures not_fewer { ends.old.spare ≤ ends.new.spare }
     ensures room { IfOk result (λ _. tubes + 1 ≤ length ends.new.entries + ends.new.spare) }
 {
-    let Some(places) = tubes.checked_add(1) else {
+    let Some(wanted) = tubes.checked_add(1) else {
         return Err(NoMemory);
     };
-    let more = places.saturating_sub(ends.len());
+    let more = wanted.saturating_sub(ends.len());
     match ends.reserve(alloc, more) {
         Ok(()) => Ok(()),
         Err(_) => Err(NoMemory),

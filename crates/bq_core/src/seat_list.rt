@@ -1,18 +1,18 @@
-ghost use Rattle.std.specs.Prelude.{◌≡◌, ◌<◌, ◌++◌, ◌∷◌, [], true, filter, map, length, not, set, slice_get, IfSome, IfOk, OnErr, Some};
+ghost use Rattle.std.specs.Prelude.{◌≡◌, ◌<◌, true, map, length, IfSome, IfOk, OnErr};
 ghost use Rattle.std.specs.List.{list_any};
 ghost use Rattle.std.specs.Option.{option_copied, option_map};
 ghost use Rattle.bq_job.specs.machine.Changes.{first_of, seat_with};
 ghost use Rattle.bq_job.specs.machine.Dispatch.{is_wait_before};
-ghost use Rattle.bq_job.specs.machine.Machine.{SeatRecord, empty_seat, numbers};
+ghost use Rattle.bq_job.specs.machine.Machine.{empty_seat, numbers};
 ghost use Rattle.bq_job.specs.machine.TubeCommands.{watching};
-ghost use Rattle.bq_job.specs.reading.TubeName.{is_same_name};
-ghost use Rattle.bq_core.specs.SeatChanges.{AreNumbered, seat_changed, seat_changed_at};
+ghost use Rattle.bq_core.specs.SeatChanges.{AreNumbered, AtPlace, IsSetAt, seat_changed, seat_changed_at};
+ghost use Rattle.bq_core.specs.SeatChanges.{more_watched, fewer_watched, watches_other};
 ghost use Rattle.bq_core.specs.Places.{item_at, better_if};
 ghost use Rattle.bq_core.specs.EndingWaits.{has_waited, waits_after};
 ghost use Rattle.bq_core.specs.FirstEnds.{is_gone_in_wait};
 ghost use Rattle.bq_core.specs.Offers.{waits_at};
 
-use crate::place::{Place, Turn};
+use crate::seat_record::{SeatRecord, Turn};
 use bq_job::{Moment, NoMemory, Seat, TubeName};
 use std::alloc::Global;
 
@@ -33,61 +33,61 @@ pub(crate) enum SeatChange {
     Use(TubeName),
 }
 
-fn change(place: &mut Place, what: &SeatChange)
-    ensures { place.new ≡ seat_changed what.now place.old }
+fn change(client: &mut SeatRecord, what: &SeatChange)
+    ensures { client.new ≡ seat_changed what.now client.old }
 {
     match *what {
-        SeatChange::StopWaiting => place.stop_waiting(),
-        SeatChange::Wait(ticket, until) => place.wait_from(ticket, until),
-        SeatChange::Connect => place.connect(),
-        SeatChange::Clear => place.clear(),
-        SeatChange::End => place.end(),
-        SeatChange::Use(tube) => place.use_tube(&tube),
+        SeatChange::StopWaiting => client.stop_waiting(),
+        SeatChange::Wait(ticket, until) => client.wait_from(ticket, until),
+        SeatChange::Connect => client.connect(),
+        SeatChange::Clear => client.clear(),
+        SeatChange::End => client.end(),
+        SeatChange::Use(tube) => client.use_tube(&tube),
     }
 }
 
 /// Changes the seat of this number. No other is looked at.
-pub(crate) fn change_at(seats: &mut Vec<Place, Global>, number: Seat, what: &SeatChange)
+pub(crate) fn change_at(seats: &mut Vec<SeatRecord, Global>, number: Seat, what: &SeatChange)
     requires { AreNumbered seats.old.items }
     ensures { seats.new.items ≡ map (seat_changed_at number what.now) seats.old.items }
 {
-    if let Some(place) = seats.get_mut(usize::from(number)) {
-        change(place, what);
+    if let Some(client) = seats.get_mut(usize::from(number)) {
+        change(client, what);
     }
 }
 
 /// The client at the seat of this number watches one more tube. Tells how many it watches then.
 pub(crate) fn watch(
-    seats: &mut Vec<Place, Global>,
+    seats: &mut Vec<SeatRecord, Global>,
     alloc: Global,
     number: Seat,
     name: &TubeName,
 ) -> Result<u64, NoMemory>
     requires { number < length seats.old.items }
-    ensures count { IfOk result (λ n. (s : SeatRecord) → slice_get seats.old.items number ≡ Some s → n ≡ length (s.watched ++ name.now ∷ [])) }
-    ensures watched { IfOk result (λ _. (s : SeatRecord) → slice_get seats.old.items number ≡ Some s → seats.new.items ≡ set seats.old.items number (watching (s.watched ++ name.now ∷ []) s)) }
+    ensures count { IfOk result (λ n. AtPlace seats.old.items number (λ s. n ≡ length (more_watched name.now s))) }
+    ensures watched { IfOk result (λ _. IsSetAt seats.old.items number (λ s. watching (more_watched name.now s) s) seats.new.items) }
     ensures same { OnErr result (seats.new.items ≡ seats.old.items) }
 {
-    let place = &mut seats[usize::from(number)];
-    place.watch(alloc, name)?;
-    Ok(place.watch_count() as u64)
+    let client = &mut seats[usize::from(number)];
+    client.watch(alloc, name)?;
+    Ok(client.watch_count() as u64)
 }
 
 /// The client at the seat of this number watches a tube no longer, where another one is still watched. Tells
 /// how many it watches then.
-pub(crate) fn ignore(seats: &mut Vec<Place, Global>, number: Seat, name: &TubeName) -> u64
+pub(crate) fn ignore(seats: &mut Vec<SeatRecord, Global>, number: Seat, name: &TubeName) -> u64
     requires there { number < length seats.old.items }
-    requires other { (s : SeatRecord) → slice_get seats.old.items number ≡ Some s → list_any (λ other. not (is_same_name name.now other)) s.watched ≡ true }
-    ensures count { (s : SeatRecord) → slice_get seats.old.items number ≡ Some s → result ≡ length (filter (λ other. not (is_same_name name.now other)) s.watched) }
-    ensures ignored { (s : SeatRecord) → slice_get seats.old.items number ≡ Some s → seats.new.items ≡ set seats.old.items number (watching (filter (λ other. not (is_same_name name.now other)) s.watched) s) }
+    requires other { AtPlace seats.old.items number (λ s. watches_other name.now s ≡ true) }
+    ensures count { AtPlace seats.old.items number (λ s. result ≡ length (fewer_watched name.now s)) }
+    ensures ignored { IsSetAt seats.old.items number (λ s. watching (fewer_watched name.now s) s) seats.new.items }
 {
-    let place = &mut seats[usize::from(number)];
-    place.ignore(name);
-    place.watch_count() as u64
+    let client = &mut seats[usize::from(number)];
+    client.ignore(name);
+    client.watch_count() as u64
 }
 
 /// The seat of this number. No other is looked at.
-pub(crate) fn find(seats: &[Place], number: Seat) -> Option<&Place>
+pub(crate) fn find(seats: &[SeatRecord], number: Seat) -> Option<&SeatRecord>
     requires { AreNumbered seats.now }
     ensures { option_copied result ≡ seat_with number seats.now }
 {
@@ -95,7 +95,12 @@ pub(crate) fn find(seats: &[Place], number: Seat) -> Option<&Place>
 }
 
 // The place of the client that has waited longest, once this one is looked at.
-pub(crate) fn better(seats: &[Place], best: Option<usize>, i: usize, passes: bool) -> Option<usize>
+pub(crate) fn better(
+    seats: &[SeatRecord],
+    best: Option<usize>,
+    i: usize,
+    passes: bool,
+) -> Option<usize>
     requires best { IfSome best (λ k. k < length seats.now) }
     requires next { i < length seats.now }
     ensures bound { IfSome result (λ k. k < length seats.now) }
@@ -109,14 +114,14 @@ pub(crate) fn better(seats: &[Place], best: Option<usize>, i: usize, passes: boo
 }
 
 // Whether the client waits at this tube.
-fn waits_at(place: &Place, tube: &TubeName) -> bool
-    ensures { result ≡ waits_at tube.now place.now }
+fn waits_at(client: &SeatRecord, tube: &TubeName) -> bool
+    ensures { result ≡ waits_at tube.now client.now }
 {
-    place.is_waiting() && place.watches(tube)
+    client.is_waiting() && client.watches(tube)
 }
 
 // The place of the client that has waited longest of those that wait at this tube.
-fn place_waiting(seats: &[Place], tube: &TubeName) -> Option<usize>
+fn place_waiting(seats: &[SeatRecord], tube: &TubeName) -> Option<usize>
     ensures bound { IfSome result (λ i. i < length seats.now) }
     ensures least { item_at seats.now result ≡ first_of (waits_at tube.now) is_wait_before seats.now }
 {
@@ -128,7 +133,7 @@ fn place_waiting(seats: &[Place], tube: &TubeName) -> Option<usize>
 }
 
 /// The seat of the client that has waited longest of those that wait at this tube.
-pub(crate) fn first_waiting(seats: &[Place], tube: &TubeName) -> Option<Seat>
+pub(crate) fn first_waiting(seats: &[SeatRecord], tube: &TubeName) -> Option<Seat>
     ensures { result ≡ option_map (λ s. s.number) (first_of (waits_at tube.now) is_wait_before seats.now) }
 {
     match place_waiting(seats, tube) {
@@ -138,14 +143,14 @@ pub(crate) fn first_waiting(seats: &[Place], tube: &TubeName) -> Option<Seat>
 }
 
 // Whether the client waits, and its turn comes after this one, if there is one.
-fn waits_after(place: &Place, last: Option<Turn>) -> bool
-    ensures { result ≡ waits_after last place.now }
+fn waits_after(client: &SeatRecord, last: Option<Turn>) -> bool
+    ensures { result ≡ waits_after last client.now }
 {
-    place.is_waiting() && place.is_after(last)
+    client.is_waiting() && client.is_after(last)
 }
 
 /// The place of the client that has waited longest of those whose turn comes after this one.
-pub(crate) fn next_waiting(seats: &[Place], last: Option<Turn>) -> Option<usize>
+pub(crate) fn next_waiting(seats: &[SeatRecord], last: Option<Turn>) -> Option<usize>
     ensures bound { IfSome result (λ i. i < length seats.now) }
     ensures least { item_at seats.now result ≡ first_of (waits_after last) is_wait_before seats.now }
 {
@@ -156,42 +161,42 @@ pub(crate) fn next_waiting(seats: &[Place], last: Option<Turn>) -> Option<usize>
     best
 }
 
-fn has_waited(place: &Place, moment: Moment) -> bool
-    ensures { result ≡ has_waited moment place.now }
+fn has_waited(client: &SeatRecord, moment: Moment) -> bool
+    ensures { result ≡ has_waited moment client.now }
 {
-    place.is_waiting() && place.is_timed_out(moment)
+    client.is_waiting() && client.is_timed_out(moment)
 }
 
 /// Whether some wait is over by its timeout, or because its client sends no more.
-pub(crate) fn is_some_wait_over(seats: &[Place], moment: Moment) -> bool
+pub(crate) fn is_some_wait_over(seats: &[SeatRecord], moment: Moment) -> bool
     ensures { result ≡ list_any (has_waited moment) seats.now }
 {
-    seats.iter().any(|place| has_waited(place, moment))
+    seats.iter().any(|client| has_waited(client, moment))
 }
 
-fn is_gone_in_wait(place: &Place) -> bool
-    ensures { result ≡ is_gone_in_wait place.now }
+fn is_gone_in_wait(client: &SeatRecord) -> bool
+    ensures { result ≡ is_gone_in_wait client.now }
 {
-    place.is_waiting() && place.has_ended()
+    client.is_waiting() && client.has_ended()
 }
 
 /// Whether some client waits that sends no more.
-pub(crate) fn is_some_waiter_gone(seats: &[Place]) -> bool
+pub(crate) fn is_some_waiter_gone(seats: &[SeatRecord]) -> bool
     ensures { result ≡ list_any is_gone_in_wait seats.now }
 {
     seats.iter().any(is_gone_in_wait)
 }
 
 /// So many seats, with nobody there.
-pub(crate) fn new_places(alloc: Global, count: u16) -> Result<Vec<Place, Global>, NoMemory>
+pub(crate) fn free_seats(alloc: Global, count: u16) -> Result<Vec<SeatRecord, Global>, NoMemory>
     ensures { IfOk result (λ seats. seats.items ≡ map empty_seat (numbers 0 count)) }
 {
     let Ok(mut seats) = Vec::with_capacity(alloc, usize::from(count)) else {
         return Err(NoMemory);
     };
     for number in 0..count {
-        match Place::new(alloc, number) {
-            Ok(place) => seats.push_reserved(place),
+        match SeatRecord::new(alloc, number) {
+            Ok(client) => seats.push_reserved(client),
             Err(fault) => return Err(fault),
         }
     }

@@ -1,19 +1,18 @@
-ghost use Rattle.std.specs.Prelude.{◌≡◌, ◌&&◌, nat_lt, ◌<◌, ◌≤◌, ◌++◌, ◌∷◌, [], OnErr, Some, None, true, false, length, map, max, filter, not, if◌then◌else◌, IfSome, IfOk};
+ghost use Rattle.std.specs.Prelude.{◌≡◌, ◌&&◌, ◌<◌, ◌≤◌, OnErr, None, true, false, length, map, if◌then◌else◌, IfSome, IfOk};
 ghost use Rattle.std.specs.List.{list_any};
 ghost use Rattle.bq_job.specs.machine.Changes.{is_held_by, is_ready_state, job_with, seat_with, with_job, with_seat};
-ghost use Rattle.bq_job.specs.machine.Machine.{SeatRecord, empty_seat, new_machine, numbers};
+ghost use Rattle.bq_job.specs.machine.Machine.{empty_seat, new_machine, numbers};
 ghost use Rattle.bq_job.specs.machine.Timers.{at_moment};
-ghost use Rattle.bq_job.specs.machine.TubeCommands.{watching};
-ghost use Rattle.bq_job.specs.reading.TubeName.{is_same_name};
 ghost use Rattle.bq_job.specs.machine.TubeOrder.{tubes};
 ghost use Rattle.bq_job.specs.machine.Tubes.{forgetting, watches, with_tube};
 ghost use Rattle.bq_jobs.specs.Kept.{ComparesAtMost, with_added, without};
-ghost use Rattle.bq_core.specs.Asking.{Asks};
-ghost use Rattle.bq_core.specs.Crowds.{crowd_at, may_wait};
+ghost use Rattle.bq_core.specs.Crowds.{may_wait};
 ghost use Rattle.bq_core.specs.JobChanges.{changed};
 ghost use Rattle.bq_core.specs.KeptTubes.{first_tubes};
-ghost use Rattle.bq_core.specs.SeatChanges.{AreNumbered, seat_changed, has_tube_of};
-ghost use Rattle.bq_core.specs.State.{machine_of, IsSound, OnlyCompares};
+ghost use Rattle.bq_core.specs.Replying.{AtSeat, Watches};
+ghost use Rattle.bq_core.specs.SeatChanges.{AreNumbered, seat_changed, has_tube_of, more_watched, fewer_watched, watches_other};
+ghost use Rattle.bq_core.specs.Keeping.{LeavesJobs, Looks, StaysSound};
+ghost use Rattle.bq_core.specs.State.{machine_of, IsSound, is_waited_for};
 ghost use Rattle.bq_core.specs.Texts.{names_of};
 ghost use Rattle.bq_core.specs.TubeEntries.{has_entry, is_tube_of, tube_changed};
 ghost use Rattle.bq_core.specs.Warnings.{has_waiting_holder, is_waiting_there, may_hold};
@@ -25,8 +24,8 @@ use crate::first_end::FirstEnd;
 use crate::job_list::{JobChange, JobKind, JobTest};
 use crate::loss::Loss;
 use crate::name_lists::Names;
-use crate::place::Place;
 use crate::seat_list::SeatChange;
+use crate::seat_record::SeatRecord;
 use crate::stir::Stir;
 use crate::tally::Tally;
 use crate::tube_entry::TubeChange;
@@ -41,7 +40,7 @@ use std::alloc::Global;
 pub(crate) struct State {
     pub(crate) config: Config,
     pub(crate) jobs: Jobs,
-    pub(crate) seats: Vec<Place, Global>,
+    pub(crate) seats: Vec<SeatRecord, Global>,
     /// What is kept of each tube that exists.
     pub(crate) tubes: Tubes,
     /// How many jobs are in each state.
@@ -71,12 +70,11 @@ pub(crate) struct State {
 impl State {
     ghost use Rattle.std.specs.Prelude.{is_some};
     ghost use Rattle.std.specs.Option.{option_map};
-    ghost use Rattle.bq_job.specs.declared.job.Job.{Job};
-    ghost use Rattle.bq_job.specs.machine.Changes.{first_of, is_ready, is_waiting};
-    ghost use Rattle.bq_core.specs.JobKinds.{is_before_of, is_of};
+    ghost use Rattle.bq_job.specs.machine.Changes.{is_ready, is_waiting};
+    ghost use Rattle.bq_core.specs.JobKinds.{first_of_kind};
     ghost use Rattle.bq_core.specs.Acting.{is_asking, is_connected, is_free};
     ghost use Rattle.bq_core.specs.Crowds.{is_waiter};
-    ghost use Rattle.bq_core.specs.JobChanges.{is_passed_by, passes, ttr_held_by};
+    ghost use Rattle.bq_core.specs.JobChanges.{IsBodyOf, is_passed_by, passes, ttr_held_by};
 
     /// Whether there is a seat of this number, and nobody is connected there.
     pub(crate) fn is_free(&self, seat: Seat) -> bool
@@ -85,7 +83,7 @@ impl State {
     {
         match seat_list::find(self.seats.as_slice(), seat) {
             None => false,
-            Some(place) => !place.is_connected(),
+            Some(client) => !client.is_connected(),
         }
     }
 
@@ -96,7 +94,7 @@ impl State {
     {
         match seat_list::find(self.seats.as_slice(), seat) {
             None => false,
-            Some(place) => place.is_connected(),
+            Some(client) => client.is_connected(),
         }
     }
 
@@ -107,7 +105,7 @@ impl State {
     {
         match seat_list::find(self.seats.as_slice(), seat) {
             None => false,
-            Some(place) => place.is_connected() && !place.is_waiting(),
+            Some(client) => client.is_connected() && !client.is_waiting(),
         }
     }
 
@@ -115,9 +113,7 @@ impl State {
     pub(crate) fn has_job(&mut self, id: JobId, test: JobTest) -> bool
         requires { IsSound self.old }
         ensures has { result ≡ is_passed_by (passes test) (job_with id (machine_of self.old).jobs) }
-        ensures same { OnlyCompares self.old self.new }
-        ensures asks { Asks 1 self.old.jobs self.new.jobs }
-        ensures sound { IsSound self.new }
+        ensures kept { Looks 1 self.old self.new }
     {
         job_list::has(&mut self.jobs, id, test)
     }
@@ -126,9 +122,7 @@ impl State {
     pub(crate) fn time_to_run(&mut self, id: JobId, seat: Seat) -> Option<u32>
         requires { IsSound self.old }
         ensures ttr { result ≡ ttr_held_by seat (job_with id (machine_of self.old).jobs) }
-        ensures same { OnlyCompares self.old self.new }
-        ensures asks { Asks 1 self.old.jobs self.new.jobs }
-        ensures sound { IsSound self.new }
+        ensures kept { Looks 1 self.old self.new }
     {
         job_list::time_to_run(&mut self.jobs, id, seat)
     }
@@ -137,10 +131,8 @@ impl State {
     pub(crate) fn share(&mut self, id: JobId) -> Option<Result<Body, NoMemory>>
         requires { IsSound self.old }
         ensures none { is_some result ≡ is_some (job_with id (machine_of self.old).jobs) }
-        ensures share { IfSome result (λ shared. IfOk shared (λ body. (j : Job) → job_with id (machine_of self.old).jobs ≡ Some j → body ≡ j.body)) }
-        ensures same { OnlyCompares self.old self.new }
-        ensures asks { Asks 1 self.old.jobs self.new.jobs }
-        ensures sound { IsSound self.new }
+        ensures share { IfSome result (λ shared. IfOk shared (IsBodyOf (job_with id (machine_of self.old).jobs))) }
+        ensures kept { Looks 1 self.old self.new }
     {
         job_list::share(&mut self.jobs, id)
     }
@@ -148,10 +140,8 @@ impl State {
     /// The id of the first job of this kind in this tube.
     pub(crate) fn first(&mut self, kind: JobKind, tube: &TubeName) -> Option<JobId>
         requires { IsSound self.old }
-        ensures id { result ≡ option_map (λ j. j.id) (first_of (is_of kind tube.now) (is_before_of kind) (machine_of self.old).jobs) }
-        ensures same { OnlyCompares self.old self.new }
-        ensures asks { Asks 1 self.old.jobs self.new.jobs }
-        ensures sound { IsSound self.new }
+        ensures id { result ≡ option_map (λ j. j.id) (first_of_kind kind tube.now self.old.jobs.jobs) }
+        ensures kept { Looks 1 self.old self.new }
     {
         job_list::first(&mut self.jobs, kind, tube)
     }
@@ -190,7 +180,7 @@ impl State {
 }
 
 // Whether the client waits that holds a job in this state, if one does.
-fn holder_waits(seats: &[Place], at: JobState) -> bool
+fn holder_waits(seats: &[SeatRecord], at: JobState) -> bool
     requires { AreNumbered seats.now }
     ensures { result ≡ has_waiting_holder at seats.now }
 {
@@ -201,13 +191,13 @@ fn holder_waits(seats: &[Place], at: JobState) -> bool
 }
 
 // Whether the client at the seat, if there is one, waits.
-fn is_waiting_at(seats: &[Place], seat: Seat) -> bool
+fn is_waiting_at(seats: &[SeatRecord], seat: Seat) -> bool
     requires { AreNumbered seats.now }
     ensures { result ≡ is_waiting_there (seat_with seat seats.now) }
 {
     match seat_list::find(seats, seat) {
         None => false,
-        Some(place) => place.is_waiting(),
+        Some(client) => client.is_waiting(),
     }
 }
 
@@ -218,9 +208,7 @@ pub(crate) fn make_room(state: &mut State, alloc: Global) -> Result<(), NoMemory
     ensures after { machine_of state.new ≡ machine_of state.old }
     ensures seats { state.new.seats ≡ state.old.seats }
     ensures tubes { state.new.tubes ≡ state.old.tubes }
-    ensures asks { Asks 0 state.old.jobs state.new.jobs }
-    ensures sound { IsSound state.new }
-    ensures config { state.new.config ≡ state.old.config }
+    ensures kept { StaysSound 0 state.old state.new }
 {
     state.jobs.reserve_one(alloc)
 }
@@ -244,7 +232,6 @@ pub(crate) fn add(state: &mut State, job: Job)
     ensures after { machine_of state.new ≡ record (machine_of state.old) { jobs = with_added job (machine_of state.old).jobs } }
     ensures asks { ComparesAtMost 4 state.old.jobs state.new.jobs }
     ensures sound { IsSound state.new }
-    ensures config { state.new.config ≡ state.old.config }
 {
     let is_wanted = state.is_wanted(&job);
     let holds = state.has_waiting_holder(&job);
@@ -252,7 +239,7 @@ pub(crate) fn add(state: &mut State, job: Job)
     warn_if(&mut state.warns, holds);
     state.tally.add(&job);
     state.tubes.add_job(&job);
-    loss::find(&mut state.loss, &job.tube);
+    loss::regain(&mut state.loss, &job.tube);
     state.jobs.add(job);
     // So many jobs there can be, and no count comes to its end.
     let _jobs = state.jobs.len();
@@ -270,7 +257,6 @@ pub(crate) fn take(state: &mut State, id: JobId) -> Option<Job>
     ensures entry { IfSome result (λ job. has_entry job.tube state.new.tubes.entries ≡ true) }
     ensures asks { ComparesAtMost 4 state.old.jobs state.new.jobs }
     ensures sound { IsSound state.new }
-    ensures config { state.new.config ≡ state.old.config }
 {
     let job = state.jobs.remove(id)?;
     state.tally.remove(&job);
@@ -281,7 +267,7 @@ pub(crate) fn take(state: &mut State, id: JobId) -> Option<Job>
 
 // Whether the job is ready now, and somebody waits at its tube, by the counts that are kept.
 fn counts_waiter_of(state: &State, moved: &Moved) -> bool
-    ensures { result ≡ (is_ready_state moved.now.to.state && (nat_lt 0 state.now.clients.waiting && nat_lt 0 (crowd_at moved.now.tube state.now.tubes.entries state.now.tubes.crowds).waiting)) }
+    ensures { result ≡ (is_ready_state moved.now.to.state && is_waited_for moved.now.tube state.now) }
 {
     matches!(moved.to.state, JobState::Ready)
         && (state.clients.waiting > 0 && state.tubes.crowd_of(&moved.tube).waiting > 0)
@@ -291,9 +277,7 @@ fn counts_waiter_of(state: &State, moved: &Moved) -> bool
 pub(crate) fn change_job(state: &mut State, id: JobId, what: &JobChange)
     requires { IsSound state.old }
     ensures after { machine_of state.new ≡ with_job id (changed what.now) (machine_of state.old) }
-    ensures asks { Asks 8 state.old.jobs state.new.jobs }
-    ensures sound { IsSound state.new }
-    ensures config { state.new.config ≡ state.old.config }
+    ensures kept { StaysSound 8 state.old state.new }
 {
     let Some(moved) = state.jobs.change(id, what) else {
         return;
@@ -316,20 +300,18 @@ pub(crate) fn change_seat(state: &mut State, seat: Seat, what: &SeatChange)
     requires waits { may_wait what.now (seat_with seat state.old.seats.items) ≡ true }
     requires holds { may_hold what.now seat state.old.warns state.old.jobs.jobs ≡ true }
     ensures after { machine_of state.new ≡ with_seat seat (seat_changed what.now) (machine_of state.old) }
-    ensures jobs { state.new.jobs ≡ state.old.jobs }
-    ensures sound { IsSound state.new }
-    ensures config { state.new.config ≡ state.old.config }
+    ensures kept { LeavesJobs state.old state.new }
 {
     let touched = shares::touched(what);
-    let place = seat_list::find(state.seats.as_slice(), seat);
-    state.clients.remove(place);
-    first_end::change(&mut state.first_end, place, what);
-    shares::recount(&mut state.tubes, place, Moving::Goes, touched);
-    leaving::lose(&mut state.loss, &state.tubes, place, touched);
+    let client = seat_list::find(state.seats.as_slice(), seat);
+    state.clients.remove(client);
+    first_end::change(&mut state.first_end, client, what);
+    shares::recount(&mut state.tubes, client, Moving::Goes, touched);
+    leaving::lose(&mut state.loss, &state.tubes, client, touched);
     seat_list::change_at(&mut state.seats, seat, what);
-    let place = seat_list::find(state.seats.as_slice(), seat);
-    state.clients.add(place);
-    shares::recount(&mut state.tubes, place, Moving::Comes, touched);
+    let client = seat_list::find(state.seats.as_slice(), seat);
+    state.clients.add(client);
+    shares::recount(&mut state.tubes, client, Moving::Comes, touched);
     stir::stir_seat(&mut state.stir, seat, what);
     // So many seats there can be, and no count comes to its end.
     let _seats = state.seats.len();
@@ -343,9 +325,7 @@ pub(crate) fn note_leases(state: &mut State, seat: Seat)
     ensures seats { state.new.seats ≡ state.old.seats }
     ensures tubes { state.new.tubes ≡ state.old.tubes }
     ensures after { machine_of state.new ≡ machine_of state.old }
-    ensures asks { Asks 1 state.old.jobs state.new.jobs }
-    ensures sound { IsSound state.new }
-    ensures config { state.new.config ≡ state.old.config }
+    ensures kept { StaysSound 1 state.old state.new }
 {
     let holds = job_list::holds_some(&mut state.jobs, seat);
     warn_if(&mut state.warns, holds);
@@ -367,9 +347,7 @@ pub(crate) fn change_tube(state: &mut State, tube: &TubeName, what: TubeChange)
     requires sound { IsSound state.old }
     requires entry { has_entry tube.now state.old.tubes.entries ≡ true }
     ensures after { machine_of state.new ≡ with_tube tube.now (tube_changed what) (machine_of state.old) }
-    ensures jobs { state.new.jobs ≡ state.old.jobs }
-    ensures sound { IsSound state.new }
-    ensures config { state.new.config ≡ state.old.config }
+    ensures kept { LeavesJobs state.old state.new }
 {
     state.tubes.change(tube, what);
     stir::stir_change(&mut state.stir, tube, what);
@@ -386,9 +364,7 @@ pub(crate) fn provide_tube(
     ensures after { machine_of state.new ≡ machine_of state.old }
     ensures entry { IfOk result (λ _. has_entry tube.now state.new.tubes.entries ≡ true) }
     ensures seats { state.new.seats ≡ state.old.seats }
-    ensures jobs { state.new.jobs ≡ state.old.jobs }
-    ensures sound { IsSound state.new }
-    ensures config { state.new.config ≡ state.old.config }
+    ensures kept { LeavesJobs state.old state.new }
 {
     match state.tubes.provide(alloc, tube) {
         Ok(is_new) => {
@@ -408,13 +384,11 @@ pub(crate) fn watch_tube(
     tube: &TubeName,
 ) -> Result<u64, NoMemory>
     requires sound { IsSound state.old }
-    requires fresh { (s : SeatRecord) → seat_with seat (machine_of state.old).seats ≡ Some s → watches tube.now s ≡ false }
-    ensures count { IfOk result (λ n. (s : SeatRecord) → seat_with seat (machine_of state.old).seats ≡ Some s → n ≡ length (s.watched ++ tube.now ∷ [])) }
-    ensures watched { IfOk result (λ _. (s : SeatRecord) → seat_with seat (machine_of state.old).seats ≡ Some s → machine_of state.new ≡ with_seat seat (watching (s.watched ++ tube.now ∷ [])) (machine_of state.old)) }
+    requires fresh { AtSeat seat state.old (λ s. watches tube.now s ≡ false) }
+    ensures count { IfOk result (λ n. AtSeat seat state.old (λ s. n ≡ length (more_watched tube.now s))) }
+    ensures watched { IfOk result (λ _. Watches seat (more_watched tube.now) state.old state.new) }
     ensures same { OnErr result (machine_of state.new ≡ machine_of state.old) }
-    ensures jobs { state.new.jobs ≡ state.old.jobs }
-    ensures sound { IsSound state.new }
-    ensures config { state.new.config ≡ state.old.config }
+    ensures kept { LeavesJobs state.old state.new }
 {
     provide_tube(state, alloc, tube)?;
     if usize::from(seat) >= state.seats.len() {
@@ -435,12 +409,10 @@ pub(crate) fn watch_tube(
 /// watches then.
 pub(crate) fn ignore_tube(state: &mut State, seat: Seat, tube: &TubeName) -> u64
     requires sound { IsSound state.old }
-    requires other { (s : SeatRecord) → seat_with seat (machine_of state.old).seats ≡ Some s → list_any (λ other. not (is_same_name tube.now other)) s.watched ≡ true }
-    ensures count { (s : SeatRecord) → seat_with seat (machine_of state.old).seats ≡ Some s → result ≡ length (filter (λ other. not (is_same_name tube.now other)) s.watched) }
-    ensures after { (s : SeatRecord) → seat_with seat (machine_of state.old).seats ≡ Some s → machine_of state.new ≡ with_seat seat (watching (filter (λ other. not (is_same_name tube.now other)) s.watched)) (machine_of state.old) }
-    ensures jobs { state.new.jobs ≡ state.old.jobs }
-    ensures sound { IsSound state.new }
-    ensures config { state.new.config ≡ state.old.config }
+    requires other { AtSeat seat state.old (λ s. watches_other tube.now s ≡ true) }
+    ensures count { AtSeat seat state.old (λ s. result ≡ length (fewer_watched tube.now s)) }
+    ensures after { Watches seat (fewer_watched tube.now) state.old state.new }
+    ensures kept { LeavesJobs state.old state.new }
 {
     if usize::from(seat) < state.seats.len() {
         let share = shares::at(&state.seats[usize::from(seat)], tube);
@@ -471,7 +443,7 @@ pub(crate) fn tube_count(state: &State) -> u64
     }
 }
 
-/// The names of the tubes that exist, in byte order. Their room is asked for before.
+/// The names of the tubes that exist, in byte order. Their memory is asked for before.
 pub(crate) fn tube_names<'a>(state: &'a State, alloc: Global) -> Result<Names<'a>, NoMemory>
     requires { IsSound state.now }
     ensures { IfOk result (λ names. names_of names.items ≡ tubes (machine_of state.now)) }
@@ -483,9 +455,7 @@ pub(crate) fn tube_names<'a>(state: &'a State, alloc: Global) -> Result<Names<'a
 pub(crate) fn forget_tubes(state: &mut State)
     requires { IsSound state.old }
     ensures after { machine_of state.new ≡ forgetting (machine_of state.old) }
-    ensures jobs { state.new.jobs ≡ state.old.jobs }
-    ensures sound { IsSound state.new }
-    ensures config { state.new.config ≡ state.old.config }
+    ensures kept { LeavesJobs state.old state.new }
 {
     let entries = state.tubes.len();
     state.tubes.forget_lost(&state.loss);
@@ -497,15 +467,13 @@ pub(crate) fn forget_tubes(state: &mut State)
 pub(crate) fn raise_moment(state: &mut State, at: Moment)
     requires { IsSound state.old }
     ensures after { machine_of state.new ≡ at_moment at (machine_of state.old) }
-    ensures jobs { state.new.jobs ≡ state.old.jobs }
-    ensures sound { IsSound state.new }
-    ensures config { state.new.config ≡ state.old.config }
+    ensures kept { LeavesJobs state.old state.new }
 {
     state.moment = state.moment.max(at);
 }
 
 /// No jobs, and nobody at the seats.
-pub(crate) fn first_state(config: Config, seats: Vec<Place, Global>, tubes: Tubes) -> State
+pub(crate) fn new_state(config: Config, seats: Vec<SeatRecord, Global>, tubes: Tubes) -> State
     requires free { seats.items ≡ map empty_seat (numbers 0 config.seats) }
     requires first { tubes ≡ first_tubes }
     ensures empty { machine_of result ≡ new_machine config }

@@ -1,15 +1,13 @@
 //! Commands that count or list. They change nothing.
-ghost use Rattle.std.specs.Prelude.{◌≡◌, true, is_some, Some, IfOk, IfSome};
-ghost use Rattle.bq_job.specs.declared.job.Job.{Job};
-ghost use Rattle.bq_job.specs.machine.Changes.{job_with, seat_with};
-ghost use Rattle.bq_job.specs.machine.Machine.{Machine, SeatRecord};
-ghost use Rattle.bq_job.specs.machine.Statistics.{job_statistics};
-ghost use Rattle.bq_job.specs.machine.StatisticsCommands.{list_tubes_effect, list_watched_effect, stats_effect, stats_job_effect, stats_tube_effect};
+ghost use Rattle.std.specs.Prelude.{◌≡◌, true, is_some, IfOk, IfSome};
+ghost use Rattle.bq_job.specs.machine.Changes.{job_with};
+ghost use Rattle.bq_job.specs.machine.StatisticsCommands.{list_tubes_effect, list_watched_effect};
+ghost use Rattle.bq_job.specs.machine.StatisticsCommands.{stats_effect, stats_job_effect, stats_tube_effect};
 ghost use Rattle.bq_jobs.specs.Kept.{ComparesAtMost};
-ghost use Rattle.bq_core.specs.Acting.{Replies};
-ghost use Rattle.bq_core.specs.Asking.{AsksAsChanged};
 ghost use Rattle.bq_core.specs.Numbers.{AreOfServer, AreOfTube};
+ghost use Rattle.bq_core.specs.Replying.{IsCarriedOut, RepliesAt, RepliesBy};
 ghost use Rattle.bq_core.specs.State.{machine_of, IsSound};
+ghost use Rattle.bq_core.specs.Texts.{TellsJob};
 
 use crate::reply::Reply;
 use crate::state::State;
@@ -28,7 +26,7 @@ fn text_of_job(
     moment: Moment,
 ) -> Option<Result<Text, NoMemory>>
     ensures none { is_some result ≡ is_some (job_with id jobs.old.jobs) }
-    ensures text { IfSome result (λ told. IfOk told (λ text. (m : Machine) (j : Job) → m.moment ≡ moment → job_with id jobs.old.jobs ≡ Some j → text ≡ job_statistics m j)) }
+    ensures text { IfSome result (λ told. IfOk told (TellsJob moment (job_with id jobs.old.jobs))) }
     ensures same { jobs.new ≡ record jobs.old { comparisons = jobs.new.comparisons } }
     ensures comparisons { ComparesAtMost 1 jobs.old jobs.new }
 {
@@ -41,10 +39,8 @@ fn text_of_job(
 /// Tells of the job of this id.
 pub(crate) fn stats_job(state: &mut State, alloc: Global, id: JobId) -> Reply
     requires { IsSound state.old }
-    ensures reply { Replies true (machine_of state.old) (stats_job_effect id (machine_of state.old)) result (machine_of state.new) }
-    ensures asks { AsksAsChanged state.old.jobs state.new.jobs }
-    ensures sound { IsSound state.new }
-    ensures config { state.new.config ≡ state.old.config }
+    ensures reply { RepliesBy true (stats_job_effect id) state.old result state.new }
+    ensures kept { IsCarriedOut state.old state.new }
 {
     match text_of_job(&mut state.jobs, alloc, id, state.moment) {
         None => Reply::Told(Answer::NotFound),
@@ -77,7 +73,7 @@ fn tube_numbers(state: &State, tube: &TubeName) -> TubeNumbers
 /// Tells of a tube that exists.
 pub(crate) fn stats_tube(state: &State, alloc: Global, tube: &TubeName) -> Reply
     requires { IsSound state.now }
-    ensures { Replies true (machine_of state.now) (stats_tube_effect tube.now (machine_of state.now)) result (machine_of state.now) }
+    ensures { RepliesBy true (stats_tube_effect tube.now) state.now result state.now }
 {
     if !state::is_tube(state, tube) {
         return Reply::Told(Answer::NotFound);
@@ -109,7 +105,7 @@ fn server_numbers(state: &State) -> ServerNumbers
 /// Tells of the server.
 pub(crate) fn stats(state: &State, alloc: Global) -> Reply
     requires { IsSound state.now }
-    ensures { Replies true (machine_of state.now) (stats_effect (machine_of state.now)) result (machine_of state.now) }
+    ensures { RepliesBy true stats_effect state.now result state.now }
 {
     match server_text(alloc, &server_numbers(state)) {
         Ok(text) => Reply::Told(Answer::Ok(text)),
@@ -120,7 +116,7 @@ pub(crate) fn stats(state: &State, alloc: Global) -> Reply
 /// Lists the tubes that exist.
 pub(crate) fn list_tubes(state: &State, alloc: Global) -> Reply
     requires { IsSound state.now }
-    ensures { Replies true (machine_of state.now) (list_tubes_effect (machine_of state.now)) result (machine_of state.now) }
+    ensures { RepliesBy true list_tubes_effect state.now result state.now }
 {
     let Ok(names) = state::tube_names(state, alloc) else {
         return Reply::LeftOut;
@@ -134,12 +130,12 @@ pub(crate) fn list_tubes(state: &State, alloc: Global) -> Reply
 /// Lists the tubes that the client watches.
 pub(crate) fn list_tubes_watched(state: &State, alloc: Global, seat: Seat) -> Reply
     requires { IsSound state.now }
-    ensures { (s : SeatRecord) → seat_with seat (machine_of state.now).seats ≡ Some s → Replies true (machine_of state.now) (list_watched_effect (machine_of state.now) s) result (machine_of state.now) }
+    ensures { RepliesAt seat true list_watched_effect state.now result state.now }
 {
-    let Some(place) = seat_list::find(state.seats.as_slice(), seat) else {
+    let Some(client) = seat_list::find(state.seats.as_slice(), seat) else {
         return Reply::Silent;
     };
-    let Ok(names) = name_lists::in_order(alloc, place.watched()) else {
+    let Ok(names) = name_lists::in_order(alloc, client.watched()) else {
         return Reply::LeftOut;
     };
     match names_text(alloc, names.as_slice()) {

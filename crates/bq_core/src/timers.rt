@@ -1,11 +1,11 @@
 //! Timers that are due fire.
-ghost use Rattle.std.specs.Prelude.{◌≡◌, ◌<◌, ◌≤◌, ◌+◌, ◌*◌, true, false, IfSome, None, count_by, if◌then◌else◌};
+ghost use Rattle.std.specs.Prelude.{◌≡◌, ◌<◌, ◌+◌, ◌*◌, true, false, IfSome, None, if◌then◌else◌};
 ghost use Rattle.std.specs.List.{list_any};
 ghost use Rattle.bq_job.specs.machine.Timers.{after_timers, is_due, is_expired};
 ghost use Rattle.bq_jobs.specs.Kept.{ComparesAtMost};
-ghost use Rattle.bq_core.specs.Asking.{Asks};
-ghost use Rattle.bq_core.specs.Firing.{ExpiresOne, IsOne, after_job_timers, is_ripe, with_pauses_ended};
-ghost use Rattle.bq_core.specs.State.{machine_of, IsSound};
+ghost use Rattle.bq_core.specs.Firing.{ExpiresOne, IsOne, after_job_timers, is_ripe, is_some_due, is_some_expired, with_pauses_ended};
+ghost use Rattle.bq_core.specs.Keeping.{LeavesJobs, StaysSound};
+ghost use Rattle.bq_core.specs.State.{machine_of, HaveFired, IsSound, count_jobs};
 
 use crate::job_list::JobChange;
 use crate::state::State;
@@ -41,14 +41,11 @@ fn first_expired(jobs: &mut Jobs, moment: Moment) -> Option<JobId>
 // One delayed job becomes ready, if one is due.
 fn ripen(state: &mut State) -> bool
     requires { IsSound state.old }
-    ensures done { result ≡ false → list_any (λ j. is_due state.old.moment j.state) (machine_of state.old).jobs ≡ false }
+    ensures done { result ≡ false → is_some_due (machine_of state.old) ≡ false }
     ensures same { result ≡ false → machine_of state.new ≡ machine_of state.old }
     ensures fired { after_job_timers (machine_of state.new) ≡ after_job_timers (machine_of state.old) }
-    ensures fewer { result ≡ true → count_by (is_ripe state.old.moment) (machine_of state.new).jobs < count_by (is_ripe state.old.moment) (machine_of state.old).jobs }
-    ensures asks { result ≡ true → Asks 9 state.old.jobs state.new.jobs }
-    ensures asks_last { result ≡ false → Asks 1 state.old.jobs state.new.jobs }
-    ensures sound { IsSound state.new }
-    ensures config { state.new.config ≡ state.old.config }
+    ensures fewer { result ≡ true → count_jobs (is_ripe state.old.moment) state.new < count_jobs (is_ripe state.old.moment) state.old }
+    ensures kept { StaysSound (if result then 9 else 1) state.old state.new }
 {
     let moment = state.moment;
     let Some(id) = first_ripe(&mut state.jobs, moment) else {
@@ -61,12 +58,9 @@ fn ripen(state: &mut State) -> bool
 // One reservation ends, if its time to run is over.
 fn expire_first(state: &mut State) -> bool
     requires { IsSound state.old }
-    ensures none { result ≡ false → (list_any (λ j. is_expired state.old.moment j.state) (machine_of state.old).jobs ≡ false) × (machine_of state.new ≡ machine_of state.old) }
+    ensures none { result ≡ false → (is_some_expired (machine_of state.old) ≡ false) × (machine_of state.new ≡ machine_of state.old) }
     ensures one { result ≡ true → ExpiresOne (machine_of state.old) (machine_of state.new) }
-    ensures asks { result ≡ true → Asks 9 state.old.jobs state.new.jobs }
-    ensures asks_last { result ≡ false → Asks 1 state.old.jobs state.new.jobs }
-    ensures sound { IsSound state.new }
-    ensures config { state.new.config ≡ state.old.config }
+    ensures kept { StaysSound (if result then 9 else 1) state.old state.new }
 {
     let moment = state.moment;
     let Some(id) = first_expired(&mut state.jobs, moment) else {
@@ -86,14 +80,11 @@ fn times(happened: bool) -> u64
 // One reservation ends, if its time to run is over, and is counted.
 fn expire(state: &mut State) -> bool
     requires { IsSound state.old }
-    ensures done { result ≡ false → list_any (λ j. is_due state.old.moment j.state) (machine_of state.old).jobs ≡ false → machine_of state.new ≡ after_job_timers (machine_of state.old) }
+    ensures done { result ≡ false → is_some_due (machine_of state.old) ≡ false → HaveFired state.old state.new }
     ensures same { result ≡ false → (machine_of state.new).jobs ≡ (machine_of state.old).jobs }
     ensures fired { after_job_timers (machine_of state.new) ≡ after_job_timers (machine_of state.old) }
-    ensures fewer { result ≡ true → count_by (is_ripe state.old.moment) (machine_of state.new).jobs < count_by (is_ripe state.old.moment) (machine_of state.old).jobs }
-    ensures asks { result ≡ true → Asks 9 state.old.jobs state.new.jobs }
-    ensures asks_last { result ≡ false → Asks 1 state.old.jobs state.new.jobs }
-    ensures sound { IsSound state.new }
-    ensures config { state.new.config ≡ state.old.config }
+    ensures fewer { result ≡ true → count_jobs (is_ripe state.old.moment) state.new < count_jobs (is_ripe state.old.moment) state.old }
+    ensures kept { StaysSound (if result then 9 else 1) state.old state.new }
 {
     let expired = expire_first(state);
     state.timeouts = state.timeouts.saturating_add(times(expired));
@@ -103,14 +94,11 @@ fn expire(state: &mut State) -> bool
 // One timer of a job fires, if one has come.
 fn fire_one(state: &mut State) -> bool
     requires { IsSound state.old }
-    ensures done { result ≡ false → machine_of state.new ≡ after_job_timers (machine_of state.old) }
+    ensures done { result ≡ false → HaveFired state.old state.new }
     ensures same { result ≡ false → (machine_of state.new).jobs ≡ (machine_of state.old).jobs }
     ensures fired { after_job_timers (machine_of state.new) ≡ after_job_timers (machine_of state.old) }
-    ensures fewer { result ≡ true → count_by (is_ripe state.old.moment) (machine_of state.new).jobs < count_by (is_ripe state.old.moment) (machine_of state.old).jobs }
-    ensures asks { result ≡ true → Asks 10 state.old.jobs state.new.jobs }
-    ensures asks_last { result ≡ false → Asks 2 state.old.jobs state.new.jobs }
-    ensures sound { IsSound state.new }
-    ensures config { state.new.config ≡ state.old.config }
+    ensures fewer { result ≡ true → count_jobs (is_ripe state.old.moment) state.new < count_jobs (is_ripe state.old.moment) state.old }
+    ensures kept { StaysSound (if result then 10 else 2) state.old state.new }
 {
     ripen(state) || expire(state)
 }
@@ -118,10 +106,8 @@ fn fire_one(state: &mut State) -> bool
 // The timers of jobs fire.
 fn fire_jobs(state: &mut State)
     requires { IsSound state.old }
-    ensures after { machine_of state.new ≡ after_job_timers (machine_of state.old) }
-    ensures asks { Asks (10 * count_by (is_ripe state.old.moment) (machine_of state.old).jobs + 2) state.old.jobs state.new.jobs }
-    ensures sound { IsSound state.new }
-    ensures config { state.new.config ≡ state.old.config }
+    ensures after { HaveFired state.old state.new }
+    ensures kept { StaysSound (10 * count_jobs (is_ripe state.old.moment) state.old + 2) state.old state.new }
 {
     while fire_one(state) {}
 }
@@ -130,9 +116,7 @@ fn fire_jobs(state: &mut State)
 fn end_pauses(state: &mut State)
     requires { IsSound state.old }
     ensures after { machine_of state.new ≡ with_pauses_ended (machine_of state.old) }
-    ensures jobs { state.new.jobs ≡ state.old.jobs }
-    ensures sound { IsSound state.new }
-    ensures config { state.new.config ≡ state.old.config }
+    ensures kept { LeavesJobs state.old state.new }
 {
     if !pauses::is_over(state.pause_end, state.moment) {
         return;
@@ -146,9 +130,7 @@ fn end_pauses(state: &mut State)
 pub(crate) fn fire(state: &mut State)
     requires { IsSound state.old }
     ensures after { machine_of state.new ≡ after_timers (machine_of state.old) }
-    ensures asks { Asks (10 * count_by (is_ripe state.old.moment) (machine_of state.old).jobs + 2) state.old.jobs state.new.jobs }
-    ensures sound { IsSound state.new }
-    ensures config { state.new.config ≡ state.old.config }
+    ensures kept { StaysSound (10 * count_jobs (is_ripe state.old.moment) state.old + 2) state.old state.new }
 {
     fire_jobs(state);
     end_pauses(state);

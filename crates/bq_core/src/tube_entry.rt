@@ -62,7 +62,9 @@ impl Model for TubeEntry {
 
     ghost Value = { KeptTube };
 
-    ghost view = { λ t. record { pause = t.pause; puts = t.puts; deletes = t.deletes; pauses = t.pauses; tally = t.tally; crowd = t.crowd } };
+    ghost use Rattle.bq_core.specs.TubeView.{kept_of};
+
+    ghost view = { kept_of };
 }
 
 /// What happens to a tube.

@@ -1,7 +1,7 @@
 //! What is asked of all entries of tubes, one after another.
-ghost use Rattle.std.specs.Prelude.{◌≡◌, ◌<◌, ◌≤◌, ◌+◌, ◌++◌, [], ◌∷◌, vec_len, IfOk, fold, if◌then◌else◌};
+ghost use Rattle.std.specs.Prelude.{◌≡◌, ◌<◌, ◌≤◌, ◌+◌, ◌++◌, [], vec_len, IfOk, fold};
 ghost use Rattle.std.specs.Vec.{vec_capacity};
-ghost use Rattle.bq_core.specs.KeptTubes.{is_alive_with, with_alive, with_name_of};
+ghost use Rattle.bq_core.specs.KeptTubes.{is_alive_with, name_if_alive, with_alive, with_name_of};
 ghost use Rattle.bq_core.specs.Texts.{names_of};
 
 use crate::name_lists::Names;
@@ -52,7 +52,7 @@ pub(crate) fn is_alive(name: &TubeName, entry: &TubeEntry) -> bool
 // Adds the name of an entry, if its tube exists. It takes no memory.
 fn add_alive<'a>(names: &mut Names<'a>, name: &'a TubeName, entry: &TubeEntry)
     requires { vec_len names.old < vec_capacity names.old }
-    ensures names { names_of names.new.items ≡ names_of names.old.items ++ (if is_alive_with name.now entry.now then name.now ∷ [] else []) }
+    ensures names { names_of names.new.items ≡ names_of names.old.items ++ name_if_alive name.now entry.now }
     ensures len { vec_len names.new ≤ vec_len names.old + 1 }
     ensures capacity { vec_capacity names.new ≡ vec_capacity names.old }
 {
@@ -61,7 +61,7 @@ fn add_alive<'a>(names: &mut Names<'a>, name: &'a TubeName, entry: &TubeEntry)
     }
 }
 
-/// The names of those of these tubes that exist, in their order. Their room is asked for before.
+/// The names of those of these tubes that exist, in their order. Their memory is asked for before.
 pub(crate) fn names_alive<'a>(
     alloc: Global,
     listed: &[(&'a TubeName, &'a TubeEntry)],

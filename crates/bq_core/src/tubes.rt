@@ -1,17 +1,16 @@
 //! The tubes: what is kept of each that exists.
-ghost use Rattle.std.specs.Prelude.{◌≡◌, ◌&&◌, [], IfOk, filter, find, length, map, not, is_some, is_ok, if◌then◌else◌, List};
+ghost use Rattle.std.specs.Prelude.{◌≡◌, ◌&&◌, [], IfOk, find, length, map, not, is_some, is_ok, if◌then◌else◌};
 ghost use Rattle.std.specs.List.{list_any};
 ghost use Rattle.std.specs.Option.{option_map};
-ghost use Rattle.bq_job.specs.declared.job.Job.{Job};
-ghost use Rattle.bq_job.specs.machine.Machine.{SeatRecord};
 ghost use Rattle.bq_job.specs.reading.TubeName.{is_same_name};
 ghost use Rattle.bq_job.specs.machine.Timers.{tube_after_timers};
-ghost use Rattle.bq_core.specs.Crowds.{crowd_at, crowds_at, crowds_of, crowds_provided, has_seats, recounted};
+ghost use Rattle.bq_core.specs.Counting.{AreCounts, DropsGone, IfCounted, tubes_with, with_crowds_at, with_tallies_at};
+ghost use Rattle.bq_core.specs.Crowds.{crowd_at, recounted};
 ghost use Rattle.bq_core.specs.Dues.{first_pause_end, pause_end_after, pause_end_left};
-ghost use Rattle.bq_core.specs.Losses.{AreAlive};
-ghost use Rattle.bq_core.specs.Tallies.{has_jobs, tallies_at, tallies_of, tallies_provided, tallies_with, tallies_without, tally_at, tally_moved};
+ghost use Rattle.bq_core.specs.Leaving.{exists_in};
+ghost use Rattle.bq_core.specs.Tallies.{tallies_with, tallies_without, tally_at, tally_moved};
 ghost use Rattle.bq_core.specs.Texts.{names_of};
-ghost use Rattle.bq_core.specs.TubeEntries.{AreInOrder, has_entry, is_tube_by, is_tube_of, names_alive, provided, tube_changed_at};
+ghost use Rattle.bq_core.specs.TubeEntries.{has_entry, names_alive, tube_changed_at};
 
 use crate::crowd::{Crowd, Moving, Share};
 use crate::loss::Loss;
@@ -21,7 +20,7 @@ use crate::tally::Tally;
 use crate::tube_entry::{TubeChange, TubeEntry};
 use crate::tube_walks::{self, HowMany};
 use crate::watch_list::default_tube;
-use crate::{forgetting, room, tube_edits, tube_pauses};
+use crate::{forgetting, growth, tube_edits, tube_pauses};
 use bq_index::Catalog;
 use bq_job::{Job, Moment, NoMemory, TubeName};
 use bq_jobs::Moved;
@@ -52,7 +51,7 @@ impl Tubes {
     ghost use Rattle.bq_core.specs.KeptTubes.{first_tubes, record_of, tubes_kept};
 
     /// The default tube, which has no job and no client.
-    pub(crate) fn first(alloc: Global) -> Result<Tubes, NoMemory>
+    pub(crate) fn new(alloc: Global) -> Result<Tubes, NoMemory>
         ensures { IfOk result (λ tubes. tubes ≡ first_tubes) }
     {
         let mut tubes = Tubes::none();
@@ -81,24 +80,20 @@ impl Tubes {
     /// before any change.
     pub(crate) fn provide(&mut self, alloc: Global, name: &TubeName) -> Result<bool, NoMemory>
         ensures told { IfOk result (λ is_new. is_new ≡ not (has_entry name.now self.old.entries)) }
-        ensures entries { self.new.entries ≡ (if is_ok result then provided name.now self.old.entries else self.old.entries) }
-        ensures tallies { self.new.tallies ≡ (if is_ok result then tallies_provided name.now self.old.entries self.old.tallies else self.old.tallies) }
-        ensures crowds { self.new.crowds ≡ (if is_ok result then crowds_provided name.now self.old.entries self.old.crowds else self.old.crowds) }
+        ensures after { self.new ≡ (if is_ok result then tubes_with name.now self.old else self.old) }
     {
         if self.kept.peek(name).is_some() {
             return Ok(false);
         }
         pauses::make_room(&mut self.ends, alloc, self.kept.len())?;
-        room::reserve_box(&mut self.kept, alloc)?;
+        growth::reserve_box(&mut self.kept, alloc)?;
         self.kept.insert(*name, TubeEntry::new());
         Ok(true)
     }
 
     /// Changes the tube of this name.
     pub(crate) fn change(&mut self, name: &TubeName, what: TubeChange)
-        ensures entries { self.new.entries ≡ map (tube_changed_at name.now what) self.old.entries }
-        ensures tallies { self.new.tallies ≡ self.old.tallies }
-        ensures crowds { self.new.crowds ≡ self.old.crowds }
+        ensures { self.new ≡ record self.old { entries = map (tube_changed_at name.now what) self.old.entries } }
     {
         // The names are in order.
         let _entries = self.kept.len();
@@ -107,9 +102,7 @@ impl Tubes {
 
     /// Pauses that are over end.
     pub(crate) fn fire_timers(&mut self, moment: Moment)
-        ensures entries { self.new.entries ≡ map (tube_after_timers moment) self.old.entries }
-        ensures tallies { self.new.tallies ≡ self.old.tallies }
-        ensures crowds { self.new.crowds ≡ self.old.crowds }
+        ensures { self.new ≡ record self.old { entries = map (tube_after_timers moment) self.old.entries } }
     {
         tube_pauses::end_all(&mut self.kept, &mut self.ends, moment);
     }
@@ -135,27 +128,21 @@ impl Tubes {
 
     /// Counts a job in its tube.
     pub(crate) fn add_job(&mut self, job: &Job)
-        ensures entries { self.new.entries ≡ self.old.entries }
-        ensures tallies { self.new.tallies ≡ tallies_with job.now self.old.entries self.old.tallies }
-        ensures crowds { self.new.crowds ≡ self.old.crowds }
+        ensures { self.new ≡ record self.old { tallies = tallies_with job.now self.old.entries self.old.tallies } }
     {
         tube_edits::add_job(&mut self.kept, job);
     }
 
     /// Counts a job in its tube no longer.
     pub(crate) fn remove_job(&mut self, job: &Job)
-        ensures entries { self.new.entries ≡ self.old.entries }
-        ensures tallies { self.new.tallies ≡ tallies_without job.now self.old.entries self.old.tallies }
-        ensures crowds { self.new.crowds ≡ self.old.crowds }
+        ensures { self.new ≡ record self.old { tallies = tallies_without job.now self.old.entries self.old.tallies } }
     {
         tube_edits::remove_job(&mut self.kept, job);
     }
 
     /// A job stands otherwise in its tube.
     pub(crate) fn move_job(&mut self, moved: &Moved)
-        ensures entries { self.new.entries ≡ self.old.entries }
-        ensures tallies { self.new.tallies ≡ tallies_at moved.now.tube (tally_moved moved.now) self.old.entries self.old.tallies }
-        ensures crowds { self.new.crowds ≡ self.old.crowds }
+        ensures { self.new ≡ with_tallies_at moved.now.tube (tally_moved moved.now) self.old }
     {
         tube_edits::move_job(&mut self.kept, moved);
     }
@@ -172,9 +159,7 @@ impl Tubes {
 
     /// Counts a share of a seat at the tube of this name, or counts it no longer.
     pub(crate) fn recount(&mut self, name: &TubeName, moving: Moving, share: Share)
-        ensures entries { self.new.entries ≡ self.old.entries }
-        ensures tallies { self.new.tallies ≡ self.old.tallies }
-        ensures crowds { self.new.crowds ≡ crowds_at name.now (recounted moving share) self.old.entries self.old.crowds }
+        ensures { self.new ≡ with_crowds_at name.now (recounted moving share) self.old }
     {
         tube_edits::recount(&mut self.kept, name, moving, share);
     }
@@ -191,14 +176,14 @@ impl Tubes {
 
     /// Whether the tube exists.
     pub(crate) fn is_tube(&self, name: &TubeName) -> bool
-        ensures { result ≡ is_tube_by (has_jobs (tally_at name.now self.now.entries self.now.tallies)) (has_seats (crowd_at name.now self.now.entries self.now.crowds)) name.now }
+        ensures { result ≡ exists_in self.now name.now }
     {
         *name == default_tube() || self.tally_of(name).has_jobs() || self.crowd_of(name).has_seats()
     }
 
     /// How many tubes exist.
     pub(crate) fn count_alive(&self) -> u64
-        ensures { (jobs : List Job) (seats : List SeatRecord) → self.now.tallies ≡ tallies_of jobs self.now.entries → self.now.crowds ≡ crowds_of seats self.now.entries → result ≡ length (names_alive jobs seats self.now.entries) }
+        ensures { IfCounted self.now (λ jobs seats. result ≡ length (names_alive jobs seats self.now.entries)) }
     {
         // So many there can be, and the count doesn't come to its end.
         let _entries = self.kept.len();
@@ -207,9 +192,9 @@ impl Tubes {
         alive.count()
     }
 
-    /// The names of the tubes that exist, in byte order. Their room is asked for before.
+    /// The names of the tubes that exist, in byte order. Their memory is asked for before.
     pub(crate) fn names_alive<'a>(&'a self, alloc: Global) -> Result<Names<'a>, NoMemory>
-        ensures { (jobs : List Job) (seats : List SeatRecord) → self.now.tallies ≡ tallies_of jobs self.now.entries → self.now.crowds ≡ crowds_of seats self.now.entries → IfOk result (λ names. names_of names.items ≡ names_alive jobs seats self.now.entries) }
+        ensures { IfCounted self.now (λ jobs seats. IfOk result (λ names. names_of names.items ≡ names_alive jobs seats self.now.entries)) }
     {
         match self.kept.list(alloc) {
             Ok(listed) => tube_walks::names_alive(alloc, listed.as_slice()),
@@ -219,8 +204,8 @@ impl Tubes {
 
     /// Drops the entries of tubes that are gone, which are among those that may be.
     pub(crate) fn forget_lost(&mut self, loss: &Loss)
-        ensures after { (jobs : List Job) (seats : List SeatRecord) → AreInOrder self.old.entries → AreAlive loss.now jobs seats self.old.entries → self.old.tallies ≡ tallies_of jobs self.old.entries → self.old.crowds ≡ crowds_of seats self.old.entries → self.new.entries ≡ filter (λ t. is_tube_of jobs seats t.name) self.old.entries }
-        ensures kept { (jobs : List Job) (seats : List SeatRecord) → self.old.tallies ≡ tallies_of jobs self.old.entries → self.old.crowds ≡ crowds_of seats self.old.entries → (self.new.tallies ≡ tallies_of jobs self.new.entries) × (self.new.crowds ≡ crowds_of seats self.new.entries) }
+        ensures after { DropsGone loss.now self.old self.new }
+        ensures kept { IfCounted self.old (AreCounts self.new) }
     {
         match loss {
             Loss::Nothing => {}

@@ -1,18 +1,19 @@
-ghost use Rattle.std.specs.Prelude.{◌≡◌, ◌<◌, ◌+◌, None, Some, true, false, length, slice_get};
+ghost use Rattle.std.specs.Prelude.{◌≡◌, ◌<◌, ◌+◌, None, Some, true, false, length, slice_get, if◌then◌else◌};
 ghost use Rattle.std.specs.List.{list_any};
 ghost use Rattle.bq_job.specs.beside.Computed.{waiting_count};
 ghost use Rattle.bq_job.specs.machine.Waits.{WaitEndTurn, next_end};
 ghost use Rattle.bq_job.specs.machine.Machine.{SeatRecord};
-ghost use Rattle.bq_core.specs.Asking.{Asks};
 ghost use Rattle.bq_core.specs.EndingWaits.{AreLookedAt, has_waited, left_after, may_end, told_at_end};
-ghost use Rattle.bq_core.specs.State.{machine_of, IsSound, OnlyCompares};
+ghost use Rattle.bq_core.specs.Serving.{IsLastTurn};
+ghost use Rattle.bq_core.specs.Keeping.{LeavesJobs, Looks, StaysSound};
+ghost use Rattle.bq_core.specs.State.{machine_of, IsSound};
 ghost use Rattle.bq_core.specs.Turns.{Gives, HasRoom, none_refused};
 ghost use Rattle.bq_core.specs.WaitEnds.{EndsWait, LooksAt};
 
 use crate::first_end::FirstEnd;
 use crate::outs::Outs;
-use crate::place::Turn;
 use crate::seat_list::SeatChange;
+use crate::seat_record::Turn;
 use crate::state::State;
 use crate::{job_list, pauses, seat_list, state};
 use bq_job::Answer;
@@ -22,9 +23,7 @@ fn told_at_end(state: &mut State, k: usize) -> Option<Answer>
     requires sound { IsSound state.old }
     requires seat { k < length state.old.seats.items }
     ensures told { (s : SeatRecord) → slice_get (machine_of state.old).seats k ≡ Some s → result ≡ told_at_end (machine_of state.old) s }
-    ensures same { OnlyCompares state.old state.new }
-    ensures asks { Asks 1 state.old.jobs state.new.jobs }
-    ensures sound { IsSound state.new }
+    ensures kept { Looks 1 state.old state.new }
 {
     let number = state.seats[k].number();
     let is_over = state.seats[k].is_timed_out(state.moment);
@@ -43,9 +42,7 @@ fn end_wait(state: &mut State, outs: &mut Outs, k: usize, answer: Answer)
     requires seat { k < length state.old.seats.items }
     requires room { length outs.old.given < outs.old.most }
     ensures given { EndsWait (machine_of state.old) k answer outs.old outs.new (machine_of state.new) }
-    ensures jobs { state.new.jobs ≡ state.old.jobs }
-    ensures sound { IsSound state.new }
-    ensures config { state.new.config ≡ state.old.config }
+    ensures kept { LeavesJobs state.old state.new }
 {
     let number = state.seats[k].number();
     state::change_seat(state, number, &SeatChange::StopWaiting);
@@ -58,9 +55,7 @@ fn look_at(state: &mut State, outs: &mut Outs, k: usize)
     requires seat { k < length state.old.seats.items }
     requires room { length outs.old.given < outs.old.most }
     ensures looked { LooksAt (machine_of state.old) k outs.old outs.new (machine_of state.new) }
-    ensures asks { Asks 1 state.old.jobs state.new.jobs }
-    ensures sound { IsSound state.new }
-    ensures config { state.new.config ≡ state.old.config }
+    ensures kept { StaysSound 1 state.old state.new }
 {
     match told_at_end(state, k) {
         None => {}
@@ -73,14 +68,11 @@ fn turn(state: &mut State, outs: &mut Outs, last: &mut Option<Turn>) -> bool
     requires sound { IsSound state.old }
     requires looked { AreLookedAt (machine_of state.old) last.old }
     requires room { HasRoom 0 (machine_of state.old) outs.old }
-    ensures done { result ≡ false → (next_end (machine_of state.old) ≡ None) × (machine_of state.new ≡ machine_of state.old) × (outs.new ≡ outs.old) }
+    ensures done { result ≡ false → IsLastTurn (next_end (machine_of state.old)) state.old state.new outs.old outs.new }
     ensures given { result ≡ true → Gives WaitEndTurn none_refused (machine_of state.old) (machine_of state.new) outs.old outs.new }
     ensures looked { result ≡ true → AreLookedAt (machine_of state.new) last.new }
     ensures fewer { result ≡ true → left_after last.new (machine_of state.new) < left_after last.old (machine_of state.old) }
-    ensures asks { result ≡ true → Asks 1 state.old.jobs state.new.jobs }
-    ensures asks_last { result ≡ false → Asks 0 state.old.jobs state.new.jobs }
-    ensures sound { IsSound state.new }
-    ensures config { state.new.config ≡ state.old.config }
+    ensures kept { StaysSound (if result then 1 else 0) state.old state.new }
 {
     let Some(k) = seat_list::next_waiting(state.seats.as_slice(), *last) else {
         return false;
@@ -97,9 +89,7 @@ fn end_all(state: &mut State, outs: &mut Outs)
     requires room { HasRoom 0 (machine_of state.old) outs.old }
     ensures given { Gives WaitEndTurn none_refused (machine_of state.old) (machine_of state.new) outs.old outs.new }
     ensures done { next_end (machine_of state.new) ≡ None }
-    ensures asks { Asks (waiting_count (machine_of state.old)) state.old.jobs state.new.jobs }
-    ensures sound { IsSound state.new }
-    ensures config { state.new.config ≡ state.old.config }
+    ensures kept { StaysSound (waiting_count (machine_of state.old)) state.old state.new }
 {
     let mut last = None;
     while turn(state, outs, &mut last) {}
@@ -126,9 +116,7 @@ fn may_end(state: &mut State) -> bool
     ensures none { result ≡ false → next_end (machine_of state.old) ≡ None }
     ensures some { result ≡ may_end (machine_of state.old) }
     ensures same { machine_of state.new ≡ machine_of state.old }
-    ensures config { state.new.config ≡ state.old.config }
-    ensures asks { Asks 1 state.old.jobs state.new.jobs }
-    ensures sound { IsSound state.new }
+    ensures kept { StaysSound 1 state.old state.new }
 {
     if !state.has_waiter() {
         return false;
@@ -145,9 +133,7 @@ pub(crate) fn end_waits(state: &mut State, outs: &mut Outs)
     requires room { HasRoom 0 (machine_of state.old) outs.old }
     ensures given { Gives WaitEndTurn none_refused (machine_of state.old) (machine_of state.new) outs.old outs.new }
     ensures done { next_end (machine_of state.new) ≡ None }
-    ensures asks { Asks (waiting_count (machine_of state.old) + 1) state.old.jobs state.new.jobs }
-    ensures sound { IsSound state.new }
-    ensures config { state.new.config ≡ state.old.config }
+    ensures kept { StaysSound (waiting_count (machine_of state.old) + 1) state.old state.new }
 {
     if may_end(state) {
         end_all(state, outs);

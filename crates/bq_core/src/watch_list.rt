@@ -3,7 +3,7 @@ ghost use Rattle.std.specs.List.{list_any};
 ghost use Rattle.bq_job.specs.machine.Machine.{default_tube};
 ghost use Rattle.bq_job.specs.reading.TubeName.{is_same_name};
 
-use crate::room;
+use crate::growth;
 use bq_job::{NoMemory, TubeName};
 use std::alloc::Global;
 use std::marker::Model;
@@ -82,7 +82,7 @@ impl WatchList {
         ensures pushed { IfOk result (λ _. self.new ≡ self.old ++ name ∷ []) }
         ensures same { OnErr result (self.new ≡ self.old) }
     {
-        room::reserve_one(&mut self.names, alloc)?;
+        growth::reserve_one(&mut self.names, alloc)?;
         self.names.push_reserved(name);
         Ok(())
     }

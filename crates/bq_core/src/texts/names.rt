@@ -1,4 +1,4 @@
-ghost use Rattle.std.specs.Prelude.{◌≡◌, ◌+◌, ◌≤◌, ◌++◌, codes, length, map, IfOk, IsTrue, flat_map};
+ghost use Rattle.std.specs.Prelude.{◌≡◌, ◌+◌, ◌≤◌, ◌++◌, codes, length, IfOk, IsTrue, flat_map};
 ghost use Rattle.bq_job.specs.beside.NameOrder.{is_in_order};
 ghost use Rattle.bq_job.specs.texts.Yaml.{name_line, name_list};
 ghost use Rattle.bq_core.specs.Texts.{IsSizeOf, names_of};

@@ -30,11 +30,15 @@ returns-clause-reply c =
     ∙ ap (λ (s : JobState). telling answers.Closed (with_seat c.args.seat (seat_changed Clear) (after_giving_back s c.args.seat m))) (sym c.state_once_left-becomes.ensures)
     ∙ ap (telling answers.Closed) (sym (c.change_seat.ensures.after ∙ ap (with_seat c.args.seat (seat_changed Clear)) c.give_back_all.ensures.after))
 
-pub returns-clause-asks : goal.returns-clause-asks
-returns-clause-asks c =
+pub returns-clause-kept : goal.returns-clause-kept
+returns-clause-kept c =
     let st = c.args.state.now in
     let made = ap (λ (x : Machine). x.jobs) c.give_back_all.ensures.after in
     let free = ap is_reserved c.state_once_left-becomes.ensures ∙ free_by_delay st.config.requeue_delay st.moment in
     let few = given_back_changed c.state_once_left-becomes.result c.args.seat 1 st.next_id st.jobs.jobs free c.requires.ids in
-    subst (λ (k : Kept). AsksAsChanged st.jobs k) (sym c.change_seat.ensures.jobs)
-    (within _ (omega (arith, few, ap (changed_jobs st.jobs.jobs) made)) c.give_back_all.ensures.asks)
+    record {
+      asks =
+          subst (λ (k : Kept). AsksAsChanged st.jobs k) (sym c.change_seat.ensures.kept.jobs)
+          (within _ (omega (arith, few, ap (changed_jobs st.jobs.jobs) made)) c.give_back_all.ensures.kept.asks);
+      sound = c.change_seat.ensures.kept.sound;
+    }

@@ -2,7 +2,7 @@ use Rattle.std.proofs.Common.{◌∙◌, None, [], ap, arith}
 use Rattle.std.specs.Prelude.{fold}
 use Rattle.std.specs.List.{sum_by}
 use Rattle.std.proofs.lemmas.List.Sums.{sum_by-cons}
-use Rattle.bq_core.specs.Cost.{waited_entries}
+use Rattle.bq_core.specs.Cost.{waited_tubes}
 use Rattle.bq_core.specs.Offers.{these, with_offers}
 use Rattle.bq_core.proofs.AskLemmas.{asks_more, asks_none}
 use Rattle.bq_core.proofs.dispatch.best_of_client.Goals as goal
@@ -19,6 +19,6 @@ returns-in-Some-clause-best c =
 
 pub returns-in-Some-clause-asks : goal.returns-in-Some-clause-asks
 returns-in-Some-clause-asks c =
-    let one = sum_by-cons waited_entries c.in-Some.place.now [] in
-    let there = ap (λ o. sum_by waited_entries (these o)) c.in-Some.ensures in
+    let one = sum_by-cons waited_tubes c.in-Some.client.now [] in
+    let there = ap (λ o. sum_by waited_tubes (these o)) c.in-Some.ensures in
     asks_more _ (omega (arith, one, there)) c.best_for.ensures.asks

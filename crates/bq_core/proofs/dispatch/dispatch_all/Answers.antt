@@ -1,7 +1,7 @@
-use Rattle.std.proofs.Common.{◌-◌, arith, length, refl, ap, ◌∙◌}
+use Rattle.std.proofs.Common.{◌-◌, arith, length, refl, ap}
 use Rattle.bq_job.specs.machine.Dispatch.{DispatchTurn}
 use Rattle.bq_job.specs.machine.Steps.{has_refused_share}
-use Rattle.bq_core.specs.Cost.{waited, waited_entries}
+use Rattle.bq_core.specs.Cost.{waited, waited_tubes}
 use Rattle.bq_core.specs.Outbox.{Outbox}
 use Rattle.bq_core.specs.State.{machine_of}
 use Rattle.bq_core.proofs.AskLemmas.{asks_more, asks_none, asks_then}
@@ -14,7 +14,6 @@ loop-init c = record {
   given = gives_nothing DispatchTurn has_refused_share refl (machine_of c.args.state.now) c.args.outs.now;
   asks = asks_more _ (omega arith) (asks_none c.args.state.now.jobs);
   sound = c.requires.sound;
-  config = refl;
   room = c.requires.room;
 }
 
@@ -24,16 +23,15 @@ loop-preserved c =
     let given = c.loop-test.ensures.given refl in
     let first = machine_of c.args.state.now in
     let so_far = machine_of c.loop.state in
-    let waits = handed_stop waited_entries waited_less first was.given.given so_far was.given.turns in
+    let waits = handed_stop waited_tubes waited_less first was.given.given so_far was.given.turns in
     let before = no_shorter DispatchTurn has_refused_share first so_far c.args.outs.now c.loop.outs was.given in
     let longer = one_longer DispatchTurn has_refused_share so_far (machine_of c.turn.new.state) c.loop.outs c.turn.new.outs given (c.loop-test.ensures.fewer refl) in
     record {
       given = gives_joined DispatchTurn has_refused_share refused_joined _ _ _ _ _ _ was.given given;
       asks = asks_more _
           (one_more_turn (length c.loop.outs.given - length c.args.outs.now.given) (length c.turn.new.outs.given - length c.args.outs.now.given) (waited first) (waited so_far) (omega arith) waits)
-          (asks_then was.asks (c.loop-test.ensures.asks refl));
-      sound = c.loop-test.ensures.sound;
-      config = c.loop-test.ensures.config ∙ was.config;
+          (asks_then was.asks c.loop-test.ensures.kept.asks);
+      sound = c.loop-test.ensures.kept.sound;
       room = room_kept DispatchTurn has_refused_share 0 so_far (machine_of c.turn.new.state) c.loop.outs c.turn.new.outs given was.room;
     }
 
@@ -41,6 +39,6 @@ pub returns-clause-asks : goal.returns-clause-asks
 returns-clause-asks c =
     let was = c.loop.invariant in
     let first = machine_of c.args.state.now in
-    let waits = handed_stop waited_entries waited_less first was.given.given (machine_of c.loop.state) was.given.turns in
+    let waits = handed_stop waited_tubes waited_less first was.given.given (machine_of c.loop.state) was.given.turns in
     let same = ap (λ (o : Outbox). length o.given) (c.loop-test.ensures.done refl).2 in
-    rw same (asks_more _ (omega (arith, waits)) (asks_then was.asks (c.loop-test.ensures.asks_last refl)))
+    rw same (asks_more _ (omega (arith, waits)) (asks_then was.asks c.loop-test.ensures.kept.asks))

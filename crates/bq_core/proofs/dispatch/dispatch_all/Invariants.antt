@@ -1,5 +1,5 @@
 -- what the turns so far gave, and how often they asked
-use Rattle.std.proofs.Common.{◌≡◌, ◌+◌, ◌-◌, ◌*◌, length}
+use Rattle.std.proofs.Common.{◌+◌, ◌-◌, ◌*◌, length}
 use Rattle.bq_job.specs.beside.Computed.{waiting_count}
 use Rattle.bq_job.specs.machine.Dispatch.{DispatchTurn}
 use Rattle.bq_job.specs.machine.Steps.{has_refused_share}
@@ -14,7 +14,6 @@ invariant-loop l = record {
   given : Gives DispatchTurn has_refused_share (machine_of l.fn.state) (machine_of l.state) l.fn.outs l.outs;
   asks : Asks ((length l.outs.given - length l.fn.outs.given) * (waited (machine_of l.fn.state) + 9)) l.fn.state.jobs l.state.jobs;
   sound : IsSound l.state;
-  config : l.state.config ≡ l.fn.state.config;
   room : HasRoom 0 (machine_of l.state) l.outs;
 }
 

@@ -1,4 +1,4 @@
-use Rattle.std.proofs.Common.{◌≡◌, ◌∙◌, ◌&&◌, ◌≤◌, ℕ, Bool, List, None, ap, arith, false, not, refl, subst, sym, true, if◌then◌else◌}
+use Rattle.std.proofs.Common.{◌≡◌, ◌∙◌, ◌&&◌, ◌≤◌, ℕ, Bool, List, None, ap, arith, false, not, refl, subst, sym, true, if◌then◌else◌, rules}
 use Rattle.std.specs.Prelude.{fold, nat_lt, option_map}
 use Rattle.std.specs.List.{list_any, sum_by}
 use Rattle.bq_job.specs.machine.Changes.{seat_with}
@@ -8,7 +8,7 @@ use Rattle.bq_job.specs.machine.Tubes.{is_paused}
 use Rattle.bq_job.proofs.ChoiceLemmas.{first_of_none_passes}
 use Rattle.bq_job.proofs.ListLemmas.{all_always, list_any_not}
 use Rattle.bq_jobs.specs.Kept.{ranked}
-use Rattle.bq_core.specs.Cost.{waited_entries}
+use Rattle.bq_core.specs.Cost.{waited_tubes}
 use Rattle.bq_core.specs.Crowds.{is_waiter}
 use Rattle.bq_core.specs.Offers.{is_waited_at, next_rank, offered, these, with_offers}
 use Rattle.bq_core.specs.State.{IsSound, machine_of}
@@ -59,10 +59,16 @@ returns-in-Tube-clause-next c =
         offered_is m.next_id m.jobs c.requires.ids st.tubes.entries (λ n. is_paused n m) (λ n. sym (paused_is n st.tubes.entries c.requires.entries.order c.requires.entries.fresh)) name
         ∙ sym (rank_agrees m (λ j. is_ready_in name j && not (is_paused name m)) (tube_waits m name true e known))
 
-pub returns-in-Tube-clause-asks : goal.returns-in-Tube-clause-asks
-returns-in-Tube-clause-asks c = asks_more _ (go (is_waited_at c.in-Tube.name c.args.state.now.tubes) (sym (counted_there c.in-Tube.name c.args.state.now c.requires))) c.offer_to.ensures.asks
+pub returns-in-Tube-clause-kept : goal.returns-in-Tube-clause-kept
+returns-in-Tube-clause-kept c =
+    record {
+      same = search rules;
+      asks =
+          asks_more _ (go (is_waited_at c.in-Tube.name c.args.state.now.tubes) (sym (counted_there c.in-Tube.name c.args.state.now c.requires))) c.offer_to.ensures.asks;
+      sound = search rules;
+    }
   where
-    go : (w : Bool) → list_any (is_waiter c.in-Tube.name) c.args.state.now.seats.items ≡ w → (if w then 1 else 0) ≤ sum_by waited_entries c.args.state.now.seats.items
+    go : (w : Bool) → list_any (is_waiter c.in-Tube.name) c.args.state.now.seats.items ≡ w → (if w then 1 else 0) ≤ sum_by waited_tubes c.args.state.now.seats.items
     go true e = tube_entries c.args.state.now.seats.items c.in-Tube.name e
     go false e = omega arith
 
@@ -77,12 +83,17 @@ returns-in-Client-clause-next c =
     ∙ next_offer m.next_id m.jobs c.requires.ids st.tubes.entries (λ name. is_paused name m) (λ name. sym (paused_is name st.tubes.entries c.requires.entries.order c.requires.entries.fresh)) m (λ name. refl) (these o)
     ∙ sym (rank_agrees m (λ j. list_any (is_waiting_for m j) (these o)) (client_waits m c.in-Client.seat o c.requires.numbered refl known))
 
-pub returns-in-Client-clause-asks : goal.returns-in-Client-clause-asks
-returns-in-Client-clause-asks c =
+pub returns-in-Client-clause-kept : goal.returns-in-Client-clause-kept
+returns-in-Client-clause-kept c =
     let seats = c.args.state.now.seats.items in
-    let slice = ap (λ ss. sum_by waited_entries (these (seat_with c.in-Client.seat ss))) c.as_slice.ensures.value in
+    let slice = ap (λ ss. sum_by waited_tubes (these (seat_with c.in-Client.seat ss))) c.as_slice.ensures.value in
     let few = client_entries seats c.in-Client.seat (seat_with c.in-Client.seat seats) refl in
-    asks_more _ (omega (arith, slice, few)) c.best_of_client.ensures.asks
+    record {
+      same = search rules;
+      asks =
+          asks_more _ (omega (arith, slice, few)) c.best_of_client.ensures.asks;
+      sound = search rules;
+    }
 
 pub returns-in-Any-clause-next : goal.returns-in-Any-clause-next
 returns-in-Any-clause-next c =

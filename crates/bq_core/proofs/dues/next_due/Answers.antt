@@ -1,4 +1,4 @@
-use Rattle.std.proofs.Common.{◌≡◌, ◌∙◌, None, ap, sym}
+use Rattle.std.proofs.Common.{◌≡◌, ◌∙◌, None, ap, sym, rules}
 use Rattle.std.specs.Prelude.{flat_map, fold}
 use Rattle.bq_job.specs.declared.job.Job.{Job}
 use Rattle.bq_job.specs.machine.Machine.{SeatRecord, TubeRecord}
@@ -42,23 +42,27 @@ returns-clause-same c =
     let st = c.args.state.now in
     ap (λ (k : Kept). machine_of (record st { jobs = k })) (c.warnings_due-warning.ensures.same ∙ ap (λ (k : Kept). record k { comparisons = c.warnings_due-warning.new.jobs.comparisons }) c.jobs_due-jobs.ensures.same)
 
-pub returns-clause-sound : goal.returns-clause-sound
-returns-clause-sound c =
+pub returns-clause-kept : goal.returns-clause-kept
+returns-clause-kept c =
     let st = c.args.state.now in
     let kept = ap (λ (k : Kept). k.jobs) c.jobs_due-jobs.ensures.same in
     let jobs = c.warnings_due-warning.ensures.same ∙ ap (λ (k : Kept). record k { comparisons = c.warnings_due-warning.new.jobs.comparisons }) c.jobs_due-jobs.ensures.same in
     let was = compared_sound st (record st { jobs = c.warnings_due-warning.new.jobs }) (ap (λ (k : Kept). record st { jobs = k }) jobs) c.requires in
     record {
-      entries = was.entries;
-      numbered = was.numbered;
-      next = was.next;
-      ids = was.ids;
-      counts = was.counts;
-      clients = was.clients;
-      crowds = was.crowds;
-      alive = was.alive;
-      stirs = was.stirs;
-      warnings = rw (c.is_some-state.ensures, c.warnings_due-warning.ensures.due, kept, c.as_slice.ensures.value, jobs) (warned_by_due st.jobs.jobs st.seats.items);
-      timeouts = was.timeouts;
-      pauses = was.pauses;
+      asks = search rules;
+      sound =
+          record {
+            entries = was.entries;
+            numbered = was.numbered;
+            next = was.next;
+            ids = was.ids;
+            counts = was.counts;
+            clients = was.clients;
+            crowds = was.crowds;
+            alive = was.alive;
+            stirs = was.stirs;
+            warnings = rw (c.is_some-state.ensures, c.warnings_due-warning.ensures.due, kept, c.as_slice.ensures.value, jobs) (warned_by_due st.jobs.jobs st.seats.items);
+            timeouts = was.timeouts;
+            pauses = was.pauses;
+          };
     }

@@ -22,7 +22,7 @@ use Rattle.bq_core.proofs.job_acts.put.Goals as goal
 pub change_tube-requires-clause-entry : goal.change_tube-requires-clause-entry
 change_tube-requires-clause-entry c =
     let st = c.args.state.now in
-    let s = c.in-Some.place.now in
+    let s = c.in-Some.client.now in
     let found : seat_with c.args.seat st.seats.items ≡ Some s = ap (seat_with c.args.seat) (sym c.as_slice.ensures.value) ∙ sym c.in-Some.ensures in
     let here = found_passes (λ s. s.number == c.args.seat) st.seats.items s found in
     let has : HasTubes st.tubes.entries s = all_at (HasTubes st.tubes.entries) st.seats.items s c.requires.sound.entries.of_seats here.1 in
@@ -31,31 +31,31 @@ change_tube-requires-clause-entry c =
 
 pub add-requires-clause-given : goal.add-requires-clause-given
 add-requires-clause-given c =
-    let made = c.new_job-job.ensures c.in-Some.place.now (sym c.used.ensures) in
+    let made = c.new_job-job.ensures c.in-Some.client.now (sym c.used.ensures) in
     let id : c.new_job-job.result.id ≡ c.change_tube.new.state.next_id = ap (λ (j : Job). j.id) made in
     let next : c.count_put.new.state.next_id ≡ c.change_tube.new.state.next_id + 1 = ap (λ (x : Machine). x.next_id) c.count_put.ensures.after in
-    let some = some_next 1 c.change_tube.new.state.next_id c.change_tube.new.state.jobs.jobs c.change_tube.ensures.sound.ids in
+    let some = some_next 1 c.change_tube.new.state.next_id c.change_tube.new.state.jobs.jobs c.change_tube.ensures.kept.sound.ids in
     (omega arith, omega arith)
 
 pub add-requires-clause-free : goal.add-requires-clause-free
 add-requires-clause-free c =
-    let made = c.new_job-job.ensures c.in-Some.place.now (sym c.used.ensures) in
+    let made = c.new_job-job.ensures c.in-Some.client.now (sym c.used.ensures) in
     let id : c.new_job-job.result.id ≡ c.change_tube.new.state.next_id = ap (λ (j : Job). j.id) made in
     let jobs : (machine_of c.count_put.new.state).jobs ≡ (machine_of c.change_tube.new.state).jobs = ap (λ (x : Machine). x.jobs) c.count_put.ensures.after in
     ap (λ n. job_with n (machine_of c.count_put.new.state).jobs) id
     ∙ ap (job_with c.change_tube.new.state.next_id) jobs
-    ∙ c.next_is_free.ensures 1 c.change_tube.new.state.next_id c.change_tube.new.state.jobs.jobs c.change_tube.ensures.sound.ids
+    ∙ c.next_is_free.ensures 1 c.change_tube.new.state.next_id c.change_tube.new.state.jobs.jobs c.change_tube.ensures.kept.sound.ids
 
 pub add-requires-clause-entry : goal.add-requires-clause-entry
 add-requires-clause-entry c =
     let st = c.args.state.now in
     let mid = c.change_tube.new.state in
-    let s = c.in-Some.place.now in
+    let s = c.in-Some.client.now in
     let found : seat_with c.args.seat st.seats.items ≡ Some s = ap (seat_with c.args.seat) (sym c.as_slice.ensures.value) ∙ sym c.in-Some.ensures in
     let connected = asker_connected c.args.seat st.seats.items s found c.requires.asks in
     let still : seat_with c.args.seat mid.seats.items ≡ Some s = ap (λ (x : Machine). seat_with c.args.seat x.seats) c.change_tube.ensures.after ∙ ap (λ seats. seat_with c.args.seat seats.items) c.in-Ok.ensures.seats ∙ found in
     let here = found_passes (λ s. s.number == c.args.seat) mid.seats.items s still in
-    let has : HasTubes mid.tubes.entries s = all_at (HasTubes mid.tubes.entries) mid.seats.items s c.change_tube.ensures.sound.entries.of_seats here.1 in
+    let has : HasTubes mid.tubes.entries s = all_at (HasTubes mid.tubes.entries) mid.seats.items s c.change_tube.ensures.kept.sound.entries.of_seats here.1 in
     let made = c.new_job-job.ensures s (sym c.used.ensures) in
     ap (λ state. has_entry c.new_job-job.result.tube state.tubes.entries) c.count_put.ensures.same
     ∙ ap (λ (j : Job). has_entry j.tube mid.tubes.entries) made ∙ has.used connected
@@ -66,8 +66,8 @@ returns-clause-reply c s found =
     let tube = c.used.result.now in
     let job = c.new_job-job.result in
     let after : machine_of c.change_tube.new.state ≡ with_tube tube with_put m = c.change_tube.ensures.after ∙ ap (with_tube tube with_put) c.in-Ok.ensures.after in
-    let here : seat_with c.args.seat m.seats ≡ Some c.in-Some.place.now = ap (seat_with c.args.seat) (sym c.as_slice.ensures.value) ∙ sym c.in-Some.ensures in
-    let same : c.in-Some.place.now ≡ s = cc in
+    let here : seat_with c.args.seat m.seats ≡ Some c.in-Some.client.now = ap (seat_with c.args.seat) (sym c.as_slice.ensures.value) ∙ sym c.in-Some.ensures in
+    let same : c.in-Some.client.now ≡ s = cc in
     let used : s.used ≡ tube = sym (c.used.ensures ∙ ap (λ (r : SeatRecord). r.used) same) in
     let is : job ≡ new_job m s c.args.new.pri c.args.new.delay c.args.new.ttr c.args.new.body =
     c.new_job-job.ensures s used ∙ ap (λ (x : Machine). new_job x s c.args.new.pri c.args.new.delay c.args.new.ttr c.args.new.body) after in
@@ -81,7 +81,11 @@ returns-clause-reply c s found =
     ∙ ap (λ n. telling (answers.Inserted n) (record (after_given W) { jobs = m.jobs ++ job ∷ [] })) (sym id)
     ∙ ap (telling (answers.Inserted job.id)) (sym done)
 
-pub returns-clause-asks : goal.returns-clause-asks
-returns-clause-asks c =
-    let same : c.count_put.new.state.jobs ≡ c.make_room.new.state.jobs = ap (λ (st : State). st.jobs) c.count_put.ensures.same ∙ c.change_tube.ensures.jobs in
-    asked_before 0 4 (omega arith) (subst (λ (k : Kept). Asks 0 c.args.state.now.jobs k) (sym same) c.in-Ok.ensures.asks) c.add.ensures.asks
+pub returns-clause-kept : goal.returns-clause-kept
+returns-clause-kept c =
+    let same : c.count_put.new.state.jobs ≡ c.make_room.new.state.jobs = ap (λ (st : State). st.jobs) c.count_put.ensures.same ∙ c.change_tube.ensures.kept.jobs in
+    record {
+      asks =
+          asked_before 0 4 (omega arith) (subst (λ (k : Kept). Asks 0 c.args.state.now.jobs k) (sym same) c.in-Ok.ensures.kept.asks) c.add.ensures.asks;
+      sound = c.add.ensures.sound;
+    }

@@ -1,9 +1,10 @@
-use Rattle.std.proofs.Common.{◌≡◌, ◌∙◌, ◌+◌, ◌-◌, suc, ap, arith, length, refl, sym, take}
+use Rattle.std.proofs.Common.{◌≡◌, ◌∙◌, ◌+◌, ◌-◌, suc, ap, arith, length, refl, sym, take, rules, subst, if◌then◌else◌}
 use Rattle.bq_job.specs.machine.Machine.{Machine}
 use Rattle.std.specs.Prelude.{count_by}
 use Rattle.bq_core.specs.JobKinds.{is_of}
 use Rattle.bq_core.specs.Kicking.{all_kicked, jobs_of}
 use Rattle.bq_core.specs.State.{machine_of}
+use Rattle.bq_core.specs.Asking.{Asks}
 use Rattle.bq_core.proofs.AskLemmas.{asks_more, asks_none, asks_then}
 use Rattle.bq_core.proofs.KickLemmas.{none_kicked, one_on, take_none, zero_more}
 use Rattle.bq_core.proofs.kicks.kick_some.Goals as goal
@@ -19,7 +20,6 @@ loop-done-init c =
       fewer = omega arith;
       asks = asks_none c.args.state.now.jobs;
       sound = c.requires.sound;
-      config = refl;
     }
 
 pub loop-done-preserved : goal.loop-done-preserved
@@ -34,9 +34,8 @@ loop-done-preserved c =
       count = λ n. ap (λ k. length (take k first)) (one_on d n) ∙ was.count (suc n) ∙ (let e = one.count n in omega (arith, e));
       others = c.kick_first.ensures.others ∙ ap (λ (x : Machine). record x { jobs = (machine_of c.kick_first.new.state).jobs }) was.others;
       fewer = (let few = was.fewer in let falls = c.kick_first.ensures.fewer c.if-not-kick_first.false in omega arith);
-      asks = asks_more _ (omega arith) (asks_then was.asks (c.kick_first.ensures.asks c.if-not-kick_first.false));
-      sound = c.kick_first.ensures.sound;
-      config = c.kick_first.ensures.config ∙ was.config;
+      asks = asks_more _ (omega arith) (asks_then was.asks (subst (λ b. Asks (if b then 9 else 1) c.loop-done.state.jobs c.kick_first.new.state.jobs) c.if-not-kick_first.false c.kick_first.ensures.kept.asks));
+      sound = c.kick_first.ensures.kept.sound;
     }
 
 pub returns-then-not-kick_first-clause-kicked : goal.returns-then-not-kick_first-clause-kicked
@@ -78,10 +77,14 @@ returns-then-not-kick_first-clause-fewer c =
     let many = c.from.ensures in
     omega arith
 
-pub returns-then-not-kick_first-clause-asks : goal.returns-then-not-kick_first-clause-asks
-returns-then-not-kick_first-clause-asks c =
+pub returns-then-not-kick_first-clause-kept : goal.returns-then-not-kick_first-clause-kept
+returns-then-not-kick_first-clause-kept c =
     let many = c.from.ensures in
-    asks_more _ (omega arith) (asks_then c.loop-done.invariant.asks (c.kick_first.ensures.asks_last c.if-not-kick_first.true))
+    record {
+      asks =
+          asks_more _ (omega arith) (asks_then c.loop-done.invariant.asks (subst (λ b. Asks (if b then 9 else 1) c.loop-done.state.jobs c.kick_first.new.state.jobs) c.if-not-kick_first.true c.kick_first.ensures.kept.asks));
+      sound = search rules;
+    }
 
 pub returns-clause-fewer : goal.returns-clause-fewer
 returns-clause-fewer c =
@@ -89,7 +92,11 @@ returns-clause-fewer c =
     let many = c.from-2.ensures in
     omega arith
 
-pub returns-clause-asks : goal.returns-clause-asks
-returns-clause-asks c =
+pub returns-clause-kept : goal.returns-clause-kept
+returns-clause-kept c =
     let many = c.from-2.ensures in
-    asks_more _ (omega arith) c.loop-done.invariant.asks
+    record {
+      asks =
+          asks_more _ (omega arith) c.loop-done.invariant.asks;
+      sound = search rules;
+    }

@@ -15,5 +15,4 @@ invariant-loop-done l = record {
   fewer : count_by (is_of l.kind l.tube) (machine_of l.state).jobs + l.done ≤ count_by (is_of l.kind l.tube) (machine_of l.fn.state).jobs;
   asks : Asks (9 * l.done) l.fn.state.jobs l.state.jobs;
   sound : IsSound l.state;
-  config : l.state.config ≡ l.fn.state.config;
 }

@@ -13,7 +13,6 @@ invariant-loop-becomes l = record {
   asks : Asks (9 * (count_by (is_held_by l.seat) (machine_of l.fn.state).jobs - count_by (is_held_by l.seat) (machine_of l.state).jobs)) l.fn.state.jobs l.state.jobs;
   fewer : count_by (is_held_by l.seat) (machine_of l.state).jobs ≤ count_by (is_held_by l.seat) (machine_of l.fn.state).jobs;
   sound : IsSound l.state;
-  config : l.state.config ≡ l.fn.state.config;
 }
 
 abbrev pub decreases-loop-becomes : goal.decreases-loop-becomes

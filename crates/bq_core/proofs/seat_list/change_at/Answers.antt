@@ -8,10 +8,10 @@ use Rattle.bq_core.proofs.seat_list.change_at.Goals as goal
 pub returns-in-Some : goal.returns-in-Some
 returns-in-Some c =
     let seats = c.args.seats.now.items in
-    let old = c.in-Some.place.now in
+    let old = c.in-Some.client.now in
     let there : slice_get seats c.args.number ≡ Some old =
     ap (slice_get seats) (sym c.from.ensures) ∙ slice_get_read seats (length seats) c.from.result old refl c.in-Some.ensures.item.3.0 c.in-Some.ensures.value in
-    ap (λ k. set seats k c.change.new.place) c.from.ensures
+    ap (λ k. set seats k c.change.new.client) c.from.ensures
     ∙ ap (set seats c.args.number) c.change.ensures
     ∙ sym (changed_there seats c.args.number old (seat_changed c.args.what.now) c.requires there)
 

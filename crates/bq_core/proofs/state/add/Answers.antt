@@ -1,5 +1,6 @@
 use Rattle.std.proofs.Common.{◌∙◌, ◌≤◌, ap, sym, arith, length}
 use Rattle.bq_jobs.specs.Kept.{with_added}
+use Rattle.bq_core.specs.KeptTubes.{KeptTubes}
 use Rattle.bq_core.specs.Dues.{first_pause_end}
 use Rattle.bq_core.specs.Tallies.{tallies_of, tally_of}
 use Rattle.bq_core.proofs.LossLemmas.{alive_added}
@@ -20,19 +21,19 @@ returns-clause-sound c =
     let fits : length (with_added j st.jobs.jobs) ≤ 18446744073709551615 = omega (arith, many) in
     let made = counted_added j st.tally st.tubes.tallies st.jobs.jobs st.tubes.entries fits was.entries.order was.counts in
     record {
-      entries = rw (c.add-2.ensures.jobs, c.add_job.ensures.entries) (entries_of_added j st.jobs.jobs st.seats.items st.tubes.entries c.requires.entry was.entries);
+      entries = rw (c.add-2.ensures.jobs, (ap (λ (k : KeptTubes). k.entries) c.add_job.ensures)) (entries_of_added j st.jobs.jobs st.seats.items st.tubes.entries c.requires.entry was.entries);
       numbered = was.numbered;
       next = was.next;
       ids = rw c.add-2.ensures.jobs ids;
       counts = record {
         whole = c.add.ensures ∙ made.whole ∙ ap tally_of (sym c.add-2.ensures.jobs);
-        each = c.add_job.ensures.tallies ∙ made.each ∙ (λ i. tallies_of (sym c.add-2.ensures.jobs i) (sym c.add_job.ensures.entries i));
+        each = (ap (λ (k : KeptTubes). k.tallies) c.add_job.ensures) ∙ made.each ∙ (λ i. tallies_of (sym c.add-2.ensures.jobs i) (sym (ap (λ (k : KeptTubes). k.entries) c.add_job.ensures) i));
       };
       clients = was.clients;
-      crowds = rw (c.add_job.ensures.crowds, c.add_job.ensures.entries) was.crowds;
-      alive = rw (c.find.ensures, c.add-2.ensures.jobs, c.add_job.ensures.entries) (alive_added j st.loss st.jobs.jobs st.seats.items st.tubes.entries was.alive);
-      stirs = rw (c.stir_tube_if.ensures, c.is_wanted-is_wanted.ensures, c.add-2.ensures.jobs, c.add_job.ensures.entries) (known_added j st.stir st.jobs.jobs st.seats.items (counted st.tubes.entries) was.stirs);
+      crowds = rw ((ap (λ (k : KeptTubes). k.crowds) c.add_job.ensures), (ap (λ (k : KeptTubes). k.entries) c.add_job.ensures)) was.crowds;
+      alive = rw (c.regain.ensures, c.add-2.ensures.jobs, (ap (λ (k : KeptTubes). k.entries) c.add_job.ensures)) (alive_added j st.loss st.jobs.jobs st.seats.items st.tubes.entries was.alive);
+      stirs = rw (c.stir_tube_if.ensures, c.is_wanted-is_wanted.ensures, c.add-2.ensures.jobs, (ap (λ (k : KeptTubes). k.entries) c.add_job.ensures)) (known_added j st.stir st.jobs.jobs st.seats.items (counted st.tubes.entries) was.stirs);
       warnings = rw (c.warn_if.ensures, c.has_waiting_holder-holds.ensures, c.add-2.ensures.jobs) (warned_added j st.warns st.jobs.jobs st.seats.items was.numbered was.warnings);
       timeouts = was.timeouts;
-      pauses = was.pauses ∙ ap first_pause_end (sym c.add_job.ensures.entries);
+      pauses = was.pauses ∙ ap first_pause_end (sym (ap (λ (k : KeptTubes). k.entries) c.add_job.ensures));
     }

@@ -1,8 +1,9 @@
-use Rattle.std.proofs.Common.{◌∙◌, ◌&&◌, ◌≤◌, ◌==◌, if◌then◌else◌, ap, sym, arith, length}
+use Rattle.std.proofs.Common.{◌∙◌, ◌&&◌, ◌≤◌, ◌==◌, if◌then◌else◌, ap, sym, arith, length, rules}
 use Rattle.bq_job.specs.machine.Changes.{is_ready_state, job_with}
 use Rattle.bq_job.proofs.KeptLemmas.{ids_of_map}
 use Rattle.std.proofs.lemmas.List.{length-map}
 use Rattle.bq_jobs.proofs.Told.{nothing_told_of, told_of}
+use Rattle.bq_core.specs.KeptTubes.{KeptTubes}
 use Rattle.bq_core.specs.Dues.{first_pause_end}
 use Rattle.bq_core.specs.JobChanges.{changed}
 use Rattle.bq_core.specs.Tallies.{tallies_of, tally_entered, tally_of}
@@ -12,28 +13,32 @@ use Rattle.bq_core.proofs.MovedLemmas.{alive_changed, counted_moved, entries_of_
 use Rattle.bq_core.proofs.StateLemmas.{id_kept, no_job_changed}
 use Rattle.bq_core.proofs.state.change_job.Goals as goal
 
-pub returns-in_default-clause-sound : goal.returns-in_default-clause-sound
-returns-in_default-clause-sound c =
+pub returns-in_default-clause-kept : goal.returns-in_default-clause-kept
+returns-in_default-clause-kept c =
     let st = c.args.state.now in
     let none = nothing_told_of (changed c.args.what.now) (job_with c.args.id st.jobs.jobs) (sym c.in_default.ensures.moved) in
     let same = c.in_default.ensures.jobs ∙ no_job_changed c.args.id (changed c.args.what.now) st.jobs.jobs none in
     record {
-      entries = rw same c.requires.entries;
-      numbered = c.requires.numbered;
-      next = c.requires.next;
-      ids = rw same c.requires.ids;
-      counts = rw same c.requires.counts;
-      clients = c.requires.clients;
-      crowds = c.requires.crowds;
-      alive = rw same c.requires.alive;
-      stirs = rw same c.requires.stirs;
-      warnings = rw same c.requires.warnings;
-      timeouts = c.requires.timeouts;
-      pauses = c.requires.pauses;
+      asks = search rules;
+      sound =
+          record {
+            entries = rw same c.requires.entries;
+            numbered = c.requires.numbered;
+            next = c.requires.next;
+            ids = rw same c.requires.ids;
+            counts = rw same c.requires.counts;
+            clients = c.requires.clients;
+            crowds = c.requires.crowds;
+            alive = rw same c.requires.alive;
+            stirs = rw same c.requires.stirs;
+            warnings = rw same c.requires.warnings;
+            timeouts = c.requires.timeouts;
+            pauses = c.requires.pauses;
+          };
     }
 
-pub returns-clause-sound : goal.returns-clause-sound
-returns-clause-sound c =
+pub returns-clause-kept : goal.returns-clause-kept
+returns-clause-kept c =
     let st = c.args.state.now in
     let was = c.requires in
     let id = c.args.id in
@@ -46,19 +51,23 @@ returns-clause-sound c =
     let wanted = c.counts_waiter_of-is_wanted.ensures ∙ ap (λ b. is_ready_state m.to.state && b) (waiters_counted m.tube st.clients st.tubes.crowds st.seats.items st.tubes.entries was.entries.of_seats was.crowds was.clients) in
     let made = counted_moved 1 st.next_id id f (id_kept c.args.what.now) (tube_kept c.args.what.now) of.job m of.is st.tally st.tubes.tallies st.jobs.jobs st.tubes.entries was.ids of.there was.entries.order fits was.counts in
     record {
-      entries = rw (c.in-Some.ensures.jobs, c.move_job.ensures.entries) (entries_of_changed (λ k. if k.id == id then f k else k) stays st.jobs.jobs st.seats.items st.tubes.entries was.entries);
-      numbered = was.numbered;
-      next = was.next;
-      ids = rw c.in-Some.ensures.jobs (ids_of_map (λ k. if k.id == id then f k else k) 1 st.next_id st.jobs.jobs (one_id id f (id_kept c.args.what.now)) was.ids);
-      counts = record {
-        whole = c.enter.ensures ∙ ap (tally_entered m.to) c.leave.ensures ∙ made.whole ∙ ap tally_of (sym c.in-Some.ensures.jobs);
-        each = c.move_job.ensures.tallies ∙ made.each ∙ (λ i. tallies_of (sym c.in-Some.ensures.jobs i) (sym c.move_job.ensures.entries i));
-      };
-      clients = was.clients;
-      crowds = rw (c.move_job.ensures.crowds, c.move_job.ensures.entries) was.crowds;
-      alive = rw (c.in-Some.ensures.jobs, c.move_job.ensures.entries) (alive_changed (λ k. if k.id == id then f k else k) stays st.loss st.jobs.jobs st.seats.items st.tubes.entries was.alive);
-      stirs = rw (c.stir_tube_if.ensures, c.in-Some.ensures.jobs, c.move_job.ensures.entries) (known_moved 1 st.next_id id f (id_kept c.args.what.now) (tube_kept c.args.what.now) of.job m of.is st.jobs.jobs was.ids of.there st.stir st.seats.items (counted st.tubes.entries) c.counts_waiter_of-is_wanted.result wanted was.stirs);
-      warnings = rw (c.warn_if.ensures, c.in-Some.ensures.jobs) (warned_moved 1 st.next_id id f (id_kept c.args.what.now) (tube_kept c.args.what.now) of.job m of.is st.jobs.jobs was.ids of.there st.warns st.seats.items c.holder_waits-holds.result was.numbered (c.holder_waits-holds.ensures ∙ ap (has_waiting_holder m.to.state) c.as_slice.ensures.value) was.warnings);
-      timeouts = was.timeouts;
-      pauses = was.pauses ∙ ap first_pause_end (sym c.move_job.ensures.entries);
+      asks = search rules;
+      sound =
+          record {
+            entries = rw (c.in-Some.ensures.jobs, (ap (λ (k : KeptTubes). k.entries) c.move_job.ensures)) (entries_of_changed (λ k. if k.id == id then f k else k) stays st.jobs.jobs st.seats.items st.tubes.entries was.entries);
+            numbered = was.numbered;
+            next = was.next;
+            ids = rw c.in-Some.ensures.jobs (ids_of_map (λ k. if k.id == id then f k else k) 1 st.next_id st.jobs.jobs (one_id id f (id_kept c.args.what.now)) was.ids);
+            counts = record {
+              whole = c.enter.ensures ∙ ap (tally_entered m.to) c.leave.ensures ∙ made.whole ∙ ap tally_of (sym c.in-Some.ensures.jobs);
+              each = (ap (λ (k : KeptTubes). k.tallies) c.move_job.ensures) ∙ made.each ∙ (λ i. tallies_of (sym c.in-Some.ensures.jobs i) (sym (ap (λ (k : KeptTubes). k.entries) c.move_job.ensures) i));
+            };
+            clients = was.clients;
+            crowds = rw ((ap (λ (k : KeptTubes). k.crowds) c.move_job.ensures), (ap (λ (k : KeptTubes). k.entries) c.move_job.ensures)) was.crowds;
+            alive = rw (c.in-Some.ensures.jobs, (ap (λ (k : KeptTubes). k.entries) c.move_job.ensures)) (alive_changed (λ k. if k.id == id then f k else k) stays st.loss st.jobs.jobs st.seats.items st.tubes.entries was.alive);
+            stirs = rw (c.stir_tube_if.ensures, c.in-Some.ensures.jobs, (ap (λ (k : KeptTubes). k.entries) c.move_job.ensures)) (known_moved 1 st.next_id id f (id_kept c.args.what.now) (tube_kept c.args.what.now) of.job m of.is st.jobs.jobs was.ids of.there st.stir st.seats.items (counted st.tubes.entries) c.counts_waiter_of-is_wanted.result wanted was.stirs);
+            warnings = rw (c.warn_if.ensures, c.in-Some.ensures.jobs) (warned_moved 1 st.next_id id f (id_kept c.args.what.now) (tube_kept c.args.what.now) of.job m of.is st.jobs.jobs was.ids of.there st.warns st.seats.items c.holder_waits-holds.result was.numbered (c.holder_waits-holds.ensures ∙ ap (has_waiting_holder m.to.state) c.as_slice.ensures.value) was.warnings);
+            timeouts = was.timeouts;
+            pauses = was.pauses ∙ ap first_pause_end (sym (ap (λ (k : KeptTubes). k.entries) c.move_job.ensures));
+          };
     }

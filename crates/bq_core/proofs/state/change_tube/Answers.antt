@@ -1,4 +1,5 @@
-use Rattle.std.proofs.Common.{◌∙◌, ap, subst, sym}
+use Rattle.std.proofs.Common.{◌∙◌, ap, subst, sym, rules}
+use Rattle.bq_core.specs.KeptTubes.{KeptTubes}
 use Rattle.bq_core.specs.Dues.{first_pause_end, pause_end_after}
 use Rattle.bq_core.specs.State.{machine_of}
 use Rattle.bq_core.specs.TubeEntries.{counted, tube_changed, tube_changed_at}
@@ -18,30 +19,34 @@ returns-clause-after c =
     let s = c.args.state.now in
     let e = c.requires.sound.entries in
     ap (λ tubes. record (machine_of s) { tubes = tubes })
-    (ap counted c.change.ensures.entries
+    (ap counted (ap (λ (k : KeptTubes). k.entries) c.change.ensures)
     ∙ sym (record_changed c.args.tube.now (tube_changed c.args.what) (tube_counts c.args.what) (tube_name_kept c.args.what) s.tubes.entries e.order e.fresh c.requires.entry))
 
-pub returns-clause-sound : goal.returns-clause-sound
-returns-clause-sound c =
+pub returns-clause-kept : goal.returns-clause-kept
+returns-clause-kept c =
     let s = c.args.state.now in
     let was = c.requires.sound in
     record {
-      entries = rw c.change.ensures.entries (entries_of_tube c.args.tube.now c.args.what c.args.state.now.jobs.jobs c.args.state.now.seats.items c.args.state.now.tubes.entries was.entries);
-      numbered = was.numbered;
-      next = was.next;
-      ids = was.ids;
-      counts = rw (c.change.ensures.entries, c.change.ensures.tallies) (counted_kept (tube_changed_at c.args.tube.now c.args.what) (name_kept_at c.args.tube.now c.args.what) s.tally s.tubes.tallies s.jobs.jobs s.tubes.entries was.counts);
-      clients = was.clients;
-      crowds = rw (c.change.ensures.entries, c.change.ensures.crowds) (crowds_kept (tube_changed_at c.args.tube.now c.args.what) (name_kept_at c.args.tube.now c.args.what) s.tubes.crowds s.seats.items s.tubes.entries was.crowds);
-      alive = rw c.change.ensures.entries (alive_renamed (tube_changed_at c.args.tube.now c.args.what) (name_kept_at c.args.tube.now c.args.what) s.loss s.jobs.jobs s.seats.items s.tubes.entries was.alive);
-      stirs =
-          let known = known_of_change c.args.tube.now c.args.what (machine_of s) s.stir was.stirs in
-          rw c.stir_change.ensures (subst (λ ts. AreKnown (stirred_by_change c.args.tube.now c.args.what s.stir) s.jobs.jobs s.seats.items ts) (ap (λ (m : Machine). m.tubes) (sym (returns-clause-after c))) known);
-      warnings = was.warnings;
-      timeouts = was.timeouts;
-      pauses =
-          c.pause_end_after-state.ensures
-          ∙ ap (λ ts. pause_end_after ts c.args.what s.pause_end) c.change.ensures.entries
-          ∙ end_after_change c.args.tube.now c.args.what s.tubes.entries s.pause_end was.pauses
-          ∙ ap first_pause_end (sym c.change.ensures.entries);
+      jobs = search rules;
+      sound =
+          record {
+            entries = rw (ap (λ (k : KeptTubes). k.entries) c.change.ensures) (entries_of_tube c.args.tube.now c.args.what c.args.state.now.jobs.jobs c.args.state.now.seats.items c.args.state.now.tubes.entries was.entries);
+            numbered = was.numbered;
+            next = was.next;
+            ids = was.ids;
+            counts = rw ((ap (λ (k : KeptTubes). k.entries) c.change.ensures), (ap (λ (k : KeptTubes). k.tallies) c.change.ensures)) (counted_kept (tube_changed_at c.args.tube.now c.args.what) (name_kept_at c.args.tube.now c.args.what) s.tally s.tubes.tallies s.jobs.jobs s.tubes.entries was.counts);
+            clients = was.clients;
+            crowds = rw ((ap (λ (k : KeptTubes). k.entries) c.change.ensures), (ap (λ (k : KeptTubes). k.crowds) c.change.ensures)) (crowds_kept (tube_changed_at c.args.tube.now c.args.what) (name_kept_at c.args.tube.now c.args.what) s.tubes.crowds s.seats.items s.tubes.entries was.crowds);
+            alive = rw (ap (λ (k : KeptTubes). k.entries) c.change.ensures) (alive_renamed (tube_changed_at c.args.tube.now c.args.what) (name_kept_at c.args.tube.now c.args.what) s.loss s.jobs.jobs s.seats.items s.tubes.entries was.alive);
+            stirs =
+                let known = known_of_change c.args.tube.now c.args.what (machine_of s) s.stir was.stirs in
+                rw c.stir_change.ensures (subst (λ ts. AreKnown (stirred_by_change c.args.tube.now c.args.what s.stir) s.jobs.jobs s.seats.items ts) (ap (λ (m : Machine). m.tubes) (sym (returns-clause-after c))) known);
+            warnings = was.warnings;
+            timeouts = was.timeouts;
+            pauses =
+                c.pause_end_after-state.ensures
+                ∙ ap (λ ts. pause_end_after ts c.args.what s.pause_end) (ap (λ (k : KeptTubes). k.entries) c.change.ensures)
+                ∙ end_after_change c.args.tube.now c.args.what s.tubes.entries s.pause_end was.pauses
+                ∙ ap first_pause_end (sym (ap (λ (k : KeptTubes). k.entries) c.change.ensures));
+          };
     }

@@ -1,4 +1,4 @@
-use Rattle.std.proofs.Common.{◌≡◌, ◌∙◌, ap, arith, subst, sym}
+use Rattle.std.proofs.Common.{◌≡◌, ◌∙◌, ap, arith, subst, sym, rules}
 use Rattle.std.specs.Prelude.{filter}
 use Rattle.bq_job.specs.machine.Machine.{Machine, TubeRecord}
 use Rattle.bq_core.specs.Dues.{first_pause_end, pause_end_left}
@@ -18,28 +18,32 @@ returns-clause-after c =
     (c.forget_lost.ensures.after s.jobs.jobs s.seats.items c.requires.entries.order c.requires.alive c.requires.counts.each c.requires.crowds.each)
     ∙ ap (λ tubes. record (machine_of s) { tubes = tubes }) (filters_swap is_counted (λ t. is_tube_of s.jobs.jobs s.seats.items t.name) s.tubes.entries)
 
-pub returns-clause-sound : goal.returns-clause-sound
-returns-clause-sound c =
+pub returns-clause-kept : goal.returns-clause-kept
+returns-clause-kept c =
     let s = c.args.state.now in
     let was = c.requires in
     let p = λ (t : TubeRecord). is_tube_of s.jobs.jobs s.seats.items t.name in
     let left : c.forget_lost.new.self.entries ≡ filter (λ t. is_tube_of s.jobs.jobs s.seats.items t.name) s.tubes.entries =
     c.forget_lost.ensures.after s.jobs.jobs s.seats.items was.entries.order was.alive was.counts.each was.crowds.each in
     record {
-      entries = rw left (entries_forgotten s.jobs.jobs s.seats.items s.tubes.entries was.entries);
-      numbered = was.numbered;
-      next = was.next;
-      ids = was.ids;
-      counts = record { whole = was.counts.whole; each = (c.forget_lost.ensures.kept s.jobs.jobs s.seats.items was.counts.each was.crowds.each).0 };
-      clients = was.clients;
-      crowds = record { each = (c.forget_lost.ensures.kept s.jobs.jobs s.seats.items was.counts.each was.crowds.each).1; seated = was.crowds.seated };
-      alive = rw left (alive_forgotten s.jobs.jobs s.seats.items s.tubes.entries);
-      stirs = subst (λ ts. AreKnown s.stir s.jobs.jobs s.seats.items ts) (ap (λ (m : Machine). m.tubes) (sym (returns-clause-after c))) (known_forgotten (machine_of s) s.stir was.stirs);
-      warnings = was.warnings;
-      timeouts = was.timeouts;
-      pauses =
-          c.pause_end_left-state.ensures
-          ∙ ap (λ ts. pause_end_left ts c.len-entries.result s.pause_end) left
-          ∙ end_of_those_left p s.tubes.entries c.len-entries.result s.pause_end (omega (arith, c.len-entries.ensures)) was.pauses
-          ∙ ap first_pause_end (sym left);
+      jobs = search rules;
+      sound =
+          record {
+            entries = rw left (entries_forgotten s.jobs.jobs s.seats.items s.tubes.entries was.entries);
+            numbered = was.numbered;
+            next = was.next;
+            ids = was.ids;
+            counts = record { whole = was.counts.whole; each = (c.forget_lost.ensures.kept s.jobs.jobs s.seats.items was.counts.each was.crowds.each).0 };
+            clients = was.clients;
+            crowds = record { each = (c.forget_lost.ensures.kept s.jobs.jobs s.seats.items was.counts.each was.crowds.each).1; seated = was.crowds.seated };
+            alive = rw left (alive_forgotten s.jobs.jobs s.seats.items s.tubes.entries);
+            stirs = subst (λ ts. AreKnown s.stir s.jobs.jobs s.seats.items ts) (ap (λ (m : Machine). m.tubes) (sym (returns-clause-after c))) (known_forgotten (machine_of s) s.stir was.stirs);
+            warnings = was.warnings;
+            timeouts = was.timeouts;
+            pauses =
+                c.pause_end_left-state.ensures
+                ∙ ap (λ ts. pause_end_left ts c.len-entries.result s.pause_end) left
+                ∙ end_of_those_left p s.tubes.entries c.len-entries.result s.pause_end (omega (arith, c.len-entries.ensures)) was.pauses
+                ∙ ap first_pause_end (sym left);
+          };
     }

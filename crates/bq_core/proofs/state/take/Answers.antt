@@ -1,6 +1,7 @@
 use Rattle.std.proofs.Common.{◌∙◌, ap, sym, not, ◌==◌}
 use Rattle.bq_job.proofs.KeptLemmas.{ids_of_filter}
 use Rattle.bq_jobs.proofs.Changes.{without_none}
+use Rattle.bq_core.specs.KeptTubes.{KeptTubes}
 use Rattle.bq_core.specs.Dues.{first_pause_end}
 use Rattle.bq_core.specs.Tallies.{tallies_of, tally_of}
 use Rattle.bq_core.specs.Stirs.{IsKnown}
@@ -38,7 +39,7 @@ returns-clause-given c =
 pub returns-clause-entry : goal.returns-clause-entry
 returns-clause-entry c =
     let st = c.args.state.now in
-    ap (has_entry c.in_ok-job.job.tube) c.remove_job.ensures.entries
+    ap (has_entry c.in_ok-job.job.tube) (ap (λ (k : KeptTubes). k.entries) c.remove_job.ensures)
     ∙ has_of_job st.jobs.jobs st.seats.items st.tubes.entries c.args.id c.in_ok-job.job c.requires.entries (sym c.remove.ensures.job ∙ c.in_ok-job.was)
 
 pub returns-clause-sound : goal.returns-clause-sound
@@ -49,19 +50,19 @@ returns-clause-sound c =
     let found = sym c.remove.ensures.job ∙ c.in_ok-job.was in
     let made = counted_taken 1 st.next_id c.args.id j st.tally st.tubes.tallies st.jobs.jobs st.tubes.entries was.ids found was.entries.order was.counts in
     record {
-      entries = rw (c.remove.ensures.jobs, c.remove_job.ensures.entries) (entries_of_fewer (λ k. not (k.id == c.args.id)) st.jobs.jobs st.seats.items st.tubes.entries was.entries);
+      entries = rw (c.remove.ensures.jobs, (ap (λ (k : KeptTubes). k.entries) c.remove_job.ensures)) (entries_of_fewer (λ k. not (k.id == c.args.id)) st.jobs.jobs st.seats.items st.tubes.entries was.entries);
       numbered = was.numbered;
       next = was.next;
       ids = rw c.remove.ensures.jobs (ids_of_filter (λ k. not (k.id == c.args.id)) 1 st.next_id st.jobs.jobs was.ids);
       counts = record {
         whole = c.remove-2.ensures ∙ made.whole ∙ ap tally_of (sym c.remove.ensures.jobs);
-        each = c.remove_job.ensures.tallies ∙ made.each ∙ (λ i. tallies_of (sym c.remove.ensures.jobs i) (sym c.remove_job.ensures.entries i));
+        each = (ap (λ (k : KeptTubes). k.tallies) c.remove_job.ensures) ∙ made.each ∙ (λ i. tallies_of (sym c.remove.ensures.jobs i) (sym (ap (λ (k : KeptTubes). k.entries) c.remove_job.ensures) i));
       };
       clients = was.clients;
-      crowds = rw (c.remove_job.ensures.crowds, c.remove_job.ensures.entries) was.crowds;
-      alive = rw (c.lose.ensures, c.remove.ensures.jobs, c.remove_job.ensures.entries) (alive_taken 1 st.next_id c.args.id j st.loss st.jobs.jobs st.seats.items st.tubes.entries was.ids found was.alive);
-      stirs = rw (c.remove.ensures.jobs, c.remove_job.ensures.entries) (all_filtered (λ k. All (IsKnown st.stir (counted st.tubes.entries) k) st.seats.items) (λ k. not (k.id == c.args.id)) st.jobs.jobs was.stirs);
+      crowds = rw ((ap (λ (k : KeptTubes). k.crowds) c.remove_job.ensures), (ap (λ (k : KeptTubes). k.entries) c.remove_job.ensures)) was.crowds;
+      alive = rw (c.lose.ensures, c.remove.ensures.jobs, (ap (λ (k : KeptTubes). k.entries) c.remove_job.ensures)) (alive_taken 1 st.next_id c.args.id j st.loss st.jobs.jobs st.seats.items st.tubes.entries was.ids found was.alive);
+      stirs = rw (c.remove.ensures.jobs, (ap (λ (k : KeptTubes). k.entries) c.remove_job.ensures)) (all_filtered (λ k. All (IsKnown st.stir (counted st.tubes.entries) k) st.seats.items) (λ k. not (k.id == c.args.id)) st.jobs.jobs was.stirs);
       warnings = rw c.remove.ensures.jobs (all_filtered (λ k. All (IsWarned st.warns k) st.seats.items) (λ k. not (k.id == c.args.id)) st.jobs.jobs was.warnings);
       timeouts = was.timeouts;
-      pauses = was.pauses ∙ ap first_pause_end (sym c.remove_job.ensures.entries);
+      pauses = was.pauses ∙ ap first_pause_end (sym (ap (λ (k : KeptTubes). k.entries) c.remove_job.ensures));
     }

@@ -1,9 +1,10 @@
-use Rattle.std.proofs.Common.{◌≤◌, ◌≡◌, ◌∙◌, ◌++◌, ◌∷◌, [], ap, sym, arith, slice_get, set, Some, vec_len, get_or, length, refl}
+use Rattle.std.proofs.Common.{◌≤◌, ◌≡◌, ◌∙◌, ◌++◌, ◌∷◌, [], ap, sym, arith, slice_get, set, Some, vec_len, get_or, length, refl, rules}
 use Rattle.std.proofs.lemmas.Option.{slice_get_read, slice_get_within}
 use Rattle.bq_job.specs.machine.Changes.{seat_with}
 use Rattle.bq_job.specs.machine.Machine.{Machine}
 use Rattle.bq_job.specs.machine.Limits.{greatest}
 use Rattle.bq_job.specs.machine.TubeCommands.{watching}
+use Rattle.bq_core.specs.KeptTubes.{KeptTubes}
 use Rattle.bq_core.specs.Clients.{clients_of}
 use Rattle.bq_core.specs.Crowds.{share_of_watcher}
 use Rattle.bq_core.specs.Dues.{first_pause_end}
@@ -42,36 +43,40 @@ returns-in-Ok-clause-watched c s found =
     let p = c.in_ok-provide_tube.ensures in
     let here = seat_there old.seats.items c.args.seat s c.requires.sound.numbered found in
     let there : slice_get c.provide_tube.new.state.seats.items c.args.seat ≡ Some s = ap (λ v. slice_get v.items c.args.seat) p.seats ∙ here in
-    ap (λ entries. record (machine_of c.provide_tube.new.state) { seats = c.watch.new.seats.items; tubes = counted entries }) c.recount.ensures.entries
+    ap (λ entries. record (machine_of c.provide_tube.new.state) { seats = c.watch.new.seats.items; tubes = counted entries }) (ap (λ (k : KeptTubes). k.entries) c.recount.ensures)
     ∙ ap (λ (m : Machine). record m { seats = c.watch.new.seats.items }) p.after
     ∙ ap (λ seats. record (machine_of old) { seats = seats })
     (c.in-Ok.ensures.watched s there
     ∙ ap (λ v. set v.items c.args.seat (watching (s.watched ++ c.args.tube.now ∷ []) s)) p.seats
     ∙ sym (changed_there old.seats.items c.args.seat s (watching (s.watched ++ c.args.tube.now ∷ [])) c.requires.sound.numbered here))
 
-pub returns-in-Ok-clause-sound : goal.returns-in-Ok-clause-sound
-returns-in-Ok-clause-sound c =
+pub returns-in-Ok-clause-kept : goal.returns-in-Ok-clause-kept
+returns-in-Ok-clause-kept c =
     let mid = c.provide_tube.new.state in
     let p = c.in_ok-provide_tube.ensures in
     let t = c.index.result.now in
     let read : t ≡ get_or mid.seats.items c.args.seat t = c.index.ensures ∙ ap (λ k. get_or mid.seats.items k t) c.from-2.ensures in
     let here = slice_get_read mid.seats.items (length mid.seats.items) c.args.seat t refl (omega arith) read in
     let share : c.of_watcher-share.result ≡ share_of_watcher t = c.of_watcher-share.ensures in
-    let fresh = c.requires.fresh t (ap (λ v. seat_with c.args.seat v.items) (sym p.seats) ∙ seat_read mid.seats.items c.args.seat t p.sound.numbered here) in
+    let fresh = c.requires.fresh t (ap (λ v. seat_with c.args.seat v.items) (sym p.seats) ∙ seat_read mid.seats.items c.args.seat t p.kept.sound.numbered here) in
     let few : length mid.seats.items ≤ greatest = omega (arith, c.len.ensures) in
-    let entries = c.recount.ensures.entries in
+    let entries = (ap (λ (k : KeptTubes). k.entries) c.recount.ensures) in
     let seats = c.in-Ok.ensures.watched t here in
     record {
-      entries = rw (seats, entries) (watching_more c.args.tube.now c.args.seat t mid.jobs.jobs mid.seats.items mid.tubes.entries here p.entry p.sound.entries);
-      numbered = rw seats (watching_numbered (t.watched ++ c.args.tube.now ∷ []) c.args.seat t mid.seats.items here p.sound.numbered);
-      next = p.sound.next;
-      ids = p.sound.ids;
-      counts = rw (entries, c.recount.ensures.tallies) p.sound.counts;
-      clients = p.sound.clients ∙ sym (clients_watching (t.watched ++ c.args.tube.now ∷ []) c.args.seat t mid.seats.items here p.sound.numbered) ∙ ap clients_of (sym seats);
-      crowds = rw (seats, entries, c.recount.ensures.crowds, share) (crowds_watching c.args.tube.now c.args.seat t mid.tubes.crowds mid.seats.items mid.tubes.entries here p.sound.numbered few p.sound.entries.order fresh p.sound.crowds);
-      alive = rw (seats, entries) (alive_watching c.args.tube.now c.args.seat t mid.loss mid.jobs.jobs mid.seats.items mid.tubes.entries here p.sound.alive);
-      stirs = rw (c.stir_all_if.ensures, ap (λ (s : Share). s.waiting) share, seats, entries) (known_watching (t.watched ++ c.args.tube.now ∷ []) c.args.seat t mid.stir mid.jobs.jobs mid.seats.items (counted mid.tubes.entries) p.sound.stirs);
-      warnings = rw seats (warned_watching (t.watched ++ c.args.tube.now ∷ []) c.args.seat t mid.warns mid.jobs.jobs mid.seats.items here p.sound.warnings);
-      timeouts = rw seats (timeouts_watching (t.watched ++ c.args.tube.now ∷ []) c.args.seat t mid.first_end mid.seats.items here p.sound.timeouts);
-      pauses = p.sound.pauses ∙ ap first_pause_end (sym entries);
+      jobs = search rules;
+      sound =
+          record {
+            entries = rw (seats, entries) (watching_more c.args.tube.now c.args.seat t mid.jobs.jobs mid.seats.items mid.tubes.entries here p.entry p.kept.sound.entries);
+            numbered = rw seats (watching_numbered (t.watched ++ c.args.tube.now ∷ []) c.args.seat t mid.seats.items here p.kept.sound.numbered);
+            next = p.kept.sound.next;
+            ids = p.kept.sound.ids;
+            counts = rw (entries, (ap (λ (k : KeptTubes). k.tallies) c.recount.ensures)) p.kept.sound.counts;
+            clients = p.kept.sound.clients ∙ sym (clients_watching (t.watched ++ c.args.tube.now ∷ []) c.args.seat t mid.seats.items here p.kept.sound.numbered) ∙ ap clients_of (sym seats);
+            crowds = rw (seats, entries, (ap (λ (k : KeptTubes). k.crowds) c.recount.ensures), share) (crowds_watching c.args.tube.now c.args.seat t mid.tubes.crowds mid.seats.items mid.tubes.entries here p.kept.sound.numbered few p.kept.sound.entries.order fresh p.kept.sound.crowds);
+            alive = rw (seats, entries) (alive_watching c.args.tube.now c.args.seat t mid.loss mid.jobs.jobs mid.seats.items mid.tubes.entries here p.kept.sound.alive);
+            stirs = rw (c.stir_all_if.ensures, ap (λ (s : Share). s.waiting) share, seats, entries) (known_watching (t.watched ++ c.args.tube.now ∷ []) c.args.seat t mid.stir mid.jobs.jobs mid.seats.items (counted mid.tubes.entries) p.kept.sound.stirs);
+            warnings = rw seats (warned_watching (t.watched ++ c.args.tube.now ∷ []) c.args.seat t mid.warns mid.jobs.jobs mid.seats.items here p.kept.sound.warnings);
+            timeouts = rw seats (timeouts_watching (t.watched ++ c.args.tube.now ∷ []) c.args.seat t mid.first_end mid.seats.items here p.kept.sound.timeouts);
+            pauses = p.kept.sound.pauses ∙ ap first_pause_end (sym entries);
+          };
     }

@@ -19,7 +19,7 @@ names_text-requires c =
 pub returns-in-Ok-names_text : goal.returns-in-Ok-names_text
 returns-in-Ok-names_text c s found =
     let m = machine_of c.args.state.now in
-    let is : c.in-Some.place.now ≡ s = search rules in
+    let is : c.in-Some.client.now ≡ s = search rules in
     let names = ap names_of c.as_slice-2.ensures.value ∙ c.in-Ok.ensures ∙ ap in_name_order (c.watched.ensures ∙ ap (λ (t : SeatRecord). t.watched) is) in
     let text : c.in-Ok-names_text.text ≡ name_list s.watched = c.in-Ok-names_text.ensures ∙ ap name_list names ∙ list_of_order s.watched in
     ap (λ t. telling (answers.Ok t) m) (sym text)

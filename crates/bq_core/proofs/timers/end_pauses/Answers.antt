@@ -1,6 +1,7 @@
-use Rattle.std.proofs.Common.{◌≡◌, ◌∙◌, ap, refl, false, sym}
+use Rattle.std.proofs.Common.{◌≡◌, ◌∙◌, ap, refl, false, sym, rules}
 use Rattle.std.specs.List.{list_any}
 use Rattle.bq_job.specs.machine.Timers.{tube_after_timers}
+use Rattle.bq_core.specs.KeptTubes.{KeptTubes}
 use Rattle.bq_core.specs.Dues.{is_end_over}
 use Rattle.bq_core.specs.State.{machine_of}
 use Rattle.bq_core.specs.TubeEntries.{counted, is_counted, is_pause_over}
@@ -17,25 +18,29 @@ use Rattle.bq_core.proofs.timers.end_pauses.Goals as goal
 pub returns-clause-after : goal.returns-clause-after
 returns-clause-after c =
     let s = c.args.state.now in
-    ap (λ tubes. record (machine_of s) { tubes = tubes }) (ap counted c.fire_timers.ensures.entries ∙ filter_of_map is_counted (tube_after_timers s.moment) (λ t. refl) s.tubes.entries)
+    ap (λ tubes. record (machine_of s) { tubes = tubes }) (ap counted (ap (λ (k : KeptTubes). k.entries) c.fire_timers.ensures) ∙ filter_of_map is_counted (tube_after_timers s.moment) (λ t. refl) s.tubes.entries)
 
-pub returns-clause-sound : goal.returns-clause-sound
-returns-clause-sound c =
+pub returns-clause-kept : goal.returns-clause-kept
+returns-clause-kept c =
     let s = c.args.state.now in
     let was = c.requires in
     record {
-      entries = rw c.fire_timers.ensures.entries (entries_of_timers s.moment s.jobs.jobs s.seats.items s.tubes.entries was.entries);
-      numbered = was.numbered;
-      next = was.next;
-      ids = was.ids;
-      counts = rw (c.fire_timers.ensures.entries, c.fire_timers.ensures.tallies) (counted_kept (tube_after_timers s.moment) (λ t. refl) s.tally s.tubes.tallies s.jobs.jobs s.tubes.entries was.counts);
-      clients = was.clients;
-      crowds = rw (c.fire_timers.ensures.entries, c.fire_timers.ensures.crowds) (crowds_kept (tube_after_timers s.moment) (λ t. refl) s.tubes.crowds s.seats.items s.tubes.entries was.crowds);
-      alive = rw c.fire_timers.ensures.entries (alive_renamed (tube_after_timers s.moment) (λ t. refl) s.loss s.jobs.jobs s.seats.items s.tubes.entries was.alive);
-      stirs = known_any s.jobs.jobs s.seats.items (counted c.fire_timers.new.self.entries);
-      warnings = was.warnings;
-      timeouts = was.timeouts;
-      pauses = c.first_pause_end-state.ensures;
+      jobs = search rules;
+      sound =
+          record {
+            entries = rw (ap (λ (k : KeptTubes). k.entries) c.fire_timers.ensures) (entries_of_timers s.moment s.jobs.jobs s.seats.items s.tubes.entries was.entries);
+            numbered = was.numbered;
+            next = was.next;
+            ids = was.ids;
+            counts = rw ((ap (λ (k : KeptTubes). k.entries) c.fire_timers.ensures), (ap (λ (k : KeptTubes). k.tallies) c.fire_timers.ensures)) (counted_kept (tube_after_timers s.moment) (λ t. refl) s.tally s.tubes.tallies s.jobs.jobs s.tubes.entries was.counts);
+            clients = was.clients;
+            crowds = rw ((ap (λ (k : KeptTubes). k.entries) c.fire_timers.ensures), (ap (λ (k : KeptTubes). k.crowds) c.fire_timers.ensures)) (crowds_kept (tube_after_timers s.moment) (λ t. refl) s.tubes.crowds s.seats.items s.tubes.entries was.crowds);
+            alive = rw (ap (λ (k : KeptTubes). k.entries) c.fire_timers.ensures) (alive_renamed (tube_after_timers s.moment) (λ t. refl) s.loss s.jobs.jobs s.seats.items s.tubes.entries was.alive);
+            stirs = known_any s.jobs.jobs s.seats.items (counted c.fire_timers.new.self.entries);
+            warnings = was.warnings;
+            timeouts = was.timeouts;
+            pauses = c.first_pause_end-state.ensures;
+          };
     }
 
 pub returns-then-not-is_over-clause-after : goal.returns-then-not-is_over-clause-after

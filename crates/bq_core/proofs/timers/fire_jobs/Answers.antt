@@ -1,4 +1,4 @@
-use Rattle.std.proofs.Common.{◌≡◌, ◌<◌, ap, arith, refl, subst, ◌∙◌}
+use Rattle.std.proofs.Common.{◌≡◌, ◌<◌, ap, arith, refl, subst, ◌∙◌, rules}
 use Rattle.std.specs.Prelude.{count_by}
 use Rattle.bq_job.specs.machine.Machine.{Machine}
 use Rattle.bq_core.specs.Firing.{is_ripe}
@@ -12,7 +12,6 @@ loop-init c = record {
   asks = asks_more _ (omega arith) (asks_none c.args.state.now.jobs);
   fewer = omega arith;
   sound = c.requires;
-  config = refl;
 }
 
 pub loop-preserved : goal.loop-preserved
@@ -23,13 +22,16 @@ loop-preserved c =
     let most = was.fewer in
     record {
       left = c.loop-test.ensures.fired ∙ was.left;
-      asks = asks_more _ (omega arith) (asks_then was.asks (c.loop-test.ensures.asks refl));
+      asks = asks_more _ (omega arith) (asks_then was.asks c.loop-test.ensures.kept.asks);
       fewer = omega arith;
-      sound = c.loop-test.ensures.sound;
-      config = c.loop-test.ensures.config ∙ was.config;
+      sound = c.loop-test.ensures.kept.sound;
     }
 
-pub returns-clause-asks : goal.returns-clause-asks
-returns-clause-asks c =
+pub returns-clause-kept : goal.returns-clause-kept
+returns-clause-kept c =
     let most = c.loop.invariant.fewer in
-    asks_more _ (omega arith) (asks_then c.loop.invariant.asks (c.loop-test.ensures.asks_last refl))
+    record {
+      asks =
+          asks_more _ (omega arith) (asks_then c.loop.invariant.asks c.loop-test.ensures.kept.asks);
+      sound = search rules;
+    }

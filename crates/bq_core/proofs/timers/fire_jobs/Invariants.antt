@@ -12,7 +12,6 @@ invariant-loop l = record {
   asks : Asks (10 * (count_by (is_ripe l.fn.state.moment) (machine_of l.fn.state).jobs - count_by (is_ripe l.fn.state.moment) (machine_of l.state).jobs)) l.fn.state.jobs l.state.jobs;
   fewer : count_by (is_ripe l.fn.state.moment) (machine_of l.state).jobs ≤ count_by (is_ripe l.fn.state.moment) (machine_of l.fn.state).jobs;
   sound : IsSound l.state;
-  config : l.state.config ≡ l.fn.state.config;
 }
 
 abbrev pub decreases-loop : goal.decreases-loop

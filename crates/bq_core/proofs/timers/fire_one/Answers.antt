@@ -1,8 +1,10 @@
-use Rattle.std.proofs.Common.{◌≡◌, ◌∙◌, ap, subst, sym, false}
+use Rattle.std.proofs.Common.{◌≡◌, ◌∙◌, ◌+◌, ◌≤◌, Bool, ap, arith, subst, sym, true, false, if◌then◌else◌}
 use Rattle.std.specs.List.{list_any}
 use Rattle.bq_job.specs.machine.Machine.{Machine}
 use Rattle.bq_job.specs.machine.Timers.{is_due}
+use Rattle.bq_core.specs.Asking.{Asks}
 use Rattle.bq_core.specs.Firing.{after_job_timers}
+use Rattle.bq_core.proofs.AskLemmas.{asks_more, asks_then}
 use Rattle.bq_core.proofs.timers.fire_one.Goals as goal
 
 pub returns-else-ripen-clause-done : goal.returns-else-ripen-clause-done
@@ -13,3 +15,22 @@ returns-else-ripen-clause-done c e =
 
 pub returns-else-ripen-clause-same : goal.returns-else-ripen-clause-same
 returns-else-ripen-clause-same c e = c.expire.ensures.same e ∙ ap (λ (x : Machine). x.jobs) (c.ripen.ensures.same c.if-ripen.false)
+
+pub returns-then-ripen-clause-kept : goal.returns-then-ripen-clause-kept
+returns-then-ripen-clause-kept c = record { asks = asks_more _ (wider c.ripen.result) c.ripen.ensures.kept.asks; sound = c.ripen.ensures.kept.sound }
+  where
+    wider : (b : Bool) → (if b then 9 else 1) ≤ (if b then 10 else 2)
+    wider true = omega arith
+    wider false = omega arith
+
+pub returns-else-ripen-clause-kept : goal.returns-else-ripen-clause-kept
+returns-else-ripen-clause-kept c =
+    let first = subst (λ b. Asks (if b then 9 else 1) c.args.state.now.jobs c.ripen.new.state.jobs) c.if-ripen.false c.ripen.ensures.kept.asks in
+    record {
+      asks = asks_more _ (one_more c.expire.result) (asks_then first c.expire.ensures.kept.asks);
+      sound = c.expire.ensures.kept.sound;
+    }
+  where
+    one_more : (b : Bool) → 1 + (if b then 9 else 1) ≤ (if b then 10 else 2)
+    one_more true = omega arith
+    one_more false = omega arith

@@ -11,13 +11,13 @@ use Rattle.bq_core.proofs.tube_acts.ignore.Goals as goal
 pub returns-then-not-watches_other-clause-reply : goal.returns-then-not-watches_other-clause-reply
 returns-then-not-watches_other-clause-reply c s found =
     let here = c.in-Some.ensures in
-    let same : c.in-Some.place.now ≡ s = cc in
+    let same : c.in-Some.client.now ≡ s = cc in
     not_ignored (machine_of c.args.state.now) s c.args.tube.now (ap (λ (r : SeatRecord). list_any (λ name. not (is_same_name c.args.tube.now name)) r.watched) (sym same) ∙ sym c.if-not-watches_other.ensures)
 
 pub returns-clause-reply : goal.returns-clause-reply
 returns-clause-reply c s found =
     let here = c.in-Some.ensures in
-    let same : c.in-Some.place.now ≡ s = cc in
+    let same : c.in-Some.client.now ≡ s = cc in
     ignored_now (machine_of c.args.state.now) s c.args.seat c.args.tube.now found (ap (λ (r : SeatRecord). list_any (λ name. not (is_same_name c.args.tube.now name)) r.watched) (sym same) ∙ sym c.if-not-watches_other.ensures)
     ∙ ap (telling (answers.Watching _)) (sym (c.ignore_tube-count.ensures.after s found))
     ∙ ap (λ n. telling (answers.Watching n) (machine_of c.ignore_tube-count.new.state)) (sym (c.ignore_tube-count.ensures.count s found))

@@ -18,4 +18,4 @@ returns-in-Some-Ok-clause-reply c =
     ap (showing m) there.1
     ∙ ap (λ n. telling (answers.Found n j.body) m) (id_found id m.jobs j there.1)
     ∙ ap (λ b. telling (answers.Found id b) m) (sym body)
-    ∙ ap (telling (answers.Found id c.in-Some-Ok.body)) (sym (ap machine_of c.in-Some-Ok.ensures.same))
+    ∙ ap (telling (answers.Found id c.in-Some-Ok.body)) (sym (ap machine_of c.in-Some-Ok.ensures.kept.same))

@@ -1,5 +1,5 @@
 -- what the looks so far gave, and how often they asked
-use Rattle.std.proofs.Common.{◌≡◌, ◌≤◌, ◌-◌}
+use Rattle.std.proofs.Common.{◌≤◌, ◌-◌}
 use Rattle.bq_job.specs.beside.Computed.{waiting_count}
 use Rattle.bq_job.specs.machine.Waits.{WaitEndTurn}
 use Rattle.bq_core.specs.Asking.{Asks}
@@ -15,7 +15,6 @@ invariant-loop-last l = record {
   fewer : left_after l.last (machine_of l.state) ≤ waiting_count (machine_of l.fn.state);
   asks : Asks (waiting_count (machine_of l.fn.state) - left_after l.last (machine_of l.state)) l.fn.state.jobs l.state.jobs;
   sound : IsSound l.state;
-  config : l.state.config ≡ l.fn.state.config;
   room : HasRoom 0 (machine_of l.state) l.outs;
 }
 

@@ -11,13 +11,13 @@ returns-in-None-clause-looked c s found waits =
     let none = told_nothing m s (c.in-None.ensures.told s found) in
     record {
       ends = λ e. absurd (let x = none in cc);
-      stays = λ e. record { machine = ap machine_of c.in-None.ensures.same; outs = refl };
+      stays = λ e. record { machine = ap machine_of c.in-None.ensures.kept.same; outs = refl };
     }
 
 pub returns-in-Some-clause-looked : goal.returns-in-Some-clause-looked
 returns-in-Some-clause-looked c s found waits =
     let m = machine_of c.args.state.now in
-    let same = ap machine_of c.in-Some.ensures.same in
+    let same = ap machine_of c.in-Some.ensures.kept.same in
     let told = told_is m s c.in-Some.answer waits (c.in-Some.ensures.told s found) in
     let given = subst (λ (x : Machine). EndsWait x c.args.k c.in-Some.answer c.args.outs.now c.end_wait.new.outs (machine_of c.end_wait.new.state)) same c.end_wait.ensures.given in
     record {

@@ -1,4 +1,4 @@
-use Rattle.std.proofs.Common.{◌≡◌, ◌∙◌, ap, false, sym}
+use Rattle.std.proofs.Common.{◌≡◌, ◌∙◌, ap, false, sym, rules}
 use Rattle.std.specs.List.{list_any}
 use Rattle.bq_jobs.specs.Kept.{Kept}
 use Rattle.bq_core.specs.EndingWaits.{is_lease_short}
@@ -22,6 +22,10 @@ pub returns-clause-same : goal.returns-clause-same
 returns-clause-same c =
     ap (λ (k : Kept). machine_of (record c.is_some_wait_over.new.state { jobs = k })) c.is_some_deadline_soon.ensures.same ∙ ap machine_of c.if-is_some_wait_over.ensures.same
 
-pub returns-clause-sound : goal.returns-clause-sound
-returns-clause-sound c =
-    compared_sound c.is_some_wait_over.new.state _ (ap (λ (k : Kept). record c.is_some_wait_over.new.state { jobs = k }) c.is_some_deadline_soon.ensures.same) c.if-is_some_wait_over.ensures.sound
+pub returns-clause-kept : goal.returns-clause-kept
+returns-clause-kept c =
+    record {
+      asks = search rules;
+      sound =
+          compared_sound c.is_some_wait_over.new.state _ (ap (λ (k : Kept). record c.is_some_wait_over.new.state { jobs = k }) c.is_some_deadline_soon.ensures.same) c.if-is_some_wait_over.ensures.sound;
+    }

@@ -1,10 +1,13 @@
-use Rattle.std.proofs.Common.{ap}
+use Rattle.std.proofs.Common.{ap, rules}
 use Rattle.bq_jobs.specs.Kept.{Kept}
 use Rattle.bq_core.proofs.StateLemmas.{compared_sound}
 use Rattle.bq_core.proofs.state.State.share.Goals as goal
 
-pub returns-clause-same : goal.returns-clause-same
-returns-clause-same c = ap (λ (k : Kept). record c.args.self.now { jobs = k }) c.share.ensures.same
-
-pub returns-clause-sound : goal.returns-clause-sound
-returns-clause-sound c = compared_sound c.args.self.now _ (ap (λ (k : Kept). record c.args.self.now { jobs = k }) c.share.ensures.same) c.requires
+pub returns-clause-kept : goal.returns-clause-kept
+returns-clause-kept c =
+    let same = ap (λ (k : Kept). record c.args.self.now { jobs = k }) c.share.ensures.same in
+    record {
+      same = same;
+      asks = search rules;
+      sound = compared_sound c.args.self.now _ same c.requires;
+    }

@@ -9,7 +9,7 @@ use Rattle.bq_core.specs.PauseEnds.{AreEnds}
 use Rattle.bq_core.specs.Tallies.{tallies_provided}
 use Rattle.bq_core.specs.TubeEntries.{has_entry, provided}
 use Rattle.bq_core.proofs.EndMoves.{ends_provided}
-use Rattle.bq_core.proofs.NamedLemmas.{crowds_provided_there, found_any, lent_any, new_crowd, new_entry, new_record, new_tally, provided_there, tallies_provided_there}
+use Rattle.bq_core.proofs.NamedLemmas.{kept_alike, crowds_provided_there, found_any, lent_any, new_crowd, new_entry, new_record, new_tally, provided_there, tallies_provided_there}
 use Rattle.bq_core.proofs.tubes.Tubes.provide.Goals as goal
 
 pub invariant_of-self-2 : goal.invariant_of-self-2
@@ -36,47 +36,27 @@ returns-clause-told c =
     let none : has_entry name (map record_at es) ≡ false = sym (found_any name es) ∙ sym (lent_any c.peek.result c.peek.ensures) ∙ sym c.if-is_some.ensures in
     sym (ap not (ap (λ (k : KeptTubes). has_entry name k.entries) (sym c.self.view_is) ∙ none))
 
-pub returns-then-is_some-clause-entries : goal.returns-then-is_some-clause-entries
-returns-then-is_some-clause-entries c =
+pub returns-then-is_some-clause-after : goal.returns-then-is_some-clause-after
+returns-then-is_some-clause-after c =
     let name = c.args.name.now in
     let there : has_entry name (map record_at c.self.inside.kept.entries) ≡ true = sym (found_any name c.self.inside.kept.entries) ∙ sym (lent_any c.peek.result c.peek.ensures) ∙ sym c.if-is_some.ensures in
-    sym (provided_there name c.args.self.now.entries (ap (λ (k : KeptTubes). has_entry name k.entries) (sym c.self.view_is) ∙ there))
+    kept_alike
+    (sym (provided_there name c.args.self.now.entries (ap (λ (k : KeptTubes). has_entry name k.entries) (sym c.self.view_is) ∙ there)))
+    (sym (tallies_provided_there name c.args.self.now.entries c.args.self.now.tallies (ap (λ (k : KeptTubes). has_entry name k.entries) (sym c.self.view_is) ∙ there)))
+    (sym (crowds_provided_there name c.args.self.now.entries c.args.self.now.crowds (ap (λ (k : KeptTubes). has_entry name k.entries) (sym c.self.view_is) ∙ there)))
 
-pub returns-then-is_some-clause-tallies : goal.returns-then-is_some-clause-tallies
-returns-then-is_some-clause-tallies c =
-    let name = c.args.name.now in
-    let there : has_entry name (map record_at c.self.inside.kept.entries) ≡ true = sym (found_any name c.self.inside.kept.entries) ∙ sym (lent_any c.peek.result c.peek.ensures) ∙ sym c.if-is_some.ensures in
-    sym (tallies_provided_there name c.args.self.now.entries c.args.self.now.tallies (ap (λ (k : KeptTubes). has_entry name k.entries) (sym c.self.view_is) ∙ there))
-
-pub returns-clause-entries : goal.returns-clause-entries
-returns-clause-entries c =
+pub returns-clause-after : goal.returns-clause-after
+returns-clause-after c =
     let name = c.args.name.now in
     let es = c.self.inside.kept.entries in
     let none : has_entry name (map record_at es) ≡ false = sym (found_any name es) ∙ sym (lent_any c.peek.result c.peek.ensures) ∙ sym c.if-is_some.ensures in
-    ap (map record_at) (c.insert.ensures.entries ∙ (λ i. insert_entry (slice_cmp nat_cmp) (c.in_ok-reserve_box.ensures.entries i) name (c.new.ensures i)))
+    kept_alike
+    (ap (map record_at) (c.insert.ensures.entries ∙ (λ i. insert_entry (slice_cmp nat_cmp) (c.in_ok-reserve_box.ensures.entries i) name (c.new.ensures i)))
     ∙ new_entry name es none
-    ∙ ap (λ (k : KeptTubes). provided name k.entries) c.self.view_is
-
-pub returns-clause-tallies : goal.returns-clause-tallies
-returns-clause-tallies c =
-    let name = c.args.name.now in
-    let es = c.self.inside.kept.entries in
-    let none : has_entry name (map record_at es) ≡ false = sym (found_any name es) ∙ sym (lent_any c.peek.result c.peek.ensures) ∙ sym c.if-is_some.ensures in
-    ap (map tally_kept) (c.insert.ensures.entries ∙ (λ i. insert_entry (slice_cmp nat_cmp) (c.in_ok-reserve_box.ensures.entries i) name (c.new.ensures i)))
+    ∙ ap (λ (k : KeptTubes). provided name k.entries) c.self.view_is)
+    (ap (map tally_kept) (c.insert.ensures.entries ∙ (λ i. insert_entry (slice_cmp nat_cmp) (c.in_ok-reserve_box.ensures.entries i) name (c.new.ensures i)))
     ∙ new_tally name es none
-    ∙ ap (λ (k : KeptTubes). tallies_provided name k.entries k.tallies) c.self.view_is
-
-pub returns-then-is_some-clause-crowds : goal.returns-then-is_some-clause-crowds
-returns-then-is_some-clause-crowds c =
-    let name = c.args.name.now in
-    let there : has_entry name (map record_at c.self.inside.kept.entries) ≡ true = sym (found_any name c.self.inside.kept.entries) ∙ sym (lent_any c.peek.result c.peek.ensures) ∙ sym c.if-is_some.ensures in
-    sym (crowds_provided_there name c.args.self.now.entries c.args.self.now.crowds (ap (λ (k : KeptTubes). has_entry name k.entries) (sym c.self.view_is) ∙ there))
-
-pub returns-clause-crowds : goal.returns-clause-crowds
-returns-clause-crowds c =
-    let name = c.args.name.now in
-    let es = c.self.inside.kept.entries in
-    let none : has_entry name (map record_at es) ≡ false = sym (found_any name es) ∙ sym (lent_any c.peek.result c.peek.ensures) ∙ sym c.if-is_some.ensures in
-    ap (map crowd_kept) (c.insert.ensures.entries ∙ (λ i. insert_entry (slice_cmp nat_cmp) (c.in_ok-reserve_box.ensures.entries i) name (c.new.ensures i)))
+    ∙ ap (λ (k : KeptTubes). tallies_provided name k.entries k.tallies) c.self.view_is)
+    (ap (map crowd_kept) (c.insert.ensures.entries ∙ (λ i. insert_entry (slice_cmp nat_cmp) (c.in_ok-reserve_box.ensures.entries i) name (c.new.ensures i)))
     ∙ new_crowd name es none
-    ∙ ap (λ (k : KeptTubes). crowds_provided name k.entries k.crowds) c.self.view_is
+    ∙ ap (λ (k : KeptTubes). crowds_provided name k.entries k.crowds) c.self.view_is)

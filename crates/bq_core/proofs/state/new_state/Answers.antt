@@ -7,7 +7,7 @@ use Rattle.bq_core.proofs.CrowdPlaces.{first_crowds}
 use Rattle.bq_core.proofs.StateLemmas.{first_entries, first_numbered}
 use Rattle.bq_core.proofs.TallyPlaces.{none_counted}
 use Rattle.bq_core.proofs.FirstEndLemmas.{first_timeouts}
-use Rattle.bq_core.proofs.state.first_state.Goals as goal
+use Rattle.bq_core.proofs.state.new_state.Goals as goal
 
 pub returns-clause-sound : goal.returns-clause-sound
 returns-clause-sound c =

@@ -15,13 +15,13 @@ pub(crate) fn reserve_one<T: Drop>(list: &mut Vec<T, Global>, alloc: Global) -> 
     if len < list.capacity() {
         return Ok(());
     }
-    let Some(places) = len.checked_add(4) else {
+    let Some(more) = len.checked_add(4) else {
         return Err(NoMemory);
     };
-    let Ok(mut wider) = Vec::with_capacity(alloc, places.saturating_add(len)) else {
+    let Ok(mut wider) = Vec::with_capacity(alloc, more.saturating_add(len)) else {
         return Err(NoMemory);
     };
-    // There are places enough, and it takes no more memory.
+    // There is room enough, and it takes no more memory.
     if wider.append(list).is_err() {
         return Err(NoMemory);
     }

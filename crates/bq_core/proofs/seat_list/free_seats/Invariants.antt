@@ -1,7 +1,7 @@
 -- the seats so far, and room for all of them
 use Rattle.std.proofs.Common.{◌≡◌, ◌≤◌, map, vec_capacity, vec_len}
 use Rattle.bq_job.specs.machine.Machine.{empty_seat, numbers}
-use Rattle.bq_core.proofs.seat_list.new_places.Given as goal
+use Rattle.bq_core.proofs.seat_list.free_seats.Given as goal
 
 abbrev pub invariant-loop-number : goal.invariant-loop-number
 invariant-loop-number l = record {

@@ -1,5 +1,4 @@
-ghost use Rattle.std.specs.Prelude.{◌≡◌, ◌&&◌, ◌++◌, ◌∷◌, [], true, filter, length, not, IfOk, OnErr};
-ghost use Rattle.std.specs.List.{list_any};
+ghost use Rattle.std.specs.Prelude.{◌≡◌, true, length, IfOk, OnErr};
 ghost use Rattle.bq_job.specs.machine.Asked.{with_end};
 ghost use Rattle.bq_job.specs.machine.Changes.{is_waiting, without_wait};
 ghost use Rattle.bq_job.specs.machine.Dispatch.{is_wait_before, ticket_of};
@@ -7,10 +6,10 @@ ghost use Rattle.bq_job.specs.machine.JobCommands.{waiting_from};
 ghost use Rattle.bq_job.specs.machine.Machine.{empty_seat};
 ghost use Rattle.bq_job.specs.beside.NextDue.{dues_of_wait, earliest};
 ghost use Rattle.bq_job.specs.machine.TubeCommands.{using, watching};
-ghost use Rattle.bq_job.specs.reading.TubeName.{is_same_name};
 ghost use Rattle.bq_job.specs.machine.Tubes.{watches};
 ghost use Rattle.bq_job.specs.machine.Waits.{is_timed_out_at};
 ghost use Rattle.bq_core.specs.EndingWaits.{is_after, turn_of};
+ghost use Rattle.bq_core.specs.SeatChanges.{more_watched, fewer_watched, watches_other};
 
 use crate::watch_list::{WatchList, default_tube};
 use bq_job::{Moment, NoMemory, Seat, TubeName};
@@ -37,9 +36,10 @@ impl Model for Waiting {
     ghost inverse = { λ w. record { ticket = w.ticket; until = w.until } };
 }
 
-/// A place for one connection at a time. Who comes there uses and watches the default tube alone.
+/// What is known of a seat and of the client there, if one is connected. Who comes uses and watches the default
+/// tube alone.
 #[derive(Drop)]
-pub(crate) struct Place {
+pub(crate) struct SeatRecord {
     number: Seat,
     connected: bool,
     used: TubeName,
@@ -48,20 +48,22 @@ pub(crate) struct Place {
     ended: bool,
 }
 
-impl Model for Place {
+impl Model for SeatRecord {
     ghost use Rattle.bq_job.specs.machine.Machine.{SeatRecord};
 
     ghost Value = { SeatRecord };
 
-    ghost view = { λ p. record { number = p.number; connected = p.connected; used = p.used; watched = p.watched; wait = p.wait; ended = p.ended } };
+    ghost use Rattle.bq_core.specs.SeatView.{seat_of};
+
+    ghost view = { seat_of };
 }
 
-impl Place {
-    pub(crate) fn new(alloc: Global, number: Seat) -> Result<Place, NoMemory>
-        ensures { IfOk result (λ place. place ≡ empty_seat number) }
+impl SeatRecord {
+    pub(crate) fn new(alloc: Global, number: Seat) -> Result<SeatRecord, NoMemory>
+        ensures { IfOk result (λ client. client ≡ empty_seat number) }
     {
         let watched = WatchList::new(alloc)?;
-        Ok(Place {
+        Ok(SeatRecord {
             number,
             connected: false,
             used: default_tube(),
@@ -112,7 +114,7 @@ impl Place {
 
     /// Whether another tube than this one is watched.
     pub(crate) fn watches_other(&self, name: &TubeName) -> bool
-        ensures { result ≡ list_any (λ other. not (is_same_name name.now other)) self.now.watched }
+        ensures { result ≡ watches_other name.now self.now }
     {
         self.watched.has_other(name)
     }
@@ -150,7 +152,7 @@ impl Place {
     }
 
     /// Whether this client has waited longer than the other.
-    pub(crate) fn is_before(&self, other: &Place) -> bool
+    pub(crate) fn is_before(&self, other: &SeatRecord) -> bool
         ensures { result ≡ is_wait_before self.now other.now }
     {
         let a = self.ticket();
@@ -218,7 +220,7 @@ impl Place {
 
     /// Watches one more tube.
     pub(crate) fn watch(&mut self, alloc: Global, name: &TubeName) -> Result<(), NoMemory>
-        ensures watched { IfOk result (λ _. self.new ≡ watching (self.old.watched ++ name.now ∷ []) self.old) }
+        ensures watched { IfOk result (λ _. self.new ≡ watching (more_watched name.now self.old) self.old) }
         ensures same { OnErr result (self.new ≡ self.old) }
     {
         self.watched.add(alloc, *name)
@@ -226,8 +228,8 @@ impl Place {
 
     /// Watches a tube no longer, where another one is still watched.
     pub(crate) fn ignore(&mut self, name: &TubeName)
-        requires { list_any (λ other. not (is_same_name name.now other)) self.old.watched ≡ true }
-        ensures { self.new ≡ watching (filter (λ other. not (is_same_name name.now other)) self.old.watched) self.old }
+        requires { watches_other name.now self.old ≡ true }
+        ensures { self.new ≡ watching (fewer_watched name.now self.old) self.old }
     {
         self.watched.remove(name);
     }

@@ -1,0 +1,53 @@
+-- What commands come to, between the states before and after.
+use Rattle.std.specs.Prelude.{ℕ, Bool, ◌≡◌, List, Option, Some}
+use Rattle.bq_job.specs.declared.answer.Answer.{Answer}
+use Rattle.bq_job.specs.machine.Acts.{Effect, showing, silent, telling}
+use Rattle.bq_job.specs.machine.Changes.{seat_with, with_seat}
+use Rattle.bq_job.specs.machine.JobCommands.{reserve_effect}
+use Rattle.bq_job.specs.machine.Machine.{Machine, SeatRecord}
+use Rattle.bq_job.specs.machine.TubeCommands.{watching}
+use Rattle.bq_core.specs.Acting.{Replies}
+use Rattle.bq_core.specs.Asking.{AsksAsChanged}
+use Rattle.bq_core.specs.JobKinds.{first_of_kind}
+use Rattle.bq_core.specs.State.{IsSound, machine_of}
+use Rattle.bq_core.specs.declared.job_list.JobKind.{JobKind}
+use Rattle.bq_core.specs.declared.reply.Reply.{Reply}
+use Rattle.bq_core.specs.declared.state.State.{State}
+
+-- A command was carried out, within the searches that its changes of jobs may take.
+pub record IsCarriedOut (old new : State) : Type 0 where
+  pub asks : AsksAsChanged old.jobs new.jobs
+  pub sound : IsSound new
+
+-- a request came to this reply
+abbrev pub RepliesBy : Bool → (Machine → Effect) → State → Reply → State → Type 0
+RepliesBy takes effect old reply new = Replies takes (machine_of old) (effect (machine_of old)) reply (machine_of new)
+
+-- a request of the client at this seat, of whose record this is so
+abbrev pub AtSeat : ℕ → State → (SeatRecord → Type 0) → Type 0
+AtSeat seat state P = (s : SeatRecord) → seat_with seat (machine_of state).seats ≡ Some s → P s
+
+abbrev pub RepliesAt : ℕ → Bool → (Machine → SeatRecord → Effect) → State → Reply → State → Type 0
+RepliesAt seat takes effect old reply new = AtSeat seat old (λ s. RepliesBy takes (λ m. effect m s) old reply new)
+
+-- the same of any record of this number
+abbrev pub RepliesTo : ℕ → Bool → (Machine → SeatRecord → Effect) → State → Reply → State → Type 0
+RepliesTo seat takes effect old reply new = (s : SeatRecord) → s.number ≡ seat → RepliesBy takes (λ m. effect m s) old reply new
+
+-- and where the request is always answered
+abbrev pub AnswersTo : ℕ → (Machine → SeatRecord → Effect) → State → Answer → State → Type 0
+AnswersTo seat effect old answer new =
+    (s : SeatRecord) → s.number ≡ seat → effect (machine_of old) s ≡ telling answer (machine_of new)
+
+-- the client at this seat waits, until this moment if there is one
+abbrev pub Waits : ℕ → Option ℕ → State → State → Type 0
+Waits seat until old new =
+    (s : SeatRecord) → s.number ≡ seat → reserve_effect until (machine_of old) s ≡ silent (machine_of new)
+
+-- the client at this seat watches these tubes, out of those that it watched
+abbrev pub Watches : ℕ → (SeatRecord → List (List ℕ)) → State → State → Type 0
+Watches seat names old new = AtSeat seat old (λ s. machine_of new ≡ with_seat seat (watching (names s)) (machine_of old))
+
+-- the first job of this kind in the tube that the client uses is shown
+abbrev pub peek_first_effect : JobKind → Machine → SeatRecord → Effect
+peek_first_effect kind m s = showing m (first_of_kind kind s.used m.jobs)
