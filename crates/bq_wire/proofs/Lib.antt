@@ -1,6 +1,7 @@
 pub mod CommandLemmas
 pub mod HasReadLemmas
 pub mod LineEndLemmas
+pub mod LineReadLemmas
 pub mod NumberLemmas
 pub mod PutBodyLemmas
 pub mod ReaderLemmas

@@ -1,8 +1,9 @@
 -- What a line that was read asks for.
-use Rattle.std.specs.Prelude.{ℕ, ◌≡◌, List, [], ◌∷◌, Option, None}
+use Rattle.std.specs.Prelude.{ℕ, ◌≡◌, List, [], ◌∷◌, Option, Some, None, option_map}
 use Rattle.bq_job.specs.reading.CommandWords as spec_words
 use Rattle.bq_job.specs.reading.LineRead as spec
 use Rattle.bq_job.specs.reading.Words.{number}
+use Rattle.bq_job.specs.declared.request.Request.{Request}
 use Rattle.bq_wire.specs.declared.command.Command.{Command}
 use Rattle.bq_wire.specs.declared.command.Command.TheVariants as commands
 use Rattle.bq_wire.specs.declared.line_read.LineRead.{LineRead}
@@ -45,9 +46,10 @@ only read (word ∷ next ∷ more) = None
 abbrev pub put_line_of : PutLine → spec.PutLine
 put_line_of put = record { pri = put.pri; delay = put.delay; ttr = put.ttr; bytes = put.bytes }
 
-abbrev pub asked_by : LineRead → spec.LineRead
-asked_by (Whole request) = spec.Whole request
-asked_by (PutWaits put) = spec.PutWaits (put_line_of put)
+-- What a line asks for. A whole request is the one that lies in the place.
+abbrev pub asked_by : LineRead → Option Request → Option spec.LineRead
+asked_by Whole place = option_map spec.Whole place
+asked_by (PutWaits put) place = Some (spec.PutWaits (put_line_of put))
 
 -- the first word is taken, and is this number; or there is none, or it is no number
 abbrev pub IsNextNumber : List (List ℕ) → List (List ℕ) → Option ℕ → Type 0

@@ -1,4 +1,4 @@
-ghost use Rattle.std.specs.Prelude.{◌≡◌, [], ◌∷◌, option_map, MatchOption, IfSome, IfNone, ℕ, List};
+ghost use Rattle.std.specs.Prelude.{◌≡◌, [], ◌∷◌, option_map, MatchOption, IfSome, IfNone, Option, Some, unwrap_or, ℕ, List};
 ghost use Rattle.bq_job.specs.reading.CommandWords as spec_words;
 ghost use Rattle.bq_job.specs.reading.LineRead as spec;
 ghost use Rattle.bq_job.specs.reading.Words as spec_numbers;
@@ -26,10 +26,10 @@ pub struct PutLine {
 }
 
 /// What a line asks for.
-#[derive(Drop)]
+#[derive(Clone, Copy)]
 pub enum LineRead {
-    /// A whole request.
-    Whole(Request),
+    /// A whole request, which lies in the place that was given for it.
+    Whole,
     /// A put, whose body comes after the line.
     PutWaits(PutLine),
 }
@@ -74,25 +74,26 @@ fn tube_word(words: &mut Words) -> Option<TubeName>
     TubeName::new(only_word(words)?)
 }
 
-fn whole(request: Request) -> Option<LineRead>
-    ensures { option_map asked_by result ≡ Some (spec.Whole request) }
+fn whole(place: &mut Option<Request>, request: Request) -> Option<LineRead>
+    ensures { option_map (λ read. asked_by read place.new) result ≡ Some (Some (spec.Whole request)) }
 {
-    Some(LineRead::Whole(request))
+    *place = Some(request);
+    Some(LineRead::Whole)
 }
 
 // What no further words ask for.
-fn no_words(words: &mut Words, request: Request) -> Option<LineRead>
-    ensures { option_map asked_by result ≡ spec.no_words request words.old }
+fn no_words(words: &mut Words, place: &mut Option<Request>, request: Request) -> Option<LineRead>
+    ensures { option_map (λ read. asked_by read place.new) result ≡ option_map Some (spec.no_words request words.old) }
 {
     match words.next() {
-        None => whole(request),
+        None => whole(place, request),
         Some(_) => None,
     }
 }
 
 // What the words of a put ask for.
 fn put_words(words: &mut Words) -> Option<LineRead>
-    ensures { option_map asked_by result ≡ spec.put_words words.old }
+    ensures { (place : Option Request) → option_map (λ read. asked_by read place) result ≡ option_map Some (spec.put_words words.old) }
 {
     let pri = next_number(words)?;
     let delay = next_number(words)?;
@@ -110,112 +111,156 @@ fn put_words(words: &mut Words) -> Option<LineRead>
 }
 
 // What the words of a release ask for.
-fn release_words(words: &mut Words) -> Option<LineRead>
-    ensures { option_map asked_by result ≡ spec.release_words words.old }
+fn release_words(words: &mut Words, place: &mut Option<Request>) -> Option<LineRead>
+    ensures { option_map (λ read. asked_by read place.new) result ≡ option_map Some (spec.release_words words.old) }
 {
     let id = job_id(words.next()?)?;
     let pri = next_number(words)?;
     let delay = next_number(words)?;
-    no_words(words, Request::Release { id, pri, delay })
+    no_words(words, place, Request::Release { id, pri, delay })
 }
 
 // What the words of a bury ask for.
-fn bury_words(words: &mut Words) -> Option<LineRead>
-    ensures { option_map asked_by result ≡ spec.read_words spec_words.Command.Bury words.old }
+fn bury_words(words: &mut Words, place: &mut Option<Request>) -> Option<LineRead>
+    ensures { option_map (λ read. asked_by read place.new) result ≡ option_map Some (spec.read_words spec_words.Command.Bury words.old) }
 {
     let id = job_id(words.next()?)?;
     let pri = next_number(words)?;
-    no_words(words, Request::Bury { id, pri })
+    no_words(words, place, Request::Bury { id, pri })
 }
 
 // What the words of a pause ask for.
-fn pause_words(words: &mut Words) -> Option<LineRead>
-    ensures { option_map asked_by result ≡ spec.read_words spec_words.Command.PauseTube words.old }
+fn pause_words(words: &mut Words, place: &mut Option<Request>) -> Option<LineRead>
+    ensures { option_map (λ read. asked_by read place.new) result ≡ option_map Some (spec.read_words spec_words.Command.PauseTube words.old) }
 {
     let tube = TubeName::new(words.next()?)?;
     let delay = next_number(words)?;
-    no_words(words, Request::PauseTube { tube, delay })
+    no_words(words, place, Request::PauseTube { tube, delay })
 }
 
 // What the words after a command's own ask for.
-fn read_words(command: Command, words: &mut Words) -> Option<LineRead>
-    ensures { option_map asked_by result ≡ spec.read_words (command_of command) words.old }
+fn read_words(command: Command, words: &mut Words, place: &mut Option<Request>) -> Option<LineRead>
+    ensures { option_map (λ read. asked_by read place.new) result ≡ option_map Some (spec.read_words (command_of command) words.old) }
 {
     match command {
         Command::Put => put_words(words),
-        Command::Reserve => no_words(words, Request::Reserve),
-        Command::ReserveWithTimeout => whole(Request::ReserveWithTimeout {
-            seconds: number_word(words)?,
-        }),
-        Command::ReserveJob => whole(Request::ReserveJob {
-            id: id_word(words)?,
-        }),
-        Command::Delete => whole(Request::Delete {
-            id: id_word(words)?,
-        }),
-        Command::Release => release_words(words),
-        Command::Bury => bury_words(words),
-        Command::Touch => whole(Request::Touch {
-            id: id_word(words)?,
-        }),
-        Command::Kick => whole(Request::Kick {
-            bound: number_word(words)?,
-        }),
-        Command::KickJob => whole(Request::KickJob {
-            id: id_word(words)?,
-        }),
-        Command::Use => whole(Request::Use {
-            tube: tube_word(words)?,
-        }),
-        Command::ListTubeUsed => no_words(words, Request::ListTubeUsed),
-        Command::Watch => whole(Request::Watch {
-            tube: tube_word(words)?,
-        }),
-        Command::Ignore => whole(Request::Ignore {
-            tube: tube_word(words)?,
-        }),
-        Command::Peek => whole(Request::Peek {
-            id: id_word(words)?,
-        }),
-        Command::PeekReady => no_words(words, Request::PeekReady),
-        Command::PeekDelayed => no_words(words, Request::PeekDelayed),
-        Command::PeekBuried => no_words(words, Request::PeekBuried),
-        Command::PauseTube => pause_words(words),
-        Command::StatsJob => whole(Request::StatsJob {
-            id: id_word(words)?,
-        }),
-        Command::StatsTube => whole(Request::StatsTube {
-            tube: tube_word(words)?,
-        }),
-        Command::Stats => no_words(words, Request::Stats),
-        Command::ListTubes => no_words(words, Request::ListTubes),
-        Command::ListTubesWatched => no_words(words, Request::ListTubesWatched),
-        Command::Quit => no_words(words, Request::Quit),
+        Command::Reserve => no_words(words, place, Request::Reserve),
+        Command::ReserveWithTimeout => whole(
+            place,
+            Request::ReserveWithTimeout {
+                seconds: number_word(words)?,
+            },
+        ),
+        Command::ReserveJob => whole(
+            place,
+            Request::ReserveJob {
+                id: id_word(words)?,
+            },
+        ),
+        Command::Delete => whole(
+            place,
+            Request::Delete {
+                id: id_word(words)?,
+            },
+        ),
+        Command::Release => release_words(words, place),
+        Command::Bury => bury_words(words, place),
+        Command::Touch => whole(
+            place,
+            Request::Touch {
+                id: id_word(words)?,
+            },
+        ),
+        Command::Kick => whole(
+            place,
+            Request::Kick {
+                bound: number_word(words)?,
+            },
+        ),
+        Command::KickJob => whole(
+            place,
+            Request::KickJob {
+                id: id_word(words)?,
+            },
+        ),
+        Command::Use => whole(
+            place,
+            Request::Use {
+                tube: tube_word(words)?,
+            },
+        ),
+        Command::ListTubeUsed => no_words(words, place, Request::ListTubeUsed),
+        Command::Watch => whole(
+            place,
+            Request::Watch {
+                tube: tube_word(words)?,
+            },
+        ),
+        Command::Ignore => whole(
+            place,
+            Request::Ignore {
+                tube: tube_word(words)?,
+            },
+        ),
+        Command::Peek => whole(
+            place,
+            Request::Peek {
+                id: id_word(words)?,
+            },
+        ),
+        Command::PeekReady => no_words(words, place, Request::PeekReady),
+        Command::PeekDelayed => no_words(words, place, Request::PeekDelayed),
+        Command::PeekBuried => no_words(words, place, Request::PeekBuried),
+        Command::PauseTube => pause_words(words, place),
+        Command::StatsJob => whole(
+            place,
+            Request::StatsJob {
+                id: id_word(words)?,
+            },
+        ),
+        Command::StatsTube => whole(
+            place,
+            Request::StatsTube {
+                tube: tube_word(words)?,
+            },
+        ),
+        Command::Stats => no_words(words, place, Request::Stats),
+        Command::ListTubes => no_words(words, place, Request::ListTubes),
+        Command::ListTubesWatched => no_words(words, place, Request::ListTubesWatched),
+        Command::Quit => no_words(words, place, Request::Quit),
     }
 }
 
-/// What a line asks for, which is given without its CR LF.
-pub fn read_line(line: &[u8]) -> LineRead
-    ensures { asked_by result ≡ spec.read_line line.now }
+// What the words after a known command's own ask for, or that they are none of its own.
+fn read_known(command: Command, words: &mut Words, place: &mut Option<Request>) -> LineRead
+    ensures { asked_by result place.new ≡ Some (unwrap_or (spec.read_words (command_of command) words.old) spec.bad_format) }
+{
+    match read_words(command, words, place) {
+        Some(read) => read,
+        None => refused(place, Refusal::BadFormat),
+    }
+}
+
+/// What a line asks for, which is given without its CR LF. Where that is a whole request, it is put into the place.
+pub fn read_line(line: &[u8], place: &mut Option<Request>) -> LineRead
+    ensures { asked_by result place.new ≡ Some (spec.read_line line.now) }
 {
     if line.len() > LONGEST_LINE {
-        return refused(Refusal::BadFormat);
+        return refused(place, Refusal::BadFormat);
     }
     let mut words = Words::new(line);
     let Some(first) = words.next() else {
-        return refused(Refusal::UnknownCommand);
+        return refused(place, Refusal::UnknownCommand);
     };
     match command_named(first) {
-        None => refused(Refusal::UnknownCommand),
-        Some(command) => match read_words(command, &mut words) {
-            Some(read) => read,
-            None => refused(Refusal::BadFormat),
-        },
+        None => refused(place, Refusal::UnknownCommand),
+        Some(command) => read_known(command, &mut words, place),
     }
 }
 
-fn refused(why: Refusal) -> LineRead
-    ensures { asked_by result ≡ spec.Whole (Request.Refused why) }
+fn refused(place: &mut Option<Request>, why: Refusal) -> LineRead
+    ensures { asked_by result place.new ≡ Some (spec.Whole (Request.Refused why)) }
 {
-    LineRead::Whole(Request::Refused(why))
+    *place = Some(Request::Refused(why));
+    LineRead::Whole
 }

@@ -4,7 +4,7 @@ ghost use Rattle.bq_job.specs.reading.Reading.{is_quit};
 ghost use Rattle.bq_wire.specs.Asked.{asked_by};
 ghost use Rattle.bq_wire.specs.HasRead.{HasRead, ReadsOn};
 ghost use Rattle.bq_wire.specs.PutBodies.{HasBodyRoom, IsBodySoFar};
-ghost use Rattle.bq_wire.specs.Standing.{IsOver, IsSoundReader, Stands, StandsAt, Feeds, Keeps, EndsLineAsking, Waits, HandsRequest, but_last};
+ghost use Rattle.bq_wire.specs.Standing.{IsOver, IsSoundPlace, IsSoundReader, Stands, StandsAt, Feeds, Keeps, EndsLineAsking, Waits, HandsRequest, but_last};
 ghost use Rattle.bq_wire.specs.declared.state.Place.TheVariants.{InLine, InLongLine, InBody, Over};
 
 use crate::kept_line::KeptLine;
@@ -82,43 +82,72 @@ impl RequestReader {
         ensures over { IsOver self.old → (result.0 ≡ 0) × (result.1 ≡ None) × (self.new ≡ self.old) }
         ensures limit { self.new.max_job_size ≡ self.old.max_job_size }
     {
-        feed_state(alloc, &mut self.state, piece)
+        let mut request = None;
+        let taken = self.feed_in_place(alloc, piece, &mut request);
+        (taken, request)
+    }
+
+    /// The same as `feed`, with the request put into a place, whatever lay there: it is not moved on the way.
+    pub fn feed_in_place(
+        &mut self,
+        alloc: Global,
+        piece: &[u8],
+        request: &mut Option<Request>,
+    ) -> usize
+        ensures within { result ≤ length piece.now }
+        ensures progress { IfSome request.new (λ _. 0 < result) }
+        ensures waits { request.new ≡ None → (text : List ℕ) → Stands self.old text → Waits self.new text piece.now result }
+        ensures hands_out { IfSome request.new (λ asked. (text : List ℕ) → Stands self.old text → HandsRequest self.new text piece.now result asked) }
+        ensures reads { ReadsOn self.old self.new piece.now result request.new }
+        ensures over { IsOver self.old → (result ≡ 0) × (request.new ≡ None) × (self.new ≡ self.old) }
+        ensures limit { self.new.max_job_size ≡ self.old.max_job_size }
+    {
+        feed_state(alloc, &mut self.state, piece, request)
     }
 }
 
-fn feed_state(alloc: Global, state: &mut State, piece: &[u8]) -> (usize, Option<Request>)
+fn feed_state(
+    alloc: Global,
+    state: &mut State,
+    piece: &[u8],
+    request: &mut Option<Request>,
+) -> usize
     requires { IsSoundReader state.old }
     ensures sound { IsSoundReader state.new }
-    ensures within { result.0 ≤ length piece.now }
-    ensures progress { IfSome result.1 (λ _. 0 < result.0) }
-    ensures feeds { Feeds (Stands state.old) state.new piece.now result.0 result.1 }
-    ensures over { IsOver state.old → (result.0 ≡ 0) × (result.1 ≡ None) × (state.new ≡ state.old) }
+    ensures within { result ≤ length piece.now }
+    ensures progress { IfSome request.new (λ _. 0 < result) }
+    ensures feeds { Feeds (Stands state.old) state.new piece.now result request.new }
+    ensures over { IsOver state.old → (result ≡ 0) × (request.new ≡ None) × (state.new ≡ state.old) }
     ensures limit { state.new.max_job_size ≡ state.old.max_job_size }
 {
     match mem::replace(&mut state.place, Place::Over) {
-        Place::InLine => feed_line(alloc, state, piece),
-        Place::InLongLine(after_cr) => feed_long_line(state, after_cr, piece),
-        Place::InBody(body) => feed_body(state, body, piece),
-        Place::Over => (0, None),
+        Place::InLine => feed_line(alloc, state, piece, request),
+        Place::InLongLine(after_cr) => feed_long_line(state, after_cr, piece, request),
+        Place::InBody(body) => feed_body(state, body, piece, request),
+        Place::Over => {
+            *request = None;
+            0
+        }
     }
 }
 
 // Feeds a line whose bytes are kept.
-fn feed_line(alloc: Global, state: &mut State, piece: &[u8]) -> (usize, Option<Request>)
+fn feed_line(alloc: Global, state: &mut State, piece: &[u8], request: &mut Option<Request>) -> usize
     ensures sound { IsSoundReader state.new }
-    ensures within { result.0 ≤ length piece.now }
-    ensures progress { IfSome result.1 (λ _. 0 < result.0) }
-    ensures feeds { Feeds (StandsAt state.old InLine) state.new piece.now result.0 result.1 }
+    ensures within { result ≤ length piece.now }
+    ensures progress { IfSome request.new (λ _. 0 < result) }
+    ensures feeds { Feeds (StandsAt state.old InLine) state.new piece.now result request.new }
     ensures limit { state.new.max_job_size ≡ state.old.max_job_size }
 {
     match line_end_after(ends_in_cr(false, state.kept.as_slice()), piece) {
         None => {
             state.place = keep(&mut state.kept, piece);
-            (piece.len(), None)
+            *request = None;
+            piece.len()
         }
         Some(end) => {
-            let read = whole_line(&mut state.kept, &piece[..end - 1]);
-            after_line(alloc, state, read, piece, end)
+            let read = whole_line(&mut state.kept, &piece[..end - 1], request);
+            after_line(alloc, state, read, piece, end, request)
         }
     }
 }
@@ -138,22 +167,24 @@ fn keep(kept: &mut KeptLine, piece: &[u8]) -> Place
     }
 }
 
-// What a line asks for that ends now: of its last bytes all but the LF are given.
-fn whole_line(kept: &mut KeptLine, last: &[u8]) -> LineRead
+// What a line asks for that ends now: of its last bytes all but the LF are given. A whole request is put into
+// the place.
+fn whole_line(kept: &mut KeptLine, last: &[u8], place: &mut Option<Request>) -> LineRead
     requires { 0 < length kept.old + length last.now }
     ensures cleared { kept.new ≡ [] }
-    ensures read { asked_by result ≡ line_read.read_line (but_last (kept.old ++ last.now)) }
+    ensures read { asked_by result place.new ≡ Some (line_read.read_line (but_last (kept.old ++ last.now))) }
 {
     if kept.as_slice().is_empty() {
-        return read_line(&last[..last.len() - 1]);
+        return read_line(&last[..last.len() - 1], place);
     }
     if last.len() > kept.room() {
         kept.clear();
-        return LineRead::Whole(bad_format());
+        *place = Some(bad_format());
+        return LineRead::Whole;
     }
     kept.push_slice(last);
     let line = kept.as_slice();
-    let read = read_line(&line[..line.len() - 1]);
+    let read = read_line(&line[..line.len() - 1], place);
     kept.clear();
     read
 }
@@ -165,24 +196,26 @@ fn after_line(
     read: LineRead,
     piece: &[u8],
     end: usize,
-) -> (usize, Option<Request>)
+    request: &mut Option<Request>,
+) -> usize
     requires some { 0 < end }
     requires within { end ≤ length piece.now }
     ensures sound { IsSoundReader state.new }
-    ensures within { result.0 ≤ length piece.now }
-    ensures progress { IfSome result.1 (λ _. 0 < result.0) }
-    ensures feeds { state.old.kept ≡ [] → Feeds (EndsLineAsking (asked_by read) (take end piece.now)) state.new piece.now result.0 result.1 }
+    ensures within { result ≤ length piece.now }
+    ensures progress { IfSome request.new (λ _. 0 < result) }
+    ensures feeds { (asked : line_read.LineRead) → asked_by read request.old ≡ Some asked → state.old.kept ≡ []
+        → Feeds (EndsLineAsking asked (take end piece.now)) state.new piece.now result request.new }
     ensures limit { state.new.max_job_size ≡ state.old.max_job_size }
 {
     match read {
-        LineRead::Whole(request) => {
-            state.place = place_behind(&request);
-            (end, Some(request))
+        LineRead::Whole => {
+            state.place = place_behind(request);
+            end
         }
         LineRead::PutWaits(put) => {
             let body = begun_body(alloc, put, state.max_job_size);
-            let (taken, request) = feed_body(state, body, &piece[end..]);
-            (end + taken, request)
+            let taken = feed_body(state, body, &piece[end..], request);
+            end + taken
         }
     }
 }
@@ -203,53 +236,63 @@ fn begun_body(alloc: Global, put: PutLine, max_job_size: u32) -> PutBody
 }
 
 // Where a reader is behind a request of one line.
-fn place_behind(request: &Request) -> Place
-    ensures { result ≡ (if is_quit request.now then Over else InLine) }
+fn place_behind(request: &Option<Request>) -> Place
+    ensures sound { IsSoundPlace result }
+    ensures behind { IfSome request.now (λ asked. result ≡ (if is_quit asked then Over else InLine)) }
 {
     match request {
-        Request::Quit => Place::Over,
+        Some(Request::Quit) => Place::Over,
         _ => Place::InLine,
     }
 }
 
 // Feeds a line that is too long.
-fn feed_long_line(state: &mut State, after_cr: bool, piece: &[u8]) -> (usize, Option<Request>)
+fn feed_long_line(
+    state: &mut State,
+    after_cr: bool,
+    piece: &[u8],
+    request: &mut Option<Request>,
+) -> usize
     ensures sound { IsSoundReader state.new }
-    ensures within { result.0 ≤ length piece.now }
-    ensures progress { IfSome result.1 (λ _. 0 < result.0) }
-    ensures feeds { Feeds (StandsAt state.old (InLongLine after_cr)) state.new piece.now result.0 result.1 }
+    ensures within { result ≤ length piece.now }
+    ensures progress { IfSome request.new (λ _. 0 < result) }
+    ensures feeds { Feeds (StandsAt state.old (InLongLine after_cr)) state.new piece.now result request.new }
     ensures limit { state.new.max_job_size ≡ state.old.max_job_size }
 {
     match line_end_after(after_cr, piece) {
         None => {
             state.place = Place::InLongLine(ends_in_cr(after_cr, piece));
-            (piece.len(), None)
+            *request = None;
+            piece.len()
         }
         Some(end) => {
             state.place = Place::InLine;
-            (end, Some(bad_format()))
+            *request = Some(bad_format());
+            end
         }
     }
 }
 
 // Feeds the body of a put.
-fn feed_body(state: &mut State, body: PutBody, piece: &[u8]) -> (usize, Option<Request>)
+fn feed_body(state: &mut State, body: PutBody, piece: &[u8], request: &mut Option<Request>) -> usize
     requires room { HasBodyRoom body }
     requires not_whole { body.taken < body.put.bytes + 2 }
     ensures sound { IsSoundReader state.new }
-    ensures within { result.0 ≤ length piece.now }
-    ensures progress { IfSome result.1 (λ _. 0 < result.0) }
-    ensures feeds { Feeds (StandsAt state.old (InBody body)) state.new piece.now result.0 result.1 }
+    ensures within { result ≤ length piece.now }
+    ensures progress { IfSome request.new (λ _. 0 < result) }
+    ensures feeds { Feeds (StandsAt state.old (InBody body)) state.new piece.now result request.new }
     ensures limit { state.new.max_job_size ≡ state.old.max_job_size }
 {
     let mut body = body;
     let taken = body.take(piece);
     if body.is_whole() {
         state.place = Place::InLine;
-        (taken, Some(body.into_request(state.max_job_size)))
+        *request = Some(body.into_request(state.max_job_size));
+        taken
     } else {
         state.place = Place::InBody(body);
-        (taken, None)
+        *request = None;
+        taken
     }
 }
 

@@ -20,5 +20,5 @@ pub returns-in-Some-clause-feeds : goal.returns-in-Some-clause-feeds
 returns-in-Some-clause-feeds c = λ text stands.
     let here : line_end_after (last_is_cr false c.args.state.now.kept) c.args.piece.now ≡ Some c.in-Some.end =
     rw (← c.as_slice.ensures, ← c.ends_in_cr.ensures) (sym c.in-Some.ensures.value) in
-    c.after_line.ensures.feeds c.whole_line-read.ensures.cleared text
-    (kept_line c.args.state.now.kept text c.args.piece.now c.in-Some.end _ stands.0 stands.1 here c.whole_line-read.ensures.read)
+    c.after_line.ensures.feeds _ c.whole_line-read.ensures.read c.whole_line-read.ensures.cleared text
+    (kept_line c.args.state.now.kept text c.args.piece.now c.in-Some.end _ stands.0 stands.1 here refl)
