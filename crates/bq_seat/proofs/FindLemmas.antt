@@ -164,7 +164,7 @@ over_at old event (actions.Write answer) p h over = tt
 over_at old event (actions.LineOver end) p h over = over p h
 over_at old event actions.Stray p h over = tt
 
-pub is_move : (old : SeatMachine) (event : Event) (action : Action) (new : SeatMachine) → IsStagedMove old event action new → IsMove old event action new
+is_move : (old : SeatMachine) (event : Event) (action : Action) (new : SeatMachine) → IsStagedMove old event action new → IsMove old event action new
 unfolding StandsFor
 is_move old event action new m = record {
   stray = m.stray;
@@ -177,3 +177,7 @@ is_move old event action new m = record {
       (subst (λ b. AgreesWith new (if b then p else with_action action (with_event event p))) e (m.past p h.0)) (over_at old event action p h.0 m.over);
   looks = λ e p h. m.looks e p h.0;
 }
+
+-- the same of an event that is known by an equation
+pub is_move_by : (old : SeatMachine) (event same : Event) (action : Action) (new : SeatMachine) → event ≡ same → IsStagedMove old same action new → IsMove old event action new
+is_move_by old event same action new e m = subst (λ (v : Event). IsMove old v action new) (sym e) (is_move old same action new m)

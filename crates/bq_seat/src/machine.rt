@@ -121,7 +121,28 @@ impl SeatMachine {
         // and says what is looked at next; where the line is over it was served.
         ensures { IsMove self.old event.entry result self.new }
     {
-        self.answered(alloc, event)
+        let mut next = Action::Stray;
+        self.on_in_place(alloc, event, &mut next);
+        next
+    }
+
+    /// The same as `on`, with the action put in the place of another, which may be the last one: an action and
+    /// what it carries is not moved on the way. What lay there has no meaning.
+    pub fn on_in_place(&mut self, alloc: Global, event: Event<'_>, next: &mut Action)
+        requires { FitsPiece event }
+        ensures { IsMove self.old event.entry next.new self.new }
+    {
+        match event {
+            Event::Opened => self.opened(next),
+            Event::Submitted => self.submitted(alloc, next),
+            Event::Bytes(bytes) => self.bytes(alloc, bytes, next),
+            Event::NothingYet => self.nothing_yet(next),
+            Event::EndOfInput => self.end_of_input(next),
+            Event::ReadFault => self.read_fault(next),
+            Event::Mail(answer) => self.mail(answer, next),
+            Event::WriteDone => self.write_done(alloc, next),
+            Event::WriteFault => self.write_fault(next),
+        }
     }
 
     /// Whether a request waits for its answer while the line is read. Where it does, a read that waits would
@@ -135,25 +156,8 @@ impl SeatMachine {
         }
     }
 
-    fn answered(&mut self, alloc: Global, event: Event<'_>) -> Action
-        requires { FitsPiece event }
-        ensures { IsStagedMove self.old event.entry result self.new }
-    {
-        match event {
-            Event::Opened => self.opened(),
-            Event::Submitted => self.submitted(alloc),
-            Event::Bytes(bytes) => self.bytes(alloc, bytes),
-            Event::NothingYet => self.nothing_yet(),
-            Event::EndOfInput => self.end_of_input(),
-            Event::ReadFault => self.read_fault(),
-            Event::Mail(answer) => self.mail(answer),
-            Event::WriteDone => self.write_done(alloc),
-            Event::WriteFault => self.write_fault(),
-        }
-    }
-
-    fn opened(&mut self) -> Action
-        ensures { IsStagedMove self.old Event.Opened result self.new }
+    fn opened(&mut self, next: &mut Action)
+        ensures { IsStagedMove self.old Event.Opened next.new self.new }
     {
         match self.stage {
             Stage::Between => {
@@ -161,188 +165,191 @@ impl SeatMachine {
                 self.kept.clear();
                 self.end_told = false;
                 self.stage = Stage::Connecting;
-                Action::Submit(Step::Connect)
+                *next = Action::Submit(Step::Connect);
             }
-            _ => Action::Stray,
+            _ => *next = Action::Stray,
         }
     }
 
-    fn submitted(&mut self, alloc: Global) -> Action
-        ensures { IsStagedMove self.old Event.Submitted result self.new }
+    fn submitted(&mut self, alloc: Global, next: &mut Action)
+        ensures { IsStagedMove self.old Event.Submitted next.new self.new }
     {
         match self.stage {
-            Stage::Connecting => self.go_on(alloc),
-            Stage::Asking { waits } => self.poll(waits),
-            Stage::TellingEnd => self.poll(true),
-            Stage::AskingQuit => self.close(LineEnd::Quit),
-            Stage::Closing(end) => self.leave(end),
-            _ => Action::Stray,
+            Stage::Connecting => self.go_on(alloc, next),
+            Stage::Asking { waits } => self.poll(waits, next),
+            Stage::TellingEnd => self.poll(true, next),
+            Stage::AskingQuit => self.close(LineEnd::Quit, next),
+            Stage::Closing(end) => self.leave(end, next),
+            _ => *next = Action::Stray,
         }
     }
 
-    fn bytes(&mut self, alloc: Global, bytes: &[u8]) -> Action
+    fn bytes(&mut self, alloc: Global, bytes: &[u8], next: &mut Action)
         requires { length bytes.now ≤ PIECE_ROOM }
-        ensures { IsStagedMove self.old (Event.Bytes bytes.entry) result self.new }
+        ensures { IsStagedMove self.old (Event.Bytes bytes.entry) next.new self.new }
     {
         match self.stage {
             Stage::Reading => {
                 self.kept.replace(bytes);
-                self.go_on(alloc)
+                self.go_on(alloc, next)
             }
             Stage::ReadingOn => {
                 self.kept.replace(bytes);
-                self.poll(true)
+                self.poll(true, next)
             }
-            _ => Action::Stray,
+            _ => *next = Action::Stray,
         }
     }
 
-    fn nothing_yet(&mut self) -> Action
-        ensures { IsStagedMove self.old Event.NothingYet result self.new }
+    fn nothing_yet(&mut self, next: &mut Action)
+        ensures { IsStagedMove self.old Event.NothingYet next.new self.new }
     {
         match self.stage {
-            Stage::Reading => Action::Read,
-            Stage::ReadingOn => self.poll(true),
-            Stage::Polling { waits } => self.no_mail_yet(waits),
-            Stage::Leaving(_) => Action::PollMail,
-            _ => Action::Stray,
+            Stage::Reading => *next = Action::Read,
+            Stage::ReadingOn => self.poll(true, next),
+            Stage::Polling { waits } => self.no_mail_yet(waits, next),
+            Stage::Leaving(_) => *next = Action::PollMail,
+            _ => *next = Action::Stray,
         }
     }
 
-    fn end_of_input(&mut self) -> Action
-        ensures { IsStagedMove self.old Event.EndOfInput result self.new }
+    fn end_of_input(&mut self, next: &mut Action)
+        ensures { IsStagedMove self.old Event.EndOfInput next.new self.new }
     {
         match self.stage {
-            Stage::Reading => self.close(LineEnd::EndOfInput),
+            Stage::Reading => self.close(LineEnd::EndOfInput, next),
             Stage::ReadingOn => {
                 self.end_told = true;
                 self.stage = Stage::TellingEnd;
-                Action::Submit(Step::End)
+                *next = Action::Submit(Step::End);
             }
-            _ => Action::Stray,
+            _ => *next = Action::Stray,
         }
     }
 
-    fn read_fault(&mut self) -> Action
-        ensures { IsStagedMove self.old Event.ReadFault result self.new }
+    fn read_fault(&mut self, next: &mut Action)
+        ensures { IsStagedMove self.old Event.ReadFault next.new self.new }
     {
         match self.stage {
-            Stage::Reading => self.close(LineEnd::ReadFault),
-            Stage::ReadingOn => self.close(LineEnd::ReadFault),
-            _ => Action::Stray,
+            Stage::Reading => self.close(LineEnd::ReadFault, next),
+            Stage::ReadingOn => self.close(LineEnd::ReadFault, next),
+            _ => *next = Action::Stray,
         }
     }
 
-    fn mail(&mut self, answer: Answer) -> Action
-        ensures { IsStagedMove self.old (Event.Mail answer) result self.new }
+    fn mail(&mut self, answer: Answer, next: &mut Action)
+        ensures { IsStagedMove self.old (Event.Mail answer) next.new self.new }
     {
         match self.stage {
             Stage::Polling { .. } => {
                 self.stage = Stage::Writing;
-                Action::Write(answer)
+                *next = Action::Write(answer);
             }
-            Stage::Leaving(end) => self.mail_after_close(end, &answer),
-            _ => Action::Stray,
+            Stage::Leaving(end) => self.mail_after_close(end, &answer, next),
+            _ => *next = Action::Stray,
         }
     }
 
-    fn write_done(&mut self, alloc: Global) -> Action
-        ensures { IsStagedMove self.old Event.WriteDone result self.new }
+    fn write_done(&mut self, alloc: Global, next: &mut Action)
+        ensures { IsStagedMove self.old Event.WriteDone next.new self.new }
     {
         match self.stage {
-            Stage::Writing => self.go_on(alloc),
-            _ => Action::Stray,
+            Stage::Writing => self.go_on(alloc, next),
+            _ => *next = Action::Stray,
         }
     }
 
-    fn write_fault(&mut self) -> Action
-        ensures { IsStagedMove self.old Event.WriteFault result self.new }
+    fn write_fault(&mut self, next: &mut Action)
+        ensures { IsStagedMove self.old Event.WriteFault next.new self.new }
     {
         match self.stage {
             Stage::Writing => {
                 // Only the contract needs it: what isn't asked any more has a reading too.
                 every_text_is_read();
-                self.close(LineEnd::WriteFault)
+                self.close(LineEnd::WriteFault, next)
             }
-            _ => Action::Stray,
+            _ => *next = Action::Stray,
         }
     }
 
     // Nothing is outstanding: the next request of the bytes that are kept is asked. Where they have
     // none, more is read, or the line is closed if the client sends no more.
-    fn go_on(&mut self, alloc: Global) -> Action
-        ensures { GoesOn self.old result self.new }
+    fn go_on(&mut self, alloc: Global, next: &mut Action)
+        ensures { GoesOn self.old next.new self.new }
     {
         if self.end_told {
-            return self.close(LineEnd::EndOfInput);
+            return self.close(LineEnd::EndOfInput, next);
         }
-        let (taken, request) = self.reader.feed(alloc, self.kept.as_slice());
+        let mut request = None;
+        let taken = self
+            .reader
+            .feed_in_place(alloc, self.kept.as_slice(), &mut request);
         self.kept.drop_front(taken);
         match request {
             None => {
                 self.stage = Stage::Reading;
-                Action::Read
+                *next = Action::Read;
             }
-            Some(request) => self.ask(request),
+            Some(request) => self.ask(request, next),
         }
     }
 
-    fn ask(&mut self, request: Request) -> Action
-        ensures action { result ≡ Action.Submit (Step.Ask request) }
+    fn ask(&mut self, request: Request, next: &mut Action)
+        ensures action { next.new ≡ Action.Submit (Step.Ask request) }
         ensures after { self.new ≡ in_stage (asking_stage request) self.old }
     {
         self.stage = stage_of(&request);
-        Action::Submit(Step::Ask(request))
+        *next = Action::Submit(Step::Ask(request));
     }
 
-    fn poll(&mut self, waits: bool) -> Action
-        ensures action { result ≡ Action.PollMail }
+    fn poll(&mut self, waits: bool, next: &mut Action)
+        ensures action { next.new ≡ Action.PollMail }
         ensures after { self.new ≡ in_stage (Stage.Polling waits) self.old }
     {
         self.stage = Stage::Polling { waits };
-        Action::PollMail
+        *next = Action::PollMail;
     }
 
     // No answer has come yet: while a reserve waits, the line is read if no bytes are kept.
-    fn no_mail_yet(&mut self, waits: bool) -> Action
-        ensures action { result ≡ (if reads_on waits self.old then Action.Read else Action.PollMail) }
+    fn no_mail_yet(&mut self, waits: bool, next: &mut Action)
+        ensures action { next.new ≡ (if reads_on waits self.old then Action.Read else Action.PollMail) }
         ensures after { self.new ≡ (if reads_on waits self.old then in_stage Stage.ReadingOn self.old else self.old) }
     {
         if waits && !self.end_told && self.kept.is_empty() {
             self.stage = Stage::ReadingOn;
-            Action::Read
+            *next = Action::Read;
         } else {
-            Action::PollMail
+            *next = Action::PollMail;
         }
     }
 
-    fn close(&mut self, end: LineEnd) -> Action
-        ensures action { result ≡ Action.Submit Step.Close }
+    fn close(&mut self, end: LineEnd, next: &mut Action)
+        ensures action { next.new ≡ Action.Submit Step.Close }
         ensures after { self.new ≡ in_stage (Stage.Closing end) self.old }
     {
         self.stage = Stage::Closing(end);
-        Action::Submit(Step::Close)
+        *next = Action::Submit(Step::Close);
     }
 
-    fn leave(&mut self, end: LineEnd) -> Action
-        ensures action { result ≡ Action.PollMail }
+    fn leave(&mut self, end: LineEnd, next: &mut Action)
+        ensures action { next.new ≡ Action.PollMail }
         ensures after { self.new ≡ in_stage (Stage.Leaving end) self.old }
     {
         self.stage = Stage::Leaving(end);
-        Action::PollMail
+        *next = Action::PollMail;
     }
 
     // The close's own answer ends the line. Other mail is thrown away.
-    fn mail_after_close(&mut self, end: LineEnd, answer: &Answer) -> Action
-        ensures action { result ≡ (if is_closed_answer answer.now then Action.LineOver end else Action.PollMail) }
+    fn mail_after_close(&mut self, end: LineEnd, answer: &Answer, next: &mut Action)
+        ensures action { next.new ≡ (if is_closed_answer answer.now then Action.LineOver end else Action.PollMail) }
         ensures after { self.new ≡ (if is_closed_answer answer.now then in_stage Stage.Between self.old else self.old) }
     {
         match answer {
             Answer::Closed => {
                 self.stage = Stage::Between;
-                Action::LineOver(end)
+                *next = Action::LineOver(end);
             }
-            _ => Action::PollMail,
+            _ => *next = Action::PollMail,
         }
     }
 }

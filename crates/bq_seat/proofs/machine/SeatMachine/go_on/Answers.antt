@@ -8,4 +8,4 @@ returns-then-self c = going.by_result _ _ _ _ _ c.close.ensures.action c.close.e
 pub returns-in-Some : goal.returns-in-Some
 returns-in-Some c =
     going.by_result _ _ _ _ _ c.ask.ensures.action c.ask.ensures.after
-    (going.goes_handed c.args.self.now _ _ _ _ _ _ c.if-self.false (rw c.feed-taken.ensures.limit refl) c.as_slice.ensures c.drop_front.ensures c.in-Some.is c.feed-taken.ensures.hands_out)
+    (going.goes_handed c.args.self.now _ _ _ _ _ _ c.if-self.false (rw c.feed_in_place-taken.ensures.limit refl) c.as_slice.ensures c.drop_front.ensures c.in-Some.is c.feed_in_place-taken.ensures.hands_out)
