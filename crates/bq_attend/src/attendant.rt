@@ -1,5 +1,6 @@
 //! A seat that attends to a door: it serves the door's lines one after another, one action at a time.
-ghost use Rattle.std.specs.Prelude.{◌≡◌, ◌≤◌, ◌↔◌, [], true, false, IfOk, IsTrue};
+ghost use Rattle.std.specs.Prelude.{◌≡◌, ◌≤◌, ◌↔◌, [], true, false, not, IfOk, IsTrue};
+ghost use Rattle.bq_seat.specs.Outstanding.{ReadsWith};
 ghost use Rattle.bq_seat.specs.Past.{Awaited};
 ghost use Rattle.bq_seat.specs.SeatStands.{awaited};
 ghost use Rattle.bq_seat.specs.declared.machine.SeatMachine.{SeatMachine};
@@ -57,7 +58,11 @@ impl<L: Line + Drop> Attendant<L> {
     }
 
     /// Whether nothing but its line can move it: the line is to be read, and no answer is outstanding.
-    pub fn awaits_line(&self) -> bool {
+    pub fn awaits_line(&self) -> bool
+        ensures reads { IsTrue result → (line : L) × (self.now.place ≡ Place.On line Action.Read) }
+        ensures outstanding { (line : L) → self.now.place ≡ Place.On line Action.Read
+            → ReadsWith (not result) self.now.machine }
+    {
         matches!(self.place, Place::On(_, Action::Read)) && !self.machine.has_outstanding()
     }
 
@@ -79,40 +84,44 @@ impl<L: Line + Drop> Attendant<L> {
         // It is the same door still.
         ensures same { (first : D) → D.same first door.old → D.same first door.new }
     {
-        let place = mem::replace(&mut self.place, Place::Done);
-        let (place, moved) = turn(alloc, &mut self.machine, place, door, link, room);
-        self.place = place;
-        moved
+        turn(alloc, &mut self.machine, &mut self.place, door, link, room)
     }
 }
 
-// One action of a seat that is at this place, where it is then, and whether something moved.
+// One action of a seat that is at this place, and whether something moved. A line that is out stays where it lies
+// until it is over.
 fn turn<L: Line + Drop, D: Door<Line = L>, K: Link>(
     alloc: Global,
     machine: &mut SeatMachine,
-    place: Place<L>,
+    place: &mut Place<L>,
     door: &mut D,
     link: &mut K,
     room: &mut Room,
-) -> (Place<L>, bool)
-    requires placed { IsPlaced place (door_seen D.is_out D.is_at_end D.lines_over door.old) }
+) -> bool
+    requires placed { IsPlaced place.old (door_seen D.is_out D.is_at_end D.lines_over door.old) }
     requires ready { K.is_ready link.old }
     ensures ready { K.is_ready link.new }
     ensures went { let at = door_seen D.is_out D.is_at_end D.lines_over in
-        GoesOn K.went link.old link.new L.seen (attendant machine.old place) (at door.old) (attendant machine.new result.0) (at door.new) }
+        GoesOn K.went link.old link.new L.seen (attendant machine.old place.old) (at door.old) (attendant machine.new place.new) (at door.new) }
     ensures same { (first : D) → D.same first door.old → D.same first door.new }
 {
     match place {
-        Place::Between => (open_line(alloc, machine, door), true),
         Place::On(line, action) => match action {
             Action::LineOver(end) => {
-                shut_line(door, line, end);
-                (Place::Between, true)
+                let end = *end;
+                if let Place::On(line, _) = mem::replace(place, Place::Between) {
+                    shut_line(door, line, end);
+                }
+                true
             }
             other => act(alloc, machine, line, other, link, room),
         },
-        Place::Leaving => leave(link),
-        Place::Done => (Place::Done, false),
+        Place::Between => {
+            *place = open_line(alloc, machine, door);
+            true
+        }
+        Place::Leaving => leave(place, link),
+        Place::Done => false,
     }
 }
 
@@ -151,30 +160,33 @@ fn shut_line<L: Line + Drop, D: Door<Line = L>>(door: &mut D, line: L, end: Line
 fn act<L: Line + Drop, K: Link>(
     alloc: Global,
     machine: &mut SeatMachine,
-    mut line: L,
-    action: Action,
+    line: &mut L,
+    action: &mut Action,
     link: &mut K,
     room: &mut Room,
-) -> (Place<L>, bool)
+) -> bool
     requires ready { K.is_ready link.old }
     ensures ready { K.is_ready link.new }
     ensures went { (door : DoorSeen)
-        → GoesOn K.went link.old link.new L.seen (attendant machine.old (Place.On line action)) door (attendant machine.new result.0) door }
+        → GoesOn K.went link.old link.new L.seen (attendant machine.old (Place.On line.old action.old)) door (attendant machine.new (Place.On line.new action.new)) door }
 {
     pasts_are_orderly();
-    let (next, moved) = carry_out(alloc, machine, action, &mut line, link, room);
-    (Place::On(line, next), moved)
+    carry_out(alloc, machine, action, line, link, room)
 }
 
 // It is submitted that no more lines come.
-fn leave<L: Line + Drop, K: Link>(link: &mut K) -> (Place<L>, bool)
+fn leave<L: Line + Drop, K: Link>(place: &mut Place<L>, link: &mut K) -> bool
+    requires leaving { place.old ≡ Place.Leaving }
     requires ready { K.is_ready link.old }
     ensures ready { K.is_ready link.new }
     ensures went { (machine : SeatMachine) (door : DoorSeen)
-        → GoesOn K.went link.old link.new L.seen (attendant machine Place.Leaving) door (attendant machine result.0) door }
+        → GoesOn K.went link.old link.new L.seen (attendant machine place.old) door (attendant machine place.new) door }
 {
     match link.submit(Step::Gone) {
-        Ok(()) => (Place::Done, true),
-        Err(_) => (Place::Leaving, false),
+        Ok(()) => {
+            *place = Place::Done;
+            true
+        }
+        Err(_) => false,
     }
 }

@@ -8,11 +8,11 @@ ghost use Rattle.bq_attend.specs.Carried.{Carried, HasGone};
 
 use crate::answer_write::write_answer;
 use crate::link::Link;
-use bq_job::Answer;
+use bq_job::{Answer, Step};
 use bq_line::line::{Line, is_nothing_yet};
 use bq_seat::{Action, Event, PIECE_ROOM, SeatMachine};
 use std::alloc::Global;
-use std::io;
+use std::{io, mem};
 
 /// How many bytes a room has.
 pub const ROOM_BYTES: usize = 65536;
@@ -21,56 +21,85 @@ pub const ROOM_BYTES: usize = 65536;
 /// one would be filled with zeros first.
 pub type Room = [u8; ROOM_BYTES];
 
-/// Carries out one action of a seat's machine, and says what the machine does next. Where a line is over,
-/// nothing is done. What lies in the room before and after has no meaning.
+/// Carries out one action of a seat's machine, in whose place then lies what the machine does next. Where a line
+/// is over, nothing is done. What lies in the room before and after has no meaning.
 ///
-/// It also says whether something moved. Nothing did where a step was handed back, no mail was there, or the
-/// line had no bytes yet: then the same may be tried again, after a rest.
+/// It says whether something moved. Nothing did where a step was handed back, no mail was there, or the line had
+/// no bytes yet: then the same may be tried again, after a rest.
 pub fn carry_out<L: Line, K: Link>(
     alloc: Global,
     machine: &mut SeatMachine,
-    action: Action,
+    action: &mut Action,
     line: &mut L,
     link: &mut K,
     room: &mut Room,
-) -> (Action, bool)
+) -> bool
     requires ready { K.is_ready link.old }
     ensures ready { K.is_ready link.new }
-    ensures carried { (submitted : List Step) × (taken : List Answer) × HasGone K.went link.old action submitted taken link.new × Carried machine.old (L.seen line.old) action machine.new (L.seen line.new) result.0 submitted taken }
+    ensures carried { (submitted : List Step) × (taken : List Answer) × HasGone K.went link.old action.old submitted taken link.new × Carried machine.old (L.seen line.old) action.old machine.new (L.seen line.new) action.new submitted taken }
 {
     match action {
-        Action::Submit(step) => match link.submit(step) {
-            Ok(()) => (machine.on(alloc, Event::Submitted), true),
-            Err(step) => (Action::Submit(step), false),
+        Action::Submit(step) => match link.submit(mem::replace(step, Step::Tick)) {
+            Ok(()) => {
+                machine.on_in_place(alloc, Event::Submitted, action);
+                true
+            }
+            Err(back) => {
+                *action = Action::Submit(back);
+                false
+            }
         },
-        Action::Read => read(alloc, machine, line, &mut room[..PIECE_ROOM]),
+        Action::Read => read(alloc, machine, action, line, &mut room[..PIECE_ROOM]),
         Action::PollMail => match link.mail() {
-            Some(answer) => (machine.on(alloc, Event::Mail(answer)), true),
-            None => (machine.on(alloc, Event::NothingYet), false),
+            Some(answer) => {
+                machine.on_in_place(alloc, Event::Mail(answer), action);
+                true
+            }
+            None => {
+                machine.on_in_place(alloc, Event::NothingYet, action);
+                false
+            }
         },
-        Action::Write(answer) => (write(alloc, machine, &answer, line, room), true),
-        Action::LineOver(end) => (Action::LineOver(end), false),
-        Action::Stray => (Action::Stray, false),
+        Action::Write(answer) => {
+            if write_answer(line, answer, room) {
+                machine.on_in_place(alloc, Event::WriteDone, action);
+                true
+            } else {
+                machine.on_in_place(alloc, Event::WriteFault, action);
+                true
+            }
+        }
+        Action::LineOver(_) => false,
+        Action::Stray => false,
     }
 }
 
 fn read<L: Line>(
     alloc: Global,
     machine: &mut SeatMachine,
+    next: &mut Action,
     line: &mut L,
     room: &mut [u8],
-) -> (Action, bool)
+) -> bool
     requires { length room.old ≡ PIECE_ROOM }
-    ensures { Carried machine.old (L.seen line.old) Action.Read machine.new (L.seen line.new) result.0 [] [] }
+    ensures { Carried machine.old (L.seen line.old) Action.Read machine.new (L.seen line.new) next.new [] [] }
 {
     match read_line(machine, line, room) {
-        Ok(0) => (machine.on(alloc, Event::EndOfInput), true),
-        Ok(count) => (machine.on(alloc, Event::Bytes(&room[..count])), true),
+        Ok(0) => {
+            machine.on_in_place(alloc, Event::EndOfInput, next);
+            true
+        }
+        Ok(count) => {
+            machine.on_in_place(alloc, Event::Bytes(&room[..count]), next);
+            true
+        }
         Err(e) => {
             if is_nothing_yet(&e) {
-                (machine.on(alloc, Event::NothingYet), false)
+                machine.on_in_place(alloc, Event::NothingYet, next);
+                false
             } else {
-                (machine.on(alloc, Event::ReadFault), true)
+                machine.on_in_place(alloc, Event::ReadFault, next);
+                true
             }
         }
     }
@@ -86,21 +115,5 @@ fn read_line<L: Line>(machine: &SeatMachine, line: &mut L, room: &mut [u8]) -> i
         line.read_now(room)
     } else {
         line.read(room)
-    }
-}
-
-fn write<L: Line>(
-    alloc: Global,
-    machine: &mut SeatMachine,
-    answer: &Answer,
-    line: &mut L,
-    room: &mut Room,
-) -> Action
-    ensures { Carried machine.old (L.seen line.old) (Action.Write answer.now) machine.new (L.seen line.new) result [] [] }
-{
-    if write_answer(line, answer, room) {
-        machine.on(alloc, Event::WriteDone)
-    } else {
-        machine.on(alloc, Event::WriteFault)
     }
 }

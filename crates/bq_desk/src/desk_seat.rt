@@ -36,20 +36,20 @@ impl<'a, C: Clock + Drop> Link for DeskSeat<'a, C> {
     }
 }
 
-/// Carries out one action of a seat's machine at the desk, and says what the machine does next and whether
-/// something moved.
+/// Carries out one action of a seat's machine at the desk, in whose place then lies what the machine does next.
+/// It says whether something moved.
 pub fn act<L: Line, C: Clock + Drop>(
     machine: &mut SeatMachine,
-    action: Action,
+    action: &mut Action,
     line: &mut L,
     desk: &mut Desk<C>,
     seat: Seat,
     room: &mut Room,
-) -> (Action, bool)
+) -> bool
     requires mails { HasMails (state_of desk.old) }
     requires within { seat < length (state_of desk.old).mails }
     ensures mails { HasMails (state_of desk.new) }
-    ensures carried { (submitted : List Step) × (taken : List Answer) × WentAt C.given seat desk.old submitted taken desk.new × Carried machine.old (L.seen line.old) action machine.new (L.seen line.new) result.0 submitted taken }
+    ensures carried { (submitted : List Step) × (taken : List Answer) × WentAt C.given seat desk.old submitted taken desk.new × Carried machine.old (L.seen line.old) action.old machine.new (L.seen line.new) action.new submitted taken }
 {
     let alloc = desk.alloc;
     let mut link = DeskSeat { desk, seat };

@@ -62,30 +62,25 @@ pub fn run_one<R: Wait, L: Line + Drop, C: Clock + Drop>(
     let room: &mut Room = &mut [0; ROOM_BYTES];
     let mut action = machine.on(alloc, Event::Opened);
     for _ in rt.forever() {
-        match action {
-            Action::LineOver(end) => {
-                line_joins();
-                return Ok(One {
-                    line,
-                    end,
-                    clock: desk.clock,
-                });
-            }
-            other => {
-                pasts_are_orderly();
-                let looked = is_look(&other);
-                let (next, _moved) = act(
-                    &mut machine,
-                    other,
-                    &mut line,
-                    &mut desk,
-                    ONLY_SEAT,
-                    room,
-                );
-                action = next;
-                rest_between_looks(rt, &bell, looked, &action);
-            }
+        if let Action::LineOver(end) = action {
+            line_joins();
+            return Ok(One {
+                line,
+                end,
+                clock: desk.clock,
+            });
         }
+        pasts_are_orderly();
+        let looked = is_look(&action);
+        let _moved = act(
+            &mut machine,
+            &mut action,
+            &mut line,
+            &mut desk,
+            ONLY_SEAT,
+            room,
+        );
+        rest_between_looks(rt, &bell, looked, &action);
     }
     unreachable!()
 }

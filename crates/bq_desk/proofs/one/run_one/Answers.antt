@@ -22,8 +22,8 @@ loop-init g c =
       within = omega (arith, many, seats);
     }
 
-pub act-next-requires : goal.act-next-requires
-act-next-requires g c =
+pub act-moved-requires : goal.act-moved-requires
+act-moved-requires g c =
     record {
       mails = c.loop.invariant.mails;
       within = c.loop.invariant.within;
@@ -32,17 +32,17 @@ act-next-requires g c =
 pub loop-preserved : goal.loop-preserved
 loop-preserved g c =
     let i = c.loop.invariant.serves in
-    let h = c.act-next.ensures.carried in
+    let h = c.act-moved.ensures.carried in
     let w = h.2 in
-    let next = state_of c.act-next.new.desk in
+    let next = state_of c.act-moved.new.desk in
     record {
       iterator = (tt, tt);
       serves = (
         i.0 ++ w.0,
         w.1 c.args.clock i.0 i.1,
-        goes_on_alone c.pasts_are_orderly.ensures c.args.config 0 i.0 w.0 (state_of c.loop.desk) next c.loop.machine c.act-next.new.machine (g.L.Line.seen c.loop.line) (g.L.Line.seen c.act-next.new.line) c.loop.action c.act-next.result.0 h.0 h.1 i.2 w.2 h.3,
+        goes_on_alone c.pasts_are_orderly.ensures c.args.config 0 i.0 w.0 (state_of c.loop.desk) next c.loop.machine c.act-moved.new.machine (g.L.Line.seen c.loop.line) (g.L.Line.seen c.act-moved.new.line) c.loop.action c.act-moved.new.action h.0 h.1 i.2 w.2 h.3,
       );
-      mails = c.act-next.ensures.mails;
+      mails = c.act-moved.ensures.mails;
       within = omega (arith, w.2.went.many, c.loop.invariant.within);
     }
 
