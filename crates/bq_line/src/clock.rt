@@ -3,9 +3,11 @@ ghost use Rattle.std.specs.Prelude.{◌≡◌, ℕ, List, [], ◌∷◌, ◌++�
 ghost use Rattle.bq_job.specs.promise.History.{moment_heard};
 
 pub use machine_clock::MachineClock;
+pub use notice::Notice;
 pub use script_clock::ScriptClock;
 
 mod machine_clock;
+mod notice;
 mod reading_record;
 mod script_clock;
 
@@ -21,6 +23,9 @@ pub trait Clock {
     /// before is no error.
     fn now(&mut self) -> Option<Moment>
         ensures { (first : Self) (readings : List (Option ℕ)) → given first readings self.old → given first (readings ++ result ∷ []) self.new };
+
+    /// A run that reads this clock has something to tell. Nothing is told unless a clock says otherwise.
+    fn tell(&self, _notice: Notice) {}
 
     /// An unchanged clock gave no reading.
     ghost none_given: { (clock : Self) → given clock [] clock };

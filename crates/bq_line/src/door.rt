@@ -4,11 +4,13 @@ ghost use Rattle.bq_job.specs.promise.History.{LineOver};
 ghost use Rattle.bq_line.specs.Doors.{IsOpened};
 
 pub use mem_door::MemDoor;
+pub use refusals::Refusals;
 pub use tcp_door::TcpDoor;
 
 mod accept;
 mod line_record;
 mod mem_door;
+mod refusals;
 mod tcp_door;
 
 use crate::line::Line;

@@ -1,7 +1,8 @@
 //! The next connection of a listener.
 
+use super::refusals::{Met, Refusals};
 use crate::line::Connection;
-use std::io::ErrorKind;
+use std::io::{Eprint, ErrorKind};
 use std::net::TcpListener;
 use std::rt::Clock;
 use std::time::Duration;
@@ -27,20 +28,32 @@ enum Refusal {
 /// The next connection. What is written to it goes out at once.
 ///
 /// A peer that is gone by then is passed. Where the system is short of something, this rests and tries again,
-/// so that a shortage ends no door.
-pub(super) fn accept<R: Clock>(rt: &R, listener: &TcpListener) -> io::Result<Connection> {
+/// so that a shortage ends no door. A shortage and the listener's end are told once.
+pub(super) fn accept<R: Clock + Eprint>(
+    rt: &R,
+    listener: &TcpListener,
+    refusals: Option<&Refusals>,
+) -> io::Result<Connection> {
+    let mut met = Met::none(refusals);
     for _ in 0..u64::MAX {
         match listener.accept() {
             Ok((stream, _peer)) => {
                 // It can't be set where the peer has gone.
                 if stream.set_nodelay(true).is_ok() {
+                    met.end();
                     return Ok(Connection::new(stream));
                 }
             }
             Err(e) => match meaning_of(&e) {
                 Refusal::OfPeer => {}
-                Refusal::Shortage => thread::sleep(rt, Duration::from_millis(REST)),
-                Refusal::OfListener => return Err(e),
+                Refusal::Shortage => {
+                    met.note(rt, &e);
+                    thread::sleep(rt, Duration::from_millis(REST));
+                }
+                Refusal::OfListener => {
+                    met.note(rt, &e);
+                    return Err(e);
+                }
             },
         }
     }

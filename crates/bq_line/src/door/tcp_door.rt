@@ -1,12 +1,14 @@
-ghost use Rattle.std.specs.Prelude.{◌≡◌, [], IsSome, OnErr, OnOk, Some, false, true};
+ghost use Rattle.std.specs.Prelude.{◌≡◌, ◌↔◌, [], IfOk, IsNone, IsSome, OnErr, OnOk, Some, false, true};
 ghost use Rattle.bq_line.specs.Doors.{IsOpened};
 ghost use Rattle.bq_line.specs.InAll.{in_all};
 
 use super::accept::accept;
 use super::line_record::LineRecord;
+use super::refusals::Refusals;
 use super::{Door, DoorFault};
 use crate::line::{Buffered, Connection, IoLine, Line, ReadBuffer};
 use bq_job::LineEnd;
+use std::io::Eprint;
 use std::net::TcpListener;
 use std::rt::Clock;
 
@@ -16,6 +18,8 @@ use std::rt::Clock;
 pub struct TcpDoor<'l, R> {
     rt: &'l R,
     listener: &'l TcpListener,
+    // Where it is told that connections can't be accepted.
+    refusals: Option<&'l Refusals>,
     // How many connections still come. None: they come without end.
     left: Option<u32>,
     // What the next connection is read through. It goes out with a connection, and comes back with it.
@@ -28,7 +32,7 @@ pub struct TcpDoor<'l, R> {
     ghost lent: { is_out ≡ false → IsSome buffer },
 }
 
-impl<'l, R: Clock> TcpDoor<'l, R> {
+impl<'l, R: Clock + Eprint> TcpDoor<'l, R> {
     /// A door at which so many connections of the listener come, or with None connections without end. They are
     /// read through this buffer, one after another.
     pub fn new(
@@ -47,6 +51,7 @@ impl<'l, R: Clock> TcpDoor<'l, R> {
         TcpDoor {
             rt,
             listener,
+            refusals: None,
             left: sessions,
             buffer: Some(buffer),
             is_out: false,
@@ -54,6 +59,20 @@ impl<'l, R: Clock> TcpDoor<'l, R> {
             met_fault: false,
             over: LineRecord::new(),
         }
+    }
+
+    /// The same door, which tells of connections that can't be accepted.
+    pub fn telling(mut self, refusals: &'l Refusals) -> TcpDoor<'l, R>
+        ensures inside { result.is_out ≡ self.entry.is_out }
+        ensures at_end { result.is_at_end ≡ self.entry.is_at_end }
+        ensures over { result.over ≡ self.entry.over }
+        ensures at { result.listener ≡ self.entry.listener }
+        ensures allowed { result.left ≡ self.entry.left }
+        ensures fault { result.met_fault ≡ self.entry.met_fault }
+        ensures told { result.refusals ≡ Some refusals.entry }
+    {
+        self.refusals = Some(refusals);
+        self
     }
 
     /// Whether the door is at its end because a connection could not be accepted.
@@ -85,7 +104,7 @@ impl<'l, R: Clock> TcpDoor<'l, R> {
     }
 }
 
-impl<'l, R: Clock> Door for TcpDoor<'l, R> {
+impl<'l, R: Clock + Eprint> Door for TcpDoor<'l, R> {
     ghost use Rattle.std.proofs.Common.{refl};
 
     type Line = IoLine<Buffered<Connection>>;
@@ -110,12 +129,15 @@ impl<'l, R: Clock> Door for TcpDoor<'l, R> {
         // A fault is kept for `met_fault`.
         ensures fault { OnErr result (self.new.met_fault ≡ true) }
         ensures no_fault { OnOk result (self.new.met_fault ≡ self.old.met_fault) }
+        // There is no line exactly where as many were opened as may come.
+        ensures none { IfOk result (λ line. IsNone line ↔ (self.old.left ≡ Some 0)) }
+        ensures left { OnErr result (self.old.left ≡ Some 0 → ⊥) }
     {
         if self.left == Some(0) {
             self.is_at_end = true;
             return Ok(None);
         }
-        match accept(self.rt, self.listener) {
+        match accept(self.rt, self.listener, self.refusals) {
             Ok(stream) => {
                 let buffer = self.lend();
                 Ok(Some(IoLine::new(Buffered::new(stream, buffer))))
