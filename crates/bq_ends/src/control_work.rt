@@ -6,9 +6,8 @@ ghost use Rattle.bq_link.specs.EndStates.{IsSameSeat};
 ghost use Rattle.bq_ends.specs.Ends.{IsNewEnd};
 
 use crate::end_seat::control_at;
-use crate::no_ticks::NoTicks;
 use bq_attend::control_line::ControlLine;
-use bq_link::{Intake, SeatEnd};
+use bq_link::{Intake, NoTicks, SeatEnd};
 use std::io::BufRead;
 use std::sync::Wait;
 

@@ -1,16 +1,17 @@
 //! An end of the links, as a seat and as the control line see it.
-ghost use Rattle.std.specs.Prelude.{◌≡◌, [], List};
+ghost use Rattle.std.specs.Prelude.{◌≡◌, [], IfNone, List, OnErr, false};
 ghost use Rattle.std.specs.Option.{option_to_list};
 ghost use Rattle.bq_job.specs.promise.ControlDid.{IsControlDone};
+ghost use Rattle.bq_job.specs.promise.History.{is_tick};
 ghost use Rattle.bq_job.specs.declared.step.Step.{Step};
 ghost use Rattle.bq_attend.specs.ControlRead.{IsOver, IsReadToEnd};
 ghost use Rattle.bq_attend.specs.ControlSeen.{new_control};
 ghost use Rattle.bq_attend.specs.Links.{Submits};
 ghost use Rattle.bq_attend.specs.Tending.{GoesOn, IsPlaced, door_seen};
-ghost use Rattle.bq_link.specs.EndStates.{IsSameSeat};
-ghost use Rattle.bq_ends.specs.Ends.{EndWent};
+ghost use Rattle.bq_link.specs.EndStates.{IsSameSeat, WasFull};
+ghost use Rattle.bq_link.specs.Submissions.{MaySubmit};
+ghost use Rattle.bq_ends.specs.Ends.{EndWent, LinkWent};
 
-use crate::no_ticks::NoTicks;
 use bq_attend::attendant::Attendant;
 use bq_attend::client::Room;
 use bq_attend::control::{ControlLink, submit_control};
@@ -19,7 +20,7 @@ use bq_attend::link::Link;
 use bq_job::{Answer, Step};
 use bq_line::Door;
 use bq_line::line::Line;
-use bq_link::{Intake, SeatEnd};
+use bq_link::{Intake, NoTicks, Record, SeatEnd};
 use std::alloc::Global;
 use std::sync::Wait;
 use std::thread;
@@ -43,15 +44,19 @@ pub struct EndSeat<'a, R> {
 impl<'a, R: Wait> Link for EndSeat<'a, R> {
     ghost is_ready = { λ l. l.end.now.intake ≡ l.intake.now.id };
 
-    // Who drops the link knows the end by it.
-    ghost went = { λ first submitted taken last. (last.end.ghost_name ≡ first.end.ghost_name) × (last.intake ≡ first.intake)
-        × EndWent first.end.now submitted taken last.end.now };
+    ghost went = { LinkWent };
 
     fn submit(&mut self, step: Step) -> Result<(), Step> {
         submit_at(self.rt, self.intake, self.end, step)
     }
 
-    fn mail(&mut self) -> Option<Answer> {
+    fn mail(&mut self) -> Option<Answer>
+        requires ready { self.old.end.now.intake ≡ self.old.intake.now.id }
+        ensures ready { self.new.end.now.intake ≡ self.new.intake.now.id }
+        ensures went { LinkWent self.old [] (option_to_list result) self.new }
+        // There is none only where none was known to wait.
+        ensures none { IfNone result (self.old.end.now.waiting ≡ []) }
+    {
         mail_at(self.rt, self.intake, self.end)
     }
 }
@@ -59,8 +64,7 @@ impl<'a, R: Wait> Link for EndSeat<'a, R> {
 impl<'a, R: Wait> ControlLink for EndSeat<'a, R> {
     ghost is_ready = { λ l. l.end.now.intake ≡ l.intake.now.id };
 
-    ghost went = { λ first submitted last. (last.end.ghost_name ≡ first.end.ghost_name) × (last.intake ≡ first.intake)
-        × EndWent first.end.now submitted [] last.end.now };
+    ghost went = { λ first submitted last. LinkWent first submitted [] last };
 
     fn submit(&mut self, step: Step) -> Result<(), Step> {
         submit_at(self.rt, self.intake, self.end, step)
@@ -68,15 +72,20 @@ impl<'a, R: Wait> ControlLink for EndSeat<'a, R> {
 }
 
 // Submits a step at an end, or hands it back where the intake is full. A tick is no seat's own, and is passed.
-fn submit_at<R: Wait>(
+//
+// Whatever is so of the intake at each moment: where the step was handed back, it was so of a full one, after the last
+// step that this end submitted.
+fn submit_at<R: Wait, J: Record>(
     rt: &R,
-    intake: &Intake<NoTicks>,
+    intake: &Intake<J>,
     end: &mut SeatEnd,
     step: Step,
 ) -> Result<(), Step>
     requires intake { end.old.intake ≡ intake.now.id }
+    requires may { is_tick step ≡ false → MaySubmit J.was intake.now.places end.old.number step }
     ensures intake { end.new.intake ≡ intake.now.id }
     ensures went { Submits EndWent end.old step result end.new }
+    ensures full { OnErr result (WasFull J.was intake.now.places end.old) }
 {
     match step {
         Step::Tick => Ok(()),
@@ -87,7 +96,8 @@ fn submit_at<R: Wait>(
 // Takes the oldest answer that came to an end. Where there is none yet the end looks again some times, since most
 // steps are answered at once, and then it rests until its bell is rung.
 fn mail_at<R: Wait>(rt: &R, intake: &Intake<NoTicks>, end: &mut SeatEnd) -> Option<Answer>
-    ensures { EndWent end.old [] (option_to_list result) end.new }
+    ensures went { EndWent end.old [] (option_to_list result) end.new }
+    ensures none { IfNone result ((end.old.waiting ≡ []) × (end.new ≡ end.old)) }
 {
     for _ in 0..LOOKS {
         match end.mail() {

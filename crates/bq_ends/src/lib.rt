@@ -2,9 +2,6 @@
 //! control line.
 #![tactic(auto)]
 
-pub use no_ticks::NoTicks;
-
 pub mod control_work;
 mod end_seat;
-mod no_ticks;
 pub mod seat_work;

@@ -7,12 +7,11 @@ ghost use Rattle.bq_link.specs.EndStates.{IsSameSeat};
 ghost use Rattle.bq_ends.specs.Ends.{IsNewEnd};
 
 use crate::end_seat::attend_at;
-use crate::no_ticks::NoTicks;
 use bq_attend::attendant::{Attendant, Place};
 use bq_attend::client::{ROOM_BYTES, Room};
 use bq_line::Door;
 use bq_line::line::Line;
-use bq_link::{Intake, SeatEnd};
+use bq_link::{Intake, NoTicks, SeatEnd};
 use bq_seat::SeatMachine;
 use std::alloc::Global;
 use std::sync::Wait;

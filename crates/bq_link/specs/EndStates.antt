@@ -12,10 +12,11 @@ pub record RingId : Type 0 where
   pub slots : Ptr
   pub names : ℕ × (ℕ × ℕ)
 
--- Which intake it is, and how many steps it has room for.
+-- Which intake it is, how many steps it has room for, and how many ends have a bell.
 pub record IntakeState : Type 0 where
   pub id : TableId
   pub places : ℕ
+  pub bells : ℕ
 
 -- A seat's end: its number, the intake and the ring that it belongs to, all that it submitted, the answers
 -- that it took, and those that it knows to wait.

@@ -5,3 +5,4 @@ pub mod Inside
 pub mod Looks
 pub mod NewEnds
 pub mod Submissions
+pub mod Ticks

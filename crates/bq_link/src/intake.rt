@@ -13,14 +13,18 @@ pub struct Intake<J: Record> {
 }
 
 impl<J: Record> Model for Intake<J> {
-    ghost use Rattle.std.specs.Prelude.{ℕ};
+    ghost use Rattle.std.specs.Prelude.{ℕ, length};
     ghost use Rattle.bq_link.specs.EndStates.{IntakeState};
 
     ghost Value = { IntakeState };
 
     ghost use Rattle.crossbeam_queue.specs.Passes.{ruled_capacity};
 
-    ghost view = { λ i. record { id = i.queue.table.shared.table_id; places = ruled_capacity i.queue } };
+    ghost view = { λ i. record {
+      id = i.queue.table.shared.table_id;
+      places = ruled_capacity i.queue;
+      bells = length i.seats.items;
+    } };
 }
 
 impl<J: Record> Intake<J> {

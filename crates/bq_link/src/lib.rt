@@ -9,6 +9,7 @@ pub use delivery::Record;
 pub use intake::Intake;
 pub use laws::{empty_looks_are_of_empty_intakes, pairs_stay, refusals_are_of_full_intakes};
 pub use making::links;
+pub use no_ticks::NoTicks;
 pub use seat_end::SeatEnd;
 
 mod core_end;
@@ -16,4 +17,5 @@ mod delivery;
 mod intake;
 mod laws;
 mod making;
+mod no_ticks;
 mod seat_end;

@@ -19,6 +19,7 @@ pub fn links<J: Record>(
     requires seats { (1 ≤ seats) × (seats ≤ 256) }
     requires start { J.was [] [] }
     ensures intake { IfOk result (λ r. r.0.places ≡ 2 * (seats + 1)) }
+    ensures bells { IfOk result (λ r. r.0.bells ≡ seats + 1) }
     ensures core { IfOk result (λ r. (r.1.intake ≡ r.0.id) × IsNewCore (seats + 1) r.1) }
     ensures seats { IfOk result (λ r. (length r.2.items ≡ seats + 1) × AreNewSeats r.1 r.2.items) }
 {
@@ -35,6 +36,7 @@ fn all_ends<J: Record>(
     requires ends { (1 ≤ ends) × (ends ≤ 257) }
     requires start { J.was [] [] }
     ensures intake { IfOk result (λ r. r.0.places ≡ 2 * ends) }
+    ensures bells { IfOk result (λ r. r.0.bells ≡ ends) }
     ensures core { IfOk result (λ r. (r.1.intake ≡ r.0.id) × IsNewCore ends r.1) }
     ensures seats { IfOk result (λ r. (length r.2.items ≡ ends) × AreNewSeats r.1 r.2.items) }
 {
@@ -68,6 +70,7 @@ fn no_ends<J: Record>(alloc: Global, ends: usize) -> Result<(Intake<J>, CoreEnd)
     requires ends { (1 ≤ ends) × (ends ≤ 257) }
     requires start { J.was [] [] }
     ensures intake { IfOk result (λ r. r.0.places ≡ 2 * ends) }
+    ensures bells { IfOk result (λ r. r.0.bells ≡ ends) }
     ensures core { IfOk result (λ r. (r.1.intake ≡ r.0.id) × IsNewCore 0 r.1) }
 {
     let seats = bells(alloc, ends)?;
@@ -81,7 +84,9 @@ fn no_ends<J: Record>(alloc: Global, ends: usize) -> Result<(Intake<J>, CoreEnd)
     Ok((intake, CoreEnd { pass, rings }))
 }
 
-fn bells(alloc: Global, ends: usize) -> Result<Vec<Parker>, AllocError> {
+fn bells(alloc: Global, ends: usize) -> Result<Vec<Parker>, AllocError>
+    ensures { IfOk result (λ bells. length bells.items ≡ ends) }
+{
     let mut bells = Vec::with_capacity(alloc, ends)?;
     for _number in 0..ends {
         bells.push(Parker::new())?;
