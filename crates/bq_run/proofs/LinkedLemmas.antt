@@ -21,8 +21,8 @@ use Rattle.bq_link.specs.Submissions.{AreBelow, steps_of}
 use Rattle.bq_attend.specs.Tending.{DoorSeen, IsDoorServed}
 use Rattle.bq_attend.specs.declared.control_line.ControlLine.{ControlLine}
 use Rattle.bq_job.proofs.JoinLemmas.{doors_owed}
-use Rattle.bq_run.specs.CoreWork.{IsCoreDone}
-use Rattle.bq_ends.specs.Ends.{IsTickless}
+use Rattle.bq_hub.specs.CoreWork.{IsCoreDone}
+use Rattle.bq_link.specs.Ticks.{IsTickless}
 use Rattle.bq_run.specs.Linked.{AreSettled, AreStill, IsCoreStill, IsEndOf, IsLinked, IsSettled}
 use Rattle.bq_run.specs.Threads.{AreServed, IsControlOver, IsCoreOver}
 use Rattle.bq_run.proofs.GoneLemmas.{EndsByGone, control_ends_by_gone, none_waits, seat_ends_by_gone}

@@ -19,7 +19,7 @@ use Rattle.bq_link.proofs.intake.Intake.TheSendSync as Intake
 use Rattle.bq_core.proofs.SendLemmas.{core_sends, outs_sends}
 use Rattle.bq_start.proofs.start.Start.TheSendSync as StartSync
 use Rattle.bq_start.specs.contracts.start.Start as Start
-use Rattle.bq_run.proofs.core_work.room.CoreRoom.TheSendSync as CoreRoom
+use Rattle.bq_hub.proofs.core_work.room.CoreRoom.TheSendSync as CoreRoom
 use Rattle.bq_run.specs.contracts.sessions.core_post.CorePost as CorePost
 use Rattle.std.proofs.Crossing as Crossing
 use Rattle.std.specs.contracts.option.Option as Option

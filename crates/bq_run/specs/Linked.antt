@@ -6,7 +6,7 @@ use Rattle.bq_job.specs.promise.History.{steps_at, without_ticks}
 use Rattle.bq_job.specs.promise.Runs.{Entry, answers_to}
 use Rattle.bq_link.specs.EndStates.{CoreState, IsPair, IsSameCore, IsSameSeat, SeatState, sent_to}
 use Rattle.bq_link.specs.Submissions.{steps_of}
-use Rattle.bq_ends.specs.Ends.{IsTickless}
+use Rattle.bq_link.specs.Ticks.{IsTickless}
 
 -- Each end has its place for its number, and comes from one `links` with the core's.
 abbrev pub ArePaired : CoreState → List SeatState → Type 0

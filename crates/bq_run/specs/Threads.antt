@@ -7,7 +7,7 @@ use Rattle.bq_attend.specs.ControlRead.{IsReadToEnd}
 use Rattle.bq_attend.specs.Tending.{DoorSeen, IsDoorServed}
 use Rattle.bq_attend.specs.declared.control_line.ControlLine.{ControlLine}
 use Rattle.bq_link.specs.EndStates.{CoreState, IsSameCore, IsSameSeat, SeatState}
-use Rattle.bq_run.specs.CoreWork.{IsCoreDone}
+use Rattle.bq_hub.specs.CoreWork.{IsCoreDone}
 
 -- The seats' threads are over, in the order of their seats: each has the end that it began with, and served its
 -- door to its end.

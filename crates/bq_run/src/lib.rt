@@ -3,5 +3,4 @@
 
 pub use sessions::{Run, run_sessions};
 
-pub mod core_work;
 mod sessions;

@@ -7,12 +7,11 @@ ghost use Rattle.bq_run.specs.Sessions.{IsRunOf};
 
 use bq_attend::control_line::ControlLine;
 use bq_core::{Config, Core};
-use bq_ends::NoTicks;
 use bq_job::steps_keep_settings;
 use bq_line::Door;
 use bq_line::clock::Clock;
 use bq_line::line::Line;
-use bq_link::{CoreEnd, Intake, SeatEnd, links};
+use bq_link::{CoreEnd, Intake, NoTicks, SeatEnd, links};
 use bq_start::{RunFault, Start};
 use new_posts::{NewCore, new_posts};
 use posts::Ended;

@@ -6,8 +6,9 @@
 #![tactic(auto)]
 
 pub use bq_desk::{One, run_one};
-pub use bq_ends::{NoTicks, control_work, seat_work};
-pub use bq_line::{Door, DoorFault, MemDoor, TcpDoor, clock, line};
+pub use bq_ends::{control_work, seat_work};
+pub use bq_hub::core_work;
+pub use bq_line::{Door, DoorFault, MemDoor, Refusals, TcpDoor, clock, line};
 pub use bq_lock::{Locked, LockedRun, run_locked};
-pub use bq_run::{Run, core_work, run_sessions};
+pub use bq_run::{Run, run_sessions};
 pub use bq_start::RunFault;

@@ -2,14 +2,13 @@
 ghost use Rattle.std.specs.Prelude.{◌≡◌, ◌<◌, ◌+◌, [], IfSome};
 ghost use Rattle.bq_job.specs.machine.Machine.{new_machine};
 ghost use Rattle.bq_link.specs.NewEnds.{IsNewCore};
-ghost use Rattle.bq_run.specs.CoreWork.{IsNewRoom};
+ghost use Rattle.bq_hub.specs.CoreWork.{IsNewRoom};
 ghost use Rattle.bq_run.specs.Threads.{IsCoreOver};
 
-use crate::core_work::{CoreRoom, core_work};
 use bq_core::{Config, Core, Outs};
-use bq_ends::NoTicks;
+use bq_hub::core_work::{CoreRoom, core_work};
 use bq_line::clock::Clock;
-use bq_link::{CoreEnd, Intake};
+use bq_link::{CoreEnd, Intake, NoTicks};
 use bq_start::Start;
 use std::alloc::Global;
 use std::sync::Wait;

@@ -5,21 +5,20 @@ ghost use Rattle.bq_core.specs.Limits.{are_in_range, is_body_size};
 ghost use Rattle.bq_job.specs.machine.Machine.{new_machine};
 ghost use Rattle.bq_attend.specs.Tending.{IsNewDoor, door_seen};
 ghost use Rattle.bq_link.specs.NewEnds.{AreNewSeats, IsNewCore};
-ghost use Rattle.bq_run.specs.CoreWork.{IsNewRoom};
+ghost use Rattle.bq_hub.specs.CoreWork.{IsNewRoom};
 ghost use Rattle.bq_ends.specs.Ends.{IsNewEnd};
 ghost use Rattle.bq_run.specs.Threads.{last_first};
 
-use crate::core_work::CoreRoom;
 use crate::sessions::core_post::CorePost;
 use crate::sessions::posts::{ControlPost, Posts};
 use crate::sessions::seat_post::SeatPost;
 use bq_core::{Config, Core, CoreFault, Outs};
-use bq_ends::NoTicks;
+use bq_hub::core_work::CoreRoom;
 use bq_job::NoMemory;
 use bq_line::Door;
 use bq_line::clock::Clock;
 use bq_line::line::Line;
-use bq_link::{CoreEnd, Intake, SeatEnd};
+use bq_link::{CoreEnd, Intake, NoTicks, SeatEnd};
 use bq_start::RunFault;
 use std::alloc::Global;
 

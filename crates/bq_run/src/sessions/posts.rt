@@ -7,9 +7,8 @@ use crate::sessions::core_post::CorePost;
 use crate::sessions::seat_post::SeatPost;
 use bq_attend::control_line::ControlLine;
 use bq_core::Core;
-use bq_ends::NoTicks;
 use bq_line::Door;
-use bq_link::{CoreEnd, Intake, SeatEnd};
+use bq_link::{CoreEnd, Intake, NoTicks, SeatEnd};
 use std::alloc::Global;
 
 /// The control line's end of the links, at which nothing was done.

@@ -7,12 +7,11 @@ ghost use Rattle.bq_attend.specs.Tending.{IsDoorServed, IsNewDoor, door_seen};
 ghost use Rattle.bq_link.specs.EndStates.{IsSameSeat};
 ghost use Rattle.bq_ends.specs.Ends.{IsNewEnd};
 
-use bq_ends::NoTicks;
 use bq_ends::seat_work::seat_work;
 use bq_job::NoMemory;
 use bq_line::Door;
 use bq_line::line::Line;
-use bq_link::{Intake, SeatEnd};
+use bq_link::{Intake, NoTicks, SeatEnd};
 use bq_seat::SeatMachine;
 use bq_start::Start;
 use std::alloc::Global;

@@ -3,8 +3,7 @@ ghost use Rattle.std.specs.Prelude.{◌≡◌};
 ghost use Rattle.bq_link.specs.EndStates.{IsPair};
 ghost use Rattle.bq_run.specs.Linked.{ArePaired, AreSettled, AreStill, IsCoreStill, IsEndStill, IsSettled};
 
-use bq_ends::NoTicks;
-use bq_link::{CoreEnd, Intake, SeatEnd};
+use bq_link::{CoreEnd, Intake, NoTicks, SeatEnd};
 
 /// Compares each end with the core's. What an end submitted is what the core took and what waits, and what was
 /// sent to it is what it took and what waits for it.

@@ -2,7 +2,7 @@ use Rattle.std.proofs.Common.{◌≡◌, ◌∷◌, ◌++◌, [], ℕ, List, app
 use Rattle.bq_job.specs.declared.step.Step.{Step}
 use Rattle.bq_job.specs.promise.History.{is_tick}
 use Rattle.bq_link.proofs.RingLemmas.{all_push}
-use Rattle.bq_ends.specs.Ends.{IsTickless}
+use Rattle.bq_link.specs.Ticks.{IsTickless}
 use Rattle.bq_serve_tests.proofs.core_at_work.submits.Goals as goal
 
 -- what is tickless stays so with one step more that is no tick

@@ -1,0 +1,15 @@
+use Rattle.std.proofs.Common.{subst, sym}
+use Rattle.bq_hub.specs.Worked.{IsInOrder, TakesStep}
+use Rattle.bq_hub.specs.declared.core_work.hub.Hub.{Hub}
+use Rattle.bq_hub.proofs.core_work.hub.Hub.take_step.Goals as goal
+
+pub returns-clause-order : goal.returns-clause-order
+returns-clause-order g c =
+    let o = c.step.ensures.order in
+    subst (λ (h : Hub _). IsInOrder h) (sym c.tell.ensures) (record { room = o.room; sender = o.sender; many = o.many; all = o.all })
+
+pub returns-clause-taken : goal.returns-clause-taken
+returns-clause-taken g c =
+    let t = c.step.ensures.taken in
+    subst (λ (h : Hub _). TakesStep g.C.Clock.given c.args.self.now c.args.seat c.args.what h) (sym c.tell.ensures)
+    (record { reading = t.reading; outcome = t.outcome; gave = t.gave; heard = t.heard; step = t.step; sender = t.sender; marked = t.marked })

@@ -1,0 +1,109 @@
+-- The core at work on a thread of its own.
+use Rattle.std.specs.Prelude.{ℕ, ◌≡◌, ◌⊎◌, ◌<◌, ◌++◌, ◌∷◌, Bool, true, false, List, [], Option, length, slice_index_or, slice_set}
+use Rattle.bq_job.specs.beside.NextDue.{is_before, next_due}
+use Rattle.bq_job.specs.declared.settings.Settings.{Settings}
+use Rattle.bq_job.specs.declared.step.Step.{Step}
+use Rattle.bq_job.specs.declared.step.Step.TheVariants.{Gone, Tick}
+use Rattle.bq_job.specs.machine.Dispatch.{GivenAnswer}
+use Rattle.bq_job.specs.promise.History.{IsTimedFrom, moment_heard}
+use Rattle.bq_job.specs.machine.Machine.{Machine, new_machine}
+use Rattle.bq_job.specs.promise.Runs.{Entry, Run, answers_to}
+use Rattle.bq_job.specs.machine.Steps.{IsStep, Outcome}
+use Rattle.bq_line.specs.GivenReadings.{GaveReadings}
+use Rattle.bq_link.specs.EndStates.{CoreState, sent_to}
+use Rattle.bq_link.specs.Submissions.{AreBelow, steps_of}
+use Rattle.bq_hub.specs.CoreWork.{HasGone, no_ticks, steps_made}
+use Rattle.bq_hub.specs.Flags.{AreAllSet}
+use Rattle.bq_hub.specs.Sending.{IsAtRest}
+use Rattle.bq_hub.specs.declared.core_work.gone.Gone.{Gone as Gones}
+use Rattle.bq_hub.specs.declared.core_work.hub.Hub.{Hub}
+
+-- what lies in the core's thread beside its clock
+pub record HubState : Type 0 where
+  pub core : Machine
+  pub end : CoreState
+  -- the answers that aren't sent yet, and of each end whether it is gone
+  pub pending : List GivenAnswer
+  pub gone : List Bool
+  -- the moment heard last
+  pub heard : ℕ
+
+abbrev pub hub_state : {C : Type 0} → Hub C → HubState
+hub_state h = record {
+  core = h.core.machine;
+  end = h.sender.end;
+  pending = h.sender.kept.items ++ h.outs.given;
+  gone = h.gone.flags.items;
+  heard = h.heard;
+}
+
+-- What the core did since the start: it took the steps that came by its end, and ticks, each at the moment of a
+-- reading; and what it gave was sent, or is to be sent still.
+pub record HasWorked (settings : Settings) (readings : List (Option ℕ)) (h : HubState) : Type 0 where
+  pub history : List Entry
+  pub given : List GivenAnswer
+  pub runs : Run (new_machine settings) history given h.core
+  pub timed : IsTimedFrom 0 readings history h.heard
+  pub taken_is : steps_made history ≡ no_ticks h.end.taken
+  pub numbers : AreBelow (length h.end.rings) h.end.taken
+  pub sent_is : (seat : ℕ) → seat < length h.end.rings → answers_to seat given ≡ sent_to h.end seat ++ answers_to seat h.pending
+  pub marked : (seat : ℕ) → slice_index_or h.gone seat false ≡ true → HasGone (steps_of seat h.end.taken)
+
+-- the same with the clock, which gave these readings from the first on
+abbrev pub IsAtWork : {C : Type 0} → (C → List (Option ℕ) → C → Type 0) → Settings → C → Hub C → Type 0
+IsAtWork given settings first hub = (readings : List (Option ℕ)) × given first readings hub.clock × HasWorked settings readings (hub_state hub)
+
+-- Whatever was done before, the work went on.
+abbrev pub WorksOn : {C : Type 0} → (C → List (Option ℕ) → C → Type 0) → Hub C → Hub C → Type 0
+WorksOn {C} given old new = (settings : Settings) (first : C) → IsAtWork given settings first old → IsAtWork given settings first new
+
+-- It is known whether each end is gone.
+pub record KnowsAll (gone : Gones) : Type 0 where
+  pub each : gone.all ≡ true → AreAllSet gone.flags.items
+  pub known : AreAllSet gone.flags.items → gone.all ≡ true
+
+-- There is room for the answers of a step, and it is known which ends are gone.
+pub record IsInOrder {C : Type 0} (h : Hub C) : Type 0 where
+  pub room : h.core.machine.settings.seats < h.outs.most
+  pub sender : IsAtRest h.sender
+  pub many : length h.gone.flags.items ≡ h.sender.ends
+  pub all : KnowsAll h.gone
+
+-- of each end whether it is gone, after a step: an end's own step says so
+abbrev pub gone_after : ℕ → Step → List Bool → List Bool
+gone_after seat Gone flags = slice_set flags seat true
+gone_after seat _ flags = flags
+
+-- The core took a step at the moment of one reading of its clock.
+pub record TakesStep {C : Type 0} (given : C → List (Option ℕ) → C → Type 0) (old : Hub C) (seat : ℕ) (what : Step) (new : Hub C) : Type 0 where
+  pub reading : Option ℕ
+  pub outcome : Outcome
+  pub gave : GaveReadings given old.clock (reading ∷ []) new.clock
+  pub heard : new.heard ≡ moment_heard old.heard reading
+  pub step : IsStep old.core.machine new.heard seat what outcome new.outs.given new.core.machine
+  pub sender : new.sender ≡ old.sender
+  pub marked : new.gone.flags.items ≡ gone_after seat what old.gone.flags.items
+
+-- One more step was taken out of the intake.
+abbrev pub TookOne : CoreState → CoreState → Type 0
+TookOne old new = (step : ℕ × Step) × (new.taken ≡ old.taken ++ step ∷ [])
+
+-- The core took a tick at the moment heard last.
+pub record HasTicked {C : Type 0} (old new : Hub C) : Type 0 where
+  pub outcome : Outcome
+  pub step : IsStep old.core.machine new.heard 0 Tick outcome new.outs.given new.core.machine
+
+-- At the moment heard last nothing is due.
+abbrev pub IsIdle : {C : Type 0} → Hub C → Hub C → Type 0
+IsIdle old new = is_before new.heard (next_due old.core.machine) ≡ true
+
+-- What came of a turn that isn't the last one: so many answers wait for full rings that no more can be kept, a step
+-- was taken or a tick made, or nothing is due.
+abbrev pub TurnWent : {C : Type 0} → Hub C → Hub C → Type 0
+TurnWent old new =
+    (length new.sender.kept.items ≡ new.sender.ends) ⊎ (TookOne old.sender.end new.sender.end ⊎ (HasTicked old new ⊎ IsIdle old new))
+
+-- Nothing is left to be done.
+pub record IsOver {C : Type 0} (h : Hub C) : Type 0 where
+  pub none_pending : (hub_state h).pending ≡ []
+  pub all_gone : AreAllSet h.gone.flags.items

@@ -1,0 +1,54 @@
+//! The core on a thread of its own.
+ghost use Rattle.std.specs.Prelude.{◌≡◌, ◌<◌, ◌+◌, []};
+ghost use Rattle.bq_job.specs.machine.Machine.{new_machine};
+ghost use Rattle.bq_link.specs.EndStates.{IsSameCore};
+ghost use Rattle.bq_link.specs.NewEnds.{IsNewCore};
+ghost use Rattle.bq_hub.specs.CoreWork.{IsNewRoom, RanToEnd};
+
+pub use room::CoreRoom;
+
+mod gone;
+mod hub;
+mod notices;
+mod room;
+mod sender;
+
+use crate::core_work::hub::Hub;
+use bq_core::{Core, Outs};
+use bq_line::clock::Clock;
+use bq_link::{CoreEnd, Intake, NoTicks};
+use std::alloc::Global;
+use std::sync::Wait;
+
+/// The core takes the steps that come by its end of the links, and ticks where something is due, until no end has
+/// more to submit; and it sends each end its answers.
+///
+/// It takes all that waits before it rests. Where the ring of an end is full, its answers are kept and tried again,
+/// and others are served meanwhile; so many can be kept as there are ends.
+pub fn core_work<R: Wait, C: Clock + Drop>(
+    rt: &R,
+    alloc: Global,
+    intake: &Intake<NoTicks>,
+    end: CoreEnd,
+    core: Core,
+    outs: Outs,
+    room: CoreRoom,
+    clock: C,
+) -> (CoreEnd, Core, C)
+    requires intake { end.intake ≡ intake.now.id }
+    requires ends { IsNewCore (core.machine.settings.seats + 1) end }
+    requires core { core.machine ≡ new_machine core.machine.settings }
+    requires none_given { outs.given ≡ [] }
+    requires outs { core.machine.settings.seats < outs.most }
+    requires room { IsNewRoom (core.machine.settings.seats + 1) room }
+    ensures end { IsSameCore end result.0 }
+    ensures ran { RanToEnd C.given core.machine.settings clock result.0 result.1.machine result.2 }
+{
+    let mut hub = Hub::new(alloc, end, core, outs, room, clock);
+    for _ in rt.forever() {
+        if hub.turn(rt, intake) {
+            return hub.into_parts();
+        }
+    }
+    unreachable!()
+}

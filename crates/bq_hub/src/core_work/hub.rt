@@ -1,0 +1,319 @@
+//! The core with all that it needs on a thread of its own.
+ghost use Rattle.std.specs.Prelude.{◌≡◌, ◌⊎◌, ◌↔◌, ◌<◌, ◌+◌, ◌∷◌, [], false, not, true, length};
+ghost use Rattle.bq_job.specs.beside.NextDue.{is_before, next_due};
+ghost use Rattle.bq_job.specs.promise.History.{moment_heard};
+ghost use Rattle.bq_link.specs.EndStates.{IsSameCore};
+ghost use Rattle.bq_hub.specs.Rests.{rest_until};
+
+use crate::core_work::gone::Gone;
+use crate::core_work::notices::{Concern, Notices, concern_of};
+use crate::core_work::room::CoreRoom;
+use crate::core_work::sender::Sender;
+use bq_core::{Core, Outs};
+use bq_job::{Moment, Seat, Step};
+use bq_line::clock::{Clock, moment_heard};
+use bq_link::{CoreEnd, Intake, NoTicks, Record};
+use std::alloc::Global;
+use std::sync::Wait;
+use std::thread;
+use std::time::Duration;
+
+/// How often nothing is found before the thread rests, some 50 microseconds.
+const LOOKS: u32 = 150;
+
+/// How long a rest is at most, in milliseconds.
+const HOUR: u64 = 3_600_000;
+
+/// The core with its clock, its end of the links, and what isn't sent yet.
+#[derive(Drop)]
+pub struct Hub<C> {
+    /// For the steps that may ask for memory.
+    pub alloc: Global,
+    pub core: Core,
+    pub outs: Outs,
+    pub sender: Sender,
+    pub gone: Gone,
+    pub clock: C,
+    /// The moment heard last, and the next one at which something is due.
+    pub heard: Moment,
+    pub due: Option<Moment>,
+    /// How often nothing was found since the last step.
+    pub looks: u32,
+    pub notices: Notices,
+}
+
+impl<C: Clock + Drop> Hub<C> {
+    ghost use Rattle.bq_line.specs.GivenReadings.{GaveReadings};
+    ghost use Rattle.bq_job.specs.machine.Machine.{new_machine};
+    ghost use Rattle.bq_link.specs.NewEnds.{IsNewCore};
+    ghost use Rattle.bq_link.specs.Submissions.{MayTake};
+    ghost use Rattle.bq_hub.specs.CoreWork.{IsNewRoom};
+    ghost use Rattle.bq_hub.specs.Sending.{AreStuck};
+    ghost use Rattle.bq_hub.specs.Worked.{
+      HasTicked,
+      IsAtWork,
+      IsInOrder,
+      IsOver,
+      TakesStep,
+      TookOne,
+      TurnWent,
+      WorksOn,
+      gone_after,
+      hub_state,
+    };
+
+    /// Nothing was done yet.
+    pub fn new(
+        alloc: Global,
+        end: CoreEnd,
+        core: Core,
+        outs: Outs,
+        room: CoreRoom,
+        clock: C,
+    ) -> Hub<C>
+        requires ends { IsNewCore (core.machine.settings.seats + 1) end }
+        requires core { core.machine ≡ new_machine core.machine.settings }
+        requires none_given { outs.given ≡ [] }
+        requires outs { core.machine.settings.seats < outs.most }
+        requires room { IsNewRoom (core.machine.settings.seats + 1) room }
+        ensures order { IsInOrder result }
+        ensures end { result.sender.end ≡ end }
+        ensures settings { result.core.machine.settings ≡ core.machine.settings }
+        ensures work { IsAtWork C.given core.machine.settings clock result }
+    {
+        let CoreRoom { kept, aside, gone } = room;
+        let ends = gone.len();
+        Hub {
+            alloc,
+            core,
+            outs,
+            sender: Sender {
+                end,
+                ends,
+                kept,
+                aside,
+            },
+            gone: Gone::none(gone),
+            clock,
+            heard: 0,
+            due: None,
+            looks: 0,
+            notices: Notices::none(),
+        }
+    }
+
+    /// One turn: answers are sent, and a step is taken, or the thread rests where there is none. Whether all is
+    /// done.
+    pub fn turn<R: Wait>(&mut self, rt: &R, intake: &Intake<NoTicks>) -> bool
+        requires intake { self.old.sender.end.intake ≡ intake.now.id }
+        requires order { IsInOrder self.old }
+        ensures order { IsInOrder self.new }
+        ensures end { IsSameCore self.old.sender.end self.new.sender.end }
+        ensures settings { self.new.core.machine.settings ≡ self.old.core.machine.settings }
+        ensures work { WorksOn C.given self.old self.new }
+        ensures over { result ≡ true → IsOver self.new }
+        ensures stuck { AreStuck self.new.sender.end self.new.sender.kept.items }
+        ensures turned { result ≡ false → TurnWent self.old self.new }
+    {
+        if !self.send_all(intake) {
+            self.rest(rt, intake);
+            return false;
+        }
+        if self.is_over() {
+            return true;
+        }
+        if !self.go_on(rt, intake) {
+            self.rest(rt, intake);
+        }
+        false
+    }
+
+    // Sends what is pending, as far as rings and places reach. Whether the next step's answers have room.
+    fn send_all(&mut self, intake: &Intake<NoTicks>) -> bool
+        requires order { IsInOrder self.old }
+        ensures order { IsInOrder self.new }
+        ensures end { IsSameCore self.old.sender.end self.new.sender.end }
+        ensures settings { self.new.core.machine.settings ≡ self.old.core.machine.settings }
+        ensures work { WorksOn C.given self.old self.new }
+        ensures stuck { AreStuck self.new.sender.end self.new.sender.kept.items }
+        ensures none { result ≡ true → self.new.outs.given ≡ [] }
+        ensures full { result ≡ false → length self.new.sender.kept.items ≡ self.new.sender.ends }
+        ensures taken { self.new.sender.end.taken ≡ self.old.sender.end.taken }
+        ensures rest { self.new ≡ record self.old { sender = self.new.sender; outs = self.new.outs } }
+    {
+        self.sender.send_all(intake, &mut self.outs)
+    }
+
+    // Whether every end is gone and has been sent all that it was given.
+    fn is_over(&self) -> bool
+        requires order { IsInOrder self.now }
+        requires none { self.now.outs.given ≡ [] }
+        ensures { result ≡ true ↔ IsOver self.now }
+    {
+        self.gone.all && self.sender.kept.is_empty()
+    }
+
+    // Takes the oldest step that waits. Where there is none time passes. Whether there was something to do.
+    //
+    // Whatever is so of the intake at each moment: where there was nothing, it was so of an empty one, after the last
+    // step that was taken.
+    fn go_on<R: Wait, J: Record>(&mut self, rt: &R, intake: &Intake<J>) -> bool
+        requires intake { self.old.sender.end.intake ≡ intake.now.id }
+        requires may { MayTake J.was }
+        requires order { IsInOrder self.old }
+        requires none { self.old.outs.given ≡ [] }
+        ensures order { IsInOrder self.new }
+        ensures end { IsSameCore self.old.sender.end self.new.sender.end }
+        ensures settings { self.new.core.machine.settings ≡ self.old.core.machine.settings }
+        ensures work { WorksOn C.given self.old self.new }
+        ensures stuck { AreStuck self.old.sender.end self.old.sender.kept.items
+            → AreStuck self.new.sender.end self.new.sender.kept.items }
+        ensures empty { result ≡ false → J.was self.old.sender.end.taken [] }
+        ensures idle { result ≡ false → is_before self.new.heard (next_due self.old.core.machine) ≡ true }
+        ensures busy { result ≡ true → TookOne self.old.sender.end self.new.sender.end ⊎ HasTicked self.old self.new }
+    {
+        match self.sender.end.take(rt, intake) {
+            Some((seat, what)) => {
+                self.take_step(seat, what);
+                true
+            }
+            None => self.tick_if_due(),
+        }
+    }
+
+    // The core takes a step of an end, and what an operator has to see of it is told.
+    fn take_step(&mut self, seat: Seat, what: Step)
+        requires order { IsInOrder self.old }
+        ensures order { IsInOrder self.new }
+        ensures settings { self.new.core.machine.settings ≡ self.old.core.machine.settings }
+        ensures taken { TakesStep C.given self.old seat what self.new }
+    {
+        let concern = concern_of(&what);
+        self.step(seat, what);
+        self.tell(concern);
+    }
+
+    // The core takes a step of an end.
+    fn step(&mut self, seat: Seat, what: Step)
+        requires order { IsInOrder self.old }
+        ensures order { IsInOrder self.new }
+        ensures settings { self.new.core.machine.settings ≡ self.old.core.machine.settings }
+        ensures taken { TakesStep C.given self.old seat what self.new }
+    {
+        self.looks = 0;
+        self.mark(seat, &what);
+        self.hear();
+        self.core
+            .step(self.alloc, self.heard, seat, what, &mut self.outs);
+    }
+
+    // Tells what the last step has to be told for.
+    fn tell(&mut self, concern: Concern)
+        ensures { self.new ≡ record self.old { notices = self.new.notices } }
+    {
+        let is_refused = self.outs.left_out() || self.outs.unshared();
+        if let Some(notice) = self.notices.after(concern, is_refused, self.heard) {
+            self.clock.tell(notice);
+        }
+    }
+
+    // Time passes: the core takes a tick exactly where something is due by now. Whether it did.
+    fn tick_if_due(&mut self) -> bool
+        requires order { IsInOrder self.old }
+        requires none { self.old.outs.given ≡ [] }
+        ensures order { IsInOrder self.new }
+        ensures sender { self.new.sender ≡ self.old.sender }
+        ensures settings { self.new.core.machine.settings ≡ self.old.core.machine.settings }
+        ensures work { WorksOn C.given self.old self.new }
+        ensures due { self.new.due ≡ next_due self.old.core.machine }
+        ensures ticks { result ≡ not (is_before self.new.heard (next_due self.old.core.machine)) }
+        ensures still { result ≡ false → self.new.core.machine ≡ self.old.core.machine }
+        ensures ticked { result ≡ true → HasTicked self.old self.new }
+    {
+        self.due = self.core.next_due();
+        let Some(due) = self.due else {
+            return false;
+        };
+        self.hear();
+        if due > self.heard {
+            return false;
+        }
+        self.core
+            .step(self.alloc, self.heard, 0, Step::Tick, &mut self.outs);
+        true
+    }
+
+    // Notes where a step says that no more come.
+    fn mark(&mut self, seat: Seat, what: &Step)
+        requires order { IsInOrder self.old }
+        ensures order { IsInOrder self.new }
+        ensures marked { self.new.gone.flags.items ≡ gone_after seat what.now self.old.gone.flags.items }
+        ensures rest { self.new ≡ record self.old { gone = self.new.gone } }
+    {
+        if let Step::Gone = what {
+            self.gone.mark(seat);
+        }
+    }
+
+    // Reads the clock once. The moment heard last follows the reading, which is answered.
+    fn hear(&mut self) -> Option<Moment>
+        ensures read { GaveReadings C.given self.old.clock (result ∷ []) self.new.clock }
+        ensures heard { self.new.heard ≡ moment_heard self.old.heard result }
+        ensures rest { self.new ≡ record self.old { clock = self.new.clock; heard = self.new.heard } }
+    {
+        let reading = self.clock.now();
+        self.heard = moment_heard(self.heard, reading);
+        reading
+    }
+
+    // Looks again at once where a step was found lately. Else the thread rests until one comes, or something is due.
+    fn rest<R: Wait>(&mut self, rt: &R, intake: &Intake<NoTicks>)
+        ensures { self.new ≡ record self.old { looks = self.new.looks } }
+    {
+        if self.looks < LOOKS {
+            self.looks += 1;
+            thread::yield_now();
+            return;
+        }
+        let most = self.longest_rest();
+        self.sender.end.wait(rt, intake, most);
+    }
+
+    // A ring that was full is soon tried again, since its end doesn't tell when it takes an answer.
+    fn longest_rest(&self) -> Duration {
+        if self.sender.kept.is_empty() {
+            Duration::from_millis(rest_until(self.due, self.heard))
+        } else {
+            Duration::from_millis(1)
+        }
+    }
+
+    /// The end, the core and the clock.
+    pub fn into_parts(self) -> (CoreEnd, Core, C)
+        ensures { (result.0 ≡ self.sender.end) × (result.1 ≡ self.core) × (result.2 ≡ self.clock) }
+    {
+        let Hub {
+            alloc: _,
+            core,
+            outs: _,
+            sender,
+            gone: _,
+            clock,
+            heard: _,
+            due: _,
+            looks: _,
+            notices: _,
+        } = self;
+        (sender.end, core, clock)
+    }
+}
+
+// How many milliseconds a rest takes at most.
+fn rest_until(due: Option<Moment>, heard: Moment) -> u64
+    ensures { result ≡ rest_until due heard }
+{
+    match due {
+        None => HOUR,
+        Some(due) => due.saturating_sub(heard).min(HOUR),
+    }
+}

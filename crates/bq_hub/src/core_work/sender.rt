@@ -1,0 +1,129 @@
+//! Answers on their way to the ends.
+ghost use Rattle.std.specs.Prelude.{◌≡◌, ◌↔◌, ◌<◌, ◌≤◌, ◌+◌, ◌++◌, ◌∷◌, [], false, true, length};
+ghost use Rattle.std.specs.Prelude.{IfErr, IsOk, OnErr, OnOk};
+ghost use Rattle.bq_job.specs.promise.Runs.{answers_to};
+ghost use Rattle.bq_link.specs.EndStates.{room_for};
+
+use bq_core::Outs;
+use bq_job::{Answer, Seat};
+use bq_link::{CoreEnd, Intake, NoTicks};
+use std::alloc::Global;
+use std::collections::VecDeque;
+use std::mem;
+
+/// The core's end of the links, and the answers that it couldn't send since their rings were full.
+#[derive(Drop)]
+pub struct Sender {
+    pub end: CoreEnd,
+    pub ends: usize,
+    /// The answers that are kept, in their order, and room to put them aside while they are tried again.
+    pub kept: VecDeque<(Seat, Answer), Global>,
+    pub aside: VecDeque<(Seat, Answer), Global>,
+}
+
+impl Sender {
+    ghost use Rattle.bq_hub.specs.Sending.{AreSent, AreStuck, HasPlaces, IsAtRest};
+
+    /// Sends what was kept, and then what was given, as far as rings and places reach: whether none is given any
+    /// more. An answer whose ring is full is kept, and others go on.
+    pub fn send_all(&mut self, intake: &Intake<NoTicks>, outs: &mut Outs) -> bool
+        requires rest { IsAtRest self.old }
+        ensures rest { IsAtRest self.new }
+        ensures ends { self.new.ends ≡ self.old.ends }
+        ensures sent { AreSent self.old.end (self.old.kept.items ++ outs.old.given) self.new.end (self.new.kept.items ++ outs.new.given) }
+        ensures most { outs.new.most ≡ outs.old.most }
+        ensures stuck { AreStuck self.new.end self.new.kept.items }
+        ensures none { result ≡ true → outs.new.given ≡ [] }
+        ensures full { result ≡ false → length self.new.kept.items ≡ self.new.ends }
+    {
+        self.try_again(intake);
+        self.send_given(intake, outs)
+    }
+
+    // Sends what was given, as long as there is a place for an answer that must be kept.
+    fn send_given(&mut self, intake: &Intake<NoTicks>, outs: &mut Outs) -> bool
+        requires rest { IsAtRest self.old }
+        requires stuck { AreStuck self.old.end self.old.kept.items }
+        ensures rest { IsAtRest self.new }
+        ensures ends { self.new.ends ≡ self.old.ends }
+        ensures sent { AreSent self.old.end (self.old.kept.items ++ outs.old.given) self.new.end (self.new.kept.items ++ outs.new.given) }
+        ensures most { outs.new.most ≡ outs.old.most }
+        ensures stuck { AreStuck self.new.end self.new.kept.items }
+        ensures none { result ≡ true → outs.new.given ≡ [] }
+        ensures full { result ≡ false → length self.new.kept.items ≡ self.new.ends }
+    {
+        while self.kept.len() < self.ends {
+            let Some((seat, answer)) = outs.take_first() else {
+                return true;
+            };
+            self.send_or_keep(intake, seat, answer);
+        }
+        false
+    }
+
+    // Tries to send all that was kept.
+    fn try_again(&mut self, intake: &Intake<NoTicks>)
+        requires rest { IsAtRest self.old }
+        ensures rest { IsAtRest self.new }
+        ensures ends { self.new.ends ≡ self.old.ends }
+        ensures sent { AreSent self.old.end self.old.kept.items self.new.end self.new.kept.items }
+        ensures stuck { AreStuck self.new.end self.new.kept.items }
+    {
+        mem::swap(&mut self.kept, &mut self.aside);
+        while let Some((seat, answer)) = self.aside.pop_front() {
+            self.send_or_keep(intake, seat, answer);
+        }
+    }
+
+    // Sends an answer and rings the bell of its end, or keeps it behind the others. To nobody nothing is sent.
+    fn send_or_keep(&mut self, intake: &Intake<NoTicks>, seat: Seat, answer: Answer)
+        requires places { HasPlaces self.old }
+        requires room { length self.old.kept.items < self.old.ends }
+        requires stuck { AreStuck self.old.end self.old.kept.items }
+        ensures places { HasPlaces self.new }
+        ensures sent { AreSent self.old.end (self.old.kept.items ++ (seat, answer) ∷ []) self.new.end self.new.kept.items }
+        ensures stuck { AreStuck self.new.end self.new.kept.items }
+        ensures few { length self.new.kept.items ≤ length self.old.kept.items + 1 }
+        ensures ends { self.new.ends ≡ self.old.ends }
+        ensures aside { self.new.aside ≡ self.old.aside }
+    {
+        if usize::from(seat) >= self.ends {
+            return;
+        }
+        match self.send(seat, answer) {
+            Ok(()) => intake.wake(seat),
+            Err(back) => self.kept.push_back((seat, back)).unwrap(),
+        }
+    }
+
+    // Sends an answer where none is kept for its end, or hands it back.
+    fn send(&mut self, seat: Seat, answer: Answer) -> Result<(), Answer>
+        requires places { HasPlaces self.old }
+        requires within { seat < self.old.ends }
+        requires stuck { AreStuck self.old.end self.old.kept.items }
+        ensures sent { OnOk result (AreSent self.old.end (self.old.kept.items ++ (seat, answer) ∷ []) self.new.end self.old.kept.items) }
+        ensures handed_back { IfErr result (λ back. back ≡ answer) }
+        ensures unsent { OnErr result (AreSent self.old.end [] self.new.end []) }
+        ensures room { OnOk result (AreStuck self.new.end self.old.kept.items) }
+        ensures full { OnErr result (AreStuck self.new.end (self.old.kept.items ++ (seat, answer) ∷ [])) }
+        ensures succeeds { answers_to seat self.old.kept.items ≡ [] → 0 < room_for self.old.end seat → IsOk result }
+        ensures rest { self.new ≡ record self.old { end = self.new.end } }
+    {
+        if self.has_kept(seat) {
+            return Err(answer);
+        }
+        self.end.send(seat, answer)
+    }
+
+    // Whether an answer is kept for this end.
+    fn has_kept(&self, seat: Seat) -> bool
+        ensures { result ≡ false ↔ (answers_to seat self.now.kept.items ≡ []) }
+    {
+        for given in self.kept.iter() {
+            if given.0 == seat {
+                return true;
+            }
+        }
+        false
+    }
+}

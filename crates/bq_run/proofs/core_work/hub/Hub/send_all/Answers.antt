@@ -1,7 +1,0 @@
-use Rattle.std.proofs.Common.{refl}
-use Rattle.bq_run.specs.Worked.{hub_state}
-use Rattle.bq_run.proofs.WorkedLemmas.{worked_sent}
-use Rattle.bq_run.proofs.core_work.hub.Hub.send_all.Goals as goal
-
-pub returns-clause-work : goal.returns-clause-work
-returns-clause-work g c settings first w = (w.0, w.1, worked_sent settings w.0 (hub_state c.args.self.now) _ w.2 c.send_all.ensures.sent refl refl refl)
