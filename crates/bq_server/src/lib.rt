@@ -6,3 +6,4 @@ pub use server::{serve, serve_doors};
 
 mod program;
 mod server;
+mod telling_clock;

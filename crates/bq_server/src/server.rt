@@ -5,11 +5,11 @@ ghost use Rattle.bq_attend.specs.Tending.{AreSame, IsNewDoor, door_seen};
 ghost use Rattle.bq_server.specs.Servers.{came_of_run, settings_of};
 ghost use Rattle.bq_run.specs.Sessions.{IsRunOf};
 
+use crate::telling_clock::TellingClock;
 use bq_core::Config;
 use bq_job::NoMemory;
-use bq_line::clock::MachineClock;
 use bq_line::line::ReadBuffer;
-use bq_line::{Door, TcpDoor, clock};
+use bq_line::{Door, Refusals, TcpDoor, clock};
 use bq_options::BqdOptions;
 use bq_program::{Fault, Options, tell_server};
 use bq_run::{Run, run_sessions};
@@ -72,7 +72,7 @@ fn bound<R: Net<Listener = TcpListener, Stream = TcpStream>>(
 }
 
 // Serves with this input as the control line.
-fn serve_input<R: Threads + Wait + Clock + Print + Sync, I: Read + Drop>(
+fn serve_input<R: Threads + Wait + Clock + Print + Eprint + Sync, I: Read + Drop>(
     rt: &R,
     alloc: Global,
     options: &Options,
@@ -85,7 +85,7 @@ fn serve_input<R: Threads + Wait + Clock + Print + Sync, I: Read + Drop>(
     serve_at(rt, alloc, options, listener, control)
 }
 
-fn serve_at<R: Threads + Wait + Clock + Print + Sync, I: BufRead + Drop>(
+fn serve_at<R: Threads + Wait + Clock + Print + Eprint + Sync, I: BufRead + Drop>(
     rt: &R,
     alloc: Global,
     options: &Options,
@@ -97,10 +97,11 @@ fn serve_at<R: Threads + Wait + Clock + Print + Sync, I: BufRead + Drop>(
     };
     // Who closes standard output doesn't want to know.
     let _told = println!(rt; "listening {address}");
-    let Ok(doors) = new_doors(rt, alloc, options, listener) else {
+    let refusals = Refusals::new("bqd: no connection can be accepted");
+    let Ok(doors) = new_doors(rt, alloc, options, listener, &refusals) else {
         return Err(Fault::NoMemory);
     };
-    let clock = MachineClock::new(rt);
+    let clock = TellingClock::new(rt);
     came_of(serve_doors(rt, alloc, options, doors, clock, control))
 }
 
@@ -109,7 +110,7 @@ fn serve_at<R: Threads + Wait + Clock + Print + Sync, I: BufRead + Drop>(
 /// up.
 pub fn serve_doors<
     'l,
-    R: Threads + Wait + Clock + Sync,
+    R: Threads + Wait + Clock + Eprint + Sync,
     C: clock::Clock + Drop + Send,
     I: BufRead + Drop,
 >(
@@ -148,7 +149,7 @@ fn config_of(options: &Options) -> Config
 }
 
 // What came of a run: its fault, or that some connection could not be accepted.
-fn came_of<'l, R: Clock, C: Drop, I: Drop>(
+fn came_of<'l, R: Clock + Eprint, C: Drop, I: Drop>(
     run: Result<Run<TcpDoor<'l, R>, C, I>, RunFault>,
 ) -> Result<(), Fault>
     ensures { result ≡ came_of_run (λ door. door.met_fault) run.entry }
@@ -165,31 +166,33 @@ fn came_of<'l, R: Clock, C: Drop, I: Drop>(
     }
 }
 
-fn met_fault<R: Clock>(doors: &[TcpDoor<'_, R>]) -> bool
+fn met_fault<R: Clock + Eprint>(doors: &[TcpDoor<'_, R>]) -> bool
     ensures { result ≡ list_any (λ door. door.met_fault) doors.now }
 {
     doors.iter().any(|door| door.met_fault())
 }
 
 // A door at which nothing was done.
-fn new_door<'l, R: Clock>(
+fn new_door<'l, R: Clock + Eprint>(
     rt: &'l R,
     listener: &'l TcpListener,
     sessions: Option<u32>,
     buffer: ReadBuffer,
+    refusals: &'l Refusals,
 ) -> TcpDoor<'l, R>
     ensures { IsNewDoor (door_seen ⟦<TcpDoor<'l, R> as Door>⟧.is_out ⟦<TcpDoor<'l, R> as Door>⟧.is_at_end
         ⟦<TcpDoor<'l, R> as Door>⟧.lines_over result) }
 {
-    TcpDoor::new(rt, listener, sessions, buffer)
+    TcpDoor::new(rt, listener, sessions, buffer).telling(refusals)
 }
 
 // A door for each seat, all at one listener.
-fn new_doors<'l, R: Clock>(
+fn new_doors<'l, R: Clock + Eprint>(
     rt: &'l R,
     alloc: Global,
     options: &Options,
     listener: &'l TcpListener,
+    refusals: &'l Refusals,
 ) -> Result<Vec<TcpDoor<'l, R>, Global>, NoMemory>
     ensures { IfOk result (λ all. All (λ door. IsNewDoor (door_seen ⟦<TcpDoor<'l, R> as Door>⟧.is_out
         ⟦<TcpDoor<'l, R> as Door>⟧.is_at_end ⟦<TcpDoor<'l, R> as Door>⟧.lines_over door)) all.items) }
@@ -201,7 +204,7 @@ fn new_doors<'l, R: Clock>(
         let Ok(buffer) = ReadBuffer::new(alloc) else {
             return Err(NoMemory);
         };
-        let door = new_door(rt, listener, options.sessions, buffer);
+        let door = new_door(rt, listener, options.sessions, buffer, refusals);
         let Ok(()) = doors.push(door) else {
             return Err(NoMemory);
         };

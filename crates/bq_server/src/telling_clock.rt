@@ -1,0 +1,49 @@
+//! The clock of a server that tells its operator what happens.
+ghost use Rattle.std.specs.Prelude.{◌≡◌, ◌++◌, []};
+ghost use Rattle.std.proofs.Common.{append-nil, sym};
+
+use bq_job::Moment;
+use bq_line::clock::{Clock, MachineClock, Notice};
+use std::io::Eprint;
+use std::rt;
+
+/// The machine's clock. What a run has to tell goes to standard error, a line each.
+#[derive(Drop)]
+pub struct TellingClock<'r, R> {
+    rt: &'r R,
+    clock: MachineClock<&'r R>,
+}
+
+impl<'r, R: rt::Clock> TellingClock<'r, R> {
+    /// A clock that stands at 0 now.
+    pub fn new(rt: &'r R) -> TellingClock<'r, R>
+        ensures { result.clock.given ≡ [] }
+    {
+        TellingClock {
+            rt,
+            clock: MachineClock::new(rt),
+        }
+    }
+}
+
+impl<'r, R: rt::Clock + Eprint> Clock for TellingClock<'r, R> {
+    ghost given = { λ before readings after. after.clock.given ≡ before.clock.given ++ readings };
+
+    ghost none_given = { λ clock. sym (append-nil clock.clock.given) };
+
+    fn now(&mut self) -> Option<Moment> {
+        self.clock.now()
+    }
+
+    fn tell(&self, notice: Notice) {
+        // Who closes standard error doesn't want to know.
+        let _told = eprintln!(self.rt; "bqd: {}", text_of(notice));
+    }
+}
+
+fn text_of(notice: Notice) -> &'static str {
+    match notice {
+        Notice::Draining => "draining",
+        Notice::MemoryRefused => "memory was refused: clients are answered OUT_OF_MEMORY",
+    }
+}
