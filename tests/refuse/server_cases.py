@@ -9,6 +9,8 @@ from refusal import each_in_turn
 
 FAULTS = (b"bqd: no memory\n", b"bqd: a thread was refused\n")
 NOT_ACCEPTED = b"bqd: a connection could not be accepted\n"
+NO_MORE = b"bqd: no connection can be accepted: Invalid argument (os error 22)\n"
+REFUSED = b"bqd: memory was refused: clients are answered OUT_OF_MEMORY\n"
 SEATS = 2
 CLIENTS, ROUNDS = 8, 150
 EACH_NTH = (1, 2, 5, 31)
@@ -84,7 +86,7 @@ def start_refused(bqd, nth):
 
 
 def listener_ends(bqd):
-    """A listener at which the third accept fails for good: both seats serve whom they accepted, and then the fault is told."""
+    """A listener at which the third accept fails for good: both seats serve whom they accepted, and the fault is told at once and at the end."""
     server, address = started(bqd, ["--seats", str(SEATS)], accepts=SEATS + 1)
     told = []
     for _ in range(SEATS if address else 0):
@@ -92,7 +94,7 @@ def listener_ends(bqd):
         told.append(client.ask(b"list-tube-used")[0])
         client.close()
     status, complaint = ended(server)
-    if (status, complaint) == (1, NOT_ACCEPTED) and told == SEATS * [[b"USING", b"default"]]:
+    if (status, complaint) == (1, NO_MORE + NOT_ACCEPTED) and told == SEATS * [[b"USING", b"default"]]:
         return 1, None
     return 1, f"status {status}, {complaint!r}, clients were told {told}"
 
@@ -157,7 +159,7 @@ class Load:
 
 
 def load_refused(bqd, every):
-    """A load in which every so manyth request is refused: nothing is lost, nothing doubled, and no other command refused."""
+    """A load in which every so manyth request is refused: it is told, nothing is lost, nothing doubled, and no other command refused."""
     server, address = started(bqd, ["--seats", str(CLIENTS + 1)], every=every, later=1)
     try:
         load = Load(address)
@@ -179,6 +181,10 @@ def load_refused(bqd, every):
             load.complain(f"{len(load.accepted)} accepted, {len(load.deleted)} handed out and deleted")
         if not load.refusals:
             load.complain("no command was refused")
+        server.kill()
+        _, complaint = server.communicate()
+        if not complaint.startswith(REFUSED) or complaint.count(REFUSED) * REFUSED != complaint:
+            load.complain(f"it told {complaint!r}")
         return 1, load.wrong
     finally:
         server.kill()

@@ -18,6 +18,9 @@ LATE = 0.05
 TRIES = 8
 SOON_TRIES = 3
 
+# What is told where no file descriptor is left for a connection.
+SHORT = b"bqd: no connection can be accepted: Too many open files (os error 24)\n"
+
 
 def run_no_words(bqd):
     """An address has to be given."""
@@ -117,7 +120,7 @@ def run_words_of_beanstalkd(bqd):
 
 
 def run_drain(bqd):
-    """The line drain on standard input begins draining: puts are refused, and jobs are handed out."""
+    """The line drain on standard input begins draining, which is told once: puts are refused, and jobs are handed out."""
     with Server(bqd, "--seats", "1", "--sessions", "1") as server:
         client = server.client()
         server.control(b"other\ndraining\n dra")
@@ -130,6 +133,8 @@ def run_drain(bqd):
                 is_draining = True
                 break
         same(is_draining, True)
+        server.tells(b"bqd: draining\n")
+        server.control(b"drain\n")
         client.asks(b"put 0 0 9 1\r\nx\r\n", b"DRAINING\r\n")
         client.asks(b"reserve\r\n", b"RESERVED 1 1\r\nx\r\n")
         client.asks(b"delete 1\r\n", b"DELETED\r\n")
@@ -370,7 +375,27 @@ def run_descriptors_refused(bqd):
         first.close()
         second.hears(b"USING default\r\n")
         second.close()
-        same(server.end(), Ended(0, b"", b""))
+        same(server.end(), Ended(0, b"", SHORT))
+
+
+def run_shortage_is_told(bqd):
+    """That no connection can be accepted is told when it happens, and again only after it went well."""
+    # Its streams, its listener and one connection.
+    with Server(bqd, "--seats", "2", before=limits(NOFILE=(5, 64))) as server:
+        first = server.client()
+        first.asks(b"list-tube-used\r\n", b"USING default\r\n")
+        second = server.client()
+        server.tells(SHORT)
+        # It is tried again and again meanwhile.
+        same(server.is_silent(0.5), True)
+        server.may_open(64)
+        second.asks(b"list-tube-used\r\n", b"USING default\r\n")
+        server.may_open(5)
+        second.close()
+        third = server.client()
+        server.tells(SHORT)
+        first.close()
+        third.asks(b"list-tube-used\r\n", b"USING default\r\n")
 
 
 def run_thread_refused(bqd):

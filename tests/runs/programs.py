@@ -11,10 +11,11 @@ Ended = collections.namedtuple("Ended", "status output errors")
 
 
 def limits(**wanted):
-    """What sets the limits of a program before it begins, as NOFILE=4."""
+    """What sets the limits of a program before it begins, as NOFILE=4, or NOFILE=(4, 64) where it may be raised to that."""
     def set_limits():
         for name, most in wanted.items():
-            resource.setrlimit(getattr(resource, "RLIMIT_" + name), (most, most))
+            pair = most if isinstance(most, tuple) else (most, most)
+            resource.setrlimit(getattr(resource, "RLIMIT_" + name), pair)
     return set_limits
 
 

@@ -1,5 +1,6 @@
 """A server that runs, and its clients."""
 import os
+import resource
 import select
 import socket
 import subprocess
@@ -46,6 +47,7 @@ class Server:
             stdin=subprocess.PIPE,
             stdout=stdout,
             stderr=subprocess.PIPE,
+            bufsize=0,
             preexec_fn=before,
         )
         self.clients = []
@@ -70,7 +72,20 @@ class Server:
     def control(self, line):
         """Sends bytes on the control line, and leaves it open."""
         self.process.stdin.write(line)
-        self.process.stdin.flush()
+
+    def tells(self, line):
+        """That this line comes next on standard error, while the server goes on."""
+        came, _, _ = select.select([self.process.stderr], [], [], PATIENCE)
+        same(self.process.stderr.readline() if came else b"", line)
+
+    def is_silent(self, seconds):
+        """Whether nothing comes on standard error for so many seconds."""
+        came, _, _ = select.select([self.process.stderr], [], [], seconds)
+        return not came
+
+    def may_open(self, most):
+        """From now on the server may have so many file descriptors."""
+        resource.prlimit(self.process.pid, resource.RLIMIT_NOFILE, (most, resource.prlimit(self.process.pid, resource.RLIMIT_NOFILE)[1]))
 
     def threads(self):
         """How many threads the server has now."""
