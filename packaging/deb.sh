@@ -1,6 +1,6 @@
 #!/usr/bin/env bash
 # Makes a Debian package of the programs that were built: packaging/deb.sh [FOLDER], the folder that it goes to.
-# Build them first: (cd crates/bq && rt run -- --help) and (cd crates/bqd && rt run -- --help).
+# Build them first: tools/build.
 set -euo pipefail
 cd "$(dirname "$0")/.."
 to=$(realpath "${1:-.}")
@@ -19,7 +19,7 @@ done
 install -D -m 644 packaging/bqd.default "$room/etc/default/bqd"
 install -D -m 644 packaging/bqd.1 "$room/usr/share/man/man1/bqd.1"
 gzip -9n "$room/usr/share/man/man1/bqd.1"
-install -D -m 644 -t "$room/usr/share/doc/bqd" README.md docs/*.md packaging/bq.1
+install -D -m 644 -t "$room/usr/share/doc/bqd" README.md docs/*.md docs/speed.svg packaging/bq.1
 install -D -m 644 LICENSE "$room/usr/share/doc/bqd/copyright"
 
 mkdir "$room/DEBIAN"

@@ -159,7 +159,7 @@ class Load:
 
 
 def load_refused(bqd, every):
-    """A load in which every so manyth request is refused: it is told, nothing is lost, nothing doubled, and no other command refused."""
+    """A load in which every nth request is refused: it is told, nothing is lost, nothing doubled, and no other command refused."""
     server, address = started(bqd, ["--seats", str(CLIENTS + 1)], every=every, later=1)
     try:
         load = Load(address)

@@ -72,7 +72,7 @@ def by_model(bq, settings, text, **pattern):
 
 
 def long_session(bq, seed):
-    """A random session, with each request refused, and then every so manyth."""
+    """A random session, with each request refused, and then every nth."""
     settings = PLAIN._replace(max_job_size=(200, 65535)[seed % 2])
     text = b"".join(sessions.made_session(f"refused {seed}", Machine, settings)) + b"quit\r\n"
     if sessions.answers_to(Machine, settings, text) is None:
