@@ -19,15 +19,15 @@ use Rattle.bq_core.proofs.StateLemmas.{changed_there, number_kept}
 use Rattle.bq_core.proofs.TallyLemmas.{with_is, without_is}
 
 -- all seats but that of the number
-abbrev others : ℕ → List SeatRecord → List SeatRecord
+abbrev pub others : ℕ → List SeatRecord → List SeatRecord
 others n seats = filter (λ s. not (s.number == n)) seats
 
 -- the first seat's number, and those of the others
-heads : (low : ℕ) (s : SeatRecord) (seats : List SeatRecord) → map (λ s. s.number) (s ∷ seats) ≡ numbers low (length (s ∷ seats))
+pub heads : (low : ℕ) (s : SeatRecord) (seats : List SeatRecord) → map (λ s. s.number) (s ∷ seats) ≡ numbers low (length (s ∷ seats))
     → (s.number ≡ low) × (map (λ s. s.number) seats ≡ numbers (suc low) (length seats))
 heads low s seats h = (cc, cc)
 
-all_others : (n high : ℕ) (seats : List SeatRecord) → n < high → map (λ s. s.number) seats ≡ numbers high (length seats) → others n seats ≡ seats
+pub all_others : (n high : ℕ) (seats : List SeatRecord) → n < high → map (λ s. s.number) seats ≡ numbers high (length seats) → others n seats ≡ seats
 all_others n high [] less h = refl
 all_others n high (s ∷ seats) less h =
     let parts = heads high s seats h in
@@ -35,7 +35,7 @@ all_others n high (s ∷ seats) less h =
     rw other (ap (λ ts. s ∷ ts) (all_others n (suc high) seats (omega arith) parts.1))
 
 -- a change of the seat of a number leaves the others
-others_left : (n : ℕ) (f : SeatRecord → SeatRecord) → ((s : SeatRecord) → (f s).number ≡ s.number) → (seats : List SeatRecord)
+pub others_left : (n : ℕ) (f : SeatRecord → SeatRecord) → ((s : SeatRecord) → (f s).number ≡ s.number) → (seats : List SeatRecord)
     → others n (map (λ s. if s.number == n then f s else s) seats) ≡ others n seats
 others_left n f keeps [] = refl
 others_left n f keeps (s ∷ seats) =

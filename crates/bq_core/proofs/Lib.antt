@@ -20,6 +20,7 @@ pub mod MovedLemmas
 pub mod NameLemmas
 pub mod NamedLemmas
 pub mod PauseLemmas
+pub mod QueueLemmas
 pub mod SearchLemmas
 pub mod SeatPlaces
 pub mod SendLemmas

@@ -138,7 +138,7 @@ no_job_changed id f (k ∷ jobs) h = elim (cases_Bool (k.id == id)) [
 -- comparisons change nothing else
 pub compared_sound : (old new : State) → OnlyCompares old new → IsSound old → IsSound new
 compared_sound old new same s =
-    let was : IsSound (record old { jobs = record old.jobs { comparisons = new.jobs.comparisons } }) = record { entries = s.entries; numbered = s.numbered; next = s.next; ids = s.ids; counts = s.counts; clients = s.clients; crowds = s.crowds; alive = s.alive; stirs = s.stirs; warnings = s.warnings; timeouts = s.timeouts; pauses = s.pauses } in
+    let was : IsSound (record old { jobs = record old.jobs { comparisons = new.jobs.comparisons } }) = record { entries = s.entries; numbered = s.numbered; next = s.next; ids = s.ids; counts = s.counts; clients = s.clients; crowds = s.crowds; alive = s.alive; stirs = s.stirs; warnings = s.warnings; timeouts = s.timeouts; queue = s.queue; pauses = s.pauses } in
     subst IsSound (sym same) was
 
 -- a change of a seat leaves it at tubes with entries
@@ -364,7 +364,7 @@ numbers_read : (ns : List ℕ) → map (λ s. s.number) (map empty_seat ns) ≡ 
 numbers_read [] = refl
 numbers_read (n ∷ ns) = ap (λ ms. n ∷ ms) (numbers_read ns)
 
-numbers_length : (low n : ℕ) → length (numbers low n) ≡ n
+pub numbers_length : (low n : ℕ) → length (numbers low n) ≡ n
 numbers_length low zero = refl
 numbers_length low (suc n) = ap suc (numbers_length (suc low) n)
 

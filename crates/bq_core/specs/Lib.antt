@@ -25,6 +25,7 @@ pub mod Outbox
 pub mod PauseEnds
 pub mod Places
 pub mod Putting
+pub mod Queues
 pub mod Replying
 pub mod SeatChanges
 pub mod SeatView

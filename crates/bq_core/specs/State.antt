@@ -11,6 +11,7 @@ use Rattle.bq_core.specs.Firing.{after_job_timers}
 use Rattle.bq_core.specs.FirstEnds.{AreTimeouts}
 use Rattle.bq_core.specs.Losses.{AreAlive}
 use Rattle.bq_core.specs.Offers.{is_waited_at}
+use Rattle.bq_core.specs.Queues.{AreQueued}
 use Rattle.bq_core.specs.SeatChanges.{AreNumbered}
 use Rattle.bq_core.specs.Stirs.{AreKnown}
 use Rattle.bq_core.specs.Tallies.{AreCounted}
@@ -55,6 +56,8 @@ pub record IsSound (s : State) : Type 0 where
   pub warnings : AreWarned s.warns s.jobs.jobs s.seats.items
   -- So it is for the ends of waits by timeouts.
   pub timeouts : AreTimeouts s.first_end s.seats.items
+  -- Those that wait stand in their turn.
+  pub queue : AreQueued s.queue s.seats.items
   -- The end of the first pause is known.
   pub pauses : s.pause_end ≡ first_pause_end s.tubes.entries
 

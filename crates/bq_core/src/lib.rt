@@ -28,6 +28,7 @@ mod name_lists;
 mod outs;
 mod pause_end;
 mod pauses;
+mod queue;
 mod reply;
 mod seat_list;
 mod seat_record;

@@ -12,6 +12,7 @@ ghost use Rattle.bq_core.specs.Turns.{HasRoom};
 
 use crate::config::{Config, CoreFault};
 use crate::outs::Outs;
+use crate::queue::Queue;
 use crate::state::State;
 use crate::tubes::Tubes;
 use crate::{acts, dispatch, dues, seat_list, state, timers, waits};
@@ -109,11 +110,14 @@ impl Core {
         let Ok(seats) = seat_list::free_seats(alloc, config.seats) else {
             return Err(CoreFault::NoMemory);
         };
+        let Ok(queue) = Queue::new(alloc, config.seats) else {
+            return Err(CoreFault::NoMemory);
+        };
         let Ok(tubes) = Tubes::new(alloc) else {
             return Err(CoreFault::NoMemory);
         };
         Ok(Core {
-            state: state::new_state(config, seats, tubes),
+            state: state::new_state(config, seats, queue, tubes),
         })
     }
 

@@ -1,4 +1,4 @@
-ghost use Rattle.std.specs.Prelude.{◌≡◌, ◌&&◌, ◌<◌, ◌≤◌, OnErr, None, true, false, length, map, if◌then◌else◌, IfSome, IfOk};
+ghost use Rattle.std.specs.Prelude.{◌≡◌, ◌&&◌, ◌<◌, ◌≤◌, OnErr, [], None, true, false, length, map, if◌then◌else◌, IfSome, IfOk};
 ghost use Rattle.std.specs.List.{list_any};
 ghost use Rattle.bq_job.specs.machine.Changes.{is_held_by, is_ready_state, job_with, seat_with, with_job, with_seat};
 ghost use Rattle.bq_job.specs.machine.Machine.{empty_seat, new_machine, numbers};
@@ -24,6 +24,7 @@ use crate::first_end::FirstEnd;
 use crate::job_list::{JobChange, JobKind, JobTest};
 use crate::loss::Loss;
 use crate::name_lists::Names;
+use crate::queue::Queue;
 use crate::seat_list::SeatChange;
 use crate::seat_record::SeatRecord;
 use crate::stir::Stir;
@@ -41,6 +42,8 @@ pub(crate) struct State {
     pub(crate) config: Config,
     pub(crate) jobs: Jobs,
     pub(crate) seats: Vec<SeatRecord, Global>,
+    /// The clients that wait, in their turn.
+    pub(crate) queue: Queue,
     /// What is kept of each tube that exists.
     pub(crate) tubes: Tubes,
     /// How many jobs are in each state.
@@ -305,12 +308,14 @@ pub(crate) fn change_seat(state: &mut State, seat: Seat, what: &SeatChange)
     let touched = shares::touched(what);
     let client = seat_list::find(state.seats.as_slice(), seat);
     state.clients.remove(client);
+    state.queue.leave(client);
     first_end::change(&mut state.first_end, client, what);
     shares::recount(&mut state.tubes, client, Moving::Goes, touched);
     leaving::lose(&mut state.loss, &state.tubes, client, touched);
     seat_list::change_at(&mut state.seats, seat, what);
     let client = seat_list::find(state.seats.as_slice(), seat);
     state.clients.add(client);
+    state.queue.join(client);
     shares::recount(&mut state.tubes, client, Moving::Comes, touched);
     stir::stir_seat(&mut state.stir, seat, what);
     // So many seats there can be, and no count comes to its end.
@@ -473,8 +478,15 @@ pub(crate) fn raise_moment(state: &mut State, at: Moment)
 }
 
 /// No jobs, and nobody at the seats.
-pub(crate) fn new_state(config: Config, seats: Vec<SeatRecord, Global>, tubes: Tubes) -> State
+pub(crate) fn new_state(
+    config: Config,
+    seats: Vec<SeatRecord, Global>,
+    queue: Queue,
+    tubes: Tubes,
+) -> State
     requires free { seats.items ≡ map empty_seat (numbers 0 config.seats) }
+    requires nobody { queue.turns ≡ [] }
+    requires room { config.seats ≤ queue.room }
     requires first { tubes ≡ first_tubes }
     ensures empty { machine_of result ≡ new_machine config }
     ensures comparisons { result.jobs.comparisons ≡ 0 }
@@ -484,6 +496,7 @@ pub(crate) fn new_state(config: Config, seats: Vec<SeatRecord, Global>, tubes: T
         config,
         jobs: Jobs::new(),
         seats,
+        queue,
         tubes,
         tally: Tally::default(),
         clients: Clients::default(),

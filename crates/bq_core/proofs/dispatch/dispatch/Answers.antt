@@ -21,6 +21,7 @@ returns-then-not-is_nothing-clause-sound c =
       stirs = known_nothing (machine_of c.dispatch_all.new.state) c.dispatch_all.ensures.done;
       warnings = was.warnings;
       timeouts = was.timeouts;
+      queue = was.queue;
       pauses = was.pauses;
     }
 

@@ -63,6 +63,7 @@ returns-clause-kept c =
             stirs = was.stirs;
             warnings = rw (c.is_some-state.ensures, c.warnings_due-warning.ensures.due, kept, c.as_slice.ensures.value, jobs) (warned_by_due st.jobs.jobs st.seats.items);
             timeouts = was.timeouts;
+            queue = was.queue;
             pauses = was.pauses;
           };
     }

@@ -19,5 +19,6 @@ returns-clause-sound c =
       stirs = was.stirs;
       warnings = was.warnings;
       timeouts = was.timeouts;
+      queue = was.queue;
       pauses = was.pauses;
     }

@@ -35,5 +35,6 @@ returns-clause-sound c =
       stirs = rw (c.stir_tube_if.ensures, c.is_wanted-is_wanted.ensures, c.add-2.ensures.jobs, (ap (λ (k : KeptTubes). k.entries) c.add_job.ensures)) (known_added j st.stir st.jobs.jobs st.seats.items (counted st.tubes.entries) was.stirs);
       warnings = rw (c.warn_if.ensures, c.has_waiting_holder-holds.ensures, c.add-2.ensures.jobs) (warned_added j st.warns st.jobs.jobs st.seats.items was.numbered was.warnings);
       timeouts = was.timeouts;
+      queue = was.queue;
       pauses = was.pauses ∙ ap first_pause_end (sym (ap (λ (k : KeptTubes). k.entries) c.add_job.ensures));
     }

@@ -33,6 +33,7 @@ returns-in_default-clause-kept c =
             stirs = rw same c.requires.stirs;
             warnings = rw same c.requires.warnings;
             timeouts = c.requires.timeouts;
+            queue = c.requires.queue;
             pauses = c.requires.pauses;
           };
     }
@@ -68,6 +69,7 @@ returns-clause-kept c =
             stirs = rw (c.stir_tube_if.ensures, c.in-Some.ensures.jobs, (ap (λ (k : KeptTubes). k.entries) c.move_job.ensures)) (known_moved 1 st.next_id id f (id_kept c.args.what.now) (tube_kept c.args.what.now) of.job m of.is st.jobs.jobs was.ids of.there st.stir st.seats.items (counted st.tubes.entries) c.counts_waiter_of-is_wanted.result wanted was.stirs);
             warnings = rw (c.warn_if.ensures, c.in-Some.ensures.jobs) (warned_moved 1 st.next_id id f (id_kept c.args.what.now) (tube_kept c.args.what.now) of.job m of.is st.jobs.jobs was.ids of.there st.warns st.seats.items c.holder_waits-holds.result was.numbered (c.holder_waits-holds.ensures ∙ ap (has_waiting_holder m.to.state) c.as_slice.ensures.value) was.warnings);
             timeouts = was.timeouts;
+            queue = was.queue;
             pauses = was.pauses ∙ ap first_pause_end (sym (ap (λ (k : KeptTubes). k.entries) c.move_job.ensures));
           };
     }

@@ -1,4 +1,6 @@
 use Rattle.std.proofs.Common.{◌≡◌, ◌≤◌, ◌∙◌, ap, arith, length, map, sym, rules}
+use Rattle.std.specs.Option.{option_copied}
+use Rattle.std.proofs.lemmas.List.{length-map}
 use Rattle.bq_job.specs.machine.Changes.{seat_with}
 use Rattle.bq_job.specs.machine.Limits.{greatest}
 use Rattle.bq_core.specs.KeptTubes.{KeptTubes}
@@ -6,11 +8,13 @@ use Rattle.bq_core.specs.Clients.{clients_of, clients_with, clients_without}
 use Rattle.bq_core.specs.Crowds.{crowds_of, crowds_recounted_for, touched}
 use Rattle.bq_core.specs.Dues.{first_pause_end}
 use Rattle.bq_core.specs.Leaving.{loss_of}
+use Rattle.bq_core.specs.Queues.{turns_of, with_turn, without_turn}
 use Rattle.bq_core.specs.SeatChanges.{seat_changed_at}
 use Rattle.bq_core.specs.declared.crowd.Moving.TheVariants.{Comes, Goes}
 use Rattle.bq_core.proofs.ClientLemmas.{clients_moved}
 use Rattle.bq_core.proofs.CrowdLemmas.{crowds_moved}
 use Rattle.bq_core.proofs.LeavingLemmas.{alive_left}
+use Rattle.bq_core.proofs.QueueLemmas.{turns_moved, turns_within}
 use Rattle.bq_core.proofs.StateLemmas.{entries_of_seat, numbered_after}
 use Rattle.bq_core.specs.TubeEntries.{counted}
 use Rattle.bq_core.proofs.StirLemmas.{known_of_seat}
@@ -22,6 +26,19 @@ use Rattle.bq_core.proofs.state.change_seat.Goals as goal
 pub find-client-requires-2 : goal.find-client-requires-2
 find-client-requires-2 c =
     rw (c.as_slice-2.ensures.value, c.change_at.ensures) (numbered_after c.args.seat c.args.what.now c.args.state.now.seats.items c.requires.sound.numbered)
+
+pub join-requires : goal.join-requires
+join-requires c =
+    let st = c.args.state.now in
+    let was = c.requires.sound in
+    let seats = st.seats.items in
+    let there = seat_with c.args.seat in
+    let taken = c.find-client.ensures ∙ ap there c.as_slice.ensures.value in
+    let given = c.find-client-2.ensures ∙ ap there (c.as_slice-2.ensures.value ∙ c.change_at.ensures) in
+    let turns : with_turn (option_copied c.find-client-2.result) c.leave.new.self.turns ≡ turns_of (map (seat_changed_at c.args.seat c.args.what.now) seats) =
+    (λ i. with_turn (given i) ((c.leave.ensures.turns ∙ (λ k. without_turn (taken k) (was.queue.turns k))) i))
+    ∙ turns_moved c.args.seat c.args.what.now seats was.numbered in
+    omega (arith, ap length turns, turns_within (map (seat_changed_at c.args.seat c.args.what.now) seats), length-map seats (seat_changed_at c.args.seat c.args.what.now), was.queue.room, c.leave.ensures.room)
 
 pub returns-clause-kept : goal.returns-clause-kept
 returns-clause-kept c =
@@ -70,6 +87,14 @@ returns-clause-kept c =
             timeouts =
                 let end : c.change.new.first ≡ end_after c.args.what.now (there seats) st.first_end = c.change.ensures ∙ (λ i. end_after c.args.what.now (taken i) st.first_end) in
                 rw (end, c.change_at.ensures) (timeouts_of_seat c.args.seat c.args.what.now st.first_end seats was.numbered was.timeouts);
+            queue = record {
+              turns =
+                  c.join.ensures.turns
+                  ∙ (λ i. with_turn (given i) ((c.leave.ensures.turns ∙ (λ k. without_turn (taken k) (was.queue.turns k))) i))
+                  ∙ turns_moved c.args.seat c.args.what.now seats was.numbered
+                  ∙ ap turns_of (sym c.change_at.ensures);
+              room = omega (arith, ap length c.change_at.ensures, length-map seats (seat_changed_at c.args.seat c.args.what.now), was.queue.room, c.leave.ensures.room, c.join.ensures.room);
+            };
             pauses = was.pauses ∙ ap first_pause_end (sym entries);
           };
     }

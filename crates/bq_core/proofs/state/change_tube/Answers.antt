@@ -43,6 +43,7 @@ returns-clause-kept c =
                 rw c.stir_change.ensures (subst (λ ts. AreKnown (stirred_by_change c.args.tube.now c.args.what s.stir) s.jobs.jobs s.seats.items ts) (ap (λ (m : Machine). m.tubes) (sym (returns-clause-after c))) known);
             warnings = was.warnings;
             timeouts = was.timeouts;
+            queue = was.queue;
             pauses =
                 c.pause_end_after-state.ensures
                 ∙ ap (λ ts. pause_end_after ts c.args.what s.pause_end) (ap (λ (k : KeptTubes). k.entries) c.change.ensures)

@@ -40,6 +40,7 @@ returns-clause-kept c =
             stirs = subst (λ ts. AreKnown s.stir s.jobs.jobs s.seats.items ts) (ap (λ (m : Machine). m.tubes) (sym (returns-clause-after c))) (known_forgotten (machine_of s) s.stir was.stirs);
             warnings = was.warnings;
             timeouts = was.timeouts;
+            queue = was.queue;
             pauses =
                 c.pause_end_left-state.ensures
                 ∙ ap (λ ts. pause_end_left ts c.len-entries.result s.pause_end) left

@@ -12,6 +12,7 @@ use Rattle.bq_core.proofs.ClientLemmas.{clients_watching}
 use Rattle.bq_core.specs.TubeEntries.{counted}
 use Rattle.bq_core.proofs.CrowdWatching.{crowds_ignoring}
 use Rattle.bq_core.proofs.LossLemmas.{alive_ignoring}
+use Rattle.bq_core.proofs.QueueLemmas.{queued_watching}
 use Rattle.bq_core.proofs.StateLemmas.{changed_there, seat_read, seat_there, watching_fewer, watching_numbered}
 use Rattle.bq_core.proofs.StirLemmas.{known_ignoring}
 use Rattle.bq_core.proofs.WarningLemmas.{warned_watching}
@@ -57,6 +58,7 @@ returns-then-from-len-clause-kept c =
             stirs = rw (seats, entries) (known_ignoring (λ other. not (is_same_name c.args.tube.now other)) c.args.seat t old.stir old.jobs.jobs old.seats.items (counted old.tubes.entries) here was.stirs);
             warnings = rw seats (warned_watching (filter (λ other. not (is_same_name c.args.tube.now other)) t.watched) c.args.seat t old.warns old.jobs.jobs old.seats.items here was.warnings);
             timeouts = rw seats (timeouts_watching (filter (λ other. not (is_same_name c.args.tube.now other)) t.watched) c.args.seat t old.first_end old.seats.items here was.timeouts);
+            queue = rw seats (queued_watching (filter (λ other. not (is_same_name c.args.tube.now other)) t.watched) c.args.seat t old.queue old.seats.items here was.numbered was.queue);
             pauses = was.pauses ∙ ap first_pause_end (sym entries);
           };
     }

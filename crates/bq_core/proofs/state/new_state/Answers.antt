@@ -1,9 +1,10 @@
-use Rattle.std.proofs.Common.{arith, ap, refl}
+use Rattle.std.proofs.Common.{arith, ap, refl, sym}
 use Rattle.bq_job.specs.machine.Machine.{numbers}
 use Rattle.bq_jobs.specs.Kept.{Kept}
 use Rattle.bq_core.specs.KeptTubes.{KeptTubes}
 use Rattle.bq_core.proofs.ClientLemmas.{first_clients}
 use Rattle.bq_core.proofs.CrowdPlaces.{first_crowds}
+use Rattle.bq_core.proofs.QueueLemmas.{many_seats, none_queued}
 use Rattle.bq_core.proofs.StateLemmas.{first_entries, first_numbered}
 use Rattle.bq_core.proofs.TallyPlaces.{none_counted}
 use Rattle.bq_core.proofs.FirstEndLemmas.{first_timeouts}
@@ -22,6 +23,7 @@ returns-clause-sound c =
       stirs = rw (ap (λ (k : Kept). k.jobs) c.new.ensures) tt;
       warnings = rw (ap (λ (k : Kept). k.jobs) c.new.ensures) tt;
       timeouts = rw c.requires.free (first_timeouts (numbers 0 c.args.config.seats));
+      queue = rw (c.requires.free, c.requires.nobody) (record { turns = sym (none_queued (numbers 0 c.args.config.seats)); room = many_seats c.args.config.seats c.args.queue.room c.requires.room });
       pauses = rw entries refl;
       counts = rw (ap (λ (k : Kept). k.jobs) c.new.ensures, entries) (record { whole = none_counted c.default.result c.default.ensures; each = ap (λ (k : KeptTubes). k.tallies) c.requires.first });
     }

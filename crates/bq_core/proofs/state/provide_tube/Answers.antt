@@ -42,6 +42,7 @@ returns-in-Ok-clause-kept c =
                 subst (λ ts. AreKnown st.stir st.jobs.jobs st.seats.items ts) (sym (ap counted (ap (λ (k : KeptTubes). k.entries) c.in-Ok.ensures.after) ∙ counted_provided c.args.tube.now st.tubes.entries)) was.stirs;
             warnings = was.warnings;
             timeouts = was.timeouts;
+            queue = was.queue;
             pauses = was.pauses ∙ sym (end_provided c.args.tube.now c.args.state.now.tubes.entries) ∙ ap first_pause_end (sym (ap (λ (k : KeptTubes). k.entries) c.in-Ok.ensures.after));
           };
     }
@@ -55,5 +56,5 @@ returns-in-Err-clause-kept c =
     record {
       jobs = search rules;
       sound =
-          record { entries = rw (ap (λ (k : KeptTubes). k.entries) c.in-Err.ensures.after) was.entries; numbered = was.numbered; next = was.next; ids = was.ids; counts = rw ((ap (λ (k : KeptTubes). k.entries) c.in-Err.ensures.after), (ap (λ (k : KeptTubes). k.tallies) c.in-Err.ensures.after)) was.counts; clients = was.clients; crowds = rw ((ap (λ (k : KeptTubes). k.entries) c.in-Err.ensures.after), (ap (λ (k : KeptTubes). k.crowds) c.in-Err.ensures.after)) was.crowds; alive = rw (ap (λ (k : KeptTubes). k.entries) c.in-Err.ensures.after) was.alive; stirs = rw (ap (λ (k : KeptTubes). k.entries) c.in-Err.ensures.after) was.stirs; warnings = was.warnings; timeouts = was.timeouts; pauses = rw (ap (λ (k : KeptTubes). k.entries) c.in-Err.ensures.after) was.pauses };
+          record { entries = rw (ap (λ (k : KeptTubes). k.entries) c.in-Err.ensures.after) was.entries; numbered = was.numbered; next = was.next; ids = was.ids; counts = rw ((ap (λ (k : KeptTubes). k.entries) c.in-Err.ensures.after), (ap (λ (k : KeptTubes). k.tallies) c.in-Err.ensures.after)) was.counts; clients = was.clients; crowds = rw ((ap (λ (k : KeptTubes). k.entries) c.in-Err.ensures.after), (ap (λ (k : KeptTubes). k.crowds) c.in-Err.ensures.after)) was.crowds; alive = rw (ap (λ (k : KeptTubes). k.entries) c.in-Err.ensures.after) was.alive; stirs = rw (ap (λ (k : KeptTubes). k.entries) c.in-Err.ensures.after) was.stirs; warnings = was.warnings; timeouts = was.timeouts; queue = was.queue; pauses = rw (ap (λ (k : KeptTubes). k.entries) c.in-Err.ensures.after) was.pauses };
     }

@@ -29,6 +29,7 @@ returns-in_err-job-clause-sound c =
       stirs = rw same c.requires.stirs;
       warnings = rw same c.requires.warnings;
       timeouts = c.requires.timeouts;
+      queue = c.requires.queue;
       pauses = c.requires.pauses;
     }
 
@@ -64,5 +65,6 @@ returns-clause-sound c =
       stirs = rw (c.remove.ensures.jobs, (ap (λ (k : KeptTubes). k.entries) c.remove_job.ensures)) (all_filtered (λ k. All (IsKnown st.stir (counted st.tubes.entries) k) st.seats.items) (λ k. not (k.id == c.args.id)) st.jobs.jobs was.stirs);
       warnings = rw c.remove.ensures.jobs (all_filtered (λ k. All (IsWarned st.warns k) st.seats.items) (λ k. not (k.id == c.args.id)) st.jobs.jobs was.warnings);
       timeouts = was.timeouts;
+      queue = was.queue;
       pauses = was.pauses ∙ ap first_pause_end (sym (ap (λ (k : KeptTubes). k.entries) c.remove_job.ensures));
     }

@@ -13,6 +13,7 @@ use Rattle.bq_core.proofs.ClientLemmas.{clients_watching}
 use Rattle.bq_core.specs.TubeEntries.{counted}
 use Rattle.bq_core.proofs.CrowdWatching.{crowds_watching}
 use Rattle.bq_core.proofs.LossLemmas.{alive_watching}
+use Rattle.bq_core.proofs.QueueLemmas.{queued_watching}
 use Rattle.bq_core.proofs.StateLemmas.{changed_there, seat_read, seat_there, watching_more, watching_numbered}
 use Rattle.bq_core.specs.declared.crowd.Share.{Share}
 use Rattle.bq_core.proofs.StirLemmas.{known_watching}
@@ -77,6 +78,7 @@ returns-in-Ok-clause-kept c =
             stirs = rw (c.stir_all_if.ensures, ap (λ (s : Share). s.waiting) share, seats, entries) (known_watching (t.watched ++ c.args.tube.now ∷ []) c.args.seat t mid.stir mid.jobs.jobs mid.seats.items (counted mid.tubes.entries) p.kept.sound.stirs);
             warnings = rw seats (warned_watching (t.watched ++ c.args.tube.now ∷ []) c.args.seat t mid.warns mid.jobs.jobs mid.seats.items here p.kept.sound.warnings);
             timeouts = rw seats (timeouts_watching (t.watched ++ c.args.tube.now ∷ []) c.args.seat t mid.first_end mid.seats.items here p.kept.sound.timeouts);
+            queue = rw seats (queued_watching (t.watched ++ c.args.tube.now ∷ []) c.args.seat t mid.queue mid.seats.items here p.kept.sound.numbered p.kept.sound.queue);
             pauses = p.kept.sound.pauses ∙ ap first_pause_end (sym entries);
           };
     }

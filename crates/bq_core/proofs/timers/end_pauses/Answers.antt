@@ -39,6 +39,7 @@ returns-clause-kept c =
             stirs = known_any s.jobs.jobs s.seats.items (counted c.fire_timers.new.self.entries);
             warnings = was.warnings;
             timeouts = was.timeouts;
+            queue = was.queue;
             pauses = c.first_pause_end-state.ensures;
           };
     }

@@ -1,0 +1,11 @@
+use Rattle.std.proofs.Common.{◌∙◌, ap, length}
+use Rattle.std.specs.Prelude.{unwrap_or}
+use Rattle.bq_core.specs.Queues.{is_turn_before}
+use Rattle.bq_core.proofs.TubeLemmas.{place_read}
+use Rattle.bq_core.proofs.queue.place_of.Goals as goal
+
+pub returns : goal.returns
+returns c =
+    c.unwrap_or.ensures
+    ∙ ap (λ o. unwrap_or o (length c.args.turns.now)) c.first_after.ensures
+    ∙ place_read (λ other. is_turn_before other c.args.turn) c.args.turns.now

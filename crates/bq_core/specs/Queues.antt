@@ -1,0 +1,41 @@
+-- The clients that wait, in their turn.
+use Rattle.std.specs.Prelude.{ℕ, Bool, ◌≡◌, ◌==◌, ◌≤◌, not, if◌then◌else◌, List, [], ◌∷◌, Option, Some, None, filter, length}
+use Rattle.bq_job.specs.machine.Changes.{is_pair_before, is_waiting}
+use Rattle.bq_job.specs.machine.Machine.{SeatRecord}
+use Rattle.bq_core.specs.EndingWaits.{turn_of}
+
+-- the turns that a queue has, the first one first, and for how many it has room
+pub record Queued : Type 0 where
+  pub turns : List (ℕ × ℕ)
+  pub room : ℕ
+
+-- one more, behind those that come before it
+abbrev pub placed : {A : Type 0} → (A → A → Bool) → A → List A → List A
+placed before x [] = x ∷ []
+placed before x (y ∷ ys) = if before y x then y ∷ placed before x ys else x ∷ y ∷ ys
+
+abbrev pub is_turn_before : ℕ × ℕ → ℕ × ℕ → Bool
+is_turn_before a b = is_pair_before a.0 a.1 b.0 b.1
+
+-- the turns but that of this seat
+abbrev pub removed : ℕ → List (ℕ × ℕ) → List (ℕ × ℕ)
+removed number turns = filter (λ t. not (t.1 == number)) turns
+
+-- with the turn of the client, if there is one and it waits, and without it
+abbrev pub with_turn : Option SeatRecord → List (ℕ × ℕ) → List (ℕ × ℕ)
+with_turn None turns = turns
+with_turn (Some s) turns = if is_waiting s then placed is_turn_before (turn_of s) turns else turns
+
+abbrev pub without_turn : Option SeatRecord → List (ℕ × ℕ) → List (ℕ × ℕ)
+without_turn None turns = turns
+without_turn (Some s) turns = if is_waiting s then removed s.number turns else turns
+
+-- the turns of those that wait, in their order
+abbrev pub turns_of : List SeatRecord → List (ℕ × ℕ)
+turns_of [] = []
+turns_of (s ∷ seats) = with_turn (Some s) (turns_of seats)
+
+-- Those stand in the queue that wait, and there is room for all.
+pub record AreQueued (queue : Queued) (seats : List SeatRecord) : Type 0 where
+  pub turns : queue.turns ≡ turns_of seats
+  pub room : length seats ≤ queue.room

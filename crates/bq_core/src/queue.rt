@@ -1,0 +1,113 @@
+//! The clients that wait, in their turn.
+ghost use Rattle.std.specs.Prelude.{◌≡◌, ◌<◌, ◌≤◌, [], not, length, vec_len, IfOk};
+ghost use Rattle.std.specs.List.{position, prefix_len};
+ghost use Rattle.std.specs.Option.{option_copied};
+ghost use Rattle.std.specs.Vec.{vec_capacity};
+ghost use Rattle.bq_core.specs.Queues.{is_turn_before, placed, removed, with_turn, without_turn};
+
+use crate::seat_record::{SeatRecord, Turn};
+use bq_job::{NoMemory, Seat};
+use std::alloc::Global;
+use std::marker::Model;
+
+/// The turns of the clients that wait, the one that has waited longest first. All its memory is given when it is
+/// made.
+#[derive(Drop)]
+pub(crate) struct Queue {
+    turns: Vec<Turn, Global>,
+}
+
+impl Model for Queue {
+    ghost use Rattle.std.specs.Vec.{vec_capacity};
+    ghost use Rattle.bq_core.specs.Queues.{Queued};
+
+    ghost Value = { Queued };
+
+    ghost view = { λ q. record { turns = q.turns.items; room = vec_capacity q.turns } };
+}
+
+// Whether the one turn comes before the other.
+fn is_before(turn: Turn, other: Turn) -> bool
+    ensures { result ≡ is_turn_before turn other }
+{
+    turn.0 < other.0 || (turn.0 == other.0 && turn.1 < other.1)
+}
+
+// The place of the first turn that doesn't come before this one.
+fn first_after(turns: &[Turn], turn: Turn) -> Option<usize>
+    ensures { result ≡ position (λ other. not (is_turn_before other turn)) turns.now }
+{
+    turns.iter().position(|other| !is_before(*other, turn))
+}
+
+// Where the turn would stand.
+fn place_of(turns: &[Turn], turn: Turn) -> usize
+    ensures { result ≡ prefix_len (λ other. is_turn_before other turn) turns.now }
+{
+    first_after(turns, turn).unwrap_or(turns.len())
+}
+
+// Puts a turn in at its place. It takes no memory.
+fn place(turns: &mut Vec<Turn, Global>, turn: Turn)
+    requires { vec_len turns.old < vec_capacity turns.old }
+    ensures turns { turns.new.items ≡ placed is_turn_before turn turns.old.items }
+    ensures room { vec_capacity turns.old ≤ vec_capacity turns.new }
+{
+    let i = place_of(turns.as_slice(), turn);
+    let _fits = turns.insert(i, turn);
+}
+
+// Takes the turn of this seat out.
+fn remove(turns: &mut Vec<Turn, Global>, number: Seat)
+    ensures turns { turns.new.items ≡ removed number turns.old.items }
+    ensures room { vec_capacity turns.new ≡ vec_capacity turns.old }
+{
+    turns.retain(|turn| turn.1 != number);
+}
+
+impl Queue {
+    /// With nobody in it, and with room for so many.
+    pub(crate) fn new(alloc: Global, room: u16) -> Result<Queue, NoMemory>
+        ensures empty { IfOk result (λ queue. queue.turns ≡ []) }
+        ensures room { IfOk result (λ queue. queue.room ≡ room) }
+    {
+        match Vec::with_capacity(alloc, usize::from(room)) {
+            Ok(turns) => Ok(Queue { turns }),
+            Err(_) => Err(NoMemory),
+        }
+    }
+
+    /// The turns, the first one first.
+    pub(crate) fn as_slice(&self) -> &[Turn]
+        ensures { result.now ≡ self.now.turns }
+    {
+        self.turns.as_slice()
+    }
+
+    /// Puts in the turn of the client, if there is one and it waits.
+    pub(crate) fn join(&mut self, client: Option<&SeatRecord>)
+        requires { length (with_turn (option_copied client) self.old.turns) ≤ self.old.room }
+        ensures turns { self.new.turns ≡ with_turn (option_copied client.entry) self.old.turns }
+        ensures room { self.old.room ≤ self.new.room }
+    {
+        let Some(client) = client else {
+            return;
+        };
+        if client.is_waiting() {
+            place(&mut self.turns, client.turn());
+        }
+    }
+
+    /// Takes it out.
+    pub(crate) fn leave(&mut self, client: Option<&SeatRecord>)
+        ensures turns { self.new.turns ≡ without_turn (option_copied client.entry) self.old.turns }
+        ensures room { self.new.room ≡ self.old.room }
+    {
+        let Some(client) = client else {
+            return;
+        };
+        if client.is_waiting() {
+            remove(&mut self.turns, client.number());
+        }
+    }
+}
