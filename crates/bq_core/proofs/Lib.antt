@@ -35,5 +35,6 @@ pub mod TextLemmas
 pub mod TubeLemmas
 pub mod TurnLemmas
 pub mod WaitLemmas
+pub mod WalkLemmas
 pub mod WarningLemmas
 pub mod WatchLemmas

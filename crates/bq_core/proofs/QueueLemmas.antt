@@ -107,7 +107,7 @@ turns_parted n low (s ∷ seats) h =
         ap (λ k. s.number == k) there ∙ e
 
 -- none of those others has this number
-all_placed : {A : Type 0} (P : A → Type 0) (before : A → A → Bool) (x : A) (xs : List A) → P x → All P xs → All P (placed before x xs)
+pub all_placed : {A : Type 0} (P : A → Type 0) (before : A → A → Bool) (x : A) (xs : List A) → P x → All P xs → All P (placed before x xs)
 all_placed P before x [] h all = (h, tt)
 all_placed P before x (y ∷ ys) h all =
     elim (cases_Bool (before y x)) [

@@ -11,7 +11,7 @@ use Rattle.bq_core.specs.SeatChanges.{AreNumbered}
 use Rattle.bq_core.proofs.StateLemmas.{seat_read, seat_there}
 
 -- what stands at the place of a number is the seat of that number, if there is one
-place_is_seat : (seats : List SeatRecord) (i : ℕ) → AreNumbered seats → slice_get seats i ≡ seat_with i seats
+pub place_is_seat : (seats : List SeatRecord) (i : ℕ) → AreNumbered seats → slice_get seats i ≡ seat_with i seats
 place_is_seat seats i h = go (slice_get seats i) (seat_with i seats) refl refl
   where
     go : (a b : Option SeatRecord) → slice_get seats i ≡ a → seat_with i seats ≡ b → slice_get seats i ≡ b

@@ -1,8 +1,10 @@
 -- The clients that wait, in their turn.
-use Rattle.std.specs.Prelude.{ℕ, Bool, ◌≡◌, ◌==◌, ◌≤◌, not, if◌then◌else◌, List, [], ◌∷◌, Option, Some, None, filter, length}
+use Rattle.std.specs.Prelude.{ℕ, Bool, true, ◌≡◌, ◌==◌, ◌≤◌, not, if◌then◌else◌, List, [], ◌∷◌, Option, Some, None, filter, fold, length, slice_get}
 use Rattle.bq_job.specs.machine.Changes.{is_pair_before, is_waiting}
 use Rattle.bq_job.specs.machine.Machine.{SeatRecord}
+use Rattle.bq_core.specs.Clients.{seat_passes}
 use Rattle.bq_core.specs.EndingWaits.{turn_of}
+use Rattle.bq_core.specs.Offers.{these}
 
 -- the turns that a queue has, the first one first, and for how many it has room
 pub record Queued : Type 0 where
@@ -16,6 +18,11 @@ placed before x (y ∷ ys) = if before y x then y ∷ placed before x ys else x 
 
 abbrev pub is_turn_before : ℕ × ℕ → ℕ × ℕ → Bool
 is_turn_before a b = is_pair_before a.0 a.1 b.0 b.1
+
+-- the turn comes after this one, if there is one
+abbrev pub is_turn_after : Option (ℕ × ℕ) → ℕ × ℕ → Bool
+is_turn_after None t = true
+is_turn_after (Some last) t = is_turn_before last t
 
 -- the turns but that of this seat
 abbrev pub removed : ℕ → List (ℕ × ℕ) → List (ℕ × ℕ)
@@ -34,6 +41,14 @@ without_turn (Some s) turns = if is_waiting s then removed s.number turns else t
 abbrev pub turns_of : List SeatRecord → List (ℕ × ℕ)
 turns_of [] = []
 turns_of (s ∷ seats) = with_turn (Some s) (turns_of seats)
+
+-- the client of this turn passes
+abbrev pub passes_at : (SeatRecord → Bool) → List SeatRecord → ℕ × ℕ → Bool
+passes_at p seats t = seat_passes p (slice_get seats t.1)
+
+-- what is known so far, once the client of this turn is looked at
+abbrev pub at_turn : {B : Type 0} → (B → SeatRecord → B) → List SeatRecord → B → ℕ × ℕ → B
+at_turn f seats b t = fold f b (these (slice_get seats t.1))
 
 -- Those stand in the queue that wait, and there is room for all.
 pub record AreQueued (queue : Queued) (seats : List SeatRecord) : Type 0 where

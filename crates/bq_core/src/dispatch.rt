@@ -180,7 +180,7 @@ fn pick(state: &mut State, id: JobId) -> Option<(Seat, Result<Body, NoMemory>)>
     ensures kept { Looks 1 state.old state.new }
 {
     let job = state.jobs.get(id)?;
-    let seat = seat_list::first_waiting(state.seats.as_slice(), &job.tube)?;
+    let seat = seat_list::first_waiting(state.seats.as_slice(), state.queue.as_slice(), &job.tube)?;
     Some((seat, job.body.share()))
 }
 

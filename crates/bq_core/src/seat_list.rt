@@ -1,5 +1,5 @@
 ghost use Rattle.std.specs.Prelude.{◌≡◌, ◌<◌, true, map, length, IfSome, IfOk, OnErr};
-ghost use Rattle.std.specs.List.{list_any};
+ghost use Rattle.std.specs.List.{list_any, position};
 ghost use Rattle.std.specs.Option.{option_copied, option_map};
 ghost use Rattle.bq_job.specs.machine.Changes.{first_of, seat_with};
 ghost use Rattle.bq_job.specs.machine.Dispatch.{is_wait_before};
@@ -11,6 +11,7 @@ ghost use Rattle.bq_core.specs.Places.{item_at, better_if};
 ghost use Rattle.bq_core.specs.EndingWaits.{has_waited, waits_after};
 ghost use Rattle.bq_core.specs.FirstEnds.{is_gone_in_wait};
 ghost use Rattle.bq_core.specs.Offers.{waits_at};
+ghost use Rattle.bq_core.specs.Queues.{passes_at, turns_of};
 
 use crate::seat_record::{SeatRecord, Turn};
 use bq_job::{Moment, NoMemory, Seat, TubeName};
@@ -120,25 +121,44 @@ fn waits_at(client: &SeatRecord, tube: &TubeName) -> bool
     client.is_waiting() && client.watches(tube)
 }
 
-// The place of the client that has waited longest of those that wait at this tube.
-fn place_waiting(seats: &[SeatRecord], tube: &TubeName) -> Option<usize>
-    ensures bound { IfSome result (λ i. i < length seats.now) }
-    ensures least { item_at seats.now result ≡ first_of (waits_at tube.now) is_wait_before seats.now }
+// Whether the client of this turn waits at this tube.
+fn waits_there(seats: &[SeatRecord], turn: Turn, tube: &TubeName) -> bool
+    ensures { result ≡ passes_at (waits_at tube.now) seats.now turn }
 {
-    let mut best = None;
-    for i in 0..seats.len() {
-        best = better(seats, best, i, waits_at(&seats[i], tube));
+    match seats.get(usize::from(turn.1)) {
+        None => false,
+        Some(client) => waits_at(client, tube),
     }
-    best
 }
 
-/// The seat of the client that has waited longest of those that wait at this tube.
-pub(crate) fn first_waiting(seats: &[SeatRecord], tube: &TubeName) -> Option<Seat>
+// The place among the turns of the first client that waits at this tube.
+fn place_waiting(seats: &[SeatRecord], turns: &[Turn], tube: &TubeName) -> Option<usize>
+    ensures { result ≡ position (passes_at (waits_at tube.now) seats.now) turns.now }
+{
+    turns
+        .iter()
+        .position(|turn| waits_there(seats, *turn, tube))
+}
+
+// What stands at this place, if anything does.
+fn turn_at(turns: &[Turn], place: Option<usize>) -> Option<Turn>
+    ensures { result ≡ item_at turns.now place }
+{
+    match place {
+        None => None,
+        Some(i) => turns.get(i).copied(),
+    }
+}
+
+/// The seat of the client that has waited longest of those that wait at this tube. Only who waits is looked at.
+pub(crate) fn first_waiting(seats: &[SeatRecord], turns: &[Turn], tube: &TubeName) -> Option<Seat>
+    requires numbered { AreNumbered seats.now }
+    requires turns { turns.now ≡ turns_of seats.now }
     ensures { result ≡ option_map (λ s. s.number) (first_of (waits_at tube.now) is_wait_before seats.now) }
 {
-    match place_waiting(seats, tube) {
+    match turn_at(turns, place_waiting(seats, turns, tube)) {
         None => None,
-        Some(i) => Some(seats[i].number()),
+        Some(turn) => Some(turn.1),
     }
 }
 
