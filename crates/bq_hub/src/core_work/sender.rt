@@ -61,7 +61,7 @@ impl Sender {
         false
     }
 
-    // Tries to send all that was kept.
+    // Tries to send all that was kept. Where nothing is, which is so nearly always, nothing is moved.
     fn try_again(&mut self, intake: &Intake<NoTicks>)
         requires rest { IsAtRest self.old }
         ensures rest { IsAtRest self.new }
@@ -69,6 +69,9 @@ impl Sender {
         ensures sent { AreSent self.old.end self.old.kept.items self.new.end self.new.kept.items }
         ensures stuck { AreStuck self.new.end self.new.kept.items }
     {
+        if self.kept.is_empty() {
+            return;
+        }
         mem::swap(&mut self.kept, &mut self.aside);
         while let Some((seat, answer)) = self.aside.pop_front() {
             self.send_or_keep(intake, seat, answer);
@@ -92,7 +95,7 @@ impl Sender {
         }
         match self.send(seat, answer) {
             Ok(()) => intake.wake(seat),
-            Err(back) => self.kept.push_back((seat, back)).unwrap(),
+            Err(back) => self.kept.push_back_reserved((seat, back)),
         }
     }
 
