@@ -80,7 +80,7 @@ impl Outs {
         requires { length self.old.given < self.old.most }
         ensures { self.new ≡ record self.old { given = self.old.given ++ (seat, answer) ∷ [] } }
     {
-        self.answers.push_back((seat, answer)).unwrap();
+        self.answers.push_back_reserved((seat, answer));
     }
 
     pub(crate) fn set_left_out(&mut self)
