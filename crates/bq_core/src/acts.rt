@@ -68,29 +68,19 @@ fn refusal_answer(why: Refusal) -> Answer
 }
 
 // Carries a request out that an open seat may ask.
-fn answer(state: &mut State, alloc: Global, seat: Seat, request: Request) -> Reply
+fn answer(state: &mut State, alloc: Global, seat: Seat, request: &Request) -> Reply
     requires sound { IsSound state.old }
     requires asks { is_asking (seat_with seat state.old.seats.items) ≡ true }
-    ensures reply { RepliesAt seat (takes_memory request) (asked request) state.old result state.new }
+    ensures reply { RepliesAt seat (takes_memory request.now) (asked request.now) state.old result state.new }
     ensures kept { IsCarriedOut state.old state.new }
 {
-    match request {
+    match *request {
         Request::Put {
             pri,
             delay,
             ttr,
-            body,
-        } => job_acts::put(
-            state,
-            alloc,
-            seat,
-            NewJob {
-                pri,
-                delay,
-                ttr,
-                body,
-            },
-        ),
+            ref body,
+        } => job_acts::put(state, alloc, seat, NewJob { pri, delay, ttr }, body),
         Request::Reserve => {
             job_acts::reserve(state, seat, None);
             Reply::Silent
@@ -111,17 +101,17 @@ fn answer(state: &mut State, alloc: Global, seat: Seat, request: Request) -> Rep
         Request::Touch { id } => Reply::Told(job_acts::touch(state, seat, id)),
         Request::Kick { bound } => kicks::kick(state, seat, bound),
         Request::KickJob { id } => Reply::Told(job_acts::kick_job(state, id)),
-        Request::Use { tube } => tube_acts::use_tube(state, alloc, seat, &tube),
+        Request::Use { ref tube } => tube_acts::use_tube(state, alloc, seat, tube),
         Request::ListTubeUsed => tube_acts::list_tube_used(state, seat),
-        Request::Watch { tube } => tube_acts::watch(state, alloc, seat, &tube),
-        Request::Ignore { tube } => tube_acts::ignore(state, seat, &tube),
+        Request::Watch { ref tube } => tube_acts::watch(state, alloc, seat, tube),
+        Request::Ignore { ref tube } => tube_acts::ignore(state, seat, tube),
         Request::Peek { id } => tube_acts::peek(state, id),
         Request::PeekReady => tube_acts::peek_first(state, seat, JobKind::Ready),
         Request::PeekDelayed => tube_acts::peek_first(state, seat, JobKind::Delayed),
         Request::PeekBuried => tube_acts::peek_first(state, seat, JobKind::Buried),
-        Request::PauseTube { tube, delay } => Reply::Told(tube_acts::pause(state, &tube, delay)),
+        Request::PauseTube { ref tube, delay } => Reply::Told(tube_acts::pause(state, tube, delay)),
         Request::StatsJob { id } => statistics_acts::stats_job(state, alloc, id),
-        Request::StatsTube { tube } => statistics_acts::stats_tube(state, alloc, &tube),
+        Request::StatsTube { ref tube } => statistics_acts::stats_tube(state, alloc, tube),
         Request::Stats => statistics_acts::stats(state, alloc),
         Request::ListTubes => statistics_acts::list_tubes(state, alloc),
         Request::ListTubesWatched => statistics_acts::list_tubes_watched(state, alloc, seat),
@@ -130,17 +120,17 @@ fn answer(state: &mut State, alloc: Global, seat: Seat, request: Request) -> Rep
     }
 }
 
-fn reply_to(state: &mut State, alloc: Global, seat: Seat, what: Step) -> Reply
+fn reply_to(state: &mut State, alloc: Global, seat: Seat, what: &Step) -> Reply
     requires sound { IsSound state.old }
-    ensures reply { RepliesBy (step_takes_memory what) (λ m. effect m seat what) state.old result state.new }
+    ensures reply { RepliesBy (step_takes_memory what.now) (λ m. effect m seat what.now) state.old result state.new }
     ensures kept { IsCarriedOut state.old state.new }
 {
-    match what {
+    match *what {
         Step::Connect => {
             connect(state, seat);
             Reply::Silent
         }
-        Step::Ask(request) => if state.is_asking(seat) {
+        Step::Ask(ref request) => if state.is_asking(seat) {
             answer(state, alloc, seat, request)
         } else {
             Reply::Silent
@@ -162,10 +152,10 @@ fn reply_to(state: &mut State, alloc: Global, seat: Seat, what: Step) -> Reply
 }
 
 /// Carries out the command's own effect, and adds its answer.
-pub(crate) fn act(state: &mut State, alloc: Global, seat: Seat, what: Step, outs: &mut Outs)
+pub(crate) fn act(state: &mut State, alloc: Global, seat: Seat, what: &Step, outs: &mut Outs)
     requires sound { IsSound state.old }
     requires room { HasRoom 1 (machine_of state.old) outs.old }
-    ensures acts { Acts (machine_of state.old) seat what outs.old outs.new (machine_of state.new) }
+    ensures acts { Acts (machine_of state.old) seat what.now outs.old outs.new (machine_of state.new) }
     ensures kept { IsCarriedOut state.old state.new }
 {
     match reply_to(state, alloc, seat, what) {

@@ -24,13 +24,12 @@ use std::alloc::Global;
 // The last id that is given: with it the core begins to drain, so that the next id always fits.
 const LAST_ID: JobId = u64::MAX - 1;
 
-/// A new job, as its client wants it.
-#[derive(Drop)]
+/// A new job, as its client wants it, but for its body.
+#[derive(Clone, Copy)]
 pub(crate) struct NewJob {
     pub(crate) pri: Pri,
     pub(crate) delay: u32,
     pub(crate) ttr: u32,
-    pub(crate) body: Body,
 }
 
 /// What a released job gets.
@@ -41,16 +40,16 @@ pub(crate) struct NewTurn {
 }
 
 // The job that a put makes; its time to run is at least a second.
-fn new_job(state: &State, tube: TubeName, new: NewJob) -> Job
-    ensures { (s : SeatRecord) → s.used ≡ tube → result ≡ job_of_put (machine_of state.now) s new.pri new.delay new.ttr new.body }
+fn new_job(state: &State, tube: &TubeName, new: NewJob, body: Body) -> Job
+    ensures { (s : SeatRecord) → s.used ≡ tube.now → result ≡ job_of_put (machine_of state.now) s new.pri new.delay new.ttr body }
 {
     Job {
         id: state.next_id,
-        tube,
+        tube: *tube,
         pri: new.pri,
         delay: new.delay,
         ttr: new.ttr.max(1),
-        body: new.body,
+        body,
         put_at: state.moment,
         counts: Counts::default(),
         state: job_list::delayed_by(new.delay, state.moment),
@@ -81,11 +80,11 @@ fn is_full(state: &State) -> bool
 }
 
 /// Puts a job. The one growth that it needs comes before any change, and where there are as many jobs as
-/// there may be, none is asked for.
-pub(crate) fn put(state: &mut State, alloc: Global, seat: Seat, new: NewJob) -> Reply
+/// there may be, none is asked for. The job is one more owner of the body, which its client's step has still.
+pub(crate) fn put(state: &mut State, alloc: Global, seat: Seat, new: NewJob, body: &Body) -> Reply
     requires sound { IsSound state.old }
     requires asks { is_asking (seat_with seat state.old.seats.items) ≡ true }
-    ensures reply { RepliesAt seat true (put_effect new.pri new.delay new.ttr new.body) state.old result state.new }
+    ensures reply { RepliesAt seat true (put_effect new.pri new.delay new.ttr body.now) state.old result state.new }
     ensures kept { IsCarriedOut state.old state.new }
 {
     if state.draining {
@@ -97,13 +96,15 @@ pub(crate) fn put(state: &mut State, alloc: Global, seat: Seat, new: NewJob) -> 
     let Some(client) = seat_list::find(state.seats.as_slice(), seat) else {
         return Reply::Silent;
     };
-    let tube = *client.used();
+    let Ok(shared) = body.share() else {
+        return Reply::LeftOut;
+    };
+    let job = new_job(state, client.used(), new, shared);
     let Ok(()) = state::make_room(state, alloc) else {
         return Reply::LeftOut;
     };
-    state::change_tube(state, &tube, TubeChange::CountPut);
-    let job = new_job(state, tube, new);
     let id = job.id;
+    state::change_tube(state, &job.tube, TubeChange::CountPut);
     laws::next_is_free();
     laws::adds_at_the_end();
     count_put(state);

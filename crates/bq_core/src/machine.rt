@@ -51,12 +51,12 @@ fn serve(state: &mut State, outs: &mut Outs)
 }
 
 // One step.
-fn take_step(state: &mut State, alloc: Global, at: Moment, seat: Seat, what: Step, outs: &mut Outs)
+fn take_step(state: &mut State, alloc: Global, at: Moment, seat: Seat, what: &Step, outs: &mut Outs)
     requires lawful { IsLawful (machine_of state.old) }
     requires sound { IsSound state.old }
     requires room { state.old.config.seats < outs.old.most }
-    ensures step { IsStep (machine_of state.old) at seat what (outcome_of outs.new) outs.new.given (machine_of state.new) }
-    ensures comparisons { TakesStepWithin at seat what state.old state.new outs.new }
+    ensures step { IsStep (machine_of state.old) at seat what.now (outcome_of outs.new) outs.new.given (machine_of state.new) }
+    ensures comparisons { TakesStepWithin at seat what.now state.old state.new outs.new }
     ensures most { outs.new.most ≡ outs.old.most }
     ensures sound { IsSound state.new }
 {
@@ -127,6 +127,25 @@ impl Core {
         requires room { self.old.machine.settings.seats < outs.old.most }
         ensures step { IsStep self.old.machine at seat what (record { left_out = outs.new.left_out; unshared = outs.new.unshared }) outs.new.given self.new.machine }
         ensures comparisons { IsStepWithin self.old.machine at seat what (record { left_out = outs.new.left_out; unshared = outs.new.unshared }) outs.new.given self.new.machine self.old.comparisons self.new.comparisons }
+        ensures lawful { IsLawful self.new.machine }
+        ensures most { outs.new.most ≡ outs.old.most }
+        ensures settings { self.new.machine.settings ≡ self.old.machine.settings }
+    {
+        self.step_in_place(alloc, at, seat, &what, outs);
+    }
+
+    /// The same as `step`, with the step left where it lies: it may hold a tube's name, and isn't moved on the way.
+    pub fn step_in_place(
+        &mut self,
+        alloc: Global,
+        at: Moment,
+        seat: Seat,
+        what: &Step,
+        outs: &mut Outs,
+    )
+        requires room { self.old.machine.settings.seats < outs.old.most }
+        ensures step { IsStep self.old.machine at seat what.now (record { left_out = outs.new.left_out; unshared = outs.new.unshared }) outs.new.given self.new.machine }
+        ensures comparisons { IsStepWithin self.old.machine at seat what.now (record { left_out = outs.new.left_out; unshared = outs.new.unshared }) outs.new.given self.new.machine self.old.comparisons self.new.comparisons }
         ensures lawful { IsLawful self.new.machine }
         ensures most { outs.new.most ≡ outs.old.most }
         ensures settings { self.new.machine.settings ≡ self.old.machine.settings }

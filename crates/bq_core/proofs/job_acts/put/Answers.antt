@@ -26,13 +26,15 @@ change_tube-requires-clause-entry c =
     let found : seat_with c.args.seat st.seats.items ≡ Some s = ap (seat_with c.args.seat) (sym c.as_slice.ensures.value) ∙ sym c.in-Some.ensures in
     let here = found_passes (λ s. s.number == c.args.seat) st.seats.items s found in
     let has : HasTubes st.tubes.entries s = all_at (HasTubes st.tubes.entries) st.seats.items s c.requires.sound.entries.of_seats here.1 in
-    ap (λ tubes. has_entry c.used.result.now tubes.entries) c.in-Ok.ensures.tubes
-    ∙ ap (λ n. has_entry n st.tubes.entries) c.used.ensures ∙ has.used (asker_connected c.args.seat st.seats.items s found c.requires.asks)
+    let made = c.new_job-job.ensures s (sym c.used.ensures) in
+    ap (λ tubes. has_entry c.new_job-job.result.tube tubes.entries) c.in-Ok-make_room.ensures.tubes
+    ∙ ap (λ (j : Job). has_entry j.tube st.tubes.entries) made ∙ has.used (asker_connected c.args.seat st.seats.items s found c.requires.asks)
 
 pub add-requires-clause-given : goal.add-requires-clause-given
 add-requires-clause-given c =
     let made = c.new_job-job.ensures c.in-Some.client.now (sym c.used.ensures) in
-    let id : c.new_job-job.result.id ≡ c.change_tube.new.state.next_id = ap (λ (j : Job). j.id) made in
+    let mid : c.change_tube.new.state.next_id ≡ c.args.state.now.next_id = ap (λ (x : Machine). x.next_id) c.change_tube.ensures.after ∙ ap (λ (x : Machine). x.next_id) c.in-Ok-make_room.ensures.after in
+    let id : c.new_job-job.result.id ≡ c.change_tube.new.state.next_id = ap (λ (j : Job). j.id) made ∙ sym mid in
     let next : c.count_put.new.state.next_id ≡ c.change_tube.new.state.next_id + 1 = ap (λ (x : Machine). x.next_id) c.count_put.ensures.after in
     let some = some_next 1 c.change_tube.new.state.next_id c.change_tube.new.state.jobs.jobs c.change_tube.ensures.kept.sound.ids in
     (omega arith, omega arith)
@@ -40,7 +42,8 @@ add-requires-clause-given c =
 pub add-requires-clause-free : goal.add-requires-clause-free
 add-requires-clause-free c =
     let made = c.new_job-job.ensures c.in-Some.client.now (sym c.used.ensures) in
-    let id : c.new_job-job.result.id ≡ c.change_tube.new.state.next_id = ap (λ (j : Job). j.id) made in
+    let mid : c.change_tube.new.state.next_id ≡ c.args.state.now.next_id = ap (λ (x : Machine). x.next_id) c.change_tube.ensures.after ∙ ap (λ (x : Machine). x.next_id) c.in-Ok-make_room.ensures.after in
+    let id : c.new_job-job.result.id ≡ c.change_tube.new.state.next_id = ap (λ (j : Job). j.id) made ∙ sym mid in
     let jobs : (machine_of c.count_put.new.state).jobs ≡ (machine_of c.change_tube.new.state).jobs = ap (λ (x : Machine). x.jobs) c.count_put.ensures.after in
     ap (λ n. job_with n (machine_of c.count_put.new.state).jobs) id
     ∙ ap (job_with c.change_tube.new.state.next_id) jobs
@@ -53,7 +56,7 @@ add-requires-clause-entry c =
     let s = c.in-Some.client.now in
     let found : seat_with c.args.seat st.seats.items ≡ Some s = ap (seat_with c.args.seat) (sym c.as_slice.ensures.value) ∙ sym c.in-Some.ensures in
     let connected = asker_connected c.args.seat st.seats.items s found c.requires.asks in
-    let still : seat_with c.args.seat mid.seats.items ≡ Some s = ap (λ (x : Machine). seat_with c.args.seat x.seats) c.change_tube.ensures.after ∙ ap (λ seats. seat_with c.args.seat seats.items) c.in-Ok.ensures.seats ∙ found in
+    let still : seat_with c.args.seat mid.seats.items ≡ Some s = ap (λ (x : Machine). seat_with c.args.seat x.seats) c.change_tube.ensures.after ∙ ap (λ seats. seat_with c.args.seat seats.items) c.in-Ok-make_room.ensures.seats ∙ found in
     let here = found_passes (λ s. s.number == c.args.seat) mid.seats.items s still in
     let has : HasTubes mid.tubes.entries s = all_at (HasTubes mid.tubes.entries) mid.seats.items s c.change_tube.ensures.kept.sound.entries.of_seats here.1 in
     let made = c.new_job-job.ensures s (sym c.used.ensures) in
@@ -65,19 +68,22 @@ returns-clause-reply c s found =
     let m = machine_of c.args.state.now in
     let tube = c.used.result.now in
     let job = c.new_job-job.result in
-    let after : machine_of c.change_tube.new.state ≡ with_tube tube with_put m = c.change_tube.ensures.after ∙ ap (with_tube tube with_put) c.in-Ok.ensures.after in
     let here : seat_with c.args.seat m.seats ≡ Some c.in-Some.client.now = ap (seat_with c.args.seat) (sym c.as_slice.ensures.value) ∙ sym c.in-Some.ensures in
     let same : c.in-Some.client.now ≡ s = cc in
     let used : s.used ≡ tube = sym (c.used.ensures ∙ ap (λ (r : SeatRecord). r.used) same) in
-    let is : job ≡ new_job m s c.args.new.pri c.args.new.delay c.args.new.ttr c.args.new.body =
-    c.new_job-job.ensures s used ∙ ap (λ (x : Machine). new_job x s c.args.new.pri c.args.new.delay c.args.new.ttr c.args.new.body) after in
+    let body : c.in-Ok.shared ≡ c.args.body.now = c.in-Ok.ensures in
+    let is : job ≡ new_job m s c.args.new.pri c.args.new.delay c.args.new.ttr c.args.body.now =
+    c.new_job-job.ensures s used ∙ ap (λ b. new_job m s c.args.new.pri c.args.new.delay c.args.new.ttr b) body in
+    let at : job.tube ≡ tube = ap (λ (j : Job). j.tube) is ∙ used in
+    let after : machine_of c.change_tube.new.state ≡ with_tube tube with_put m =
+    c.change_tube.ensures.after ∙ ap (with_tube job.tube with_put) c.in-Ok-make_room.ensures.after ∙ ap (λ n. with_tube n with_put m) at in
     let id : job.id ≡ m.next_id = ap (λ (j : Job). j.id) is in
     let W = with_tube tube with_put m in
     let given : machine_of c.count_put.new.state ≡ after_given W = c.count_put.ensures.after ∙ ap after_given after in
     let last : with_added job m.jobs ≡ m.jobs ++ job ∷ [] = c.adds_at_the_end.ensures 1 m.jobs job (subst (AreIdsWithin 1 m.jobs) (sym id) c.requires.sound.ids) in
     let done : machine_of c.add.new.state ≡ record (after_given W) { jobs = m.jobs ++ job ∷ [] } =
     c.add.ensures.after ∙ ap (λ (x : Machine). record x { jobs = with_added job x.jobs }) given ∙ ap (λ js. record (after_given W) { jobs = js }) last in
-    put_done m s c.args.new.pri c.args.new.delay c.args.new.ttr c.args.new.body tube job used c.if-state.false (sym c.if-is_full.ensures) is
+    put_done m s c.args.new.pri c.args.new.delay c.args.new.ttr c.args.body.now tube job used c.if-state.false (sym c.if-is_full.ensures) is
     ∙ ap (λ n. telling (answers.Inserted n) (record (after_given W) { jobs = m.jobs ++ job ∷ [] })) (sym id)
     ∙ ap (telling (answers.Inserted job.id)) (sym done)
 
@@ -86,6 +92,6 @@ returns-clause-kept c =
     let same : c.count_put.new.state.jobs ≡ c.make_room.new.state.jobs = ap (λ (st : State). st.jobs) c.count_put.ensures.same ∙ c.change_tube.ensures.kept.jobs in
     record {
       asks =
-          asked_before 0 4 (omega arith) (subst (λ (k : Kept). Asks 0 c.args.state.now.jobs k) (sym same) c.in-Ok.ensures.kept.asks) c.add.ensures.asks;
+          asked_before 0 4 (omega arith) (subst (λ (k : Kept). Asks 0 c.args.state.now.jobs k) (sym same) c.in-Ok-make_room.ensures.kept.asks) c.add.ensures.asks;
       sound = c.add.ensures.sound;
     }

@@ -36,14 +36,14 @@ pub serve-requires-2-clause-room : goal.serve-requires-2-clause-room
 serve-requires-2-clause-room c =
     let fires = c.fire.ensures.after ∙ ap after_timers c.raise_moment.ensures.after in
     let most : c.args.state.now.config.seats < c.begin.new.self.most = rw c.begin.ensures c.requires.room in
-    room_after_act c.args.state.now c.args.at c.args.seat c.args.what c.begin.new.self c.serve.new.outs c.act.new.outs c.act.new.state c.forget_tubes.new.state
+    room_after_act c.args.state.now c.args.at c.args.seat c.args.what.now c.begin.new.self c.serve.new.outs c.act.new.outs c.act.new.state c.forget_tubes.new.state
     (record { fired = c.fire.new.state; served_state = c.serve.new.state; lawful = c.requires.lawful; fires = fires; serves = c.serve.ensures.served.serves; acts = c.act.ensures.acts; forgotten = c.forget_tubes.ensures.after })
     (c.serve.ensures.served.serves.room 1 (first_room c.args.state.now c.fire.new.state c.args.at c.begin.new.self c.requires.lawful fires (ap (λ o. o.given) c.begin.ensures) most))
 
 pub returns-clause-step : goal.returns-clause-step
 returns-clause-step c =
     let fires = c.fire.ensures.after ∙ ap after_timers c.raise_moment.ensures.after in
-    whole_step c.args.state.now c.args.at c.args.seat c.args.what c.begin.new.self c.serve.new.outs c.act.new.outs c.serve-2.new.outs c.act.new.state c.forget_tubes.new.state c.serve-2.new.state
+    whole_step c.args.state.now c.args.at c.args.seat c.args.what.now c.begin.new.self c.serve.new.outs c.act.new.outs c.serve-2.new.outs c.act.new.state c.forget_tubes.new.state c.serve-2.new.state
     (ap (λ o. o.given) c.begin.ensures) (ap (λ o. o.left_out) c.begin.ensures) (ap (λ o. o.unshared) c.begin.ensures)
     (record { fired = c.fire.new.state; served_state = c.serve.new.state; lawful = c.requires.lawful; fires = fires; serves = c.serve.ensures.served.serves; acts = c.act.ensures.acts; forgotten = c.forget_tubes.ensures.after })
     c.serve-2.ensures.served.serves
@@ -55,7 +55,7 @@ returns-clause-comparisons c =
     let raised = c.raise_moment.ensures.after in
     let ripe = ap (λ (x : Machine). count_by (is_ripe x.moment) x.jobs) raised in
     let timers = asks_more _ (omega (arith, ripe)) (subst (λ (k : Kept). Asks (10 * count_by (is_ripe c.raise_moment.new.state.moment) (machine_of c.raise_moment.new.state).jobs + 2) k c.fire.new.state.jobs) c.raise_moment.ensures.kept.jobs c.fire.ensures.kept.asks) in
-    step_within st c.args.at c.args.seat c.args.what c.begin.new.self c.serve.new.outs c.act.new.outs c.serve-2.new.outs c.act.new.state c.forget_tubes.new.state c.serve-2.new.state
+    step_within st c.args.at c.args.seat c.args.what.now c.begin.new.self c.serve.new.outs c.act.new.outs c.serve-2.new.outs c.act.new.state c.forget_tubes.new.state c.serve-2.new.state
     (ap (λ o. o.given) c.begin.ensures) (ap (λ o. o.left_out) c.begin.ensures) (ap (λ o. o.unshared) c.begin.ensures)
     (record { fired = c.fire.new.state; served_state = c.serve.new.state; lawful = c.requires.lawful; fires = fires; serves = c.serve.ensures.served.serves; acts = c.act.ensures.acts; forgotten = c.forget_tubes.ensures.after })
     c.serve-2.ensures.served.serves
