@@ -174,37 +174,37 @@ impl<C: Clock + Drop> Hub<C> {
     {
         match self.sender.end.take(rt, intake) {
             Some((seat, what)) => {
-                self.take_step(seat, what);
+                self.take_step(seat, &what);
                 true
             }
             None => self.tick_if_due(),
         }
     }
 
-    // The core takes a step of an end, and what an operator has to see of it is told.
-    fn take_step(&mut self, seat: Seat, what: Step)
+    // The core takes a step of an end, and what an operator has to see of it is told. The step stays where it lies.
+    fn take_step(&mut self, seat: Seat, what: &Step)
         requires order { IsInOrder self.old }
         ensures order { IsInOrder self.new }
         ensures settings { self.new.core.machine.settings ≡ self.old.core.machine.settings }
-        ensures taken { TakesStep C.given self.old seat what self.new }
+        ensures taken { TakesStep C.given self.old seat what.now self.new }
     {
-        let concern = concern_of(&what);
+        let concern = concern_of(what);
         self.step(seat, what);
         self.tell(concern);
     }
 
     // The core takes a step of an end.
-    fn step(&mut self, seat: Seat, what: Step)
+    fn step(&mut self, seat: Seat, what: &Step)
         requires order { IsInOrder self.old }
         ensures order { IsInOrder self.new }
         ensures settings { self.new.core.machine.settings ≡ self.old.core.machine.settings }
-        ensures taken { TakesStep C.given self.old seat what self.new }
+        ensures taken { TakesStep C.given self.old seat what.now self.new }
     {
         self.looks = 0;
-        self.mark(seat, &what);
+        self.mark(seat, what);
         self.hear();
         self.core
-            .step(self.alloc, self.heard, seat, what, &mut self.outs);
+            .step_in_place(self.alloc, self.heard, seat, what, &mut self.outs);
     }
 
     // Tells what the last step has to be told for.
@@ -239,7 +239,7 @@ impl<C: Clock + Drop> Hub<C> {
             return false;
         }
         self.core
-            .step(self.alloc, self.heard, 0, Step::Tick, &mut self.outs);
+            .step_in_place(self.alloc, self.heard, 0, &Step::Tick, &mut self.outs);
         true
     }
 

@@ -11,5 +11,5 @@ returns-clause-order g c =
 pub returns-clause-taken : goal.returns-clause-taken
 returns-clause-taken g c =
     let t = c.step.ensures.taken in
-    subst (λ (h : Hub _). TakesStep g.C.Clock.given c.args.self.now c.args.seat c.args.what h) (sym c.tell.ensures)
+    subst (λ (h : Hub _). TakesStep g.C.Clock.given c.args.self.now c.args.seat c.args.what.now h) (sym c.tell.ensures)
     (record { reading = t.reading; outcome = t.outcome; gave = t.gave; heard = t.heard; step = t.step; sender = t.sender; marked = t.marked })
