@@ -1,4 +1,5 @@
-ghost use Rattle.std.specs.Prelude.{◌≡◌, find, option_map};
+ghost use Rattle.std.specs.Prelude.{◌≡◌, ◌==◌, find, length, map, option_map};
+ghost use Rattle.std.specs.List.{filter};
 ghost use Rattle.bq_job.specs.reading.CommandWords as spec;
 ghost use Rattle.bq_job.specs.reading.TubeName.{is_same_name};
 ghost use Rattle.bq_wire.specs.Asked.{command_of};
@@ -32,35 +33,6 @@ pub enum Command {
     ListTubesWatched,
     Quit,
 }
-
-/// All commands.
-const ALL: [Command; 25] = [
-    Command::Put,
-    Command::Reserve,
-    Command::ReserveWithTimeout,
-    Command::ReserveJob,
-    Command::Delete,
-    Command::Release,
-    Command::Bury,
-    Command::Touch,
-    Command::Kick,
-    Command::KickJob,
-    Command::Use,
-    Command::ListTubeUsed,
-    Command::Watch,
-    Command::Ignore,
-    Command::Peek,
-    Command::PeekReady,
-    Command::PeekDelayed,
-    Command::PeekBuried,
-    Command::PauseTube,
-    Command::StatsJob,
-    Command::StatsTube,
-    Command::Stats,
-    Command::ListTubes,
-    Command::ListTubesWatched,
-    Command::Quit,
-];
 
 impl Command {
     // The word by which a line asks for the command.
@@ -97,16 +69,46 @@ impl Command {
     }
 }
 
-// The command of the table that has this word.
-fn in_table(word: &[u8]) -> Option<Command>
-    ensures { result ≡ find (λ c. is_same_name word.now (spec.word_of (command_of c))) ALL }
+// The commands whose words have so many letters, in the order of the definitions.
+fn of_length(letters: usize) -> &'static [Command]
+    ensures { map command_of result.now ≡ filter (λ c. length (spec.word_of c) == letters) spec.all_commands }
 {
-    ALL.iter().copied().find(|command| word == command.word())
+    match letters {
+        3 => &[Command::Put, Command::Use],
+        4 => &[Command::Bury, Command::Kick, Command::Peek, Command::Quit],
+        5 => &[Command::Touch, Command::Watch, Command::Stats],
+        6 => &[Command::Delete, Command::Ignore],
+        7 => &[Command::Reserve, Command::Release],
+        8 => &[Command::KickJob],
+        9 => &[Command::StatsJob],
+        10 => &[
+            Command::PeekReady,
+            Command::PauseTube,
+            Command::StatsTube,
+            Command::ListTubes,
+        ],
+        11 => &[Command::ReserveJob, Command::PeekBuried],
+        12 => &[Command::PeekDelayed],
+        14 => &[Command::ListTubeUsed],
+        18 => &[Command::ListTubesWatched],
+        20 => &[Command::ReserveWithTimeout],
+        _ => &[],
+    }
 }
 
-/// The command that a word names.
+// The first of these commands that has this word.
+fn first_with(commands: &[Command], word: &[u8]) -> Option<Command>
+    ensures { result ≡ find (λ c. is_same_name word.now (spec.word_of (command_of c))) commands.now }
+{
+    commands
+        .iter()
+        .copied()
+        .find(|command| word == command.word())
+}
+
+/// The command that a word names. Only those words are compared that have as many letters.
 pub fn command_named(word: &[u8]) -> Option<Command>
     ensures { option_map command_of result ≡ spec.command_named word.now }
 {
-    in_table(word)
+    first_with(of_length(word.len()), word)
 }
