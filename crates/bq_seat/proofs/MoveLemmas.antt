@@ -7,7 +7,6 @@ use Rattle.bq_job.specs.declared.line_end.LineEnd.{LineEnd}
 use Rattle.bq_job.specs.declared.line_end.LineEnd.TheVariants as ends
 use Rattle.bq_job.specs.declared.step.Step.TheVariants as steps
 use Rattle.bq_job.specs.machine.OneClient.{is_closed_answer}
-use Rattle.bq_job.specs.reading.Reading.{Reads}
 use Rattle.bq_seat.specs.Looks.{GoesFurther, LooksOn, is_read_on}
 use Rattle.bq_seat.specs.Past.{Past, with_action, with_event, past_after, is_stray, answers, first_past}
 use Rattle.bq_seat.specs.SeatParts.{GoesOn, IfLineOver, IsStagedMove, OpensLine, in_stage, reads_on}
@@ -21,6 +20,7 @@ use Rattle.bq_seat.specs.declared.machine.Event.TheVariants as events
 use Rattle.bq_seat.specs.declared.machine.SeatMachine.{SeatMachine}
 use Rattle.bq_seat.specs.declared.machine.Stage.{Stage}
 use Rattle.bq_seat.specs.declared.machine.Stage.TheVariants as stages
+use Rattle.bq_job.proofs.ReadsLemmas.{reading-Reads}
 use Rattle.bq_seat.proofs.LooksLemmas.{answered_all, behind_close, behind_connect, behind_end, behind_quit, behind_request, one_unanswered, read_on_is}
 use Rattle.bq_seat.proofs.OpenLemmas.{answered, ends_line, handed_in, handed_in_waiting, opened, read_fails, served_now, still_closing, tells_end, write_fails}
 
@@ -177,16 +177,16 @@ fault_in_reading_on m = record {
   looks = λ e p h. refl;
 }
 
--- a write fails
-pub fault_in_writing : (m : SeatMachine) → ((size : ℕ) (text : List ℕ) → Reads size text (reading size text).0 (reading size text).1)
+-- a write fails; what is not asked any more has a reading too
+pub fault_in_writing : (m : SeatMachine)
     → IsStagedMove (in_stage stages.Writing m) events.WriteFault (actions.Submit steps.Close) (in_stage (stages.Closing ends.WriteFault) m)
-fault_in_writing m every = record {
+fault_in_writing m = record {
   stray = refl;
   unchanged = λ e. cc;
   awaits = λ e. refl;
   limit = refl;
   opened = tt;
-  past = λ p h. write_fails m.reader m.kept m.end_told p h.0 h.1 (λ text. ((reading m.reader.max_job_size text).0, (reading m.reader.max_job_size text).1, every m.reader.max_job_size text));
+  past = λ p h. write_fails m.reader m.kept m.end_told p h.0 h.1 (λ text. ((reading m.reader.max_job_size text).0, (reading m.reader.max_job_size text).1, reading-Reads m.reader.max_job_size text));
   over = tt;
   looks = λ e p h. refl;
 }

@@ -1,5 +1,5 @@
 -- How many answers are outstanding while a line is read.
-use Rattle.std.specs.Prelude.{ℕ, ◌≡◌, ◌+◌, Bool, true, false, length}
+use Rattle.std.specs.Prelude.{◌≡◌, ◌+◌, Bool, true, false, length}
 use Rattle.bq_seat.specs.Past.{Awaited, Past}
 use Rattle.bq_seat.specs.SeatStands.{StandsFor, awaited}
 use Rattle.bq_seat.specs.declared.machine.SeatMachine.{SeatMachine}

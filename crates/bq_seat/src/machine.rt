@@ -2,7 +2,6 @@ ghost use Rattle.std.specs.Prelude.{◌≡◌, ◌≤◌, [], length, IfOk, if�
 ghost use Rattle.bq_seat.specs.SeatParts.{asking_stage};
 
 use crate::kept::{Kept, PIECE_ROOM};
-use bq_job::laws_of_reading::every_text_is_read;
 use bq_job::{Answer, LARGEST_BODY, LineEnd, NoMemory, Request, Step};
 use bq_wire::RequestReader;
 use std::alloc::Global;
@@ -263,11 +262,7 @@ impl SeatMachine {
         ensures { IsStagedMove self.old Event.WriteFault next.new self.new }
     {
         match self.stage {
-            Stage::Writing => {
-                // Only the contract needs it: what isn't asked any more has a reading too.
-                every_text_is_read();
-                self.close(LineEnd::WriteFault, next)
-            }
+            Stage::Writing => self.close(LineEnd::WriteFault, next),
             _ => *next = Action::Stray,
         }
     }

@@ -5,4 +5,4 @@ use Rattle.bq_seat.proofs.machine.SeatMachine.write_fault.Goals as goal
 pub returns-in-Writing : goal.returns-in-Writing
 returns-in-Writing c =
     moves.by_result _ _ _ _ _ _ c.close.ensures.action c.close.ensures.after
-    (moves.from_stage _ _ _ _ stages.Writing c.in-Writing.is (moves.fault_in_writing c.args.self.now c.every_text_is_read.ensures))
+    (moves.from_stage _ _ _ _ stages.Writing c.in-Writing.is (moves.fault_in_writing c.args.self.now))
