@@ -28,11 +28,8 @@ use Rattle.bq_attend.specs.Carried.{Carried, IsLeft, IsReadAs}
 use Rattle.bq_attend.specs.Links.{as_submitted}
 use Rattle.bq_line.specs.LineCalls.{new_line}
 use Rattle.bq_attend.specs.Writing.{BreaksOff, with_written}
+use Rattle.bq_seat.proofs.OrderlyLemmas.{orderly}
 use Rattle.bq_attend.proofs.EventLemmas.{cut_off, taken_at_fault, taken_at_mail, told_fault, writes_at_mail, writes_still, wrote}
-
--- the law of seat machines, whose making nobody looks into here
-abbrev pub PastsAreOrderly : Type 0
-PastsAreOrderly = (machine : SeatMachine) (p : Past) → StandsFor machine p → IsOrderly p
 
 -- The event happened, which the last action awaited; the machine goes on by this action.
 goes_on : (size : ℕ) (old new : SeatMachine) (seen later : LineSeen) (written : List ℕ) (event : Event) (action next : Action) (before : List Step) (got : List Answer) (submitted : List Step) (taken : List Answer)
@@ -84,14 +81,14 @@ seen_at_mail answer written p = at p.closing
     at false = refl
 
 -- an answer came
-mailed_on : PastsAreOrderly → (size : ℕ) (old new : SeatMachine) (seen : LineSeen) (answer : Answer) (next : Action) (submitted : List Step) (taken : List Answer)
+mailed_on : (size : ℕ) (old new : SeatMachine) (seen : LineSeen) (answer : Answer) (next : Action) (submitted : List Step) (taken : List Answer)
     → IsMove old (events.Mail answer) next new → IsOnLine size old seen actions.PollMail submitted taken → IsOnLine size new seen next submitted (taken ++ answer ∷ [])
-mailed_on law size old new seen answer next submitted taken move s =
+mailed_on size old new seen answer next submitted taken move s =
     let p = s.past in
     let awaited_is : awaited old ≡ Awaited.AMail = let a = s.awaits in cc in
     goes_on size old new seen seen s.written (events.Mail answer) actions.PollMail next submitted taken submitted (taken ++ answer ∷ []) s move (ap (answers (events.Mail answer)) awaited_is)
     (s.seen_is ∙ seen_at_mail answer s.written p) (taken_at_mail answer p submitted s.submitted_is)
-    (ap (λ (xs : List Answer). xs ++ answer ∷ []) s.taken_is ∙ mails_of answer p (law old p s.stands)) (writes_at_mail answer p s.written s.writes)
+    (ap (λ (xs : List Answer). xs ++ answer ∷ []) s.taken_is ∙ mails_of answer p (orderly old p s.stands)) (writes_at_mail answer p s.written s.writes)
 
 -- no answer has come
 none_mailed_on : (size : ℕ) (old new : SeatMachine) (seen : LineSeen) (next : Action) (submitted : List Step) (taken : List Answer)
@@ -228,9 +225,9 @@ turn_counts steps.Tick taken mail h = absurd h
 turn_counts steps.Gone taken mail h = refl
 
 -- The line goes on by each action that was carried out.
-pub carried_on : PastsAreOrderly → (size : ℕ) (old new : SeatMachine) (seen later : LineSeen) (action next : Action) (submitted more : List Step) (taken got : List Answer)
+pub carried_on : (size : ℕ) (old new : SeatMachine) (seen later : LineSeen) (action next : Action) (submitted more : List Step) (taken got : List Answer)
     → Carried old seen action new later next more got → IsOnLine size old seen action submitted taken → IsOnLine size new later next (submitted ++ more) (taken ++ got)
-carried_on law size old new seen later (actions.Submit step) next submitted more taken got h s =
+carried_on size old new seen later (actions.Submit step) next submitted more taken got h s =
     with_lists (submitted ++ more) (taken ++ got) (subst (λ (x : LineSeen). IsOnLine size new x next (submitted ++ more) taken) (sym h.0) (by_turn h.2)) (ap (λ (xs : List Answer). taken ++ xs) h.1 ∙ append-nil taken)
   where
     with_lists : (s : List Step) (t : List Answer) → IsOnLine size new later next s taken → t ≡ taken → IsOnLine size new later next s t
@@ -244,15 +241,15 @@ carried_on law size old new seen later (actions.Submit step) next submitted more
         let same : submitted ++ more ≡ submitted = ap (λ (xs : List Step). submitted ++ xs) m.0 ∙ append-nil submitted in
         subst (λ (xs : List Step). IsOnLine size new seen next xs taken) (sym same)
         (subst (λ (a : Action). IsOnLine size new seen a submitted taken) (sym m.1) (subst (λ (x : SeatMachine). IsOnLine size x seen (actions.Submit step) submitted taken) (sym m.2) s))
-carried_on law size old new seen later actions.Read next submitted more taken got h s =
+carried_on size old new seen later actions.Read next submitted more taken got h s =
     nothing_more size new later next submitted more taken got h.0 h.1 (read_on size old new seen later h.2.0 next submitted taken h.2.1 h.2.2 s)
-carried_on law size old new seen later (actions.Write answer) next submitted more taken got h s =
+carried_on size old new seen later (actions.Write answer) next submitted more taken got h s =
     nothing_more size new later next submitted more taken got h.0 h.1 (by_turn h.2)
   where
     by_turn : ((later ≡ with_written (answer_text answer) seen) × IsMove old events.WriteDone next new) ⊎ (BreaksOff (answer_text answer) seen later × IsMove old events.WriteFault next new) → IsOnLine size new later next submitted taken
     by_turn (inl m) = wrote_on size old new seen later answer next submitted taken m.0 m.1 s
     by_turn (inr m) = broke_on size old new seen later answer next submitted taken m.0 m.1 s
-carried_on law size old new seen later actions.PollMail next submitted more taken got h s =
+carried_on size old new seen later actions.PollMail next submitted more taken got h s =
     subst (λ (xs : List Step). IsOnLine size new later next xs (taken ++ got)) (sym (ap (λ (xs : List Step). submitted ++ xs) h.1 ∙ append-nil submitted))
     (subst (λ (x : LineSeen). IsOnLine size new x next submitted (taken ++ got)) (sym h.0) (by_turn h.2))
   where
@@ -260,9 +257,9 @@ carried_on law size old new seen later actions.PollMail next submitted more take
     by_turn (inl m) =
         subst (IsOnLine size new seen next submitted) (sym (ap (λ (xs : List Answer). taken ++ xs) m.0 ∙ append-nil taken)) (none_mailed_on size old new seen next submitted taken m.1 s)
     by_turn (inr m) =
-        subst (λ (xs : List Answer). IsOnLine size new seen next submitted (taken ++ xs)) (sym m.1) (mailed_on law size old new seen m.0 next submitted taken m.2 s)
-carried_on law size old new seen later (actions.LineOver end) next submitted more taken got h s = left_on size old new seen later (actions.LineOver end) next submitted more taken got h s
-carried_on law size old new seen later actions.Stray next submitted more taken got h s = left_on size old new seen later actions.Stray next submitted more taken got h s
+        subst (λ (xs : List Answer). IsOnLine size new seen next submitted (taken ++ xs)) (sym m.1) (mailed_on size old new seen m.0 next submitted taken m.2 s)
+carried_on size old new seen later (actions.LineOver end) next submitted more taken got h s = left_on size old new seen later (actions.LineOver end) next submitted more taken got h s
+carried_on size old new seen later actions.Stray next submitted more taken got h s = left_on size old new seen later actions.Stray next submitted more taken got h s
 
 -- A line is opened, on which nothing was done.
 pub opened_on : (size : ℕ) (old new : SeatMachine) (action : Action) (seen : LineSeen) → awaited old ≡ Awaited.ALine → old.reader.max_job_size ≡ size → IsMove old events.Opened action new → seen ≡ new_line → IsOnLine size new seen action [] []

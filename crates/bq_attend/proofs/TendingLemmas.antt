@@ -6,7 +6,7 @@ use Rattle.bq_job.specs.declared.step.Step.{Step}
 use Rattle.bq_job.specs.declared.step.Step.TheVariants.{Gone}
 use Rattle.bq_job.specs.promise.History.{LineOver}
 use Rattle.bq_job.specs.promise.LineSteps.{LineSeen}
-use Rattle.bq_job.specs.beside.SeatDid.{AreLinesServed, IsLineServed}
+use Rattle.bq_job.specs.beside.SeatDid.{AreLinesServed}
 use Rattle.bq_seat.specs.Past.{Awaited}
 use Rattle.bq_seat.specs.SeatMoves.{IsMove}
 use Rattle.bq_seat.specs.SeatStands.{awaited}
@@ -21,8 +21,9 @@ use Rattle.bq_attend.specs.Tending.{DoorSeen, GoesOn, IsDoorServed, IsNewDoor, I
 use Rattle.bq_attend.specs.declared.attendant.Attendant.{Attendant}
 use Rattle.bq_attend.specs.declared.attendant.Place.{Place}
 use Rattle.bq_attend.specs.declared.attendant.Place.TheVariants as places
+use Rattle.bq_job.proofs.JoinLemmas.{lines_more}
 use Rattle.bq_attend.proofs.CarriedLemmas.{gone}
-use Rattle.bq_attend.proofs.SeatLemmas.{PastsAreOrderly, carried_on, line_served, opened_on}
+use Rattle.bq_attend.proofs.SeatLemmas.{carried_on, line_served, opened_on}
 
 -- nothing more was submitted and taken
 none_more : {L : Type 0} (seen : L → LineSeen) (size : ℕ) (a : Attendant L) (door : DoorSeen) (before : List Step) (got : List Answer) → IsTended seen size a door before got → IsTended seen size a door (before ++ []) (got ++ [])
@@ -75,15 +76,11 @@ tends_at_end seen machine door next over inside ended size before got t =
       placed = (inside, ended);
     })
 
-abbrev pub OneLineMore : Type 0
-OneLineMore = (size : ℕ) (lines : List LineOver) (line : LineOver) (submitted more : List Step) (taken got : List Answer)
-    → AreLinesServed size lines submitted taken → IsLineServed size line more got → AreLinesServed size (lines ++ line ∷ []) (submitted ++ more) (taken ++ got)
-
 -- A line that is over was shut.
 pub tends_shut : {L : Type 0} (seen : L → LineSeen) (machine : SeatMachine) (line : L) (end : LineEnd) (door next : DoorSeen)
-    → OneLineMore → next.lines_over ≡ door.lines_over ++ record { seen = seen line; over = end } ∷ [] → next.is_out ≡ false → next.is_at_end ≡ door.is_at_end
+    → next.lines_over ≡ door.lines_over ++ record { seen = seen line; over = end } ∷ [] → next.is_out ≡ false → next.is_at_end ≡ door.is_at_end
     → Tends seen (attendant machine (places.On line (actions.LineOver end))) door [] [] (attendant machine places.Between) next
-tends_shut seen machine line end door next law left inside still size before got t =
+tends_shut seen machine line end door next left inside still size before got t =
     let a = t.attends in
     let over : LineOver = record { seen = seen line; over = end } in
     let waits : awaited machine ≡ Awaited.ALine = let e = a.at_place.awaits in cc in
@@ -94,7 +91,7 @@ tends_shut seen machine line end door next law left inside still size before got
         got = a.got ++ a.getting;
         getting = [];
         of_lines = subst (λ (lines : List LineOver). AreLinesServed size lines (a.before ++ a.now) (a.got ++ a.getting)) (sym left)
-            (law size door.lines_over over a.before a.now a.got a.getting a.of_lines (line_served size machine (seen line) end a.now a.getting a.at_place));
+            (lines_more size door.lines_over over a.before a.now a.got a.getting a.of_lines (line_served size machine (seen line) end a.now a.getting a.at_place));
         at_place = (refl, refl, waits, a.at_place.limit_is);
         submitted_is = a.submitted_is ∙ sym (append-nil (a.before ++ a.now));
         taken_is = a.taken_is ∙ sym (append-nil (a.got ++ a.getting));
@@ -103,10 +100,10 @@ tends_shut seen machine line end door next law left inside still size before got
     })
 
 -- An action of the line was carried out.
-tends_carried : {L : Type 0} → PastsAreOrderly → (seen : L → LineSeen) (old new : SeatMachine) (line later : L) (action next : Action) (submitted : List Step) (taken : List Answer) (door : DoorSeen)
+tends_carried : {L : Type 0} (seen : L → LineSeen) (old new : SeatMachine) (line later : L) (action next : Action) (submitted : List Step) (taken : List Answer) (door : DoorSeen)
     → Carried old (seen line) action new (seen later) next submitted taken
     → Tends seen (attendant old (places.On line action)) door submitted taken (attendant new (places.On later next)) door
-tends_carried law seen old new line later action next submitted taken door carried size before got t =
+tends_carried seen old new line later action next submitted taken door carried size before got t =
     let a = t.attends in
     record {
       attends = record {
@@ -115,7 +112,7 @@ tends_carried law seen old new line later action next submitted taken door carri
         got = a.got;
         getting = a.getting ++ taken;
         of_lines = a.of_lines;
-        at_place = carried_on law size old new (seen line) (seen later) action next a.now submitted a.getting taken carried a.at_place;
+        at_place = carried_on size old new (seen line) (seen later) action next a.now submitted a.getting taken carried a.at_place;
         submitted_is = ap (λ (xs : List Step). xs ++ submitted) a.submitted_is ∙ append_assoc a.before a.now submitted;
         taken_is = ap (λ (xs : List Answer). xs ++ taken) a.taken_is ∙ append_assoc a.got a.getting taken;
       };
@@ -123,12 +120,12 @@ tends_carried law seen old new line later action next submitted taken door carri
     }
 
 -- the same with the link's calls
-pub tends_acted : {K L : Type 0} → PastsAreOrderly → (went : K → List Step → List Answer → K → Type 0) (first last : K) (seen : L → LineSeen) (old new : SeatMachine) (line later : L) (action next : Action) (submitted : List Step) (taken : List Answer)
+pub tends_acted : {K L : Type 0} (went : K → List Step → List Answer → K → Type 0) (first last : K) (seen : L → LineSeen) (old new : SeatMachine) (line later : L) (action next : Action) (submitted : List Step) (taken : List Answer)
     → HasGone went first action submitted taken last → Carried old (seen line) action new (seen later) next submitted taken
     → (Calls went first submitted taken last) × ((door : DoorSeen) → Tends seen (attendant old (places.On line action)) door submitted taken (attendant new (places.On later next)) door)
-tends_acted law went first last seen old new line later action next submitted taken h carried = (
+tends_acted went first last seen old new line later action next submitted taken h carried = (
   gone went (λ s t. Calls went first s t last) old new (seen line) (seen later) first last action next submitted taken (λ s t w. inl w) (λ e. inr (e, refl, refl)) h carried,
-  λ door. tends_carried law seen old new line later action next submitted taken door carried,
+  λ door. tends_carried seen old new line later action next submitted taken door carried,
 )
 
 -- It was submitted that no more lines come.

@@ -8,10 +8,10 @@ ghost use Rattle.bq_attend.specs.Tending.{DoorSeen, GoesOn, IsPlaced, Tends, att
 
 use crate::client::{Room, carry_out};
 use crate::link::Link;
-use bq_job::{LARGEST_BODY, LineEnd, NoMemory, Step, one_line_more};
+use bq_job::{LARGEST_BODY, LineEnd, NoMemory, Step};
 use bq_line::Door;
 use bq_line::line::Line;
-use bq_seat::{Action, Event, SeatMachine, pasts_are_orderly};
+use bq_seat::{Action, Event, SeatMachine};
 use std::alloc::Global;
 use std::mem;
 
@@ -152,7 +152,6 @@ fn shut_line<L: Line + Drop, D: Door<Line = L>>(door: &mut D, line: L, end: Line
         → Tends L.seen (attendant machine (Place.On line (Action.LineOver end))) (at door.old) [] [] (attendant machine Place.Between) (at door.new) }
     ensures same { (first : D) → D.same first door.old → D.same first door.new }
 {
-    one_line_more();
     door.shut(line, end);
 }
 
@@ -170,7 +169,6 @@ fn act<L: Line + Drop, K: Link>(
     ensures went { (door : DoorSeen)
         → GoesOn K.went link.old link.new L.seen (attendant machine.old (Place.On line.old action.old)) door (attendant machine.new (Place.On line.new action.new)) door }
 {
-    pasts_are_orderly();
     carry_out(alloc, machine, action, line, link, room)
 }
 

@@ -21,7 +21,7 @@ use Rattle.bq_attend.specs.Carried.{Carried}
 use Rattle.bq_desk.specs.DeskState.{DeskState, IsNewDesk, waiting}
 use Rattle.bq_desk.specs.DeskWent.{SeatWent}
 use Rattle.bq_desk.proofs.DeskLemmas.{seat_none, seat_on}
-use Rattle.bq_attend.proofs.SeatLemmas.{PastsAreOrderly, carried_on, line_served}
+use Rattle.bq_attend.proofs.SeatLemmas.{carried_on, line_served}
 
 -- From a new desk on, the seat alone did what its line was served with.
 pub record IsServingAlone (settings : Settings) (seat : ℕ) (readings : List (Option ℕ)) (desk : DeskState) (machine : SeatMachine) (seen : LineSeen) (action : Action) : Type 0 where
@@ -35,16 +35,16 @@ pub record IsServingAlone (settings : Settings) (seat : ℕ) (readings : List (O
 pub begins_alone : (settings : Settings) (seat : ℕ) (desk : DeskState) (machine : SeatMachine) (seen : LineSeen) (action : Action) → IsNewDesk settings desk → IsOnLine settings.max_job_size machine seen action [] [] → IsServingAlone settings seat [] desk machine seen action
 begins_alone settings seat desk machine seen action new on = record { first = desk; submitted = []; taken = []; new = new; went = seat_none desk seat; on_line = on }
 
-pub goes_on_alone : PastsAreOrderly → (settings : Settings) (seat : ℕ) (readings reads : List (Option ℕ)) (desk next : DeskState) (old new : SeatMachine) (seen later : LineSeen) (action then_action : Action) (submitted : List Step) (taken : List Answer)
+pub goes_on_alone : (settings : Settings) (seat : ℕ) (readings reads : List (Option ℕ)) (desk next : DeskState) (old new : SeatMachine) (seen later : LineSeen) (action then_action : Action) (submitted : List Step) (taken : List Answer)
     → IsServingAlone settings seat readings desk old seen action → SeatWent seat desk reads submitted taken next → Carried old seen action new later then_action submitted taken
     → IsServingAlone settings seat (readings ++ reads) next new later then_action
-goes_on_alone law settings seat readings reads desk next old new seen later action then_action submitted taken s w c = record {
+goes_on_alone settings seat readings reads desk next old new seen later action then_action submitted taken s w c = record {
   first = s.first;
   submitted = s.submitted ++ submitted;
   taken = s.taken ++ taken;
   new = s.new;
   went = seat_on s.first desk next seat readings reads s.submitted submitted s.taken taken s.went w;
-  on_line = carried_on law settings.max_job_size old new seen later action then_action s.submitted submitted s.taken taken c s.on_line;
+  on_line = carried_on settings.max_job_size old new seen later action then_action s.submitted submitted s.taken taken c s.on_line;
 }
 
 -- no mail lies at a new desk

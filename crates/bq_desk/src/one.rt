@@ -7,10 +7,10 @@ use crate::desk::Desk;
 use crate::desk_seat::act;
 use bq_attend::client::{ROOM_BYTES, Room};
 use bq_core::Config;
-use bq_job::{LineEnd, Seat, line_joins};
+use bq_job::{LineEnd, Seat};
 use bq_line::clock::Clock;
 use bq_line::line::Line;
-use bq_seat::{Action, Event, SeatMachine, pasts_are_orderly};
+use bq_seat::{Action, Event, SeatMachine};
 use bq_start::RunFault;
 use std::alloc::Global;
 use std::sync::Wait;
@@ -63,14 +63,12 @@ pub fn run_one<R: Wait, L: Line + Drop, C: Clock + Drop>(
     let mut action = machine.on(alloc, Event::Opened);
     for _ in rt.forever() {
         if let Action::LineOver(end) = action {
-            line_joins();
             return Ok(One {
                 line,
                 end,
                 clock: desk.clock,
             });
         }
-        pasts_are_orderly();
         let looked = is_look(&action);
         let _moved = act(
             &mut machine,

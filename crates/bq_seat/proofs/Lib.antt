@@ -4,6 +4,7 @@ pub mod InTurnLemmas
 pub mod LooksLemmas
 pub mod MoveLemmas
 pub mod OpenLemmas
+pub mod OrderlyLemmas
 pub mod OutstandingLemmas
 pub mod ReadingLemmas
 pub mod StepLemmas

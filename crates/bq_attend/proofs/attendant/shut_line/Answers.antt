@@ -4,6 +4,6 @@ use Rattle.bq_attend.proofs.attendant.shut_line.Goals as goal
 pub returns : goal.returns
 returns g c =
     record {
-      went = λ machine. tends_shut g.L.Line.seen machine c.args.line c.args.end _ _ c.one_line_more.ensures c.shut.ensures.over c.shut.ensures.inside c.shut.ensures.at_end;
+      went = λ machine. tends_shut g.L.Line.seen machine c.args.line c.args.end _ _ c.shut.ensures.over c.shut.ensures.inside c.shut.ensures.at_end;
       same = c.shut.ensures.same;
     }

@@ -3,6 +3,7 @@ use Rattle.bq_seat.specs.declared.machine.Action.TheVariants as actions
 use Rattle.bq_desk.specs.DeskOf.{state_of}
 use Rattle.bq_desk.proofs.AloneLemmas.{IsServingAlone, begins_alone, goes_on_alone, new_mails_are, over_alone}
 use Rattle.bq_attend.proofs.SeatLemmas.{opened_on}
+use Rattle.bq_job.proofs.JoinLemmas.{line_joined}
 use Rattle.bq_desk.proofs.one.run_one.Goals as goal
 
 pub loop-init : goal.loop-init
@@ -40,7 +41,7 @@ loop-preserved g c =
       serves = (
         i.0 ++ w.0,
         w.1 c.args.clock i.0 i.1,
-        goes_on_alone c.pasts_are_orderly.ensures c.args.config 0 i.0 w.0 (state_of c.loop.desk) next c.loop.machine c.act-moved.new.machine (g.L.Line.seen c.loop.line) (g.L.Line.seen c.act-moved.new.line) c.loop.action c.act-moved.new.action h.0 h.1 i.2 w.2 h.3,
+        goes_on_alone c.args.config 0 i.0 w.0 (state_of c.loop.desk) next c.loop.machine c.act-moved.new.machine (g.L.Line.seen c.loop.line) (g.L.Line.seen c.act-moved.new.line) c.loop.action c.act-moved.new.action h.0 h.1 i.2 w.2 h.3,
       );
       mails = c.act-moved.ensures.mails;
       within = omega (arith, w.2.went.many, c.loop.invariant.within);
@@ -54,6 +55,6 @@ returns-in-LineOver-clause-served g c =
     let seats : c.args.config.seats ≡ 1 = c.if-config-ne1.false in (
       i.0,
       i.1,
-      c.line_joins.ensures c.args.config 0 (record { seen = g.L.Line.seen c.loop.line; over = c.in-LineOver.end }) i.0 s.went.history s.went.went.given c.loop.desk.core.machine
+      line_joined c.args.config 0 (record { seen = g.L.Line.seen c.loop.line; over = c.in-LineOver.end }) i.0 s.went.history s.went.went.given c.loop.desk.core.machine
           (over_alone c.args.config 0 i.0 (state_of c.loop.desk) c.loop.machine (g.L.Line.seen c.loop.line) c.in-LineOver.end s (omega (arith, seats)) (new_mails_are c.args.config s.first s.new)),
     )
