@@ -86,6 +86,7 @@ pub struct SeatMachine {
 
 impl SeatMachine {
     ghost use Rattle.bq_seat.specs.Past.{Awaited};
+    ghost use Rattle.bq_job.specs.declared.answer.Answer.{Answer};
     ghost use Rattle.bq_job.specs.machine.OneClient.{is_closed_answer};
     ghost use Rattle.bq_seat.specs.Outstanding.{ReadsWith};
     ghost use Rattle.bq_seat.specs.SeatMoves.{FitsPiece, IsMove};
@@ -138,10 +139,21 @@ impl SeatMachine {
             Event::NothingYet => self.nothing_yet(next),
             Event::EndOfInput => self.end_of_input(next),
             Event::ReadFault => self.read_fault(next),
-            Event::Mail(answer) => self.mail(answer, next),
+            Event::Mail(answer) => {
+                *next = Action::Write(answer);
+                self.mail(next)
+            }
             Event::WriteDone => self.write_done(alloc, next),
             Event::WriteFault => self.write_fault(next),
         }
+    }
+
+    /// The same as `on_in_place` by mail whose answer lies in the place already, to be written: where that is done
+    /// next, it stays where it lies.
+    pub fn mail_in_place(&mut self, next: &mut Action)
+        ensures { (answer : Answer) → next.old ≡ Action.Write answer → IsMove self.old (Event.Mail answer) next.new self.new }
+    {
+        self.mail(next)
     }
 
     /// Whether a request waits for its answer while the line is read. Where it does, a read that waits would
@@ -236,15 +248,12 @@ impl SeatMachine {
         }
     }
 
-    fn mail(&mut self, answer: Answer, next: &mut Action)
-        ensures { IsStagedMove self.old (Event.Mail answer) next.new self.new }
+    fn mail(&mut self, next: &mut Action)
+        ensures { (answer : Answer) → next.old ≡ Action.Write answer → IsStagedMove self.old (Event.Mail answer) next.new self.new }
     {
         match self.stage {
-            Stage::Polling { .. } => {
-                self.stage = Stage::Writing;
-                *next = Action::Write(answer);
-            }
-            Stage::Leaving(end) => self.mail_after_close(end, &answer, next),
+            Stage::Polling { .. } => self.stage = Stage::Writing,
+            Stage::Leaving(end) => self.mail_after_close(end, next),
             _ => *next = Action::Stray,
         }
     }
@@ -335,12 +344,14 @@ impl SeatMachine {
     }
 
     // The close's own answer ends the line. Other mail is thrown away.
-    fn mail_after_close(&mut self, end: LineEnd, answer: &Answer, next: &mut Action)
-        ensures action { next.new ≡ (if is_closed_answer answer.now then Action.LineOver end else Action.PollMail) }
-        ensures after { self.new ≡ (if is_closed_answer answer.now then in_stage Stage.Between self.old else self.old) }
+    fn mail_after_close(&mut self, end: LineEnd, next: &mut Action)
+        ensures action { (answer : Answer) → next.old ≡ Action.Write answer
+            → next.new ≡ (if is_closed_answer answer then Action.LineOver end else Action.PollMail) }
+        ensures after { (answer : Answer) → next.old ≡ Action.Write answer
+            → self.new ≡ (if is_closed_answer answer then in_stage Stage.Between self.old else self.old) }
     {
-        match answer {
-            Answer::Closed => {
+        match next {
+            Action::Write(Answer::Closed) => {
                 self.stage = Stage::Between;
                 *next = Action::LineOver(end);
             }

@@ -4,9 +4,10 @@ use Rattle.bq_seat.proofs.MoveLemmas as moves
 use Rattle.bq_seat.proofs.machine.SeatMachine.mail.Goals as goal
 
 pub returns-in-Polling : goal.returns-in-Polling
-returns-in-Polling c = moves.from_stage _ _ _ _ (stages.Polling _) c.in-Polling.is (moves.mail_in_polling c.args.self.now _ c.args.answer)
+returns-in-Polling c =
+    λ answer lies. moves.by_result _ _ _ _ _ _ lies refl (moves.from_stage _ _ _ _ (stages.Polling _) c.in-Polling.is (moves.mail_in_polling c.args.self.now _ answer))
 
 pub returns-in-Leaving : goal.returns-in-Leaving
 returns-in-Leaving c =
-    moves.by_result _ _ _ _ _ _ c.mail_after_close.ensures.action c.mail_after_close.ensures.after
-    (moves.mail_in_leaving c.args.self.now _ c.args.answer _ c.in-Leaving.is refl)
+    λ answer lies. moves.by_result _ _ _ _ _ _ (c.mail_after_close.ensures.action answer lies) (c.mail_after_close.ensures.after answer lies)
+    (moves.mail_in_leaving c.args.self.now _ answer _ c.in-Leaving.is refl)

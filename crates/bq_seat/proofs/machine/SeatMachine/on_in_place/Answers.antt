@@ -1,3 +1,4 @@
+use Rattle.std.proofs.Common.{refl}
 use Rattle.bq_seat.proofs.FindLemmas.{is_move_by}
 use Rattle.bq_seat.proofs.machine.SeatMachine.on_in_place.Goals as goal
 
@@ -20,7 +21,7 @@ pub returns-in-ReadFault : goal.returns-in-ReadFault
 returns-in-ReadFault c = is_move_by _ _ _ _ _ c.in-ReadFault.is c.read_fault.ensures
 
 pub returns-in-Mail : goal.returns-in-Mail
-returns-in-Mail c = is_move_by _ _ _ _ _ c.in-Mail.is c.mail.ensures
+returns-in-Mail c = is_move_by _ _ _ _ _ c.in-Mail.is (c.mail.ensures c.in-Mail.answer refl)
 
 pub returns-in-WriteDone : goal.returns-in-WriteDone
 returns-in-WriteDone c = is_move_by _ _ _ _ _ c.in-WriteDone.is c.write_done.ensures
