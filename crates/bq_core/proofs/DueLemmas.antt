@@ -1,6 +1,6 @@
 -- The next due moment, out of those of jobs, tubes and seats.
 use Rattle.std.proofs.Common.{◌≡◌, ℕ, Bool, true, false, ◌++◌, ◌+◌, ◌-◌, ◌<◌, ◌≤◌, ◌==◌, ◌&&◌, ◌||◌, not, inl, inr, List, [], ◌∷◌, Option, Some, None, refl, sym, ap, ◌∙◌, arith, take, get_or, length, if◌then◌else◌}
-use Rattle.std.specs.Prelude.{flat_map, fold, min, nat_lt, option_map}
+use Rattle.std.specs.Prelude.{flat_map, fold, is_some, min, nat_lt, option_map}
 use Rattle.std.specs.List.{AllByRecursion as All, Contains, list_all, list_any}
 use Rattle.std.proofs.lemmas.Bool.{cases_Bool}
 use Rattle.std.proofs.lemmas.Bool.Decides.{nat_tests}
@@ -10,14 +10,17 @@ use Rattle.bq_job.specs.declared.job.JobState.{JobState}
 use Rattle.bq_job.specs.declared.job.JobState.TheVariants as states
 use Rattle.bq_job.specs.machine.Changes.{first_of, is_held_by, is_holder, is_pair_before, is_waiting}
 use Rattle.bq_job.specs.machine.JobStates.{due_of, is_delayed, is_due_before, is_reserved}
-use Rattle.bq_job.specs.machine.Machine.{Machine, SeatRecord, TubeRecord}
+use Rattle.bq_job.specs.machine.Machine.{Machine, SeatRecord, TubeRecord, Wait}
 use Rattle.bq_job.specs.machine.OneClient.{is_waiting_at}
 use Rattle.bq_job.proofs.ChoiceLemmas.{first_of_contains, first_of_is_least, first_of_none, first_of_passes, pair_order}
 use Rattle.bq_job.proofs.ListLemmas.{all_at, all_from_members, all_pass, all_weaker, list_all_from, none_pass}
 use Rattle.bq_jobs.specs.Leases.{deadline_of, is_lease_before}
-use Rattle.bq_job.specs.beside.NextDue.{dues_of_pause, dues_of_state, earliest, is_before}
-use Rattle.bq_core.specs.Dues.{earlier_of_both, jobs_due, warning_due, with_warning_due}
+use Rattle.bq_job.specs.beside.NextDue.{dues_of_pause, dues_of_state, dues_of_wait, earliest, is_before}
+use Rattle.bq_core.specs.Dues.{earlier_of_both, jobs_due, warning_due, with_seat_due, with_warning_due}
+use Rattle.bq_core.specs.Queues.{at_turn, turns_of}
+use Rattle.bq_core.specs.SeatChanges.{AreNumbered}
 use Rattle.bq_core.specs.TubeEntries.{IsFreshUnlessCounted, counted, is_counted}
+use Rattle.bq_core.proofs.WalkLemmas.{walked}
 
 no_other : (a : Option ℕ) → earlier_of_both a None ≡ a
 no_other None = refl
@@ -33,6 +36,28 @@ in_any_order (Some a) (Some b) None = refl
 in_any_order (Some a) (Some b) (Some c) = ap Some (min_three a b c)
 
 -- the first of two lists of moments
+one_or_other : (a b : Option ℕ) → earlier_of_both a b ≡ earlier_of_both b a
+one_or_other None b = sym (no_other b)
+one_or_other (Some x) None = refl
+one_or_other (Some x) (Some y) = ap Some (least x y)
+  where
+    least : (x y : ℕ) → min x y ≡ min y x
+    least x y = omega arith
+
+dues_swap : (b x y : Option ℕ) → earlier_of_both (earlier_of_both b x) y ≡ earlier_of_both (earlier_of_both b y) x
+dues_swap b x y = in_any_order b x y ∙ ap (earlier_of_both b) (one_or_other x y) ∙ sym (in_any_order b y x)
+
+-- A walk over those that wait finds the first who gives up, and the first who is told of its deadline.
+pub ends_walked : (seats : List SeatRecord) → AreNumbered seats → fold (at_turn with_seat_due seats) None (turns_of seats) ≡ fold with_seat_due None seats
+ends_walked seats h = walked with_seat_due (λ s e b. go s.wait e b) (λ s t _ b. dues_swap b (earliest (dues_of_wait s.wait)) (earliest (dues_of_wait t.wait))) seats h None
+  where
+    go : (w : Option Wait) → is_some w ≡ false → (b : Option ℕ) → earlier_of_both b (earliest (dues_of_wait w)) ≡ b
+    go None e b = no_other b
+    go (Some x) e b = absurd cc
+
+pub warnings_walked : (jobs : List Job) (seats : List SeatRecord) → AreNumbered seats → fold (at_turn (with_warning_due jobs) seats) None (turns_of seats) ≡ fold (with_warning_due jobs) None seats
+warnings_walked jobs seats h = walked (with_warning_due jobs) (λ s e b. rw e (no_other b)) (λ s t _ b. dues_swap b (warning_due jobs s) (warning_due jobs t)) seats h None
+
 pub earliest_of_both : (xs ys : List ℕ) → earliest (xs ++ ys) ≡ earlier_of_both (earliest xs) (earliest ys)
 earliest_of_both [] ys = refl
 earliest_of_both (x ∷ xs) ys = ap (λ o. earlier_of_both (Some x) o) (earliest_of_both xs ys) ∙ sym (in_any_order (Some x) (earliest xs) (earliest ys))

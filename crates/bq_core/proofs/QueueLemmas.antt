@@ -1,5 +1,6 @@
 -- The queue of those that wait, once one seat changes.
-use Rattle.std.proofs.Common.{◌≡◌, ◌∙◌, ◌==◌, ◌+◌, ◌≤◌, ℕ, suc, Bool, true, false, not, List, [], ◌∷◌, Option, Some, None, if◌then◌else◌, inl, inr, subst, refl, sym, ap, arith, length, map, set, slice_get}
+use Rattle.std.proofs.Common.{◌≡◌, ◌∙◌, ◌==◌, ◌+◌, ◌≤◌, ℕ, suc, Bool, true, false, not, List, [], ◌∷◌, Option, Some, None, if◌then◌else◌, cond, inl, inr, subst, refl, sym, ap, arith, length, map, set, slice_get}
+use Rattle.std.specs.Prelude.{count_by}
 use Rattle.std.specs.Cmp.{IsStrictWeakOrder}
 use Rattle.std.specs.List.{AllByRecursion as All, insert, prefix_len}
 use Rattle.std.proofs.lemmas.Bool.{cases_Bool, eq-eqb, eqb-true}
@@ -9,7 +10,7 @@ use Rattle.bq_job.specs.machine.Changes.{is_pair_before, is_waiting, seat_with}
 use Rattle.bq_job.specs.machine.Machine.{SeatRecord, empty_seat, numbers}
 use Rattle.bq_job.specs.machine.TubeCommands.{watching}
 use Rattle.bq_job.proofs.ChoiceLemmas.{pair_order}
-use Rattle.bq_job.proofs.ListLemmas.{filter_all, found_passes}
+use Rattle.bq_job.proofs.ListLemmas.{count_cons, filter_all, found_passes}
 use Rattle.bq_core.specs.EndingWaits.{turn_of}
 use Rattle.bq_core.specs.Queues.{AreQueued, Queued, is_turn_before, placed, removed, turns_of, with_turn, without_turn}
 use Rattle.bq_core.specs.SeatChanges.{AreNumbered, seat_changed, seat_changed_at}
@@ -161,6 +162,15 @@ turns_within [] = omega arith
 turns_within (s ∷ seats) = go (is_waiting s) (turns_within seats)
   where
     go : (b : Bool) → length (turns_of seats) ≤ length seats → length (if b then placed is_turn_before (turn_of s) (turns_of seats) else turns_of seats) ≤ suc (length seats)
+    go true h = omega (arith, placed_length is_turn_before (turn_of s) (turns_of seats), h)
+    go false h = omega (arith, h)
+
+-- there are as many of them as clients that wait
+pub turns_counted : (seats : List SeatRecord) → length (turns_of seats) ≡ count_by is_waiting seats
+turns_counted [] = refl
+turns_counted (s ∷ seats) = go (is_waiting s) (turns_counted seats) ∙ sym (count_cons is_waiting s seats)
+  where
+    go : (b : Bool) → length (turns_of seats) ≡ count_by is_waiting seats → length (if b then placed is_turn_before (turn_of s) (turns_of seats) else turns_of seats) ≡ cond b 1 0 + count_by is_waiting seats
     go true h = omega (arith, placed_length is_turn_before (turn_of s) (turns_of seats), h)
     go false h = omega (arith, h)
 

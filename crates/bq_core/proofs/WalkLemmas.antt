@@ -1,23 +1,23 @@
 -- A walk over those that wait, in their turn, comes to the same as one over all seats.
-use Rattle.std.proofs.Common.{◌≡◌, ◌∙◌, ◌==◌, ◌&&◌, ◌||◌, ◌≤◌, ℕ, suc, Bool, true, false, List, [], ◌∷◌, Option, Some, None, if◌then◌else◌, cond, inl, inr, refl, sym, ap, arith, length, map, slice_get}
+use Rattle.std.proofs.Common.{◌≡◌, ◌<◌, ◌∙◌, ◌==◌, ◌&&◌, ◌||◌, ◌≤◌, ℕ, suc, Bool, true, false, List, [], ◌∷◌, Option, Some, None, if◌then◌else◌, cond, inl, inr, refl, sym, ap, arith, length, map, slice_get}
 use Rattle.std.specs.Prelude.{find, fold, is_some, nat_lt, option_map}
 use Rattle.std.specs.Cmp.{IsStrictWeakOrder}
 use Rattle.std.specs.List.{AllByRecursion as All, Contains, list_any, position, position_or_len}
 use Rattle.std.proofs.lemmas.Bool.{cases_Bool, eq-eqb, ltb-false, ne_eqb}
 use Rattle.std.proofs.lemmas.Bool.Decides.{nat_tests}
 use Rattle.std.proofs.lemmas.List.Folds.{find_at}
-use Rattle.std.proofs.lemmas.Option.{slice_get_past}
+use Rattle.std.proofs.lemmas.Option.{slice_get_past, slice_get_within}
 use Rattle.bq_job.specs.machine.Changes.{better_of, first_of, is_pair_before, is_waiting, seat_with}
 use Rattle.bq_job.specs.machine.Dispatch.{is_wait_before, ticket_of}
 use Rattle.bq_job.specs.machine.Machine.{SeatRecord, numbers}
-use Rattle.bq_job.proofs.ChoiceLemmas.{first_of_is_some, pair_order}
+use Rattle.bq_job.proofs.ChoiceLemmas.{first_of_contains, first_of_is_some, pair_order}
 use Rattle.bq_job.proofs.KeptLemmas.{numbers_above, only_seat}
 use Rattle.bq_job.proofs.ListLemmas.{all_at, all_from_members, all_weaker}
 use Rattle.bq_core.specs.Clients.{seat_passes}
-use Rattle.bq_core.specs.EndingWaits.{turn_of}
+use Rattle.bq_core.specs.EndingWaits.{is_after, turn_of, waits_after}
 use Rattle.bq_core.specs.Offers.{these}
 use Rattle.bq_core.specs.Places.{item_at}
-use Rattle.bq_core.specs.Queues.{at_turn, is_turn_before, passes_at, placed, turns_of}
+use Rattle.bq_core.specs.Queues.{at_turn, is_turn_after, is_turn_before, passes_at, placed, turns_of}
 use Rattle.bq_core.specs.SeatChanges.{AreNumbered}
 use Rattle.bq_core.proofs.ClientLemmas.{heads}
 use Rattle.bq_core.proofs.QueueLemmas.{all_placed}
@@ -281,3 +281,27 @@ any_turn p seats h waits =
     go : (o : Option SeatRecord) → is_some (option_map turn_of o) ≡ is_some o
     go None = refl
     go (Some s) = refl
+
+pub none_first : (o : Option SeatRecord) → None ≡ option_map turn_of o → None ≡ o
+none_first None h = refl
+none_first (Some s) h = absurd cc
+
+-- Who was found stands at the place of its number.
+pub first_read : (p : SeatRecord → Bool) (seats : List SeatRecord) → AreNumbered seats → (t : ℕ × ℕ) → Some t ≡ option_map turn_of (first_of p is_wait_before seats)
+    → (slice_get seats t.1 ≡ first_of p is_wait_before seats) × (t.1 < length seats)
+first_read p seats h t is = go (first_of p is_wait_before seats) refl is
+  where
+    go : (o : Option SeatRecord) → first_of p is_wait_before seats ≡ o → Some t ≡ option_map turn_of o → (slice_get seats t.1 ≡ o) × (t.1 < length seats)
+    go None e i = absurd cc
+    go (Some s) e i =
+        let at : t ≡ turn_of s = cc in
+        let read : slice_get seats t.1 ≡ Some s =
+        ap (λ u. slice_get seats u.1) at ∙ all_at (λ u. slice_get seats u.number ≡ Some u) seats s (read_each seats h) (first_of_contains p is_wait_before seats s e) in
+        (read, slice_get_within seats t.1 s read)
+
+pub next_turn : (last : Option (ℕ × ℕ)) (seats : List SeatRecord) → AreNumbered seats → find (is_turn_after last) (turns_of seats) ≡ option_map turn_of (first_of (waits_after last) is_wait_before seats)
+next_turn last seats h = first_turn (is_turn_after last) (waits_after last) seats h (λ s e. rw e refl) (λ s waits _. rw waits (same last s))
+  where
+    same : (last : Option (ℕ × ℕ)) (s : SeatRecord) → is_turn_after last (turn_of s) ≡ is_after last s
+    same None s = refl
+    same (Some last) s = refl

@@ -1,4 +1,4 @@
-ghost use Rattle.std.specs.Prelude.{◌≡◌, ◌+◌, None, count_by, fold, if◌then◌else◌};
+ghost use Rattle.std.specs.Prelude.{◌≡◌, ◌+◌, None, count_by, fold, length, if◌then◌else◌};
 ghost use Rattle.std.specs.Option.{option_map};
 ghost use Rattle.bq_job.specs.machine.Changes.{is_waiting};
 ghost use Rattle.bq_job.specs.beside.NextDue.{next_due as next_due_of};
@@ -6,11 +6,13 @@ ghost use Rattle.bq_core.specs.Asking.{Asks};
 ghost use Rattle.bq_core.specs.Dues.{earlier_of_both, timers_due, warning_due, with_seat_due, with_warning_due};
 ghost use Rattle.bq_core.specs.FirstEnds.{AreTimeouts};
 ghost use Rattle.bq_core.specs.Keeping.{StaysSound};
+ghost use Rattle.bq_core.specs.Queues.{at_turn, turns_of};
+ghost use Rattle.bq_core.specs.SeatChanges.{AreNumbered};
 ghost use Rattle.bq_core.specs.State.{machine_of, IsSound};
 ghost use Rattle.bq_core.specs.Warnings.{AreWarned};
 
 use crate::first_end::FirstEnd;
-use crate::seat_record::SeatRecord;
+use crate::seat_record::{SeatRecord, Turn};
 use crate::state::State;
 use bq_job::{JobId, Moment};
 use bq_jobs::Jobs;
@@ -50,27 +52,53 @@ fn warning_due(jobs: &mut Jobs, client: &SeatRecord) -> Option<Moment>
     }
 }
 
-fn first_warning(jobs: &mut Jobs, seats: &[SeatRecord]) -> Option<Moment>
-    ensures due { result ≡ fold (with_warning_due jobs.old.jobs) None seats.now }
+// The earlier of this moment and of when the client of this turn is told so.
+fn with_warning_of(
+    best: Option<Moment>,
+    jobs: &mut Jobs,
+    seats: &[SeatRecord],
+    turn: Turn,
+) -> Option<Moment>
+    ensures due { result ≡ at_turn (with_warning_due jobs.old.jobs) seats.now best turn }
     ensures same { jobs.new ≡ record jobs.old { comparisons = jobs.new.comparisons } }
-    ensures asks { Asks (count_by is_waiting seats.now) jobs.old jobs.new }
+    ensures asks { Asks 1 jobs.old jobs.new }
+{
+    match seats.get(usize::from(turn.1)) {
+        None => best,
+        Some(client) => earlier_of(best, warning_due(jobs, client)),
+    }
+}
+
+// When the first of the clients that have these turns is told so.
+fn first_warning(jobs: &mut Jobs, seats: &[SeatRecord], turns: &[Turn]) -> Option<Moment>
+    ensures due { result ≡ fold (at_turn (with_warning_due jobs.old.jobs) seats.now) None turns.now }
+    ensures same { jobs.new ≡ record jobs.old { comparisons = jobs.new.comparisons } }
+    ensures asks { Asks (length turns.now) jobs.old jobs.new }
 {
     let mut best = None;
-    for i in 0..seats.len() {
-        best = earlier_of(best, warning_due(jobs, &seats[i]));
+    for i in 0..turns.len() {
+        best = with_warning_of(best, jobs, seats, turns[i]);
     }
     best
 }
 
-// When the first of the clients that wait is told so. Where none of them holds a job, no seat is looked at.
-fn warnings_due(jobs: &mut Jobs, seats: &[SeatRecord], warns: bool) -> Option<Moment>
-    requires { AreWarned warns jobs.old.jobs seats.now }
+// When the first of the clients that wait is told so. Only who waits is looked at, and where none of them holds a
+// job, nobody.
+fn warnings_due(
+    jobs: &mut Jobs,
+    seats: &[SeatRecord],
+    turns: &[Turn],
+    warns: bool,
+) -> Option<Moment>
+    requires warned { AreWarned warns jobs.old.jobs seats.now }
+    requires numbered { AreNumbered seats.now }
+    requires turns { turns.now ≡ turns_of seats.now }
     ensures due { result ≡ fold (with_warning_due jobs.old.jobs) None seats.now }
     ensures same { jobs.new ≡ record jobs.old { comparisons = jobs.new.comparisons } }
     ensures asks { Asks (count_by is_waiting seats.now) jobs.old jobs.new }
 {
     if warns {
-        first_warning(jobs, seats)
+        first_warning(jobs, seats, turns)
     } else {
         None
     }
@@ -87,25 +115,46 @@ fn jobs_due(jobs: &mut Jobs) -> Option<Moment>
     earlier_of(due, deadline)
 }
 
-/// When the first of the clients that wait gives up.
-pub(crate) fn first_to_give_up(seats: &[SeatRecord]) -> Option<Moment>
-    ensures { result ≡ fold with_seat_due None seats.now }
+// The earlier of this moment and of when the client of this turn gives up.
+fn with_end_of(best: Option<Moment>, seats: &[SeatRecord], turn: Turn) -> Option<Moment>
+    ensures { result ≡ at_turn with_seat_due seats.now best turn }
+{
+    match seats.get(usize::from(turn.1)) {
+        None => best,
+        Some(client) => earlier_of(best, client.gives_up_at()),
+    }
+}
+
+// When the first of the clients that have these turns gives up.
+fn first_end_among(seats: &[SeatRecord], turns: &[Turn]) -> Option<Moment>
+    ensures { result ≡ fold (at_turn with_seat_due seats.now) None turns.now }
 {
     let mut best = None;
-    for i in 0..seats.len() {
-        best = earlier_of(best, seats[i].gives_up_at());
+    for i in 0..turns.len() {
+        best = with_end_of(best, seats, turns[i]);
     }
     best
 }
 
+/// When the first of the clients that wait gives up. Only who waits is looked at.
+pub(crate) fn first_to_give_up(seats: &[SeatRecord], turns: &[Turn]) -> Option<Moment>
+    requires numbered { AreNumbered seats.now }
+    requires turns { turns.now ≡ turns_of seats.now }
+    ensures { result ≡ fold with_seat_due None seats.now }
+{
+    first_end_among(seats, turns)
+}
+
 // The same. Where it is known, no seat is looked at.
-fn seats_due(first: &FirstEnd, seats: &[SeatRecord]) -> Option<Moment>
-    requires { AreTimeouts first.now seats.now }
+fn seats_due(first: &FirstEnd, seats: &[SeatRecord], turns: &[Turn]) -> Option<Moment>
+    requires known { AreTimeouts first.now seats.now }
+    requires numbered { AreNumbered seats.now }
+    requires turns { turns.now ≡ turns_of seats.now }
     ensures { result ≡ fold with_seat_due None seats.now }
 {
     match first {
         FirstEnd::Known(first) => *first,
-        FirstEnd::Unknown => first_to_give_up(seats),
+        FirstEnd::Unknown => first_to_give_up(seats, turns),
     }
 }
 
@@ -117,9 +166,18 @@ pub(crate) fn next_due(state: &mut State) -> Option<Moment>
     ensures kept { StaysSound (count_by is_waiting state.old.seats.items + 2) state.old state.new }
 {
     let jobs = jobs_due(&mut state.jobs);
-    let warning = warnings_due(&mut state.jobs, state.seats.as_slice(), state.warns);
+    let warning = warnings_due(
+        &mut state.jobs,
+        state.seats.as_slice(),
+        state.queue.as_slice(),
+        state.warns,
+    );
     state.warns = warning.is_some();
-    let seats = seats_due(&state.first_end, state.seats.as_slice());
+    let seats = seats_due(
+        &state.first_end,
+        state.seats.as_slice(),
+        state.queue.as_slice(),
+    );
     earlier_of(
         earlier_of(jobs, warning),
         earlier_of(state.pause_end, seats),

@@ -2,9 +2,11 @@
 ghost use Rattle.std.specs.Prelude.{◌≡◌};
 ghost use Rattle.std.specs.Option.{option_copied};
 ghost use Rattle.bq_core.specs.FirstEnds.{AreTimeouts, end_after, keeps_end};
+ghost use Rattle.bq_core.specs.Queues.{turns_of};
+ghost use Rattle.bq_core.specs.SeatChanges.{AreNumbered};
 
 use crate::seat_list::SeatChange;
-use crate::seat_record::SeatRecord;
+use crate::seat_record::{SeatRecord, Turn};
 use crate::{dues, seat_list};
 use bq_job::Moment;
 
@@ -45,13 +47,15 @@ pub(crate) fn change(first: &mut FirstEnd, client: Option<&SeatRecord>, what: &S
     }
 }
 
-/// What is known once it was looked for.
-pub(crate) fn find(seats: &[SeatRecord]) -> FirstEnd
+/// What is known once it was looked for. Only who waits is looked at.
+pub(crate) fn find(seats: &[SeatRecord], turns: &[Turn]) -> FirstEnd
+    requires numbered { AreNumbered seats.now }
+    requires turns { turns.now ≡ turns_of seats.now }
     ensures { AreTimeouts result seats.now }
 {
-    if seat_list::is_some_waiter_gone(seats) {
+    if seat_list::is_some_waiter_gone(seats, turns) {
         FirstEnd::Unknown
     } else {
-        FirstEnd::Known(dues::first_to_give_up(seats))
+        FirstEnd::Known(dues::first_to_give_up(seats, turns))
     }
 }

@@ -1,9 +1,10 @@
 //! The clients that wait, in their turn.
-ghost use Rattle.std.specs.Prelude.{◌≡◌, ◌<◌, ◌≤◌, [], not, length, vec_len, IfOk};
+ghost use Rattle.std.specs.Prelude.{◌≡◌, ◌<◌, ◌≤◌, [], find, not, length, vec_len, IfOk};
 ghost use Rattle.std.specs.List.{position, prefix_len};
 ghost use Rattle.std.specs.Option.{option_copied};
 ghost use Rattle.std.specs.Vec.{vec_capacity};
-ghost use Rattle.bq_core.specs.Queues.{is_turn_before, placed, removed, with_turn, without_turn};
+ghost use Rattle.bq_core.specs.Places.{item_at};
+ghost use Rattle.bq_core.specs.Queues.{is_turn_after, is_turn_before, placed, removed, with_turn, without_turn};
 
 use crate::seat_record::{SeatRecord, Turn};
 use bq_job::{NoMemory, Seat};
@@ -38,6 +39,33 @@ fn first_after(turns: &[Turn], turn: Turn) -> Option<usize>
     ensures { result ≡ position (λ other. not (is_turn_before other turn)) turns.now }
 {
     turns.iter().position(|other| !is_before(*other, turn))
+}
+
+// Whether the turn comes after the last one, if there is one.
+fn is_after(turn: Turn, last: Option<Turn>) -> bool
+    ensures { result ≡ is_turn_after last turn }
+{
+    match last {
+        None => true,
+        Some(last) => is_before(last, turn),
+    }
+}
+
+// The place of the first turn that comes after the last one.
+fn place_after(turns: &[Turn], last: Option<Turn>) -> Option<usize>
+    ensures { result ≡ position (is_turn_after last) turns.now }
+{
+    turns.iter().position(|turn| is_after(*turn, last))
+}
+
+/// What stands at this place, if anything does.
+pub(crate) fn turn_at(turns: &[Turn], place: Option<usize>) -> Option<Turn>
+    ensures { result ≡ item_at turns.now place }
+{
+    match place {
+        None => None,
+        Some(i) => turns.get(i).copied(),
+    }
 }
 
 // Where the turn would stand.
@@ -82,6 +110,14 @@ impl Queue {
         ensures { result.now ≡ self.now.turns }
     {
         self.turns.as_slice()
+    }
+
+    /// The first turn that comes after the last one, or where there is no last one, the first of all.
+    pub(crate) fn next_after(&self, last: Option<Turn>) -> Option<Turn>
+        ensures { result ≡ find (is_turn_after last) self.now.turns }
+    {
+        let turns = self.turns.as_slice();
+        turn_at(turns, place_after(turns, last))
     }
 
     /// Puts in the turn of the client, if there is one and it waits.

@@ -13,6 +13,7 @@ ghost use Rattle.bq_core.specs.FirstEnds.{is_gone_in_wait};
 ghost use Rattle.bq_core.specs.Offers.{waits_at};
 ghost use Rattle.bq_core.specs.Queues.{passes_at, turns_of};
 
+use crate::queue;
 use crate::seat_record::{SeatRecord, Turn};
 use bq_job::{Moment, NoMemory, Seat, TubeName};
 use std::alloc::Global;
@@ -95,25 +96,6 @@ pub(crate) fn find(seats: &[SeatRecord], number: Seat) -> Option<&SeatRecord>
     seats.get(usize::from(number))
 }
 
-// The place of the client that has waited longest, once this one is looked at.
-pub(crate) fn better(
-    seats: &[SeatRecord],
-    best: Option<usize>,
-    i: usize,
-    passes: bool,
-) -> Option<usize>
-    requires best { IfSome best (λ k. k < length seats.now) }
-    requires next { i < length seats.now }
-    ensures bound { IfSome result (λ k. k < length seats.now) }
-    ensures better { item_at seats.now result ≡ better_if passes is_wait_before seats.now (item_at seats.now best) i }
-{
-    let is_better = match best {
-        None => passes,
-        Some(k) => passes && seats[i].is_before(&seats[k]),
-    };
-    if is_better { Some(i) } else { best }
-}
-
 // Whether the client waits at this tube.
 fn waits_at(client: &SeatRecord, tube: &TubeName) -> bool
     ensures { result ≡ waits_at tube.now client.now }
@@ -140,45 +122,16 @@ fn place_waiting(seats: &[SeatRecord], turns: &[Turn], tube: &TubeName) -> Optio
         .position(|turn| waits_there(seats, *turn, tube))
 }
 
-// What stands at this place, if anything does.
-fn turn_at(turns: &[Turn], place: Option<usize>) -> Option<Turn>
-    ensures { result ≡ item_at turns.now place }
-{
-    match place {
-        None => None,
-        Some(i) => turns.get(i).copied(),
-    }
-}
-
 /// The seat of the client that has waited longest of those that wait at this tube. Only who waits is looked at.
 pub(crate) fn first_waiting(seats: &[SeatRecord], turns: &[Turn], tube: &TubeName) -> Option<Seat>
     requires numbered { AreNumbered seats.now }
     requires turns { turns.now ≡ turns_of seats.now }
     ensures { result ≡ option_map (λ s. s.number) (first_of (waits_at tube.now) is_wait_before seats.now) }
 {
-    match turn_at(turns, place_waiting(seats, turns, tube)) {
+    match queue::turn_at(turns, place_waiting(seats, turns, tube)) {
         None => None,
         Some(turn) => Some(turn.1),
     }
-}
-
-// Whether the client waits, and its turn comes after this one, if there is one.
-fn waits_after(client: &SeatRecord, last: Option<Turn>) -> bool
-    ensures { result ≡ waits_after last client.now }
-{
-    client.is_waiting() && client.is_after(last)
-}
-
-/// The place of the client that has waited longest of those whose turn comes after this one.
-pub(crate) fn next_waiting(seats: &[SeatRecord], last: Option<Turn>) -> Option<usize>
-    ensures bound { IfSome result (λ i. i < length seats.now) }
-    ensures least { item_at seats.now result ≡ first_of (waits_after last) is_wait_before seats.now }
-{
-    let mut best = None;
-    for i in 0..seats.len() {
-        best = better(seats, best, i, waits_after(&seats[i], last));
-    }
-    best
 }
 
 fn has_waited(client: &SeatRecord, moment: Moment) -> bool
@@ -187,11 +140,31 @@ fn has_waited(client: &SeatRecord, moment: Moment) -> bool
     client.is_waiting() && client.is_timed_out(moment)
 }
 
-/// Whether some wait is over by its timeout, or because its client sends no more.
-pub(crate) fn is_some_wait_over(seats: &[SeatRecord], moment: Moment) -> bool
+fn has_waited_there(seats: &[SeatRecord], turn: Turn, moment: Moment) -> bool
+    ensures { result ≡ passes_at (has_waited moment) seats.now turn }
+{
+    match seats.get(usize::from(turn.1)) {
+        None => false,
+        Some(client) => has_waited(client, moment),
+    }
+}
+
+// Whether the wait of a client that has one of these turns is over.
+fn is_some_turn_over(seats: &[SeatRecord], turns: &[Turn], moment: Moment) -> bool
+    ensures { result ≡ list_any (passes_at (has_waited moment) seats.now) turns.now }
+{
+    turns
+        .iter()
+        .any(|turn| has_waited_there(seats, *turn, moment))
+}
+
+/// Whether some wait is over by its timeout, or because its client sends no more. Only who waits is looked at.
+pub(crate) fn is_some_wait_over(seats: &[SeatRecord], turns: &[Turn], moment: Moment) -> bool
+    requires numbered { AreNumbered seats.now }
+    requires turns { turns.now ≡ turns_of seats.now }
     ensures { result ≡ list_any (has_waited moment) seats.now }
 {
-    seats.iter().any(|client| has_waited(client, moment))
+    is_some_turn_over(seats, turns, moment)
 }
 
 fn is_gone_in_wait(client: &SeatRecord) -> bool
@@ -200,11 +173,29 @@ fn is_gone_in_wait(client: &SeatRecord) -> bool
     client.is_waiting() && client.has_ended()
 }
 
-/// Whether some client waits that sends no more.
-pub(crate) fn is_some_waiter_gone(seats: &[SeatRecord]) -> bool
+fn is_gone_there(seats: &[SeatRecord], turn: Turn) -> bool
+    ensures { result ≡ passes_at is_gone_in_wait seats.now turn }
+{
+    match seats.get(usize::from(turn.1)) {
+        None => false,
+        Some(client) => is_gone_in_wait(client),
+    }
+}
+
+// Whether a client that has one of these turns sends no more.
+fn is_some_turn_gone(seats: &[SeatRecord], turns: &[Turn]) -> bool
+    ensures { result ≡ list_any (passes_at is_gone_in_wait seats.now) turns.now }
+{
+    turns.iter().any(|turn| is_gone_there(seats, *turn))
+}
+
+/// Whether some client waits that sends no more. Only who waits is looked at.
+pub(crate) fn is_some_waiter_gone(seats: &[SeatRecord], turns: &[Turn]) -> bool
+    requires numbered { AreNumbered seats.now }
+    requires turns { turns.now ≡ turns_of seats.now }
     ensures { result ≡ list_any is_gone_in_wait seats.now }
 {
-    seats.iter().any(is_gone_in_wait)
+    is_some_turn_gone(seats, turns)
 }
 
 /// So many seats, with nobody there.

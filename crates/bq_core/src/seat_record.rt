@@ -1,14 +1,14 @@
 ghost use Rattle.std.specs.Prelude.{◌≡◌, true, length, IfOk, OnErr};
 ghost use Rattle.bq_job.specs.machine.Asked.{with_end};
 ghost use Rattle.bq_job.specs.machine.Changes.{is_waiting, without_wait};
-ghost use Rattle.bq_job.specs.machine.Dispatch.{is_wait_before, ticket_of};
+ghost use Rattle.bq_job.specs.machine.Dispatch.{ticket_of};
 ghost use Rattle.bq_job.specs.machine.JobCommands.{waiting_from};
 ghost use Rattle.bq_job.specs.machine.Machine.{empty_seat};
 ghost use Rattle.bq_job.specs.beside.NextDue.{dues_of_wait, earliest};
 ghost use Rattle.bq_job.specs.machine.TubeCommands.{using, watching};
 ghost use Rattle.bq_job.specs.machine.Tubes.{watches};
 ghost use Rattle.bq_job.specs.machine.Waits.{is_timed_out_at};
-ghost use Rattle.bq_core.specs.EndingWaits.{is_after, turn_of};
+ghost use Rattle.bq_core.specs.EndingWaits.{turn_of};
 ghost use Rattle.bq_core.specs.SeatChanges.{more_watched, fewer_watched, watches_other};
 
 use crate::watch_list::{WatchList, default_tube};
@@ -151,32 +151,11 @@ impl SeatRecord {
         }
     }
 
-    /// Whether this client has waited longer than the other.
-    pub(crate) fn is_before(&self, other: &SeatRecord) -> bool
-        ensures { result ≡ is_wait_before self.now other.now }
-    {
-        let a = self.ticket();
-        let b = other.ticket();
-        a < b || (a == b && self.number < other.number)
-    }
-
     /// The client's turn among those that wait.
     pub(crate) fn turn(&self) -> Turn
         ensures { result ≡ turn_of self.now }
     {
         (self.ticket(), self.number)
-    }
-
-    /// Whether the client's turn comes after this one, if there is one.
-    pub(crate) fn is_after(&self, last: Option<Turn>) -> bool
-        ensures { result ≡ is_after last self.now }
-    {
-        match last {
-            None => true,
-            Some((ticket, number)) => {
-                ticket < self.ticket() || (ticket == self.ticket() && number < self.number)
-            }
-        }
     }
 
     /// Whether a wait of this client would be over by its timeout, or because the client sends no more.

@@ -343,7 +343,7 @@ pub(crate) fn find_first_end(state: &mut State)
     ensures sound { IsSound state.new }
 {
     if let FirstEnd::Unknown = &state.first_end {
-        state.first_end = first_end::find(state.seats.as_slice());
+        state.first_end = first_end::find(state.seats.as_slice(), state.queue.as_slice());
     }
 }
 

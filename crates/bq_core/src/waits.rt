@@ -1,11 +1,14 @@
-ghost use Rattle.std.specs.Prelude.{◌≡◌, ◌<◌, ◌+◌, None, Some, true, false, length, slice_get, if◌then◌else◌};
+ghost use Rattle.std.specs.Prelude.{◌≡◌, ◌<◌, ◌+◌, None, Some, true, false, length, slice_get, IfSome, if◌then◌else◌};
 ghost use Rattle.std.specs.List.{list_any};
 ghost use Rattle.bq_job.specs.beside.Computed.{waiting_count};
+ghost use Rattle.bq_job.specs.machine.Changes.{first_of};
+ghost use Rattle.bq_job.specs.machine.Dispatch.{is_wait_before};
 ghost use Rattle.bq_job.specs.machine.Waits.{WaitEndTurn, next_end};
 ghost use Rattle.bq_job.specs.machine.Machine.{SeatRecord};
-ghost use Rattle.bq_core.specs.EndingWaits.{AreLookedAt, has_waited, left_after, may_end, told_at_end};
+ghost use Rattle.bq_core.specs.EndingWaits.{AreLookedAt, has_waited, left_after, may_end, told_at_end, waits_after};
 ghost use Rattle.bq_core.specs.Serving.{IsLastTurn};
 ghost use Rattle.bq_core.specs.Keeping.{LeavesJobs, Looks, StaysSound};
+ghost use Rattle.bq_core.specs.Places.{item_at};
 ghost use Rattle.bq_core.specs.State.{machine_of, IsSound};
 ghost use Rattle.bq_core.specs.Turns.{Gives, HasRoom, none_refused};
 ghost use Rattle.bq_core.specs.WaitEnds.{EndsWait, LooksAt};
@@ -63,6 +66,18 @@ fn look_at(state: &mut State, outs: &mut Outs, k: usize)
     }
 }
 
+// The place of the client that has waited longest of those whose turn comes after the last one.
+fn next_waiting(state: &State, last: Option<Turn>) -> Option<usize>
+    requires { IsSound state.now }
+    ensures bound { IfSome result (λ k. k < length state.now.seats.items) }
+    ensures least { item_at state.now.seats.items result ≡ first_of (waits_after last) is_wait_before state.now.seats.items }
+{
+    match state.queue.next_after(last) {
+        None => None,
+        Some(turn) => Some(usize::from(turn.1)),
+    }
+}
+
 // Looks at the next waiting client after the last one that was looked at, if there is one.
 fn turn(state: &mut State, outs: &mut Outs, last: &mut Option<Turn>) -> bool
     requires sound { IsSound state.old }
@@ -74,7 +89,7 @@ fn turn(state: &mut State, outs: &mut Outs, last: &mut Option<Turn>) -> bool
     ensures fewer { result ≡ true → left_after last.new (machine_of state.new) < left_after last.old (machine_of state.old) }
     ensures kept { StaysSound (if result then 1 else 0) state.old state.new }
 {
-    let Some(k) = seat_list::next_waiting(state.seats.as_slice(), *last) else {
+    let Some(k) = next_waiting(state, *last) else {
         return false;
     };
     *last = Some(state.seats[k].turn());
@@ -105,7 +120,11 @@ fn is_some_wait_over(state: &mut State) -> bool
     state::find_first_end(state);
     match &state.first_end {
         FirstEnd::Known(first) => pauses::is_over(*first, state.moment),
-        FirstEnd::Unknown => seat_list::is_some_wait_over(state.seats.as_slice(), state.moment),
+        FirstEnd::Unknown => seat_list::is_some_wait_over(
+            state.seats.as_slice(),
+            state.queue.as_slice(),
+            state.moment,
+        ),
     }
 }
 

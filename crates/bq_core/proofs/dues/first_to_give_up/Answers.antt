@@ -1,8 +1,11 @@
-use Rattle.std.proofs.Common.{◌∙◌, ap}
-use Rattle.bq_core.specs.Dues.{earlier_of_both, with_seat_due}
-use Rattle.bq_core.proofs.DueLemmas.{looked_at_more}
+use Rattle.std.proofs.Common.{◌∙◌, None, ap}
+use Rattle.std.specs.Prelude.{fold}
+use Rattle.bq_core.specs.Dues.{with_seat_due}
+use Rattle.bq_core.specs.Queues.{at_turn}
+use Rattle.bq_core.proofs.DueLemmas.{ends_walked}
 use Rattle.bq_core.proofs.dues.first_to_give_up.Goals as goal
 
-pub loop-i-preserved : goal.loop-i-preserved
-loop-i-preserved c =
-    looked_at_more (with_seat_due) _ _ c.index-seats-i.result _ _ c.loop-i-test.true c.index-seats-i.is c.loop-i.invariant (c.earlier_of-best.ensures ∙ ap (earlier_of_both c.loop-i.best) c.gives_up_at.ensures)
+pub returns : goal.returns
+returns c =
+    let seats = c.args.seats.now in
+    c.first_end_among.ensures ∙ ap (fold (at_turn with_seat_due seats) None) c.requires.turns ∙ ends_walked seats c.requires.numbered

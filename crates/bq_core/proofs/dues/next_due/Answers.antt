@@ -12,8 +12,8 @@ use Rattle.bq_core.proofs.StateLemmas.{compared_sound}
 use Rattle.bq_core.proofs.WarningLemmas.{warned_by_due}
 use Rattle.bq_core.proofs.dues.next_due.Goals as goal
 
-pub warnings_due-warning-requires : goal.warnings_due-warning-requires
-warnings_due-warning-requires c =
+pub warnings_due-warning-requires-clause-warned : goal.warnings_due-warning-requires-clause-warned
+warnings_due-warning-requires-clause-warned c =
     let same = ap (λ (k : Kept). k.jobs) c.jobs_due-jobs.ensures.same in
     rw (same, c.as_slice.ensures.value) c.requires.warnings
 
@@ -32,7 +32,7 @@ returns-clause-due c =
     let tubes : st.pause_end ≡ earliest (flat_map of_tube (counted st.tubes.entries)) =
     c.requires.pauses ∙ earliest_of_all of_tube st.tubes.entries ∙ ap earliest (pauses_counted st.tubes.entries c.requires.entries.fresh) in
     let seats : c.seats_due-seats.result ≡ earliest (flat_map of_seat st.seats.items) =
-    c.seats_due-seats.ensures ∙ ap (fold with_seat_due None) c.as_slice-2.ensures.value ∙ earliest_of_all of_seat st.seats.items in
+    c.seats_due-seats.ensures ∙ ap (fold with_seat_due None) c.as_slice-3.ensures.value ∙ earliest_of_all of_seat st.seats.items in
     c.earlier_of-3.ensures
     ∙ (λ i. earlier_of_both ((c.earlier_of.ensures ∙ jobs) i) ((c.earlier_of-2.ensures ∙ (λ k. earlier_of_both (tubes k) (seats k))) i))
     ∙ sym (all_due (flat_map of_job st.jobs.jobs) (flat_map of_tube (counted st.tubes.entries)) (flat_map of_seat st.seats.items))

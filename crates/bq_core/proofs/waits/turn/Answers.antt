@@ -1,9 +1,6 @@
-use Rattle.std.proofs.Common.{◌≡◌, ◌∙◌, ◌<◌, List, None, Some, ap, arith, length, refl, slice_get, subst, sym}
+use Rattle.std.proofs.Common.{◌≡◌, ◌∙◌, ◌<◌, Some, ap, arith, refl, subst, sym}
 use Rattle.std.specs.Prelude.{ℕ}
-use Rattle.bq_job.specs.machine.Changes.{first_of}
-use Rattle.bq_job.specs.machine.Dispatch.{is_wait_before}
-use Rattle.bq_job.specs.machine.Machine.{SeatRecord}
-use Rattle.bq_core.specs.EndingWaits.{AreLookedAt, left_after, turn_of, waits_after}
+use Rattle.bq_core.specs.EndingWaits.{AreLookedAt, left_after, turn_of}
 use Rattle.bq_core.specs.State.{machine_of}
 use Rattle.bq_core.proofs.TurnLemmas.{same_read}
 use Rattle.bq_core.proofs.WaitLemmas.{here, look_falls, look_given, look_passed, none_left, one_waits, s}
@@ -13,20 +10,19 @@ pub returns-in_default-clause-done : goal.returns-in_default-clause-done
 returns-in_default-clause-done c _ =
     let st = c.args.state.now in
     let last = c.args.last.now in
-    let none = subst (λ (seats : List SeatRecord). None ≡ first_of (waits_after last) is_wait_before seats) c.as_slice.ensures.value c.in_default.ensures.least in
+    let none = c.in_default.ensures.least in
     (none_left (machine_of st) last c.requires.looked none, refl, refl)
 
 pub look_at-requires-clause-seat : goal.look_at-requires-clause-seat
-look_at-requires-clause-seat c = subst (λ (seats : List SeatRecord). c.in-Some.k < length seats) c.as_slice.ensures.value c.in-Some.ensures.bound
+look_at-requires-clause-seat c = c.in-Some.ensures.bound
 
 pub look_at-requires-clause-room : goal.look_at-requires-clause-room
 look_at-requires-clause-room c =
     let st = c.args.state.now in
     let last = c.args.last.now in
     let k = c.in-Some.k in
-    let value = c.as_slice.ensures.value in
-    let there = subst (λ (seats : List SeatRecord). k < length seats) value c.in-Some.ensures.bound in
-    let found = subst (λ (seats : List SeatRecord). slice_get seats k ≡ first_of (waits_after last) is_wait_before seats) value c.in-Some.ensures.least in
+    let there = c.in-Some.ensures.bound in
+    let found = c.in-Some.ensures.least in
     let waits = one_waits st c.requires.sound last c.requires.looked k there found in
     omega (arith, waits, c.requires.room)
 
@@ -35,9 +31,8 @@ returns-clause-given c _ =
     let st = c.args.state.now in
     let last = c.args.last.now in
     let k = c.in-Some.k in
-    let value = c.as_slice.ensures.value in
-    let there = subst (λ (seats : List SeatRecord). k < length seats) value c.in-Some.ensures.bound in
-    let found = subst (λ (seats : List SeatRecord). slice_get seats k ≡ first_of (waits_after last) is_wait_before seats) value c.in-Some.ensures.least in
+    let there = c.in-Some.ensures.bound in
+    let found = c.in-Some.ensures.least in
     look_given st c.requires.sound last c.requires.looked k there found
     c.args.outs.now c.look_at.new.outs (machine_of c.look_at.new.state) c.look_at.ensures.looked
 
@@ -46,9 +41,8 @@ returns-clause-looked c _ =
     let st = c.args.state.now in
     let last = c.args.last.now in
     let k = c.in-Some.k in
-    let value = c.as_slice.ensures.value in
-    let there = subst (λ (seats : List SeatRecord). k < length seats) value c.in-Some.ensures.bound in
-    let found = subst (λ (seats : List SeatRecord). slice_get seats k ≡ first_of (waits_after last) is_wait_before seats) value c.in-Some.ensures.least in
+    let there = c.in-Some.ensures.bound in
+    let found = c.in-Some.ensures.least in
     let read = same_read st.seats.items k (s st c.requires.sound last c.requires.looked k there found) c.index.result.now there c.index.ensures (here st c.requires.sound last c.requires.looked k there found) in
     let is : turn_of (s st c.requires.sound last c.requires.looked k there found) ≡ c.turn.result = sym (c.turn.ensures ∙ ap turn_of read) in
     subst (λ (t : ℕ × ℕ). AreLookedAt (machine_of c.look_at.new.state) (Some t)) is
@@ -60,9 +54,8 @@ returns-clause-fewer c _ =
     let st = c.args.state.now in
     let last = c.args.last.now in
     let k = c.in-Some.k in
-    let value = c.as_slice.ensures.value in
-    let there = subst (λ (seats : List SeatRecord). k < length seats) value c.in-Some.ensures.bound in
-    let found = subst (λ (seats : List SeatRecord). slice_get seats k ≡ first_of (waits_after last) is_wait_before seats) value c.in-Some.ensures.least in
+    let there = c.in-Some.ensures.bound in
+    let found = c.in-Some.ensures.least in
     let read = same_read st.seats.items k (s st c.requires.sound last c.requires.looked k there found) c.index.result.now there c.index.ensures (here st c.requires.sound last c.requires.looked k there found) in
     let is : turn_of (s st c.requires.sound last c.requires.looked k there found) ≡ c.turn.result = sym (c.turn.ensures ∙ ap turn_of read) in
     subst (λ (t : ℕ × ℕ). left_after (Some t) (machine_of c.look_at.new.state) < left_after last (machine_of st)) is
