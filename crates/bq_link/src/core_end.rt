@@ -1,4 +1,4 @@
-ghost use Rattle.std.specs.Prelude.{ℕ, ◌≡◌, ◌+◌, ◌<◌, ◌≤◌, ◌∷◌, ◌++◌, [], List, IfErr, IfNone, IfOk, IfSome, IsOk, OnErr, OnOk, length};
+ghost use Rattle.std.specs.Prelude.{ℕ, ◌≡◌, ◌+◌, ◌<◌, ◌≤◌, ◌∷◌, ◌++◌, [], true, List, IfErr, IfNone, IfOk, IfSome, IsOk, OnErr, OnOk, length};
 ghost use Rattle.bq_job.specs.declared.step.Step.{Step as AStep};
 ghost use Rattle.bq_link.specs.EndChanges.{with_room, with_sent, with_told};
 ghost use Rattle.bq_link.specs.EndStates.{IsPair, ring_places, room_for, sent_to};
@@ -72,6 +72,17 @@ impl CoreEnd {
         ensures empty { IfNone result (J.was self.old.taken [] × Covers self.old.taken self.old.told) }
     {
         intake.queue.pop_as::<Takes<J>, R>(rt, &mut self.pass)
+    }
+
+    /// Whether no step waits. A look that finds none moves nothing, where `take` would hand back room for a step.
+    ///
+    /// Where none waits the contract tells the same moment as that of `take`.
+    pub fn is_empty<J: Record>(&mut self, intake: &Intake<J>) -> bool
+        requires intake { self.old.intake ≡ intake.now.id }
+        ensures same { self.new ≡ self.old }
+        ensures empty { result ≡ true → J.was self.old.taken [] × Covers self.old.taken self.old.told }
+    {
+        intake.queue.is_empty_as::<Takes<J>>(&mut self.pass)
     }
 
     /// Sends an answer to the end with this number, or hands it back where its ring is full (refusal 402).
