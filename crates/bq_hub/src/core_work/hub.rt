@@ -156,8 +156,39 @@ impl<C: Clock + Drop> Hub<C> {
     // Takes the oldest step that waits. Where there is none time passes. Whether there was something to do.
     //
     // Whatever is so of the intake at each moment: where there was nothing, it was so of an empty one, after the last
-    // step that was taken.
+    // step that was taken. It is asked first whether one waits, so that nothing is moved where none does.
     fn go_on<R: Wait, J: Record>(&mut self, rt: &R, intake: &Intake<J>) -> bool
+        requires intake { self.old.sender.end.intake ≡ intake.now.id }
+        requires may { MayTake J.was }
+        requires order { IsInOrder self.old }
+        requires none { self.old.outs.given ≡ [] }
+        ensures order { IsInOrder self.new }
+        ensures end { IsSameCore self.old.sender.end self.new.sender.end }
+        ensures settings { self.new.core.machine.settings ≡ self.old.core.machine.settings }
+        ensures work { WorksOn C.given self.old self.new }
+        ensures stuck { AreStuck self.old.sender.end self.old.sender.kept.items
+            → AreStuck self.new.sender.end self.new.sender.kept.items }
+        ensures empty { result ≡ false → J.was self.old.sender.end.taken [] }
+        ensures idle { result ≡ false → is_before self.new.heard (next_due self.old.core.machine) ≡ true }
+        ensures busy { result ≡ true → TookOne self.old.sender.end self.new.sender.end ⊎ HasTicked self.old self.new }
+    {
+        if self.has_none(intake) {
+            return self.tick_if_due();
+        }
+        self.take_oldest(rt, intake)
+    }
+
+    // Whether no step waits.
+    fn has_none<J: Record>(&mut self, intake: &Intake<J>) -> bool
+        requires intake { self.old.sender.end.intake ≡ intake.now.id }
+        ensures empty { result ≡ true → J.was self.old.sender.end.taken [] }
+        ensures same { self.new ≡ self.old }
+    {
+        self.sender.end.is_empty(intake)
+    }
+
+    // Takes the oldest step that waits; where none does any more, time passes.
+    fn take_oldest<R: Wait, J: Record>(&mut self, rt: &R, intake: &Intake<J>) -> bool
         requires intake { self.old.sender.end.intake ≡ intake.now.id }
         requires may { MayTake J.was }
         requires order { IsInOrder self.old }

@@ -2,7 +2,7 @@ use Rattle.std.proofs.Common.{◌∙◌, ◌++◌, ◌∷◌, [], ap}
 use Rattle.bq_hub.specs.Worked.{hub_state}
 use Rattle.bq_hub.specs.declared.core_work.sender.Sender.{Sender}
 use Rattle.bq_hub.proofs.WorkedLemmas.{pending_on, worked_step}
-use Rattle.bq_hub.proofs.core_work.hub.Hub.go_on.Goals as goal
+use Rattle.bq_hub.proofs.core_work.hub.Hub.take_oldest.Goals as goal
 
 pub returns-in-Some-clause-work : goal.returns-in-Some-clause-work
 returns-in-Some-clause-work g c settings first w =
