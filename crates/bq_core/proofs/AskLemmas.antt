@@ -1,6 +1,6 @@
 -- Searches add up.
 use Rattle.std.proofs.Common.{◌≡◌, ◌==◌, Bool, List, ℕ, zero, suc, ◌+◌, ◌*◌, ◌/◌, ◌<◌, ◌≤◌, true, false, cond, get_or, take, length, max, ap, refl, sym, ◌∙◌, arith, inl, inr, subst}
-use Rattle.std.specs.List.{count_by}
+use Rattle.std.specs.List.{count_by, sum_by}
 use Rattle.std.proofs.Math.Nat.{add-mul}
 use Rattle.std.proofs.lemmas.Nat.{mul-le}
 use Rattle.std.proofs.lemmas.Bool.{cases_Bool}
@@ -49,6 +49,9 @@ asks_then {n = n} {k = k} {first = first} {between = between} {last = last} a b 
     record { many = b.many ∙ a.many; stays = omega (arith, a.stays, b.stays); rise = omega (arith, a.rise, b.rise, same, add-mul n k s) }
 
 -- a turn of a loop that asks once for each element that passes
+pub asks_summed : {A : Type 0} (f : A → ℕ) (xs : List A) (i : ℕ) (d : A) {first between last : Kept} → i < length xs → Asks (sum_by f (take i xs)) first between → Asks (f (get_or xs i d)) between last → Asks (sum_by f (take (i + 1) xs)) first last
+asks_summed f xs i d {first = first} {last = last} fits a b = subst (λ n. Asks n first last) (sym (sum_by_more f xs i d fits)) (asks_then a b)
+
 pub asks_counted : {A : Type 0} (p : A → Bool) (xs : List A) (i : ℕ) (x : A) {first between last : Kept} → i < length xs → x ≡ get_or xs i x → Asks (count_by p (take i xs)) first between → Asks (cond (p x) 1 0) between last → Asks (count_by p (take (i + 1) xs)) first last
 asks_counted p xs i x {first = first} {last = last} fits read a b =
     let sum : count_by p (take (i + 1) xs) ≡ count_by p (take i xs) + cond (p x) 1 0 = sum_by_more (λ y. cond (p y) 1 0) xs i x fits ∙ ap (λ y. count_by p (take i xs) + cond (p y) 1 0) (sym read) in

@@ -1,10 +1,9 @@
 -- The next due moment, out of those of jobs, tubes and seats.
-use Rattle.std.proofs.Common.{◌≡◌, ℕ, Bool, true, false, ◌++◌, ◌+◌, ◌-◌, ◌<◌, ◌≤◌, ◌==◌, ◌&&◌, ◌||◌, not, inl, inr, List, [], ◌∷◌, Option, Some, None, refl, sym, ap, ◌∙◌, arith, take, get_or, length, if◌then◌else◌}
+use Rattle.std.proofs.Common.{◌≡◌, ℕ, Bool, true, false, ◌++◌, ◌-◌, ◌≤◌, ◌==◌, ◌&&◌, ◌||◌, not, inl, inr, List, [], ◌∷◌, Option, Some, None, refl, sym, ap, ◌∙◌, arith, if◌then◌else◌}
 use Rattle.std.specs.Prelude.{flat_map, fold, is_some, min, nat_lt, option_map}
 use Rattle.std.specs.List.{AllByRecursion as All, Contains, list_all, list_any}
 use Rattle.std.proofs.lemmas.Bool.{cases_Bool}
 use Rattle.std.proofs.lemmas.Bool.Decides.{nat_tests}
-use Rattle.std.proofs.lemmas.List.Sums.{fold_more}
 use Rattle.bq_job.specs.declared.job.Job.{Job}
 use Rattle.bq_job.specs.declared.job.JobState.{JobState}
 use Rattle.bq_job.specs.declared.job.JobState.TheVariants as states
@@ -88,11 +87,6 @@ all_due xs ys zs =
     earliest_of_both (xs ++ ys) zs
     ∙ ap (λ o. earlier_of_both o (earliest zs)) (earliest_of_both xs ys)
     ∙ in_any_order (earliest xs) (earliest ys) (earliest zs)
-
--- a turn of a loop that looks at one element after another
-pub looked_at_more : {A : Type 0} (step : Option ℕ → A → Option ℕ) (xs : List A) (i : ℕ) (x : A) (best new : Option ℕ) → i < length xs → x ≡ get_or xs i x → best ≡ fold step None (take i xs) → new ≡ step best x → new ≡ fold step None (take (i + 1) xs)
-looked_at_more step xs i x best new fits read so_far made =
-    made ∙ ap (λ b. step b x) so_far ∙ ap (step (fold step None (take i xs))) read ∙ sym (fold_more step None xs i x fits)
 
 -- Two moments are the same where the same moments are before them.
 told_by_before : (o u : Option ℕ) → ((t : ℕ) → is_before t o ≡ is_before t u) → o ≡ u

@@ -19,6 +19,7 @@ pub mod LossLemmas
 pub mod MovedLemmas
 pub mod NameLemmas
 pub mod NamedLemmas
+pub mod OfferLemmas
 pub mod PauseLemmas
 pub mod QueueLemmas
 pub mod SearchLemmas

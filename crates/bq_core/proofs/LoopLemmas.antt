@@ -1,10 +1,7 @@
 -- What loops over lists keep from turn to turn.
-use Rattle.std.proofs.Common.{◌≡◌, ℕ, zero, suc, ◌+◌, ◌<◌, Bool, List, [], ◌∷◌, ◌++◌, Option, length, get_or, set, take, drop, map, refl, sym, ap, ◌∙◌, cond, ◌&&◌, None, Some, arith}
+use Rattle.std.proofs.Common.{◌≡◌, ℕ, zero, suc, ◌+◌, ◌<◌, List, [], ◌∷◌, ◌++◌, length, get_or, set, take, drop, map, refl, sym, ap, ◌∙◌, arith}
 use Rattle.std.specs.Prelude.{fold}
 use Rattle.std.proofs.lemmas.List.Sums.{fold_more}
-use Rattle.std.proofs.lemmas.Option.{slice_get-get_or, slice_get_read}
-use Rattle.bq_job.specs.machine.Changes.{better_of, first_of}
-use Rattle.bq_core.specs.Places.{better_at, better_if, better_with}
 
 -- the first i elements changed by f, and the others as they were
 abbrev pub changed_before : {A : Type 0} → (A → A) → ℕ → List A → List A
@@ -25,27 +22,6 @@ length_changed f [] zero = refl
 length_changed f [] (suc i) = refl
 length_changed f (x ∷ xs) zero = refl
 length_changed f (x ∷ xs) (suc i) = ap suc (length_changed f xs i)
-
--- a turn of a loop that looks for the first one by an order
-pub first_of_more : {A : Type 0} (passes : A → Bool) (before : A → A → Bool) (xs : List A) (i : ℕ) (best : Option A) → i < length xs → best ≡ first_of passes before (take i xs) → better_at passes before xs best i ≡ first_of passes before (take (i + 1) xs)
-first_of_more passes before [] i best fits so_far = absurd (omega arith)
-first_of_more passes before (x ∷ xs) i best fits so_far =
-    ap (better_with passes before best) (slice_get-get_or (x ∷ xs) i x fits)
-    ∙ ap (λ b. better_of passes before b (get_or (x ∷ xs) i x)) so_far
-    ∙ sym (fold_more (better_of passes before) _ (x ∷ xs) i x fits)
-
--- the same, where it was found out first whether the element passes
-pub first_of_more_if : {A : Type 0} (passes : A → Bool) (before : A → A → Bool) (xs : List A) (i : ℕ) (x : A) (best : Option A) (b : Bool) → i < length xs → x ≡ get_or xs i x → b ≡ passes x → best ≡ first_of passes before (take i xs) → better_if b before xs best i ≡ first_of passes before (take (i + 1) xs)
-first_of_more_if {A = A} passes before xs i x best b fits read found so_far =
-    let here = slice_get_read xs (length xs) i x refl fits read in
-    ap (better_with (λ _. b) before best) here
-    ∙ same best
-    ∙ ap (better_with passes before best) (sym here)
-    ∙ first_of_more passes before xs i best fits so_far
-  where
-    same : (best : Option A) → better_of (λ _. b) before best x ≡ better_of passes before best x
-    same None = ap (λ t. cond t (Some x) None) found
-    same (Some y) = ap (λ t. cond (t && before x y) (Some x) (Some y)) found
 
 -- a turn of a loop that folds one element after another
 pub folded_more : {A B : Type 0} (step : B → A → B) (init : B) (xs : List A) (i : ℕ) (x : A) (best new : B) → i < length xs → x ≡ get_or xs i x → best ≡ fold step init (take i xs) → new ≡ step best x → new ≡ fold step init (take (i + 1) xs)

@@ -111,7 +111,7 @@ walked f skips swaps seats h b =
     ∙ fold_in_turn f skips swaps 0 seats h b
 
 -- Of two choices it is the same which comes first.
-abbrev chosen : {A : Type 0} → (A → A → Bool) → Option A → Option A → Option A
+abbrev pub chosen : {A : Type 0} → (A → A → Bool) → Option A → Option A → Option A
 chosen before None other = other
 chosen before (Some x) None = Some x
 chosen before (Some x) (Some y) = if before y x then Some y else Some x

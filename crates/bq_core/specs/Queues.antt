@@ -1,8 +1,10 @@
 -- The clients that wait, in their turn.
 use Rattle.std.specs.Prelude.{ℕ, Bool, true, ◌≡◌, ◌==◌, ◌≤◌, not, if◌then◌else◌, List, [], ◌∷◌, Option, Some, None, filter, fold, length, slice_get}
-use Rattle.bq_job.specs.machine.Changes.{is_pair_before, is_waiting}
+use Rattle.std.specs.List.{sum_by}
+use Rattle.bq_job.specs.machine.Changes.{is_pair_before, is_waiting, seat_with}
 use Rattle.bq_job.specs.machine.Machine.{SeatRecord}
 use Rattle.bq_core.specs.Clients.{seat_passes}
+use Rattle.bq_core.specs.Cost.{waited_tubes}
 use Rattle.bq_core.specs.EndingWaits.{turn_of}
 use Rattle.bq_core.specs.Offers.{these}
 
@@ -49,6 +51,14 @@ passes_at p seats t = seat_passes p (slice_get seats t.1)
 -- what is known so far, once the client of this turn is looked at
 abbrev pub at_turn : {B : Type 0} → (B → SeatRecord → B) → List SeatRecord → B → ℕ × ℕ → B
 at_turn f seats b t = fold f b (these (slice_get seats t.1))
+
+-- the same, where the client is looked for by its seat
+abbrev pub by_seat : {B : Type 0} → (B → SeatRecord → B) → List SeatRecord → B → ℕ × ℕ → B
+by_seat f seats b t = fold f b (these (seat_with t.1 seats))
+
+-- at how many tubes the client of this turn waits
+abbrev pub waited_at : List SeatRecord → ℕ × ℕ → ℕ
+waited_at seats t = sum_by waited_tubes (these (seat_with t.1 seats))
 
 -- Those stand in the queue that wait, and there is room for all.
 pub record AreQueued (queue : Queued) (seats : List SeatRecord) : Type 0 where

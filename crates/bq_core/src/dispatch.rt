@@ -13,6 +13,7 @@ ghost use Rattle.bq_core.specs.Cost.{waited, waited_tubes};
 ghost use Rattle.bq_core.specs.HandOuts.{HandsOut, IsPicked, handed_to};
 ghost use Rattle.bq_core.specs.JobChanges.{IsBodyOf};
 ghost use Rattle.bq_core.specs.Offers.{better_rank, is_waited_at, next_rank, offered, these, with_offer, with_offers};
+ghost use Rattle.bq_core.specs.Queues.{by_seat, turns_of, waited_at};
 ghost use Rattle.bq_core.specs.SeatChanges.{AreNumbered};
 ghost use Rattle.bq_core.specs.Keeping.{LeavesJobs, Looks, StaysSound};
 ghost use Rattle.bq_core.specs.State.{machine_of, IsSound};
@@ -23,7 +24,7 @@ ghost use Rattle.bq_core.specs.Serving.{IsLastTurn};
 use crate::job_list::JobChange;
 use crate::outs::Outs;
 use crate::seat_list::SeatChange;
-use crate::seat_record::SeatRecord;
+use crate::seat_record::{SeatRecord, Turn};
 use crate::state::State;
 use crate::stir::Stir;
 use crate::tubes::Tubes;
@@ -100,19 +101,6 @@ fn best_for(
     }
 }
 
-// The best of the jobs that waiting clients may have.
-fn best_offer(jobs: &mut Jobs, tubes: &Tubes, seats: &[SeatRecord]) -> Option<Offer>
-    ensures best { result ≡ fold (with_offers jobs.old.jobs tubes.now.entries) None seats.now }
-    ensures same { jobs.new ≡ record jobs.old { comparisons = jobs.new.comparisons } }
-    ensures asks { Asks (sum_by waited_tubes seats.now) jobs.old jobs.new }
-{
-    let mut best = None;
-    for i in 0..seats.len() {
-        best = best_for(jobs, tubes, &seats[i], best);
-    }
-    best
-}
-
 // The most urgent ready job of the tube, unless it is paused or nobody waits at it.
 fn offer_to(jobs: &mut Jobs, tubes: &Tubes, tube: &TubeName) -> Option<Offer>
     ensures offer { result ≡ (if is_waited_at tube.now tubes.now then offered jobs.old.jobs tubes.now.entries tube.now else None) }
@@ -126,17 +114,53 @@ fn offer_to(jobs: &mut Jobs, tubes: &Tubes, tube: &TubeName) -> Option<Offer>
     }
 }
 
-// The best of the jobs that the client at this seat waits for, if there is one.
-fn best_of_client(jobs: &mut Jobs, tubes: &Tubes, seats: &[SeatRecord], seat: Seat) -> Option<Offer>
+// The best of this job and those that the client at this seat waits for, if there is one.
+fn best_of_client(
+    jobs: &mut Jobs,
+    tubes: &Tubes,
+    seats: &[SeatRecord],
+    seat: Seat,
+    first: Option<Offer>,
+) -> Option<Offer>
     requires { AreNumbered seats.now }
-    ensures best { result ≡ fold (with_offers jobs.old.jobs tubes.now.entries) None (these (seat_with seat seats.now)) }
+    ensures best { result ≡ fold (with_offers jobs.old.jobs tubes.now.entries) first (these (seat_with seat seats.now)) }
     ensures same { jobs.new ≡ record jobs.old { comparisons = jobs.new.comparisons } }
     ensures asks { Asks (sum_by waited_tubes (these (seat_with seat seats.now))) jobs.old jobs.new }
 {
     match seat_list::find(seats, seat) {
-        None => None,
-        Some(client) => best_for(jobs, tubes, client, None),
+        None => first,
+        Some(client) => best_for(jobs, tubes, client, first),
     }
+}
+
+// The best of the jobs that the clients of these turns wait for.
+fn best_of_turns(
+    jobs: &mut Jobs,
+    tubes: &Tubes,
+    seats: &[SeatRecord],
+    turns: &[Turn],
+) -> Option<Offer>
+    requires { AreNumbered seats.now }
+    ensures best { result ≡ fold (by_seat (with_offers jobs.old.jobs tubes.now.entries) seats.now) None turns.now }
+    ensures same { jobs.new ≡ record jobs.old { comparisons = jobs.new.comparisons } }
+    ensures asks { Asks (sum_by (waited_at seats.now) turns.now) jobs.old jobs.new }
+{
+    let mut best = None;
+    for i in 0..turns.len() {
+        best = best_of_client(jobs, tubes, seats, turns[i].1, best);
+    }
+    best
+}
+
+// The best of the jobs that waiting clients may have. Only who waits is looked at.
+fn best_offer(jobs: &mut Jobs, tubes: &Tubes, seats: &[SeatRecord], turns: &[Turn]) -> Option<Offer>
+    requires numbered { AreNumbered seats.now }
+    requires turns { turns.now ≡ turns_of seats.now }
+    ensures best { result ≡ fold (with_offers jobs.old.jobs tubes.now.entries) None seats.now }
+    ensures same { jobs.new ≡ record jobs.old { comparisons = jobs.new.comparisons } }
+    ensures asks { Asks (sum_by waited_tubes seats.now) jobs.old jobs.new }
+{
+    best_of_turns(jobs, tubes, seats, turns)
 }
 
 // The job that is handed out next. Only what may be had is looked at.
@@ -153,8 +177,14 @@ fn next_offer(state: &mut State) -> Option<Offer>
             &state.tubes,
             state.seats.as_slice(),
             *seat,
+            None,
         ),
-        Stir::Any => best_offer(&mut state.jobs, &state.tubes, state.seats.as_slice()),
+        Stir::Any => best_offer(
+            &mut state.jobs,
+            &state.tubes,
+            state.seats.as_slice(),
+            state.queue.as_slice(),
+        ),
     }
 }
 

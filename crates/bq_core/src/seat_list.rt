@@ -1,4 +1,4 @@
-ghost use Rattle.std.specs.Prelude.{◌≡◌, ◌<◌, true, map, length, IfSome, IfOk, OnErr};
+ghost use Rattle.std.specs.Prelude.{◌≡◌, ◌<◌, true, map, length, IfOk, OnErr};
 ghost use Rattle.std.specs.List.{list_any, position};
 ghost use Rattle.std.specs.Option.{option_copied, option_map};
 ghost use Rattle.bq_job.specs.machine.Changes.{first_of, seat_with};
@@ -7,8 +7,7 @@ ghost use Rattle.bq_job.specs.machine.Machine.{empty_seat, numbers};
 ghost use Rattle.bq_job.specs.machine.TubeCommands.{watching};
 ghost use Rattle.bq_core.specs.SeatChanges.{AreNumbered, AtPlace, IsSetAt, seat_changed, seat_changed_at};
 ghost use Rattle.bq_core.specs.SeatChanges.{more_watched, fewer_watched, watches_other};
-ghost use Rattle.bq_core.specs.Places.{item_at, better_if};
-ghost use Rattle.bq_core.specs.EndingWaits.{has_waited, waits_after};
+ghost use Rattle.bq_core.specs.EndingWaits.{has_waited};
 ghost use Rattle.bq_core.specs.FirstEnds.{is_gone_in_wait};
 ghost use Rattle.bq_core.specs.Offers.{waits_at};
 ghost use Rattle.bq_core.specs.Queues.{passes_at, turns_of};

@@ -1,20 +1,22 @@
 use Rattle.std.proofs.Common.{None, ◌∙◌, ap, arith}
-use Rattle.std.proofs.lemmas.List.Sums.{sum_by_more}
-use Rattle.bq_jobs.specs.Kept.{Kept}
-use Rattle.bq_core.specs.Cost.{waited_tubes}
+use Rattle.std.specs.Prelude.{fold}
+use Rattle.std.specs.List.{sum_by}
 use Rattle.bq_core.specs.Offers.{with_offers}
-use Rattle.bq_core.proofs.AskLemmas.{asks_more, asks_then}
-use Rattle.bq_core.proofs.LoopLemmas.{folded_more}
+use Rattle.bq_core.specs.Queues.{by_seat, waited_at}
+use Rattle.bq_core.proofs.AskLemmas.{asks_more}
+use Rattle.bq_core.proofs.OfferLemmas.{offers_walked, tubes_walked}
 use Rattle.bq_core.proofs.dispatch.best_offer.Goals as goal
 
-pub loop-i-preserved : goal.loop-i-preserved
-loop-i-preserved c =
-    let was = c.loop-i.invariant in
+pub returns-clause-best : goal.returns-clause-best
+returns-clause-best c =
+    let seats = c.args.seats.now in
+    let jobs = c.args.jobs.now.jobs in
     let tubes = c.args.tubes.now.entries in
-    let place = c.index-seats-i.result in
-    record {
-      best = folded_more (with_offers c.args.jobs.now.jobs tubes) None _ _ place c.loop-i.best _ c.loop-i-test.true c.index-seats-i.is was.best
-          (c.best_for-best.ensures.best ∙ ap (λ (k : Kept). with_offers k.jobs tubes c.loop-i.best place) was.same);
-      same = c.best_for-best.ensures.same ∙ ap (λ (k : Kept). record k { comparisons = c.best_for-best.new.jobs.comparisons }) was.same;
-      asks = asks_more _ (omega (arith, sum_by_more waited_tubes c.args.seats.now c.loop-i.i place c.loop-i-test.true, ap waited_tubes c.index-seats-i.is)) (asks_then was.asks c.best_for-best.ensures.asks);
-    }
+    c.best_of_turns.ensures.best
+    ∙ ap (fold (by_seat (with_offers jobs tubes) seats) None) c.requires.turns
+    ∙ offers_walked jobs tubes seats c.requires.numbered
+
+pub returns-clause-asks : goal.returns-clause-asks
+returns-clause-asks c =
+    let seats = c.args.seats.now in
+    asks_more _ (omega (arith, ap (sum_by (waited_at seats)) c.requires.turns, tubes_walked seats c.requires.numbered)) c.best_of_turns.ensures.asks
