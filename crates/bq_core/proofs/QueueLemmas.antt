@@ -1,22 +1,23 @@
 -- The queue of those that wait, once one seat changes.
-use Rattle.std.proofs.Common.{◌≡◌, ◌∙◌, ◌==◌, ◌+◌, ◌≤◌, ℕ, suc, Bool, true, false, not, List, [], ◌∷◌, Option, Some, None, if◌then◌else◌, cond, inl, inr, subst, refl, sym, ap, arith, length, map, set, slice_get}
-use Rattle.std.specs.Prelude.{count_by}
+use Rattle.std.proofs.Common.{◌≡◌, ◌∙◌, ◌==◌, ◌+◌, ◌-◌, ◌<◌, ◌≤◌, ℕ, zero, suc, Bool, true, false, not, List, [], ◌∷◌, Option, Some, None, if◌then◌else◌, cond, inl, inr, subst, refl, sym, ap, arith, length, map, set, slice_get}
+use Rattle.std.specs.Prelude.{count_by, nat_lt}
 use Rattle.std.specs.Cmp.{IsStrictWeakOrder}
-use Rattle.std.specs.List.{AllByRecursion as All, insert, prefix_len}
-use Rattle.std.proofs.lemmas.Bool.{cases_Bool, eq-eqb, eqb-true}
+use Rattle.std.specs.List.{AllByRecursion as All, insert, position, prefix_len, remove}
+use Rattle.std.proofs.lemmas.Bool.{cases_Bool, eq-eqb, eqb-true, ltb-false, ltb-true}
 use Rattle.std.proofs.lemmas.List.{length-map}
 use Rattle.std.proofs.lemmas.Bool.Decides.{nat_tests}
 use Rattle.bq_job.specs.machine.Changes.{is_pair_before, is_waiting, seat_with}
 use Rattle.bq_job.specs.machine.Machine.{SeatRecord, empty_seat, numbers}
 use Rattle.bq_job.specs.machine.TubeCommands.{watching}
 use Rattle.bq_job.proofs.ChoiceLemmas.{pair_order}
-use Rattle.bq_job.proofs.ListLemmas.{count_cons, filter_all, found_passes}
+use Rattle.bq_job.proofs.ListLemmas.{all_weaker, count_cons, found_passes}
 use Rattle.bq_core.specs.EndingWaits.{turn_of}
-use Rattle.bq_core.specs.Queues.{AreQueued, Queued, is_turn_before, placed, removed, turns_of, with_turn, without_turn}
+use Rattle.bq_core.specs.Queues.{AreQueued, IsRising, Queued, is_none_or_before, is_turn_before, placed, removed, turns_of, with_turn, without_turn}
 use Rattle.bq_core.specs.SeatChanges.{AreNumbered, seat_changed, seat_changed_at}
 use Rattle.bq_core.specs.declared.seat_list.SeatChange.{SeatChange}
 use Rattle.bq_core.proofs.ClientLemmas.{all_others, heads, others, others_left}
-use Rattle.bq_core.proofs.StateLemmas.{changed_there, number_kept, numbered_after, numbers_length}
+use Rattle.bq_core.proofs.StateLemmas.{all_read, changed_there, number_kept, numbered_after, numbers_length}
+use Rattle.bq_core.proofs.TurnLemmas.{some_at}
 
 -- the place behind those that come before
 pub placed_at : {A : Type 0} (before : A → A → Bool) (x : A) (xs : List A) → insert xs (prefix_len (λ y. before y x) xs) x ≡ placed before x xs
@@ -116,45 +117,132 @@ all_placed P before x (y ∷ ys) h all =
       | inr e ↦ rw e ((h, all))
     ]
 
-others_stay : (n : ℕ) (seats : List SeatRecord) → All (λ t. not (t.1 == n) ≡ true) (turns_of (others n seats))
+others_stay : (n : ℕ) (seats : List SeatRecord) → All (λ t. (t.1 == n) ≡ false) (turns_of (others n seats))
 others_stay n [] = tt
 others_stay n (s ∷ seats) =
     elim (cases_Bool (s.number == n)) [
       | inl e ↦ rw e (others_stay n seats)
-      | inr e ↦ rw e (go (is_waiting s) (ap not e) (others_stay n seats))
+      | inr e ↦ rw e (go (is_waiting s) e (others_stay n seats))
     ]
   where
-    go : (b : Bool) → not (s.number == n) ≡ true → All (λ t. not (t.1 == n) ≡ true) (turns_of (others n seats)) → All (λ t. not (t.1 == n) ≡ true) (if b then placed is_turn_before (turn_of s) (turns_of (others n seats)) else turns_of (others n seats))
-    go true h all = all_placed (λ t. not (t.1 == n) ≡ true) is_turn_before (turn_of s) (turns_of (others n seats)) h all
+    go : (b : Bool) → (s.number == n) ≡ false → All (λ t. (t.1 == n) ≡ false) (turns_of (others n seats)) → All (λ t. (t.1 == n) ≡ false) (if b then placed is_turn_before (turn_of s) (turns_of (others n seats)) else turns_of (others n seats))
+    go true h all = all_placed (λ t. (t.1 == n) ≡ false) is_turn_before (turn_of s) (turns_of (others n seats)) h all
     go false h all = all
 
 -- what was put in is taken out
-removed_again : (before : ℕ × ℕ → ℕ × ℕ → Bool) (t : ℕ × ℕ) (turns : List (ℕ × ℕ)) → All (λ u. not (u.1 == t.1) ≡ true) turns → removed t.1 (placed before t turns) ≡ turns
+removed_again : (before : ℕ × ℕ → ℕ × ℕ → Bool) (t : ℕ × ℕ) (turns : List (ℕ × ℕ)) → All (λ u. (u.1 == t.1) ≡ false) turns → removed t.1 (placed before t turns) ≡ turns
 removed_again before t [] all = rw (eq-eqb t.1 t.1 refl) refl
 removed_again before t (u ∷ turns) all =
     elim (cases_Bool (before u t)) [
       | inl e ↦ rw (e, all.0) (ap (λ us. u ∷ us) (removed_again before t turns all.1))
-      | inr e ↦ rw (e, eq-eqb t.1 t.1 refl) (filter_all (λ v. not (v.1 == t.1)) (u ∷ turns) all)
+      | inr e ↦ rw (e, eq-eqb t.1 t.1 refl) refl
     ]
 
-turn_taken : (n : ℕ) (o : Option SeatRecord) (turns : List (ℕ × ℕ)) → ((s : SeatRecord) → o ≡ Some s → s.number ≡ n) → All (λ t. not (t.1 == n) ≡ true) turns → without_turn o (with_turn o turns) ≡ turns
+turn_taken : (n : ℕ) (o : Option SeatRecord) (turns : List (ℕ × ℕ)) → ((s : SeatRecord) → o ≡ Some s → s.number ≡ n) → All (λ t. (t.1 == n) ≡ false) turns → without_turn o (with_turn o turns) ≡ turns
 turn_taken n None turns at all = refl
 turn_taken n (Some s) turns at all = go (is_waiting s)
   where
     go : (b : Bool) → (if b then removed s.number (if b then placed is_turn_before (turn_of s) turns else turns) else (if b then placed is_turn_before (turn_of s) turns else turns)) ≡ turns
-    go true = removed_again is_turn_before (turn_of s) turns (subst (λ k. All (λ t. not (t.1 == k) ≡ true) turns) (sym (at s refl)) all)
+    go true = removed_again is_turn_before (turn_of s) turns (subst (λ k. All (λ t. (t.1 == k) ≡ false) turns) (sym (at s refl)) all)
     go false = refl
 
--- the turns once the seat of a number is changed
+-- Once the client of a number has left, those of the others are there,
+turns_left : (n : ℕ) (seats : List SeatRecord) → AreNumbered seats → without_turn (seat_with n seats) (turns_of seats) ≡ turns_of (others n seats)
+turns_left n seats h =
+    ap (without_turn (seat_with n seats)) (turns_parted n 0 seats h)
+    ∙ turn_taken n (seat_with n seats) (turns_of (others n seats)) (λ s found. eqb-true s.number n (found_passes (λ u. u.number == n) seats s found).0) (others_stay n seats)
+
+-- and it comes back as it is then.
 turns_changed : (n : ℕ) (f : SeatRecord → SeatRecord) → ((s : SeatRecord) → (f s).number ≡ s.number) → (seats : List SeatRecord) → AreNumbered seats → AreNumbered (map (λ s. if s.number == n then f s else s) seats)
     → with_turn (seat_with n (map (λ s. if s.number == n then f s else s) seats)) (without_turn (seat_with n seats) (turns_of seats)) ≡ turns_of (map (λ s. if s.number == n then f s else s) seats)
 turns_changed n f keeps seats h h' =
     let new = map (λ (s : SeatRecord). if s.number == n then f s else s) seats in
-    let at = λ (s : SeatRecord) (found : seat_with n seats ≡ Some s). eqb-true s.number n (found_passes (λ u. u.number == n) seats s found).0 in
-    let left : without_turn (seat_with n seats) (turns_of seats) ≡ turns_of (others n seats) =
-    ap (without_turn (seat_with n seats)) (turns_parted n 0 seats h) ∙ turn_taken n (seat_with n seats) (turns_of (others n seats)) at (others_stay n seats) in
-    ap (with_turn (seat_with n new)) (left ∙ ap turns_of (sym (others_left n f keeps seats)))
+    ap (with_turn (seat_with n new)) (turns_left n seats h ∙ ap turns_of (sym (others_left n f keeps seats)))
     ∙ sym (turns_parted n 0 new h')
+
+-- They stand in order.
+pub rising_placed : {A : Type 0} {before : A → A → Bool} (order : IsStrictWeakOrder before) (x : A) (ys : List A) → IsRising before ys → IsRising before (placed before x ys)
+rising_placed order x [] rising = (tt, tt)
+rising_placed {before = before} order x (y ∷ ys) rising =
+    elim (cases_Bool (before y x)) [
+      | inl e ↦ rw e ((all_placed (λ z. before z y ≡ false) before x ys (order.one_way y x e) rising.0, rising_placed order x ys rising.1))
+      | inr e ↦ rw e (((e, all_weaker (λ z. before z y ≡ false) (λ z. before z x ≡ false) ys (λ z h. order.chain z y x h e) rising.0), rising))
+    ]
+
+rising_turns : (seats : List SeatRecord) → IsRising is_turn_before (turns_of seats)
+rising_turns [] = tt
+rising_turns (s ∷ seats) = go (is_waiting s) (rising_turns seats)
+  where
+    go : (b : Bool) → IsRising is_turn_before (turns_of seats) → IsRising is_turn_before (if b then placed is_turn_before (turn_of s) (turns_of seats) else turns_of seats)
+    go true rest = rising_placed (pair_order (λ u. u.0) (λ u. u.1)) (turn_of s) (turns_of seats) rest
+    go false rest = rest
+
+pub rising_left : (n : ℕ) (seats : List SeatRecord) → AreNumbered seats → IsRising is_turn_before (without_turn (seat_with n seats) (turns_of seats))
+rising_left n seats h = subst (IsRising is_turn_before) (sym (turns_left n seats h)) (rising_turns (others n seats))
+
+-- where the last one comes before another, each does
+rising_ends : {A : Type 0} {before : A → A → Bool} (order : IsStrictWeakOrder before) (t : A) (xs : List A) (k : ℕ) (l : A) → IsRising before xs → slice_get xs k ≡ Some l → suc k ≡ length xs → before l t ≡ true → prefix_len (λ u. before u t) xs ≡ length xs
+rising_ends order t [] k l rising read ends e = absurd cc
+rising_ends {before = before} order t (x ∷ []) zero l rising read ends e =
+    let one : x ≡ l = cc in
+    let here : before x t ≡ true = ap (λ u. before u t) one ∙ e in
+    rw here refl
+rising_ends order t (x ∷ y ∷ ys) zero l rising read ends e = absurd (omega (arith, ends))
+rising_ends {before = before} order t (x ∷ xs) (suc k) l rising read ends e = go (before x t) refl (rising_ends order t xs k l rising.1 read (omega (arith, ends)) e)
+  where
+    go : (b : Bool) → before x t ≡ b → prefix_len (λ u. before u t) xs ≡ length xs → cond b (1 + prefix_len (λ u. before u t) xs) 0 ≡ suc (length xs)
+    go true f rest = omega (arith, rest)
+    go false f rest =
+        let later : before l x ≡ false = all_read (λ z. before z x ≡ false) xs k l rising.0 read in
+        absurd (let none : before l t ≡ false = order.chain l x t later f in let both = sym e ∙ none in cc)
+
+pub all_before : (t : ℕ × ℕ) (turns : List (ℕ × ℕ)) → IsRising is_turn_before turns → is_none_or_before t (slice_get turns (length turns - 1)) ≡ true → prefix_len (λ u. is_turn_before u t) turns ≡ length turns
+all_before t [] rising ends = refl
+all_before t (x ∷ xs) rising ends =
+    let k : length (x ∷ xs) - 1 ≡ length xs = omega arith in
+    go (slice_get (x ∷ xs) (length xs)) refl (subst (λ n. is_none_or_before t (slice_get (x ∷ xs) n) ≡ true) k ends)
+  where
+    go : (o : Option (ℕ × ℕ)) → slice_get (x ∷ xs) (length xs) ≡ o → is_none_or_before t o ≡ true → prefix_len (λ u. is_turn_before u t) (x ∷ xs) ≡ length (x ∷ xs)
+    go None e h = absurd (let some = some_at (x ∷ xs) (length xs) (omega arith) in let both = sym e ∙ some.1 in cc)
+    go (Some l) e h = rising_ends (pair_order (λ u. u.0) (λ u. u.1)) t (x ∷ xs) (length xs) l rising e refl h
+
+-- the first turn of a seat is taken out
+removed_there : (n : ℕ) (xs : List (ℕ × ℕ)) → prefix_len (λ t. not (t.1 == n)) xs < length xs → removed n xs ≡ remove xs (prefix_len (λ t. not (t.1 == n)) xs)
+removed_there n [] h = absurd (omega (arith, h))
+removed_there n (x ∷ xs) h = go (x.1 == n) (removed_there n xs) h
+  where
+    one_more : (k : ℕ) → suc k ≡ 1 + k
+    one_more k = omega arith
+
+    go : (b : Bool) → (prefix_len (λ t. not (t.1 == n)) xs < length xs → removed n xs ≡ remove xs (prefix_len (λ t. not (t.1 == n)) xs)) → cond (not b) (1 + prefix_len (λ t. not (t.1 == n)) xs) 0 < suc (length xs)
+        → (if b then xs else x ∷ removed n xs) ≡ remove (x ∷ xs) (cond (not b) (1 + prefix_len (λ t. not (t.1 == n)) xs) 0)
+    go true rest less = refl
+    go false rest less = ap (λ ys. x ∷ ys) (rest (omega (arith, less))) ∙ ap (remove (x ∷ xs)) (one_more (prefix_len (λ t. not (t.1 == n)) xs))
+
+removed_nowhere : (n : ℕ) (xs : List (ℕ × ℕ)) → length xs ≤ prefix_len (λ t. not (t.1 == n)) xs → removed n xs ≡ xs
+removed_nowhere n [] h = refl
+removed_nowhere n (x ∷ xs) h = go (x.1 == n) (removed_nowhere n xs) h
+  where
+    go : (b : Bool) → (length xs ≤ prefix_len (λ t. not (t.1 == n)) xs → removed n xs ≡ xs) → suc (length xs) ≤ cond (not b) (1 + prefix_len (λ t. not (t.1 == n)) xs) 0 → (if b then xs else x ∷ removed n xs) ≡ x ∷ xs
+    go true rest less = absurd (omega (arith, less))
+    go false rest less = ap (λ ys. x ∷ ys) (rest (omega (arith, less)))
+
+pub removed_found : (n : ℕ) (xs : List (ℕ × ℕ)) (i : ℕ) → Some i ≡ position (λ t. t.1 == n) xs → (i < length xs) × (removed n xs ≡ remove xs i)
+removed_found n xs i found = go (nat_lt (prefix_len (λ t. not (t.1 == n)) xs) (length xs)) refl found
+  where
+    go : (b : Bool) → nat_lt (prefix_len (λ t. not (t.1 == n)) xs) (length xs) ≡ b → Some i ≡ cond b (Some (prefix_len (λ t. not (t.1 == n)) xs)) None → (i < length xs) × (removed n xs ≡ remove xs i)
+    go true e h =
+        let at : i ≡ prefix_len (λ t. not (t.1 == n)) xs = cc in
+        let less = ltb-true (prefix_len (λ t. not (t.1 == n)) xs) (length xs) e in
+        (omega (arith, at, less), removed_there n xs less ∙ ap (remove xs) (sym at))
+    go false e h = absurd cc
+
+pub removed_missed : (n : ℕ) (xs : List (ℕ × ℕ)) → None ≡ position (λ t. t.1 == n) xs → removed n xs ≡ xs
+removed_missed n xs none = go (nat_lt (prefix_len (λ t. not (t.1 == n)) xs) (length xs)) refl none
+  where
+    go : (b : Bool) → nat_lt (prefix_len (λ t. not (t.1 == n)) xs) (length xs) ≡ b → None ≡ cond b (Some (prefix_len (λ t. not (t.1 == n)) xs)) None → removed n xs ≡ xs
+    go true e h = absurd cc
+    go false e h = removed_nowhere n xs (ltb-false (prefix_len (λ t. not (t.1 == n)) xs) (length xs) e)
 
 -- there are no more of them than seats
 pub turns_within : (seats : List SeatRecord) → length (turns_of seats) ≤ length seats

@@ -17,10 +17,10 @@ use Rattle.bq_core.specs.Clients.{seat_passes}
 use Rattle.bq_core.specs.EndingWaits.{is_after, turn_of, waits_after}
 use Rattle.bq_core.specs.Offers.{these}
 use Rattle.bq_core.specs.Places.{item_at}
-use Rattle.bq_core.specs.Queues.{at_turn, is_turn_after, is_turn_before, passes_at, placed, turns_of}
+use Rattle.bq_core.specs.Queues.{IsRising, at_turn, is_turn_after, is_turn_before, passes_at, placed, turns_of}
 use Rattle.bq_core.specs.SeatChanges.{AreNumbered}
 use Rattle.bq_core.proofs.ClientLemmas.{heads}
-use Rattle.bq_core.proofs.QueueLemmas.{all_placed}
+use Rattle.bq_core.proofs.QueueLemmas.{all_placed, rising_placed}
 use Rattle.bq_core.proofs.SeatPlaces.{place_is_seat}
 use Rattle.bq_core.proofs.WarningLemmas.{none_found}
 
@@ -181,18 +181,6 @@ better_swaps p s t other b =
         absurd (pair_same (ticket_of s.wait) s.number (ticket_of t.wait) t.number g2 h2 other tt)
 
 -- Those that wait stand in the order of their turns.
-abbrev IsRising : {A : Type 0} → (A → A → Bool) → List A → Type 0
-IsRising before [] = Unit {0}
-IsRising before (x ∷ xs) = All (λ y. before y x ≡ false) xs × IsRising before xs
-
-rising_placed : {A : Type 0} {before : A → A → Bool} (order : IsStrictWeakOrder before) (x : A) (ys : List A) → IsRising before ys → IsRising before (placed before x ys)
-rising_placed order x [] rising = (tt, tt)
-rising_placed {before = before} order x (y ∷ ys) rising =
-    elim (cases_Bool (before y x)) [
-      | inl e ↦ rw e ((all_placed (λ z. before z y ≡ false) before x ys (order.one_way y x e) rising.0, rising_placed order x ys rising.1))
-      | inr e ↦ rw e (((e, all_weaker (λ z. before z y ≡ false) (λ z. before z x ≡ false) ys (λ z h. order.chain z y x h e) rising.0), rising))
-    ]
-
 rising_in_turn : (seats : List SeatRecord) → IsRising is_wait_before (in_turn seats)
 rising_in_turn [] = tt
 rising_in_turn (s ∷ seats) = go (is_waiting s) (rising_in_turn seats)

@@ -1,6 +1,6 @@
 -- The clients that wait, in their turn.
-use Rattle.std.specs.Prelude.{ℕ, Bool, true, ◌≡◌, ◌==◌, ◌≤◌, not, if◌then◌else◌, List, [], ◌∷◌, Option, Some, None, filter, fold, length, slice_get}
-use Rattle.std.specs.List.{sum_by}
+use Rattle.std.specs.Prelude.{ℕ, Bool, true, false, ◌≡◌, ◌==◌, ◌≤◌, if◌then◌else◌, List, [], ◌∷◌, Option, Some, None, fold, length, slice_get}
+use Rattle.std.specs.List.{AllByRecursion, sum_by}
 use Rattle.bq_job.specs.machine.Changes.{is_pair_before, is_waiting, seat_with}
 use Rattle.bq_job.specs.machine.Machine.{SeatRecord}
 use Rattle.bq_core.specs.Clients.{seat_passes}
@@ -18,17 +18,28 @@ abbrev pub placed : {A : Type 0} → (A → A → Bool) → A → List A → Lis
 placed before x [] = x ∷ []
 placed before x (y ∷ ys) = if before y x then y ∷ placed before x ys else x ∷ y ∷ ys
 
+-- None comes before one that stands in front of it.
+abbrev pub IsRising : {A : Type 0} → (A → A → Bool) → List A → Type 0
+IsRising before [] = Unit {0}
+IsRising before (x ∷ xs) = AllByRecursion (λ y. before y x ≡ false) xs × IsRising before xs
+
 abbrev pub is_turn_before : ℕ × ℕ → ℕ × ℕ → Bool
 is_turn_before a b = is_pair_before a.0 a.1 b.0 b.1
+
+-- the other, if there is one, comes before this turn
+abbrev pub is_none_or_before : ℕ × ℕ → Option (ℕ × ℕ) → Bool
+is_none_or_before t None = true
+is_none_or_before t (Some other) = is_turn_before other t
 
 -- the turn comes after this one, if there is one
 abbrev pub is_turn_after : Option (ℕ × ℕ) → ℕ × ℕ → Bool
 is_turn_after None t = true
 is_turn_after (Some last) t = is_turn_before last t
 
--- the turns but that of this seat
+-- the turns without the first that is of this seat
 abbrev pub removed : ℕ → List (ℕ × ℕ) → List (ℕ × ℕ)
-removed number turns = filter (λ t. not (t.1 == number)) turns
+removed number [] = []
+removed number (t ∷ turns) = if t.1 == number then turns else t ∷ removed number turns
 
 -- with the turn of the client, if there is one and it waits, and without it
 abbrev pub with_turn : Option SeatRecord → List (ℕ × ℕ) → List (ℕ × ℕ)

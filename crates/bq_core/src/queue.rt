@@ -1,10 +1,10 @@
 //! The clients that wait, in their turn.
-ghost use Rattle.std.specs.Prelude.{◌≡◌, ◌<◌, ◌≤◌, [], find, not, length, vec_len, IfOk};
-ghost use Rattle.std.specs.List.{position, prefix_len};
+ghost use Rattle.std.specs.Prelude.{◌≡◌, ◌==◌, ◌-◌, ◌<◌, ◌≤◌, [], find, not, length, vec_len, IfOk};
+ghost use Rattle.std.specs.List.{position, prefix_len, slice_get};
 ghost use Rattle.std.specs.Option.{option_copied};
 ghost use Rattle.std.specs.Vec.{vec_capacity};
 ghost use Rattle.bq_core.specs.Places.{item_at};
-ghost use Rattle.bq_core.specs.Queues.{is_turn_after, is_turn_before, placed, removed, with_turn, without_turn};
+ghost use Rattle.bq_core.specs.Queues.{IsRising, is_none_or_before, is_turn_after, is_turn_before, placed, removed, with_turn, without_turn};
 
 use crate::seat_record::{SeatRecord, Turn};
 use bq_job::{NoMemory, Seat};
@@ -68,16 +68,31 @@ pub(crate) fn turn_at(turns: &[Turn], place: Option<usize>) -> Option<Turn>
     }
 }
 
-// Where the turn would stand.
+// Whether the last turn, if there is one, comes before this one.
+fn ends_before(turns: &[Turn], turn: Turn) -> bool
+    ensures { result ≡ is_none_or_before turn (slice_get turns.now (length turns.now - 1)) }
+{
+    match turns.last() {
+        None => true,
+        Some(last) => is_before(*last, turn),
+    }
+}
+
+// Where the turn would stand. Who begins to wait mostly stands last.
 fn place_of(turns: &[Turn], turn: Turn) -> usize
+    requires { IsRising is_turn_before turns.now }
     ensures { result ≡ prefix_len (λ other. is_turn_before other turn) turns.now }
 {
+    if ends_before(turns, turn) {
+        return turns.len();
+    }
     first_after(turns, turn).unwrap_or(turns.len())
 }
 
 // Puts a turn in at its place. It takes no memory.
 fn place(turns: &mut Vec<Turn, Global>, turn: Turn)
-    requires { vec_len turns.old < vec_capacity turns.old }
+    requires fits { vec_len turns.old < vec_capacity turns.old }
+    requires rising { IsRising is_turn_before turns.old.items }
     ensures turns { turns.new.items ≡ placed is_turn_before turn turns.old.items }
     ensures room { vec_capacity turns.old ≤ vec_capacity turns.new }
 {
@@ -85,12 +100,21 @@ fn place(turns: &mut Vec<Turn, Global>, turn: Turn)
     let _fits = turns.insert(i, turn);
 }
 
+// The place of the turn of this seat.
+fn place_of_seat(turns: &[Turn], number: Seat) -> Option<usize>
+    ensures { result ≡ position (λ turn. turn.1 == number) turns.now }
+{
+    turns.iter().position(|turn| turn.1 == number)
+}
+
 // Takes the turn of this seat out.
 fn remove(turns: &mut Vec<Turn, Global>, number: Seat)
     ensures turns { turns.new.items ≡ removed number turns.old.items }
     ensures room { vec_capacity turns.new ≡ vec_capacity turns.old }
 {
-    turns.retain(|turn| turn.1 != number);
+    if let Some(i) = place_of_seat(turns.as_slice(), number) {
+        let _turn = turns.remove(i);
+    }
 }
 
 impl Queue {
@@ -122,7 +146,8 @@ impl Queue {
 
     /// Puts in the turn of the client, if there is one and it waits.
     pub(crate) fn join(&mut self, client: Option<&SeatRecord>)
-        requires { length (with_turn (option_copied client) self.old.turns) ≤ self.old.room }
+        requires fits { length (with_turn (option_copied client) self.old.turns) ≤ self.old.room }
+        requires rising { IsRising is_turn_before self.old.turns }
         ensures turns { self.new.turns ≡ with_turn (option_copied client.entry) self.old.turns }
         ensures room { self.old.room ≤ self.new.room }
     {

@@ -1,8 +1,12 @@
-use Rattle.std.proofs.Common.{◌∙◌, ap, length}
+use Rattle.std.proofs.Common.{◌∙◌, ap, length, sym}
 use Rattle.std.specs.Prelude.{unwrap_or}
 use Rattle.bq_core.specs.Queues.{is_turn_before}
+use Rattle.bq_core.proofs.QueueLemmas.{all_before}
 use Rattle.bq_core.proofs.TubeLemmas.{place_read}
 use Rattle.bq_core.proofs.queue.place_of.Goals as goal
+
+pub returns-then-ends_before : goal.returns-then-ends_before
+returns-then-ends_before c = sym (all_before c.args.turn c.args.turns.now c.requires (sym c.if-ends_before.ensures))
 
 pub returns : goal.returns
 returns c =

@@ -1,6 +1,18 @@
-use Rattle.std.proofs.Common.{rules, not, ◌==◌}
-use Rattle.std.proofs.lemmas.Fn.{filter_same}
+use Rattle.std.proofs.Common.{◌∙◌, ◌==◌, ap, arith, length, sym}
+use Rattle.std.specs.List.{position}
+use Rattle.bq_core.proofs.QueueLemmas.{removed_found, removed_missed}
 use Rattle.bq_core.proofs.queue.remove.Goals as goal
 
-pub returns-clause-turns : goal.returns-clause-turns
-returns-clause-turns c = filter_same _ (λ turn. not (turn.1 == c.args.number)) _ (λ x b f h. search rules) _ _ c.retain.ensures.filtered
+pub remove-turn-requires : goal.remove-turn-requires
+remove-turn-requires c =
+    let found = c.in-Some.ensures ∙ ap (position (λ t. t.1 == c.args.number)) c.as_slice.ensures.value in
+    omega (arith, (removed_found c.args.number c.args.turns.now.items c.in-Some.i found).0, ap length c.as_slice.ensures.value, c.as_slice.ensures.len)
+
+pub returns-in-Some-clause-turns : goal.returns-in-Some-clause-turns
+returns-in-Some-clause-turns c =
+    let found = c.in-Some.ensures ∙ ap (position (λ t. t.1 == c.args.number)) c.as_slice.ensures.value in
+    c.remove-turn.ensures.items ∙ sym (removed_found c.args.number c.args.turns.now.items c.in-Some.i found).1
+
+pub returns-in_default-clause-turns : goal.returns-in_default-clause-turns
+returns-in_default-clause-turns c =
+    sym (removed_missed c.args.number c.args.turns.now.items (c.in_default.ensures ∙ ap (position (λ t. t.1 == c.args.number)) c.as_slice.ensures.value))

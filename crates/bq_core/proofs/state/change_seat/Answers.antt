@@ -1,4 +1,4 @@
-use Rattle.std.proofs.Common.{◌≡◌, ◌≤◌, ◌∙◌, ap, arith, length, map, sym, rules}
+use Rattle.std.proofs.Common.{◌≡◌, ◌≤◌, ◌∙◌, ap, arith, length, map, subst, sym, rules}
 use Rattle.std.specs.Option.{option_copied}
 use Rattle.std.proofs.lemmas.List.{length-map}
 use Rattle.bq_job.specs.machine.Changes.{seat_with}
@@ -8,13 +8,13 @@ use Rattle.bq_core.specs.Clients.{clients_of, clients_with, clients_without}
 use Rattle.bq_core.specs.Crowds.{crowds_of, crowds_recounted_for, touched}
 use Rattle.bq_core.specs.Dues.{first_pause_end}
 use Rattle.bq_core.specs.Leaving.{loss_of}
-use Rattle.bq_core.specs.Queues.{turns_of, with_turn, without_turn}
+use Rattle.bq_core.specs.Queues.{IsRising, is_turn_before, turns_of, with_turn, without_turn}
 use Rattle.bq_core.specs.SeatChanges.{seat_changed_at}
 use Rattle.bq_core.specs.declared.crowd.Moving.TheVariants.{Comes, Goes}
 use Rattle.bq_core.proofs.ClientLemmas.{clients_moved}
 use Rattle.bq_core.proofs.CrowdLemmas.{crowds_moved}
 use Rattle.bq_core.proofs.LeavingLemmas.{alive_left}
-use Rattle.bq_core.proofs.QueueLemmas.{turns_moved, turns_within}
+use Rattle.bq_core.proofs.QueueLemmas.{rising_left, turns_moved, turns_within}
 use Rattle.bq_core.proofs.StateLemmas.{entries_of_seat, numbered_after}
 use Rattle.bq_core.specs.TubeEntries.{counted}
 use Rattle.bq_core.proofs.StirLemmas.{known_of_seat}
@@ -27,8 +27,8 @@ pub find-client-requires-2 : goal.find-client-requires-2
 find-client-requires-2 c =
     rw (c.as_slice-2.ensures.value, c.change_at.ensures) (numbered_after c.args.seat c.args.what.now c.args.state.now.seats.items c.requires.sound.numbered)
 
-pub join-requires : goal.join-requires
-join-requires c =
+pub join-requires-clause-fits : goal.join-requires-clause-fits
+join-requires-clause-fits c =
     let st = c.args.state.now in
     let was = c.requires.sound in
     let seats = st.seats.items in
@@ -39,6 +39,13 @@ join-requires c =
     (λ i. with_turn (given i) ((c.leave.ensures.turns ∙ (λ k. without_turn (taken k) (was.queue.turns k))) i))
     ∙ turns_moved c.args.seat c.args.what.now seats was.numbered in
     omega (arith, ap length turns, turns_within (map (seat_changed_at c.args.seat c.args.what.now) seats), length-map seats (seat_changed_at c.args.seat c.args.what.now), was.queue.room, c.leave.ensures.room)
+
+pub join-requires-clause-rising : goal.join-requires-clause-rising
+join-requires-clause-rising c =
+    let was = c.requires.sound in
+    let seats = c.args.state.now.seats.items in
+    let taken = c.find-client.ensures ∙ ap (seat_with c.args.seat) c.as_slice.ensures.value in
+    subst (IsRising is_turn_before) (sym (c.leave.ensures.turns ∙ (λ k. without_turn (taken k) (was.queue.turns k)))) (rising_left c.args.seat seats was.numbered)
 
 pub returns-clause-kept : goal.returns-clause-kept
 returns-clause-kept c =
