@@ -1,5 +1,6 @@
 -- The command's own effect, as the core carries it out.
 use Rattle.std.specs.Prelude.{ℕ, Bool, false, ◌≡◌, ◌&&◌, ◌||◌, ◌++◌, not, IsTrue, Option, Some, None}
+use Rattle.bq_job.specs.declared.answer.Answer.{Answer}
 use Rattle.bq_job.specs.declared.step.Step.{Step}
 use Rattle.bq_job.specs.machine.Acts.{Effect}
 use Rattle.bq_job.specs.machine.Changes.{is_waiting}
@@ -24,13 +25,13 @@ abbrev pub is_asking : Option SeatRecord → Bool
 is_asking None = false
 is_asking (Some s) = s.connected && not (is_waiting s)
 
--- What a request came to: it had this effect, or it takes memory and was left out because a growth was
+-- What a request came to: it had this effect, with the answer that was told, or it takes memory and was left out because a growth was
 -- refused, or it would show a body, of which one more owner was refused.
-abbrev pub Replies : Bool → Machine → Effect → Reply → Machine → Type 0
-Replies takes m e Silent next = e ≡ record { machine = next; answer = None }
-Replies takes m e (Told answer) next = e ≡ record { machine = next; answer = Some answer }
-Replies takes m e LeftOut next = (next ≡ m) × IsTrue (takes && may_be_left_out e.answer)
-Replies takes m e Unshared next = (next ≡ m) × IsTrue (shares_body e.answer)
+abbrev pub Replies : Bool → Machine → Effect → Reply → Answer → Machine → Type 0
+Replies takes m e Silent told next = e ≡ record { machine = next; answer = None }
+Replies takes m e Told told next = e ≡ record { machine = next; answer = Some told }
+Replies takes m e LeftOut told next = (next ≡ m) × IsTrue (takes && may_be_left_out e.answer)
+Replies takes m e Unshared told next = (next ≡ m) × IsTrue (shares_body e.answer)
 
 -- The command's own effect was carried out, and its answer added.
 pub record Acts (m : Machine) (seat : ℕ) (what : Step) (old new : Outbox) (last : Machine) : Type 0 where

@@ -20,19 +20,19 @@ pub record IsCarriedOut (old new : State) : Type 0 where
   pub sound : IsSound new
 
 -- a request came to this reply
-abbrev pub RepliesBy : Bool → (Machine → Effect) → State → Reply → State → Type 0
-RepliesBy takes effect old reply new = Replies takes (machine_of old) (effect (machine_of old)) reply (machine_of new)
+abbrev pub RepliesBy : Bool → (Machine → Effect) → State → Reply → Answer → State → Type 0
+RepliesBy takes effect old reply told new = Replies takes (machine_of old) (effect (machine_of old)) reply told (machine_of new)
 
 -- a request of the client at this seat, of whose record this is so
 abbrev pub AtSeat : ℕ → State → (SeatRecord → Type 0) → Type 0
 AtSeat seat state P = (s : SeatRecord) → seat_with seat (machine_of state).seats ≡ Some s → P s
 
-abbrev pub RepliesAt : ℕ → Bool → (Machine → SeatRecord → Effect) → State → Reply → State → Type 0
-RepliesAt seat takes effect old reply new = AtSeat seat old (λ s. RepliesBy takes (λ m. effect m s) old reply new)
+abbrev pub RepliesAt : ℕ → Bool → (Machine → SeatRecord → Effect) → State → Reply → Answer → State → Type 0
+RepliesAt seat takes effect old reply told new = AtSeat seat old (λ s. RepliesBy takes (λ m. effect m s) old reply told new)
 
 -- the same of any record of this number
-abbrev pub RepliesTo : ℕ → Bool → (Machine → SeatRecord → Effect) → State → Reply → State → Type 0
-RepliesTo seat takes effect old reply new = (s : SeatRecord) → s.number ≡ seat → RepliesBy takes (λ m. effect m s) old reply new
+abbrev pub RepliesTo : ℕ → Bool → (Machine → SeatRecord → Effect) → State → Reply → Answer → State → Type 0
+RepliesTo seat takes effect old reply told new = (s : SeatRecord) → s.number ≡ seat → RepliesBy takes (λ m. effect m s) old reply told new
 
 -- and where the request is always answered
 abbrev pub AnswersTo : ℕ → (Machine → SeatRecord → Effect) → State → Answer → State → Type 0

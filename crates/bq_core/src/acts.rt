@@ -68,10 +68,16 @@ fn refusal_answer(why: Refusal) -> Answer
 }
 
 // Carries a request out that an open seat may ask.
-fn answer(state: &mut State, alloc: Global, seat: Seat, request: &Request) -> Reply
+fn answer(
+    state: &mut State,
+    alloc: Global,
+    seat: Seat,
+    request: &Request,
+    told: &mut Answer,
+) -> Reply
     requires sound { IsSound state.old }
     requires asks { is_asking (seat_with seat state.old.seats.items) ≡ true }
-    ensures reply { RepliesAt seat (takes_memory request.now) (asked request.now) state.old result state.new }
+    ensures reply { RepliesAt seat (takes_memory request.now) (asked request.now) state.old result told.new state.new }
     ensures kept { IsCarriedOut state.old state.new }
 {
     match *request {
@@ -80,7 +86,7 @@ fn answer(state: &mut State, alloc: Global, seat: Seat, request: &Request) -> Re
             delay,
             ttr,
             ref body,
-        } => job_acts::put(state, alloc, seat, NewJob { pri, delay, ttr }, body),
+        } => job_acts::put(state, alloc, seat, NewJob { pri, delay, ttr }, body, told),
         Request::Reserve => {
             job_acts::reserve(state, seat, None);
             Reply::Silent
@@ -89,40 +95,56 @@ fn answer(state: &mut State, alloc: Global, seat: Seat, request: &Request) -> Re
             job_acts::reserve_until(state, seat, seconds);
             Reply::Silent
         }
-        Request::ReserveJob { id } => job_acts::reserve_job(state, seat, id),
-        Request::Delete { id } => Reply::Told(job_acts::delete(state, seat, id)),
-        Request::Release { id, pri, delay } => Reply::Told(job_acts::release(
-            state,
-            seat,
-            id,
-            NewTurn { pri, delay },
-        )),
-        Request::Bury { id, pri } => Reply::Told(job_acts::bury(state, seat, id, pri)),
-        Request::Touch { id } => Reply::Told(job_acts::touch(state, seat, id)),
-        Request::Kick { bound } => kicks::kick(state, seat, bound),
-        Request::KickJob { id } => Reply::Told(job_acts::kick_job(state, id)),
-        Request::Use { ref tube } => tube_acts::use_tube(state, alloc, seat, tube),
-        Request::ListTubeUsed => tube_acts::list_tube_used(state, seat),
-        Request::Watch { ref tube } => tube_acts::watch(state, alloc, seat, tube),
-        Request::Ignore { ref tube } => tube_acts::ignore(state, seat, tube),
-        Request::Peek { id } => tube_acts::peek(state, id),
-        Request::PeekReady => tube_acts::peek_first(state, seat, JobKind::Ready),
-        Request::PeekDelayed => tube_acts::peek_first(state, seat, JobKind::Delayed),
-        Request::PeekBuried => tube_acts::peek_first(state, seat, JobKind::Buried),
-        Request::PauseTube { ref tube, delay } => Reply::Told(tube_acts::pause(state, tube, delay)),
-        Request::StatsJob { id } => statistics_acts::stats_job(state, alloc, id),
-        Request::StatsTube { ref tube } => statistics_acts::stats_tube(state, alloc, tube),
-        Request::Stats => statistics_acts::stats(state, alloc),
-        Request::ListTubes => statistics_acts::list_tubes(state, alloc),
-        Request::ListTubesWatched => statistics_acts::list_tubes_watched(state, alloc, seat),
+        Request::ReserveJob { id } => job_acts::reserve_job(state, seat, id, told),
+        Request::Delete { id } => {
+            job_acts::delete(state, seat, id, told);
+            Reply::Told
+        }
+        Request::Release { id, pri, delay } => {
+            job_acts::release(state, seat, id, NewTurn { pri, delay }, told);
+            Reply::Told
+        }
+        Request::Bury { id, pri } => {
+            job_acts::bury(state, seat, id, pri, told);
+            Reply::Told
+        }
+        Request::Touch { id } => {
+            job_acts::touch(state, seat, id, told);
+            Reply::Told
+        }
+        Request::Kick { bound } => kicks::kick(state, seat, bound, told),
+        Request::KickJob { id } => {
+            job_acts::kick_job(state, id, told);
+            Reply::Told
+        }
+        Request::Use { ref tube } => tube_acts::use_tube(state, alloc, seat, tube, told),
+        Request::ListTubeUsed => tube_acts::list_tube_used(state, seat, told),
+        Request::Watch { ref tube } => tube_acts::watch(state, alloc, seat, tube, told),
+        Request::Ignore { ref tube } => tube_acts::ignore(state, seat, tube, told),
+        Request::Peek { id } => tube_acts::peek(state, id, told),
+        Request::PeekReady => tube_acts::peek_first(state, seat, JobKind::Ready, told),
+        Request::PeekDelayed => tube_acts::peek_first(state, seat, JobKind::Delayed, told),
+        Request::PeekBuried => tube_acts::peek_first(state, seat, JobKind::Buried, told),
+        Request::PauseTube { ref tube, delay } => {
+            tube_acts::pause(state, tube, delay, told);
+            Reply::Told
+        }
+        Request::StatsJob { id } => statistics_acts::stats_job(state, alloc, id, told),
+        Request::StatsTube { ref tube } => statistics_acts::stats_tube(state, alloc, tube, told),
+        Request::Stats => statistics_acts::stats(state, alloc, told),
+        Request::ListTubes => statistics_acts::list_tubes(state, alloc, told),
+        Request::ListTubesWatched => statistics_acts::list_tubes_watched(state, alloc, seat, told),
         Request::Quit => Reply::Silent,
-        Request::Refused(why) => Reply::Told(refusal_answer(why)),
+        Request::Refused(why) => {
+            *told = refusal_answer(why);
+            Reply::Told
+        }
     }
 }
 
-fn reply_to(state: &mut State, alloc: Global, seat: Seat, what: &Step) -> Reply
+fn reply_to(state: &mut State, alloc: Global, seat: Seat, what: &Step, told: &mut Answer) -> Reply
     requires sound { IsSound state.old }
-    ensures reply { RepliesBy (step_takes_memory what.now) (λ m. effect m seat what.now) state.old result state.new }
+    ensures reply { RepliesBy (step_takes_memory what.now) (λ m. effect m seat what.now) state.old result told.new state.new }
     ensures kept { IsCarriedOut state.old state.new }
 {
     match *what {
@@ -131,7 +153,7 @@ fn reply_to(state: &mut State, alloc: Global, seat: Seat, what: &Step) -> Reply
             Reply::Silent
         }
         Step::Ask(ref request) => if state.is_asking(seat) {
-            answer(state, alloc, seat, request)
+            answer(state, alloc, seat, request, told)
         } else {
             Reply::Silent
         },
@@ -141,7 +163,10 @@ fn reply_to(state: &mut State, alloc: Global, seat: Seat, what: &Step) -> Reply
         }
         Step::Close => match close(state, seat) {
             None => Reply::Silent,
-            Some(answer) => Reply::Told(answer),
+            Some(answer) => {
+                *told = answer;
+                Reply::Told
+            }
         },
         Step::Drain => {
             state.draining = true;
@@ -158,9 +183,10 @@ pub(crate) fn act(state: &mut State, alloc: Global, seat: Seat, what: &Step, out
     ensures acts { Acts (machine_of state.old) seat what.now outs.old outs.new (machine_of state.new) }
     ensures kept { IsCarriedOut state.old state.new }
 {
-    match reply_to(state, alloc, seat, what) {
+    let mut told = Answer::Closed;
+    match reply_to(state, alloc, seat, what, &mut told) {
         Reply::Silent => {}
-        Reply::Told(answer) => outs.push(seat, answer),
+        Reply::Told => outs.push(seat, told),
         Reply::LeftOut => {
             outs.set_left_out();
             outs.push(seat, Answer::OutOfMemory);

@@ -81,17 +81,26 @@ fn is_full(state: &State) -> bool
 
 /// Puts a job. The one growth that it needs comes before any change, and where there are as many jobs as
 /// there may be, none is asked for. The job is one more owner of the body, which its client's step has still.
-pub(crate) fn put(state: &mut State, alloc: Global, seat: Seat, new: NewJob, body: &Body) -> Reply
+pub(crate) fn put(
+    state: &mut State,
+    alloc: Global,
+    seat: Seat,
+    new: NewJob,
+    body: &Body,
+    told: &mut Answer,
+) -> Reply
     requires sound { IsSound state.old }
     requires asks { is_asking (seat_with seat state.old.seats.items) ≡ true }
-    ensures reply { RepliesAt seat true (put_effect new.pri new.delay new.ttr body.now) state.old result state.new }
+    ensures reply { RepliesAt seat true (put_effect new.pri new.delay new.ttr body.now) state.old result told.new state.new }
     ensures kept { IsCarriedOut state.old state.new }
 {
     if state.draining {
-        return Reply::Told(Answer::Draining);
+        *told = Answer::Draining;
+        return Reply::Told;
     }
     if is_full(state) {
-        return Reply::Told(Answer::OutOfMemory);
+        *told = Answer::OutOfMemory;
+        return Reply::Told;
     }
     let Some(client) = seat_list::find(state.seats.as_slice(), seat) else {
         return Reply::Silent;
@@ -109,7 +118,8 @@ pub(crate) fn put(state: &mut State, alloc: Global, seat: Seat, new: NewJob, bod
     laws::adds_at_the_end();
     count_put(state);
     state::add(state, job);
-    Reply::Told(Answer::Inserted(id))
+    *told = Answer::Inserted(id);
+    Reply::Told
 }
 
 /// The client waits, until this moment if there is one.
@@ -137,93 +147,102 @@ pub(crate) fn reserve_until(state: &mut State, seat: Seat, seconds: u32)
 }
 
 /// Reserves a job that nobody holds, in whatever tube.
-pub(crate) fn reserve_job(state: &mut State, seat: Seat, id: JobId) -> Reply
+pub(crate) fn reserve_job(state: &mut State, seat: Seat, id: JobId, told: &mut Answer) -> Reply
     requires { IsSound state.old }
-    ensures reply { RepliesTo seat false (reserve_job_effect id) state.old result state.new }
+    ensures reply { RepliesTo seat false (reserve_job_effect id) state.old result told.new state.new }
     ensures kept { IsCarriedOut state.old state.new }
 {
     if !state.has_job(id, JobTest::Free) {
-        return Reply::Told(Answer::NotFound);
+        *told = Answer::NotFound;
+        return Reply::Told;
     }
     let Some(shared) = state.share(id) else {
-        return Reply::Told(Answer::NotFound);
+        *told = Answer::NotFound;
+        return Reply::Told;
     };
     let Ok(body) = shared else {
         return Reply::Unshared;
     };
     let change = JobChange::HandOut(seat, state.moment);
     state::change_job(state, id, &change);
-    Reply::Told(Answer::Reserved(id, body))
+    *told = Answer::Reserved(id, body);
+    Reply::Told
 }
 
 /// Takes out a job that nobody holds, or that the client holds itself.
-pub(crate) fn delete(state: &mut State, seat: Seat, id: JobId) -> Answer
+pub(crate) fn delete(state: &mut State, seat: Seat, id: JobId, told: &mut Answer)
     requires { IsSound state.old }
-    ensures reply { AnswersTo seat (delete_effect id) state.old result state.new }
+    ensures reply { AnswersTo seat (delete_effect id) state.old told.new state.new }
     ensures kept { IsCarriedOut state.old state.new }
 {
     if !state.has_job(id, JobTest::FreeFor(seat)) {
-        return Answer::NotFound;
+        *told = Answer::NotFound;
+        return;
     }
     let Some(job) = state::take(state, id) else {
-        return Answer::NotFound;
+        *told = Answer::NotFound;
+        return;
     };
     state::change_tube(state, &job.tube, TubeChange::CountDelete);
-    Answer::Deleted
+    *told = Answer::Deleted;
 }
 
 /// Gives a job back that the client holds.
-pub(crate) fn release(state: &mut State, seat: Seat, id: JobId, with: NewTurn) -> Answer
+pub(crate) fn release(state: &mut State, seat: Seat, id: JobId, with: NewTurn, told: &mut Answer)
     requires { IsSound state.old }
-    ensures reply { AnswersTo seat (release_effect id with.pri with.delay) state.old result state.new }
+    ensures reply { AnswersTo seat (release_effect id with.pri with.delay) state.old told.new state.new }
     ensures kept { IsCarriedOut state.old state.new }
 {
     if !state.has_job(id, JobTest::HeldBy(seat)) {
-        return Answer::NotFound;
+        *told = Answer::NotFound;
+        return;
     }
     let change = JobChange::Release(with.pri, with.delay, state.moment);
     state::change_job(state, id, &change);
-    Answer::Released
+    *told = Answer::Released;
 }
 
 /// Puts a job aside that the client holds.
-pub(crate) fn bury(state: &mut State, seat: Seat, id: JobId, pri: Pri) -> Answer
+pub(crate) fn bury(state: &mut State, seat: Seat, id: JobId, pri: Pri, told: &mut Answer)
     requires { IsSound state.old }
-    ensures reply { AnswersTo seat (bury_effect id pri) state.old result state.new }
+    ensures reply { AnswersTo seat (bury_effect id pri) state.old told.new state.new }
     ensures kept { IsCarriedOut state.old state.new }
 {
     if !state.has_job(id, JobTest::HeldBy(seat)) {
-        return Answer::NotFound;
+        *told = Answer::NotFound;
+        return;
     }
     state.burials = state.burials.saturating_add(1);
     let change = JobChange::Bury(state.burials, pri);
     state::change_job(state, id, &change);
-    Answer::Buried
+    *told = Answer::Buried;
 }
 
 /// The time to run of a job that the client holds begins anew.
-pub(crate) fn touch(state: &mut State, seat: Seat, id: JobId) -> Answer
+pub(crate) fn touch(state: &mut State, seat: Seat, id: JobId, told: &mut Answer)
     requires { IsSound state.old }
-    ensures reply { AnswersTo seat (touch_effect id) state.old result state.new }
+    ensures reply { AnswersTo seat (touch_effect id) state.old told.new state.new }
     ensures kept { IsCarriedOut state.old state.new }
 {
     let Some(ttr) = state.time_to_run(id, seat) else {
-        return Answer::NotFound;
+        *told = Answer::NotFound;
+        return;
     };
     let change = JobChange::Touch(seat, job_list::later(state.moment, ttr));
     state::change_job(state, id, &change);
-    Answer::Touched
+    *told = Answer::Touched;
 }
 
 /// A buried or delayed job becomes ready.
-pub(crate) fn kick_job(state: &mut State, id: JobId) -> Answer
+pub(crate) fn kick_job(state: &mut State, id: JobId, told: &mut Answer)
     requires { IsSound state.old }
-    ensures reply { (s : SeatRecord) → kick_job_effect id (machine_of state.old) s ≡ telling result (machine_of state.new) }
+    ensures reply { (s : SeatRecord) → kick_job_effect id (machine_of state.old) s ≡ telling told.new (machine_of state.new) }
     ensures kept { IsCarriedOut state.old state.new }
 {
     if !state.has_job(id, JobTest::Kickable) {
-        return Answer::NotFound;
+        *told = Answer::NotFound;
+        return;
     }
     state::change_job(state, id, &JobChange::Kick);
-    Answer::Kicked
+    *told = Answer::Kicked;
 }

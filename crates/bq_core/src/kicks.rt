@@ -76,9 +76,9 @@ fn kick_in(state: &mut State, tube: &TubeName, bound: u32) -> u64
 }
 
 /// Kicks jobs of the tube that the client uses, so many at most.
-pub(crate) fn kick(state: &mut State, seat: Seat, bound: u32) -> Reply
+pub(crate) fn kick(state: &mut State, seat: Seat, bound: u32, told: &mut Answer) -> Reply
     requires sound { IsSound state.old }
-    ensures reply { RepliesAt seat false (kick_effect bound) state.old result state.new }
+    ensures reply { RepliesAt seat false (kick_effect bound) state.old result told.new state.new }
     ensures kept { IsCarriedOut state.old state.new }
 {
     let Some(client) = seat_list::find(state.seats.as_slice(), seat) else {
@@ -86,5 +86,6 @@ pub(crate) fn kick(state: &mut State, seat: Seat, bound: u32) -> Reply
     };
     let tube = *client.used();
     let count = kick_in(state, &tube, bound);
-    Reply::Told(Answer::KickedCount(count))
+    *told = Answer::KickedCount(count);
+    Reply::Told
 }

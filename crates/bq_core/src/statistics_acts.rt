@@ -37,14 +37,20 @@ fn text_of_job(
 }
 
 /// Tells of the job of this id.
-pub(crate) fn stats_job(state: &mut State, alloc: Global, id: JobId) -> Reply
+pub(crate) fn stats_job(state: &mut State, alloc: Global, id: JobId, told: &mut Answer) -> Reply
     requires { IsSound state.old }
-    ensures reply { RepliesBy true (stats_job_effect id) state.old result state.new }
+    ensures reply { RepliesBy true (stats_job_effect id) state.old result told.new state.new }
     ensures kept { IsCarriedOut state.old state.new }
 {
     match text_of_job(&mut state.jobs, alloc, id, state.moment) {
-        None => Reply::Told(Answer::NotFound),
-        Some(Ok(text)) => Reply::Told(Answer::Ok(text)),
+        None => {
+            *told = Answer::NotFound;
+            Reply::Told
+        }
+        Some(Ok(text)) => {
+            *told = Answer::Ok(text);
+            Reply::Told
+        }
         Some(Err(_)) => Reply::LeftOut,
     }
 }
@@ -71,15 +77,19 @@ fn tube_numbers(state: &State, tube: &TubeName) -> TubeNumbers
 }
 
 /// Tells of a tube that exists.
-pub(crate) fn stats_tube(state: &State, alloc: Global, tube: &TubeName) -> Reply
+pub(crate) fn stats_tube(state: &State, alloc: Global, tube: &TubeName, told: &mut Answer) -> Reply
     requires { IsSound state.now }
-    ensures { RepliesBy true (stats_tube_effect tube.now) state.now result state.now }
+    ensures { RepliesBy true (stats_tube_effect tube.now) state.now result told.new state.now }
 {
     if !state::is_tube(state, tube) {
-        return Reply::Told(Answer::NotFound);
+        *told = Answer::NotFound;
+        return Reply::Told;
     }
     match tube_text(alloc, tube, &tube_numbers(state, tube)) {
-        Ok(text) => Reply::Told(Answer::Ok(text)),
+        Ok(text) => {
+            *told = Answer::Ok(text);
+            Reply::Told
+        }
         Err(_) => Reply::LeftOut,
     }
 }
@@ -103,34 +113,45 @@ fn server_numbers(state: &State) -> ServerNumbers
 }
 
 /// Tells of the server.
-pub(crate) fn stats(state: &State, alloc: Global) -> Reply
+pub(crate) fn stats(state: &State, alloc: Global, told: &mut Answer) -> Reply
     requires { IsSound state.now }
-    ensures { RepliesBy true stats_effect state.now result state.now }
+    ensures { RepliesBy true stats_effect state.now result told.new state.now }
 {
     match server_text(alloc, &server_numbers(state)) {
-        Ok(text) => Reply::Told(Answer::Ok(text)),
+        Ok(text) => {
+            *told = Answer::Ok(text);
+            Reply::Told
+        }
         Err(_) => Reply::LeftOut,
     }
 }
 
 /// Lists the tubes that exist.
-pub(crate) fn list_tubes(state: &State, alloc: Global) -> Reply
+pub(crate) fn list_tubes(state: &State, alloc: Global, told: &mut Answer) -> Reply
     requires { IsSound state.now }
-    ensures { RepliesBy true list_tubes_effect state.now result state.now }
+    ensures { RepliesBy true list_tubes_effect state.now result told.new state.now }
 {
     let Ok(names) = state::tube_names(state, alloc) else {
         return Reply::LeftOut;
     };
     match names_text(alloc, names.as_slice()) {
-        Ok(text) => Reply::Told(Answer::Ok(text)),
+        Ok(text) => {
+            *told = Answer::Ok(text);
+            Reply::Told
+        }
         Err(_) => Reply::LeftOut,
     }
 }
 
 /// Lists the tubes that the client watches.
-pub(crate) fn list_tubes_watched(state: &State, alloc: Global, seat: Seat) -> Reply
+pub(crate) fn list_tubes_watched(
+    state: &State,
+    alloc: Global,
+    seat: Seat,
+    told: &mut Answer,
+) -> Reply
     requires { IsSound state.now }
-    ensures { RepliesAt seat true list_watched_effect state.now result state.now }
+    ensures { RepliesAt seat true list_watched_effect state.now result told.new state.now }
 {
     let Some(client) = seat_list::find(state.seats.as_slice(), seat) else {
         return Reply::Silent;
@@ -139,7 +160,10 @@ pub(crate) fn list_tubes_watched(state: &State, alloc: Global, seat: Seat) -> Re
         return Reply::LeftOut;
     };
     match names_text(alloc, names.as_slice()) {
-        Ok(text) => Reply::Told(Answer::Ok(text)),
+        Ok(text) => {
+            *told = Answer::Ok(text);
+            Reply::Told
+        }
         Err(_) => Reply::LeftOut,
     }
 }

@@ -19,97 +19,126 @@ use std::alloc::Global;
 
 /// The client's jobs go into this tube from now on. The growth that a new tube needs comes before any
 /// change.
-pub(crate) fn use_tube(state: &mut State, alloc: Global, seat: Seat, tube: &TubeName) -> Reply
+pub(crate) fn use_tube(
+    state: &mut State,
+    alloc: Global,
+    seat: Seat,
+    tube: &TubeName,
+    told: &mut Answer,
+) -> Reply
     requires { IsSound state.old }
-    ensures reply { RepliesTo seat true (use_effect tube.now) state.old result state.new }
+    ensures reply { RepliesTo seat true (use_effect tube.now) state.old result told.new state.new }
     ensures kept { IsCarriedOut state.old state.new }
 {
     if state::provide_tube(state, alloc, tube).is_err() {
         return Reply::LeftOut;
     }
     state::change_seat(state, seat, &SeatChange::Use(*tube));
-    Reply::Told(Answer::Using(*tube))
+    *told = Answer::Using(*tube);
+    Reply::Told
 }
 
 /// Tells which tube the client's jobs go into.
-pub(crate) fn list_tube_used(state: &State, seat: Seat) -> Reply
+pub(crate) fn list_tube_used(state: &State, seat: Seat, told: &mut Answer) -> Reply
     requires { IsSound state.now }
-    ensures { RepliesAt seat false (λ m s. telling (answers.Using s.used) m) state.now result state.now }
+    ensures { RepliesAt seat false (λ m s. telling (answers.Using s.used) m) state.now result told.new state.now }
 {
     match seat_list::find(state.seats.as_slice(), seat) {
         None => Reply::Silent,
-        Some(client) => Reply::Told(Answer::Using(*client.used())),
+        Some(client) => {
+            *told = Answer::Using(*client.used());
+            Reply::Told
+        }
     }
 }
 
 /// The client watches this tube too. The growth that it needs comes before any change.
-pub(crate) fn watch(state: &mut State, alloc: Global, seat: Seat, tube: &TubeName) -> Reply
+pub(crate) fn watch(
+    state: &mut State,
+    alloc: Global,
+    seat: Seat,
+    tube: &TubeName,
+    told: &mut Answer,
+) -> Reply
     requires { IsSound state.old }
-    ensures reply { RepliesAt seat true (watch_effect tube.now) state.old result state.new }
+    ensures reply { RepliesAt seat true (watch_effect tube.now) state.old result told.new state.new }
     ensures kept { IsCarriedOut state.old state.new }
 {
     let Some(client) = seat_list::find(state.seats.as_slice(), seat) else {
         return Reply::Silent;
     };
     if client.watches(tube) {
-        return Reply::Told(Answer::Watching(client.watch_count() as u64));
+        *told = Answer::Watching(client.watch_count() as u64);
+        return Reply::Told;
     }
     match state::watch_tube(state, alloc, seat, tube) {
-        Ok(count) => Reply::Told(Answer::Watching(count)),
+        Ok(count) => {
+            *told = Answer::Watching(count);
+            Reply::Told
+        }
         Err(_) => Reply::LeftOut,
     }
 }
 
 /// The client watches this tube no longer, unless it watches no other.
-pub(crate) fn ignore(state: &mut State, seat: Seat, tube: &TubeName) -> Reply
+pub(crate) fn ignore(state: &mut State, seat: Seat, tube: &TubeName, told: &mut Answer) -> Reply
     requires { IsSound state.old }
-    ensures reply { RepliesAt seat false (ignore_effect tube.now) state.old result state.new }
+    ensures reply { RepliesAt seat false (ignore_effect tube.now) state.old result told.new state.new }
     ensures kept { IsCarriedOut state.old state.new }
 {
     let Some(client) = seat_list::find(state.seats.as_slice(), seat) else {
         return Reply::Silent;
     };
     if !client.watches_other(tube) {
-        return Reply::Told(Answer::NotIgnored);
+        *told = Answer::NotIgnored;
+        return Reply::Told;
     }
     let count = state::ignore_tube(state, seat, tube);
-    Reply::Told(Answer::Watching(count))
+    *told = Answer::Watching(count);
+    Reply::Told
 }
 
 /// Pauses a tube that exists.
-pub(crate) fn pause(state: &mut State, tube: &TubeName, seconds: u32) -> Answer
+pub(crate) fn pause(state: &mut State, tube: &TubeName, seconds: u32, told: &mut Answer)
     requires { IsSound state.old }
-    ensures reply { pause_effect tube.now seconds (machine_of state.old) ≡ telling result (machine_of state.new) }
+    ensures reply { pause_effect tube.now seconds (machine_of state.old) ≡ telling told.new (machine_of state.new) }
     ensures kept { IsCarriedOut state.old state.new }
 {
     if !state::is_tube(state, tube) {
-        return Answer::NotFound;
+        *told = Answer::NotFound;
+        return;
     }
     let change = TubeChange::Pause(seconds, state.moment);
     state::change_tube(state, tube, change);
-    Answer::Paused
+    *told = Answer::Paused;
 }
 
 // Shows the job of this id.
-fn show(state: &mut State, id: JobId) -> Reply
+fn show(state: &mut State, id: JobId, told: &mut Answer) -> Reply
     requires { IsSound state.old }
-    ensures reply { RepliesBy false (peek_effect id) state.old result state.new }
+    ensures reply { RepliesBy false (peek_effect id) state.old result told.new state.new }
     ensures kept { StaysSound 1 state.old state.new }
 {
     match state.share(id) {
-        None => Reply::Told(Answer::NotFound),
-        Some(Ok(body)) => Reply::Told(Answer::Found(id, body)),
+        None => {
+            *told = Answer::NotFound;
+            Reply::Told
+        }
+        Some(Ok(body)) => {
+            *told = Answer::Found(id, body);
+            Reply::Told
+        }
         Some(Err(_)) => Reply::Unshared,
     }
 }
 
 /// Shows the job of this id.
-pub(crate) fn peek(state: &mut State, id: JobId) -> Reply
+pub(crate) fn peek(state: &mut State, id: JobId, told: &mut Answer) -> Reply
     requires { IsSound state.old }
-    ensures reply { RepliesBy false (peek_effect id) state.old result state.new }
+    ensures reply { RepliesBy false (peek_effect id) state.old result told.new state.new }
     ensures kept { IsCarriedOut state.old state.new }
 {
-    show(state, id)
+    show(state, id, told)
 }
 
 // The id of the first job of this kind in the tube that the client uses.
@@ -123,13 +152,16 @@ fn first_used(state: &mut State, seat: Seat, kind: JobKind) -> Option<JobId>
 }
 
 /// Shows the first job of this kind in the tube that the client uses.
-pub(crate) fn peek_first(state: &mut State, seat: Seat, kind: JobKind) -> Reply
+pub(crate) fn peek_first(state: &mut State, seat: Seat, kind: JobKind, told: &mut Answer) -> Reply
     requires { IsSound state.old }
-    ensures reply { RepliesAt seat false (peek_first_effect kind) state.old result state.new }
+    ensures reply { RepliesAt seat false (peek_first_effect kind) state.old result told.new state.new }
     ensures kept { IsCarriedOut state.old state.new }
 {
     match first_used(state, seat, kind) {
-        None => Reply::Told(Answer::NotFound),
-        Some(id) => show(state, id),
+        None => {
+            *told = Answer::NotFound;
+            Reply::Told
+        }
+        Some(id) => show(state, id, told),
     }
 }
