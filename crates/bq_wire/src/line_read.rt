@@ -74,6 +74,8 @@ fn tube_word(words: &mut Words) -> Option<TubeName>
     TubeName::new(only_word(words)?)
 }
 
+// Made where it lies, and so inlined: a request of a few bytes has as much room as the longest name.
+#[inline(always)]
 fn whole(place: &mut Option<Request>, request: Request) -> Option<LineRead>
     ensures { option_map (λ read. asked_by read place.new) result ≡ Some (Some (spec.Whole request)) }
 {
@@ -81,14 +83,24 @@ fn whole(place: &mut Option<Request>, request: Request) -> Option<LineRead>
     Some(LineRead::Whole)
 }
 
+// Whether no words are left.
+fn no_more(words: &mut Words) -> Option<()>
+    ensures some { IfSome result (λ _. words.old ≡ []) }
+    ensures none { IfNone result ((request : Request) → spec.no_words request words.old ≡ None) }
+{
+    match words.next() {
+        None => Some(()),
+        Some(_) => None,
+    }
+}
+
 // What no further words ask for.
+#[inline(always)]
 fn no_words(words: &mut Words, place: &mut Option<Request>, request: Request) -> Option<LineRead>
     ensures { option_map (λ read. asked_by read place.new) result ≡ option_map Some (spec.no_words request words.old) }
 {
-    match words.next() {
-        None => whole(place, request),
-        Some(_) => None,
-    }
+    no_more(words)?;
+    whole(place, request)
 }
 
 // What the words of a put ask for.

@@ -116,6 +116,7 @@ impl PutBody {
     }
 
     /// The request of a put, all of which has come. It takes no memory.
+    #[inline(always)]
     pub fn into_request(self, max_job_size: u32) -> Request
         requires { self.taken ≡ self.put.bytes + 2 }
         // Where its memory was refused, that is the answer, whatever the bytes are.
@@ -154,6 +155,7 @@ fn store_bytes(store: &mut Option<BodyBuilder>, bytes: &[u8])
     }
 }
 
+#[inline(always)]
 fn refused(why: Refusal) -> Request
     ensures { result ≡ Request.Refused why }
 {
