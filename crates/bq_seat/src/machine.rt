@@ -290,12 +290,17 @@ impl SeatMachine {
             .feed_in_place(alloc, self.kept.as_slice(), &mut request);
         self.kept.drop_front(taken);
         match request {
-            None => {
-                self.stage = Stage::Reading;
-                *next = Action::Read;
-            }
+            None => self.read(next),
             Some(request) => self.ask(request, next),
         }
+    }
+
+    fn read(&mut self, next: &mut Action)
+        ensures action { next.new ≡ Action.Read }
+        ensures after { self.new ≡ in_stage Stage.Reading self.old }
+    {
+        self.stage = Stage::Reading;
+        *next = Action::Read;
     }
 
     fn ask(&mut self, request: Request, next: &mut Action)
