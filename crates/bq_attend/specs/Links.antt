@@ -1,8 +1,10 @@
 -- What a seat's link does.
-use Rattle.std.specs.Prelude.{◌≡◌, ◌⊎◌, List, [], ◌∷◌, Result, Ok, Err, if◌then◌else◌}
+use Rattle.std.specs.Prelude.{◌≡◌, ◌⊎◌, Bool, true, false, List, [], ◌∷◌, Result, Ok, Err, if◌then◌else◌}
 use Rattle.bq_job.specs.declared.answer.Answer.{Answer}
 use Rattle.bq_job.specs.declared.step.Step.{Step}
 use Rattle.bq_job.specs.promise.History.{is_tick}
+use Rattle.bq_seat.specs.declared.machine.Action.{Action}
+use Rattle.bq_seat.specs.declared.machine.Action.TheVariants as actions
 
 -- What a seat submits by a step: that step. A tick is no seat's own, and is not counted.
 abbrev pub as_submitted : Step → List Step
@@ -12,6 +14,16 @@ as_submitted step = if is_tick step then [] else step ∷ []
 abbrev pub Submits : {K : Type 0} → (K → List Step → List Answer → K → Type 0) → K → Step → Result (Unit {0}) Step → K → Type 0
 Submits went old step (Ok done) new = went old (as_submitted step) [] new
 Submits went old step (Err back) new = (back ≡ step) × went old [] [] new
+
+-- The same for a step in its place, and whether it was submitted. One that was handed back lies there still.
+abbrev pub SubmitsInPlace : {K : Type 0} → (K → List Step → List Answer → K → Type 0) → K → Step → Bool → Step → K → Type 0
+SubmitsInPlace went old step true left new = went old (as_submitted step) [] new
+SubmitsInPlace went old step false left new = (left ≡ step) × went old [] [] new
+
+-- An answer was taken and lies in the action's place, to be written; or none was, and the action is as it was.
+abbrev pub TakesInPlace : {K : Type 0} → (K → List Step → List Answer → K → Type 0) → K → Action → Bool → Action → K → Type 0
+TakesInPlace went old action true next new = (answer : Answer) × (next ≡ actions.Write answer) × went old [] (answer ∷ []) new
+TakesInPlace went old action false next new = (next ≡ action) × went old [] [] new
 
 -- The seat submitted these steps and took these answers, or left the link alone.
 abbrev pub Calls : {K : Type 0} → (K → List Step → List Answer → K → Type 0) → K → List Step → List Answer → K → Type 0

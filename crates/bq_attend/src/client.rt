@@ -8,11 +8,10 @@ ghost use Rattle.bq_attend.specs.Carried.{Carried, HasGone};
 
 use crate::answer_write::write_answer;
 use crate::link::Link;
-use bq_job::{Answer, Step};
 use bq_line::line::{Line, is_nothing_yet};
 use bq_seat::{Action, Event, PIECE_ROOM, SeatMachine};
 use std::alloc::Global;
-use std::{io, mem};
+use std::io;
 
 /// How many bytes a room has.
 pub const ROOM_BYTES: usize = 65536;
@@ -39,27 +38,24 @@ pub fn carry_out<L: Line, K: Link>(
     ensures carried { (submitted : List Step) × (taken : List Answer) × HasGone K.went link.old action.old submitted taken link.new × Carried machine.old (L.seen line.old) action.old machine.new (L.seen line.new) action.new submitted taken }
 {
     match action {
-        Action::Submit(step) => match link.submit(mem::replace(step, Step::Tick)) {
-            Ok(()) => {
+        Action::Submit(step) => {
+            if link.submit_in_place(step) {
                 machine.on_in_place(alloc, Event::Submitted, action);
                 true
-            }
-            Err(back) => {
-                *action = Action::Submit(back);
+            } else {
                 false
             }
-        },
+        }
         Action::Read => read(alloc, machine, action, line, &mut room[..PIECE_ROOM]),
-        Action::PollMail => match link.mail() {
-            Some(answer) => {
-                machine.on_in_place(alloc, Event::Mail(answer), action);
+        Action::PollMail => {
+            if link.mail_in_place(action) {
+                machine.mail_in_place(action);
                 true
-            }
-            None => {
+            } else {
                 machine.on_in_place(alloc, Event::NothingYet, action);
                 false
             }
-        },
+        }
         Action::Write(answer) => {
             if write_answer(line, answer, room) {
                 machine.on_in_place(alloc, Event::WriteDone, action);

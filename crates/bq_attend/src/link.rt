@@ -3,9 +3,11 @@ ghost use Rattle.std.specs.Prelude.{[], List};
 ghost use Rattle.std.specs.Option.{option_to_list};
 ghost use Rattle.bq_job.specs.declared.answer.Answer.{Answer};
 ghost use Rattle.bq_job.specs.declared.step.Step.{Step};
-ghost use Rattle.bq_attend.specs.Links.{Submits};
+ghost use Rattle.bq_attend.specs.Links.{Submits, SubmitsInPlace, TakesInPlace};
 
 use bq_job::{Answer, Step};
+use bq_seat::Action;
+use std::mem;
 
 /// A seat's link to the core.
 pub trait Link {
@@ -27,4 +29,36 @@ pub trait Link {
         requires ready { is_ready self.old }
         ensures ready { is_ready self.new }
         ensures went { went self.old [] (option_to_list result) self.new };
+
+    /// The same as `submit` for a step that stays where it lies if it is handed back. Whether it was submitted: then
+    /// what lies there has no meaning.
+    fn submit_in_place(&mut self, step: &mut Step) -> bool
+        requires ready { is_ready self.old }
+        ensures ready { is_ready self.new }
+        ensures went { SubmitsInPlace went self.old step.old result step.new self.new }
+    {
+        match self.submit(mem::replace(step, Step::Tick)) {
+            Ok(()) => true,
+            Err(back) => {
+                *step = back;
+                false
+            }
+        }
+    }
+
+    /// The same as `mail`, with the answer put in the place of an action, as one that is to be written. Whether there
+    /// was one: else the action is as it was.
+    fn mail_in_place(&mut self, place: &mut Action) -> bool
+        requires ready { is_ready self.old }
+        ensures ready { is_ready self.new }
+        ensures went { TakesInPlace went self.old place.old result place.new self.new }
+    {
+        match self.mail() {
+            Some(answer) => {
+                *place = Action::Write(answer);
+                true
+            }
+            None => false,
+        }
+    }
 }

@@ -1,12 +1,13 @@
 //! An end of the links, as a seat and as the control line see it.
-ghost use Rattle.std.specs.Prelude.{◌≡◌, [], IfNone, List, OnErr, false};
+ghost use Rattle.std.specs.Prelude.{◌≡◌, [], IfNone, List, OnErr, Some, false};
 ghost use Rattle.std.specs.Option.{option_to_list};
 ghost use Rattle.bq_job.specs.promise.ControlDid.{IsControlDone};
 ghost use Rattle.bq_job.specs.promise.History.{is_tick};
+ghost use Rattle.bq_job.specs.declared.answer.Answer.{Answer};
 ghost use Rattle.bq_job.specs.declared.step.Step.{Step};
 ghost use Rattle.bq_attend.specs.ControlRead.{IsOver, IsReadToEnd};
 ghost use Rattle.bq_attend.specs.ControlSeen.{new_control};
-ghost use Rattle.bq_attend.specs.Links.{Submits};
+ghost use Rattle.bq_attend.specs.Links.{Submits, SubmitsInPlace, TakesInPlace};
 ghost use Rattle.bq_attend.specs.Tending.{GoesOn, IsPlaced, door_seen};
 ghost use Rattle.bq_link.specs.EndStates.{IsSameSeat, WasFull};
 ghost use Rattle.bq_link.specs.Submissions.{MaySubmit};
@@ -21,10 +22,11 @@ use bq_job::{Answer, Step};
 use bq_line::Door;
 use bq_line::line::Line;
 use bq_link::{Intake, NoTicks, Record, SeatEnd};
+use bq_seat::Action;
 use std::alloc::Global;
 use std::sync::Wait;
-use std::thread;
 use std::time::Duration;
+use std::{mem, thread};
 
 /// How often an end looks whether an answer has come before it rests.
 const LOOKS: u32 = 50;
@@ -57,7 +59,15 @@ impl<'a, R: Wait> Link for EndSeat<'a, R> {
         // There is none only where none was known to wait.
         ensures none { IfNone result (self.old.end.now.waiting ≡ []) }
     {
-        mail_at(self.rt, self.intake, self.end)
+        answer_at(self.rt, self.intake, self.end)
+    }
+
+    fn submit_in_place(&mut self, step: &mut Step) -> bool {
+        submit_step(self.rt, self.intake, self.end, step)
+    }
+
+    fn mail_in_place(&mut self, place: &mut Action) -> bool {
+        mail_at(self.rt, self.intake, self.end, place)
     }
 }
 
@@ -71,15 +81,12 @@ impl<'a, R: Wait> ControlLink for EndSeat<'a, R> {
     }
 }
 
-// Submits a step at an end, or hands it back where the intake is full. A tick is no seat's own, and is passed.
-//
-// Whatever is so of the intake at each moment: where the step was handed back, it was so of a full one, after the last
-// step that this end submitted.
+// Submits a step at an end, or hands it back where the intake is full.
 fn submit_at<R: Wait, J: Record>(
     rt: &R,
     intake: &Intake<J>,
     end: &mut SeatEnd,
-    step: Step,
+    mut step: Step,
 ) -> Result<(), Step>
     requires intake { end.old.intake ≡ intake.now.id }
     requires may { is_tick step ≡ false → MaySubmit J.was intake.now.places end.old.number step }
@@ -87,26 +94,92 @@ fn submit_at<R: Wait, J: Record>(
     ensures went { Submits EndWent end.old step result end.new }
     ensures full { OnErr result (WasFull J.was intake.now.places end.old) }
 {
-    match step {
-        Step::Tick => Ok(()),
-        other => end.submit(rt, intake, other),
+    if submit_step(rt, intake, end, &mut step) {
+        Ok(())
+    } else {
+        Err(step)
     }
 }
 
-// Takes the oldest answer that came to an end. Where there is none yet the end looks again some times, since most
-// steps are answered at once, and then it rests until its bell is rung.
-fn mail_at<R: Wait>(rt: &R, intake: &Intake<NoTicks>, end: &mut SeatEnd) -> Option<Answer>
+// Submits the step that lies there, and leaves it there where the intake is full. A tick is no seat's own, and is
+// passed.
+//
+// Whatever is so of the intake at each moment: where the step was handed back, it was so of a full one, after the last
+// step that this end submitted.
+fn submit_step<R: Wait, J: Record>(
+    rt: &R,
+    intake: &Intake<J>,
+    end: &mut SeatEnd,
+    step: &mut Step,
+) -> bool
+    requires intake { end.old.intake ≡ intake.now.id }
+    requires may { is_tick step.old ≡ false → MaySubmit J.was intake.now.places end.old.number step.old }
+    ensures intake { end.new.intake ≡ intake.now.id }
+    ensures went { SubmitsInPlace EndWent end.old step.old result step.new end.new }
+    ensures full { result ≡ false → WasFull J.was intake.now.places end.old }
+{
+    if matches!(step, Step::Tick) {
+        return true;
+    }
+    match end.submit(rt, intake, mem::replace(step, Step::Tick)) {
+        Ok(()) => true,
+        Err(back) => {
+            *step = back;
+            false
+        }
+    }
+}
+
+// Takes the oldest answer that came to an end.
+fn answer_at<R: Wait>(rt: &R, intake: &Intake<NoTicks>, end: &mut SeatEnd) -> Option<Answer>
     ensures went { EndWent end.old [] (option_to_list result) end.new }
     ensures none { IfNone result ((end.old.waiting ≡ []) × (end.new ≡ end.old)) }
 {
+    let mut place = Action::PollMail;
+    if mail_at(rt, intake, end, &mut place) {
+        answer_in(place)
+    } else {
+        None
+    }
+}
+
+fn answer_in(action: Action) -> Option<Answer>
+    ensures { (answer : Answer) → action ≡ Action.Write answer → result ≡ Some answer }
+{
+    match action {
+        Action::Write(answer) => Some(answer),
+        _ => None,
+    }
+}
+
+// Takes the oldest answer that came to an end, to be written. Where there is none yet the end looks again some times,
+// since most steps are answered at once, and then it rests until its bell is rung.
+fn mail_at<R: Wait>(rt: &R, intake: &Intake<NoTicks>, end: &mut SeatEnd, place: &mut Action) -> bool
+    ensures went { TakesInPlace EndWent end.old place.old result place.new end.new }
+    ensures none { result ≡ false → (end.old.waiting ≡ []) × (end.new ≡ end.old) }
+{
     for _ in 0..LOOKS {
-        match end.mail() {
-            Some(answer) => return Some(answer),
-            None => thread::yield_now(),
+        if look(end, place) {
+            return true;
         }
+        thread::yield_now();
     }
     end.wait(rt, intake, Duration::from_millis(LONGEST_REST));
-    end.mail()
+    look(end, place)
+}
+
+// One look at what came to an end.
+fn look(end: &mut SeatEnd, place: &mut Action) -> bool
+    ensures went { TakesInPlace EndWent end.old place.old result place.new end.new }
+    ensures none { result ≡ false → (end.old.waiting ≡ []) × (end.new ≡ end.old) × (place.new ≡ place.old) }
+{
+    match end.mail() {
+        Some(answer) => {
+            *place = Action::Write(answer);
+            true
+        }
+        None => false,
+    }
 }
 
 /// One action of a seat that attends to a door, by its end of the links. Says whether something moved.

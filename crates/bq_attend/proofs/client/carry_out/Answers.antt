@@ -1,16 +1,17 @@
-use Rattle.std.proofs.Common.{[], ◌∷◌, ◌∙◌, refl, ap, sym, inl, inr}
+use Rattle.std.proofs.Common.{[], ◌∷◌, refl, ap, inl, inr}
 use Rattle.bq_seat.specs.declared.machine.Action.TheVariants as actions
 use Rattle.bq_attend.specs.Links.{as_submitted}
 use Rattle.bq_attend.proofs.CarriedLemmas.{comes_by}
 use Rattle.bq_attend.proofs.client.carry_out.Goals as goal
 
-pub returns-in-Ok-clause-carried : goal.returns-in-Ok-clause-carried
-returns-in-Ok-clause-carried g c =
-    comes_by g.K.Link.went _ _ _ _ _ _ _ _ (actions.Submit c.replace.result) (c.in-Submit.is ∙ ap actions.Submit (sym c.replace.ensures.value)) (as_submitted c.replace.result) [] c.in-Ok.ensures.went (refl, refl, inl (refl, c.on_in_place.ensures))
+pub returns-then-submit_in_place-clause-carried : goal.returns-then-submit_in_place-clause-carried
+returns-then-submit_in_place-clause-carried g c =
+    comes_by g.K.Link.went _ _ _ _ _ _ _ _ (actions.Submit c.in-Submit.step) c.in-Submit.is (as_submitted c.in-Submit.step) [] (rw c.if-submit_in_place.true at c.submit_in_place.ensures.went) (refl, refl, inl (refl, c.on_in_place.ensures))
 
-pub returns-in-Err-clause-carried : goal.returns-in-Err-clause-carried
-returns-in-Err-clause-carried g c =
-    comes_by g.K.Link.went _ _ _ _ _ _ _ _ (actions.Submit c.replace.result) (c.in-Submit.is ∙ ap actions.Submit (sym c.replace.ensures.value)) [] [] c.in-Err.ensures.went.1 (refl, refl, inr (refl, ap actions.Submit c.in-Err.ensures.went.0, refl))
+pub returns-else-submit_in_place-clause-carried : goal.returns-else-submit_in_place-clause-carried
+returns-else-submit_in_place-clause-carried g c =
+    let back = rw c.if-submit_in_place.false at c.submit_in_place.ensures.went in
+    comes_by g.K.Link.went _ _ _ _ _ _ _ _ (actions.Submit c.in-Submit.step) c.in-Submit.is [] [] back.1 (refl, refl, inr (refl, ap actions.Submit back.0, refl))
 
 pub returns-in-Read-clause-carried : goal.returns-in-Read-clause-carried
 returns-in-Read-clause-carried g c = comes_by g.K.Link.went _ _ _ _ _ _ _ _ actions.Read c.in-Read.is [] [] refl c.read.ensures
@@ -23,12 +24,15 @@ pub returns-else-write_answer-clause-carried : goal.returns-else-write_answer-cl
 returns-else-write_answer-clause-carried g c =
     comes_by g.K.Link.went _ _ _ _ _ _ _ _ (actions.Write c.in-Write.answer) c.in-Write.is [] [] refl (refl, refl, inr (rw c.if-write_answer.false at c.write_answer.ensures, c.on_in_place-else-write_answer.ensures))
 
-pub returns-in-Some-clause-carried : goal.returns-in-Some-clause-carried
-returns-in-Some-clause-carried g c =
-    comes_by g.K.Link.went _ _ _ _ _ _ _ _ actions.PollMail c.in-PollMail.is [] (c.in-Some.answer ∷ []) c.in-Some.ensures.went (refl, refl, inr (c.in-Some.answer, refl, c.on_in_place-in-Some.ensures))
+pub returns-then-mail_in_place-clause-carried : goal.returns-then-mail_in_place-clause-carried
+returns-then-mail_in_place-clause-carried g c =
+    let came = rw c.if-mail_in_place.true at c.mail_in_place.ensures.went in
+    comes_by g.K.Link.went _ _ _ _ _ _ _ _ actions.PollMail c.in-PollMail.is [] (came.0 ∷ []) came.2 (refl, refl, inr (came.0, refl, c.mail_in_place-then-mail_in_place.ensures came.0 came.1))
 
-pub returns-in-None-clause-carried : goal.returns-in-None-clause-carried
-returns-in-None-clause-carried g c = comes_by g.K.Link.went _ _ _ _ _ _ _ _ actions.PollMail c.in-PollMail.is [] [] c.in-None.ensures.went (refl, refl, inl (refl, c.on_in_place-in-None.ensures))
+pub returns-else-mail_in_place-clause-carried : goal.returns-else-mail_in_place-clause-carried
+returns-else-mail_in_place-clause-carried g c =
+    let none = rw c.if-mail_in_place.false at c.mail_in_place.ensures.went in
+    comes_by g.K.Link.went _ _ _ _ _ _ _ _ actions.PollMail c.in-PollMail.is [] [] none.1 (refl, refl, inl (refl, c.on_in_place-else-mail_in_place.ensures))
 
 pub returns-in-LineOver-clause-carried : goal.returns-in-LineOver-clause-carried
 returns-in-LineOver-clause-carried g c =
