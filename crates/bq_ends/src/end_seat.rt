@@ -28,7 +28,7 @@ use std::sync::Wait;
 use std::time::Duration;
 use std::{mem, thread};
 
-/// How often an end looks whether an answer has come before it rests.
+/// How often an end looks whether its last step was answered before it rests.
 const LOOKS: u32 = 50;
 
 /// How long an end rests whose answer hasn't come, in milliseconds. Then the line of a seat whose reserve waits is
@@ -41,6 +41,9 @@ pub struct EndSeat<'a, R> {
     rt: &'a R,
     intake: &'a Intake<NoTicks>,
     end: &'a mut SeatEnd,
+    // How often it looks for an answer before it rests: again and again once a step was submitted, since most are
+    // answered at once, but not after each rest of a seat whose reserve waits.
+    looks: u32,
 }
 
 impl<'a, R: Wait> Link for EndSeat<'a, R> {
@@ -49,6 +52,7 @@ impl<'a, R: Wait> Link for EndSeat<'a, R> {
     ghost went = { LinkWent };
 
     fn submit(&mut self, step: Step) -> Result<(), Step> {
+        self.looks = LOOKS;
         submit_at(self.rt, self.intake, self.end, step)
     }
 
@@ -59,15 +63,18 @@ impl<'a, R: Wait> Link for EndSeat<'a, R> {
         // There is none only where none was known to wait.
         ensures none { IfNone result (self.old.end.now.waiting ≡ []) }
     {
-        answer_at(self.rt, self.intake, self.end)
+        let looks = mem::replace(&mut self.looks, 0);
+        answer_at(self.rt, self.intake, self.end, looks)
     }
 
     fn submit_in_place(&mut self, step: &mut Step) -> bool {
+        self.looks = LOOKS;
         submit_step(self.rt, self.intake, self.end, step)
     }
 
     fn mail_in_place(&mut self, place: &mut Action) -> bool {
-        mail_at(self.rt, self.intake, self.end, place)
+        let looks = mem::replace(&mut self.looks, 0);
+        mail_at(self.rt, self.intake, self.end, looks, place)
     }
 }
 
@@ -131,12 +138,17 @@ fn submit_step<R: Wait, J: Record>(
 }
 
 // Takes the oldest answer that came to an end.
-fn answer_at<R: Wait>(rt: &R, intake: &Intake<NoTicks>, end: &mut SeatEnd) -> Option<Answer>
+fn answer_at<R: Wait>(
+    rt: &R,
+    intake: &Intake<NoTicks>,
+    end: &mut SeatEnd,
+    looks: u32,
+) -> Option<Answer>
     ensures went { EndWent end.old [] (option_to_list result) end.new }
     ensures none { IfNone result ((end.old.waiting ≡ []) × (end.new ≡ end.old)) }
 {
     let mut place = Action::PollMail;
-    if mail_at(rt, intake, end, &mut place) {
+    if mail_at(rt, intake, end, looks, &mut place) {
         answer_in(place)
     } else {
         None
@@ -152,13 +164,19 @@ fn answer_in(action: Action) -> Option<Answer>
     }
 }
 
-// Takes the oldest answer that came to an end, to be written. Where there is none yet the end looks again some times,
-// since most steps are answered at once, and then it rests until its bell is rung.
-fn mail_at<R: Wait>(rt: &R, intake: &Intake<NoTicks>, end: &mut SeatEnd, place: &mut Action) -> bool
+// Takes the oldest answer that came to an end, to be written. Where there is none yet the end looks so often, and then
+// it rests until its bell is rung.
+fn mail_at<R: Wait>(
+    rt: &R,
+    intake: &Intake<NoTicks>,
+    end: &mut SeatEnd,
+    looks: u32,
+    place: &mut Action,
+) -> bool
     ensures went { TakesInPlace EndWent end.old place.old result place.new end.new }
     ensures none { result ≡ false → (end.old.waiting ≡ []) × (end.new ≡ end.old) }
 {
-    for _ in 0..LOOKS {
+    for _ in 0..looks {
         if look(end, place) {
             return true;
         }
@@ -182,7 +200,8 @@ fn look(end: &mut SeatEnd, place: &mut Action) -> bool
     }
 }
 
-/// One action of a seat that attends to a door, by its end of the links. Says whether something moved.
+/// One action of a seat that attends to a door, by its end of the links. Says whether something moved. `looks` is how
+/// often it looks for an answer before it rests, from one action to the next: 0 at first.
 pub fn attend_at<R: Wait, L: Line + Drop, D: Door<Line = L>>(
     rt: &R,
     alloc: Global,
@@ -191,6 +210,7 @@ pub fn attend_at<R: Wait, L: Line + Drop, D: Door<Line = L>>(
     attendant: &mut Attendant<L>,
     door: &mut D,
     room: &mut Room,
+    looks: &mut u32,
 ) -> bool
     requires intake { end.old.intake ≡ intake.now.id }
     requires placed { IsPlaced attendant.old.place (door_seen D.is_out D.is_at_end D.lines_over door.old) }
@@ -199,8 +219,15 @@ pub fn attend_at<R: Wait, L: Line + Drop, D: Door<Line = L>>(
         GoesOn EndWent end.old end.new L.seen attendant.old (at door.old) attendant.new (at door.new) }
     ensures door { (first : D) → D.same first door.old → D.same first door.new }
 {
-    let mut link = EndSeat { rt, intake, end };
-    attendant.go_on(alloc, door, &mut link, room)
+    let mut link = EndSeat {
+        rt,
+        intake,
+        end,
+        looks: *looks,
+    };
+    let moved = attendant.go_on(alloc, door, &mut link, room);
+    *looks = link.looks;
+    moved
 }
 
 /// Serves the control line by its end of the links.
@@ -217,6 +244,12 @@ pub fn control_at<R: Wait, I: ControlInput>(
     ensures done { (submitted : List Step) × IsControlDone (I.seen control.new).text (I.seen control.new).failed submitted
         × EndWent end.old submitted [] end.new }
 {
-    let mut link = EndSeat { rt, intake, end };
+    // No answer is for it, and it looks for none.
+    let mut link = EndSeat {
+        rt,
+        intake,
+        end,
+        looks: 0,
+    };
     submit_control(rt, control, &mut link);
 }

@@ -49,11 +49,21 @@ pub fn seat_work<R: Wait, L: Line + Drop, D: Door<Line = L> + Drop>(
         place: Place::Between,
     };
     let room: &mut Room = &mut [0; ROOM_BYTES];
+    let mut looks = 0;
     for _ in rt.forever() {
         if attendant.is_done() {
             return (end, door);
         }
-        if !attend_at(rt, alloc, intake, &mut end, &mut attendant, &mut door, room) {
+        if !attend_at(
+            rt,
+            alloc,
+            intake,
+            &mut end,
+            &mut attendant,
+            &mut door,
+            room,
+            &mut looks,
+        ) {
             rest(rt, intake, &mut end, attendant.awaits_line());
         }
     }
