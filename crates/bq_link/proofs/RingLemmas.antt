@@ -1,5 +1,6 @@
 -- The rings of the core's end, as one of them is used.
-use Rattle.std.proofs.Common.{◌≡◌, ℕ, zero, suc, ◌+◌, ◌<◌, ◌≤◌, Global, None, Some, is_some, slice_get, true≢false, List, [], ◌∷◌, ◌++◌, map, length, get_or, set, sym, ap, ◌∙◌, subst, arith}
+use Rattle.std.specs.Prelude.{◌↔◌, IsTrue}
+use Rattle.std.proofs.Common.{◌≡◌, ℕ, Bool, true, false, not, refl, zero, suc, ◌+◌, ◌<◌, ◌≤◌, Global, None, Some, is_some, slice_get, true≢false, List, [], ◌∷◌, ◌++◌, map, length, get_or, set, sym, ap, ◌∙◌, subst, arith}
 use Rattle.std.proofs.lemmas.List.{get_or-map, get_or-set_same, length-map, length-set, map-set, set-get_or}
 use Rattle.std.specs.List.{AllByRecursion as All}
 use Rattle.std.specs.Vec.{with_item}
@@ -60,6 +61,15 @@ found_within (y ∷ ys) (suc n) x e = let rest = found_within ys n x e in omega 
 -- a ring that was looked at twice
 pub looked_twice : (a b c : Ring) → SameProducer a b → SameProducer b c → SameProducer a c
 looked_twice a b c first second = ((second.0.0 ∙ first.0.0, second.0.1 ∙ first.0.1, second.0.2 ∙ first.0.2, second.0.3 ∙ first.0.3), second.1 ∙ first.1)
+
+-- whether a ring is full, as its end tells
+pub some_room : (free room : ℕ) (full : Bool) → (IsTrue full ↔ (free ≡ 0)) → room ≡ free → not full ≡ true → 0 < room
+some_room zero room full tells same e = let t : full ≡ true = tells.1 refl in absurd (let no : false ≡ true = rw t at e in cc)
+some_room (suc n) room full tells same e = rw same (omega arith)
+
+pub no_room : (free : ℕ) (full : Bool) → (IsTrue full ↔ (free ≡ 0)) → not full ≡ false → free ≡ 0
+no_room free true tells e = tells.0 refl
+no_room free false tells e = absurd cc
 
 -- what isn't free in a ring is an answer that waits
 pub free_or_waiting : (first free sent places received waiting : ℕ) → first + sent ≡ places + received → received + waiting ≡ sent → first ≤ free → places ≤ free + waiting

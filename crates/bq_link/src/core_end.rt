@@ -1,4 +1,4 @@
-ghost use Rattle.std.specs.Prelude.{ℕ, ◌≡◌, ◌+◌, ◌<◌, ◌≤◌, ◌∷◌, ◌++◌, [], true, List, IfErr, IfNone, IfOk, IfSome, IsOk, OnErr, OnOk, length};
+ghost use Rattle.std.specs.Prelude.{ℕ, ◌≡◌, ◌+◌, ◌<◌, ◌≤◌, ◌∷◌, ◌++◌, [], false, true, List, IfErr, IfNone, IfOk, IfSome, IsOk, OnErr, OnOk, length};
 ghost use Rattle.bq_job.specs.declared.step.Step.{Step as AStep};
 ghost use Rattle.bq_link.specs.EndChanges.{with_room, with_sent, with_told};
 ghost use Rattle.bq_link.specs.EndStates.{IsPair, ring_places, room_for, sent_to};
@@ -99,6 +99,29 @@ impl CoreEnd {
             Ok(()) => Ok(()),
             Err(PushError::Full(back)) => Err(back),
         }
+    }
+
+    /// Whether the ring of the end with this number has room for one more answer. Who asks first, sends without a
+    /// way back.
+    pub fn has_room(&mut self, seat: Seat) -> bool
+        requires { seat < length self.old.rings }
+        ensures room { result ≡ true → 0 < room_for self.new seat }
+        ensures full { result ≡ false → self.new ≡ with_room self.old seat 0 }
+        ensures succeeds { 0 < room_for self.old seat → result ≡ true }
+        ensures rest { self.new ≡ with_room self.old seat (room_for self.new seat) }
+    {
+        !self.rings[usize::from(seat)].is_full()
+    }
+
+    /// Sends an answer to the end with this number, whose ring is known to have room.
+    pub fn send_reserved(&mut self, seat: Seat, answer: Answer)
+        requires within { seat < length self.old.rings }
+        requires room { 0 < room_for self.old seat }
+        ensures sent { self.new ≡ with_room (with_sent self.old seat answer) seat (room_for self.new seat) }
+        ensures to { sent_to self.new seat ≡ sent_to self.old seat ++ answer ∷ [] }
+        ensures less { room_for self.old seat ≡ room_for self.new seat + 1 }
+    {
+        self.rings[usize::from(seat)].push_reserved(answer);
     }
 
     /// With both ends in one hand: how many answers were sent to the end and not taken. The next so many
