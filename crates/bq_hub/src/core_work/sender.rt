@@ -78,7 +78,8 @@ impl Sender {
         }
     }
 
-    // Sends an answer and rings the bell of its end, or keeps it behind the others. To nobody nothing is sent.
+    // Sends an answer and rings the bell of its end, or keeps it behind the others. To nobody nothing is sent. Whether
+    // it can be sent is asked before it is moved, so that it is moved once.
     fn send_or_keep(&mut self, intake: &Intake<NoTicks>, seat: Seat, answer: Answer)
         requires places { HasPlaces self.old }
         requires room { length self.old.kept.items < self.old.ends }
@@ -93,29 +94,31 @@ impl Sender {
         if usize::from(seat) >= self.ends {
             return;
         }
-        match self.send(seat, answer) {
-            Ok(()) => intake.wake(seat),
-            Err(back) => self.kept.push_back_reserved((seat, back)),
+        if self.can_send(seat) {
+            self.end.send_reserved(seat, answer);
+            intake.wake(seat);
+        } else {
+            self.kept.push_back_reserved((seat, answer));
         }
     }
 
-    // Sends an answer where none is kept for its end, or hands it back.
-    fn send(&mut self, seat: Seat, answer: Answer) -> Result<(), Answer>
+    // Whether an answer can be sent to this end: none is kept for it, and its ring has room.
+    fn can_send(&mut self, seat: Seat) -> bool
         requires places { HasPlaces self.old }
         requires within { seat < self.old.ends }
         requires stuck { AreStuck self.old.end self.old.kept.items }
-        ensures sent { OnOk result (AreSent self.old.end (self.old.kept.items ++ (seat, answer) ∷ []) self.new.end self.old.kept.items) }
-        ensures handed_back { IfErr result (λ back. back ≡ answer) }
-        ensures unsent { OnErr result (AreSent self.old.end [] self.new.end []) }
-        ensures room { OnOk result (AreStuck self.new.end self.old.kept.items) }
-        ensures full { OnErr result (AreStuck self.new.end (self.old.kept.items ++ (seat, answer) ∷ [])) }
-        ensures succeeds { answers_to seat self.old.kept.items ≡ [] → 0 < room_for self.old.end seat → IsOk result }
+        ensures unsent { AreSent self.old.end self.old.kept.items self.new.end self.old.kept.items }
+        ensures none { result ≡ true → answers_to seat self.old.kept.items ≡ [] }
+        ensures room { result ≡ true → 0 < room_for self.new.end seat }
+        ensures full { result ≡ false → room_for self.new.end seat ≡ 0 }
+        ensures stuck { AreStuck self.new.end self.old.kept.items }
+        ensures succeeds { answers_to seat self.old.kept.items ≡ [] → 0 < room_for self.old.end seat → result ≡ true }
         ensures rest { self.new ≡ record self.old { end = self.new.end } }
     {
         if self.has_kept(seat) {
-            return Err(answer);
+            return false;
         }
-        self.end.send(seat, answer)
+        self.end.has_room(seat)
     }
 
     // Whether an answer is kept for this end.
