@@ -443,6 +443,40 @@ def run_commands_at_once(bqd):
         client.asks(b"".join(b"delete %d\r\n" % it for it in ids), b"DELETED\r\n" * len(ids))
 
 
+def run_answers_before_a_wait(bqd):
+    """What was answered goes to the client before the server waits, for the rest of a put or for a job: with further
+    commands behind the reserve too, and sooner than the seat that waits looks again."""
+    with Server(bqd, "--seats", "1") as server:
+        client = server.client()
+        client.asks(b"list-tube-used\r\nput 0 9 9 1\r\n", b"USING default\r\n")
+        client.asks(b"x\r\n", b"INSERTED 1\r\n")
+        client.asks(b"use a\r\nreserve-with-timeout 1\r\nlist-tube-used\r\nuse", b"USING a\r\n")
+        client.hears_nothing(0.1)
+        client.asks(b" b\r\n", b"TIMED_OUT\r\nUSING a\r\nUSING b\r\n")
+        took = []
+        for _ in range(SOON_TRIES):
+            begun = time.monotonic()
+            client.asks(b"list-tube-used\r\nreserve-with-timeout 1\r\n", b"USING b\r\n")
+            took.append(time.monotonic() - begun)
+            client.hears(b"TIMED_OUT\r\n")
+        same(min(took) < LATE, True)
+
+
+def run_long_answers_at_once(bqd):
+    """Answers that are sent together are whole and in their order, however much they come to."""
+    drawn = random.Random(5)
+    sizes = [0, 1000, *range(16360, 16370), 40000, 65535]
+    with Server(bqd, "--seats", "1") as server:
+        client = server.client()
+        answers = []
+        for number, size in enumerate(sizes, 1):
+            body = bytes(at * 7 % 251 for at in range(size))
+            client.asks(b"put 0 0 9 %d\r\n" % size + body + b"\r\n", b"INSERTED %d\r\n" % number)
+            answers.append(b"FOUND %d %d\r\n" % (number, size) + body + b"\r\n")
+        peeked = [drawn.randrange(len(sizes)) for _ in range(300)]
+        client.asks(b"".join(b"peek %d\r\n" % (it + 1) for it in peeked), b"".join(answers[it] for it in peeked))
+
+
 def run_what_a_client_left(bqd):
     """What a client sent and nobody read is no part of what the next one sends."""
     with Server(bqd, "--seats", "1") as server:

@@ -102,7 +102,8 @@ fn turn<L: Line + Drop, D: Door<Line = L>, K: Link>(
     requires ready { K.is_ready link.old }
     ensures ready { K.is_ready link.new }
     ensures went { let at = door_seen D.is_out D.is_at_end D.lines_over in
-        GoesOn K.went link.old link.new L.seen (attendant machine.old place.old) (at door.old) (attendant machine.new place.new) (at door.new) }
+        GoesOn K.went link.old link.new L.seen (attendant machine.old place.old) (at door.old) (attendant machine.new place.new)
+        (at door.new) }
     ensures same { (first : D) → D.same first door.old → D.same first door.new }
 {
     match place {
@@ -149,7 +150,8 @@ fn open_line<L: Line + Drop, D: Door<Line = L>>(
 fn shut_line<L: Line + Drop, D: Door<Line = L>>(door: &mut D, line: L, end: LineEnd)
     requires { D.is_out door.old ≡ true }
     ensures went { let at = door_seen D.is_out D.is_at_end D.lines_over in (machine : SeatMachine)
-        → Tends L.seen (attendant machine (Place.On line (Action.LineOver end))) (at door.old) [] [] (attendant machine Place.Between) (at door.new) }
+        → Tends L.seen (attendant machine (Place.On line (Action.LineOver end))) (at door.old) [] []
+        (attendant machine Place.Between) (at door.new) }
     ensures same { (first : D) → D.same first door.old → D.same first door.new }
 {
     door.shut(line, end);
@@ -167,7 +169,8 @@ fn act<L: Line + Drop, K: Link>(
     requires ready { K.is_ready link.old }
     ensures ready { K.is_ready link.new }
     ensures went { (door : DoorSeen)
-        → GoesOn K.went link.old link.new L.seen (attendant machine.old (Place.On line.old action.old)) door (attendant machine.new (Place.On line.new action.new)) door }
+        → GoesOn K.went link.old link.new L.seen (attendant machine.old (Place.On line.old action.old)) door
+        (attendant machine.new (Place.On line.new action.new)) door }
 {
     carry_out(alloc, machine, action, line, link, room)
 }

@@ -35,7 +35,8 @@ pub fn carry_out<L: Line, K: Link>(
 ) -> bool
     requires ready { K.is_ready link.old }
     ensures ready { K.is_ready link.new }
-    ensures carried { (submitted : List Step) × (taken : List Answer) × HasGone K.went link.old action.old submitted taken link.new × Carried machine.old (L.seen line.old) action.old machine.new (L.seen line.new) action.new submitted taken }
+    ensures carried { (submitted : List Step) × (taken : List Answer) × HasGone K.went link.old action.old submitted taken link.new ×
+        Carried machine.old (L.seen line.old) action.old machine.new (L.seen line.new) action.new submitted taken }
 {
     match action {
         Action::Submit(step) => {
@@ -52,6 +53,8 @@ pub fn carry_out<L: Line, K: Link>(
                 machine.mail_in_place(action);
                 true
             } else {
+                // The answer may take long.
+                line.settle();
                 machine.on_in_place(alloc, Event::NothingYet, action);
                 false
             }
@@ -101,12 +104,13 @@ fn read<L: Line>(
     }
 }
 
-// The line is waited for only where no answer is outstanding.
+// The line is waited for only where no answer is outstanding. All answers so far go to the client before.
 fn read_line<L: Line>(machine: &SeatMachine, line: &mut L, room: &mut [u8]) -> io::Result<usize>
     requires { 0 < length room.old }
     ensures bound { ReadsAtMost result room.new }
     ensures seen { L.seen line.new ≡ after_read result room.new (L.seen line.old) }
 {
+    line.settle();
     if machine.has_outstanding() {
         line.read_now(room)
     } else {

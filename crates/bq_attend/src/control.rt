@@ -32,7 +32,8 @@ pub trait ControlLink {
         requires ready { is_ready self.old }
         ensures ready { is_ready self.new }
         ensures back { IfErr result (λ back. back ≡ step) }
-        ensures went { (first : Self) (before : List Step) → went first before self.old → SubmitsOn went first before step result self.new };
+        ensures went { (first : Self) (before : List Step) → went first before self.old →
+            SubmitsOn went first before step result self.new };
 }
 
 /// The first bytes of the line that is being read: enough to tell whether it says `drain`.
@@ -104,7 +105,8 @@ fn submit<R: Wait, K: ControlLink>(rt: &R, link: &mut K, step: Step)
 fn submit_drain_if<R: Wait, K: ControlLink>(rt: &R, link: &mut K, says_drain: bool)
     requires ready { K.is_ready link.old }
     ensures ready { K.is_ready link.new }
-    ensures went { (first : K) (before : List Step) → K.went first before link.old → K.went first (before ++ replicate (one_if says_drain) Step.Drain) link.new }
+    ensures went { (first : K) (before : List Step) → K.went first before link.old →
+        K.went first (before ++ replicate (one_if says_drain) Step.Drain) link.new }
 {
     if says_drain {
         submit(rt, link, Step::Drain);
@@ -118,7 +120,8 @@ fn submit_drains<R: Wait, I: ControlInput, K: ControlLink>(rt: &R, control: &mut
     ensures ready { K.is_ready link.new }
     ensures over { IsOver (I.seen control.new) }
     ensures read { IsReadToEnd (I.remaining control.old) (I.remaining control.new) (I.seen control.new).text (I.seen control.new).failed }
-    ensures went { (first : K) (before : List Step) → K.went first before link.old → K.went first (before ++ replicate (drains (I.seen control.new).text (I.seen control.new).failed) Step.Drain) link.new }
+    ensures went { (first : K) (before : List Step) → K.went first before link.old →
+        K.went first (before ++ replicate (drains (I.seen control.new).text (I.seen control.new).failed) Step.Drain) link.new }
 {
     let mut line = LineSoFar::new();
     for _ in rt.forever() {

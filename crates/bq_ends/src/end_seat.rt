@@ -41,8 +41,8 @@ pub struct EndSeat<'a, R> {
     rt: &'a R,
     intake: &'a Intake<NoTicks>,
     end: &'a mut SeatEnd,
-    // How often it looks for an answer before it rests: again and again once a step was submitted, since most are
-    // answered at once, but not after each rest of a seat whose reserve waits.
+    // How often it looks for an answer: again and again once a step was submitted, since most are answered at once. Where
+    // none came by then, what the line holds back goes out, and from then on each look rests first.
     looks: u32,
 }
 
@@ -164,8 +164,8 @@ fn answer_in(action: Action) -> Option<Answer>
     }
 }
 
-// Takes the oldest answer that came to an end, to be written. Where there is none yet the end looks so often, and then
-// it rests until its bell is rung.
+// Takes the oldest answer that came to an end, to be written. Where there is none yet the end looks so often. One that is
+// to look no more rests until its bell is rung, and looks once.
 fn mail_at<R: Wait>(
     rt: &R,
     intake: &Intake<NoTicks>,
@@ -176,13 +176,15 @@ fn mail_at<R: Wait>(
     ensures went { TakesInPlace EndWent end.old place.old result place.new end.new }
     ensures none { result ≡ false → (end.old.waiting ≡ []) × (end.new ≡ end.old) }
 {
-    for _ in 0..looks {
+    if looks == 0 {
+        end.wait(rt, intake, Duration::from_millis(LONGEST_REST));
+    }
+    for _ in 1..looks {
         if look(end, place) {
             return true;
         }
         thread::yield_now();
     }
-    end.wait(rt, intake, Duration::from_millis(LONGEST_REST));
     look(end, place)
 }
 

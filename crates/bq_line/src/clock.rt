@@ -22,7 +22,8 @@ pub trait Clock {
     /// A reading: a moment in milliseconds, or none where the clock can't be read. A moment below the one
     /// before is no error.
     fn now(&mut self) -> Option<Moment>
-        ensures { (first : Self) (readings : List (Option ℕ)) → given first readings self.old → given first (readings ++ result ∷ []) self.new };
+        ensures { (first : Self) (readings : List (Option ℕ)) → given first readings self.old →
+            given first (readings ++ result ∷ []) self.new };
 
     /// A run that reads this clock has something to tell. Nothing is told unless a clock says otherwise.
     fn tell(&self, _notice: Notice) {}

@@ -6,20 +6,26 @@ ghost use Rattle.bq_job.specs.promise.LineSteps.{LineSeen};
 ghost use Rattle.bq_line.specs.LineCalls.{after_flush, after_read, after_write, first_fault, is_nothing_yet};
 
 pub use buffered::Buffered;
+pub use buffers::Buffers;
 pub use byte_record::ByteRecord;
 pub use connection::Connection;
 pub use io_line::IoLine;
 pub use mem_line::{MemLine, Part};
 pub use read_buffer::{READ_ROOM, ReadBuffer};
 pub use read_now::ReadNow;
+pub use write_buffer::{WRITE_ROOM, WriteBuffer};
+pub use write_later::WriteLater;
 
 mod buffered;
+mod buffers;
 mod byte_record;
 mod connection;
 mod io_line;
 mod mem_line;
 mod read_buffer;
 mod read_now;
+mod write_buffer;
+mod write_later;
 
 use bq_job::LineFault;
 use std::io;
@@ -55,6 +61,19 @@ pub trait Line {
     /// Sends what is held back, if anything is. An error is a write fault.
     fn flush(&mut self) -> io::Result<()>
         ensures seen { seen self.new ≡ after_flush result (seen self.old) };
+
+    /// The same where more may be written soon: a line that holds back what is written may leave that to `settle`.
+    fn flush_later(&mut self) -> io::Result<()>
+        ensures seen { seen self.new ≡ after_flush result (seen self.old) }
+    {
+        self.flush()
+    }
+
+    /// Sends what `flush_later` left, before anything is waited for and before the line is given up. What can't be sent
+    /// stays held back, and a later write or flush meets the fault.
+    fn settle(&mut self)
+        ensures seen { seen self.new ≡ seen self.old }
+    {}
 }
 
 /// Whether an error of a read says only that there are no bytes yet.

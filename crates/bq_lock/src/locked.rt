@@ -97,7 +97,8 @@ impl Locked {
     /// there is no such seat.
     pub fn fetch(&mut self, seat: Seat) -> Option<Answer>
         ensures oldest { result ≡ slice_get (outbox_at seat self.old.outboxes) 0 }
-        ensures rest { self.new ≡ record self.old { outboxes = slice_set self.old.outboxes seat (drop 1 (outbox_at seat self.old.outboxes)) } }
+        ensures rest { self.new ≡ record self.old
+            { outboxes = slice_set self.old.outboxes seat (drop 1 (outbox_at seat self.old.outboxes)) } }
         ensures holds { IsLawfulHold self.new }
     {
         self.outboxes.fetch(seat)

@@ -60,7 +60,8 @@ pub fn run_locked<
     requires new { All (λ door. IsNewDoor (door_seen D.is_out D.is_at_end D.lines_over door)) doors.items }
     // Each door was served to its end: its lines' steps were submitted, and each line was written the answers
     // that were taken for it. What ties them to the steps of the core no clause tells.
-    ensures served { IfOk result (λ run. All (λ door. IsServedToEnd config.max_job_size (door_seen D.is_out D.is_at_end D.lines_over door)) run.doors.items) }
+    ensures served { IfOk result (λ run. All (λ door. IsServedToEnd config.max_job_size (door_seen D.is_out D.is_at_end D.lines_over door))
+        run.doors.items) }
     // They are the doors that were handed in, in their order.
     ensures same { IfOk result (λ run. AreSame D.same doors.items run.doors.items) }
     ensures many { IfOk result (λ run. vec_len run.doors ≡ config.seats) }
@@ -126,7 +127,8 @@ fn serve_in_scope<
 ) -> Result<Vec<D, Global>, RunFault>
     ensures fault { IsErrOf result RunFault.BadConfiguration → ⊥ }
     ensures many { IfOk result (λ doors. vec_len doors ≡ vec_len posts.all) }
-    ensures served { IfOk result (λ doors. All (λ door. IsServedToEnd posts.max_job_size (door_seen D.is_out D.is_at_end D.lines_over door)) doors.items) }
+    ensures served { IfOk result (λ doors. All
+        (λ door. IsServedToEnd posts.max_job_size (door_seen D.is_out D.is_at_end D.lines_over door)) doors.items) }
     ensures same { IfOk result (λ doors. AreSame D.same (reverse (map (λ post. post.door) posts.all.items)) doors.items) }
 {
     thread::scope(
@@ -135,7 +137,8 @@ fn serve_in_scope<
         move |scope| -> Result<Vec<D, Global>, RunFault>
             ensures fault { IsErrOf result RunFault.BadConfiguration → ⊥ }
             ensures many { IfOk result (λ doors. vec_len doors ≡ vec_len posts.all) }
-            ensures served { IfOk result (λ doors. All (λ door. IsServedToEnd posts.max_job_size (door_seen D.is_out D.is_at_end D.lines_over door)) doors.items) }
+            ensures served { IfOk result (λ doors. All
+                (λ door. IsServedToEnd posts.max_job_size (door_seen D.is_out D.is_at_end D.lines_over door)) doors.items) }
             ensures same { IfOk result (λ doors. AreSame D.same (reverse (map (λ post. post.door) posts.all.items)) doors.items) }
         {
             serve_all(
@@ -214,7 +217,8 @@ fn serve_all<
 ) -> Result<Vec<D, Global>, RunFault>
     ensures fault { IsErrOf result RunFault.BadConfiguration → ⊥ }
     ensures many { IfOk result (λ doors. vec_len doors ≡ vec_len posts.all) }
-    ensures served { IfOk result (λ doors. All (λ door. IsServedToEnd posts.max_job_size (door_seen D.is_out D.is_at_end D.lines_over door)) doors.items) }
+    ensures served { IfOk result (λ doors. All
+        (λ door. IsServedToEnd posts.max_job_size (door_seen D.is_out D.is_at_end D.lines_over door)) doors.items) }
     ensures same { IfOk result (λ doors. AreSame D.same (reverse (map (λ post. post.door) posts.all.items)) doors.items) }
 {
     let Posts { all, max_job_size } = posts;
@@ -246,6 +250,7 @@ fn serve_all<
         bells,
         seat: control_seat,
         at_hand: None,
+        rests: false,
     };
     submit_control(rt, &mut ControlLine::new(control), &mut link);
     join_all(rt, threads, doors, max_job_size)
@@ -304,7 +309,8 @@ fn join_all<R: Threads, D: Door + Drop + Send>(
     requires limits { All (λ thread. thread.promise.max_job_size ≡ max_job_size) threads.items }
     ensures fault { IsErrOf result RunFault.BadConfiguration → ⊥ }
     ensures many { IfOk result (λ all. vec_len all ≡ vec_len threads) }
-    ensures served { IfOk result (λ all. All (λ door. IsServedToEnd max_job_size (door_seen D.is_out D.is_at_end D.lines_over door)) all.items) }
+    ensures served { IfOk result (λ all. All (λ door. IsServedToEnd max_job_size (door_seen D.is_out D.is_at_end D.lines_over door))
+        all.items) }
     ensures same { IfOk result (λ all. AreSame D.same (map (λ thread. thread.promise.door.value) threads.items) all.items) }
 {
     for thread in threads {

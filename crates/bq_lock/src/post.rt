@@ -88,6 +88,7 @@ impl<L: Line + Drop, D: Door<Line = L> + Drop> Post<L, D> {
             bells,
             seat,
             at_hand: None,
+            rests: false,
         };
         let room: &mut Room = &mut [0; ROOM_BYTES];
         for _ in rt.forever() {

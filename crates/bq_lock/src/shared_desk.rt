@@ -5,6 +5,7 @@ use crate::bells::{Bells, Rings};
 use bq_attend::control::ControlLink;
 use bq_attend::link::Link;
 use bq_job::{Answer, Seat, Step};
+use std::mem;
 use std::sync::Wait;
 use std::time::Duration;
 
@@ -42,6 +43,8 @@ pub struct SharedSeat<'a, R, K> {
     pub seat: Seat,
     /// An answer that came with a step, and that the seat didn't ask for yet.
     pub at_hand: Option<Answer>,
+    /// Whether its last step wasn't answered by itself, and that was told: then a look for mail rests.
+    pub rests: bool,
 }
 
 impl<'a, R: Wait, K: SharedDesk> SharedSeat<'a, R, K> {
@@ -83,6 +86,7 @@ impl<'a, R: Wait, K: SharedDesk> Link for SharedSeat<'a, R, K> {
     ghost went = { λ first submitted taken last. Unit {0} };
 
     fn submit(&mut self, step: Step) -> Result<(), Step> {
+        self.rests = false;
         if self.at_hand.is_none() {
             self.serve(step);
         } else {
@@ -91,12 +95,16 @@ impl<'a, R: Wait, K: SharedDesk> Link for SharedSeat<'a, R, K> {
         Ok(())
     }
 
-    // Where there is no answer the seat rests, and looks again whenever its bell was rung or the core is due.
+    // The first look behind a step that has no answer yet says so at once, so that what the line holds back can go out.
+    // From then on, where there is no answer the seat rests, and looks again whenever its bell was rung or the core is due.
     // A bell may have been rung for an answer that was found before, so one ring isn't the end of the rest: a
     // line that is read meanwhile keeps its seat from the next answer for as long as the read waits.
     fn mail(&mut self) -> Option<Answer> {
         if let Some(answer) = self.at_hand.take() {
             return Some(answer);
+        }
+        if !mem::replace(&mut self.rests, true) {
+            return None;
         }
         let mut left = LONGEST_REST;
         while left > 0 {

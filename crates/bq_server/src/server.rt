@@ -8,7 +8,7 @@ ghost use Rattle.bq_run.specs.Sessions.{IsRunOf};
 use crate::telling_clock::TellingClock;
 use bq_core::Config;
 use bq_job::NoMemory;
-use bq_line::line::ReadBuffer;
+use bq_line::line::Buffers;
 use bq_line::{Door, Refusals, TcpDoor, clock};
 use bq_options::BqdOptions;
 use bq_program::{Fault, Options, tell_server};
@@ -177,13 +177,13 @@ fn new_door<'l, R: Clock + Eprint>(
     rt: &'l R,
     listener: &'l TcpListener,
     sessions: Option<u32>,
-    buffer: ReadBuffer,
+    buffers: Buffers,
     refusals: &'l Refusals,
 ) -> TcpDoor<'l, R>
     ensures { IsNewDoor (door_seen ⟦<TcpDoor<'l, R> as Door>⟧.is_out ⟦<TcpDoor<'l, R> as Door>⟧.is_at_end
         ⟦<TcpDoor<'l, R> as Door>⟧.lines_over result) }
 {
-    TcpDoor::new(rt, listener, sessions, buffer).telling(refusals)
+    TcpDoor::new(rt, listener, sessions, buffers).telling(refusals)
 }
 
 // A door for each seat, all at one listener.
@@ -201,10 +201,10 @@ fn new_doors<'l, R: Clock + Eprint>(
         return Err(NoMemory);
     };
     for _ in 0..options.seats {
-        let Ok(buffer) = ReadBuffer::new(alloc) else {
+        let Ok(buffers) = Buffers::new(alloc) else {
             return Err(NoMemory);
         };
-        let door = new_door(rt, listener, options.sessions, buffer, refusals);
+        let door = new_door(rt, listener, options.sessions, buffers, refusals);
         let Ok(()) = doors.push(door) else {
             return Err(NoMemory);
         };

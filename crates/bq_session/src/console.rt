@@ -1,7 +1,7 @@
 //! An input and an output as one stream.
 ghost use Rattle.std.specs.Prelude.{◌≡◌};
 
-use bq_line::line::ReadNow;
+use bq_line::line::{ReadNow, WriteLater};
 use std::io;
 use std::io::{Read, Write};
 
@@ -53,3 +53,5 @@ impl<I, O: Write> Write for Console<I, O> {
         self.output.flush()
     }
 }
+
+impl<I, O: Write> WriteLater for Console<I, O> {}

@@ -7,12 +7,11 @@ use bq_core::Config;
 use bq_desk::run_one;
 use bq_job::LineEnd;
 use bq_line::clock::{Clock, MachineClock, ScriptClock};
-use bq_line::line::{IoLine, Line, ReadNow};
+use bq_line::line::{IoLine, Line, ReadNow, WriteLater};
 use bq_options::{BqOptions, bq_options};
 use bq_program::{Fault, Stop};
 use std::alloc::{AllocError, Global};
 use std::convert::AsStr;
-use std::io::Write;
 use std::rt;
 use std::sync::Wait;
 
@@ -25,7 +24,7 @@ pub struct Served<S> {
 
 /// Serves the client at the other end of the stream, as the words choose. The first word is the program's
 /// name.
-pub fn serve_client<'a, R: Wait, W: AsStr, S: ReadNow + Write + Drop, K: rt::Clock + Drop>(
+pub fn serve_client<'a, R: Wait, W: AsStr, S: ReadNow + WriteLater + Drop, K: rt::Clock + Drop>(
     rt: &R,
     alloc: Global,
     words: &'a [W],
@@ -42,7 +41,7 @@ pub fn serve_client<'a, R: Wait, W: AsStr, S: ReadNow + Write + Drop, K: rt::Clo
 }
 
 // Serves the client by these options.
-fn serve_chosen<R: Wait, S: ReadNow + Write + Drop, K: rt::Clock + Drop>(
+fn serve_chosen<R: Wait, S: ReadNow + WriteLater + Drop, K: rt::Clock + Drop>(
     rt: &R,
     alloc: Global,
     options: &BqOptions,
@@ -64,7 +63,7 @@ fn serve_chosen<R: Wait, S: ReadNow + Write + Drop, K: rt::Clock + Drop>(
 
 // Serves the client by this clock: the line lies over the stream, and what is promised of it is what
 // `run_one` promises.
-fn serve_by<R: Wait, S: ReadNow + Write + Drop, C: Clock + Drop>(
+fn serve_by<R: Wait, S: ReadNow + WriteLater + Drop, C: Clock + Drop>(
     rt: &R,
     alloc: Global,
     options: &BqOptions,

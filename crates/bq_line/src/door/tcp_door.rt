@@ -6,7 +6,7 @@ use super::accept::accept;
 use super::line_record::LineRecord;
 use super::refusals::Refusals;
 use super::{Door, DoorFault};
-use crate::line::{Buffered, Connection, IoLine, Line, ReadBuffer};
+use crate::line::{Buffered, Buffers, Connection, IoLine, Line};
 use bq_job::LineEnd;
 use std::io::Eprint;
 use std::net::TcpListener;
@@ -22,24 +22,24 @@ pub struct TcpDoor<'l, R> {
     refusals: Option<&'l Refusals>,
     // How many connections still come. None: they come without end.
     left: Option<u32>,
-    // What the next connection is read through. It goes out with a connection, and comes back with it.
-    buffer: Option<ReadBuffer>,
+    // What the next connection is read and written through. They go out with a connection, and come back with it.
+    buffers: Option<Buffers>,
     is_out: bool,
     is_at_end: bool,
     met_fault: bool,
     // For proofs alone.
     over: LineRecord,
-    ghost lent: { is_out ≡ false → IsSome buffer },
+    ghost lent: { is_out ≡ false → IsSome buffers },
 }
 
 impl<'l, R: Clock + Eprint> TcpDoor<'l, R> {
     /// A door at which so many connections of the listener come, or with None connections without end. They are
-    /// read through this buffer, one after another.
+    /// read and written through these buffers, one after another.
     pub fn new(
         rt: &'l R,
         listener: &'l TcpListener,
         sessions: Option<u32>,
-        buffer: ReadBuffer,
+        buffers: Buffers,
     ) -> TcpDoor<'l, R>
         ensures inside { ⟦<TcpDoor<'l, R> as Door>⟧.is_out result ≡ false }
         ensures more { ⟦<TcpDoor<'l, R> as Door>⟧.is_at_end result ≡ false }
@@ -53,7 +53,7 @@ impl<'l, R: Clock + Eprint> TcpDoor<'l, R> {
             listener,
             refusals: None,
             left: sessions,
-            buffer: Some(buffer),
+            buffers: Some(buffers),
             is_out: false,
             is_at_end: false,
             met_fault: false,
@@ -82,8 +82,8 @@ impl<'l, R: Clock + Eprint> TcpDoor<'l, R> {
         self.met_fault
     }
 
-    // A connection goes out, which is counted, and the buffer with it.
-    fn lend(&mut self) -> ReadBuffer
+    // A connection goes out, which is counted, and the buffers with it.
+    fn lend(&mut self) -> Buffers
         requires more { self.old.left ≡ Some 0 → ⊥ }
         requires inside { self.old.is_out ≡ false }
         ensures out { self.new.is_out ≡ true }
@@ -97,10 +97,10 @@ impl<'l, R: Clock + Eprint> TcpDoor<'l, R> {
         if let Some(left) = self.left {
             self.left = Some(left - 1);
         }
-        let Some(buffer) = self.buffer.take() else {
+        let Some(buffers) = self.buffers.take() else {
             unreachable!()
         };
-        buffer
+        buffers
     }
 }
 
@@ -116,7 +116,8 @@ impl<'l, R: Clock + Eprint> Door for TcpDoor<'l, R> {
     ghost lines_over = { λ door. door.over };
 
     // It has the same listener, and as many connections come at it in all.
-    ghost same = { λ first last. (last.listener ≡ first.listener) × (in_all last.left last.is_out last.over ≡ in_all first.left first.is_out first.over) };
+    ghost same = { λ first last. (last.listener ≡ first.listener) ×
+        (in_all last.left last.is_out last.over ≡ in_all first.left first.is_out first.over) };
 
     ghost same_self = { λ door. (refl, refl) };
 
@@ -139,8 +140,8 @@ impl<'l, R: Clock + Eprint> Door for TcpDoor<'l, R> {
         }
         match accept(self.rt, self.listener, self.refusals) {
             Ok(stream) => {
-                let buffer = self.lend();
-                Ok(Some(IoLine::new(Buffered::new(stream, buffer))))
+                let buffers = self.lend();
+                Ok(Some(IoLine::new(Buffered::new(stream, buffers))))
             }
             Err(_) => {
                 self.is_at_end = true;
@@ -150,10 +151,12 @@ impl<'l, R: Clock + Eprint> Door for TcpDoor<'l, R> {
         }
     }
 
-    // The connection is closed where its stream is dropped, and the buffer is kept for the next one.
-    fn shut(&mut self, line: IoLine<Buffered<Connection>>, end: LineEnd) {
+    // What is held back is sent first. The connection is closed where its stream is dropped, and the buffers are kept
+    // for the next one.
+    fn shut(&mut self, mut line: IoLine<Buffered<Connection>>, end: LineEnd) {
+        line.settle();
         self.is_out = false;
         self.over.note(&line, end);
-        self.buffer = Some(line.into_stream().into_buffer());
+        self.buffers = Some(line.into_stream().into_buffers());
     }
 }

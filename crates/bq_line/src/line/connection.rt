@@ -58,7 +58,6 @@ impl Write for Connection {
     }
 
     fn flush(&mut self) -> io::Result<()> {
-        self.set_waits(true)?;
         self.stream.flush()
     }
 }

@@ -70,15 +70,25 @@ impl MemLine {
 }
 
 impl Line for MemLine {
-    ghost seen = { λ line. record { read = bytes_up_to line.parts.items line.place line.offset; written = line.written.items; ended = line.ended; fault = line.fault } };
+    ghost seen = { λ line. record {
+      read = bytes_up_to line.parts.items line.place line.offset;
+      written = line.written.items;
+      ended = line.ended;
+      fault = line.fault;
+    } };
 
     fn read(&mut self, buf: &mut [u8]) -> io::Result<usize>
         requires { 0 < length buf.old }
         ensures bound { ReadsAtMost result buf.new }
         ensures seen { ⟦<MemLine as Line>⟧.seen self.new ≡ after_read result buf.new (⟦<MemLine as Line>⟧.seen self.old) }
         // The first part that isn't over answers, and no other is passed.
-        ensures answered { IsAnsweredBy (slice_get self.old.parts.items (open_place self.old.parts.items self.old.place self.old.offset (vec_len self.old.written))) result }
-        ensures place { self.new.place ≡ place_after (slice_get self.old.parts.items (open_place self.old.parts.items self.old.place self.old.offset (vec_len self.old.written))) (open_place self.old.parts.items self.old.place self.old.offset (vec_len self.old.written)) }
+        ensures answered { IsAnsweredBy
+            (slice_get self.old.parts.items (open_place self.old.parts.items self.old.place self.old.offset (vec_len self.old.written)))
+            result }
+        ensures place { self.new.place
+            ≡ place_after (slice_get self.old.parts.items
+            (open_place self.old.parts.items self.old.place self.old.offset (vec_len self.old.written)))
+            (open_place self.old.parts.items self.old.place self.old.offset (vec_len self.old.written)) }
         ensures parts { self.new.parts ≡ self.old.parts }
         ensures room { self.new.room ≡ self.old.room }
     {
@@ -111,8 +121,13 @@ impl Line for MemLine {
         ensures bound { ReadsAtMost result buf.new }
         ensures seen { ⟦<MemLine as Line>⟧.seen self.new ≡ after_read result buf.new (⟦<MemLine as Line>⟧.seen self.old) }
         // The first part that isn't over answers, and no other is passed.
-        ensures answered { IsAnsweredBy (slice_get self.old.parts.items (open_place self.old.parts.items self.old.place self.old.offset (vec_len self.old.written))) result }
-        ensures place { self.new.place ≡ place_after (slice_get self.old.parts.items (open_place self.old.parts.items self.old.place self.old.offset (vec_len self.old.written))) (open_place self.old.parts.items self.old.place self.old.offset (vec_len self.old.written)) }
+        ensures answered { IsAnsweredBy
+            (slice_get self.old.parts.items (open_place self.old.parts.items self.old.place self.old.offset (vec_len self.old.written)))
+            result }
+        ensures place { self.new.place
+            ≡ place_after (slice_get self.old.parts.items
+            (open_place self.old.parts.items self.old.place self.old.offset (vec_len self.old.written)))
+            (open_place self.old.parts.items self.old.place self.old.offset (vec_len self.old.written)) }
         ensures parts { self.new.parts ≡ self.old.parts }
         ensures room { self.new.room ≡ self.old.room }
     {

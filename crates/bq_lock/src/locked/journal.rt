@@ -66,7 +66,8 @@ impl Journal {
     )
         requires room { IsSome copy → length self.old.entries < self.old.room }
         ensures without { IsNone copy → self.new ≡ without_entry self.old }
-        ensures added { IfSome copy (λ step. self.new ≡ with_entry (record { moment = at; seat = seat; step = step; left_out = left_out }) unshared self.old) }
+        ensures added { IfSome copy (λ step. self.new
+            ≡ with_entry (record { moment = at; seat = seat; step = step; left_out = left_out }) unshared self.old) }
     {
         let Some(step) = copy else {
             self.whole = false;

@@ -1,7 +1,7 @@
 //! A client that waits for others.
 
 use super::awaited::Meeting;
-use bq_serve::line::ReadNow;
+use bq_serve::line::{ReadNow, WriteLater};
 use std::alloc::Global;
 use std::io;
 use std::io::{ErrorKind, Read, Write};
@@ -76,3 +76,5 @@ impl<'m> Write for Guest<'m> {
         Ok(())
     }
 }
+
+impl<'m> WriteLater for Guest<'m> {}

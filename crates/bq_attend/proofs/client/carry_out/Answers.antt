@@ -32,7 +32,7 @@ returns-then-mail_in_place-clause-carried g c =
 pub returns-else-mail_in_place-clause-carried : goal.returns-else-mail_in_place-clause-carried
 returns-else-mail_in_place-clause-carried g c =
     let none = rw c.if-mail_in_place.false at c.mail_in_place.ensures.went in
-    comes_by g.K.Link.went _ _ _ _ _ _ _ _ actions.PollMail c.in-PollMail.is [] [] none.1 (refl, refl, inl (refl, c.on_in_place-else-mail_in_place.ensures))
+    comes_by g.K.Link.went _ _ _ _ _ _ _ _ actions.PollMail c.in-PollMail.is [] [] none.1 (c.settle.ensures.seen, refl, inl (refl, c.on_in_place-else-mail_in_place.ensures))
 
 pub returns-in-LineOver-clause-carried : goal.returns-in-LineOver-clause-carried
 returns-in-LineOver-clause-carried g c =
