@@ -1,8 +1,8 @@
 -- Which job is handed out next, found tube by tube.
-use Rattle.std.proofs.Common.{◌≡◌, ℕ, Bool, true, false, ◌||◌, ◌&&◌, not, List, [], ◌∷◌, Option, Some, None, refl, sym, ap, ◌∙◌, arith, inl, inr, if◌then◌else◌}
-use Rattle.std.specs.Prelude.{fold, option_map}
-use Rattle.std.specs.List.{Contains, list_any}
-use Rattle.std.proofs.lemmas.Bool.{cases_Bool, or_cases, or_left, or_right}
+use Rattle.std.proofs.Common.{◌≡◌, ℕ, Bool, true, false, ◌==◌, ◌||◌, ◌&&◌, not, List, [], ◌∷◌, Option, Some, None, refl, sym, ap, ◌∙◌, arith, inl, inr, if◌then◌else◌}
+use Rattle.std.specs.Prelude.{fold, is_some, option_map}
+use Rattle.std.specs.List.{AllByRecursion as All, Contains, list_any}
+use Rattle.std.proofs.lemmas.Bool.{cases_Bool, eqb-true, or_cases, or_left, or_right}
 use Rattle.std.proofs.lemmas.Bool.Decides.{nat_tests}
 use Rattle.bq_job.specs.declared.job.Job.{Job}
 use Rattle.bq_job.specs.machine.Changes.{first_of, is_ready, is_waiting, job_with}
@@ -12,10 +12,13 @@ use Rattle.bq_job.specs.machine.Machine.{Machine, SeatRecord, TubeRecord}
 use Rattle.bq_job.specs.machine.TubeCommands.{is_ready_in}
 use Rattle.bq_job.specs.reading.TubeName.{is_same_name}
 use Rattle.bq_job.specs.machine.Tubes.{is_paused}
-use Rattle.bq_job.proofs.ChoiceLemmas.{first_of_agrees, first_of_contains, first_of_is, first_of_is_least, first_of_none, first_of_none_passes, first_of_passes, pair_order}
+use Rattle.bq_job.proofs.ChoiceLemmas.{first_of_agrees, first_of_contains, first_of_is, first_of_is_least, first_of_is_some, first_of_none, first_of_none_passes, first_of_passes, first_of_some, pair_order}
+use Rattle.bq_job.proofs.ComputedLemmas.{next_has_seat}
 use Rattle.bq_job.proofs.ListLemmas.{all_always, all_at, all_weaker, list_any_not, none_pass}
 use Rattle.bq_jobs.specs.Kept.{ranked}
 use Rattle.bq_core.specs.Offers.{better_rank, is_paused_among, offered, waits_at, with_offer, with_offers}
+use Rattle.bq_core.specs.Stirs.{AreKnown, IsKnown, may_get}
+use Rattle.bq_core.specs.declared.stir.Stir.{Stir}
 use Rattle.bq_core.proofs.FiringLemmas.{chosen}
 use Rattle.bq_core.proofs.KickLemmas.{finds_each}
 use Rattle.bq_core.proofs.TubeLemmas.{same_itself, same_name}
@@ -185,12 +188,12 @@ pub id_of_best : (o : Option Job) → option_map (λ (r : ℕ × ℕ). r.1) (opt
 id_of_best None = refl
 id_of_best (Some j) = refl
 
--- who gets the next job waits at its tube, and has waited longest of those
-pub seat_at_tube : (m : Machine) (j : Job) → next_job m ≡ Some j → first_of (waits_at j.tube) is_wait_before m.seats ≡ next_seat m j
-seat_at_tube m j e =
+-- who waits at the tube of the next job waits for that job
+pub waits_alike : (m : Machine) (j : Job) → next_job m ≡ Some j → (s : SeatRecord) → waits_at j.tube s ≡ is_waiting_for m j s
+waits_alike m j e s =
     let wanted = first_of_passes (λ j. list_any (is_waiting_for m j) m.seats) is_job_before m.jobs j e in
     let free = may_go m.seats wanted in
-    first_of_agrees (waits_at j.tube) (is_waiting_for m j) is_wait_before m.seats (all_always (λ s. waits_at j.tube s ≡ is_waiting_for m j s) m.seats (λ s. rw (free.0, free.1) (bools (is_waiting s) (list_any (is_same_name j.tube) s.watched))))
+    rw (free.0, free.1) (bools (is_waiting s) (list_any (is_same_name j.tube) s.watched))
   where
     bools : (w n : Bool) → (w && n) ≡ (w && ((true && n) && not false))
     bools true true = refl
@@ -210,6 +213,32 @@ seat_at_tube m j e =
       | inl here ↦ parts (is_waiting s) (is_ready j) (list_any (is_same_name j.tube) s.watched) (is_paused j.tube m) here
       | inr more ↦ may_go seats more
     ]
+
+-- who gets the next job waits at its tube, and has waited longest of those
+pub seat_at_tube : (m : Machine) (j : Job) → next_job m ≡ Some j → first_of (waits_at j.tube) is_wait_before m.seats ≡ next_seat m j
+seat_at_tube m j e =
+    first_of_agrees (waits_at j.tube) (is_waiting_for m j) is_wait_before m.seats (all_always (λ s. waits_at j.tube s ≡ is_waiting_for m j s) m.seats (waits_alike m j e))
+
+-- there is one
+pub some_at_tube : (m : Machine) (j : Job) → next_job m ≡ Some j → list_any (waits_at j.tube) m.seats ≡ true
+some_at_tube m j e =
+    let seat = next_has_seat m j e in
+    sym (first_of_is_some (waits_at j.tube) is_wait_before m.seats) ∙ ap is_some (seat_at_tube m j e ∙ seat.1)
+
+-- and it is known to be one that may have it
+pub takers_known : (m : Machine) (stir : Stir) (j : Job) → next_job m ≡ Some j → AreKnown stir m.jobs m.seats m.tubes → All (λ s. waits_at j.tube s ≡ true → may_get stir j.tube s.number ≡ true) m.seats
+takers_known m stir j e known =
+    all_weaker (IsKnown stir m.tubes j) (λ s. waits_at j.tube s ≡ true → may_get stir j.tube s.number ≡ true) m.seats
+    (λ s k waits. k (sym (waits_alike m j e s) ∙ waits))
+    (all_at (λ k. All (IsKnown stir m.tubes k) m.seats) m.jobs j known (first_of_contains (λ j. list_any (is_waiting_for m j) m.seats) is_job_before m.jobs j e))
+
+-- where one client alone may wait at the tube, it is the first that does
+pub only_taker : (asker : ℕ) (tube : List ℕ) (seats : List SeatRecord) → list_any (waits_at tube) seats ≡ true → All (λ s. waits_at tube s ≡ true → (s.number == asker) ≡ true) seats
+    → Some asker ≡ option_map (λ (s : SeatRecord). s.number) (first_of (waits_at tube) is_wait_before seats)
+only_taker asker tube seats some known =
+    let s = first_of_some (waits_at tube) is_wait_before seats some in
+    let at = all_at (λ t. waits_at tube t ≡ true → (t.number == asker) ≡ true) seats s.0 known (first_of_contains (waits_at tube) is_wait_before seats s.0 s.1) (first_of_passes (waits_at tube) is_wait_before seats s.0 s.1) in
+    ap Some (sym (eqb-true s.0.number asker at)) ∙ sym (ap (option_map (λ (t : SeatRecord). t.number)) s.1)
 
 -- the job of this id is the next one
 pub next_is : (m : Machine) (id : ℕ) (x : Job) → AreIdsWithin 1 m.jobs m.next_id → Some id ≡ option_map (λ j. j.id) (next_job m) → job_with id m.jobs ≡ Some x → next_job m ≡ Some x

@@ -16,7 +16,7 @@ use Rattle.bq_job.specs.machine.TubeCommands.{watching}
 use Rattle.bq_job.specs.machine.Limits.{raised}
 use Rattle.bq_job.specs.machine.Tubes.{fresh_tube, is_seated_at, watches, with_record}
 use Rattle.bq_job.proofs.ListLemmas.{all_at, all_from_members, all_weaker, found_passes, list_any_with}
-use Rattle.bq_jobs.specs.Kept.{with_added}
+use Rattle.bq_jobs.specs.Kept.{Kept, with_added}
 use Rattle.bq_core.specs.declared.state.State.{State}
 use Rattle.bq_core.specs.declared.job_list.JobChange.{JobChange}
 use Rattle.bq_core.specs.declared.job_list.JobChange.TheVariants.{FireTimers, HandOut, GiveBack, Release, Bury, Touch, Kick}
@@ -25,7 +25,7 @@ use Rattle.bq_core.specs.declared.seat_list.SeatChange.TheVariants.{StopWaiting,
 use Rattle.bq_core.specs.declared.tube_entry.TubeChange.{TubeChange}
 use Rattle.bq_core.specs.declared.tube_entry.TubeChange.TheVariants.{CountPut, CountDelete, Pause}
 use Rattle.bq_core.specs.JobChanges.{changed}
-use Rattle.bq_core.specs.State.{IsSound, OnlyCompares}
+use Rattle.bq_core.specs.Soundness.{Soundness}
 use Rattle.bq_core.specs.SeatChanges.{AreNumbered, has_tube_of, seat_changed, seat_changed_at}
 use Rattle.bq_core.specs.TubeEntries.{AreEntries, AreInOrder, HasTubes, IsFreshUnlessCounted, counted, has_entry, is_counted, is_tube_of, provided, tube_changed, tube_changed_at}
 use Rattle.bq_core.proofs.TubeLemmas.{counted_inserted, entry_filtered, fresh_inserted, has_inserted, order_filtered, order_inserted, order_kept, same_entries, same_itself, same_name, still_has}
@@ -135,11 +135,11 @@ no_job_changed id f (k ∷ jobs) h = elim (cases_Bool (k.id == id)) [
   | inr other ↦ let rest : job_with id jobs ≡ None = rw other at h in rw other (ap (λ ks. k ∷ ks) (no_job_changed id f jobs rest))
 ]
 
--- comparisons change nothing else
-pub compared_sound : (old new : State) → OnlyCompares old new → IsSound old → IsSound new
-compared_sound old new same s =
-    let was : IsSound (record old { jobs = record old.jobs { comparisons = new.jobs.comparisons } }) = record { entries = s.entries; numbered = s.numbered; next = s.next; ids = s.ids; counts = s.counts; clients = s.clients; crowds = s.crowds; alive = s.alive; stirs = s.stirs; warnings = s.warnings; timeouts = s.timeouts; queue = s.queue; pauses = s.pauses } in
-    subst IsSound (sym same) was
+-- Where jobs were only looked at, the state is still sound.
+pub compared_sound : (st : State) (jobs : Kept) → jobs ≡ record st.jobs { comparisons = jobs.comparisons }
+    → Soundness jobs.jobs st.seats.items st.tubes st.tally st.clients st.loss st.stir st.warns st.first_end st.queue st.pause_end st.next_id st.draining
+compared_sound st jobs same =
+    subst (λ (k : Kept). Soundness k.jobs st.seats.items st.tubes st.tally st.clients st.loss st.stir st.warns st.first_end st.queue st.pause_end st.next_id st.draining) (sym same) st.sound
 
 -- a change of a seat leaves it at tubes with entries
 seat_has : (entries : List TubeRecord) → has_entry default_tube entries ≡ true → (what : SeatChange) → has_tube_of what entries ≡ true → (s : SeatRecord) → HasTubes entries s → HasTubes entries (seat_changed what s)

@@ -18,7 +18,7 @@ use Rattle.bq_job.proofs.ListLemmas.{all_always, all_at, all_from_members, all_o
 use Rattle.bq_core.specs.declared.state.State.{State}
 use Rattle.bq_core.specs.EndingWaits.{AreLookedAt, is_after, left_after, told_at_end, turn_of, waits_after}
 use Rattle.bq_core.specs.Outbox.{Outbox}
-use Rattle.bq_core.specs.State.{IsSound, machine_of}
+use Rattle.bq_core.specs.State.{machine_of}
 use Rattle.bq_core.specs.Turns.{Gives, none_refused}
 use Rattle.bq_core.specs.WaitEnds.{LooksAt}
 use Rattle.bq_core.proofs.StateLemmas.{seat_read}
@@ -125,7 +125,7 @@ map_self [] = refl
 map_self (x ∷ xs) = ap (λ ys. x ∷ ys) (map_self xs)
 
 -- the next one that is looked at
-module _ (st : State) (sound : IsSound st) (last : Option (ℕ × ℕ)) (looked : AreLookedAt (machine_of st) last) (k : ℕ) (there : k < length st.seats.items) (found : slice_get st.seats.items k ≡ first_of (waits_after last) is_wait_before st.seats.items) where
+module _ (st : State) (last : Option (ℕ × ℕ)) (looked : AreLookedAt (machine_of st) last) (k : ℕ) (there : k < length st.seats.items) (found : slice_get st.seats.items k ≡ first_of (waits_after last) is_wait_before st.seats.items) where
   pub s : SeatRecord
   s = (some_at st.seats.items k there).0
 
@@ -146,10 +146,10 @@ module _ (st : State) (sound : IsSound st) (last : Option (ℕ × ℕ)) (looked 
   one_waits = omega (arith, waiting_falls (machine_of st) s member passes.0)
 
   number_is : s.number ≡ k
-  number_is = eqb-true s.number k ((found_passes (λ t. t.number == k) st.seats.items s (seat_read st.seats.items k s sound.numbered here)).0)
+  number_is = eqb-true s.number k ((found_passes (λ t. t.number == k) st.seats.items s (seat_read st.seats.items k s st.sound.numbered here)).0)
 
   only : All (λ t. t.number ≡ k → t ≡ s) st.seats.items
-  only = only_seat 0 (length st.seats.items) k st.seats.items s sound.numbered (seat_read st.seats.items k s sound.numbered here)
+  only = only_seat 0 (length st.seats.items) k st.seats.items s st.sound.numbered (seat_read st.seats.items k s st.sound.numbered here)
 
   -- whose wait ends now is still to be looked at
   is_left : (t : SeatRecord) → Contains st.seats.items t → ends_waiting (machine_of st) t ≡ true → waits_after last t ≡ true

@@ -30,6 +30,7 @@ pub mod Replying
 pub mod SeatChanges
 pub mod SeatView
 pub mod Serving
+pub mod Soundness
 pub mod State
 pub mod Stirs
 pub mod Tallies

@@ -7,17 +7,11 @@ use Rattle.bq_job.specs.machine.JobCommands.{reserve_effect}
 use Rattle.bq_job.specs.machine.Machine.{Machine, SeatRecord}
 use Rattle.bq_job.specs.machine.TubeCommands.{watching}
 use Rattle.bq_core.specs.Acting.{Replies}
-use Rattle.bq_core.specs.Asking.{AsksAsChanged}
 use Rattle.bq_core.specs.JobKinds.{first_of_kind}
-use Rattle.bq_core.specs.State.{IsSound, machine_of}
+use Rattle.bq_core.specs.State.{machine_of}
 use Rattle.bq_core.specs.declared.job_list.JobKind.{JobKind}
 use Rattle.bq_core.specs.declared.reply.Reply.{Reply}
 use Rattle.bq_core.specs.declared.state.State.{State}
-
--- A command was carried out, within the searches that its changes of jobs may take.
-pub record IsCarriedOut (old new : State) : Type 0 where
-  pub asks : AsksAsChanged old.jobs new.jobs
-  pub sound : IsSound new
 
 -- a request came to this reply
 abbrev pub RepliesBy : Bool → (Machine → Effect) → State → Reply → Answer → State → Type 0

@@ -3,10 +3,10 @@ ghost use Rattle.bq_job.specs.declared.step.Step.TheVariants as steps;
 ghost use Rattle.bq_job.specs.machine.Asked.{asked, effect, refusal_answer as answer_of_refusal};
 ghost use Rattle.bq_job.specs.machine.Changes.{seat_with};
 ghost use Rattle.bq_job.specs.machine.Steps.{step_takes_memory, takes_memory};
+ghost use Rattle.bq_core.specs.Asking.{AsksAsChanged};
 ghost use Rattle.bq_core.specs.Acting.{Acts, is_asking};
-ghost use Rattle.bq_core.specs.Replying.{IsCarriedOut, RepliesAt, RepliesBy};
-ghost use Rattle.bq_core.specs.Keeping.{LeavesJobs};
-ghost use Rattle.bq_core.specs.State.{machine_of, IsSound};
+ghost use Rattle.bq_core.specs.Replying.{RepliesAt, RepliesBy};
+ghost use Rattle.bq_core.specs.State.{machine_of};
 ghost use Rattle.bq_core.specs.Turns.{HasRoom};
 
 use crate::job_acts::{NewJob, NewTurn};
@@ -15,43 +15,40 @@ use crate::outs::Outs;
 use crate::reply::Reply;
 use crate::seat_list::SeatChange;
 use crate::state::State;
-use crate::{job_acts, kicks, leases, state, statistics_acts, tube_acts};
+use crate::{changes, job_acts, kicks, leases, statistics_acts, tube_acts};
 use bq_job::{Answer, Refusal, Request, Seat, Step};
 use std::alloc::Global;
 
 fn connect(state: &mut State, seat: Seat)
-    requires { IsSound state.old }
     ensures after { machine_of state.new ≡ (effect (machine_of state.old) seat steps.Connect).machine }
-    ensures kept { LeavesJobs state.old state.new }
+    ensures jobs { state.new.jobs ≡ state.old.jobs }
 {
     if state.is_free(seat) {
-        state::change_seat(state, seat, &SeatChange::Connect);
+        changes::change_seat(state, seat, &SeatChange::Connect);
         state.connections = state.connections.saturating_add(1);
     }
 }
 
 fn end(state: &mut State, seat: Seat)
-    requires { IsSound state.old }
     ensures after { machine_of state.new ≡ (effect (machine_of state.old) seat steps.End).machine }
-    ensures kept { LeavesJobs state.old state.new }
+    ensures jobs { state.new.jobs ≡ state.old.jobs }
 {
     if state.is_connected(seat) {
-        state::change_seat(state, seat, &SeatChange::End);
+        changes::change_seat(state, seat, &SeatChange::End);
     }
 }
 
 // The jobs that the client holds become ready or delayed, and the seat is free.
 fn close(state: &mut State, seat: Seat) -> Option<Answer>
-    requires { IsSound state.old }
     ensures reply { effect (machine_of state.old) seat steps.Close ≡ record { machine = machine_of state.new; answer = result } }
-    ensures kept { IsCarriedOut state.old state.new }
+    ensures asks { AsksAsChanged state.old.jobs state.new.jobs }
 {
     if !state.is_connected(seat) {
         return None;
     }
     let becomes = leases::state_once_left(state);
     leases::give_back_all(state, seat, becomes);
-    state::change_seat(state, seat, &SeatChange::Clear);
+    changes::change_seat(state, seat, &SeatChange::Clear);
     Some(Answer::Closed)
 }
 
@@ -75,10 +72,9 @@ fn answer(
     request: &Request,
     told: &mut Answer,
 ) -> Reply
-    requires sound { IsSound state.old }
     requires asks { is_asking (seat_with seat state.old.seats.items) ≡ true }
     ensures reply { RepliesAt seat (takes_memory request.now) (asked request.now) state.old result told.new state.new }
-    ensures kept { IsCarriedOut state.old state.new }
+    ensures asks { AsksAsChanged state.old.jobs state.new.jobs }
 {
     match *request {
         Request::Put {
@@ -143,9 +139,8 @@ fn answer(
 }
 
 fn reply_to(state: &mut State, alloc: Global, seat: Seat, what: &Step, told: &mut Answer) -> Reply
-    requires sound { IsSound state.old }
     ensures reply { RepliesBy (step_takes_memory what.now) (λ m. effect m seat what.now) state.old result told.new state.new }
-    ensures kept { IsCarriedOut state.old state.new }
+    ensures asks { AsksAsChanged state.old.jobs state.new.jobs }
 {
     match *what {
         Step::Connect => {
@@ -178,10 +173,9 @@ fn reply_to(state: &mut State, alloc: Global, seat: Seat, what: &Step, told: &mu
 
 /// Carries out the command's own effect, and adds its answer.
 pub(crate) fn act(state: &mut State, alloc: Global, seat: Seat, what: &Step, outs: &mut Outs)
-    requires sound { IsSound state.old }
     requires room { HasRoom 1 (machine_of state.old) outs.old }
     ensures acts { Acts (machine_of state.old) seat what.now outs.old outs.new (machine_of state.new) }
-    ensures kept { IsCarriedOut state.old state.new }
+    ensures asks { AsksAsChanged state.old.jobs state.new.jobs }
 {
     let mut told = Answer::Closed;
     match reply_to(state, alloc, seat, what, &mut told) {

@@ -1,23 +1,23 @@
 //! Ready jobs go to the clients that wait for them.
 ghost use Rattle.std.specs.Prelude.{◌≡◌, ◌<◌, ◌+◌, ◌++◌, ◌∷◌, [], None, Some, true, false, IfSome, IfOk};
 ghost use Rattle.std.specs.Prelude.{fold, if◌then◌else◌, is_some, length};
-ghost use Rattle.std.specs.List.{sum_by};
+ghost use Rattle.std.specs.List.{AllByRecursion, list_any, sum_by};
 ghost use Rattle.std.specs.Option.{option_map};
 ghost use Rattle.bq_job.specs.declared.answer.Answer.TheVariants as answers;
-ghost use Rattle.bq_job.specs.machine.Changes.{seat_with, with_seat, without_wait};
+ghost use Rattle.bq_job.specs.machine.Changes.{first_of, seat_with, with_seat, without_wait};
 ghost use Rattle.bq_job.specs.beside.Computed.{waiting_count};
-ghost use Rattle.bq_job.specs.machine.Dispatch.{DispatchTurn, next_job};
+ghost use Rattle.bq_job.specs.machine.Dispatch.{DispatchTurn, is_wait_before, next_job};
 ghost use Rattle.bq_job.specs.machine.Steps.{has_refused_share};
 ghost use Rattle.bq_core.specs.Asking.{Asks, AsksByTurn};
 ghost use Rattle.bq_core.specs.Cost.{waited, waited_tubes};
 ghost use Rattle.bq_core.specs.HandOuts.{HandsOut, IsPicked, handed_to};
 ghost use Rattle.bq_core.specs.JobChanges.{IsBodyOf};
-ghost use Rattle.bq_core.specs.Offers.{better_rank, is_waited_at, next_rank, offered, these, with_offer, with_offers};
+ghost use Rattle.bq_core.specs.Offers.{better_rank, is_waited_at, next_rank, offered, these, waits_at, with_offer, with_offers};
 ghost use Rattle.bq_core.specs.Queues.{by_seat, turns_of, waited_at};
 ghost use Rattle.bq_core.specs.SeatChanges.{AreNumbered};
-ghost use Rattle.bq_core.specs.Keeping.{LeavesJobs, Looks, StaysSound};
-ghost use Rattle.bq_core.specs.State.{machine_of, IsSound};
-ghost use Rattle.bq_core.specs.Stirs.{is_nothing};
+ghost use Rattle.bq_core.specs.Keeping.{Looks};
+ghost use Rattle.bq_core.specs.State.{machine_of};
+ghost use Rattle.bq_core.specs.Stirs.{is_nothing, may_get};
 ghost use Rattle.bq_core.specs.Turns.{Gives, HasRoom};
 ghost use Rattle.bq_core.specs.Serving.{IsLastTurn};
 
@@ -28,7 +28,7 @@ use crate::seat_record::{SeatRecord, Turn};
 use crate::state::State;
 use crate::stir::Stir;
 use crate::tubes::Tubes;
-use crate::{seat_list, state};
+use crate::{changes, seat_list};
 use bq_job::{Answer, Body, JobId, NoMemory, Seat, TubeName};
 use bq_jobs::Jobs;
 
@@ -165,7 +165,6 @@ fn best_offer(jobs: &mut Jobs, tubes: &Tubes, seats: &[SeatRecord], turns: &[Tur
 
 // The job that is handed out next. Only what may be had is looked at.
 fn next_offer(state: &mut State) -> Option<Offer>
-    requires { IsSound state.old }
     ensures next { result ≡ next_rank (machine_of state.old) }
     ensures kept { Looks (waited (machine_of state.old)) state.old state.new }
 {
@@ -190,7 +189,6 @@ fn next_offer(state: &mut State) -> Option<Offer>
 
 // The id of the job that is handed out next.
 fn next_job(state: &mut State) -> Option<JobId>
-    requires { IsSound state.old }
     ensures id { result ≡ option_map (λ j. j.id) (next_job (machine_of state.old)) }
     ensures kept { Looks (waited (machine_of state.old)) state.old state.new }
 {
@@ -200,9 +198,23 @@ fn next_job(state: &mut State) -> Option<JobId>
     }
 }
 
+// The seat of the client that has waited longest of those that wait at this tube. Where one client alone may
+// have any job, it is that one, and no other is looked at.
+fn taker(stir: &Stir, seats: &[SeatRecord], turns: &[Turn], tube: &TubeName) -> Option<Seat>
+    requires numbered { AreNumbered seats.now }
+    requires turns { turns.now ≡ turns_of seats.now }
+    requires some { list_any (waits_at tube.now) seats.now ≡ true }
+    requires known { AllByRecursion (λ s. waits_at tube.now s ≡ true → may_get stir.now tube.now s.number ≡ true) seats.now }
+    ensures { result ≡ option_map (λ s. s.number) (first_of (waits_at tube.now) is_wait_before seats.now) }
+{
+    match stir {
+        Stir::Client(seat) => Some(*seat),
+        _ => seat_list::first_waiting(seats, turns, tube),
+    }
+}
+
 // The client that gets the next job, and one more owner of the job's body, unless it is refused.
 fn pick(state: &mut State, id: JobId) -> Option<(Seat, Result<Body, NoMemory>)>
-    requires sound { IsSound state.old }
     requires next { Some id ≡ option_map (λ j. j.id) (next_job (machine_of state.old)) }
     ensures some { is_some result ≡ true }
     ensures picked { IfSome result (λ p. IsPicked (machine_of state.old) p.0) }
@@ -210,34 +222,37 @@ fn pick(state: &mut State, id: JobId) -> Option<(Seat, Result<Body, NoMemory>)>
     ensures kept { Looks 1 state.old state.new }
 {
     let job = state.jobs.get(id)?;
-    let seat = seat_list::first_waiting(state.seats.as_slice(), state.queue.as_slice(), &job.tube)?;
+    let seat = taker(
+        &state.stir,
+        state.seats.as_slice(),
+        state.queue.as_slice(),
+        &job.tube,
+    )?;
     Some((seat, job.body.share()))
 }
 
 // The client at the seat gets the job, with this share of its body.
 fn give(state: &mut State, outs: &mut Outs, number: Seat, id: JobId, body: Body)
-    requires sound { IsSound state.old }
     requires room { length outs.old.given < outs.old.most }
     ensures after { machine_of state.new ≡ handed_to number id (machine_of state.old) }
     ensures told { outs.new ≡ record outs.old { given = outs.old.given ++ (number, answers.Reserved id body) ∷ [] } }
-    ensures kept { StaysSound 8 state.old state.new }
+    ensures asks { Asks 8 state.old.jobs state.new.jobs }
 {
     let change = JobChange::HandOut(number, state.moment);
     // Nobody comes to hold a job while waiting.
-    state::change_seat(state, number, &SeatChange::StopWaiting);
-    state::change_job(state, id, &change);
+    changes::change_seat(state, number, &SeatChange::StopWaiting);
+    changes::change_job(state, id, &change);
     outs.push(number, Answer::Reserved(id, body));
 }
 
 // One more owner of the body was refused: the client is told so, and waits no longer.
 fn refuse(state: &mut State, outs: &mut Outs, number: Seat)
-    requires sound { IsSound state.old }
     requires room { length outs.old.given < outs.old.most }
     ensures after { machine_of state.new ≡ with_seat number without_wait (machine_of state.old) }
     ensures told { outs.new ≡ record outs.old { given = outs.old.given ++ (number, answers.OutOfMemory) ∷ []; unshared = true } }
-    ensures kept { LeavesJobs state.old state.new }
+    ensures jobs { state.new.jobs ≡ state.old.jobs }
 {
-    state::change_seat(state, number, &SeatChange::StopWaiting);
+    changes::change_seat(state, number, &SeatChange::StopWaiting);
     outs.set_unshared();
     outs.push(number, Answer::OutOfMemory);
 }
@@ -250,10 +265,9 @@ fn hand_out(
     number: Seat,
     shared: Result<Body, NoMemory>,
 )
-    requires sound { IsSound state.old }
     requires room { length outs.old.given < outs.old.most }
     ensures given { HandsOut (machine_of state.old) id number shared outs.old outs.new (machine_of state.new) }
-    ensures kept { StaysSound 8 state.old state.new }
+    ensures asks { Asks 8 state.old.jobs state.new.jobs }
 {
     match shared {
         Ok(body) => give(state, outs, number, id, body),
@@ -263,12 +277,12 @@ fn hand_out(
 
 // Hands one job out, if there is one that a waiting client may have.
 fn turn(state: &mut State, outs: &mut Outs) -> bool
-    requires sound { IsSound state.old }
     requires room { HasRoom 0 (machine_of state.old) outs.old }
     ensures done { result ≡ false → IsLastTurn (next_job (machine_of state.old)) state.old state.new outs.old outs.new }
     ensures given { result ≡ true → Gives DispatchTurn has_refused_share (machine_of state.old) (machine_of state.new) outs.old outs.new }
     ensures fewer { result ≡ true → waiting_count (machine_of state.new) < waiting_count (machine_of state.old) }
-    ensures kept { StaysSound (if result then waited (machine_of state.old) + 9 else waited (machine_of state.old)) state.old state.new }
+    ensures asks { Asks (if result then waited (machine_of state.old) + 9 else waited (machine_of state.old))
+        state.old.jobs state.new.jobs }
 {
     if !state.has_waiter() {
         return false;
@@ -286,12 +300,10 @@ fn turn(state: &mut State, outs: &mut Outs) -> bool
 // While some waiting client may have a ready job, the least of them goes to the client that has waited
 // longest.
 fn dispatch_all(state: &mut State, outs: &mut Outs)
-    requires sound { IsSound state.old }
     requires room { HasRoom 0 (machine_of state.old) outs.old }
     ensures given { Gives DispatchTurn has_refused_share (machine_of state.old) (machine_of state.new) outs.old outs.new }
     ensures done { next_job (machine_of state.new) ≡ None }
     ensures asks { AsksByTurn (waited (machine_of state.old)) outs.old outs.new state.old.jobs state.new.jobs }
-    ensures sound { IsSound state.new }
 {
     while turn(state, outs) {}
 }
@@ -299,13 +311,11 @@ fn dispatch_all(state: &mut State, outs: &mut Outs)
 /// While some waiting client may have a ready job, the least of them goes to the client that has waited
 /// longest. Where it is known that nobody may have one, none is looked for.
 pub(crate) fn dispatch(state: &mut State, outs: &mut Outs)
-    requires sound { IsSound state.old }
     requires room { HasRoom 0 (machine_of state.old) outs.old }
     ensures given { Gives DispatchTurn has_refused_share (machine_of state.old) (machine_of state.new) outs.old outs.new }
     ensures done { next_job (machine_of state.new) ≡ None }
     ensures idle { is_nothing state.old.stir ≡ true → state.new.jobs ≡ state.old.jobs }
     ensures asks { AsksByTurn (waited (machine_of state.old)) outs.old outs.new state.old.jobs state.new.jobs }
-    ensures sound { IsSound state.new }
 {
     if !state.stir.is_nothing() {
         dispatch_all(state, outs);

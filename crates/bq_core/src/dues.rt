@@ -5,10 +5,9 @@ ghost use Rattle.bq_job.specs.beside.NextDue.{next_due as next_due_of};
 ghost use Rattle.bq_core.specs.Asking.{Asks};
 ghost use Rattle.bq_core.specs.Dues.{earlier_of_both, timers_due, warning_due, with_seat_due, with_warning_due};
 ghost use Rattle.bq_core.specs.FirstEnds.{AreTimeouts};
-ghost use Rattle.bq_core.specs.Keeping.{StaysSound};
 ghost use Rattle.bq_core.specs.Queues.{at_turn, turns_of};
 ghost use Rattle.bq_core.specs.SeatChanges.{AreNumbered};
-ghost use Rattle.bq_core.specs.State.{machine_of, IsSound};
+ghost use Rattle.bq_core.specs.State.{machine_of};
 ghost use Rattle.bq_core.specs.Warnings.{AreWarned};
 
 use crate::first_end::FirstEnd;
@@ -160,10 +159,9 @@ fn seats_due(first: &FirstEnd, seats: &[SeatRecord], turns: &[Turn]) -> Option<M
 
 /// The least moment at which something happens by itself, if there is any.
 pub(crate) fn next_due(state: &mut State) -> Option<Moment>
-    requires { IsSound state.old }
     ensures due { result ≡ next_due_of (machine_of state.old) }
     ensures same { machine_of state.new ≡ machine_of state.old }
-    ensures kept { StaysSound (count_by is_waiting state.old.seats.items + 2) state.old state.new }
+    ensures asks { Asks (count_by is_waiting state.old.seats.items + 2) state.old.jobs state.new.jobs }
 {
     let jobs = jobs_due(&mut state.jobs);
     let warning = warnings_due(

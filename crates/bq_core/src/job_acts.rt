@@ -6,17 +6,18 @@ ghost use Rattle.bq_job.specs.machine.JobCommands.{bury_effect, delete_effect, k
 ghost use Rattle.bq_job.specs.machine.JobCommands.{reserve_job_effect, touch_effect};
 ghost use Rattle.bq_job.specs.machine.Limits.{later as later_by};
 ghost use Rattle.bq_job.specs.machine.Machine.{SeatRecord};
+ghost use Rattle.bq_core.specs.Asking.{AsksAsChanged};
 ghost use Rattle.bq_core.specs.Acting.{is_asking};
 ghost use Rattle.bq_core.specs.Putting.{after_given};
-ghost use Rattle.bq_core.specs.Replying.{AnswersTo, IsCarriedOut, RepliesAt, RepliesTo, Waits};
-ghost use Rattle.bq_core.specs.State.{machine_of, IsSound};
+ghost use Rattle.bq_core.specs.Replying.{AnswersTo, RepliesAt, RepliesTo, Waits};
+ghost use Rattle.bq_core.specs.State.{held, machine_of};
 
 use crate::job_list::{JobChange, JobTest};
 use crate::reply::Reply;
 use crate::seat_list::SeatChange;
 use crate::state::State;
 use crate::tube_entry::TubeChange;
-use crate::{job_list, seat_list, state};
+use crate::{changes, job_list, seat_list};
 use bq_job::{Answer, Body, Counts, Job, JobId, Moment, Pri, Seat, TubeName};
 use bq_jobs::laws;
 use std::alloc::Global;
@@ -58,11 +59,10 @@ fn new_job(state: &State, tube: &TubeName, new: NewJob, body: Body) -> Job
 
 // An id is given.
 fn count_put(state: &mut State)
-    requires sound { IsSound state.old }
     requires accepts { state.old.draining ≡ false }
     ensures after { machine_of state.new ≡ after_given (machine_of state.old) }
-    ensures same { state.new ≡ record state.old { next_id = state.new.next_id; puts = state.new.puts; draining = state.new.draining } }
-    ensures sound { IsSound state.new }
+    ensures same { held state.new ≡ record (held state.old)
+        { next_id = state.new.next_id; puts = state.new.puts; draining = state.new.draining } }
 {
     state.draining = state.next_id >= LAST_ID;
     state.next_id += 1;
@@ -89,10 +89,9 @@ pub(crate) fn put(
     body: &Body,
     told: &mut Answer,
 ) -> Reply
-    requires sound { IsSound state.old }
     requires asks { is_asking (seat_with seat state.old.seats.items) ≡ true }
     ensures reply { RepliesAt seat true (put_effect new.pri new.delay new.ttr body.now) state.old result told.new state.new }
-    ensures kept { IsCarriedOut state.old state.new }
+    ensures asks { AsksAsChanged state.old.jobs state.new.jobs }
 {
     if state.draining {
         *told = Answer::Draining;
@@ -109,38 +108,36 @@ pub(crate) fn put(
         return Reply::LeftOut;
     };
     let job = new_job(state, client.used(), new, shared);
-    let Ok(()) = state::make_room(state, alloc) else {
+    let Ok(()) = changes::make_room(state, alloc) else {
         return Reply::LeftOut;
     };
     let id = job.id;
-    state::change_tube(state, &job.tube, TubeChange::CountPut);
+    changes::change_tube(state, &job.tube, TubeChange::CountPut);
     laws::next_is_free();
     laws::adds_at_the_end();
     count_put(state);
-    state::add(state, job);
+    changes::add(state, job);
     *told = Answer::Inserted(id);
     Reply::Told
 }
 
 /// The client waits, until this moment if there is one.
 pub(crate) fn reserve(state: &mut State, seat: Seat, until: Option<Moment>)
-    requires sound { IsSound state.old }
     requires asks { is_asking (seat_with seat state.old.seats.items) ≡ true }
     ensures reply { Waits seat until state.old state.new }
-    ensures kept { IsCarriedOut state.old state.new }
+    ensures asks { AsksAsChanged state.old.jobs state.new.jobs }
 {
-    state::note_leases(state, seat);
+    changes::note_leases(state, seat);
     state.tickets = state.tickets.saturating_add(1);
     let change = SeatChange::Wait(state.tickets, until);
-    state::change_seat(state, seat, &change);
+    changes::change_seat(state, seat, &change);
 }
 
 /// The client waits, for so many seconds at most.
 pub(crate) fn reserve_until(state: &mut State, seat: Seat, seconds: u32)
-    requires sound { IsSound state.old }
     requires asks { is_asking (seat_with seat state.old.seats.items) ≡ true }
     ensures reply { Waits seat (Some (later_by state.old.moment seconds)) state.old state.new }
-    ensures kept { IsCarriedOut state.old state.new }
+    ensures asks { AsksAsChanged state.old.jobs state.new.jobs }
 {
     let until = job_list::later(state.moment, seconds);
     reserve(state, seat, Some(until));
@@ -148,9 +145,8 @@ pub(crate) fn reserve_until(state: &mut State, seat: Seat, seconds: u32)
 
 /// Reserves a job that nobody holds, in whatever tube.
 pub(crate) fn reserve_job(state: &mut State, seat: Seat, id: JobId, told: &mut Answer) -> Reply
-    requires { IsSound state.old }
     ensures reply { RepliesTo seat false (reserve_job_effect id) state.old result told.new state.new }
-    ensures kept { IsCarriedOut state.old state.new }
+    ensures asks { AsksAsChanged state.old.jobs state.new.jobs }
 {
     if !state.has_job(id, JobTest::Free) {
         *told = Answer::NotFound;
@@ -164,49 +160,46 @@ pub(crate) fn reserve_job(state: &mut State, seat: Seat, id: JobId, told: &mut A
         return Reply::Unshared;
     };
     let change = JobChange::HandOut(seat, state.moment);
-    state::change_job(state, id, &change);
+    changes::change_job(state, id, &change);
     *told = Answer::Reserved(id, body);
     Reply::Told
 }
 
 /// Takes out a job that nobody holds, or that the client holds itself.
 pub(crate) fn delete(state: &mut State, seat: Seat, id: JobId, told: &mut Answer)
-    requires { IsSound state.old }
     ensures reply { AnswersTo seat (delete_effect id) state.old told.new state.new }
-    ensures kept { IsCarriedOut state.old state.new }
+    ensures asks { AsksAsChanged state.old.jobs state.new.jobs }
 {
     if !state.has_job(id, JobTest::FreeFor(seat)) {
         *told = Answer::NotFound;
         return;
     }
-    let Some(job) = state::take(state, id) else {
+    let Some(job) = changes::take(state, id) else {
         *told = Answer::NotFound;
         return;
     };
-    state::change_tube(state, &job.tube, TubeChange::CountDelete);
+    changes::change_tube(state, &job.tube, TubeChange::CountDelete);
     *told = Answer::Deleted;
 }
 
 /// Gives a job back that the client holds.
 pub(crate) fn release(state: &mut State, seat: Seat, id: JobId, with: NewTurn, told: &mut Answer)
-    requires { IsSound state.old }
     ensures reply { AnswersTo seat (release_effect id with.pri with.delay) state.old told.new state.new }
-    ensures kept { IsCarriedOut state.old state.new }
+    ensures asks { AsksAsChanged state.old.jobs state.new.jobs }
 {
     if !state.has_job(id, JobTest::HeldBy(seat)) {
         *told = Answer::NotFound;
         return;
     }
     let change = JobChange::Release(with.pri, with.delay, state.moment);
-    state::change_job(state, id, &change);
+    changes::change_job(state, id, &change);
     *told = Answer::Released;
 }
 
 /// Puts a job aside that the client holds.
 pub(crate) fn bury(state: &mut State, seat: Seat, id: JobId, pri: Pri, told: &mut Answer)
-    requires { IsSound state.old }
     ensures reply { AnswersTo seat (bury_effect id pri) state.old told.new state.new }
-    ensures kept { IsCarriedOut state.old state.new }
+    ensures asks { AsksAsChanged state.old.jobs state.new.jobs }
 {
     if !state.has_job(id, JobTest::HeldBy(seat)) {
         *told = Answer::NotFound;
@@ -214,35 +207,33 @@ pub(crate) fn bury(state: &mut State, seat: Seat, id: JobId, pri: Pri, told: &mu
     }
     state.burials = state.burials.saturating_add(1);
     let change = JobChange::Bury(state.burials, pri);
-    state::change_job(state, id, &change);
+    changes::change_job(state, id, &change);
     *told = Answer::Buried;
 }
 
 /// The time to run of a job that the client holds begins anew.
 pub(crate) fn touch(state: &mut State, seat: Seat, id: JobId, told: &mut Answer)
-    requires { IsSound state.old }
     ensures reply { AnswersTo seat (touch_effect id) state.old told.new state.new }
-    ensures kept { IsCarriedOut state.old state.new }
+    ensures asks { AsksAsChanged state.old.jobs state.new.jobs }
 {
     let Some(ttr) = state.time_to_run(id, seat) else {
         *told = Answer::NotFound;
         return;
     };
     let change = JobChange::Touch(seat, job_list::later(state.moment, ttr));
-    state::change_job(state, id, &change);
+    changes::change_job(state, id, &change);
     *told = Answer::Touched;
 }
 
 /// A buried or delayed job becomes ready.
 pub(crate) fn kick_job(state: &mut State, id: JobId, told: &mut Answer)
-    requires { IsSound state.old }
     ensures reply { (s : SeatRecord) → kick_job_effect id (machine_of state.old) s ≡ telling told.new (machine_of state.new) }
-    ensures kept { IsCarriedOut state.old state.new }
+    ensures asks { AsksAsChanged state.old.jobs state.new.jobs }
 {
     if !state.has_job(id, JobTest::Kickable) {
         *told = Answer::NotFound;
         return;
     }
-    state::change_job(state, id, &JobChange::Kick);
+    changes::change_job(state, id, &JobChange::Kick);
     *told = Answer::Kicked;
 }

@@ -2,17 +2,17 @@ ghost use Rattle.std.specs.Prelude.{◌≡◌, ◌<◌, ◌≤◌, ◌+◌, ◌*
 ghost use Rattle.bq_job.specs.declared.job.Job.{Job};
 ghost use Rattle.bq_job.specs.machine.JobCommands.{after_kick, kick_effect, kickable, kicked};
 ghost use Rattle.bq_jobs.specs.Kept.{ComparesAtMost};
+ghost use Rattle.bq_core.specs.Asking.{Asks, AsksAsChanged};
 ghost use Rattle.bq_core.specs.Cost.{changed_jobs};
 ghost use Rattle.bq_core.specs.JobKinds.{is_of};
 ghost use Rattle.bq_core.specs.Kicking.{KicksFirst, jobs_of};
-ghost use Rattle.bq_core.specs.Replying.{IsCarriedOut, RepliesAt};
-ghost use Rattle.bq_core.specs.Keeping.{StaysSound};
-ghost use Rattle.bq_core.specs.State.{machine_of, IsSound, count_jobs};
+ghost use Rattle.bq_core.specs.Replying.{RepliesAt};
+ghost use Rattle.bq_core.specs.State.{machine_of, count_jobs};
 
 use crate::job_list::{JobChange, JobKind};
 use crate::reply::Reply;
 use crate::state::State;
-use crate::{seat_list, state};
+use crate::{changes, seat_list};
 use bq_job::{Answer, Seat, TubeName};
 use bq_jobs::Jobs;
 
@@ -31,29 +31,27 @@ fn kind_to_kick(jobs: &mut Jobs, tube: &TubeName) -> JobKind
 
 // Kicks the first job of this kind, if there is one.
 fn kick_first(state: &mut State, kind: JobKind, tube: &TubeName) -> bool
-    requires sound { IsSound state.old }
     requires out { (k : Job) → is_of kind tube.now (kicked k) ≡ false }
     ensures none { result ≡ false → (jobs_of kind tube.now state.old.jobs.jobs ≡ []) × (machine_of state.new ≡ machine_of state.old) }
     ensures kicked { result ≡ true → KicksFirst kind tube.now (machine_of state.old).jobs (machine_of state.new).jobs }
     ensures others { machine_of state.new ≡ record (machine_of state.old) { jobs = (machine_of state.new).jobs } }
     ensures fewer { result ≡ true → count_jobs (is_of kind tube.now) state.new < count_jobs (is_of kind tube.now) state.old }
-    ensures kept { StaysSound (if result then 9 else 1) state.old state.new }
+    ensures asks { Asks (if result then 9 else 1) state.old.jobs state.new.jobs }
 {
     let Some(id) = state.first(kind, tube) else {
         return false;
     };
-    state::change_job(state, id, &JobChange::Kick);
+    changes::change_job(state, id, &JobChange::Kick);
     true
 }
 
 // Kicks the first jobs of this kind, so many at most. Tells how many there were.
 fn kick_some(state: &mut State, kind: JobKind, tube: &TubeName, bound: u32) -> u64
-    requires sound { IsSound state.old }
     requires out { (k : Job) → is_of kind tube.now (kicked k) ≡ false }
     ensures kicked { machine_of state.new ≡ after_kick (take bound (jobs_of kind tube.now state.old.jobs.jobs)) (machine_of state.old) }
     ensures count { result ≡ length (take bound (jobs_of kind tube.now (machine_of state.old).jobs)) }
     ensures fewer { count_jobs (is_of kind tube.now) state.new + result ≤ count_jobs (is_of kind tube.now) state.old }
-    ensures kept { StaysSound (9 * result + 1) state.old state.new }
+    ensures asks { Asks (9 * result + 1) state.old.jobs state.new.jobs }
 {
     for done in 0..bound {
         if !kick_first(state, kind, tube) {
@@ -65,11 +63,10 @@ fn kick_some(state: &mut State, kind: JobKind, tube: &TubeName, bound: u32) -> u
 
 // Kicks jobs of the tube, so many at most. Tells how many there were.
 fn kick_in(state: &mut State, tube: &TubeName, bound: u32) -> u64
-    requires { IsSound state.old }
     ensures kicked { machine_of state.new ≡ after_kick (take bound (kickable tube.now (machine_of state.old).jobs)) (machine_of state.old) }
     ensures count { result ≡ length (take bound (kickable tube.now (machine_of state.old).jobs)) }
     ensures changed { result ≤ changed_jobs (machine_of state.old).jobs (machine_of state.new).jobs }
-    ensures kept { StaysSound (9 * result + 2) state.old state.new }
+    ensures asks { Asks (9 * result + 2) state.old.jobs state.new.jobs }
 {
     let kind = kind_to_kick(&mut state.jobs, tube);
     kick_some(state, kind, tube, bound)
@@ -77,9 +74,8 @@ fn kick_in(state: &mut State, tube: &TubeName, bound: u32) -> u64
 
 /// Kicks jobs of the tube that the client uses, so many at most.
 pub(crate) fn kick(state: &mut State, seat: Seat, bound: u32, told: &mut Answer) -> Reply
-    requires sound { IsSound state.old }
     ensures reply { RepliesAt seat false (kick_effect bound) state.old result told.new state.new }
-    ensures kept { IsCarriedOut state.old state.new }
+    ensures asks { AsksAsChanged state.old.jobs state.new.jobs }
 {
     let Some(client) = seat_list::find(state.seats.as_slice(), seat) else {
         return Reply::Silent;

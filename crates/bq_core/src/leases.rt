@@ -3,13 +3,13 @@ ghost use Rattle.std.specs.Prelude.{◌≡◌, ◌<◌, ◌+◌, ◌*◌, true, 
 ghost use Rattle.bq_job.specs.machine.Asked.{state_once_left};
 ghost use Rattle.bq_job.specs.machine.Changes.{is_held_by};
 ghost use Rattle.bq_job.specs.machine.JobStates.{is_reserved};
+ghost use Rattle.bq_core.specs.Asking.{Asks};
 ghost use Rattle.bq_core.specs.Firing.{after_giving_back};
-ghost use Rattle.bq_core.specs.Keeping.{StaysSound};
-ghost use Rattle.bq_core.specs.State.{machine_of, IsSound, count_jobs};
+ghost use Rattle.bq_core.specs.State.{machine_of, count_jobs};
 
 use crate::job_list::JobChange;
 use crate::state::State;
-use crate::{job_list, state};
+use crate::{changes, job_list};
 use bq_job::{JobState, Seat};
 
 /// Where a job stands whose client is gone.
@@ -21,26 +21,24 @@ pub(crate) fn state_once_left(state: &State) -> JobState
 
 // The client at the seat gives one job back, if it holds one. The job then stands so.
 fn give_back_one(state: &mut State, seat: Seat, becomes: JobState) -> bool
-    requires sound { IsSound state.old }
     requires free { is_reserved becomes ≡ false }
     ensures done { result ≡ false → machine_of state.new ≡ after_giving_back becomes seat (machine_of state.old) }
     ensures given { after_giving_back becomes seat (machine_of state.new) ≡ after_giving_back becomes seat (machine_of state.old) }
     ensures fewer { result ≡ true → count_jobs (is_held_by seat) state.new < count_jobs (is_held_by seat) state.old }
-    ensures kept { StaysSound (if result then 9 else 1) state.old state.new }
+    ensures asks { Asks (if result then 9 else 1) state.old.jobs state.new.jobs }
 {
     let Some(id) = state.jobs.first_held(seat) else {
         return false;
     };
-    state::change_job(state, id, &JobChange::GiveBack(becomes));
+    changes::change_job(state, id, &JobChange::GiveBack(becomes));
     true
 }
 
 /// The client at the seat gives back the jobs that it holds. They then stand so.
 pub(crate) fn give_back_all(state: &mut State, seat: Seat, becomes: JobState)
-    requires sound { IsSound state.old }
     requires free { is_reserved becomes ≡ false }
     ensures after { machine_of state.new ≡ after_giving_back becomes seat (machine_of state.old) }
-    ensures kept { StaysSound (9 * count_jobs (is_held_by seat) state.old + 1) state.old state.new }
+    ensures asks { Asks (9 * count_jobs (is_held_by seat) state.old + 1) state.old.jobs state.new.jobs }
 {
     while give_back_one(state, seat, becomes) {}
 }

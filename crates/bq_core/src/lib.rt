@@ -9,6 +9,7 @@ pub use machine::Core;
 pub use outs::Outs;
 
 mod acts;
+mod changes;
 mod clients;
 mod config;
 mod crowd;

@@ -5,7 +5,7 @@ ghost use Rattle.bq_job.specs.beside.NextDue.{next_due};
 ghost use Rattle.bq_job.specs.machine.Steps.{IsStep};
 ghost use Rattle.bq_core.specs.Cost.{IsLookWithin, IsStepWithin};
 ghost use Rattle.bq_core.specs.Limits.{is_body_size, is_job_limit, is_seat_count};
-ghost use Rattle.bq_core.specs.State.{machine_of, IsSound};
+ghost use Rattle.bq_core.specs.State.{machine_of};
 ghost use Rattle.bq_core.specs.Outbox.{outcome_of};
 ghost use Rattle.bq_core.specs.Serving.{NoneIsGone, ServesAsking, TakesStepWithin};
 ghost use Rattle.bq_core.specs.Turns.{HasRoom};
@@ -15,7 +15,7 @@ use crate::outs::Outs;
 use crate::queue::Queue;
 use crate::state::State;
 use crate::tubes::Tubes;
-use crate::{acts, dispatch, dues, seat_list, state, timers, waits};
+use crate::{acts, changes, dispatch, dues, seat_list, timers, waits};
 use bq_job::{LARGEST_BODY, MOST_SEATS, Moment, Seat, Step};
 use std::alloc::Global;
 use std::marker::Model;
@@ -29,22 +29,20 @@ pub struct Core {
 impl Model for Core {
     ghost use Rattle.bq_job.specs.beside.Lawful.{IsLawful};
     ghost use Rattle.bq_core.specs.CoreState.{CoreState};
-    ghost use Rattle.bq_core.specs.State.{machine_of, IsSound};
+    ghost use Rattle.bq_core.specs.State.{machine_of};
 
     ghost Value = { CoreState };
 
     ghost view = { λ c. record { machine = machine_of c.state; comparisons = c.state.jobs.comparisons } };
 
-    ghost invariant = { λ c. IsLawful (machine_of c.state) × IsSound c.state };
+    ghost invariant = { λ c. IsLawful (machine_of c.state) };
 }
 
 // Jobs are dispatched, and then waits end.
 fn serve(state: &mut State, outs: &mut Outs)
-    requires sound { IsSound state.old }
     requires tubes { NoneIsGone (machine_of state.old) }
     requires room { HasRoom 0 (machine_of state.old) outs.old }
     ensures served { ServesAsking (machine_of state.old) outs.old outs.new (machine_of state.new) state.old.jobs state.new.jobs }
-    ensures sound { IsSound state.new }
 {
     dispatch::dispatch(state, outs);
     waits::end_waits(state, outs);
@@ -53,19 +51,17 @@ fn serve(state: &mut State, outs: &mut Outs)
 // One step.
 fn take_step(state: &mut State, alloc: Global, at: Moment, seat: Seat, what: &Step, outs: &mut Outs)
     requires lawful { IsLawful (machine_of state.old) }
-    requires sound { IsSound state.old }
     requires room { state.old.config.seats < outs.old.most }
     ensures step { IsStep (machine_of state.old) at seat what.now (outcome_of outs.new) outs.new.given (machine_of state.new) }
     ensures comparisons { TakesStepWithin at seat what.now state.old state.new outs.new }
     ensures most { outs.new.most ≡ outs.old.most }
-    ensures sound { IsSound state.new }
 {
     outs.begin();
-    state::raise_moment(state, at);
+    changes::raise_moment(state, at);
     timers::fire(state);
     serve(state, outs);
     acts::act(state, alloc, seat, what, outs);
-    state::forget_tubes(state);
+    changes::forget_tubes(state);
     serve(state, outs);
 }
 
@@ -95,8 +91,10 @@ impl Core {
     pub fn new(alloc: Global, config: Config) -> Result<Core, CoreFault>
         ensures made { IfOk result (λ core. core ≡ record { machine = new_machine config; comparisons = 0 }) }
         ensures bad_seats { IsErrOf result CoreFault.BadSeats ↔ IsTrue (not (is_seat_count config.seats)) }
-        ensures bad_max_job_size { IsErrOf result CoreFault.BadMaxJobSize ↔ (IsTrue (is_seat_count config.seats) × IsTrue (not (is_body_size config.max_job_size))) }
-        ensures bad_max_jobs { IsErrOf result CoreFault.BadMaxJobs ↔ (IsTrue (is_seat_count config.seats && is_body_size config.max_job_size) × IsTrue (not (is_job_limit config.max_jobs))) }
+        ensures bad_max_job_size { IsErrOf result CoreFault.BadMaxJobSize ↔
+            (IsTrue (is_seat_count config.seats) × IsTrue (not (is_body_size config.max_job_size))) }
+        ensures bad_max_jobs { IsErrOf result CoreFault.BadMaxJobs ↔
+            (IsTrue (is_seat_count config.seats && is_body_size config.max_job_size) × IsTrue (not (is_job_limit config.max_jobs))) }
     {
         if !is_seat_count(config.seats) {
             return Err(CoreFault::BadSeats);
@@ -117,7 +115,7 @@ impl Core {
             return Err(CoreFault::NoMemory);
         };
         Ok(Core {
-            state: state::new_state(config, seats, queue, tubes),
+            state: changes::new_state(config, seats, queue, tubes),
         })
     }
 
@@ -125,8 +123,11 @@ impl Core {
     /// their order. Any moment, seat and step is accepted.
     pub fn step(&mut self, alloc: Global, at: Moment, seat: Seat, what: Step, outs: &mut Outs)
         requires room { self.old.machine.settings.seats < outs.old.most }
-        ensures step { IsStep self.old.machine at seat what (record { left_out = outs.new.left_out; unshared = outs.new.unshared }) outs.new.given self.new.machine }
-        ensures comparisons { IsStepWithin self.old.machine at seat what (record { left_out = outs.new.left_out; unshared = outs.new.unshared }) outs.new.given self.new.machine self.old.comparisons self.new.comparisons }
+        ensures step { IsStep self.old.machine at seat what (record { left_out = outs.new.left_out; unshared = outs.new.unshared })
+            outs.new.given self.new.machine }
+        ensures comparisons { IsStepWithin self.old.machine at seat what
+            (record { left_out = outs.new.left_out; unshared = outs.new.unshared }) outs.new.given self.new.machine self.old.comparisons
+            self.new.comparisons }
         ensures lawful { IsLawful self.new.machine }
         ensures most { outs.new.most ≡ outs.old.most }
         ensures settings { self.new.machine.settings ≡ self.old.machine.settings }
@@ -144,8 +145,11 @@ impl Core {
         outs: &mut Outs,
     )
         requires room { self.old.machine.settings.seats < outs.old.most }
-        ensures step { IsStep self.old.machine at seat what.now (record { left_out = outs.new.left_out; unshared = outs.new.unshared }) outs.new.given self.new.machine }
-        ensures comparisons { IsStepWithin self.old.machine at seat what.now (record { left_out = outs.new.left_out; unshared = outs.new.unshared }) outs.new.given self.new.machine self.old.comparisons self.new.comparisons }
+        ensures step { IsStep self.old.machine at seat what.now (record { left_out = outs.new.left_out; unshared = outs.new.unshared })
+            outs.new.given self.new.machine }
+        ensures comparisons { IsStepWithin self.old.machine at seat what.now
+            (record { left_out = outs.new.left_out; unshared = outs.new.unshared }) outs.new.given self.new.machine self.old.comparisons
+            self.new.comparisons }
         ensures lawful { IsLawful self.new.machine }
         ensures most { outs.new.most ≡ outs.old.most }
         ensures settings { self.new.machine.settings ≡ self.old.machine.settings }

@@ -11,10 +11,11 @@ ghost use Rattle.bq_core.specs.EndingWaits.{has_waited};
 ghost use Rattle.bq_core.specs.FirstEnds.{is_gone_in_wait};
 ghost use Rattle.bq_core.specs.Offers.{waits_at};
 ghost use Rattle.bq_core.specs.Queues.{passes_at, turns_of};
+ghost use Rattle.bq_core.specs.Warnings.{has_waiting_holder, is_waiting_there};
 
 use crate::queue;
 use crate::seat_record::{SeatRecord, Turn};
-use bq_job::{Moment, NoMemory, Seat, TubeName};
+use bq_job::{JobState, Moment, NoMemory, Seat, TubeName};
 use std::alloc::Global;
 
 /// What happens at a seat.
@@ -93,6 +94,28 @@ pub(crate) fn find(seats: &[SeatRecord], number: Seat) -> Option<&SeatRecord>
     ensures { option_copied result ≡ seat_with number seats.now }
 {
     seats.get(usize::from(number))
+}
+
+/// Whether the client waits that holds a job in this state, if one does.
+pub(crate) fn holder_waits(seats: &[SeatRecord], at: JobState) -> bool
+    requires { AreNumbered seats.now }
+    ensures { result ≡ has_waiting_holder at seats.now }
+{
+    match at {
+        JobState::Reserved(seat, _) => is_waiting_at(seats, seat),
+        _ => false,
+    }
+}
+
+// Whether the client at the seat, if there is one, waits.
+fn is_waiting_at(seats: &[SeatRecord], seat: Seat) -> bool
+    requires { AreNumbered seats.now }
+    ensures { result ≡ is_waiting_there (seat_with seat seats.now) }
+{
+    match find(seats, seat) {
+        None => false,
+        Some(client) => client.is_waiting(),
+    }
 }
 
 // Whether the client waits at this tube.

@@ -4,16 +4,17 @@ ghost use Rattle.bq_job.specs.machine.Changes.{job_with};
 ghost use Rattle.bq_job.specs.machine.StatisticsCommands.{list_tubes_effect, list_watched_effect};
 ghost use Rattle.bq_job.specs.machine.StatisticsCommands.{stats_effect, stats_job_effect, stats_tube_effect};
 ghost use Rattle.bq_jobs.specs.Kept.{ComparesAtMost};
+ghost use Rattle.bq_core.specs.Asking.{AsksAsChanged};
 ghost use Rattle.bq_core.specs.Numbers.{AreOfServer, AreOfTube};
-ghost use Rattle.bq_core.specs.Replying.{IsCarriedOut, RepliesAt, RepliesBy};
-ghost use Rattle.bq_core.specs.State.{machine_of, IsSound};
+ghost use Rattle.bq_core.specs.Replying.{RepliesAt, RepliesBy};
+ghost use Rattle.bq_core.specs.State.{machine_of};
 ghost use Rattle.bq_core.specs.Texts.{TellsJob};
 
 use crate::reply::Reply;
 use crate::state::State;
 use crate::texts::{ServerNumbers, TubeNumbers, job_text, names_text, server_text, tube_text};
 use crate::tube_entry::TubeEntry;
-use crate::{name_lists, seat_list, state};
+use crate::{changes, name_lists, seat_list};
 use bq_job::{Answer, JobId, Moment, NoMemory, Seat, Text, TubeName};
 use bq_jobs::Jobs;
 use std::alloc::Global;
@@ -38,9 +39,8 @@ fn text_of_job(
 
 /// Tells of the job of this id.
 pub(crate) fn stats_job(state: &mut State, alloc: Global, id: JobId, told: &mut Answer) -> Reply
-    requires { IsSound state.old }
     ensures reply { RepliesBy true (stats_job_effect id) state.old result told.new state.new }
-    ensures kept { IsCarriedOut state.old state.new }
+    ensures asks { AsksAsChanged state.old.jobs state.new.jobs }
 {
     match text_of_job(&mut state.jobs, alloc, id, state.moment) {
         None => {
@@ -57,7 +57,6 @@ pub(crate) fn stats_job(state: &mut State, alloc: Global, id: JobId, told: &mut 
 
 // What is told of the tube of this name.
 fn tube_numbers(state: &State, tube: &TubeName) -> TubeNumbers
-    requires { IsSound state.now }
     ensures { AreOfTube result tube.now (machine_of state.now) }
 {
     let fresh = TubeEntry::new();
@@ -78,10 +77,9 @@ fn tube_numbers(state: &State, tube: &TubeName) -> TubeNumbers
 
 /// Tells of a tube that exists.
 pub(crate) fn stats_tube(state: &State, alloc: Global, tube: &TubeName, told: &mut Answer) -> Reply
-    requires { IsSound state.now }
     ensures { RepliesBy true (stats_tube_effect tube.now) state.now result told.new state.now }
 {
-    if !state::is_tube(state, tube) {
+    if !changes::is_tube(state, tube) {
         *told = Answer::NotFound;
         return Reply::Told;
     }
@@ -96,7 +94,6 @@ pub(crate) fn stats_tube(state: &State, alloc: Global, tube: &TubeName, told: &m
 
 // What is told of the server.
 fn server_numbers(state: &State) -> ServerNumbers
-    requires { IsSound state.now }
     ensures { AreOfServer result (machine_of state.now) }
 {
     ServerNumbers {
@@ -104,7 +101,7 @@ fn server_numbers(state: &State) -> ServerNumbers
         timeouts: state.timeouts,
         puts: state.puts,
         max_job_size: state.config.max_job_size,
-        tubes: state::tube_count(state),
+        tubes: changes::tube_count(state),
         connected: state.clients.connected,
         waiting: state.clients.waiting,
         connections: state.connections,
@@ -114,7 +111,6 @@ fn server_numbers(state: &State) -> ServerNumbers
 
 /// Tells of the server.
 pub(crate) fn stats(state: &State, alloc: Global, told: &mut Answer) -> Reply
-    requires { IsSound state.now }
     ensures { RepliesBy true stats_effect state.now result told.new state.now }
 {
     match server_text(alloc, &server_numbers(state)) {
@@ -128,10 +124,9 @@ pub(crate) fn stats(state: &State, alloc: Global, told: &mut Answer) -> Reply
 
 /// Lists the tubes that exist.
 pub(crate) fn list_tubes(state: &State, alloc: Global, told: &mut Answer) -> Reply
-    requires { IsSound state.now }
     ensures { RepliesBy true list_tubes_effect state.now result told.new state.now }
 {
-    let Ok(names) = state::tube_names(state, alloc) else {
+    let Ok(names) = changes::tube_names(state, alloc) else {
         return Reply::LeftOut;
     };
     match names_text(alloc, names.as_slice()) {
@@ -150,7 +145,6 @@ pub(crate) fn list_tubes_watched(
     seat: Seat,
     told: &mut Answer,
 ) -> Reply
-    requires { IsSound state.now }
     ensures { RepliesAt seat true list_watched_effect state.now result told.new state.now }
 {
     let Some(client) = seat_list::find(state.seats.as_slice(), seat) else {

@@ -3,14 +3,14 @@ ghost use Rattle.std.specs.Prelude.{◌≡◌, ◌<◌, ◌+◌, ◌*◌, true, 
 ghost use Rattle.std.specs.List.{list_any};
 ghost use Rattle.bq_job.specs.machine.Timers.{after_timers, is_due, is_expired};
 ghost use Rattle.bq_jobs.specs.Kept.{ComparesAtMost};
+ghost use Rattle.bq_core.specs.Asking.{Asks};
 ghost use Rattle.bq_core.specs.Firing.{ExpiresOne, IsOne, after_job_timers, is_ripe, is_some_due, is_some_expired, with_pauses_ended};
-ghost use Rattle.bq_core.specs.Keeping.{LeavesJobs, StaysSound};
-ghost use Rattle.bq_core.specs.State.{machine_of, HaveFired, IsSound, count_jobs};
+ghost use Rattle.bq_core.specs.State.{machine_of, HaveFired, count_jobs};
 
 use crate::job_list::JobChange;
 use crate::state::State;
 use crate::stir::Stir;
-use crate::{pauses, state};
+use crate::{changes, pauses};
 use bq_job::{JobId, Moment};
 use bq_jobs::Jobs;
 
@@ -40,33 +40,31 @@ fn first_expired(jobs: &mut Jobs, moment: Moment) -> Option<JobId>
 
 // One delayed job becomes ready, if one is due.
 fn ripen(state: &mut State) -> bool
-    requires { IsSound state.old }
     ensures done { result ≡ false → is_some_due (machine_of state.old) ≡ false }
     ensures same { result ≡ false → machine_of state.new ≡ machine_of state.old }
     ensures fired { after_job_timers (machine_of state.new) ≡ after_job_timers (machine_of state.old) }
     ensures fewer { result ≡ true → count_jobs (is_ripe state.old.moment) state.new < count_jobs (is_ripe state.old.moment) state.old }
-    ensures kept { StaysSound (if result then 9 else 1) state.old state.new }
+    ensures asks { Asks (if result then 9 else 1) state.old.jobs state.new.jobs }
 {
     let moment = state.moment;
     let Some(id) = first_ripe(&mut state.jobs, moment) else {
         return false;
     };
-    state::change_job(state, id, &JobChange::FireTimers(moment));
+    changes::change_job(state, id, &JobChange::FireTimers(moment));
     true
 }
 
 // One reservation ends, if its time to run is over.
 fn expire_first(state: &mut State) -> bool
-    requires { IsSound state.old }
     ensures none { result ≡ false → (is_some_expired (machine_of state.old) ≡ false) × (machine_of state.new ≡ machine_of state.old) }
     ensures one { result ≡ true → ExpiresOne (machine_of state.old) (machine_of state.new) }
-    ensures kept { StaysSound (if result then 9 else 1) state.old state.new }
+    ensures asks { Asks (if result then 9 else 1) state.old.jobs state.new.jobs }
 {
     let moment = state.moment;
     let Some(id) = first_expired(&mut state.jobs, moment) else {
         return false;
     };
-    state::change_job(state, id, &JobChange::FireTimers(moment));
+    changes::change_job(state, id, &JobChange::FireTimers(moment));
     true
 }
 
@@ -79,12 +77,11 @@ fn times(happened: bool) -> u64
 
 // One reservation ends, if its time to run is over, and is counted.
 fn expire(state: &mut State) -> bool
-    requires { IsSound state.old }
     ensures done { result ≡ false → is_some_due (machine_of state.old) ≡ false → HaveFired state.old state.new }
     ensures same { result ≡ false → (machine_of state.new).jobs ≡ (machine_of state.old).jobs }
     ensures fired { after_job_timers (machine_of state.new) ≡ after_job_timers (machine_of state.old) }
     ensures fewer { result ≡ true → count_jobs (is_ripe state.old.moment) state.new < count_jobs (is_ripe state.old.moment) state.old }
-    ensures kept { StaysSound (if result then 9 else 1) state.old state.new }
+    ensures asks { Asks (if result then 9 else 1) state.old.jobs state.new.jobs }
 {
     let expired = expire_first(state);
     state.timeouts = state.timeouts.saturating_add(times(expired));
@@ -93,30 +90,27 @@ fn expire(state: &mut State) -> bool
 
 // One timer of a job fires, if one has come.
 fn fire_one(state: &mut State) -> bool
-    requires { IsSound state.old }
     ensures done { result ≡ false → HaveFired state.old state.new }
     ensures same { result ≡ false → (machine_of state.new).jobs ≡ (machine_of state.old).jobs }
     ensures fired { after_job_timers (machine_of state.new) ≡ after_job_timers (machine_of state.old) }
     ensures fewer { result ≡ true → count_jobs (is_ripe state.old.moment) state.new < count_jobs (is_ripe state.old.moment) state.old }
-    ensures kept { StaysSound (if result then 10 else 2) state.old state.new }
+    ensures asks { Asks (if result then 10 else 2) state.old.jobs state.new.jobs }
 {
     ripen(state) || expire(state)
 }
 
 // The timers of jobs fire.
 fn fire_jobs(state: &mut State)
-    requires { IsSound state.old }
     ensures after { HaveFired state.old state.new }
-    ensures kept { StaysSound (10 * count_jobs (is_ripe state.old.moment) state.old + 2) state.old state.new }
+    ensures asks { Asks (10 * count_jobs (is_ripe state.old.moment) state.old + 2) state.old.jobs state.new.jobs }
 {
     while fire_one(state) {}
 }
 
 // Pauses end. Where none does, no tube is looked at.
 fn end_pauses(state: &mut State)
-    requires { IsSound state.old }
     ensures after { machine_of state.new ≡ with_pauses_ended (machine_of state.old) }
-    ensures kept { LeavesJobs state.old state.new }
+    ensures jobs { state.new.jobs ≡ state.old.jobs }
 {
     if !pauses::is_over(state.pause_end, state.moment) {
         return;
@@ -128,9 +122,8 @@ fn end_pauses(state: &mut State)
 
 /// Timers that are due fire.
 pub(crate) fn fire(state: &mut State)
-    requires { IsSound state.old }
     ensures after { machine_of state.new ≡ after_timers (machine_of state.old) }
-    ensures kept { StaysSound (10 * count_jobs (is_ripe state.old.moment) state.old + 2) state.old state.new }
+    ensures asks { Asks (10 * count_jobs (is_ripe state.old.moment) state.old + 2) state.old.jobs state.new.jobs }
 {
     fire_jobs(state);
     end_pauses(state);

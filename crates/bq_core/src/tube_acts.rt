@@ -3,17 +3,18 @@ ghost use Rattle.std.specs.Option.{option_map};
 ghost use Rattle.bq_job.specs.machine.Acts.{telling};
 ghost use Rattle.bq_job.specs.declared.answer.Answer.TheVariants as answers;
 ghost use Rattle.bq_job.specs.machine.TubeCommands.{ignore_effect, pause_effect, peek_effect, use_effect, watch_effect};
+ghost use Rattle.bq_core.specs.Asking.{Asks, AsksAsChanged};
 ghost use Rattle.bq_core.specs.JobKinds.{first_of_kind};
-ghost use Rattle.bq_core.specs.Replying.{AtSeat, IsCarriedOut, RepliesAt, RepliesBy, RepliesTo, peek_first_effect};
-ghost use Rattle.bq_core.specs.Keeping.{Looks, StaysSound};
-ghost use Rattle.bq_core.specs.State.{machine_of, IsSound};
+ghost use Rattle.bq_core.specs.Replying.{AtSeat, RepliesAt, RepliesBy, RepliesTo, peek_first_effect};
+ghost use Rattle.bq_core.specs.Keeping.{Looks};
+ghost use Rattle.bq_core.specs.State.{machine_of};
 
 use crate::job_list::JobKind;
 use crate::reply::Reply;
 use crate::seat_list::SeatChange;
 use crate::state::State;
 use crate::tube_entry::TubeChange;
-use crate::{job_list, seat_list, state};
+use crate::{changes, job_list, seat_list};
 use bq_job::{Answer, JobId, Seat, TubeName};
 use std::alloc::Global;
 
@@ -26,21 +27,19 @@ pub(crate) fn use_tube(
     tube: &TubeName,
     told: &mut Answer,
 ) -> Reply
-    requires { IsSound state.old }
     ensures reply { RepliesTo seat true (use_effect tube.now) state.old result told.new state.new }
-    ensures kept { IsCarriedOut state.old state.new }
+    ensures asks { AsksAsChanged state.old.jobs state.new.jobs }
 {
-    if state::provide_tube(state, alloc, tube).is_err() {
+    if changes::provide_tube(state, alloc, tube).is_err() {
         return Reply::LeftOut;
     }
-    state::change_seat(state, seat, &SeatChange::Use(*tube));
+    changes::change_seat(state, seat, &SeatChange::Use(*tube));
     *told = Answer::Using(*tube);
     Reply::Told
 }
 
 /// Tells which tube the client's jobs go into.
 pub(crate) fn list_tube_used(state: &State, seat: Seat, told: &mut Answer) -> Reply
-    requires { IsSound state.now }
     ensures { RepliesAt seat false (λ m s. telling (answers.Using s.used) m) state.now result told.new state.now }
 {
     match seat_list::find(state.seats.as_slice(), seat) {
@@ -60,9 +59,8 @@ pub(crate) fn watch(
     tube: &TubeName,
     told: &mut Answer,
 ) -> Reply
-    requires { IsSound state.old }
     ensures reply { RepliesAt seat true (watch_effect tube.now) state.old result told.new state.new }
-    ensures kept { IsCarriedOut state.old state.new }
+    ensures asks { AsksAsChanged state.old.jobs state.new.jobs }
 {
     let Some(client) = seat_list::find(state.seats.as_slice(), seat) else {
         return Reply::Silent;
@@ -71,7 +69,7 @@ pub(crate) fn watch(
         *told = Answer::Watching(client.watch_count() as u64);
         return Reply::Told;
     }
-    match state::watch_tube(state, alloc, seat, tube) {
+    match changes::watch_tube(state, alloc, seat, tube) {
         Ok(count) => {
             *told = Answer::Watching(count);
             Reply::Told
@@ -82,9 +80,8 @@ pub(crate) fn watch(
 
 /// The client watches this tube no longer, unless it watches no other.
 pub(crate) fn ignore(state: &mut State, seat: Seat, tube: &TubeName, told: &mut Answer) -> Reply
-    requires { IsSound state.old }
     ensures reply { RepliesAt seat false (ignore_effect tube.now) state.old result told.new state.new }
-    ensures kept { IsCarriedOut state.old state.new }
+    ensures asks { AsksAsChanged state.old.jobs state.new.jobs }
 {
     let Some(client) = seat_list::find(state.seats.as_slice(), seat) else {
         return Reply::Silent;
@@ -93,31 +90,29 @@ pub(crate) fn ignore(state: &mut State, seat: Seat, tube: &TubeName, told: &mut 
         *told = Answer::NotIgnored;
         return Reply::Told;
     }
-    let count = state::ignore_tube(state, seat, tube);
+    let count = changes::ignore_tube(state, seat, tube);
     *told = Answer::Watching(count);
     Reply::Told
 }
 
 /// Pauses a tube that exists.
 pub(crate) fn pause(state: &mut State, tube: &TubeName, seconds: u32, told: &mut Answer)
-    requires { IsSound state.old }
     ensures reply { pause_effect tube.now seconds (machine_of state.old) ≡ telling told.new (machine_of state.new) }
-    ensures kept { IsCarriedOut state.old state.new }
+    ensures asks { AsksAsChanged state.old.jobs state.new.jobs }
 {
-    if !state::is_tube(state, tube) {
+    if !changes::is_tube(state, tube) {
         *told = Answer::NotFound;
         return;
     }
     let change = TubeChange::Pause(seconds, state.moment);
-    state::change_tube(state, tube, change);
+    changes::change_tube(state, tube, change);
     *told = Answer::Paused;
 }
 
 // Shows the job of this id.
 fn show(state: &mut State, id: JobId, told: &mut Answer) -> Reply
-    requires { IsSound state.old }
     ensures reply { RepliesBy false (peek_effect id) state.old result told.new state.new }
-    ensures kept { StaysSound 1 state.old state.new }
+    ensures asks { Asks 1 state.old.jobs state.new.jobs }
 {
     match state.share(id) {
         None => {
@@ -134,16 +129,14 @@ fn show(state: &mut State, id: JobId, told: &mut Answer) -> Reply
 
 /// Shows the job of this id.
 pub(crate) fn peek(state: &mut State, id: JobId, told: &mut Answer) -> Reply
-    requires { IsSound state.old }
     ensures reply { RepliesBy false (peek_effect id) state.old result told.new state.new }
-    ensures kept { IsCarriedOut state.old state.new }
+    ensures asks { AsksAsChanged state.old.jobs state.new.jobs }
 {
     show(state, id, told)
 }
 
 // The id of the first job of this kind in the tube that the client uses.
 fn first_used(state: &mut State, seat: Seat, kind: JobKind) -> Option<JobId>
-    requires { IsSound state.old }
     ensures id { AtSeat seat state.old (λ s. result ≡ option_map (λ j. j.id) (first_of_kind kind s.used state.old.jobs.jobs)) }
     ensures kept { Looks 1 state.old state.new }
 {
@@ -153,9 +146,8 @@ fn first_used(state: &mut State, seat: Seat, kind: JobKind) -> Option<JobId>
 
 /// Shows the first job of this kind in the tube that the client uses.
 pub(crate) fn peek_first(state: &mut State, seat: Seat, kind: JobKind, told: &mut Answer) -> Reply
-    requires { IsSound state.old }
     ensures reply { RepliesAt seat false (peek_first_effect kind) state.old result told.new state.new }
-    ensures kept { IsCarriedOut state.old state.new }
+    ensures asks { AsksAsChanged state.old.jobs state.new.jobs }
 {
     match first_used(state, seat, kind) {
         None => {

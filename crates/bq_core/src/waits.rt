@@ -5,11 +5,12 @@ ghost use Rattle.bq_job.specs.machine.Changes.{first_of};
 ghost use Rattle.bq_job.specs.machine.Dispatch.{is_wait_before};
 ghost use Rattle.bq_job.specs.machine.Waits.{WaitEndTurn, next_end};
 ghost use Rattle.bq_job.specs.machine.Machine.{SeatRecord};
+ghost use Rattle.bq_core.specs.Asking.{Asks};
 ghost use Rattle.bq_core.specs.EndingWaits.{AreLookedAt, has_waited, left_after, may_end, told_at_end, waits_after};
 ghost use Rattle.bq_core.specs.Serving.{IsLastTurn};
-ghost use Rattle.bq_core.specs.Keeping.{LeavesJobs, Looks, StaysSound};
+ghost use Rattle.bq_core.specs.Keeping.{Looks};
 ghost use Rattle.bq_core.specs.Places.{item_at};
-ghost use Rattle.bq_core.specs.State.{machine_of, IsSound};
+ghost use Rattle.bq_core.specs.State.{held, machine_of};
 ghost use Rattle.bq_core.specs.Turns.{Gives, HasRoom, none_refused};
 ghost use Rattle.bq_core.specs.WaitEnds.{EndsWait, LooksAt};
 
@@ -18,12 +19,11 @@ use crate::outs::Outs;
 use crate::seat_list::SeatChange;
 use crate::seat_record::Turn;
 use crate::state::State;
-use crate::{job_list, pauses, seat_list, state};
+use crate::{changes, job_list, pauses, seat_list};
 use bq_job::Answer;
 
 // What the client at place k, which waits, is told if its wait ends now. Its first lease is asked for once.
 fn told_at_end(state: &mut State, k: usize) -> Option<Answer>
-    requires sound { IsSound state.old }
     requires seat { k < length state.old.seats.items }
     ensures told { (s : SeatRecord) → slice_get (machine_of state.old).seats k ≡ Some s → result ≡ told_at_end (machine_of state.old) s }
     ensures kept { Looks 1 state.old state.new }
@@ -41,24 +41,22 @@ fn told_at_end(state: &mut State, k: usize) -> Option<Answer>
 
 // The wait of the client at place k ends with this answer.
 fn end_wait(state: &mut State, outs: &mut Outs, k: usize, answer: Answer)
-    requires sound { IsSound state.old }
     requires seat { k < length state.old.seats.items }
     requires room { length outs.old.given < outs.old.most }
     ensures given { EndsWait (machine_of state.old) k answer outs.old outs.new (machine_of state.new) }
-    ensures kept { LeavesJobs state.old state.new }
+    ensures jobs { state.new.jobs ≡ state.old.jobs }
 {
     let number = state.seats[k].number();
-    state::change_seat(state, number, &SeatChange::StopWaiting);
+    changes::change_seat(state, number, &SeatChange::StopWaiting);
     outs.push(number, answer);
 }
 
 // The wait of the client at place k, which waits, ends if it does now.
 fn look_at(state: &mut State, outs: &mut Outs, k: usize)
-    requires sound { IsSound state.old }
     requires seat { k < length state.old.seats.items }
     requires room { length outs.old.given < outs.old.most }
     ensures looked { LooksAt (machine_of state.old) k outs.old outs.new (machine_of state.new) }
-    ensures kept { StaysSound 1 state.old state.new }
+    ensures asks { Asks 1 state.old.jobs state.new.jobs }
 {
     match told_at_end(state, k) {
         None => {}
@@ -68,7 +66,6 @@ fn look_at(state: &mut State, outs: &mut Outs, k: usize)
 
 // The place of the client that has waited longest of those whose turn comes after the last one.
 fn next_waiting(state: &State, last: Option<Turn>) -> Option<usize>
-    requires { IsSound state.now }
     ensures bound { IfSome result (λ k. k < length state.now.seats.items) }
     ensures least { item_at state.now.seats.items result ≡ first_of (waits_after last) is_wait_before state.now.seats.items }
 {
@@ -80,14 +77,13 @@ fn next_waiting(state: &State, last: Option<Turn>) -> Option<usize>
 
 // Looks at the next waiting client after the last one that was looked at, if there is one.
 fn turn(state: &mut State, outs: &mut Outs, last: &mut Option<Turn>) -> bool
-    requires sound { IsSound state.old }
     requires looked { AreLookedAt (machine_of state.old) last.old }
     requires room { HasRoom 0 (machine_of state.old) outs.old }
     ensures done { result ≡ false → IsLastTurn (next_end (machine_of state.old)) state.old state.new outs.old outs.new }
     ensures given { result ≡ true → Gives WaitEndTurn none_refused (machine_of state.old) (machine_of state.new) outs.old outs.new }
     ensures looked { result ≡ true → AreLookedAt (machine_of state.new) last.new }
     ensures fewer { result ≡ true → left_after last.new (machine_of state.new) < left_after last.old (machine_of state.old) }
-    ensures kept { StaysSound (if result then 1 else 0) state.old state.new }
+    ensures asks { Asks (if result then 1 else 0) state.old.jobs state.new.jobs }
 {
     let Some(k) = next_waiting(state, *last) else {
         return false;
@@ -100,11 +96,10 @@ fn turn(state: &mut State, outs: &mut Outs, last: &mut Option<Turn>) -> bool
 // The waits that end now end, where there may be some. Each waiting client is looked at once, in the order
 // of tickets.
 fn end_all(state: &mut State, outs: &mut Outs)
-    requires sound { IsSound state.old }
     requires room { HasRoom 0 (machine_of state.old) outs.old }
     ensures given { Gives WaitEndTurn none_refused (machine_of state.old) (machine_of state.new) outs.old outs.new }
     ensures done { next_end (machine_of state.new) ≡ None }
-    ensures kept { StaysSound (waiting_count (machine_of state.old)) state.old state.new }
+    ensures asks { Asks (waiting_count (machine_of state.old)) state.old.jobs state.new.jobs }
 {
     let mut last = None;
     while turn(state, outs, &mut last) {}
@@ -112,12 +107,10 @@ fn end_all(state: &mut State, outs: &mut Outs)
 
 // Whether some wait is over by its timeout, or because its client sends no more.
 fn is_some_wait_over(state: &mut State) -> bool
-    requires { IsSound state.old }
     ensures over { result ≡ list_any (has_waited state.old.moment) state.old.seats.items }
-    ensures same { state.new ≡ record state.old { first_end = state.new.first_end } }
-    ensures sound { IsSound state.new }
+    ensures same { held state.new ≡ record (held state.old) { first_end = state.new.first_end } }
 {
-    state::find_first_end(state);
+    changes::find_first_end(state);
     match &state.first_end {
         FirstEnd::Known(first) => pauses::is_over(*first, state.moment),
         FirstEnd::Unknown => seat_list::is_some_wait_over(
@@ -131,11 +124,10 @@ fn is_some_wait_over(state: &mut State) -> bool
 // Whether some wait may end now: a time to run ends within a second, or a timeout has come. Where nobody
 // waits, no shelf is asked.
 fn may_end(state: &mut State) -> bool
-    requires { IsSound state.old }
     ensures none { result ≡ false → next_end (machine_of state.old) ≡ None }
     ensures some { result ≡ may_end (machine_of state.old) }
     ensures same { machine_of state.new ≡ machine_of state.old }
-    ensures kept { StaysSound 1 state.old state.new }
+    ensures asks { Asks 1 state.old.jobs state.new.jobs }
 {
     if !state.has_waiter() {
         return false;
@@ -148,11 +140,10 @@ fn may_end(state: &mut State) -> bool
 
 /// The waits that end now end, the longest one first.
 pub(crate) fn end_waits(state: &mut State, outs: &mut Outs)
-    requires sound { IsSound state.old }
     requires room { HasRoom 0 (machine_of state.old) outs.old }
     ensures given { Gives WaitEndTurn none_refused (machine_of state.old) (machine_of state.new) outs.old outs.new }
     ensures done { next_end (machine_of state.new) ≡ None }
-    ensures kept { StaysSound (waiting_count (machine_of state.old) + 1) state.old state.new }
+    ensures asks { Asks (waiting_count (machine_of state.old) + 1) state.old.jobs state.new.jobs }
 {
     if may_end(state) {
         end_all(state, outs);

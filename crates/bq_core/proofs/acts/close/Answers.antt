@@ -18,10 +18,10 @@ use Rattle.bq_core.proofs.AskLemmas.{within}
 use Rattle.bq_core.proofs.CostLemmas.{given_back_changed}
 use Rattle.bq_core.proofs.acts.close.Goals as goal
 
-pub give_back_all-requires-clause-free : goal.give_back_all-requires-clause-free
-give_back_all-requires-clause-free c =
+pub give_back_all-requires : goal.give_back_all-requires
+give_back_all-requires c =
     let st = c.args.state.now in
-    ap is_reserved c.state_once_left-becomes.ensures ∙ free_by_delay st.config.requeue_delay st.moment
+    record { free = ap is_reserved c.state_once_left-becomes.ensures ∙ free_by_delay st.config.requeue_delay st.moment }
 
 pub returns-clause-reply : goal.returns-clause-reply
 returns-clause-reply c =
@@ -30,15 +30,11 @@ returns-clause-reply c =
     ∙ ap (λ (s : JobState). telling answers.Closed (with_seat c.args.seat (seat_changed Clear) (after_giving_back s c.args.seat m))) (sym c.state_once_left-becomes.ensures)
     ∙ ap (telling answers.Closed) (sym (c.change_seat.ensures.after ∙ ap (with_seat c.args.seat (seat_changed Clear)) c.give_back_all.ensures.after))
 
-pub returns-clause-kept : goal.returns-clause-kept
-returns-clause-kept c =
+pub returns-clause-asks : goal.returns-clause-asks
+returns-clause-asks c =
     let st = c.args.state.now in
     let made = ap (λ (x : Machine). x.jobs) c.give_back_all.ensures.after in
     let free = ap is_reserved c.state_once_left-becomes.ensures ∙ free_by_delay st.config.requeue_delay st.moment in
-    let few = given_back_changed c.state_once_left-becomes.result c.args.seat 1 st.next_id st.jobs.jobs free c.requires.ids in
-    record {
-      asks =
-          subst (λ (k : Kept). AsksAsChanged st.jobs k) (sym c.change_seat.ensures.kept.jobs)
-          (within _ (omega (arith, few, ap (changed_jobs st.jobs.jobs) made)) c.give_back_all.ensures.kept.asks);
-      sound = c.change_seat.ensures.kept.sound;
-    }
+    let few = given_back_changed c.state_once_left-becomes.result c.args.seat 1 st.next_id st.jobs.jobs free c.args.state.now.sound.ids in
+    subst (λ (k : Kept). AsksAsChanged st.jobs k) (sym c.change_seat.ensures.jobs)
+    (within _ (omega (arith, few, ap (changed_jobs st.jobs.jobs) made)) c.give_back_all.ensures.asks)

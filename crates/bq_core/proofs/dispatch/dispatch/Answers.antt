@@ -6,28 +6,31 @@ use Rattle.bq_core.proofs.StirLemmas.{known_nothing, none_known}
 use Rattle.bq_core.proofs.TurnLemmas.{gives_nothing}
 use Rattle.bq_core.proofs.dispatch.dispatch.Goals as goal
 
-pub returns-then-not-is_nothing-clause-sound : goal.returns-then-not-is_nothing-clause-sound
-returns-then-not-is_nothing-clause-sound c =
-    let was = c.dispatch_all.ensures.sound in
+pub invariant_of-state : goal.invariant_of-state
+invariant_of-state c =
+    let was = c.dispatch_all.new.state.sound in
     record {
-      entries = was.entries;
-      numbered = was.numbered;
-      next = was.next;
-      ids = was.ids;
-      counts = was.counts;
-      clients = was.clients;
-      crowds = was.crowds;
-      alive = was.alive;
-      stirs = known_nothing (machine_of c.dispatch_all.new.state) c.dispatch_all.ensures.done;
-      warnings = was.warnings;
-      timeouts = was.timeouts;
-      queue = was.queue;
-      pauses = was.pauses;
+      sound =
+          record {
+            entries = was.entries;
+            numbered = was.numbered;
+            next = was.next;
+            ids = was.ids;
+            counts = was.counts;
+            clients = was.clients;
+            crowds = was.crowds;
+            alive = was.alive;
+            stirs = known_nothing (machine_of c.dispatch_all.new.state) c.dispatch_all.ensures.done;
+            warnings = was.warnings;
+            timeouts = was.timeouts;
+            queue = was.queue;
+            pauses = was.pauses;
+          };
     }
 
 pub returns-else-not-is_nothing-clause-done : goal.returns-else-not-is_nothing-clause-done
 returns-else-not-is_nothing-clause-done c =
-    none_known c.args.state.now.stir (machine_of c.args.state.now) (sym c.if-not-is_nothing.ensures) c.requires.sound.stirs
+    none_known c.args.state.now.stir (machine_of c.args.state.now) (sym c.if-not-is_nothing.ensures) c.args.state.now.sound.stirs
 
 pub returns-else-not-is_nothing-clause-given : goal.returns-else-not-is_nothing-clause-given
 returns-else-not-is_nothing-clause-given c = gives_nothing DispatchTurn has_refused_share refl (machine_of c.args.state.now) c.args.outs.now

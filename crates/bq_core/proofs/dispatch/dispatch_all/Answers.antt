@@ -13,7 +13,6 @@ pub loop-init : goal.loop-init
 loop-init c = record {
   given = gives_nothing DispatchTurn has_refused_share refl (machine_of c.args.state.now) c.args.outs.now;
   asks = asks_more _ (omega arith) (asks_none c.args.state.now.jobs);
-  sound = c.requires.sound;
   room = c.requires.room;
 }
 
@@ -30,8 +29,7 @@ loop-preserved c =
       given = gives_joined DispatchTurn has_refused_share refused_joined _ _ _ _ _ _ was.given given;
       asks = asks_more _
           (one_more_turn (length c.loop.outs.given - length c.args.outs.now.given) (length c.turn.new.outs.given - length c.args.outs.now.given) (waited first) (waited so_far) (omega arith) waits)
-          (asks_then was.asks c.loop-test.ensures.kept.asks);
-      sound = c.loop-test.ensures.kept.sound;
+          (asks_then was.asks c.loop-test.ensures.asks);
       room = room_kept DispatchTurn has_refused_share 0 so_far (machine_of c.turn.new.state) c.loop.outs c.turn.new.outs given was.room;
     }
 
@@ -41,4 +39,4 @@ returns-clause-asks c =
     let first = machine_of c.args.state.now in
     let waits = handed_stop waited_tubes waited_less first was.given.given (machine_of c.loop.state) was.given.turns in
     let same = ap (λ (o : Outbox). length o.given) (c.loop-test.ensures.done refl).2 in
-    rw same (asks_more _ (omega (arith, waits)) (asks_then was.asks c.loop-test.ensures.kept.asks))
+    rw same (asks_more _ (omega (arith, waits)) (asks_then was.asks c.loop-test.ensures.asks))

@@ -5,7 +5,7 @@ use Rattle.bq_job.specs.machine.Dispatch.{DispatchTurn}
 use Rattle.bq_job.specs.machine.Steps.{has_refused_share}
 use Rattle.bq_core.specs.Asking.{Asks}
 use Rattle.bq_core.specs.Cost.{waited}
-use Rattle.bq_core.specs.State.{IsSound, machine_of}
+use Rattle.bq_core.specs.State.{machine_of}
 use Rattle.bq_core.specs.Turns.{Gives, HasRoom}
 use Rattle.bq_core.proofs.dispatch.dispatch_all.Given as goal
 
@@ -13,7 +13,6 @@ abbrev pub invariant-loop : goal.invariant-loop
 invariant-loop l = record {
   given : Gives DispatchTurn has_refused_share (machine_of l.fn.state) (machine_of l.state) l.fn.outs l.outs;
   asks : Asks ((length l.outs.given - length l.fn.outs.given) * (waited (machine_of l.fn.state) + 9)) l.fn.state.jobs l.state.jobs;
-  sound : IsSound l.state;
   room : HasRoom 0 (machine_of l.state) l.outs;
 }
 

@@ -11,7 +11,7 @@ use Rattle.bq_jobs.specs.Kept.{ranked}
 use Rattle.bq_core.specs.Cost.{waited_tubes}
 use Rattle.bq_core.specs.Crowds.{is_waiter}
 use Rattle.bq_core.specs.Offers.{is_waited_at, next_rank, offered, these, with_offers}
-use Rattle.bq_core.specs.State.{IsSound, machine_of}
+use Rattle.bq_core.specs.State.{machine_of}
 use Rattle.bq_core.specs.Stirs.{AreKnown}
 use Rattle.bq_core.specs.declared.crowd.Crowd.{Crowd}
 use Rattle.bq_core.specs.declared.state.State.{State}
@@ -27,27 +27,27 @@ use Rattle.bq_core.proofs.TubeLemmas.{paused_is}
 use Rattle.bq_core.proofs.dispatch.next_offer.Goals as goal
 
 -- the tube's count tells whether somebody waits at it
-counted_there : (name : List ℕ) (st : State) → IsSound st → is_waited_at name st.tubes ≡ list_any (is_waiter name) st.seats.items
-counted_there name st sound =
-    ap (λ (k : Crowd). nat_lt 0 k.waiting) (crowd_there name st.tubes.crowds st.seats.items st.tubes.entries sound.entries.of_seats sound.crowds)
+counted_there : (name : List ℕ) (st : State) → is_waited_at name st.tubes ≡ list_any (is_waiter name) st.seats.items
+counted_there name st =
+    ap (λ (k : Crowd). nat_lt 0 k.waiting) (crowd_there name st.tubes.crowds st.seats.items st.tubes.entries st.sound.entries.of_seats st.sound.crowds)
     ∙ some_pass (is_waiter name) st.seats.items
 
 pub returns-in-Nothing-clause-next : goal.returns-in-Nothing-clause-next
 returns-in-Nothing-clause-next c =
     let m = machine_of c.args.state.now in
-    let known = subst (λ (f : Stir). AreKnown f m.jobs m.seats m.tubes) c.in-Nothing.is c.requires.stirs in
+    let known = subst (λ (f : Stir). AreKnown f m.jobs m.seats m.tubes) c.in-Nothing.is c.args.state.now.sound.stirs in
     sym (ap (option_map (ranked (λ j. j.pri))) (none_known Nothing m refl known))
 
 pub returns-in-Tube-clause-next : goal.returns-in-Tube-clause-next
 returns-in-Tube-clause-next c =
     let st = c.args.state.now in
-    c.offer_to.ensures.offer ∙ go (is_waited_at c.in-Tube.name st.tubes) (sym (counted_there c.in-Tube.name st c.requires))
+    c.offer_to.ensures.offer ∙ go (is_waited_at c.in-Tube.name st.tubes) (sym (counted_there c.in-Tube.name st))
   where
     go : (w : Bool) → list_any (is_waiter c.in-Tube.name) (machine_of c.args.state.now).seats ≡ w
         → (if w then offered c.args.state.now.jobs.jobs c.args.state.now.tubes.entries c.in-Tube.name else None) ≡ next_rank (machine_of c.args.state.now)
     go false e =
         let m = machine_of c.args.state.now in
-        let known = subst (λ (f : Stir). AreKnown f m.jobs m.seats m.tubes) c.in-Tube.is c.requires.stirs in
+        let known = subst (λ (f : Stir). AreKnown f m.jobs m.seats m.tubes) c.in-Tube.is c.args.state.now.sound.stirs in
         sym
         (rank_agrees m (λ j. false) (tube_waits m c.in-Tube.name false e known)
         ∙ ap (option_map (ranked (λ j. j.pri))) (first_of_none_passes (λ j. false) is_job_before m.jobs (list_any_not (λ j. false) m.jobs (all_always (λ j. false ≡ false) m.jobs (λ j. refl)))))
@@ -55,8 +55,8 @@ returns-in-Tube-clause-next c =
         let st = c.args.state.now in
         let m = machine_of st in
         let name = c.in-Tube.name in
-        let known = subst (λ (f : Stir). AreKnown f m.jobs m.seats m.tubes) c.in-Tube.is c.requires.stirs in
-        offered_is m.next_id m.jobs c.requires.ids st.tubes.entries (λ n. is_paused n m) (λ n. sym (paused_is n st.tubes.entries c.requires.entries.order c.requires.entries.fresh)) name
+        let known = subst (λ (f : Stir). AreKnown f m.jobs m.seats m.tubes) c.in-Tube.is c.args.state.now.sound.stirs in
+        offered_is m.next_id m.jobs c.args.state.now.sound.ids st.tubes.entries (λ n. is_paused n m) (λ n. sym (paused_is n st.tubes.entries c.args.state.now.sound.entries.order c.args.state.now.sound.entries.fresh)) name
         ∙ sym (rank_agrees m (λ j. is_ready_in name j && not (is_paused name m)) (tube_waits m name true e known))
 
 pub returns-in-Tube-clause-kept : goal.returns-in-Tube-clause-kept
@@ -64,8 +64,7 @@ returns-in-Tube-clause-kept c =
     record {
       same = search rules;
       asks =
-          asks_more _ (go (is_waited_at c.in-Tube.name c.args.state.now.tubes) (sym (counted_there c.in-Tube.name c.args.state.now c.requires))) c.offer_to.ensures.asks;
-      sound = search rules;
+          asks_more _ (go (is_waited_at c.in-Tube.name c.args.state.now.tubes) (sym (counted_there c.in-Tube.name c.args.state.now))) c.offer_to.ensures.asks;
     }
   where
     go : (w : Bool) → list_any (is_waiter c.in-Tube.name) c.args.state.now.seats.items ≡ w → (if w then 1 else 0) ≤ sum_by waited_tubes c.args.state.now.seats.items
@@ -77,11 +76,11 @@ returns-in-Client-clause-next c =
     let st = c.args.state.now in
     let m = machine_of st in
     let o = seat_with c.in-Client.seat m.seats in
-    let known = subst (λ (f : Stir). AreKnown f m.jobs m.seats m.tubes) c.in-Client.is c.requires.stirs in
+    let known = subst (λ (f : Stir). AreKnown f m.jobs m.seats m.tubes) c.in-Client.is c.args.state.now.sound.stirs in
     c.best_of_client.ensures.best
     ∙ ap (λ seats. fold (with_offers st.jobs.jobs st.tubes.entries) None (these (seat_with c.in-Client.seat seats))) c.as_slice.ensures.value
-    ∙ next_offer m.next_id m.jobs c.requires.ids st.tubes.entries (λ name. is_paused name m) (λ name. sym (paused_is name st.tubes.entries c.requires.entries.order c.requires.entries.fresh)) m (λ name. refl) (these o)
-    ∙ sym (rank_agrees m (λ j. list_any (is_waiting_for m j) (these o)) (client_waits m c.in-Client.seat o c.requires.numbered refl known))
+    ∙ next_offer m.next_id m.jobs c.args.state.now.sound.ids st.tubes.entries (λ name. is_paused name m) (λ name. sym (paused_is name st.tubes.entries c.args.state.now.sound.entries.order c.args.state.now.sound.entries.fresh)) m (λ name. refl) (these o)
+    ∙ sym (rank_agrees m (λ j. list_any (is_waiting_for m j) (these o)) (client_waits m c.in-Client.seat o c.args.state.now.sound.numbered refl known))
 
 pub returns-in-Client-clause-kept : goal.returns-in-Client-clause-kept
 returns-in-Client-clause-kept c =
@@ -92,7 +91,6 @@ returns-in-Client-clause-kept c =
       same = search rules;
       asks =
           asks_more _ (omega (arith, slice, few)) c.best_of_client.ensures.asks;
-      sound = search rules;
     }
 
 pub returns-in-Any-clause-next : goal.returns-in-Any-clause-next
@@ -101,4 +99,4 @@ returns-in-Any-clause-next c =
     let m = machine_of st in
     c.best_offer.ensures.best
     ∙ ap (fold (with_offers st.jobs.jobs st.tubes.entries) None) c.as_slice-in-Any.ensures.value
-    ∙ next_offer m.next_id m.jobs c.requires.ids st.tubes.entries (λ name. is_paused name m) (λ name. sym (paused_is name st.tubes.entries c.requires.entries.order c.requires.entries.fresh)) m (λ name. refl) m.seats
+    ∙ next_offer m.next_id m.jobs c.args.state.now.sound.ids st.tubes.entries (λ name. is_paused name m) (λ name. sym (paused_is name st.tubes.entries c.args.state.now.sound.entries.order c.args.state.now.sound.entries.fresh)) m (λ name. refl) m.seats

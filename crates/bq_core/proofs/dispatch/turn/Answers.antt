@@ -4,25 +4,25 @@ use Rattle.bq_job.specs.declared.job.Job.{Job}
 use Rattle.bq_job.specs.machine.Dispatch.{next_job, next_seat}
 use Rattle.bq_job.specs.machine.Machine.{Machine, SeatRecord}
 use Rattle.bq_core.specs.HandOuts.{HandsOut}
-use Rattle.bq_core.specs.State.{machine_of}
+use Rattle.bq_core.specs.State.{machine_held, machine_of}
 use Rattle.bq_core.proofs.TurnLemmas.{no_next_job, somebody_waits, turn_falls, turn_given}
 use Rattle.bq_core.proofs.dispatch.turn.Goals as goal
 
 pub returns-then-not-has_waiter-clause-done : goal.returns-then-not-has_waiter-clause-done
 returns-then-not-has_waiter-clause-done c _ = (no_next_job (machine_of c.args.state.now) (sym c.if-not-has_waiter.ensures), refl, refl)
 
-pub hand_out-requires-clause-room : goal.hand_out-requires-clause-room
-hand_out-requires-clause-room c =
+pub hand_out-requires : goal.hand_out-requires
+hand_out-requires c =
     let number = c.in-Some-pick.number in
-    let picked = subst (λ (x : Machine). (j : Job) → next_job x ≡ Some j → Some number ≡ option_map (λ (s : SeatRecord). s.number) (next_seat x j)) (ap machine_of c.in-Some.ensures.kept.same) c.in-Some-pick.ensures.picked in
-    omega (arith, somebody_waits c.args.state.now c.in-Some.id c.in-Some.ensures.id number picked, c.requires.room)
+    let picked = subst (λ (x : Machine). (j : Job) → next_job x ≡ Some j → Some number ≡ option_map (λ (s : SeatRecord). s.number) (next_seat x j)) (ap machine_held c.in-Some.ensures.kept.same) c.in-Some-pick.ensures.picked in
+    record { room = omega (arith, somebody_waits c.args.state.now c.in-Some.id c.in-Some.ensures.id number picked, c.requires.room) }
 
 pub returns-clause-given : goal.returns-clause-given
 returns-clause-given c _ =
     let number = c.in-Some-pick.number in
     let shared = c.in-Some-pick.shared in
-    let first = ap machine_of c.in-Some.ensures.kept.same in
-    let second = ap machine_of c.in-Some-pick.ensures.kept.same in
+    let first = ap machine_held c.in-Some.ensures.kept.same in
+    let second = ap machine_held c.in-Some-pick.ensures.kept.same in
     let picked = subst (λ (x : Machine). (j : Job) → next_job x ≡ Some j → Some number ≡ option_map (λ (s : SeatRecord). s.number) (next_seat x j)) first c.in-Some-pick.ensures.picked in
     let body = subst (λ (x : Machine). IfOk shared (λ body. (j : Job) → next_job x ≡ Some j → body ≡ j.body)) first c.in-Some-pick.ensures.share in
     turn_given c.args.state.now c.in-Some.id c.in-Some.ensures.id number picked shared body c.args.outs.now c.hand_out.new.outs (machine_of c.hand_out.new.state)
@@ -32,8 +32,8 @@ pub returns-clause-fewer : goal.returns-clause-fewer
 returns-clause-fewer c _ =
     let number = c.in-Some-pick.number in
     let shared = c.in-Some-pick.shared in
-    let first = ap machine_of c.in-Some.ensures.kept.same in
-    let second = ap machine_of c.in-Some-pick.ensures.kept.same in
+    let first = ap machine_held c.in-Some.ensures.kept.same in
+    let second = ap machine_held c.in-Some-pick.ensures.kept.same in
     let picked = subst (λ (x : Machine). (j : Job) → next_job x ≡ Some j → Some number ≡ option_map (λ (s : SeatRecord). s.number) (next_seat x j)) first c.in-Some-pick.ensures.picked in
     let body = subst (λ (x : Machine). IfOk shared (λ body. (j : Job) → next_job x ≡ Some j → body ≡ j.body)) first c.in-Some-pick.ensures.share in
     turn_falls c.args.state.now c.in-Some.id c.in-Some.ensures.id number picked shared body c.args.outs.now c.hand_out.new.outs (machine_of c.hand_out.new.state)

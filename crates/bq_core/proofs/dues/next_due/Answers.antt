@@ -1,11 +1,11 @@
-use Rattle.std.proofs.Common.{◌≡◌, ◌∙◌, None, ap, sym, rules}
+use Rattle.std.proofs.Common.{◌≡◌, ◌∙◌, None, ap, sym}
 use Rattle.std.specs.Prelude.{flat_map, fold}
 use Rattle.bq_job.specs.declared.job.Job.{Job}
 use Rattle.bq_job.specs.machine.Machine.{SeatRecord, TubeRecord}
 use Rattle.bq_job.specs.beside.NextDue.{dues_of_pause, dues_of_state, dues_of_wait, earliest}
 use Rattle.bq_jobs.specs.Kept.{Kept}
 use Rattle.bq_core.specs.Dues.{earlier_of_both, with_seat_due, with_warning_due}
-use Rattle.bq_core.specs.State.{machine_of}
+use Rattle.bq_core.specs.State.{held, machine_held, machine_of}
 use Rattle.bq_core.specs.TubeEntries.{counted}
 use Rattle.bq_core.proofs.DueLemmas.{all_due, earliest_of_all, jobs_due_is, pauses_counted}
 use Rattle.bq_core.proofs.StateLemmas.{compared_sound}
@@ -15,7 +15,7 @@ use Rattle.bq_core.proofs.dues.next_due.Goals as goal
 pub warnings_due-warning-requires-clause-warned : goal.warnings_due-warning-requires-clause-warned
 warnings_due-warning-requires-clause-warned c =
     let same = ap (λ (k : Kept). k.jobs) c.jobs_due-jobs.ensures.same in
-    rw (same, c.as_slice.ensures.value) c.requires.warnings
+    rw (same, c.as_slice.ensures.value) c.args.state.now.sound.warnings
 
 pub returns-clause-due : goal.returns-clause-due
 returns-clause-due c =
@@ -30,7 +30,7 @@ returns-clause-due c =
     let jobs : earlier_of_both c.jobs_due-jobs.result c.warnings_due-warning.result ≡ earliest (flat_map of_job st.jobs.jobs) =
     (λ i. earlier_of_both (c.jobs_due-jobs.ensures.due i) (warning i)) ∙ jobs_due_is m in
     let tubes : st.pause_end ≡ earliest (flat_map of_tube (counted st.tubes.entries)) =
-    c.requires.pauses ∙ earliest_of_all of_tube st.tubes.entries ∙ ap earliest (pauses_counted st.tubes.entries c.requires.entries.fresh) in
+    c.args.state.now.sound.pauses ∙ earliest_of_all of_tube st.tubes.entries ∙ ap earliest (pauses_counted st.tubes.entries c.args.state.now.sound.entries.fresh) in
     let seats : c.seats_due-seats.result ≡ earliest (flat_map of_seat st.seats.items) =
     c.seats_due-seats.ensures ∙ ap (fold with_seat_due None) c.as_slice-3.ensures.value ∙ earliest_of_all of_seat st.seats.items in
     c.earlier_of-3.ensures
@@ -40,16 +40,15 @@ returns-clause-due c =
 pub returns-clause-same : goal.returns-clause-same
 returns-clause-same c =
     let st = c.args.state.now in
-    ap (λ (k : Kept). machine_of (record st { jobs = k })) (c.warnings_due-warning.ensures.same ∙ ap (λ (k : Kept). record k { comparisons = c.warnings_due-warning.new.jobs.comparisons }) c.jobs_due-jobs.ensures.same)
+    ap (λ (k : Kept). machine_held (record (held st) { jobs = k })) (c.warnings_due-warning.ensures.same ∙ ap (λ (k : Kept). record k { comparisons = c.warnings_due-warning.new.jobs.comparisons }) c.jobs_due-jobs.ensures.same)
 
-pub returns-clause-kept : goal.returns-clause-kept
-returns-clause-kept c =
+pub invariant_of-state : goal.invariant_of-state
+invariant_of-state c =
     let st = c.args.state.now in
     let kept = ap (λ (k : Kept). k.jobs) c.jobs_due-jobs.ensures.same in
     let jobs = c.warnings_due-warning.ensures.same ∙ ap (λ (k : Kept). record k { comparisons = c.warnings_due-warning.new.jobs.comparisons }) c.jobs_due-jobs.ensures.same in
-    let was = compared_sound st (record st { jobs = c.warnings_due-warning.new.jobs }) (ap (λ (k : Kept). record st { jobs = k }) jobs) c.requires in
+    let was = compared_sound st c.warnings_due-warning.new.jobs jobs in
     record {
-      asks = search rules;
       sound =
           record {
             entries = was.entries;

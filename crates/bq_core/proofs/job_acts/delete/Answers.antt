@@ -4,10 +4,6 @@ use Rattle.bq_core.specs.Asking.{AsksAsChanged}
 use Rattle.bq_core.proofs.AskLemmas.{asked_before}
 use Rattle.bq_core.proofs.job_acts.delete.Goals as goal
 
-pub returns-clause-kept : goal.returns-clause-kept
-returns-clause-kept c =
-    record {
-      asks =
-          subst (λ (k : Kept). AsksAsChanged c.args.state.now.jobs k) (sym c.change_tube.ensures.kept.jobs) (asked_before 1 4 (omega arith) c.has_job.ensures.kept.asks c.take.ensures.asks);
-      sound = c.change_tube.ensures.kept.sound;
-    }
+pub returns-clause-asks : goal.returns-clause-asks
+returns-clause-asks c =
+    subst (λ (k : Kept). AsksAsChanged c.args.state.now.jobs k) (sym c.change_tube.ensures.jobs) (asked_before 1 4 (omega arith) c.has_job.ensures.kept.asks c.take.ensures.asks)

@@ -7,7 +7,7 @@ use Rattle.bq_job.specs.machine.JobStates.{is_reserved}
 use Rattle.bq_job.specs.machine.Machine.{Machine}
 use Rattle.bq_core.specs.declared.job_list.JobTest.TheVariants.{Free}
 use Rattle.bq_core.specs.JobChanges.{passes}
-use Rattle.bq_core.specs.State.{machine_of}
+use Rattle.bq_core.specs.State.{machine_held, machine_of}
 use Rattle.bq_core.proofs.ActLemmas.{not_true, passed_by, reserve_job_done}
 use Rattle.bq_core.proofs.TurnLemmas.{if_ok}
 use Rattle.bq_core.proofs.job_acts.reserve_job.Goals as goal
@@ -19,8 +19,8 @@ returns-clause-reply c s at =
     let id = c.args.id in
     let there = passed_by (passes Free) (job_with id m.jobs) (sym c.if-not-has_job.ensures.has) in
     let j = there.0 in
-    let first : machine_of c.has_job.new.self ≡ m = ap machine_of c.if-not-has_job.ensures.kept.same in
-    let second : machine_of c.share.new.self ≡ m = ap machine_of c.in-Some.ensures.kept.same ∙ first in
+    let first : machine_of c.has_job.new.self ≡ m = ap machine_held c.if-not-has_job.ensures.kept.same in
+    let second : machine_of c.share.new.self ≡ m = ap machine_held c.in-Some.ensures.kept.same ∙ first in
     let told = if_ok c.in-Some.shared c.in-Ok.body _ c.in-Ok.is c.in-Some.ensures.share in
     let body : c.in-Ok.body ≡ j.body = told j (ap (λ (x : Machine). job_with id x.jobs) first ∙ there.1) in
     let free : is_reserved j.state ≡ false = not_true (is_reserved j.state) there.2 in

@@ -20,11 +20,7 @@ returns-clause-reply c s found =
     ∙ ap (λ n. telling (answers.KickedCount n) (after_kick (take bound (kickable tube m.jobs)) m)) (sym c.kick_in-count.ensures.count)
     ∙ ap (telling (answers.KickedCount c.kick_in-count.result)) (sym c.kick_in-count.ensures.kicked)
 
-pub returns-clause-kept : goal.returns-clause-kept
-returns-clause-kept c =
+pub returns-clause-asks : goal.returns-clause-asks
+returns-clause-asks c =
     let changed = c.kick_in-count.ensures.changed in
-    record {
-      asks =
-          within _ (omega arith) c.kick_in-count.ensures.kept.asks;
-      sound = c.kick_in-count.ensures.kept.sound;
-    }
+    within _ (omega arith) c.kick_in-count.ensures.asks

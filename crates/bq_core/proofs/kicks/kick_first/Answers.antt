@@ -6,7 +6,7 @@ use Rattle.bq_job.specs.machine.JobCommands.{kicked}
 use Rattle.bq_job.specs.machine.Machine.{Machine}
 use Rattle.bq_core.specs.JobKinds.{is_before_of, is_of}
 use Rattle.bq_core.specs.Kicking.{KicksFirst}
-use Rattle.bq_core.specs.State.{machine_of}
+use Rattle.bq_core.specs.State.{machine_held, machine_of}
 use Rattle.bq_core.proofs.FiringLemmas.{chosen, one_fewer}
 use Rattle.bq_core.proofs.KickLemmas.{kicks_first, no_id, none_of_kind}
 use Rattle.bq_core.proofs.kicks.kick_first.Goals as goal
@@ -14,34 +14,34 @@ use Rattle.bq_core.proofs.kicks.kick_first.Goals as goal
 pub returns-in_default-clause-none : goal.returns-in_default-clause-none
 returns-in_default-clause-none c _ =
     let jobs = (machine_of c.args.state.now).jobs in
-    (none_of_kind c.args.kind c.args.tube.now jobs (sym (no_id (first_of (is_of c.args.kind c.args.tube.now) (is_before_of c.args.kind) jobs) c.in_default.ensures.id)), ap machine_of c.in_default.ensures.kept.same)
+    (none_of_kind c.args.kind c.args.tube.now jobs (sym (no_id (first_of (is_of c.args.kind c.args.tube.now) (is_before_of c.args.kind) jobs) c.in_default.ensures.id)), ap machine_held c.in_default.ensures.kept.same)
 
 pub returns-clause-kicked : goal.returns-clause-kicked
 returns-clause-kicked c _ =
     let m = machine_of c.args.state.now in
-    let one = chosen (is_of c.args.kind c.args.tube.now) (is_before_of c.args.kind) 1 m.next_id m.jobs c.in-Some.id c.requires.sound.ids c.in-Some.ensures.id in
+    let one = chosen (is_of c.args.kind c.args.tube.now) (is_before_of c.args.kind) 1 m.next_id m.jobs c.in-Some.id c.args.state.now.sound.ids c.in-Some.ensures.id in
     let jobs : (machine_of c.change_job.new.state).jobs ≡ map (λ k. if k.id == one.job.id then kicked k else k) m.jobs =
     ap (λ (x : Machine). x.jobs) c.change_job.ensures.after
-    ∙ ap (λ (x : Machine). map (λ (k : Job). if k.id == c.in-Some.id then kicked k else k) x.jobs) (ap machine_of c.in-Some.ensures.kept.same)
+    ∙ ap (λ (x : Machine). map (λ (k : Job). if k.id == c.in-Some.id then kicked k else k) x.jobs) (ap machine_held c.in-Some.ensures.kept.same)
     ∙ ap (λ n. map (λ (k : Job). if k.id == n then kicked k else k) m.jobs) one.id_is in
     subst (KicksFirst c.args.kind c.args.tube.now m.jobs) (sym jobs)
-    (kicks_first c.args.kind c.args.tube.now 1 m.next_id m.jobs one.job c.requires.out c.requires.sound.ids one.first)
+    (kicks_first c.args.kind c.args.tube.now 1 m.next_id m.jobs one.job c.requires.out c.args.state.now.sound.ids one.first)
 
 pub returns-clause-others : goal.returns-clause-others
 returns-clause-others c =
     let m = machine_of c.args.state.now in
     let jobs = ap (λ (x : Machine). x.jobs) c.change_job.ensures.after in
     c.change_job.ensures.after
-    ∙ ap (λ (x : Machine). record x { jobs = map (λ (k : Job). if k.id == c.in-Some.id then kicked k else k) x.jobs }) (ap machine_of c.in-Some.ensures.kept.same)
-    ∙ ap (λ js. record m { jobs = js }) (sym (jobs ∙ ap (λ (x : Machine). map (λ (k : Job). if k.id == c.in-Some.id then kicked k else k) x.jobs) (ap machine_of c.in-Some.ensures.kept.same)))
+    ∙ ap (λ (x : Machine). record x { jobs = map (λ (k : Job). if k.id == c.in-Some.id then kicked k else k) x.jobs }) (ap machine_held c.in-Some.ensures.kept.same)
+    ∙ ap (λ js. record m { jobs = js }) (sym (jobs ∙ ap (λ (x : Machine). map (λ (k : Job). if k.id == c.in-Some.id then kicked k else k) x.jobs) (ap machine_held c.in-Some.ensures.kept.same)))
 
 pub returns-clause-fewer : goal.returns-clause-fewer
 returns-clause-fewer c _ =
     let m = machine_of c.args.state.now in
     let p = is_of c.args.kind c.args.tube.now in
-    let one = chosen p (is_before_of c.args.kind) 1 m.next_id m.jobs c.in-Some.id c.requires.sound.ids c.in-Some.ensures.id in
+    let one = chosen p (is_before_of c.args.kind) 1 m.next_id m.jobs c.in-Some.id c.args.state.now.sound.ids c.in-Some.ensures.id in
     let jobs : (machine_of c.change_job.new.state).jobs ≡ map (λ k. if k.id == c.in-Some.id then kicked k else k) m.jobs =
     ap (λ (x : Machine). x.jobs) c.change_job.ensures.after
-    ∙ ap (λ (x : Machine). map (λ (k : Job). if k.id == c.in-Some.id then kicked k else k) x.jobs) (ap machine_of c.in-Some.ensures.kept.same) in
-    let fewer = one_fewer p kicked c.in-Some.id 1 m.next_id m.jobs one.job c.requires.sound.ids one.found one.passes_is (c.requires.out one.job) in
+    ∙ ap (λ (x : Machine). map (λ (k : Job). if k.id == c.in-Some.id then kicked k else k) x.jobs) (ap machine_held c.in-Some.ensures.kept.same) in
+    let fewer = one_fewer p kicked c.in-Some.id 1 m.next_id m.jobs one.job c.args.state.now.sound.ids one.found one.passes_is (c.requires.out one.job) in
     omega (arith, fewer, ap (count_by p) jobs)

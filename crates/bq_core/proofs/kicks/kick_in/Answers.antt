@@ -10,8 +10,8 @@ use Rattle.bq_core.specs.State.{machine_of}
 use Rattle.bq_core.proofs.StateLemmas.{compared_sound}
 use Rattle.bq_core.proofs.kicks.kick_in.Goals as goal
 
-pub kick_some-requires-clause-sound : goal.kick_some-requires-clause-sound
-kick_some-requires-clause-sound c = compared_sound c.args.state.now _ (ap (λ (k : Kept). record c.args.state.now { jobs = k }) c.kind_to_kick-kind.ensures.same) c.requires
+pub invariant_of-state : goal.invariant_of-state
+invariant_of-state c = record { sound = compared_sound c.args.state.now _ c.kind_to_kick-kind.ensures.same }
 
 pub returns-clause-kicked : goal.returns-clause-kicked
 returns-clause-kicked c =
@@ -38,5 +38,5 @@ returns-clause-changed c =
     let chosen = take c.args.bound (jobs_of kind tube c.kind_to_kick-kind.new.jobs.jobs) in
     let made : c.kick_some.new.state.jobs.jobs ≡ all_kicked chosen m.jobs = ap (λ (x : Machine). x.jobs) c.kick_some.ensures.kicked ∙ ap (all_kicked chosen) same in
     let fewer = c.kick_some.ensures.fewer in
-    rw made (kicked_changed kind tube c.kind_to_kick-kind.ensures.out chosen 1 m.next_id c.kick_some.result m.jobs c.requires.ids
+    rw made (kicked_changed kind tube c.kind_to_kick-kind.ensures.out chosen 1 m.next_id c.kick_some.result m.jobs c.args.state.now.sound.ids
     (omega (arith, ap (count_by (is_of kind tube)) made, ap (count_by (is_of kind tube)) same)))

@@ -1,4 +1,4 @@
-use Rattle.std.proofs.Common.{◌≡◌, ◌∙◌, ◌+◌, ◌-◌, suc, ap, arith, length, refl, sym, take, rules, subst, if◌then◌else◌}
+use Rattle.std.proofs.Common.{◌≡◌, ◌∙◌, ◌+◌, ◌-◌, suc, ap, arith, length, refl, sym, take, subst, if◌then◌else◌}
 use Rattle.bq_job.specs.machine.Machine.{Machine}
 use Rattle.std.specs.Prelude.{count_by}
 use Rattle.bq_core.specs.JobKinds.{is_of}
@@ -19,7 +19,6 @@ loop-done-init c =
       others = refl;
       fewer = omega arith;
       asks = asks_none c.args.state.now.jobs;
-      sound = c.requires.sound;
     }
 
 pub loop-done-preserved : goal.loop-done-preserved
@@ -34,8 +33,7 @@ loop-done-preserved c =
       count = λ n. ap (λ k. length (take k first)) (one_on d n) ∙ was.count (suc n) ∙ (let e = one.count n in omega (arith, e));
       others = c.kick_first.ensures.others ∙ ap (λ (x : Machine). record x { jobs = (machine_of c.kick_first.new.state).jobs }) was.others;
       fewer = (let few = was.fewer in let falls = c.kick_first.ensures.fewer c.if-not-kick_first.false in omega arith);
-      asks = asks_more _ (omega arith) (asks_then was.asks (subst (λ b. Asks (if b then 9 else 1) c.loop-done.state.jobs c.kick_first.new.state.jobs) c.if-not-kick_first.false c.kick_first.ensures.kept.asks));
-      sound = c.kick_first.ensures.kept.sound;
+      asks = asks_more _ (omega arith) (asks_then was.asks (subst (λ b. Asks (if b then 9 else 1) c.loop-done.state.jobs c.kick_first.new.state.jobs) c.if-not-kick_first.false c.kick_first.ensures.asks));
     }
 
 pub returns-then-not-kick_first-clause-kicked : goal.returns-then-not-kick_first-clause-kicked
@@ -77,14 +75,10 @@ returns-then-not-kick_first-clause-fewer c =
     let many = c.from.ensures in
     omega arith
 
-pub returns-then-not-kick_first-clause-kept : goal.returns-then-not-kick_first-clause-kept
-returns-then-not-kick_first-clause-kept c =
+pub returns-then-not-kick_first-clause-asks : goal.returns-then-not-kick_first-clause-asks
+returns-then-not-kick_first-clause-asks c =
     let many = c.from.ensures in
-    record {
-      asks =
-          asks_more _ (omega arith) (asks_then c.loop-done.invariant.asks (subst (λ b. Asks (if b then 9 else 1) c.loop-done.state.jobs c.kick_first.new.state.jobs) c.if-not-kick_first.true c.kick_first.ensures.kept.asks));
-      sound = search rules;
-    }
+    asks_more _ (omega arith) (asks_then c.loop-done.invariant.asks (subst (λ b. Asks (if b then 9 else 1) c.loop-done.state.jobs c.kick_first.new.state.jobs) c.if-not-kick_first.true c.kick_first.ensures.asks))
 
 pub returns-clause-fewer : goal.returns-clause-fewer
 returns-clause-fewer c =
@@ -92,11 +86,7 @@ returns-clause-fewer c =
     let many = c.from-2.ensures in
     omega arith
 
-pub returns-clause-kept : goal.returns-clause-kept
-returns-clause-kept c =
+pub returns-clause-asks : goal.returns-clause-asks
+returns-clause-asks c =
     let many = c.from-2.ensures in
-    record {
-      asks =
-          asks_more _ (omega arith) c.loop-done.invariant.asks;
-      sound = search rules;
-    }
+    asks_more _ (omega arith) c.loop-done.invariant.asks

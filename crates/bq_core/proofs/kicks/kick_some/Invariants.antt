@@ -4,7 +4,7 @@ use Rattle.std.specs.Prelude.{count_by}
 use Rattle.bq_core.specs.Asking.{Asks}
 use Rattle.bq_core.specs.JobKinds.{is_of}
 use Rattle.bq_core.specs.Kicking.{all_kicked, jobs_of}
-use Rattle.bq_core.specs.State.{IsSound, machine_of}
+use Rattle.bq_core.specs.State.{machine_of}
 use Rattle.bq_core.proofs.kicks.kick_some.Given as goal
 
 abbrev pub invariant-loop-done : goal.invariant-loop-done
@@ -14,5 +14,4 @@ invariant-loop-done l = record {
   others : machine_of l.state ≡ record (machine_of l.fn.state) { jobs = (machine_of l.state).jobs };
   fewer : count_by (is_of l.kind l.tube) (machine_of l.state).jobs + l.done ≤ count_by (is_of l.kind l.tube) (machine_of l.fn.state).jobs;
   asks : Asks (9 * l.done) l.fn.state.jobs l.state.jobs;
-  sound : IsSound l.state;
 }

@@ -1,4 +1,4 @@
-use Rattle.std.proofs.Common.{arith, refl, ◌∙◌, rules}
+use Rattle.std.proofs.Common.{arith, refl, ◌∙◌}
 use Rattle.bq_core.proofs.AskLemmas.{asks_more, asks_none, asks_then}
 use Rattle.bq_core.proofs.leases.give_back_all.Goals as goal
 
@@ -7,7 +7,6 @@ loop-becomes-init c = record {
   left = refl;
   asks = asks_more _ (omega arith) (asks_none c.args.state.now.jobs);
   fewer = omega arith;
-  sound = c.requires.sound;
 }
 
 pub loop-becomes-preserved : goal.loop-becomes-preserved
@@ -17,16 +16,11 @@ loop-becomes-preserved c =
     let most = was.fewer in
     record {
       left = c.loop-becomes-test.ensures.given ∙ was.left;
-      asks = asks_more _ (omega arith) (asks_then was.asks c.loop-becomes-test.ensures.kept.asks);
+      asks = asks_more _ (omega arith) (asks_then was.asks c.loop-becomes-test.ensures.asks);
       fewer = omega arith;
-      sound = c.loop-becomes-test.ensures.kept.sound;
     }
 
-pub returns-clause-kept : goal.returns-clause-kept
-returns-clause-kept c =
+pub returns-clause-asks : goal.returns-clause-asks
+returns-clause-asks c =
     let most = c.loop-becomes.invariant.fewer in
-    record {
-      asks =
-          asks_more _ (omega arith) (asks_then c.loop-becomes.invariant.asks c.loop-becomes-test.ensures.kept.asks);
-      sound = search rules;
-    }
+    asks_more _ (omega arith) (asks_then c.loop-becomes.invariant.asks c.loop-becomes-test.ensures.asks)

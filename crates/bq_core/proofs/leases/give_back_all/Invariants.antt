@@ -4,7 +4,7 @@ use Rattle.std.specs.Prelude.{count_by}
 use Rattle.bq_job.specs.machine.Changes.{is_held_by}
 use Rattle.bq_core.specs.Asking.{Asks}
 use Rattle.bq_core.specs.Firing.{after_giving_back}
-use Rattle.bq_core.specs.State.{IsSound, machine_of}
+use Rattle.bq_core.specs.State.{machine_of}
 use Rattle.bq_core.proofs.leases.give_back_all.Given as goal
 
 abbrev pub invariant-loop-becomes : goal.invariant-loop-becomes
@@ -12,7 +12,6 @@ invariant-loop-becomes l = record {
   left : after_giving_back l.becomes l.seat (machine_of l.state) ≡ after_giving_back l.becomes l.seat (machine_of l.fn.state);
   asks : Asks (9 * (count_by (is_held_by l.seat) (machine_of l.fn.state).jobs - count_by (is_held_by l.seat) (machine_of l.state).jobs)) l.fn.state.jobs l.state.jobs;
   fewer : count_by (is_held_by l.seat) (machine_of l.state).jobs ≤ count_by (is_held_by l.seat) (machine_of l.fn.state).jobs;
-  sound : IsSound l.state;
 }
 
 abbrev pub decreases-loop-becomes : goal.decreases-loop-becomes

@@ -23,11 +23,11 @@ serve-requires-clause-room c =
     let most : c.args.state.now.config.seats < c.begin.new.self.most = rw c.begin.ensures c.requires.room in
     less_room (machine_of c.fire.new.state) c.begin.new.self (first_room c.args.state.now c.fire.new.state c.args.at c.begin.new.self c.requires.lawful fires (ap (λ o. o.given) c.begin.ensures) most)
 
-pub act-requires-clause-room : goal.act-requires-clause-room
-act-requires-clause-room c =
+pub act-requires : goal.act-requires
+act-requires c =
     let fires = c.fire.ensures.after ∙ ap after_timers c.raise_moment.ensures.after in
     let most : c.args.state.now.config.seats < c.begin.new.self.most = rw c.begin.ensures c.requires.room in
-    c.serve.ensures.served.serves.room 1 (first_room c.args.state.now c.fire.new.state c.args.at c.begin.new.self c.requires.lawful fires (ap (λ o. o.given) c.begin.ensures) most)
+    record { room = c.serve.ensures.served.serves.room 1 (first_room c.args.state.now c.fire.new.state c.args.at c.begin.new.self c.requires.lawful fires (ap (λ o. o.given) c.begin.ensures) most) }
 
 pub serve-requires-2-clause-tubes : goal.serve-requires-2-clause-tubes
 serve-requires-2-clause-tubes c = subst NoneIsGone (sym c.forget_tubes.ensures.after) (forgotten_none (machine_of c.act.new.state))
@@ -54,11 +54,11 @@ returns-clause-comparisons c =
     let fires = c.fire.ensures.after ∙ ap after_timers c.raise_moment.ensures.after in
     let raised = c.raise_moment.ensures.after in
     let ripe = ap (λ (x : Machine). count_by (is_ripe x.moment) x.jobs) raised in
-    let timers = asks_more _ (omega (arith, ripe)) (subst (λ (k : Kept). Asks (10 * count_by (is_ripe c.raise_moment.new.state.moment) (machine_of c.raise_moment.new.state).jobs + 2) k c.fire.new.state.jobs) c.raise_moment.ensures.kept.jobs c.fire.ensures.kept.asks) in
+    let timers = asks_more _ (omega (arith, ripe)) (subst (λ (k : Kept). Asks (10 * count_by (is_ripe c.raise_moment.new.state.moment) (machine_of c.raise_moment.new.state).jobs + 2) k c.fire.new.state.jobs) c.raise_moment.ensures.jobs c.fire.ensures.asks) in
     step_within st c.args.at c.args.seat c.args.what.now c.begin.new.self c.serve.new.outs c.act.new.outs c.serve-2.new.outs c.act.new.state c.forget_tubes.new.state c.serve-2.new.state
     (ap (λ o. o.given) c.begin.ensures) (ap (λ o. o.left_out) c.begin.ensures) (ap (λ o. o.unshared) c.begin.ensures)
     (record { fired = c.fire.new.state; served_state = c.serve.new.state; lawful = c.requires.lawful; fires = fires; serves = c.serve.ensures.served.serves; acts = c.act.ensures.acts; forgotten = c.forget_tubes.ensures.after })
     c.serve-2.ensures.served.serves
     timers c.serve.ensures.served.asks
-    (subst (λ (k : Kept). AsksAsChanged c.serve.new.state.jobs k) (sym c.forget_tubes.ensures.kept.jobs) c.act.ensures.kept.asks)
+    (subst (λ (k : Kept). AsksAsChanged c.serve.new.state.jobs k) (sym c.forget_tubes.ensures.jobs) c.act.ensures.asks)
     c.serve-2.ensures.served.asks

@@ -5,7 +5,7 @@ use Rattle.bq_job.specs.machine.Changes.{job_with}
 use Rattle.bq_job.specs.machine.Statistics.{job_statistics}
 use Rattle.bq_job.specs.machine.StatisticsCommands.{job_statistics_or_not}
 use Rattle.bq_jobs.specs.Kept.{Kept}
-use Rattle.bq_core.specs.State.{machine_of}
+use Rattle.bq_core.specs.State.{held, machine_held, machine_of}
 use Rattle.bq_core.proofs.ActLemmas.{some_there}
 use Rattle.bq_core.proofs.TurnLemmas.{if_ok}
 use Rattle.bq_core.proofs.statistics_acts.stats_job.Goals as goal
@@ -17,7 +17,7 @@ returns-in-Some-Ok-clause-reply c =
     let j = there.0 in
     let told = if_ok c.in-Some-Ok.field-0 c.in-Some-Ok.text _ c.in-Some-Ok.field-0-is c.in-Some-Ok.ensures.text in
     let text : c.in-Some-Ok.text ≡ job_statistics m j = told m j refl there.1 in
-    let same : machine_of (record c.args.state.now { jobs = c.text_of_job.new.jobs }) ≡ m =
+    let same : machine_held (record (held c.args.state.now) { jobs = c.text_of_job.new.jobs }) ≡ m =
     ap (λ (k : Kept). record m { jobs = k.jobs }) c.in-Some-Ok.ensures.same in
     ap (job_statistics_or_not m) there.1
     ∙ ap (λ t. telling (answers.Ok t) m) (sym text)

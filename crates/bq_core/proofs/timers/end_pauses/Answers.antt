@@ -1,4 +1,4 @@
-use Rattle.std.proofs.Common.{◌≡◌, ◌∙◌, ap, refl, false, sym, rules}
+use Rattle.std.proofs.Common.{◌≡◌, ◌∙◌, ap, refl, false, sym}
 use Rattle.std.specs.List.{list_any}
 use Rattle.bq_job.specs.machine.Timers.{tube_after_timers}
 use Rattle.bq_core.specs.KeptTubes.{KeptTubes}
@@ -20,12 +20,11 @@ returns-clause-after c =
     let s = c.args.state.now in
     ap (λ tubes. record (machine_of s) { tubes = tubes }) (ap counted (ap (λ (k : KeptTubes). k.entries) c.fire_timers.ensures) ∙ filter_of_map is_counted (tube_after_timers s.moment) (λ t. refl) s.tubes.entries)
 
-pub returns-clause-kept : goal.returns-clause-kept
-returns-clause-kept c =
+pub invariant_of-state : goal.invariant_of-state
+invariant_of-state c =
     let s = c.args.state.now in
-    let was = c.requires in
+    let was = c.args.state.now.sound in
     record {
-      jobs = search rules;
       sound =
           record {
             entries = rw (ap (λ (k : KeptTubes). k.entries) c.fire_timers.ensures) (entries_of_timers s.moment s.jobs.jobs s.seats.items s.tubes.entries was.entries);
@@ -47,5 +46,5 @@ returns-clause-kept c =
 pub returns-then-not-is_over-clause-after : goal.returns-then-not-is_over-clause-after
 returns-then-not-is_over-clause-after c =
     let s = c.args.state.now in
-    let none : list_any (is_pause_over s.moment) s.tubes.entries ≡ false = none_over s.moment s.tubes.entries (ap (is_end_over s.moment) (sym c.requires.pauses) ∙ sym c.if-not-is_over.ensures) in
+    let none : list_any (is_pause_over s.moment) s.tubes.entries ≡ false = none_over s.moment s.tubes.entries (ap (is_end_over s.moment) (sym c.args.state.now.sound.pauses) ∙ sym c.if-not-is_over.ensures) in
     ap (λ tubes. record (machine_of s) { tubes = tubes }) (sym (no_pause_ends s.moment (counted s.tubes.entries) (none_counted s.moment s.tubes.entries none)))

@@ -18,14 +18,14 @@ returns-clause-done c e due =
 pub returns-clause-fired : goal.returns-clause-fired
 returns-clause-fired c =
     let m = machine_of c.args.state.now in
-    counted_fired m (machine_of c.expire_first-expired.new.state) c.saturating_add-state.result c.expire_first-expired.result c.requires.ids c.expire_first-expired.ensures.none c.expire_first-expired.ensures.one
+    counted_fired m (machine_of c.expire_first-expired.new.state) c.saturating_add-state.result c.expire_first-expired.result c.args.state.now.sound.ids c.expire_first-expired.ensures.none c.expire_first-expired.ensures.one
     (c.saturating_add-state.ensures ∙ ap (λ n. grown n c.expire_first-expired.new.state.timeouts) c.times.ensures)
 
 pub returns-clause-fewer : goal.returns-clause-fewer
 returns-clause-fewer c e =
     let m = machine_of c.args.state.now in
     let x = c.expire_first-expired.ensures.one e in
-    subst (λ (n : Machine). count_by (is_ripe m.moment) n.jobs < count_by (is_ripe m.moment) m.jobs) (sym x.after) (fewer_expired m x.id c.requires.ids x.one)
+    subst (λ (n : Machine). count_by (is_ripe m.moment) n.jobs < count_by (is_ripe m.moment) m.jobs) (sym x.after) (fewer_expired m x.id c.args.state.now.sound.ids x.one)
 
 pub returns-clause-same : goal.returns-clause-same
 returns-clause-same c e = ap (λ (x : Machine). x.jobs) (c.expire_first-expired.ensures.none e).1

@@ -1,4 +1,4 @@
-use Rattle.std.proofs.Common.{◌≡◌, ◌<◌, ap, arith, refl, subst, ◌∙◌, rules}
+use Rattle.std.proofs.Common.{◌≡◌, ◌<◌, ap, arith, refl, subst, ◌∙◌}
 use Rattle.std.specs.Prelude.{count_by}
 use Rattle.bq_job.specs.machine.Machine.{Machine}
 use Rattle.bq_core.specs.Firing.{is_ripe}
@@ -11,7 +11,6 @@ loop-init c = record {
   left = refl;
   asks = asks_more _ (omega arith) (asks_none c.args.state.now.jobs);
   fewer = omega arith;
-  sound = c.requires;
 }
 
 pub loop-preserved : goal.loop-preserved
@@ -22,16 +21,11 @@ loop-preserved c =
     let most = was.fewer in
     record {
       left = c.loop-test.ensures.fired ∙ was.left;
-      asks = asks_more _ (omega arith) (asks_then was.asks c.loop-test.ensures.kept.asks);
+      asks = asks_more _ (omega arith) (asks_then was.asks c.loop-test.ensures.asks);
       fewer = omega arith;
-      sound = c.loop-test.ensures.kept.sound;
     }
 
-pub returns-clause-kept : goal.returns-clause-kept
-returns-clause-kept c =
+pub returns-clause-asks : goal.returns-clause-asks
+returns-clause-asks c =
     let most = c.loop.invariant.fewer in
-    record {
-      asks =
-          asks_more _ (omega arith) (asks_then c.loop.invariant.asks c.loop-test.ensures.kept.asks);
-      sound = search rules;
-    }
+    asks_more _ (omega arith) (asks_then c.loop.invariant.asks c.loop-test.ensures.asks)

@@ -3,7 +3,7 @@ use Rattle.std.proofs.Common.{◌≡◌, ◌*◌, ◌-◌, ◌≤◌}
 use Rattle.std.specs.Prelude.{count_by}
 use Rattle.bq_core.specs.Asking.{Asks}
 use Rattle.bq_core.specs.Firing.{after_job_timers, is_ripe}
-use Rattle.bq_core.specs.State.{IsSound, machine_of}
+use Rattle.bq_core.specs.State.{machine_of}
 use Rattle.bq_core.proofs.timers.fire_jobs.Given as goal
 
 abbrev pub invariant-loop : goal.invariant-loop
@@ -11,7 +11,6 @@ invariant-loop l = record {
   left : after_job_timers (machine_of l.state) ≡ after_job_timers (machine_of l.fn.state);
   asks : Asks (10 * (count_by (is_ripe l.fn.state.moment) (machine_of l.fn.state).jobs - count_by (is_ripe l.fn.state.moment) (machine_of l.state).jobs)) l.fn.state.jobs l.state.jobs;
   fewer : count_by (is_ripe l.fn.state.moment) (machine_of l.state).jobs ≤ count_by (is_ripe l.fn.state.moment) (machine_of l.fn.state).jobs;
-  sound : IsSound l.state;
 }
 
 abbrev pub decreases-loop : goal.decreases-loop

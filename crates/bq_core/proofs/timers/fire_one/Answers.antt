@@ -16,20 +16,17 @@ returns-else-ripen-clause-done c e =
 pub returns-else-ripen-clause-same : goal.returns-else-ripen-clause-same
 returns-else-ripen-clause-same c e = c.expire.ensures.same e ∙ ap (λ (x : Machine). x.jobs) (c.ripen.ensures.same c.if-ripen.false)
 
-pub returns-then-ripen-clause-kept : goal.returns-then-ripen-clause-kept
-returns-then-ripen-clause-kept c = record { asks = asks_more _ (wider c.ripen.result) c.ripen.ensures.kept.asks; sound = c.ripen.ensures.kept.sound }
+pub returns-then-ripen-clause-asks : goal.returns-then-ripen-clause-asks
+returns-then-ripen-clause-asks c = asks_more _ (wider c.ripen.result) c.ripen.ensures.asks
   where
     wider : (b : Bool) → (if b then 9 else 1) ≤ (if b then 10 else 2)
     wider true = omega arith
     wider false = omega arith
 
-pub returns-else-ripen-clause-kept : goal.returns-else-ripen-clause-kept
-returns-else-ripen-clause-kept c =
-    let first = subst (λ b. Asks (if b then 9 else 1) c.args.state.now.jobs c.ripen.new.state.jobs) c.if-ripen.false c.ripen.ensures.kept.asks in
-    record {
-      asks = asks_more _ (one_more c.expire.result) (asks_then first c.expire.ensures.kept.asks);
-      sound = c.expire.ensures.kept.sound;
-    }
+pub returns-else-ripen-clause-asks : goal.returns-else-ripen-clause-asks
+returns-else-ripen-clause-asks c =
+    let first = subst (λ b. Asks (if b then 9 else 1) c.args.state.now.jobs c.ripen.new.state.jobs) c.if-ripen.false c.ripen.ensures.asks in
+    asks_more _ (one_more c.expire.result) (asks_then first c.expire.ensures.asks)
   where
     one_more : (b : Bool) → 1 + (if b then 9 else 1) ≤ (if b then 10 else 2)
     one_more true = omega arith

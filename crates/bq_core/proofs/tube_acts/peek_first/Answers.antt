@@ -4,7 +4,7 @@ use Rattle.bq_job.specs.machine.Changes.{first_of, job_with}
 use Rattle.bq_job.specs.machine.Machine.{Machine}
 use Rattle.bq_core.specs.Acting.{Replies}
 use Rattle.bq_core.specs.JobKinds.{is_before_of, is_of}
-use Rattle.bq_core.specs.State.{machine_of}
+use Rattle.bq_core.specs.State.{machine_held, machine_of}
 use Rattle.bq_core.proofs.FiringLemmas.{chosen}
 use Rattle.bq_core.proofs.tube_acts.peek_first.Goals as goal
 
@@ -13,8 +13,8 @@ returns-in-Some-clause-reply c s found =
     let m = machine_of c.args.state.now in
     let p = is_of c.args.kind s.used in
     let before = is_before_of c.args.kind in
-    let one = chosen p before 1 m.next_id m.jobs c.in-Some.id c.requires.ids (c.in-Some.ensures.id s found) in
-    let same : machine_of c.first_used.new.state ≡ m = ap machine_of c.in-Some.ensures.kept.same in
+    let one = chosen p before 1 m.next_id m.jobs c.in-Some.id c.args.state.now.sound.ids (c.in-Some.ensures.id s found) in
+    let same : machine_of c.first_used.new.state ≡ m = ap machine_held c.in-Some.ensures.kept.same in
     let shows : showing m (job_with c.in-Some.id m.jobs) ≡ showing m (first_of p before m.jobs) = ap (showing m) (one.found ∙ sym one.first) in
     subst (λ e. Replies false m e c.show.result c.show.new.told (machine_of c.show.new.state)) shows
     (subst (λ (x : Machine). Replies false x (showing x (job_with c.in-Some.id x.jobs)) c.show.result c.show.new.told (machine_of c.show.new.state)) same c.show.ensures.reply)

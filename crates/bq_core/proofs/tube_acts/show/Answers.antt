@@ -2,7 +2,7 @@ use Rattle.std.proofs.Common.{◌≡◌, ◌∙◌, ap, sym}
 use Rattle.bq_job.specs.declared.answer.Answer.TheVariants as answers
 use Rattle.bq_job.specs.machine.Acts.{showing, telling}
 use Rattle.bq_job.specs.machine.Changes.{job_with}
-use Rattle.bq_core.specs.State.{machine_of}
+use Rattle.bq_core.specs.State.{machine_held, machine_of}
 use Rattle.bq_core.proofs.ActLemmas.{id_found, some_there}
 use Rattle.bq_core.proofs.TurnLemmas.{if_ok}
 use Rattle.bq_core.proofs.tube_acts.show.Goals as goal
@@ -18,4 +18,4 @@ returns-in-Some-Ok-clause-reply c =
     ap (showing m) there.1
     ∙ ap (λ n. telling (answers.Found n j.body) m) (id_found id m.jobs j there.1)
     ∙ ap (λ b. telling (answers.Found id b) m) (sym body)
-    ∙ ap (telling (answers.Found id c.in-Some-Ok.body)) (sym (ap machine_of c.in-Some-Ok.ensures.kept.same))
+    ∙ ap (telling (answers.Found id c.in-Some-Ok.body)) (sym (ap machine_held c.in-Some-Ok.ensures.kept.same))

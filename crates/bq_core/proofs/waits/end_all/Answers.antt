@@ -1,4 +1,4 @@
-use Rattle.std.proofs.Common.{refl, arith, rules}
+use Rattle.std.proofs.Common.{refl, arith}
 use Rattle.bq_job.specs.machine.Waits.{WaitEndTurn}
 use Rattle.bq_core.specs.Turns.{none_refused}
 use Rattle.bq_core.specs.State.{machine_of}
@@ -15,7 +15,6 @@ loop-last-init c =
       looked = none_looked_at m;
       fewer = all_left m;
       asks = asks_more _ (omega arith) (asks_none c.args.state.now.jobs);
-      sound = c.requires.sound;
       room = c.requires.room;
     }
 
@@ -29,15 +28,10 @@ loop-last-preserved c =
       given = gives_joined WaitEndTurn none_refused (λ _ _. refl) _ _ _ _ _ _ was.given given;
       looked = c.loop-last-test.ensures.looked refl;
       fewer = omega arith;
-      asks = asks_more _ (omega arith) (asks_then was.asks c.loop-last-test.ensures.kept.asks);
-      sound = c.loop-last-test.ensures.kept.sound;
+      asks = asks_more _ (omega arith) (asks_then was.asks c.loop-last-test.ensures.asks);
       room = room_kept WaitEndTurn none_refused 0 (machine_of c.loop-last.state) (machine_of c.turn.new.state) c.loop-last.outs c.turn.new.outs given was.room;
     }
 
-pub returns-clause-kept : goal.returns-clause-kept
-returns-clause-kept c =
-    record {
-      asks =
-          asks_more _ (omega arith) (asks_then c.loop-last.invariant.asks c.loop-last-test.ensures.kept.asks);
-      sound = search rules;
-    }
+pub returns-clause-asks : goal.returns-clause-asks
+returns-clause-asks c =
+    asks_more _ (omega arith) (asks_then c.loop-last.invariant.asks c.loop-last-test.ensures.asks)

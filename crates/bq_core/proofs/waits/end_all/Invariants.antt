@@ -4,7 +4,7 @@ use Rattle.bq_job.specs.beside.Computed.{waiting_count}
 use Rattle.bq_job.specs.machine.Waits.{WaitEndTurn}
 use Rattle.bq_core.specs.Asking.{Asks}
 use Rattle.bq_core.specs.EndingWaits.{AreLookedAt, left_after}
-use Rattle.bq_core.specs.State.{IsSound, machine_of}
+use Rattle.bq_core.specs.State.{machine_of}
 use Rattle.bq_core.specs.Turns.{Gives, HasRoom, none_refused}
 use Rattle.bq_core.proofs.waits.end_all.Given as goal
 
@@ -14,7 +14,6 @@ invariant-loop-last l = record {
   looked : AreLookedAt (machine_of l.state) l.last;
   fewer : left_after l.last (machine_of l.state) ≤ waiting_count (machine_of l.fn.state);
   asks : Asks (waiting_count (machine_of l.fn.state) - left_after l.last (machine_of l.state)) l.fn.state.jobs l.state.jobs;
-  sound : IsSound l.state;
   room : HasRoom 0 (machine_of l.state) l.outs;
 }
 

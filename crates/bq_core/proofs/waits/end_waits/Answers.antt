@@ -6,8 +6,8 @@ use Rattle.bq_core.specs.Turns.{Gives, HasRoom, none_refused}
 use Rattle.bq_core.proofs.TurnLemmas.{gives_nothing}
 use Rattle.bq_core.proofs.waits.end_waits.Goals as goal
 
-pub end_all-requires-clause-room : goal.end_all-requires-clause-room
-end_all-requires-clause-room c = subst (λ (x : Machine). HasRoom 0 x c.args.outs.now) (sym c.if-may_end.ensures.same) c.requires.room
+pub end_all-requires : goal.end_all-requires
+end_all-requires c = record { room = subst (λ (x : Machine). HasRoom 0 x c.args.outs.now) (sym c.if-may_end.ensures.same) c.requires.room }
 
 pub returns-then-may_end-clause-given : goal.returns-then-may_end-clause-given
 returns-then-may_end-clause-given c = subst (λ (x : Machine). Gives WaitEndTurn none_refused x (machine_of c.end_all.new.state) c.args.outs.now c.end_all.new.outs) c.if-may_end.ensures.same c.end_all.ensures.given

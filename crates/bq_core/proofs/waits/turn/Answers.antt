@@ -23,7 +23,7 @@ look_at-requires-clause-room c =
     let k = c.in-Some.k in
     let there = c.in-Some.ensures.bound in
     let found = c.in-Some.ensures.least in
-    let waits = one_waits st c.requires.sound last c.requires.looked k there found in
+    let waits = one_waits st last c.requires.looked k there found in
     omega (arith, waits, c.requires.room)
 
 pub returns-clause-given : goal.returns-clause-given
@@ -33,7 +33,7 @@ returns-clause-given c _ =
     let k = c.in-Some.k in
     let there = c.in-Some.ensures.bound in
     let found = c.in-Some.ensures.least in
-    look_given st c.requires.sound last c.requires.looked k there found
+    look_given st last c.requires.looked k there found
     c.args.outs.now c.look_at.new.outs (machine_of c.look_at.new.state) c.look_at.ensures.looked
 
 pub returns-clause-looked : goal.returns-clause-looked
@@ -43,10 +43,10 @@ returns-clause-looked c _ =
     let k = c.in-Some.k in
     let there = c.in-Some.ensures.bound in
     let found = c.in-Some.ensures.least in
-    let read = same_read st.seats.items k (s st c.requires.sound last c.requires.looked k there found) c.index.result.now there c.index.ensures (here st c.requires.sound last c.requires.looked k there found) in
-    let is : turn_of (s st c.requires.sound last c.requires.looked k there found) ≡ c.turn.result = sym (c.turn.ensures ∙ ap turn_of read) in
+    let read = same_read st.seats.items k (s st last c.requires.looked k there found) c.index.result.now there c.index.ensures (here st last c.requires.looked k there found) in
+    let is : turn_of (s st last c.requires.looked k there found) ≡ c.turn.result = sym (c.turn.ensures ∙ ap turn_of read) in
     subst (λ (t : ℕ × ℕ). AreLookedAt (machine_of c.look_at.new.state) (Some t)) is
-    (look_passed st c.requires.sound last c.requires.looked k there found
+    (look_passed st last c.requires.looked k there found
     c.args.outs.now c.look_at.new.outs (machine_of c.look_at.new.state) c.look_at.ensures.looked)
 
 pub returns-clause-fewer : goal.returns-clause-fewer
@@ -56,8 +56,8 @@ returns-clause-fewer c _ =
     let k = c.in-Some.k in
     let there = c.in-Some.ensures.bound in
     let found = c.in-Some.ensures.least in
-    let read = same_read st.seats.items k (s st c.requires.sound last c.requires.looked k there found) c.index.result.now there c.index.ensures (here st c.requires.sound last c.requires.looked k there found) in
-    let is : turn_of (s st c.requires.sound last c.requires.looked k there found) ≡ c.turn.result = sym (c.turn.ensures ∙ ap turn_of read) in
+    let read = same_read st.seats.items k (s st last c.requires.looked k there found) c.index.result.now there c.index.ensures (here st last c.requires.looked k there found) in
+    let is : turn_of (s st last c.requires.looked k there found) ≡ c.turn.result = sym (c.turn.ensures ∙ ap turn_of read) in
     subst (λ (t : ℕ × ℕ). left_after (Some t) (machine_of c.look_at.new.state) < left_after last (machine_of st)) is
-    (look_falls st c.requires.sound last c.requires.looked k there found
+    (look_falls st last c.requires.looked k there found
     c.args.outs.now c.look_at.new.outs (machine_of c.look_at.new.state) c.look_at.ensures.looked)

@@ -5,10 +5,10 @@ use Rattle.bq_core.proofs.machine.Core.step_in_place.Goals as goal
 
 pub invariant_of-self : goal.invariant_of-self
 invariant_of-self c =
-    (step_is_lawful _ _ c.args.at c.args.seat c.args.what.now _ _ c.self.invariant.0 c.take_step.ensures.step, c.take_step.ensures.sound)
+    step_is_lawful _ _ c.args.at c.args.seat c.args.what.now _ _ c.self.invariant c.take_step.ensures.step
 
 pub returns-clause-lawful : goal.returns-clause-lawful
-returns-clause-lawful c = step_is_lawful _ _ c.args.at c.args.seat c.args.what.now _ _ c.self.invariant.0 c.take_step.ensures.step
+returns-clause-lawful c = step_is_lawful _ _ c.args.at c.args.seat c.args.what.now _ _ c.self.invariant c.take_step.ensures.step
 
 pub returns-clause-settings : goal.returns-clause-settings
 returns-clause-settings c =

@@ -1,4 +1,4 @@
-use Rattle.std.proofs.Common.{◌≤◌, ◌≡◌, ◌∙◌, ap, sym, arith, not, filter, get_or, length, refl, rules}
+use Rattle.std.proofs.Common.{◌≤◌, ◌≡◌, ◌∙◌, ap, sym, arith, not, filter, get_or, length, refl}
 use Rattle.std.proofs.lemmas.Option.{slice_get_read, slice_get_within}
 use Rattle.bq_job.specs.machine.Limits.{greatest}
 use Rattle.bq_job.specs.machine.TubeCommands.{watching}
@@ -17,25 +17,25 @@ use Rattle.bq_core.proofs.StateLemmas.{changed_there, seat_read, seat_there, wat
 use Rattle.bq_core.proofs.StirLemmas.{known_ignoring}
 use Rattle.bq_core.proofs.WarningLemmas.{warned_watching}
 use Rattle.bq_core.proofs.FirstEndLemmas.{timeouts_watching}
-use Rattle.bq_core.proofs.state.ignore_tube.Goals as goal
+use Rattle.bq_core.proofs.changes.ignore_tube.Goals as goal
 
 pub ignore-requires-clause-other : goal.ignore-requires-clause-other
 ignore-requires-clause-other c s there =
-    c.requires.other s (seat_read c.args.state.now.seats.items c.args.seat s c.requires.sound.numbered there)
+    c.requires.other s (seat_read c.args.state.now.seats.items c.args.seat s c.args.state.now.sound.numbered there)
 
 pub returns-then-from-len-clause-after : goal.returns-then-from-len-clause-after
 returns-then-from-len-clause-after c s found =
     let old = c.args.state.now in
-    let there = seat_there old.seats.items c.args.seat s c.requires.sound.numbered found in
+    let there = seat_there old.seats.items c.args.seat s c.args.state.now.sound.numbered found in
     let names = filter (λ other. not (is_same_name c.args.tube.now other)) s.watched in
     ap (λ entries. record (machine_of old) { seats = c.ignore.new.seats.items; tubes = counted entries }) (ap (λ (k : KeptTubes). k.entries) c.recount.ensures)
     ∙ ap (λ seats. record (machine_of old) { seats = seats })
-    (c.ignore.ensures.ignored s there ∙ sym (changed_there old.seats.items c.args.seat s (watching names) c.requires.sound.numbered there))
+    (c.ignore.ensures.ignored s there ∙ sym (changed_there old.seats.items c.args.seat s (watching names) c.args.state.now.sound.numbered there))
 
-pub returns-then-from-len-clause-kept : goal.returns-then-from-len-clause-kept
-returns-then-from-len-clause-kept c =
+pub invariant_of-state : goal.invariant_of-state
+invariant_of-state c =
     let old = c.args.state.now in
-    let was = c.requires.sound in
+    let was = c.args.state.now.sound in
     let t = c.index.result.now in
     let read : t ≡ get_or old.seats.items c.args.seat t = c.index.ensures ∙ ap (λ k. get_or old.seats.items k t) c.from-then-from-len.ensures in
     let here = slice_get_read old.seats.items (length old.seats.items) c.args.seat t refl (omega arith) read in
@@ -44,7 +44,6 @@ returns-then-from-len-clause-kept c =
     let entries = (ap (λ (k : KeptTubes). k.entries) c.recount.ensures) in
     let seats = c.ignore.ensures.ignored t here in
     record {
-      jobs = search rules;
       sound =
           record {
             entries = rw (seats, entries) (watching_fewer (λ other. not (is_same_name c.args.tube.now other)) c.args.seat t old.jobs.jobs old.seats.items old.tubes.entries here was.entries);
@@ -65,14 +64,14 @@ returns-then-from-len-clause-kept c =
 
 pub returns-else-from-len-clause-after : goal.returns-else-from-len-clause-after
 returns-else-from-len-clause-after c s found =
-    let here = slice_get_within c.args.state.now.seats.items c.args.seat s (seat_there c.args.state.now.seats.items c.args.seat s c.requires.sound.numbered found) in
+    let here = slice_get_within c.args.state.now.seats.items c.args.seat s (seat_there c.args.state.now.seats.items c.args.seat s c.args.state.now.sound.numbered found) in
     absurd (omega arith)
 
 pub returns-then-from-len-clause-count : goal.returns-then-from-len-clause-count
 returns-then-from-len-clause-count c s found =
-    c.ignore.ensures.count s (seat_there c.args.state.now.seats.items c.args.seat s c.requires.sound.numbered found)
+    c.ignore.ensures.count s (seat_there c.args.state.now.seats.items c.args.seat s c.args.state.now.sound.numbered found)
 
 pub returns-else-from-len-clause-count : goal.returns-else-from-len-clause-count
 returns-else-from-len-clause-count c s found =
-    let here = slice_get_within c.args.state.now.seats.items c.args.seat s (seat_there c.args.state.now.seats.items c.args.seat s c.requires.sound.numbered found) in
+    let here = slice_get_within c.args.state.now.seats.items c.args.seat s (seat_there c.args.state.now.seats.items c.args.seat s c.args.state.now.sound.numbered found) in
     absurd (omega arith)

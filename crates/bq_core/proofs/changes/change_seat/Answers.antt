@@ -1,4 +1,4 @@
-use Rattle.std.proofs.Common.{◌≡◌, ◌≤◌, ◌∙◌, ap, arith, length, map, subst, sym, rules}
+use Rattle.std.proofs.Common.{◌≡◌, ◌≤◌, ◌∙◌, ap, arith, length, map, subst, sym}
 use Rattle.std.specs.Option.{option_copied}
 use Rattle.std.proofs.lemmas.List.{length-map}
 use Rattle.bq_job.specs.machine.Changes.{seat_with}
@@ -21,16 +21,16 @@ use Rattle.bq_core.proofs.StirLemmas.{known_of_seat}
 use Rattle.bq_core.proofs.WarningLemmas.{warned_of_seat}
 use Rattle.bq_core.specs.FirstEnds.{end_after}
 use Rattle.bq_core.proofs.FirstEndLemmas.{timeouts_of_seat}
-use Rattle.bq_core.proofs.state.change_seat.Goals as goal
+use Rattle.bq_core.proofs.changes.change_seat.Goals as goal
 
 pub find-client-requires-2 : goal.find-client-requires-2
 find-client-requires-2 c =
-    rw (c.as_slice-2.ensures.value, c.change_at.ensures) (numbered_after c.args.seat c.args.what.now c.args.state.now.seats.items c.requires.sound.numbered)
+    rw (c.as_slice-2.ensures.value, c.change_at.ensures) (numbered_after c.args.seat c.args.what.now c.args.state.now.seats.items c.args.state.now.sound.numbered)
 
 pub join-requires-clause-fits : goal.join-requires-clause-fits
 join-requires-clause-fits c =
     let st = c.args.state.now in
-    let was = c.requires.sound in
+    let was = c.args.state.now.sound in
     let seats = st.seats.items in
     let there = seat_with c.args.seat in
     let taken = c.find-client.ensures ∙ ap there c.as_slice.ensures.value in
@@ -42,15 +42,15 @@ join-requires-clause-fits c =
 
 pub join-requires-clause-rising : goal.join-requires-clause-rising
 join-requires-clause-rising c =
-    let was = c.requires.sound in
+    let was = c.args.state.now.sound in
     let seats = c.args.state.now.seats.items in
     let taken = c.find-client.ensures ∙ ap (seat_with c.args.seat) c.as_slice.ensures.value in
     subst (IsRising is_turn_before) (sym (c.leave.ensures.turns ∙ (λ k. without_turn (taken k) (was.queue.turns k)))) (rising_left c.args.seat seats was.numbered)
 
-pub returns-clause-kept : goal.returns-clause-kept
-returns-clause-kept c =
+pub invariant_of-state : goal.invariant_of-state
+invariant_of-state c =
     let st = c.args.state.now in
-    let was = c.requires.sound in
+    let was = c.args.state.now.sound in
     let seats = st.seats.items in
     let there = seat_with c.args.seat in
     let numbered = numbered_after c.args.seat c.args.what.now seats was.numbered in
@@ -61,7 +61,6 @@ returns-clause-kept c =
     let touches = c.touched-touched.ensures in
     let crowds = crowds_moved c.args.seat c.args.what.now st.tubes.crowds seats st.tubes.entries was.numbered few was.entries.order c.requires.waits was.crowds in
     record {
-      jobs = search rules;
       sound =
           record {
             entries = rw (c.change_at.ensures, entries) (entries_of_seat c.args.seat c.args.what.now st.jobs.jobs seats st.tubes.entries c.requires.entry was.entries);

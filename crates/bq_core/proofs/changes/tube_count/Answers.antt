@@ -4,20 +4,20 @@ use Rattle.bq_core.specs.Losses.{AreAlive}
 use Rattle.bq_core.specs.State.{machine_of}
 use Rattle.bq_core.proofs.LossLemmas.{all_kept_alive}
 use Rattle.bq_core.proofs.NameLemmas.{alive_are_tubes}
-use Rattle.bq_core.proofs.state.tube_count.Goals as goal
+use Rattle.bq_core.proofs.changes.tube_count.Goals as goal
 
 pub returns-in-Nothing : goal.returns-in-Nothing
 returns-in-Nothing c =
     let s = c.args.state.now in
     let es = s.tubes.entries in
-    let alive = subst (λ loss. AreAlive loss s.jobs.jobs s.seats.items es) c.in-Nothing.is c.requires.alive in
+    let alive = subst (λ loss. AreAlive loss s.jobs.jobs s.seats.items es) c.in-Nothing.is c.args.state.now.sound.alive in
     c.len.ensures
     ∙ sym (length-map es (λ t. t.name))
     ∙ ap (λ left. length (map (λ t. t.name) left)) (sym (all_kept_alive s.jobs.jobs s.seats.items es alive))
-    ∙ ap length (alive_are_tubes (machine_of s) es c.requires.entries)
+    ∙ ap length (alive_are_tubes (machine_of s) es c.args.state.now.sound.entries)
 
 pub returns-in_default : goal.returns-in_default
 returns-in_default c =
     let s = c.args.state.now in
-    c.count_alive.ensures s.jobs.jobs s.seats.items c.requires.counts.each c.requires.crowds.each
-    ∙ ap length (alive_are_tubes (machine_of s) s.tubes.entries c.requires.entries)
+    c.count_alive.ensures s.jobs.jobs s.seats.items c.args.state.now.sound.counts.each c.args.state.now.sound.crowds.each
+    ∙ ap length (alive_are_tubes (machine_of s) s.tubes.entries c.args.state.now.sound.entries)

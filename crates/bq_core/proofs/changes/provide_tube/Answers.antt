@@ -1,4 +1,4 @@
-use Rattle.std.proofs.Common.{◌∙◌, ap, subst, sym, rules}
+use Rattle.std.proofs.Common.{◌∙◌, ap, subst, sym}
 use Rattle.bq_core.specs.KeptTubes.{KeptTubes}
 use Rattle.bq_core.specs.Dues.{first_pause_end}
 use Rattle.bq_core.specs.State.{machine_of}
@@ -9,7 +9,7 @@ use Rattle.bq_core.proofs.PauseLemmas.{end_provided}
 use Rattle.bq_core.proofs.StateLemmas.{counted_provided, entries_provided, has_provided}
 use Rattle.bq_core.proofs.TallyPlaces.{counted_provided as tallies_of_provided}
 use Rattle.bq_core.specs.Stirs.{AreKnown}
-use Rattle.bq_core.proofs.state.provide_tube.Goals as goal
+use Rattle.bq_core.proofs.changes.provide_tube.Goals as goal
 
 pub returns-in-Ok-clause-after : goal.returns-in-Ok-clause-after
 returns-in-Ok-clause-after c =
@@ -18,11 +18,10 @@ returns-in-Ok-clause-after c =
 pub returns-in-Ok-clause-entry : goal.returns-in-Ok-clause-entry
 returns-in-Ok-clause-entry c = ap (has_entry c.args.tube.now) (ap (λ (k : KeptTubes). k.entries) c.in-Ok.ensures.after) ∙ has_provided c.args.tube.now c.args.state.now.tubes.entries
 
-pub returns-in-Ok-clause-kept : goal.returns-in-Ok-clause-kept
-returns-in-Ok-clause-kept c =
-    let was = c.requires in
+pub invariant_of-state : goal.invariant_of-state
+invariant_of-state c =
+    let was = c.args.state.now.sound in
     record {
-      jobs = search rules;
       sound =
           record {
             entries = rw (ap (λ (k : KeptTubes). k.entries) c.in-Ok.ensures.after) (entries_provided c.args.tube.now c.args.state.now.jobs.jobs c.args.state.now.seats.items c.args.state.now.tubes.entries was.entries);
@@ -50,11 +49,10 @@ returns-in-Ok-clause-kept c =
 pub returns-in-Err-clause-after : goal.returns-in-Err-clause-after
 returns-in-Err-clause-after c = ap (λ tubes. record (machine_of c.args.state.now) { tubes = counted tubes }) (ap (λ (k : KeptTubes). k.entries) c.in-Err.ensures.after)
 
-pub returns-in-Err-clause-kept : goal.returns-in-Err-clause-kept
-returns-in-Err-clause-kept c =
-    let was = c.requires in
+pub invariant_of-state-in-Err-1 : goal.invariant_of-state-in-Err-1
+invariant_of-state-in-Err-1 c =
+    let was = c.args.state.now.sound in
     record {
-      jobs = search rules;
       sound =
           record { entries = rw (ap (λ (k : KeptTubes). k.entries) c.in-Err.ensures.after) was.entries; numbered = was.numbered; next = was.next; ids = was.ids; counts = rw ((ap (λ (k : KeptTubes). k.entries) c.in-Err.ensures.after), (ap (λ (k : KeptTubes). k.tallies) c.in-Err.ensures.after)) was.counts; clients = was.clients; crowds = rw ((ap (λ (k : KeptTubes). k.entries) c.in-Err.ensures.after), (ap (λ (k : KeptTubes). k.crowds) c.in-Err.ensures.after)) was.crowds; alive = rw (ap (λ (k : KeptTubes). k.entries) c.in-Err.ensures.after) was.alive; stirs = rw (ap (λ (k : KeptTubes). k.entries) c.in-Err.ensures.after) was.stirs; warnings = was.warnings; timeouts = was.timeouts; queue = was.queue; pauses = rw (ap (λ (k : KeptTubes). k.entries) c.in-Err.ensures.after) was.pauses };
     }

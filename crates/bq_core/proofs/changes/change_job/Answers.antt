@@ -1,4 +1,4 @@
-use Rattle.std.proofs.Common.{◌∙◌, ◌&&◌, ◌≤◌, ◌==◌, if◌then◌else◌, ap, sym, arith, length, rules}
+use Rattle.std.proofs.Common.{◌∙◌, ◌&&◌, ◌≤◌, ◌==◌, if◌then◌else◌, ap, sym, arith, length}
 use Rattle.bq_job.specs.machine.Changes.{is_ready_state, job_with}
 use Rattle.bq_job.proofs.KeptLemmas.{ids_of_map}
 use Rattle.std.proofs.lemmas.List.{length-map}
@@ -11,37 +11,36 @@ use Rattle.bq_core.specs.TubeEntries.{counted}
 use Rattle.bq_core.specs.Warnings.{has_waiting_holder}
 use Rattle.bq_core.proofs.MovedLemmas.{alive_changed, counted_moved, entries_of_changed, known_moved, one_id, one_tube, tube_kept, waiters_counted, warned_moved}
 use Rattle.bq_core.proofs.StateLemmas.{id_kept, no_job_changed}
-use Rattle.bq_core.proofs.state.change_job.Goals as goal
+use Rattle.bq_core.proofs.changes.change_job.Goals as goal
 
-pub returns-in_default-clause-kept : goal.returns-in_default-clause-kept
-returns-in_default-clause-kept c =
+pub invariant_of-state : goal.invariant_of-state
+invariant_of-state c =
     let st = c.args.state.now in
     let none = nothing_told_of (changed c.args.what.now) (job_with c.args.id st.jobs.jobs) (sym c.in_default.ensures.moved) in
     let same = c.in_default.ensures.jobs ∙ no_job_changed c.args.id (changed c.args.what.now) st.jobs.jobs none in
     record {
-      asks = search rules;
       sound =
           record {
-            entries = rw same c.requires.entries;
-            numbered = c.requires.numbered;
-            next = c.requires.next;
-            ids = rw same c.requires.ids;
-            counts = rw same c.requires.counts;
-            clients = c.requires.clients;
-            crowds = c.requires.crowds;
-            alive = rw same c.requires.alive;
-            stirs = rw same c.requires.stirs;
-            warnings = rw same c.requires.warnings;
-            timeouts = c.requires.timeouts;
-            queue = c.requires.queue;
-            pauses = c.requires.pauses;
+            entries = rw same c.args.state.now.sound.entries;
+            numbered = c.args.state.now.sound.numbered;
+            next = c.args.state.now.sound.next;
+            ids = rw same c.args.state.now.sound.ids;
+            counts = rw same c.args.state.now.sound.counts;
+            clients = c.args.state.now.sound.clients;
+            crowds = c.args.state.now.sound.crowds;
+            alive = rw same c.args.state.now.sound.alive;
+            stirs = rw same c.args.state.now.sound.stirs;
+            warnings = rw same c.args.state.now.sound.warnings;
+            timeouts = c.args.state.now.sound.timeouts;
+            queue = c.args.state.now.sound.queue;
+            pauses = c.args.state.now.sound.pauses;
           };
     }
 
-pub returns-clause-kept : goal.returns-clause-kept
-returns-clause-kept c =
+pub invariant_of-state-2 : goal.invariant_of-state-2
+invariant_of-state-2 c =
     let st = c.args.state.now in
-    let was = c.requires in
+    let was = c.args.state.now.sound in
     let id = c.args.id in
     let f = changed c.args.what.now in
     let stays = one_tube id f (tube_kept c.args.what.now) in
@@ -52,7 +51,6 @@ returns-clause-kept c =
     let wanted = c.counts_waiter_of-is_wanted.ensures ∙ ap (λ b. is_ready_state m.to.state && b) (waiters_counted m.tube st.clients st.tubes.crowds st.seats.items st.tubes.entries was.entries.of_seats was.crowds was.clients) in
     let made = counted_moved 1 st.next_id id f (id_kept c.args.what.now) (tube_kept c.args.what.now) of.job m of.is st.tally st.tubes.tallies st.jobs.jobs st.tubes.entries was.ids of.there was.entries.order fits was.counts in
     record {
-      asks = search rules;
       sound =
           record {
             entries = rw (c.in-Some.ensures.jobs, (ap (λ (k : KeptTubes). k.entries) c.move_job.ensures)) (entries_of_changed (λ k. if k.id == id then f k else k) stays st.jobs.jobs st.seats.items st.tubes.entries was.entries);

@@ -1,0 +1,333 @@
+//! How what a core holds is changed.
+ghost use Rattle.std.specs.Prelude.{◌≡◌, ◌&&◌, ◌<◌, ◌≤◌, OnErr, [], None, true, false, length, map, nat_lt, if◌then◌else◌, IfSome, IfOk};
+ghost use Rattle.std.specs.List.{list_any};
+ghost use Rattle.bq_job.specs.machine.Changes.{is_held_by, is_ready_state, job_with, seat_with, with_job, with_seat};
+ghost use Rattle.bq_job.specs.machine.Machine.{empty_seat, new_machine, numbers};
+ghost use Rattle.bq_job.specs.machine.Timers.{at_moment};
+ghost use Rattle.bq_job.specs.machine.TubeOrder.{tubes};
+ghost use Rattle.bq_job.specs.machine.Tubes.{forgetting, watches, with_tube};
+ghost use Rattle.bq_jobs.specs.Kept.{ComparesAtMost, with_added, without};
+ghost use Rattle.bq_core.specs.Asking.{Asks};
+ghost use Rattle.bq_core.specs.Crowds.{may_wait};
+ghost use Rattle.bq_core.specs.JobChanges.{changed};
+ghost use Rattle.bq_core.specs.KeptTubes.{first_tubes};
+ghost use Rattle.bq_core.specs.Offers.{is_waited_at};
+ghost use Rattle.bq_core.specs.Replying.{AtSeat, Watches};
+ghost use Rattle.bq_core.specs.SeatChanges.{AreNumbered, seat_changed, has_tube_of, more_watched, fewer_watched, watches_other};
+ghost use Rattle.bq_core.specs.Keeping.{Looks};
+ghost use Rattle.bq_core.specs.State.{held, machine_of};
+ghost use Rattle.bq_core.specs.Texts.{names_of};
+ghost use Rattle.bq_core.specs.TubeEntries.{has_entry, is_tube_of, tube_changed};
+ghost use Rattle.bq_core.specs.Warnings.{has_waiting_holder, is_waiting_there, may_hold};
+
+use crate::clients::Clients;
+use crate::config::Config;
+use crate::crowd::Moving;
+use crate::first_end::FirstEnd;
+use crate::job_list::JobChange;
+use crate::loss::Loss;
+use crate::name_lists::Names;
+use crate::queue::Queue;
+use crate::seat_list::SeatChange;
+use crate::seat_record::SeatRecord;
+use crate::state::State;
+use crate::stir::Stir;
+use crate::tally::Tally;
+use crate::tube_entry::TubeChange;
+use crate::tubes::Tubes;
+use crate::{first_end, job_list, leaving, loss, seat_list, shares, stir};
+use bq_job::{Job, JobId, JobState, Moment, NoMemory, Seat, TubeName};
+use bq_jobs::{Jobs, Moved};
+use std::alloc::Global;
+
+/// Makes room for a job, where there is none.
+pub(crate) fn make_room(state: &mut State, alloc: Global) -> Result<(), NoMemory>
+    ensures room { IfOk result (λ _. 0 < state.new.jobs.room) }
+    ensures after { machine_of state.new ≡ machine_of state.old }
+    ensures seats { state.new.seats ≡ state.old.seats }
+    ensures tubes { state.new.tubes ≡ state.old.tubes }
+    ensures asks { Asks 0 state.old.jobs state.new.jobs }
+{
+    state.jobs.reserve_one(alloc)
+}
+
+// A client that waits may hold a job, if that is so.
+fn warn_if(warns: &mut bool, holds: bool)
+    ensures { warns.new ≡ (if holds then true else warns.old) }
+{
+    if holds {
+        *warns = true;
+    }
+}
+
+/// Puts a job in, where there is room for it. Its id is one that was given, and its tube has an entry.
+pub(crate) fn add(state: &mut State, job: Job)
+    requires room { 0 < state.old.jobs.room }
+    requires given { (1 ≤ job.id) × (job.id < state.old.next_id) }
+    requires free { job_with job.id (machine_of state.old).jobs ≡ None }
+    requires entry { has_entry job.tube state.old.tubes.entries ≡ true }
+    ensures after { machine_of state.new ≡ record (machine_of state.old) { jobs = with_added job (machine_of state.old).jobs } }
+    ensures asks { ComparesAtMost 4 state.old.jobs state.new.jobs }
+{
+    let is_wanted = state.is_wanted(&job);
+    let holds = state.has_waiting_holder(&job);
+    stir::stir_tube_if(&mut state.stir, &job.tube, is_wanted);
+    state.tally.add(&job);
+    state.tubes.add_job(&job);
+    loss::regain(&mut state.loss, &job.tube);
+    state.jobs.add(job);
+    // So many jobs there can be, and no count comes to its end.
+    let _jobs = state.jobs.len();
+    warn_if(&mut state.warns, holds);
+}
+
+/// Takes the job of this id out, if there is one. Its room is kept.
+pub(crate) fn take(state: &mut State, id: JobId) -> Option<Job>
+    ensures job { result ≡ job_with id (machine_of state.old).jobs }
+    ensures after { machine_of state.new ≡ record (machine_of state.old) { jobs = without id (machine_of state.old).jobs } }
+    ensures id { IfSome result (λ job. job.id ≡ id) }
+    ensures gone { job_with id (machine_of state.new).jobs ≡ None }
+    ensures given { IfSome result (λ job. (1 ≤ job.id) × (job.id < state.new.next_id)) }
+    ensures room { IfSome result (λ job. 0 < state.new.jobs.room) }
+    ensures entry { IfSome result (λ job. has_entry job.tube state.new.tubes.entries ≡ true) }
+    ensures asks { ComparesAtMost 4 state.old.jobs state.new.jobs }
+{
+    let job = state.jobs.remove(id)?;
+    state.tally.remove(&job);
+    state.tubes.remove_job(&job);
+    loss::lose(&mut state.loss, &job.tube);
+    Some(job)
+}
+
+// Whether the job is ready now, and somebody waits at its tube, by the counts that are kept.
+fn counts_waiter_of(clients: &Clients, tubes: &Tubes, moved: &Moved) -> bool
+    ensures { result ≡ (is_ready_state moved.now.to.state && (nat_lt 0 clients.now.waiting && is_waited_at moved.now.tube tubes.now)) }
+{
+    matches!(moved.to.state, JobState::Ready)
+        && (clients.waiting > 0 && tubes.crowd_of(&moved.tube).waiting > 0)
+}
+
+/// Changes the job of this id, if there is one.
+pub(crate) fn change_job(state: &mut State, id: JobId, what: &JobChange)
+    ensures after { machine_of state.new ≡ with_job id (changed what.now) (machine_of state.old) }
+    ensures asks { Asks 8 state.old.jobs state.new.jobs }
+{
+    let Some(moved) = state.jobs.change(id, what) else {
+        return;
+    };
+    let is_wanted = counts_waiter_of(&state.clients, &state.tubes, &moved);
+    let holds = seat_list::holder_waits(state.seats.as_slice(), moved.to.state);
+    // So many jobs there can be, and no count comes to its end.
+    let _jobs = state.jobs.len();
+    stir::stir_tube_if(&mut state.stir, &moved.tube, is_wanted);
+    warn_if(&mut state.warns, holds);
+    state.tally.leave(moved.from);
+    state.tally.enter(moved.to);
+    state.tubes.move_job(&moved);
+}
+
+/// Changes the seat of this number. A tube that it uses then has an entry already.
+pub(crate) fn change_seat(state: &mut State, seat: Seat, what: &SeatChange)
+    requires entry { has_tube_of what.now state.old.tubes.entries ≡ true }
+    requires waits { may_wait what.now (seat_with seat state.old.seats.items) ≡ true }
+    requires holds { may_hold what.now seat state.old.warns state.old.jobs.jobs ≡ true }
+    ensures after { machine_of state.new ≡ with_seat seat (seat_changed what.now) (machine_of state.old) }
+    ensures jobs { state.new.jobs ≡ state.old.jobs }
+{
+    let touched = shares::touched(what);
+    let client = seat_list::find(state.seats.as_slice(), seat);
+    state.clients.remove(client);
+    state.queue.leave(client);
+    first_end::change(&mut state.first_end, client, what);
+    shares::recount(&mut state.tubes, client, Moving::Goes, touched);
+    leaving::lose(&mut state.loss, &state.tubes, client, touched);
+    seat_list::change_at(&mut state.seats, seat, what);
+    let client = seat_list::find(state.seats.as_slice(), seat);
+    state.clients.add(client);
+    state.queue.join(client);
+    shares::recount(&mut state.tubes, client, Moving::Comes, touched);
+    // So many seats there can be, and no count comes to its end.
+    let _seats = state.seats.len();
+    stir::stir_seat(&mut state.stir, seat, what);
+}
+
+/// Takes down whether the client at the seat, which is about to wait, holds a job.
+pub(crate) fn note_leases(state: &mut State, seat: Seat)
+    ensures known { state.new.warns ≡ (if list_any (is_held_by seat) state.old.jobs.jobs then true else state.old.warns) }
+    ensures tickets { state.new.tickets ≡ state.old.tickets }
+    ensures seats { state.new.seats ≡ state.old.seats }
+    ensures tubes { state.new.tubes ≡ state.old.tubes }
+    ensures after { machine_of state.new ≡ machine_of state.old }
+    ensures asks { Asks 1 state.old.jobs state.new.jobs }
+{
+    let holds = job_list::holds_some(&mut state.jobs, seat);
+    warn_if(&mut state.warns, holds);
+}
+
+/// Looks for when the first wait of a client is over by its timeout, where that isn't known.
+pub(crate) fn find_first_end(state: &mut State)
+    ensures { held state.new ≡ record (held state.old) { first_end = state.new.first_end } }
+{
+    if let FirstEnd::Unknown = &state.first_end {
+        state.first_end = first_end::find(state.seats.as_slice(), state.queue.as_slice());
+    }
+}
+
+/// Changes what is kept of a tube that has an entry.
+pub(crate) fn change_tube(state: &mut State, tube: &TubeName, what: TubeChange)
+    requires entry { has_entry tube.now state.old.tubes.entries ≡ true }
+    ensures after { machine_of state.new ≡ with_tube tube.now (tube_changed what) (machine_of state.old) }
+    ensures jobs { state.new.jobs ≡ state.old.jobs }
+{
+    state.tubes.change(tube, what);
+    stir::stir_change(&mut state.stir, tube, what);
+    state.pause_end = state.tubes.pause_end_after(what, state.pause_end);
+}
+
+/// Sees to it that a tube has an entry. The growth that this needs comes before any change.
+pub(crate) fn provide_tube(
+    state: &mut State,
+    alloc: Global,
+    tube: &TubeName,
+) -> Result<(), NoMemory>
+    ensures after { machine_of state.new ≡ machine_of state.old }
+    ensures entry { IfOk result (λ _. has_entry tube.now state.new.tubes.entries ≡ true) }
+    ensures seats { state.new.seats ≡ state.old.seats }
+    ensures jobs { state.new.jobs ≡ state.old.jobs }
+{
+    match state.tubes.provide(alloc, tube) {
+        Ok(is_new) => {
+            loss::lose_if(&mut state.loss, tube, is_new);
+            Ok(())
+        }
+        Err(fault) => Err(fault),
+    }
+}
+
+/// The client at the seat watches one more tube. The growths that this needs come before any change. Tells
+/// how many it watches then.
+pub(crate) fn watch_tube(
+    state: &mut State,
+    alloc: Global,
+    seat: Seat,
+    tube: &TubeName,
+) -> Result<u64, NoMemory>
+    requires fresh { AtSeat seat state.old (λ s. watches tube.now s ≡ false) }
+    ensures count { IfOk result (λ n. AtSeat seat state.old (λ s. n ≡ length (more_watched tube.now s))) }
+    ensures watched { IfOk result (λ _. Watches seat (more_watched tube.now) state.old state.new) }
+    ensures same { OnErr result (machine_of state.new ≡ machine_of state.old) }
+    ensures jobs { state.new.jobs ≡ state.old.jobs }
+{
+    provide_tube(state, alloc, tube)?;
+    if usize::from(seat) >= state.seats.len() {
+        return Ok(0);
+    }
+    let share = shares::of_watcher(&state.seats[usize::from(seat)]);
+    match seat_list::watch(&mut state.seats, alloc, seat, tube) {
+        Ok(count) => {
+            state.tubes.recount(tube, Moving::Comes, share);
+            stir::stir_all_if(&mut state.stir, share.waiting);
+            Ok(count)
+        }
+        Err(fault) => Err(fault),
+    }
+}
+
+/// The client at the seat watches a tube no longer, where another one is still watched. Tells how many it
+/// watches then.
+pub(crate) fn ignore_tube(state: &mut State, seat: Seat, tube: &TubeName) -> u64
+    requires other { AtSeat seat state.old (λ s. watches_other tube.now s ≡ true) }
+    ensures count { AtSeat seat state.old (λ s. result ≡ length (fewer_watched tube.now s)) }
+    ensures after { Watches seat (fewer_watched tube.now) state.old state.new }
+    ensures jobs { state.new.jobs ≡ state.old.jobs }
+{
+    if usize::from(seat) < state.seats.len() {
+        let share = shares::at(&state.seats[usize::from(seat)], tube);
+        state.tubes.recount(tube, Moving::Goes, share);
+        loss::lose(&mut state.loss, tube);
+        seat_list::ignore(&mut state.seats, seat, tube)
+    } else {
+        0
+    }
+}
+
+/// Whether the tube exists.
+pub(crate) fn is_tube(state: &State, tube: &TubeName) -> bool
+    ensures { result ≡ is_tube_of (machine_of state.now).jobs (machine_of state.now).seats tube.now }
+{
+    state.tubes.is_tube(tube)
+}
+
+/// How many tubes exist: so many as there are entries, where none may be gone.
+pub(crate) fn tube_count(state: &State) -> u64
+    ensures { result ≡ length (tubes (machine_of state.now)) }
+{
+    match &state.loss {
+        Loss::Nothing => state.tubes.len() as u64,
+        _ => state.tubes.count_alive(),
+    }
+}
+
+/// The names of the tubes that exist, in byte order. Their memory is asked for before.
+pub(crate) fn tube_names<'a>(state: &'a State, alloc: Global) -> Result<Names<'a>, NoMemory>
+    ensures { IfOk result (λ names. names_of names.items ≡ tubes (machine_of state.now)) }
+{
+    state.tubes.names_alive(alloc)
+}
+
+/// Drops the entries of tubes that are gone. It looks only at those that may be.
+pub(crate) fn forget_tubes(state: &mut State)
+    ensures after { machine_of state.new ≡ forgetting (machine_of state.old) }
+    ensures jobs { state.new.jobs ≡ state.old.jobs }
+{
+    let entries = state.tubes.len();
+    state.tubes.forget_lost(&state.loss);
+    state.loss = Loss::Nothing;
+    state.pause_end = state.tubes.pause_end_left(entries, state.pause_end);
+}
+
+/// A moment below the last one counts as that one.
+pub(crate) fn raise_moment(state: &mut State, at: Moment)
+    ensures after { machine_of state.new ≡ at_moment at (machine_of state.old) }
+    ensures jobs { state.new.jobs ≡ state.old.jobs }
+{
+    state.moment = state.moment.max(at);
+}
+
+/// No jobs, and nobody at the seats.
+pub(crate) fn new_state(
+    config: Config,
+    seats: Vec<SeatRecord, Global>,
+    queue: Queue,
+    tubes: Tubes,
+) -> State
+    requires free { seats.items ≡ map empty_seat (numbers 0 config.seats) }
+    requires nobody { queue.turns ≡ [] }
+    requires room { config.seats ≤ queue.room }
+    requires first { tubes ≡ first_tubes }
+    ensures empty { machine_of result ≡ new_machine config }
+    ensures comparisons { result.jobs.comparisons ≡ 0 }
+{
+    State {
+        config,
+        jobs: Jobs::new(),
+        seats,
+        queue,
+        tubes,
+        tally: Tally::default(),
+        clients: Clients::default(),
+        loss: Loss::Nothing,
+        stir: Stir::Nothing,
+        warns: false,
+        first_end: FirstEnd::Known(None),
+        pause_end: None,
+        moment: 0,
+        next_id: 1,
+        burials: 0,
+        tickets: 0,
+        draining: false,
+        timeouts: 0,
+        puts: 0,
+        connections: 0,
+    }
+}
