@@ -19,7 +19,7 @@ from .reader import requests_of
 
 TURNS = 8  # of each client
 SETTINGS = PLAIN._replace(max_job_size=300)
-PATIENCE = 20  # seconds
+PATIENCE = 2 * programs.PATIENCE  # for all that the clients ask
 PRIORITY = 5  # of what lies in a box: so the job of the least id is the first one, whatever else was put by then
 AGES = re.compile(rb"\n(age|time-left|pause-time-left): \d+")
 

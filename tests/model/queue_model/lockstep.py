@@ -2,7 +2,8 @@
 
 The server's clock is the machine's, so nothing may hang on milliseconds: the moments at which something
 happens by itself lie more than SLACK apart, nobody sends while one of them is nearer than SLACK, and an
-answer that takes longer than SLACK makes the run one that can't be judged. Ages and times left are told in
+answer that takes longer than SLACK makes the run one that can't be judged, and so do statistics that are
+told only when what they have to say has passed. Ages and times left are told in
 whole seconds, and may be off by one.
 """
 import random
@@ -20,7 +21,7 @@ from .reader import requests_of
 SLACK = 350  # milliseconds
 NEAR = 100000  # what lies further ahead doesn't come while a run lasts
 TICKS_AHEAD = 8
-ANSWER_SECONDS = 5
+SHRINK_ANSWER_SECONDS = 2
 RUN_SECONDS = 60
 SHRINK_SECONDS = 60
 STEADY = 0  # a client that never waits nor goes: it asks what others can't tell
@@ -175,17 +176,21 @@ class Run:
 
     # -- actions ----------------------------------------------------------------------------------
 
-    def play(self, action):
-        """Does an action and holds what comes of it to the machine. What means nothing now is Left."""
-        self.pass_moments()
+    def judged(self, happens, *of):
+        """Lets something happen, and holds what comes of it to the machine."""
         try:
-            getattr(self, "do_" + action.kind)(action)
+            happens(*of)
         except Differs:
             # What was answered late may be another answer; where nothing came at all, that isn't why.
             if SLACK < self.now() - self.looked_at < 1000 * self.patience:
                 raise Unclear("another answer took longer than %d ms" % SLACK)
             raise
         self.hold_to_be_in_time()
+
+    def play(self, action):
+        """Does an action. What means nothing now is Left."""
+        self.judged(self.pass_moments)
+        self.judged(getattr(self, "do_" + action.kind), action)
 
     def is_asking(self, number):
         """Whether a client is connected and doesn't wait."""
@@ -286,6 +291,7 @@ class Run:
     def until_statistics(self, line):
         """The steady client asks for statistics until they have a line."""
         until = time.monotonic() + self.patience
+        ahead = self.coming(self.machine)
         while True:
             client, got = self.clients[STEADY], None
             client.connection.sendall(b"stats\r\n")
@@ -296,6 +302,8 @@ class Run:
                 got = client.whole_answer()
             if line in got:
                 return
+            if ahead and self.now() >= ahead[0]:
+                raise Unclear("statistics came later than what they tell")
             time.sleep(0.002)
             if time.monotonic() > until:
                 raise Differs("statistics don't come to have %r: %s" % (line, report.told(got)))
@@ -315,19 +323,22 @@ class Run:
             self.machine.step(self.now(), STEADY, "drain")
             self.until_statistics(b"draining: true\n")
 
+    def leave(self, number):
+        """A client leaves. The steady one, which is the last, asks before what is left."""
+        began = self.now()
+        if number == STEADY:
+            self.exchange(STEADY, [b"stats\r\nlist-tubes\r\nstats-tube default\r\n"])
+        is_waiting = self.machine.seats[number].is_waiting()
+        self.clients[number].connection.shutdown(socket.SHUT_WR)
+        if is_waiting:
+            self.gather(self.machine.step(began, number, "end"))
+        self.close(number, began)
+
     def finish(self):
         """All clients leave, those first that wait, and the steady one last; what everybody was written is then known whole."""
         for number in sorted(self.clients, key=lambda it: (it == STEADY, not self.machine.seats[it].is_waiting())):
-            self.pass_moments()
-            began = self.now()
-            if number == STEADY:
-                self.exchange(STEADY, [b"stats\r\nlist-tubes\r\nstats-tube default\r\n"])
-            is_waiting = self.machine.seats[number].is_waiting()
-            self.clients[number].connection.shutdown(socket.SHUT_WR)
-            if is_waiting:
-                self.gather(self.machine.step(began, number, "end"))
-            self.close(number, began)
-            self.hold_to_be_in_time()
+            self.judged(self.pass_moments)
+            self.judged(self.leave, number)
         if not self.server.is_running():
             raise Differs("the server ended")
 
@@ -385,7 +396,7 @@ class Script:
         return Action("ask", number, self.chooser.cuts(text) if self.random.random() < 0.05 else [text])
 
 
-def one_run(program, rules, settings, clients, next_action, patience=ANSWER_SECONDS):
+def one_run(program, rules, settings, clients, next_action, patience=programs.PATIENCE):
     """One run over the actions that `next_action` gives, until it gives None.
 
     It returns the actions, how many commands were asked, and what differed."""
@@ -451,7 +462,7 @@ def lockstep(program, known, rules, seed, clients, many, will_shrink=True, tries
     for again in range(tries):
         script = Script("%s/%d" % (seed, again), clients)
         try:
-            patience = ANSWER_SECONDS if will_shrink else 2
+            patience = programs.PATIENCE if will_shrink else SHRINK_ANSWER_SECONDS
             done, commands, told = one_run(program, rules, settings, clients, chosen(script, many), patience)
         except Unclear as it:
             unclear = str(it)
@@ -459,7 +470,8 @@ def lockstep(program, known, rules, seed, clients, many, will_shrink=True, tries
         if told is None:
             return report.Report(name, 1, 0, again, commands, unclear)
         if will_shrink:
-            done, told = shorter(program, rules, settings, clients, done, told)
+            done, less = shorter(program, rules, settings, clients, done, told)
+            told = told if less == told else "%s; with fewer actions: %s" % (told, less)
         return report.Report(name, 0, 1, again, commands, "seed %s/%d, options %s, %s\n    actions:\n%s" % (
             seed, again, " ".join(programs.words_for(settings)), told, "\n".join("      %s %d %r" % it for it in done)))
     return report.Report(name, 0, 0, tries, 0, "seed %s couldn't be judged: %s" % (seed, unclear))
@@ -471,7 +483,7 @@ def shorter(program, rules, settings, clients, done, told):
 
     def differs(actions):
         try:
-            _, _, now = one_run(program, rules, settings, clients, replayed(actions), 2)
+            _, _, now = one_run(program, rules, settings, clients, replayed(actions), SHRINK_ANSWER_SECONDS)
         except Unclear:
             return False
         if now is not None:

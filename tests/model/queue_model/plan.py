@@ -14,6 +14,7 @@ SIXTY, SIXTY_ACTIONS = 6, 500
 BESIDE, BESIDE_CLIENTS = 3, 64
 SOAKS, SOAK_SECONDS = 2, 10
 PROCESSES = 5
+LATE_TRIES = 4  # for the runs that couldn't be judged, once all others are done: a machine is held up for a minute, not for ever
 
 
 def pool():
@@ -28,6 +29,32 @@ def round_of(bq, bqd, known, rules, seed):
     calls += [(beside.beside, bqd, rules, "%s/beside/%d" % (seed, at), BESIDE_CLIENTS) for at in range(BESIDE)]
     calls += [(soak.soak, bqd, "%s/soak/%d" % (seed, at), SOAK_SECONDS) for at in range(SOAKS)]
     return calls + [(sessions.batch, bq, known["bq"], rules, "%s/sessions/%d" % (seed, at), SESSIONS) for at in range(BATCHES)]
+
+
+def is_unjudged(report):
+    return report.passed + report.failed == 0
+
+
+def made(processes, calls, keep):
+    """Makes these calls. The reports are kept, but of runs that couldn't be judged, whose calls are given back."""
+    started = {processes.submit(*it): it for it in calls}
+    left = []
+    for ended in concurrent.futures.as_completed(started):
+        if is_unjudged(ended.result()):
+            left.append((started[ended], ended.result()))
+        else:
+            keep(ended.result())
+    return left
+
+
+def made_with_patience(processes, calls, keep):
+    """Makes these calls, and those again whose runs couldn't be judged."""
+    left = made(processes, calls, keep)
+    for _ in range(LATE_TRIES):
+        if left:
+            left = made(processes, [call for call, _ in left], keep)
+    for _, report in left:
+        keep(report)
 
 
 def options_known(bq, bqd):
@@ -49,8 +76,7 @@ def whole_run(bq, bqd, seed, minutes, rules):
         number = 0
         while number == 0 or time.monotonic() - begun < 60 * minutes:
             round_seed = str(seed) if number == 0 else "%s.%d" % (seed, number)
-            for ended in concurrent.futures.as_completed([processes.submit(*it) for it in round_of(bq, bqd, known, rules, round_seed)]):
-                keep(ended.result())
+            made_with_patience(processes, round_of(bq, bqd, known, rules, round_seed), keep)
             number += 1
     return reports
 
@@ -95,7 +121,7 @@ def counts(reports):
     """How many parts passed, and how many failed. Where most runs couldn't be judged, that is a failure."""
     passed, failed = sum(it.passed for it in reports), sum(it.failed for it in reports)
     runs = [it for it in reports if it.name.endswith("clients")]
-    empty = [it for it in runs if it.passed + it.failed == 0]
+    empty = [it for it in runs if is_unjudged(it)]
     return passed, failed + (2 * len(empty) > len(runs))
 
 

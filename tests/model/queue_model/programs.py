@@ -10,6 +10,10 @@ import threading
 import time
 from collections import namedtuple
 
+# For so many seconds nothing comes before a program counts as one that hangs: a machine that other guests hold up may
+# stand still for some.
+PATIENCE = 30
+
 # What a session of `bq` left: status is None where it had to be ended.
 Ran = namedtuple("Ran", "status out complaint")
 
@@ -83,7 +87,7 @@ class Server:
         self.started = subprocess.Popen(words, stdin=subprocess.PIPE, stdout=subprocess.PIPE, stderr=subprocess.PIPE)
 
     def __enter__(self):
-        guard = threading.Timer(20, self.started.kill)
+        guard = threading.Timer(PATIENCE, self.started.kill)
         guard.start()
         try:
             line = self.started.stdout.readline()
@@ -110,7 +114,7 @@ class Server:
 
     def connect(self):
         """A new connection to it."""
-        made = socket.create_connection(self.address, timeout=10)
+        made = socket.create_connection(self.address, timeout=PATIENCE)
         made.setsockopt(socket.IPPROTO_TCP, socket.TCP_NODELAY, 1)
         return made
 

@@ -7,7 +7,6 @@ from .machine import PLAIN
 from .reader import requests_of
 
 SEAT = 0
-SESSION_SECONDS = 10
 SHRINK_SECONDS = 40
 
 
@@ -59,7 +58,7 @@ def made_settings(seed, known):
     return PLAIN._replace(max_job_size=size, max_jobs=jobs)
 
 
-def difference(program, rules, settings, pieces, seconds=SESSION_SECONDS):
+def difference(program, rules, settings, pieces, seconds=programs.PATIENCE):
     """What is told where the program and the rules differ over an input in pieces, else None."""
     expected = answers_to(rules, settings, b"".join(pieces))
     if expected is None:
@@ -82,7 +81,7 @@ def one_session(program, known, rules, seed, will_shrink):
     cut = Chooser(random.Random("cuts %s" % seed), STILL).cuts(whole) if whole else [b""]
     expected = answers_to(rules, settings, whole)
     for pieces in ([whole], cut):
-        told = difference(program, rules, settings, pieces, SESSION_SECONDS if will_shrink else 2)
+        told = difference(program, rules, settings, pieces, programs.PATIENCE if will_shrink else 2)
         if told:
             if will_shrink:
                 texts = shrink.shrunk(texts, lambda fewer: difference(program, rules, settings, fewer, 2), SHRINK_SECONDS)

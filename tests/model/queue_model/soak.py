@@ -14,7 +14,6 @@ from . import programs, report
 from .machine import PLAIN
 
 LEASE = 2
-PATIENCE = 10
 
 
 class Cut(Exception):
@@ -40,7 +39,7 @@ class Line:
 
     def __init__(self, server, book):
         self.connection, self.book, self.kept = server.connect(), book, b""
-        self.connection.settimeout(PATIENCE)
+        self.connection.settimeout(programs.PATIENCE)
 
     def say(self, text):
         try:
@@ -60,7 +59,7 @@ class Line:
         try:
             piece = self.connection.recv(65536)
         except socket.timeout:
-            self.book.fault("no answer within %d seconds" % PATIENCE)
+            self.book.fault("no answer within %d seconds" % programs.PATIENCE)
             raise Cut()
         except OSError:
             raise Cut()
@@ -189,14 +188,14 @@ def values(text):
 
 def drained(line, book):
     """Deletes all that is left, and returns it: ids with bodies."""
-    left, until = {}, time.monotonic() + 10 * LEASE
+    left, until = {}, time.monotonic() + programs.PATIENCE
     while time.monotonic() < until:
         head, body = line.ask(b"reserve-with-timeout 1\r\n")
         if head[0] == b"RESERVED":
             number = int(head[1])
             if number in left:
                 book.fault("job %d came twice" % number)
-            left[number] = body
+            left[number], until = body, time.monotonic() + programs.PATIENCE
             if line.ask(b"delete %d\r\n" % number)[0][0] != b"DELETED":
                 book.fault("job %d can't be deleted by who holds it" % number)
             continue
@@ -243,7 +242,7 @@ def soak(program, seed, seconds, clients=12):
         for it in workers:
             it.start()
         for it in workers:
-            it.join(seconds + 4 * PATIENCE)
+            it.join(seconds + 4 * programs.PATIENCE)
         if any(it.is_alive() for it in workers):
             book.fault("a client didn't end")
         left = {}
