@@ -200,7 +200,10 @@ impl<C: Clock + Drop> Desk<C> {
 fn post(mails: &mut Vec<Mail, Global>, seat: Seat, answer: Answer) -> Result<(), Answer>
     ensures many { length mails.new.items ≡ length mails.old.items }
     ensures full { IfErr result (λ back. 4 ≤ length (slice_index_or mails.new.items seat [])) }
-    ensures posted { MatchResult result (λ done. (other : ℕ) → other < length mails.old.items → slice_index_or mails.new.items other [] ≡ slice_index_or mails.old.items other [] ++ answers_to other ((seat, answer) ∷ [])) (λ back. (back ≡ answer) × (mails.new.items ≡ mails.old.items)) }
+    ensures posted { MatchResult result
+        (λ done. (other : ℕ) → other < length mails.old.items → slice_index_or mails.new.items other []
+        ≡ slice_index_or mails.old.items other [] ++ answers_to other ((seat, answer) ∷ []))
+        (λ back. (back ≡ answer) × (mails.new.items ≡ mails.old.items)) }
 {
     match mails.get_mut(usize::from(seat)) {
         Some(mail) => mail.put(answer),

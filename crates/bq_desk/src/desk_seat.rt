@@ -25,7 +25,8 @@ impl<'a, C: Clock + Drop> Link for DeskSeat<'a, C> {
     ghost is_ready = { λ l. HasMails (state_of l.desk.now) × (l.seat < length (state_of l.desk.now).mails) };
 
     // Who drops the link knows the desk by it.
-    ghost went = { λ first submitted taken last. (last.desk.ghost_name ≡ first.desk.ghost_name) × (last.seat ≡ first.seat) × WentAt C.given first.seat first.desk.now submitted taken last.desk.now };
+    ghost went = { λ first submitted taken last. (last.desk.ghost_name ≡ first.desk.ghost_name) × (last.seat ≡ first.seat) ×
+        WentAt C.given first.seat first.desk.now submitted taken last.desk.now };
 
     fn submit(&mut self, step: Step) -> Result<(), Step> {
         self.desk.submit(self.seat, step)
@@ -49,7 +50,8 @@ pub fn act<L: Line, C: Clock + Drop>(
     requires mails { HasMails (state_of desk.old) }
     requires within { seat < length (state_of desk.old).mails }
     ensures mails { HasMails (state_of desk.new) }
-    ensures carried { (submitted : List Step) × (taken : List Answer) × WentAt C.given seat desk.old submitted taken desk.new × Carried machine.old (L.seen line.old) action.old machine.new (L.seen line.new) action.new submitted taken }
+    ensures carried { (submitted : List Step) × (taken : List Answer) × WentAt C.given seat desk.old submitted taken desk.new ×
+        Carried machine.old (L.seen line.old) action.old machine.new (L.seen line.new) action.new submitted taken }
 {
     let alloc = desk.alloc;
     let mut link = DeskSeat { desk, seat };

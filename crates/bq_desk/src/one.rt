@@ -47,7 +47,8 @@ pub fn run_one<R: Wait, L: Line + Drop, C: Clock + Drop>(
     requires new { L.seen line ≡ new_line }
     // There is one history of the client's steps, each at the moment of a reading of the clock. The
     // one-list machine takes it, and the line was written exactly what it is owed along it.
-    ensures served { IfOk result (λ one. (readings : List (Option ℕ)) × C.given clock readings one.clock × IsHistoryOfLine config 0 (record { seen = L.seen one.line; over = one.end }) readings) }
+    ensures served { IfOk result (λ one. (readings : List (Option ℕ)) × C.given clock readings one.clock ×
+        IsHistoryOfLine config 0 (record { seen = L.seen one.line; over = one.end }) readings) }
     ensures bad_configuration { IsErrOf result RunFault.BadConfiguration ↔ IsTrue (not (is_lone config)) }
     ensures no_thread { IsErrOf result RunFault.ThreadRefused ↔ ⊥ }
 {

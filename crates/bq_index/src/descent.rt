@@ -33,7 +33,8 @@ pub(crate) trait Descent {
     ) -> Option<&'a mut V>
         requires balanced { IsBalanced tree.old }
         requires reached { height tree.old ≤ depth }
-        ensures* writes_back { sem 𝓛 (LendsIf (tree_row K.row V.row) V.row tree.entry result (put_value (K.cmp key.now) tree.old) tree.old) }
+        ensures* writes_back { sem 𝓛 (LendsIf (tree_row K.row V.row) V.row tree.entry result (put_value (K.cmp key.now) tree.old)
+            tree.old) }
         ensures value { option_copied_mut result ≡ value_at (K.cmp key.now) tree.old }
         ensures counted { RaisedByAtMost (height tree.old) count.old count.new };
 }

@@ -23,5 +23,6 @@ pub fn one_reading_only()
 /// Behind a quit anything may follow: nothing more is read.
 pub fn anything_follows_a_quit()
     ensures { (max_job_size : ℕ) (text more : List ℕ) (requests : List Request) (rest : List ℕ)
-        → Reads max_job_size text requests rest → IsTrue (ends_by_quit requests) → Reads max_job_size (text ++ more) requests (rest ++ more) }
+        → Reads max_job_size text requests rest → IsTrue (ends_by_quit requests)
+        → Reads max_job_size (text ++ more) requests (rest ++ more) }
 {}

@@ -260,7 +260,8 @@ impl Jobs {
 
     /// The deadline and the id of the reserved job whose time to run ends first, whoever holds it.
     pub fn next_deadline(&mut self) -> Option<(Moment, JobId)>
-        ensures rank { result ≡ option_map (ranked (λ j. deadline_of j.state)) (first_of (λ j. is_reserved j.state) is_lease_before self.old.jobs) }
+        ensures rank { result ≡ option_map (ranked (λ j. deadline_of j.state))
+            (first_of (λ j. is_reserved j.state) is_lease_before self.old.jobs) }
         ensures same { self.new ≡ record self.old { comparisons = self.new.comparisons } }
         ensures comparisons { ComparesAtMost 1 self.old self.new }
     {

@@ -29,7 +29,8 @@ impl Eq for OrderedName {
 impl PartialOrd for OrderedName {
     ghost partial_cmp = { as_partial_cmp (on (λ n. n.0) name_cmp) };
 
-    ghost laws = { Cmp.partial_order_from_agreeing_total (on (λ n. n.0) name_cmp) (Cmp.on_total (λ n. n.0) name_total) (λ a b. refl) (λ a b. refl) };
+    ghost laws = { Cmp.partial_order_from_agreeing_total (on (λ n. n.0) name_cmp) (Cmp.on_total (λ n. n.0) name_total) (λ a b. refl)
+        (λ a b. refl) };
 
     fn partial_cmp(&self, other: &OrderedName) -> Option<Ordering> {
         Some(self.cmp(other))

@@ -63,7 +63,8 @@ pub(crate) fn shift<G: Ord + Drop>(
 )
     requires held { ForSome from (λ p. IsSome (holds_place G.cmp p order.old.entries)) }
     requires spare { InOrder (place_cmp G.cmp) order.old.entries → ForSome to (λ _. 0 < order.old.spare + (if is_some from then 1 else 0)) }
-    requires absent { InOrder (place_cmp G.cmp) order.old.entries → ForSome to (λ p. holds_place G.cmp p (without_place G.cmp from order.old.entries) ≡ None) }
+    requires absent { InOrder (place_cmp G.cmp) order.old.entries →
+        ForSome to (λ p. holds_place G.cmp p (without_place G.cmp from order.old.entries) ≡ None) }
     ensures entries { order.new.entries ≡ with_place G.cmp to (without_place G.cmp from order.old.entries) }
     ensures spare { order.new.spare + (if is_some to then 1 else 0) ≡ order.old.spare + (if is_some from then 1 else 0) }
     ensures ordered { InOrder (place_cmp G.cmp) order.old.entries }

@@ -13,7 +13,8 @@ struct LineFeed {
 // The first line feed, and whether it stands behind a CR.
 fn first_line_feed(after_cr: bool, bytes: &[u8]) -> Option<LineFeed>
     ensures found { MatchOption result (spec.line_end_after after_cr bytes.now ≡ None) (λ feed. spec.line_end_after after_cr bytes.now
-        ≡ (if feed.behind_cr then Some (feed.at + 1) else spec.later_by (feed.at + 1) (spec.line_end_after false (drop (feed.at + 1) bytes.now)))) }
+        ≡ (if feed.behind_cr then Some (feed.at + 1) else spec.later_by (feed.at + 1)
+        (spec.line_end_after false (drop (feed.at + 1) bytes.now)))) }
     ensures within { MatchOption result (Unit {0}) (λ feed. feed.at < length bytes.now) }
 {
     match memchr(b'\n', bytes) {

@@ -143,7 +143,8 @@ fn bury_words(words: &mut Words, place: &mut Option<Request>) -> Option<LineRead
 
 // What the words of a pause ask for.
 fn pause_words(words: &mut Words, place: &mut Option<Request>) -> Option<LineRead>
-    ensures { option_map (λ read. asked_by read place.new) result ≡ option_map Some (spec.read_words spec_words.Command.PauseTube words.old) }
+    ensures { option_map (λ read. asked_by read place.new) result
+        ≡ option_map Some (spec.read_words spec_words.Command.PauseTube words.old) }
 {
     let tube = TubeName::new(words.next()?)?;
     let delay = next_number(words)?;

@@ -34,7 +34,8 @@ fn feed_all(
     piece: &[u8],
     requests: &mut Vec<Request, Global>,
 ) -> Result<(), NoMemory>
-    ensures reads { OnOk result ((taken : List ℕ) → HasRead reader.old taken requests.old.items → HasReadText reader.new (taken ++ piece.now) requests.new.items) }
+    ensures reads { OnOk result ((taken : List ℕ) → HasRead reader.old taken requests.old.items →
+        HasReadText reader.new (taken ++ piece.now) requests.new.items) }
     ensures over { OnOk result (IsOver reader.old → (reader.new ≡ reader.old) × (requests.new.items ≡ requests.old.items)) }
     ensures limit { reader.new.max_job_size ≡ reader.old.max_job_size }
 {

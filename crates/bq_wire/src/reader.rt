@@ -75,7 +75,8 @@ impl RequestReader {
         ensures waits { result.1 ≡ None → (text : List ℕ) → Stands self.old text → Waits self.new text piece.now result.0 }
         // Whatever text it stood for, that text and the bytes taken are this one request, and it stands
         // for the empty text now, or after a quit for none.
-        ensures hands_out { IfSome result.1 (λ request. (text : List ℕ) → Stands self.old text → HandsRequest self.new text piece.now result.0 request) }
+        ensures hands_out { IfSome result.1
+            (λ request. (text : List ℕ) → Stands self.old text → HandsRequest self.new text piece.now result.0 request) }
         // So of all bytes taken since the reader was new or restarted it hands out the requests, however
         // they were cut.
         ensures reads { ReadsOn self.old self.new piece.now result.0 result.1 }
@@ -97,7 +98,8 @@ impl RequestReader {
         ensures within { result ≤ length piece.now }
         ensures progress { IfSome request.new (λ _. 0 < result) }
         ensures waits { request.new ≡ None → (text : List ℕ) → Stands self.old text → Waits self.new text piece.now result }
-        ensures hands_out { IfSome request.new (λ asked. (text : List ℕ) → Stands self.old text → HandsRequest self.new text piece.now result asked) }
+        ensures hands_out { IfSome request.new
+            (λ asked. (text : List ℕ) → Stands self.old text → HandsRequest self.new text piece.now result asked) }
         ensures reads { ReadsOn self.old self.new piece.now result request.new }
         ensures over { IsOver self.old → (result ≡ 0) × (request.new ≡ None) × (self.new ≡ self.old) }
         ensures limit { self.new.max_job_size ≡ self.old.max_job_size }

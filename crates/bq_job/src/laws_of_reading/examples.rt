@@ -33,7 +33,11 @@ fn small_limit()
 // A word in upper case, a number too few, a name that begins with -, and a great job id.
 fn bad_lines()
     ensures { reading 65535 (codes "PUT\r\nput 1\r\nuse -a\r\npeek 4294967296\r\n")
-        ≡ (requests.Refused refusals.UnknownCommand ∷ requests.Refused refusals.BadFormat ∷ requests.Refused refusals.BadFormat ∷ requests.Peek 4294967296 ∷ [], []) }
+        ≡ (
+          requests.Refused refusals.UnknownCommand ∷ requests.Refused refusals.BadFormat ∷ requests.Refused refusals.BadFormat
+              ∷ requests.Peek 4294967296 ∷ [],
+          [],
+        ) }
 {}
 
 // The longest line has 222 bytes.
@@ -62,13 +66,21 @@ fn truncated_and_after_quit()
 // An empty line, a space at an end, a space at a beginning, and a number that is too great.
 fn odd_spaces_and_numbers()
     ensures { reading 65535 (codes "\r\nreserve \r\n reserve\r\nput 0 0 4294967296 1\r\n")
-        ≡ (requests.Refused refusals.UnknownCommand ∷ requests.Refused refusals.BadFormat ∷ requests.Refused refusals.UnknownCommand ∷ requests.Refused refusals.BadFormat ∷ [], []) }
+        ≡ (
+          requests.Refused refusals.UnknownCommand ∷ requests.Refused refusals.BadFormat ∷ requests.Refused refusals.UnknownCommand
+              ∷ requests.Refused refusals.BadFormat ∷ [],
+          [],
+        ) }
 {}
 
 // The commands that count or list, and words that are nearly theirs.
 fn statistics_and_lists()
     ensures named { reading 65535 (codes "stats\r\nstats-job 7\r\nstats-tube a\r\nlist-tubes\r\nlist-tubes-watched\r\n")
-        ≡ (requests.Stats ∷ requests.StatsJob 7 ∷ requests.StatsTube (codes "a") ∷ requests.ListTubes ∷ requests.ListTubesWatched ∷ [], []) }
+        ≡ (
+          requests.Stats ∷ requests.StatsJob 7 ∷ requests.StatsTube (codes "a") ∷ requests.ListTubes
+              ∷ requests.ListTubesWatched ∷ [],
+          [],
+        ) }
     ensures nearly { reading 65535 (codes "stat\r\nstats-\r\nlist-tube\r\nlist-tubes-\r\n")
         ≡ (replicate 4 (requests.Refused refusals.UnknownCommand), []) }
     ensures other_words { reading 65535 (codes "stats x\r\nstats-job\r\nstats-tube -a\r\nlist-tubes \r\nlist-tubes-watched a\r\n")
