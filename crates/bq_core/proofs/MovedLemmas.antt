@@ -31,7 +31,8 @@ use Rattle.bq_core.specs.SeatChanges.{AreNumbered}
 use Rattle.bq_core.specs.Stirs.{AreKnown, IsKnown, with_stirred}
 use Rattle.bq_core.specs.Tallies.{AreCounted, tallies_at, tallies_of, tallies_without, tally_moved, tally_of, tally_with, tally_without}
 use Rattle.bq_core.specs.TubeEntries.{AreEntries, AreInOrder, HasTubes, has_entry}
-use Rattle.bq_core.specs.Warnings.{AreWarned, IsWarned, has_waiting_holder}
+use Rattle.bq_core.specs.Warnings.{AreWarned, IsWarned, has_waiting_holder, with_holder_of}
+use Rattle.bq_core.specs.declared.warns.Warns.{Warns}
 use Rattle.bq_job.proofs.ListLemmas.{all_weaker, list_any_not, none_pass}
 use Rattle.bq_core.proofs.ClientLemmas.{some_pass}
 use Rattle.bq_core.proofs.CrowdPlaces.{crowd_there}
@@ -158,10 +159,13 @@ module _ (low next id : ℕ) (f : Job → Job) (keeps : KeepsId f) (stays : Keep
       subst (λ x. AreKnown x (with_changed id f jobs) seats tubes) (sym stir_is)
       (subst (λ js. AreKnown (if is_ready (f j) && list_any (is_waiter (f j).tube) seats then with_stirred (f j).tube stir else stir) js seats tubes) made_of known)
 
-  pub warned_moved : (warns : Bool) (seats : List SeatRecord) (b : Bool) → AreNumbered seats → b ≡ has_waiting_holder m.to.state seats → AreWarned warns jobs seats
-      → AreWarned (if b then true else warns) (with_changed id f jobs) seats
+  pub warned_moved : (warns : Warns) (seats : List SeatRecord) (b : Bool) → AreNumbered seats → b ≡ has_waiting_holder m.to.state seats → AreWarned warns jobs seats
+      → AreWarned (if b then with_holder_of m.to.state warns else warns) (with_changed id f jobs) seats
   warned_moved warns seats b numbered e was =
       let warned = warned_added (f j) warns (without id jobs) seats numbered (all_filtered (λ k. All (IsWarned warns k) seats) (λ k. not (k.id == id)) jobs was) in
       let b_is : b ≡ has_waiting_holder (f j).state seats = e ∙ ap (λ (n : Moved). has_waiting_holder n.to.state seats) is in
-      subst (λ x. AreWarned (if x then true else warns) (with_changed id f jobs) seats) (sym b_is)
-      (subst (λ js. AreWarned (if has_waiting_holder (f j).state seats then true else warns) js seats) made_of warned)
+      let state_is : m.to.state ≡ (f j).state = ap (λ (n : Moved). n.to.state) is in
+      let warns_are : (if b then with_holder_of m.to.state warns else warns) ≡ (if has_waiting_holder (f j).state seats then with_holder_of (f j).state warns else warns) =
+      λ i. if b_is i then with_holder_of (state_is i) warns else warns in
+      subst (λ x. AreWarned x (with_changed id f jobs) seats) (sym warns_are)
+      (subst (λ js. AreWarned (if has_waiting_holder (f j).state seats then with_holder_of (f j).state warns else warns) js seats) made_of warned)

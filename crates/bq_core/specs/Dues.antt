@@ -19,6 +19,11 @@ abbrev pub warning_due : List Job → SeatRecord → Option ℕ
 warning_due jobs s =
     if is_waiting s then option_map (λ j. deadline_of j.state - 1000) (first_of (is_held_by s.number) is_lease_before jobs) else None
 
+-- the same of the client at a seat, if there is one
+abbrev pub warning_due_at : List Job → Option SeatRecord → Option ℕ
+warning_due_at jobs None = None
+warning_due_at jobs (Some s) = warning_due jobs s
+
 -- the least so far, once this seat or this tube is looked at
 abbrev pub with_warning_due : List Job → Option ℕ → SeatRecord → Option ℕ
 with_warning_due jobs best s = earlier_of_both best (warning_due jobs s)

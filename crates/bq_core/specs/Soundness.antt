@@ -24,9 +24,10 @@ use Rattle.bq_core.specs.declared.first_end.FirstEnd.TheVariants.{Known, Unknown
 use Rattle.bq_core.specs.declared.loss.Loss.{Loss}
 use Rattle.bq_core.specs.declared.stir.Stir.{Stir}
 use Rattle.bq_core.specs.declared.tally.Tally.{Tally}
+use Rattle.bq_core.specs.declared.warns.Warns.{Warns}
 
 -- The fields of a state agree with one another: these jobs and seats with what is kept of them.
-pub record Soundness (jobs : List Job) (seats : List SeatRecord) (tubes : KeptTubes) (tally : Tally) (there : Clients) (loss : Loss) (stir : Stir) (warns : Bool) (first_end : FirstEnd) (turns : Queued) (pause_end : Option ℕ) (next_id : ℕ) (draining : Bool) : Type 0 where
+pub record Soundness (jobs : List Job) (seats : List SeatRecord) (tubes : KeptTubes) (tally : Tally) (there : Clients) (loss : Loss) (stir : Stir) (warns : Warns) (first_end : FirstEnd) (turns : Queued) (pause_end : Option ℕ) (next_id : ℕ) (draining : Bool) : Type 0 where
   pub entries : AreEntries jobs seats tubes.entries
   -- Seats are numbered in order.
   pub numbered : AreNumbered seats
@@ -42,7 +43,7 @@ pub record Soundness (jobs : List Job) (seats : List SeatRecord) (tubes : KeptTu
   pub alive : AreAlive loss jobs seats tubes.entries
   -- It is known which jobs waiting clients may have.
   pub stirs : AreKnown stir jobs seats (counted tubes.entries)
-  -- It is known whether a waiting client holds a job.
+  -- It is known which waiting clients may hold a job.
   pub warnings : AreWarned warns jobs seats
   -- So it is for the ends of waits by timeouts.
   pub timeouts : AreTimeouts first_end seats
@@ -64,6 +65,6 @@ AreTimeouts-prop Unknown seats = Unit-prop
 AreTimeouts-prop (Known first) seats = Prim.hlevel props
 
 -- There is one proof of it at most, so a field can hold it.
-pub Soundness-prop : (jobs : List Job) (seats : List SeatRecord) (tubes : KeptTubes) (tally : Tally) (there : Clients) (loss : Loss) (stir : Stir) (warns : Bool) (first_end : FirstEnd) (turns : Queued) (pause_end : Option ℕ) (next_id : ℕ) (draining : Bool)
+pub Soundness-prop : (jobs : List Job) (seats : List SeatRecord) (tubes : KeptTubes) (tally : Tally) (there : Clients) (loss : Loss) (stir : Stir) (warns : Warns) (first_end : FirstEnd) (turns : Queued) (pause_end : Option ℕ) (next_id : ℕ) (draining : Bool)
     → IsProp (Soundness jobs seats tubes tally there loss stir warns first_end turns pause_end next_id draining)
 Soundness-prop jobs seats tubes tally there loss stir warns first_end turns pause_end next_id draining = Prim.hlevel (props, AreInOrder-prop, AreIdsWithin-prop, AreTimeouts-prop)

@@ -15,6 +15,7 @@ use Rattle.bq_core.specs.declared.loss.Loss.{Loss}
 use Rattle.bq_core.specs.declared.state.State.{State}
 use Rattle.bq_core.specs.declared.stir.Stir.{Stir}
 use Rattle.bq_core.specs.declared.tally.Tally.{Tally}
+use Rattle.bq_core.specs.declared.warns.Warns.{Warns}
 
 -- what a state holds beside the fact that it is sound
 pub record Held : Type 0 where
@@ -27,7 +28,7 @@ pub record Held : Type 0 where
   pub clients : Clients
   pub loss : Loss
   pub stir : Stir
-  pub warns : Bool
+  pub warns : Warns
   pub first_end : FirstEnd
   pub pause_end : Option ℕ
   pub moment : ℕ

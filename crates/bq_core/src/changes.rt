@@ -13,12 +13,12 @@ ghost use Rattle.bq_core.specs.JobChanges.{changed};
 ghost use Rattle.bq_core.specs.KeptTubes.{first_tubes};
 ghost use Rattle.bq_core.specs.Offers.{is_waited_at};
 ghost use Rattle.bq_core.specs.Replying.{AtSeat, Watches};
-ghost use Rattle.bq_core.specs.SeatChanges.{AreNumbered, seat_changed, has_tube_of, more_watched, fewer_watched, watches_other};
+ghost use Rattle.bq_core.specs.SeatChanges.{seat_changed, has_tube_of, more_watched, fewer_watched, watches_other};
 ghost use Rattle.bq_core.specs.Keeping.{Looks};
 ghost use Rattle.bq_core.specs.State.{held, machine_of};
 ghost use Rattle.bq_core.specs.Texts.{names_of};
 ghost use Rattle.bq_core.specs.TubeEntries.{has_entry, is_tube_of, tube_changed};
-ghost use Rattle.bq_core.specs.Warnings.{has_waiting_holder, is_waiting_there, may_hold};
+ghost use Rattle.bq_core.specs.Warnings.{has_waiting_holder, may_hold, with_holder};
 
 use crate::clients::Clients;
 use crate::config::Config;
@@ -35,7 +35,8 @@ use crate::stir::Stir;
 use crate::tally::Tally;
 use crate::tube_entry::TubeChange;
 use crate::tubes::Tubes;
-use crate::{first_end, job_list, leaving, loss, seat_list, shares, stir};
+use crate::warns::Warns;
+use crate::{first_end, job_list, leaving, loss, seat_list, shares, stir, warns};
 use bq_job::{Job, JobId, JobState, Moment, NoMemory, Seat, TubeName};
 use bq_jobs::{Jobs, Moved};
 use std::alloc::Global;
@@ -51,15 +52,6 @@ pub(crate) fn make_room(state: &mut State, alloc: Global) -> Result<(), NoMemory
     state.jobs.reserve_one(alloc)
 }
 
-// A client that waits may hold a job, if that is so.
-fn warn_if(warns: &mut bool, holds: bool)
-    ensures { warns.new ≡ (if holds then true else warns.old) }
-{
-    if holds {
-        *warns = true;
-    }
-}
-
 /// Puts a job in, where there is room for it. Its id is one that was given, and its tube has an entry.
 pub(crate) fn add(state: &mut State, job: Job)
     requires room { 0 < state.old.jobs.room }
@@ -70,7 +62,8 @@ pub(crate) fn add(state: &mut State, job: Job)
     ensures asks { ComparesAtMost 4 state.old.jobs state.new.jobs }
 {
     let is_wanted = state.is_wanted(&job);
-    let holds = state.has_waiting_holder(&job);
+    let waits = state.has_waiting_holder(&job);
+    let at = job.state;
     stir::stir_tube_if(&mut state.stir, &job.tube, is_wanted);
     state.tally.add(&job);
     state.tubes.add_job(&job);
@@ -78,7 +71,7 @@ pub(crate) fn add(state: &mut State, job: Job)
     state.jobs.add(job);
     // So many jobs there can be, and no count comes to its end.
     let _jobs = state.jobs.len();
-    warn_if(&mut state.warns, holds);
+    warns::warn_holder_if(&mut state.warns, at, waits);
 }
 
 /// Takes the job of this id out, if there is one. Its room is kept.
@@ -116,11 +109,11 @@ pub(crate) fn change_job(state: &mut State, id: JobId, what: &JobChange)
         return;
     };
     let is_wanted = counts_waiter_of(&state.clients, &state.tubes, &moved);
-    let holds = seat_list::holder_waits(state.seats.as_slice(), moved.to.state);
+    let waits = seat_list::holder_waits(state.seats.as_slice(), moved.to.state);
     // So many jobs there can be, and no count comes to its end.
     let _jobs = state.jobs.len();
     stir::stir_tube_if(&mut state.stir, &moved.tube, is_wanted);
-    warn_if(&mut state.warns, holds);
+    warns::warn_holder_if(&mut state.warns, moved.to.state, waits);
     state.tally.leave(moved.from);
     state.tally.enter(moved.to);
     state.tubes.move_job(&moved);
@@ -149,11 +142,13 @@ pub(crate) fn change_seat(state: &mut State, seat: Seat, what: &SeatChange)
     // So many seats there can be, and no count comes to its end.
     let _seats = state.seats.len();
     stir::stir_seat(&mut state.stir, seat, what);
+    warns::warn_seat(&mut state.warns, seat, what);
 }
 
 /// Takes down whether the client at the seat, which is about to wait, holds a job.
 pub(crate) fn note_leases(state: &mut State, seat: Seat)
-    ensures known { state.new.warns ≡ (if list_any (is_held_by seat) state.old.jobs.jobs then true else state.old.warns) }
+    ensures known { state.new.warns
+        ≡ (if list_any (is_held_by seat) state.old.jobs.jobs then with_holder seat state.old.warns else state.old.warns) }
     ensures tickets { state.new.tickets ≡ state.old.tickets }
     ensures seats { state.new.seats ≡ state.old.seats }
     ensures tubes { state.new.tubes ≡ state.old.tubes }
@@ -161,7 +156,7 @@ pub(crate) fn note_leases(state: &mut State, seat: Seat)
     ensures asks { Asks 1 state.old.jobs state.new.jobs }
 {
     let holds = job_list::holds_some(&mut state.jobs, seat);
-    warn_if(&mut state.warns, holds);
+    warns::warn_if(&mut state.warns, seat, holds);
 }
 
 /// Looks for when the first wait of a client is over by its timeout, where that isn't known.
@@ -318,7 +313,7 @@ pub(crate) fn new_state(
         clients: Clients::default(),
         loss: Loss::Nothing,
         stir: Stir::Nothing,
-        warns: false,
+        warns: Warns::Nobody,
         first_end: FirstEnd::Known(None),
         pause_end: None,
         moment: 0,

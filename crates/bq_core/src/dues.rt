@@ -1,18 +1,20 @@
 ghost use Rattle.std.specs.Prelude.{◌≡◌, ◌+◌, None, count_by, fold, length, if◌then◌else◌};
-ghost use Rattle.std.specs.Option.{option_map};
+ghost use Rattle.std.specs.Option.{option_copied, option_map};
 ghost use Rattle.bq_job.specs.machine.Changes.{is_waiting};
 ghost use Rattle.bq_job.specs.beside.NextDue.{next_due as next_due_of};
 ghost use Rattle.bq_core.specs.Asking.{Asks};
-ghost use Rattle.bq_core.specs.Dues.{earlier_of_both, timers_due, warning_due, with_seat_due, with_warning_due};
+ghost use Rattle.bq_core.specs.Dues.{earlier_of_both, timers_due, warning_due, warning_due_at, with_seat_due, with_warning_due};
 ghost use Rattle.bq_core.specs.FirstEnds.{AreTimeouts};
 ghost use Rattle.bq_core.specs.Queues.{at_turn, turns_of};
 ghost use Rattle.bq_core.specs.SeatChanges.{AreNumbered};
 ghost use Rattle.bq_core.specs.State.{machine_of};
-ghost use Rattle.bq_core.specs.Warnings.{AreWarned};
+ghost use Rattle.bq_core.specs.Warnings.{AreWarned, is_waiting_there};
 
 use crate::first_end::FirstEnd;
 use crate::seat_record::{SeatRecord, Turn};
 use crate::state::State;
+use crate::warns::Warns;
+use crate::{seat_list, warns};
 use bq_job::{JobId, Moment};
 use bq_jobs::Jobs;
 
@@ -51,6 +53,18 @@ fn warning_due(jobs: &mut Jobs, client: &SeatRecord) -> Option<Moment>
     }
 }
 
+// The same of the client at a seat, if there is one.
+fn warning_due_at(jobs: &mut Jobs, client: Option<&SeatRecord>) -> Option<Moment>
+    ensures due { result ≡ warning_due_at jobs.old.jobs (option_copied client.entry) }
+    ensures same { jobs.new ≡ record jobs.old { comparisons = jobs.new.comparisons } }
+    ensures asks { Asks (if is_waiting_there (option_copied client.entry) then 1 else 0) jobs.old jobs.new }
+{
+    match client {
+        None => None,
+        Some(client) => warning_due(jobs, client),
+    }
+}
+
 // The earlier of this moment and of when the client of this turn is told so.
 fn with_warning_of(
     best: Option<Moment>,
@@ -81,25 +95,25 @@ fn first_warning(jobs: &mut Jobs, seats: &[SeatRecord], turns: &[Turn]) -> Optio
     best
 }
 
-// When the first of the clients that wait is told so. Only who waits is looked at, and where none of them holds a
-// job, nobody.
+// When the first of the clients that wait is told so. Only who may hold a job is looked at, and where that is more than
+// one, who waits.
 fn warnings_due(
     jobs: &mut Jobs,
     seats: &[SeatRecord],
     turns: &[Turn],
-    warns: bool,
+    warns: &Warns,
 ) -> Option<Moment>
-    requires warned { AreWarned warns jobs.old.jobs seats.now }
+    requires warned { AreWarned warns.now jobs.old.jobs seats.now }
     requires numbered { AreNumbered seats.now }
     requires turns { turns.now ≡ turns_of seats.now }
     ensures due { result ≡ fold (with_warning_due jobs.old.jobs) None seats.now }
     ensures same { jobs.new ≡ record jobs.old { comparisons = jobs.new.comparisons } }
     ensures asks { Asks (count_by is_waiting seats.now) jobs.old jobs.new }
 {
-    if warns {
-        first_warning(jobs, seats, turns)
-    } else {
-        None
+    match warns {
+        Warns::Nobody => None,
+        Warns::Client(seat) => warning_due_at(jobs, seat_list::find(seats, *seat)),
+        Warns::Any => first_warning(jobs, seats, turns),
     }
 }
 
@@ -168,9 +182,9 @@ pub(crate) fn next_due(state: &mut State) -> Option<Moment>
         &mut state.jobs,
         state.seats.as_slice(),
         state.queue.as_slice(),
-        state.warns,
+        &state.warns,
     );
-    state.warns = warning.is_some();
+    warns::settle(&mut state.warns, warning.is_some());
     let seats = seats_due(
         &state.first_end,
         state.seats.as_slice(),

@@ -47,4 +47,5 @@ mod tube_pauses;
 mod tube_walks;
 mod tubes;
 mod waits;
+mod warns;
 mod watch_list;

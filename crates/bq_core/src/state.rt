@@ -11,6 +11,7 @@ use crate::seat_record::SeatRecord;
 use crate::stir::Stir;
 use crate::tally::Tally;
 use crate::tubes::Tubes;
+use crate::warns::Warns;
 use crate::{job_list, seat_list};
 use bq_job::{Body, Job, JobId, Moment, NoMemory, Seat, TubeName};
 use bq_jobs::Jobs;
@@ -35,8 +36,8 @@ pub(crate) struct State {
     pub(crate) loss: Loss,
     /// Which jobs the clients that wait may have.
     pub(crate) stir: Stir,
-    /// Whether a client that waits may hold a job, and so be told when its time to run ends soon.
-    pub(crate) warns: bool,
+    /// Which clients that wait may hold a job, and so be told when its time to run ends soon.
+    pub(crate) warns: Warns,
     /// When the first wait of a client is over by its timeout.
     pub(crate) first_end: FirstEnd,
     /// When the first pause of a tube ends.

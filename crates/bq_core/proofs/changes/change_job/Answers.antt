@@ -65,7 +65,7 @@ invariant_of-state-2 c =
             crowds = rw ((ap (λ (k : KeptTubes). k.crowds) c.move_job.ensures), (ap (λ (k : KeptTubes). k.entries) c.move_job.ensures)) was.crowds;
             alive = rw (c.in-Some.ensures.jobs, (ap (λ (k : KeptTubes). k.entries) c.move_job.ensures)) (alive_changed (λ k. if k.id == id then f k else k) stays st.loss st.jobs.jobs st.seats.items st.tubes.entries was.alive);
             stirs = rw (c.stir_tube_if.ensures, c.in-Some.ensures.jobs, (ap (λ (k : KeptTubes). k.entries) c.move_job.ensures)) (known_moved 1 st.next_id id f (id_kept c.args.what.now) (tube_kept c.args.what.now) of.job m of.is st.jobs.jobs was.ids of.there st.stir st.seats.items (counted st.tubes.entries) c.counts_waiter_of-is_wanted.result wanted was.stirs);
-            warnings = rw (c.warn_if.ensures, c.in-Some.ensures.jobs) (warned_moved 1 st.next_id id f (id_kept c.args.what.now) (tube_kept c.args.what.now) of.job m of.is st.jobs.jobs was.ids of.there st.warns st.seats.items c.holder_waits-holds.result was.numbered (c.holder_waits-holds.ensures ∙ ap (has_waiting_holder m.to.state) c.as_slice.ensures.value) was.warnings);
+            warnings = rw (c.warn_holder_if.ensures, c.in-Some.ensures.jobs) (warned_moved 1 st.next_id id f (id_kept c.args.what.now) (tube_kept c.args.what.now) of.job m of.is st.jobs.jobs was.ids of.there st.warns st.seats.items c.holder_waits-waits.result was.numbered (c.holder_waits-waits.ensures ∙ ap (has_waiting_holder m.to.state) c.as_slice.ensures.value) was.warnings);
             timeouts = was.timeouts;
             queue = was.queue;
             pauses = was.pauses ∙ ap first_pause_end (sym (ap (λ (k : KeptTubes). k.entries) c.move_job.ensures));

@@ -89,7 +89,7 @@ invariant_of-state c =
                 let loss : c.lose.new.loss ≡ loss_of (touched c.args.what.now) mid (there seats) st.loss = c.lose.ensures ∙ (λ i. loss_of (touches i) mid (taken i) st.loss) in
                 rw (loss, c.change_at.ensures, entries) all;
             stirs = rw (c.stir_seat.ensures, c.change_at.ensures, entries) (known_of_seat c.args.seat c.args.what.now st.stir st.jobs.jobs seats (counted st.tubes.entries) was.stirs);
-            warnings = rw c.change_at.ensures (warned_of_seat c.args.seat c.args.what.now st.warns st.jobs.jobs seats c.requires.holds was.warnings);
+            warnings = rw (c.warn_seat.ensures, c.change_at.ensures) (warned_of_seat c.args.seat c.args.what.now st.warns st.jobs.jobs seats c.requires.holds was.warnings);
             timeouts =
                 let end : c.change.new.first ≡ end_after c.args.what.now (there seats) st.first_end = c.change.ensures ∙ (λ i. end_after c.args.what.now (taken i) st.first_end) in
                 rw (end, c.change_at.ensures) (timeouts_of_seat c.args.seat c.args.what.now st.first_end seats was.numbered was.timeouts);
