@@ -101,6 +101,33 @@ fn is_cut_off(door: &CountedDoor) -> bool {
     false
 }
 
+// Whether a line of the door failed while it was read.
+fn has_failed(door: &CountedDoor) -> bool {
+    for over in door.door.over() {
+        if over.1 == LineEnd::ReadFault {
+            return true;
+        }
+    }
+    false
+}
+
+// Whether the text is the wanted one but for a job that was handed out last. The mark of the line's end stands behind.
+fn lacks_last_job(text: &[u8], wanted: &[u8]) -> bool {
+    let Some((_, before)) = text.split_last() else {
+        return false;
+    };
+    let Some(missing) = wanted.strip_prefix(before) else {
+        return false;
+    };
+    missing.starts_with(b"RESERVED ")
+}
+
+// Whether the text is what a door was to be written. A line that fails while its client waits for a job may have its
+// job's answer or not: it is either seen before the fault or behind it.
+fn is_due(door: &CountedDoor, text: &[u8], wanted: &[u8]) -> bool {
+    text == wanted || is_cut_off(door) || (has_failed(door) && lacks_last_job(text, wanted))
+}
+
 // How often a seat went, by these entries.
 fn times_gone(entries: &[Entry], seat: Seat) -> u64 {
     let mut times: u64 = 0;
@@ -128,7 +155,7 @@ pub fn expect_whole_journal(
         assert!(rt; times_gone(entries, seat) == 1);
         let text = written(alloc, door)?;
         let wanted = replayed(rt, alloc, config, entries, seat)?;
-        assert!(rt; text.as_slice() == wanted.as_slice() || is_cut_off(door));
+        assert!(rt; is_due(door, text.as_slice(), wanted.as_slice()));
         seat = seat.saturating_add(1);
     }
     Ok(())
