@@ -25,7 +25,7 @@ use Rattle.bq_job.specs.machine.Steps.{granted, share_refused, shares_body}
 use Rattle.bq_job.specs.reading.TubeName.{is_same_name}
 use Rattle.bq_core.specs.Acting.{Acts, is_asking, is_connected, is_free}
 use Rattle.bq_core.specs.JobChanges.{is_passed_by}
-use Rattle.bq_core.specs.Outbox.{Outbox}
+use Rattle.bq_steps.specs.Outbox.{Outbox}
 use Rattle.bq_core.specs.SeatChanges.{AreNumbered}
 use Rattle.bq_core.proofs.StateLemmas.{changed_there, seat_there}
 use Rattle.bq_core.proofs.TubeLemmas.{some_left}

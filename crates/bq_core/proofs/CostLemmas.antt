@@ -26,7 +26,7 @@ use Rattle.bq_core.specs.declared.job_list.JobKind.TheVariants.{Ready, Delayed, 
 use Rattle.bq_core.specs.Cost.{changed_jobs, tubes_watched, is_gone_or_changed, is_same_job, is_same_state, waited_tubes}
 use Rattle.bq_core.specs.JobKinds.{is_of}
 use Rattle.bq_core.specs.Kicking.{all_kicked}
-use Rattle.bq_core.specs.Outbox.{Outbox}
+use Rattle.bq_steps.specs.Outbox.{Outbox}
 use Rattle.bq_core.specs.Turns.{Gives}
 use Rattle.bq_core.proofs.KickLemmas.{finds_each}
 

@@ -1,8 +1,7 @@
--- A core and its answers may go to another thread. It is said step by step, since one search through all its
+-- A core may go to another thread. It is said step by step, since one search through all its
 -- shelves would be too long.
 use denote.Param.Send.{IsSend, sendable}
 use Rattle.bq_core.specs.contracts.machine.Core as Core
-use Rattle.bq_core.specs.contracts.outs.Outs as Outs
 use Rattle.bq_core.specs.contracts.tubes.Tubes as Tubes
 use Rattle.bq_index.proofs.tree.Tree.TheLaws.TheKnot as TheKnot
 use Rattle.std.proofs.Crossing as Crossing
@@ -12,6 +11,3 @@ tubes_sends = search (Crossing.crosses, TheKnot.crosses, sendable) depth 60 fits
 
 pub core_sends : IsSend (Core.the_field).row
 core_sends = search (tubes_sends, Crossing.crosses, TheKnot.crosses, sendable) depth 60 fits 20000
-
-pub outs_sends : IsSend (Outs.the_field).row
-outs_sends = search (Crossing.crosses, sendable) depth 60 fits 20000

@@ -16,7 +16,7 @@ use Rattle.bq_jobs.specs.Kept.{Kept}
 use Rattle.bq_core.specs.declared.state.State.{State}
 use Rattle.bq_core.specs.Asking.{Asks, AsksAsChanged, AsksByTurn, search_among}
 use Rattle.bq_core.specs.Cost.{IsStepWithin, changed_jobs, watched_tubes, tubes_watched, ripening, waited}
-use Rattle.bq_core.specs.Outbox.{Outbox}
+use Rattle.bq_steps.specs.Outbox.{Outbox}
 use Rattle.bq_core.specs.Serving.{NoneIsGone, ServesAsking, ServesInto}
 use Rattle.bq_core.specs.State.{machine_of}
 use Rattle.bq_core.specs.Turns.{Gives, none_refused}

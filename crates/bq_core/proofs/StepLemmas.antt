@@ -26,7 +26,7 @@ use Rattle.bq_job.proofs.RecordLemmas.{Booked, booked_of_lawful, booked_timers}
 use Rattle.bq_job.proofs.LawfulLemmas.{end_of, lawful_when_served, kept_of_timers, only_tubes, leaves_acted, length_addressed, seats_many, served}
 use Rattle.bq_core.specs.declared.state.State.{State}
 use Rattle.bq_core.specs.Acting.{Acts}
-use Rattle.bq_core.specs.Outbox.{Outbox}
+use Rattle.bq_steps.specs.Outbox.{Outbox}
 use Rattle.bq_core.specs.Serving.{NoneIsGone, ServesInto}
 use Rattle.bq_core.specs.State.{machine_of}
 use Rattle.bq_core.specs.Turns.{Gives, HasRoom, none_refused}

@@ -19,7 +19,7 @@ use Rattle.bq_job.proofs.ChoiceLemmas.{first_of_none_passes}
 use Rattle.bq_job.proofs.ComputedLemmas.{next_seat_waits, waiting_falls}
 use Rattle.bq_core.specs.declared.state.State.{State}
 use Rattle.bq_core.specs.HandOuts.{AddsHandOut, HandsOut}
-use Rattle.bq_core.specs.Outbox.{Outbox}
+use Rattle.bq_steps.specs.Outbox.{Outbox}
 use Rattle.bq_core.specs.State.{machine_of}
 use Rattle.bq_core.specs.Turns.{Gives, HasRoom, none_refused}
 use Rattle.bq_core.specs.WaitEnds.{AddsWaitEnd}

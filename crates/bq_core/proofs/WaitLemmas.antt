@@ -17,7 +17,7 @@ use Rattle.bq_job.proofs.KeptLemmas.{only_seat}
 use Rattle.bq_job.proofs.ListLemmas.{all_always, all_at, all_from_members, all_of_map, count_cons, found_passes, list_any_not, list_any_with, none_pass}
 use Rattle.bq_core.specs.declared.state.State.{State}
 use Rattle.bq_core.specs.EndingWaits.{AreLookedAt, is_after, left_after, told_at_end, turn_of, waits_after}
-use Rattle.bq_core.specs.Outbox.{Outbox}
+use Rattle.bq_steps.specs.Outbox.{Outbox}
 use Rattle.bq_core.specs.State.{machine_of}
 use Rattle.bq_core.specs.Turns.{Gives, none_refused}
 use Rattle.bq_core.specs.WaitEnds.{LooksAt}

@@ -9,7 +9,7 @@ use Rattle.bq_job.specs.machine.Steps.{Memory, acted, addressed, is_possible, sh
 use Rattle.bq_job.specs.machine.Steps.{is_growth_refused, is_share_refused, may_be_left_out}
 use Rattle.bq_core.specs.declared.reply.Reply.{Reply}
 use Rattle.bq_core.specs.declared.reply.Reply.TheVariants.{Silent, Told, LeftOut, Unshared}
-use Rattle.bq_core.specs.Outbox.{Outbox}
+use Rattle.bq_steps.specs.Outbox.{Outbox}
 
 -- nobody is connected there
 abbrev pub is_free : Option SeatRecord → Bool

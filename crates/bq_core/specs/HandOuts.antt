@@ -7,7 +7,7 @@ use Rattle.bq_job.specs.machine.Changes.{with_job, with_seat, without_wait}
 use Rattle.bq_job.specs.machine.Dispatch.{GivenAnswer, IsHandOut, next_job, next_seat, reserved_by}
 use Rattle.bq_job.specs.machine.Machine.{Machine, SeatRecord}
 use Rattle.bq_job.specs.machine.Steps.{is_out_of_memory}
-use Rattle.bq_core.specs.Outbox.{Outbox}
+use Rattle.bq_steps.specs.Outbox.{Outbox}
 
 -- the client at this seat is the one that gets the next job, if there is one
 abbrev pub IsPicked : Machine → ℕ → Type 0

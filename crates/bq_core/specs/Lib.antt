@@ -1,7 +1,6 @@
 pub mod Acting
 pub mod Asking
 pub mod Clients
-pub mod Codes
 pub mod CoreState
 pub mod Cost
 pub mod Counting
@@ -17,11 +16,9 @@ pub mod Keeping
 pub mod KeptTubes
 pub mod Kicking
 pub mod Leaving
-pub mod Limits
 pub mod Losses
 pub mod Offers
 pub mod Numbers
-pub mod Outbox
 pub mod PauseEnds
 pub mod Places
 pub mod Putting

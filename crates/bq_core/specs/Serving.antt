@@ -10,7 +10,7 @@ use Rattle.bq_job.specs.machine.Tubes.{is_tube}
 use Rattle.bq_jobs.specs.Kept.{Kept}
 use Rattle.bq_core.specs.Asking.{Asks}
 use Rattle.bq_core.specs.Cost.{IsStepWithin, waited}
-use Rattle.bq_core.specs.Outbox.{Outbox, outcome_of}
+use Rattle.bq_steps.specs.Outbox.{Outbox, outcome_of}
 use Rattle.bq_core.specs.State.{machine_of}
 use Rattle.bq_core.specs.Turns.{HasRoom}
 use Rattle.bq_core.specs.declared.state.State.{State}

@@ -4,7 +4,7 @@ use Rattle.bq_job.specs.beside.Computed.{waiting_count}
 use Rattle.bq_job.specs.machine.Dispatch.{GivenAnswer}
 use Rattle.bq_job.specs.machine.Machine.{Machine}
 use Rattle.bq_job.specs.machine.Waits.{Chain}
-use Rattle.bq_core.specs.Outbox.{Outbox}
+use Rattle.bq_steps.specs.Outbox.{Outbox}
 
 -- Turns of this kind led from the first machine to the last, and their answers were added. What they mean
 -- for the mark of refused shares is told by refused. Each took a waiting client away.

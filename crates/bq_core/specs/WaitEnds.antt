@@ -4,7 +4,7 @@ use Rattle.bq_job.specs.declared.answer.Answer.{Answer}
 use Rattle.bq_job.specs.machine.Changes.{is_waiting, with_seat, without_wait}
 use Rattle.bq_job.specs.machine.Machine.{Machine, SeatRecord}
 use Rattle.bq_job.specs.machine.Waits.{end_of_wait, ends_waiting}
-use Rattle.bq_core.specs.Outbox.{Outbox}
+use Rattle.bq_steps.specs.Outbox.{Outbox}
 
 -- the wait of this client ended, and it was told so
 pub record AddsWaitEnd (m : Machine) (s : SeatRecord) (old new : Outbox) (last : Machine) : Type 0 where

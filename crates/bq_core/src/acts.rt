@@ -11,12 +11,12 @@ ghost use Rattle.bq_core.specs.Turns.{HasRoom};
 
 use crate::job_acts::{NewJob, NewTurn};
 use crate::job_list::JobKind;
-use crate::outs::Outs;
 use crate::reply::Reply;
 use crate::seat_list::SeatChange;
 use crate::state::State;
 use crate::{changes, job_acts, kicks, leases, statistics_acts, tube_acts};
 use bq_job::{Answer, Refusal, Request, Seat, Step};
+use bq_steps::Outs;
 use std::alloc::Global;
 
 fn connect(state: &mut State, seat: Seat)

@@ -21,7 +21,6 @@ ghost use Rattle.bq_core.specs.TubeEntries.{has_entry, is_tube_of, tube_changed}
 ghost use Rattle.bq_core.specs.Warnings.{has_waiting_holder, may_hold, with_holder};
 
 use crate::clients::Clients;
-use crate::config::Config;
 use crate::crowd::Moving;
 use crate::first_end::FirstEnd;
 use crate::job_list::JobChange;
@@ -39,6 +38,7 @@ use crate::warns::Warns;
 use crate::{first_end, job_list, leaving, loss, seat_list, shares, stir, warns};
 use bq_job::{Job, JobId, JobState, Moment, NoMemory, Seat, TubeName};
 use bq_jobs::{Jobs, Moved};
+use bq_steps::Config;
 use std::alloc::Global;
 
 /// Makes room for a job, where there is none.

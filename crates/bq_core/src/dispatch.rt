@@ -22,7 +22,6 @@ ghost use Rattle.bq_core.specs.Turns.{Gives, HasRoom};
 ghost use Rattle.bq_core.specs.Serving.{IsLastTurn};
 
 use crate::job_list::JobChange;
-use crate::outs::Outs;
 use crate::seat_list::SeatChange;
 use crate::seat_record::{SeatRecord, Turn};
 use crate::state::State;
@@ -31,6 +30,7 @@ use crate::tubes::Tubes;
 use crate::{changes, seat_list};
 use bq_job::{Answer, Body, JobId, NoMemory, Seat, TubeName};
 use bq_jobs::Jobs;
+use bq_steps::Outs;
 
 /// A ready job, by its priority and its id.
 type Offer = (u64, JobId);

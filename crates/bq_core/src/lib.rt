@@ -4,14 +4,12 @@
 //! It keeps the jobs so that the first of each kind is found at once.
 #![tactic(auto)]
 
-pub use config::{Config, CoreFault};
+pub use bq_steps::{Config, CoreFault, Outs};
 pub use machine::Core;
-pub use outs::Outs;
 
 mod acts;
 mod changes;
 mod clients;
-mod config;
 mod crowd;
 mod dispatch;
 mod dues;
@@ -26,10 +24,10 @@ mod leaving;
 mod loss;
 mod machine;
 mod name_lists;
-mod outs;
 mod pause_end;
 mod pauses;
 mod queue;
+mod queue_core;
 mod reply;
 mod seat_list;
 mod seat_record;

@@ -4,19 +4,18 @@ ghost use Rattle.bq_job.specs.machine.Machine.{new_machine};
 ghost use Rattle.bq_job.specs.beside.NextDue.{next_due};
 ghost use Rattle.bq_job.specs.machine.Steps.{IsStep};
 ghost use Rattle.bq_core.specs.Cost.{IsLookWithin, IsStepWithin};
-ghost use Rattle.bq_core.specs.Limits.{is_body_size, is_job_limit, is_seat_count};
+ghost use Rattle.bq_steps.specs.Limits.{is_body_size, is_job_limit, is_seat_count};
 ghost use Rattle.bq_core.specs.State.{machine_of};
-ghost use Rattle.bq_core.specs.Outbox.{outcome_of};
+ghost use Rattle.bq_steps.specs.Outbox.{outcome_of};
 ghost use Rattle.bq_core.specs.Serving.{NoneIsGone, ServesAsking, TakesStepWithin};
 ghost use Rattle.bq_core.specs.Turns.{HasRoom};
 
-use crate::config::{Config, CoreFault};
-use crate::outs::Outs;
 use crate::queue::Queue;
 use crate::state::State;
 use crate::tubes::Tubes;
 use crate::{acts, changes, dispatch, dues, seat_list, timers, waits};
 use bq_job::{LARGEST_BODY, MOST_SEATS, Moment, Seat, Step};
+use bq_steps::{Config, CoreFault, Outs};
 use std::alloc::Global;
 use std::marker::Model;
 

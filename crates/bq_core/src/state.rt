@@ -2,7 +2,6 @@
 ghost use Rattle.bq_core.specs.Soundness.{Soundness, Soundness-prop};
 
 use crate::clients::Clients;
-use crate::config::Config;
 use crate::first_end::FirstEnd;
 use crate::job_list::{JobKind, JobTest};
 use crate::loss::Loss;
@@ -15,6 +14,7 @@ use crate::warns::Warns;
 use crate::{job_list, seat_list};
 use bq_job::{Body, Job, JobId, Moment, NoMemory, Seat, TubeName};
 use bq_jobs::Jobs;
+use bq_steps::Config;
 use std::alloc::Global;
 
 /// What a core holds. That it is sound stands here once: what builds or changes a state has to keep it, and what reads one

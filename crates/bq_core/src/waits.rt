@@ -15,12 +15,12 @@ ghost use Rattle.bq_core.specs.Turns.{Gives, HasRoom, none_refused};
 ghost use Rattle.bq_core.specs.WaitEnds.{EndsWait, LooksAt};
 
 use crate::first_end::FirstEnd;
-use crate::outs::Outs;
 use crate::seat_list::SeatChange;
 use crate::seat_record::Turn;
 use crate::state::State;
 use crate::{changes, job_list, pauses, seat_list};
 use bq_job::Answer;
+use bq_steps::Outs;
 
 // What the client at place k, which waits, is told if its wait ends now. Its first lease is asked for once.
 fn told_at_end(state: &mut State, k: usize) -> Option<Answer>

@@ -1,6 +1,6 @@
 -- What a run is set up with.
 use Rattle.std.specs.Prelude.{Bool, ◌&&◌, ◌==◌}
-use Rattle.bq_core.specs.Limits.{are_in_range}
+use Rattle.bq_steps.specs.Limits.{are_in_range}
 use Rattle.bq_job.specs.declared.settings.Settings.{Settings}
 
 -- one seat, and each other choice in its range

@@ -32,7 +32,7 @@ impl<C: Clock + Drop> Desk<C> {
     ghost use Rattle.bq_desk.specs.DeskOf.{WentAt, state_of};
     ghost use Rattle.bq_line.specs.GivenReadings.{GaveReadings};
     ghost use Rattle.bq_desk.specs.DeskState.{HasMails, IsNewDesk, IsSorted, IsStuck};
-    ghost use Rattle.bq_core.specs.Limits.{are_in_range};
+    ghost use Rattle.bq_steps.specs.Limits.{are_in_range};
     ghost use Rattle.bq_attend.specs.Links.{Submits, as_submitted};
     ghost use Rattle.bq_desk.specs.TimePassing.{PassesTime};
     ghost use Rattle.std.specs.Prelude.{if◌then◌else◌};

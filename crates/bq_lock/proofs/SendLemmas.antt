@@ -3,12 +3,13 @@ use denote.RattleType.{RattleType}
 use denote.Param.Send.{AllSend, IsSend, sendable, recorded_send, struct_send}
 use denote.Struct.Declared.{fields, shape}
 use denote.Struct.Struct.{Struct}
-use Rattle.bq_core.proofs.SendLemmas.{core_sends, outs_sends}
+use Rattle.bq_core.proofs.SendLemmas.{core_sends}
 use Rattle.bq_job.specs.contracts.journal.Entry as Entry
 use Rattle.bq_lock.specs.contracts.locked.Locked as Locked
 use Rattle.bq_lock.specs.contracts.locked.journal.Journal as Journal
 use Rattle.bq_lock.specs.contracts.locked.outboxes.Outboxes as Outboxes
 use Rattle.bq_lock.specs.contracts.locked_desk.LockedDesk as LockedDesk
+use Rattle.bq_steps.proofs.SendLemmas.{outs_sends}
 use Rattle.std.proofs.Crossing as Crossing
 
 outboxes_sends : IsSend (Outboxes.the_field).row

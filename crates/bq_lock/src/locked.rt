@@ -1,6 +1,6 @@
 //! What the one lock of a server holds.
 ghost use Rattle.std.specs.Prelude.{◌≡◌, ◌↔◌, IfOk, IsErrOf, IsTrue, drop, not, slice_get, slice_set};
-ghost use Rattle.bq_core.specs.Limits.{are_in_range};
+ghost use Rattle.bq_steps.specs.Limits.{are_in_range};
 ghost use Rattle.bq_job.specs.beside.NextDue.{next_due};
 ghost use Rattle.bq_lock.specs.LockedState.{IsLawfulHold, new_locked, outbox_at};
 ghost use Rattle.bq_lock.specs.LockedSteps.{TakesStep};

@@ -1,7 +1,7 @@
 //! A run around one lock, with a thread for each door.
 ghost use Rattle.std.specs.Prelude.{◌≡◌, ◌↔◌, ◌≤◌, ◌&&◌, ◌==◌, not, map, reverse, IfOk, IfSome, IsErrOf, IsTrue, vec_len};
 ghost use Rattle.std.specs.List.{All};
-ghost use Rattle.bq_core.specs.Limits.{are_in_range, is_body_size};
+ghost use Rattle.bq_steps.specs.Limits.{are_in_range, is_body_size};
 ghost use Rattle.bq_lock.specs.LockedRuns.{IsServedToEnd};
 ghost use Rattle.bq_lock.specs.LockedState.{IsLawfulHold};
 ghost use Rattle.bq_attend.specs.Tending.{AreSame, IsNewDoor, door_seen};

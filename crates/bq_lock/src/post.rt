@@ -1,7 +1,7 @@
 //! A seat with its door, which a thread of its own serves.
 ghost use Rattle.std.specs.Prelude.{◌≡◌, IfOk, IfSome, IsTrue, false, []};
 ghost use Rattle.std.specs.List.{All};
-ghost use Rattle.bq_core.specs.Limits.{is_body_size};
+ghost use Rattle.bq_steps.specs.Limits.{is_body_size};
 ghost use Rattle.bq_seat.specs.Past.{Awaited};
 ghost use Rattle.bq_seat.specs.SeatStands.{awaited};
 ghost use Rattle.bq_attend.specs.declared.attendant.Place.TheVariants as places;

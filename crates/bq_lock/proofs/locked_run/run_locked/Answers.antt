@@ -2,7 +2,7 @@ use Rattle.std.proofs.Common.{◌≡◌, ◌==◌, ◌∙◌, true, ap, vec_len,
 use Rattle.std.proofs.lemmas.Bool.{cases_Bool, eq-eqb}
 use denote.Exit.{yes}
 use denote.Param.Send.{arg_sync, param_sync}
-use Rattle.bq_core.specs.Limits.{are_in_range}
+use Rattle.bq_steps.specs.Limits.{are_in_range}
 use Rattle.bq_start.specs.declared.fault.RunFault.TheVariants.{BadConfiguration}
 use Rattle.bq_lock.proofs.SendLemmas.{desk_sends}
 use Rattle.std.proofs.sync.Mutex.TheSendSync.{the_sync}

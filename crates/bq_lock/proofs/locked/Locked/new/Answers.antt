@@ -1,6 +1,6 @@
 use Rattle.std.proofs.Common.{◌≡◌, ◌+◌, ap, arith}
 use Rattle.bq_core.specs.CoreState.{CoreState}
-use Rattle.bq_core.specs.Outbox.{Outbox}
+use Rattle.bq_steps.specs.Outbox.{Outbox}
 use Rattle.bq_job.specs.machine.Machine.{Machine}
 use Rattle.bq_lock.proofs.LockedLemmas.{hold_first}
 use Rattle.bq_lock.proofs.locked.Locked.new.Goals as goal

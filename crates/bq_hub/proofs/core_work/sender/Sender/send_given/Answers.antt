@@ -1,5 +1,5 @@
 use Rattle.std.proofs.Common.{◌∙◌, ◌++◌, arith, ap}
-use Rattle.bq_core.specs.Outbox.{Outbox}
+use Rattle.bq_steps.specs.Outbox.{Outbox}
 use Rattle.bq_hub.proofs.SendingLemmas.{sent_next, sent_on}
 use Rattle.bq_hub.proofs.core_work.sender.Sender.send_given.Goals as goal
 

@@ -1,5 +1,5 @@
 ghost use Rattle.std.specs.Prelude.{◌≡◌};
-ghost use Rattle.bq_core.specs.Codes.{fault_code};
+ghost use Rattle.bq_steps.specs.Codes.{fault_code};
 
 /// What is chosen when a core is made.
 pub use bq_job::Settings as Config;

@@ -18,7 +18,7 @@ pub struct Outs {
 impl Model for Outs {
     ghost use Rattle.std.specs.Prelude.{◌≤◌};
     ghost use Rattle.std.specs.VecDeque.{deque_capacity};
-    ghost use Rattle.bq_core.specs.Outbox.{Outbox};
+    ghost use Rattle.bq_steps.specs.Outbox.{Outbox};
 
     ghost Value = { Outbox };
 
@@ -67,8 +67,8 @@ impl Outs {
         self.unshared
     }
 
-    // A new step begins: what is left of the last one is dropped.
-    pub(crate) fn begin(&mut self)
+    /// A new step begins: what is left of the last one is dropped.
+    pub fn begin(&mut self)
         ensures { self.new ≡ record { given = []; most = self.old.most; left_out = false; unshared = false } }
     {
         self.answers.clear();
@@ -76,20 +76,23 @@ impl Outs {
         self.unshared = false;
     }
 
-    pub(crate) fn push(&mut self, seat: Seat, answer: Answer)
+    /// Puts in an answer behind the others.
+    pub fn push(&mut self, seat: Seat, answer: Answer)
         requires { length self.old.given < self.old.most }
         ensures { self.new ≡ record self.old { given = self.old.given ++ (seat, answer) ∷ [] } }
     {
         self.answers.push_back_reserved((seat, answer));
     }
 
-    pub(crate) fn set_left_out(&mut self)
+    /// Notes that the step left its command out, because a growth of memory was refused.
+    pub fn set_left_out(&mut self)
         ensures { self.new ≡ record self.old { left_out = true } }
     {
         self.left_out = true;
     }
 
-    pub(crate) fn set_unshared(&mut self)
+    /// Notes that the step was refused one more owner of a job's body.
+    pub fn set_unshared(&mut self)
         ensures { self.new ≡ record self.old { unshared = true } }
     {
         self.unshared = true;

@@ -1,0 +1,44 @@
+//! Cores, which take one step after another.
+ghost use Rattle.std.specs.Prelude.{◌≡◌, ◌<◌, ◌↔◌, ◌&&◌, not, IsTrue, IfOk, IsErrOf};
+ghost use Rattle.bq_job.specs.beside.Lawful.{IsLawful};
+ghost use Rattle.bq_job.specs.beside.NextDue.{next_due};
+ghost use Rattle.bq_job.specs.machine.Machine.{Machine, new_machine};
+ghost use Rattle.bq_job.specs.machine.Steps.{IsStep};
+ghost use Rattle.bq_steps.specs.Limits.{is_body_size, is_job_limit, is_seat_count};
+
+use crate::config::{Config, CoreFault};
+use crate::outs::Outs;
+use bq_job::{Moment, Seat, Step};
+use std::alloc::Global;
+
+/// A core: it stands for the one-list machine, and takes its steps.
+pub trait QueueCore: Sized {
+    /// The machine that the core stands for.
+    ghost machine: { Self → Machine };
+
+    /// A core with no jobs and all seats free.
+    fn new(alloc: Global, config: Config) -> Result<Self, CoreFault>
+        ensures made { IfOk result (λ core. machine core ≡ new_machine config) }
+        ensures bad_seats { IsErrOf result CoreFault.BadSeats ↔ IsTrue (not (is_seat_count config.seats)) }
+        ensures bad_max_job_size { IsErrOf result CoreFault.BadMaxJobSize ↔
+            (IsTrue (is_seat_count config.seats) × IsTrue (not (is_body_size config.max_job_size))) }
+        ensures bad_max_jobs { IsErrOf result CoreFault.BadMaxJobs ↔
+            (IsTrue (is_seat_count config.seats && is_body_size config.max_job_size) × IsTrue (not (is_job_limit config.max_jobs))) };
+
+    /// Takes a step: what happens at a seat, at a moment in milliseconds. `outs` then holds the answers in
+    /// their order. Any moment, seat and step is accepted. The step is left where it lies: it may hold a tube's name,
+    /// and isn't moved on the way.
+    fn step_in_place(&mut self, alloc: Global, at: Moment, seat: Seat, what: &Step, outs: &mut Outs)
+        requires room { (machine self.old).settings.seats < outs.old.most }
+        ensures step { IsStep (machine self.old) at seat what.now (record { left_out = outs.new.left_out; unshared = outs.new.unshared })
+            outs.new.given (machine self.new) }
+        ensures lawful { IsLawful (machine self.new) }
+        ensures most { outs.new.most ≡ outs.old.most }
+        ensures settings { (machine self.new).settings ≡ (machine self.old).settings };
+
+    /// The least moment at which something happens by itself: a delay, a time to run or a pause ends, a
+    /// client gives up, or is told that a time to run ends soon. A tick below it changes the moment alone.
+    fn next_due(&mut self) -> Option<Moment>
+        ensures due { result ≡ next_due (machine self.old) }
+        ensures same { machine self.new ≡ machine self.old };
+}
