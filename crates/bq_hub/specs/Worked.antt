@@ -28,9 +28,9 @@ pub record HubState : Type 0 where
   -- the moment heard last
   pub heard : ℕ
 
-abbrev pub hub_state : {C : Type 0} → Hub C → HubState
-hub_state h = record {
-  core = h.core.machine;
+abbrev pub hub_state : {C K : Type 0} → (K → Machine) → Hub C K → HubState
+hub_state machine h = record {
+  core = machine h.core;
   end = h.sender.end;
   pending = h.sender.kept.items ++ h.outs.given;
   gone = h.gone.flags.items;
@@ -50,12 +50,12 @@ pub record HasWorked (settings : Settings) (readings : List (Option ℕ)) (h : H
   pub marked : (seat : ℕ) → slice_index_or h.gone seat false ≡ true → HasGone (steps_of seat h.end.taken)
 
 -- the same with the clock, which gave these readings from the first on
-abbrev pub IsAtWork : {C : Type 0} → (C → List (Option ℕ) → C → Type 0) → Settings → C → Hub C → Type 0
-IsAtWork given settings first hub = (readings : List (Option ℕ)) × given first readings hub.clock × HasWorked settings readings (hub_state hub)
+abbrev pub IsAtWork : {C K : Type 0} → (C → List (Option ℕ) → C → Type 0) → (K → Machine) → Settings → C → Hub C K → Type 0
+IsAtWork given machine settings first hub = (readings : List (Option ℕ)) × given first readings hub.clock × HasWorked settings readings (hub_state machine hub)
 
 -- Whatever was done before, the work went on.
-abbrev pub WorksOn : {C : Type 0} → (C → List (Option ℕ) → C → Type 0) → Hub C → Hub C → Type 0
-WorksOn {C} given old new = (settings : Settings) (first : C) → IsAtWork given settings first old → IsAtWork given settings first new
+abbrev pub WorksOn : {C K : Type 0} → (C → List (Option ℕ) → C → Type 0) → (K → Machine) → Hub C K → Hub C K → Type 0
+WorksOn {C} given machine old new = (settings : Settings) (first : C) → IsAtWork given machine settings first old → IsAtWork given machine settings first new
 
 -- It is known whether each end is gone.
 pub record KnowsAll (gone : Gones) : Type 0 where
@@ -63,8 +63,8 @@ pub record KnowsAll (gone : Gones) : Type 0 where
   pub known : AreAllSet gone.flags.items → gone.all ≡ true
 
 -- There is room for the answers of a step, and it is known which ends are gone.
-pub record IsInOrder {C : Type 0} (h : Hub C) : Type 0 where
-  pub room : h.core.machine.settings.seats < h.outs.most
+pub record IsInOrder {C K : Type 0} (machine : K → Machine) (h : Hub C K) : Type 0 where
+  pub room : (machine h.core).settings.seats < h.outs.most
   pub sender : IsAtRest h.sender
   pub many : length h.gone.flags.items ≡ h.sender.ends
   pub all : KnowsAll h.gone
@@ -75,12 +75,12 @@ gone_after seat Gone flags = slice_set flags seat true
 gone_after seat _ flags = flags
 
 -- The core took a step at the moment of one reading of its clock.
-pub record TakesStep {C : Type 0} (given : C → List (Option ℕ) → C → Type 0) (old : Hub C) (seat : ℕ) (what : Step) (new : Hub C) : Type 0 where
+pub record TakesStep {C K : Type 0} (given : C → List (Option ℕ) → C → Type 0) (machine : K → Machine) (old : Hub C K) (seat : ℕ) (what : Step) (new : Hub C K) : Type 0 where
   pub reading : Option ℕ
   pub outcome : Outcome
   pub gave : GaveReadings given old.clock (reading ∷ []) new.clock
   pub heard : new.heard ≡ moment_heard old.heard reading
-  pub step : IsStep old.core.machine new.heard seat what outcome new.outs.given new.core.machine
+  pub step : IsStep (machine old.core) new.heard seat what outcome new.outs.given (machine new.core)
   pub sender : new.sender ≡ old.sender
   pub marked : new.gone.flags.items ≡ gone_after seat what old.gone.flags.items
 
@@ -89,21 +89,21 @@ abbrev pub TookOne : CoreState → CoreState → Type 0
 TookOne old new = (step : ℕ × Step) × (new.taken ≡ old.taken ++ step ∷ [])
 
 -- The core took a tick at the moment heard last.
-pub record HasTicked {C : Type 0} (old new : Hub C) : Type 0 where
+pub record HasTicked {C K : Type 0} (machine : K → Machine) (old new : Hub C K) : Type 0 where
   pub outcome : Outcome
-  pub step : IsStep old.core.machine new.heard 0 Tick outcome new.outs.given new.core.machine
+  pub step : IsStep (machine old.core) new.heard 0 Tick outcome new.outs.given (machine new.core)
 
 -- At the moment heard last nothing is due.
-abbrev pub IsIdle : {C : Type 0} → Hub C → Hub C → Type 0
-IsIdle old new = is_before new.heard (next_due old.core.machine) ≡ true
+abbrev pub IsIdle : {C K : Type 0} → (K → Machine) → Hub C K → Hub C K → Type 0
+IsIdle machine old new = is_before new.heard (next_due (machine old.core)) ≡ true
 
 -- What came of a turn that isn't the last one: so many answers wait for full rings that no more can be kept, a step
 -- was taken or a tick made, or nothing is due.
-abbrev pub TurnWent : {C : Type 0} → Hub C → Hub C → Type 0
-TurnWent old new =
-    (length new.sender.kept.items ≡ new.sender.ends) ⊎ (TookOne old.sender.end new.sender.end ⊎ (HasTicked old new ⊎ IsIdle old new))
+abbrev pub TurnWent : {C K : Type 0} → (K → Machine) → Hub C K → Hub C K → Type 0
+TurnWent machine old new =
+    (length new.sender.kept.items ≡ new.sender.ends) ⊎ (TookOne old.sender.end new.sender.end ⊎ (HasTicked machine old new ⊎ IsIdle machine old new))
 
 -- Nothing is left to be done.
-pub record IsOver {C : Type 0} (h : Hub C) : Type 0 where
-  pub none_pending : (hub_state h).pending ≡ []
+pub record IsOver {C K : Type 0} (h : Hub C K) : Type 0 where
+  pub none_pending : h.sender.kept.items ++ h.outs.given ≡ []
   pub all_gone : AreAllSet h.gone.flags.items

@@ -14,9 +14,9 @@ mod room;
 mod sender;
 
 use crate::core_work::hub::Hub;
-use bq_core::{Core, Outs};
 use bq_line::clock::Clock;
 use bq_link::{CoreEnd, Intake, NoTicks};
+use bq_steps::{Outs, QueueCore};
 use std::alloc::Global;
 use std::sync::Wait;
 
@@ -25,24 +25,24 @@ use std::sync::Wait;
 ///
 /// It takes all that waits before it rests. Where the ring of an end is full, its answers are kept and tried again,
 /// and others are served meanwhile; so many can be kept as there are ends.
-pub fn core_work<R: Wait, C: Clock + Drop>(
+pub fn core_work<R: Wait, C: Clock + Drop, K: QueueCore + Drop>(
     rt: &R,
     alloc: Global,
     intake: &Intake<NoTicks>,
     end: CoreEnd,
-    core: Core,
+    core: K,
     outs: Outs,
     room: CoreRoom,
     clock: C,
-) -> (CoreEnd, Core, C)
+) -> (CoreEnd, K, C)
     requires intake { end.intake ≡ intake.now.id }
-    requires ends { IsNewCore (core.machine.settings.seats + 1) end }
-    requires core { core.machine ≡ new_machine core.machine.settings }
+    requires ends { IsNewCore ((K.machine core).settings.seats + 1) end }
+    requires core { K.machine core ≡ new_machine (K.machine core).settings }
     requires none_given { outs.given ≡ [] }
-    requires outs { core.machine.settings.seats < outs.most }
-    requires room { IsNewRoom (core.machine.settings.seats + 1) room }
+    requires outs { (K.machine core).settings.seats < outs.most }
+    requires room { IsNewRoom ((K.machine core).settings.seats + 1) room }
     ensures end { IsSameCore end result.0 }
-    ensures ran { RanToEnd C.given core.machine.settings clock result.0 result.1.machine result.2 }
+    ensures ran { RanToEnd C.given (K.machine core).settings clock result.0 (K.machine result.1) result.2 }
 {
     let mut hub = Hub::new(alloc, end, core, outs, room, clock);
     for _ in rt.forever() {

@@ -9,10 +9,10 @@ use crate::core_work::gone::Gone;
 use crate::core_work::notices::{Concern, Notices, concern_of};
 use crate::core_work::room::CoreRoom;
 use crate::core_work::sender::Sender;
-use bq_core::{Core, Outs};
 use bq_job::{Moment, Seat, Step};
 use bq_line::clock::{Clock, moment_heard};
 use bq_link::{CoreEnd, Intake, NoTicks, Record};
+use bq_steps::{Outs, QueueCore};
 use std::alloc::Global;
 use std::sync::Wait;
 use std::thread;
@@ -26,10 +26,10 @@ const HOUR: u64 = 3_600_000;
 
 /// The core with its clock, its end of the links, and what isn't sent yet.
 #[derive(Drop)]
-pub struct Hub<C> {
+pub struct Hub<C, K> {
     /// For the steps that may ask for memory.
     pub alloc: Global,
-    pub core: Core,
+    pub core: K,
     pub outs: Outs,
     pub sender: Sender,
     pub gone: Gone,
@@ -42,7 +42,7 @@ pub struct Hub<C> {
     pub notices: Notices,
 }
 
-impl<C: Clock + Drop> Hub<C> {
+impl<C: Clock + Drop, K: QueueCore + Drop> Hub<C, K> {
     ghost use Rattle.bq_line.specs.GivenReadings.{GaveReadings};
     ghost use Rattle.bq_job.specs.machine.Machine.{new_machine};
     ghost use Rattle.bq_link.specs.NewEnds.{IsNewCore};
@@ -66,20 +66,20 @@ impl<C: Clock + Drop> Hub<C> {
     pub fn new(
         alloc: Global,
         end: CoreEnd,
-        core: Core,
+        core: K,
         outs: Outs,
         room: CoreRoom,
         clock: C,
-    ) -> Hub<C>
-        requires ends { IsNewCore (core.machine.settings.seats + 1) end }
-        requires core { core.machine ≡ new_machine core.machine.settings }
+    ) -> Hub<C, K>
+        requires ends { IsNewCore ((K.machine core).settings.seats + 1) end }
+        requires core { K.machine core ≡ new_machine (K.machine core).settings }
         requires none_given { outs.given ≡ [] }
-        requires outs { core.machine.settings.seats < outs.most }
-        requires room { IsNewRoom (core.machine.settings.seats + 1) room }
-        ensures order { IsInOrder result }
+        requires outs { (K.machine core).settings.seats < outs.most }
+        requires room { IsNewRoom ((K.machine core).settings.seats + 1) room }
+        ensures order { IsInOrder K.machine result }
         ensures end { result.sender.end ≡ end }
-        ensures settings { result.core.machine.settings ≡ core.machine.settings }
-        ensures work { IsAtWork C.given core.machine.settings clock result }
+        ensures settings { (K.machine result.core).settings ≡ (K.machine core).settings }
+        ensures work { IsAtWork C.given K.machine (K.machine core).settings clock result }
     {
         let CoreRoom { kept, aside, gone } = room;
         let ends = gone.len();
@@ -106,14 +106,14 @@ impl<C: Clock + Drop> Hub<C> {
     /// done.
     pub fn turn<R: Wait>(&mut self, rt: &R, intake: &Intake<NoTicks>) -> bool
         requires intake { self.old.sender.end.intake ≡ intake.now.id }
-        requires order { IsInOrder self.old }
-        ensures order { IsInOrder self.new }
+        requires order { IsInOrder K.machine self.old }
+        ensures order { IsInOrder K.machine self.new }
         ensures end { IsSameCore self.old.sender.end self.new.sender.end }
-        ensures settings { self.new.core.machine.settings ≡ self.old.core.machine.settings }
-        ensures work { WorksOn C.given self.old self.new }
+        ensures settings { (K.machine self.new.core).settings ≡ (K.machine self.old.core).settings }
+        ensures work { WorksOn C.given K.machine self.old self.new }
         ensures over { result ≡ true → IsOver self.new }
         ensures stuck { AreStuck self.new.sender.end self.new.sender.kept.items }
-        ensures turned { result ≡ false → TurnWent self.old self.new }
+        ensures turned { result ≡ false → TurnWent K.machine self.old self.new }
     {
         if !self.send_all(intake) {
             self.rest(rt, intake);
@@ -130,11 +130,11 @@ impl<C: Clock + Drop> Hub<C> {
 
     // Sends what is pending, as far as rings and places reach. Whether the next step's answers have room.
     fn send_all(&mut self, intake: &Intake<NoTicks>) -> bool
-        requires order { IsInOrder self.old }
-        ensures order { IsInOrder self.new }
+        requires order { IsInOrder K.machine self.old }
+        ensures order { IsInOrder K.machine self.new }
         ensures end { IsSameCore self.old.sender.end self.new.sender.end }
-        ensures settings { self.new.core.machine.settings ≡ self.old.core.machine.settings }
-        ensures work { WorksOn C.given self.old self.new }
+        ensures settings { (K.machine self.new.core).settings ≡ (K.machine self.old.core).settings }
+        ensures work { WorksOn C.given K.machine self.old self.new }
         ensures stuck { AreStuck self.new.sender.end self.new.sender.kept.items }
         ensures none { result ≡ true → self.new.outs.given ≡ [] }
         ensures full { result ≡ false → length self.new.sender.kept.items ≡ self.new.sender.ends }
@@ -146,7 +146,7 @@ impl<C: Clock + Drop> Hub<C> {
 
     // Whether every end is gone and has been sent all that it was given.
     fn is_over(&self) -> bool
-        requires order { IsInOrder self.now }
+        requires order { IsInOrder K.machine self.now }
         requires none { self.now.outs.given ≡ [] }
         ensures { result ≡ true ↔ IsOver self.now }
     {
@@ -160,17 +160,17 @@ impl<C: Clock + Drop> Hub<C> {
     fn go_on<R: Wait, J: Record>(&mut self, rt: &R, intake: &Intake<J>) -> bool
         requires intake { self.old.sender.end.intake ≡ intake.now.id }
         requires may { MayTake J.was }
-        requires order { IsInOrder self.old }
+        requires order { IsInOrder K.machine self.old }
         requires none { self.old.outs.given ≡ [] }
-        ensures order { IsInOrder self.new }
+        ensures order { IsInOrder K.machine self.new }
         ensures end { IsSameCore self.old.sender.end self.new.sender.end }
-        ensures settings { self.new.core.machine.settings ≡ self.old.core.machine.settings }
-        ensures work { WorksOn C.given self.old self.new }
+        ensures settings { (K.machine self.new.core).settings ≡ (K.machine self.old.core).settings }
+        ensures work { WorksOn C.given K.machine self.old self.new }
         ensures stuck { AreStuck self.old.sender.end self.old.sender.kept.items
             → AreStuck self.new.sender.end self.new.sender.kept.items }
         ensures empty { result ≡ false → J.was self.old.sender.end.taken [] }
-        ensures idle { result ≡ false → is_before self.new.heard (next_due self.old.core.machine) ≡ true }
-        ensures busy { result ≡ true → TookOne self.old.sender.end self.new.sender.end ⊎ HasTicked self.old self.new }
+        ensures idle { result ≡ false → is_before self.new.heard (next_due (K.machine self.old.core)) ≡ true }
+        ensures busy { result ≡ true → TookOne self.old.sender.end self.new.sender.end ⊎ HasTicked K.machine self.old self.new }
     {
         if self.has_none(intake) {
             return self.tick_if_due();
@@ -191,17 +191,17 @@ impl<C: Clock + Drop> Hub<C> {
     fn take_oldest<R: Wait, J: Record>(&mut self, rt: &R, intake: &Intake<J>) -> bool
         requires intake { self.old.sender.end.intake ≡ intake.now.id }
         requires may { MayTake J.was }
-        requires order { IsInOrder self.old }
+        requires order { IsInOrder K.machine self.old }
         requires none { self.old.outs.given ≡ [] }
-        ensures order { IsInOrder self.new }
+        ensures order { IsInOrder K.machine self.new }
         ensures end { IsSameCore self.old.sender.end self.new.sender.end }
-        ensures settings { self.new.core.machine.settings ≡ self.old.core.machine.settings }
-        ensures work { WorksOn C.given self.old self.new }
+        ensures settings { (K.machine self.new.core).settings ≡ (K.machine self.old.core).settings }
+        ensures work { WorksOn C.given K.machine self.old self.new }
         ensures stuck { AreStuck self.old.sender.end self.old.sender.kept.items
             → AreStuck self.new.sender.end self.new.sender.kept.items }
         ensures empty { result ≡ false → J.was self.old.sender.end.taken [] }
-        ensures idle { result ≡ false → is_before self.new.heard (next_due self.old.core.machine) ≡ true }
-        ensures busy { result ≡ true → TookOne self.old.sender.end self.new.sender.end ⊎ HasTicked self.old self.new }
+        ensures idle { result ≡ false → is_before self.new.heard (next_due (K.machine self.old.core)) ≡ true }
+        ensures busy { result ≡ true → TookOne self.old.sender.end self.new.sender.end ⊎ HasTicked K.machine self.old self.new }
     {
         match self.sender.end.take(rt, intake) {
             Some((seat, what)) => {
@@ -214,10 +214,10 @@ impl<C: Clock + Drop> Hub<C> {
 
     // The core takes a step of an end, and what an operator has to see of it is told. The step stays where it lies.
     fn take_step(&mut self, seat: Seat, what: &Step)
-        requires order { IsInOrder self.old }
-        ensures order { IsInOrder self.new }
-        ensures settings { self.new.core.machine.settings ≡ self.old.core.machine.settings }
-        ensures taken { TakesStep C.given self.old seat what.now self.new }
+        requires order { IsInOrder K.machine self.old }
+        ensures order { IsInOrder K.machine self.new }
+        ensures settings { (K.machine self.new.core).settings ≡ (K.machine self.old.core).settings }
+        ensures taken { TakesStep C.given K.machine self.old seat what.now self.new }
     {
         let concern = concern_of(what);
         self.step(seat, what);
@@ -226,10 +226,10 @@ impl<C: Clock + Drop> Hub<C> {
 
     // The core takes a step of an end.
     fn step(&mut self, seat: Seat, what: &Step)
-        requires order { IsInOrder self.old }
-        ensures order { IsInOrder self.new }
-        ensures settings { self.new.core.machine.settings ≡ self.old.core.machine.settings }
-        ensures taken { TakesStep C.given self.old seat what.now self.new }
+        requires order { IsInOrder K.machine self.old }
+        ensures order { IsInOrder K.machine self.new }
+        ensures settings { (K.machine self.new.core).settings ≡ (K.machine self.old.core).settings }
+        ensures taken { TakesStep C.given K.machine self.old seat what.now self.new }
     {
         self.looks = 0;
         self.mark(seat, what);
@@ -250,16 +250,16 @@ impl<C: Clock + Drop> Hub<C> {
 
     // Time passes: the core takes a tick exactly where something is due by now. Whether it did.
     fn tick_if_due(&mut self) -> bool
-        requires order { IsInOrder self.old }
+        requires order { IsInOrder K.machine self.old }
         requires none { self.old.outs.given ≡ [] }
-        ensures order { IsInOrder self.new }
+        ensures order { IsInOrder K.machine self.new }
         ensures sender { self.new.sender ≡ self.old.sender }
-        ensures settings { self.new.core.machine.settings ≡ self.old.core.machine.settings }
-        ensures work { WorksOn C.given self.old self.new }
-        ensures due { self.new.due ≡ next_due self.old.core.machine }
-        ensures ticks { result ≡ not (is_before self.new.heard (next_due self.old.core.machine)) }
-        ensures still { result ≡ false → self.new.core.machine ≡ self.old.core.machine }
-        ensures ticked { result ≡ true → HasTicked self.old self.new }
+        ensures settings { (K.machine self.new.core).settings ≡ (K.machine self.old.core).settings }
+        ensures work { WorksOn C.given K.machine self.old self.new }
+        ensures due { self.new.due ≡ next_due (K.machine self.old.core) }
+        ensures ticks { result ≡ not (is_before self.new.heard (next_due (K.machine self.old.core))) }
+        ensures still { result ≡ false → K.machine self.new.core ≡ K.machine self.old.core }
+        ensures ticked { result ≡ true → HasTicked K.machine self.old self.new }
     {
         self.due = self.core.next_due();
         let Some(due) = self.due else {
@@ -276,8 +276,8 @@ impl<C: Clock + Drop> Hub<C> {
 
     // Notes where a step says that no more come.
     fn mark(&mut self, seat: Seat, what: &Step)
-        requires order { IsInOrder self.old }
-        ensures order { IsInOrder self.new }
+        requires order { IsInOrder K.machine self.old }
+        ensures order { IsInOrder K.machine self.new }
         ensures marked { self.new.gone.flags.items ≡ gone_after seat what.now self.old.gone.flags.items }
         ensures rest { self.new ≡ record self.old { gone = self.new.gone } }
     {
@@ -320,7 +320,7 @@ impl<C: Clock + Drop> Hub<C> {
     }
 
     /// The end, the core and the clock.
-    pub fn into_parts(self) -> (CoreEnd, Core, C)
+    pub fn into_parts(self) -> (CoreEnd, K, C)
         ensures { (result.0 ≡ self.sender.end) × (result.1 ≡ self.core) × (result.2 ≡ self.clock) }
     {
         let Hub {

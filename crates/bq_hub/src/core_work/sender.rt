@@ -4,9 +4,9 @@ ghost use Rattle.std.specs.Prelude.{IfErr, IsOk, OnErr, OnOk};
 ghost use Rattle.bq_job.specs.promise.Runs.{answers_to};
 ghost use Rattle.bq_link.specs.EndStates.{room_for};
 
-use bq_core::Outs;
 use bq_job::{Answer, Seat};
 use bq_link::{CoreEnd, Intake, NoTicks};
+use bq_steps::Outs;
 use std::alloc::Global;
 use std::collections::VecDeque;
 use std::mem;

@@ -1,5 +1,4 @@
 use Rattle.std.proofs.Common.{◌≡◌, ◌∙◌, ◌+◌, ap, length, subst, sym}
-use Rattle.bq_core.specs.CoreState.{CoreState as Cores}
 use Rattle.bq_job.specs.machine.Machine.{Machine}
 use Rattle.bq_link.specs.EndStates.{CoreState}
 use Rattle.bq_hub.specs.CoreWork.{IsCoreDone}
@@ -16,21 +15,21 @@ loop-preserved g c =
       order = turn.order;
       end = (turn.end.0 ∙ before.end.0, turn.end.1 ∙ before.end.1);
       settings = turn.settings ∙ before.settings;
-      work = turn.work c.args.core.machine.settings c.args.clock before.work;
+      work = turn.work (g.K.QueueCore.machine c.args.core).settings c.args.clock before.work;
     }
 
 pub returns-then-turn-clause-ran : goal.returns-then-turn-clause-ran
 returns-then-turn-clause-ran g c =
-    let settings = c.args.core.machine.settings in
+    let settings = (g.K.QueueCore.machine c.args.core).settings in
     let hub = c.turn.new.self in
     let parts = c.into_parts.ensures in
     let order = c.turn.ensures.order in
     let over = c.turn.ensures.over c.if-turn.true in
     let work = c.turn.ensures.work settings c.args.clock c.loop.invariant.work in
     let ends : length hub.sender.end.rings ≡ settings.seats + 1 = ap length (c.turn.ensures.end.1 ∙ c.loop.invariant.end.1) ∙ c.requires.ends.rings in
-    let done = worked_all settings work.0 (hub_state hub) work.2 over.none_pending ends (order.many ∙ sym order.sender.places.ends ∙ ends) over.all_gone in (
+    let done = worked_all settings work.0 (hub_state g.K.QueueCore.machine hub) work.2 over.none_pending ends (order.many ∙ sym order.sender.places.ends ∙ ends) over.all_gone in (
       work.0,
       subst (λ clock. g.C.Clock.given c.args.clock work.0 clock) (sym parts.2) work.1,
-      subst (λ (e : CoreState). IsCoreDone settings work.0 e c.into_parts.result.1.machine) (sym parts.0)
-          (subst (λ (m : Machine). IsCoreDone settings work.0 hub.sender.end m) (ap (λ (core : Cores). core.machine) (sym parts.1)) done),
+      subst (λ (e : CoreState). IsCoreDone settings work.0 e (g.K.QueueCore.machine c.into_parts.result.1)) (sym parts.0)
+          (subst (λ (m : Machine). IsCoreDone settings work.0 hub.sender.end m) (ap g.K.QueueCore.machine (sym parts.1)) done),
     )

@@ -5,7 +5,7 @@ use Rattle.bq_hub.proofs.core_work.hub.Hub.new.Goals as goal
 
 pub returns-clause-order : goal.returns-clause-order
 returns-clause-order g c =
-    let ends = c.args.core.machine.settings.seats + 1 in
+    let ends = (g.K.QueueCore.machine c.args.core).settings.seats + 1 in
     let none = c.requires.room.none_gone in
     let many : c.len-ends.result ≡ ends = c.len-ends.ensures ∙ c.args.room.gone.ok.0 ∙ ap length none ∙ length-replicate ends false in
     let flags = ap (λ v. v.items) c.none.ensures.flags in
@@ -21,13 +21,13 @@ returns-clause-order g c =
         none_aside = c.requires.room.none_aside;
       };
       many = ap length (flags ∙ none) ∙ length-replicate ends false ∙ sym many;
-      all = known_none c.none.result c.args.core.machine.settings.seats (flags ∙ none) c.none.ensures.all;
+      all = known_none c.none.result (g.K.QueueCore.machine c.args.core).settings.seats (flags ∙ none) c.none.ensures.all;
     }
 
 pub returns-clause-work : goal.returns-clause-work
 returns-clause-work g c = (
   [],
   g.met.C.Clock.none_given c.args.clock,
-  worked_none c.args.core.machine.settings _ (c.args.core.machine.settings.seats + 1) c.requires.core refl c.requires.ends
+  worked_none (g.K.QueueCore.machine c.args.core).settings _ ((g.K.QueueCore.machine c.args.core).settings.seats + 1) c.requires.core refl c.requires.ends
       (none_pending c.args.room.kept.items c.args.outs.given c.requires.room.none_kept c.requires.none_given) (ap (λ v. v.items) c.none.ensures.flags ∙ c.requires.room.none_gone),
 )

@@ -11,7 +11,7 @@ returns-in-Some-clause-work g c settings first w =
     let new = c.take_step.new.self in (
       w.0 ++ t.reading ∷ [],
       t.gave first w.0 w.1,
-      worked_step settings w.0 (hub_state old) (hub_state new) c.in-Some.seat c.in-Some.what t.reading t.outcome new.outs.given c.in-Some.ensures.number w.2 t.step t.heard
+      worked_step settings w.0 (hub_state g.K.QueueCore.machine old) (hub_state g.K.QueueCore.machine new) c.in-Some.seat c.in-Some.what t.reading t.outcome new.outs.given c.in-Some.ensures.number w.2 t.step t.heard
           (ap (λ (s : Sender). s.end) t.sender ∙ c.in-Some.ensures.taken)
           (pending_on new.sender.kept.items old.sender.kept.items old.outs.given new.outs.given (ap (λ (s : Sender). s.kept.items) t.sender) c.requires.none) t.marked,
     )
