@@ -1,6 +1,7 @@
 -- What a run over doors comes to.
 use Rattle.std.specs.Prelude.{ℕ, ◌≡◌, ◌||◌, IsTrue, List, Option, map}
 use Rattle.bq_job.specs.declared.settings.Settings.{Settings}
+use Rattle.bq_job.specs.machine.Machine.{Machine}
 use Rattle.bq_job.specs.promise.Headline.{IsHistoryOf}
 use Rattle.bq_job.specs.promise.History.{LineOver}
 use Rattle.bq_attend.specs.ControlRead.{IsReadToEnd}
@@ -12,11 +13,11 @@ use Rattle.bq_run.specs.declared.sessions.Run.{Run}
 -- history of that and of the lines that are over at the doors leads to the machine that the core stands for. The
 -- core took its steps, but for ticks, by its end of the links; each other end submitted those that the history has
 -- of it, and was sent what the run gave it.
-pub record IsRunOf {D C I : Type 0} (given : C → List (Option ℕ) → C → Type 0) (lines_over : D → List LineOver) (left : I → Option (List ℕ)) (config : Settings) (clock : C) (control : I) (run : Run D C I) : Type 0 where
+pub record IsRunOf {D C I K : Type 0} (given : C → List (Option ℕ) → C → Type 0) (lines_over : D → List LineOver) (left : I → Option (List ℕ)) (machine : K → Machine) (config : Settings) (clock : C) (control : I) (run : Run D C I K) : Type 0 where
   pub readings : List (Option ℕ)
   pub gave : given clock readings run.clock
   pub over : IsTrue (run.control.ended || run.control.failed)
   pub read : IsReadToEnd (left control) (left run.control.reader) run.control.read run.control.failed
-  pub history : IsHistoryOf config (map lines_over run.doors.items) run.control.read run.control.failed readings run.core.machine
+  pub history : IsHistoryOf config (map lines_over run.doors.items) run.control.read run.control.failed readings (machine run.core)
   pub linked : IsLinked config.seats history.history history.given run.core_end run.ends.items
   pub of_intake : run.core_end.intake ≡ run.intake.id

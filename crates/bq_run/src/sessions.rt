@@ -1,18 +1,18 @@
 //! Many doors, each of which a thread of its own serves.
 ghost use Rattle.std.specs.Prelude.{◌≡◌, ◌↔◌, ◌++◌, ◌∷◌, ◌&&◌, ◌==◌, [], false, true, not, map, IfOk, IsErrOf, IsTrue, vec_len};
 ghost use Rattle.std.specs.List.{All};
-ghost use Rattle.bq_core.specs.Limits.{are_in_range};
+ghost use Rattle.bq_steps.specs.Limits.{are_in_range};
 ghost use Rattle.bq_attend.specs.Tending.{AreSame, IsNewDoor, door_seen};
 ghost use Rattle.bq_run.specs.Sessions.{IsRunOf};
 
 use bq_attend::control_line::ControlLine;
-use bq_core::{Config, Core};
 use bq_job::steps_keep_settings;
 use bq_line::Door;
 use bq_line::clock::Clock;
 use bq_line::line::Line;
 use bq_link::{CoreEnd, Intake, NoTicks, SeatEnd, links};
 use bq_start::{RunFault, Start};
+use bq_steps::{Config, QueueCore};
 use new_posts::{NewCore, new_posts};
 use posts::Ended;
 use settle::settle;
@@ -32,11 +32,11 @@ mod threads;
 /// A run over doors that is over: the doors with their lines, the clock and the control line as they were
 /// left, the core, and the links between them.
 #[derive(Drop)]
-pub struct Run<D, C, I> {
+pub struct Run<D, C, I, K> {
     pub doors: Vec<D, Global>,
     pub clock: C,
     pub control: ControlLine<I>,
-    pub core: Core,
+    pub core: K,
     /// What all ends shared.
     pub intake: Intake<NoTicks>,
     pub core_end: CoreEnd,
@@ -57,6 +57,7 @@ pub fn run_sessions<
     D: Door<Line = L> + Drop + Send,
     C: Clock + Drop + Send,
     I: BufRead + Drop,
+    K: QueueCore + Drop + Send,
 >(
     rt: &R,
     alloc: Global,
@@ -64,25 +65,25 @@ pub fn run_sessions<
     doors: Vec<D, Global>,
     clock: C,
     control: I,
-) -> Result<Run<D, C, I>, RunFault>
+) -> Result<Run<D, C, I, K>, RunFault>
     // No line is out or over at any door, and none is at its end.
     requires new { All (λ door. IsNewDoor (door_seen D.is_out D.is_at_end D.lines_over door)) doors.items }
     // There is one history of all clients' steps and those of the control line, each at the moment of a
     // reading of the clock. The one-list machine takes it, the core stands for the machine after it, and each
     // line was written exactly what it is owed along it. It is what the ends of the links submitted and took.
-    ensures served { IfOk result (IsRunOf C.given D.lines_over I.remaining config clock control) }
+    ensures served { IfOk result (IsRunOf C.given D.lines_over I.remaining K.machine config clock control) }
     ensures at_end { IfOk result (λ run. All (λ door. (D.is_out door ≡ false) × (D.is_at_end door ≡ true)) run.doors.items) }
     // They are the doors that were handed in, in their order.
     ensures same { IfOk result (λ run. AreSame D.same doors.items run.doors.items) }
     // The core can go on.
-    ensures settings { IfOk result (λ run. run.core.machine.settings ≡ config) }
+    ensures settings { IfOk result (λ run. (K.machine run.core).settings ≡ config) }
     ensures bad_configuration { IsErrOf result RunFault.BadConfiguration
         ↔ IsTrue (not (are_in_range config && vec_len doors == config.seats)) }
 {
     if doors.len() != usize::from(config.seats) {
         return Err(RunFault::BadConfiguration);
     }
-    let new = NewCore::new(alloc, config)?;
+    let new = NewCore::<K>::new(alloc, config)?;
     let Ok((intake, core_end, ends)) = links::<NoTicks>(alloc, config.seats) else {
         return Err(RunFault::NoMemory);
     };

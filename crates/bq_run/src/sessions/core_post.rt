@@ -5,38 +5,38 @@ ghost use Rattle.bq_link.specs.NewEnds.{IsNewCore};
 ghost use Rattle.bq_hub.specs.CoreWork.{IsNewRoom};
 ghost use Rattle.bq_run.specs.Threads.{IsCoreOver};
 
-use bq_core::{Config, Core, Outs};
 use bq_hub::core_work::{CoreRoom, core_work};
 use bq_line::clock::Clock;
 use bq_link::{CoreEnd, Intake, NoTicks};
 use bq_start::Start;
+use bq_steps::{Config, Outs, QueueCore};
 use std::alloc::Global;
 use std::sync::Wait;
 
 /// A core and its end, at neither of which anything was done, and what it needs.
 #[derive(Drop)]
-pub struct CorePost<'a, C> {
+pub struct CorePost<'a, C, K: QueueCore> {
     pub alloc: Global,
     pub intake: &'a Intake<NoTicks>,
     pub end: CoreEnd,
     pub config: Config,
-    pub core: Core,
+    pub core: K,
     pub outs: Outs,
     pub room: CoreRoom,
     pub clock: C,
     ghost of_intake: { end.intake ≡ intake.now.id },
     ghost new_end: { IsNewCore (config.seats + 1) end },
-    ghost new_core: { core.machine ≡ new_machine config },
+    ghost new_core: { K.machine core ≡ new_machine config },
     ghost none_given: { outs.given ≡ [] },
     ghost places: { config.seats < outs.most },
     ghost new_room: { IsNewRoom (config.seats + 1) room },
 }
 
-impl<'a, C: Clock + Drop> CorePost<'a, C> {
+impl<'a, C: Clock + Drop, K: QueueCore + Drop> CorePost<'a, C, K> {
     /// Serves all ends until no steps come from any, and gives back the end, the core and the clock. Where some
     /// thread was not started there is nothing.
-    pub fn serve<R: Wait>(self, rt: &R, start: &Start) -> Option<(CoreEnd, Core, C)>
-        ensures { IfSome result (λ r. IsCoreOver C.given self.entry.config self.entry.end self.entry.clock r.0 r.1.machine r.2) }
+    pub fn serve<R: Wait>(self, rt: &R, start: &Start) -> Option<(CoreEnd, K, C)>
+        ensures { IfSome result (λ r. IsCoreOver C.given self.entry.config self.entry.end self.entry.clock r.0 (K.machine r.1) r.2) }
     {
         let CorePost {
             alloc,

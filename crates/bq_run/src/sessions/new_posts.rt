@@ -1,7 +1,7 @@
 //! The posts of a run, before its threads start.
 ghost use Rattle.std.specs.Prelude.{◌≡◌, ◌≤◌, ◌<◌, ◌++◌, ◌∷◌, ◌↔◌, ◌+◌, [], IfOk, IsErrOf, IsTrue, map, not, vec_len};
 ghost use Rattle.std.specs.List.{All};
-ghost use Rattle.bq_core.specs.Limits.{are_in_range, is_body_size};
+ghost use Rattle.bq_steps.specs.Limits.{are_in_range, is_body_size};
 ghost use Rattle.bq_job.specs.machine.Machine.{new_machine};
 ghost use Rattle.bq_attend.specs.Tending.{IsNewDoor, door_seen};
 ghost use Rattle.bq_link.specs.NewEnds.{AreNewSeats, IsNewCore};
@@ -12,7 +12,6 @@ ghost use Rattle.bq_run.specs.Threads.{last_first};
 use crate::sessions::core_post::CorePost;
 use crate::sessions::posts::{ControlPost, Posts};
 use crate::sessions::seat_post::SeatPost;
-use bq_core::{Config, Core, CoreFault, Outs};
 use bq_hub::core_work::CoreRoom;
 use bq_job::NoMemory;
 use bq_line::Door;
@@ -20,25 +19,26 @@ use bq_line::clock::Clock;
 use bq_line::line::Line;
 use bq_link::{CoreEnd, Intake, NoTicks, SeatEnd};
 use bq_start::RunFault;
+use bq_steps::{Config, CoreFault, Outs, QueueCore};
 use std::alloc::Global;
 
 /// A core at which nothing was done, and what its thread needs beside it.
 #[derive(Drop)]
-pub struct NewCore {
-    pub core: Core,
+pub struct NewCore<K> {
+    pub core: K,
     pub outs: Outs,
     pub room: CoreRoom,
 }
 
-impl NewCore {
+impl<K: QueueCore + Drop> NewCore<K> {
     /// All memory but that for jobs is asked for here.
-    pub fn new(alloc: Global, config: Config) -> Result<NewCore, RunFault>
-        ensures core { IfOk result (λ new. new.core.machine ≡ new_machine config) }
+    pub fn new(alloc: Global, config: Config) -> Result<NewCore<K>, RunFault>
+        ensures core { IfOk result (λ new. K.machine new.core ≡ new_machine config) }
         ensures outs { IfOk result (λ new. (new.outs.given ≡ []) × (config.seats < new.outs.most)) }
         ensures room { IfOk result (λ new. IsNewRoom (config.seats + 1) new.room) }
         ensures bad_configuration { IsErrOf result RunFault.BadConfiguration ↔ IsTrue (not (are_in_range config)) }
     {
-        let core = match Core::new(alloc, config) {
+        let core = match K::new(alloc, config) {
             Ok(core) => core,
             Err(CoreFault::NoMemory) => return Err(RunFault::NoMemory),
             Err(_) => return Err(RunFault::BadConfiguration),
@@ -54,18 +54,24 @@ impl NewCore {
 }
 
 /// The posts of a run of this configuration, at these ends of its links.
-pub fn new_posts<'a, L: Line + Drop, D: Door<Line = L> + Drop, C: Clock + Drop>(
+pub fn new_posts<
+    'a,
+    L: Line + Drop,
+    D: Door<Line = L> + Drop,
+    C: Clock + Drop,
+    K: QueueCore + Drop,
+>(
     alloc: Global,
     config: Config,
     intake: &'a Intake<NoTicks>,
-    new: NewCore,
+    new: NewCore<K>,
     core_end: CoreEnd,
     mut ends: Vec<SeatEnd, Global>,
     doors: Vec<D, Global>,
     clock: C,
-) -> Result<Posts<'a, D, C>, NoMemory>
+) -> Result<Posts<'a, D, C, K>, NoMemory>
     requires range { IsTrue (are_in_range config) }
-    requires core { new.core.machine ≡ new_machine config }
+    requires core { K.machine new.core ≡ new_machine config }
     requires outs { (new.outs.given ≡ []) × (config.seats < new.outs.most) }
     requires room { IsNewRoom (config.seats + 1) new.room }
     requires of_intake { core_end.intake ≡ intake.now.id }

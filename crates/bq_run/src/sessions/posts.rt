@@ -6,9 +6,9 @@ ghost use Rattle.bq_ends.specs.Ends.{IsNewEnd};
 use crate::sessions::core_post::CorePost;
 use crate::sessions::seat_post::SeatPost;
 use bq_attend::control_line::ControlLine;
-use bq_core::Core;
 use bq_line::Door;
 use bq_link::{CoreEnd, Intake, NoTicks, SeatEnd};
+use bq_steps::QueueCore;
 use std::alloc::Global;
 
 /// The control line's end of the links, at which nothing was done.
@@ -22,9 +22,9 @@ pub struct ControlPost<'a> {
 
 /// The posts of a run. Those of the seats stand from the last one on, and have one limit of bodies.
 #[derive(Drop)]
-pub struct Posts<'a, D: Door, C> {
+pub struct Posts<'a, D: Door, C, K: QueueCore> {
     pub seats: Vec<SeatPost<'a, D>, Global>,
-    pub core: CorePost<'a, C>,
+    pub core: CorePost<'a, C, K>,
     pub control: ControlPost<'a>,
     pub max_job_size: u32,
     ghost limits: { All (λ post. post.max_job_size ≡ max_job_size) seats.items },
@@ -32,11 +32,11 @@ pub struct Posts<'a, D: Door, C> {
 
 /// What the threads of a run gave back. The ends and the doors stand in the order of their seats.
 #[derive(Drop)]
-pub struct Ended<D, C, I> {
+pub struct Ended<D, C, I, K> {
     pub ends: Vec<SeatEnd, Global>,
     pub doors: Vec<D, Global>,
     pub core_end: CoreEnd,
-    pub core: Core,
+    pub core: K,
     pub clock: C,
     pub control_end: SeatEnd,
     pub control: ControlLine<I>,

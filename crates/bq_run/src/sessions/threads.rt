@@ -9,7 +9,6 @@ use crate::sessions::core_post::CorePost;
 use crate::sessions::posts::{ControlPost, Ended, Posts};
 use crate::sessions::seat_post::SeatPost;
 use bq_attend::control_line::ControlLine;
-use bq_core::{Config, Core};
 use bq_ends::control_work::control_work;
 use bq_job::NoMemory;
 use bq_line::Door;
@@ -17,6 +16,7 @@ use bq_line::clock::Clock;
 use bq_line::line::Line;
 use bq_link::{CoreEnd, SeatEnd};
 use bq_start::{RunFault, Start};
+use bq_steps::{Config, QueueCore};
 use std::alloc::Global;
 use std::io::BufRead;
 use std::snapshot::Snapshot;
@@ -46,8 +46,8 @@ struct CorePromise<C> {
     settings: Config,
 }
 
-impl<C: Clock> Promise<Option<(CoreEnd, Core, C)>> for CorePromise<C> {
-    ghost kept_by = { λ p result. IfSome result (λ r. IsCoreOver C.given p.settings p.end.value p.clock.value r.0 r.1.machine r.2) };
+impl<C: Clock, K: QueueCore> Promise<Option<(CoreEnd, K, C)>> for CorePromise<C> {
+    ghost kept_by = { λ p result. IfSome result (λ r. IsCoreOver C.given p.settings p.end.value p.clock.value r.0 (K.machine r.1) r.2) };
 }
 
 /// Serves all posts, those of the seats and the core each in a thread of its own, and the control line in this
@@ -58,33 +58,34 @@ pub fn serve_in_scope<
     D: Door<Line = L> + Drop + Send,
     C: Clock + Drop + Send,
     I: BufRead + Drop,
+    K: QueueCore + Drop + Send,
 >(
     rt: &R,
     alloc: Global,
-    posts: Posts<'_, D, C>,
+    posts: Posts<'_, D, C, K>,
     start: &Start,
     control: I,
-) -> Result<Ended<D, C, I>, RunFault>
+) -> Result<Ended<D, C, I, K>, RunFault>
     ensures fault { IsErrOf result RunFault.BadConfiguration → ⊥ }
     ensures served { let at = door_seen D.is_out D.is_at_end D.lines_over in
         let firsts = last_first (map (λ p. p.end) posts.entry.seats.items) in
         IfOk result (λ r. AreServed at posts.entry.max_job_size firsts r.ends.items r.doors.items) }
     ensures same { IfOk result (λ r. AreSame D.same (last_first (map (λ p. p.door) posts.entry.seats.items)) r.doors.items) }
     ensures core { let core = posts.entry.core in
-        IfOk result (λ r. IsCoreOver C.given core.config core.end core.clock r.core_end r.core.machine r.clock) }
+        IfOk result (λ r. IsCoreOver C.given core.config core.end core.clock r.core_end (K.machine r.core) r.clock) }
     ensures control { IfOk result (λ r. IsControlOver I.remaining posts.entry.control.end control r.control_end r.control) }
 {
     thread::scope(
         thread::scope_env(),
         rt,
-        move |scope| -> Result<Ended<D, C, I>, RunFault>
+        move |scope| -> Result<Ended<D, C, I, K>, RunFault>
             ensures fault { IsErrOf result RunFault.BadConfiguration → ⊥ }
             ensures served { let at = door_seen D.is_out D.is_at_end D.lines_over in
                 let firsts = last_first (map (λ p. p.end) posts.entry.seats.items) in
                 IfOk result (λ r. AreServed at posts.entry.max_job_size firsts r.ends.items r.doors.items) }
             ensures same { IfOk result (λ r. AreSame D.same (last_first (map (λ p. p.door) posts.entry.seats.items)) r.doors.items) }
             ensures core { let core = posts.entry.core in
-                IfOk result (λ r. IsCoreOver C.given core.config core.end core.clock r.core_end r.core.machine r.clock) }
+                IfOk result (λ r. IsCoreOver C.given core.config core.end core.clock r.core_end (K.machine r.core) r.clock) }
             ensures control { IfOk result (λ r. IsControlOver I.remaining posts.entry.control.end control r.control_end r.control) }
         { serve_all(scope, rt, alloc, posts, start, control) },
     )
@@ -99,21 +100,22 @@ fn serve_all<
     D: Door<Line = L> + Drop + Send + 's,
     C: Clock + Drop + Send + 's,
     I: BufRead + Drop,
+    K: QueueCore + Drop + Send + 's,
 >(
     scope: &'s Scope<'s, E>,
     rt: &'s R,
     alloc: Global,
-    posts: Posts<'s, D, C>,
+    posts: Posts<'s, D, C, K>,
     start: &'s Start,
     control: I,
-) -> Result<Ended<D, C, I>, RunFault>
+) -> Result<Ended<D, C, I, K>, RunFault>
     ensures fault { IsErrOf result RunFault.BadConfiguration → ⊥ }
     ensures served { let at = door_seen D.is_out D.is_at_end D.lines_over in
         let firsts = last_first (map (λ p. p.end) posts.entry.seats.items) in
         IfOk result (λ r. AreServed at posts.entry.max_job_size firsts r.ends.items r.doors.items) }
     ensures same { IfOk result (λ r. AreSame D.same (last_first (map (λ p. p.door) posts.entry.seats.items)) r.doors.items) }
     ensures core { let core = posts.entry.core in
-        IfOk result (λ r. IsCoreOver C.given core.config core.end core.clock r.core_end r.core.machine r.clock) }
+        IfOk result (λ r. IsCoreOver C.given core.config core.end core.clock r.core_end (K.machine r.core) r.clock) }
     ensures control { IfOk result (λ r. IsControlOver I.remaining posts.entry.control.end control r.control_end r.control) }
 {
     let Posts {
@@ -167,12 +169,18 @@ fn serve_control<R: Wait, I: BufRead + Drop>(
 }
 
 // Starts the thread of the core.
-fn start_core<'s, E, R: Threads + Wait + Sync, C: Clock + Drop + Send + 's>(
+fn start_core<
+    's,
+    E,
+    R: Threads + Wait + Sync,
+    C: Clock + Drop + Send + 's,
+    K: QueueCore + Drop + Send + 's,
+>(
     scope: &'s Scope<'s, E>,
     rt: &'s R,
-    post: CorePost<'s, C>,
+    post: CorePost<'s, C, K>,
     start: &'s Start,
-) -> Result<PromisedHandle<Option<(CoreEnd, Core, C)>, CorePromise<C>>, NoMemory>
+) -> Result<PromisedHandle<Option<(CoreEnd, K, C)>, CorePromise<C>>, NoMemory>
     ensures settings { IfOk result (λ thread. thread.promise.settings ≡ post.entry.config) }
     ensures end { IfOk result (λ thread. thread.promise.end.value ≡ post.entry.end) }
     ensures clock { IfOk result (λ thread. thread.promise.clock.value ≡ post.entry.clock) }
