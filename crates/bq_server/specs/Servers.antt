@@ -15,6 +15,6 @@ settings_of options = record
     { seats = options.seats; max_job_size = options.max_job_size; max_jobs = options.max_jobs; requeue_delay = options.requeue_delay }
 
 -- A run that did not begin, and one at some door of which a connection could not be accepted, end by a fault.
-abbrev pub came_of_run : {D C I : Type 0} → (D → Bool) → Result (Run D C I) RunFault → Result (Unit {0}) Fault
+abbrev pub came_of_run : {D C I K : Type 0} → (D → Bool) → Result (Run D C I K) RunFault → Result (Unit {0}) Fault
 came_of_run met_fault (Ok run) = if list_any met_fault run.doors.items then Err NotAccepted else Ok tt
 came_of_run met_fault (Err fault) = Err (fault_of_run fault)

@@ -6,7 +6,7 @@ ghost use Rattle.bq_server.specs.Servers.{came_of_run, settings_of};
 ghost use Rattle.bq_run.specs.Sessions.{IsRunOf};
 
 use crate::telling_clock::TellingClock;
-use bq_core::Config;
+use bq_core::{Config, Core};
 use bq_job::NoMemory;
 use bq_line::line::Buffers;
 use bq_line::{Door, Refusals, TcpDoor, clock};
@@ -14,6 +14,7 @@ use bq_options::BqdOptions;
 use bq_program::{Fault, Options, tell_server};
 use bq_run::{Run, run_sessions};
 use bq_start::RunFault;
+use bq_steps::QueueCore;
 use std::alloc::Global;
 use std::io::{BufRead, BufReader, Eprint, Print, Read};
 use std::net::{Net, TcpListener, TcpStream};
@@ -120,14 +121,14 @@ pub fn serve_doors<
     doors: Vec<TcpDoor<'l, R>, Global>,
     clock: C,
     control: I,
-) -> Result<Run<TcpDoor<'l, R>, C, I>, RunFault>
+) -> Result<Run<TcpDoor<'l, R>, C, I, Core>, RunFault>
     requires new { All (λ door. IsNewDoor (door_seen ⟦<TcpDoor<'l, R> as Door>⟧.is_out
         ⟦<TcpDoor<'l, R> as Door>⟧.is_at_end ⟦<TcpDoor<'l, R> as Door>⟧.lines_over door)) doors.items }
     // There is one history of all connections' steps and those of the control line, which the one-list machine
     // takes by the options. Each connection of each door was written exactly what it is owed along it, as far
     // as its reads and writes tell.
     ensures served { IfOk result (IsRunOf C.given ⟦<TcpDoor<'l, R> as Door>⟧.lines_over I.remaining
-        (settings_of options.now) clock control) }
+        ⟦<Core as QueueCore>⟧.machine (settings_of options.now) clock control) }
     ensures at_end { IfOk result (λ run. All (λ door. (⟦<TcpDoor<'l, R> as Door>⟧.is_out door ≡ false)
         × (⟦<TcpDoor<'l, R> as Door>⟧.is_at_end door ≡ true)) run.doors.items) }
     // They are the doors that were handed in, in their order.
@@ -150,7 +151,7 @@ fn config_of(options: &Options) -> Config
 
 // What came of a run: its fault, or that some connection could not be accepted.
 fn came_of<'l, R: Clock + Eprint, C: Drop, I: Drop>(
-    run: Result<Run<TcpDoor<'l, R>, C, I>, RunFault>,
+    run: Result<Run<TcpDoor<'l, R>, C, I, Core>, RunFault>,
 ) -> Result<(), Fault>
     ensures { result ≡ came_of_run (λ door. door.met_fault) run.entry }
 {
