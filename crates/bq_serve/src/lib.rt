@@ -2,7 +2,8 @@
 //!
 //! Here are the run of one line by one thread, that of many doors, each by a thread of its own, and that around
 //! one lock, with the lines, doors and clocks that they serve. Each is made in a crate of its own, so that what
-//! stands on one of them doesn't wait for the proofs of the others.
+//! stands on one of them doesn't wait for the proofs of the others. The run by threads is made for any core, and
+//! here it has that of `bq_core`.
 #![tactic(auto)]
 
 pub use bq_desk::{One, run_one};
@@ -10,5 +11,7 @@ pub use bq_ends::{control_work, seat_work};
 pub use bq_hub::core_work;
 pub use bq_line::{Door, DoorFault, MemDoor, Refusals, TcpDoor, clock, line};
 pub use bq_lock::{Locked, LockedRun, run_locked};
-pub use bq_run::{Run, run_sessions};
 pub use bq_start::RunFault;
+pub use sessions::{Run, run_sessions};
+
+mod sessions;

@@ -1,0 +1,59 @@
+//! The run of many doors, each by a thread of its own, with the core of `bq_core`.
+ghost use Rattle.std.specs.Prelude.{◌≡◌, ◌↔◌, ◌&&◌, ◌==◌, false, true, not, IfOk, IsErrOf, IsTrue, vec_len};
+ghost use Rattle.std.specs.List.{All};
+ghost use Rattle.bq_steps.specs.Limits.{are_in_range};
+ghost use Rattle.bq_attend.specs.Tending.{AreSame, IsNewDoor, door_seen};
+ghost use Rattle.bq_run.specs.Sessions.{IsRunOf};
+
+use bq_core::{Config, Core};
+use bq_line::Door;
+use bq_line::clock::Clock;
+use bq_line::line::Line;
+use bq_start::RunFault;
+use bq_steps::QueueCore;
+use std::alloc::Global;
+use std::io::BufRead;
+use std::sync::Wait;
+use std::thread::Threads;
+
+/// A run over doors that is over: the doors with their lines, the clock and the control line as they were
+/// left, the core, and the links between them.
+pub type Run<D, C, I> = bq_run::Run<D, C, I, Core>;
+
+/// Serves the lines of all doors, each at a seat and in a thread of its own, until no more lines come at any
+/// of them. The core has a thread too. The calling thread reads the control line, of which each line `drain`
+/// begins draining.
+///
+/// The fault is `BadConfiguration` where the configuration is out of its ranges or there isn't a door for
+/// each seat, and else `NoMemory` where a growth of memory was refused, or `ThreadRefused` where a thread was.
+/// With any fault no door was opened, and the doors are given up.
+pub fn run_sessions<
+    R: Threads + Wait + Sync,
+    L: Line + Drop + Send,
+    D: Door<Line = L> + Drop + Send,
+    C: Clock + Drop + Send,
+    I: BufRead + Drop,
+>(
+    rt: &R,
+    alloc: Global,
+    config: Config,
+    doors: Vec<D, Global>,
+    clock: C,
+    control: I,
+) -> Result<Run<D, C, I>, RunFault>
+    // No line is out or over at any door, and none is at its end.
+    requires new { All (λ door. IsNewDoor (door_seen D.is_out D.is_at_end D.lines_over door)) doors.items }
+    // There is one history of all clients' steps and those of the control line, each at the moment of a
+    // reading of the clock. The one-list machine takes it, the core stands for the machine after it, and each
+    // line was written exactly what it is owed along it. It is what the ends of the links submitted and took.
+    ensures served { IfOk result (IsRunOf C.given D.lines_over I.remaining ⟦<Core as QueueCore>⟧.machine config clock control) }
+    ensures at_end { IfOk result (λ run. All (λ door. (D.is_out door ≡ false) × (D.is_at_end door ≡ true)) run.doors.items) }
+    // They are the doors that were handed in, in their order.
+    ensures same { IfOk result (λ run. AreSame D.same doors.items run.doors.items) }
+    // The core can go on.
+    ensures settings { IfOk result (λ run. run.core.machine.settings ≡ config) }
+    ensures bad_configuration { IsErrOf result RunFault.BadConfiguration
+        ↔ IsTrue (not (are_in_range config && vec_len doors == config.seats)) }
+{
+    bq_run::run_sessions(rt, alloc, config, doors, clock, control)
+}
