@@ -1,4 +1,4 @@
-ghost use Rattle.std.specs.Prelude.{◌≡◌, ◌≤◌, [], length, IfOk, if◌then◌else◌};
+ghost use Rattle.std.specs.Prelude.{◌≡◌, ◌==◌, ◌≤◌, [], length, not, IfOk, if◌then◌else◌};
 ghost use Rattle.bq_seat.specs.SeatParts.{asking_stage};
 
 use crate::kept::{Kept, PIECE_ROOM};
@@ -91,7 +91,7 @@ impl SeatMachine {
     ghost use Rattle.bq_seat.specs.Outstanding.{ReadsWith};
     ghost use Rattle.bq_seat.specs.SeatMoves.{FitsPiece, IsMove};
     ghost use Rattle.bq_seat.specs.SeatParts.{GoesOn, IsStagedMove, asking_stage, in_stage, reads_on};
-    ghost use Rattle.bq_seat.specs.SeatStands.{awaited};
+    ghost use Rattle.bq_seat.specs.SeatStands.{awaited, kept_bytes};
 
     /// A machine that awaits its first line. Bodies of more than `max_job_size` bytes, of 1 to 1,048,576,
     /// are refused. All memory but that for bodies is asked for here.
@@ -165,6 +165,13 @@ impl SeatMachine {
             Stage::ReadingOn => true,
             _ => false,
         }
+    }
+
+    /// Whether bytes lie here that came behind the requests that were asked.
+    pub fn has_unread(&self) -> bool
+        ensures { result ≡ not (length (kept_bytes self.now) == 0) }
+    {
+        !self.kept.is_empty()
     }
 
     fn opened(&mut self, next: &mut Action)
