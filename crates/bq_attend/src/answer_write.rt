@@ -6,8 +6,7 @@ use bq_job::Answer;
 use bq_line::line::Line;
 use bq_wire::{HeadBuf, answer_body, answer_head, answer_tail, push_bytes};
 
-/// Writes the text of an answer. Whether all of it was written. A line that holds back what is written may do so until
-/// it is settled.
+/// Writes the text of an answer, and hands on what the line holds back. Whether all of it went well.
 ///
 /// As much of it as the room holds goes out in one write. What lies in the room before and after has no meaning.
 pub fn write_answer<L: Line>(line: &mut L, answer: &Answer, room: &mut [u8]) -> bool
@@ -16,7 +15,7 @@ pub fn write_answer<L: Line>(line: &mut L, answer: &Answer, room: &mut [u8]) -> 
     if !write_text(line, answer, room) {
         return false;
     }
-    match line.flush_later() {
+    match line.flush() {
         Ok(()) => true,
         Err(_) => false,
     }

@@ -54,12 +54,13 @@ pub fn carry_out<L: Line, K: Link>(
                 true
             } else {
                 // The answer may take long.
-                line.settle();
+                line.expect_more(false);
                 machine.on_in_place(alloc, Event::NothingYet, action);
                 false
             }
         }
         Action::Write(answer) => {
+            expect_answers(machine, line);
             if write_answer(line, answer, room) {
                 machine.on_in_place(alloc, Event::WriteDone, action);
                 true
@@ -104,13 +105,24 @@ fn read<L: Line>(
     }
 }
 
-// The line is waited for only where no answer is outstanding. All answers so far go to the client before.
+// More is written soon where bytes that came lie behind the command whose answer is written now.
+fn expect_answers<L: Line>(machine: &SeatMachine, line: &mut L)
+    ensures { L.seen line.new ≡ L.seen line.old }
+{
+    if machine.has_unread() || line.has_unread() {
+        line.expect_more(true);
+    }
+}
+
+// The line is waited for only where no answer is outstanding. All answers so far are on their way to the client before.
 fn read_line<L: Line>(machine: &SeatMachine, line: &mut L, room: &mut [u8]) -> io::Result<usize>
     requires { 0 < length room.old }
     ensures bound { ReadsAtMost result room.new }
     ensures seen { L.seen line.new ≡ after_read result room.new (L.seen line.old) }
 {
-    line.settle();
+    if !line.has_unread() {
+        line.expect_more(false);
+    }
     if machine.has_outstanding() {
         line.read_now(room)
     } else {

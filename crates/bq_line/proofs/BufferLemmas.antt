@@ -1,7 +1,7 @@
 -- Bytes that lie in a buffer, and those that are left behind it.
-use Rattle.std.proofs.Common.{◌≡◌, ◌<◌, ℕ, List, [], ◌∷◌, ◌++◌, Option, Some, None, min, length, take, drop, refl, sym, ap, ◌∙◌, arith, append_assoc}
+use Rattle.std.proofs.Common.{◌≡◌, ◌==◌, ◌<◌, ℕ, Bool, true, false, not, List, [], ◌∷◌, ◌++◌, Option, Some, None, min, length, take, drop, refl, sym, ap, ◌∙◌, arith, append_assoc}
 use Rattle.std.proofs.lemmas.List.{take-append-drop}
-use Rattle.std.specs.Io.KnownBytes.{Appends, Consumes, IsAtEnd, Keeps, append_known, prepend_known}
+use Rattle.std.specs.Io.KnownBytes.{Consumes, IsAtEnd, Keeps, prepend_known}
 
 taken : (old new : Option (List ℕ)) (held given left : List ℕ) → Keeps old (prepend_known held new) → held ≡ given ++ left → Consumes old (prepend_known left new) given
 taken None new held given left h e = tt
@@ -27,24 +27,9 @@ given_first old new held left buf n m h count same given left_is end =
           at_end left new (left_is ∙ ap (λ k. drop k held) zero ∙ none) (end none),
     )
 
--- A writer holds the same where some of what was held back went to its stream.
-pub sent_first : (old new : Option (List ℕ)) (held given left : List ℕ) → Appends old new given → held ≡ given ++ left → Keeps (append_known old held) (append_known new left)
-sent_first None new held given left h e = tt
-sent_first (Some xs) None held given left h e = absurd h
-sent_first (Some xs) (Some ys) held given left h e = ap (λ b. b ++ left) h ∙ append_assoc xs given left ∙ ap (λ b. xs ++ b) (sym e)
-
--- what is held stays behind what the stream has
-pub kept_behind : (old new : Option (List ℕ)) (held : List ℕ) → Keeps old new → Keeps (append_known old held) (append_known new held)
-kept_behind None new held h = tt
-kept_behind (Some xs) None held h = absurd h
-kept_behind (Some xs) (Some ys) held h = ap (λ b. b ++ held) h
-
-pub keeps_all : (known : Option (List ℕ)) → Keeps known known
-keeps_all None = tt
-keeps_all (Some xs) = refl
-
-pub keeps_on : (first middle last : Option (List ℕ)) → Keeps first middle → Keeps middle last → Keeps first last
-keeps_on None middle last h k = tt
-keeps_on (Some xs) None last h k = absurd h
-keeps_on (Some xs) (Some ys) None h k = absurd k
-keeps_on (Some xs) (Some ys) (Some zs) h k = k ∙ h
+-- A reader whose buffer has bytes isn't at its end.
+pub not_at_end : (held : List ℕ) (known : Option (List ℕ)) (empty : Bool) → empty ≡ (length held == 0) → not empty ≡ true → prepend_known held known ≡ Some [] → ⊥
+not_at_end [] known true is some end = cc
+not_at_end [] known false is some end = cc
+not_at_end (b ∷ bs) None empty is some end = cc
+not_at_end (b ∷ bs) (Some xs) empty is some end = cc

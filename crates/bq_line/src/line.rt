@@ -6,26 +6,24 @@ ghost use Rattle.bq_job.specs.promise.LineSteps.{LineSeen};
 ghost use Rattle.bq_line.specs.LineCalls.{after_flush, after_read, after_write, first_fault, is_nothing_yet};
 
 pub use buffered::Buffered;
-pub use buffers::Buffers;
 pub use byte_record::ByteRecord;
 pub use connection::Connection;
+pub use expect_more::ExpectMore;
 pub use io_line::IoLine;
 pub use mem_line::{MemLine, Part};
 pub use read_buffer::{READ_ROOM, ReadBuffer};
 pub use read_now::ReadNow;
-pub use write_buffer::{WRITE_ROOM, WriteBuffer};
-pub use write_later::WriteLater;
+pub use socket::Socket;
 
 mod buffered;
-mod buffers;
 mod byte_record;
 mod connection;
+mod expect_more;
 mod io_line;
 mod mem_line;
 mod read_buffer;
 mod read_now;
-mod write_buffer;
-mod write_later;
+mod socket;
 
 use bq_job::LineFault;
 use std::io;
@@ -58,20 +56,18 @@ pub trait Line {
         ensures bound { WritesAtMost result buf.now }
         ensures seen { seen self.new ≡ after_write result buf.now (seen self.old) };
 
-    /// Sends what is held back, if anything is. An error is a write fault.
+    /// Hands on what is held back, if anything is. An error is a write fault.
     fn flush(&mut self) -> io::Result<()>
         ensures seen { seen self.new ≡ after_flush result (seen self.old) };
 
-    /// The same where more may be written soon: a line that holds back what is written may leave that to `settle`.
-    fn flush_later(&mut self) -> io::Result<()>
-        ensures seen { seen self.new ≡ after_flush result (seen self.old) }
-    {
-        self.flush()
+    /// Whether bytes that came lie in the line, so that the next read gives them without waiting.
+    fn has_unread(&self) -> bool {
+        false
     }
 
-    /// Sends what `flush_later` left, before anything is waited for and before the line is given up. What can't be sent
-    /// stays held back, and a later write or flush meets the fault.
-    fn settle(&mut self)
+    /// A hint that more will be written soon, so that small writes may go out together, or not any more: then all that
+    /// was written is on its way. A line that can't use it does nothing.
+    fn expect_more(&mut self, more: bool)
         ensures seen { seen self.new ≡ seen self.old }
     {}
 }

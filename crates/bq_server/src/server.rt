@@ -1,5 +1,5 @@
 //! All that the server does, from its options to its status.
-ghost use Rattle.std.specs.Prelude.{◌≡◌, ◌≤◌, IfErr, IfOk, false, true};
+ghost use Rattle.std.specs.Prelude.{◌≡◌, ◌≤◌, IfOk, false, true};
 ghost use Rattle.std.specs.List.{All, list_any};
 ghost use Rattle.bq_attend.specs.Tending.{AreSame, IsNewDoor, door_seen};
 ghost use Rattle.bq_server.specs.Servers.{came_of_run, settings_of};
@@ -8,10 +8,10 @@ ghost use Rattle.bq_run.specs.Sessions.{IsRunOf};
 use crate::telling_clock::TellingClock;
 use bq_core::{Config, Core};
 use bq_job::NoMemory;
-use bq_line::line::Buffers;
+use bq_line::line::ReadBuffer;
 use bq_line::{Door, Refusals, TcpDoor, clock};
-use bq_options::BqdOptions;
-use bq_program::{Fault, Options, tell_server};
+use bq_options::{BqdOptions, Program};
+use bq_program::{Fault, Need, Options, tell_cannot_listen, tell_fault, tell_server};
 use bq_run::{Run, run_sessions};
 use bq_start::RunFault;
 use bq_steps::QueueCore;
@@ -35,7 +35,17 @@ pub fn serve<R: Threads + Wait + Clock + Print + Eprint + Sync, I: BufRead + Dro
 ) -> u8
     ensures { result ≤ 1 }
 {
-    tell_server(rt, serve_at(rt, alloc, options, &listener, control))
+    match listener.local_addr() {
+        Ok(address) => {
+            // Who closes standard output doesn't want to know.
+            let _told = println!(rt; "listening {address}");
+            tell_server(rt, serve_at(rt, alloc, options, &listener, control))
+        }
+        Err(e) => {
+            let address = options.listen.as_deref().unwrap_or("");
+            tell_cannot_listen(rt, Program::Bqd, address, &e)
+        }
+    }
 }
 
 /// Binds the address and serves until all is over: the status of the program. The input is the control
@@ -52,38 +62,14 @@ pub(crate) fn listen_and_serve<
 >(rt: &R, alloc: Global, options: BqdOptions, input: I) -> u8
     ensures { result ≤ 1 }
 {
-    let came = match bound(rt, options.listen.as_str()) {
-        Ok(listener) => serve_input(rt, alloc, &Options::from(options), &listener, input),
-        Err(fault) => Err(fault),
+    let listener = match TcpListener::bind(rt, options.listen.as_str()) {
+        Ok(listener) => listener,
+        Err(e) => return tell_cannot_listen(rt, Program::Bqd, options.listen.as_str(), &e),
     };
-    tell_server(rt, came)
-}
-
-// A listener at this address.
-fn bound<R: Net<Listener = TcpListener, Stream = TcpStream>>(
-    rt: &R,
-    address: &str,
-) -> Result<TcpListener, Fault>
-    ensures { IfErr result (λ fault. fault ≡ Fault.CannotListen) }
-{
-    match TcpListener::bind(rt, address) {
-        Ok(listener) => Ok(listener),
-        Err(_) => Err(Fault::CannotListen),
-    }
-}
-
-// Serves with this input as the control line.
-fn serve_input<R: Threads + Wait + Clock + Print + Eprint + Sync, I: Read + Drop>(
-    rt: &R,
-    alloc: Global,
-    options: &Options,
-    listener: &TcpListener,
-    input: I,
-) -> Result<(), Fault> {
     let Ok(control) = BufReader::new(alloc, input) else {
-        return Err(Fault::NoMemory);
+        return tell_fault(rt, Program::Bqd, Fault::NoMemory(Need::ControlLine));
     };
-    serve_at(rt, alloc, options, listener, control)
+    serve(rt, alloc, &Options::from(options), listener, control)
 }
 
 fn serve_at<R: Threads + Wait + Clock + Print + Eprint + Sync, I: BufRead + Drop>(
@@ -93,14 +79,9 @@ fn serve_at<R: Threads + Wait + Clock + Print + Eprint + Sync, I: BufRead + Drop
     listener: &TcpListener,
     control: I,
 ) -> Result<(), Fault> {
-    let Ok(address) = listener.local_addr() else {
-        return Err(Fault::CannotListen);
-    };
-    // Who closes standard output doesn't want to know.
-    let _told = println!(rt; "listening {address}");
     let refusals = Refusals::new("bqd: no connection can be accepted");
     let Ok(doors) = new_doors(rt, alloc, options, listener, &refusals) else {
-        return Err(Fault::NoMemory);
+        return Err(Fault::NoMemory(Need::Doors));
     };
     let clock = TellingClock::new(rt);
     came_of(serve_doors(rt, alloc, options, doors, clock, control))
@@ -178,13 +159,13 @@ fn new_door<'l, R: Clock + Eprint>(
     rt: &'l R,
     listener: &'l TcpListener,
     sessions: Option<u32>,
-    buffers: Buffers,
+    buffer: ReadBuffer,
     refusals: &'l Refusals,
 ) -> TcpDoor<'l, R>
     ensures { IsNewDoor (door_seen ⟦<TcpDoor<'l, R> as Door>⟧.is_out ⟦<TcpDoor<'l, R> as Door>⟧.is_at_end
         ⟦<TcpDoor<'l, R> as Door>⟧.lines_over result) }
 {
-    TcpDoor::new(rt, listener, sessions, buffers).telling(refusals)
+    TcpDoor::new(rt, listener, sessions, buffer).telling(refusals)
 }
 
 // A door for each seat, all at one listener.
@@ -202,10 +183,10 @@ fn new_doors<'l, R: Clock + Eprint>(
         return Err(NoMemory);
     };
     for _ in 0..options.seats {
-        let Ok(buffers) = Buffers::new(alloc) else {
+        let Ok(buffer) = ReadBuffer::new(alloc) else {
             return Err(NoMemory);
         };
-        let door = new_door(rt, listener, options.sessions, buffers, refusals);
+        let door = new_door(rt, listener, options.sessions, buffer, refusals);
         let Ok(()) = doors.push(door) else {
             return Err(NoMemory);
         };

@@ -1,7 +1,7 @@
 //! An input and an output as one stream.
 ghost use Rattle.std.specs.Prelude.{◌≡◌};
 
-use bq_line::line::{ReadNow, WriteLater};
+use bq_line::line::{ExpectMore, ReadNow};
 use std::io;
 use std::io::{Read, Write};
 
@@ -54,4 +54,4 @@ impl<I, O: Write> Write for Console<I, O> {
     }
 }
 
-impl<I, O: Write> WriteLater for Console<I, O> {}
+impl<I, O: Write> ExpectMore for Console<I, O> {}

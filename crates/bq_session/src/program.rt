@@ -8,7 +8,7 @@ ghost use Rattle.bq_session.specs.declared.session.Served.{Served};
 use crate::session::{Served, serve_client};
 use crate::told::tell_client;
 use bq_line::clock::MachineClock;
-use bq_line::line::{IoLine, Line, ReadNow, WriteLater};
+use bq_line::line::{ExpectMore, IoLine, Line, ReadNow};
 use bq_program::{Stop, words};
 use std::io::{Eprint, Print};
 use std::rt::{Clock, Env};
@@ -16,7 +16,7 @@ use std::sync::Wait;
 
 /// All that `bq` does: it serves the client at the other end of the stream, as the program's words choose, and
 /// tells what came of it. It returns the status of the program.
-pub fn run_bq<R: AllocGlobal + Env + Wait + Clock + Print + Eprint, S: ReadNow + WriteLater + Drop>(
+pub fn run_bq<R: AllocGlobal + Env + Wait + Clock + Print + Eprint, S: ReadNow + ExpectMore + Drop>(
     rt: &R,
     stream: S,
 ) -> u8
@@ -29,7 +29,7 @@ pub fn run_bq<R: AllocGlobal + Env + Wait + Clock + Print + Eprint, S: ReadNow +
     tell_client(rt, &came)
 }
 
-fn came_of_client<R: AllocGlobal + Env + Wait + Clock, S: ReadNow + WriteLater + Drop>(
+fn came_of_client<R: AllocGlobal + Env + Wait + Clock, S: ReadNow + ExpectMore + Drop>(
     rt: &R,
     stream: S,
 ) -> Result<Served<S>, Stop>

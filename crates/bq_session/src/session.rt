@@ -1,5 +1,6 @@
 //! All that `bq` does for its client, on any stream: from its words to how the client's line is over.
 ghost use Rattle.std.specs.Prelude.{◌≡◌, ◌≢◌, IfErr, IfOk};
+ghost use Rattle.bq_program.specs.Faults.{IsMemoryRefused};
 ghost use Rattle.bq_session.specs.Sessions.{IsSession, IsSessionFor, settings_of_bq};
 ghost use Rattle.bq_options.specs.Ranges.{IsForBq};
 
@@ -7,9 +8,9 @@ use bq_core::Config;
 use bq_desk::run_one;
 use bq_job::LineEnd;
 use bq_line::clock::{Clock, MachineClock, ScriptClock};
-use bq_line::line::{IoLine, Line, ReadNow, WriteLater};
+use bq_line::line::{ExpectMore, IoLine, Line, ReadNow};
 use bq_options::{BqOptions, bq_options};
-use bq_program::{Fault, Stop};
+use bq_program::{Fault, Need, Stop};
 use std::alloc::{AllocError, Global};
 use std::convert::AsStr;
 use std::rt;
@@ -24,7 +25,7 @@ pub struct Served<S> {
 
 /// Serves the client at the other end of the stream, as the words choose. The first word is the program's
 /// name.
-pub fn serve_client<'a, R: Wait, W: AsStr, S: ReadNow + WriteLater + Drop, K: rt::Clock + Drop>(
+pub fn serve_client<'a, R: Wait, W: AsStr, S: ReadNow + ExpectMore + Drop, K: rt::Clock + Drop>(
     rt: &R,
     alloc: Global,
     words: &'a [W],
@@ -41,7 +42,7 @@ pub fn serve_client<'a, R: Wait, W: AsStr, S: ReadNow + WriteLater + Drop, K: rt
 }
 
 // Serves the client by these options.
-fn serve_chosen<R: Wait, S: ReadNow + WriteLater + Drop, K: rt::Clock + Drop>(
+fn serve_chosen<R: Wait, S: ReadNow + ExpectMore + Drop, K: rt::Clock + Drop>(
     rt: &R,
     alloc: Global,
     options: &BqOptions,
@@ -50,20 +51,20 @@ fn serve_chosen<R: Wait, S: ReadNow + WriteLater + Drop, K: rt::Clock + Drop>(
 ) -> Result<Served<S>, Fault>
     requires { IsForBq options.now }
     ensures served { IfOk result (λ served. IsSession options.now (⟦<IoLine<S> as Line>⟧.seen served.line) served.end) }
-    ensures fault { IfErr result (λ fault. fault ≡ Fault.NoMemory) }
+    ensures fault { IfErr result IsMemoryRefused }
 {
     if !options.still {
         return serve_by(rt, alloc, options, stream, clock);
     }
     let Ok(still) = still_clock(alloc) else {
-        return Err(Fault::NoMemory);
+        return Err(Fault::NoMemory(Need::Clock));
     };
     serve_by(rt, alloc, options, stream, still)
 }
 
 // Serves the client by this clock: the line lies over the stream, and what is promised of it is what
 // `run_one` promises.
-fn serve_by<R: Wait, S: ReadNow + WriteLater + Drop, C: Clock + Drop>(
+fn serve_by<R: Wait, S: ReadNow + ExpectMore + Drop, C: Clock + Drop>(
     rt: &R,
     alloc: Global,
     options: &BqOptions,
@@ -72,7 +73,7 @@ fn serve_by<R: Wait, S: ReadNow + WriteLater + Drop, C: Clock + Drop>(
 ) -> Result<Served<S>, Fault>
     requires { IsForBq options.now }
     ensures served { IfOk result (λ served. IsSession options.now (⟦<IoLine<S> as Line>⟧.seen served.line) served.end) }
-    ensures fault { IfErr result (λ fault. fault ≡ Fault.NoMemory) }
+    ensures fault { IfErr result (λ fault. fault ≡ Fault.NoMemory Need.Queue) }
 {
     match run_one(rt, alloc, config_of(options), IoLine::new(stream), clock) {
         Ok(one) => Ok(Served {

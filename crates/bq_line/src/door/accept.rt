@@ -3,7 +3,7 @@
 use super::refusals::{Met, Refusals};
 use crate::line::Connection;
 use std::io::{Eprint, ErrorKind};
-use std::net::TcpListener;
+use std::net::{TcpListener, TcpStream};
 use std::rt::Clock;
 use std::time::Duration;
 use std::{io, thread};
@@ -33,7 +33,7 @@ pub(super) fn accept<R: Clock + Eprint>(
     rt: &R,
     listener: &TcpListener,
     refusals: Option<&Refusals>,
-) -> io::Result<Connection> {
+) -> io::Result<Connection<TcpStream>> {
     let mut met = Met::none(refusals);
     for _ in 0..u64::MAX {
         match listener.accept() {

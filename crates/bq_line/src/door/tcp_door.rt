@@ -6,10 +6,10 @@ use super::accept::accept;
 use super::line_record::LineRecord;
 use super::refusals::Refusals;
 use super::{Door, DoorFault};
-use crate::line::{Buffered, Buffers, Connection, IoLine, Line};
+use crate::line::{Buffered, Connection, IoLine, Line, ReadBuffer};
 use bq_job::LineEnd;
 use std::io::Eprint;
-use std::net::TcpListener;
+use std::net::{TcpListener, TcpStream};
 use std::rt::Clock;
 
 /// A door at which connections come that a listener accepts. Many doors can share a listener: a connection
@@ -22,24 +22,24 @@ pub struct TcpDoor<'l, R> {
     refusals: Option<&'l Refusals>,
     // How many connections still come. None: they come without end.
     left: Option<u32>,
-    // What the next connection is read and written through. They go out with a connection, and come back with it.
-    buffers: Option<Buffers>,
+    // What the next connection is read through. It goes out with a connection, and comes back with it.
+    buffer: Option<ReadBuffer>,
     is_out: bool,
     is_at_end: bool,
     met_fault: bool,
     // For proofs alone.
     over: LineRecord,
-    ghost lent: { is_out ≡ false → IsSome buffers },
+    ghost lent: { is_out ≡ false → IsSome buffer },
 }
 
 impl<'l, R: Clock + Eprint> TcpDoor<'l, R> {
     /// A door at which so many connections of the listener come, or with None connections without end. They are
-    /// read and written through these buffers, one after another.
+    /// read through this buffer, one after another.
     pub fn new(
         rt: &'l R,
         listener: &'l TcpListener,
         sessions: Option<u32>,
-        buffers: Buffers,
+        buffer: ReadBuffer,
     ) -> TcpDoor<'l, R>
         ensures inside { ⟦<TcpDoor<'l, R> as Door>⟧.is_out result ≡ false }
         ensures more { ⟦<TcpDoor<'l, R> as Door>⟧.is_at_end result ≡ false }
@@ -53,7 +53,7 @@ impl<'l, R: Clock + Eprint> TcpDoor<'l, R> {
             listener,
             refusals: None,
             left: sessions,
-            buffers: Some(buffers),
+            buffer: Some(buffer),
             is_out: false,
             is_at_end: false,
             met_fault: false,
@@ -82,8 +82,8 @@ impl<'l, R: Clock + Eprint> TcpDoor<'l, R> {
         self.met_fault
     }
 
-    // A connection goes out, which is counted, and the buffers with it.
-    fn lend(&mut self) -> Buffers
+    // A connection goes out, which is counted, and the buffer with it.
+    fn lend(&mut self) -> ReadBuffer
         requires more { self.old.left ≡ Some 0 → ⊥ }
         requires inside { self.old.is_out ≡ false }
         ensures out { self.new.is_out ≡ true }
@@ -97,17 +97,17 @@ impl<'l, R: Clock + Eprint> TcpDoor<'l, R> {
         if let Some(left) = self.left {
             self.left = Some(left - 1);
         }
-        let Some(buffers) = self.buffers.take() else {
+        let Some(buffer) = self.buffer.take() else {
             unreachable!()
         };
-        buffers
+        buffer
     }
 }
 
 impl<'l, R: Clock + Eprint> Door for TcpDoor<'l, R> {
     ghost use Rattle.std.proofs.Common.{refl};
 
-    type Line = IoLine<Buffered<Connection>>;
+    type Line = IoLine<Buffered<Connection<TcpStream>>>;
 
     ghost is_out = { λ door. door.is_out };
 
@@ -121,10 +121,10 @@ impl<'l, R: Clock + Eprint> Door for TcpDoor<'l, R> {
 
     ghost same_self = { λ door. (refl, refl) };
 
-    fn open(&mut self) -> Result<Option<IoLine<Buffered<Connection>>>, DoorFault>
+    fn open(&mut self) -> Result<Option<IoLine<Buffered<Connection<TcpStream>>>>, DoorFault>
         requires inside { self.old.is_out ≡ false }
         requires more { self.old.is_at_end ≡ false }
-        ensures opened { IsOpened ⟦<IoLine<Buffered<Connection>> as Line>⟧.seen self.new.is_out self.new.is_at_end result }
+        ensures opened { IsOpened ⟦<IoLine<Buffered<Connection<TcpStream>>> as Line>⟧.seen self.new.is_out self.new.is_at_end result }
         ensures over { self.new.over ≡ self.old.over }
         ensures same { (first : _) → ⟦<TcpDoor<'l, R> as Door>⟧.same first self.old → ⟦<TcpDoor<'l, R> as Door>⟧.same first self.new }
         // A fault is kept for `met_fault`.
@@ -140,8 +140,8 @@ impl<'l, R: Clock + Eprint> Door for TcpDoor<'l, R> {
         }
         match accept(self.rt, self.listener, self.refusals) {
             Ok(stream) => {
-                let buffers = self.lend();
-                Ok(Some(IoLine::new(Buffered::new(stream, buffers))))
+                let buffer = self.lend();
+                Ok(Some(IoLine::new(Buffered::new(stream, buffer))))
             }
             Err(_) => {
                 self.is_at_end = true;
@@ -151,12 +151,12 @@ impl<'l, R: Clock + Eprint> Door for TcpDoor<'l, R> {
         }
     }
 
-    // What is held back is sent first. The connection is closed where its stream is dropped, and the buffers are kept
-    // for the next one.
-    fn shut(&mut self, mut line: IoLine<Buffered<Connection>>, end: LineEnd) {
-        line.settle();
+    // What the system still gathers is sent first: closing drops it where the client sent bytes that nobody read. The
+    // connection is closed where its stream is dropped, and the buffer is kept for the next one.
+    fn shut(&mut self, mut line: IoLine<Buffered<Connection<TcpStream>>>, end: LineEnd) {
+        line.expect_more(false);
         self.is_out = false;
         self.over.note(&line, end);
-        self.buffers = Some(line.into_stream().into_buffers());
+        self.buffer = Some(line.into_stream().into_buffer());
     }
 }

@@ -4,8 +4,8 @@ ghost use Rattle.std.specs.Io.KnownBytes.{Keeps, ReadConsumes, WriteAppends};
 ghost use Rattle.bq_line.specs.LineCalls.{after_flush, after_read, after_write};
 
 use super::byte_record::ByteRecord;
+use super::expect_more::ExpectMore;
 use super::read_now::ReadNow;
-use super::write_later::WriteLater;
 use super::{Line, is_nothing_yet, note_fault};
 use bq_job::LineFault;
 use std::io;
@@ -43,7 +43,7 @@ impl<S> IoLine<S> {
     }
 }
 
-impl<S: ReadNow + WriteLater> IoLine<S> {
+impl<S: ReadNow + ExpectMore> IoLine<S> {
     // Keeps what came of a read.
     fn note_read(&mut self, came: &io::Result<usize>, buf: &[u8])
         requires { ReadsAtMost came.now buf.now }
@@ -60,21 +60,11 @@ impl<S: ReadNow + WriteLater> IoLine<S> {
             }
         }
     }
-
-    // Keeps what came of a flush.
-    fn note_flush(&mut self, came: &io::Result<()>)
-        ensures seen { ⟦<IoLine<S> as Line>⟧.seen self.new ≡ after_flush came.now (⟦<IoLine<S> as Line>⟧.seen self.old) }
-        ensures stream { self.new.stream ≡ self.old.stream }
-    {
-        if came.is_err() {
-            note_fault(&mut self.fault, LineFault::Write);
-        }
-    }
 }
 
 // The clauses `stream` hold the line to its stream: where the stream tells the bytes that it has left and
 // that it holds, a line that answers other bytes than its stream, or makes no call, meets none of them.
-impl<S: ReadNow + WriteLater> Line for IoLine<S> {
+impl<S: ReadNow + ExpectMore> Line for IoLine<S> {
     ghost seen = { λ line. record { read = line.read; written = line.written; ended = line.ended; fault = line.fault } };
 
     fn read(&mut self, buf: &mut [u8]) -> io::Result<usize>
@@ -118,23 +108,20 @@ impl<S: ReadNow + WriteLater> Line for IoLine<S> {
         ensures stream { Keeps (S.contents self.old.stream) (S.contents self.new.stream) }
     {
         let result = self.stream.flush();
-        self.note_flush(&result);
+        if result.is_err() {
+            note_fault(&mut self.fault, LineFault::Write);
+        }
         result
     }
 
-    fn flush_later(&mut self) -> io::Result<()>
-        ensures seen { ⟦<IoLine<S> as Line>⟧.seen self.new ≡ after_flush result (⟦<IoLine<S> as Line>⟧.seen self.old) }
-        ensures stream { Keeps (S.contents self.old.stream) (S.contents self.new.stream) }
-    {
-        let result = self.stream.flush_later();
-        self.note_flush(&result);
-        result
+    fn has_unread(&self) -> bool {
+        self.stream.has_unread()
     }
 
-    fn settle(&mut self)
+    fn expect_more(&mut self, more: bool)
         ensures seen { ⟦<IoLine<S> as Line>⟧.seen self.new ≡ ⟦<IoLine<S> as Line>⟧.seen self.old }
         ensures stream { Keeps (S.contents self.old.stream) (S.contents self.new.stream) }
     {
-        self.stream.settle();
+        self.stream.expect_more(more);
     }
 }

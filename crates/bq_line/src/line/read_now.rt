@@ -1,4 +1,5 @@
 //! Reads that don't wait.
+ghost use Rattle.std.specs.Prelude.{◌≡◌, [], Some, true};
 ghost use Rattle.std.specs.Io.{ReadsAtMost};
 ghost use Rattle.std.specs.Io.KnownBytes.{ReadConsumes};
 
@@ -14,5 +15,13 @@ pub trait ReadNow: Read {
         ensures bytes { ReadConsumes (Self.remaining self.old) (Self.remaining self.new) result buf.new }
     {
         self.read(buf)
+    }
+
+    /// Whether it holds bytes, which the next read gives without asking anybody. One that holds none by itself
+    /// needs no call of its own here.
+    fn has_unread(&self) -> bool
+        ensures left { result ≡ true → Self.remaining self.now ≡ Some [] → ⊥ }
+    {
+        false
     }
 }

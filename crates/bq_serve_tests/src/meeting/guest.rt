@@ -1,7 +1,7 @@
 //! A client that waits for others.
 
 use super::awaited::Meeting;
-use bq_serve::line::{ReadNow, WriteLater};
+use bq_serve::line::{ExpectMore, ReadNow};
 use std::alloc::Global;
 use std::io;
 use std::io::{ErrorKind, Read, Write};
@@ -77,4 +77,4 @@ impl<'m> Write for Guest<'m> {
     }
 }
 
-impl<'m> WriteLater for Guest<'m> {}
+impl<'m> ExpectMore for Guest<'m> {}

@@ -18,11 +18,11 @@ returns-in-Read-clause-carried g c = comes_by g.K.Link.went _ _ _ _ _ _ _ _ acti
 
 pub returns-then-write_answer-clause-carried : goal.returns-then-write_answer-clause-carried
 returns-then-write_answer-clause-carried g c =
-    comes_by g.K.Link.went _ _ _ _ _ _ _ _ (actions.Write c.in-Write.answer) c.in-Write.is [] [] refl (refl, refl, inl (rw c.if-write_answer.true at c.write_answer.ensures, c.on_in_place-then-write_answer.ensures))
+    comes_by g.K.Link.went _ _ _ _ _ _ _ _ (actions.Write c.in-Write.answer) c.in-Write.is [] [] refl (refl, refl, inl (rw (c.if-write_answer.true, c.expect_answers.ensures) at c.write_answer.ensures, c.on_in_place-then-write_answer.ensures))
 
 pub returns-else-write_answer-clause-carried : goal.returns-else-write_answer-clause-carried
 returns-else-write_answer-clause-carried g c =
-    comes_by g.K.Link.went _ _ _ _ _ _ _ _ (actions.Write c.in-Write.answer) c.in-Write.is [] [] refl (refl, refl, inr (rw c.if-write_answer.false at c.write_answer.ensures, c.on_in_place-else-write_answer.ensures))
+    comes_by g.K.Link.went _ _ _ _ _ _ _ _ (actions.Write c.in-Write.answer) c.in-Write.is [] [] refl (refl, refl, inr (rw (c.if-write_answer.false, c.expect_answers.ensures) at c.write_answer.ensures, c.on_in_place-else-write_answer.ensures))
 
 pub returns-then-mail_in_place-clause-carried : goal.returns-then-mail_in_place-clause-carried
 returns-then-mail_in_place-clause-carried g c =
@@ -32,7 +32,7 @@ returns-then-mail_in_place-clause-carried g c =
 pub returns-else-mail_in_place-clause-carried : goal.returns-else-mail_in_place-clause-carried
 returns-else-mail_in_place-clause-carried g c =
     let none = rw c.if-mail_in_place.false at c.mail_in_place.ensures.went in
-    comes_by g.K.Link.went _ _ _ _ _ _ _ _ actions.PollMail c.in-PollMail.is [] [] none.1 (c.settle.ensures.seen, refl, inl (refl, c.on_in_place-else-mail_in_place.ensures))
+    comes_by g.K.Link.went _ _ _ _ _ _ _ _ actions.PollMail c.in-PollMail.is [] [] none.1 (c.expect_more.ensures.seen, refl, inl (refl, c.on_in_place-else-mail_in_place.ensures))
 
 pub returns-in-LineOver-clause-carried : goal.returns-in-LineOver-clause-carried
 returns-in-LineOver-clause-carried g c =

@@ -1,0 +1,206 @@
+"""Runs of bqd whose clients send many commands together: each answer is whole, in its order, and there at once."""
+import socket
+import struct
+import time
+
+from programs import Ended, same
+from servers import Server, awaits
+
+# How soon the last answer of a batch has to come, in seconds. A system that waits for an acknowledgement of what it
+# sent before holds it back for 0.04.
+SOON = 0.025
+
+# How often it is tried, since a busy machine can be late without the server, and how often it has to be soon.
+TRIES = 40
+SOON_TRIES = 4
+WARM_UP = 10
+
+LARGE = 60000
+SMALL = b"USING default\r\n"
+
+
+def body_of(size):
+    """A body in which no byte looks like its neighbours."""
+    return bytes(at * 7 % 251 for at in range(size))
+
+
+def with_job(server, size):
+    """A client, and the answer to a peek at job 1, which has so many bytes."""
+    client = server.client()
+    client.asks(b"put 0 0 9 %d\r\n" % size + body_of(size) + b"\r\n", b"INSERTED 1\r\n")
+    return client, b"FOUND 1 %d\r\n" % size + body_of(size) + b"\r\n"
+
+
+def resets(client):
+    """Cuts the connection off, and what lies in it is dropped."""
+    client.stream.setsockopt(socket.SOL_SOCKET, socket.SO_LINGER, struct.pack("ii", 1, 0))
+    client.stream.close()
+
+
+def is_soon(tried):
+    """That something often comes soon. `tried` does it once and says how long it took."""
+    # The system acknowledges at once what comes first, whatever the server does.
+    for _ in range(WARM_UP):
+        tried()
+    took = []
+    for _ in range(TRIES):
+        took.append(tried())
+        if sum(it <= SOON for it in took) == SOON_TRIES:
+            return
+    raise AssertionError(f"it took {took}")
+
+
+def value(client, name):
+    """A number of `stats`."""
+    client.sends(b"stats\r\n")
+    with client.stream.makefile("rb", buffering=0) as lines:
+        head = lines.readline().split()
+        same(head[0], b"OK")
+        text = b""
+        while len(text) < int(head[1]) + 2:
+            text += lines.read(int(head[1]) + 2 - len(text))
+    return next(int(line.split(b": ")[1]) for line in text.splitlines() if line.startswith(name + b": "))
+
+
+def run_thousand_at_once(bqd):
+    """A thousand commands in one send are answered whole and in their order, by 16 KB, 64 KB and 20 MB, also where the
+    client stops reading for three seconds."""
+    for size, share, rest in [(0, 1000, 0), (47, 1, 0), (LARGE, 3, 0), (LARGE, 3, 3)]:
+        with Server(bqd, "--seats", "1") as server:
+            client, found = with_job(server, size)
+            peeked = [at % share == 0 for at in range(1000)]
+            client.sends(b"".join(b"peek 1\r\n" if it else b"list-tube-used\r\n" for it in peeked))
+            time.sleep(rest)
+            client.hears(b"".join(found if it else SMALL for it in peeked))
+            client.hears_nothing(0.05)
+
+
+def run_batch_byte_by_byte(bqd):
+    """A batch that comes a byte at a time is answered as one that comes at once."""
+    with Server(bqd, "--seats", "1") as server:
+        client, found = with_job(server, 3)
+        client.stream.setsockopt(socket.IPPROTO_TCP, socket.TCP_NODELAY, 1)
+        for byte in b"peek 1\r\nput 0 0 9 2\r\nab\r\nlist-tube-used\r\n" * 5 + b"quit\r\n":
+            client.sends(bytes([byte]))
+        client.hears(b"".join(found + b"INSERTED %d\r\n" % number + SMALL for number in range(2, 7)))
+        client.hears_end()
+
+
+def run_batch_with_a_wait(bqd):
+    """Puts with a waiting reserve behind them are answered before it is, also with more commands behind it than a read
+    takes at once; what it waits for comes as soon as it is put, and then the rest."""
+    behind = 600
+    with Server(bqd, "--seats", "2") as server:
+        client, other = server.client(), server.client()
+        client.asks(b"use far\r\n", b"USING far\r\n")
+        numbers = iter(range(1, 10000))
+
+        def answered():
+            ids = [next(numbers) for _ in range(20)]
+            begun = time.monotonic()
+            client.sends(b"put 0 0 9 1\r\nx\r\n" * 20 + b"reserve\r\n" + b"list-tube-used\r\n" * behind)
+            client.hears(b"".join(b"INSERTED %d\r\n" % it for it in ids))
+            took = time.monotonic() - begun
+            client.hears_nothing(0.01)
+            number = next(numbers)
+            other.sends(b"put 0 0 9 1\r\ny\r\n")
+            client.hears(b"RESERVED %d 1\r\ny\r\n" % number + b"USING far\r\n" * behind)
+            other.hears(b"INSERTED %d\r\n" % number)
+            return took
+
+        is_soon(answered)
+
+
+def run_hand_out_behind_a_batch(bqd):
+    """A reserve that a batch ends in, and that waits, is answered at once when its job comes, and so is one whose job is
+    there."""
+    with Server(bqd, "--seats", "2") as server:
+        client, other = server.client(), server.client()
+        numbers = iter(range(1, 10000))
+
+        def waited():
+            client.asks(b"list-tube-used\r\n" * 20 + b"reserve\r\n", SMALL * 20)
+            number = next(numbers)
+            begun = time.monotonic()
+            other.sends(b"put 0 0 9 1\r\ny\r\n")
+            client.hears(b"RESERVED %d 1\r\ny\r\n" % number)
+            other.hears(b"INSERTED %d\r\n" % number)
+            return time.monotonic() - begun
+
+        def ready():
+            number = next(numbers)
+            begun = time.monotonic()
+            client.sends(b"list-tube-used\r\n" * 20 + b"put 0 0 9 1\r\ny\r\nreserve\r\n")
+            client.hears(SMALL * 20 + b"INSERTED %d\r\nRESERVED %d 1\r\ny\r\n" % (number, number))
+            return time.monotonic() - begun
+
+        is_soon(waited)
+        is_soon(ready)
+
+
+def run_last_answer_at_once(bqd):
+    """The last answer of a batch comes at once, and so does that of a lone command and of one in two packets."""
+    with Server(bqd, "--seats", "1") as server:
+        client, found = with_job(server, 500)
+
+        def answered(*texts, count):
+            def once():
+                begun = time.monotonic()
+                for text in texts:
+                    client.sends(text)
+                client.hears((SMALL + found) * count)
+                return time.monotonic() - begun
+            return once
+
+        both = b"list-tube-used\r\npeek 1\r\n"
+        for count in [1, 2, 25]:
+            is_soon(answered(both * count, count=count))
+        is_soon(answered(both * 25 + b"list-tube", b"-used\r\npeek 1\r\n", count=26))
+
+
+def run_batch_then_half_a_put(bqd):
+    """What stands before half a put is answered at once, and the put once its rest has come."""
+    with Server(bqd, "--seats", "1") as server:
+        client = server.client()
+        numbers = iter(range(1, 10000))
+
+        def answered():
+            begun = time.monotonic()
+            client.asks(b"list-tube-used\r\n" * 50 + b"put 0 0 9 5\r\nab", SMALL * 50)
+            took = time.monotonic() - begun
+            client.asks(b"cde\r\n", b"INSERTED %d\r\n" % next(numbers))
+            return took
+
+        is_soon(answered)
+
+
+def run_batch_then_the_end(bqd):
+    """A batch with a half-close behind it, and one with a quit and more that nobody reads, are answered whole, and then
+    the server closes."""
+    with Server(bqd, "--seats", "1", "--sessions", "3") as server:
+        client, found = with_job(server, LARGE)
+        client.sends(b"peek 1\r\nlist-tube-used\r\n" * 50)
+        client.stream.shutdown(socket.SHUT_WR)
+        client.hears((found + SMALL) * 50)
+        client.hears_end()
+        client.close()
+        for behind in [b"", b"list-tube-used\r\n" * 20]:
+            client = server.client()
+            client.asks(b"list-tube-used\r\n" * 50 + b"quit\r\n" + behind, SMALL * 50)
+            client.hears_end()
+        same(server.end(), Ended(0, b"", b""))
+
+
+def run_reset_while_answers_are_written(bqd):
+    """Once a write of an answer has failed, no later command of the line is carried out."""
+    with Server(bqd, "--seats", "2") as server:
+        client, _ = with_job(server, LARGE)
+        other = server.client()
+        client.sends(b"put 0 0 9 1\r\nz\r\npeek 1\r\n" * 400)
+        # It stands at a write once no more is put, since nobody reads.
+        puts = [0]
+        awaits(lambda: puts.append(value(other, b"total-jobs")) or len(puts) > 50 and puts[-50] == puts[-1] > 1)
+        same(puts[-1] < 400, True)
+        resets(client)
+        awaits(lambda: value(other, b"current-connections") == 1)
+        same(value(other, b"total-jobs"), puts[-1])
