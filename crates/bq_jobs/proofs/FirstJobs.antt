@@ -1,8 +1,6 @@
 -- The first job of each kind is at the first place of a group.
 use Rattle.std.proofs.Common.{◌≡◌, ℕ, ◌^◌, List}
 use Rattle.std.specs.Prelude.{option_map}
-use Rattle.std.specs.Cmp.{nat_cmp_total}
-use Rattle.std.specs.Ordering.{nat_cmp}
 use Rattle.bq_index.specs.Order.{InOrder}
 use Rattle.bq_job.specs.declared.job.Job.{Job}
 use Rattle.bq_job.specs.machine.Changes.{first_of, is_held_by}
@@ -11,33 +9,34 @@ use Rattle.bq_job.specs.machine.JobCommands.{is_buried_in, is_delayed_in}
 use Rattle.bq_job.specs.machine.JobStates.{burial_of, due_of, is_buried_before, is_delayed, is_due_before, is_reserved}
 use Rattle.bq_job.specs.beside.Lawful.{AreIdsWithin}
 use Rattle.bq_job.specs.machine.TubeCommands.{is_ready_in}
-use Rattle.bq_jobs.specs.contracts.place.TubeListOrd.TheImpl.Laws as tube_list_laws
+use Rattle.bq_jobs.specs.contracts.place.GroupOrd.TheImpl.Laws as group_laws
 use Rattle.bq_jobs.specs.contracts.place.TimerOrd.TheImpl.Laws as timer_laws
 use Rattle.bq_jobs.specs.declared.place.JobList.TheVariants as lists
 use Rattle.bq_jobs.specs.declared.place.Timer.{Timer}
 use Rattle.bq_jobs.specs.declared.place.Timer.TheVariants as timers
-use Rattle.bq_jobs.specs.declared.place.TubeList.{TubeList}
+use Rattle.bq_jobs.specs.declared.place.Group.{Group}
+use Rattle.bq_jobs.specs.declared.place.Group.TheVariants as groups
 use Rattle.bq_jobs.specs.Inside.{IsOrderOf, Order}
 use Rattle.bq_jobs.specs.Leases.{deadline_of, is_lease_before}
 use Rattle.bq_jobs.specs.Kept.{ranked}
 use Rattle.bq_jobs.specs.PlaceOrder.{first_in_group, first_rank, place_cmp}
-use Rattle.bq_jobs.specs.Places.{lease_place, list_of, timer_place, tube_place}
+use Rattle.bq_jobs.specs.Places.{list_of, timer_place, group_place}
 use Rattle.bq_jobs.proofs.FirstOfGroup.{first_is, rank_is}
-use Rattle.bq_jobs.proofs.Firsts.{list_cmp, timer_cmp, tube_own, timer_own, lease_own, ready_grouped, delayed_grouped, buried_grouped, due_grouped, lease_grouped, held_grouped, ready_numbered, delayed_numbered, buried_numbered, due_numbered, lease_numbered, held_numbered}
+use Rattle.bq_jobs.proofs.Firsts.{group_cmp, timer_cmp, group_own, timer_own, ready_grouped, delayed_grouped, buried_grouped, due_grouped, lease_grouped, held_grouped, ready_numbered, delayed_numbered, buried_numbered, due_numbered, lease_numbered, held_numbered}
 
 module _ (jobs : List Job) (room : ℕ) (ids : AreIdsWithin 0 jobs (2 ^ 64)) where
-  module _ (order : Order TubeList) (h : IsOrderOf list_cmp tube_place jobs room order) (s : InOrder (place_cmp list_cmp) order.entries) (tube : List ℕ) where
-    pub ready_is : first_in_group list_cmp (list_of tube lists.Ready) order.entries ≡ option_map (λ j. j.id) (first_of (is_ready_in tube) is_job_before jobs)
-    ready_is = first_is tube_list_laws.total-law (list_of tube lists.Ready) tube_place tube_own (is_ready_in tube) (λ j. j.pri) (λ j. ready_grouped tube j.state j) (λ j. ready_numbered tube j.state j) 0 (2 ^ 64) jobs room order h ids s
+  module _ (order : Order Group) (h : IsOrderOf group_cmp group_place jobs room order) (s : InOrder (place_cmp group_cmp) order.entries) (tube : List ℕ) where
+    pub ready_is : first_in_group group_cmp (list_of tube lists.Ready) order.entries ≡ option_map (λ j. j.id) (first_of (is_ready_in tube) is_job_before jobs)
+    ready_is = first_is group_laws.total-law (list_of tube lists.Ready) group_place group_own (is_ready_in tube) (λ j. j.pri) (λ j. ready_grouped tube j.state j) (λ j. ready_numbered tube j.state j) 0 (2 ^ 64) jobs room order h ids s
 
-    pub ready_rank_is : first_rank list_cmp (list_of tube lists.Ready) order.entries ≡ option_map (ranked (λ j. j.pri)) (first_of (is_ready_in tube) is_job_before jobs)
-    ready_rank_is = rank_is tube_list_laws.total-law (list_of tube lists.Ready) tube_place tube_own (is_ready_in tube) (λ j. j.pri) (λ j. ready_grouped tube j.state j) (λ j. ready_numbered tube j.state j) 0 (2 ^ 64) jobs room order h ids s
+    pub ready_rank_is : first_rank group_cmp (list_of tube lists.Ready) order.entries ≡ option_map (ranked (λ j. j.pri)) (first_of (is_ready_in tube) is_job_before jobs)
+    ready_rank_is = rank_is group_laws.total-law (list_of tube lists.Ready) group_place group_own (is_ready_in tube) (λ j. j.pri) (λ j. ready_grouped tube j.state j) (λ j. ready_numbered tube j.state j) 0 (2 ^ 64) jobs room order h ids s
 
-    pub delayed_is : first_in_group list_cmp (list_of tube lists.Delayed) order.entries ≡ option_map (λ j. j.id) (first_of (is_delayed_in tube) is_due_before jobs)
-    delayed_is = first_is tube_list_laws.total-law (list_of tube lists.Delayed) tube_place tube_own (is_delayed_in tube) (λ j. due_of j.state) (λ j. delayed_grouped tube j.state j) (λ j. delayed_numbered tube j.state j) 0 (2 ^ 64) jobs room order h ids s
+    pub delayed_is : first_in_group group_cmp (list_of tube lists.Delayed) order.entries ≡ option_map (λ j. j.id) (first_of (is_delayed_in tube) is_due_before jobs)
+    delayed_is = first_is group_laws.total-law (list_of tube lists.Delayed) group_place group_own (is_delayed_in tube) (λ j. due_of j.state) (λ j. delayed_grouped tube j.state j) (λ j. delayed_numbered tube j.state j) 0 (2 ^ 64) jobs room order h ids s
 
-    pub buried_is : first_in_group list_cmp (list_of tube lists.Buried) order.entries ≡ option_map (λ j. j.id) (first_of (is_buried_in tube) is_buried_before jobs)
-    buried_is = first_is tube_list_laws.total-law (list_of tube lists.Buried) tube_place tube_own (is_buried_in tube) (λ j. burial_of j.state) (λ j. buried_grouped tube j.state j) (λ j. buried_numbered tube j.state j) 0 (2 ^ 64) jobs room order h ids s
+    pub buried_is : first_in_group group_cmp (list_of tube lists.Buried) order.entries ≡ option_map (λ j. j.id) (first_of (is_buried_in tube) is_buried_before jobs)
+    buried_is = first_is group_laws.total-law (list_of tube lists.Buried) group_place group_own (is_buried_in tube) (λ j. burial_of j.state) (λ j. buried_grouped tube j.state j) (λ j. buried_numbered tube j.state j) 0 (2 ^ 64) jobs room order h ids s
 
   module _ (order : Order Timer) (h : IsOrderOf timer_cmp timer_place jobs room order) (s : InOrder (place_cmp timer_cmp) order.entries) where
     pub due_is : first_in_group timer_cmp timers.Due order.entries ≡ option_map (λ j. j.id) (first_of (λ j. is_delayed j.state) is_due_before jobs)
@@ -52,9 +51,9 @@ module _ (jobs : List Job) (room : ℕ) (ids : AreIdsWithin 0 jobs (2 ^ 64)) whe
     pub lease_rank_is : first_rank timer_cmp timers.Lease order.entries ≡ option_map (ranked (λ j. deadline_of j.state)) (first_of (λ j. is_reserved j.state) is_lease_before jobs)
     lease_rank_is = rank_is timer_laws.total-law timers.Lease timer_place timer_own (λ j. is_reserved j.state) (λ j. deadline_of j.state) (λ j. lease_grouped j.state j) (λ j. lease_numbered j.state j) 0 (2 ^ 64) jobs room order h ids s
 
-  module _ (order : Order ℕ) (h : IsOrderOf nat_cmp lease_place jobs room order) (s : InOrder (place_cmp nat_cmp) order.entries) (seat : ℕ) where
-    pub held_is : first_in_group nat_cmp seat order.entries ≡ option_map (λ j. j.id) (first_of (is_held_by seat) is_lease_before jobs)
-    held_is = first_is nat_cmp_total seat lease_place lease_own (is_held_by seat) (λ j. deadline_of j.state) (λ j. held_grouped seat j.state j) (λ j. held_numbered seat j.state j) 0 (2 ^ 64) jobs room order h ids s
+  module _ (order : Order Group) (h : IsOrderOf group_cmp group_place jobs room order) (s : InOrder (place_cmp group_cmp) order.entries) (seat : ℕ) where
+    pub held_is : first_in_group group_cmp (groups.Held seat) order.entries ≡ option_map (λ j. j.id) (first_of (is_held_by seat) is_lease_before jobs)
+    held_is = first_is group_laws.total-law (groups.Held seat) group_place group_own (is_held_by seat) (λ j. deadline_of j.state) (λ j. held_grouped seat j.state j) (λ j. held_numbered seat j.state j) 0 (2 ^ 64) jobs room order h ids s
 
-    pub held_rank_is : first_rank nat_cmp seat order.entries ≡ option_map (ranked (λ j. deadline_of j.state)) (first_of (is_held_by seat) is_lease_before jobs)
-    held_rank_is = rank_is nat_cmp_total seat lease_place lease_own (is_held_by seat) (λ j. deadline_of j.state) (λ j. held_grouped seat j.state j) (λ j. held_numbered seat j.state j) 0 (2 ^ 64) jobs room order h ids s
+    pub held_rank_is : first_rank group_cmp (groups.Held seat) order.entries ≡ option_map (ranked (λ j. deadline_of j.state)) (first_of (is_held_by seat) is_lease_before jobs)
+    held_rank_is = rank_is group_laws.total-law (groups.Held seat) group_place group_own (is_held_by seat) (λ j. deadline_of j.state) (λ j. held_grouped seat j.state j) (λ j. held_numbered seat j.state j) 0 (2 ^ 64) jobs room order h ids s

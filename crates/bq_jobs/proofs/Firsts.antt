@@ -14,21 +14,22 @@ use Rattle.bq_job.specs.declared.job.JobState.TheVariants as states
 use Rattle.bq_job.specs.machine.Changes.{is_holder, is_ready_state}
 use Rattle.bq_job.specs.machine.JobStates.{burial_of, due_of, is_buried, is_delayed, is_reserved}
 use Rattle.bq_job.specs.reading.TubeName.{is_same_name}
-use Rattle.bq_jobs.specs.contracts.place.TubeListOrd.TheImpl as tube_list_ord
+use Rattle.bq_jobs.specs.contracts.place.GroupOrd.TheImpl as group_ord
 use Rattle.bq_jobs.specs.contracts.place.TimerOrd.TheImpl as timer_ord
 use Rattle.bq_jobs.specs.declared.place.Place.{Place}
-use Rattle.bq_jobs.specs.declared.place.TubeList.{TubeList}
+use Rattle.bq_jobs.specs.declared.place.Group.{Group}
+use Rattle.bq_jobs.specs.declared.place.Group.TheVariants as groups
 use Rattle.bq_jobs.specs.declared.place.JobList.TheVariants as lists
 use Rattle.bq_jobs.specs.declared.place.Timer.{Timer}
 use Rattle.bq_jobs.specs.declared.place.Timer.TheVariants as timers
 use Rattle.bq_jobs.specs.Leases.{deadline_of}
 use Rattle.bq_jobs.specs.Names.{name_cmp}
-use Rattle.bq_jobs.specs.Places.{in_leases, in_timers, in_tube, lease_place, list_of, timer_place, tube_place}
+use Rattle.bq_jobs.specs.Places.{in_timers, in_groups, list_of, timer_place, group_place}
 use Rattle.bq_jobs.proofs.ById.{is_eq_nat}
 use Rattle.bq_jobs.proofs.FirstOfGroup.{in_group}
 
-abbrev pub list_cmp : TubeList → TubeList → Ordering
-list_cmp = tube_list_ord.ghosts.cmp
+abbrev pub group_cmp : Group → Group → Ordering
+group_cmp = group_ord.ghosts.cmp
 
 abbrev pub timer_cmp : Timer → Timer → Ordering
 timer_cmp = timer_ord.ghosts.cmp
@@ -62,11 +63,11 @@ name_ties a b =
     ]
 
 -- a place has the id of its job
-own_tube : (s : JobState) (j : Job) → IfSome (in_tube s j) (λ p. p.id ≡ j.id)
-own_tube states.Ready j = refl
-own_tube (states.Delayed due) j = refl
-own_tube (states.Reserved seat deadline) j = tt
-own_tube (states.Buried number) j = refl
+own_group : (s : JobState) (j : Job) → IfSome (in_groups s j) (λ p. p.id ≡ j.id)
+own_group states.Ready j = refl
+own_group (states.Delayed due) j = refl
+own_group (states.Reserved seat deadline) j = refl
+own_group (states.Buried number) j = refl
 
 own_timer : (s : JobState) (j : Job) → IfSome (in_timers s j) (λ p. p.id ≡ j.id)
 own_timer states.Ready j = tt
@@ -74,35 +75,26 @@ own_timer (states.Delayed due) j = refl
 own_timer (states.Reserved seat deadline) j = refl
 own_timer (states.Buried number) j = tt
 
-own_lease : (s : JobState) (j : Job) → IfSome (in_leases s j) (λ p. p.id ≡ j.id)
-own_lease states.Ready j = tt
-own_lease (states.Delayed due) j = tt
-own_lease (states.Reserved seat deadline) j = refl
-own_lease (states.Buried number) j = tt
-
-pub tube_own : (j : Job) → IfSome (tube_place j) (λ p. p.id ≡ j.id)
-tube_own j = own_tube j.state j
+pub group_own : (j : Job) → IfSome (group_place j) (λ p. p.id ≡ j.id)
+group_own j = own_group j.state j
 
 pub timer_own : (j : Job) → IfSome (timer_place j) (λ p. p.id ≡ j.id)
 timer_own j = own_timer j.state j
 
-pub lease_own : (j : Job) → IfSome (lease_place j) (λ p. p.id ≡ j.id)
-lease_own j = own_lease j.state j
-
 -- what passes is of the group
-pub ready_grouped : (tube : List ℕ) (s : JobState) (j : Job) → (is_ready_state s && is_same_name tube j.tube) ≡ in_group list_cmp (list_of tube lists.Ready) (in_tube s j)
+pub ready_grouped : (tube : List ℕ) (s : JobState) (j : Job) → (is_ready_state s && is_same_name tube j.tube) ≡ in_group group_cmp (list_of tube lists.Ready) (in_groups s j)
 ready_grouped tube states.Ready j = name_ties tube j.tube
 ready_grouped tube (states.Delayed due) j = refl
 ready_grouped tube (states.Reserved seat deadline) j = refl
 ready_grouped tube (states.Buried number) j = refl
 
-pub delayed_grouped : (tube : List ℕ) (s : JobState) (j : Job) → (is_delayed s && is_same_name tube j.tube) ≡ in_group list_cmp (list_of tube lists.Delayed) (in_tube s j)
+pub delayed_grouped : (tube : List ℕ) (s : JobState) (j : Job) → (is_delayed s && is_same_name tube j.tube) ≡ in_group group_cmp (list_of tube lists.Delayed) (in_groups s j)
 delayed_grouped tube states.Ready j = refl
 delayed_grouped tube (states.Delayed due) j = name_ties tube j.tube
 delayed_grouped tube (states.Reserved seat deadline) j = refl
 delayed_grouped tube (states.Buried number) j = refl
 
-pub buried_grouped : (tube : List ℕ) (s : JobState) (j : Job) → (is_buried s && is_same_name tube j.tube) ≡ in_group list_cmp (list_of tube lists.Buried) (in_tube s j)
+pub buried_grouped : (tube : List ℕ) (s : JobState) (j : Job) → (is_buried s && is_same_name tube j.tube) ≡ in_group group_cmp (list_of tube lists.Buried) (in_groups s j)
 buried_grouped tube states.Ready j = refl
 buried_grouped tube (states.Delayed due) j = refl
 buried_grouped tube (states.Reserved seat deadline) j = refl
@@ -120,7 +112,7 @@ lease_grouped (states.Delayed due) j = refl
 lease_grouped (states.Reserved seat deadline) j = refl
 lease_grouped (states.Buried number) j = refl
 
-pub held_grouped : (seat : ℕ) (s : JobState) (j : Job) → is_holder seat s ≡ in_group nat_cmp seat (in_leases s j)
+pub held_grouped : (seat : ℕ) (s : JobState) (j : Job) → is_holder seat s ≡ in_group group_cmp (groups.Held seat) (in_groups s j)
 held_grouped seat states.Ready j = refl
 held_grouped seat (states.Delayed due) j = refl
 held_grouped seat (states.Reserved holder deadline) j = sym (is_eq_nat seat holder)
@@ -131,21 +123,21 @@ at_of : {G : Type 0} → Option (Place G) → ℕ
 at_of None = 0
 at_of (Some p) = p.at
 
-pub ready_numbered : (tube : List ℕ) (s : JobState) (j : Job) (p : Place TubeList) → in_tube s j ≡ Some p → (is_ready_state s && is_same_name tube j.tube) ≡ true → p.at ≡ j.pri
+pub ready_numbered : (tube : List ℕ) (s : JobState) (j : Job) (p : Place Group) → in_groups s j ≡ Some p → (is_ready_state s && is_same_name tube j.tube) ≡ true → p.at ≡ j.pri
 unfolding at_of
 ready_numbered tube states.Ready j p e h = sym (ap at_of e)
 ready_numbered tube (states.Delayed due) j p e h = absurd cc
 ready_numbered tube (states.Reserved seat deadline) j p e h = absurd cc
 ready_numbered tube (states.Buried number) j p e h = absurd cc
 
-pub delayed_numbered : (tube : List ℕ) (s : JobState) (j : Job) (p : Place TubeList) → in_tube s j ≡ Some p → (is_delayed s && is_same_name tube j.tube) ≡ true → p.at ≡ due_of s
+pub delayed_numbered : (tube : List ℕ) (s : JobState) (j : Job) (p : Place Group) → in_groups s j ≡ Some p → (is_delayed s && is_same_name tube j.tube) ≡ true → p.at ≡ due_of s
 unfolding at_of
 delayed_numbered tube states.Ready j p e h = absurd cc
 delayed_numbered tube (states.Delayed due) j p e h = sym (ap at_of e)
 delayed_numbered tube (states.Reserved seat deadline) j p e h = absurd cc
 delayed_numbered tube (states.Buried number) j p e h = absurd cc
 
-pub buried_numbered : (tube : List ℕ) (s : JobState) (j : Job) (p : Place TubeList) → in_tube s j ≡ Some p → (is_buried s && is_same_name tube j.tube) ≡ true → p.at ≡ burial_of s
+pub buried_numbered : (tube : List ℕ) (s : JobState) (j : Job) (p : Place Group) → in_groups s j ≡ Some p → (is_buried s && is_same_name tube j.tube) ≡ true → p.at ≡ burial_of s
 unfolding at_of
 buried_numbered tube states.Ready j p e h = absurd cc
 buried_numbered tube (states.Delayed due) j p e h = absurd cc
@@ -166,7 +158,7 @@ lease_numbered (states.Delayed due) j p e h = absurd cc
 lease_numbered (states.Reserved seat deadline) j p e h = sym (ap at_of e)
 lease_numbered (states.Buried number) j p e h = absurd cc
 
-pub held_numbered : (seat : ℕ) (s : JobState) (j : Job) (p : Place ℕ) → in_leases s j ≡ Some p → is_holder seat s ≡ true → p.at ≡ deadline_of s
+pub held_numbered : (seat : ℕ) (s : JobState) (j : Job) (p : Place Group) → in_groups s j ≡ Some p → is_holder seat s ≡ true → p.at ≡ deadline_of s
 unfolding at_of
 held_numbered seat states.Ready j p e h = absurd cc
 held_numbered seat (states.Delayed due) j p e h = absurd cc

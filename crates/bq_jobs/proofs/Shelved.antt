@@ -1,7 +1,6 @@
 -- What additions, removals and growths leave of what is kept.
 use Rattle.std.proofs.Common.{◌≡◌, ℕ, suc, ◌+◌, ◌<◌, ◌≤◌, ◌^◌, ◌*◌, List, [], ◌∷◌, Some, None, map, length, cond, arith, refl, sym, ap, ◌∙◌, subst, inl, inr}
 use Rattle.std.specs.Prelude.{is_some, ◌==◌}
-use Rattle.std.specs.Cmp.{nat_cmp_total}
 use Rattle.std.specs.Ordering.{nat_cmp}
 use Rattle.std.specs.Map.{lookup, remove_entry, set_value}
 use Rattle.std.specs.BTreeMap.{is_at, insert_entry}
@@ -12,30 +11,29 @@ use Rattle.bq_job.specs.declared.job.Job.{Job}
 use Rattle.bq_job.specs.machine.Changes.{job_with}
 use Rattle.bq_job.specs.beside.Lawful.{AreIdsWithin}
 use Rattle.bq_job.proofs.KeptLemmas.{ids_of_map}
-use Rattle.bq_jobs.specs.contracts.place.TubeListOrd.TheImpl.Laws as tube_list_laws
+use Rattle.bq_jobs.specs.contracts.place.GroupOrd.TheImpl.Laws as group_laws
 use Rattle.bq_jobs.specs.contracts.place.TimerOrd.TheImpl.Laws as timer_laws
 use Rattle.bq_jobs.specs.declared.jobs.Jobs.TheInside.{Inside as Parts}
 use Rattle.bq_jobs.specs.Changed.{KeepsId, with_changed}
 use Rattle.bq_jobs.specs.Inside.{ById, IsOrderOf, IsShelved, jobs_of, with_id}
 use Rattle.bq_jobs.specs.Kept.{search_bound, with_added, without}
 use Rattle.bq_jobs.specs.PlaceOrder.{place_cmp, with_place, without_place}
-use Rattle.bq_jobs.specs.Places.{lease_place, timer_place, tube_place}
+use Rattle.bq_jobs.specs.Places.{timer_place, group_place}
 use Rattle.bq_jobs.proofs.ById.{insert_by_id, lookup_by_id, remove_by_id, same_jobs, set_by_id}
 use Rattle.bq_jobs.proofs.Changes.{added_within, changed, found_id, not_there, without_none, without_within}
 use Rattle.bq_jobs.proofs.Counting.{search_is_bounded}
-use Rattle.bq_jobs.proofs.Firsts.{lease_own, list_cmp, timer_cmp, timer_own, tube_own}
+use Rattle.bq_jobs.proofs.Firsts.{group_cmp, timer_cmp, timer_own, group_own}
 use Rattle.bq_jobs.proofs.Orders.{order_added, order_moved, order_removed, order_search}
 
 abbrev pub AreShelved : Parts → Type 0
-AreShelved s = IsShelved list_cmp timer_cmp s.by_id s.by_tube s.timers s.leases
+AreShelved s = IsShelved group_cmp timer_cmp s.by_id s.groups s.timers
 
 -- the same, for the jobs of a list
 record HoldJobs (s : Parts) (jobs : List Job) : Type 0 where
   own : s.by_id.entries ≡ map with_id jobs
   ids : AreIdsWithin 0 jobs (2 ^ 64)
-  tubes : IsOrderOf list_cmp tube_place jobs s.by_id.spare s.by_tube
+  tubes : IsOrderOf group_cmp group_place jobs s.by_id.spare s.groups
   timed : IsOrderOf timer_cmp timer_place jobs s.by_id.spare s.timers
-  leased : IsOrderOf nat_cmp lease_place jobs s.by_id.spare s.leases
 
 shelved_from : (s : Parts) (jobs : List Job) → HoldJobs s jobs → AreShelved s
 shelved_from s jobs h =
@@ -43,9 +41,8 @@ shelved_from s jobs h =
     record {
       by_own_id = h.own ∙ ap (map with_id) same;
       ids = subst (λ js. AreIdsWithin 0 js (2 ^ 64)) same h.ids;
-      in_tubes = subst (λ js. IsOrderOf list_cmp tube_place js s.by_id.spare s.by_tube) same h.tubes;
+      in_groups = subst (λ js. IsOrderOf group_cmp group_place js s.by_id.spare s.groups) same h.tubes;
       in_timers = subst (λ js. IsOrderOf timer_cmp timer_place js s.by_id.spare s.timers) same h.timed;
-      in_leases = subst (λ js. IsOrderOf nat_cmp lease_place js s.by_id.spare s.leases) same h.leased;
     }
 
 length_jobs : (es : List (ℕ × Job)) → length (jobs_of es) ≡ length es
@@ -76,12 +73,10 @@ jobs_removed id s h = ap jobs_of (entries_removed id s h) ∙ same_jobs (without
 pub record Added (j : Job) (s n : Parts) : Type 0 where
   pub by_id : n.by_id.entries ≡ insert_entry nat_cmp s.by_id.entries j.id j
   pub room : n.by_id.spare + 1 ≡ s.by_id.spare
-  pub by_tube : n.by_tube.entries ≡ with_place list_cmp (tube_place j) s.by_tube.entries
-  pub tube_spare : n.by_tube.spare + cond (is_some (tube_place j)) 1 0 ≡ s.by_tube.spare
+  pub groups : n.groups.entries ≡ with_place group_cmp (group_place j) s.groups.entries
+  pub group_spare : n.groups.spare + cond (is_some (group_place j)) 1 0 ≡ s.groups.spare
   pub timers : n.timers.entries ≡ with_place timer_cmp (timer_place j) s.timers.entries
   pub timer_spare : n.timers.spare + cond (is_some (timer_place j)) 1 0 ≡ s.timers.spare
-  pub leases : n.leases.entries ≡ with_place nat_cmp (lease_place j) s.leases.entries
-  pub lease_spare : n.leases.spare + cond (is_some (lease_place j)) 1 0 ≡ s.leases.spare
 
 pub shelved_added : (j : Job) (s n : Parts) → AreShelved s → j.id < 2 ^ 64 → job_with j.id (jobs_of s.by_id.entries) ≡ None → Added j s n → AreShelved n
 shelved_added j s n h l free a =
@@ -89,24 +84,20 @@ shelved_added j s n h l free a =
     shelved_from n (with_added j jobs) (record {
       own = a.by_id ∙ entries_added j s h free;
       ids = added_within 0 (2 ^ 64) j jobs (omega arith) l free h.ids;
-      tubes = order_added tube_list_laws.total-law tube_place tube_own j jobs s.by_id.spare n.by_id.spare s.by_tube n.by_tube h.in_tubes free a.room a.by_tube a.tube_spare;
+      tubes = order_added group_laws.total-law group_place group_own j jobs s.by_id.spare n.by_id.spare s.groups n.groups h.in_groups free a.room a.groups a.group_spare;
       timed = order_added timer_laws.total-law timer_place timer_own j jobs s.by_id.spare n.by_id.spare s.timers n.timers h.in_timers free a.room a.timers a.timer_spare;
-      leased = order_added nat_cmp_total lease_place lease_own j jobs s.by_id.spare n.by_id.spare s.leases n.leases h.in_leases free a.room a.leases a.lease_spare;
     })
 
 -- after a removal
 pub record Removed (id : ℕ) (j : Job) (s n : Parts) : Type 0 where
   pub by_id : n.by_id.entries ≡ remove_entry (is_at (nat_cmp id)) s.by_id.entries
   pub room : n.by_id.spare ≡ s.by_id.spare + 1
-  pub by_tube : n.by_tube.entries ≡ without_place list_cmp (tube_place j) s.by_tube.entries
-  pub tube_order : InOrder (place_cmp list_cmp) s.by_tube.entries
-  pub tube_spare : n.by_tube.spare ≡ s.by_tube.spare + cond (is_some (tube_place j)) 1 0
+  pub groups : n.groups.entries ≡ without_place group_cmp (group_place j) s.groups.entries
+  pub group_order : InOrder (place_cmp group_cmp) s.groups.entries
+  pub group_spare : n.groups.spare ≡ s.groups.spare + cond (is_some (group_place j)) 1 0
   pub timers : n.timers.entries ≡ without_place timer_cmp (timer_place j) s.timers.entries
   pub timer_order : InOrder (place_cmp timer_cmp) s.timers.entries
   pub timer_spare : n.timers.spare ≡ s.timers.spare + cond (is_some (timer_place j)) 1 0
-  pub leases : n.leases.entries ≡ without_place nat_cmp (lease_place j) s.leases.entries
-  pub lease_order : InOrder (place_cmp nat_cmp) s.leases.entries
-  pub lease_spare : n.leases.spare ≡ s.leases.spare + cond (is_some (lease_place j)) 1 0
 
 pub shelved_removed : (id : ℕ) (j : Job) (s n : Parts) → AreShelved s → job_with id (jobs_of s.by_id.entries) ≡ Some j → Removed id j s n → AreShelved n
 shelved_removed id j s n h found a =
@@ -114,21 +105,17 @@ shelved_removed id j s n h found a =
     shelved_from n (without id jobs) (record {
       own = a.by_id ∙ entries_removed id s h;
       ids = without_within 0 (2 ^ 64) id jobs h.ids;
-      tubes = order_removed tube_list_laws.total-law tube_place tube_own 0 (2 ^ 64) id j jobs s.by_id.spare n.by_id.spare s.by_tube n.by_tube h.in_tubes h.ids found a.tube_order a.room a.by_tube a.tube_spare;
+      tubes = order_removed group_laws.total-law group_place group_own 0 (2 ^ 64) id j jobs s.by_id.spare n.by_id.spare s.groups n.groups h.in_groups h.ids found a.group_order a.room a.groups a.group_spare;
       timed = order_removed timer_laws.total-law timer_place timer_own 0 (2 ^ 64) id j jobs s.by_id.spare n.by_id.spare s.timers n.timers h.in_timers h.ids found a.timer_order a.room a.timers a.timer_spare;
-      leased = order_removed nat_cmp_total lease_place lease_own 0 (2 ^ 64) id j jobs s.by_id.spare n.by_id.spare s.leases n.leases h.in_leases h.ids found a.lease_order a.room a.leases a.lease_spare;
     })
 
 -- a search in each order
 module _ (s : Parts) (h : AreShelved s) where
-  pub tube_search : 2 * binary_digits (length s.by_tube.entries + 1) ≤ search_bound (jobs_of s.by_id.entries)
-  tube_search = order_search list_cmp tube_place (jobs_of s.by_id.entries) s.by_id.spare s.by_tube h.in_tubes
+  pub group_search : 2 * binary_digits (length s.groups.entries + 1) ≤ search_bound (jobs_of s.by_id.entries)
+  group_search = order_search group_cmp group_place (jobs_of s.by_id.entries) s.by_id.spare s.groups h.in_groups
 
   pub timer_search : 2 * binary_digits (length s.timers.entries + 1) ≤ search_bound (jobs_of s.by_id.entries)
   timer_search = order_search timer_cmp timer_place (jobs_of s.by_id.entries) s.by_id.spare s.timers h.in_timers
-
-  pub lease_search : 2 * binary_digits (length s.leases.entries + 1) ≤ search_bound (jobs_of s.by_id.entries)
-  lease_search = order_search nat_cmp lease_place (jobs_of s.by_id.entries) s.by_id.spare s.leases h.in_leases
 
 -- where nothing is found, nothing is taken out
 pub shelved_same : (id : ℕ) (s : Parts) (by_id : ById) → AreShelved s → lookup (is_at (nat_cmp id)) s.by_id.entries ≡ None → by_id.entries ≡ remove_entry (is_at (nat_cmp id)) s.by_id.entries → by_id.spare ≡ s.by_id.spare → AreShelved (record s { by_id = by_id })
@@ -138,9 +125,8 @@ shelved_same id s by_id h none entries spare =
     shelved_from (record s { by_id = by_id }) jobs (record {
       own = entries ∙ entries_removed id s h ∙ ap (map with_id) same;
       ids = h.ids;
-      tubes = subst (λ room. IsOrderOf list_cmp tube_place jobs room s.by_tube) (sym spare) h.in_tubes;
+      tubes = subst (λ room. IsOrderOf group_cmp group_place jobs room s.groups) (sym spare) h.in_groups;
       timed = subst (λ room. IsOrderOf timer_cmp timer_place jobs room s.timers) (sym spare) h.in_timers;
-      leased = subst (λ room. IsOrderOf nat_cmp lease_place jobs room s.leases) (sym spare) h.in_leases;
     })
 
 -- no job has an id after its removal
@@ -150,15 +136,12 @@ gone_after id s h = ap (job_with id) (jobs_removed id s h) ∙ not_there id (job
 -- after a change
 pub record Changed (j k : Job) (s n : Parts) : Type 0 where
   pub room : n.by_id.spare ≡ s.by_id.spare
-  pub by_tube : n.by_tube.entries ≡ with_place list_cmp (tube_place k) (without_place list_cmp (tube_place j) s.by_tube.entries)
-  pub tube_order : InOrder (place_cmp list_cmp) s.by_tube.entries
-  pub tube_spare : n.by_tube.spare + cond (is_some (tube_place k)) 1 0 ≡ s.by_tube.spare + cond (is_some (tube_place j)) 1 0
+  pub groups : n.groups.entries ≡ with_place group_cmp (group_place k) (without_place group_cmp (group_place j) s.groups.entries)
+  pub group_order : InOrder (place_cmp group_cmp) s.groups.entries
+  pub group_spare : n.groups.spare + cond (is_some (group_place k)) 1 0 ≡ s.groups.spare + cond (is_some (group_place j)) 1 0
   pub timers : n.timers.entries ≡ with_place timer_cmp (timer_place k) (without_place timer_cmp (timer_place j) s.timers.entries)
   pub timer_order : InOrder (place_cmp timer_cmp) s.timers.entries
   pub timer_spare : n.timers.spare + cond (is_some (timer_place k)) 1 0 ≡ s.timers.spare + cond (is_some (timer_place j)) 1 0
-  pub leases : n.leases.entries ≡ with_place nat_cmp (lease_place k) (without_place nat_cmp (lease_place j) s.leases.entries)
-  pub lease_order : InOrder (place_cmp nat_cmp) s.leases.entries
-  pub lease_spare : n.leases.spare + cond (is_some (lease_place k)) 1 0 ≡ s.leases.spare + cond (is_some (lease_place j)) 1 0
 
 module _ (id : ℕ) (f : Job → Job) (keeps : KeepsId f) (s : Parts) (h : AreShelved s) (j : Job) (found : job_with id (jobs_of s.by_id.entries) ≡ Some j) where
   id_then : (f j).id ≡ id
@@ -181,10 +164,8 @@ module _ (id : ℕ) (f : Job → Job) (keeps : KeepsId f) (s : Parts) (h : AreSh
       shelved_from n (with_changed id f jobs) (record {
         own = entries ∙ entries_changed;
         ids = ids_of_map (λ k. cond (k.id == id) (f k) k) 0 (2 ^ 64) jobs changed_keeps h.ids;
-        tubes = subst (λ r. IsOrderOf list_cmp tube_place (with_changed id f jobs) r n.by_tube) (sym a.room) (subst (λ js. IsOrderOf list_cmp tube_place js room n.by_tube) made
-            (order_moved tube_list_laws.total-law tube_place tube_own 0 (2 ^ 64) id j (f j) jobs room s.by_tube h.in_tubes h.ids found id_then a.tube_order n.by_tube a.by_tube a.tube_spare));
+        tubes = subst (λ r. IsOrderOf group_cmp group_place (with_changed id f jobs) r n.groups) (sym a.room) (subst (λ js. IsOrderOf group_cmp group_place js room n.groups) made
+            (order_moved group_laws.total-law group_place group_own 0 (2 ^ 64) id j (f j) jobs room s.groups h.in_groups h.ids found id_then a.group_order n.groups a.groups a.group_spare));
         timed = subst (λ r. IsOrderOf timer_cmp timer_place (with_changed id f jobs) r n.timers) (sym a.room) (subst (λ js. IsOrderOf timer_cmp timer_place js room n.timers) made
             (order_moved timer_laws.total-law timer_place timer_own 0 (2 ^ 64) id j (f j) jobs room s.timers h.in_timers h.ids found id_then a.timer_order n.timers a.timers a.timer_spare));
-        leased = subst (λ r. IsOrderOf nat_cmp lease_place (with_changed id f jobs) r n.leases) (sym a.room) (subst (λ js. IsOrderOf nat_cmp lease_place js room n.leases) made
-            (order_moved nat_cmp_total lease_place lease_own 0 (2 ^ 64) id j (f j) jobs room s.leases h.in_leases h.ids found id_then a.lease_order n.leases a.leases a.lease_spare));
       })

@@ -8,7 +8,7 @@ use Rattle.bq_jobs.specs.declared.edit.Moved.{Moved}
 use Rattle.bq_jobs.specs.declared.jobs.Jobs.TheInside.{Inside as Parts}
 use Rattle.bq_jobs.specs.Changed.{KeepsId, KeepsTube, entry_at, moved_by, with_changed}
 use Rattle.bq_jobs.specs.Inside.{jobs_of}
-use Rattle.bq_jobs.specs.Places.{in_leases_at, in_timers_at, in_tube_at, lease_place, timer_place, tube_place}
+use Rattle.bq_jobs.specs.Places.{in_timers_at, in_groups_at, timer_place, group_place}
 use Rattle.bq_jobs.proofs.Changes.{found_id}
 use Rattle.bq_jobs.proofs.Shelved.{AreShelved, found_in}
 
@@ -46,23 +46,17 @@ module _ (id : ℕ) (f : Job → Job) (keeps : KeepsId f) (stays : KeepsTube f) 
   pub id_after : (f job_then).id ≡ id
   id_after = keeps job_then ∙ sym its_id
 
-  pub left_tube : in_tube_at m.from.state m.from.pri m.tube id ≡ tube_place job_then
-  left_tube = ap (λ (n : Moved). in_tube_at n.from.state n.from.pri n.tube id) told_is ∙ ap (in_tube_at job_then.state job_then.pri job_then.tube) its_id
+  pub left_group : in_groups_at m.from.state m.from.pri m.tube id ≡ group_place job_then
+  left_group = ap (λ (n : Moved). in_groups_at n.from.state n.from.pri n.tube id) told_is ∙ ap (in_groups_at job_then.state job_then.pri job_then.tube) its_id
 
-  pub entered_tube : in_tube_at m.to.state m.to.pri m.tube id ≡ tube_place (f job_then)
-  entered_tube = ap (λ (n : Moved). in_tube_at n.to.state n.to.pri n.tube id) told_is ∙ ap (λ t. in_tube_at (f job_then).state (f job_then).pri t id) (sym (stays job_then)) ∙ ap (in_tube_at (f job_then).state (f job_then).pri (f job_then).tube) (sym id_after)
+  pub entered_group : in_groups_at m.to.state m.to.pri m.tube id ≡ group_place (f job_then)
+  entered_group = ap (λ (n : Moved). in_groups_at n.to.state n.to.pri n.tube id) told_is ∙ ap (λ t. in_groups_at (f job_then).state (f job_then).pri t id) (sym (stays job_then)) ∙ ap (in_groups_at (f job_then).state (f job_then).pri (f job_then).tube) (sym id_after)
 
   pub left_timer : in_timers_at m.from.state id ≡ timer_place job_then
   left_timer = ap (λ (n : Moved). in_timers_at n.from.state id) told_is ∙ ap (in_timers_at job_then.state) its_id
 
   pub entered_timer : in_timers_at m.to.state id ≡ timer_place (f job_then)
   entered_timer = ap (λ (n : Moved). in_timers_at n.to.state id) told_is ∙ ap (in_timers_at (f job_then).state) (sym id_after)
-
-  pub left_lease : in_leases_at m.from.state id ≡ lease_place job_then
-  left_lease = ap (λ (n : Moved). in_leases_at n.from.state id) told_is ∙ ap (in_leases_at job_then.state) its_id
-
-  pub entered_lease : in_leases_at m.to.state id ≡ lease_place (f job_then)
-  entered_lease = ap (λ (n : Moved). in_leases_at n.to.state id) told_is ∙ ap (in_leases_at (f job_then).state) (sym id_after)
 
 -- where nothing is told, there is no job
 pub nothing_told_of : (f : Job → Job) (o : Option Job) → option_map (moved_by f) o ≡ None → o ≡ None

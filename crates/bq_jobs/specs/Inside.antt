@@ -1,18 +1,18 @@
--- How the jobs are kept: by id with all that is known of them, and by id alone in three more orders.
+-- How the jobs are kept: by id with all that is known of them, and by id alone in two more orders.
 use Rattle.std.specs.Prelude.{◌≡◌, ℕ, Bool, false, ◌+◌, ◌^◌, ◌≤◌, min, List, Option, Some, None, map, length, is_some, count_by}
 use Rattle.std.specs.declared.cmp.Ordering.{Ordering}
-use Rattle.std.specs.Ordering.{is_eq, nat_cmp}
+use Rattle.std.specs.Ordering.{is_eq}
 use Rattle.bq_index.specs.Shelf.{Seen}
 use Rattle.bq_job.specs.declared.job.Job.{Job}
 use Rattle.bq_job.specs.machine.Changes.{job_with}
 use Rattle.bq_job.specs.beside.Lawful.{AreIdsWithin}
 use Rattle.bq_job.specs.machine.Limits.{greatest}
 use Rattle.bq_jobs.specs.declared.place.Place.{Place}
-use Rattle.bq_jobs.specs.declared.place.TubeList.{TubeList}
+use Rattle.bq_jobs.specs.declared.place.Group.{Group}
 use Rattle.bq_jobs.specs.declared.place.Timer.{Timer}
 use Rattle.bq_jobs.specs.Kept.{Kept}
 use Rattle.bq_jobs.specs.PlaceOrder.{place_cmp, holds_place}
-use Rattle.bq_jobs.specs.Places.{tube_place, timer_place, lease_place}
+use Rattle.bq_jobs.specs.Places.{group_place, timer_place}
 
 abbrev pub ById : Type 0
 ById = Seen ℕ Job
@@ -26,11 +26,11 @@ jobs_of es = map (λ e. e.1) es
 abbrev pub with_id : Job → ℕ × Job
 with_id j = (j.id, j)
 
-abbrev pub kept_in : ById → Order TubeList → Order Timer → Order ℕ → Kept
-kept_in by_id by_tube timers leases = record {
+abbrev pub kept_in : ById → Order Group → Order Timer → Kept
+kept_in by_id groups timers = record {
   jobs = jobs_of by_id.entries;
   room = by_id.spare;
-  comparisons = min (by_id.comparisons + by_tube.comparisons + timers.comparisons + leases.comparisons) greatest;
+  comparisons = min (by_id.comparisons + groups.comparisons + timers.comparisons) greatest;
 }
 
 -- whether the job has this place
@@ -50,10 +50,9 @@ pub record IsOrderOf {G : Type 0} (compare : G → G → Ordering) (place_of : J
   pub roomy : length jobs + room ≤ length order.entries + order.spare
 
 -- The jobs stand by their own ids, which ascend, and each order is that of these jobs.
-pub record IsShelved (list_cmp : TubeList → TubeList → Ordering) (timer_cmp : Timer → Timer → Ordering)
-    (by_id : ById) (by_tube : Order TubeList) (timers : Order Timer) (leases : Order ℕ) : Type 0 where
+pub record IsShelved (group_cmp : Group → Group → Ordering) (timer_cmp : Timer → Timer → Ordering)
+    (by_id : ById) (groups : Order Group) (timers : Order Timer) : Type 0 where
   pub by_own_id : by_id.entries ≡ map with_id (jobs_of by_id.entries)
   pub ids : AreIdsWithin 0 (jobs_of by_id.entries) (2 ^ 64)
-  pub in_tubes : IsOrderOf list_cmp tube_place (jobs_of by_id.entries) by_id.spare by_tube
+  pub in_groups : IsOrderOf group_cmp group_place (jobs_of by_id.entries) by_id.spare groups
   pub in_timers : IsOrderOf timer_cmp timer_place (jobs_of by_id.entries) by_id.spare timers
-  pub in_leases : IsOrderOf nat_cmp lease_place (jobs_of by_id.entries) by_id.spare leases

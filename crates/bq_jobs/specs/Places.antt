@@ -4,7 +4,8 @@ use Rattle.bq_job.specs.declared.job.Job.{Job}
 use Rattle.bq_job.specs.declared.job.JobState.{JobState}
 use Rattle.bq_job.specs.declared.job.JobState.TheVariants as states
 use Rattle.bq_jobs.specs.declared.place.Place.{Place}
-use Rattle.bq_jobs.specs.declared.place.TubeList.{TubeList}
+use Rattle.bq_jobs.specs.declared.place.Group.{Group}
+use Rattle.bq_jobs.specs.declared.place.Group.TheVariants as groups
 use Rattle.bq_jobs.specs.declared.place.JobList.{JobList}
 use Rattle.bq_jobs.specs.declared.place.JobList.TheVariants as lists
 use Rattle.bq_jobs.specs.declared.place.Timer.{Timer}
@@ -13,21 +14,21 @@ use Rattle.bq_jobs.specs.declared.place.Timer.TheVariants as timers
 abbrev pub placed : {G : Type 0} → G → ℕ → ℕ → Option (Place G)
 placed group at id = Some (record { at = at; id = id; group = group })
 
-abbrev pub list_of : List ℕ → JobList → TubeList
-list_of tube list = record { list = list; tube = record { 0 = tube } }
+abbrev pub list_of : List ℕ → JobList → Group
+list_of tube list = groups.Listed (record { list = list; tube = record { 0 = tube } })
 
--- among the ready, delayed or buried jobs of its tube
-abbrev pub in_tube_at : JobState → ℕ → List ℕ → ℕ → Option (Place TubeList)
-in_tube_at states.Ready pri tube id = placed (list_of tube lists.Ready) pri id
-in_tube_at (states.Delayed due) pri tube id = placed (list_of tube lists.Delayed) due id
-in_tube_at (states.Reserved seat deadline) pri tube id = None
-in_tube_at (states.Buried number) pri tube id = placed (list_of tube lists.Buried) number id
+-- among the ready, delayed or buried jobs of its tube, or the leases of its holder
+abbrev pub in_groups_at : JobState → ℕ → List ℕ → ℕ → Option (Place Group)
+in_groups_at states.Ready pri tube id = placed (list_of tube lists.Ready) pri id
+in_groups_at (states.Delayed due) pri tube id = placed (list_of tube lists.Delayed) due id
+in_groups_at (states.Reserved seat deadline) pri tube id = placed (groups.Held seat) deadline id
+in_groups_at (states.Buried number) pri tube id = placed (list_of tube lists.Buried) number id
 
-abbrev pub in_tube : JobState → Job → Option (Place TubeList)
-in_tube state j = in_tube_at state j.pri j.tube j.id
+abbrev pub in_groups : JobState → Job → Option (Place Group)
+in_groups state j = in_groups_at state j.pri j.tube j.id
 
-abbrev pub tube_place : Job → Option (Place TubeList)
-tube_place j = in_tube j.state j
+abbrev pub group_place : Job → Option (Place Group)
+group_place j = in_groups j.state j
 
 -- among the delays or the leases
 abbrev pub in_timers_at : JobState → ℕ → Option (Place Timer)
@@ -40,14 +41,3 @@ in_timers state j = in_timers_at state j.id
 
 abbrev pub timer_place : Job → Option (Place Timer)
 timer_place j = in_timers j.state j
-
--- among the leases of its holder
-abbrev pub in_leases_at : JobState → ℕ → Option (Place ℕ)
-in_leases_at (states.Reserved seat deadline) id = placed seat deadline id
-in_leases_at _ id = None
-
-abbrev pub in_leases : JobState → Job → Option (Place ℕ)
-in_leases state j = in_leases_at state j.id
-
-abbrev pub lease_place : Job → Option (Place ℕ)
-lease_place j = in_leases j.state j

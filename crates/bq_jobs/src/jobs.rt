@@ -14,7 +14,7 @@ ghost use Rattle.bq_jobs.specs.Leases.{deadline_of, is_lease_before};
 
 use super::edit::{JobEdit, Moved, Standing};
 use super::order;
-use super::place::{self, JobList, Place, Timer, TubeList};
+use super::place::{self, Group, JobList, Place, Timer};
 use bq_index::{BoxSource, Shelf};
 use bq_job::{Job, JobId, Moment, NoMemory, Seat, TubeName};
 use std::alloc::Global;
@@ -26,9 +26,8 @@ use std::marker::Model;
 #[derive(Drop)]
 pub struct Jobs {
     by_id: Shelf<JobId, Job>,
-    by_tube: Shelf<Place<TubeList>, ()>,
+    groups: Shelf<Place<Group>, ()>,
     timers: Shelf<Place<Timer>, ()>,
-    leases: Shelf<Place<Seat>, ()>,
 }
 
 impl Model for Jobs {
@@ -37,9 +36,9 @@ impl Model for Jobs {
 
     ghost Value = { Kept };
 
-    ghost view = { λ s. kept_in s.by_id s.by_tube s.timers s.leases };
+    ghost view = { λ s. kept_in s.by_id s.groups s.timers };
 
-    ghost invariant = { λ s. IsShelved ⟦<TubeList as Ord>⟧.cmp ⟦<Timer as Ord>⟧.cmp s.by_id s.by_tube s.timers s.leases };
+    ghost invariant = { λ s. IsShelved ⟦<Group as Ord>⟧.cmp ⟦<Timer as Ord>⟧.cmp s.by_id s.groups s.timers };
 }
 
 impl Jobs {
@@ -52,9 +51,8 @@ impl Jobs {
     {
         Jobs {
             by_id: Shelf::new(),
-            by_tube: Shelf::new(),
+            groups: Shelf::new(),
             timers: Shelf::new(),
-            leases: Shelf::new(),
         }
     }
 
@@ -79,9 +77,8 @@ impl Jobs {
     {
         self.by_id
             .comparisons()
-            .saturating_add(self.by_tube.comparisons())
+            .saturating_add(self.groups.comparisons())
             .saturating_add(self.timers.comparisons())
-            .saturating_add(self.leases.comparisons())
     }
 
     /// Makes room for a job, where there is none. What was taken before a refusal is kept for the next
@@ -108,9 +105,8 @@ impl Jobs {
         let Some(places) = self.by_id.len().checked_add(1) else {
             return Err(NoMemory);
         };
-        order::make_room(&mut self.by_tube, source, places)?;
+        order::make_room(&mut self.groups, source, places)?;
         order::make_room(&mut self.timers, source, places)?;
-        order::make_room(&mut self.leases, source, places)?;
         match self.by_id.reserve_from(source, 1) {
             Ok(()) => Ok(()),
             Err(_) => Err(NoMemory),
@@ -125,9 +121,8 @@ impl Jobs {
         ensures room { self.new.room + 1 ≡ self.old.room }
         ensures comparisons { ComparesAtMost 4 self.old self.new }
     {
-        order::enter(&mut self.by_tube, place::tube_place(&job));
+        order::enter(&mut self.groups, place::group_place(&job));
         order::enter(&mut self.timers, place::timer_place(&job));
-        order::enter(&mut self.leases, place::lease_place(&job));
         self.by_id.insert(id_of(&job), job);
     }
 
@@ -141,9 +136,8 @@ impl Jobs {
         ensures comparisons { ComparesAtMost 4 self.old self.new }
     {
         let job = self.by_id.remove(&id)?;
-        order::leave(&mut self.by_tube, place::tube_place(&job));
+        order::leave(&mut self.groups, place::group_place(&job));
         order::leave(&mut self.timers, place::timer_place(&job));
-        order::leave(&mut self.leases, place::lease_place(&job));
         Some(job)
     }
 
@@ -160,19 +154,14 @@ impl Jobs {
         let moved = edit_at(&mut self.by_id, id, edit)?;
         let (from, to) = (moved.from, moved.to);
         let (left, entered) = (
-            place::place_in_tube(id, &moved.tube, from),
-            place::place_in_tube(id, &moved.tube, to),
+            place::place_in_groups(id, &moved.tube, from),
+            place::place_in_groups(id, &moved.tube, to),
         );
-        order::shift(&mut self.by_tube, left, entered);
+        order::shift(&mut self.groups, left, entered);
         order::shift(
             &mut self.timers,
             place::place_in_timers(id, from),
             place::place_in_timers(id, to),
-        );
-        order::shift(
-            &mut self.leases,
-            place::place_in_leases(id, from),
-            place::place_in_leases(id, to),
         );
         Some(moved)
     }
@@ -191,7 +180,7 @@ impl Jobs {
         ensures same { self.new ≡ record self.old { comparisons = self.new.comparisons } }
         ensures comparisons { ComparesAtMost 1 self.old self.new }
     {
-        order::first_in_group(&mut self.by_tube, TubeList::new(JobList::Ready, *tube))
+        order::first_in_group(&mut self.groups, Group::list(JobList::Ready, *tube))
     }
 
     /// The id of the delayed job of a tube that is due first: by due moment, then by id.
@@ -200,7 +189,7 @@ impl Jobs {
         ensures same { self.new ≡ record self.old { comparisons = self.new.comparisons } }
         ensures comparisons { ComparesAtMost 1 self.old self.new }
     {
-        order::first_in_group(&mut self.by_tube, TubeList::new(JobList::Delayed, *tube))
+        order::first_in_group(&mut self.groups, Group::list(JobList::Delayed, *tube))
     }
 
     /// The id of the job of a tube that was buried first: by burial number, then by id.
@@ -209,7 +198,7 @@ impl Jobs {
         ensures same { self.new ≡ record self.old { comparisons = self.new.comparisons } }
         ensures comparisons { ComparesAtMost 1 self.old self.new }
     {
-        order::first_in_group(&mut self.by_tube, TubeList::new(JobList::Buried, *tube))
+        order::first_in_group(&mut self.groups, Group::list(JobList::Buried, *tube))
     }
 
     /// The id of the delayed job that is due first, in whatever tube: by due moment, then by id.
@@ -236,7 +225,7 @@ impl Jobs {
         ensures same { self.new ≡ record self.old { comparisons = self.new.comparisons } }
         ensures comparisons { ComparesAtMost 1 self.old self.new }
     {
-        order::first_in_group(&mut self.leases, seat)
+        order::first_in_group(&mut self.groups, Group::Held(seat))
     }
 
     /// The priority and the id of the most urgent ready job of a tube: by priority, then by id.
@@ -246,7 +235,7 @@ impl Jobs {
         ensures comparisons { ComparesAtMost 1 self.old self.new }
     {
         let ready = JobList::Ready;
-        order::first_rank(&mut self.by_tube, TubeList::new(ready, *tube))
+        order::first_rank(&mut self.groups, Group::list(ready, *tube))
     }
 
     /// The due moment and the id of the delayed job that is due first, in whatever tube.
@@ -274,7 +263,7 @@ impl Jobs {
         ensures same { self.new ≡ record self.old { comparisons = self.new.comparisons } }
         ensures comparisons { ComparesAtMost 1 self.old self.new }
     {
-        order::first_rank(&mut self.leases, seat)
+        order::first_rank(&mut self.groups, Group::Held(seat))
     }
 }
 

@@ -1,19 +1,18 @@
 //! The jobs of a work queue, kept so that each is found quickly and no change of one takes memory.
 //!
-//! A [`Jobs`] has four shelves: the jobs by their ids, and places of jobs by tube and state, by moment,
-//! and by holder. A job has a box in each, used or spare, and so it can go from any state to any other.
+//! A [`Jobs`] has three shelves: the jobs by their ids, and places of jobs by tube and state or by holder,
+//! and by moment. A job has a box in each, used or spare, and so it can go from any state to any other.
 //! What a job with a body of 64 bytes costs of the heap:
 //!
 //! | piece | bytes |
 //! |---|---|
 //! | its box by id | 352 |
-//! | its place in its tube | 272 |
+//! | its place in its tube or at its holder | 272 |
 //! | its place among delays and leases | 72 |
-//! | its place among the leases of its holder | 72 |
 //! | the vector of its body and the count of its owners | 48 at most |
 //! | the bytes of its body | 64 |
-//! | what a heap keeps beside each of these six pieces | 96 at most |
-//! | together | 976 at most |
+//! | what a heap keeps beside each of these five pieces | 80 at most |
+//! | together | 888 at most |
 #![tactic(auto)]
 
 pub use edit::{JobEdit, Moved, Standing};

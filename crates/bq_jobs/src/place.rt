@@ -1,6 +1,6 @@
 //! Where a job stands in an order.
 ghost use Rattle.std.specs.Prelude.{◌≡◌};
-ghost use Rattle.bq_jobs.specs.Places.{in_leases_at, in_timers_at, in_tube_at, lease_place, timer_place, tube_place};
+ghost use Rattle.bq_jobs.specs.Places.{group_place, in_groups_at, in_timers_at, timer_place};
 
 use super::edit::Standing;
 use super::name::OrderedName;
@@ -86,6 +86,14 @@ pub struct TubeList {
     pub tube: OrderedName,
 }
 
+/// Who has a job: the client at a seat, or a list of the job's tube. It is never in both, and so one order
+/// serves for both.
+#[derive(Clone, Copy, PartialEq, Eq, PartialOrd, Ord)]
+pub enum Group {
+    Held(Seat),
+    Listed(TubeList),
+}
+
 /// What ends at a moment: a delay or a lease.
 #[derive(Clone, Copy, PartialEq, Eq, PartialOrd, Ord)]
 pub enum Timer {
@@ -93,16 +101,17 @@ pub enum Timer {
     Lease,
 }
 
-impl TubeList {
+impl Group {
     ghost use Rattle.bq_jobs.specs.Places.{list_of};
 
-    pub fn new(list: JobList, tube: TubeName) -> TubeList
+    /// The jobs of a tube in one state.
+    pub fn list(list: JobList, tube: TubeName) -> Group
         ensures { result ≡ list_of tube list }
     {
-        TubeList {
+        Group::Listed(TubeList {
             list,
             tube: OrderedName(tube),
-        }
+        })
     }
 }
 
@@ -124,11 +133,11 @@ impl<G> Place<G> {
     }
 }
 
-/// The place of a job among those of its tube.
-pub(crate) fn tube_place(job: &Job) -> Option<Place<TubeList>>
-    ensures { result ≡ tube_place job.now }
+/// The place of a job among those of its tube's list or of its holder.
+pub(crate) fn group_place(job: &Job) -> Option<Place<Group>>
+    ensures { result ≡ group_place job.now }
 {
-    place_in_tube(job.id, &job.tube, Standing::of(job))
+    place_in_groups(job.id, &job.tube, Standing::of(job))
 }
 
 /// The place of a job among all delays and leases.
@@ -138,24 +147,17 @@ pub(crate) fn timer_place(job: &Job) -> Option<Place<Timer>>
     place_in_timers(job.id, Standing::of(job))
 }
 
-/// The place of a job among the leases of its holder.
-pub(crate) fn lease_place(job: &Job) -> Option<Place<Seat>>
-    ensures { result ≡ lease_place job.now }
+/// The place in its tube's list, or at its holder, of the job of this id that stands so. Each job has one.
+pub(crate) fn place_in_groups(id: JobId, tube: &TubeName, at: Standing) -> Option<Place<Group>>
+    ensures { result ≡ in_groups_at at.state at.pri tube.now id }
 {
-    place_in_leases(job.id, Standing::of(job))
-}
-
-/// The place in its tube of the job of this id that stands so.
-pub(crate) fn place_in_tube(id: JobId, tube: &TubeName, at: Standing) -> Option<Place<TubeList>>
-    ensures { result ≡ in_tube_at at.state at.pri tube.now id }
-{
-    let (list, number) = match at.state {
-        JobState::Ready => (JobList::Ready, u64::from(at.pri)),
-        JobState::Delayed(due) => (JobList::Delayed, due),
-        JobState::Buried(number) => (JobList::Buried, number),
-        JobState::Reserved(..) => return None,
+    let (group, number) = match at.state {
+        JobState::Ready => (Group::list(JobList::Ready, *tube), u64::from(at.pri)),
+        JobState::Delayed(due) => (Group::list(JobList::Delayed, *tube), due),
+        JobState::Reserved(seat, deadline) => (Group::Held(seat), deadline),
+        JobState::Buried(number) => (Group::list(JobList::Buried, *tube), number),
     };
-    Some(Place::of(TubeList::new(list, *tube), number, id))
+    Some(Place::of(group, number, id))
 }
 
 /// The place among all delays and leases of the job of this id that stands so.
@@ -166,15 +168,5 @@ pub(crate) fn place_in_timers(id: JobId, at: Standing) -> Option<Place<Timer>>
         JobState::Delayed(due) => Some(Place::of(Timer::Due, due, id)),
         JobState::Reserved(_, deadline) => Some(Place::of(Timer::Lease, deadline, id)),
         JobState::Ready | JobState::Buried(_) => None,
-    }
-}
-
-/// The place among the leases of its holder of the job of this id that stands so.
-pub(crate) fn place_in_leases(id: JobId, at: Standing) -> Option<Place<Seat>>
-    ensures { result ≡ in_leases_at at.state id }
-{
-    match at.state {
-        JobState::Reserved(seat, deadline) => Some(Place::of(seat, deadline, id)),
-        _ => None,
     }
 }

@@ -1,4 +1,4 @@
-//! The four boxes of a job, of which any may be refused.
+//! The three boxes of a job, of which any may be refused.
 
 use crate::putting::{job, put, tube};
 use bq_index::{BoxSource, NoMemory as Refused};
@@ -47,7 +47,7 @@ fn refuse_one(
     assert_eq!(rt; (source.asked, jobs.len(), jobs.room()), (refused, 1, 0));
     assert_eq!(rt; jobs.first_ready(&name), Some(1));
     source.asked = 0;
-    source.refused = 5;
+    source.refused = 4;
     assert!(rt; jobs.reserve_one_from(&mut source).is_ok());
     assert_eq!(rt; (source.asked, jobs.room()), (left, 1));
     assert!(rt; put(&mut jobs, job(alloc, 2, name, 0, JobState::Ready)?));
@@ -57,36 +57,35 @@ fn refuse_one(
 #[test]
 fn each_box_refused_in_turn(rt: HostRuntime) -> Result<(), Fail> {
     let name = tube(&rt, "default");
-    refuse_one(&rt, rt.alloc(), name, 1, 4)?;
-    refuse_one(&rt, rt.alloc(), name, 2, 3)?;
-    refuse_one(&rt, rt.alloc(), name, 3, 2)?;
-    refuse_one(&rt, rt.alloc(), name, 4, 1)
+    refuse_one(&rt, rt.alloc(), name, 1, 3)?;
+    refuse_one(&rt, rt.alloc(), name, 2, 2)?;
+    refuse_one(&rt, rt.alloc(), name, 3, 1)
 }
 
-/// A heap that notes how large the last four boxes are that it is asked for.
+/// A heap that notes how large the last three boxes are that it is asked for.
 #[derive(Drop)]
 struct Weighing {
     heap: Global,
-    sizes: [usize; 4],
+    sizes: [usize; 3],
 }
 
 impl BoxSource for Weighing {
     fn box_of<T: Drop>(&mut self, value: T) -> Result<Box<T>, Refused> {
-        let [_, a, b, c] = self.sizes;
-        self.sizes = [a, b, c, size_of_val(&value)];
+        let [_, a, b] = self.sizes;
+        self.sizes = [a, b, size_of_val(&value)];
         self.heap.box_of(value)
     }
 }
 
-/// The sizes that the first page of `bq_jobs` adds up: its place in its tube, its place among delays and
-/// leases, its place among the leases of its holder, and its box by id.
+/// The sizes that the first page of `bq_jobs` adds up: its place in its tube or at its holder, its place
+/// among delays and leases, and its box by id.
 #[test]
 fn bytes_of_a_job(rt: HostRuntime) -> Result<(), Fail> {
     let mut source = Weighing {
         heap: rt.alloc(),
-        sizes: [0; 4],
+        sizes: [0; 3],
     };
     Jobs::new().reserve_one_from(&mut source)?;
-    assert_eq!(rt; source.sizes, [272, 72, 72, 352]);
+    assert_eq!(rt; source.sizes, [272, 72, 352]);
     Ok(())
 }

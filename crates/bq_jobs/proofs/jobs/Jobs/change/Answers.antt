@@ -1,20 +1,18 @@
 use Rattle.std.proofs.Common.{arith, ◌∙◌, ◌+◌, ◌^◌, ap, cond, refl, sym}
 use Rattle.std.specs.Prelude.{is_some, option_map}
-use Rattle.std.specs.Cmp.{nat_cmp_total}
-use Rattle.std.specs.Ordering.{nat_cmp}
 use Rattle.bq_job.specs.machine.Changes.{job_with}
-use Rattle.bq_jobs.specs.contracts.place.TubeListOrd.TheImpl.Laws as tube_list_laws
+use Rattle.bq_jobs.specs.contracts.place.GroupOrd.TheImpl.Laws as group_laws
 use Rattle.bq_jobs.specs.contracts.place.TimerOrd.TheImpl.Laws as timer_laws
 use Rattle.bq_jobs.specs.Changed.{moved_by, with_changed, with_edited}
 use Rattle.bq_jobs.specs.Inside.{jobs_of, kept_in}
 use Rattle.bq_jobs.specs.Kept.{Kept}
 use Rattle.bq_jobs.specs.PlaceOrder.{holds_place, with_place, without_place}
-use Rattle.bq_jobs.specs.Places.{lease_place, timer_place, tube_place}
+use Rattle.bq_jobs.specs.Places.{timer_place, group_place}
 use Rattle.bq_jobs.proofs.Counting.{few_more}
-use Rattle.bq_jobs.proofs.Firsts.{lease_own, list_cmp, timer_cmp, timer_own, tube_own}
+use Rattle.bq_jobs.proofs.Firsts.{group_cmp, timer_cmp, timer_own, group_own}
 use Rattle.bq_jobs.proofs.Orders.{absent_then, has_spare_then, held_place}
-use Rattle.bq_jobs.proofs.Shelved.{found_in, id_search, jobs_changed, lease_search, shelved_changed, timer_search, tube_search}
-use Rattle.bq_jobs.proofs.Told.{entered_lease, entered_timer, entered_tube, entry_then, found_then, id_after, job_then, left_lease, left_timer, left_tube, nothing_told, unchanged}
+use Rattle.bq_jobs.proofs.Shelved.{found_in, id_search, jobs_changed, shelved_changed, timer_search, group_search}
+use Rattle.bq_jobs.proofs.Told.{entered_timer, entered_group, entry_then, found_then, id_after, job_then, left_timer, left_group, nothing_told, unchanged}
 use Rattle.bq_jobs.proofs.jobs.Jobs.change.Goals as goal
 
 pub returns-in_err-moved-clause-moved : goal.returns-in_err-moved-clause-moved
@@ -33,7 +31,7 @@ pub returns-in_err-moved-clause-comparisons : goal.returns-in_err-moved-clause-c
 returns-in_err-moved-clause-comparisons g c =
     let s = c.self.inside in
     let few = c.edit_at.ensures.comparisons in
-    few_more 7 (kept_in s.by_id s.by_tube s.timers s.leases) c.args.self.now _ _ c.self.view_is refl (omega (arith, few)) (omega (arith, few, id_search s.by_id))
+    few_more 7 (kept_in s.by_id s.groups s.timers) c.args.self.now _ _ c.self.view_is refl (omega (arith, few)) (omega (arith, few, id_search s.by_id))
 
 pub shift-requires-clause-held : goal.shift-requires-clause-held
 shift-requires-clause-held g c =
@@ -44,8 +42,8 @@ shift-requires-clause-held g c =
     let told = sym c.edit_at.ensures.moved ∙ c.in_ok-moved.was in
     let j = job_then c.args.id f c.requires.id c.requires.tube s h m told in
     let found = found_then c.args.id f c.requires.id c.requires.tube s h m told in
-    let left = c.place_in_tube-left.ensures ∙ left_tube c.args.id f c.requires.id c.requires.tube s h m told in
-    λ p e. held_place tube_list_laws.total-law tube_place tube_own c.args.id j (jobs_of s.by_id.entries) s.by_id.spare s.by_tube h.in_tubes found p (sym left ∙ e)
+    let left = c.place_in_groups-left.ensures ∙ left_group c.args.id f c.requires.id c.requires.tube s h m told in
+    λ p e. held_place group_laws.total-law group_place group_own c.args.id j (jobs_of s.by_id.entries) s.by_id.spare s.groups h.in_groups found p (sym left ∙ e)
 
 pub shift-requires-clause-spare : goal.shift-requires-clause-spare
 shift-requires-clause-spare g c =
@@ -56,10 +54,10 @@ shift-requires-clause-spare g c =
     let told = sym c.edit_at.ensures.moved ∙ c.in_ok-moved.was in
     let j = job_then c.args.id f c.requires.id c.requires.tube s h m told in
     let found = found_then c.args.id f c.requires.id c.requires.tube s h m told in
-    let left = c.place_in_tube-left.ensures ∙ left_tube c.args.id f c.requires.id c.requires.tube s h m told in
+    let left = c.place_in_groups-left.ensures ∙ left_group c.args.id f c.requires.id c.requires.tube s h m told in
     λ order p e.
-    let some = ap (λ q. s.by_tube.spare + cond (is_some q) 1 0) left in
-    omega (arith, some, has_spare_then tube_list_laws.total-law tube_place tube_own 0 (2 ^ 64) c.args.id j (f j) (jobs_of s.by_id.entries) s.by_id.spare s.by_tube h.in_tubes h.ids found (id_after c.args.id f c.requires.id c.requires.tube s h m told) order)
+    let some = ap (λ q. s.groups.spare + cond (is_some q) 1 0) left in
+    omega (arith, some, has_spare_then group_laws.total-law group_place group_own 0 (2 ^ 64) c.args.id j (f j) (jobs_of s.by_id.entries) s.by_id.spare s.groups h.in_groups h.ids found (id_after c.args.id f c.requires.id c.requires.tube s h m told) order)
 
 pub shift-requires-clause-absent : goal.shift-requires-clause-absent
 shift-requires-clause-absent g c =
@@ -70,11 +68,11 @@ shift-requires-clause-absent g c =
     let told = sym c.edit_at.ensures.moved ∙ c.in_ok-moved.was in
     let j = job_then c.args.id f c.requires.id c.requires.tube s h m told in
     let found = found_then c.args.id f c.requires.id c.requires.tube s h m told in
-    let left = c.place_in_tube-left.ensures ∙ left_tube c.args.id f c.requires.id c.requires.tube s h m told in
-    let entered = c.place_in_tube-entered.ensures ∙ entered_tube c.args.id f c.requires.id c.requires.tube s h m told in
+    let left = c.place_in_groups-left.ensures ∙ left_group c.args.id f c.requires.id c.requires.tube s h m told in
+    let entered = c.place_in_groups-entered.ensures ∙ entered_group c.args.id f c.requires.id c.requires.tube s h m told in
     λ order p e.
-    ap (λ q. holds_place list_cmp p (without_place list_cmp q s.by_tube.entries)) left
-    ∙ absent_then tube_list_laws.total-law tube_place tube_own 0 (2 ^ 64) c.args.id j (f j) (jobs_of s.by_id.entries) s.by_id.spare s.by_tube h.in_tubes h.ids found (id_after c.args.id f c.requires.id c.requires.tube s h m told) order p (sym entered ∙ e)
+    ap (λ q. holds_place group_cmp p (without_place group_cmp q s.groups.entries)) left
+    ∙ absent_then group_laws.total-law group_place group_own 0 (2 ^ 64) c.args.id j (f j) (jobs_of s.by_id.entries) s.by_id.spare s.groups h.in_groups h.ids found (id_after c.args.id f c.requires.id c.requires.tube s h m told) order p (sym entered ∙ e)
 
 pub shift-requires-2-clause-held : goal.shift-requires-2-clause-held
 shift-requires-2-clause-held g c =
@@ -117,47 +115,6 @@ shift-requires-2-clause-absent g c =
     ap (λ q. holds_place timer_cmp p (without_place timer_cmp q s.timers.entries)) left
     ∙ absent_then timer_laws.total-law timer_place timer_own 0 (2 ^ 64) c.args.id j (f j) (jobs_of s.by_id.entries) s.by_id.spare s.timers h.in_timers h.ids found (id_after c.args.id f c.requires.id c.requires.tube s h m told) order p (sym entered ∙ e)
 
-pub shift-requires-3-clause-held : goal.shift-requires-3-clause-held
-shift-requires-3-clause-held g c =
-    let s = c.self.inside in
-    let h = c.self.invariant in
-    let f = g.E.JobEdit.edited c.args.edit.now in
-    let m = c.in_ok-moved.moved in
-    let told = sym c.edit_at.ensures.moved ∙ c.in_ok-moved.was in
-    let j = job_then c.args.id f c.requires.id c.requires.tube s h m told in
-    let found = found_then c.args.id f c.requires.id c.requires.tube s h m told in
-    let left = c.place_in_leases.ensures ∙ left_lease c.args.id f c.requires.id c.requires.tube s h m told in
-    λ p e. held_place nat_cmp_total lease_place lease_own c.args.id j (jobs_of s.by_id.entries) s.by_id.spare s.leases h.in_leases found p (sym left ∙ e)
-
-pub shift-requires-3-clause-spare : goal.shift-requires-3-clause-spare
-shift-requires-3-clause-spare g c =
-    let s = c.self.inside in
-    let h = c.self.invariant in
-    let f = g.E.JobEdit.edited c.args.edit.now in
-    let m = c.in_ok-moved.moved in
-    let told = sym c.edit_at.ensures.moved ∙ c.in_ok-moved.was in
-    let j = job_then c.args.id f c.requires.id c.requires.tube s h m told in
-    let found = found_then c.args.id f c.requires.id c.requires.tube s h m told in
-    let left = c.place_in_leases.ensures ∙ left_lease c.args.id f c.requires.id c.requires.tube s h m told in
-    λ order p e.
-    let some = ap (λ q. s.leases.spare + cond (is_some q) 1 0) left in
-    omega (arith, some, has_spare_then nat_cmp_total lease_place lease_own 0 (2 ^ 64) c.args.id j (f j) (jobs_of s.by_id.entries) s.by_id.spare s.leases h.in_leases h.ids found (id_after c.args.id f c.requires.id c.requires.tube s h m told) order)
-
-pub shift-requires-3-clause-absent : goal.shift-requires-3-clause-absent
-shift-requires-3-clause-absent g c =
-    let s = c.self.inside in
-    let h = c.self.invariant in
-    let f = g.E.JobEdit.edited c.args.edit.now in
-    let m = c.in_ok-moved.moved in
-    let told = sym c.edit_at.ensures.moved ∙ c.in_ok-moved.was in
-    let j = job_then c.args.id f c.requires.id c.requires.tube s h m told in
-    let found = found_then c.args.id f c.requires.id c.requires.tube s h m told in
-    let left = c.place_in_leases.ensures ∙ left_lease c.args.id f c.requires.id c.requires.tube s h m told in
-    let entered = c.place_in_leases-2.ensures ∙ entered_lease c.args.id f c.requires.id c.requires.tube s h m told in
-    λ order p e.
-    ap (λ q. holds_place nat_cmp p (without_place nat_cmp q s.leases.entries)) left
-    ∙ absent_then nat_cmp_total lease_place lease_own 0 (2 ^ 64) c.args.id j (f j) (jobs_of s.by_id.entries) s.by_id.spare s.leases h.in_leases h.ids found (id_after c.args.id f c.requires.id c.requires.tube s h m told) order p (sym entered ∙ e)
-
 pub invariant_of-self-2 : goal.invariant_of-self-2
 invariant_of-self-2 g c =
     let s = c.self.inside in
@@ -167,24 +124,19 @@ invariant_of-self-2 g c =
     let told = sym c.edit_at.ensures.moved ∙ c.in_ok-moved.was in
     let j = job_then c.args.id f c.requires.id c.requires.tube s h m told in
     let found = found_then c.args.id f c.requires.id c.requires.tube s h m told in
-    let from_tube = c.place_in_tube-left.ensures ∙ left_tube c.args.id f c.requires.id c.requires.tube s h m told in
-    let to_tube = c.place_in_tube-entered.ensures ∙ entered_tube c.args.id f c.requires.id c.requires.tube s h m told in
+    let from_group = c.place_in_groups-left.ensures ∙ left_group c.args.id f c.requires.id c.requires.tube s h m told in
+    let to_group = c.place_in_groups-entered.ensures ∙ entered_group c.args.id f c.requires.id c.requires.tube s h m told in
     let from_timer = c.place_in_timers.ensures ∙ left_timer c.args.id f c.requires.id c.requires.tube s h m told in
     let to_timer = c.place_in_timers-2.ensures ∙ entered_timer c.args.id f c.requires.id c.requires.tube s h m told in
-    let from_lease = c.place_in_leases.ensures ∙ left_lease c.args.id f c.requires.id c.requires.tube s h m told in
-    let to_lease = c.place_in_leases-2.ensures ∙ entered_lease c.args.id f c.requires.id c.requires.tube s h m told in
     let entries = c.edit_at.ensures.entries ∙ ap (λ o. with_edited c.args.id f o s.by_id.entries) (entry_then c.args.id f c.requires.id c.requires.tube s h m told) in
-    shelved_changed c.args.id f c.requires.id s h j found (record { by_id = c.edit_at.new.by_id; by_tube = c.shift.new.order; timers = c.shift-2.new.order; leases = c.shift-3.new.order }) entries (record {
+    shelved_changed c.args.id f c.requires.id s h j found (record { by_id = c.edit_at.new.by_id; groups = c.shift.new.order; timers = c.shift-2.new.order }) entries (record {
       room = c.edit_at.ensures.spare;
-      by_tube = c.shift.ensures.entries ∙ ap (λ p. with_place list_cmp p (without_place list_cmp c.place_in_tube-left.result s.by_tube.entries)) to_tube ∙ ap (λ p. with_place list_cmp (tube_place (f j)) (without_place list_cmp p s.by_tube.entries)) from_tube;
-      tube_order = c.shift.ensures.ordered;
-      tube_spare = sym (ap (λ p. c.shift.new.order.spare + cond (is_some p) 1 0) to_tube) ∙ c.shift.ensures.spare ∙ ap (λ p. s.by_tube.spare + cond (is_some p) 1 0) from_tube;
+      groups = c.shift.ensures.entries ∙ ap (λ p. with_place group_cmp p (without_place group_cmp c.place_in_groups-left.result s.groups.entries)) to_group ∙ ap (λ p. with_place group_cmp (group_place (f j)) (without_place group_cmp p s.groups.entries)) from_group;
+      group_order = c.shift.ensures.ordered;
+      group_spare = sym (ap (λ p. c.shift.new.order.spare + cond (is_some p) 1 0) to_group) ∙ c.shift.ensures.spare ∙ ap (λ p. s.groups.spare + cond (is_some p) 1 0) from_group;
       timers = c.shift-2.ensures.entries ∙ ap (λ p. with_place timer_cmp p (without_place timer_cmp c.place_in_timers.result s.timers.entries)) to_timer ∙ ap (λ p. with_place timer_cmp (timer_place (f j)) (without_place timer_cmp p s.timers.entries)) from_timer;
       timer_order = c.shift-2.ensures.ordered;
       timer_spare = sym (ap (λ p. c.shift-2.new.order.spare + cond (is_some p) 1 0) to_timer) ∙ c.shift-2.ensures.spare ∙ ap (λ p. s.timers.spare + cond (is_some p) 1 0) from_timer;
-      leases = c.shift-3.ensures.entries ∙ ap (λ p. with_place nat_cmp p (without_place nat_cmp c.place_in_leases.result s.leases.entries)) to_lease ∙ ap (λ p. with_place nat_cmp (lease_place (f j)) (without_place nat_cmp p s.leases.entries)) from_lease;
-      lease_order = c.shift-3.ensures.ordered;
-      lease_spare = sym (ap (λ p. c.shift-3.new.order.spare + cond (is_some p) 1 0) to_lease) ∙ c.shift-3.ensures.spare ∙ ap (λ p. s.leases.spare + cond (is_some p) 1 0) from_lease;
     })
 
 pub returns-clause-moved : goal.returns-clause-moved
@@ -208,6 +160,6 @@ pub returns-clause-comparisons : goal.returns-clause-comparisons
 returns-clause-comparisons g c =
     let s = c.self.inside in
     let h = c.self.invariant in
-    few_more 7 (kept_in s.by_id s.by_tube s.timers s.leases) c.args.self.now _ _ c.self.view_is refl
-    (omega (arith, c.edit_at.ensures.comparisons, c.shift.ensures.comparisons, c.shift-2.ensures.comparisons, c.shift-3.ensures.comparisons))
-    (omega (arith, c.edit_at.ensures.comparisons, c.shift.ensures.comparisons, c.shift-2.ensures.comparisons, c.shift-3.ensures.comparisons, id_search s.by_id, tube_search s h, timer_search s h, lease_search s h))
+    few_more 7 (kept_in s.by_id s.groups s.timers) c.args.self.now _ _ c.self.view_is refl
+    (omega (arith, c.edit_at.ensures.comparisons, c.shift.ensures.comparisons, c.shift-2.ensures.comparisons))
+    (omega (arith, c.edit_at.ensures.comparisons, c.shift.ensures.comparisons, c.shift-2.ensures.comparisons, id_search s.by_id, group_search s h, timer_search s h))

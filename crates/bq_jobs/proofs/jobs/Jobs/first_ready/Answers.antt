@@ -8,8 +8,8 @@ use Rattle.bq_jobs.specs.Kept.{Kept}
 use Rattle.bq_jobs.specs.PlaceOrder.{first_in_group}
 use Rattle.bq_jobs.proofs.Counting.{few_more}
 use Rattle.bq_jobs.proofs.FirstJobs.{ready_is}
-use Rattle.bq_jobs.proofs.Firsts.{list_cmp}
-use Rattle.bq_jobs.proofs.Shelved.{tube_search}
+use Rattle.bq_jobs.proofs.Firsts.{group_cmp}
+use Rattle.bq_jobs.proofs.Shelved.{group_search}
 use Rattle.bq_jobs.proofs.jobs.Jobs.first_ready.Goals as goal
 
 pub returns-clause-id : goal.returns-clause-id
@@ -17,12 +17,12 @@ returns-clause-id c =
     let s = c.self.inside in
     let h = c.self.invariant in
     c.first_in_group.ensures.id
-    ∙ ap (λ g. first_in_group list_cmp g s.by_tube.entries) c.new.ensures
-    ∙ ready_is (jobs_of s.by_id.entries) s.by_id.spare h.ids s.by_tube h.in_tubes c.first_in_group.ensures.ordered c.args.tube.now
+    ∙ ap (λ g. first_in_group group_cmp g s.groups.entries) c.list.ensures
+    ∙ ready_is (jobs_of s.by_id.entries) s.by_id.spare h.ids s.groups h.in_groups c.first_in_group.ensures.ordered c.args.tube.now
     ∙ ap (λ (m : Kept). option_map (λ j. j.id) (first_of (is_ready_in c.args.tube.now) is_job_before m.jobs)) c.self.view_is
 
 pub returns-clause-comparisons : goal.returns-clause-comparisons
 returns-clause-comparisons c =
     let s = c.self.inside in
     let few = c.first_in_group.ensures.comparisons in
-    few_more 1 (kept_in s.by_id s.by_tube s.timers s.leases) c.args.self.now _ _ c.self.view_is refl (omega (arith, few)) (omega (arith, few, tube_search s c.self.invariant))
+    few_more 1 (kept_in s.by_id s.groups s.timers) c.args.self.now _ _ c.self.view_is refl (omega (arith, few)) (omega (arith, few, group_search s c.self.invariant))

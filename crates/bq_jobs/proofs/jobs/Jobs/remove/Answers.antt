@@ -1,19 +1,17 @@
 use Rattle.std.proofs.Common.{arith, ◌+◌, cond, refl, sym, ap, ◌∙◌}
 use Rattle.std.specs.Prelude.{is_some}
-use Rattle.std.specs.Cmp.{nat_cmp_total}
-use Rattle.std.specs.Ordering.{nat_cmp}
 use Rattle.bq_job.specs.machine.Changes.{job_with}
-use Rattle.bq_jobs.specs.contracts.place.TubeListOrd.TheImpl.Laws as tube_list_laws
+use Rattle.bq_jobs.specs.contracts.place.GroupOrd.TheImpl.Laws as group_laws
 use Rattle.bq_jobs.specs.contracts.place.TimerOrd.TheImpl.Laws as timer_laws
 use Rattle.bq_jobs.specs.Inside.{jobs_of, kept_in}
 use Rattle.bq_jobs.specs.Kept.{Kept, without}
 use Rattle.bq_jobs.specs.PlaceOrder.{without_place}
-use Rattle.bq_jobs.specs.Places.{lease_place, timer_place, tube_place}
+use Rattle.bq_jobs.specs.Places.{timer_place, group_place}
 use Rattle.bq_jobs.proofs.Changes.{found_id}
 use Rattle.bq_jobs.proofs.Counting.{few_more}
-use Rattle.bq_jobs.proofs.Firsts.{lease_own, list_cmp, timer_cmp, timer_own, tube_own}
+use Rattle.bq_jobs.proofs.Firsts.{group_cmp, timer_cmp, timer_own, group_own}
 use Rattle.bq_jobs.proofs.Orders.{held_place}
-use Rattle.bq_jobs.proofs.Shelved.{found_in, gone_after, id_search, jobs_removed, lease_search, shelved_removed, shelved_same, timer_search, tube_search}
+use Rattle.bq_jobs.proofs.Shelved.{found_in, gone_after, id_search, jobs_removed, shelved_removed, shelved_same, timer_search, group_search}
 use Rattle.bq_jobs.proofs.jobs.Jobs.remove.Goals as goal
 
 pub invariant_of-self : goal.invariant_of-self
@@ -39,14 +37,14 @@ pub returns-in_err-job-clause-comparisons : goal.returns-in_err-job-clause-compa
 returns-in_err-job-clause-comparisons c =
     let s = c.self.inside in
     let few = c.remove.ensures.comparisons in
-    few_more 4 (kept_in s.by_id s.by_tube s.timers s.leases) c.args.self.now _ _ c.self.view_is refl (omega (arith, few)) (omega (arith, few, id_search s.by_id))
+    few_more 4 (kept_in s.by_id s.groups s.timers) c.args.self.now _ _ c.self.view_is refl (omega (arith, few)) (omega (arith, few, id_search s.by_id))
 
 pub leave-requires : goal.leave-requires
 leave-requires c =
     let s = c.self.inside in
     let h = c.self.invariant in
     let found = sym (found_in c.args.id s h) ∙ sym c.remove.ensures.value ∙ c.in_ok-job.was in
-    record { held = λ p e. held_place tube_list_laws.total-law tube_place tube_own c.args.id c.in_ok-job.job (jobs_of s.by_id.entries) s.by_id.spare s.by_tube h.in_tubes found p (sym c.tube_place.ensures ∙ e) }
+    record { held = λ p e. held_place group_laws.total-law group_place group_own c.args.id c.in_ok-job.job (jobs_of s.by_id.entries) s.by_id.spare s.groups h.in_groups found p (sym c.group_place.ensures ∙ e) }
 
 pub leave-requires-2 : goal.leave-requires-2
 leave-requires-2 c =
@@ -55,32 +53,22 @@ leave-requires-2 c =
     let found = sym (found_in c.args.id s h) ∙ sym c.remove.ensures.value ∙ c.in_ok-job.was in
     record { held = λ p e. held_place timer_laws.total-law timer_place timer_own c.args.id c.in_ok-job.job (jobs_of s.by_id.entries) s.by_id.spare s.timers h.in_timers found p (sym c.timer_place.ensures ∙ e) }
 
-pub leave-requires-3 : goal.leave-requires-3
-leave-requires-3 c =
-    let s = c.self.inside in
-    let h = c.self.invariant in
-    let found = sym (found_in c.args.id s h) ∙ sym c.remove.ensures.value ∙ c.in_ok-job.was in
-    record { held = λ p e. held_place nat_cmp_total lease_place lease_own c.args.id c.in_ok-job.job (jobs_of s.by_id.entries) s.by_id.spare s.leases h.in_leases found p (sym c.lease_place.ensures ∙ e) }
-
 pub invariant_of-self-2 : goal.invariant_of-self-2
 invariant_of-self-2 c =
     let s = c.self.inside in
     let h = c.self.invariant in
     let was = c.in_ok-job.was in
     let spare = ap (λ o. s.by_id.spare + cond (is_some o) 1 0) was in
-    shelved_removed c.args.id c.in_ok-job.job s (record { by_id = c.remove.new.self; by_tube = c.leave.new.order; timers = c.leave-2.new.order; leases = c.leave-3.new.order })
+    shelved_removed c.args.id c.in_ok-job.job s (record { by_id = c.remove.new.self; groups = c.leave.new.order; timers = c.leave-2.new.order })
     h (sym (found_in c.args.id s h) ∙ sym c.remove.ensures.value ∙ was) (record {
       by_id = c.remove.ensures.entries;
       room = omega (arith, c.remove.ensures.spare, spare);
-      by_tube = c.leave.ensures.entries ∙ ap (λ p. without_place list_cmp p s.by_tube.entries) c.tube_place.ensures;
-      tube_order = c.leave.ensures.ordered;
-      tube_spare = c.leave.ensures.spare ∙ ap (λ p. s.by_tube.spare + cond (is_some p) 1 0) c.tube_place.ensures;
+      groups = c.leave.ensures.entries ∙ ap (λ p. without_place group_cmp p s.groups.entries) c.group_place.ensures;
+      group_order = c.leave.ensures.ordered;
+      group_spare = c.leave.ensures.spare ∙ ap (λ p. s.groups.spare + cond (is_some p) 1 0) c.group_place.ensures;
       timers = c.leave-2.ensures.entries ∙ ap (λ p. without_place timer_cmp p s.timers.entries) c.timer_place.ensures;
       timer_order = c.leave-2.ensures.ordered;
       timer_spare = c.leave-2.ensures.spare ∙ ap (λ p. s.timers.spare + cond (is_some p) 1 0) c.timer_place.ensures;
-      leases = c.leave-3.ensures.entries ∙ ap (λ p. without_place nat_cmp p s.leases.entries) c.lease_place.ensures;
-      lease_order = c.leave-3.ensures.ordered;
-      lease_spare = c.leave-3.ensures.spare ∙ ap (λ p. s.leases.spare + cond (is_some p) 1 0) c.lease_place.ensures;
     })
 
 pub returns-clause-job : goal.returns-clause-job
@@ -104,6 +92,6 @@ pub returns-clause-comparisons : goal.returns-clause-comparisons
 returns-clause-comparisons c =
     let s = c.self.inside in
     let h = c.self.invariant in
-    few_more 4 (kept_in s.by_id s.by_tube s.timers s.leases) c.args.self.now _ _ c.self.view_is refl
-    (omega (arith, c.remove.ensures.comparisons, c.leave.ensures.comparisons, c.leave-2.ensures.comparisons, c.leave-3.ensures.comparisons))
-    (omega (arith, c.remove.ensures.comparisons, c.leave.ensures.comparisons, c.leave-2.ensures.comparisons, c.leave-3.ensures.comparisons, id_search s.by_id, tube_search s h, timer_search s h, lease_search s h))
+    few_more 4 (kept_in s.by_id s.groups s.timers) c.args.self.now _ _ c.self.view_is refl
+    (omega (arith, c.remove.ensures.comparisons, c.leave.ensures.comparisons, c.leave-2.ensures.comparisons))
+    (omega (arith, c.remove.ensures.comparisons, c.leave.ensures.comparisons, c.leave-2.ensures.comparisons, id_search s.by_id, group_search s h, timer_search s h))
