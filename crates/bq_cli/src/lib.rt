@@ -3,6 +3,6 @@
 #![tactic(auto)]
 
 pub use bq_options::{OptionFault, Program};
-pub use bq_program::{Fault, Options, Stop, options, tell_fault};
+pub use bq_program::{Fault, Need, Options, Stop, options, tell_cannot_listen, tell_fault};
 pub use bq_server::{run_bqd, serve, serve_doors};
 pub use bq_session::{Console, Served, run_bq, serve_client};

@@ -3,7 +3,11 @@
 #![tactic(auto)]
 
 #[cfg(test)]
+mod asked;
+#[cfg(test)]
 mod command_line;
+#[cfg(test)]
+mod ranges;
 #[cfg(test)]
 mod session;
 #[cfg(test)]

@@ -1,7 +1,7 @@
 //! What the server tells on its streams: where it listens, before it serves anybody, and its faults. What it
 //! answers over TCP, the programs' runs and the model show.
 
-use bq_cli::{Fault, Options, Program, serve, tell_fault};
+use bq_cli::{Fault, Need, Options, Program, serve, tell_cannot_listen, tell_fault};
 use std::alloc::Global;
 use std::fmt::Display;
 use std::io::{Eprint, ErrorKind, Print, Read, Write};
@@ -198,9 +198,32 @@ fn address_is_told_first(rt: HostRuntime) -> Result<(), Fail> {
 const FAULTS: &[(Program, Fault, &str)] = &[
     (Program::Bq, Fault::ReadFailed, "bq: read failed\n"),
     (Program::Bq, Fault::WriteFailed, "bq: write failed\n"),
-    (Program::Bq, Fault::NoMemory, "bq: no memory\n"),
+    (
+        Program::Bq,
+        Fault::NoMemory(Need::Options),
+        "bq: no memory: for the options\n",
+    ),
+    (
+        Program::Bq,
+        Fault::NoMemory(Need::Clock),
+        "bq: no memory: for the clock\n",
+    ),
     (Program::Bqd, Fault::CannotListen, "bqd: cannot listen\n"),
-    (Program::Bqd, Fault::NoMemory, "bqd: no memory\n"),
+    (
+        Program::Bqd,
+        Fault::NoMemory(Need::ControlLine),
+        "bqd: no memory: for the control line\n",
+    ),
+    (
+        Program::Bqd,
+        Fault::NoMemory(Need::Doors),
+        "bqd: no memory: for the buffers of the seats\n",
+    ),
+    (
+        Program::Bqd,
+        Fault::NoMemory(Need::Queue),
+        "bqd: no memory: for the queue and its seats\n",
+    ),
     (
         Program::Bqd,
         Fault::ThreadRefused,
@@ -226,5 +249,24 @@ fn faults_are_told(rt: HostRuntime) -> Result<(), Fail> {
         assert!(rt; heard.has(&heard.errors, text));
         assert!(rt; heard.has(&heard.output, ""));
     }
+    Ok(())
+}
+
+// The address and the words of the system follow.
+#[test]
+fn address_that_cannot_be_had(rt: HostRuntime) -> Result<(), Fail> {
+    let alloc = rt.alloc();
+    let taken = TcpListener::bind(&rt, "127.0.0.1:0")?;
+    let address = format!(in alloc; "{}", taken.local_addr()?)?;
+    let Err(error) = TcpListener::bind(&rt, address.as_str()) else {
+        return Err(Fail::from("bound twice"));
+    };
+    let heard = Heard::new(rt, alloc);
+    let status = tell_cannot_listen(&heard, Program::Bqd, address.as_str(), &error);
+    assert!(rt; status == 1);
+    // What Linux calls its error 98.
+    let wanted = "Address already in use (os error 98)";
+    let text = format!(in alloc; "bqd: cannot listen: {address}: {wanted}\n")?;
+    assert!(rt; heard.has(&heard.errors, text.as_str()));
     Ok(())
 }

@@ -30,7 +30,8 @@ pub struct BqOptions {
     pub still: bool,
     /// How many bytes a job's body may have, 1 to 1,048,576.
     pub max_job_size: u32,
-    /// How many jobs there can be at a time, 1 or more. None: no limit.
+    /// How many jobs there can be at a time, 1 or more. None: no limit. The definitions have a meaning for 0, a
+    /// queue that takes no job, which no program chooses: its words refuse it.
     pub max_jobs: Option<u32>,
 }
 
@@ -43,7 +44,7 @@ pub struct BqdOptions {
     pub seats: u16,
     /// How many bytes a job's body may have, 1 to 1,048,576.
     pub max_job_size: u32,
-    /// How many jobs there can be at a time, 1 or more. None: no limit.
+    /// How many jobs there can be at a time, 1 or more, as for `bq`. None: no limit.
     pub max_jobs: Option<u32>,
     /// For how many seconds a job of a lost connection is delayed; 0: it is ready at once.
     pub requeue_delay: u32,

@@ -31,6 +31,10 @@ const SESSIONS: &str = "sessions";
 
 const STILL: &str = "still";
 
+const VERBOSE: &str = "verbose";
+
+const VERSION_WORD: &str = "version";
+
 impl From<AllocError> for OptionFault {
     fn from(_e: AllocError) -> OptionFault {
         OptionFault::NoMemory
@@ -63,15 +67,18 @@ pub fn bqd_options<'a, S: AsStr>(alloc: Global, words: &'a [S]) -> Result<BqdOpt
 fn bq_command<'a>(alloc: Global) -> Result<Command<'a>, AllocError> {
     Command::new(alloc, "bq")
         .version(VERSION)
+        .disable_version_flag(true)
         .about("Serves one client of a work queue over standard input and output")
         .arg(still_arg(alloc))?
         .arg(max_job_size_arg(alloc))?
-        .arg(max_jobs_arg(alloc))
+        .arg(max_jobs_arg(alloc))?
+        .arg(version_arg(alloc))
 }
 
 fn bqd_command<'a>(alloc: Global) -> Result<Command<'a>, AllocError> {
     Command::new(alloc, "bqd")
         .version(VERSION)
+        .disable_version_flag(true)
         .about("Serves a work queue to many clients over TCP")
         .arg(listen_arg(alloc))?
         .arg(port_arg(alloc))?
@@ -79,7 +86,9 @@ fn bqd_command<'a>(alloc: Global) -> Result<Command<'a>, AllocError> {
         .arg(max_job_size_arg(alloc).short('z'))?
         .arg(max_jobs_arg(alloc))?
         .arg(requeue_delay_arg(alloc))?
-        .arg(sessions_arg(alloc))
+        .arg(sessions_arg(alloc))?
+        .arg(verbose_arg(alloc))?
+        .arg(version_arg(alloc))
 }
 
 fn still_arg<'a>(alloc: Global) -> Arg<'a> {
@@ -149,6 +158,23 @@ fn requeue_delay_arg<'a>(alloc: Global) -> Arg<'a> {
             "For how long a job of a lost connection is delayed, 0 to 4294967295; 0 unless chosen",
         )
         .value_parser(clap::value_parser!(u32).range(0..=4_294_967_295))
+}
+
+// beanstalkd's command lines have it, often more than once.
+fn verbose_arg<'a>(alloc: Global) -> Arg<'a> {
+    Arg::new(alloc, VERBOSE)
+        .short('V')
+        .help("Changes nothing, also where it is repeated: beanstalkd tells more by it")
+        .action(ArgAction::Count)
+}
+
+// Its short word is beanstalkd's too.
+fn version_arg<'a>(alloc: Global) -> Arg<'a> {
+    Arg::new(alloc, VERSION_WORD)
+        .short('v')
+        .long(VERSION_WORD)
+        .help("Print version")
+        .action(ArgAction::Version)
 }
 
 // The parser has refused numbers that are out of range; the bounds here say so where they are read.

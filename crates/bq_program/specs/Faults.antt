@@ -4,11 +4,13 @@ use Rattle.bq_job.specs.declared.line_end.LineEnd.{LineEnd}
 use Rattle.bq_job.specs.declared.line_end.LineEnd.TheVariants as ends
 use Rattle.bq_program.specs.declared.fault.Fault.{Fault}
 use Rattle.bq_program.specs.declared.fault.Fault.TheVariants as faults
+use Rattle.bq_program.specs.declared.fault.Need.{Need}
+use Rattle.bq_program.specs.declared.fault.Need.TheVariants as needs
 use Rattle.bq_start.specs.declared.fault.RunFault.{RunFault}
 use Rattle.bq_start.specs.declared.fault.RunFault.TheVariants as runs
 
 abbrev pub fault_of_run : RunFault → Fault
-fault_of_run runs.NoMemory = faults.NoMemory
+fault_of_run runs.NoMemory = faults.NoMemory needs.Queue
 fault_of_run runs.ThreadRefused = faults.ThreadRefused
 fault_of_run runs.BadConfiguration = faults.BadConfiguration
 
@@ -19,11 +21,23 @@ fault_of_end ends.EndOfInput = None
 fault_of_end ends.ReadFault = Some faults.ReadFailed
 fault_of_end ends.WriteFault = Some faults.WriteFailed
 
+-- memory for something was refused
+abbrev pub IsMemoryRefused : Fault → Type 0
+IsMemoryRefused (faults.NoMemory need) = Unit {0}
+IsMemoryRefused _ = ⊥
+
+abbrev pub need_text : Need → List ℕ
+need_text needs.Options = codes "no memory: for the options"
+need_text needs.Clock = codes "no memory: for the clock"
+need_text needs.ControlLine = codes "no memory: for the control line"
+need_text needs.Doors = codes "no memory: for the buffers of the seats"
+need_text needs.Queue = codes "no memory: for the queue and its seats"
+
 abbrev pub fault_text : Fault → List ℕ
 fault_text faults.ReadFailed = codes "read failed"
 fault_text faults.WriteFailed = codes "write failed"
 fault_text faults.CannotListen = codes "cannot listen"
-fault_text faults.NoMemory = codes "no memory"
+fault_text (faults.NoMemory need) = need_text need
 fault_text faults.ThreadRefused = codes "a thread was refused"
 fault_text faults.BadConfiguration = codes "bad configuration"
 fault_text faults.NotAccepted = codes "a connection could not be accepted"

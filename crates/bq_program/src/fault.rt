@@ -1,10 +1,25 @@
 //! Why a program ends otherwise than well, and its status then.
 ghost use Rattle.std.specs.Prelude.{◌≡◌, option_map};
-ghost use Rattle.bq_program.specs.Faults.{fault_of_end, fault_of_run, fault_text};
+ghost use Rattle.bq_program.specs.Faults.{fault_of_end, fault_of_run, fault_text, need_text};
 
 use bq_job::LineEnd;
 use bq_options::OptionFault;
 use bq_start::RunFault;
+
+/// What a program needs memory for.
+#[derive(Clone, Copy, Debug, PartialEq, Eq)]
+pub enum Need {
+    /// The words of its command line, and what they choose.
+    Options,
+    /// The clock that stands at 0.
+    Clock,
+    /// The line on which a server is told to drain.
+    ControlLine,
+    /// The doors of a server's seats, with what connections are read and written through.
+    Doors,
+    /// The queue, its seats, and what goes between their threads.
+    Queue,
+}
 
 /// Why a program ends with status 1.
 #[derive(Clone, Copy, Debug, PartialEq, Eq)]
@@ -14,7 +29,8 @@ pub enum Fault {
     /// What the client is owed, or help that was asked for, could not be written.
     WriteFailed,
     CannotListen,
-    NoMemory,
+    /// Memory for this was refused.
+    NoMemory(Need),
     ThreadRefused,
     BadConfiguration,
     /// Some seat ended because a connection could not be accepted.
@@ -30,11 +46,23 @@ impl Fault {
             Fault::ReadFailed => "read failed",
             Fault::WriteFailed => "write failed",
             Fault::CannotListen => "cannot listen",
-            Fault::NoMemory => "no memory",
+            Fault::NoMemory(need) => text_of_need(need),
             Fault::ThreadRefused => "a thread was refused",
             Fault::BadConfiguration => "bad configuration",
             Fault::NotAccepted => "a connection could not be accepted",
         }
+    }
+}
+
+fn text_of_need(need: Need) -> &'static str
+    ensures { result.now ≡ need_text need }
+{
+    match need {
+        Need::Options => "no memory: for the options",
+        Need::Clock => "no memory: for the clock",
+        Need::ControlLine => "no memory: for the control line",
+        Need::Doors => "no memory: for the buffers of the seats",
+        Need::Queue => "no memory: for the queue and its seats",
     }
 }
 
@@ -43,7 +71,7 @@ impl From<RunFault> for Fault {
         ensures { result ≡ fault_of_run fault }
     {
         match fault {
-            RunFault::NoMemory => Fault::NoMemory,
+            RunFault::NoMemory => Fault::NoMemory(Need::Queue),
             RunFault::ThreadRefused => Fault::ThreadRefused,
             RunFault::BadConfiguration => Fault::BadConfiguration,
         }

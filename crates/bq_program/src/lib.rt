@@ -5,8 +5,8 @@
 pub use arguments::words;
 pub use chosen::Options;
 pub use command_line::options;
-pub use fault::{Fault, Stop, fault_of_end};
-pub use told::{tell_fault, tell_server, tell_stop};
+pub use fault::{Fault, Need, Stop, fault_of_end};
+pub use told::{tell_cannot_listen, tell_fault, tell_server, tell_stop};
 
 mod arguments;
 mod chosen;

@@ -3,8 +3,9 @@
 ghost use Rattle.std.specs.Prelude.{◌≡◌};
 ghost use Rattle.bq_program.specs.Statuses.{IsStatusOfOptionFault, IsStatusOfStop, status_of_server};
 
-use crate::fault::{Fault, Stop};
+use crate::fault::{Fault, Need, Stop};
 use bq_options::{OptionFault, Program};
+use std::io;
 use std::io::{Eprint, Print};
 
 /// Tells a fault on standard error, where that can be written, as one line behind the program's name. The
@@ -13,6 +14,21 @@ pub fn tell_fault<R: Eprint>(rt: &R, program: Program, fault: Fault) -> u8
     ensures { result ≡ 1 }
 {
     let _told = eprintln!(rt; "{}: {}", program.name(), fault.text());
+    1
+}
+
+/// Tells that nobody can listen at an address, as `tell_fault` does, and behind it the address and the words of
+/// the system.
+pub fn tell_cannot_listen<R: Eprint>(
+    rt: &R,
+    program: Program,
+    address: &str,
+    error: &io::Error,
+) -> u8
+    ensures { result ≡ 1 }
+{
+    let fault = Fault::CannotListen;
+    let _told = eprintln!(rt; "{}: {}: {address}: {error}", program.name(), fault.text());
     1
 }
 
@@ -29,7 +45,7 @@ fn tell_option_fault<R: Print + Eprint>(rt: &R, program: Program, fault: &Option
             let _told = eprint!(rt; "{text}");
             2
         }
-        OptionFault::NoMemory => tell_fault(rt, program, Fault::NoMemory),
+        OptionFault::NoMemory => tell_fault(rt, program, Fault::NoMemory(Need::Options)),
     }
 }
 
