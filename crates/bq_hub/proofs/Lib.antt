@@ -1,2 +1,3 @@
 pub mod SendingLemmas
+pub mod SharedLemmas
 pub mod WorkedLemmas

@@ -2,5 +2,6 @@ pub mod CoreWork
 pub mod Flags
 pub mod Rests
 pub mod Sending
+pub mod Shared
 pub mod Told
 pub mod Worked

@@ -1,19 +1,26 @@
-//! The core on a thread of its own.
+//! The core's work in the midst of the links: by one thread, or by whichever thread holds its lock.
 ghost use Rattle.std.specs.Prelude.{◌≡◌, ◌<◌, ◌+◌, []};
 ghost use Rattle.bq_job.specs.machine.Machine.{new_machine};
 ghost use Rattle.bq_link.specs.EndStates.{IsSameCore};
 ghost use Rattle.bq_link.specs.NewEnds.{IsNewCore};
 ghost use Rattle.bq_hub.specs.CoreWork.{IsNewRoom, RanToEnd};
 
+pub use begun_hub::Origin;
+pub use hub::Hub;
+pub use last_turns::run_out;
 pub use room::CoreRoom;
+pub use shared_hub::SharedHub;
 
+mod begun_hub;
 mod gone;
 mod hub;
+mod last_turns;
 mod notices;
 mod room;
 mod sender;
+mod shared_hub;
+mod watch;
 
-use crate::core_work::hub::Hub;
 use bq_line::clock::Clock;
 use bq_link::{CoreEnd, Intake, NoTicks};
 use bq_steps::{Outs, QueueCore};
@@ -44,11 +51,5 @@ pub fn core_work<R: Wait, C: Clock + Drop, K: QueueCore + Drop>(
     ensures end { IsSameCore end result.0 }
     ensures ran { RanToEnd C.given (K.machine core).settings clock result.0 (K.machine result.1) result.2 }
 {
-    let mut hub = Hub::new(alloc, end, core, outs, room, clock);
-    for _ in rt.forever() {
-        if hub.turn(rt, intake) {
-            return hub.into_parts();
-        }
-    }
-    unreachable!()
+    run_out(rt, intake, Hub::new(alloc, end, core, outs, room, clock))
 }

@@ -3,26 +3,22 @@ ghost use Rattle.std.specs.Prelude.{◌≡◌, ◌⊎◌, ◌↔◌, ◌<◌, �
 ghost use Rattle.bq_job.specs.beside.NextDue.{is_before, next_due};
 ghost use Rattle.bq_job.specs.promise.History.{moment_heard};
 ghost use Rattle.bq_link.specs.EndStates.{IsSameCore};
-ghost use Rattle.bq_hub.specs.Rests.{rest_until};
 
 use crate::core_work::gone::Gone;
 use crate::core_work::notices::{Concern, Notices, concern_of};
 use crate::core_work::room::CoreRoom;
 use crate::core_work::sender::Sender;
+use crate::core_work::watch::{HOUR, rest_until};
 use bq_job::{Moment, Seat, Step};
 use bq_line::clock::{Clock, moment_heard};
 use bq_link::{CoreEnd, Intake, NoTicks, Record};
 use bq_steps::{Outs, QueueCore};
 use std::alloc::Global;
 use std::sync::Wait;
-use std::thread;
 use std::time::Duration;
 
-/// How often nothing is found before the thread rests, some 50 microseconds.
-const LOOKS: u32 = 150;
-
-/// How long a rest is at most, in milliseconds.
-const HOUR: u64 = 3_600_000;
+/// How many steps and ticks one who holds the lock makes at most, so that nobody waits for it for long.
+const MOST: u32 = 64;
 
 /// The core with its clock, its end of the links, and what isn't sent yet.
 #[derive(Drop)]
@@ -37,8 +33,6 @@ pub struct Hub<C, K> {
     /// The moment heard last, and the next one at which something is due.
     pub heard: Moment,
     pub due: Option<Moment>,
-    /// How often nothing was found since the last step.
-    pub looks: u32,
     pub notices: Notices,
 }
 
@@ -97,7 +91,6 @@ impl<C: Clock + Drop, K: QueueCore + Drop> Hub<C, K> {
             clock,
             heard: 0,
             due: None,
-            looks: 0,
             notices: Notices::none(),
         }
     }
@@ -126,6 +119,61 @@ impl<C: Clock + Drop, K: QueueCore + Drop> Hub<C, K> {
             self.rest(rt, intake);
         }
         false
+    }
+
+    /// Takes the steps that wait, up to some number, makes the ticks that are due, and sends their answers. It never
+    /// rests, so that it can be done under a lock.
+    ///
+    /// Whoever submits a step helps after it. So all steps are taken once all have helped, however many wait.
+    pub fn help<R: Wait>(&mut self, rt: &R, intake: &Intake<NoTicks>)
+        requires intake { self.old.sender.end.intake ≡ intake.now.id }
+        requires order { IsInOrder K.machine self.old }
+        ensures order { IsInOrder K.machine self.new }
+        ensures end { IsSameCore self.old.sender.end self.new.sender.end }
+        ensures settings { (K.machine self.new.core).settings ≡ (K.machine self.old.core).settings }
+        ensures work { WorksOn C.given K.machine self.old self.new }
+    {
+        for _ in 0..MOST {
+            if !self.work_once(rt, intake) {
+                return;
+            }
+        }
+        self.send_all(intake);
+    }
+
+    // A turn without a rest. Whether there may be more to do at once.
+    fn work_once<R: Wait>(&mut self, rt: &R, intake: &Intake<NoTicks>) -> bool
+        requires intake { self.old.sender.end.intake ≡ intake.now.id }
+        requires order { IsInOrder K.machine self.old }
+        ensures order { IsInOrder K.machine self.new }
+        ensures end { IsSameCore self.old.sender.end self.new.sender.end }
+        ensures settings { (K.machine self.new.core).settings ≡ (K.machine self.old.core).settings }
+        ensures work { WorksOn C.given K.machine self.old self.new }
+    {
+        if !self.send_all(intake) || self.gone.all {
+            return false;
+        }
+        self.go_on(rt, intake)
+    }
+
+    /// Whether no end has more to submit, and each was sent all.
+    pub fn is_done(&self) -> bool
+        ensures { result ≡ true → (self.now.gone.all ≡ true) × (self.now.sender.kept.items ≡ []) }
+    {
+        self.gone.all && self.sender.kept.is_empty()
+    }
+
+    /// The moment at which somebody has to look again, whether a step comes or not: when something is due, or at once
+    /// where all is done. Where answers wait for full rings it is the next millisecond, since an end doesn't tell when
+    /// it takes an answer.
+    pub fn next_look(&self) -> Option<Moment> {
+        if self.is_done() {
+            Some(0)
+        } else if self.sender.kept.is_empty() {
+            self.due
+        } else {
+            Some(self.heard.saturating_add(1))
+        }
     }
 
     // Sends what is pending, as far as rings and places reach. Whether the next step's answers have room.
@@ -231,7 +279,6 @@ impl<C: Clock + Drop, K: QueueCore + Drop> Hub<C, K> {
         ensures settings { (K.machine self.new.core).settings ≡ (K.machine self.old.core).settings }
         ensures taken { TakesStep C.given K.machine self.old seat what.now self.new }
     {
-        self.looks = 0;
         self.mark(seat, what);
         self.hear();
         self.core
@@ -297,26 +344,14 @@ impl<C: Clock + Drop, K: QueueCore + Drop> Hub<C, K> {
         reading
     }
 
-    // Looks again at once where a step was found lately. Else the thread rests until one comes, or something is due.
+    // Rests until a step comes or something is due.
     fn rest<R: Wait>(&mut self, rt: &R, intake: &Intake<NoTicks>)
-        ensures { self.new ≡ record self.old { looks = self.new.looks } }
+        ensures { self.new ≡ self.old }
     {
-        if self.looks < LOOKS {
-            self.looks += 1;
-            thread::yield_now();
-            return;
-        }
-        let most = self.longest_rest();
-        self.sender.end.wait(rt, intake, most);
-    }
-
-    // A ring that was full is soon tried again, since its end doesn't tell when it takes an answer.
-    fn longest_rest(&self) -> Duration {
-        if self.sender.kept.is_empty() {
-            Duration::from_millis(rest_until(self.due, self.heard))
-        } else {
-            Duration::from_millis(1)
-        }
+        let rest = rest_until(HOUR, self.next_look(), self.heard);
+        self.sender
+            .end
+            .wait(rt, intake, Duration::from_millis(rest));
     }
 
     /// The end, the core and the clock.
@@ -332,19 +367,8 @@ impl<C: Clock + Drop, K: QueueCore + Drop> Hub<C, K> {
             clock,
             heard: _,
             due: _,
-            looks: _,
             notices: _,
         } = self;
         (sender.end, core, clock)
-    }
-}
-
-// How many milliseconds a rest takes at most.
-fn rest_until(due: Option<Moment>, heard: Moment) -> u64
-    ensures { result ≡ rest_until due heard }
-{
-    match due {
-        None => HOUR,
-        Some(due) => due.saturating_sub(heard).min(HOUR),
     }
 }

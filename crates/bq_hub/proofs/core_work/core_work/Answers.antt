@@ -1,35 +1,8 @@
-use Rattle.std.proofs.Common.{◌≡◌, ◌∙◌, ◌+◌, ap, length, subst, sym}
-use Rattle.bq_job.specs.machine.Machine.{Machine}
+use Rattle.std.proofs.Common.{◌∙◌, ap, length}
 use Rattle.bq_link.specs.EndStates.{CoreState}
-use Rattle.bq_hub.specs.CoreWork.{IsCoreDone}
-use Rattle.bq_hub.specs.Worked.{hub_state}
-use Rattle.bq_hub.proofs.WorkedLemmas.{worked_all}
 use Rattle.bq_hub.proofs.core_work.core_work.Goals as goal
 
-pub loop-preserved : goal.loop-preserved
-loop-preserved g c =
-    let turn = c.turn.ensures in
-    let before = c.loop.invariant in
-    record {
-      iterator = (tt, tt);
-      order = turn.order;
-      end = (turn.end.0 ∙ before.end.0, turn.end.1 ∙ before.end.1);
-      settings = turn.settings ∙ before.settings;
-      work = turn.work (g.K.QueueCore.machine c.args.core).settings c.args.clock before.work;
-    }
-
-pub returns-then-turn-clause-ran : goal.returns-then-turn-clause-ran
-returns-then-turn-clause-ran g c =
-    let settings = (g.K.QueueCore.machine c.args.core).settings in
-    let hub = c.turn.new.self in
-    let parts = c.into_parts.ensures in
-    let order = c.turn.ensures.order in
-    let over = c.turn.ensures.over c.if-turn.true in
-    let work = c.turn.ensures.work settings c.args.clock c.loop.invariant.work in
-    let ends : length hub.sender.end.rings ≡ settings.seats + 1 = ap length (c.turn.ensures.end.1 ∙ c.loop.invariant.end.1) ∙ c.requires.ends.rings in
-    let done = worked_all settings work.0 (hub_state g.K.QueueCore.machine hub) work.2 over.none_pending ends (order.many ∙ sym order.sender.places.ends ∙ ends) over.all_gone in (
-      work.0,
-      subst (λ clock. g.C.Clock.given c.args.clock work.0 clock) (sym parts.2) work.1,
-      subst (λ (e : CoreState). IsCoreDone settings work.0 e (g.K.QueueCore.machine c.into_parts.result.1)) (sym parts.0)
-          (subst (λ (m : Machine). IsCoreDone settings work.0 hub.sender.end m) (ap g.K.QueueCore.machine (sym parts.1)) done),
-    )
+pub returns-clause-ran : goal.returns-clause-ran
+returns-clause-ran g c =
+    let new = c.new.ensures in
+    c.run_out.ensures.ran (g.K.QueueCore.machine c.args.core).settings c.args.clock new.work (ap (λ (e : CoreState). length e.rings) new.end ∙ c.requires.ends.rings)
