@@ -6,6 +6,7 @@ ghost use Rattle.bq_link.specs.EndStates.{IsSameSeat};
 ghost use Rattle.bq_ends.specs.Ends.{IsNewEnd};
 
 use crate::end_seat::control_at;
+use crate::shared_core::SharedCore;
 use bq_attend::control_line::ControlLine;
 use bq_link::{Intake, NoTicks, SeatEnd};
 use std::io::BufRead;
@@ -13,9 +14,10 @@ use std::sync::Wait;
 
 /// Reads the control line to its end or its fault. A drain is submitted for each of its lines that says so,
 /// and at last that it is gone. The line comes back with what was read of it.
-pub fn control_work<R: Wait, I: BufRead + Drop>(
+pub fn control_work<R: Wait, S: SharedCore, I: BufRead + Drop>(
     rt: &R,
     intake: &Intake<NoTicks>,
+    core: &S,
     end: SeatEnd,
     control: I,
 ) -> (SeatEnd, ControlLine<I>)
@@ -30,6 +32,6 @@ pub fn control_work<R: Wait, I: BufRead + Drop>(
 {
     let mut end = end;
     let mut control = ControlLine::new(control);
-    control_at(rt, intake, &mut end, &mut control);
+    control_at(rt, intake, core, &mut end, &mut control);
     (end, control)
 }

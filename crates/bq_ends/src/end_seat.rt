@@ -13,6 +13,7 @@ ghost use Rattle.bq_link.specs.EndStates.{IsSameSeat, WasFull};
 ghost use Rattle.bq_link.specs.Submissions.{MaySubmit};
 ghost use Rattle.bq_ends.specs.Ends.{EndWent, LinkWent};
 
+use crate::shared_core::SharedCore;
 use bq_attend::attendant::Attendant;
 use bq_attend::client::Room;
 use bq_attend::control::{ControlLink, submit_control};
@@ -24,36 +25,40 @@ use bq_line::line::Line;
 use bq_link::{Intake, NoTicks, Record, SeatEnd};
 use bq_seat::Action;
 use std::alloc::Global;
+use std::mem;
 use std::sync::Wait;
 use std::time::Duration;
-use std::{mem, thread};
 
-/// How often an end looks whether its last step was answered before it rests.
-const LOOKS: u32 = 50;
+/// How long an end rests first whose answer hasn't come, in milliseconds. Then the line of a seat whose reserve waits
+/// is read again: a client that has gone is noticed.
+const FIRST_REST: u64 = 100;
 
-/// How long an end rests whose answer hasn't come, in milliseconds. Then the line of a seat whose reserve waits is
-/// read again: a client that has gone is noticed.
-const LONGEST_REST: u64 = 100;
+/// How long it rests at most, in milliseconds. Each rest is twice as long as the one before, since a client that has
+/// waited for long is seldom gone, and many may wait.
+const LONGEST_REST: u64 = 1_000;
 
-/// The end of a seat, or of the control line, with the intake into which it submits.
+/// The end of a seat, or of the control line, with the intake into which it submits, and the core that takes its steps.
 #[derive(Drop)]
-pub struct EndSeat<'a, R> {
+pub struct EndSeat<'a, R, S> {
     rt: &'a R,
     intake: &'a Intake<NoTicks>,
+    core: &'a S,
     end: &'a mut SeatEnd,
-    // How often it looks for an answer: again and again once a step was submitted, since most are answered at once. Where
-    // none came by then, what the line holds back goes out, and from then on each look rests first.
-    looks: u32,
+    // For how many milliseconds it rests before it looks for an answer: not at all once a step was submitted. Where the
+    // answer isn't there then, that is told at once, so that what the line holds back can go out first.
+    rest: u64,
 }
 
-impl<'a, R: Wait> Link for EndSeat<'a, R> {
+impl<'a, R: Wait, S: SharedCore> Link for EndSeat<'a, R, S> {
     ghost is_ready = { λ l. l.end.now.intake ≡ l.intake.now.id };
 
     ghost went = { LinkWent };
 
     fn submit(&mut self, step: Step) -> Result<(), Step> {
-        self.looks = LOOKS;
-        submit_at(self.rt, self.intake, self.end, step)
+        self.rest = 0;
+        let submitted = submit_at(self.rt, self.intake, self.end, step);
+        self.core.help(self.rt);
+        submitted
     }
 
     fn mail(&mut self) -> Option<Answer>
@@ -63,29 +68,40 @@ impl<'a, R: Wait> Link for EndSeat<'a, R> {
         // There is none only where none was known to wait.
         ensures none { IfNone result (self.old.end.now.waiting ≡ []) }
     {
-        let looks = mem::replace(&mut self.looks, 0);
-        answer_at(self.rt, self.intake, self.end, looks)
+        let rest = self.rest;
+        self.rest = next_rest(rest);
+        answer_at(self.rt, self.intake, self.end, rest)
     }
 
     fn submit_in_place(&mut self, step: &mut Step) -> bool {
-        self.looks = LOOKS;
-        submit_step(self.rt, self.intake, self.end, step)
+        self.rest = 0;
+        let is_submitted = submit_step(self.rt, self.intake, self.end, step);
+        self.core.help(self.rt);
+        is_submitted
     }
 
     fn mail_in_place(&mut self, place: &mut Action) -> bool {
-        let looks = mem::replace(&mut self.looks, 0);
-        mail_at(self.rt, self.intake, self.end, looks, place)
+        let rest = self.rest;
+        self.rest = next_rest(rest);
+        mail_at(self.rt, self.intake, self.end, rest, place)
     }
 }
 
-impl<'a, R: Wait> ControlLink for EndSeat<'a, R> {
+impl<'a, R: Wait, S: SharedCore> ControlLink for EndSeat<'a, R, S> {
     ghost is_ready = { λ l. l.end.now.intake ≡ l.intake.now.id };
 
     ghost went = { λ first submitted last. LinkWent first submitted [] last };
 
     fn submit(&mut self, step: Step) -> Result<(), Step> {
-        submit_at(self.rt, self.intake, self.end, step)
+        let submitted = submit_at(self.rt, self.intake, self.end, step);
+        self.core.help(self.rt);
+        submitted
     }
+}
+
+// How long an end rests that finds no answer after a rest of so many milliseconds.
+fn next_rest(rest: u64) -> u64 {
+    rest.saturating_mul(2).clamp(FIRST_REST, LONGEST_REST)
 }
 
 // Submits a step at an end, or hands it back where the intake is full.
@@ -142,13 +158,13 @@ fn answer_at<R: Wait>(
     rt: &R,
     intake: &Intake<NoTicks>,
     end: &mut SeatEnd,
-    looks: u32,
+    rest: u64,
 ) -> Option<Answer>
     ensures went { EndWent end.old [] (option_to_list result) end.new }
     ensures none { IfNone result ((end.old.waiting ≡ []) × (end.new ≡ end.old)) }
 {
     let mut place = Action::PollMail;
-    if mail_at(rt, intake, end, looks, &mut place) {
+    if mail_at(rt, intake, end, rest, &mut place) {
         answer_in(place)
     } else {
         None
@@ -164,26 +180,20 @@ fn answer_in(action: Action) -> Option<Answer>
     }
 }
 
-// Takes the oldest answer that came to an end, to be written. Where there is none yet the end looks so often. One that is
-// to look no more rests until its bell is rung, and looks once.
+// Takes the oldest answer that came to an end, to be written. The end rests first, until its bell is rung or so many
+// milliseconds have passed, and then looks once.
 fn mail_at<R: Wait>(
     rt: &R,
     intake: &Intake<NoTicks>,
     end: &mut SeatEnd,
-    looks: u32,
+    rest: u64,
     place: &mut Action,
 ) -> bool
     ensures went { TakesInPlace EndWent end.old place.old result place.new end.new }
     ensures none { result ≡ false → (end.old.waiting ≡ []) × (end.new ≡ end.old) }
 {
-    if looks == 0 {
-        end.wait(rt, intake, Duration::from_millis(LONGEST_REST));
-    }
-    for _ in 1..looks {
-        if look(end, place) {
-            return true;
-        }
-        thread::yield_now();
+    if rest > 0 {
+        end.wait(rt, intake, Duration::from_millis(rest));
     }
     look(end, place)
 }
@@ -202,17 +212,19 @@ fn look(end: &mut SeatEnd, place: &mut Action) -> bool
     }
 }
 
-/// One action of a seat that attends to a door, by its end of the links. Says whether something moved. `looks` is how
-/// often it looks for an answer before it rests, from one action to the next: 0 at first.
-pub fn attend_at<R: Wait, L: Line + Drop, D: Door<Line = L>>(
+/// One action of a seat that attends to a door, by its end of the links. Says whether something moved. `rest` is for how
+/// many milliseconds it rests before it looks for an answer, from one action to the next: 0 at first, and whenever the
+/// last action was to submit a step.
+pub fn attend_at<R: Wait, S: SharedCore, L: Line + Drop, D: Door<Line = L>>(
     rt: &R,
     alloc: Global,
     intake: &Intake<NoTicks>,
+    core: &S,
     end: &mut SeatEnd,
     attendant: &mut Attendant<L>,
     door: &mut D,
     room: &mut Room,
-    looks: &mut u32,
+    rest: &mut u64,
 ) -> bool
     requires intake { end.old.intake ≡ intake.now.id }
     requires placed { IsPlaced attendant.old.place (door_seen D.is_out D.is_at_end D.lines_over door.old) }
@@ -224,18 +236,20 @@ pub fn attend_at<R: Wait, L: Line + Drop, D: Door<Line = L>>(
     let mut link = EndSeat {
         rt,
         intake,
+        core,
         end,
-        looks: *looks,
+        rest: *rest,
     };
     let moved = attendant.go_on(alloc, door, &mut link, room);
-    *looks = link.looks;
+    *rest = link.rest;
     moved
 }
 
 /// Serves the control line by its end of the links.
-pub fn control_at<R: Wait, I: ControlInput>(
+pub fn control_at<R: Wait, S: SharedCore, I: ControlInput>(
     rt: &R,
     intake: &Intake<NoTicks>,
+    core: &S,
     end: &mut SeatEnd,
     control: &mut I,
 )
@@ -250,8 +264,9 @@ pub fn control_at<R: Wait, I: ControlInput>(
     let mut link = EndSeat {
         rt,
         intake,
+        core,
         end,
-        looks: 0,
+        rest: 0,
     };
     submit_control(rt, control, &mut link);
 }

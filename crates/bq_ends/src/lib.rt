@@ -5,3 +5,4 @@
 pub mod control_work;
 mod end_seat;
 pub mod seat_work;
+pub mod shared_core;

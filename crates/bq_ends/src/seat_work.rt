@@ -7,6 +7,7 @@ ghost use Rattle.bq_link.specs.EndStates.{IsSameSeat};
 ghost use Rattle.bq_ends.specs.Ends.{IsNewEnd};
 
 use crate::end_seat::attend_at;
+use crate::shared_core::SharedCore;
 use bq_attend::attendant::{Attendant, Place};
 use bq_attend::client::{ROOM_BYTES, Room};
 use bq_line::Door;
@@ -15,18 +16,21 @@ use bq_link::{Intake, NoTicks, SeatEnd};
 use bq_seat::SeatMachine;
 use std::alloc::Global;
 use std::sync::Wait;
-use std::thread;
 use std::time::Duration;
 
 /// How long a seat rests whose line has no bytes yet and didn't wait for any, in milliseconds.
 const LINE_REST: u64 = 10;
 
+/// How long a seat rests that found the intake full, in milliseconds. It has room again soon.
+const INTAKE_REST: u64 = 1;
+
 /// Serves the lines of a door one after another, until no more come. Steps are submitted at an end of the
 /// links, and their answers taken there.
-pub fn seat_work<R: Wait, L: Line + Drop, D: Door<Line = L> + Drop>(
+pub fn seat_work<R: Wait, S: SharedCore, L: Line + Drop, D: Door<Line = L> + Drop>(
     rt: &R,
     alloc: Global,
     intake: &Intake<NoTicks>,
+    core: &S,
     end: SeatEnd,
     machine: SeatMachine,
     door: D,
@@ -49,7 +53,7 @@ pub fn seat_work<R: Wait, L: Line + Drop, D: Door<Line = L> + Drop>(
         place: Place::Between,
     };
     let room: &mut Room = &mut [0; ROOM_BYTES];
-    let mut looks = 0;
+    let mut rest = 0;
     for _ in rt.forever() {
         if attendant.is_done() {
             return (end, door);
@@ -58,26 +62,40 @@ pub fn seat_work<R: Wait, L: Line + Drop, D: Door<Line = L> + Drop>(
             rt,
             alloc,
             intake,
+            core,
             &mut end,
             &mut attendant,
             &mut door,
             room,
-            &mut looks,
+            &mut rest,
         ) {
-            rest(rt, intake, &mut end, attendant.awaits_line());
+            pause(
+                rt,
+                intake,
+                &mut end,
+                pause_after(attendant.awaits_line(), rest),
+            );
         }
     }
     unreachable!()
 }
 
-// Before the same is tried again where nothing moved. A look at the mail has rested by itself, and a full intake
-// has room again soon.
-fn rest<R: Wait>(rt: &R, intake: &Intake<NoTicks>, end: &mut SeatEnd, awaits_line: bool)
+// For how many milliseconds a seat pauses before it goes on where nothing moved. A look at its mail has rested by itself,
+// or will, which `rest` tells; where it is none, the intake was full.
+fn pause_after(awaits_line: bool, rest: u64) -> u64 {
+    if awaits_line {
+        LINE_REST
+    } else if rest > 0 {
+        0
+    } else {
+        INTAKE_REST
+    }
+}
+
+fn pause<R: Wait>(rt: &R, intake: &Intake<NoTicks>, end: &mut SeatEnd, most: u64)
     ensures { end.new ≡ end.old }
 {
-    if awaits_line {
-        end.wait(rt, intake, Duration::from_millis(LINE_REST));
-    } else {
-        thread::yield_now();
+    if most > 0 {
+        end.wait(rt, intake, Duration::from_millis(most));
     }
 }

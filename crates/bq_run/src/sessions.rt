@@ -18,11 +18,13 @@ use posts::Ended;
 use settle::settle;
 use std::alloc::Global;
 use std::io::BufRead;
+use std::marker::Brand;
 use std::sync::Wait;
 use std::thread::Threads;
 use threads::serve_in_scope;
 
 mod core_post;
+mod locked_core;
 mod new_posts;
 mod posts;
 mod seat_post;
@@ -91,7 +93,7 @@ pub fn run_sessions<
         return Err(RunFault::NoMemory);
     };
     let start = Start::new();
-    let ended = match serve_in_scope(rt, alloc, posts, &start, control) {
+    let ended = match serve_in_scope::<R, L, D, C, I, K, Brand>(rt, alloc, posts, &start, control) {
         Ok(ended) => ended,
         Err(fault) => return Err(fault),
     };

@@ -1,17 +1,15 @@
-//! The core with its end of the links and the clock, which a thread of its own serves.
-ghost use Rattle.std.specs.Prelude.{◌≡◌, ◌<◌, ◌+◌, [], IfSome};
+//! The core with its end of the links and the clock.
+ghost use Rattle.std.specs.Prelude.{◌≡◌, ◌<◌, ◌+◌, [], Some};
 ghost use Rattle.bq_job.specs.machine.Machine.{new_machine};
 ghost use Rattle.bq_link.specs.NewEnds.{IsNewCore};
 ghost use Rattle.bq_hub.specs.CoreWork.{IsNewRoom};
-ghost use Rattle.bq_run.specs.Threads.{IsCoreOver};
 
-use bq_hub::core_work::{CoreRoom, core_work};
+use crate::sessions::locked_core::LockedCore;
+use bq_hub::core_work::{CoreRoom, Hub, Origin, SharedHub};
 use bq_line::clock::Clock;
 use bq_link::{CoreEnd, Intake, NoTicks};
-use bq_start::Start;
 use bq_steps::{Config, Outs, QueueCore};
 use std::alloc::Global;
-use std::sync::Wait;
 
 /// A core and its end, at neither of which anything was done, and what it needs.
 #[derive(Drop)]
@@ -33,10 +31,9 @@ pub struct CorePost<'a, C, K: QueueCore> {
 }
 
 impl<'a, C: Clock + Drop, K: QueueCore + Drop> CorePost<'a, C, K> {
-    /// Serves all ends until no steps come from any, and gives back the end, the core and the clock. Where some
-    /// thread was not started there is nothing.
-    pub fn serve<R: Wait>(self, rt: &R, start: &Start) -> Option<(CoreEnd, K, C)>
-        ensures { IfSome result (λ r. IsCoreOver C.given self.entry.config self.entry.end self.entry.clock r.0 (K.machine r.1) r.2) }
+    /// The core under a lock, with nothing done yet.
+    pub fn locked<O: Origin<C>>(self) -> LockedCore<'a, C, K, O>
+        requires start { O.start ≡ Some (self.clock, (self.config, self.end)) }
     {
         let CorePost {
             alloc,
@@ -48,10 +45,7 @@ impl<'a, C: Clock + Drop, K: QueueCore + Drop> CorePost<'a, C, K> {
             room,
             clock,
         } = self;
-        if start.wait(rt) {
-            Some(core_work(rt, alloc, intake, end, core, outs, room, clock))
-        } else {
-            None
-        }
+        let hub = Hub::new(alloc, end, core, outs, room, clock);
+        LockedCore::new(SharedHub::new(hub, intake))
     }
 }

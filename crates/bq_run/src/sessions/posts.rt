@@ -30,6 +30,24 @@ pub struct Posts<'a, D: Door, C, K: QueueCore> {
     ghost limits: { All (λ post. post.max_job_size ≡ max_job_size) seats.items },
 }
 
+/// The same without the core.
+#[derive(Drop)]
+pub struct EndPosts<'a, D: Door> {
+    pub seats: Vec<SeatPost<'a, D>, Global>,
+    pub control: ControlPost<'a>,
+    pub max_job_size: u32,
+    ghost limits: { All (λ post. post.max_job_size ≡ max_job_size) seats.items },
+}
+
+/// What the threads of the ends gave back.
+#[derive(Drop)]
+pub struct EndedEnds<D, I> {
+    pub ends: Vec<SeatEnd, Global>,
+    pub doors: Vec<D, Global>,
+    pub control_end: SeatEnd,
+    pub control: ControlLine<I>,
+}
+
 /// What the threads of a run gave back. The ends and the doors stand in the order of their seats.
 #[derive(Drop)]
 pub struct Ended<D, C, I, K> {

@@ -1,22 +1,23 @@
 //! The threads of a run: they start together or not at all, and give back what they served.
-ghost use Rattle.std.specs.Prelude.{◌≡◌, ◌++◌, [], IfOk, IfSome, IsErrOf, IsTrue, map, vec_len};
+ghost use Rattle.std.specs.Prelude.{◌≡◌, ◌++◌, [], Some, IfOk, IfSome, IsErrOf, IsTrue, map, vec_len};
 ghost use Rattle.std.specs.List.{All};
 ghost use Rattle.bq_attend.specs.Tending.{AreSame, IsDoorServed, door_seen};
 ghost use Rattle.bq_link.specs.EndStates.{IsSameSeat};
 ghost use Rattle.bq_run.specs.Threads.{AreServed, IsControlOver, IsCoreOver, last_first};
 
-use crate::sessions::core_post::CorePost;
-use crate::sessions::posts::{ControlPost, Ended, Posts};
+use crate::sessions::locked_core::LockedCore;
+use crate::sessions::posts::{ControlPost, EndPosts, Ended, EndedEnds, Posts};
 use crate::sessions::seat_post::SeatPost;
 use bq_attend::control_line::ControlLine;
 use bq_ends::control_work::control_work;
-use bq_job::NoMemory;
+use bq_ends::shared_core::SharedCore;
+use bq_hub::core_work::Origin;
 use bq_line::Door;
 use bq_line::clock::Clock;
 use bq_line::line::Line;
-use bq_link::{CoreEnd, SeatEnd};
+use bq_link::SeatEnd;
 use bq_start::{RunFault, Start};
-use bq_steps::{Config, QueueCore};
+use bq_steps::QueueCore;
 use std::alloc::Global;
 use std::io::BufRead;
 use std::snapshot::Snapshot;
@@ -38,20 +39,9 @@ impl<D: Door> Promise<Option<(SeatEnd, D)>> for SeatPromise<D> {
         × IfSome result (λ r. D.same p.door.value r.1) };
 }
 
-// What the core did, where its thread began.
-#[derive(Drop)]
-struct CorePromise<C> {
-    end: Snapshot<CoreEnd>,
-    clock: Snapshot<C>,
-    settings: Config,
-}
-
-impl<C: Clock, K: QueueCore> Promise<Option<(CoreEnd, K, C)>> for CorePromise<C> {
-    ghost kept_by = { λ p result. IfSome result (λ r. IsCoreOver C.given p.settings p.end.value p.clock.value r.0 (K.machine r.1) r.2) };
-}
-
-/// Serves all posts, those of the seats and the core each in a thread of its own, and the control line in this
-/// one. The threads begin once all of them were started.
+/// Serves all posts, those of the seats each in a thread of its own, and the control line in this one. The core lies
+/// under a lock, and whoever has submitted a step does its work; one more thread watches its clock. The threads begin
+/// once all of them were started.
 pub fn serve_in_scope<
     R: Threads + Wait + Sync,
     L: Line + Drop + Send,
@@ -59,6 +49,7 @@ pub fn serve_in_scope<
     C: Clock + Drop + Send,
     I: BufRead + Drop,
     K: QueueCore + Drop + Send,
+    O: Origin<C> + Send,
 >(
     rt: &R,
     alloc: Global,
@@ -66,49 +57,7 @@ pub fn serve_in_scope<
     start: &Start,
     control: I,
 ) -> Result<Ended<D, C, I, K>, RunFault>
-    ensures fault { IsErrOf result RunFault.BadConfiguration → ⊥ }
-    ensures served { let at = door_seen D.is_out D.is_at_end D.lines_over in
-        let firsts = last_first (map (λ p. p.end) posts.entry.seats.items) in
-        IfOk result (λ r. AreServed at posts.entry.max_job_size firsts r.ends.items r.doors.items) }
-    ensures same { IfOk result (λ r. AreSame D.same (last_first (map (λ p. p.door) posts.entry.seats.items)) r.doors.items) }
-    ensures core { let core = posts.entry.core in
-        IfOk result (λ r. IsCoreOver C.given core.config core.end core.clock r.core_end (K.machine r.core) r.clock) }
-    ensures control { IfOk result (λ r. IsControlOver I.remaining posts.entry.control.end control r.control_end r.control) }
-{
-    thread::scope(
-        thread::scope_env(),
-        rt,
-        move |scope| -> Result<Ended<D, C, I, K>, RunFault>
-            ensures fault { IsErrOf result RunFault.BadConfiguration → ⊥ }
-            ensures served { let at = door_seen D.is_out D.is_at_end D.lines_over in
-                let firsts = last_first (map (λ p. p.end) posts.entry.seats.items) in
-                IfOk result (λ r. AreServed at posts.entry.max_job_size firsts r.ends.items r.doors.items) }
-            ensures same { IfOk result (λ r. AreSame D.same (last_first (map (λ p. p.door) posts.entry.seats.items)) r.doors.items) }
-            ensures core { let core = posts.entry.core in
-                IfOk result (λ r. IsCoreOver C.given core.config core.end core.clock r.core_end (K.machine r.core) r.clock) }
-            ensures control { IfOk result (λ r. IsControlOver I.remaining posts.entry.control.end control r.control_end r.control) }
-        { serve_all(scope, rt, alloc, posts, start, control) },
-    )
-}
-
-// The same, in the scope of the threads.
-fn serve_all<
-    's,
-    E,
-    R: Threads + Wait + Sync,
-    L: Line + Drop + Send + 's,
-    D: Door<Line = L> + Drop + Send + 's,
-    C: Clock + Drop + Send + 's,
-    I: BufRead + Drop,
-    K: QueueCore + Drop + Send + 's,
->(
-    scope: &'s Scope<'s, E>,
-    rt: &'s R,
-    alloc: Global,
-    posts: Posts<'s, D, C, K>,
-    start: &'s Start,
-    control: I,
-) -> Result<Ended<D, C, I, K>, RunFault>
+    requires start { O.start ≡ Some (posts.core.clock, (posts.core.config, posts.core.end)) }
     ensures fault { IsErrOf result RunFault.BadConfiguration → ⊥ }
     ensures served { let at = door_seen D.is_out D.is_at_end D.lines_over in
         let firsts = last_first (map (λ p. p.end) posts.entry.seats.items) in
@@ -124,28 +73,23 @@ fn serve_all<
         control: control_post,
         max_job_size,
     } = posts;
-    let count = seats.len();
-    let (Ok(mut threads), Ok(doors), Ok(ends)) = (
-        Vec::with_capacity(alloc, count),
-        Vec::with_capacity(alloc, count),
-        Vec::with_capacity(alloc, count + 1),
-    ) else {
-        return Err(RunFault::NoMemory);
+    let core: LockedCore<'_, C, K, O> = core.locked();
+    let posts = EndPosts {
+        seats,
+        control: control_post,
+        max_job_size,
     };
-    let Ok(core_thread) = start_core(scope, rt, core, start) else {
-        return Err(RunFault::ThreadRefused);
+    let ended = match serve_ends(rt, alloc, posts, &core, start, control) {
+        Ok(ended) => ended,
+        Err(fault) => return Err(fault),
     };
-    let all_started = start_seats(scope, rt, seats, start, max_job_size, &mut threads);
-    start.tell(rt, all_started);
-    if !all_started {
-        // The scope waits for those that were.
-        return Err(RunFault::ThreadRefused);
-    }
-    let (control_end, control) = serve_control(rt, control_post, control);
-    let (ends, doors) = join_seats(rt, threads, ends, doors, max_job_size)?;
-    let Some((core_end, core, clock)) = core_thread.join(rt) else {
-        return Err(RunFault::ThreadRefused);
-    };
+    let EndedEnds {
+        ends,
+        doors,
+        control_end,
+        control,
+    } = ended;
+    let (core_end, core, clock) = core.run_out(rt);
     Ok(Ended {
         ends,
         doors,
@@ -157,43 +101,117 @@ fn serve_all<
     })
 }
 
-fn serve_control<R: Wait, I: BufRead + Drop>(
+// Serves the posts of all ends, around a core that they share.
+fn serve_ends<
+    R: Threads + Wait + Sync,
+    L: Line + Drop + Send,
+    D: Door<Line = L> + Drop + Send,
+    S: SharedCore + Sync,
+    I: BufRead + Drop,
+>(
+    rt: &R,
+    alloc: Global,
+    posts: EndPosts<'_, D>,
+    core: &S,
+    start: &Start,
+    control: I,
+) -> Result<EndedEnds<D, I>, RunFault>
+    ensures fault { IsErrOf result RunFault.BadConfiguration → ⊥ }
+    ensures served { let at = door_seen D.is_out D.is_at_end D.lines_over in
+        let firsts = last_first (map (λ p. p.end) posts.entry.seats.items) in
+        IfOk result (λ r. AreServed at posts.entry.max_job_size firsts r.ends.items r.doors.items) }
+    ensures same { IfOk result (λ r. AreSame D.same (last_first (map (λ p. p.door) posts.entry.seats.items)) r.doors.items) }
+    ensures control { IfOk result (λ r. IsControlOver I.remaining posts.entry.control.end control r.control_end r.control) }
+{
+    thread::scope(
+        thread::scope_env(),
+        rt,
+        move |scope| -> Result<EndedEnds<D, I>, RunFault>
+            ensures fault { IsErrOf result RunFault.BadConfiguration → ⊥ }
+            ensures served { let at = door_seen D.is_out D.is_at_end D.lines_over in
+                let firsts = last_first (map (λ p. p.end) posts.entry.seats.items) in
+                IfOk result (λ r. AreServed at posts.entry.max_job_size firsts r.ends.items r.doors.items) }
+            ensures same { IfOk result (λ r. AreSame D.same (last_first (map (λ p. p.door) posts.entry.seats.items)) r.doors.items) }
+            ensures control { IfOk result (λ r. IsControlOver I.remaining posts.entry.control.end control r.control_end r.control) }
+        { serve_all(scope, rt, alloc, posts, core, start, control) },
+    )
+}
+
+// The same, in the scope of the threads.
+fn serve_all<
+    's,
+    E,
+    R: Threads + Wait + Sync,
+    L: Line + Drop + Send + 's,
+    D: Door<Line = L> + Drop + Send + 's,
+    S: SharedCore + Sync,
+    I: BufRead + Drop,
+>(
+    scope: &'s Scope<'s, E>,
+    rt: &'s R,
+    alloc: Global,
+    posts: EndPosts<'s, D>,
+    core: &'s S,
+    start: &'s Start,
+    control: I,
+) -> Result<EndedEnds<D, I>, RunFault>
+    ensures fault { IsErrOf result RunFault.BadConfiguration → ⊥ }
+    ensures served { let at = door_seen D.is_out D.is_at_end D.lines_over in
+        let firsts = last_first (map (λ p. p.end) posts.entry.seats.items) in
+        IfOk result (λ r. AreServed at posts.entry.max_job_size firsts r.ends.items r.doors.items) }
+    ensures same { IfOk result (λ r. AreSame D.same (last_first (map (λ p. p.door) posts.entry.seats.items)) r.doors.items) }
+    ensures control { IfOk result (λ r. IsControlOver I.remaining posts.entry.control.end control r.control_end r.control) }
+{
+    let EndPosts {
+        seats,
+        control: control_post,
+        max_job_size,
+    } = posts;
+    let count = seats.len();
+    let (Ok(mut threads), Ok(doors), Ok(ends)) = (
+        Vec::with_capacity(alloc, count),
+        Vec::with_capacity(alloc, count),
+        Vec::with_capacity(alloc, count + 1),
+    ) else {
+        return Err(RunFault::NoMemory);
+    };
+    let Ok(watcher) = scope.spawn(move || watch(rt, core, start)) else {
+        return Err(RunFault::ThreadRefused);
+    };
+    let all_started = start_seats(scope, rt, seats, core, start, max_job_size, &mut threads);
+    start.tell(rt, all_started);
+    if !all_started {
+        // The scope waits for those that were.
+        return Err(RunFault::ThreadRefused);
+    }
+    let (control_end, control) = serve_control(rt, control_post, core, control);
+    let (ends, doors) = join_seats(rt, threads, ends, doors, max_job_size)?;
+    watcher.join(rt);
+    Ok(EndedEnds {
+        ends,
+        doors,
+        control_end,
+        control,
+    })
+}
+
+// Watches the clock, where all threads were started.
+fn watch<R: Wait, S: SharedCore>(rt: &R, core: &S, start: &Start) {
+    if start.wait(rt) {
+        core.watch(rt);
+    }
+}
+
+fn serve_control<R: Wait, S: SharedCore, I: BufRead + Drop>(
     rt: &R,
     post: ControlPost<'_>,
+    core: &S,
     control: I,
 ) -> (SeatEnd, ControlLine<I>)
     ensures { IsControlOver I.remaining post.entry.end control result.0 result.1 }
 {
     let ControlPost { intake, end } = post;
-    control_work(rt, intake, end, control)
-}
-
-// Starts the thread of the core.
-fn start_core<
-    's,
-    E,
-    R: Threads + Wait + Sync,
-    C: Clock + Drop + Send + 's,
-    K: QueueCore + Drop + Send + 's,
->(
-    scope: &'s Scope<'s, E>,
-    rt: &'s R,
-    post: CorePost<'s, C, K>,
-    start: &'s Start,
-) -> Result<PromisedHandle<Option<(CoreEnd, K, C)>, CorePromise<C>>, NoMemory>
-    ensures settings { IfOk result (λ thread. thread.promise.settings ≡ post.entry.config) }
-    ensures end { IfOk result (λ thread. thread.promise.end.value ≡ post.entry.end) }
-    ensures clock { IfOk result (λ thread. thread.promise.clock.value ≡ post.entry.clock) }
-{
-    let promise = CorePromise {
-        end: Snapshot::of(&post.end),
-        clock: Snapshot::of(&post.clock),
-        settings: post.config,
-    };
-    match scope.spawn_with(promise, move || post.serve(rt, start)) {
-        Ok(thread) => Ok(thread),
-        Err(_) => Err(NoMemory),
-    }
+    control_work(rt, intake, core, end, control)
 }
 
 // Whether a thread was started for each seat.
@@ -203,10 +221,12 @@ fn start_seats<
     R: Threads + Wait + Sync,
     L: Line + Drop + Send + 's,
     D: Door<Line = L> + Drop + Send + 's,
+    S: SharedCore + Sync,
 >(
     scope: &'s Scope<'s, E>,
     rt: &'s R,
     mut posts: Vec<SeatPost<'s, D>, Global>,
+    core: &'s S,
     start: &'s Start,
     max_job_size: u32,
     threads: &mut Vec<PromisedHandle<Option<(SeatEnd, D)>, SeatPromise<D>>, Global>,
@@ -223,7 +243,7 @@ fn start_seats<
             door: Snapshot::of(&post.door),
             max_job_size: post.max_job_size,
         };
-        let Ok(thread) = scope.spawn_with(promise, move || post.serve(rt, start)) else {
+        let Ok(thread) = scope.spawn_with(promise, move || post.serve(rt, core, start)) else {
             return false;
         };
         let Ok(()) = threads.push(thread) else {

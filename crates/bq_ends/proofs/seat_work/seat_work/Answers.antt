@@ -32,8 +32,8 @@ loop-preserved-then-not-attend_at g c =
     let on = tended_on g.L.Line.seen size c.loop.end new.end c.loop.attendant new.attendant (at c.loop.door) (at new.door) c.attend_at.ensures.went c.loop.invariant.tended in
     record {
       iterator = (tt, tt);
-      same = subst (λ (e : SeatState). IsSameSeat c.args.end e) (sym c.rest.ensures) (same.0 ∙ before.0, same.1 ∙ before.1, same.2 ∙ before.2);
-      tended = subst (λ (e : SeatState). IsTended g.L.Line.seen size new.attendant (at new.door) e.submitted e.taken) (sym c.rest.ensures) on;
+      same = subst (λ (e : SeatState). IsSameSeat c.args.end e) (sym c.pause.ensures) (same.0 ∙ before.0, same.1 ∙ before.1, same.2 ∙ before.2);
+      tended = subst (λ (e : SeatState). IsTended g.L.Line.seen size new.attendant (at new.door) e.submitted e.taken) (sym c.pause.ensures) on;
       door = c.attend_at.ensures.door c.args.door c.loop.invariant.door;
     }
 

@@ -1,5 +1,0 @@
-use Rattle.std.proofs.Common.{◌≡◌}
-use Rattle.bq_ends.proofs.end_seat.mail_at.Given as goal
-
-abbrev pub invariant-loop : goal.invariant-loop
-invariant-loop g l = record { same : l.end ≡ l.fn.end; place : l.place ≡ l.fn.place }

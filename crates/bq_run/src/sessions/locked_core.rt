@@ -1,0 +1,64 @@
+//! The core under a lock, which all threads of a run share.
+ghost use Rattle.std.specs.Prelude.{◌≡◌, Some};
+ghost use Rattle.bq_job.specs.declared.settings.Settings.{Settings};
+ghost use Rattle.bq_link.specs.EndStates.{CoreState};
+ghost use Rattle.bq_run.specs.Threads.{IsCoreOver};
+
+use bq_ends::shared_core::SharedCore;
+use bq_hub::core_work::{Origin, SharedHub, run_out};
+use bq_line::clock::Clock;
+use bq_link::CoreEnd;
+use bq_steps::QueueCore;
+use std::sync::{Mutex, Wait};
+use std::thread::Parker;
+use std::time::Duration;
+
+/// A core under a lock, and the bell of who watches its clock. Nobody waits for anything while it holds the lock.
+#[derive(Drop)]
+pub struct LockedCore<'a, C: Clock, K: QueueCore, O: Origin<C>> {
+    lock: Mutex<SharedHub<'a, C, K, O>>,
+    watcher: Parker,
+}
+
+impl<'a, C: Clock + Drop, K: QueueCore + Drop, O: Origin<C>> LockedCore<'a, C, K, O> {
+    /// Nobody watches the clock yet.
+    pub fn new(hub: SharedHub<'a, C, K, O>) -> LockedCore<'a, C, K, O> {
+        LockedCore {
+            lock: Mutex::new(hub),
+            watcher: Parker::new(),
+        }
+    }
+
+    /// Does what is left once no thread shares it any more. Its end, the core and the clock come back.
+    pub fn run_out<R: Wait>(self, rt: &R) -> (CoreEnd, K, C)
+        ensures { (clock : C) (settings : Settings) (end : CoreState) → O.start ≡ Some (clock, (settings, end))
+            → IsCoreOver C.given settings end clock result.0 (K.machine result.1) result.2 }
+    {
+        let LockedCore { lock, watcher: _ } = self;
+        let (hub, intake) = lock.into_inner().into_parts();
+        run_out(rt, intake, hub)
+    }
+}
+
+impl<'a, C: Clock + Drop, K: QueueCore + Drop, O: Origin<C>> SharedCore
+    for LockedCore<'a, C, K, O> {
+    // The lock is given back before the bell is rung: who is woken doesn't find it taken.
+    fn help<R: Wait>(&self, rt: &R) {
+        let is_to_wake = self.lock.lock(rt).help(rt);
+        if is_to_wake {
+            self.watcher.unpark();
+        }
+    }
+
+    // A bell that is rung between the look and the rest is kept.
+    fn watch<R: Wait>(&self, rt: &R) {
+        for _ in rt.forever() {
+            let rest = self.lock.lock(rt).watch(rt);
+            let Some(rest) = rest else {
+                return;
+            };
+            self.watcher.park_timeout(rt, Duration::from_millis(rest));
+        }
+        unreachable!()
+    }
+}
