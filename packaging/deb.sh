@@ -1,57 +1,59 @@
 #!/usr/bin/env bash
 # Makes a Debian package of the programs that were built: packaging/deb.sh [FOLDER], the folder that it goes to.
-# Build them first: tools/build.
+# Both programs have to be built before: tools/build, without a name. Status 2 for bad words, 1 for a fault.
 set -euo pipefail
-cd "$(dirname "$0")/.."
+
+fail() {
+    echo "packaging/deb.sh: $2" >&2
+    exit "$1"
+}
+
+[[ $# -le 1 && ${1:-.} != -* ]] || fail 2 "at most one word, the folder that the package goes to"
+[[ -d ${1:-.} ]] || fail 2 "no folder $1"
 to=$(realpath "${1:-.}")
-version=$(crates/bqd/out/bqd --version 2>/dev/null | awk '{print $2}') || version=
-version=${version:-0.1.0}
-room=$(mktemp -d)
-chmod 755 "$room"
-trap 'rm -rf "$room"' EXIT
-
-install -D -m 755 crates/bqd/out/bqd "$room/usr/bin/bqd"
-# Not in /usr/bin: Google's cloud client has a program of that name there.
-install -D -m 755 crates/bq/out/bq "$room/usr/lib/bqd/bq"
-for unit in bqd.service bqd.socket; do
-    install -D -m 644 "packaging/$unit" "$room/lib/systemd/system/$unit"
+cd "$(dirname "$0")/.."
+for program in bqd bq; do
+    [[ -x crates/$program/out/$program ]] || fail 1 "$program isn't built: run tools/build $program first"
 done
-install -D -m 644 packaging/bqd.default "$room/etc/default/bqd"
-install -D -m 644 packaging/bqd.1 "$room/usr/share/man/man1/bqd.1"
-gzip -9n "$room/usr/share/man/man1/bqd.1"
-install -D -m 644 -t "$room/usr/share/doc/bqd" README.md docs/*.md docs/speed.svg packaging/bq.1
-install -D -m 644 LICENSE "$room/usr/share/doc/bqd/copyright"
+for command in strip dpkg-shlibdeps dpkg-gencontrol dpkg-deb; do
+    command -v "$command" >/dev/null || fail 1 "$command is wanted: it comes with Debian's dpkg-dev and binutils"
+done
+version=$(crates/bqd/out/bqd --version | awk '{print $2}')
+told=$(dpkg-parsechangelog --file packaging/changelog --show-field Version)
+[[ $version = "$told" ]] || fail 1 "bqd says it is $version, and packaging/changelog begins with $told"
 
-mkdir "$room/DEBIAN"
-echo /etc/default/bqd > "$room/DEBIAN/conffiles"
-cat > "$room/DEBIAN/control" <<CONTROL
-Package: bqd
-Version: $version
-Section: net
-Priority: optional
-Architecture: $(dpkg --print-architecture)
-Maintainer: Puzsremit <bqd@localhost>
-Depends: libc6
-Description: work queue server that speaks beanstalkd's protocol, in memory
- Web applications put slow jobs into it; workers reserve, finish, release or
- bury them. A job is lent to one worker at a time, and comes back when the
- worker goes away or takes too long. Each function is proved to meet its
- contract. Clients of beanstalkd 1.12 work unchanged.
-CONTROL
-cat > "$room/DEBIAN/postinst" <<'POSTINST'
-#!/bin/sh
-set -e
-if [ "$1" = configure ] && [ -d /run/systemd/system ]; then
-    systemctl daemon-reload
-    systemctl enable --now bqd.socket bqd.service
-fi
-POSTINST
-cat > "$room/DEBIAN/prerm" <<'PRERM'
-#!/bin/sh
-set -e
-if [ "$1" = remove ] && [ -d /run/systemd/system ]; then
-    systemctl disable --now bqd.service bqd.socket
-fi
-PRERM
-chmod 755 "$room/DEBIAN/postinst" "$room/DEBIAN/prerm"
-dpkg-deb --root-owner-group --build "$room" "$to/bqd_${version}_$(dpkg --print-architecture).deb"
+room=$(mktemp -d)
+trap 'rm -rf "$room"' EXIT
+tree=$room/tree
+install -d -m 755 "$tree"
+
+install -D -m 755 crates/bqd/out/bqd "$tree/usr/bin/bqd"
+# Not in /usr/bin: Google's cloud client has a program of that name there.
+install -D -m 755 crates/bq/out/bq "$tree/usr/lib/bqd/bq"
+strip --remove-section=.comment --remove-section=.note "$tree/usr/bin/bqd" "$tree/usr/lib/bqd/bq"
+install -D -m 644 -t "$tree/usr/share/bqd" packaging/programs/queue_client.py
+for program in bqd-top bqd-drain; do
+    install -m 755 "packaging/programs/$program" "$tree/usr/share/bqd/$program"
+    ln -s "../share/bqd/$program" "$tree/usr/bin/$program"
+done
+install -D -m 644 -t "$tree/lib/systemd/system" packaging/bqd.service packaging/bqd.socket
+install -D -m 644 packaging/bqd.default "$tree/etc/default/bqd"
+install -D -m 644 -t "$tree/usr/share/man/man1" packaging/bqd.1 packaging/bqd-top.1 packaging/bqd-drain.1
+install -D -m 644 -t "$tree/usr/share/doc/bqd" README.md docs/*.md docs/speed.svg packaging/bq.1
+install -D -m 644 packaging/changelog "$tree/usr/share/doc/bqd/changelog"
+install -D -m 644 LICENSE "$tree/usr/share/doc/bqd/copyright"
+gzip -9n "$tree"/usr/share/man/man1/*.1 "$tree/usr/share/doc/bqd/changelog"
+
+# What the package is, with the libraries and their versions that the programs need.
+mkdir "$room/debian" "$tree/DEBIAN"
+cp packaging/debian/control "$room/debian/control"
+cp packaging/changelog "$room/debian/changelog"
+(
+    cd "$room"
+    dpkg-shlibdeps -T"$room/substvars" "$tree/usr/bin/bqd" "$tree/usr/lib/bqd/bq"
+    dpkg-gencontrol -pbqd -P"$tree" -T"$room/substvars" -f"$room/files"
+)
+echo /etc/default/bqd > "$tree/DEBIAN/conffiles"
+install -m 755 -t "$tree/DEBIAN" packaging/debian/postinst packaging/debian/prerm packaging/debian/postrm
+(cd "$tree" && find . -path ./DEBIAN -prune -o -type f -printf '%P\0' | LC_ALL=C sort -z | xargs -0 md5sum > DEBIAN/md5sums)
+dpkg-deb --root-owner-group --build "$tree" "$to/bqd_${version}_$(dpkg --print-architecture).deb"

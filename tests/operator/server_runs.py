@@ -1,0 +1,157 @@
+"""Runs of bqd-top and bqd-drain beside servers that run."""
+import json
+import os
+import pty
+import signal
+import subprocess
+import sys
+import tempfile
+import threading
+import time
+
+from canned import PROGRAMS, drain, top
+from programs import Ended, same
+from servers import Server, awaits
+
+
+def shows_jobs(server):
+    """That bqd-top shows the jobs of two tubes by their states, and what is put meanwhile."""
+    client = server.client()
+    client.asks(b"put 0 0 60 1\r\na\r\nput 0 60 60 1\r\nb\r\nput 0 0 60 1\r\nc\r\n", b"INSERTED 1\r\nINSERTED 2\r\nINSERTED 3\r\n")
+    client.asks(b"reserve-job 1\r\nbury 1 0\r\nreserve-job 3\r\n", b"RESERVED 1 1\r\na\r\nBURIED\r\nRESERVED 3 1\r\nc\r\n")
+    client.asks(b"use mail\r\nput 9 0 60 1\r\nd\r\n", b"USING mail\r\nINSERTED 4\r\n")
+    address = f"127.0.0.1:{server.port}"
+    done = []
+    watching = threading.Thread(target=lambda: done.append(top("--once", "--json", "--interval", "2", address)))
+    watching.start()
+    # What it told at first was told before this, or the rates below are wrong: it is given a second.
+    time.sleep(1)
+    client.asks(b"put 9 0 60 1\r\ne\r\ndelete 4\r\n", b"INSERTED 5\r\nDELETED\r\n")
+    watching.join()
+    found, = done
+    same((found.status, found.errors), (0, b""))
+    shown = json.loads(found.output)
+    states = ["ready", "reserved", "delayed", "buried"]
+    tubes = {it["name"]: [it[state] for state in states] for it in shown["tubes"]}
+    same(tubes, {"default": [0, 1, 1, 1], "mail": [1, 0, 0, 0]})
+    same([shown[it] for it in [*states, "connections", "waiting", "draining"]], [1, 1, 1, 1, 2, 0, False])
+    mail = next(it for it in shown["tubes"] if it["name"] == "mail")
+    same([round(mail[it] * shown["seconds"], 6) for it in ["put_rate", "deleted_rate"]], [1, 1])
+
+
+def bqd_run_jobs(bqd):
+    """Jobs of each state, and rates."""
+    with Server(bqd) as server:
+        shows_jobs(server)
+
+
+def beanstalkd_run_jobs(beanstalkd):
+    """The same of beanstalkd."""
+    with Beanstalkd(beanstalkd) as server:
+        shows_jobs(server)
+
+
+class Beanstalkd(Server):
+    """beanstalkd, which tells nothing when it listens."""
+
+    def __init__(self, program):
+        from servers import free_port
+        port = free_port()
+        super().__init__(program, port=port, listen=["-l", "127.0.0.1", "-p", str(port)], stdout=subprocess.DEVNULL)
+
+
+def bqd_run_many_tubes(bqd):
+    """More tubes than are asked for together, of the longest names."""
+    names = [f"{number:0200}" for number in range(300)]
+    with Server(bqd) as server:
+        client = server.client()
+        for it in names:
+            client.asks(f"use {it}\r\nput 0 0 60 0\r\n\r\n".encode(), f"USING {it}\r\nINSERTED {int(it) + 1}\r\n".encode())
+        found = top("--once", "--json", "--interval", "0.1", f"127.0.0.1:{server.port}")
+        same((found.status, found.errors), (0, b""))
+        same([it["name"] for it in json.loads(found.output)["tubes"]], sorted([*names, "default"]))
+
+
+def bqd_run_all_seats_taken(bqd):
+    """Where all seats are taken it is told that no answer came."""
+    with Server(bqd, "--seats", "1") as server:
+        server.client().asks(b"list-tube-used\r\n", b"USING default\r\n")
+        address = f"127.0.0.1:{server.port}"
+        wanted = f"bqd-top: {address} gave no answer within 0.3 seconds; are all of its seats taken?\n"
+        same(top("--once", "--timeout", "0.3", address), Ended(1, b"", wanted.encode()))
+
+
+def bqd_run_in_place(bqd):
+    """On a terminal pictures come one over another, the first at once, until it is interrupted; that is status 0."""
+    with Server(bqd) as server:
+        own, other = pty.openpty()
+        command = [sys.executable, PROGRAMS / "bqd-top", "--interval", "0.2", f"127.0.0.1:{server.port}"]
+        with subprocess.Popen(command, stdout=other, stderr=subprocess.PIPE) as process:
+            os.close(other)
+            shown = b""
+            while shown.count(b"\033[H") < 3:
+                shown += os.read(own, 4096)
+            process.send_signal(signal.SIGINT)
+            same((process.wait(10), process.stderr.read()), (0, b""))
+        os.close(own)
+        assert shown.startswith(b"\033[2J\033[H127.0.0.1:"), shown
+        first, second = shown.split(b"\033[H")[1:3]
+        assert b"- put/s" in first and b"0.0 put/s" in second and b"default" in second, shown
+
+
+def bqd_run_drain(bqd):
+    """It drains, tells how many jobs are left, and ends when a worker has done all but what is buried."""
+    with tempfile.TemporaryDirectory() as room:
+        pipe = os.path.join(room, "control")
+        os.mkfifo(pipe)
+        with Server(bqd) as server, Relay(pipe, server):
+            client = server.client()
+            client.asks(b"put 0 0 60 1\r\na\r\nput 0 0 60 1\r\nb\r\n", b"INSERTED 1\r\nINSERTED 2\r\n")
+            client.asks(b"reserve\r\nbury 1 0\r\n", b"RESERVED 1 1\r\na\r\nBURIED\r\n")
+            words = ["--control", pipe, f"127.0.0.1:{server.port}"]
+            late = drain("--limit", "0.5", *words)
+            wanted = b"bqd-drain: after 0.5 seconds there are still 1 ready, 0 reserved, 0 delayed\n"
+            same((late.status, late.errors), (1, wanted))
+            same(set(late.output.splitlines()), {b"1 ready, 0 reserved, 0 delayed"})
+            client.asks(b"put 0 0 60 1\r\nc\r\n", b"DRAINING\r\n")
+            working = subprocess.Popen([sys.executable, PROGRAMS / "bqd-drain", *words], stdout=subprocess.PIPE)
+            same(working.stdout.readline(), b"1 ready, 0 reserved, 0 delayed\n")
+            client.asks(b"reserve\r\ndelete 2\r\n", b"RESERVED 2 1\r\nb\r\nDELETED\r\n")
+            output, _ = working.communicate(timeout=20)
+            same((working.returncode, output.splitlines()[-1]), (0, b"drained; 1 buried jobs stay"))
+
+
+def bqd_run_drain_of_another(bqd):
+    """A control line that isn't this server's: it is told that the server doesn't drain."""
+    with tempfile.TemporaryDirectory() as room:
+        pipe = os.path.join(room, "control")
+        os.mkfifo(pipe)
+        held = os.open(pipe, os.O_RDWR)
+        with Server(bqd) as server:
+            address = f"127.0.0.1:{server.port}"
+            wanted = f"bqd-drain: {address} does not drain: is {pipe} its control line?\n"
+            same(drain("--control", pipe, address), Ended(1, b"", wanted.encode()))
+        os.close(held)
+
+
+class Relay:
+    """Hands what is written to a named pipe on to a server's control line."""
+
+    def __init__(self, pipe, server):
+        self.held, self.server = os.open(pipe, os.O_RDWR), server
+        self.thread = threading.Thread(target=self._goes, daemon=True)
+
+    def _goes(self):
+        line = os.read(self.held, 100)
+        if line != b"over\n":
+            self.server.control(line)
+
+    def __enter__(self):
+        self.thread.start()
+        return self
+
+    def __exit__(self, *why):
+        if self.thread.is_alive():
+            os.write(self.held, b"over\n")
+        self.thread.join(10)
+        os.close(self.held)
