@@ -1,0 +1,60 @@
+"""What is tried over programs with a plant, and which parts of it fail."""
+import re
+import subprocess
+import sys
+
+from unproved import KIT, TEST
+
+# How long a trial may take, in seconds: a program that hangs is a program that was seen.
+LIMIT = 600
+
+
+class Trial:
+    """A command over built programs. What it says of a part that fails has a name in this pattern's first group."""
+
+    def __init__(self, name, pattern, needs, words, takes_names=False):
+        self.name, self.pattern, self.needs, self.words = name, re.compile(pattern, re.M), needs, words
+        self.takes_names = takes_names
+
+    def failed(self, root, programs, names=()):
+        """The parts that fail; the trial itself where it names none and doesn't end well."""
+        words = [*self.words(programs), *(sorted(names) if self.takes_names else ())]
+        try:
+            ran = subprocess.run(words, cwd=root, stdin=subprocess.DEVNULL, capture_output=True, text=True, errors="replace", timeout=LIMIT)
+        except subprocess.TimeoutExpired:
+            return {"(did not end)"}
+        found = set(self.pattern.findall(ran.stdout))
+        return found or ({"(as a whole)"} if ran.returncode else set())
+
+    def failed_twice(self, root, programs, known):
+        """The parts that fail, once more where they are tried again, and that don't fail without a plant."""
+        first = self.failed(root, programs) - known
+        return first & self.failed(root, programs, first) if first else first
+
+
+def over(folder, *names):
+    """Words that name the built programs, as --bq PATH."""
+    return lambda programs: [sys.executable, folder, *(it for name in names for it in (f"--{name}", str(programs[name])))]
+
+
+def trials(tests):
+    """The trials in their order, the quickest first: `tests` are the crates with tests of the changed one."""
+    runner = [KIT / "bin/rattle-test", "--seconds", "60"]
+    return [
+        Trial("runs", r"^FAILED \w+\.run_(\w+):", ["bq", "bqd"], over("tests/runs", "bq", "bqd"), takes_names=True),
+        *(Trial(it, r"^test (\S+) \.\.\. FAILED", [it], lambda built, it=it: [*runner, built[it]]) for it in tests),
+        Trial(
+            "refuse", r"^(.+): \d+ runs, (?!well$)", ["bq", "bqd", "bq_refused"],
+            lambda built: [*over("tests/refuse", "bq", "bqd")(built), "--library", built["bq_refused"]],
+        ),
+        Trial(
+            "model", r"^(.+): FAILED,", ["bq", "bqd"],
+            lambda built: [*over("tests/model", "bq", "bqd")(built), "--one-in", "10"],
+        ),
+    ]
+
+
+def tests_of(crate, below):
+    """The lowest crate of tests that stands on this one, and the highest, whose tests go through whole programs."""
+    found = [name for name in below if name.endswith(TEST) and crate in below[name]]
+    return list(dict.fromkeys([found[0], found[-1]]))
