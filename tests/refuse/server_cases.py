@@ -7,7 +7,9 @@ import threading
 
 from refusal import each_in_turn
 
-FAULTS = (b"bqd: no memory\n", b"bqd: a thread was refused\n")
+NEEDS = (b"the options", b"the control line", b"the buffers of the seats", b"the queue and its seats")
+NO_MEMORY = [b"bqd: no memory: for " + need + b"\n" for need in NEEDS]
+NO_THREAD = [b"bqd: a thread was refused\n"]
 NOT_ACCEPTED = b"bqd: a connection could not be accepted\n"
 NO_MORE = b"bqd: no connection can be accepted: Invalid argument (os error 22)\n"
 REFUSED = b"bqd: memory was refused: clients are answered OUT_OF_MEMORY\n"
@@ -65,8 +67,12 @@ def ended(server):
         server.communicate()
 
 
-def start_refused(bqd, nth):
-    """One start with the nth request refused: it serves whom it accepted, or ends with a fault and has told nobody anything."""
+def start_refused(bqd, faults, nth):
+    """One start with the nth request refused: it serves whom it accepted, or ends with a fault and has told nobody anything.
+
+    The fault is no memory, until it is the thread for which the system's library is refused some: all that the server
+    itself asks for comes before. `faults` are those of the starts so far.
+    """
     server, address = started(bqd, ["--seats", str(SEATS), "--sessions", "1"], at=nth)
     told = []
     try:
@@ -80,7 +86,9 @@ def start_refused(bqd, nth):
     refused = bqd.host.was_refused()
     if status == 0 and not complaint and told == SEATS * [[b"USING", b"default"]]:
         return refused, None
-    if refused and status == 1 and complaint in FAULTS and all(it == [b""] for it in told):
+    faults.append(complaint)
+    wanted = NO_THREAD if NO_THREAD[0] in faults else NO_MEMORY
+    if refused and status == 1 and complaint in wanted and all(it == [b""] for it in told):
         return refused, None
     return refused, f"status {status}, {complaint!r}, clients were told {told}"
 
@@ -193,7 +201,8 @@ def load_refused(bqd, every):
 
 def cases(bqd):
     """The cases by name: each a call that answers how many runs it made, and what is wrong or None."""
-    yield "bqd: start", lambda: each_in_turn(lambda nth: start_refused(bqd, nth))
+    faults = []
+    yield "bqd: start", lambda: each_in_turn(lambda nth: start_refused(bqd, faults, nth))
     yield "bqd: a listener that ends", lambda: listener_ends(bqd)
     for every in EACH_NTH:
         yield f"bqd: load, one request in {every} refused", lambda it=every: load_refused(bqd, it)

@@ -7,7 +7,8 @@ from queue_model.machine import PLAIN, Machine
 from judge import judged
 from refusal import each_in_turn
 
-NO_MEMORY = (1, b"", b"bq: no memory\n")
+NEEDS = (b"the options", b"the clock", b"the queue and its seats")
+NO_MEMORY = [(1, b"", b"bq: no memory: for " + need + b"\n") for need in NEEDS]
 
 # Each input with what it is answered where nothing is refused, and where its refusable command is.
 PUT = b"put 0 0 1 1\r\na\r\n"
@@ -31,7 +32,7 @@ EACH_NTH = (2, 3, 5, 7)
 def ending(ran):
     """What is wrong with how a session ended, or None: a fault that was told, or status 0."""
     status, out, complaint = ran
-    if status == 0 and not complaint or ran == NO_MEMORY:
+    if status == 0 and not complaint or ran in NO_MEMORY:
         return None
     return f"status {status}, {out[-60:]!r} on standard output, {complaint[-120:]!r} on standard error"
 
@@ -44,7 +45,7 @@ def by_table(bq, text, full, without):
         ran = bq.run(["--still"], text + b"quit\r\n", at=nth)
         refused = bq.host.was_refused()
         wrong = ending(ran)
-        if not wrong and ran != NO_MEMORY:
+        if not wrong and ran not in NO_MEMORY:
             seen.add(ran[1])
             if ran[1] not in ((full, without) if refused else (full,)):
                 wrong = f"it wrote {ran[1]!r}"
@@ -61,7 +62,7 @@ def by_model(bq, settings, text, **pattern):
     ran = bq.run(["--still", "--max-job-size", str(settings.max_job_size)], text, **pattern)
     refused = bq.host.was_refused()
     wrong = ending(ran)
-    if wrong or ran == NO_MEMORY:
+    if wrong or ran in NO_MEMORY:
         return refused, wrong or (None if refused else "a fault though nothing was refused")
     refusals, wrong = judged(settings, text, ran[1])
     if not wrong and refusals and not refused:
@@ -92,7 +93,7 @@ def words_refused(bq):
 
         def one(nth):
             ran = bq.run(words, b"", at=nth)
-            return bq.host.was_refused(), None if ran in (full, NO_MEMORY) else f"{words}: {ran!r}"
+            return bq.host.was_refused(), None if ran in [full, *NO_MEMORY] else f"{words}: {ran!r}"
         return each_in_turn(one)
     (first, wrong), (second, other) = run(["--help"], 0), run(["--no-such-word"], 2)
     return first + second, wrong or other

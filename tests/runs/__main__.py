@@ -13,8 +13,10 @@ import traceback
 # Nothing is left behind beside these files.
 sys.dont_write_bytecode = True
 
+import answers_runs
 import bq_runs
 import bqd_runs
+import fault_runs
 
 
 def runs_of(module):
@@ -40,7 +42,8 @@ def main():
     parser.add_argument("names", nargs="*", help="the runs whose names have one of these words; all, unless given")
     words = parser.parse_args()
     passed, failed = 0, 0
-    for module, program in [(bq_runs, words.bq), (bqd_runs, words.bqd)]:
+    modules = [(bq_runs, words.bq), (bqd_runs, words.bqd), (answers_runs, words.bqd), (fault_runs, words.bqd)]
+    for module, program in modules:
         for run in runs_of(module):
             if words.names and not any(name in run.__name__ for name in words.names):
                 continue

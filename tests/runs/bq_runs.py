@@ -76,6 +76,7 @@ def run_bad_options(bq):
         ["--listen", "127.0.0.1:0"],
         ["--seats", "1"],
         ["-z", "1"],
+        ["-V"],
         ["--unknown"],
         ["more"],
         [b"\xff"],
@@ -141,19 +142,23 @@ def run_statistics(bq):
 
 
 def run_clock(bq):
-    """Time goes on for a client, unless it is asked to stand still."""
+    """Time goes on for a client as it does elsewhere, unless it is asked to stand still."""
     began = [
-        (wanted, subprocess.Popen([bq, *words], stdin=subprocess.PIPE, stdout=subprocess.PIPE))
-        for words, wanted in [([], b"NOT_FOUND\r\n"), (["--still"], b"TOUCHED\r\n")]
+        (lease, wanted, subprocess.Popen([bq, *words], stdin=subprocess.PIPE, stdout=subprocess.PIPE))
+        for words, lease, wanted in [
+            ([], 1, b"NOT_FOUND\r\n"),
+            ([], 2, b"TOUCHED\r\n"),
+            (["--still"], 1, b"TOUCHED\r\n"),
+        ]
     ]
     answers = b"INSERTED 1\r\nRESERVED 1 1\r\nx\r\n"
-    for _, process in began:
-        process.stdin.write(b"put 0 0 1 1\r\nx\r\nreserve\r\n")
+    for lease, _, process in began:
+        process.stdin.write(b"put 0 0 %d 1\r\nx\r\nreserve\r\n" % lease)
         process.stdin.flush()
         same(process.stdout.read(len(answers)), answers)
-    # Longer than the lease of a second.
+    # Longer than a lease of a second.
     time.sleep(1.1)
-    for wanted, process in began:
+    for _, wanted, process in began:
         output, _ = process.communicate(b"touch 1\r\n", PATIENCE)
         same((process.returncode, output), (0, wanted))
 

@@ -55,7 +55,9 @@ def run_help(bqd):
     same((found.status, found.errors), (0, b""))
     has_all(found.output.decode(), ["bqd", "--listen", "--seats", "1 to 256", "16", "--max-job-size"])
     has_all(found.output.decode(), ["1 to 1048576", "65535", "--sessions", "1 to 4294967295"])
-    has_all(found.output.decode(), ["-l", "-p", "--port", "0 to 65535", "-z", "--version", "--help"])
+    has_all(found.output.decode(), ["-l", "-p", "--port", "0 to 65535", "-z", "-V", "--version", "--help"])
+    has_all(found.output.decode(), ["ADDR", "PORT", "BYTES", "SECONDS"])
+    same(ended(bqd, "-h"), found)
 
 
 def run_help_unwritten(bqd):
@@ -69,13 +71,25 @@ def run_version(bqd):
     tells_version(bqd, "bqd")
 
 
+def cannot_listen(bqd, address, why, *words):
+    """That nobody can listen there, and that the address and the system's words are told."""
+    told = f"bqd: cannot listen: {address}: {why}\n".encode()
+    same(ended(bqd, *words), Ended(1, b"", told))
+
+
 def run_cannot_listen(bqd):
-    """An address that is taken, one without a port, and a text that is none."""
-    wanted = Ended(1, b"", b"bqd: cannot listen\n")
+    """An address that is taken, one of another machine, one that may not be had, and a text that is none."""
     with socket.create_server((LOOPBACK, 0)) as listener:
-        same(ended(bqd, "--listen", f"{LOOPBACK}:{listener.getsockname()[1]}"), wanted)
-    same(ended(bqd, "--listen", LOOPBACK), wanted)
-    same(ended(bqd, "--listen", ""), wanted)
+        port = listener.getsockname()[1]
+        taken = f"{LOOPBACK}:{port}"
+        cannot_listen(bqd, taken, "Address already in use (os error 98)", "--listen", taken)
+        cannot_listen(bqd, taken, "Address already in use (os error 98)", "-l", LOOPBACK, "-p", str(port))
+    # An address that is kept for documents, and no machine's.
+    cannot_listen(bqd, "192.0.2.1:0", "Cannot assign requested address (os error 99)", "--listen", "192.0.2.1:0")
+    for text in [LOOPBACK, "", f"{LOOPBACK}:65536"]:
+        found = ended(bqd, "--listen", text)
+        same((found.status, found.output), (1, b""))
+        has_all(found.errors.decode(), [f"bqd: cannot listen: {text}: ", "\n"])
 
 
 def run_one_client(bqd):
@@ -109,9 +123,9 @@ def run_chosen_port(bqd):
 
 
 def run_words_of_beanstalkd(bqd):
-    """Address, port and size of bodies can be chosen by -l, -p and -z."""
+    """Address, port and size of bodies can be chosen by -l, -p and -z, and -V changes nothing."""
     port = free_port()
-    words = ["-l", LOOPBACK, "-p", str(port), "-z", "3"]
+    words = ["-V", "-l", LOOPBACK, "-p", str(port), "-VV", "-z", "3"]
     with Server(bqd, "--seats", "1", listen=words, port=port) as server:
         same(server.told, f"listening {LOOPBACK}:{port}\n".encode())
         client = server.client()

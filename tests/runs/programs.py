@@ -66,6 +66,7 @@ def tells_version(program, name):
     """That a program tells its name and its version alone."""
     found = ended(program, "--version")
     same((found.status, found.errors), (0, b""))
+    same(ended(program, "-v"), found)
     if not re.fullmatch(rf"{name} [0-9]+\.[0-9]+\.[0-9]+\n", found.output.decode()):
         raise AssertionError(found.output)
 
@@ -75,7 +76,7 @@ def has_no_memory(program, name, *words):
 
     The limit on its data rises until the program begins at all: below that the system's loader can't load it.
     """
-    told = f"{name}: no memory\n".encode()
+    told = f"{name}: no memory: for the options\n".encode()
     for most in range(0, 64 << 20, 16 << 10):
         try:
             found = ended(program, *words, before=limits(DATA=most))

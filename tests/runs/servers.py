@@ -40,7 +40,7 @@ class Server:
     What it told of its address is in `told`. Its standard input stays open until it is left.
     """
 
-    def __init__(self, bqd, *words, listen=None, port=None, stdout=subprocess.PIPE, before=None):
+    def __init__(self, bqd, *words, listen=None, port=None, stdout=subprocess.PIPE, before=None, env=None):
         self.port = port or free_port()
         self.process = subprocess.Popen(
             [bqd, *(listen or ["--listen", f"127.0.0.1:{self.port}"]), *words],
@@ -49,6 +49,7 @@ class Server:
             stderr=subprocess.PIPE,
             bufsize=0,
             preexec_fn=before,
+            env=env,
         )
         self.clients = []
         self.told = self.process.stdout.readline() if self.process.stdout else None
@@ -104,6 +105,11 @@ class Server:
             with open(f"/proc/{self.process.pid}/task/{thread}/status") as status:
                 times += next(int(line.split()[1]) for line in status if line.startswith("voluntary_ctxt_switches"))
         return times
+
+    def memory(self):
+        """How many bytes of memory the server has written to, and not given back."""
+        with open(f"/proc/{self.process.pid}/status") as status:
+            return next(int(line.split()[1]) << 10 for line in status if line.startswith("VmRSS"))
 
     def goes_on(self, seconds):
         """Whether the server hasn't ended so many seconds later."""

@@ -1,0 +1,163 @@
+"""Runs of bqd where the system fails it, and where its clients treat it badly."""
+import errno
+import os
+import select
+import socket
+import time
+
+from faults import faults
+from programs import Ended, same
+from servers import Server
+
+# How long a seat rests that was refused what it needs for a connection, in seconds.
+REST = 0.1
+
+# How long what takes a tenth of a second may take on a busy machine.
+SECOND = 1.0
+
+# How late the end of a lease may be, in seconds, and how often it is tried, since a busy machine can be late by itself.
+LATE = 0.05
+TRIES = 8
+
+ASK, ANSWER = b"list-tube-used\r\n", b"USING default\r\n"
+
+
+def run_peers_that_are_gone(bqd):
+    """A connection that is gone before it is accepted is passed over, and nobody is told."""
+    for code in [errno.ECONNABORTED, errno.EINTR]:
+        with Server(bqd, "--seats", "1", "--sessions", "1", env=faults(accepts=code, times=3)) as server:
+            client = server.client()
+            client.asks(ASK, ANSWER)
+            client.close()
+            same(server.end(), Ended(0, b"", b""))
+
+
+def run_shortages(bqd):
+    """Whatever there is too little of for a connection, the seat rests and tries again, and that is told once."""
+    tries = 3
+    for code in [errno.EMFILE, errno.ENFILE, errno.ENOBUFS, errno.ENOMEM]:
+        told = f"bqd: no connection can be accepted: {os.strerror(code)} (os error {code})\n".encode()
+        begun = time.monotonic()
+        with Server(bqd, "--seats", "1", "--sessions", "1", env=faults(accepts=code, times=tries)) as server:
+            client = server.client()
+            client.asks(ASK, ANSWER)
+            same(time.monotonic() - begun >= tries * REST, True)
+            client.close()
+            same(server.end(), Ended(0, b"", told))
+
+
+def run_each_thread_refused(bqd):
+    """Whichever thread is refused, a seat's or the core's, nobody is served, with status 1."""
+    seats = 2
+    for nth in range(1, seats + 2):
+        with Server(bqd, "--seats", str(seats), env=faults(thread=nth)) as server:
+            same(server.end(), Ended(1, b"", b"bqd: a thread was refused\n"))
+    with Server(bqd, "--seats", str(seats), env=faults(thread=seats + 2)) as server:
+        server.client().asks(ASK, ANSWER)
+
+
+def run_reads_that_are_tried_again(bqd):
+    """A read that was interrupted, or that has nothing yet, is made again soon."""
+    for code in [errno.EINTR, errno.EAGAIN]:
+        with Server(bqd, "--seats", "1", "--sessions", "1", env=faults(reads=code, times=2)) as server:
+            client = server.client()
+            client.stream.settimeout(SECOND)
+            client.asks(ASK, ANSWER)
+            client.close()
+            same(server.end(), Ended(0, b"", b""))
+
+
+def run_gone_while_it_waits(bqd):
+    """The seat of a client that goes while it waits is soon free for another."""
+    with Server(bqd, "--seats", "1") as server:
+        first = server.client()
+        first.asks(ASK + b"reserve\r\n", ANSWER)
+        # Its seat rests by now.
+        time.sleep(0.15)
+        first.close()
+        other = server.client()
+        other.stream.settimeout(SECOND)
+        other.asks(ASK, ANSWER)
+
+
+def run_large_answers_behind_a_wait(bqd):
+    """Answers that are more than the system takes at once come whole, behind a wait too."""
+    size, peeks = 1 << 20, 12
+    body = bytes(at * 7 % 251 for at in range(size))
+    with Server(bqd, "--seats", "2", "--max-job-size", str(size)) as server:
+        waits, puts = server.client(), server.client()
+        waits.sends(b"reserve\r\n")
+        # Its seat looks meanwhile whether it has gone, by reads that don't wait.
+        time.sleep(0.15)
+        waits.sends(b"peek 1\r\n" * peeks)
+        time.sleep(0.15)
+        puts.asks(b"put 0 0 60 %d\r\n%s\r\n" % (size, body), b"INSERTED 1\r\n")
+        time.sleep(0.15)
+        waits.hears(b"RESERVED 1 %d\r\n%s\r\n" % (size, body))
+        for _ in range(peeks):
+            waits.hears(b"FOUND 1 %d\r\n%s\r\n" % (size, body))
+
+
+def run_answers_that_nobody_reads(bqd):
+    """Answers that a client doesn't read take no memory: the server waits for it."""
+    size, peeks = 65535, 200
+    answer = b"FOUND 1 %d\r\n%s\r\n" % (size, b"x" * size)
+    with Server(bqd, "--seats", "1") as server:
+        client = server.client()
+        client.asks(b"put 0 0 60 %d\r\n%s\r\n" % (size, b"x" * size), b"INSERTED 1\r\n")
+        before = server.memory()
+        client.sends(b"peek 1\r\n" * peeks)
+        time.sleep(0.2)
+        same(server.memory() - before < 20 * size, True)
+        for _ in range(peeks):
+            client.hears(answer)
+
+
+def run_time_goes_as_it_does(bqd):
+    """A lease of a second ends a second later, and not before, also where steps come all the time."""
+    with Server(bqd, "--seats", "3") as server:
+        holds, waits, asks = server.client(), server.client(), server.client()
+        for number in range(1, TRIES + 1):
+            begun = time.monotonic()
+            holds.asks(
+                b"put 0 0 1 1\r\nx\r\nreserve\r\n",
+                b"INSERTED %d\r\nRESERVED %d 1\r\nx\r\n" % (number, number),
+            )
+            waits.sends(b"reserve\r\n")
+            while not select.select([waits.stream], [], [], 0.005)[0]:
+                asks.asks(ASK, ANSWER)
+            took = time.monotonic() - begun
+            waits.asks(b"delete %d\r\n" % number, b"RESERVED %d 1\r\nx\r\nDELETED\r\n" % number)
+            # The server counts whole milliseconds.
+            same(took >= 0.999, True)
+            if took <= 1 + LATE:
+                return
+    raise AssertionError("the lease was passed on late each time")
+
+
+def run_serves_without_end(bqd):
+    """Unless a number is chosen, a seat serves one client after another without end."""
+    with Server(bqd, "--seats", "1") as server:
+        for _ in range(1200):
+            client = server.client()
+            client.asks(ASK, ANSWER)
+            client.close()
+        server.clients.clear()
+
+
+def run_answers_go_out_at_once(bqd):
+    """An answer goes out at once, though its client has not yet confirmed the one before."""
+    with Server(bqd, "--seats", "2") as server:
+        one, other = server.client(), server.client()
+        took = []
+        for number in range(1, 6):
+            # The client's system confirms nothing before 40 milliseconds have passed.
+            one.stream.setsockopt(socket.IPPROTO_TCP, socket.TCP_QUICKACK, 0)
+            one.asks(ASK + b"reserve\r\n", ANSWER)
+            begun = time.monotonic()
+            other.sends(b"put 0 0 60 1\r\nx\r\n")
+            one.hears(b"RESERVED %d 1\r\nx\r\n" % number)
+            took.append(time.monotonic() - begun)
+            other.hears(b"INSERTED %d\r\n" % number)
+            one.asks(b"delete %d\r\n" % number, b"DELETED\r\n")
+        same(min(took) < 0.02, True)

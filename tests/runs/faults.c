@@ -1,0 +1,68 @@
+/* Loaded before libc's own (LD_PRELOAD): chosen calls of the system fail, as they may at any time.
+
+   FAULT_ACCEPTS=CODE  the first FAULT_TIMES calls that accept a connection fail with this error
+   FAULT_READS=CODE    the first FAULT_TIMES calls that read a connection fail with this error
+   FAULT_THREAD=N      the Nth thread is refused
+   FAULT_CLOCK=N       the clock goes N times as fast
+
+   With none of the variables no call fails. */
+#define _GNU_SOURCE
+#include <dlfcn.h>
+#include <errno.h>
+#include <pthread.h>
+#include <stdatomic.h>
+#include <stdlib.h>
+#include <sys/socket.h>
+#include <time.h>
+
+static atomic_long accepts, reads, threads;
+static long accept_code, read_code, times, refused_thread, speed;
+
+static long number(const char *name) {
+    const char *text = getenv(name);
+    return text ? strtol(text, NULL, 10) : 0;
+}
+
+__attribute__((constructor)) static void begin(void) {
+    accept_code = number("FAULT_ACCEPTS");
+    read_code = number("FAULT_READS");
+    times = number("FAULT_TIMES");
+    refused_thread = number("FAULT_THREAD");
+    speed = number("FAULT_CLOCK");
+}
+
+static int fails(atomic_long *calls, long code) {
+    int failed = code && atomic_fetch_add(calls, 1) < times;
+    if (failed)
+        errno = (int)code;
+    return failed;
+}
+
+int accept4(int listener, struct sockaddr *peer, socklen_t *length, int flags) {
+    int (*libc_accept4)(int, struct sockaddr *, socklen_t *, int) = dlsym(RTLD_NEXT, "accept4");
+    return fails(&accepts, accept_code) ? -1 : libc_accept4(listener, peer, length, flags);
+}
+
+ssize_t recv(int socket, void *room, size_t length, int flags) {
+    ssize_t (*libc_recv)(int, void *, size_t, int) = dlsym(RTLD_NEXT, "recv");
+    return fails(&reads, read_code) ? -1 : libc_recv(socket, room, length, flags);
+}
+
+int pthread_create(pthread_t *thread, const pthread_attr_t *how, void *(*work)(void *), void *given) {
+    int (*libc_create)(pthread_t *, const pthread_attr_t *, void *(*)(void *), void *) = dlsym(RTLD_NEXT, "pthread_create");
+    if (refused_thread && atomic_fetch_add(&threads, 1) + 1 == refused_thread)
+        return EAGAIN;
+    return libc_create(thread, how, work, given);
+}
+
+int clock_gettime(clockid_t clock, struct timespec *told) {
+    int (*libc_gettime)(clockid_t, struct timespec *) = dlsym(RTLD_NEXT, "clock_gettime");
+    int status = libc_gettime(clock, told);
+    if (speed > 1 && !status) {
+        told->tv_sec *= speed;
+        told->tv_nsec *= speed;
+        told->tv_sec += told->tv_nsec / 1000000000;
+        told->tv_nsec %= 1000000000;
+    }
+    return status;
+}
