@@ -1,7 +1,7 @@
 #!/usr/bin/env python3
 """Holds the built programs to the rules of the queue, which are written here a second time.
 
-    python3 tests/model --bq PATH --bqd PATH [--seed N] [--minutes M]
+    python3 tests/model --bq PATH --bqd PATH [--seed N] [--minutes M] [--one-in N]
 
 Worked sessions, random sessions of `bq`, many clients of `bqd` one command at a time, many side by side, and
 clients that are cut off. It ends with a line 'N passed, M failed', and status 0 where nothing failed. With
@@ -21,6 +21,7 @@ def parsed(words):
     parser.add_argument("--bqd", required=True, metavar="PATH", help="the built program bqd")
     parser.add_argument("--seed", type=int, default=1, metavar="N", help="what the random input begins with; 1 unless given")
     parser.add_argument("--minutes", type=float, default=0, metavar="M", help="goes on with further rounds for so long; one round unless given")
+    parser.add_argument("--one-in", type=int, default=1, metavar="N", help="makes one in N of a round's runs alone")
     parser.add_argument("--broken", choices=sorted(plan.BROKEN), help="turns one rule")
     parser.add_argument("--self-check", action="store_true", help="tries that each turned rule is found, and nothing else")
     return parser.parse_args(words)
@@ -32,7 +33,7 @@ def main():
     if options.self_check:
         passed, failed = plan.self_check(bq, bqd, options.seed)
     else:
-        reports = plan.whole_run(bq, bqd, options.seed, options.minutes, plan.RULES[options.broken])
+        reports = plan.whole_run(bq, bqd, options.seed, options.minutes, plan.RULES[options.broken], options.one_in)
         print("\n".join(plan.summed(reports)))
         passed, failed = plan.counts(reports)
     print("%d passed, %d failed" % (passed, failed))

@@ -4,6 +4,8 @@ from .reader import COMMANDS, LONGEST_LINE
 
 LONG_NAME = b"n" * 200
 TUBES = (b"default",) * 6 + (b"a",) * 4 + (b"b", b"b", b"c-$_.;/+()0Z", LONG_NAME)
+# For many clients, so that each tube has some and none has most.
+MANY_TUBES = (b"default",) + tuple(b"tube-%d" % number for number in range(1, 20))
 PRIORITIES = (0, 1, 5, 1023, 1024, 1025, 2**32 - 1)
 NAME_BYTES = b"ABCxyz019-+/;.$_()"
 
@@ -36,8 +38,8 @@ STILL = Times(delays=(0,) * 9 + (1, 5, 100, 2**32 - 1), leases=(0, 1, 2) + (9,) 
 class Chooser:
     """Chooses input by a generator of random numbers."""
 
-    def __init__(self, random, times, weights=None):
-        self.random, self.times = random, times
+    def __init__(self, random, times, weights=None, tubes=TUBES):
+        self.random, self.times, self.tubes = random, times, tubes
         weights = {**WEIGHTS, **(weights or {})}
         self.words, self.weights = list(weights), list(weights.values())
 
@@ -102,7 +104,7 @@ class Chooser:
         if self.random.random() < 0.05:
             size = self.random.choice((1, 5, 199, 200))
             return b"a" + bytes(self.random.choice(NAME_BYTES) for _ in range(size - 1))
-        return self.random.choice(TUBES)
+        return self.random.choice(self.tubes)
 
     def bad(self, command):
         """A line that isn't well formed, or bytes that are nearly a command."""

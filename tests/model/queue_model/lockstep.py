@@ -14,7 +14,7 @@ import time
 from collections import namedtuple
 
 from . import programs, report, shrink
-from .commands import Chooser, Times
+from .commands import MANY_TUBES, TUBES, Chooser, Times
 from .machine import PLAIN, RESERVED
 from .reader import requests_of
 
@@ -24,6 +24,7 @@ TICKS_AHEAD = 8
 SHRINK_ANSWER_SECONDS = 2
 RUN_SECONDS = 60
 SHRINK_SECONDS = 60
+MANY = 100  # so many clients choose among more tubes
 STEADY = 0  # a client that never waits nor goes: it asks what others can't tell
 
 LONG = 1000
@@ -348,7 +349,7 @@ class Script:
 
     def __init__(self, seed, clients):
         self.random = random.Random(seed)
-        self.chooser = Chooser(self.random, TIMED, FEW_JOBS)
+        self.chooser = Chooser(self.random, TIMED, FEW_JOBS, MANY_TUBES if clients >= MANY else TUBES)
         self.clients = clients
 
     def wait(self):

@@ -7,10 +7,11 @@ from . import beside, lockstep, programs, sessions, soak, worked
 from .broken import BROKEN
 from .machine import Machine
 
-# A round: batches of sessions, runs of 8 and of 60 clients, runs of clients side by side, and soaks, with their sizes.
+# A round: batches of sessions, runs of 8, of 60 and of 100 clients, runs of clients side by side, and soaks, with their sizes.
 BATCHES, SESSIONS = 40, 40
 EIGHT, EIGHT_ACTIONS = 24, 300
 SIXTY, SIXTY_ACTIONS = 6, 500
+HUNDRED, HUNDRED_ACTIONS = 2, 600
 BESIDE, BESIDE_CLIENTS = 3, 64
 SOAKS, SOAK_SECONDS = 2, 10
 PROCESSES = 5
@@ -22,13 +23,18 @@ def pool():
     return concurrent.futures.ProcessPoolExecutor(PROCESSES, mp_context=multiprocessing.get_context("fork"))
 
 
-def round_of(bq, bqd, known, rules, seed):
-    """The calls of a round. What takes longest comes first."""
-    calls = [(lockstep.lockstep, bqd, known["bqd"], rules, "%s/sixty/%d" % (seed, at), 60, SIXTY_ACTIONS) for at in range(SIXTY)]
-    calls += [(lockstep.lockstep, bqd, known["bqd"], rules, "%s/eight/%d" % (seed, at), 8, EIGHT_ACTIONS) for at in range(EIGHT)]
-    calls += [(beside.beside, bqd, rules, "%s/beside/%d" % (seed, at), BESIDE_CLIENTS) for at in range(BESIDE)]
-    calls += [(soak.soak, bqd, "%s/soak/%d" % (seed, at), SOAK_SECONDS) for at in range(SOAKS)]
-    return calls + [(sessions.batch, bq, known["bq"], rules, "%s/sessions/%d" % (seed, at), SESSIONS) for at in range(BATCHES)]
+def round_of(bq, bqd, known, rules, seed, one_in=1):
+    """The calls of a round, or one in so many of each kind. What takes longest comes first."""
+    def some(many):
+        return range(-(-many // one_in))
+
+    hundred, sixty, eight = (100, HUNDRED_ACTIONS), (60, SIXTY_ACTIONS), (8, EIGHT_ACTIONS)
+    calls = [(lockstep.lockstep, bqd, known["bqd"], rules, "%s/hundred/%d" % (seed, at), *hundred) for at in some(HUNDRED)]
+    calls += [(lockstep.lockstep, bqd, known["bqd"], rules, "%s/sixty/%d" % (seed, at), *sixty) for at in some(SIXTY)]
+    calls += [(lockstep.lockstep, bqd, known["bqd"], rules, "%s/eight/%d" % (seed, at), *eight) for at in some(EIGHT)]
+    calls += [(beside.beside, bqd, rules, "%s/beside/%d" % (seed, at), BESIDE_CLIENTS) for at in some(BESIDE)]
+    calls += [(soak.soak, bqd, "%s/soak/%d" % (seed, at), SOAK_SECONDS) for at in some(SOAKS)]
+    return calls + [(sessions.batch, bq, known["bq"], rules, "%s/sessions/%d" % (seed, at), SESSIONS) for at in some(BATCHES)]
 
 
 def is_unjudged(report):
@@ -61,8 +67,8 @@ def options_known(bq, bqd):
     return {"bq": programs.options_of(bq), "bqd": programs.options_of(bqd)}
 
 
-def whole_run(bq, bqd, seed, minutes, rules):
-    """Rounds until the minutes are over, one at least. It returns all reports, which it tells as they come."""
+def whole_run(bq, bqd, seed, minutes, rules, one_in=1):
+    """Rounds, or so small a part of each, until the minutes are over, one at least. It returns all reports, which it tells as they come."""
     begun, known, reports = time.monotonic(), options_known(bq, bqd), []
 
     def keep(it):
@@ -76,7 +82,7 @@ def whole_run(bq, bqd, seed, minutes, rules):
         number = 0
         while number == 0 or time.monotonic() - begun < 60 * minutes:
             round_seed = str(seed) if number == 0 else "%s.%d" % (seed, number)
-            made_with_patience(processes, round_of(bq, bqd, known, rules, round_seed), keep)
+            made_with_patience(processes, round_of(bq, bqd, known, rules, round_seed, one_in), keep)
             number += 1
     return reports
 
