@@ -1,0 +1,268 @@
+"""What is done with each command that a page shows: it is run beside the given programs, or it is known why not.
+
+A rule is a shape of commands and a function that tries one: it answers None where the command was run and did what
+it has to, or the reason for which it isn't run. A command that no rule knows is a fault of the page, or wants a rule.
+"""
+import contextlib
+import os
+import re
+import shutil
+import signal
+import subprocess
+import sys
+import tempfile
+import threading
+import time
+
+from pages import ROOT
+from programs import PATIENCE
+from servers import Server, free_port
+
+# The port that pages write, and the pipe of the service.
+PORT = "11300"
+CONTROL = "/run/bqd.control"
+
+RULES = []
+
+# First words of a line that is a command. A program's name alone is none.
+HEADS = """rt tools/build tools/edits nc telnet systemctl journalctl apt echo bqd bq bqd-top bqd-drain prlimit ulimit
+    python3 sed printf packaging/deb.sh (cd crates/bqd/out/bqd crates/bq/out/bq bash""".split()
+
+
+def is_command(text):
+    """Whether what stands as code in a sentence is a command."""
+    words = text.split()
+    return text == ".ci/run" or (len(words) > 1 and words[0] in HEADS)
+
+
+def rule(shape):
+    """Puts a function down as what tries the commands of a shape."""
+    def put(function):
+        RULES.append((re.compile(shape), function))
+        return function
+    return put
+
+
+def tried(text, room):
+    """What became of a command: the reasons for which parts of it weren't run; an exception where one is wrong."""
+    whys = []
+    for step in re.split(r" && (?![^(]*\))", text):
+        found = next(((function, match) for shape, function in RULES for match in [shape.fullmatch(step)] if match), None)
+        if not found:
+            raise AssertionError(f"no rule of tests/pages knows {step!r}")
+        whys.append(found[0](room, *found[1].groups()))
+    return [it for it in whys if it]
+
+
+class Room:
+    """A folder as a clone is that has built its programs, and a folder of programs as the package installs them."""
+
+    def __init__(self, bq, bqd):
+        self.bq, self.bqd = bq, bqd
+        self.folder = tempfile.mkdtemp(prefix="pages-")
+        for it in ["README.md", "LICENSE", "docs", "packaging", "tests", "tools"]:
+            os.symlink(ROOT / it, f"{self.folder}/{it}")
+        for name, program in [("bq", bq), ("bqd", bqd)]:
+            os.makedirs(f"{self.folder}/crates/{name}/out")
+            os.symlink(program, f"{self.folder}/crates/{name}/out/{name}")
+        os.mkdir(f"{self.folder}/bin")
+        for name, program in [("bq", bq), ("bqd", bqd)]:
+            os.symlink(program, f"{self.folder}/bin/{name}")
+        for name in ["bqd-top", "bqd-drain"]:
+            os.symlink(ROOT / "packaging/programs" / name, f"{self.folder}/bin/{name}")
+
+    def close(self):
+        shutil.rmtree(self.folder)
+
+    def started(self, command, **more):
+        """The command by a shell, in a session of its own. It has ended when this is left."""
+        path = f"{self.folder}/bin:{os.environ['PATH']}"
+        return started(["bash", "-c", command], cwd=self.folder, env={**os.environ, "PATH": path}, **more)
+
+    def ends(self, command, sent=b"", status=0):
+        """What the command tells, which ends by itself with this status."""
+        with self.started(command, stderr=subprocess.STDOUT) as process:
+            output, _ = process.communicate(sent, PATIENCE)
+        if process.returncode != status:
+            raise AssertionError(f"{command!r} ended with {process.returncode}: {output.decode(errors='replace')}")
+        return output.decode(errors="replace")
+
+
+@contextlib.contextmanager
+def started(words, **more):
+    streams = {"stdin": subprocess.PIPE, "stdout": subprocess.PIPE, "start_new_session": True, **more}
+    with subprocess.Popen(words, **streams) as process:
+        try:
+            yield process
+        finally:
+            # Its own session alone: what it started is in it.
+            with contextlib.suppress(ProcessLookupError):
+                os.killpg(process.pid, signal.SIGKILL)
+
+
+def session(server):
+    """That a job can be put, reserved and deleted."""
+    client = server.client()
+    client.asks(b"put 5 0 10 3\r\nabc\r\nreserve\r\n", b"INSERTED 1\r\nRESERVED 1 3\r\nabc\r\n")
+    client.asks(b"delete 1\r\n", b"DELETED\r\n")
+
+
+class Running(Server):
+    """A server that a page's command started."""
+
+    def __init__(self, process, port):
+        self.process, self.port, self.clients = process, port, []
+
+
+@rule(r"((?:crates/bqd/out/)?bqd (?:-l|--listen) .*)")
+def serves(room, command):
+    port = free_port()
+    with room.started(command.replace(PORT, str(port)), stderr=subprocess.STDOUT) as process:
+        told = process.stdout.readline().decode()
+        if not re.fullmatch(rf"listening \S+:{port}\n", told):
+            raise AssertionError(f"{command!r} told {told!r}")
+        session(Running(process, port))
+        process.kill()
+
+
+@rule(r"(?:crates/bq/out/)?bq|(printf '.*' \| bq)")
+def one_session(room, command):
+    told = room.ends(command or "bq", b"" if command else b"put 5 0 10 3\r\nabc\r\nreserve\r\nquit\r\n")
+    if told != "INSERTED 1\r\nRESERVED 1 3\r\nabc\r\n":
+        raise AssertionError(f"{command!r} told {told!r}")
+
+
+@rule(r"(nc -C) 127\.0\.0\.1 11300|(telnet) 127\.0\.0\.1 11300")
+def by_hand(room, nc, telnet):
+    if telnet or not shutil.which("nc"):
+        return "it wants a terminal" if telnet else "there is no nc here"
+    with Server(room.bqd) as server:
+        told = room.ends(f"{nc} 127.0.0.1 {server.port}", b"put 5 0 10 3\nabc\nreserve\ndelete 1\nquit\n")
+    if told != "INSERTED 1\r\nRESERVED 1 3\r\nabc\r\nDELETED\r\n":
+        raise AssertionError(f"by nc came {told!r}")
+
+
+@rule(r"((?:packaging/programs/)?bqd-top(?: .*)?)")
+def watches(room, command):
+    with Server(room.bqd) as server:
+        address = f"127.0.0.1:{server.port}"
+        told = command.replace("127.0.0.1:" + PORT, address) if PORT in command else f"{command} {address}"
+        if "--once" in command:
+            output = room.ends(told)
+        else:
+            with room.started("exec " + told) as process:
+                output = "".join(process.stdout.readline().decode() for _ in range(5))
+                process.send_signal(signal.SIGINT)
+                if process.wait(PATIENCE):
+                    raise AssertionError(f"{command!r} ended with {process.returncode}")
+    if "default" not in output:
+        raise AssertionError(f"{command!r} told {output!r}")
+
+
+@contextlib.contextmanager
+def piped(room):
+    """A server whose control line is a named pipe, as the service's is, and the pipe's path."""
+    pipe = f"{room.folder}/control"
+    os.mkfifo(pipe)
+    held = os.open(pipe, os.O_RDWR)
+    port = free_port()
+    try:
+        with started([room.bqd, "-l", "127.0.0.1", "-p", str(port)], stdin=held, stderr=subprocess.PIPE) as process:
+            process.stdout.readline()
+            yield Running(process, port), pipe
+    finally:
+        os.close(held)
+        os.unlink(pipe)
+
+
+@rule(r"(bqd-drain(?: .*)?)")
+def drains(room, command):
+    with piped(room) as (server, pipe):
+        told = room.ends(f"{command} --control {pipe} 127.0.0.1:{server.port}")
+    if told.splitlines()[-1] != "drained":
+        raise AssertionError(f"{command!r} told {told!r}")
+
+
+@rule(rf"(echo drain > {CONTROL})")
+def drains_by_hand(room, command):
+    socket = (ROOT / "packaging/bqd.socket").read_text()
+    assert f"ListenFIFO={CONTROL}\n" in socket, "the pipe of bqd.socket is another"
+    with piped(room) as (server, pipe):
+        room.ends(command.replace(CONTROL, pipe))
+        assert server.process.stderr.readline() == b"bqd: draining\n"
+
+
+@rule(r"packaging/deb\.sh (\.)")
+def packs(room, folder):
+    wanted = ["strip", "dpkg-shlibdeps", "dpkg-gencontrol", "dpkg-parsechangelog", "dpkg-deb"]
+    lacking = [it for it in wanted if not shutil.which(it)]
+    if lacking:
+        return f"there is no {lacking[0]} here"
+    room.ends(f"packaging/deb.sh {folder}")
+    made = [it for it in os.listdir(room.folder) if re.fullmatch(r"bqd_[0-9.]+_\w+\.deb", it)]
+    if len(made) != 1:
+        raise AssertionError(f"{made} was made")
+
+
+@rule(r"apt (?:install \./(\w+)_\*\.deb|(?:remove|purge) (\w+))")
+def installs(room, installed, gone):
+    names = re.findall(r"^Package: (\S+)$", (ROOT / "packaging/debian/control").read_text(), re.M)
+    assert (installed or gone) in names, f"no package {installed or gone}"
+    return "it changes the machine"
+
+
+@rule(r"(?:systemctl (?:start|stop|restart|reload|status)|journalctl -u) ([\w.]+)")
+def services(room, unit):
+    assert (ROOT / f"packaging/{unit}.service").is_file(), f"no unit {unit}"
+    return "it is for a machine with systemd and the package"
+
+
+@rule(r"ulimit -[nv]|prlimit --as=\d+")
+def limits(room):
+    return "it is a part of a command"
+
+
+@rule(r"tools/build((?: \w+)*)")
+def builds(room, names):
+    for name in names.split():
+        assert (ROOT / "crates" / name / "src/main.rt").is_file(), f"no program {name}"
+    return "it proves for a quarter of an hour; what it builds was given"
+
+
+@rule(r"\.ci/run")
+def gate(room):
+    assert os.access(ROOT / ".ci/run", os.X_OK), "it can't be run"
+    return "it is the gate, which takes an hour"
+
+
+@rule(r"\(cd crates/(\w+) && rt (?:run|try --seconds \d+)(?: -- (.*))?\)")
+def runs_from_a_clone(room, name, words):
+    assert (ROOT / "crates" / name / "src/main.rt").is_file(), f"no program {name}"
+    if name == "bqd":
+        serves(room, f"bqd {words}")
+    else:
+        room.ends(f"bq {words or ''}")
+
+
+@rule(r"sed -u '([^']*)'(?: jobs\.txt)? \| (?:bq|\(cd crates/bq && rt run\))")
+def by_sed(room, script):
+    sent = b"put 5 0 10 3\nabc\nreserve\nquit\n"
+    assert room.ends(f"sed -u '{script}' | bq", sent) == "INSERTED 1\r\nRESERVED 1 3\r\nabc\r\n"
+
+
+@rule(r"rt run -- (.*)")
+def with_words(room, words):
+    room.ends(f"bq {words}")
+
+
+@rule(r"rt (?:ci|doc|version|fmt|tidy|check|try|test|lemma|plant|must-fail)(?: .*)?")
+def toolchain(room):
+    return "it is the toolchain's"
+
+
+@rule(r"(?:python3 )?((?:tools|tests)/(?:edits|plants|speed|model|runs|refuse|operator|pages))((?: .*)?)")
+def own_tools(room, script, words):
+    told = subprocess.run([sys.executable, ROOT / script, "--help"], capture_output=True, text=True, timeout=PATIENCE).stdout
+    for option in re.findall(r"(?<=\s)--?[a-z][-\w]*", words):
+        assert re.search(rf"(?<![-\w]){option}(?![-\w])", told), f"{script} has no {option}"
+    return "it takes minutes; its options were looked for"

@@ -1,0 +1,164 @@
+"""How much there is to believe of the main promise: the definitions that the clause of `run_sessions` reaches.
+
+From `IsRunOf` on, each name that a definition has is followed to the definition that the imports of its file say,
+or to the type of the code where it is one. What the toolchain's library defines isn't counted.
+"""
+import collections
+import functools
+import re
+
+from pages import ROOT
+
+# Where the way down begins: the crate, the file of its definitions and the name.
+BEGIN = ("bq_run", "Sessions", "IsRunOf")
+
+Definition = collections.namedtuple("Definition", "name lines comments")
+
+WORD = re.compile(r"(?<![\w.])[A-Za-z_]\w*(?:\.[A-Za-z_]\w*)*")
+
+
+def file_of(crate, module):
+    """The file of a module, of definitions or of a type that the code declares."""
+    if module.startswith("declared/"):
+        return ROOT / "crates" / crate / "src" / (module.rsplit("/", 1)[0][len("declared/"):] + ".rt")
+    return ROOT / "crates" / crate / "specs" / (module + ".antt")
+
+
+@functools.lru_cache(maxsize=None)
+def imports(path):
+    """What the names of a file of definitions mean: crate, module and name; and the modules that it names anew."""
+    names, modules = {}, {}
+    shape = r"^(?:pub )?use Rattle\.(bq_\w+)\.specs\.([\w.]+?)(?:\.\{([^}]*)\}| as (\w+))$"
+    for crate, module, wanted, alias in re.findall(shape, path.read_text(), re.M):
+        variants = module.endswith(".TheVariants")
+        module = module.replace(".TheVariants", "").replace(".", "/")
+        if alias:
+            modules[alias] = (crate, module, variants)
+        for it in filter(None, re.split(r",\s*", wanted)):
+            given, _, own = it.partition(" as ")
+            names[own or given] = (crate, module, module.rsplit("/", 1)[-1] if variants else given)
+    return names, modules
+
+
+@functools.lru_cache(maxsize=None)
+def definitions(path):
+    """The definitions of a file by their names, each with its lines and with the comments above it."""
+    found, comments, name = {}, [], None
+    for line in path.read_text().splitlines():
+        begun = re.match(r"(?:abbrev |pub |record |data |def )+([^\s:]+)", line)
+        if line.startswith("--"):
+            comments.append(line)
+        elif re.match("(?:pub )?use ", line) or not line.strip():
+            comments = [] if not line.strip() else comments
+        elif begun:
+            name = begun[1]
+            found[name] = Definition(name, [line], comments)
+            comments = []
+        elif name:
+            found[name].lines.append(line)
+    return found
+
+
+@functools.lru_cache(maxsize=None)
+def types(path):
+    """The types that a file of code declares, the same way."""
+    found, comments, name = {}, [], None
+    for line in path.read_text().splitlines():
+        begun = re.match(r"pub(?:\([^)]*\))? (?:struct|enum) (\w+)", line)
+        if begun:
+            name = begun[1]
+            found[name] = Definition(name, [line], comments)
+            comments = []
+        elif line.lstrip().startswith("//"):
+            (found[name].comments if name else comments).append(line)
+        elif name and line.strip() and not line.startswith("}"):
+            found[name].lines.append(line)
+        elif not line.startswith("#["):
+            comments = []
+        if name and (line.startswith("}") or (begun and line.endswith(";"))):
+            found[name].lines.extend([line] if line.startswith("}") else [])
+            name = None
+    return found
+
+
+def named_by(crate, module, name):
+    """The definition, and where the names in it lead."""
+    path = file_of(crate, module)
+    if path.suffix == ".rt":
+        found = types(path).get(name)
+        # A type of the code names others of its own crate or of those that it uses.
+        words = set(re.findall(r"\b[A-Z]\w+", "\n".join(found.lines[1:]))) if found else set()
+        return found, [it for it in map(lambda word: declared_as(crate, word), words) if it]
+    found = definitions(path).get(name)
+    names, modules = imports(path)
+    if not found:
+        # It is handed on, or one of the values of a definition that is there.
+        return None, [names[name]] if name in names else [(crate, module, it) for it in with_value(path, name)]
+    led = []
+    for word in WORD.findall("\n".join(found.lines)):
+        first, _, rest = word.partition(".")
+        if first in definitions(path):
+            led.append((crate, module, first))
+        elif first in names:
+            led.append(names[first])
+        elif first in modules and rest:
+            to, of, variants = modules[first]
+            led.append((to, of, of.rsplit("/", 1)[-1] if variants else rest.split(".")[0]))
+    return found, led
+
+
+def with_value(path, name):
+    """The definition by cases that has this value."""
+    return [it.name for it in definitions(path).values() if any(re.match(rf"\s+(?:\w+ )*{name}\b", line) for line in it.lines[1:])]
+
+
+@functools.lru_cache(maxsize=None)
+def declared_as(crate, word):
+    """The type of the code that has this name, in this crate or in bq_job."""
+    for it in dict.fromkeys([crate, "bq_job"]):
+        for path in sorted((ROOT / "crates" / it / "src").rglob("*.rt")):
+            if word in types(path):
+                module = path.relative_to(ROOT / "crates" / it / "src").with_suffix("")
+                return it, f"declared/{module}/{word}", word
+    return None
+
+
+def reached():
+    """All that is reached, each by its crate, module and name."""
+    found, left = {}, [BEGIN]
+    while left:
+        it = left.pop()
+        if it in found:
+            continue
+        definition, led = named_by(*it)
+        found[it] = definition
+        left += led
+    return {it: definition for it, definition in found.items() if definition}
+
+
+def counts():
+    """How many definitions, types, files, lines without comments, and with them."""
+    found = reached()
+    of_types = [it for it in found if it[1].startswith("declared/")]
+    files = {file_of(crate, module) for crate, module, _ in found}
+    lines = sum(len(it.lines) for it in found.values())
+    return len(found) - len(of_types), len(of_types), len(files), lines, lines + sum(len(it.comments) for it in found.values())
+
+
+def rounded(number):
+    return f"{round(number, -1):,}"
+
+
+def sentence():
+    """The sentence of docs/HEADLINE.md that has the counts."""
+    definitions, types, files, lines, whole = counts()
+    return (
+        f"The clause of `run_sessions` reaches {definitions} definitions and {types} types in {files} files: "
+        f"about {rounded(lines)} lines without blank ones and comments, {rounded(whole)} with their comments."
+    )
+
+
+def faults():
+    """What the page says otherwise."""
+    wanted = sentence()
+    return [] if wanted in (ROOT / "docs/HEADLINE.md").read_text() else [f"docs/HEADLINE.md lacks: {wanted}"]
