@@ -3,7 +3,8 @@
 The server's clock is the machine's, so nothing may hang on milliseconds: the moments at which something
 happens by itself lie more than SLACK apart, nobody sends while one of them is nearer than SLACK, and an
 answer that takes longer than SLACK makes the run one that can't be judged, and so do statistics that are
-told only when what they have to say has passed. Ages and times left are told in
+told only when what they have to say has passed. A client that goes while its reserve waits is noticed a second later
+at most, and what comes of it is of the moment at which it was. Ages and times left are told in
 whole seconds, and may be off by one.
 """
 import random
@@ -19,6 +20,7 @@ from .machine import PLAIN, RESERVED
 from .reader import requests_of
 
 SLACK = 350  # milliseconds
+GONE = 1100  # milliseconds: so late a client that has gone while its reserve waits may be noticed
 NEAR = 100000  # what lies further ahead doesn't come while a run lasts
 TICKS_AHEAD = 8
 SHRINK_ANSWER_SECONDS = 2
@@ -251,9 +253,16 @@ class Run:
         self.clients.pop(number).ends(time.monotonic() + self.patience)
         self.gather(answers)
 
+    def is_calm(self):
+        """Whether nothing happens by itself before a client must have been noticed that goes now while it waits."""
+        ahead = self.coming(self.machine)
+        return not ahead or ahead[0] > self.now() + GONE + SLACK
+
     def hold_to_leave(self, number, ends):
         """Holds a client's leaving to be one that means something now."""
         if number not in self.clients or number == STEADY:
+            raise Left()
+        if self.machine.seats[number].is_waiting() and not self.is_calm():
             raise Left()
         trial, now = self.machine.copy(), self.now()
         for event in ends:
@@ -269,25 +278,44 @@ class Run:
         if requests_of(before, self.settings.max_job_size)[0]:
             raise Left()
         began = self.now()
+        self.clients[number].connection.sendall(before)
+        self.shut(number, began)
+
+    def shut(self, number, began):
+        """A client sends no more. Where its reserve waits, that is noticed later: when something comes to it."""
         connection = self.clients[number].connection
-        connection.sendall(before)
+        is_waiting = self.machine.seats[number].is_waiting()
         connection.shutdown(socket.SHUT_WR)
         if is_waiting:
+            select.select([connection], [], [], self.patience)
+            began = self.noticed(began)
             self.gather(self.machine.step(began, number, "end"))
         self.close(number, began)
+
+    def noticed(self, began):
+        """A client that went at that moment while it waited is noticed now. Time is looked at anew."""
+        now = self.now()
+        if now - began > GONE:
+            raise Unclear("a client that had gone was noticed after more than %d ms" % GONE)
+        self.looked_at = now
+        return now
 
     def do_drop(self, action):
         number = action.client
         is_waiting = number in self.clients and self.machine.seats[number].is_waiting()
         self.hold_to_leave(number, ["end", "close"] if is_waiting else ["close"])
         began = self.now()
+        self.clients.pop(number).connection.close()
+        left = b"current-connections: %d\n" % (len(self.machine.seats) - 1)
+        if is_waiting:
+            self.until_statistics(left)
+            began = self.noticed(began)
         answers = self.machine.step(began, number, "end") if is_waiting else []
         answers += self.machine.step(began, number, "close")
-        client = self.clients.pop(number)
-        client.connection.close()
         # (its own last answer can't be read)
         self.gather([it for it in answers if it[0] != number])
-        self.until_statistics(b"current-connections: %d\n" % len(self.machine.seats))
+        if not is_waiting:
+            self.until_statistics(left)
 
     def until_statistics(self, line):
         """The steady client asks for statistics until they have a line."""
@@ -329,16 +357,18 @@ class Run:
         began = self.now()
         if number == STEADY:
             self.exchange(STEADY, [b"stats\r\nlist-tubes\r\nstats-tube default\r\n"])
-        is_waiting = self.machine.seats[number].is_waiting()
-        self.clients[number].connection.shutdown(socket.SHUT_WR)
-        if is_waiting:
-            self.gather(self.machine.step(began, number, "end"))
-        self.close(number, began)
+        self.shut(number, began)
+
+    def calm_down(self):
+        """Lets pass what happens by itself before a client that goes now while it waits must have been noticed."""
+        self.pass_moments()
+        while not self.is_calm():
+            self.do_rest(None)
 
     def finish(self):
         """All clients leave, those first that wait, and the steady one last; what everybody was written is then known whole."""
         for number in sorted(self.clients, key=lambda it: (it == STEADY, not self.machine.seats[it].is_waiting())):
-            self.judged(self.pass_moments)
+            self.judged(self.calm_down if self.machine.seats[number].is_waiting() else self.pass_moments)
             self.judged(self.leave, number)
         if not self.server.is_running():
             raise Differs("the server ended")
