@@ -192,15 +192,20 @@ def run_batch_then_the_end(bqd):
 
 
 def run_reset_while_answers_are_written(bqd):
-    """Once a write of an answer has failed, no later command of the line is carried out."""
+    """Once a write of an answer has failed, no later command of the line is carried out. The job that its client held is
+    ready again, and its seat serves another client."""
     with Server(bqd, "--seats", "2") as server:
-        client, _ = with_job(server, LARGE)
+        client, found = with_job(server, LARGE)
+        client.asks(b"reserve\r\n", found.replace(b"FOUND", b"RESERVED", 1))
         other = server.client()
-        client.sends(b"put 0 0 9 1\r\nz\r\npeek 1\r\n" * 400)
+        client.sends(b"put 9 0 9 1\r\nz\r\npeek 1\r\n" * 400)
         # It stands at a write once no more is put, since nobody reads.
         puts = [0]
         awaits(lambda: puts.append(value(other, b"total-jobs")) or len(puts) > 50 and puts[-50] == puts[-1] > 1)
         same(puts[-1] < 400, True)
+        other.asks(b"reserve-job 1\r\n", b"NOT_FOUND\r\n")
         resets(client)
         awaits(lambda: value(other, b"current-connections") == 1)
         same(value(other, b"total-jobs"), puts[-1])
+        other.asks(b"reserve\r\n", found.replace(b"FOUND", b"RESERVED", 1))
+        server.client().asks(b"list-tube-used\r\n", SMALL)
