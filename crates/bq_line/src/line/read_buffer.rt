@@ -1,5 +1,6 @@
 ghost use Rattle.std.specs.Prelude.{◌≡◌, ◌==◌, ◌≤◌, ◌<◌, [], IfOk, OnOk, OnErr, length, take, drop, min, vec_len};
 ghost use Rattle.std.specs.Io.KnownBytes.{Consumes, IsAtEnd, Keeps, prepend_known};
+ghost use Rattle.std.specs.Vec.{vec_capacity};
 
 use super::copy_first;
 use super::read_now::ReadNow;
@@ -12,8 +13,8 @@ use std::{fmt, io};
 /// How many bytes one read of a stream takes at most, where they go into a buffer.
 pub const READ_ROOM: usize = 65536;
 
-/// Bytes that a stream gave and that nobody has taken yet, in a room that is made once. Contracts see it as
-/// these bytes.
+/// Bytes that a stream gave and that nobody has taken yet, in a room that is set aside once, and that nobody touches
+/// before the first read: who waits for a client costs hardly any memory. Contracts see it as these bytes.
 #[derive(Drop)]
 pub struct ReadBuffer {
     room: Vec<u8, Global>,
@@ -22,14 +23,15 @@ pub struct ReadBuffer {
 }
 
 impl Model for ReadBuffer {
-    ghost use Rattle.std.specs.Prelude.{◌≡◌, ◌≤◌, List, ℕ, take, drop, length};
+    ghost use Rattle.std.specs.Prelude.{◌≤◌, List, ℕ, take, drop, length};
+    ghost use Rattle.std.specs.Vec.{vec_capacity};
     ghost use Rattle.bq_line.specs.declared.line.read_buffer.TheConstants.{READ_ROOM};
 
     ghost Value = { List ℕ };
 
     ghost view = { λ b. drop b.from (take b.to b.room.items) };
 
-    ghost invariant = { λ b. (b.from ≤ b.to) × (b.to ≤ length b.room.items) × (length b.room.items ≡ READ_ROOM) };
+    ghost invariant = { λ b. (b.from ≤ b.to) × (b.to ≤ length b.room.items) × (READ_ROOM ≤ vec_capacity b.room) };
 }
 
 impl ReadBuffer {
@@ -37,7 +39,7 @@ impl ReadBuffer {
     pub fn new(alloc: Global) -> Result<ReadBuffer, NoMemory>
         ensures { IfOk result (λ buffer. buffer ≡ []) }
     {
-        match vec![in alloc; 0; READ_ROOM] {
+        match Vec::with_capacity(alloc, READ_ROOM) {
             Ok(room) => Ok(ReadBuffer {
                 room,
                 from: 0,
@@ -97,9 +99,21 @@ impl ReadBuffer {
     {
         self.from = 0;
         self.to = 0;
+        make_whole(&mut self.room);
         let count = read_once(stream, &mut self.room, waits)?;
         self.to = count;
         Ok(())
+    }
+}
+
+// All of the room can be read into from now on.
+fn make_whole(room: &mut Vec<u8, Global>)
+    requires { READ_ROOM ≤ vec_capacity room.old }
+    ensures len { READ_ROOM ≤ vec_len room.new }
+    ensures capacity { READ_ROOM ≤ vec_capacity room.new }
+{
+    if room.len() < READ_ROOM {
+        let _fits = room.resize(READ_ROOM, 0);
     }
 }
 
@@ -109,7 +123,7 @@ fn read_once<S: ReadNow>(
     room: &mut Vec<u8, Global>,
     waits: bool,
 ) -> io::Result<usize>
-    ensures len { vec_len room.new ≡ vec_len room.old }
+    ensures capacity { vec_capacity room.new ≡ vec_capacity room.old }
     ensures bound { IfOk result (λ n. n ≤ vec_len room.new) }
     ensures bytes { IfOk result (λ n. Consumes (S.remaining stream.old) (S.remaining stream.new) (take n room.new.items)) }
     ensures end { IfOk result (λ n. n ≡ 0 → 0 < vec_len room.old → IsAtEnd (S.remaining stream.new)) }
