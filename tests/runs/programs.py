@@ -71,19 +71,36 @@ def tells_version(program, name):
         raise AssertionError(found.output)
 
 
+def begins(found):
+    """Whether a program began: the system neither refused to start it nor did its loader give it up."""
+    return found is not None and found.status >= 0 and found.status != 127
+
+
+def ended_with_data(program, words, most):
+    """How a program ends that has so many bytes of data at most, or None where the system doesn't start it."""
+    try:
+        return ended(program, *words, before=limits(DATA=most))
+    except OSError:
+        return None
+
+
 def has_no_memory(program, name, *words):
     """That a program whose first request for memory is refused says so, and nothing else.
 
-    The limit on its data rises until the program begins at all: below that the system's loader can't load it.
+    It has as little data as it begins with at all, whatever its size: below that the system's loader can't load it.
     """
-    told = f"{name}: no memory: for the options\n".encode()
-    for most in range(0, 64 << 20, 16 << 10):
-        try:
-            found = ended(program, *words, before=limits(DATA=most))
-        except OSError:
-            continue
-        if found.status < 0 or found.status == 127:
-            continue
-        same(found, Ended(1, b"", told))
-        return
-    raise AssertionError("it never began")
+    page = resource.getpagesize()
+    too_few, enough = 0, 1
+    while not begins(found := ended_with_data(program, words, enough * page)):
+        # By small steps: with much more it would have the memory that it is to be refused.
+        too_few, enough = enough, enough + 1 + enough // 4
+        if enough * page > 1 << 32:
+            raise AssertionError("it never began")
+    while enough - too_few > 1:
+        middle = (too_few + enough) // 2
+        tried = ended_with_data(program, words, middle * page)
+        if begins(tried):
+            enough, found = middle, tried
+        else:
+            too_few = middle
+    same(found, Ended(1, b"", f"{name}: no memory: for the options\n".encode()))
