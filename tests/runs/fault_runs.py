@@ -32,6 +32,17 @@ def run_peers_that_are_gone(bqd):
             same(server.end(), Ended(0, b"", b""))
 
 
+def run_connection_that_would_hold_back(bqd):
+    """A connection that can't be made to send each write at once is shut unserved, and the next one is taken."""
+    with Server(bqd, "--seats", "1", "--sessions", "1", env=faults(nodelay=errno.EINVAL, times=1)) as server:
+        first = server.client()
+        first.hears_end()
+        client = server.client()
+        client.asks(ASK, ANSWER)
+        client.close()
+        same(server.end(), Ended(0, b"", b""))
+
+
 def run_shortages(bqd):
     """Whatever there is too little of for a connection, the seat rests and tries again, and that is told once."""
     tries = 3

@@ -2,6 +2,7 @@
 
    FAULT_ACCEPTS=CODE  the first FAULT_TIMES calls that accept a connection fail with this error
    FAULT_READS=CODE    the first FAULT_TIMES calls that read a connection fail with this error
+   FAULT_NODELAY=CODE  the first FAULT_TIMES calls that have a connection send each write at once fail with this error
    FAULT_THREAD=N      the Nth thread is refused
    FAULT_CLOCK=N       the clock goes N times as fast
 
@@ -9,14 +10,16 @@
 #define _GNU_SOURCE
 #include <dlfcn.h>
 #include <errno.h>
+#include <netinet/in.h>
+#include <netinet/tcp.h>
 #include <pthread.h>
 #include <stdatomic.h>
 #include <stdlib.h>
 #include <sys/socket.h>
 #include <time.h>
 
-static atomic_long accepts, reads, threads;
-static long accept_code, read_code, times, refused_thread, speed;
+static atomic_long accepts, reads, switches, threads;
+static long accept_code, read_code, switch_code, times, refused_thread, speed;
 
 static long number(const char *name) {
     const char *text = getenv(name);
@@ -26,6 +29,7 @@ static long number(const char *name) {
 __attribute__((constructor)) static void begin(void) {
     accept_code = number("FAULT_ACCEPTS");
     read_code = number("FAULT_READS");
+    switch_code = number("FAULT_NODELAY");
     times = number("FAULT_TIMES");
     refused_thread = number("FAULT_THREAD");
     speed = number("FAULT_CLOCK");
@@ -46,6 +50,12 @@ int accept4(int listener, struct sockaddr *peer, socklen_t *length, int flags) {
 ssize_t recv(int socket, void *room, size_t length, int flags) {
     ssize_t (*libc_recv)(int, void *, size_t, int) = dlsym(RTLD_NEXT, "recv");
     return fails(&reads, read_code) ? -1 : libc_recv(socket, room, length, flags);
+}
+
+int setsockopt(int socket, int level, int option, const void *value, socklen_t length) {
+    int (*libc_setsockopt)(int, int, int, const void *, socklen_t) = dlsym(RTLD_NEXT, "setsockopt");
+    int sends_at_once = level == IPPROTO_TCP && option == TCP_NODELAY && *(const int *)value;
+    return sends_at_once && fails(&switches, switch_code) ? -1 : libc_setsockopt(socket, level, option, value, length);
 }
 
 int pthread_create(pthread_t *thread, const pthread_attr_t *how, void *(*work)(void *), void *given) {
