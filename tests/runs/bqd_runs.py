@@ -412,12 +412,6 @@ def run_shortage_is_told(bqd):
         third.asks(b"list-tube-used\r\n", b"USING default\r\n")
 
 
-def run_thread_refused(bqd):
-    """Where a seat's thread is refused, nobody is served, with status 1."""
-    with Server(bqd, "--seats", "256", before=limits(AS=512 << 20)) as server:
-        same(server.end(), Ended(1, b"", b"bqd: a thread was refused\n"))
-
-
 def run_no_memory(bqd):
     """Memory that is refused from the first request on is told on standard error, with status 1."""
     has_no_memory(bqd, "bqd", "--listen", f"{LOOPBACK}:0")
