@@ -3,11 +3,13 @@ ghost use Rattle.std.specs.Prelude.{◌≡◌, Bool, List, [], ◌∷◌, ◌++�
 ghost use Rattle.bq_job.specs.promise.History.{LineOver};
 ghost use Rattle.bq_line.specs.Doors.{IsOpened};
 
+pub use free_doors::FreeDoors;
 pub use mem_door::MemDoor;
 pub use refusals::Refusals;
 pub use tcp_door::TcpDoor;
 
 mod accept;
+mod free_doors;
 mod line_record;
 mod mem_door;
 mod refusals;

@@ -3,6 +3,7 @@ ghost use Rattle.bq_line.specs.Doors.{IsOpened};
 ghost use Rattle.bq_line.specs.InAll.{in_all};
 
 use super::accept::accept;
+use super::free_doors::FreeDoors;
 use super::line_record::LineRecord;
 use super::refusals::Refusals;
 use super::{Door, DoorFault};
@@ -20,6 +21,8 @@ pub struct TcpDoor<'l, R> {
     listener: &'l TcpListener,
     // Where it is told that connections can't be accepted.
     refusals: Option<&'l Refusals>,
+    // Where it is told that all doors are taken.
+    free: Option<&'l FreeDoors>,
     // How many connections still come. None: they come without end.
     left: Option<u32>,
     // What the next connection is read through. It goes out with a connection, and comes back with it.
@@ -52,6 +55,7 @@ impl<'l, R: Clock + Eprint> TcpDoor<'l, R> {
             rt,
             listener,
             refusals: None,
+            free: None,
             left: sessions,
             buffer: Some(buffer),
             is_out: false,
@@ -75,11 +79,48 @@ impl<'l, R: Clock + Eprint> TcpDoor<'l, R> {
         self
     }
 
+    /// The same door, one of these, which tell that all of them are taken.
+    pub fn among(mut self, free: &'l FreeDoors) -> TcpDoor<'l, R>
+        ensures inside { result.is_out ≡ self.entry.is_out }
+        ensures at_end { result.is_at_end ≡ self.entry.is_at_end }
+        ensures over { result.over ≡ self.entry.over }
+        ensures at { result.listener ≡ self.entry.listener }
+        ensures allowed { result.left ≡ self.entry.left }
+        ensures fault { result.met_fault ≡ self.entry.met_fault }
+        ensures refusals { result.refusals ≡ self.entry.refusals }
+        ensures told { result.free ≡ Some free.entry }
+    {
+        self.free = Some(free);
+        self
+    }
+
     /// Whether the door is at its end because a connection could not be accepted.
     pub fn met_fault(&self) -> bool
         ensures { result ≡ self.now.met_fault }
     {
         self.met_fault
+    }
+
+    fn tell_taken(&self) {
+        if let Some(free) = self.free {
+            free.take(self.rt);
+        }
+    }
+
+    // One at which no more connections come isn't free again.
+    fn tell_free(&self) {
+        if self.left == Some(0) {
+            return;
+        }
+        if let Some(free) = self.free {
+            free.give_back(self.rt);
+        }
+    }
+
+    fn tell_fault(&self) {
+        if let Some(free) = self.free {
+            free.leave();
+        }
     }
 
     // A connection goes out, which is counted, and the buffer with it.
@@ -140,12 +181,14 @@ impl<'l, R: Clock + Eprint> Door for TcpDoor<'l, R> {
         }
         match accept(self.rt, self.listener, self.refusals) {
             Ok(stream) => {
+                self.tell_taken();
                 let buffer = self.lend();
                 Ok(Some(IoLine::new(Buffered::new(stream, buffer))))
             }
             Err(_) => {
                 self.is_at_end = true;
                 self.met_fault = true;
+                self.tell_fault();
                 Err(DoorFault)
             }
         }
@@ -155,6 +198,7 @@ impl<'l, R: Clock + Eprint> Door for TcpDoor<'l, R> {
     // connection is closed where its stream is dropped, and the buffer is kept for the next one.
     fn shut(&mut self, mut line: IoLine<Buffered<Connection<TcpStream>>>, end: LineEnd) {
         line.expect_more(false);
+        self.tell_free();
         self.is_out = false;
         self.over.note(&line, end);
         self.buffer = Some(line.into_stream().into_buffer());
