@@ -12,6 +12,7 @@ NO_MEMORY = [b"bqd: no memory: for " + need + b"\n" for need in NEEDS]
 NO_THREAD = [b"bqd: a thread was refused\n"]
 NOT_ACCEPTED = b"bqd: a connection could not be accepted\n"
 NO_MORE = b"bqd: no connection can be accepted: Invalid argument (os error 22)\n"
+TAKEN = b"bqd: all seats are taken: further connections wait\n"
 REFUSED = b"bqd: memory was refused: clients are answered OUT_OF_MEMORY\n"
 SEATS = 2
 CLIENTS, ROUNDS = 8, 150
@@ -56,10 +57,10 @@ def started(bqd, words, **chosen):
 
 
 def ended(server):
-    """The status of a server that ends by itself, and what it complained of."""
+    """The status of a server that ends by itself, and what it complained of, but for seats that are all taken."""
     try:
         _, complaint = server.communicate(timeout=10)
-        return server.returncode, complaint
+        return server.returncode, complaint.replace(TAKEN, b"")
     except subprocess.TimeoutExpired:
         return None, b""
     finally:
@@ -191,6 +192,7 @@ def load_refused(bqd, every):
             load.complain("no command was refused")
         server.kill()
         _, complaint = server.communicate()
+        complaint = complaint.replace(TAKEN, b"")
         if not complaint.startswith(REFUSED) or complaint.count(REFUSED) * REFUSED != complaint:
             load.complain(f"it told {complaint!r}")
         return 1, load.wrong

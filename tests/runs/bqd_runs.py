@@ -4,7 +4,7 @@ import socket
 import time
 
 from programs import Ended, ended, has_all, has_no_memory, limits, refuses_words, same, tells_version
-from servers import Server, awaits, free_port
+from servers import TAKEN, Server, awaits, free_port
 
 LOOPBACK = "127.0.0.1"
 
@@ -493,3 +493,32 @@ def run_what_a_client_left(bqd):
         first.hears(b"USING default\r\n")
         first.close()
         server.client().asks(b"list-tube-used\r\n", b"USING default\r\n")
+
+
+def run_seats_taken_are_told(bqd):
+    """That a connection took the last free seat is told when it does, before anybody waits, and not soon again."""
+    with Server(bqd, "--seats", "2") as server:
+        first = server.client()
+        first.asks(b"list-tube-used\r\n", b"USING default\r\n")
+        same(server.is_silent(0.3), True)
+        second = server.client()
+        second.asks(b"list-tube-used\r\n", b"USING default\r\n")
+        server.tells(TAKEN)
+        # The seat that is free in between isn't so for a minute.
+        for _ in range(3):
+            second.close()
+            second = server.client()
+            second.asks(b"list-tube-used\r\n", b"USING default\r\n")
+        same(server.is_silent(0.3), True)
+
+
+def run_seats_that_end_are_not_free(bqd):
+    """A seat that serves no more connections isn't free: the last connection of all takes the last seat."""
+    with Server(bqd, "--seats", "2", "--sessions", "1") as server:
+        for _ in range(2):
+            same(server.is_silent(0.3), True)
+            client = server.client()
+            client.asks(b"list-tube-used\r\nquit\r\n", b"USING default\r\n")
+            client.hears_end()
+            client.close()
+        same(server.end_as_told(), Ended(0, b"", TAKEN))

@@ -9,6 +9,10 @@ import time
 from programs import PATIENCE, Ended, same
 
 
+# What is told when a connection takes the last free seat.
+TAKEN = b"bqd: all seats are taken: further connections wait\n"
+
+
 def free_port():
     """A port of the loopback at which nobody listens."""
     with socket.create_server(("127.0.0.1", 0)) as listener:
@@ -74,10 +78,15 @@ class Server:
         """Sends bytes on the control line, and leaves it open."""
         self.process.stdin.write(line)
 
-    def tells(self, line):
-        """That this line comes next on standard error, while the server goes on."""
+    def told_next(self):
+        """The line that comes next on standard error, while the server goes on."""
         came, _, _ = select.select([self.process.stderr], [], [], PATIENCE)
-        same(self.process.stderr.readline() if came else b"", line)
+        return self.process.stderr.readline() if came else b""
+
+    def tells(self, line):
+        """That this line comes next on standard error, but for what is told of seats where it isn't that."""
+        told = self.told_next()
+        same(self.told_next() if told == TAKEN != line else told, line)
 
     def is_silent(self, seconds):
         """Whether nothing comes on standard error for so many seconds."""
@@ -119,10 +128,15 @@ class Server:
         except subprocess.TimeoutExpired:
             return True
 
-    def end(self):
+    def end_as_told(self):
         """Ends the control line, and waits for the end of the server."""
         output, errors = self.process.communicate(b"", PATIENCE)
         return Ended(self.process.returncode, output, errors)
+
+    def end(self):
+        """The same, but for what was told of seats: most runs have few of them, and take them all."""
+        found = self.end_as_told()
+        return found._replace(errors=found.errors.replace(TAKEN, b""))
 
 
 class Client:

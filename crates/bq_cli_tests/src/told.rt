@@ -27,6 +27,8 @@ struct Heard<R> {
     errors: Mutex<Vec<u8>>,
     /// 1 once something was told on standard output.
     told: AtomicU64,
+    /// How many seconds its clock is ahead.
+    ahead: AtomicU64,
 }
 
 impl<R: Wait> Heard<R> {
@@ -37,6 +39,7 @@ impl<R: Wait> Heard<R> {
             output: Mutex::new(Vec::new(alloc)),
             errors: Mutex::new(Vec::new(alloc)),
             told: AtomicU64::new(0),
+            ahead: AtomicU64::new(0),
         }
     }
 
@@ -70,7 +73,8 @@ impl<R: Wait> Wait for Heard<R> {}
 
 impl<R: Clock> Clock for Heard<R> {
     fn monotonic(&self) -> io::Result<Duration> {
-        self.host.monotonic()
+        let ahead = Duration::from_secs(self.ahead.load(Ordering::SeqCst));
+        Ok(self.host.monotonic()?.saturating_add(ahead))
     }
 
     fn since_1970(&self) -> io::Result<Duration> {
@@ -145,7 +149,7 @@ fn comes_when_told<R: Clock + Net<Stream = TcpStream>>(
     is_served(rt, address) && is_told
 }
 
-fn options() -> Options {
+fn options(sessions: u32) -> Options {
     Options {
         listen: None,
         still: false,
@@ -153,7 +157,7 @@ fn options() -> Options {
         max_job_size: 65535,
         max_jobs: None,
         requeue_delay: 0,
-        sessions: Some(1),
+        sessions: Some(sessions),
     }
 }
 
@@ -166,7 +170,7 @@ fn serve_told<R: Threads + Wait + Clock + Net<Listener = TcpListener, Stream = T
 ) -> Option<(u8, bool)> {
     let (host, told) = (&heard.host, &heard.told);
     let is_content = &AtomicU64::new(0);
-    let options = options();
+    let options = options(1);
     let status = thread::scope(thread::scope_env(), host, |scope| {
         let spawned = scope.spawn(move || if comes_when_told(host, address, told) {
             tells(is_content, 1);
@@ -190,7 +194,57 @@ fn address_is_told_first(rt: HostRuntime) -> Result<(), Fail> {
     assert!(rt; served == Some((0, true)));
     let text = format!(in alloc; "listening {address}\n")?;
     assert!(rt; heard.has(&heard.output, text.as_str()));
-    assert!(rt; heard.has(&heard.errors, ""));
+    // Its client took the one seat.
+    let text = "bqd: all seats are taken: further connections wait\n";
+    assert!(rt; heard.has(&heard.errors, text));
+    Ok(())
+}
+
+// Three clients, one after another. Before the third one the seat is free for a minute by the server's clock.
+fn comes_a_minute_later<R: Clock + Net<Stream = TcpStream>>(
+    rt: &R,
+    address: SocketAddr,
+    ahead: &AtomicU64,
+) -> bool {
+    let are_served = is_served(rt, address) && is_served(rt, address);
+    tells(ahead, 60);
+    is_served(rt, address) && are_served
+}
+
+// The status of a server that these clients come to, and whether all were served.
+fn serve_later<R: Threads + Wait + Clock + Net<Listener = TcpListener, Stream = TcpStream> + Sync>(
+    heard: &Heard<R>,
+    alloc: Global,
+    listener: TcpListener,
+    address: SocketAddr,
+) -> Option<(u8, bool)> {
+    let (host, ahead) = (&heard.host, &heard.ahead);
+    let are_content = &AtomicU64::new(0);
+    let options = options(3);
+    let status = thread::scope(thread::scope_env(), host, |scope| {
+        let spawned = scope.spawn(move || if comes_a_minute_later(host, address, ahead) {
+            tells(are_content, 1);
+        });
+        if spawned.is_err() {
+            return None;
+        }
+        let control: &'static [u8] = b"";
+        Some(serve(heard, alloc, &options, listener, control))
+    });
+    Some((status?, are_content.load(Ordering::SeqCst) == 1))
+}
+
+#[test]
+fn seats_are_told_again_after_a_minute(rt: HostRuntime) -> Result<(), Fail> {
+    let alloc = rt.alloc();
+    let listener = TcpListener::bind(&rt, "127.0.0.1:0")?;
+    let address = listener.local_addr()?;
+    let heard = Heard::new(rt, alloc);
+    let served = serve_later(&heard, alloc, listener, address);
+    assert!(rt; served == Some((0, true)));
+    let line = "bqd: all seats are taken: further connections wait\n";
+    let text = format!(in alloc; "{line}{line}")?;
+    assert!(rt; heard.has(&heard.errors, text.as_str()));
     Ok(())
 }
 

@@ -9,7 +9,7 @@ use crate::telling_clock::TellingClock;
 use bq_core::{Config, Core};
 use bq_job::NoMemory;
 use bq_line::line::ReadBuffer;
-use bq_line::{Door, Refusals, TcpDoor, clock};
+use bq_line::{Door, FreeDoors, Refusals, TcpDoor, clock};
 use bq_options::{BqdOptions, Program};
 use bq_program::{Fault, Need, Options, tell_cannot_listen, tell_fault, tell_server};
 use bq_run::{Run, run_sessions};
@@ -21,6 +21,26 @@ use std::net::{Net, TcpListener, TcpStream};
 use std::rt::Clock;
 use std::sync::Wait;
 use std::thread::Threads;
+
+// What the doors of a server tell, which they share.
+#[derive(Drop)]
+struct DoorsTell {
+    refusals: Refusals,
+    free: FreeDoors,
+}
+
+impl DoorsTell {
+    fn new<R: Clock>(rt: &R, seats: u16) -> DoorsTell {
+        DoorsTell {
+            refusals: Refusals::new("bqd: no connection can be accepted"),
+            free: FreeDoors::new(
+                rt,
+                u32::from(seats),
+                "bqd: all seats are taken: further connections wait",
+            ),
+        }
+    }
+}
 
 /// Serves the connections that the listener accepts, as the options choose, and tells on standard output
 /// where it listens. The control is the control line. It returns the status of the program: 0 when all
@@ -79,8 +99,8 @@ fn serve_at<R: Threads + Wait + Clock + Print + Eprint + Sync, I: BufRead + Drop
     listener: &TcpListener,
     control: I,
 ) -> Result<(), Fault> {
-    let refusals = Refusals::new("bqd: no connection can be accepted");
-    let Ok(doors) = new_doors(rt, alloc, options, listener, &refusals) else {
+    let tell = DoorsTell::new(rt, options.seats);
+    let Ok(doors) = new_doors(rt, alloc, options, listener, &tell) else {
         return Err(Fault::NoMemory(Need::Doors));
     };
     let clock = TellingClock::new(rt);
@@ -160,12 +180,14 @@ fn new_door<'l, R: Clock + Eprint>(
     listener: &'l TcpListener,
     sessions: Option<u32>,
     buffer: ReadBuffer,
-    refusals: &'l Refusals,
+    tell: &'l DoorsTell,
 ) -> TcpDoor<'l, R>
     ensures { IsNewDoor (door_seen ⟦<TcpDoor<'l, R> as Door>⟧.is_out ⟦<TcpDoor<'l, R> as Door>⟧.is_at_end
         ⟦<TcpDoor<'l, R> as Door>⟧.lines_over result) }
 {
-    TcpDoor::new(rt, listener, sessions, buffer).telling(refusals)
+    TcpDoor::new(rt, listener, sessions, buffer)
+        .telling(&tell.refusals)
+        .among(&tell.free)
 }
 
 // A door for each seat, all at one listener.
@@ -174,7 +196,7 @@ fn new_doors<'l, R: Clock + Eprint>(
     alloc: Global,
     options: &Options,
     listener: &'l TcpListener,
-    refusals: &'l Refusals,
+    tell: &'l DoorsTell,
 ) -> Result<Vec<TcpDoor<'l, R>, Global>, NoMemory>
     ensures { IfOk result (λ all. All (λ door. IsNewDoor (door_seen ⟦<TcpDoor<'l, R> as Door>⟧.is_out
         ⟦<TcpDoor<'l, R> as Door>⟧.is_at_end ⟦<TcpDoor<'l, R> as Door>⟧.lines_over door)) all.items) }
@@ -186,7 +208,7 @@ fn new_doors<'l, R: Clock + Eprint>(
         let Ok(buffer) = ReadBuffer::new(alloc) else {
             return Err(NoMemory);
         };
-        let door = new_door(rt, listener, options.sessions, buffer, refusals);
+        let door = new_door(rt, listener, options.sessions, buffer, tell);
         let Ok(()) = doors.push(door) else {
             return Err(NoMemory);
         };
