@@ -1,0 +1,245 @@
+"""Runs of bqd in which nobody sends a command when something is due, or somebody holds a seat up.
+
+A seat's thread does the core's work for what its client sent. So these ask what comes about while all of them sleep.
+"""
+import threading
+import time
+
+from programs import Ended, same
+from servers import Server
+
+# What is due comes so soon after its moment, in seconds, unless the machine is busy: then it is tried again.
+SOON = 0.005
+TRIES = 8
+
+# What all of these wait for is due after so many seconds. The server counts whole milliseconds.
+SECOND = 1
+MILLISECOND = 0.001
+
+# Between two looks for a client that has gone a seat rests a tenth of a second at first, and a second at most.
+LONGEST_REST = 1
+
+ASK = b"list-tube-used\r\n"
+ANSWER = b"USING default\r\n"
+PUT = b"put 0 0 60 1\r\nx\r\n"
+JOB = b"RESERVED 1 1\r\nx\r\n"
+
+
+def between(act):
+    """The moments just before and just after an act."""
+    before = time.monotonic()
+    act()
+    return before, time.monotonic()
+
+
+def often(tried):
+    """That something goes well once. `tried` does it, and says what was found where it didn't."""
+    found = []
+    for _ in range(TRIES):
+        found.append(tried())
+        if found[-1] is None:
+            return
+    raise AssertionError(f"found {found}")
+
+
+def is_due_in_time(bqd, begin, answer, *words):
+    """That a client that waits hears an answer a second after what `begin` does, never before, and once at least soon.
+
+    `begin` is handed three clients, does what makes something due, says between which moments, and leaves all of them
+    silent or waiting: the first one for the answer.
+    """
+    def tried():
+        with Server(bqd, "--seats", "3", *words) as server:
+            clients = [server.client() for _ in range(3)]
+            # Another that waits, for a job of a tube that has none.
+            clients[2].asks(b"watch none\r\nignore default\r\n", b"WATCHING 2\r\nWATCHING 1\r\n")
+            clients[2].sends(b"reserve\r\n")
+            time.sleep(0.15)
+            before, after = begin(*clients)
+            clients[0].hears(answer)
+            heard = time.monotonic()
+        same(heard - before >= SECOND - MILLISECOND, True)
+        return None if heard - after <= SECOND + SOON else heard - after
+    often(tried)
+
+
+def run_lease_ends_while_all_sleep(bqd):
+    """A job whose lease ends goes to a client that waits, in time."""
+    def begin(waits, holds, _):
+        holds.asks(b"put 0 0 1 1\r\nx\r\n", b"INSERTED 1\r\n")
+        moments = between(lambda: holds.asks(b"reserve\r\n", JOB))
+        waits.sends(b"reserve\r\n")
+        return moments
+    is_due_in_time(bqd, begin, JOB)
+
+
+def run_delay_ends_while_all_sleep(bqd):
+    """A job whose delay ends goes to a client that waits, in time."""
+    def begin(waits, puts, _):
+        waits.sends(b"reserve\r\n")
+        time.sleep(0.05)
+        return between(lambda: puts.asks(b"put 0 1 60 1\r\nx\r\n", b"INSERTED 1\r\n"))
+    is_due_in_time(bqd, begin, JOB)
+
+
+def run_pause_ends_while_all_sleep(bqd):
+    """A job of a tube whose pause ends goes to a client that waits, in time."""
+    def begin(waits, pauses, _):
+        pauses.asks(PUT, b"INSERTED 1\r\n")
+        moments = between(lambda: pauses.asks(b"pause-tube default 1\r\n", b"PAUSED\r\n"))
+        waits.sends(b"reserve\r\n")
+        return moments
+    is_due_in_time(bqd, begin, JOB)
+
+
+def run_reserve_ends_while_all_sleep(bqd):
+    """A reserve whose time is over is told so, in time."""
+    def begin(waits, *_):
+        return between(lambda: waits.sends(b"reserve-with-timeout 1\r\n"))
+    is_due_in_time(bqd, begin, b"TIMED_OUT\r\n")
+
+
+def run_deadline_nears_while_all_sleep(bqd):
+    """Who waits and holds a job whose lease ends a second later is told so, in time."""
+    def begin(waits, *_):
+        waits.asks(b"put 0 0 2 1\r\nx\r\n", b"INSERTED 1\r\n")
+        moments = between(lambda: waits.asks(b"reserve\r\n", JOB))
+        waits.sends(b"reserve\r\n")
+        return moments
+    is_due_in_time(bqd, begin, b"DEADLINE_SOON\r\n")
+
+
+def run_requeue_delay_ends_while_all_sleep(bqd):
+    """A job of a lost connection goes to a client that waits once its delay ends, in time."""
+    def begin(waits, holds, _):
+        holds.asks(PUT + b"reserve\r\n", b"INSERTED 1\r\n" + JOB)
+        waits.sends(b"reserve\r\n")
+        time.sleep(0.05)
+        return between(holds.close)
+    is_due_in_time(bqd, begin, JOB, "--requeue-delay", "1")
+
+
+def run_earlier_moment_while_all_sleep(bqd):
+    """What is due before the next known moment comes in time: whoever waits for that is woken earlier."""
+    def begin(waits, puts, _):
+        waits.sends(b"reserve-with-timeout 3\r\n")
+        time.sleep(0.05)
+        puts.asks(b"put 0 2 60 1\r\ny\r\n", b"INSERTED 1\r\n")
+        return between(lambda: puts.asks(b"put 0 1 60 1\r\nx\r\n", b"INSERTED 2\r\n"))
+    is_due_in_time(bqd, begin, b"RESERVED 2 1\r\nx\r\n")
+
+
+def run_drain_while_all_sleep(bqd):
+    """Draining begins as soon as it is asked for, though nobody sends a command."""
+    def tried():
+        with Server(bqd, "--seats", "4") as server:
+            puts = server.client()
+            puts.asks(ASK, ANSWER)
+            for _ in range(3):
+                server.client().sends(b"reserve\r\n")
+            time.sleep(0.15)
+            before = time.monotonic()
+            server.control(b"drain\n")
+            server.tells(b"bqd: draining\n")
+            took = time.monotonic() - before
+            puts.asks(PUT, b"DRAINING\r\n")
+        return None if took <= SOON else took
+    often(tried)
+
+
+def works(client, rounds):
+    """A client that puts jobs into a tube of its own, is handed them and deletes them, so many times."""
+    for _ in range(rounds):
+        client.sends(PUT)
+        number = int(client.stream.recv(64).split()[1])
+        client.asks(b"reserve\r\ndelete %d\r\n" % number, b"RESERVED %d 1\r\nx\r\nDELETED\r\n" % number)
+
+
+def run_others_beside_one_that_does_not_read(bqd):
+    """A client that doesn't read its answers holds up nobody else, and is answered whole when it does."""
+    size, peeks = 65535, 300
+    body = b"y" * size
+    with Server(bqd, "--seats", "3") as server:
+        stopped, *others = [server.client() for _ in range(3)]
+        stopped.asks(b"use big\r\nput 0 0 60 %d\r\n%s\r\n" % (size, body), b"USING big\r\nINSERTED 1\r\n")
+        stopped.sends(b"peek 1\r\n" * peeks)
+        # Its seat's thread stands in a write by now.
+        time.sleep(0.1)
+        for client in others:
+            works(client, 200)
+        others[0].sends(b"reserve\r\n")
+        time.sleep(0.05)
+        others[1].sends(PUT)
+        others[0].hears(b"RESERVED 402 1\r\nx\r\n")
+        for _ in range(peeks):
+            stopped.hears(b"FOUND 1 %d\r\n%s\r\n" % (size, body))
+
+
+def run_ends_while_seats_are_busy(bqd):
+    """Once its connections have been served it ends at once, though seats were busy up to the last moment."""
+    def tried():
+        with Server(bqd, "--seats", "4", "--sessions", "2") as server:
+            server.process.stdin.close()
+
+            def serves_two(number):
+                for _ in range(2):
+                    client = server.client()
+                    client.asks(b"use t%d\r\nwatch t%d\r\n" % (number, number), b"USING t%d\r\nWATCHING 2\r\n" % number)
+                    works(client, 100)
+                    client.asks(b"list-tube-used\r\nquit\r\n", b"USING t%d\r\n" % number)
+                    client.hears_end()
+
+            threads = [threading.Thread(target=serves_two, args=[number]) for number in range(4)]
+            for it in threads:
+                it.start()
+            for it in threads:
+                it.join()
+            begun = time.monotonic()
+            same(server.process.wait(20), 0)
+            took = time.monotonic() - begun
+            same(server.process.stderr.read(), b"")
+        return None if took <= 0.1 else took
+    often(tried)
+
+
+def run_idle_server_is_not_woken(bqd):
+    """While 200 clients say nothing, no thread of the server wakes."""
+    with Server(bqd, "--seats", "201") as server:
+        for _ in range(200):
+            server.client().asks(ASK, ANSWER)
+        time.sleep(0.2)
+
+        def tried():
+            before = server.times_woken()
+            time.sleep(1)
+            return server.times_woken() - before or None
+        often(tried)
+
+
+def run_those_who_wait_are_seldom_woken(bqd):
+    """While 50 clients have waited for some time, the server's threads wake at most 60 times a second in all."""
+    with Server(bqd, "--seats", "50") as server:
+        for _ in range(50):
+            server.client().sends(b"reserve\r\n")
+        time.sleep(2)
+
+        def tried():
+            before = server.times_woken()
+            time.sleep(2)
+            woken = server.times_woken() - before
+            return None if woken <= 120 else woken
+        often(tried)
+
+
+def run_gone_after_a_long_wait(bqd):
+    """The job of a client that goes while it waits, and has waited for long, is soon another's."""
+    with Server(bqd, "--seats", "2") as server:
+        goes, waits = server.client(), server.client()
+        goes.asks(PUT + b"reserve\r\n", b"INSERTED 1\r\n" + JOB)
+        goes.sends(b"reserve\r\n")
+        waits.sends(b"reserve\r\n")
+        time.sleep(2.2)
+        begun = time.monotonic()
+        goes.close()
+        waits.hears(JOB)
+        same(time.monotonic() - begun < LONGEST_REST + 0.5, True)
