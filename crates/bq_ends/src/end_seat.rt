@@ -57,7 +57,7 @@ impl<'a, R: Wait, S: SharedCore> Link for EndSeat<'a, R, S> {
     fn submit(&mut self, step: Step) -> Result<(), Step> {
         self.rest = 0;
         let submitted = submit_at(self.rt, self.intake, self.end, step);
-        self.core.help(self.rt);
+        self.core.help(self.rt, self.end.number());
         submitted
     }
 
@@ -76,7 +76,7 @@ impl<'a, R: Wait, S: SharedCore> Link for EndSeat<'a, R, S> {
     fn submit_in_place(&mut self, step: &mut Step) -> bool {
         self.rest = 0;
         let is_submitted = submit_step(self.rt, self.intake, self.end, step);
-        self.core.help(self.rt);
+        self.core.help(self.rt, self.end.number());
         is_submitted
     }
 
@@ -94,7 +94,7 @@ impl<'a, R: Wait, S: SharedCore> ControlLink for EndSeat<'a, R, S> {
 
     fn submit(&mut self, step: Step) -> Result<(), Step> {
         let submitted = submit_at(self.rt, self.intake, self.end, step);
-        self.core.help(self.rt);
+        self.core.help(self.rt, self.end.number());
         submitted
     }
 }

@@ -1,5 +1,6 @@
 pub mod CoreWork
 pub mod Flags
+pub mod Noted
 pub mod Rests
 pub mod Sending
 pub mod Shared

@@ -5,12 +5,14 @@ ghost use Rattle.bq_link.specs.EndStates.{IsSameCore};
 ghost use Rattle.bq_link.specs.NewEnds.{IsNewCore};
 ghost use Rattle.bq_hub.specs.CoreWork.{IsNewRoom, RanToEnd};
 
+pub use answered::Answered;
 pub use begun_hub::Origin;
 pub use hub::Hub;
 pub use last_turns::run_out;
 pub use room::CoreRoom;
 pub use shared_hub::SharedHub;
 
+mod answered;
 mod begun_hub;
 mod gone;
 mod hub;

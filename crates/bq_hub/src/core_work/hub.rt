@@ -4,6 +4,7 @@ ghost use Rattle.bq_job.specs.beside.NextDue.{is_before, next_due};
 ghost use Rattle.bq_job.specs.promise.History.{moment_heard};
 ghost use Rattle.bq_link.specs.EndStates.{IsSameCore};
 
+use crate::core_work::answered::Answered;
 use crate::core_work::gone::Gone;
 use crate::core_work::notices::{Concern, Notices, concern_of};
 use crate::core_work::room::CoreRoom;
@@ -108,7 +109,7 @@ impl<C: Clock + Drop, K: QueueCore + Drop> Hub<C, K> {
         ensures stuck { AreStuck self.new.sender.end self.new.sender.kept.items }
         ensures turned { result ≡ false → TurnWent K.machine self.old self.new }
     {
-        if !self.send_all(intake) {
+        if !self.send_and_ring(intake) {
             self.rest(rt, intake);
             return false;
         }
@@ -122,10 +123,11 @@ impl<C: Clock + Drop, K: QueueCore + Drop> Hub<C, K> {
     }
 
     /// Takes the steps that wait, up to some number, makes the ticks that are due, and sends their answers. It never
-    /// rests, so that it can be done under a lock.
+    /// rests, so that it can be done under a lock; and the ends that it answered are noted, so that their bells can be
+    /// rung after it.
     ///
     /// Whoever submits a step helps after it. So all steps are taken once all have helped, however many wait.
-    pub fn help<R: Wait>(&mut self, rt: &R, intake: &Intake<NoTicks>)
+    pub fn help<R: Wait>(&mut self, rt: &R, intake: &Intake<NoTicks>, answered: &mut Answered)
         requires intake { self.old.sender.end.intake ≡ intake.now.id }
         requires order { IsInOrder K.machine self.old }
         ensures order { IsInOrder K.machine self.new }
@@ -134,15 +136,20 @@ impl<C: Clock + Drop, K: QueueCore + Drop> Hub<C, K> {
         ensures work { WorksOn C.given K.machine self.old self.new }
     {
         for _ in 0..MOST {
-            if !self.work_once(rt, intake) {
+            if !self.work_once(rt, intake, answered) {
                 return;
             }
         }
-        self.send_all(intake);
+        self.send_all(intake, answered);
     }
 
     // A turn without a rest. Whether there may be more to do at once.
-    fn work_once<R: Wait>(&mut self, rt: &R, intake: &Intake<NoTicks>) -> bool
+    fn work_once<R: Wait>(
+        &mut self,
+        rt: &R,
+        intake: &Intake<NoTicks>,
+        answered: &mut Answered,
+    ) -> bool
         requires intake { self.old.sender.end.intake ≡ intake.now.id }
         requires order { IsInOrder K.machine self.old }
         ensures order { IsInOrder K.machine self.new }
@@ -150,7 +157,7 @@ impl<C: Clock + Drop, K: QueueCore + Drop> Hub<C, K> {
         ensures settings { (K.machine self.new.core).settings ≡ (K.machine self.old.core).settings }
         ensures work { WorksOn C.given K.machine self.old self.new }
     {
-        if !self.send_all(intake) || self.gone.all {
+        if !self.send_all(intake, answered) || self.gone.all {
             return false;
         }
         self.go_on(rt, intake)
@@ -177,7 +184,7 @@ impl<C: Clock + Drop, K: QueueCore + Drop> Hub<C, K> {
     }
 
     // Sends what is pending, as far as rings and places reach. Whether the next step's answers have room.
-    fn send_all(&mut self, intake: &Intake<NoTicks>) -> bool
+    fn send_all(&mut self, intake: &Intake<NoTicks>, answered: &mut Answered) -> bool
         requires order { IsInOrder K.machine self.old }
         ensures order { IsInOrder K.machine self.new }
         ensures end { IsSameCore self.old.sender.end self.new.sender.end }
@@ -189,7 +196,26 @@ impl<C: Clock + Drop, K: QueueCore + Drop> Hub<C, K> {
         ensures taken { self.new.sender.end.taken ≡ self.old.sender.end.taken }
         ensures rest { self.new ≡ record self.old { sender = self.new.sender; outs = self.new.outs } }
     {
-        self.sender.send_all(intake, &mut self.outs)
+        self.sender.send_all(intake, &mut self.outs, answered)
+    }
+
+    // The same, and rings the bells of the ends that were answered.
+    fn send_and_ring(&mut self, intake: &Intake<NoTicks>) -> bool
+        requires order { IsInOrder K.machine self.old }
+        ensures order { IsInOrder K.machine self.new }
+        ensures end { IsSameCore self.old.sender.end self.new.sender.end }
+        ensures settings { (K.machine self.new.core).settings ≡ (K.machine self.old.core).settings }
+        ensures work { WorksOn C.given K.machine self.old self.new }
+        ensures stuck { AreStuck self.new.sender.end self.new.sender.kept.items }
+        ensures none { result ≡ true → self.new.outs.given ≡ [] }
+        ensures full { result ≡ false → length self.new.sender.kept.items ≡ self.new.sender.ends }
+        ensures taken { self.new.sender.end.taken ≡ self.old.sender.end.taken }
+        ensures rest { self.new ≡ record self.old { sender = self.new.sender; outs = self.new.outs } }
+    {
+        let mut answered = Answered::none();
+        let has_room = self.send_all(intake, &mut answered);
+        answered.ring(intake, None);
+        has_room
     }
 
     // Whether every end is gone and has been sent all that it was given.

@@ -4,6 +4,7 @@ ghost use Rattle.std.specs.Prelude.{IfErr, IsOk, OnErr, OnOk};
 ghost use Rattle.bq_job.specs.promise.Runs.{answers_to};
 ghost use Rattle.bq_link.specs.EndStates.{room_for};
 
+use crate::core_work::answered::Answered;
 use bq_job::{Answer, Seat};
 use bq_link::{CoreEnd, Intake, NoTicks};
 use bq_steps::Outs;
@@ -25,8 +26,13 @@ impl Sender {
     ghost use Rattle.bq_hub.specs.Sending.{AreSent, AreStuck, HasPlaces, IsAtRest};
 
     /// Sends what was kept, and then what was given, as far as rings and places reach: whether none is given any
-    /// more. An answer whose ring is full is kept, and others go on.
-    pub fn send_all(&mut self, intake: &Intake<NoTicks>, outs: &mut Outs) -> bool
+    /// more. An answer whose ring is full is kept, and others go on. The ends that are sent answers are noted.
+    pub fn send_all(
+        &mut self,
+        intake: &Intake<NoTicks>,
+        outs: &mut Outs,
+        answered: &mut Answered,
+    ) -> bool
         requires rest { IsAtRest self.old }
         ensures rest { IsAtRest self.new }
         ensures ends { self.new.ends ≡ self.old.ends }
@@ -36,12 +42,17 @@ impl Sender {
         ensures none { result ≡ true → outs.new.given ≡ [] }
         ensures full { result ≡ false → length self.new.kept.items ≡ self.new.ends }
     {
-        self.try_again(intake);
-        self.send_given(intake, outs)
+        self.try_again(intake, answered);
+        self.send_given(intake, outs, answered)
     }
 
     // Sends what was given, as long as there is a place for an answer that must be kept.
-    fn send_given(&mut self, intake: &Intake<NoTicks>, outs: &mut Outs) -> bool
+    fn send_given(
+        &mut self,
+        intake: &Intake<NoTicks>,
+        outs: &mut Outs,
+        answered: &mut Answered,
+    ) -> bool
         requires rest { IsAtRest self.old }
         requires stuck { AreStuck self.old.end self.old.kept.items }
         ensures rest { IsAtRest self.new }
@@ -56,13 +67,13 @@ impl Sender {
             let Some((seat, answer)) = outs.take_first() else {
                 return true;
             };
-            self.send_or_keep(intake, seat, answer);
+            self.send_or_keep(intake, seat, answer, answered);
         }
         false
     }
 
     // Tries to send all that was kept. Where nothing is, which is so nearly always, nothing is moved.
-    fn try_again(&mut self, intake: &Intake<NoTicks>)
+    fn try_again(&mut self, intake: &Intake<NoTicks>, answered: &mut Answered)
         requires rest { IsAtRest self.old }
         ensures rest { IsAtRest self.new }
         ensures ends { self.new.ends ≡ self.old.ends }
@@ -74,13 +85,19 @@ impl Sender {
         }
         mem::swap(&mut self.kept, &mut self.aside);
         while let Some((seat, answer)) = self.aside.pop_front() {
-            self.send_or_keep(intake, seat, answer);
+            self.send_or_keep(intake, seat, answer, answered);
         }
     }
 
-    // Sends an answer and rings the bell of its end, or keeps it behind the others. To nobody nothing is sent. Whether
+    // Sends an answer and notes its end, or keeps it behind the others. To nobody nothing is sent. Whether
     // it can be sent is asked before it is moved, so that it is moved once.
-    fn send_or_keep(&mut self, intake: &Intake<NoTicks>, seat: Seat, answer: Answer)
+    fn send_or_keep(
+        &mut self,
+        intake: &Intake<NoTicks>,
+        seat: Seat,
+        answer: Answer,
+        answered: &mut Answered,
+    )
         requires places { HasPlaces self.old }
         requires room { length self.old.kept.items < self.old.ends }
         requires stuck { AreStuck self.old.end self.old.kept.items }
@@ -96,7 +113,7 @@ impl Sender {
         }
         if self.can_send(seat) {
             self.end.send_reserved(seat, answer);
-            intake.wake(seat);
+            answered.note(intake, seat);
         } else {
             self.kept.push_back_reserved((seat, answer));
         }

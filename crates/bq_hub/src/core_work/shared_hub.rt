@@ -3,6 +3,7 @@ ghost use Rattle.std.specs.Prelude.{◌≡◌};
 ghost use Rattle.bq_hub.specs.Shared.{HasBegun};
 ghost use Rattle.bq_hub.specs.Worked.{IsInOrder};
 
+use crate::core_work::answered::Answered;
 use crate::core_work::begun_hub::{BegunHub, Origin};
 use crate::core_work::hub::Hub;
 use crate::core_work::watch::Watch;
@@ -41,24 +42,24 @@ impl<'a, C: Clock + Drop, K: QueueCore + Drop, O: Origin<C>> SharedHub<'a, C, K,
         }
     }
 
-    /// Takes the steps that wait and sends their answers. Whether who watches the clock has to look now: something is
-    /// due before it would, or all is done.
-    pub fn help<R: Wait>(&mut self, rt: &R) -> bool {
-        self.work_on(rt);
+    /// Takes the steps that wait and sends their answers. The ends that were answered are noted. Whether who watches the
+    /// clock has to look now: something is due before it would, or all is done.
+    pub fn help<R: Wait>(&mut self, rt: &R, answered: &mut Answered) -> bool {
+        self.work_on(rt, answered);
         self.watch.wakes_for(self.hub.next_look(), self.hub.heard)
     }
 
     /// The same for who watches the clock: how many milliseconds it may rest, or nothing where all is done.
-    pub fn watch<R: Wait>(&mut self, rt: &R) -> Option<u64> {
-        self.work_on(rt);
+    pub fn watch<R: Wait>(&mut self, rt: &R, answered: &mut Answered) -> Option<u64> {
+        self.work_on(rt, answered);
         if self.hub.is_done() {
             return None;
         }
         Some(self.watch.rest(self.hub.next_look(), self.hub.heard))
     }
 
-    fn work_on<R: Wait>(&mut self, rt: &R) {
-        self.hub.help(rt, self.intake);
+    fn work_on<R: Wait>(&mut self, rt: &R, answered: &mut Answered) {
+        self.hub.help(rt, self.intake, answered);
     }
 
     /// The hub and its intake, once no thread shares them any more.

@@ -46,6 +46,6 @@ impl<'a, C: Clock + Drop, K: QueueCore + Drop> CorePost<'a, C, K> {
             clock,
         } = self;
         let hub = Hub::new(alloc, end, core, outs, room, clock);
-        LockedCore::new(SharedHub::new(hub, intake))
+        LockedCore::new(SharedHub::new(hub, intake), intake)
     }
 }

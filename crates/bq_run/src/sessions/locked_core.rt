@@ -5,26 +5,30 @@ ghost use Rattle.bq_link.specs.EndStates.{CoreState};
 ghost use Rattle.bq_run.specs.Threads.{IsCoreOver};
 
 use bq_ends::shared_core::SharedCore;
-use bq_hub::core_work::{Origin, SharedHub, run_out};
+use bq_hub::core_work::{Answered, Origin, SharedHub, run_out};
+use bq_job::Seat;
 use bq_line::clock::Clock;
-use bq_link::CoreEnd;
+use bq_link::{CoreEnd, Intake, NoTicks};
 use bq_steps::QueueCore;
 use std::sync::{Mutex, Wait};
 use std::thread::Parker;
 use std::time::Duration;
 
-/// A core under a lock, and the bell of who watches its clock. Nobody waits for anything while it holds the lock.
+/// A core under a lock, and the bells of the ends and of who watches its clock. Nobody waits for anything or rings a bell
+/// while it holds the lock.
 #[derive(Drop)]
 pub struct LockedCore<'a, C: Clock, K: QueueCore, O: Origin<C>> {
     lock: Mutex<SharedHub<'a, C, K, O>>,
+    ends: &'a Intake<NoTicks>,
     watcher: Parker,
 }
 
 impl<'a, C: Clock + Drop, K: QueueCore + Drop, O: Origin<C>> LockedCore<'a, C, K, O> {
     /// Nobody watches the clock yet.
-    pub fn new(hub: SharedHub<'a, C, K, O>) -> LockedCore<'a, C, K, O> {
+    pub fn new(hub: SharedHub<'a, C, K, O>, ends: &'a Intake<NoTicks>) -> LockedCore<'a, C, K, O> {
         LockedCore {
             lock: Mutex::new(hub),
+            ends,
             watcher: Parker::new(),
         }
     }
@@ -34,7 +38,11 @@ impl<'a, C: Clock + Drop, K: QueueCore + Drop, O: Origin<C>> LockedCore<'a, C, K
         ensures { (clock : C) (settings : Settings) (end : CoreState) → O.start ≡ Some (clock, (settings, end))
             → IsCoreOver C.given settings end clock result.0 (K.machine result.1) result.2 }
     {
-        let LockedCore { lock, watcher: _ } = self;
+        let LockedCore {
+            lock,
+            ends: _,
+            watcher: _,
+        } = self;
         let (hub, intake) = lock.into_inner().into_parts();
         run_out(rt, intake, hub)
     }
@@ -42,9 +50,11 @@ impl<'a, C: Clock + Drop, K: QueueCore + Drop, O: Origin<C>> LockedCore<'a, C, K
 
 impl<'a, C: Clock + Drop, K: QueueCore + Drop, O: Origin<C>> SharedCore
     for LockedCore<'a, C, K, O> {
-    // The lock is given back before the bell is rung: who is woken doesn't find it taken.
-    fn help<R: Wait>(&self, rt: &R) {
-        let is_to_wake = self.lock.lock(rt).help(rt);
+    // The lock is given back before a bell is rung: who is woken doesn't find it taken.
+    fn help<R: Wait>(&self, rt: &R, own: Seat) {
+        let mut answered = Answered::none();
+        let is_to_wake = self.lock.lock(rt).help(rt, &mut answered);
+        answered.ring(self.ends, Some(own));
         if is_to_wake {
             self.watcher.unpark();
         }
@@ -53,7 +63,9 @@ impl<'a, C: Clock + Drop, K: QueueCore + Drop, O: Origin<C>> SharedCore
     // A bell that is rung between the look and the rest is kept.
     fn watch<R: Wait>(&self, rt: &R) {
         for _ in rt.forever() {
-            let rest = self.lock.lock(rt).watch(rt);
+            let mut answered = Answered::none();
+            let rest = self.lock.lock(rt).watch(rt, &mut answered);
+            answered.ring(self.ends, None);
             let Some(rest) = rest else {
                 return;
             };

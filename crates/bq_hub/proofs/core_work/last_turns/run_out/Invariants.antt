@@ -1,4 +1,3 @@
-use Rattle.std.proofs.Common.{◌≡◌}
 use Rattle.bq_link.specs.EndStates.{IsSameCore}
 use Rattle.bq_hub.specs.Worked.{IsInOrder, WorksOn}
 use Rattle.bq_hub.proofs.core_work.last_turns.run_out.Given as goal

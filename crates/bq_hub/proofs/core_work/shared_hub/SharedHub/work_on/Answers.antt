@@ -1,4 +1,4 @@
-use Rattle.std.proofs.Common.{◌≡◌, ◌∙◌}
+use Rattle.std.proofs.Common.{◌∙◌}
 use Rattle.std.proofs.Math.Logic.{∥∥₁_elim, ∥∥₁_prop}
 use Rattle.bq_hub.proofs.SharedLemmas.{begun_on}
 use Rattle.bq_hub.proofs.core_work.shared_hub.SharedHub.work_on.Goals as goal
