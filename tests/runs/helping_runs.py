@@ -238,7 +238,7 @@ def run_gone_after_a_long_wait(bqd):
         goes.asks(PUT + b"reserve\r\n", b"INSERTED 1\r\n" + JOB)
         goes.sends(b"reserve\r\n")
         waits.sends(b"reserve\r\n")
-        time.sleep(2.2)
+        time.sleep(3.3)
         begun = time.monotonic()
         goes.close()
         waits.hears(JOB)
