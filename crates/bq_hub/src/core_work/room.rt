@@ -5,8 +5,8 @@ use bq_job::{Answer, NoMemory, Seat};
 use std::alloc::Global;
 use std::collections::VecDeque;
 
-/// Room that the core's thread needs beside the core and its end: for answers whose rings are full, and for which
-/// ends are gone.
+/// Room that the core's work needs beside the core and its end: for answers whose rings are full, and for which ends
+/// are gone.
 #[derive(Drop)]
 pub struct CoreRoom {
     pub(crate) kept: VecDeque<(Seat, Answer), Global>,

@@ -14,8 +14,8 @@ use std::sync::{Mutex, Wait};
 use std::thread::Parker;
 use std::time::Duration;
 
-/// A core under a lock, and the bells of the ends and of who watches its clock. Nobody waits for anything or rings a bell
-/// while it holds the lock.
+/// A core under a lock, and the bells of the ends and of who watches its clock. Who holds the lock waits for no
+/// client, and rings the bells once it gave it back.
 #[derive(Drop)]
 pub struct LockedCore<'a, C: Clock, K: QueueCore, O: Origin<C>> {
     lock: Mutex<SharedHub<'a, C, K, O>>,
