@@ -11,6 +11,8 @@ mod each_answer;
 #[cfg(test)]
 mod event;
 #[cfg(test)]
+mod holders;
+#[cfg(test)]
 mod large_bodies;
 #[cfg(test)]
 mod limits;
