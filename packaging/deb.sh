@@ -42,6 +42,7 @@ install -D -m 644 -t "$tree/usr/share/man/man1" packaging/bqd.1 packaging/bqd-to
 install -D -m 644 -t "$tree/usr/share/doc/bqd" README.md docs/*.md docs/speed.svg packaging/bq.1
 install -D -m 644 packaging/changelog "$tree/usr/share/doc/bqd/changelog"
 install -D -m 644 LICENSE "$tree/usr/share/doc/bqd/copyright"
+install -D -m 644 packaging/debian/lintian-overrides "$tree/usr/share/lintian/overrides/bqd"
 gzip -9n "$tree"/usr/share/man/man1/*.1 "$tree/usr/share/doc/bqd/changelog"
 
 # What the package is, with the libraries and their versions that the programs need.
