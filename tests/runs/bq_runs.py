@@ -72,6 +72,8 @@ def run_bad_options(bq):
         ["--max-job-size", "0"],
         ["--max-job-size", "1048577"],
         ["--max-job-size", "x"],
+        ["--max-jobs", "0"],
+        ["--max-jobs", "4294967296"],
         ["--max-job-size"],
         ["--listen", "127.0.0.1:0"],
         ["--seats", "1"],

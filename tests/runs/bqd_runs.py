@@ -35,6 +35,7 @@ def run_bad_options(bqd):
         ["-p", "11300"],
         ["--listen"],
         listen + ["-p", "65536"],
+        listen + ["-p", "-1"],
         listen + ["--seats", "0"],
         listen + ["--seats", "257"],
         listen + ["--seats", "many"],
@@ -42,6 +43,12 @@ def run_bad_options(bqd):
         listen + ["--sessions", "4294967296"],
         listen + ["--max-job-size", "0"],
         listen + ["--max-job-size", "1048577"],
+        listen + ["-z", "0"],
+        listen + ["-z", "1048577"],
+        listen + ["--max-jobs", "0"],
+        listen + ["--max-jobs", "4294967296"],
+        listen + ["--requeue-delay", "-1"],
+        listen + ["--requeue-delay", "4294967296"],
         listen + ["--still"],
         listen + ["more"],
         listen + [b"\xff"],
@@ -131,6 +138,42 @@ def run_words_of_beanstalkd(bqd):
         client = server.client()
         client.asks(b"put 0 0 9 4\r\nabcd\r\n", b"JOB_TOO_BIG\r\n")
         client.asks(b"put 0 0 9 3\r\nabc\r\n", b"INSERTED 1\r\n")
+
+
+def run_numbers_at_the_ends(bqd):
+    """The least and the greatest number of each option are taken, and do what they say."""
+    words = ["--seats", "1", "--sessions", "1", "-z", "1", "--max-jobs", "1", "--requeue-delay", "0"]
+    with Server(bqd, *words) as server:
+        client = server.client()
+        client.asks(b"put 0 0 9 2\r\nxx\r\nput 0 0 9 1\r\nx\r\n", b"JOB_TOO_BIG\r\nINSERTED 1\r\n")
+        client.asks(b"put 0 0 9 1\r\nx\r\nreserve\r\nquit\r\n", b"OUT_OF_MEMORY\r\nRESERVED 1 1\r\nx\r\n")
+        client.hears_end()
+        same(server.end(), Ended(0, b"", b""))
+    most = "4294967295"
+    words = ["--seats", "256", "--sessions", most, "-z", "1048576", "--max-jobs", most, "--requeue-delay", most]
+    with Server(bqd, *words) as server:
+        client = server.client()
+        client.asks(b"put 0 0 9 1\r\nx\r\nreserve\r\nquit\r\n", b"INSERTED 1\r\nRESERVED 1 1\r\nx\r\n")
+        client.hears_end()
+        server.client().asks(b"reserve-with-timeout 0\r\nkick-job 1\r\n", b"TIMED_OUT\r\nKICKED\r\n")
+    # An address of this machine alone that nobody else listens at.
+    address = "127." + ".".join(str(random.randint(1, 254)) for _ in range(3))
+    with Server(bqd, listen=["-l", address, "-p", "65535"]) as server:
+        same(server.told, f"listening {address}:65535\n".encode())
+
+
+def run_sessions_are_counted(bqd):
+    """A seat serves exactly as many connections as are chosen: the next one is never answered."""
+    for sessions in [1, 3]:
+        with Server(bqd, "--seats", "1", "--sessions", str(sessions)) as server:
+            for _ in range(sessions):
+                client = server.client()
+                client.asks(b"list-tube-used\r\nquit\r\n", b"USING default\r\n")
+                client.hears_end()
+            more = server.client()
+            more.sends(b"list-tube-used\r\n")
+            more.hears_nothing(0.3)
+            same(server.end(), Ended(0, b"", b""))
 
 
 def run_drain(bqd):

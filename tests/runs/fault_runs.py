@@ -57,6 +57,22 @@ def run_shortages(bqd):
             same(server.end(), Ended(0, b"", told))
 
 
+def run_faults_of_a_listener(bqd):
+    """A fault of the listener's own ends a seat for good, told at once and at the end, with status 1; another serves on."""
+    for code in [errno.EINVAL, errno.EBADF, errno.EOPNOTSUPP, errno.EPERM]:
+        told = f"bqd: no connection can be accepted: {os.strerror(code)} (os error {code})\n".encode()
+        at_the_end = b"bqd: a connection could not be accepted\n"
+        with Server(bqd, "--seats", "1", env=faults(accepts=code, times=1)) as server:
+            same(server.end(), Ended(1, b"", told + at_the_end))
+        with Server(bqd, "--seats", "2", "--sessions", "1", env=faults(accepts=code, times=1)) as server:
+            server.tells(told)
+            same(server.is_silent(2 * REST), True)
+            client = server.client()
+            client.asks(ASK, ANSWER)
+            client.close()
+            same(server.end(), Ended(1, b"", at_the_end))
+
+
 def run_each_thread_refused(bqd):
     """Whichever thread is refused, a seat's or the one that watches the clock, nobody is served, with status 1."""
     with Server(bqd, "--seats", "256", env=faults(thread=200)) as server:
