@@ -1,23 +1,28 @@
 """Tries bugs that no contract refuses: the programs are built with one at a time, and a test has to fail for it.
 
-    python3 tools/plants [--only WORD] [--jobs N] [--proofs]
+    python3 tools/plants [--only WORD] [--jobs N] [--proofs] [FILE ..]
 
 A plant is a file tools/plants/CRATE/NAME.edit: a file of the crate, texts of it, and what they become, as in a
 must-fail edit. Its end stands in tools/plants/ends.txt, one of
 
     test TRIAL PART     this part of a trial fails for it
-    clause              a contract refuses it since, which --proofs tries by a check of the crate
+    clause              a contract refuses it since
     allowed WHY         no user and no contract is harmed
     beyond WHY          it can't be had
     untried TRIAL PART  this is meant to fail for it, and was not seen yet
 
 The programs are built without a proof (unproved.py), in some 45 seconds of a processor each. Then tests/runs, the
-tests of the crate, tests/refuse and a part of tests/model are run until one fails; what fails is tried again, since a
-busy machine fails tests that wait. What fails with no plant isn't counted.
+tests of the crate, tests/refuse and a part of tests/model are run until one fails, and before them the part that the
+table tells of; what fails is tried again, since a busy machine fails tests that wait. What fails with no plant isn't
+counted.
+
+With --proofs the check of its crate is asked first of each plant, over the work that is kept in out/, and only what it
+lets through is tried by tests. With FILEs these edits are tried and no others: those of crates/NAME/must-fail too,
+where a check has let one through. Their end is 'clause', unless the table has another.
 
 Run it by hand, and before a release. The last line is 'N as told, M otherwise'; the status is 1 where a plant is
-found to be otherwise than the table tells (it passes newly, does not apply any more, or was untried), and 2 for bad
-words and where nothing could be judged.
+found to be otherwise than the table tells (it is refused or passes newly, does not apply any more, or was untried),
+and 2 for bad words and where nothing could be judged.
 """
 import argparse
 import concurrent.futures
@@ -28,6 +33,7 @@ import pathlib
 import shutil
 import sys
 import tempfile
+import threading
 
 # Nothing is left behind beside these files.
 sys.dont_write_bytecode = True
@@ -55,9 +61,16 @@ class Plant(edits.Edit):
 
     def __init__(self, path, ends):
         super().__init__(path)
-        self.crate = path.parent.name
+        is_must_fail = path.parent.name == "must-fail"
+        self.crate = path.parent.parent.name if is_must_fail else path.parent.name
         self.name = f"{self.crate}/{path.stem}"
-        self.end = ends.get(self.name, "none")
+        self.end = ends.get(self.name, "clause" if is_must_fail else "none")
+
+    def told_trial(self):
+        """The name of the trial that the table tells of, and its part."""
+        kind, _, rest = self.end.partition(" ")
+        name, _, part = rest.partition(" ")
+        return (name, part) if kind in ("test", "untried") else (None, None)
 
     def made_in(self, root):
         """Makes the edit in a copy. Whether it applies there."""
@@ -83,44 +96,38 @@ def copied(to):
 class Programs:
     """The programs of a copy, each built when it is first asked for."""
 
-    def __init__(self, root, folder, unchanged, changes):
-        self.root, self.folder, self.unchanged, self.changes, self.made = root, folder, unchanged, changes, {}
+    def __init__(self, root, folder, fault, unchanged=None, changes=lambda name: True):
+        self.root, self.folder, self.fault, self.unchanged, self.changes = root, folder, fault, unchanged, changes
+        self.made, self.lock = {}, threading.Lock()
 
     def __getitem__(self, name):
         if not self.changes(name):
             return self.unchanged[name]
-        if name not in self.made:
-            to = self.folder / name
-            said = unproved.built(name, self.root, to)
-            if said is not None:
-                raise NotBuilt(f"{name} can't be built: {said.strip()[-300:]}")
-            self.made[name] = to
+        with self.lock:
+            if name not in self.made:
+                to = self.folder / name
+                said = unproved.built(name, self.root, to)
+                if said is not None:
+                    raise self.fault(f"{name} can't be built: {said.strip()[-300:]}")
+                self.made[name] = to
         return self.made[name]
 
 
 class NotBuilt(Exception):
-    """A program that the toolchain didn't build."""
+    """A program with a plant that the toolchain didn't build."""
+
+
+class NothingToJudgeBy(Exception):
+    """A program without one that it didn't build."""
 
 
 class Judge:
-    """What no plant is needed for: the programs without one, and what fails with them."""
+    """The programs without a plant, and what is found of a plant beside them."""
 
-    def __init__(self, folder, below, jobs):
-        self.folder, self.below, self.jobs = folder, below, jobs
+    def __init__(self, folder, below):
+        self.folder, self.below = folder, below
         self.root = copied(folder / "none")
-        self.programs = Programs(self.root, folder, None, lambda name: True)
-        self.known = {}
-
-    def prepare(self, crates):
-        """Builds all programs without a plant, and tries them. What fails isn't counted for a plant."""
-        wanted = {it.name: it for crate in crates for it in trials(tests_of(crate, self.below))}.values()
-        with concurrent.futures.ThreadPoolExecutor(self.jobs) as pool:
-            for _ in pool.map(self.programs.__getitem__, sorted({name for it in wanted for name in it.needs})):
-                pass
-        for trial in wanted:
-            self.known[trial.name] = trial.failed(self.root, self.programs)
-            for part in sorted(self.known[trial.name]):
-                print(f"not counted, since it fails with no plant: {trial.name} {part}", flush=True)
+        self.programs = Programs(self.root, folder, NothingToJudgeBy)
 
     def said(self, plant):
         """What is found of a plant: 'test ..', 'passes' or why it can't be tried."""
@@ -128,29 +135,46 @@ class Judge:
             root = copied(pathlib.Path(room) / "copy")
             if not plant.made_in(root):
                 return "does not apply"
-            programs = Programs(root, pathlib.Path(room), self.programs, lambda name: plant.crate in [name, *self.below[name]])
+            programs = Programs(root, pathlib.Path(room), NotBuilt, self.programs, lambda name: plant.crate in self.below[name])
             try:
-                for trial in trials(tests_of(plant.crate, self.below)):
+                for trial, names in tried_in_turn(plant, trials(tests_of(plant.crate, self.below))):
                     if not any(map(programs.changes, trial.needs)):
                         continue
-                    failed = trial.failed_twice(root, programs, self.known[trial.name])
-                    if failed:
+                    failed = self.failed(trial, root, programs, names)
+                    if failed and failed >= names:
                         return f"test {trial.name} {' '.join(sorted(failed))}"
             except NotBuilt as it:
                 return str(it)
         return "passes"
 
+    def failed(self, trial, root, programs, names):
+        """The parts that fail with a plant, twice, and not without it."""
+        failed = trial.failed_twice(root, programs, names)
+        known = trial.failed_twice(self.root, self.programs, failed) & failed if failed else failed
+        for part in sorted(known):
+            print(f"not counted, since it fails with no plant: {trial.name} {part}", flush=True)
+        return failed - known
+
+
+def tried_in_turn(plant, of_crate):
+    """The trials, each with the parts that are asked for: what the table tells of comes first."""
+    name, part = plant.told_trial()
+    return [*((it, {part}) for it in of_crate if it.name == name), *((it, set()) for it in of_crate)]
+
 
 def is_as_told(plant, said):
-    """Whether what was found is what the table tells: the same trial fails, or none where it is allowed."""
+    """Whether what was found is what the table tells: the same part of a trial fails, or none where it is allowed."""
     kind = plant.end.split(" ")[0]
     if kind == "test":
-        return said.split(" ")[:2] == plant.end.split(" ")[:2]
+        name, part = plant.told_trial()
+        return said.startswith(f"test {name} ") and part in said
+    if kind == "clause":
+        return said == "refused"
     return kind in ("allowed", "beyond") and said == "passes"
 
 
 def tried_by_proof(plants, jobs):
-    """What the check of its crate says of each plant that a contract refuses since."""
+    """What the check of its crate says of each plant."""
     for crate in dict.fromkeys(it.crate for it in plants):
         some = [it for it in plants if it.crate == crate]
         yield from edits.tried(crate, some, jobs).items()
@@ -160,9 +184,9 @@ def counted(plants_said):
     """Tells each plant, and counts those that are as the table tells and the others."""
     counts = {True: 0, False: 0}
     for plant, said in plants_said:
-        right = said == "refused" if plant.end.startswith("clause") else is_as_told(plant, said)
+        right = is_as_told(plant, said)
         news = "" if right else f", but the table tells: {plant.end}"
-        if not right and said == "passes":
+        if not right and said in ("passes", "refused"):
             news = f" NEWLY{news}"
         print(f"{plant.name}: {said}{news}", flush=True)
         counts[right] += 1
@@ -171,14 +195,18 @@ def counted(plants_said):
 
 def all_said(plants, asked):
     """What is found of each plant, as it comes."""
+    rest = [it for it in plants if asked.files or not it.end.startswith("clause")]
     if asked.proofs:
-        yield from tried_by_proof([it for it in plants if it.end.startswith("clause")], asked.jobs)
-    rest = [it for it in plants if not it.end.startswith("clause")]
+        rest = []
+        for plant, said in tried_by_proof(plants, asked.jobs):
+            if said == "let through":
+                rest.append(plant)
+            else:
+                yield plant, said
     if not rest:
         return
     with tempfile.TemporaryDirectory(prefix="plants-") as room:
-        judge = Judge(pathlib.Path(room), crates_below(), asked.jobs)
-        judge.prepare({it.crate for it in rest})
+        judge = Judge(pathlib.Path(room), crates_below())
         with concurrent.futures.ThreadPoolExecutor(asked.jobs) as pool:
             left = {pool.submit(judge.said, it): it for it in rest}
             for ended in concurrent.futures.as_completed(left):
@@ -186,32 +214,36 @@ def all_said(plants, asked):
 
 
 def crates_below():
-    """What each crate stands on, lowest first, as crates.txt lists them."""
-    lines = [it.split(":", 1) for it in (ROOT / "crates.txt").read_text().splitlines() if ":" in it and not it.startswith("#")]
-    return {name.split()[0]: words.split() for name, words in lines}
+    """Each crate, lowest first, with itself and all that it stands on."""
+    return {name: edits.crates_below(name) for name in edits.uses()}
 
 
 def parsed():
     parser = argparse.ArgumentParser(prog="tools/plants", description=__doc__, formatter_class=argparse.RawDescriptionHelpFormatter)
+    parser.add_argument("files", metavar="FILE", nargs="*", type=pathlib.Path, help="edits to be tried in place of those of tools/plants")
     parser.add_argument("--only", metavar="WORD", default="", help="the plants whose names have this word, as bq_line/ or nodelay")
     parser.add_argument("--jobs", type=int, metavar="N", default=len(os.sched_getaffinity(0)), help="plants that are tried side by side")
-    parser.add_argument("--proofs", action="store_true", help="tries those too that a contract refuses since, over work that is kept in out/")
+    parser.add_argument("--proofs", action="store_true", help="asks the check of its crate of each plant first, over work that is kept in out/")
     asked = parser.parse_args()
     if asked.jobs < 1:
         parser.error("--jobs takes a number from 1 on")
+    for it in asked.files:
+        if not it.is_file():
+            parser.error(f"no file {it}")
     return parser, asked
 
 
 def main():
     parser, asked = parsed()
     ends = told_ends()
-    plants = [Plant(it, ends) for it in sorted(HERE.glob("*/*.edit"))]
-    plants = [it for it in plants if asked.only in it.name]
+    plants = [Plant(it.resolve(), ends) for it in asked.files or sorted(HERE.glob("*/*.edit"))]
+    # What a test is told to see takes the shortest time.
+    plants = sorted((it for it in plants if asked.only in it.name), key=lambda it: it.told_trial()[0] is None)
     if not plants:
         parser.error(f"no plant has {asked.only!r} in its name")
     try:
         right, wrong = counted(all_said(plants, asked))
-    except NotBuilt as it:
+    except NothingToJudgeBy as it:
         print(f"tools/plants: with no plant {it}", file=sys.stderr)
         return 2
     print(f"{right} as told, {wrong} otherwise")

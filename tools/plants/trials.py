@@ -1,5 +1,7 @@
 """What is tried over programs with a plant, and which parts of it fail."""
+import os
 import re
+import signal
 import subprocess
 import sys
 
@@ -7,6 +9,11 @@ from unproved import KIT, TEST
 
 # How long a trial may take, in seconds: a program that hangs is a program that was seen.
 LIMIT = 600
+
+# What fails where no part does.
+AS_A_WHOLE = "(as a whole)"
+DID_NOT_END = "(did not end)"
+WHOLE = {AS_A_WHOLE, DID_NOT_END}
 
 
 class Trial:
@@ -18,18 +25,30 @@ class Trial:
 
     def failed(self, root, programs, names=()):
         """The parts that fail; the trial itself where it names none and doesn't end well."""
-        words = [*self.words(programs), *(sorted(names) if self.takes_names else ())]
+        chosen = [it for it in sorted(names) if it not in WHOLE] if self.takes_names else []
         try:
-            ran = subprocess.run(words, cwd=root, stdin=subprocess.DEVNULL, capture_output=True, text=True, errors="replace", timeout=LIMIT)
+            status, output = ended([*self.words(programs), *chosen], root)
         except subprocess.TimeoutExpired:
-            return {"(did not end)"}
-        found = set(self.pattern.findall(ran.stdout))
-        return found or ({"(as a whole)"} if ran.returncode else set())
+            return {DID_NOT_END}
+        found = set(self.pattern.findall(output))
+        return found or ({AS_A_WHOLE} if status else set())
 
-    def failed_twice(self, root, programs, known):
-        """The parts that fail, once more where they are tried again, and that don't fail without a plant."""
-        first = self.failed(root, programs) - known
+    def failed_twice(self, root, programs, names=()):
+        """The parts that fail, and once more where they are tried again."""
+        first = self.failed(root, programs, names)
         return first & self.failed(root, programs, first) if first else first
+
+
+def ended(words, root):
+    """The status and the output of a command, which is ended with all that it started where it takes too long."""
+    streams = {"stdin": subprocess.DEVNULL, "stdout": subprocess.PIPE, "stderr": subprocess.DEVNULL}
+    with subprocess.Popen(words, cwd=root, text=True, errors="replace", start_new_session=True, **streams) as process:
+        try:
+            output, _ = process.communicate(timeout=LIMIT)
+        except subprocess.TimeoutExpired:
+            os.killpg(process.pid, signal.SIGKILL)
+            raise
+    return process.returncode, output
 
 
 def over(folder, *names):
@@ -57,4 +76,4 @@ def trials(tests):
 def tests_of(crate, below):
     """The lowest crate of tests that stands on this one, and the highest, whose tests go through whole programs."""
     found = [name for name in below if name.endswith(TEST) and crate in below[name]]
-    return list(dict.fromkeys([found[0], found[-1]]))
+    return list(dict.fromkeys([*found[:1], *found[-1:]]))
