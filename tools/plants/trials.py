@@ -58,7 +58,8 @@ def over(folder, *names):
 
 def trials(tests):
     """The trials in their order, the quickest first: `tests` are the crates with tests of the changed one."""
-    runner = [KIT / "bin/rattle-test", "--seconds", "60"]
+    # The longest test takes 15 seconds of a processor without a proof, and a minute and more on a busy machine.
+    runner = [KIT / "bin/rattle-test", "--seconds", "300"]
     return [
         Trial("runs", r"^FAILED \w+\.run_(\w+):", ["bq", "bqd"], over("tests/runs", "bq", "bqd"), takes_names=True),
         *(Trial(it, r"^test (\S+) \.\.\. FAILED", [it], lambda built, it=it: [*runner, built[it]]) for it in tests),
