@@ -15,7 +15,8 @@ use Rattle.bq_job.proofs.LawfulLemmas.{leaves_acted}
 use Rattle.bq_jobs.specs.Kept.{Kept}
 use Rattle.bq_core.specs.declared.state.State.{State}
 use Rattle.bq_core.specs.Asking.{Asks, AsksAsChanged, AsksByTurn, search_among}
-use Rattle.bq_core.specs.Cost.{IsStepWithin, changed_jobs, watched_tubes, tubes_watched, ripening, waited}
+use Rattle.bq_core.specs.Cost.{waited}
+use Rattle.bq_steps.specs.Cost.{IsStepWithin, changed_jobs, watched_tubes, tubes_watched, ripening}
 use Rattle.bq_steps.specs.Outbox.{Outbox}
 use Rattle.bq_core.specs.Serving.{NoneIsGone, ServesAsking, ServesInto}
 use Rattle.bq_core.specs.State.{machine_of}

@@ -30,7 +30,8 @@ use Rattle.bq_job.specs.machine.Tubes.{is_tube, with_tube}
 use Rattle.bq_job.proofs.KeptLemmas.{only_seat}
 use Rattle.bq_job.proofs.ListLemmas.{all_always, all_pass, all_weaker, count_cons, found_passes}
 use Rattle.bq_job.proofs.PutLemmas.{each_put}
-use Rattle.bq_core.specs.Cost.{watched_tubes, tubes_watched, waited, waited_tubes}
+use Rattle.bq_core.specs.Cost.{waited, waited_tubes}
+use Rattle.bq_steps.specs.Cost.{watched_tubes, tubes_watched}
 
 sum_no_more : {X : Type 0} (f g : X → ℕ) (xs : List X) → All (λ x. f x ≤ g x) xs → sum_by f xs ≤ sum_by g xs
 sum_no_more f g [] all = omega arith

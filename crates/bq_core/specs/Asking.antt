@@ -2,7 +2,7 @@
 use Rattle.std.specs.Prelude.{ℕ, ◌≡◌, ◌≤◌, ◌+◌, ◌-◌, ◌*◌, length, max}
 use Rattle.bq_index.specs.Digits.{binary_digits}
 use Rattle.bq_jobs.specs.Kept.{Kept}
-use Rattle.bq_core.specs.Cost.{changed_jobs}
+use Rattle.bq_steps.specs.Cost.{changed_jobs}
 use Rattle.bq_steps.specs.Outbox.{Outbox}
 
 -- twice the binary digits of a little more than twice the jobs: as many comparisons as one search among so

@@ -9,7 +9,8 @@ use Rattle.bq_job.specs.machine.Steps.{Serves, has_refused_share}
 use Rattle.bq_job.specs.machine.Tubes.{is_tube}
 use Rattle.bq_jobs.specs.Kept.{Kept}
 use Rattle.bq_core.specs.Asking.{Asks}
-use Rattle.bq_core.specs.Cost.{IsStepWithin, waited}
+use Rattle.bq_core.specs.Cost.{waited}
+use Rattle.bq_steps.specs.Cost.{IsStepWithin}
 use Rattle.bq_steps.specs.Outbox.{Outbox, outcome_of}
 use Rattle.bq_core.specs.State.{machine_of}
 use Rattle.bq_core.specs.Turns.{HasRoom}

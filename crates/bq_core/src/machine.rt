@@ -3,7 +3,7 @@ ghost use Rattle.bq_job.specs.beside.Lawful.{IsLawful};
 ghost use Rattle.bq_job.specs.machine.Machine.{new_machine};
 ghost use Rattle.bq_job.specs.beside.NextDue.{next_due};
 ghost use Rattle.bq_job.specs.machine.Steps.{IsStep};
-ghost use Rattle.bq_core.specs.Cost.{IsLookWithin, IsStepWithin};
+ghost use Rattle.bq_steps.specs.Cost.{IsLookWithin, IsStepWithin};
 ghost use Rattle.bq_steps.specs.Limits.{is_body_size, is_job_limit, is_seat_count};
 ghost use Rattle.bq_core.specs.State.{machine_of};
 ghost use Rattle.bq_steps.specs.Outbox.{outcome_of};

@@ -7,6 +7,8 @@ use std::alloc::Global;
 impl QueueCore for Core {
     ghost machine = { λ core. core.machine };
 
+    ghost comparisons = { λ core. core.comparisons };
+
     fn new(alloc: Global, config: Config) -> Result<Core, CoreFault> {
         Core::new(alloc, config)
     }

@@ -1,3 +1,4 @@
 pub mod Codes
+pub mod Cost
 pub mod Limits
 pub mod Outbox

@@ -1,9 +1,10 @@
 //! Cores, which take one step after another.
-ghost use Rattle.std.specs.Prelude.{◌≡◌, ◌<◌, ◌↔◌, ◌&&◌, not, IsTrue, IfOk, IsErrOf};
+ghost use Rattle.std.specs.Prelude.{ℕ, ◌≡◌, ◌<◌, ◌↔◌, ◌&&◌, not, IsTrue, IfOk, IsErrOf};
 ghost use Rattle.bq_job.specs.beside.Lawful.{IsLawful};
 ghost use Rattle.bq_job.specs.beside.NextDue.{next_due};
 ghost use Rattle.bq_job.specs.machine.Machine.{Machine, new_machine};
 ghost use Rattle.bq_job.specs.machine.Steps.{IsStep};
+ghost use Rattle.bq_steps.specs.Cost.{IsLookWithin, IsStepWithin};
 ghost use Rattle.bq_steps.specs.Limits.{is_body_size, is_job_limit, is_seat_count};
 
 use crate::config::{Config, CoreFault};
@@ -16,9 +17,13 @@ pub trait QueueCore: Sized {
     /// The machine that the core stands for.
     ghost machine: { Self → Machine };
 
+    /// The comparisons of keys among its jobs so far.
+    ghost comparisons: { Self → ℕ };
+
     /// A core with no jobs and all seats free.
     fn new(alloc: Global, config: Config) -> Result<Self, CoreFault>
         ensures made { IfOk result (λ core. machine core ≡ new_machine config) }
+        ensures none_compared { IfOk result (λ core. comparisons core ≡ 0) }
         ensures bad_seats { IsErrOf result CoreFault.BadSeats ↔ IsTrue (not (is_seat_count config.seats)) }
         ensures bad_max_job_size { IsErrOf result CoreFault.BadMaxJobSize ↔
             (IsTrue (is_seat_count config.seats) × IsTrue (not (is_body_size config.max_job_size))) }
@@ -32,6 +37,9 @@ pub trait QueueCore: Sized {
         requires room { (machine self.old).settings.seats < outs.old.most }
         ensures step { IsStep (machine self.old) at seat what.now (record { left_out = outs.new.left_out; unshared = outs.new.unshared })
             outs.new.given (machine self.new) }
+        ensures comparisons { IsStepWithin (machine self.old) at seat what.now
+            (record { left_out = outs.new.left_out; unshared = outs.new.unshared }) outs.new.given (machine self.new) (comparisons self.old)
+            (comparisons self.new) }
         ensures lawful { IsLawful (machine self.new) }
         ensures most { outs.new.most ≡ outs.old.most }
         ensures settings { (machine self.new).settings ≡ (machine self.old).settings };
@@ -40,5 +48,6 @@ pub trait QueueCore: Sized {
     /// client gives up, or is told that a time to run ends soon. A tick below it changes the moment alone.
     fn next_due(&mut self) -> Option<Moment>
         ensures due { result ≡ next_due (machine self.old) }
-        ensures same { machine self.new ≡ machine self.old };
+        ensures same { machine self.new ≡ machine self.old }
+        ensures comparisons { IsLookWithin (machine self.old) (comparisons self.old) (comparisons self.new) };
 }

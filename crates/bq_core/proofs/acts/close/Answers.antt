@@ -8,7 +8,7 @@ use Rattle.bq_job.specs.machine.Machine.{Machine}
 use Rattle.bq_job.proofs.ActLemmas.{free_by_delay}
 use Rattle.bq_jobs.specs.Kept.{Kept}
 use Rattle.bq_core.specs.Asking.{AsksAsChanged}
-use Rattle.bq_core.specs.Cost.{changed_jobs}
+use Rattle.bq_steps.specs.Cost.{changed_jobs}
 use Rattle.bq_core.specs.declared.seat_list.SeatChange.TheVariants.{Clear}
 use Rattle.bq_core.specs.SeatChanges.{seat_changed}
 use Rattle.bq_core.specs.Firing.{after_giving_back}
