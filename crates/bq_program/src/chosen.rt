@@ -15,7 +15,8 @@ pub struct Options {
     pub seats: u16,
     /// How many bytes a job's body may have, 1 to 1,048,576.
     pub max_job_size: u32,
-    /// How many jobs there can be at a time, 1 or more. None: no limit.
+    /// How many jobs there can be at a time, 1 or more. None: no limit. A queue that takes no job, which 0 is in the
+    /// definitions, can't be chosen.
     pub max_jobs: Option<u32>,
     /// For how many seconds a job of a lost connection is delayed; 0: it is ready at once.
     pub requeue_delay: u32,
