@@ -1,20 +1,57 @@
--- What a server's run is given, and what came of one that is over.
-use Rattle.std.specs.Prelude.{Bool, Result, Ok, Err, if◌then◌else◌}
-use Rattle.std.specs.List.{list_any}
+-- What a server's run is given, what it comes to, and what its status is a status of.
+use Rattle.std.specs.Prelude.{ℕ, ◌≡◌, Bool, false, true, List, [], ◌++◌, Option, Result, Ok, Err, IfErr, IfOk, if◌then◌else◌, vec_len}
+use Rattle.std.specs.List.{All, list_any}
+use Rattle.std.specs.declared.net.tcp.TcpListener.{TcpListener}
 use Rattle.bq_job.specs.declared.settings.Settings.{Settings}
+use Rattle.bq_job.specs.machine.Machine.{Machine}
+use Rattle.bq_line.specs.InAll.{in_all}
+use Rattle.bq_line.specs.declared.door.tcp_door.TcpDoor.{TcpDoor}
+use Rattle.bq_program.specs.Statuses.{status_of_server}
 use Rattle.bq_program.specs.declared.chosen.Options.{Options}
-use Rattle.bq_program.specs.Faults.{fault_of_run}
 use Rattle.bq_program.specs.declared.fault.Fault.{Fault}
-use Rattle.bq_program.specs.declared.fault.Fault.TheVariants.{NotAccepted}
-use Rattle.bq_start.specs.declared.fault.RunFault.{RunFault}
+use Rattle.bq_program.specs.declared.fault.Fault.TheVariants as faults
+use Rattle.bq_run.specs.Sessions.{IsRunOf}
 use Rattle.bq_run.specs.declared.sessions.Run.{Run}
+use Rattle.bq_steps.specs.Limits.{are_in_range}
+use Rattle.bq_server.specs.declared.telling_clock.TellingClock.{TellingClock}
 
 -- what the options say to a run of many clients
 abbrev pub settings_of : Options → Settings
 settings_of options = record
     { seats = options.seats; max_job_size = options.max_job_size; max_jobs = options.max_jobs; requeue_delay = options.requeue_delay }
 
--- A run that did not begin, and one at some door of which a connection could not be accepted, end by a fault.
-abbrev pub came_of_run : {D C I K : Type 0} → (D → Bool) → Result (Run D C I K) RunFault → Result (Unit {0}) Fault
-came_of_run met_fault (Ok run) = if list_any met_fault run.doors.items then Err NotAccepted else Ok tt
-came_of_run met_fault (Err fault) = Err (fault_of_run fault)
+-- A run that was not made, and one at some door of which a connection could not be accepted, end by a fault.
+abbrev pub came_of_run : {D C I K : Type 0} → (D → Bool) → Result (Run D C I K) Fault → Result (Unit {0}) Fault
+came_of_run met_fault (Ok run) = if list_any met_fault run.doors.items then Err faults.NotAccepted else Ok tt
+came_of_run met_fault (Err fault) = Err fault
+
+-- A door of a server: it is at this listener, and so many connections come at it in all.
+pub record IsDoorAt {R : Type 0} (listener : TcpListener) (sessions : Option ℕ) (door : TcpDoor R) : Type 0 where
+  pub at : door.listener.now ≡ listener
+  pub allowed : in_all door.left door.is_out door.over ≡ in_all sessions false []
+
+-- A server's run that is over. There was a door for each seat that the options choose, all at this listener, each for
+-- as many connections as they choose, and each is at its end with no line out. By a new clock the run is one over
+-- these doors and this control line, and the machine that took its history is the one of the options.
+pub record IsServerRun {R I K : Type 0} (left : I → Option (List ℕ)) (machine : K → Machine) (options : Options) (listener : TcpListener) (control : I) (run : Run (TcpDoor R) (TellingClock R) I K) : Type 0 where
+  pub seats : vec_len run.doors ≡ options.seats
+  pub doors : All (λ door. IsDoorAt listener options.sessions door) run.doors.items
+  pub at_end : All (λ door. (door.is_out ≡ false) × (door.is_at_end ≡ true)) run.doors.items
+  pub clock : TellingClock R
+  pub new_clock : clock.clock.given ≡ []
+  pub is_run : IsRunOf (λ before readings after. after.clock.given ≡ before.clock.given ++ readings) (λ door. door.over) left machine (settings_of options) clock control run
+
+-- Why there may be no run: what the system refuses, or options out of their ranges.
+abbrev pub MayRefuse : Options → Fault → Type 0
+MayRefuse options faults.CannotListen = Unit {0}
+MayRefuse options (faults.NoMemory need) = Unit {0}
+MayRefuse options faults.ThreadRefused = Unit {0}
+MayRefuse options faults.BadConfiguration = are_in_range (settings_of options) ≡ false
+MayRefuse options _ = ⊥
+
+-- A status is that of what came of a server at this listener: a run, or why there was none.
+pub record IsStatusOfServer (R : Type 0) {I K : Type 0} (left : I → Option (List ℕ)) (machine : K → Machine) (options : Options) (listener : TcpListener) (control : I) (status : ℕ) : Type 0 where
+  pub came : Result (Run (TcpDoor R) (TellingClock R) I K) Fault
+  pub served : IfOk came (λ run. IsServerRun left machine options listener control run)
+  pub refused : IfErr came (λ fault. MayRefuse options fault)
+  pub status_is : status ≡ status_of_server (came_of_run (λ door. door.met_fault) came)

@@ -1,9 +1,10 @@
 //! All that the server does, from its options to its status.
-ghost use Rattle.std.specs.Prelude.{◌≡◌, ◌≤◌, IfOk, false, true};
+ghost use Rattle.std.specs.Prelude.{◌≡◌, ◌≤◌, ◌↔◌, ◌&&◌, ◌==◌, IfErr, IfOk, IsErrOf, IsTrue, false, not, true, vec_len};
 ghost use Rattle.std.specs.List.{All, list_any};
 ghost use Rattle.bq_attend.specs.Tending.{AreSame, IsNewDoor, door_seen};
-ghost use Rattle.bq_server.specs.Servers.{came_of_run, settings_of};
+ghost use Rattle.bq_server.specs.Servers.{IsDoorAt, IsServerRun, IsStatusOfServer, MayRefuse, came_of_run, settings_of};
 ghost use Rattle.bq_run.specs.Sessions.{IsRunOf};
+ghost use Rattle.bq_steps.specs.Limits.{are_in_range};
 
 use crate::telling_clock::TellingClock;
 use bq_core::{Config, Core};
@@ -44,8 +45,7 @@ impl DoorsTell {
 
 /// Serves the connections that the listener accepts, as the options choose, and tells on standard output
 /// where it listens. The control is the control line. It returns the status of the program: 0 when all
-/// seats and the control line have ended, and 1 after a fault, which is told on standard error. What was
-/// served `serve_doors` tells.
+/// seats and the control line have ended, and 1 after a fault, which is told on standard error.
 pub fn serve<R: Threads + Wait + Clock + Print + Eprint + Sync, I: BufRead + Drop>(
     rt: &R,
     alloc: Global,
@@ -53,13 +53,16 @@ pub fn serve<R: Threads + Wait + Clock + Print + Eprint + Sync, I: BufRead + Dro
     listener: TcpListener,
     control: I,
 ) -> u8
-    ensures { result ≤ 1 }
+    // The status is that of what came of the server. It is 0 only where there was a run of the options at this
+    // listener, and no door of it met a fault.
+    ensures status { IsStatusOfServer R I.remaining ⟦<Core as QueueCore>⟧.machine options.now listener control result }
+    ensures at_most { result ≤ 1 }
 {
     match listener.local_addr() {
         Ok(address) => {
             // Who closes standard output doesn't want to know.
             let _told = println!(rt; "listening {address}");
-            tell_server(rt, serve_at(rt, alloc, options, &listener, control))
+            serve_at(rt, alloc, options, &listener, control)
         }
         Err(e) => {
             let address = options.listen.as_deref().unwrap_or("");
@@ -92,19 +95,42 @@ pub(crate) fn listen_and_serve<
     serve(rt, alloc, &Options::from(options), listener, control)
 }
 
+// Serves at this listener, and tells what came of it.
 fn serve_at<R: Threads + Wait + Clock + Print + Eprint + Sync, I: BufRead + Drop>(
     rt: &R,
     alloc: Global,
     options: &Options,
     listener: &TcpListener,
     control: I,
-) -> Result<(), Fault> {
+) -> u8
+    ensures status { IsStatusOfServer R I.remaining ⟦<Core as QueueCore>⟧.machine options.now listener.now control result }
+    ensures at_most { result ≤ 1 }
+{
     let tell = DoorsTell::new(rt, options.seats);
-    let Ok(doors) = new_doors(rt, alloc, options, listener, &tell) else {
+    let came = run_server(rt, alloc, options, listener, &tell, control);
+    tell_server(rt, came_of(&came))
+}
+
+// The run of a server, whose doors are new and at this listener, one for each seat.
+fn run_server<'l, R: Threads + Wait + Clock + Print + Eprint + Sync, I: BufRead + Drop>(
+    rt: &'l R,
+    alloc: Global,
+    options: &Options,
+    listener: &'l TcpListener,
+    tell: &'l DoorsTell,
+    control: I,
+) -> Result<Run<TcpDoor<'l, R>, TellingClock<'l, R>, I, Core>, Fault>
+    ensures served { IfOk result (λ run. IsServerRun I.remaining ⟦<Core as QueueCore>⟧.machine options.now listener.now control run) }
+    ensures refused { IfErr result (λ fault. MayRefuse options.now fault) }
+{
+    let Ok(doors) = new_doors(rt, alloc, options, listener, tell) else {
         return Err(Fault::NoMemory(Need::Doors));
     };
     let clock = TellingClock::new(rt);
-    came_of(serve_doors(rt, alloc, options, doors, clock, control))
+    match serve_doors(rt, alloc, options, doors, clock, control) {
+        Ok(run) => Ok(run),
+        Err(fault) => Err(Fault::from(fault)),
+    }
 }
 
 /// Serves the connections that come at the doors, each door at a seat and in a thread of its own, as the
@@ -134,6 +160,8 @@ pub fn serve_doors<
         × (⟦<TcpDoor<'l, R> as Door>⟧.is_at_end door ≡ true)) run.doors.items) }
     // They are the doors that were handed in, in their order.
     ensures same { IfOk result (λ run. AreSame ⟦<TcpDoor<'l, R> as Door>⟧.same doors.entry.items run.doors.items) }
+    ensures bad_configuration { IsErrOf result RunFault.BadConfiguration
+        ↔ IsTrue (not (are_in_range (settings_of options.now) && vec_len doors.entry == options.now.seats)) }
 {
     run_sessions(rt, alloc, config_of(options), doors, clock, control)
 }
@@ -150,13 +178,13 @@ fn config_of(options: &Options) -> Config
     }
 }
 
-// What came of a run: its fault, or that some connection could not be accepted.
+// What came of a server: its fault, or that some connection could not be accepted.
 fn came_of<'l, R: Clock + Eprint, C: Drop, I: Drop>(
-    run: Result<Run<TcpDoor<'l, R>, C, I, Core>, RunFault>,
+    came: &Result<Run<TcpDoor<'l, R>, C, I, Core>, Fault>,
 ) -> Result<(), Fault>
-    ensures { result ≡ came_of_run (λ door. door.met_fault) run.entry }
+    ensures { result ≡ came_of_run (λ door. door.met_fault) came.now }
 {
-    match run {
+    match came {
         Ok(run) => {
             if met_fault(run.doors.as_slice()) {
                 Err(Fault::NotAccepted)
@@ -164,7 +192,7 @@ fn came_of<'l, R: Clock + Eprint, C: Drop, I: Drop>(
                 Ok(())
             }
         }
-        Err(fault) => Err(Fault::from(fault)),
+        Err(fault) => Err(*fault),
     }
 }
 
@@ -182,8 +210,9 @@ fn new_door<'l, R: Clock + Eprint>(
     buffer: ReadBuffer,
     tell: &'l DoorsTell,
 ) -> TcpDoor<'l, R>
-    ensures { IsNewDoor (door_seen ⟦<TcpDoor<'l, R> as Door>⟧.is_out ⟦<TcpDoor<'l, R> as Door>⟧.is_at_end
+    ensures new { IsNewDoor (door_seen ⟦<TcpDoor<'l, R> as Door>⟧.is_out ⟦<TcpDoor<'l, R> as Door>⟧.is_at_end
         ⟦<TcpDoor<'l, R> as Door>⟧.lines_over result) }
+    ensures at { IsDoorAt listener.now sessions result }
 {
     TcpDoor::new(rt, listener, sessions, buffer)
         .telling(&tell.refusals)
@@ -198,8 +227,10 @@ fn new_doors<'l, R: Clock + Eprint>(
     listener: &'l TcpListener,
     tell: &'l DoorsTell,
 ) -> Result<Vec<TcpDoor<'l, R>, Global>, NoMemory>
-    ensures { IfOk result (λ all. All (λ door. IsNewDoor (door_seen ⟦<TcpDoor<'l, R> as Door>⟧.is_out
+    ensures new { IfOk result (λ all. All (λ door. IsNewDoor (door_seen ⟦<TcpDoor<'l, R> as Door>⟧.is_out
         ⟦<TcpDoor<'l, R> as Door>⟧.is_at_end ⟦<TcpDoor<'l, R> as Door>⟧.lines_over door)) all.items) }
+    ensures at { IfOk result (λ all. All (λ door. IsDoorAt listener.now options.now.sessions door) all.items) }
+    ensures many { IfOk result (λ all. vec_len all ≡ options.now.seats) }
 {
     let Ok(mut doors) = Vec::with_capacity(alloc, usize::from(options.seats)) else {
         return Err(NoMemory);

@@ -1,8 +1,8 @@
-use Rattle.std.proofs.Common.{List, subst, sym}
-use Rattle.std.specs.List.{All}
+use Rattle.std.proofs.Common.{◌≡◌, List, subst, sym, arith}
 use Rattle.bq_attend.specs.Tending.{IsNewDoor}
 use Rattle.bq_line.specs.declared.door.tcp_door.TcpDoor.{TcpDoor}
-use Rattle.bq_start.proofs.ListLemmas.{all_more}
+use Rattle.bq_start.proofs.ListLemmas.{all_pushed}
+use Rattle.bq_server.specs.Servers.{IsDoorAt}
 use Rattle.bq_server.proofs.server.new_doors.Goals as goal
 
 IsNew : {R : Type 0} → TcpDoor R → Type 0
@@ -11,4 +11,10 @@ IsNew d = IsNewDoor (record { is_out = d.is_out; is_at_end = d.is_at_end; lines_
 pub loop-preserved : goal.loop-preserved
 unfolding IsNew
 loop-preserved g c =
-    subst (λ (xs : List (TcpDoor g.row.R.Denot)). All IsNew xs) (sym c.in-Ok-push.ensures.items) (all_more IsNew c.loop.doors.items c.new_door-door.result c.loop.invariant c.new_door-door.ensures)
+    let i = c.loop.invariant in
+    record {
+      many = let h = i.many in let e = c.in-Ok-push.ensures.len in omega arith;
+      within = let h = c.loop-test.true in omega arith;
+      new = all_pushed c.loop.doors.items _ c.new_door-door.result IsNew c.in-Ok-push.ensures.items i.new c.new_door-door.ensures.new;
+      at = all_pushed c.loop.doors.items _ c.new_door-door.result (λ d. IsDoorAt c.args.listener.now c.args.options.now.sessions d) c.in-Ok-push.ensures.items i.at c.new_door-door.ensures.at;
+    }
