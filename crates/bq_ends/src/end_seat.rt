@@ -25,6 +25,7 @@ use bq_line::line::Line;
 use bq_link::{Intake, NoTicks, Record, SeatEnd};
 use bq_seat::Action;
 use std::alloc::Global;
+use std::hint::spin_loop;
 use std::mem;
 use std::sync::Wait;
 use std::time::Duration;
@@ -37,6 +38,48 @@ const FIRST_REST: u64 = 100;
 /// waited for long is seldom gone, and many may wait.
 const LONGEST_REST: u64 = 1_000;
 
+/// How often an end looks for an answer before it rests, where another thread takes its step just now. That takes a few
+/// microseconds, and a rest would take longer to begin and to end.
+const LOOKS: u32 = 100;
+
+/// How an end looks for its next answer.
+#[derive(Clone, Copy)]
+pub struct Pace {
+    // For how many milliseconds it rests before it looks: not at all once a step was submitted. Where the answer isn't
+    // there then, that is told at once, so that what the line holds back can go out first.
+    rest: u64,
+    // How often it looks.
+    looks: u32,
+}
+
+impl Pace {
+    /// No step was submitted yet.
+    pub fn new() -> Pace {
+        Pace { rest: 0, looks: 1 }
+    }
+
+    // A step was submitted, and this thread took it or another does.
+    fn after_step(is_taken: bool) -> Pace {
+        Pace {
+            rest: 0,
+            looks: if is_taken { 1 } else { LOOKS },
+        }
+    }
+
+    // It found no answer.
+    fn after_look(self) -> Pace {
+        Pace {
+            rest: self.rest.saturating_mul(2).clamp(FIRST_REST, LONGEST_REST),
+            looks: 1,
+        }
+    }
+
+    /// Whether it rests before it looks.
+    pub fn rests(self) -> bool {
+        self.rest > 0
+    }
+}
+
 /// The end of a seat, or of the control line, with the intake into which it submits, and the core that takes its steps.
 #[derive(Drop)]
 pub struct EndSeat<'a, R, S> {
@@ -44,9 +87,7 @@ pub struct EndSeat<'a, R, S> {
     intake: &'a Intake<NoTicks>,
     core: &'a S,
     end: &'a mut SeatEnd,
-    // For how many milliseconds it rests before it looks for an answer: not at all once a step was submitted. Where the
-    // answer isn't there then, that is told at once, so that what the line holds back can go out first.
-    rest: u64,
+    pace: Pace,
 }
 
 impl<'a, R: Wait, S: SharedCore> Link for EndSeat<'a, R, S> {
@@ -55,9 +96,8 @@ impl<'a, R: Wait, S: SharedCore> Link for EndSeat<'a, R, S> {
     ghost went = { LinkWent };
 
     fn submit(&mut self, step: Step) -> Result<(), Step> {
-        self.rest = 0;
         let submitted = submit_at(self.rt, self.intake, self.end, step);
-        self.core.help(self.rt, self.end.number());
+        self.pace = Pace::after_step(self.core.help(self.rt, self.end.number()));
         submitted
     }
 
@@ -68,22 +108,21 @@ impl<'a, R: Wait, S: SharedCore> Link for EndSeat<'a, R, S> {
         // There is none only where none was known to wait.
         ensures none { IfNone result (self.old.end.now.waiting ≡ []) }
     {
-        let rest = self.rest;
-        self.rest = next_rest(rest);
-        answer_at(self.rt, self.intake, self.end, rest)
+        let pace = self.pace;
+        self.pace = pace.after_look();
+        answer_at(self.rt, self.intake, self.end, pace)
     }
 
     fn submit_in_place(&mut self, step: &mut Step) -> bool {
-        self.rest = 0;
         let is_submitted = submit_step(self.rt, self.intake, self.end, step);
-        self.core.help(self.rt, self.end.number());
+        self.pace = Pace::after_step(self.core.help(self.rt, self.end.number()));
         is_submitted
     }
 
     fn mail_in_place(&mut self, place: &mut Action) -> bool {
-        let rest = self.rest;
-        self.rest = next_rest(rest);
-        mail_at(self.rt, self.intake, self.end, rest, place)
+        let pace = self.pace;
+        self.pace = pace.after_look();
+        mail_at(self.rt, self.intake, self.end, pace, place)
     }
 }
 
@@ -94,14 +133,9 @@ impl<'a, R: Wait, S: SharedCore> ControlLink for EndSeat<'a, R, S> {
 
     fn submit(&mut self, step: Step) -> Result<(), Step> {
         let submitted = submit_at(self.rt, self.intake, self.end, step);
-        self.core.help(self.rt, self.end.number());
+        let _taken = self.core.help(self.rt, self.end.number());
         submitted
     }
-}
-
-// How long an end rests that finds no answer after a rest of so many milliseconds.
-fn next_rest(rest: u64) -> u64 {
-    rest.saturating_mul(2).clamp(FIRST_REST, LONGEST_REST)
 }
 
 // Submits a step at an end, or hands it back where the intake is full.
@@ -158,13 +192,13 @@ fn answer_at<R: Wait>(
     rt: &R,
     intake: &Intake<NoTicks>,
     end: &mut SeatEnd,
-    rest: u64,
+    pace: Pace,
 ) -> Option<Answer>
     ensures went { EndWent end.old [] (option_to_list result) end.new }
     ensures none { IfNone result ((end.old.waiting ≡ []) × (end.new ≡ end.old)) }
 {
     let mut place = Action::PollMail;
-    if mail_at(rt, intake, end, rest, &mut place) {
+    if mail_at(rt, intake, end, pace, &mut place) {
         answer_in(place)
     } else {
         None
@@ -180,20 +214,34 @@ fn answer_in(action: Action) -> Option<Answer>
     }
 }
 
-// Takes the oldest answer that came to an end, to be written. The end rests first, until its bell is rung or so many
-// milliseconds have passed, and then looks once.
+// Takes the oldest answer that came to an end, to be written. The end may rest first, until its bell is rung or so many
+// milliseconds have passed.
 fn mail_at<R: Wait>(
     rt: &R,
     intake: &Intake<NoTicks>,
     end: &mut SeatEnd,
-    rest: u64,
+    pace: Pace,
     place: &mut Action,
 ) -> bool
     ensures went { TakesInPlace EndWent end.old place.old result place.new end.new }
     ensures none { result ≡ false → (end.old.waiting ≡ []) × (end.new ≡ end.old) }
 {
-    if rest > 0 {
-        end.wait(rt, intake, Duration::from_millis(rest));
+    if pace.rests() {
+        end.wait(rt, intake, Duration::from_millis(pace.rest));
+    }
+    look_often(end, pace.looks, place)
+}
+
+// Looks so often at what came to an end, and once at least.
+fn look_often(end: &mut SeatEnd, looks: u32, place: &mut Action) -> bool
+    ensures went { TakesInPlace EndWent end.old place.old result place.new end.new }
+    ensures none { result ≡ false → (end.old.waiting ≡ []) × (end.new ≡ end.old) × (place.new ≡ place.old) }
+{
+    for _ in 1..looks {
+        if look(end, place) {
+            return true;
+        }
+        spin_loop();
     }
     look(end, place)
 }
@@ -212,9 +260,8 @@ fn look(end: &mut SeatEnd, place: &mut Action) -> bool
     }
 }
 
-/// One action of a seat that attends to a door, by its end of the links. Says whether something moved. `rest` is for how
-/// many milliseconds it rests before it looks for an answer, from one action to the next: 0 at first, and whenever the
-/// last action was to submit a step.
+/// One action of a seat that attends to a door, by its end of the links. Says whether something moved. The pace goes from
+/// one action to the next.
 pub fn attend_at<R: Wait, S: SharedCore, L: Line + Drop, D: Door<Line = L>>(
     rt: &R,
     alloc: Global,
@@ -224,7 +271,7 @@ pub fn attend_at<R: Wait, S: SharedCore, L: Line + Drop, D: Door<Line = L>>(
     attendant: &mut Attendant<L>,
     door: &mut D,
     room: &mut Room,
-    rest: &mut u64,
+    pace: &mut Pace,
 ) -> bool
     requires intake { end.old.intake ≡ intake.now.id }
     requires placed { IsPlaced attendant.old.place (door_seen D.is_out D.is_at_end D.lines_over door.old) }
@@ -238,10 +285,10 @@ pub fn attend_at<R: Wait, S: SharedCore, L: Line + Drop, D: Door<Line = L>>(
         intake,
         core,
         end,
-        rest: *rest,
+        pace: *pace,
     };
     let moved = attendant.go_on(alloc, door, &mut link, room);
-    *rest = link.rest;
+    *pace = link.pace;
     moved
 }
 
@@ -266,7 +313,7 @@ pub fn control_at<R: Wait, S: SharedCore, I: ControlInput>(
         intake,
         core,
         end,
-        rest: 0,
+        pace: Pace { rest: 0, looks: 1 },
     };
     submit_control(rt, control, &mut link);
 }

@@ -6,7 +6,7 @@ ghost use Rattle.bq_attend.specs.Tending.{IsDoorServed, IsNewDoor, door_seen};
 ghost use Rattle.bq_link.specs.EndStates.{IsSameSeat};
 ghost use Rattle.bq_ends.specs.Ends.{IsNewEnd};
 
-use crate::end_seat::attend_at;
+use crate::end_seat::{Pace, attend_at};
 use crate::shared_core::SharedCore;
 use bq_attend::attendant::{Attendant, Place};
 use bq_attend::client::{ROOM_BYTES, Room};
@@ -53,7 +53,7 @@ pub fn seat_work<R: Wait, S: SharedCore, L: Line + Drop, D: Door<Line = L> + Dro
         place: Place::Between,
     };
     let room: &mut Room = &mut [0; ROOM_BYTES];
-    let mut rest = 0;
+    let mut pace = Pace::new();
     for _ in rt.forever() {
         if attendant.is_done() {
             return (end, door);
@@ -67,13 +67,13 @@ pub fn seat_work<R: Wait, S: SharedCore, L: Line + Drop, D: Door<Line = L> + Dro
             &mut attendant,
             &mut door,
             room,
-            &mut rest,
+            &mut pace,
         ) {
             pause(
                 rt,
                 intake,
                 &mut end,
-                pause_after(attendant.awaits_line(), rest),
+                pause_after(attendant.awaits_line(), pace),
             );
         }
     }
@@ -81,11 +81,11 @@ pub fn seat_work<R: Wait, S: SharedCore, L: Line + Drop, D: Door<Line = L> + Dro
 }
 
 // For how many milliseconds a seat pauses before it goes on where nothing moved. A look at its mail has rested by itself,
-// or will, which `rest` tells; where it is none, the intake was full.
-fn pause_after(awaits_line: bool, rest: u64) -> u64 {
+// or will, which its pace tells; where it doesn't, the intake was full.
+fn pause_after(awaits_line: bool, pace: Pace) -> u64 {
     if awaits_line {
         LINE_REST
-    } else if rest > 0 {
+    } else if pace.rests() {
         0
     } else {
         INTAKE_REST

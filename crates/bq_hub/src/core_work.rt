@@ -10,7 +10,7 @@ pub use begun_hub::Origin;
 pub use hub::Hub;
 pub use last_turns::run_out;
 pub use room::CoreRoom;
-pub use shared_hub::SharedHub;
+pub use shared_hub::{Left, SharedHub};
 
 mod answered;
 mod begun_hub;

@@ -126,8 +126,13 @@ impl<C: Clock + Drop, K: QueueCore + Drop> Hub<C, K> {
     /// rests, so that it can be done under a lock; and the ends that it answered are noted, so that their bells can be
     /// rung after it.
     ///
-    /// Whoever submits a step helps after it. So all steps are taken once all have helped, however many wait.
-    pub fn help<R: Wait>(&mut self, rt: &R, intake: &Intake<NoTicks>, answered: &mut Answered)
+    /// Says whether steps may be left that wait.
+    pub fn help<R: Wait>(
+        &mut self,
+        rt: &R,
+        intake: &Intake<NoTicks>,
+        answered: &mut Answered,
+    ) -> bool
         requires intake { self.old.sender.end.intake ≡ intake.now.id }
         requires order { IsInOrder K.machine self.old }
         ensures order { IsInOrder K.machine self.new }
@@ -137,10 +142,11 @@ impl<C: Clock + Drop, K: QueueCore + Drop> Hub<C, K> {
     {
         for _ in 0..MOST {
             if !self.work_once(rt, intake, answered) {
-                return;
+                return false;
             }
         }
         self.send_all(intake, answered);
+        true
     }
 
     // A turn without a rest. Whether there may be more to do at once.

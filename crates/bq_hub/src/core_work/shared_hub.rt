@@ -13,6 +13,15 @@ use bq_steps::QueueCore;
 use std::marker::PhantomData;
 use std::sync::Wait;
 
+/// What is left to do for who gives a hub back.
+#[derive(Clone, Copy)]
+pub struct Left {
+    /// Steps may be left that wait.
+    pub has_more: bool,
+    /// Who watches the clock has to look now: something is due before it would, or all is done.
+    pub wakes_watcher: bool,
+}
+
 /// A hub with the intake from which it takes its steps, to lie under a lock. Whenever nobody works by it, it has
 /// worked on from the origin.
 #[derive(Drop)]
@@ -42,24 +51,28 @@ impl<'a, C: Clock + Drop, K: QueueCore + Drop, O: Origin<C>> SharedHub<'a, C, K,
         }
     }
 
-    /// Takes the steps that wait and sends their answers. The ends that were answered are noted. Whether who watches the
-    /// clock has to look now: something is due before it would, or all is done.
-    pub fn help<R: Wait>(&mut self, rt: &R, answered: &mut Answered) -> bool {
-        self.work_on(rt, answered);
-        self.watch.wakes_for(self.hub.next_look(), self.hub.heard)
+    /// Takes the steps that wait and sends their answers. The ends that were answered are noted.
+    pub fn help<R: Wait>(&mut self, rt: &R, answered: &mut Answered) -> Left {
+        let has_more = self.work_on(rt, answered);
+        Left {
+            has_more,
+            wakes_watcher: self.watch.wakes_for(self.hub.next_look(), self.hub.heard),
+        }
     }
 
     /// The same for who watches the clock: how many milliseconds it may rest, or nothing where all is done.
     pub fn watch<R: Wait>(&mut self, rt: &R, answered: &mut Answered) -> Option<u64> {
-        self.work_on(rt, answered);
+        if self.work_on(rt, answered) {
+            return Some(0);
+        }
         if self.hub.is_done() {
             return None;
         }
         Some(self.watch.rest(self.hub.next_look(), self.hub.heard))
     }
 
-    fn work_on<R: Wait>(&mut self, rt: &R, answered: &mut Answered) {
-        self.hub.help(rt, self.intake, answered);
+    fn work_on<R: Wait>(&mut self, rt: &R, answered: &mut Answered) -> bool {
+        self.hub.help(rt, self.intake, answered)
     }
 
     /// The hub and its intake, once no thread shares them any more.

@@ -10,17 +10,28 @@ use bq_job::Seat;
 use bq_line::clock::Clock;
 use bq_link::{CoreEnd, Intake, NoTicks};
 use bq_steps::QueueCore;
+use std::sync::atomic::{AtomicBool, Ordering};
 use std::sync::{Mutex, Wait};
 use std::thread::Parker;
 use std::time::Duration;
 
+/// How often a thread goes on with the core's work for others, before it leaves that to who watches the clock: its own
+/// client waits meanwhile.
+const TURNS: u32 = 16;
+
 /// A core under a lock, and the bells of the ends and of who watches its clock. Who holds the lock waits for no
 /// client, and rings the bells once it gave it back.
+///
+/// Who has submitted a step and finds the lock taken doesn't wait for it. It says so, and whoever holds the lock looks
+/// whether somebody did once it gave it back, and goes on: so each step is taken by a thread that took the lock after it
+/// was submitted.
 #[derive(Drop)]
 pub struct LockedCore<'a, C: Clock, K: QueueCore, O: Origin<C>> {
     lock: Mutex<SharedHub<'a, C, K, O>>,
     ends: &'a Intake<NoTicks>,
     watcher: Parker,
+    // Somebody found the lock taken, since it was taken last.
+    is_asked: AtomicBool,
 }
 
 impl<'a, C: Clock + Drop, K: QueueCore + Drop, O: Origin<C>> LockedCore<'a, C, K, O> {
@@ -30,6 +41,7 @@ impl<'a, C: Clock + Drop, K: QueueCore + Drop, O: Origin<C>> LockedCore<'a, C, K
             lock: Mutex::new(hub),
             ends,
             watcher: Parker::new(),
+            is_asked: AtomicBool::new(false),
         }
     }
 
@@ -42,34 +54,77 @@ impl<'a, C: Clock + Drop, K: QueueCore + Drop, O: Origin<C>> LockedCore<'a, C, K
             lock,
             ends: _,
             watcher: _,
+            is_asked: _,
         } = self;
         let (hub, intake) = lock.into_inner().into_parts();
         run_out(rt, intake, hub)
+    }
+
+    // Helps once, where the lock is free or is given back right now. Else who holds it is told.
+    fn help_or_ask<R: Wait>(&self, rt: &R, own: Seat) -> bool {
+        if self.try_help(rt, own) {
+            return true;
+        }
+        self.is_asked.store(true, Ordering::SeqCst);
+        self.try_help(rt, own)
+    }
+
+    // Helps once, where the lock is free. It is given back before a bell is rung: who is woken doesn't find it taken.
+    fn try_help<R: Wait>(&self, rt: &R, own: Seat) -> bool {
+        let Some(mut hub) = self.lock.try_lock() else {
+            return false;
+        };
+        self.is_asked.store(false, Ordering::SeqCst);
+        let mut answered = Answered::none();
+        let left = hub.help(rt, &mut answered);
+        drop(hub);
+        if left.has_more {
+            self.is_asked.store(true, Ordering::SeqCst);
+        }
+        answered.ring(self.ends, Some(own));
+        if left.wakes_watcher {
+            self.watcher.unpark();
+        }
+        true
+    }
+
+    fn is_asked(&self) -> bool {
+        self.is_asked.load(Ordering::SeqCst)
     }
 }
 
 impl<'a, C: Clock + Drop, K: QueueCore + Drop, O: Origin<C>> SharedCore
     for LockedCore<'a, C, K, O> {
-    // The lock is given back before a bell is rung: who is woken doesn't find it taken.
-    fn help<R: Wait>(&self, rt: &R, own: Seat) {
-        let mut answered = Answered::none();
-        let is_to_wake = self.lock.lock(rt).help(rt, &mut answered);
-        answered.ring(self.ends, Some(own));
-        if is_to_wake {
+    fn help<R: Wait>(&self, rt: &R, own: Seat) -> bool {
+        if !self.help_or_ask(rt, own) {
+            return false;
+        }
+        for _ in 1..TURNS {
+            if !self.is_asked() || !self.help_or_ask(rt, own) {
+                return true;
+            }
+        }
+        if self.is_asked() {
             self.watcher.unpark();
         }
+        true
     }
 
     // A bell that is rung between the look and the rest is kept.
     fn watch<R: Wait>(&self, rt: &R) {
         for _ in rt.forever() {
             let mut answered = Answered::none();
-            let rest = self.lock.lock(rt).watch(rt, &mut answered);
+            let mut hub = self.lock.lock(rt);
+            self.is_asked.store(false, Ordering::SeqCst);
+            let rest = hub.watch(rt, &mut answered);
+            drop(hub);
             answered.ring(self.ends, None);
             let Some(rest) = rest else {
                 return;
             };
-            self.watcher.park_timeout(rt, Duration::from_millis(rest));
+            if !self.is_asked() {
+                self.watcher.park_timeout(rt, Duration::from_millis(rest));
+            }
         }
         unreachable!()
     }
