@@ -5,6 +5,7 @@ import select
 import socket
 import time
 
+from answers_runs import value
 from faults import faults
 from programs import Ended, same
 from servers import Server
@@ -94,6 +95,25 @@ def run_reads_that_are_tried_again(bqd):
             client.asks(ASK, ANSWER)
             client.close()
             same(server.end(), Ended(0, b"", b""))
+
+
+def run_writes_that_fail(bqd):
+    """Whatever error a write meets, the answer before it is the last that counts, or was cut off there. No later command
+    of the line is carried out, and the seat serves the next client."""
+    puts = 8
+    for code in [errno.EPIPE, errno.ECONNRESET, errno.EAGAIN, errno.EINTR, errno.ENOBUFS]:
+        for nth, cut in [(1, 0), (2, 0), (2, 3), (puts, 0), (puts, 11)]:
+            # Where the answer before was cut, the write that fails is that of its rest.
+            carried_out = nth - 1 if cut else nth
+            answers = b"".join(b"INSERTED %d\r\n" % put for put in range(1, carried_out + 1))
+            written = answers[: len(b"INSERTED 1\r\n") * (carried_out - 1) + cut]
+            with Server(bqd, "--seats", "1", "--sessions", "2", env=faults(writes=code, nth=nth, cut=cut)) as server:
+                client = server.client()
+                client.sends(b"put 0 0 9 1\r\nx\r\n" * puts)
+                client.hears(written)
+                client.hears_end()
+                other = server.client()
+                same(value(other, b"total-jobs"), carried_out)
 
 
 def run_gone_while_it_waits(bqd):

@@ -2,6 +2,8 @@
 
    FAULT_ACCEPTS=CODE  the first FAULT_TIMES calls that accept a connection fail with this error
    FAULT_READS=CODE    the first FAULT_TIMES calls that read a connection fail with this error
+   FAULT_WRITES=CODE   the FAULT_NTH-th call that writes to a connection fails with this error; where FAULT_CUT is set, the
+                       call before it takes so many bytes at most
    FAULT_NODELAY=CODE  the first FAULT_TIMES calls that have a connection send each write at once fail with this error
    FAULT_THREAD=N      the Nth thread is refused
    FAULT_CLOCK=N       the clock goes N times as fast
@@ -18,8 +20,8 @@
 #include <sys/socket.h>
 #include <time.h>
 
-static atomic_long accepts, reads, switches, threads;
-static long accept_code, read_code, switch_code, times, refused_thread, speed;
+static atomic_long accepts, reads, writes, switches, threads;
+static long accept_code, read_code, write_code, nth, cut, switch_code, times, refused_thread, speed;
 
 static long number(const char *name) {
     const char *text = getenv(name);
@@ -29,6 +31,9 @@ static long number(const char *name) {
 __attribute__((constructor)) static void begin(void) {
     accept_code = number("FAULT_ACCEPTS");
     read_code = number("FAULT_READS");
+    write_code = number("FAULT_WRITES");
+    nth = number("FAULT_NTH");
+    cut = number("FAULT_CUT");
     switch_code = number("FAULT_NODELAY");
     times = number("FAULT_TIMES");
     refused_thread = number("FAULT_THREAD");
@@ -50,6 +55,17 @@ int accept4(int listener, struct sockaddr *peer, socklen_t *length, int flags) {
 ssize_t recv(int socket, void *room, size_t length, int flags) {
     ssize_t (*libc_recv)(int, void *, size_t, int) = dlsym(RTLD_NEXT, "recv");
     return fails(&reads, read_code) ? -1 : libc_recv(socket, room, length, flags);
+}
+
+ssize_t send(int socket, const void *bytes, size_t length, int flags) {
+    ssize_t (*libc_send)(int, const void *, size_t, int) = dlsym(RTLD_NEXT, "send");
+    long call = write_code ? atomic_fetch_add(&writes, 1) + 1 : 0;
+    if (write_code && call == nth) {
+        errno = (int)write_code;
+        return -1;
+    }
+    int is_cut = write_code && cut && call + 1 == nth && (size_t)cut < length;
+    return libc_send(socket, bytes, is_cut ? (size_t)cut : length, flags);
 }
 
 int setsockopt(int socket, int level, int option, const void *value, socklen_t length) {
