@@ -8,10 +8,10 @@ use Rattle.bq_hub.specs.Worked.{WorksOn}
 use Rattle.bq_hub.specs.declared.core_work.hub.Hub.{Hub}
 
 -- It began where it did before, whatever it does.
-pub begun_on : {C K : Type 0} (given : C → List (Option ℕ) → C → Type 0) (machine : K → Machine) (start : Option (C × (Settings × CoreState))) (old new : Hub C K)
-    → HasBegun given machine start old → IsSameCore old.sender.end new.sender.end → (machine new.core).settings ≡ (machine old.core).settings → WorksOn given machine old new
-    → HasBegun given machine start new
-begun_on given machine start old new w same settings on = record {
+pub begun_on : {C K : Type 0} (given : C → List (Option ℕ) → C → Type 0) (machine : K → Machine) (compared : K → ℕ) (start : Option (C × (Settings × CoreState))) (old new : Hub C K)
+    → HasBegun given machine compared start old → IsSameCore old.sender.end new.sender.end → (machine new.core).settings ≡ (machine old.core).settings → WorksOn given machine compared old new
+    → HasBegun given machine compared start new
+begun_on given machine compared start old new w same settings on = record {
   first = w.first;
   settings = w.settings;
   end = w.end;
@@ -19,5 +19,5 @@ begun_on given machine start old new w same settings on = record {
   many = w.many;
   same = (same.0 ∙ w.same.0, same.1 ∙ w.same.1);
   kept = settings ∙ w.kept;
-  work = on w.settings w.first w.work;
+  work = on w.settings 0 w.first w.work;
 }

@@ -18,6 +18,8 @@ use Rattle.bq_link.specs.EndStates.{CoreState, sent_to}
 use Rattle.bq_link.specs.NewEnds.{IsNewCore}
 use Rattle.bq_link.specs.Submissions.{AreBelow, steps_of}
 use Rattle.bq_link.proofs.SubmissionLemmas.{below_push, of_other, of_own}
+use Rattle.bq_steps.specs.Cost.{IsLookWithin, IsStepWithin}
+use Rattle.bq_hub.specs.Compared.{AreCompared, AreWithin, IsEntryWithin, LooksOnce}
 use Rattle.bq_hub.specs.CoreWork.{HasGone, IsCoreDone, no_ticks, steps_made}
 use Rattle.bq_hub.specs.Flags.{AreAllSet}
 use Rattle.bq_hub.specs.Sending.{AreSent}
@@ -154,14 +156,70 @@ given_on t given now pending sent h =
     answers_append t given now ∙ ap (λ (all : List Answer). all ++ answers_to t now) h ∙ append_assoc sent (answers_to t pending) (answers_to t now)
     ∙ ap (λ (all : List Answer). sent ++ all) (sym (answers_append t pending now))
 
+-- a look that was not made
+look_none : (m : Machine) (count : ℕ) → IsLookWithin m count count
+look_none m count = record { stays = omega arith; comparisons = omega arith }
+
+-- A look that may have been made is within its bound.
+looked_within : (known : Bool) (m : Machine) (count now : ℕ) → LooksOnce known m count now → IsLookWithin m count now
+looked_within true m count now l = l
+looked_within false m count now l = subst (λ (n : ℕ). IsLookWithin m count n) (sym l) (look_none m count)
+
+-- Where the next due moment isn't known, no look was made since.
+unknown_is : (known : Bool) (m : Machine) (count : ℕ) → known ≡ false → LooksOnce known m count count
+unknown_is known m count is = subst (λ (b : Bool). LooksOnce b m count count) (sym is) refl
+
+-- one step more within its bound
+within_on : (first middle next : Machine) (history : List Entry) (e : Entry) (given now : List GivenAnswer) (from count to : ℕ)
+    → AreWithin first history given middle from count → IsEntryWithin middle e now next count to → AreWithin first (history ++ e ∷ []) (given ++ now) next from to
+within_on first middle next [] e given now from count to (none, (same, still)) w = (
+  next,
+  now,
+  [],
+  to,
+  (
+    ap (λ (xs : List GivenAnswer). xs ++ now) none ∙ sym (append-nil now),
+    (subst (λ (m : Machine). IsEntryWithin m e now next from to) same (subst (λ (n : ℕ). IsEntryWithin middle e now next n to) still w), (refl, (refl, refl))),
+  ),
+)
+within_on first middle next (f ∷ history) e given now from count to (second, own, more, n, rest) w = (
+  second,
+  own,
+  more ++ now,
+  n,
+  (
+    ap (λ (xs : List GivenAnswer). xs ++ now) rest.0 ∙ append_assoc own more now,
+    (rest.1.0, within_on second middle next history e more now n count to rest.1.1 w),
+  ),
+)
+
+-- a look, if any, and a step behind a history
+entry_on : (settings : Settings) (from : ℕ) (history : List Entry) (given now : List GivenAnswer) (core next : Machine) (at later seat : ℕ) (what : Step) (outcome : Outcome) (count : ℕ) (known : Bool) (compared to : ℕ)
+    → AreWithin (new_machine settings) history given core from count → LooksOnce known core count compared → IsStepWithin core later seat what outcome now next compared to → later ≡ at
+    → AreWithin (new_machine settings) (history ++ entry_of at seat what ∷ []) (given ++ now) next from to
+entry_on settings from history given now core next at later seat what outcome count known compared to within looked step is =
+    within_on (new_machine settings) core next history (entry_of at seat what) given now from count to within
+    (record {
+      looked = compared;
+      outcome = outcome;
+      look = looked_within known core count compared looked;
+      step = subst (λ (n : ℕ). IsStepWithin core n seat what outcome now next compared to) is step;
+    })
+
+-- the same where nothing of the core changed
+looked_still : (o n : HubState) (count : ℕ) → n.core ≡ o.core → n.known ≡ o.known → n.compared ≡ o.compared → LooksOnce o.known o.core count o.compared → LooksOnce n.known n.core count n.compared
+looked_still o n count core known compared l =
+    subst (λ (b : Bool). LooksOnce b n.core count n.compared) (sym known)
+    (subst (λ (m : Machine). LooksOnce o.known m count n.compared) (sym core) (subst (λ (k : ℕ). LooksOnce o.known o.core count k) (sym compared) l))
+
 -- The core took a step that came by its end.
-pub worked_step : (settings : Settings) (readings : List (Option ℕ)) (o n : HubState) (seat : ℕ) (what : Step) (reading : Option ℕ) (outcome : Outcome) (now : List GivenAnswer)
-    → seat < length o.end.rings → HasWorked settings readings o → IsStep o.core n.heard seat what outcome now n.core → n.heard ≡ moment_heard o.heard reading
+pub worked_step : (settings : Settings) (from : ℕ) (readings : List (Option ℕ)) (o n : HubState) (seat : ℕ) (what : Step) (reading : Option ℕ) (outcome : Outcome) (now : List GivenAnswer)
+    → seat < length o.end.rings → HasWorked settings from readings o → IsStepWithin o.core n.heard seat what outcome now n.core o.compared n.compared → n.heard ≡ moment_heard o.heard reading
     → n.end ≡ record o.end { taken = o.end.taken ++ (seat, what) ∷ [] } → n.pending ≡ o.pending ++ now
-    → n.gone ≡ gone_after seat what o.gone → HasWorked settings (readings ++ reading ∷ []) n
-worked_step settings readings o n seat what reading outcome now below w step heard end pending marked =
+    → n.gone ≡ gone_after seat what o.gone → n.known ≡ false → HasWorked settings from (readings ++ reading ∷ []) n
+worked_step settings from readings o n seat what reading outcome now below w step heard end pending marked unknown =
     let at = moment_heard o.heard reading in
-    let r = ran_on settings readings w.history w.given now o.core n.core o.heard n.heard seat what reading outcome (record { runs = w.runs; timed = w.timed }) step heard in
+    let r = ran_on settings readings w.history w.given now o.core n.core o.heard n.heard seat what reading outcome (record { runs = w.runs; timed = w.timed }) step.step heard in
     record {
       history = w.history ++ entry_of at seat what ∷ [];
       given = w.given ++ now;
@@ -175,15 +233,18 @@ worked_step settings readings o n seat what reading outcome now below w step hea
           given_on t w.given now o.pending (sent_to o.end t) (w.sent_is t (subst (λ (c : CoreState). t < length c.rings) end within))
           ∙ ap (λ (c : CoreState). sent_to c t ++ answers_to t (o.pending ++ now)) (sym end) ∙ ap (λ (all : List GivenAnswer). sent_to n.end t ++ answers_to t all) (sym pending);
       marked = subst (λ (c : CoreState). (t : ℕ) → slice_index_or n.gone t false ≡ true → HasGone (steps_of t c.taken)) (sym end) (marks seat what o.gone n.gone o.end.taken marked w.marked);
+      count = n.compared;
+      within = entry_on settings from w.history w.given now o.core n.core at n.heard seat what outcome w.count o.known o.compared n.compared w.within w.looked step heard;
+      looked = unknown_is n.known n.core n.compared unknown;
     }
 
 -- The core took a tick.
-pub worked_tick : (settings : Settings) (readings : List (Option ℕ)) (o n : HubState) (reading : Option ℕ) (outcome : Outcome) (now : List GivenAnswer)
-    → HasWorked settings readings o → IsStep o.core n.heard 0 Tick outcome now n.core → n.heard ≡ moment_heard o.heard reading
-    → n.end ≡ o.end → n.pending ≡ o.pending ++ now → n.gone ≡ o.gone → HasWorked settings (readings ++ reading ∷ []) n
-worked_tick settings readings o n reading outcome now w step heard end pending gone =
+pub worked_tick : (settings : Settings) (from : ℕ) (readings : List (Option ℕ)) (o n : HubState) (reading : Option ℕ) (outcome : Outcome) (now : List GivenAnswer)
+    → HasWorked settings from readings o → IsStepWithin o.core n.heard 0 Tick outcome now n.core o.compared n.compared → n.heard ≡ moment_heard o.heard reading
+    → n.end ≡ o.end → n.pending ≡ o.pending ++ now → n.gone ≡ o.gone → n.known ≡ false → HasWorked settings from (readings ++ reading ∷ []) n
+worked_tick settings from readings o n reading outcome now w step heard end pending gone unknown =
     let at = moment_heard o.heard reading in
-    let r = ran_on settings readings w.history w.given now o.core n.core o.heard n.heard 0 Tick reading outcome (record { runs = w.runs; timed = w.timed }) step heard in
+    let r = ran_on settings readings w.history w.given now o.core n.core o.heard n.heard 0 Tick reading outcome (record { runs = w.runs; timed = w.timed }) step.step heard in
     record {
       history = w.history ++ entry_of at 0 Tick ∷ [];
       given = w.given ++ now;
@@ -195,12 +256,15 @@ worked_tick settings readings o n reading outcome now w step heard end pending g
           given_on t w.given now o.pending (sent_to o.end t) (w.sent_is t (subst (λ (c : CoreState). t < length c.rings) end within))
           ∙ ap (λ (c : CoreState). sent_to c t ++ answers_to t (o.pending ++ now)) (sym end) ∙ ap (λ (all : List GivenAnswer). sent_to n.end t ++ answers_to t all) (sym pending);
       marked = λ t set. subst (λ (c : CoreState). HasGone (steps_of t c.taken)) (sym end) (w.marked t (subst (λ (flags : List Bool). slice_index_or flags t false ≡ true) gone set));
+      count = n.compared;
+      within = entry_on settings from w.history w.given now o.core n.core at n.heard 0 Tick outcome w.count o.known o.compared n.compared w.within w.looked step heard;
+      looked = unknown_is n.known n.core n.compared unknown;
     }
 
 -- The clock was read, and no step was taken.
-pub worked_heard : (settings : Settings) (readings : List (Option ℕ)) (o n : HubState) (reading : Option ℕ) → HasWorked settings readings o → n.core ≡ o.core → n.heard ≡ moment_heard o.heard reading
-    → n.end ≡ o.end → n.pending ≡ o.pending → n.gone ≡ o.gone → HasWorked settings (readings ++ reading ∷ []) n
-worked_heard settings readings o n reading w core heard end pending gone =
+pub worked_heard : (settings : Settings) (from : ℕ) (readings : List (Option ℕ)) (o n : HubState) (reading : Option ℕ) → HasWorked settings from readings o → n.core ≡ o.core → n.heard ≡ moment_heard o.heard reading
+    → n.end ≡ o.end → n.pending ≡ o.pending → n.gone ≡ o.gone → n.known ≡ o.known → n.compared ≡ o.compared → HasWorked settings from (readings ++ reading ∷ []) n
+worked_heard settings from readings o n reading w core heard end pending gone known compared =
     record {
       history = w.history;
       given = w.given;
@@ -212,12 +276,36 @@ worked_heard settings readings o n reading w core heard end pending gone =
           w.sent_is t (subst (λ (c : CoreState). t < length c.rings) end within)
           ∙ ap (λ (c : CoreState). sent_to c t ++ answers_to t o.pending) (sym end) ∙ ap (λ (all : List GivenAnswer). sent_to n.end t ++ answers_to t all) (sym pending);
       marked = λ t set. subst (λ (c : CoreState). HasGone (steps_of t c.taken)) (sym end) (w.marked t (subst (λ (flags : List Bool). slice_index_or flags t false ≡ true) gone set));
+      count = w.count;
+      within = subst (λ (m : Machine). AreWithin (new_machine settings) w.history w.given m from w.count) (sym core) w.within;
+      looked = looked_still o n w.count core known compared w.looked;
+    }
+
+-- The core was asked for the next due moment, if that wasn't known.
+pub worked_looked : (settings : Settings) (from : ℕ) (readings : List (Option ℕ)) (o n : HubState) → HasWorked settings from readings o → n.core ≡ o.core → n.heard ≡ o.heard
+    → n.end ≡ o.end → n.pending ≡ o.pending → n.gone ≡ o.gone → n.known ≡ true
+    → ((count : ℕ) → LooksOnce o.known o.core count o.compared → IsLookWithin o.core count n.compared) → HasWorked settings from readings n
+worked_looked settings from readings o n w core heard end pending gone known once =
+    record {
+      history = w.history;
+      given = w.given;
+      runs = subst (λ (m : Machine). Run (new_machine settings) w.history w.given m) (sym core) w.runs;
+      timed = subst (λ (m : ℕ). IsTimedFrom 0 readings w.history m) (sym heard) w.timed;
+      taken_is = w.taken_is ∙ ap (λ (c : CoreState). no_ticks c.taken) (sym end);
+      numbers = subst (λ (c : CoreState). AreBelow (length c.rings) c.taken) (sym end) w.numbers;
+      sent_is = λ t within.
+          w.sent_is t (subst (λ (c : CoreState). t < length c.rings) end within)
+          ∙ ap (λ (c : CoreState). sent_to c t ++ answers_to t o.pending) (sym end) ∙ ap (λ (all : List GivenAnswer). sent_to n.end t ++ answers_to t all) (sym pending);
+      marked = λ t set. subst (λ (c : CoreState). HasGone (steps_of t c.taken)) (sym end) (w.marked t (subst (λ (flags : List Bool). slice_index_or flags t false ≡ true) gone set));
+      count = w.count;
+      within = subst (λ (m : Machine). AreWithin (new_machine settings) w.history w.given m from w.count) (sym core) w.within;
+      looked = subst (λ (b : Bool). LooksOnce b n.core w.count n.compared) (sym known) (subst (λ (m : Machine). IsLookWithin m w.count n.compared) (sym core) (once w.count w.looked));
     }
 
 -- Answers were sent.
-pub worked_sent : (settings : Settings) (readings : List (Option ℕ)) (o n : HubState) → HasWorked settings readings o → AreSent o.end o.pending n.end n.pending
-    → n.core ≡ o.core → n.heard ≡ o.heard → n.gone ≡ o.gone → HasWorked settings readings n
-worked_sent settings readings o n w sent core heard gone = record {
+pub worked_sent : (settings : Settings) (from : ℕ) (readings : List (Option ℕ)) (o n : HubState) → HasWorked settings from readings o → AreSent o.end o.pending n.end n.pending
+    → n.core ≡ o.core → n.heard ≡ o.heard → n.gone ≡ o.gone → n.known ≡ o.known → n.compared ≡ o.compared → HasWorked settings from readings n
+worked_sent settings from readings o n w sent core heard gone known compared = record {
   history = w.history;
   given = w.given;
   runs = subst (λ (m : Machine). Run (new_machine settings) w.history w.given m) (sym core) w.runs;
@@ -227,6 +315,9 @@ worked_sent settings readings o n w sent core heard gone = record {
   sent_is = λ t within. let there = subst (λ (rings : List _). t < length rings) sent.rings within in w.sent_is t there ∙ sym (sent.each t there);
   marked = λ t set.
       subst (λ (all : List (ℕ × Step)). HasGone (steps_of t all)) (sym sent.taken) (w.marked t (subst (λ (flags : List Bool). slice_index_or flags t false ≡ true) gone set));
+  count = w.count;
+  within = subst (λ (m : Machine). AreWithin (new_machine settings) w.history w.given m from w.count) (sym core) w.within;
+  looked = looked_still o n w.count core known compared w.looked;
 }
 
 -- where all are the same, and so is what stands for those that aren't there
@@ -248,8 +339,8 @@ known_none gone n none not = record {
     some = let many = ap length none ∙ length-replicate (n + 1) false in omega (arith, many)
 
 -- Nothing was done yet.
-pub worked_none : (settings : Settings) (h : HubState) (ends : ℕ) → h.core ≡ new_machine settings → h.heard ≡ 0 → IsNewCore ends h.end → h.pending ≡ [] → h.gone ≡ replicate ends false → HasWorked settings [] h
-worked_none settings h ends core heard new pending gone = record {
+pub worked_none : (settings : Settings) (from : ℕ) (h : HubState) (ends : ℕ) → h.core ≡ new_machine settings → h.heard ≡ 0 → IsNewCore ends h.end → h.pending ≡ [] → h.gone ≡ replicate ends false → h.known ≡ false → h.compared ≡ from → HasWorked settings from [] h
+worked_none settings from h ends core heard new pending gone known compared = record {
   history = [];
   given = [];
   runs = subst (λ (m : Machine). Run (new_machine settings) [] [] m) (sym core) (run_none (new_machine settings));
@@ -261,12 +352,15 @@ worked_none settings h ends core heard new pending gone = record {
       ∙ ap (λ (all : List Answer). all ++ answers_to t h.pending) (all_same ends t [])
       ∙ ap (answers_to t) pending);
   marked = λ t set. absurd (true≢false (sym set ∙ ap (λ (flags : List Bool). slice_index_or flags t false) gone ∙ all_same ends t false));
+  count = from;
+  within = (refl, (core, refl));
+  looked = subst (λ (b : Bool). LooksOnce b h.core from h.compared) (sym known) compared;
 }
 
 -- All is done.
-pub worked_all : (settings : Settings) (readings : List (Option ℕ)) (h : HubState) → HasWorked settings readings h → h.pending ≡ [] → length h.end.rings ≡ settings.seats + 1
-    → length h.gone ≡ settings.seats + 1 → AreAllSet h.gone → IsCoreDone settings readings h.end h.core
-worked_all settings readings h w none ends many all = record {
+pub worked_all : (settings : Settings) (from : ℕ) (readings : List (Option ℕ)) (h : HubState) → HasWorked settings from readings h → h.pending ≡ [] → length h.end.rings ≡ settings.seats + 1
+    → length h.gone ≡ settings.seats + 1 → AreAllSet h.gone → IsCoreDone settings readings h.end h.core from h.compared
+worked_all settings from readings h w none ends many all = record {
   history = w.history;
   given = w.given;
   run = record { runs = w.runs; timed = w.timed.picked };
@@ -275,6 +369,7 @@ worked_all settings readings h w none ends many all = record {
   sent_is = λ t within.
       w.sent_is t (subst (λ (n : ℕ). t < n) (sym ends) within) ∙ ap (λ (rest : List GivenAnswer). sent_to h.end t ++ answers_to t rest) none ∙ append-nil (sent_to h.end t);
   all_gone = λ t within. w.marked t (all t (subst (λ (n : ℕ). t < n) (sym many) within));
+  compared = record { count = w.count; steps = w.within; look = looked_within h.known h.core w.count h.compared w.looked };
 }
 
 -- what is given behind what is kept

@@ -7,10 +7,11 @@ use Rattle.bq_job.specs.declared.step.Step.TheVariants.{Gone}
 use Rattle.bq_job.specs.promise.CoreDid.{IsRun}
 use Rattle.bq_job.specs.machine.Dispatch.{GivenAnswer}
 use Rattle.bq_job.specs.promise.History.{is_tick, without_ticks}
-use Rattle.bq_job.specs.machine.Machine.{Machine}
+use Rattle.bq_job.specs.machine.Machine.{Machine, new_machine}
 use Rattle.bq_job.specs.promise.Runs.{Entry, answers_to}
 use Rattle.bq_link.specs.EndStates.{CoreState, sent_to}
 use Rattle.bq_link.specs.Submissions.{AreBelow, steps_of}
+use Rattle.bq_hub.specs.Compared.{AreCompared}
 use Rattle.bq_hub.specs.declared.core_work.room.CoreRoom.{CoreRoom}
 
 -- Among these steps of an end it says that no more come.
@@ -35,8 +36,8 @@ pub record IsNewRoom (ends : ℕ) (room : CoreRoom) : Type 0 where
 
 -- A core that is done. From the start it took the steps that came by its end of the links, in their order, and
 -- ticks of its own, each at the moment of a reading; nobody but the ends submits any. All that it gave to an end was sent to it, in its order, and
--- no end has more to submit.
-pub record IsCoreDone (settings : Settings) (readings : List (Option ℕ)) (core : CoreState) (last : Machine) : Type 0 where
+-- no end has more to submit. Its comparisons, from so many to so many, stayed within the bounds of each step.
+pub record IsCoreDone (settings : Settings) (readings : List (Option ℕ)) (core : CoreState) (last : Machine) (from to : ℕ) : Type 0 where
   pub history : List Entry
   pub given : List GivenAnswer
   pub run : IsRun settings readings history given last
@@ -44,7 +45,9 @@ pub record IsCoreDone (settings : Settings) (readings : List (Option ℕ)) (core
   pub numbers : AreBelow (settings.seats + 1) core.taken
   pub sent_is : (seat : ℕ) → seat < settings.seats + 1 → answers_to seat given ≡ sent_to core seat
   pub all_gone : (seat : ℕ) → seat < settings.seats + 1 → HasGone (steps_of seat core.taken)
+  pub compared : AreCompared (new_machine settings) history given last from to
 
 -- A core ran to its end at a clock, which gave the readings between.
-abbrev pub RanToEnd : {C : Type 0} → (C → List (Option ℕ) → C → Type 0) → Settings → C → CoreState → Machine → C → Type 0
-RanToEnd given settings first core last clock = (readings : List (Option ℕ)) × given first readings clock × IsCoreDone settings readings core last
+abbrev pub RanToEnd : {C : Type 0} → (C → List (Option ℕ) → C → Type 0) → Settings → C → CoreState → Machine → C → ℕ → ℕ → Type 0
+RanToEnd given settings first core last clock from to =
+    (readings : List (Option ℕ)) × given first readings clock × IsCoreDone settings readings core last from to

@@ -1,3 +1,4 @@
+pub mod Compared
 pub mod CoreWork
 pub mod Flags
 pub mod Noted

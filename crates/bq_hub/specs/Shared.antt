@@ -6,8 +6,8 @@ use Rattle.bq_link.specs.EndStates.{CoreState, IsSameCore}
 use Rattle.bq_hub.specs.Worked.{IsAtWork}
 use Rattle.bq_hub.specs.declared.core_work.hub.Hub.{Hub}
 
--- The hub began with what the start says, and worked on from there.
-pub record HasBegun {C K : Type 0} (given : C → List (Option ℕ) → C → Type 0) (machine : K → Machine) (start : Option (C × (Settings × CoreState))) (hub : Hub C K) : Type 0 where
+-- The hub began with what the start says and a core that had compared nothing, and worked on from there.
+pub record HasBegun {C K : Type 0} (given : C → List (Option ℕ) → C → Type 0) (machine : K → Machine) (compared : K → ℕ) (start : Option (C × (Settings × CoreState))) (hub : Hub C K) : Type 0 where
   pub first : C
   pub settings : Settings
   pub end : CoreState
@@ -15,4 +15,4 @@ pub record HasBegun {C K : Type 0} (given : C → List (Option ℕ) → C → Ty
   pub many : length end.rings ≡ settings.seats + 1
   pub same : IsSameCore end hub.sender.end
   pub kept : (machine hub.core).settings ≡ settings
-  pub work : IsAtWork given machine settings first hub
+  pub work : IsAtWork given machine compared settings 0 first hub

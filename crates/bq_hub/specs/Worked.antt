@@ -12,6 +12,8 @@ use Rattle.bq_job.specs.machine.Steps.{IsStep, Outcome}
 use Rattle.bq_line.specs.GivenReadings.{GaveReadings}
 use Rattle.bq_link.specs.EndStates.{CoreState, sent_to}
 use Rattle.bq_link.specs.Submissions.{AreBelow, steps_of}
+use Rattle.bq_steps.specs.Cost.{IsStepWithin}
+use Rattle.bq_hub.specs.Compared.{AreWithin, LooksOnce}
 use Rattle.bq_hub.specs.CoreWork.{HasGone, no_ticks, steps_made}
 use Rattle.bq_hub.specs.Flags.{AreAllSet}
 use Rattle.bq_hub.specs.Sending.{IsAtRest}
@@ -27,19 +29,24 @@ pub record HubState : Type 0 where
   pub gone : List Bool
   -- the moment heard last
   pub heard : ℕ
+  -- whether the next due moment is known, and the comparisons so far
+  pub known : Bool
+  pub compared : ℕ
 
-abbrev pub hub_state : {C K : Type 0} → (K → Machine) → Hub C K → HubState
-hub_state machine h = record {
+abbrev pub hub_state : {C K : Type 0} → (K → Machine) → (K → ℕ) → Hub C K → HubState
+hub_state machine compared h = record {
   core = machine h.core;
   end = h.sender.end;
   pending = h.sender.kept.items ++ h.outs.given;
   gone = h.gone.flags.items;
   heard = h.heard;
+  known = h.is_due_known;
+  compared = compared h.core;
 }
 
 -- What the core did since the start: it took the steps that came by its end, and ticks, each at the moment of a
--- reading; and what it gave was sent, or is to be sent still.
-pub record HasWorked (settings : Settings) (readings : List (Option ℕ)) (h : HubState) : Type 0 where
+-- reading; what it gave was sent, or is to be sent still; and its comparisons, from so many on, stayed within bounds.
+pub record HasWorked (settings : Settings) (from : ℕ) (readings : List (Option ℕ)) (h : HubState) : Type 0 where
   pub history : List Entry
   pub given : List GivenAnswer
   pub runs : Run (new_machine settings) history given h.core
@@ -48,26 +55,32 @@ pub record HasWorked (settings : Settings) (readings : List (Option ℕ)) (h : H
   pub numbers : AreBelow (length h.end.rings) h.end.taken
   pub sent_is : (seat : ℕ) → seat < length h.end.rings → answers_to seat given ≡ sent_to h.end seat ++ answers_to seat h.pending
   pub marked : (seat : ℕ) → slice_index_or h.gone seat false ≡ true → HasGone (steps_of seat h.end.taken)
+  pub count : ℕ
+  pub within : AreWithin (new_machine settings) history given h.core from count
+  pub looked : LooksOnce h.known h.core count h.compared
 
 -- the same with the clock, which gave these readings from the first on
-abbrev pub IsAtWork : {C K : Type 0} → (C → List (Option ℕ) → C → Type 0) → (K → Machine) → Settings → C → Hub C K → Type 0
-IsAtWork given machine settings first hub = (readings : List (Option ℕ)) × given first readings hub.clock × HasWorked settings readings (hub_state machine hub)
+abbrev pub IsAtWork : {C K : Type 0} → (C → List (Option ℕ) → C → Type 0) → (K → Machine) → (K → ℕ) → Settings → ℕ → C → Hub C K → Type 0
+IsAtWork given machine compared settings from first hub =
+    (readings : List (Option ℕ)) × given first readings hub.clock × HasWorked settings from readings (hub_state machine compared hub)
 
 -- Whatever was done before, the work went on.
-abbrev pub WorksOn : {C K : Type 0} → (C → List (Option ℕ) → C → Type 0) → (K → Machine) → Hub C K → Hub C K → Type 0
-WorksOn {C} given machine old new = (settings : Settings) (first : C) → IsAtWork given machine settings first old → IsAtWork given machine settings first new
+abbrev pub WorksOn : {C K : Type 0} → (C → List (Option ℕ) → C → Type 0) → (K → Machine) → (K → ℕ) → Hub C K → Hub C K → Type 0
+WorksOn {C} given machine compared old new =
+    (settings : Settings) (from : ℕ) (first : C) → IsAtWork given machine compared settings from first old → IsAtWork given machine compared settings from first new
 
 -- It is known whether each end is gone.
 pub record KnowsAll (gone : Gones) : Type 0 where
   pub each : gone.all ≡ true → AreAllSet gone.flags.items
   pub known : AreAllSet gone.flags.items → gone.all ≡ true
 
--- There is room for the answers of a step, and it is known which ends are gone.
+-- There is room for the answers of a step, it is known which ends are gone, and so may the next due moment be.
 pub record IsInOrder {C K : Type 0} (machine : K → Machine) (h : Hub C K) : Type 0 where
   pub room : (machine h.core).settings.seats < h.outs.most
   pub sender : IsAtRest h.sender
   pub many : length h.gone.flags.items ≡ h.sender.ends
   pub all : KnowsAll h.gone
+  pub due : h.is_due_known ≡ true → h.due ≡ next_due (machine h.core)
 
 -- of each end whether it is gone, after a step: an end's own step says so
 abbrev pub gone_after : ℕ → Step → List Bool → List Bool
@@ -75,12 +88,13 @@ gone_after seat Gone flags = slice_set flags seat true
 gone_after seat _ flags = flags
 
 -- The core took a step at the moment of one reading of its clock.
-pub record TakesStep {C K : Type 0} (given : C → List (Option ℕ) → C → Type 0) (machine : K → Machine) (old : Hub C K) (seat : ℕ) (what : Step) (new : Hub C K) : Type 0 where
+pub record TakesStep {C K : Type 0} (given : C → List (Option ℕ) → C → Type 0) (machine : K → Machine) (compared : K → ℕ) (old : Hub C K) (seat : ℕ) (what : Step) (new : Hub C K) : Type 0 where
   pub reading : Option ℕ
   pub outcome : Outcome
   pub gave : GaveReadings given old.clock (reading ∷ []) new.clock
   pub heard : new.heard ≡ moment_heard old.heard reading
-  pub step : IsStep (machine old.core) new.heard seat what outcome new.outs.given (machine new.core)
+  pub step : IsStepWithin (machine old.core) new.heard seat what outcome new.outs.given (machine new.core) (compared old.core) (compared new.core)
+  pub unknown : new.is_due_known ≡ false
   pub sender : new.sender ≡ old.sender
   pub marked : new.gone.flags.items ≡ gone_after seat what old.gone.flags.items
 

@@ -51,7 +51,9 @@ pub fn core_work<R: Wait, C: Clock + Drop, K: QueueCore + Drop>(
     requires outs { (K.machine core).settings.seats < outs.most }
     requires room { IsNewRoom ((K.machine core).settings.seats + 1) room }
     ensures end { IsSameCore end result.0 }
-    ensures ran { RanToEnd C.given (K.machine core).settings clock result.0 (K.machine result.1) result.2 }
+    // Its comparisons stayed within the bounds of each step, and of one look for what is due before each and behind the last.
+    ensures ran { RanToEnd C.given (K.machine core).settings clock result.0 (K.machine result.1) result.2 (K.comparisons core)
+        (K.comparisons result.1) }
 {
     run_out(rt, intake, Hub::new(alloc, end, core, outs, room, clock))
 }

@@ -21,6 +21,7 @@ use Rattle.bq_link.specs.Submissions.{AreBelow, steps_of}
 use Rattle.bq_attend.specs.Tending.{DoorSeen, IsDoorServed}
 use Rattle.bq_attend.specs.declared.control_line.ControlLine.{ControlLine}
 use Rattle.bq_job.proofs.JoinLemmas.{doors_owed}
+use Rattle.bq_hub.specs.Compared.{AreCompared}
 use Rattle.bq_hub.specs.CoreWork.{IsCoreDone}
 use Rattle.bq_link.specs.Ticks.{IsTickless}
 use Rattle.bq_run.specs.Linked.{AreSettled, AreStill, IsCoreStill, IsEndOf, IsLinked, IsSettled}
@@ -88,17 +89,17 @@ some_end (e ∷ ends) place h = e
 
 -- All threads are done: that of each seat with its door, that of the core, and the control line; and the ends
 -- were compared.
-pub record AreAllDone {D : Type 0} (at : D → DoorSeen) (settings : Settings) (readings : List (Option ℕ)) (text : List ℕ) (failed : Bool) (core : CoreState) (last : Machine) (ends : List SeatState) (doors : List D) : Type 0 where
+pub record AreAllDone {D : Type 0} (at : D → DoorSeen) (settings : Settings) (readings : List (Option ℕ)) (text : List ℕ) (failed : Bool) (core : CoreState) (last : Machine) (to : ℕ) (ends : List SeatState) (doors : List D) : Type 0 where
   pub many : length ends ≡ settings.seats + 1
   pub doored : length doors ≡ settings.seats
-  pub core_done : IsCoreDone settings readings core last
+  pub core_done : IsCoreDone settings readings core last 0 to
   pub settled : AreSettled core ends
   pub served : (place : ℕ) (d : D) (e : SeatState) → place < length doors
       → IsDoorServed settings.max_job_size (at (slice_index_or doors place d)) (slice_index_or ends place e).submitted (slice_index_or ends place e).taken
   pub control_done : (e : SeatState) → IsControlDone text failed (slice_index_or ends settings.seats e).submitted
 
-module _ {D : Type 0} (at : D → DoorSeen) (settings : Settings) (readings : List (Option ℕ)) (text : List ℕ) (failed : Bool) (core : CoreState) (last : Machine) (ends : List SeatState) (doors : List D)
-    (a : AreAllDone at settings readings text failed core last ends doors) where
+module _ {D : Type 0} (at : D → DoorSeen) (settings : Settings) (readings : List (Option ℕ)) (text : List ℕ) (failed : Bool) (core : CoreState) (last : Machine) (to : ℕ) (ends : List SeatState) (doors : List D)
+    (a : AreAllDone at settings readings text failed core last to ends doors) where
   abbrev history : List Entry
   history = a.core_done.history
 
@@ -200,6 +201,7 @@ module _ {D : Type 0} (at : D → DoorSeen) (settings : Settings) (readings : Li
   pub record IsJoinedRun : Type 0 where
     pub history : IsHistoryOf settings (map lines_of doors) text failed readings last
     pub linked : IsLinked settings.seats history.history history.given core ends
+    pub compared : AreCompared (new_machine settings) history.history history.given last 0 to
 
   pub run_joined : IsJoinedRun
   run_joined =
@@ -215,6 +217,7 @@ module _ {D : Type 0} (at : D → DoorSeen) (settings : Settings) (readings : Li
           of_nobody_else = nobody_else;
         };
         linked = linked;
+        compared = a.core_done.compared;
       }
 
   -- All doors are at their end.
@@ -225,8 +228,9 @@ module _ {D : Type 0} (at : D → DoorSeen) (settings : Settings) (readings : Li
       (s.inside, s.at_end)
 
 -- The core's end took nothing and sent nothing since.
-pub core_done_still : (settings : Settings) (readings : List (Option ℕ)) (first last : CoreState) (machine : Machine) → IsCoreStill first last → IsCoreDone settings readings first machine → IsCoreDone settings readings last machine
-core_done_still settings readings first last machine s c = record {
+pub core_done_still : (settings : Settings) (readings : List (Option ℕ)) (first last : CoreState) (machine : Machine) (to : ℕ) → IsCoreStill first last → IsCoreDone settings readings first machine 0 to
+    → IsCoreDone settings readings last machine 0 to
+core_done_still settings readings first last machine to s c = record {
   history = c.history;
   given = c.given;
   run = c.run;
@@ -234,22 +238,23 @@ core_done_still settings readings first last machine s c = record {
   numbers = rw s.taken c.numbers;
   sent_is = λ seat below. rw s.sent (c.sent_is seat below);
   all_gone = λ seat below. rw s.taken (c.all_gone seat below);
+  compared = c.compared;
 }
 
 -- All that was done, from what the threads gave back.
 pub all_done : {D C I : Type 0} (at : D → DoorSeen) (gives : C → List (Option ℕ) → C → Type 0) (left : I → Option (List ℕ)) (settings : Settings) (doors : List D)
-    (core core_back core_last : CoreState) (firsts lasts ends : List SeatState) (first last : SeatState) (clock after : C) (control : I) (read : ControlLine I) (machine : Machine)
-    → length doors ≡ settings.seats → AreServed at settings.max_job_size firsts lasts doors → (o : IsCoreOver gives settings core clock core_back machine after) → (k : IsControlOver left first control last read)
+    (core core_back core_last : CoreState) (firsts lasts ends : List SeatState) (first last : SeatState) (clock after : C) (control : I) (read : ControlLine I) (machine : Machine) (to : ℕ)
+    → length doors ≡ settings.seats → AreServed at settings.max_job_size firsts lasts doors → (o : IsCoreOver gives settings core clock core_back machine to after) → (k : IsControlOver left first control last read)
     → IsCoreStill core_back core_last → AreStill (lasts ++ last ∷ []) ends → AreSettled core_last ends
-    → AreAllDone at settings o.readings read.read read.failed core_last machine ends doors
-all_done at gives left settings doors core core_back core_last firsts lasts ends first last clock after control read machine doored served o k still kept settled =
+    → AreAllDone at settings o.readings read.read read.failed core_last machine to ends doors
+all_done at gives left settings doors core core_back core_last firsts lasts ends first last clock after control read machine to doored served o k still kept settled =
     let m = lasts_many at settings.max_job_size firsts lasts doors served in
     let many : length lasts ≡ settings.seats = m.0 ∙ sym m.1 ∙ doored in
     let all : length (lasts ++ last ∷ []) ≡ settings.seats + 1 = omega (arith, many, length-append lasts (last ∷ [])) in
     record {
       many = kept.many ∙ all;
       doored = doored;
-      core_done = core_done_still settings o.readings core_back core_last machine still o.done;
+      core_done = core_done_still settings o.readings core_back core_last machine to still o.done;
       settled = settled;
       served = λ place d e below.
           let within : place < length (lasts ++ last ∷ []) = omega (arith, below) in
@@ -261,12 +266,12 @@ all_done at gives left settings doors core core_back core_last firsts lasts ends
     }
 
 -- The parts of what the threads gave back, at the values that they began with.
-pub core_over_of : {C : Type 0} (gives : C → List (Option ℕ) → C → Type 0) (settings from : Settings) (core begun : CoreState) (clock first : C) (last : CoreState) (machine : Machine) (after : C)
-    → from ≡ settings → begun ≡ core → first ≡ clock → IsCoreOver gives from begun first last machine after → IsCoreOver gives settings core clock last machine after
-core_over_of {C} gives settings from core begun clock first last machine after a b d o =
-    subst (λ (s : Settings). IsCoreOver gives s core clock last machine after) a
-    (subst (λ (k : CoreState). IsCoreOver gives from k clock last machine after) b
-    (subst (λ (x : C). IsCoreOver gives from begun x last machine after) d o))
+pub core_over_of : {C : Type 0} (gives : C → List (Option ℕ) → C → Type 0) (settings from : Settings) (core begun : CoreState) (clock first : C) (last : CoreState) (machine : Machine) (to : ℕ) (after : C)
+    → from ≡ settings → begun ≡ core → first ≡ clock → IsCoreOver gives from begun first last machine to after → IsCoreOver gives settings core clock last machine to after
+core_over_of {C} gives settings from core begun clock first last machine to after a b d o =
+    subst (λ (s : Settings). IsCoreOver gives s core clock last machine to after) a
+    (subst (λ (k : CoreState). IsCoreOver gives from k clock last machine to after) b
+    (subst (λ (x : C). IsCoreOver gives from begun x last machine to after) d o))
 
 pub served_of : {D : Type 0} (at : D → DoorSeen) (size limit : ℕ) (firsts lasts : List SeatState) (doors : List D) → limit ≡ size → AreServed at limit firsts lasts doors → AreServed at size firsts lasts doors
 served_of at size limit firsts lasts doors e s = subst (λ (n : ℕ). AreServed at n firsts lasts doors) e s
@@ -289,5 +294,5 @@ run_keeps law first (t ∷ taken) last g =
     run_keeps law t.last taken last g.2 ∙ law t.first t.last t.entry.moment t.entry.seat t.entry.what t.outcome t.given g.1.step ∙ ap (λ (m : Machine). m.settings) g.0
 
 -- A run keeps the settings.
-pub core_keeps : StepsKeepSettings → (settings : Settings) (readings : List (Option ℕ)) (core : CoreState) (last : Machine) → IsCoreDone settings readings core last → last.settings ≡ settings
-core_keeps law settings readings core last d = run_keeps law (new_machine settings) d.run.runs.1.taken last d.run.runs.1.goes
+pub core_keeps : StepsKeepSettings → (settings : Settings) (readings : List (Option ℕ)) (core : CoreState) (last : Machine) (to : ℕ) → IsCoreDone settings readings core last 0 to → last.settings ≡ settings
+core_keeps law settings readings core last to d = run_keeps law (new_machine settings) d.run.runs.1.taken last d.run.runs.1.goes

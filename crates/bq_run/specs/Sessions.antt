@@ -1,10 +1,11 @@
 -- What a run over doors comes to.
 use Rattle.std.specs.Prelude.{ℕ, ◌≡◌, ◌||◌, IsTrue, List, Option, map}
 use Rattle.bq_job.specs.declared.settings.Settings.{Settings}
-use Rattle.bq_job.specs.machine.Machine.{Machine}
+use Rattle.bq_job.specs.machine.Machine.{Machine, new_machine}
 use Rattle.bq_job.specs.promise.Headline.{IsHistoryOf}
 use Rattle.bq_job.specs.promise.History.{LineOver}
 use Rattle.bq_attend.specs.ControlRead.{IsReadToEnd}
+use Rattle.bq_hub.specs.Compared.{AreCompared}
 use Rattle.bq_run.specs.Linked.{IsLinked}
 use Rattle.bq_run.specs.declared.sessions.Run.{Run}
 
@@ -12,8 +13,9 @@ use Rattle.bq_run.specs.declared.sessions.Run.{Run}
 -- its end or until it failed, and what was read of it, and which of the two it was, it tells itself. And one
 -- history of that and of the lines that are over at the doors leads to the machine that the core stands for. The
 -- core took its steps, but for ticks, by its end of the links; each other end submitted those that the history has
--- of it, and was sent what the run gave it.
-pub record IsRunOf {D C I K : Type 0} (given : C → List (Option ℕ) → C → Type 0) (lines_over : D → List LineOver) (left : I → Option (List ℕ)) (machine : K → Machine) (config : Settings) (clock : C) (control : I) (run : Run D C I K) : Type 0 where
+-- of it, and was sent what the run gave it. Its comparisons of keys stayed within the bound of each of its steps, and
+-- of one look for what is due, at most, before each and behind the last.
+pub record IsRunOf {D C I K : Type 0} (given : C → List (Option ℕ) → C → Type 0) (lines_over : D → List LineOver) (left : I → Option (List ℕ)) (machine : K → Machine) (comparisons : K → ℕ) (config : Settings) (clock : C) (control : I) (run : Run D C I K) : Type 0 where
   pub readings : List (Option ℕ)
   pub gave : given clock readings run.clock
   pub over : IsTrue (run.control.ended || run.control.failed)
@@ -21,3 +23,4 @@ pub record IsRunOf {D C I K : Type 0} (given : C → List (Option ℕ) → C →
   pub history : IsHistoryOf config (map lines_over run.doors.items) run.control.read run.control.failed readings (machine run.core)
   pub linked : IsLinked config.seats history.history history.given run.core_end run.ends.items
   pub of_intake : run.core_end.intake ≡ run.intake.id
+  pub compared : AreCompared (new_machine config) history.history history.given (machine run.core) 0 (comparisons run.core)

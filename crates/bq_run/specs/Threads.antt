@@ -17,12 +17,12 @@ AreServed at max_job_size (first ∷ firsts) (last ∷ lasts) (door ∷ doors) =
     (IsSameSeat first last × IsDoorServed max_job_size (at door) last.submitted last.taken) × AreServed at max_job_size firsts lasts doors
 AreServed at max_job_size _ _ _ = ⊥
 
--- The core's thread is over.
-pub record IsCoreOver {C : Type 0} (gives : C → List (Option ℕ) → C → Type 0) (settings : Settings) (first : CoreState) (clock : C) (last : CoreState) (machine : Machine) (after : C) : Type 0 where
+-- The core's thread is over. The core had compared nothing at first, and has made so many comparisons.
+pub record IsCoreOver {C : Type 0} (gives : C → List (Option ℕ) → C → Type 0) (settings : Settings) (first : CoreState) (clock : C) (last : CoreState) (machine : Machine) (compared : ℕ) (after : C) : Type 0 where
   pub same : IsSameCore first last
   pub readings : List (Option ℕ)
   pub gave : gives clock readings after
-  pub done : IsCoreDone settings readings last machine
+  pub done : IsCoreDone settings readings last machine 0 compared
 
 -- The control line was read to its end or until it failed.
 pub record IsControlOver {I : Type 0} (left : I → Option (List ℕ)) (first : SeatState) (control : I) (last : SeatState) (after : ControlLine I) : Type 0 where

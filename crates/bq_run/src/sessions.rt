@@ -73,7 +73,7 @@ pub fn run_sessions<
     // There is one history of all clients' steps and those of the control line, each at the moment of a
     // reading of the clock. The one-list machine takes it, the core stands for the machine after it, and each
     // line was written exactly what it is owed along it. It is what the ends of the links submitted and took.
-    ensures served { IfOk result (IsRunOf C.given D.lines_over I.remaining K.machine config clock control) }
+    ensures served { IfOk result (IsRunOf C.given D.lines_over I.remaining K.machine K.comparisons config clock control) }
     ensures at_end { IfOk result (λ run. All (λ door. (D.is_out door ≡ false) × (D.is_at_end door ≡ true)) run.doors.items) }
     // They are the doors that were handed in, in their order.
     ensures same { IfOk result (λ run. AreSame D.same doors.items run.doors.items) }

@@ -55,7 +55,8 @@ pub fn serve<R: Threads + Wait + Clock + Print + Eprint + Sync, I: BufRead + Dro
 ) -> u8
     // The status is that of what came of the server. It is 0 only where there was a run of the options at this
     // listener, and no door of it met a fault.
-    ensures status { IsStatusOfServer R I.remaining ⟦<Core as QueueCore>⟧.machine options.now listener control result }
+    ensures status { IsStatusOfServer R I.remaining ⟦<Core as QueueCore>⟧.machine ⟦<Core as QueueCore>⟧.comparisons options.now
+        listener control result }
     ensures at_most { result ≤ 1 }
 {
     match listener.local_addr() {
@@ -103,7 +104,8 @@ fn serve_at<R: Threads + Wait + Clock + Print + Eprint + Sync, I: BufRead + Drop
     listener: &TcpListener,
     control: I,
 ) -> u8
-    ensures status { IsStatusOfServer R I.remaining ⟦<Core as QueueCore>⟧.machine options.now listener.now control result }
+    ensures status { IsStatusOfServer R I.remaining ⟦<Core as QueueCore>⟧.machine ⟦<Core as QueueCore>⟧.comparisons options.now
+        listener.now control result }
     ensures at_most { result ≤ 1 }
 {
     let tell = DoorsTell::new(rt, options.seats);
@@ -120,7 +122,8 @@ fn run_server<'l, R: Threads + Wait + Clock + Print + Eprint + Sync, I: BufRead 
     tell: &'l DoorsTell,
     control: I,
 ) -> Result<Run<TcpDoor<'l, R>, TellingClock<'l, R>, I, Core>, Fault>
-    ensures served { IfOk result (λ run. IsServerRun I.remaining ⟦<Core as QueueCore>⟧.machine options.now listener.now control run) }
+    ensures served { IfOk result (λ run. IsServerRun I.remaining ⟦<Core as QueueCore>⟧.machine ⟦<Core as QueueCore>⟧.comparisons
+        options.now listener.now control run) }
     ensures refused { IfErr result (λ fault. MayRefuse options.now fault) }
 {
     let Ok(doors) = new_doors(rt, alloc, options, listener, tell) else {
@@ -155,7 +158,7 @@ pub fn serve_doors<
     // takes by the options. Each connection of each door was written exactly what it is owed along it, as far
     // as its reads and writes tell.
     ensures served { IfOk result (IsRunOf C.given ⟦<TcpDoor<'l, R> as Door>⟧.lines_over I.remaining
-        ⟦<Core as QueueCore>⟧.machine (settings_of options.now) clock control) }
+        ⟦<Core as QueueCore>⟧.machine ⟦<Core as QueueCore>⟧.comparisons (settings_of options.now) clock control) }
     ensures at_end { IfOk result (λ run. All (λ door. (⟦<TcpDoor<'l, R> as Door>⟧.is_out door ≡ false)
         × (⟦<TcpDoor<'l, R> as Door>⟧.is_at_end door ≡ true)) run.doors.items) }
     // They are the doors that were handed in, in their order.

@@ -23,13 +23,13 @@ impl<C> Origin<C> for Brand {
 pub struct BegunHub<C: Clock, K: QueueCore, O: Origin<C>> {
     pub hub: Hub<C, K>,
     pub origin: PhantomData<O>,
-    ghost work: { ∥ HasBegun C.given K.machine O.start hub ∥₁ },
+    ghost work: { ∥ HasBegun C.given K.machine K.comparisons O.start hub ∥₁ },
 }
 
 impl<C: Clock + Drop, K: QueueCore + Drop, O: Origin<C>> BegunHub<C, K, O> {
     /// The hub, and how it began.
     pub fn into_hub(self) -> Hub<C, K>
-        ensures { (result ≡ self.hub) × HasBegun C.given K.machine O.start result }
+        ensures { (result ≡ self.hub) × HasBegun C.given K.machine K.comparisons O.start result }
     {
         let BegunHub { hub, origin: _ } = self;
         hub

@@ -34,6 +34,8 @@ pub struct Hub<C, K> {
     /// The moment heard last, and the next one at which something is due.
     pub heard: Moment,
     pub due: Option<Moment>,
+    /// Whether that is so of the core as it stands now: it was asked since its last step.
+    pub is_due_known: bool,
     pub notices: Notices,
 }
 
@@ -42,6 +44,9 @@ impl<C: Clock + Drop, K: QueueCore + Drop> Hub<C, K> {
     ghost use Rattle.bq_job.specs.machine.Machine.{new_machine};
     ghost use Rattle.bq_link.specs.NewEnds.{IsNewCore};
     ghost use Rattle.bq_link.specs.Submissions.{MayTake};
+    ghost use Rattle.std.specs.Prelude.{ℕ};
+    ghost use Rattle.bq_steps.specs.Cost.{IsLookWithin};
+    ghost use Rattle.bq_hub.specs.Compared.{LooksOnce};
     ghost use Rattle.bq_hub.specs.CoreWork.{IsNewRoom};
     ghost use Rattle.bq_hub.specs.Sending.{AreStuck};
     ghost use Rattle.bq_hub.specs.Worked.{
@@ -74,7 +79,7 @@ impl<C: Clock + Drop, K: QueueCore + Drop> Hub<C, K> {
         ensures order { IsInOrder K.machine result }
         ensures end { result.sender.end ≡ end }
         ensures settings { (K.machine result.core).settings ≡ (K.machine core).settings }
-        ensures work { IsAtWork C.given K.machine (K.machine core).settings clock result }
+        ensures work { IsAtWork C.given K.machine K.comparisons (K.machine core).settings (K.comparisons core) clock result }
     {
         let CoreRoom { kept, aside, gone } = room;
         let ends = gone.len();
@@ -92,6 +97,7 @@ impl<C: Clock + Drop, K: QueueCore + Drop> Hub<C, K> {
             clock,
             heard: 0,
             due: None,
+            is_due_known: false,
             notices: Notices::none(),
         }
     }
@@ -104,7 +110,7 @@ impl<C: Clock + Drop, K: QueueCore + Drop> Hub<C, K> {
         ensures order { IsInOrder K.machine self.new }
         ensures end { IsSameCore self.old.sender.end self.new.sender.end }
         ensures settings { (K.machine self.new.core).settings ≡ (K.machine self.old.core).settings }
-        ensures work { WorksOn C.given K.machine self.old self.new }
+        ensures work { WorksOn C.given K.machine K.comparisons self.old self.new }
         ensures over { result ≡ true → IsOver self.new }
         ensures stuck { AreStuck self.new.sender.end self.new.sender.kept.items }
         ensures turned { result ≡ false → TurnWent K.machine self.old self.new }
@@ -138,7 +144,7 @@ impl<C: Clock + Drop, K: QueueCore + Drop> Hub<C, K> {
         ensures order { IsInOrder K.machine self.new }
         ensures end { IsSameCore self.old.sender.end self.new.sender.end }
         ensures settings { (K.machine self.new.core).settings ≡ (K.machine self.old.core).settings }
-        ensures work { WorksOn C.given K.machine self.old self.new }
+        ensures work { WorksOn C.given K.machine K.comparisons self.old self.new }
     {
         for _ in 0..MOST {
             if !self.work_once(rt, intake, answered) {
@@ -161,7 +167,7 @@ impl<C: Clock + Drop, K: QueueCore + Drop> Hub<C, K> {
         ensures order { IsInOrder K.machine self.new }
         ensures end { IsSameCore self.old.sender.end self.new.sender.end }
         ensures settings { (K.machine self.new.core).settings ≡ (K.machine self.old.core).settings }
-        ensures work { WorksOn C.given K.machine self.old self.new }
+        ensures work { WorksOn C.given K.machine K.comparisons self.old self.new }
     {
         if !self.send_all(intake, answered) || self.gone.all {
             return false;
@@ -195,7 +201,7 @@ impl<C: Clock + Drop, K: QueueCore + Drop> Hub<C, K> {
         ensures order { IsInOrder K.machine self.new }
         ensures end { IsSameCore self.old.sender.end self.new.sender.end }
         ensures settings { (K.machine self.new.core).settings ≡ (K.machine self.old.core).settings }
-        ensures work { WorksOn C.given K.machine self.old self.new }
+        ensures work { WorksOn C.given K.machine K.comparisons self.old self.new }
         ensures stuck { AreStuck self.new.sender.end self.new.sender.kept.items }
         ensures none { result ≡ true → self.new.outs.given ≡ [] }
         ensures full { result ≡ false → length self.new.sender.kept.items ≡ self.new.sender.ends }
@@ -211,7 +217,7 @@ impl<C: Clock + Drop, K: QueueCore + Drop> Hub<C, K> {
         ensures order { IsInOrder K.machine self.new }
         ensures end { IsSameCore self.old.sender.end self.new.sender.end }
         ensures settings { (K.machine self.new.core).settings ≡ (K.machine self.old.core).settings }
-        ensures work { WorksOn C.given K.machine self.old self.new }
+        ensures work { WorksOn C.given K.machine K.comparisons self.old self.new }
         ensures stuck { AreStuck self.new.sender.end self.new.sender.kept.items }
         ensures none { result ≡ true → self.new.outs.given ≡ [] }
         ensures full { result ≡ false → length self.new.sender.kept.items ≡ self.new.sender.ends }
@@ -245,7 +251,7 @@ impl<C: Clock + Drop, K: QueueCore + Drop> Hub<C, K> {
         ensures order { IsInOrder K.machine self.new }
         ensures end { IsSameCore self.old.sender.end self.new.sender.end }
         ensures settings { (K.machine self.new.core).settings ≡ (K.machine self.old.core).settings }
-        ensures work { WorksOn C.given K.machine self.old self.new }
+        ensures work { WorksOn C.given K.machine K.comparisons self.old self.new }
         ensures stuck { AreStuck self.old.sender.end self.old.sender.kept.items
             → AreStuck self.new.sender.end self.new.sender.kept.items }
         ensures empty { result ≡ false → J.was self.old.sender.end.taken [] }
@@ -276,7 +282,7 @@ impl<C: Clock + Drop, K: QueueCore + Drop> Hub<C, K> {
         ensures order { IsInOrder K.machine self.new }
         ensures end { IsSameCore self.old.sender.end self.new.sender.end }
         ensures settings { (K.machine self.new.core).settings ≡ (K.machine self.old.core).settings }
-        ensures work { WorksOn C.given K.machine self.old self.new }
+        ensures work { WorksOn C.given K.machine K.comparisons self.old self.new }
         ensures stuck { AreStuck self.old.sender.end self.old.sender.kept.items
             → AreStuck self.new.sender.end self.new.sender.kept.items }
         ensures empty { result ≡ false → J.was self.old.sender.end.taken [] }
@@ -297,7 +303,7 @@ impl<C: Clock + Drop, K: QueueCore + Drop> Hub<C, K> {
         requires order { IsInOrder K.machine self.old }
         ensures order { IsInOrder K.machine self.new }
         ensures settings { (K.machine self.new.core).settings ≡ (K.machine self.old.core).settings }
-        ensures taken { TakesStep C.given K.machine self.old seat what.now self.new }
+        ensures taken { TakesStep C.given K.machine K.comparisons self.old seat what.now self.new }
     {
         let concern = concern_of(what);
         self.step(seat, what);
@@ -309,10 +315,11 @@ impl<C: Clock + Drop, K: QueueCore + Drop> Hub<C, K> {
         requires order { IsInOrder K.machine self.old }
         ensures order { IsInOrder K.machine self.new }
         ensures settings { (K.machine self.new.core).settings ≡ (K.machine self.old.core).settings }
-        ensures taken { TakesStep C.given K.machine self.old seat what.now self.new }
+        ensures taken { TakesStep C.given K.machine K.comparisons self.old seat what.now self.new }
     {
         self.mark(seat, what);
         self.hear();
+        self.is_due_known = false;
         self.core
             .step_in_place(self.alloc, self.heard, seat, what, &mut self.outs);
     }
@@ -334,23 +341,41 @@ impl<C: Clock + Drop, K: QueueCore + Drop> Hub<C, K> {
         ensures order { IsInOrder K.machine self.new }
         ensures sender { self.new.sender ≡ self.old.sender }
         ensures settings { (K.machine self.new.core).settings ≡ (K.machine self.old.core).settings }
-        ensures work { WorksOn C.given K.machine self.old self.new }
+        ensures work { WorksOn C.given K.machine K.comparisons self.old self.new }
         ensures due { self.new.due ≡ next_due (K.machine self.old.core) }
         ensures ticks { result ≡ not (is_before self.new.heard (next_due (K.machine self.old.core))) }
         ensures still { result ≡ false → K.machine self.new.core ≡ K.machine self.old.core }
         ensures ticked { result ≡ true → HasTicked K.machine self.old self.new }
     {
-        self.due = self.core.next_due();
-        let Some(due) = self.due else {
+        let Some(due) = self.look() else {
             return false;
         };
         self.hear();
         if due > self.heard {
             return false;
         }
+        self.is_due_known = false;
         self.core
             .step_in_place(self.alloc, self.heard, 0, &Step::Tick, &mut self.outs);
         true
+    }
+
+    // The next moment at which something is due. The core is asked once after a step.
+    fn look(&mut self) -> Option<Moment>
+        requires order { IsInOrder K.machine self.old }
+        ensures order { IsInOrder K.machine self.new }
+        ensures due { result ≡ next_due (K.machine self.old.core) }
+        ensures known { (self.new.due ≡ result) × (self.new.is_due_known ≡ true) }
+        ensures same { K.machine self.new.core ≡ K.machine self.old.core }
+        ensures once { (count : ℕ) → LooksOnce self.old.is_due_known (K.machine self.old.core) count (K.comparisons self.old.core)
+            → IsLookWithin (K.machine self.old.core) count (K.comparisons self.new.core) }
+        ensures rest { self.new ≡ record self.old { core = self.new.core; due = self.new.due; is_due_known = true } }
+    {
+        if !self.is_due_known {
+            self.due = self.core.next_due();
+            self.is_due_known = true;
+        }
+        self.due
     }
 
     // Notes where a step says that no more come.
@@ -399,6 +424,7 @@ impl<C: Clock + Drop, K: QueueCore + Drop> Hub<C, K> {
             clock,
             heard: _,
             due: _,
+            is_due_known: _,
             notices: _,
         } = self;
         (sender.end, core, clock)

@@ -1,5 +1,5 @@
 //! A core's work, from where it stands to its end.
-ghost use Rattle.std.specs.Prelude.{◌≡◌, ◌+◌, length};
+ghost use Rattle.std.specs.Prelude.{ℕ, ◌≡◌, ◌+◌, length};
 ghost use Rattle.bq_job.specs.declared.settings.Settings.{Settings};
 ghost use Rattle.bq_link.specs.EndStates.{IsSameCore};
 ghost use Rattle.bq_hub.specs.CoreWork.{RanToEnd};
@@ -20,9 +20,9 @@ pub fn run_out<R: Wait, C: Clock + Drop, K: QueueCore + Drop>(
     requires intake { hub.sender.end.intake ≡ intake.now.id }
     requires order { IsInOrder K.machine hub }
     ensures end { IsSameCore hub.sender.end result.0 }
-    ensures ran { (settings : Settings) (first : C) → IsAtWork C.given K.machine settings first hub
+    ensures ran { (settings : Settings) (from : ℕ) (first : C) → IsAtWork C.given K.machine K.comparisons settings from first hub
         → length hub.sender.end.rings ≡ settings.seats + 1
-        → RanToEnd C.given settings first result.0 (K.machine result.1) result.2 }
+        → RanToEnd C.given settings first result.0 (K.machine result.1) result.2 from (K.comparisons result.1) }
 {
     let mut hub = hub;
     for _ in rt.forever() {

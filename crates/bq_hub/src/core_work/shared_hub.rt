@@ -33,7 +33,7 @@ pub struct SharedHub<'a, C: Clock, K: QueueCore, O: Origin<C>> {
     ghost of_intake: { hub.sender.end.intake ≡ intake.now.id },
     ghost order: { IsInOrder K.machine hub },
     // That there is a proof of it: two values with the same fields are the same, whichever history it tells.
-    ghost work: { ∥ HasBegun C.given K.machine O.start hub ∥₁ },
+    ghost work: { ∥ HasBegun C.given K.machine K.comparisons O.start hub ∥₁ },
 }
 
 impl<'a, C: Clock + Drop, K: QueueCore + Drop, O: Origin<C>> SharedHub<'a, C, K, O> {
@@ -41,7 +41,7 @@ impl<'a, C: Clock + Drop, K: QueueCore + Drop, O: Origin<C>> SharedHub<'a, C, K,
     pub fn new(hub: Hub<C, K>, intake: &'a Intake<NoTicks>) -> SharedHub<'a, C, K, O>
         requires of_intake { hub.sender.end.intake ≡ intake.now.id }
         requires order { IsInOrder K.machine hub }
-        requires work { HasBegun C.given K.machine O.start hub }
+        requires work { HasBegun C.given K.machine K.comparisons O.start hub }
     {
         SharedHub {
             hub,
@@ -79,7 +79,7 @@ impl<'a, C: Clock + Drop, K: QueueCore + Drop, O: Origin<C>> SharedHub<'a, C, K,
     pub fn into_parts(self) -> (Hub<C, K>, &'a Intake<NoTicks>)
         ensures of_intake { result.0.sender.end.intake ≡ result.1.now.id }
         ensures order { IsInOrder K.machine result.0 }
-        ensures work { HasBegun C.given K.machine O.start result.0 }
+        ensures work { HasBegun C.given K.machine K.comparisons O.start result.0 }
     {
         let SharedHub {
             hub,

@@ -25,6 +25,7 @@ pub struct CorePost<'a, C, K: QueueCore> {
     ghost of_intake: { end.intake ≡ intake.now.id },
     ghost new_end: { IsNewCore (config.seats + 1) end },
     ghost new_core: { K.machine core ≡ new_machine config },
+    ghost none_compared: { K.comparisons core ≡ 0 },
     ghost none_given: { outs.given ≡ [] },
     ghost places: { config.seats < outs.most },
     ghost new_room: { IsNewRoom (config.seats + 1) room },

@@ -48,7 +48,7 @@ impl<'a, C: Clock + Drop, K: QueueCore + Drop, O: Origin<C>> LockedCore<'a, C, K
     /// Does what is left once no thread shares it any more. Its end, the core and the clock come back.
     pub fn run_out<R: Wait>(self, rt: &R) -> (CoreEnd, K, C)
         ensures { (clock : C) (settings : Settings) (end : CoreState) → O.start ≡ Some (clock, (settings, end))
-            → IsCoreOver C.given settings end clock result.0 (K.machine result.1) result.2 }
+            → IsCoreOver C.given settings end clock result.0 (K.machine result.1) (K.comparisons result.1) result.2 }
     {
         let LockedCore {
             lock,

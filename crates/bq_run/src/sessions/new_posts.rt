@@ -34,6 +34,7 @@ impl<K: QueueCore + Drop> NewCore<K> {
     /// All memory but that for jobs is asked for here.
     pub fn new(alloc: Global, config: Config) -> Result<NewCore<K>, RunFault>
         ensures core { IfOk result (λ new. K.machine new.core ≡ new_machine config) }
+        ensures none_compared { IfOk result (λ new. K.comparisons new.core ≡ 0) }
         ensures outs { IfOk result (λ new. (new.outs.given ≡ []) × (config.seats < new.outs.most)) }
         ensures room { IfOk result (λ new. IsNewRoom (config.seats + 1) new.room) }
         ensures bad_configuration { IsErrOf result RunFault.BadConfiguration ↔ IsTrue (not (are_in_range config)) }
@@ -72,6 +73,7 @@ pub fn new_posts<
 ) -> Result<Posts<'a, D, C, K>, NoMemory>
     requires range { IsTrue (are_in_range config) }
     requires core { K.machine new.core ≡ new_machine config }
+    requires none_compared { K.comparisons new.core ≡ 0 }
     requires outs { (new.outs.given ≡ []) × (config.seats < new.outs.most) }
     requires room { IsNewRoom (config.seats + 1) new.room }
     requires of_intake { core_end.intake ≡ intake.now.id }

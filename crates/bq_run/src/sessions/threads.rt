@@ -64,7 +64,7 @@ pub fn serve_in_scope<
         IfOk result (λ r. AreServed at posts.entry.max_job_size firsts r.ends.items r.doors.items) }
     ensures same { IfOk result (λ r. AreSame D.same (last_first (map (λ p. p.door) posts.entry.seats.items)) r.doors.items) }
     ensures core { let core = posts.entry.core in
-        IfOk result (λ r. IsCoreOver C.given core.config core.end core.clock r.core_end (K.machine r.core) r.clock) }
+        IfOk result (λ r. IsCoreOver C.given core.config core.end core.clock r.core_end (K.machine r.core) (K.comparisons r.core) r.clock) }
     ensures control { IfOk result (λ r. IsControlOver I.remaining posts.entry.control.end control r.control_end r.control) }
 {
     let Posts {

@@ -72,7 +72,7 @@ settle-requires-clause-pairs g c =
     let all = c.in-Ok.ends.items in
     let firsts : List SeatState = last_first (map (λ q. q.end) posts.seats.items) in
     let lasts = ended.ends.items in
-    let o = core_over_of g.C.Clock.given config _ c.in-Ok.core_end _ c.args.clock _ ended.core_end (g.K.QueueCore.machine ended.core) ended.clock p.config p.core p.clock v.core in
+    let o = core_over_of g.C.Clock.given config _ c.in-Ok.core_end _ c.args.clock _ ended.core_end (g.K.QueueCore.machine ended.core) (g.K.QueueCore.comparisons ended.core) ended.clock p.config p.core p.clock v.core in
     let s = served_of at config.max_job_size _ firsts lasts ended.doors.items p.limit v.served in
     let k = v.control in
     let items_are = c.as_mut_slice.ensures.value ∙ c.in-Ok-push.ensures.items in
@@ -90,7 +90,7 @@ returns-clause-served g c =
     let all = c.in-Ok.ends.items in
     let firsts : List SeatState = last_first (map (λ q. q.end) posts.seats.items) in
     let lasts = ended.ends.items in
-    let o = core_over_of g.C.Clock.given config _ c.in-Ok.core_end _ c.args.clock _ ended.core_end (g.K.QueueCore.machine ended.core) ended.clock p.config p.core p.clock v.core in
+    let o = core_over_of g.C.Clock.given config _ c.in-Ok.core_end _ c.args.clock _ ended.core_end (g.K.QueueCore.machine ended.core) (g.K.QueueCore.comparisons ended.core) ended.clock p.config p.core p.clock v.core in
     let s = served_of at config.max_job_size _ firsts lasts ended.doors.items p.limit v.served in
     let k = v.control in
     let doored = still_doored at config.max_job_size config.seats all firsts lasts ended.doors.items posts.control.end p.ends c.in-Ok.ensures.seats.0 s in
@@ -99,8 +99,8 @@ returns-clause-served g c =
     let ends = c.settle.new.ends in
     let kept = subst (λ (xs : List SeatState). AreStill xs ends) items_are c.settle.ensures.ends in
     let done =
-    all_done at g.C.Clock.given g.I.Read.remaining config ended.doors.items c.in-Ok.core_end ended.core_end core firsts lasts ends posts.control.end ended.control_end c.args.clock ended.clock c.args.control ended.control (g.K.QueueCore.machine ended.core) doored s o k c.settle.ensures.core kept c.settle.ensures.settled in
-    let j = run_joined at config o.readings ended.control.read ended.control.failed core (g.K.QueueCore.machine ended.core) ends ended.doors.items done in
+    all_done at g.C.Clock.given g.I.Read.remaining config ended.doors.items c.in-Ok.core_end ended.core_end core firsts lasts ends posts.control.end ended.control_end c.args.clock ended.clock c.args.control ended.control (g.K.QueueCore.machine ended.core) (g.K.QueueCore.comparisons ended.core) doored s o k c.settle.ensures.core kept c.settle.ensures.settled in
+    let j = run_joined at config o.readings ended.control.read ended.control.failed core (g.K.QueueCore.machine ended.core) (g.K.QueueCore.comparisons ended.core) ends ended.doors.items done in
     let many : length ends ≡ c.push.new.self.len = let a = kept.many in let b = c.in-Ok-push.ensures.len in let d = length-append lasts (ended.control_end ∷ []) in omega arith in
     let ends_are = with_items_is c.push.new.self ends many in
     record {
@@ -111,6 +111,7 @@ returns-clause-served g c =
       history = j.history;
       linked = subst (λ (xs : List SeatState). IsLinked config.seats j.history.history j.history.given core xs) (sym ends_are) j.linked;
       of_intake = c.settle.ensures.core.same.0 ∙ o.same.0 ∙ c.in-Ok.ensures.core.0;
+      compared = j.compared;
     }
 
 pub returns-clause-at_end : goal.returns-clause-at_end
@@ -124,7 +125,7 @@ returns-clause-at_end g c =
     let all = c.in-Ok.ends.items in
     let firsts : List SeatState = last_first (map (λ q. q.end) posts.seats.items) in
     let lasts = ended.ends.items in
-    let o = core_over_of g.C.Clock.given config _ c.in-Ok.core_end _ c.args.clock _ ended.core_end (g.K.QueueCore.machine ended.core) ended.clock p.config p.core p.clock v.core in
+    let o = core_over_of g.C.Clock.given config _ c.in-Ok.core_end _ c.args.clock _ ended.core_end (g.K.QueueCore.machine ended.core) (g.K.QueueCore.comparisons ended.core) ended.clock p.config p.core p.clock v.core in
     let s = served_of at config.max_job_size _ firsts lasts ended.doors.items p.limit v.served in
     let k = v.control in
     let doored = still_doored at config.max_job_size config.seats all firsts lasts ended.doors.items posts.control.end p.ends c.in-Ok.ensures.seats.0 s in
@@ -133,8 +134,8 @@ returns-clause-at_end g c =
     let ends = c.settle.new.ends in
     let kept = subst (λ (xs : List SeatState). AreStill xs ends) items_are c.settle.ensures.ends in
     let done =
-    all_done at g.C.Clock.given g.I.Read.remaining config ended.doors.items c.in-Ok.core_end ended.core_end core firsts lasts ends posts.control.end ended.control_end c.args.clock ended.clock c.args.control ended.control (g.K.QueueCore.machine ended.core) doored s o k c.settle.ensures.core kept c.settle.ensures.settled in
-    all_at_end at config o.readings ended.control.read ended.control.failed core (g.K.QueueCore.machine ended.core) ends ended.doors.items done
+    all_done at g.C.Clock.given g.I.Read.remaining config ended.doors.items c.in-Ok.core_end ended.core_end core firsts lasts ends posts.control.end ended.control_end c.args.clock ended.clock c.args.control ended.control (g.K.QueueCore.machine ended.core) (g.K.QueueCore.comparisons ended.core) doored s o k c.settle.ensures.core kept c.settle.ensures.settled in
+    all_at_end at config o.readings ended.control.read ended.control.failed core (g.K.QueueCore.machine ended.core) (g.K.QueueCore.comparisons ended.core) ends ended.doors.items done
 
 pub returns-clause-settings : goal.returns-clause-settings
 returns-clause-settings g c =
@@ -147,7 +148,7 @@ returns-clause-settings g c =
     let all = c.in-Ok.ends.items in
     let firsts : List SeatState = last_first (map (λ q. q.end) posts.seats.items) in
     let lasts = ended.ends.items in
-    let o = core_over_of g.C.Clock.given config _ c.in-Ok.core_end _ c.args.clock _ ended.core_end (g.K.QueueCore.machine ended.core) ended.clock p.config p.core p.clock v.core in
+    let o = core_over_of g.C.Clock.given config _ c.in-Ok.core_end _ c.args.clock _ ended.core_end (g.K.QueueCore.machine ended.core) (g.K.QueueCore.comparisons ended.core) ended.clock p.config p.core p.clock v.core in
     let s = served_of at config.max_job_size _ firsts lasts ended.doors.items p.limit v.served in
     let k = v.control in
-    core_keeps c.steps_keep_settings.ensures config o.readings ended.core_end (g.K.QueueCore.machine ended.core) o.done
+    core_keeps c.steps_keep_settings.ensures config o.readings ended.core_end (g.K.QueueCore.machine ended.core) (g.K.QueueCore.comparisons ended.core) o.done

@@ -7,5 +7,5 @@ invariant-loop g l = record {
   iterator : (goal.iterator-loop g).can_next l.iterator' × (goal.iterator-loop g).is_finite l.iterator';
   order : IsInOrder g.K.QueueCore.machine l.hub;
   end : IsSameCore l.fn.hub.sender.end l.hub.sender.end;
-  work : WorksOn g.C.Clock.given g.K.QueueCore.machine l.fn.hub l.hub;
+  work : WorksOn g.C.Clock.given g.K.QueueCore.machine g.K.QueueCore.comparisons l.fn.hub l.hub;
 }

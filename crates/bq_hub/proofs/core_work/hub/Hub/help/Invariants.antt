@@ -8,5 +8,5 @@ invariant-loop g l = record {
   order : IsInOrder g.K.QueueCore.machine l.self;
   end : IsSameCore l.fn.self.sender.end l.self.sender.end;
   settings : (g.K.QueueCore.machine l.self.core).settings ≡ (g.K.QueueCore.machine l.fn.self.core).settings;
-  work : WorksOn g.C.Clock.given g.K.QueueCore.machine l.fn.self l.self;
+  work : WorksOn g.C.Clock.given g.K.QueueCore.machine g.K.QueueCore.comparisons l.fn.self l.self;
 }

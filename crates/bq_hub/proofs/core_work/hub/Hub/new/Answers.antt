@@ -1,4 +1,4 @@
-use Rattle.std.proofs.Common.{◌≡◌, ◌∙◌, ◌+◌, ◌≤◌, [], ap, arith, deque_capacity, false, length, refl, subst, sym}
+use Rattle.std.proofs.Common.{◌≡◌, ◌∙◌, ◌+◌, ◌≤◌, [], ap, arith, deque_capacity, false, true≢false, length, refl, subst, sym}
 use Rattle.std.proofs.lemmas.List.{length-replicate}
 use Rattle.bq_hub.proofs.WorkedLemmas.{known_none, none_pending, worked_none}
 use Rattle.bq_hub.proofs.core_work.hub.Hub.new.Goals as goal
@@ -22,12 +22,13 @@ returns-clause-order g c =
       };
       many = ap length (flags ∙ none) ∙ length-replicate ends false ∙ sym many;
       all = known_none c.none.result (g.K.QueueCore.machine c.args.core).settings.seats (flags ∙ none) c.none.ensures.all;
+      due = λ known. absurd (true≢false (sym known));
     }
 
 pub returns-clause-work : goal.returns-clause-work
 returns-clause-work g c = (
   [],
   g.met.C.Clock.none_given c.args.clock,
-  worked_none (g.K.QueueCore.machine c.args.core).settings _ ((g.K.QueueCore.machine c.args.core).settings.seats + 1) c.requires.core refl c.requires.ends
-      (none_pending c.args.room.kept.items c.args.outs.given c.requires.room.none_kept c.requires.none_given) (ap (λ v. v.items) c.none.ensures.flags ∙ c.requires.room.none_gone),
+  worked_none (g.K.QueueCore.machine c.args.core).settings (g.K.QueueCore.comparisons c.args.core) _ ((g.K.QueueCore.machine c.args.core).settings.seats + 1) c.requires.core refl c.requires.ends
+      (none_pending c.args.room.kept.items c.args.outs.given c.requires.room.none_kept c.requires.none_given) (ap (λ v. v.items) c.none.ensures.flags ∙ c.requires.room.none_gone) refl refl,
 )

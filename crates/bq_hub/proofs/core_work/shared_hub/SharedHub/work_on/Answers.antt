@@ -9,5 +9,5 @@ invariant_of-self g c =
     let old = c.args.self.now in record {
       of_intake = h.end.0 ∙ old.of_intake;
       order = h.order;
-      work = ∥∥₁_elim old.work ∥∥₁_prop (λ w. ∣ begun_on g.C.Clock.given g.K.QueueCore.machine g.O.Origin.start old.hub c.help.new.self w h.end h.settings h.work ∣₁);
+      work = ∥∥₁_elim old.work ∥∥₁_prop (λ w. ∣ begun_on g.C.Clock.given g.K.QueueCore.machine g.K.QueueCore.comparisons g.O.Origin.start old.hub c.help.new.self w h.end h.settings h.work ∣₁);
     }
