@@ -4,9 +4,9 @@ import time
 from programs import same
 from servers import Server, awaits
 
-# How many bytes of memory a seat may take to which no client has come. What it reads through and what it writes from
-# are 64 KB each.
-OF_A_SEAT = 128 << 10
+# How many bytes of memory a seat may take to which no client has come: fewer than what it reads through has, or what
+# it writes large answers from.
+OF_A_SEAT = 64 << 10
 
 
 def at_rest(bqd, seats):
@@ -19,6 +19,6 @@ def at_rest(bqd, seats):
 
 
 def run_seats_without_clients(bqd):
-    """Seats to which no client has come take less memory than their buffers have room for."""
+    """Seats to which no client has come take less memory than either of their buffers has room for."""
     more = 64
     same(at_rest(bqd, 1 + more) - at_rest(bqd, 1) < more * OF_A_SEAT, True)

@@ -2,14 +2,16 @@ ghost use Rattle.std.specs.Prelude.{◌≡◌, ◌≤◌, ◌+◌, ◌++◌, tru
 ghost use Rattle.bq_job.specs.texts.AnswerText.{answer_text};
 ghost use Rattle.bq_attend.specs.Writing.{Writes};
 
+use crate::room::Room;
 use bq_job::Answer;
 use bq_line::line::Line;
+use bq_seat::PIECE_ROOM;
 use bq_wire::{HeadBuf, answer_body, answer_head, answer_tail, push_bytes};
 
 /// Writes the text of an answer, and hands on what the line holds back. Whether all of it went well.
 ///
 /// As much of it as the room holds goes out in one write. What lies in the room before and after has no meaning.
-pub fn write_answer<L: Line>(line: &mut L, answer: &Answer, room: &mut [u8]) -> bool
+pub fn write_answer<L: Line>(line: &mut L, answer: &Answer, room: &mut Room) -> bool
     ensures { Writes (answer_text answer.now) (L.seen line.old) (L.seen line.new) result }
 {
     if !write_text(line, answer, room) {
@@ -23,7 +25,7 @@ pub fn write_answer<L: Line>(line: &mut L, answer: &Answer, room: &mut [u8]) -> 
 
 // Most texts have few bytes behind the head, or none. These go out from the room of the head, so that no
 // other has to be made.
-fn write_text<L: Line>(line: &mut L, answer: &Answer, room: &mut [u8]) -> bool
+fn write_text<L: Line>(line: &mut L, answer: &Answer, room: &mut Room) -> bool
     ensures { Writes (answer_text answer.now) (L.seen line.old) (L.seen line.new) result }
 {
     let mut head = HeadBuf::new();
@@ -55,8 +57,25 @@ fn write_behind<L: Line>(line: &mut L, head: &mut HeadBuf, body: &[u8], tail: &[
     write_all(line, head.as_slice())
 }
 
-// The parts of a text that the room holds go out in one write, and a longer one in as few as the room allows.
-fn write_long<L: Line>(line: &mut L, room: &mut [u8], head: &[u8], body: &[u8], tail: &[u8]) -> bool
+// Of the others most are joined in a piece. The room for answers isn't touched for these.
+fn write_long<L: Line>(line: &mut L, room: &mut Room, head: &[u8], body: &[u8], tail: &[u8]) -> bool
+    ensures { Writes (head.now ++ body.now ++ tail.now) (L.seen line.old) (L.seen line.new) result }
+{
+    if room.answer.is_none() || fits(PIECE_ROOM, head, body, tail) {
+        write_joined(line, &mut room.piece, head, body, tail)
+    } else {
+        write_joined(line, room.answer.bytes(), head, body, tail)
+    }
+}
+
+// The parts of a text that this place holds go out in one write, and a longer one in as few as the place allows.
+fn write_joined<L: Line>(
+    line: &mut L,
+    room: &mut [u8],
+    head: &[u8],
+    body: &[u8],
+    tail: &[u8],
+) -> bool
     ensures { Writes (head.now ++ body.now ++ tail.now) (L.seen line.old) (L.seen line.new) result }
 {
     if fits(room.len(), head, body, tail) {

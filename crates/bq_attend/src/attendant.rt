@@ -6,8 +6,9 @@ ghost use Rattle.bq_seat.specs.SeatStands.{awaited};
 ghost use Rattle.bq_seat.specs.declared.machine.SeatMachine.{SeatMachine};
 ghost use Rattle.bq_attend.specs.Tending.{DoorSeen, GoesOn, IsPlaced, Tends, attendant, door_seen};
 
-use crate::client::{Room, carry_out};
+use crate::client::carry_out;
 use crate::link::Link;
+use crate::room::Room;
 use bq_job::{LARGEST_BODY, LineEnd, NoMemory, Step};
 use bq_line::Door;
 use bq_line::line::Line;

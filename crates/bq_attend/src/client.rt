@@ -8,17 +8,11 @@ ghost use Rattle.bq_attend.specs.Carried.{Carried, HasGone};
 
 use crate::answer_write::write_answer;
 use crate::link::Link;
+use crate::room::Room;
 use bq_line::line::{Line, is_nothing_yet};
 use bq_seat::{Action, Event, PIECE_ROOM, SeatMachine};
 use std::alloc::Global;
 use std::io;
-
-/// How many bytes a room has.
-pub const ROOM_BYTES: usize = 65536;
-
-/// Room for one read of a line, and for an answer that goes out in one write. It is made once a run, since a new
-/// one would be filled with zeros first.
-pub type Room = [u8; ROOM_BYTES];
 
 /// Carries out one action of a seat's machine, in whose place then lies what the machine does next. Where a line
 /// is over, nothing is done. What lies in the room before and after has no meaning.
@@ -47,7 +41,7 @@ pub fn carry_out<L: Line, K: Link>(
                 false
             }
         }
-        Action::Read => read(alloc, machine, action, line, &mut room[..PIECE_ROOM]),
+        Action::Read => read(alloc, machine, action, line, &mut room.piece),
         Action::PollMail => {
             if link.mail_in_place(action) {
                 machine.mail_in_place(action);

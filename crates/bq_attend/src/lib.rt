@@ -10,3 +10,4 @@ pub mod client;
 pub mod control;
 pub mod control_line;
 pub mod link;
+pub mod room;

@@ -7,8 +7,9 @@ ghost use Rattle.bq_desk.specs.DeskOf.{WentAt, state_of};
 ghost use Rattle.bq_desk.specs.DeskState.{HasMails};
 
 use crate::desk::Desk;
-use bq_attend::client::{Room, carry_out};
+use bq_attend::client::carry_out;
 use bq_attend::link::Link;
+use bq_attend::room::Room;
 use bq_job::{Answer, Seat, Step};
 use bq_line::clock::Clock;
 use bq_line::line::Line;

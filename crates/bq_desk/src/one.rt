@@ -5,7 +5,7 @@ ghost use Rattle.bq_desk.specs.RunSettings.{is_lone};
 
 use crate::desk::Desk;
 use crate::desk_seat::act;
-use bq_attend::client::{ROOM_BYTES, Room};
+use bq_attend::room::{AnswerRoom, Room};
 use bq_core::Config;
 use bq_job::{LineEnd, Seat};
 use bq_line::clock::Clock;
@@ -59,8 +59,11 @@ pub fn run_one<R: Wait, L: Line + Drop, C: Clock + Drop>(
     let Ok(mut machine) = SeatMachine::new(alloc, config.max_job_size) else {
         return Err(RunFault::NoMemory);
     };
+    let Ok(room) = AnswerRoom::new(alloc) else {
+        return Err(RunFault::NoMemory);
+    };
+    let mut room = Room::new(room);
     let bell = Parker::new();
-    let room: &mut Room = &mut [0; ROOM_BYTES];
     let mut action = machine.on(alloc, Event::Opened);
     for _ in rt.forever() {
         if let Action::LineOver(end) = action {
@@ -77,7 +80,7 @@ pub fn run_one<R: Wait, L: Line + Drop, C: Clock + Drop>(
             &mut line,
             &mut desk,
             ONLY_SEAT,
-            room,
+            &mut room,
         );
         rest_between_looks(rt, &bell, looked, &action);
     }

@@ -15,10 +15,10 @@ ghost use Rattle.bq_ends.specs.Ends.{EndWent, LinkWent};
 
 use crate::shared_core::SharedCore;
 use bq_attend::attendant::Attendant;
-use bq_attend::client::Room;
 use bq_attend::control::{ControlLink, submit_control};
 use bq_attend::control_line::ControlInput;
 use bq_attend::link::Link;
+use bq_attend::room::Room;
 use bq_job::{Answer, Step};
 use bq_line::Door;
 use bq_line::line::Line;

@@ -9,7 +9,7 @@ ghost use Rattle.bq_ends.specs.Ends.{IsNewEnd};
 use crate::end_seat::{Pace, attend_at};
 use crate::shared_core::SharedCore;
 use bq_attend::attendant::{Attendant, Place};
-use bq_attend::client::{ROOM_BYTES, Room};
+use bq_attend::room::{AnswerRoom, Room};
 use bq_line::Door;
 use bq_line::line::Line;
 use bq_link::{Intake, NoTicks, SeatEnd};
@@ -33,6 +33,7 @@ pub fn seat_work<R: Wait, S: SharedCore, L: Line + Drop, D: Door<Line = L> + Dro
     core: &S,
     end: SeatEnd,
     machine: SeatMachine,
+    room: AnswerRoom,
     door: D,
 ) -> (SeatEnd, D)
     requires intake { end.intake ≡ intake.now.id }
@@ -52,7 +53,7 @@ pub fn seat_work<R: Wait, S: SharedCore, L: Line + Drop, D: Door<Line = L> + Dro
         machine,
         place: Place::Between,
     };
-    let room: &mut Room = &mut [0; ROOM_BYTES];
+    let mut room = Room::new(room);
     let mut pace = Pace::new();
     for _ in rt.forever() {
         if attendant.is_done() {
@@ -66,7 +67,7 @@ pub fn seat_work<R: Wait, S: SharedCore, L: Line + Drop, D: Door<Line = L> + Dro
             &mut end,
             &mut attendant,
             &mut door,
-            room,
+            &mut room,
             &mut pace,
         ) {
             pause(

@@ -11,7 +11,7 @@ ghost use Rattle.bq_attend.specs.Tending.{IsNewDoor, door_seen};
 use crate::bells::Bells;
 use crate::shared_desk::{SharedDesk, SharedSeat};
 use bq_attend::attendant::Attendant;
-use bq_attend::client::{ROOM_BYTES, Room};
+use bq_attend::room::{AnswerRoom, Room};
 use bq_job::{NoMemory, Seat};
 use bq_line::Door;
 use bq_line::line::Line;
@@ -90,12 +90,12 @@ impl<L: Line + Drop, D: Door<Line = L> + Drop> Post<L, D> {
             at_hand: None,
             rests: false,
         };
-        let room: &mut Room = &mut [0; ROOM_BYTES];
+        let mut room = Room::new(AnswerRoom::none(alloc));
         for _ in rt.forever() {
             if attendant.is_done() {
                 return Some(door);
             }
-            if !attendant.go_on(alloc, &mut door, &mut link, room) {
+            if !attendant.go_on(alloc, &mut door, &mut link, &mut room) {
                 thread::yield_now();
             }
         }

@@ -7,6 +7,7 @@ ghost use Rattle.bq_attend.specs.Tending.{IsDoorServed, IsNewDoor, door_seen};
 ghost use Rattle.bq_link.specs.EndStates.{IsSameSeat};
 ghost use Rattle.bq_ends.specs.Ends.{IsNewEnd};
 
+use bq_attend::room::AnswerRoom;
 use bq_ends::seat_work::seat_work;
 use bq_ends::shared_core::SharedCore;
 use bq_job::NoMemory;
@@ -25,6 +26,7 @@ pub struct SeatPost<'a, D: Door> {
     intake: &'a Intake<NoTicks>,
     pub end: SeatEnd,
     machine: SeatMachine,
+    room: AnswerRoom,
     pub door: D,
     pub max_job_size: u32,
     ghost of_intake: { end.intake ≡ intake.now.id },
@@ -52,11 +54,13 @@ impl<'a, L: Line + Drop, D: Door<Line = L> + Drop> SeatPost<'a, D> {
         ensures door { IfOk result (λ post. post.door ≡ door) }
     {
         let machine = SeatMachine::new(alloc, max_job_size)?;
+        let room = AnswerRoom::new(alloc)?;
         Ok(SeatPost {
             alloc,
             intake,
             end,
             machine,
+            room,
             door,
             max_job_size,
         })
@@ -79,11 +83,12 @@ impl<'a, L: Line + Drop, D: Door<Line = L> + Drop> SeatPost<'a, D> {
             intake,
             end,
             machine,
+            room,
             door,
             max_job_size: _,
         } = self;
         if start.wait(rt) {
-            Some(seat_work(rt, alloc, intake, core, end, machine, door))
+            Some(seat_work(rt, alloc, intake, core, end, machine, room, door))
         } else {
             None
         }
