@@ -67,7 +67,7 @@ class Server:
 
 
 def measured(load, words_of, told, span, pin):
-    """Operations a second, processor time an operation, and two percentiles of a batch's time."""
+    """Operations a second, processor time an operation, and three percentiles of a batch's time."""
     port = free_port()
     server = Server(words_of(port), port, pin)
     try:
@@ -76,8 +76,8 @@ def measured(load, words_of, told, span, pin):
         ran = subprocess.run(pinned + [load, "127.0.0.1", str(port), told[0], str(told[1]), str(span)], capture_output=True, text=True)
         if ran.returncode:
             sys.exit(f"speed: {told[0]}: {ran.stderr.strip()}")
-        many, seconds, median, late = (float(it) for it in ran.stdout.split())
-        return many / seconds, (server.processor_seconds() - begun) / max(many, 1), median, late
+        many, seconds, *times = (float(it) for it in ran.stdout.split())
+        return many / seconds, (server.processor_seconds() - begun) / max(many, 1), *times
     finally:
         server.stop()
 
@@ -109,16 +109,16 @@ def ratios(rows, name, field):
 
 
 def table(rows):
-    lines = ["| load | operations (quartiles) | processor time an operation | time of a batch, median | 99th percentile |", "|---|---|---|---|---|"]
+    lines = ["| load | operations (quartiles) | processor time an operation | time of a batch, median | 99th percentile | 99.9th |", "|---|---|---|---|---|---|"]
     for name, _, words in SCENARIOS:
-        columns = [ratios(rows, name, field) for field in (3, 4, 5, 6)]
+        columns = [ratios(rows, name, field) for field in (3, 4, 5, 6, 7)]
         if not columns[0]:
             continue
         low, high = columns[0][len(columns[0]) // 4], columns[0][len(columns[0]) * 3 // 4]
         middle = [f"{statistics.median(it):.2f}" if it else "" for it in columns]
         # A hand-off's number of operations is that of the load.
         operations = "" if name == "hand-off" else f"{middle[0]} ({low:.2f} to {high:.2f})"
-        lines.append(f"| {words} | {operations} | {middle[1]} | {middle[2]} | {middle[3]} |")
+        lines.append(f"| {words} | {operations} | {middle[1]} | {middle[2]} | {middle[3]} | {middle[4]} |")
     return "\n".join(lines)
 
 

@@ -3,9 +3,9 @@
  *
  *   load HOST PORT SCENARIO NUMBER MILLISECONDS
  *
- * It prints how many commands were answered, the seconds that they took, and the median and the 99th
- * percentile of the microseconds that a batch took. Any other answer than the one that is due ends it with
- * status 3.
+ * It prints how many commands were answered, the seconds that they took, and the median, the 99th and the
+ * 99.9th percentile of the microseconds that a batch took. Any other answer than the one that is due ends it
+ * with status 3.
  */
 #include <arpa/inet.h>
 #include <errno.h>
@@ -301,7 +301,7 @@ int main(int argc, char **argv) {
     else serve_until(began + span, from);
     double took = now() - began;
     qsort(times, timed, sizeof *times, is_less);
-    printf("%llu %.6f %.1f %.1f\n", (unsigned long long)commands, took, timed ? times[timed / 2] : 0,
-           timed ? times[timed * 99 / 100] : 0);
+    printf("%llu %.6f %.1f %.1f %.1f\n", (unsigned long long)commands, took, timed ? times[timed / 2] : 0,
+           timed ? times[timed * 99 / 100] : 0, timed ? times[timed * 999 / 1000] : 0);
     return 0;
 }
