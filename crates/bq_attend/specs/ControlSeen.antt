@@ -1,5 +1,5 @@
 -- What is read of a control line.
-use Rattle.std.specs.Prelude.{ℕ, Bool, true, false, List, [], ◌∷◌, ◌++◌, Option, IfSome}
+use Rattle.std.specs.Prelude.{ℕ, ◌≡◌, Bool, true, false, List, [], ◌∷◌, ◌++◌, Option, IfSome}
 use Rattle.std.specs.Io.KnownBytes.{Consumes, IsAtEnd}
 use Rattle.bq_attend.specs.declared.control_line.Heard.{Heard}
 use Rattle.bq_attend.specs.declared.control_line.Heard.TheVariants as hears
@@ -29,3 +29,8 @@ HasHeard before after (hears.Byte byte) = Consumes before after (byte ∷ [])
 HasHeard before after hears.NothingYet = Consumes before after []
 HasHeard before after hears.End = Consumes before after [] × IfSome before (λ bytes. IsAtEnd after)
 HasHeard before after hears.Fault = Consumes before after []
+
+-- What may be heard of a reader: a fault only where a read of it may fail.
+abbrev pub MayHear : Bool → Heard → Type 0
+MayHear may_fail hears.Fault = may_fail ≡ true
+MayHear may_fail _ = Unit {0}

@@ -1,5 +1,5 @@
 //! The control line, whose lines `drain` begin the drain.
-ghost use Rattle.std.specs.Prelude.{◌≡◌, ◌++◌, ◌∷◌, [], List, replicate, take, IfErr};
+ghost use Rattle.std.specs.Prelude.{◌≡◌, ◌++◌, ◌∷◌, [], List, replicate, take, true, IfErr};
 ghost use Rattle.bq_job.specs.promise.ControlDid.{IsControlDone, are_same, drain_word, drains, one_if};
 ghost use Rattle.bq_job.specs.declared.step.Step.{Step};
 ghost use Rattle.bq_attend.specs.ControlRead.{HasRead, IsOver, IsReadToEnd, SubmitsOn};
@@ -120,6 +120,7 @@ fn submit_drains<R: Wait, I: ControlInput, K: ControlLink>(rt: &R, control: &mut
     ensures ready { K.is_ready link.new }
     ensures over { IsOver (I.seen control.new) }
     ensures read { IsReadToEnd (I.remaining control.old) (I.remaining control.new) (I.seen control.new).text (I.seen control.new).failed }
+    ensures fault { (I.seen control.new).failed ≡ true → I.may_fail control.old ≡ true }
     ensures went { (first : K) (before : List Step) → K.went first before link.old →
         K.went first (before ++ replicate (drains (I.seen control.new).text (I.seen control.new).failed) Step.Drain) link.new }
 {
@@ -153,6 +154,8 @@ pub fn submit_control<R: Wait, I: ControlInput, K: ControlLink>(
     // The end of the input was met, or it failed: which of them, and after which bytes, it tells itself.
     ensures over { IsOver (I.seen control.new) }
     ensures read { IsReadToEnd (I.remaining control.old) (I.remaining control.new) (I.seen control.new).text (I.seen control.new).failed }
+    // It failed only where a read of it may fail.
+    ensures fault { (I.seen control.new).failed ≡ true → I.may_fail control.old ≡ true }
     ensures done { (submitted : List Step) × IsControlDone (I.seen control.new).text (I.seen control.new).failed submitted
         × ((first : K) (before : List Step) → K.went first before link.old → K.went first (before ++ submitted) link.new) }
 {

@@ -1,9 +1,9 @@
 //! What is read of the control line.
-ghost use Rattle.std.specs.Prelude.{◌≡◌, ℕ, Option, List, [], false};
-ghost use Rattle.bq_attend.specs.ControlSeen.{ControlSeen, HasHeard, after_heard};
+ghost use Rattle.std.specs.Prelude.{◌≡◌, ℕ, Bool, Option, List, [], false};
+ghost use Rattle.bq_attend.specs.ControlSeen.{ControlSeen, HasHeard, MayHear, after_heard};
 
-use bq_line::line::{ByteRecord, is_nothing_yet};
-use std::io::BufRead;
+use crate::control_reader::ControlReader;
+use bq_line::line::ByteRecord;
 
 /// What one read of a control line came to.
 #[derive(Clone, Copy)]
@@ -27,10 +27,15 @@ pub trait ControlInput {
     /// The bytes that it has left, where they are known.
     ghost remaining: { Self → Option (List ℕ) };
 
-    /// Reads one byte.
+    /// Whether a read of it may fail.
+    ghost may_fail: { Self → Bool };
+
+    /// Reads one byte. A fault is told only where a read may fail.
     fn next(&mut self) -> Heard
         ensures seen { seen self.new ≡ after_heard result (seen self.old) }
-        ensures left { HasHeard (remaining self.old) (remaining self.new) result };
+        ensures left { HasHeard (remaining self.old) (remaining self.new) result }
+        ensures fault { MayHear (may_fail self.old) result }
+        ensures same { may_fail self.new ≡ may_fail self.old };
 }
 
 /// A control line over any reader. Beside the reader it keeps the two marks, and a record of the bytes that
@@ -64,13 +69,15 @@ impl<I> ControlLine<I> {
     }
 }
 
-impl<I: BufRead> ControlInput for ControlLine<I> {
+impl<I: ControlReader> ControlInput for ControlLine<I> {
     ghost seen = { λ c. record { text = c.read; ended = c.ended; failed = c.failed } };
 
     ghost remaining = { λ c. I.remaining c.reader };
 
+    ghost may_fail = { λ c. I.may_fail c.reader };
+
     fn next(&mut self) -> Heard {
-        let heard = next_of(&mut self.reader);
+        let heard = self.reader.next_byte();
         match heard {
             Heard::Byte(byte) => self.read.note(&[byte]),
             Heard::NothingYet => {}
@@ -79,26 +86,4 @@ impl<I: BufRead> ControlInput for ControlLine<I> {
         }
         heard
     }
-}
-
-// The next byte of a reader.
-fn next_of<I: BufRead>(reader: &mut I) -> Heard
-    ensures { HasHeard (I.remaining reader.old) (I.remaining reader.new) result }
-{
-    let available = match reader.fill_buf() {
-        Ok(available) => available,
-        Err(e) => {
-            return if is_nothing_yet(&e) {
-                Heard::NothingYet
-            } else {
-                Heard::Fault
-            };
-        }
-    };
-    if available.is_empty() {
-        return Heard::End;
-    }
-    let byte = available[0];
-    reader.consume(1);
-    Heard::Byte(byte)
 }

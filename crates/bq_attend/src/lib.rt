@@ -9,5 +9,6 @@ pub mod attendant;
 pub mod client;
 pub mod control;
 pub mod control_line;
+pub mod control_reader;
 pub mod link;
 pub mod room;

@@ -1,5 +1,5 @@
 //! An end of the links, as a seat and as the control line see it.
-ghost use Rattle.std.specs.Prelude.{◌≡◌, [], IfNone, List, OnErr, Some, false};
+ghost use Rattle.std.specs.Prelude.{◌≡◌, [], IfNone, List, OnErr, Some, false, true};
 ghost use Rattle.std.specs.Option.{option_to_list};
 ghost use Rattle.bq_job.specs.promise.ControlDid.{IsControlDone};
 ghost use Rattle.bq_job.specs.promise.History.{is_tick};
@@ -304,6 +304,7 @@ pub fn control_at<R: Wait, S: SharedCore, I: ControlInput>(
     requires intake { end.old.intake ≡ intake.now.id }
     ensures over { IsOver (I.seen control.new) }
     ensures read { IsReadToEnd (I.remaining control.old) (I.remaining control.new) (I.seen control.new).text (I.seen control.new).failed }
+    ensures fault { (I.seen control.new).failed ≡ true → I.may_fail control.old ≡ true }
     ensures done { (submitted : List Step) × IsControlDone (I.seen control.new).text (I.seen control.new).failed submitted
         × EndWent end.old submitted [] end.new }
 {

@@ -13,6 +13,7 @@ use crate::post::{Post, Posts};
 use crate::shared_desk::{SharedDesk, SharedSeat};
 use bq_attend::control::submit_control;
 use bq_attend::control_line::ControlLine;
+use bq_attend::control_reader::ControlReader;
 use bq_core::Config;
 use bq_job::{NoMemory, Seat};
 use bq_line::Door;
@@ -20,7 +21,6 @@ use bq_line::clock::Clock;
 use bq_line::line::Line;
 use bq_start::{RunFault, Start};
 use std::alloc::Global;
-use std::io::BufRead;
 use std::snapshot::Snapshot;
 use std::sync::{Mutex, Wait};
 use std::thread;
@@ -46,7 +46,7 @@ pub fn run_locked<
     L: Line + Drop + Send,
     D: Door<Line = L> + Drop + Send,
     C: Clock + Drop + Send,
-    I: BufRead + Drop,
+    I: ControlReader + Drop,
 >(
     rt: &R,
     alloc: Global,
@@ -114,7 +114,7 @@ fn serve_in_scope<
     L: Line + Drop + Send,
     D: Door<Line = L> + Drop + Send,
     K: SharedDesk + Sync,
-    I: BufRead,
+    I: ControlReader,
 >(
     rt: &R,
     alloc: Global,
@@ -203,7 +203,7 @@ fn serve_all<
     L: Line + Drop + Send + 's,
     D: Door<Line = L> + Drop + Send + 's,
     K: SharedDesk + Sync,
-    I: BufRead,
+    I: ControlReader,
 >(
     scope: &'s Scope<'s, E>,
     rt: &'s R,

@@ -242,12 +242,12 @@ core_done_still settings readings first last machine to s c = record {
 }
 
 -- All that was done, from what the threads gave back.
-pub all_done : {D C I : Type 0} (at : D → DoorSeen) (gives : C → List (Option ℕ) → C → Type 0) (left : I → Option (List ℕ)) (settings : Settings) (doors : List D)
+pub all_done : {D C I : Type 0} (at : D → DoorSeen) (gives : C → List (Option ℕ) → C → Type 0) (left : I → Option (List ℕ)) (may_fail : I → Bool) (settings : Settings) (doors : List D)
     (core core_back core_last : CoreState) (firsts lasts ends : List SeatState) (first last : SeatState) (clock after : C) (control : I) (read : ControlLine I) (machine : Machine) (to : ℕ)
-    → length doors ≡ settings.seats → AreServed at settings.max_job_size firsts lasts doors → (o : IsCoreOver gives settings core clock core_back machine to after) → (k : IsControlOver left first control last read)
+    → length doors ≡ settings.seats → AreServed at settings.max_job_size firsts lasts doors → (o : IsCoreOver gives settings core clock core_back machine to after) → (k : IsControlOver left may_fail first control last read)
     → IsCoreStill core_back core_last → AreStill (lasts ++ last ∷ []) ends → AreSettled core_last ends
     → AreAllDone at settings o.readings read.read read.failed core_last machine to ends doors
-all_done at gives left settings doors core core_back core_last firsts lasts ends first last clock after control read machine to doored served o k still kept settled =
+all_done at gives left may_fail settings doors core core_back core_last firsts lasts ends first last clock after control read machine to doored served o k still kept settled =
     let m = lasts_many at settings.max_job_size firsts lasts doors served in
     let many : length lasts ≡ settings.seats = m.0 ∙ sym m.1 ∙ doored in
     let all : length (lasts ++ last ∷ []) ≡ settings.seats + 1 = omega (arith, many, length-append lasts (last ∷ [])) in

@@ -1,5 +1,5 @@
 -- What a run over doors comes to.
-use Rattle.std.specs.Prelude.{ℕ, ◌≡◌, ◌||◌, IsTrue, List, Option, map}
+use Rattle.std.specs.Prelude.{ℕ, ◌≡◌, ◌||◌, Bool, true, IsTrue, List, Option, map}
 use Rattle.bq_job.specs.declared.settings.Settings.{Settings}
 use Rattle.bq_job.specs.machine.Machine.{Machine, new_machine}
 use Rattle.bq_job.specs.promise.Headline.{IsHistoryOf}
@@ -10,16 +10,17 @@ use Rattle.bq_run.specs.Linked.{IsLinked}
 use Rattle.bq_run.specs.declared.sessions.Run.{Run}
 
 -- The run came from this clock and this control line. The clock gave these readings. The control line was read to
--- its end or until it failed, and what was read of it, and which of the two it was, it tells itself. And one
--- history of that and of the lines that are over at the doors leads to the machine that the core stands for. The
--- core took its steps, but for ticks, by its end of the links; each other end submitted those that the history has
--- of it, and was sent what the run gave it. Its comparisons of keys stayed within the bound of each of its steps, and
--- of one look for what is due, at most, before each and behind the last.
-pub record IsRunOf {D C I K : Type 0} (given : C → List (Option ℕ) → C → Type 0) (lines_over : D → List LineOver) (left : I → Option (List ℕ)) (machine : K → Machine) (comparisons : K → ℕ) (config : Settings) (clock : C) (control : I) (run : Run D C I K) : Type 0 where
+-- its end or until it failed, and what was read of it, and which of the two it was, it tells itself; it failed only
+-- where a read of it may fail. And one history of that and of the lines that are over at the doors leads to the
+-- machine that the core stands for. The core took its steps, but for ticks, by its end of the links; each other end
+-- submitted those that the history has of it, and was sent what the run gave it. Its comparisons of keys stayed within
+-- the bound of each of its steps, and of one look for what is due, at most, before each and behind the last.
+pub record IsRunOf {D C I K : Type 0} (given : C → List (Option ℕ) → C → Type 0) (lines_over : D → List LineOver) (left : I → Option (List ℕ)) (may_fail : I → Bool) (machine : K → Machine) (comparisons : K → ℕ) (config : Settings) (clock : C) (control : I) (run : Run D C I K) : Type 0 where
   pub readings : List (Option ℕ)
   pub gave : given clock readings run.clock
   pub over : IsTrue (run.control.ended || run.control.failed)
   pub read : IsReadToEnd (left control) (left run.control.reader) run.control.read run.control.failed
+  pub fault : run.control.failed ≡ true → may_fail control ≡ true
   pub history : IsHistoryOf config (map lines_over run.doors.items) run.control.read run.control.failed readings (machine run.core)
   pub linked : IsLinked config.seats history.history history.given run.core_end run.ends.items
   pub of_intake : run.core_end.intake ≡ run.intake.id

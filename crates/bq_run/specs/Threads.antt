@@ -1,5 +1,5 @@
 -- What the threads of a run come to.
-use Rattle.std.specs.Prelude.{ℕ, ◌||◌, IsTrue, List, [], ◌∷◌, ◌++◌, Option}
+use Rattle.std.specs.Prelude.{ℕ, ◌≡◌, ◌||◌, Bool, true, IsTrue, List, [], ◌∷◌, ◌++◌, Option}
 use Rattle.bq_job.specs.declared.settings.Settings.{Settings}
 use Rattle.bq_job.specs.promise.ControlDid.{IsControlDone}
 use Rattle.bq_job.specs.machine.Machine.{Machine}
@@ -24,11 +24,12 @@ pub record IsCoreOver {C : Type 0} (gives : C → List (Option ℕ) → C → Ty
   pub gave : gives clock readings after
   pub done : IsCoreDone settings readings last machine 0 compared
 
--- The control line was read to its end or until it failed.
-pub record IsControlOver {I : Type 0} (left : I → Option (List ℕ)) (first : SeatState) (control : I) (last : SeatState) (after : ControlLine I) : Type 0 where
+-- The control line was read to its end or until it failed, the latter only where a read of it may fail.
+pub record IsControlOver {I : Type 0} (left : I → Option (List ℕ)) (may_fail : I → Bool) (first : SeatState) (control : I) (last : SeatState) (after : ControlLine I) : Type 0 where
   pub same : IsSameSeat first last
   pub over : IsTrue (after.ended || after.failed)
   pub read : IsReadToEnd (left control) (left after.reader) after.read after.failed
+  pub fault : after.failed ≡ true → may_fail control ≡ true
   pub done : IsControlDone after.read after.failed last.submitted
 
 -- the same from the last one on

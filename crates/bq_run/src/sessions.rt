@@ -6,6 +6,7 @@ ghost use Rattle.bq_attend.specs.Tending.{AreSame, IsNewDoor, door_seen};
 ghost use Rattle.bq_run.specs.Sessions.{IsRunOf};
 
 use bq_attend::control_line::ControlLine;
+use bq_attend::control_reader::ControlReader;
 use bq_job::steps_keep_settings;
 use bq_line::Door;
 use bq_line::clock::Clock;
@@ -17,7 +18,6 @@ use new_posts::{NewCore, new_posts};
 use posts::Ended;
 use settle::settle;
 use std::alloc::Global;
-use std::io::BufRead;
 use std::marker::Brand;
 use std::sync::Wait;
 use std::thread::Threads;
@@ -58,7 +58,7 @@ pub fn run_sessions<
     L: Line + Drop + Send,
     D: Door<Line = L> + Drop + Send,
     C: Clock + Drop + Send,
-    I: BufRead + Drop,
+    I: ControlReader + Drop,
     K: QueueCore + Drop + Send,
 >(
     rt: &R,
@@ -73,7 +73,7 @@ pub fn run_sessions<
     // There is one history of all clients' steps and those of the control line, each at the moment of a
     // reading of the clock. The one-list machine takes it, the core stands for the machine after it, and each
     // line was written exactly what it is owed along it. It is what the ends of the links submitted and took.
-    ensures served { IfOk result (IsRunOf C.given D.lines_over I.remaining K.machine K.comparisons config clock control) }
+    ensures served { IfOk result (IsRunOf C.given D.lines_over I.remaining I.may_fail K.machine K.comparisons config clock control) }
     ensures at_end { IfOk result (λ run. All (λ door. (D.is_out door ≡ false) × (D.is_at_end door ≡ true)) run.doors.items) }
     // They are the doors that were handed in, in their order.
     ensures same { IfOk result (λ run. AreSame D.same doors.items run.doors.items) }

@@ -5,6 +5,7 @@ ghost use Rattle.bq_steps.specs.Limits.{are_in_range};
 ghost use Rattle.bq_attend.specs.Tending.{AreSame, IsNewDoor, door_seen};
 ghost use Rattle.bq_run.specs.Sessions.{IsRunOf};
 
+use bq_attend::control_reader::ControlReader;
 use bq_core::{Config, Core};
 use bq_line::Door;
 use bq_line::clock::Clock;
@@ -12,7 +13,6 @@ use bq_line::line::Line;
 use bq_start::RunFault;
 use bq_steps::QueueCore;
 use std::alloc::Global;
-use std::io::BufRead;
 use std::sync::Wait;
 use std::thread::Threads;
 
@@ -32,7 +32,7 @@ pub fn run_sessions<
     L: Line + Drop + Send,
     D: Door<Line = L> + Drop + Send,
     C: Clock + Drop + Send,
-    I: BufRead + Drop,
+    I: ControlReader + Drop,
 >(
     rt: &R,
     alloc: Global,
@@ -46,7 +46,7 @@ pub fn run_sessions<
     // There is one history of all clients' steps and those of the control line, each at the moment of a
     // reading of the clock. The one-list machine takes it, the core stands for the machine after it, and each
     // line was written exactly what it is owed along it. It is what the ends of the links submitted and took.
-    ensures served { IfOk result (IsRunOf C.given D.lines_over I.remaining ⟦<Core as QueueCore>⟧.machine
+    ensures served { IfOk result (IsRunOf C.given D.lines_over I.remaining I.may_fail ⟦<Core as QueueCore>⟧.machine
         ⟦<Core as QueueCore>⟧.comparisons config clock control) }
     ensures at_end { IfOk result (λ run. All (λ door. (D.is_out door ≡ false) × (D.is_at_end door ≡ true)) run.doors.items) }
     // They are the doors that were handed in, in their order.

@@ -1,5 +1,9 @@
 //! A reader of a control line in pieces.
 
+ghost use Rattle.std.specs.Prelude.{true};
+
+use bq_attend::control_line::Heard;
+use bq_attend::control_reader::{ControlReader, next_of};
 use std::io;
 use std::io::{BufRead, ErrorKind, Read};
 
@@ -51,6 +55,14 @@ impl BufRead for Control {
     fn consume(&mut self, amount: usize) {
         let count = amount.min(self.text.len());
         self.text = &self.text[count..];
+    }
+}
+
+impl ControlReader for Control {
+    ghost may_fail = { λ _. true };
+
+    fn next_byte(&mut self) -> Heard {
+        next_of(self)
     }
 }
 

@@ -33,13 +33,13 @@ pub record IsDoorAt {R : Type 0} (listener : TcpListener) (sessions : Option ℕ
 -- A server's run that is over. There was a door for each seat that the options choose, all at this listener, each for
 -- as many connections as they choose, and each is at its end with no line out. By a new clock the run is one over
 -- these doors and this control line, and the machine that took its history is the one of the options.
-pub record IsServerRun {R I K : Type 0} (left : I → Option (List ℕ)) (machine : K → Machine) (comparisons : K → ℕ) (options : Options) (listener : TcpListener) (control : I) (run : Run (TcpDoor R) (TellingClock R) I K) : Type 0 where
+pub record IsServerRun {R I K : Type 0} (left : I → Option (List ℕ)) (may_fail : I → Bool) (machine : K → Machine) (comparisons : K → ℕ) (options : Options) (listener : TcpListener) (control : I) (run : Run (TcpDoor R) (TellingClock R) I K) : Type 0 where
   pub seats : vec_len run.doors ≡ options.seats
   pub doors : All (λ door. IsDoorAt listener options.sessions door) run.doors.items
   pub at_end : All (λ door. (door.is_out ≡ false) × (door.is_at_end ≡ true)) run.doors.items
   pub clock : TellingClock R
   pub new_clock : clock.clock.given ≡ []
-  pub is_run : IsRunOf (λ before readings after. after.clock.given ≡ before.clock.given ++ readings) (λ door. door.over) left machine comparisons (settings_of options) clock control run
+  pub is_run : IsRunOf (λ before readings after. after.clock.given ≡ before.clock.given ++ readings) (λ door. door.over) left may_fail machine comparisons (settings_of options) clock control run
 
 -- Why there may be no run: what the system refuses, or options out of their ranges.
 abbrev pub MayRefuse : Options → Fault → Type 0
@@ -50,8 +50,8 @@ MayRefuse options faults.BadConfiguration = are_in_range (settings_of options) �
 MayRefuse options _ = ⊥
 
 -- A status is that of what came of a server at this listener: a run, or why there was none.
-pub record IsStatusOfServer (R : Type 0) {I K : Type 0} (left : I → Option (List ℕ)) (machine : K → Machine) (comparisons : K → ℕ) (options : Options) (listener : TcpListener) (control : I) (status : ℕ) : Type 0 where
+pub record IsStatusOfServer (R : Type 0) {I K : Type 0} (left : I → Option (List ℕ)) (may_fail : I → Bool) (machine : K → Machine) (comparisons : K → ℕ) (options : Options) (listener : TcpListener) (control : I) (status : ℕ) : Type 0 where
   pub came : Result (Run (TcpDoor R) (TellingClock R) I K) Fault
-  pub served : IfOk came (λ run. IsServerRun left machine comparisons options listener control run)
+  pub served : IfOk came (λ run. IsServerRun left may_fail machine comparisons options listener control run)
   pub refused : IfErr came (λ fault. MayRefuse options fault)
   pub status_is : status ≡ status_of_server (came_of_run (λ door. door.met_fault) came)

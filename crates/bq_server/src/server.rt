@@ -7,6 +7,7 @@ ghost use Rattle.bq_run.specs.Sessions.{IsRunOf};
 ghost use Rattle.bq_steps.specs.Limits.{are_in_range};
 
 use crate::telling_clock::TellingClock;
+use bq_attend::control_reader::ControlReader;
 use bq_core::{Config, Core};
 use bq_job::NoMemory;
 use bq_line::line::ReadBuffer;
@@ -17,7 +18,7 @@ use bq_run::{Run, run_sessions};
 use bq_start::RunFault;
 use bq_steps::QueueCore;
 use std::alloc::Global;
-use std::io::{BufRead, BufReader, Eprint, Print, Read};
+use std::io::{BufReader, Eprint, Print, Read};
 use std::net::{Net, TcpListener, TcpStream};
 use std::rt::Clock;
 use std::sync::Wait;
@@ -46,7 +47,7 @@ impl DoorsTell {
 /// Serves the connections that the listener accepts, as the options choose, and tells on standard output
 /// where it listens. The control is the control line. It returns the status of the program: 0 when all
 /// seats and the control line have ended, and 1 after a fault, which is told on standard error.
-pub fn serve<R: Threads + Wait + Clock + Print + Eprint + Sync, I: BufRead + Drop>(
+pub fn serve<R: Threads + Wait + Clock + Print + Eprint + Sync, I: ControlReader + Drop>(
     rt: &R,
     alloc: Global,
     options: &Options,
@@ -55,8 +56,8 @@ pub fn serve<R: Threads + Wait + Clock + Print + Eprint + Sync, I: BufRead + Dro
 ) -> u8
     // The status is that of what came of the server. It is 0 only where there was a run of the options at this
     // listener, and no door of it met a fault.
-    ensures status { IsStatusOfServer R I.remaining ⟦<Core as QueueCore>⟧.machine ⟦<Core as QueueCore>⟧.comparisons options.now
-        listener control result }
+    ensures status { IsStatusOfServer R I.remaining I.may_fail ⟦<Core as QueueCore>⟧.machine
+        ⟦<Core as QueueCore>⟧.comparisons options.now listener control result }
     ensures at_most { result ≤ 1 }
 {
     match listener.local_addr() {
@@ -97,15 +98,15 @@ pub(crate) fn listen_and_serve<
 }
 
 // Serves at this listener, and tells what came of it.
-fn serve_at<R: Threads + Wait + Clock + Print + Eprint + Sync, I: BufRead + Drop>(
+fn serve_at<R: Threads + Wait + Clock + Print + Eprint + Sync, I: ControlReader + Drop>(
     rt: &R,
     alloc: Global,
     options: &Options,
     listener: &TcpListener,
     control: I,
 ) -> u8
-    ensures status { IsStatusOfServer R I.remaining ⟦<Core as QueueCore>⟧.machine ⟦<Core as QueueCore>⟧.comparisons options.now
-        listener.now control result }
+    ensures status { IsStatusOfServer R I.remaining I.may_fail ⟦<Core as QueueCore>⟧.machine
+        ⟦<Core as QueueCore>⟧.comparisons options.now listener.now control result }
     ensures at_most { result ≤ 1 }
 {
     let tell = DoorsTell::new(rt, options.seats);
@@ -114,7 +115,7 @@ fn serve_at<R: Threads + Wait + Clock + Print + Eprint + Sync, I: BufRead + Drop
 }
 
 // The run of a server, whose doors are new and at this listener, one for each seat.
-fn run_server<'l, R: Threads + Wait + Clock + Print + Eprint + Sync, I: BufRead + Drop>(
+fn run_server<'l, R: Threads + Wait + Clock + Print + Eprint + Sync, I: ControlReader + Drop>(
     rt: &'l R,
     alloc: Global,
     options: &Options,
@@ -122,8 +123,9 @@ fn run_server<'l, R: Threads + Wait + Clock + Print + Eprint + Sync, I: BufRead 
     tell: &'l DoorsTell,
     control: I,
 ) -> Result<Run<TcpDoor<'l, R>, TellingClock<'l, R>, I, Core>, Fault>
-    ensures served { IfOk result (λ run. IsServerRun I.remaining ⟦<Core as QueueCore>⟧.machine ⟦<Core as QueueCore>⟧.comparisons
-        options.now listener.now control run) }
+    ensures served { IfOk result
+        (λ run. IsServerRun I.remaining I.may_fail ⟦<Core as QueueCore>⟧.machine ⟦<Core as QueueCore>⟧.comparisons options.now
+            listener.now control run) }
     ensures refused { IfErr result (λ fault. MayRefuse options.now fault) }
 {
     let Ok(doors) = new_doors(rt, alloc, options, listener, tell) else {
@@ -143,7 +145,7 @@ pub fn serve_doors<
     'l,
     R: Threads + Wait + Clock + Eprint + Sync,
     C: clock::Clock + Drop + Send,
-    I: BufRead + Drop,
+    I: ControlReader + Drop,
 >(
     rt: &R,
     alloc: Global,
@@ -157,7 +159,7 @@ pub fn serve_doors<
     // There is one history of all connections' steps and those of the control line, which the one-list machine
     // takes by the options. Each connection of each door was written exactly what it is owed along it, as far
     // as its reads and writes tell.
-    ensures served { IfOk result (IsRunOf C.given ⟦<TcpDoor<'l, R> as Door>⟧.lines_over I.remaining
+    ensures served { IfOk result (IsRunOf C.given ⟦<TcpDoor<'l, R> as Door>⟧.lines_over I.remaining I.may_fail
         ⟦<Core as QueueCore>⟧.machine ⟦<Core as QueueCore>⟧.comparisons (settings_of options.now) clock control) }
     ensures at_end { IfOk result (λ run. All (λ door. (⟦<TcpDoor<'l, R> as Door>⟧.is_out door ≡ false)
         × (⟦<TcpDoor<'l, R> as Door>⟧.is_at_end door ≡ true)) run.doors.items) }

@@ -9,6 +9,7 @@ use crate::sessions::locked_core::LockedCore;
 use crate::sessions::posts::{ControlPost, EndPosts, Ended, EndedEnds, Posts};
 use crate::sessions::seat_post::SeatPost;
 use bq_attend::control_line::ControlLine;
+use bq_attend::control_reader::ControlReader;
 use bq_ends::control_work::control_work;
 use bq_ends::shared_core::SharedCore;
 use bq_hub::core_work::Origin;
@@ -19,7 +20,6 @@ use bq_link::SeatEnd;
 use bq_start::{RunFault, Start};
 use bq_steps::QueueCore;
 use std::alloc::Global;
-use std::io::BufRead;
 use std::snapshot::Snapshot;
 use std::sync::Wait;
 use std::thread;
@@ -47,7 +47,7 @@ pub fn serve_in_scope<
     L: Line + Drop + Send,
     D: Door<Line = L> + Drop + Send,
     C: Clock + Drop + Send,
-    I: BufRead + Drop,
+    I: ControlReader + Drop,
     K: QueueCore + Drop + Send,
     O: Origin<C> + Send,
 >(
@@ -65,7 +65,7 @@ pub fn serve_in_scope<
     ensures same { IfOk result (λ r. AreSame D.same (last_first (map (λ p. p.door) posts.entry.seats.items)) r.doors.items) }
     ensures core { let core = posts.entry.core in
         IfOk result (λ r. IsCoreOver C.given core.config core.end core.clock r.core_end (K.machine r.core) (K.comparisons r.core) r.clock) }
-    ensures control { IfOk result (λ r. IsControlOver I.remaining posts.entry.control.end control r.control_end r.control) }
+    ensures control { IfOk result (λ r. IsControlOver I.remaining I.may_fail posts.entry.control.end control r.control_end r.control) }
 {
     let Posts {
         seats,
@@ -107,7 +107,7 @@ fn serve_ends<
     L: Line + Drop + Send,
     D: Door<Line = L> + Drop + Send,
     S: SharedCore + Sync,
-    I: BufRead + Drop,
+    I: ControlReader + Drop,
 >(
     rt: &R,
     alloc: Global,
@@ -121,7 +121,7 @@ fn serve_ends<
         let firsts = last_first (map (λ p. p.end) posts.entry.seats.items) in
         IfOk result (λ r. AreServed at posts.entry.max_job_size firsts r.ends.items r.doors.items) }
     ensures same { IfOk result (λ r. AreSame D.same (last_first (map (λ p. p.door) posts.entry.seats.items)) r.doors.items) }
-    ensures control { IfOk result (λ r. IsControlOver I.remaining posts.entry.control.end control r.control_end r.control) }
+    ensures control { IfOk result (λ r. IsControlOver I.remaining I.may_fail posts.entry.control.end control r.control_end r.control) }
 {
     thread::scope(
         thread::scope_env(),
@@ -132,7 +132,8 @@ fn serve_ends<
                 let firsts = last_first (map (λ p. p.end) posts.entry.seats.items) in
                 IfOk result (λ r. AreServed at posts.entry.max_job_size firsts r.ends.items r.doors.items) }
             ensures same { IfOk result (λ r. AreSame D.same (last_first (map (λ p. p.door) posts.entry.seats.items)) r.doors.items) }
-            ensures control { IfOk result (λ r. IsControlOver I.remaining posts.entry.control.end control r.control_end r.control) }
+            ensures control { IfOk result (λ r. IsControlOver I.remaining I.may_fail posts.entry.control.end control r.control_end
+                r.control) }
         { serve_all(scope, rt, alloc, posts, core, start, control) },
     )
 }
@@ -145,7 +146,7 @@ fn serve_all<
     L: Line + Drop + Send + 's,
     D: Door<Line = L> + Drop + Send + 's,
     S: SharedCore + Sync,
-    I: BufRead + Drop,
+    I: ControlReader + Drop,
 >(
     scope: &'s Scope<'s, E>,
     rt: &'s R,
@@ -160,7 +161,7 @@ fn serve_all<
         let firsts = last_first (map (λ p. p.end) posts.entry.seats.items) in
         IfOk result (λ r. AreServed at posts.entry.max_job_size firsts r.ends.items r.doors.items) }
     ensures same { IfOk result (λ r. AreSame D.same (last_first (map (λ p. p.door) posts.entry.seats.items)) r.doors.items) }
-    ensures control { IfOk result (λ r. IsControlOver I.remaining posts.entry.control.end control r.control_end r.control) }
+    ensures control { IfOk result (λ r. IsControlOver I.remaining I.may_fail posts.entry.control.end control r.control_end r.control) }
 {
     let EndPosts {
         seats,
@@ -202,13 +203,13 @@ fn watch<R: Wait, S: SharedCore>(rt: &R, core: &S, start: &Start) {
     }
 }
 
-fn serve_control<R: Wait, S: SharedCore, I: BufRead + Drop>(
+fn serve_control<R: Wait, S: SharedCore, I: ControlReader + Drop>(
     rt: &R,
     post: ControlPost<'_>,
     core: &S,
     control: I,
 ) -> (SeatEnd, ControlLine<I>)
-    ensures { IsControlOver I.remaining post.entry.end control result.0 result.1 }
+    ensures { IsControlOver I.remaining I.may_fail post.entry.end control result.0 result.1 }
 {
     let ControlPost { intake, end } = post;
     control_work(rt, intake, core, end, control)

@@ -1,7 +1,11 @@
 //! A control line that waits for all clients.
 
+ghost use Rattle.std.specs.Prelude.{true};
+
 use super::awaited::Meeting;
 use super::guest::GUESTS;
+use bq_attend::control_line::Heard;
+use bq_attend::control_reader::{ControlReader, next_of};
 use std::io;
 use std::io::{BufRead, ErrorKind, Read};
 
@@ -37,6 +41,14 @@ impl<'m> BufRead for GuestControl<'m> {
     }
 
     fn consume(&mut self, _amount: usize) {}
+}
+
+impl<'m> ControlReader for GuestControl<'m> {
+    ghost may_fail = { λ _. true };
+
+    fn next_byte(&mut self) -> Heard {
+        next_of(self)
+    }
 }
 
 impl<'m> Read for GuestControl<'m> {

@@ -1,4 +1,4 @@
-use Rattle.std.proofs.Common.{◌∷◌, [], List, Bool, subst, sym}
+use Rattle.std.proofs.Common.{◌∷◌, ◌∙◌, [], List, Bool, subst, sym}
 use Rattle.bq_job.specs.promise.ControlDid.{are_same, drain_word, drains, one_if}
 use Rattle.bq_attend.specs.ControlRead.{HasRead, IsReadToEnd}
 use Rattle.bq_attend.specs.ControlSeen.{ControlSeen}
@@ -14,6 +14,7 @@ loop-preserved g c =
     record {
       iterator = (tt, tt);
       ready = c.loop.invariant.ready;
+      same = c.in-NothingYet.ensures.same ∙ c.loop.invariant.same;
       drained =
           subst (λ (s : ControlSeen). HasDrained went at_first after c.args.link.now c.loop.line s c.loop.link) (sym c.in-NothingYet.ensures.seen)
           (drained_still went at_first left after c.args.link.now c.loop.link c.loop.line _ c.loop.invariant.drained c.in-NothingYet.ensures.left);
@@ -32,6 +33,7 @@ loop-preserved-then-ends_by g c =
     record {
       iterator = (tt, tt);
       ready = c.submit_drain_if.ensures.ready;
+      same = c.in-Byte.ensures.same ∙ c.loop.invariant.same;
       drained =
           subst (λ (xs : List _). HasDrained went at_first after c.args.link.now xs (g.I.ControlInput.seen c.next-in-loop.new.self) c.submit_drain_if.new.link) (sym c.new-line-then-ends_by.ensures)
           (subst (λ (s : ControlSeen). HasDrained went at_first after c.args.link.now [] s c.submit_drain_if.new.link) (sym c.in-Byte.ensures.seen)
@@ -49,6 +51,7 @@ loop-preserved-else-ends_by g c =
     record {
       iterator = (tt, tt);
       ready = c.loop.invariant.ready;
+      same = c.in-Byte.ensures.same ∙ c.loop.invariant.same;
       drained =
           subst (λ (s : ControlSeen). HasDrained went at_first after c.args.link.now later s c.loop.link) (sym c.in-Byte.ensures.seen)
           (drained_byte went at_first left after c.args.link.now c.loop.link c.loop.line later _ c.in-Byte.byte c.loop.invariant.drained c.in-Byte.ensures.left noted);

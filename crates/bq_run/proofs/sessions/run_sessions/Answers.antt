@@ -99,7 +99,7 @@ returns-clause-served g c =
     let ends = c.settle.new.ends in
     let kept = subst (λ (xs : List SeatState). AreStill xs ends) items_are c.settle.ensures.ends in
     let done =
-    all_done at g.C.Clock.given g.I.Read.remaining config ended.doors.items c.in-Ok.core_end ended.core_end core firsts lasts ends posts.control.end ended.control_end c.args.clock ended.clock c.args.control ended.control (g.K.QueueCore.machine ended.core) (g.K.QueueCore.comparisons ended.core) doored s o k c.settle.ensures.core kept c.settle.ensures.settled in
+    all_done at g.C.Clock.given g.I.Read.remaining g.I.ControlReader.may_fail config ended.doors.items c.in-Ok.core_end ended.core_end core firsts lasts ends posts.control.end ended.control_end c.args.clock ended.clock c.args.control ended.control (g.K.QueueCore.machine ended.core) (g.K.QueueCore.comparisons ended.core) doored s o k c.settle.ensures.core kept c.settle.ensures.settled in
     let j = run_joined at config o.readings ended.control.read ended.control.failed core (g.K.QueueCore.machine ended.core) (g.K.QueueCore.comparisons ended.core) ends ended.doors.items done in
     let many : length ends ≡ c.push.new.self.len = let a = kept.many in let b = c.in-Ok-push.ensures.len in let d = length-append lasts (ended.control_end ∷ []) in omega arith in
     let ends_are = with_items_is c.push.new.self ends many in
@@ -108,6 +108,7 @@ returns-clause-served g c =
       gave = o.gave;
       over = k.over;
       read = k.read;
+      fault = k.fault;
       history = j.history;
       linked = subst (λ (xs : List SeatState). IsLinked config.seats j.history.history j.history.given core xs) (sym ends_are) j.linked;
       of_intake = c.settle.ensures.core.same.0 ∙ o.same.0 ∙ c.in-Ok.ensures.core.0;
@@ -134,7 +135,7 @@ returns-clause-at_end g c =
     let ends = c.settle.new.ends in
     let kept = subst (λ (xs : List SeatState). AreStill xs ends) items_are c.settle.ensures.ends in
     let done =
-    all_done at g.C.Clock.given g.I.Read.remaining config ended.doors.items c.in-Ok.core_end ended.core_end core firsts lasts ends posts.control.end ended.control_end c.args.clock ended.clock c.args.control ended.control (g.K.QueueCore.machine ended.core) (g.K.QueueCore.comparisons ended.core) doored s o k c.settle.ensures.core kept c.settle.ensures.settled in
+    all_done at g.C.Clock.given g.I.Read.remaining g.I.ControlReader.may_fail config ended.doors.items c.in-Ok.core_end ended.core_end core firsts lasts ends posts.control.end ended.control_end c.args.clock ended.clock c.args.control ended.control (g.K.QueueCore.machine ended.core) (g.K.QueueCore.comparisons ended.core) doored s o k c.settle.ensures.core kept c.settle.ensures.settled in
     all_at_end at config o.readings ended.control.read ended.control.failed core (g.K.QueueCore.machine ended.core) (g.K.QueueCore.comparisons ended.core) ends ended.doors.items done
 
 pub returns-clause-settings : goal.returns-clause-settings
