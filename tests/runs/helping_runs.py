@@ -1,4 +1,4 @@
-"""Runs of bqd in which nobody sends a command when something is due, or somebody holds a seat up.
+"""Runs of bqd in which nobody sends a command when something is due, somebody holds a seat up, or many ask at once.
 
 A seat's thread does the core's work for what its client sent. So these ask what comes about while all of them sleep.
 """
@@ -173,6 +173,18 @@ def run_others_beside_one_that_does_not_read(bqd):
         others[0].hears(b"RESERVED 402 1\r\nx\r\n")
         for _ in range(peeks):
             stopped.hears(b"FOUND 1 %d\r\n%s\r\n" % (size, body))
+
+
+def run_no_step_is_left_over(bqd):
+    """Of clients that ask at the same moment, and then all wait, each is answered, whoever of them found the core at work."""
+    for number, rounds in ((2, 3000), (4, 2000), (16, 300)):
+        with Server(bqd, "--seats", "16") as server:
+            clients = [server.client() for _ in range(number)]
+            for _ in range(rounds):
+                for client in clients:
+                    client.sends(ASK)
+                for client in clients:
+                    client.hears(ANSWER)
 
 
 def run_ends_while_seats_are_busy(bqd):
