@@ -1,3 +1,4 @@
+pub mod Accepts
 pub mod Doors
 pub mod GivenReadings
 pub mod InAll

@@ -4,20 +4,26 @@ ghost use Rattle.bq_job.specs.promise.History.{LineOver};
 ghost use Rattle.bq_line.specs.Doors.{IsOpened};
 
 pub use free_doors::FreeDoors;
+pub use listen::Listen;
+pub use listen_door::ListenDoor;
 pub use mem_door::MemDoor;
 pub use refusals::Refusals;
-pub use tcp_door::TcpDoor;
 
 mod accept;
 mod free_doors;
 mod line_record;
+mod listen;
+mod listen_door;
 mod mem_door;
 mod refusals;
-mod tcp_door;
 
 use crate::line::Line;
 use bq_job::LineEnd;
+use std::net::TcpListener;
 use thiserror::Error;
+
+/// A door at which connections over TCP come.
+pub type TcpDoor<'l, R> = ListenDoor<'l, R, TcpListener>;
 
 /// No line could be opened.
 #[derive(Clone, Copy, Debug, PartialEq, Eq, Error)]

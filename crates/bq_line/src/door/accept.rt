@@ -1,10 +1,13 @@
 //! The next connection of a listener.
+ghost use Rattle.std.specs.Prelude.{◌≡◌, OnErr, true};
+ghost use Rattle.bq_line.specs.Accepts.{ends_listener, is_of_memory, is_of_peer, is_shortage, is_shortage_number};
 
+use super::Listen;
 use super::refusals::{Met, Refusals};
-use crate::line::Connection;
+use crate::line::{Connection, Socket};
 use std::io::{Eprint, ErrorKind};
-use std::net::{TcpListener, TcpStream};
 use std::rt::Clock;
+use std::sync::{Wait, WaitMethods};
 use std::time::Duration;
 use std::{io, thread};
 
@@ -29,17 +32,19 @@ enum Refusal {
 ///
 /// A peer that is gone by then is passed. Where the system is short of something, this rests and tries again,
 /// so that a shortage ends no door. A shortage and the listener's end are told once.
-pub(super) fn accept<R: Clock + Eprint>(
+pub(super) fn accept<R: Wait + Clock + Eprint, T: Listen>(
     rt: &R,
-    listener: &TcpListener,
+    listener: &T,
     refusals: Option<&Refusals>,
-) -> io::Result<Connection<TcpStream>> {
+) -> io::Result<Connection<T::Stream>>
+    ensures { OnErr result (T.may_fail listener.now ≡ true) }
+{
     let mut met = Met::none(refusals);
-    for _ in 0..u64::MAX {
+    for _ in rt.forever() {
         match listener.accept() {
-            Ok((stream, _peer)) => {
+            Ok(mut stream) => {
                 // It can't be set where the peer has gone.
-                if stream.set_nodelay(true).is_ok() {
+                if stream.set_gathers(false).is_ok() {
                     met.end();
                     return Ok(Connection::new(stream));
                 }
@@ -57,26 +62,50 @@ pub(super) fn accept<R: Clock + Eprint>(
             },
         }
     }
-    Err(io::Error::from(ErrorKind::ConnectionAborted))
+    unreachable!()
 }
 
-fn meaning_of(e: &io::Error) -> Refusal {
-    match e.kind() {
-        ErrorKind::Interrupted | ErrorKind::ConnectionAborted => Refusal::OfPeer,
-        ErrorKind::OutOfMemory => Refusal::Shortage,
-        _ => {
-            if is_shortage(e) {
-                Refusal::Shortage
-            } else {
-                Refusal::OfListener
-            }
-        }
+fn meaning_of(e: &io::Error) -> Refusal
+    ensures { result ≡ Refusal.OfListener → ends_listener e.now ≡ true }
+{
+    if is_of_peer(e.kind()) {
+        Refusal::OfPeer
+    } else if is_shortage(e) {
+        Refusal::Shortage
+    } else {
+        Refusal::OfListener
     }
 }
 
-fn is_shortage(e: &io::Error) -> bool {
-    match e.raw_os_error() {
-        Some(code) => SHORTAGES.contains(&code),
+fn is_of_peer(kind: ErrorKind) -> bool
+    ensures { result ≡ is_of_peer kind }
+{
+    match kind {
+        ErrorKind::Interrupted | ErrorKind::ConnectionAborted => true,
+        _ => false,
+    }
+}
+
+fn is_of_memory(kind: ErrorKind) -> bool
+    ensures { result ≡ is_of_memory kind }
+{
+    match kind {
+        ErrorKind::OutOfMemory => true,
+        _ => false,
+    }
+}
+
+fn is_shortage(e: &io::Error) -> bool
+    ensures { result ≡ is_shortage e.now }
+{
+    is_of_memory(e.kind()) || is_shortage_number(e.raw_os_error())
+}
+
+fn is_shortage_number(number: Option<i32>) -> bool
+    ensures { result ≡ is_shortage_number number }
+{
+    match number {
+        Some(number) => SHORTAGES.contains(&number),
         None => false,
     }
 }

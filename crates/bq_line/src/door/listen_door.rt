@@ -6,19 +6,19 @@ use super::accept::accept;
 use super::free_doors::FreeDoors;
 use super::line_record::LineRecord;
 use super::refusals::Refusals;
-use super::{Door, DoorFault};
-use crate::line::{Buffered, Connection, IoLine, Line, ReadBuffer};
+use super::{Door, DoorFault, Listen};
+use crate::line::{Buffered, Connection, IoLine, Line, ReadBuffer, Socket};
 use bq_job::LineEnd;
 use std::io::Eprint;
-use std::net::{TcpListener, TcpStream};
 use std::rt::Clock;
+use std::sync::Wait;
 
 /// A door at which connections come that a listener accepts. Many doors can share a listener: a connection
 /// comes at one of them.
 #[derive(Drop)]
-pub struct TcpDoor<'l, R> {
+pub struct ListenDoor<'l, R, T> {
     rt: &'l R,
-    listener: &'l TcpListener,
+    listener: &'l T,
     // Where it is told that connections can't be accepted.
     refusals: Option<&'l Refusals>,
     // Where it is told that all doors are taken.
@@ -33,25 +33,31 @@ pub struct TcpDoor<'l, R> {
     // For proofs alone.
     over: LineRecord,
     ghost lent: { is_out ≡ false → IsSome buffer },
+    // It is at its end by a fault, or after all connections that may come.
+    ghost ended: { is_at_end ≡ true → met_fault ≡ false → left ≡ Some 0 },
 }
 
-impl<'l, R: Clock + Eprint> TcpDoor<'l, R> {
+impl<'l, R: Wait + Clock + Eprint, S: Socket + Drop + Send, T: Listen<Stream = S>> ListenDoor<
+    'l,
+    R,
+    T,
+> {
     /// A door at which so many connections of the listener come, or with None connections without end. They are
     /// read through this buffer, one after another.
     pub fn new(
         rt: &'l R,
-        listener: &'l TcpListener,
+        listener: &'l T,
         sessions: Option<u32>,
         buffer: ReadBuffer,
-    ) -> TcpDoor<'l, R>
-        ensures inside { ⟦<TcpDoor<'l, R> as Door>⟧.is_out result ≡ false }
-        ensures more { ⟦<TcpDoor<'l, R> as Door>⟧.is_at_end result ≡ false }
-        ensures none_over { ⟦<TcpDoor<'l, R> as Door>⟧.lines_over result ≡ [] }
+    ) -> ListenDoor<'l, R, T>
+        ensures inside { ⟦<ListenDoor<'l, R, T> as Door>⟧.is_out result ≡ false }
+        ensures more { ⟦<ListenDoor<'l, R, T> as Door>⟧.is_at_end result ≡ false }
+        ensures none_over { ⟦<ListenDoor<'l, R, T> as Door>⟧.lines_over result ≡ [] }
         ensures at { result.listener ≡ listener.entry }
         ensures allowed { result.left ≡ sessions }
         ensures no_fault { result.met_fault ≡ false }
     {
-        TcpDoor {
+        ListenDoor {
             rt,
             listener,
             refusals: None,
@@ -64,9 +70,11 @@ impl<'l, R: Clock + Eprint> TcpDoor<'l, R> {
             over: LineRecord::new(),
         }
     }
+}
 
+impl<'l, R: Clock + Eprint, T> ListenDoor<'l, R, T> {
     /// The same door, which tells of connections that can't be accepted.
-    pub fn telling(mut self, refusals: &'l Refusals) -> TcpDoor<'l, R>
+    pub fn telling(mut self, refusals: &'l Refusals) -> ListenDoor<'l, R, T>
         ensures inside { result.is_out ≡ self.entry.is_out }
         ensures at_end { result.is_at_end ≡ self.entry.is_at_end }
         ensures over { result.over ≡ self.entry.over }
@@ -80,7 +88,7 @@ impl<'l, R: Clock + Eprint> TcpDoor<'l, R> {
     }
 
     /// The same door, one of these, which tell that all of them are taken.
-    pub fn among(mut self, free: &'l FreeDoors) -> TcpDoor<'l, R>
+    pub fn among(mut self, free: &'l FreeDoors) -> ListenDoor<'l, R, T>
         ensures inside { result.is_out ≡ self.entry.is_out }
         ensures at_end { result.is_at_end ≡ self.entry.is_at_end }
         ensures over { result.over ≡ self.entry.over }
@@ -145,10 +153,11 @@ impl<'l, R: Clock + Eprint> TcpDoor<'l, R> {
     }
 }
 
-impl<'l, R: Clock + Eprint> Door for TcpDoor<'l, R> {
+impl<'l, R: Wait + Clock + Eprint, S: Socket + Drop + Send, T: Listen<Stream = S>> Door
+    for ListenDoor<'l, R, T> {
     ghost use Rattle.std.proofs.Common.{refl};
 
-    type Line = IoLine<Buffered<Connection<TcpStream>>>;
+    type Line = IoLine<Buffered<Connection<S>>>;
 
     ghost is_out = { λ door. door.is_out };
 
@@ -162,13 +171,15 @@ impl<'l, R: Clock + Eprint> Door for TcpDoor<'l, R> {
 
     ghost same_self = { λ door. (refl, refl) };
 
-    fn open(&mut self) -> Result<Option<IoLine<Buffered<Connection<TcpStream>>>>, DoorFault>
+    fn open(&mut self) -> Result<Option<IoLine<Buffered<Connection<S>>>>, DoorFault>
         requires inside { self.old.is_out ≡ false }
         requires more { self.old.is_at_end ≡ false }
-        ensures opened { IsOpened ⟦<IoLine<Buffered<Connection<TcpStream>>> as Line>⟧.seen self.new.is_out self.new.is_at_end result }
+        ensures opened { IsOpened ⟦<IoLine<Buffered<Connection<S>>> as Line>⟧.seen self.new.is_out self.new.is_at_end result }
         ensures over { self.new.over ≡ self.old.over }
-        ensures same { (first : _) → ⟦<TcpDoor<'l, R> as Door>⟧.same first self.old → ⟦<TcpDoor<'l, R> as Door>⟧.same first self.new }
-        // A fault is kept for `met_fault`.
+        ensures same { (first : _) → ⟦<ListenDoor<'l, R, T> as Door>⟧.same first self.old →
+            ⟦<ListenDoor<'l, R, T> as Door>⟧.same first self.new }
+        // A fault is one of the listener, and is kept for `met_fault`.
+        ensures of_listener { OnErr result (T.may_fail self.old.listener.now ≡ true) }
         ensures fault { OnErr result (self.new.met_fault ≡ true) }
         ensures no_fault { OnOk result (self.new.met_fault ≡ self.old.met_fault) }
         // There is no line exactly where as many were opened as may come.
@@ -196,7 +207,7 @@ impl<'l, R: Clock + Eprint> Door for TcpDoor<'l, R> {
 
     // What the system still gathers is sent first: closing drops it where the client sent bytes that nobody read. The
     // connection is closed where its stream is dropped, and the buffer is kept for the next one.
-    fn shut(&mut self, mut line: IoLine<Buffered<Connection<TcpStream>>>, end: LineEnd) {
+    fn shut(&mut self, mut line: IoLine<Buffered<Connection<S>>>, end: LineEnd) {
         line.expect_more(false);
         self.tell_free();
         self.is_out = false;
