@@ -1,12 +1,12 @@
 -- The doors of a run are still those that it was given.
-use Rattle.std.proofs.Common.{◌≡◌, ◌∙◌, ℕ, zero, suc, List, [], ◌∷◌, Option, length, ap, refl, arith}
+use Rattle.std.proofs.Common.{◌≡◌, ◌∙◌, ℕ, ◌+◌, zero, suc, Bool, false, true, List, [], ◌∷◌, Option, Some, None, length, ap, sym, refl, arith}
 use Rattle.std.specs.List.{All}
 use Rattle.std.specs.declared.net.tcp.TcpListener.{TcpListener}
 use Rattle.bq_attend.specs.Tending.{AreSame}
 use Rattle.bq_line.specs.InAll.{in_all}
-use Rattle.bq_line.specs.declared.door.tcp_door.TcpDoor.{TcpDoor}
 use Rattle.bq_start.proofs.ListLemmas.{first_passes, rest_passes}
-use Rattle.bq_server.specs.Servers.{IsDoorAt}
+use Rattle.bq_job.specs.promise.History.{LineOver}
+use Rattle.bq_server.specs.Servers.{IsDoorAt, TcpDoor}
 
 -- as a door over TCP says it
 abbrev pub IsSameDoor : {R : Type 0} → TcpDoor R → TcpDoor R → Type 0
@@ -34,3 +34,22 @@ all_at listener sessions (f ∷ firsts) (l ∷ lasts) s h =
     let first = first_passes (f ∷ firsts) firsts f (λ door. IsDoorAt listener sessions door) refl h in
     let rest = rest_passes (f ∷ firsts) firsts f (λ door. IsDoorAt listener sessions door) refl h in
     all_first (λ door. IsDoorAt listener sessions door) l lasts (same_at listener sessions f l s.0 first) (all_at listener sessions firsts lasts s.1 rest)
+
+abbrev in_some : Option ℕ → ℕ
+in_some None = 0
+in_some (Some n) = n
+
+-- none to come and none out: all are over
+all_over : (sessions : Option ℕ) (over : List LineOver) → in_all (Some 0) false over ≡ in_all sessions false [] → sessions ≡ Some (length over)
+all_over None over h = absurd (let g : Some (0 + (0 + length over)) ≡ None = h in cc)
+all_over (Some n) over h = let e : 0 + (0 + length over) ≡ n + 0 = ap in_some h in ap Some (omega (arith, e))
+
+came_by : (left sessions : Option ℕ) (is_out : Bool) (over : List LineOver) → left ≡ Some 0 → is_out ≡ false
+    → in_all left is_out over ≡ in_all sessions false [] → sessions ≡ Some (length over)
+came_by left sessions is_out over l o h =
+    all_over sessions over (sym (ap (λ n. in_all n is_out over) l ∙ ap (λ b. in_all (Some 0) b over) o) ∙ h)
+
+-- A door that met no fault is at its end because all came that may.
+pub all_came : {R : Type 0} (listener : TcpListener) (sessions : Option ℕ) (door : TcpDoor R) → door.is_out ≡ false → door.is_at_end ≡ true
+    → IsDoorAt listener sessions door → door.met_fault ≡ false → sessions ≡ Some (length door.over)
+all_came listener sessions door o e h f = came_by door.left sessions door.is_out door.over (door.ended e f) o h.allowed

@@ -1,1 +1,2 @@
+pub mod BeginLemmas
 pub mod DoorLemmas

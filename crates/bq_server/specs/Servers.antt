@@ -1,12 +1,17 @@
 -- What a server's run is given, what it comes to, and what its status is a status of.
-use Rattle.std.specs.Prelude.{ℕ, ◌≡◌, Bool, false, true, List, [], ◌++◌, Option, Result, Ok, Err, IfErr, IfOk, if◌then◌else◌, vec_len}
+use Rattle.std.specs.Prelude.{ℕ, ◌≡◌, Bool, false, true, List, [], ◌++◌, length, Option, Some, None, Result, Ok, Err}
+use Rattle.std.specs.Prelude.{IfErr, IfOk, if◌then◌else◌, vec_len}
 use Rattle.std.specs.List.{All, list_any}
 use Rattle.std.specs.declared.net.tcp.TcpListener.{TcpListener}
 use Rattle.bq_job.specs.declared.settings.Settings.{Settings}
 use Rattle.bq_job.specs.machine.Machine.{Machine}
 use Rattle.bq_line.specs.InAll.{in_all}
-use Rattle.bq_line.specs.declared.door.tcp_door.TcpDoor.{TcpDoor}
-use Rattle.bq_program.specs.Statuses.{status_of_server}
+use Rattle.bq_line.specs.declared.door.listen_door.ListenDoor.{ListenDoor}
+use Rattle.bq_options.specs.Ranges.{IsForBqd}
+use Rattle.bq_options.specs.declared.chosen.BqdOptions.{BqdOptions}
+use Rattle.bq_options.specs.declared.chosen.OptionFault.{OptionFault}
+use Rattle.bq_program.specs.Chosen.{of_bqd}
+use Rattle.bq_program.specs.Statuses.{IsStatusOfOptionFault, status_of_server}
 use Rattle.bq_program.specs.declared.chosen.Options.{Options}
 use Rattle.bq_program.specs.declared.fault.Fault.{Fault}
 use Rattle.bq_program.specs.declared.fault.Fault.TheVariants as faults
@@ -14,6 +19,10 @@ use Rattle.bq_run.specs.Sessions.{IsRunOf}
 use Rattle.bq_run.specs.declared.sessions.Run.{Run}
 use Rattle.bq_steps.specs.Limits.{are_in_range}
 use Rattle.bq_server.specs.declared.telling_clock.TellingClock.{TellingClock}
+
+-- a door at which connections over TCP come
+abbrev pub TcpDoor : Type 0 → Type 0
+TcpDoor R = ListenDoor R TcpListener
 
 -- what the options say to a run of many clients
 abbrev pub settings_of : Options → Settings
@@ -31,15 +40,20 @@ pub record IsDoorAt {R : Type 0} (listener : TcpListener) (sessions : Option ℕ
   pub allowed : in_all door.left door.is_out door.over ≡ in_all sessions false []
 
 -- A server's run that is over. There was a door for each seat that the options choose, all at this listener, each for
--- as many connections as they choose, and each is at its end with no line out. By a new clock the run is one over
--- these doors and this control line, and the machine that took its history is the one of the options.
-pub record IsServerRun {R I K : Type 0} (left : I → Option (List ℕ)) (may_fail : I → Bool) (machine : K → Machine) (comparisons : K → ℕ) (options : Options) (listener : TcpListener) (control : I) (run : Run (TcpDoor R) (TellingClock R) I K) : Type 0 where
+-- as many connections as they choose, and each is at its end with no line out: one that met no fault of its listener
+-- had exactly so many. By a new clock the run is one over these doors and this control line, and the machine that took
+-- its history is the one of the options.
+pub record IsServerRun {R I K : Type 0} (left : I → Option (List ℕ)) (may_fail : I → Bool)
+    (machine : K → Machine) (comparisons : K → ℕ) (options : Options) (listener : TcpListener) (control : I)
+    (run : Run (TcpDoor R) (TellingClock R) I K) : Type 0 where
   pub seats : vec_len run.doors ≡ options.seats
   pub doors : All (λ door. IsDoorAt listener options.sessions door) run.doors.items
   pub at_end : All (λ door. (door.is_out ≡ false) × (door.is_at_end ≡ true)) run.doors.items
+  pub all_came : All (λ door. door.met_fault ≡ false → options.sessions ≡ Some (length door.over)) run.doors.items
   pub clock : TellingClock R
   pub new_clock : clock.clock.given ≡ []
-  pub is_run : IsRunOf (λ before readings after. after.clock.given ≡ before.clock.given ++ readings) (λ door. door.over) left may_fail machine comparisons (settings_of options) clock control run
+  pub is_run : IsRunOf (λ before readings after. after.clock.given ≡ before.clock.given ++ readings) (λ door. door.over)
+      left may_fail machine comparisons (settings_of options) clock control run
 
 -- Why there may be no run: what the system refuses, or options out of their ranges.
 abbrev pub MayRefuse : Options → Fault → Type 0
@@ -50,8 +64,39 @@ MayRefuse options faults.BadConfiguration = are_in_range (settings_of options) �
 MayRefuse options _ = ⊥
 
 -- A status is that of what came of a server at this listener: a run, or why there was none.
-pub record IsStatusOfServer (R : Type 0) {I K : Type 0} (left : I → Option (List ℕ)) (may_fail : I → Bool) (machine : K → Machine) (comparisons : K → ℕ) (options : Options) (listener : TcpListener) (control : I) (status : ℕ) : Type 0 where
+pub record IsStatusOfServer (R : Type 0) {I K : Type 0} (left : I → Option (List ℕ)) (may_fail : I → Bool)
+    (machine : K → Machine) (comparisons : K → ℕ) (options : Options) (listener : TcpListener) (control : I) (status : ℕ) : Type 0 where
   pub came : Result (Run (TcpDoor R) (TellingClock R) I K) Fault
   pub served : IfOk came (λ run. IsServerRun left may_fail machine comparisons options listener control run)
   pub refused : IfErr came (λ fault. MayRefuse options fault)
   pub status_is : status ≡ status_of_server (came_of_run (λ door. door.met_fault) came)
+
+-- None: it says that the address can't be bound or that memory for the control line was refused, and no clause tells
+-- whether that is so. Else a server began at some listener
+-- with a control line over this input.
+abbrev pub IsStatusOfBegun : (R : Type 0) {I K : Type 0} → (I → Option (List ℕ)) → (I → Bool) → (K → Machine) → (K → ℕ)
+    → Options → Option (List ℕ) → Option (TcpListener × I) → ℕ → Type 0
+IsStatusOfBegun R left may_fail machine comparisons options input None status = status ≡ 1
+IsStatusOfBegun R left may_fail machine comparisons options input (Some begun) status =
+    (left begun.1 ≡ input) × IsStatusOfServer R left may_fail machine comparisons options begun.0 begun.1 status
+
+-- A status is that of what came of options by which a program listens and serves. Which listener the system gave for
+-- their address no clause tells.
+abbrev pub IsStatusOfListening : (R : Type 0) {I K : Type 0} → (I → Option (List ℕ)) → (I → Bool) → (K → Machine) → (K → ℕ)
+    → Options → Option (List ℕ) → ℕ → Type 0
+IsStatusOfListening R {I} left may_fail machine comparisons options input status =
+    (begun : Option (TcpListener × I)) × IsStatusOfBegun R left may_fail machine comparisons options input begun status
+
+-- Words that choose nothing are a fault of theirs. Else the program listens and serves by what they choose.
+abbrev pub IsStatusOfWords : (R : Type 0) {I K : Type 0} → (I → Option (List ℕ)) → (I → Bool) → (K → Machine) → (K → ℕ)
+    → Option (List ℕ) → Result BqdOptions OptionFault → ℕ → Type 0
+IsStatusOfWords R left may_fail machine comparisons input (Err fault) status = IsStatusOfOptionFault fault status
+IsStatusOfWords R left may_fail machine comparisons input (Ok chosen) status =
+    IsForBqd chosen × IsStatusOfListening R left may_fail machine comparisons (of_bqd chosen) input status
+
+-- A status is that of what came of the words of the command line. Which words were given no clause tells, so each
+-- status up to 2 is that of some.
+abbrev pub IsStatusOfProgram : (R : Type 0) {I K : Type 0} → (I → Option (List ℕ)) → (I → Bool) → (K → Machine) → (K → ℕ)
+    → Option (List ℕ) → ℕ → Type 0
+IsStatusOfProgram R left may_fail machine comparisons input status =
+    (chosen : Result BqdOptions OptionFault) × IsStatusOfWords R left may_fail machine comparisons input chosen status

@@ -1,10 +1,15 @@
 //! The server as a program, from the words of its command line to its status.
-ghost use Rattle.std.specs.Prelude.{◌≤◌};
+ghost use Rattle.std.specs.Prelude.{◌≤◌, IfOk};
+ghost use Rattle.bq_options.specs.Ranges.{IsForBqd};
+ghost use Rattle.bq_server.specs.Servers.{IsStatusOfProgram};
 
 use crate::server::listen_and_serve;
+use bq_attend::control_reader::ControlReader;
+use bq_core::Core;
 use bq_options::{BqdOptions, OptionFault, Program, bqd_options};
 use bq_program::{Stop, tell_stop, words};
-use std::io::{Eprint, Print, Read};
+use bq_steps::QueueCore;
+use std::io::{BufReader, Eprint, Print, Read};
 use std::net::{Net, TcpListener, TcpStream};
 use std::rt::{Clock, Env};
 use std::sync::Wait;
@@ -24,7 +29,11 @@ pub fn run_bqd<
         + Sync,
     I: Read + Drop,
 >(rt: &R, input: I) -> u8
-    ensures { result ≤ 2 }
+    // The status is one that some words have: that of their fault, or of the server that they choose, with a control
+    // line over this input. No clause tells which words were given, and any status up to 2 is that of some.
+    ensures status { IsStatusOfProgram R ⟦<BufReader<I> as Read>⟧.remaining ⟦<BufReader<I> as ControlReader>⟧.may_fail
+        ⟦<Core as QueueCore>⟧.machine ⟦<Core as QueueCore>⟧.comparisons (I.remaining input) result }
+    ensures at_most { result ≤ 2 }
 {
     match server_options(rt) {
         Ok(options) => listen_and_serve(rt, rt.alloc(), options, input),
@@ -32,7 +41,9 @@ pub fn run_bqd<
     }
 }
 
-fn server_options<R: AllocGlobal + Env>(rt: &R) -> Result<BqdOptions, OptionFault> {
+fn server_options<R: AllocGlobal + Env>(rt: &R) -> Result<BqdOptions, OptionFault>
+    ensures { IfOk result (λ chosen. IsForBqd chosen) }
+{
     let words = words(rt)?;
     bqd_options(rt.alloc(), words.as_slice())
 }

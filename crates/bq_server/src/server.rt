@@ -2,7 +2,9 @@
 ghost use Rattle.std.specs.Prelude.{◌≡◌, ◌≤◌, ◌↔◌, ◌&&◌, ◌==◌, IfErr, IfOk, IsErrOf, IsTrue, false, not, true, vec_len};
 ghost use Rattle.std.specs.List.{All, list_any};
 ghost use Rattle.bq_attend.specs.Tending.{AreSame, IsNewDoor, door_seen};
-ghost use Rattle.bq_server.specs.Servers.{IsDoorAt, IsServerRun, IsStatusOfServer, MayRefuse, came_of_run, settings_of};
+ghost use Rattle.bq_program.specs.Chosen.{of_bqd};
+ghost use Rattle.bq_server.specs.Servers.{IsDoorAt, IsServerRun, IsStatusOfListening, IsStatusOfServer, MayRefuse};
+ghost use Rattle.bq_server.specs.Servers.{came_of_run, settings_of};
 ghost use Rattle.bq_run.specs.Sessions.{IsRunOf};
 ghost use Rattle.bq_steps.specs.Limits.{are_in_range};
 
@@ -85,7 +87,9 @@ pub(crate) fn listen_and_serve<
         + Sync,
     I: Read + Drop,
 >(rt: &R, alloc: Global, options: BqdOptions, input: I) -> u8
-    ensures { result ≤ 1 }
+    ensures status { IsStatusOfListening R ⟦<BufReader<I> as Read>⟧.remaining ⟦<BufReader<I> as ControlReader>⟧.may_fail
+        ⟦<Core as QueueCore>⟧.machine ⟦<Core as QueueCore>⟧.comparisons (of_bqd options) (I.remaining input) result }
+    ensures at_most { result ≤ 1 }
 {
     let listener = match TcpListener::bind(rt, options.listen.as_str()) {
         Ok(listener) => listener,
@@ -125,7 +129,7 @@ fn run_server<'l, R: Threads + Wait + Clock + Print + Eprint + Sync, I: ControlR
 ) -> Result<Run<TcpDoor<'l, R>, TellingClock<'l, R>, I, Core>, Fault>
     ensures served { IfOk result
         (λ run. IsServerRun I.remaining I.may_fail ⟦<Core as QueueCore>⟧.machine ⟦<Core as QueueCore>⟧.comparisons options.now
-            listener.now control run) }
+        listener.now control run) }
     ensures refused { IfErr result (λ fault. MayRefuse options.now fault) }
 {
     let Ok(doors) = new_doors(rt, alloc, options, listener, tell) else {
@@ -184,7 +188,7 @@ fn config_of(options: &Options) -> Config
 }
 
 // What came of a server: its fault, or that some connection could not be accepted.
-fn came_of<'l, R: Clock + Eprint, C: Drop, I: Drop>(
+fn came_of<'l, R: Wait + Clock + Eprint, C: Drop, I: Drop>(
     came: &Result<Run<TcpDoor<'l, R>, C, I, Core>, Fault>,
 ) -> Result<(), Fault>
     ensures { result ≡ came_of_run (λ door. door.met_fault) came.now }
@@ -201,14 +205,14 @@ fn came_of<'l, R: Clock + Eprint, C: Drop, I: Drop>(
     }
 }
 
-fn met_fault<R: Clock + Eprint>(doors: &[TcpDoor<'_, R>]) -> bool
+fn met_fault<R: Wait + Clock + Eprint>(doors: &[TcpDoor<'_, R>]) -> bool
     ensures { result ≡ list_any (λ door. door.met_fault) doors.now }
 {
     doors.iter().any(|door| door.met_fault())
 }
 
 // A door at which nothing was done.
-fn new_door<'l, R: Clock + Eprint>(
+fn new_door<'l, R: Wait + Clock + Eprint>(
     rt: &'l R,
     listener: &'l TcpListener,
     sessions: Option<u32>,
@@ -225,7 +229,7 @@ fn new_door<'l, R: Clock + Eprint>(
 }
 
 // A door for each seat, all at one listener.
-fn new_doors<'l, R: Clock + Eprint>(
+fn new_doors<'l, R: Wait + Clock + Eprint>(
     rt: &'l R,
     alloc: Global,
     options: &Options,

@@ -1,8 +1,7 @@
 use Rattle.std.proofs.Common.{◌≡◌, List, subst, sym, arith}
 use Rattle.bq_attend.specs.Tending.{IsNewDoor}
-use Rattle.bq_line.specs.declared.door.tcp_door.TcpDoor.{TcpDoor}
 use Rattle.bq_start.proofs.ListLemmas.{all_pushed}
-use Rattle.bq_server.specs.Servers.{IsDoorAt}
+use Rattle.bq_server.specs.Servers.{IsDoorAt, TcpDoor}
 use Rattle.bq_server.proofs.server.new_doors.Goals as goal
 
 IsNew : {R : Type 0} → TcpDoor R → Type 0

@@ -1,0 +1,25 @@
+-- How a server begins: a control line that was made over an input has what the input has.
+use Rattle.std.proofs.Common.{◌≡◌, ◌∙◌, ℕ, ◌==◌, Bool, List, [], Option, None, ap, refl, subst, if◌then◌else◌}
+use Rattle.std.proofs.KnownBytes.{prepend_known-nil}
+use Rattle.std.specs.Io.Buffered.{reader_buffer, reader_capacity, reader_inner, reader_remaining}
+use Rattle.std.specs.Io.KnownBytes.{prepend_known}
+use Rattle.std.specs.declared.io.buffered.BufReader.{BufReader}
+use Rattle.std.specs.declared.net.tcp.TcpListener.{TcpListener}
+use Rattle.bq_job.specs.machine.Machine.{Machine}
+use Rattle.bq_program.specs.declared.chosen.Options.{Options}
+use Rattle.bq_server.specs.Servers.{IsStatusOfServer}
+
+by_parts : (capacity : ℕ) (buffer : List ℕ) (left : Option (List ℕ)) → capacity ≡ 8192 → buffer ≡ []
+    → (if capacity == 0 then None else prepend_known buffer left) ≡ left
+by_parts capacity buffer left c b =
+    ap (λ n. if n == 0 then None else prepend_known buffer left) c ∙ ap (λ bytes. prepend_known bytes left) b ∙ prepend_known-nil left
+
+pub left_of_new : {T A : Type 0} (remaining : T → Option (List ℕ)) (r : BufReader T A) (input : T)
+    → reader_inner r ≡ input → reader_buffer r ≡ [] → reader_capacity r ≡ 8192 → reader_remaining remaining r ≡ remaining input
+left_of_new remaining r input i b c = by_parts (reader_capacity r) (reader_buffer r) (remaining r.inner) c b ∙ ap remaining i
+
+-- a status by the same options
+pub status_by : {R I K : Type 0} {left : I → Option (List ℕ)} {may_fail : I → Bool} {machine : K → Machine} {comparisons : K → ℕ} {chosen same : Options} {listener : TcpListener} {control : I} {status : ℕ}
+    → chosen ≡ same → IsStatusOfServer R left may_fail machine comparisons chosen listener control status → IsStatusOfServer R left may_fail machine comparisons same listener control status
+status_by {R} {I} {K} {left} {may_fail} {machine} {comparisons} {chosen} {same} {listener} {control} {status} e s =
+    subst (λ (o : Options). IsStatusOfServer R left may_fail machine comparisons o listener control status) e s
