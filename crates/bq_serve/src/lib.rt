@@ -6,6 +6,8 @@
 //! here it has that of `bq_core`.
 #![tactic(auto)]
 
+pub use bq_attend::control_line::Heard;
+pub use bq_attend::control_reader::{ControlReader, next_of};
 pub use bq_desk::{One, run_one};
 pub use bq_ends::{control_work, seat_work};
 pub use bq_hub::core_work;
