@@ -49,11 +49,11 @@ hostname
 if-c.true
 it calls f, which is not proved
 l.invariant
+logic dac8208d650f15bf
 madvise
 out/
 platform
 quitx
-rattle-kit-13b logic dac8208d650f15bf
 returns-clause-x
 run=no-answer proved=no
 rusage-*
