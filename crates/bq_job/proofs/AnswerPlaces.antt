@@ -28,7 +28,8 @@ use Rattle.bq_job.proofs.DispatchLemmas.{reserved_is_least, turn_of}
 use Rattle.bq_job.proofs.LawfulLemmas.{end_of}
 use Rattle.bq_job.proofs.ListLemmas.{all_always, all_at, all_of_filter}
 use Rattle.bq_job.proofs.LookupLemmas.{found_job}
-use Rattle.bq_job.proofs.OwnAnswerLemmas.{Tells, commonly, deleting, drains_acted, inserting, is_common, reserving, tells_acted}
+use Rattle.bq_job.proofs.OwnAnswerLemmas.{Tells, commonly, deleting, drains_acted, inserting, reserving, tells_acted}
+use Rattle.bq_job.proofs.EffectKinds.{is_common}
 
 -- an element of two lists that are joined: in the first, or in the second
 pub record InFirst {X : Type 0} (xs ys early : List X) (x : X) (more : List X) : Type 0 where

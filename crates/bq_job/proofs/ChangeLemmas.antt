@@ -47,17 +47,6 @@ map_itself (j ∷ jobs) = ap (λ ks. j ∷ ks) (map_itself jobs)
 pub unchanged : (what : Step) (limit : Option ℕ) (jobs : List Job) (next : ℕ) → JobsAfter what limit jobs next jobs next
 unchanged what limit jobs next = changed (λ j. j) (sym (map_itself jobs)) refl (λ j. refl) (λ j i. becomes_itself what j)
 
--- the job of one id changes
-pub one_changed : {limit : Option ℕ} (what : Step) (id : ℕ) (f : Job → Job) (jobs : List Job) (next : ℕ) (j : Job) → AreIdsWithin 1 jobs next → job_with id jobs ≡ Some j → ((k : Job) → (f k).id ≡ k.id) → Becomes what j (f j) → JobsAfter what limit jobs next (map (λ k. cond (k.id == id) (f k) k) jobs) next
-one_changed what id f jobs next j ids found same becomes =
-    changed (λ k. cond (k.id == id) (f k) k) refl refl (λ k. cond_both (k.id == id) (f k) k (λ l. l.id ≡ k.id) (λ e. same k) (λ e. refl))
-    (λ k i. cond_both (k.id == id) (f k) k (λ l. Becomes what k l)
-    (λ e.
-    let both : Some j ≡ Some k = sym found ∙ subst (λ n. job_with n jobs ≡ Some k) (eqb-true k.id id e) (job_found 1 next jobs k ids i).0 in
-    let is : j ≡ k = (cc) in
-    subst (λ l. Becomes what l (f l)) is becomes)
-    (λ e. becomes_itself what k))
-
 any_in_parts : {X Y : Type 0} (p : Y → Bool) (g : X → List Y) (xs : List X) → list_any (λ x. list_any p (g x)) xs ≡ true → list_any p (flat_map g xs) ≡ true
 any_in_parts p g [] h = h
 any_in_parts p g (x ∷ xs) h =
@@ -78,106 +67,18 @@ plain_named : (other id : ℕ) (h : Happening) → is_plain h ≡ true → All (
 plain_named other id h p = cond_both (other == id) (h ∷ []) [] (All (λ h. is_plain h ≡ true)) (λ e. (p, tt)) (λ e. tt)
 
 plain_given_up : (what : Step) (id : ℕ) → All (λ h. is_plain h ≡ true) (given_up what id)
-plain_given_up steps.Connect id = tt
-plain_given_up (steps.Ask (requests.Put pri delay ttr body)) id = tt
-plain_given_up (steps.Ask requests.Reserve) id = tt
-plain_given_up (steps.Ask (requests.ReserveWithTimeout seconds)) id = tt
-plain_given_up (steps.Ask (requests.ReserveJob other)) id = tt
-plain_given_up (steps.Ask (requests.Delete other)) id = tt
 plain_given_up (steps.Ask (requests.Release other pri delay)) id = plain_named other id (released id) refl
 plain_given_up (steps.Ask (requests.Bury other pri)) id = plain_named other id (buried id) refl
-plain_given_up (steps.Ask (requests.Touch other)) id = tt
-plain_given_up (steps.Ask (requests.Kick bound)) id = tt
-plain_given_up (steps.Ask (requests.KickJob other)) id = tt
-plain_given_up (steps.Ask (requests.Use tube)) id = tt
-plain_given_up (steps.Ask requests.ListTubeUsed) id = tt
-plain_given_up (steps.Ask (requests.Watch tube)) id = tt
-plain_given_up (steps.Ask (requests.Ignore tube)) id = tt
-plain_given_up (steps.Ask (requests.Peek other)) id = tt
-plain_given_up (steps.Ask requests.PeekReady) id = tt
-plain_given_up (steps.Ask requests.PeekDelayed) id = tt
-plain_given_up (steps.Ask requests.PeekBuried) id = tt
-plain_given_up (steps.Ask (requests.PauseTube tube delay)) id = tt
-plain_given_up (steps.Ask (requests.StatsJob other)) id = tt
-plain_given_up (steps.Ask (requests.StatsTube tube)) id = tt
-plain_given_up (steps.Ask requests.Stats) id = tt
-plain_given_up (steps.Ask requests.ListTubes) id = tt
-plain_given_up (steps.Ask requests.ListTubesWatched) id = tt
-plain_given_up (steps.Ask requests.Quit) id = tt
-plain_given_up (steps.Ask (requests.Refused why)) id = tt
-plain_given_up steps.End id = tt
 plain_given_up steps.Close id = (refl, tt)
-plain_given_up steps.Drain id = tt
-plain_given_up steps.Tick id = tt
-plain_given_up steps.Gone id = tt
+plain_given_up _ id = tt
 
 plain_taken_up : (what : Step) (id : ℕ) → All (λ h. is_plain h ≡ true) (taken_up what id)
-plain_taken_up steps.Connect id = tt
-plain_taken_up (steps.Ask (requests.Put pri delay ttr body)) id = tt
-plain_taken_up (steps.Ask requests.Reserve) id = tt
-plain_taken_up (steps.Ask (requests.ReserveWithTimeout seconds)) id = tt
 plain_taken_up (steps.Ask (requests.ReserveJob other)) id = plain_named other id (reserved_by_id id) refl
-plain_taken_up (steps.Ask (requests.Delete other)) id = tt
-plain_taken_up (steps.Ask (requests.Release other pri delay)) id = tt
-plain_taken_up (steps.Ask (requests.Bury other pri)) id = tt
-plain_taken_up (steps.Ask (requests.Touch other)) id = tt
-plain_taken_up (steps.Ask (requests.Kick bound)) id = tt
-plain_taken_up (steps.Ask (requests.KickJob other)) id = tt
-plain_taken_up (steps.Ask (requests.Use tube)) id = tt
-plain_taken_up (steps.Ask requests.ListTubeUsed) id = tt
-plain_taken_up (steps.Ask (requests.Watch tube)) id = tt
-plain_taken_up (steps.Ask (requests.Ignore tube)) id = tt
-plain_taken_up (steps.Ask (requests.Peek other)) id = tt
-plain_taken_up (steps.Ask requests.PeekReady) id = tt
-plain_taken_up (steps.Ask requests.PeekDelayed) id = tt
-plain_taken_up (steps.Ask requests.PeekBuried) id = tt
-plain_taken_up (steps.Ask (requests.PauseTube tube delay)) id = tt
-plain_taken_up (steps.Ask (requests.StatsJob other)) id = tt
-plain_taken_up (steps.Ask (requests.StatsTube tube)) id = tt
-plain_taken_up (steps.Ask requests.Stats) id = tt
-plain_taken_up (steps.Ask requests.ListTubes) id = tt
-plain_taken_up (steps.Ask requests.ListTubesWatched) id = tt
-plain_taken_up (steps.Ask requests.Quit) id = tt
-plain_taken_up (steps.Ask (requests.Refused why)) id = tt
-plain_taken_up steps.End id = tt
-plain_taken_up steps.Close id = tt
-plain_taken_up steps.Drain id = tt
-plain_taken_up steps.Tick id = tt
-plain_taken_up steps.Gone id = tt
+plain_taken_up _ id = tt
 
 plain_removed : (what : Step) (id : ℕ) → All (λ h. is_plain h ≡ true) (removed what id)
-plain_removed steps.Connect id = tt
-plain_removed (steps.Ask (requests.Put pri delay ttr body)) id = tt
-plain_removed (steps.Ask requests.Reserve) id = tt
-plain_removed (steps.Ask (requests.ReserveWithTimeout seconds)) id = tt
-plain_removed (steps.Ask (requests.ReserveJob other)) id = tt
 plain_removed (steps.Ask (requests.Delete other)) id = plain_named other id (deleted id) refl
-plain_removed (steps.Ask (requests.Release other pri delay)) id = tt
-plain_removed (steps.Ask (requests.Bury other pri)) id = tt
-plain_removed (steps.Ask (requests.Touch other)) id = tt
-plain_removed (steps.Ask (requests.Kick bound)) id = tt
-plain_removed (steps.Ask (requests.KickJob other)) id = tt
-plain_removed (steps.Ask (requests.Use tube)) id = tt
-plain_removed (steps.Ask requests.ListTubeUsed) id = tt
-plain_removed (steps.Ask (requests.Watch tube)) id = tt
-plain_removed (steps.Ask (requests.Ignore tube)) id = tt
-plain_removed (steps.Ask (requests.Peek other)) id = tt
-plain_removed (steps.Ask requests.PeekReady) id = tt
-plain_removed (steps.Ask requests.PeekDelayed) id = tt
-plain_removed (steps.Ask requests.PeekBuried) id = tt
-plain_removed (steps.Ask (requests.PauseTube tube delay)) id = tt
-plain_removed (steps.Ask (requests.StatsJob other)) id = tt
-plain_removed (steps.Ask (requests.StatsTube tube)) id = tt
-plain_removed (steps.Ask requests.Stats) id = tt
-plain_removed (steps.Ask requests.ListTubes) id = tt
-plain_removed (steps.Ask requests.ListTubesWatched) id = tt
-plain_removed (steps.Ask requests.Quit) id = tt
-plain_removed (steps.Ask (requests.Refused why)) id = tt
-plain_removed steps.End id = tt
-plain_removed steps.Close id = tt
-plain_removed steps.Drain id = tt
-plain_removed steps.Tick id = tt
-plain_removed steps.Gone id = tt
+plain_removed _ id = tt
 
 plain_change : (what : Step) (id : ℕ) (before after : JobState) → All (λ h. is_plain h ≡ true) (change what id before after)
 plain_change what id states.Ready states.Ready = tt

@@ -26,7 +26,8 @@ use Rattle.bq_job.proofs.DispatchLemmas.{turn_of}
 use Rattle.bq_job.proofs.KeptLemmas.{is_open_wait}
 use Rattle.bq_job.proofs.LawfulLemmas.{end_of, step_is_lawful}
 use Rattle.bq_job.proofs.ListLemmas.{all_always, all_at, all_both, all_pass, all_weaker, keys_of_map, list_any_not, none_pass}
-use Rattle.bq_job.proofs.OneClientLemmas.{Found, Passes, answers_append, changed, changed_none, changed_quiet, changed_some, connected_in, ended_in, finds, one_for, passes_serves, replies_acted, replies_effect, stays_acted, told, told_elsewhere, unclosed_append, waits_in}
+use Rattle.bq_job.proofs.OneClientLemmas.{Found, Passes, answers_append, changed, changed_none, changed_quiet, changed_some, connected_in, ended_in, finds, one_for, passes_serves, unclosed_append, waits_in}
+use Rattle.bq_job.proofs.ReplyLemmas.{replies_acted, replies_effect, stays_acted, told, told_elsewhere}
 
 -- the parts of a step, to one client
 record Parts (client : ℕ) (first last : Machine) (seat : ℕ) (what : Step) (given : List GivenAnswer) : Type 0 where

@@ -3,7 +3,7 @@ use Rattle.std.proofs.Common.{ℕ, zero, suc, ◌≡◌, ◌≤◌, ◌<◌, ◌
 use Rattle.std.specs.Prelude.{is_some, nat_le, unwrap_or, MatchOption, ◌==◌}
 use Rattle.std.specs.Cmp.Lexicographic.{bytes_decides}
 use Rattle.std.specs.List.{Contains, list_any, list_all}
-use Rattle.std.proofs.lemmas.Bool.{or_left, or_right, cond_both, le-leb}
+use Rattle.std.proofs.lemmas.Bool.{eq-eqb, or_left, or_right, cond_both, le-leb}
 use Rattle.std.proofs.lemmas.List.{length-map}
 use Rattle.std.proofs.lemmas.List.Sums.{count_by-le-length}
 use Rattle.bq_job.specs.declared.answer.Answer.{Answer}
@@ -14,7 +14,7 @@ use Rattle.bq_job.specs.machine.Changes.{in_state, is_ready, is_waiting, with_jo
 use Rattle.bq_job.specs.beside.Computed.{waiting_count}
 use Rattle.bq_job.specs.machine.Dispatch.{DispatchTurn, GivenAnswer, IsHandOut, is_job_before, is_wait_before, is_waiting_for, next_job, next_seat, reserved_by}
 use Rattle.bq_job.specs.beside.Lawful.{IsLawful, has_open_holder, watches_once}
-use Rattle.bq_job.specs.machine.Limits.{greatest, later}
+use Rattle.bq_job.specs.machine.Limits.{greatest}
 use Rattle.bq_job.specs.machine.Machine.{Machine, SeatRecord, Settings, TubeRecord, default_tube, empty_seat, new_machine, numbers}
 use Rattle.bq_job.specs.machine.Steps.{Dispatches, EndsWaits, IsStep, Memory, Outcome, Serves, acted, addressed, granted, growth_refused, share_refused}
 use Rattle.bq_job.specs.machine.Timers.{after_timers, at_moment, is_due, is_expired, job_after_timers, with_timeout}
@@ -64,7 +64,7 @@ turn_of_hand_out m j s given next h f (inl i) =
     let c = waits_connected m s h w.0 w.1 in
     subst (IsTurn m) (sym i.1) (record {
       keeps = kept_without_wait s.number (with_job j.id (reserved_by m.moment s.number) m)
-          (kept_of_job j.id (reserved_by m.moment s.number) h (λ k. refl) (λ k. held_here m s (reserved_by m.moment s.number k) (later m.moment k.ttr) w.0 c refl));
+          (kept_of_job j.id (reserved_by m.moment s.number) h (λ k. refl) (λ k. held_here m s (reserved_by m.moment s.number k) w.0 c (eq-eqb s.number s.number refl)));
       waiting = waiting_falls (with_job j.id (reserved_by m.moment s.number) m) s w.0 w.1;
     })
 turn_of_hand_out m j s given next h f (inr i) =

@@ -1,5 +1,10 @@
 pub mod ActLemmas
 pub mod ActMoves
+pub mod BecomeLemmas
+pub mod CommandKinds
+pub mod EachEvent
+pub mod EffectKinds
+pub mod WatchedLemmas
 pub mod AnswerPlaces
 pub mod ChangeLemmas
 pub mod ChoiceLemmas
@@ -27,6 +32,7 @@ pub mod QuietLemmas
 pub mod ReadsLemmas
 pub mod RecordLemmas
 pub mod RefusalLemmas
+pub mod ReplyLemmas
 pub mod ReplayLemmas
 pub mod RunLawLemmas
 pub mod RunLemmas

@@ -23,7 +23,7 @@ use Rattle.bq_job.proofs.DispatchLemmas.{turn_of}
 use Rattle.bq_job.proofs.KeptLemmas.{Keeps, kept_of_lawful}
 use Rattle.bq_job.proofs.LawfulLemmas.{end_of, kept_of_timers, new_is_lawful, served, step_is_lawful}
 use Rattle.bq_job.proofs.ListLemmas.{all_at, all_of_append}
-use Rattle.bq_job.proofs.OneClientLemmas.{stays_acted}
+use Rattle.bq_job.proofs.ReplyLemmas.{stays_acted}
 
 -- what was chosen, and no more jobs than may be by it
 record IsWithin (settings : Settings) (m : Machine) : Type 0 where

@@ -1,42 +1,25 @@
 -- What the parts of a step give to one client: turns of dispatch and ends of waits give it what it waits
 -- for, and the command's own effect gives it the answer, or makes it wait.
-use Rattle.std.proofs.Common.{ℕ, zero, suc, ◌≡◌, ◌≤◌, ◌<◌, ◌+◌, Bool, true, false, ◌&&◌, not, cond, List, [], ◌∷◌, ◌++◌, map, length, length-append, arith, refl, sym, ap, ◌∙◌, subst, inl, inr, Option, Some, None}
-use Rattle.std.specs.Prelude.{◌==◌, IsTrue}
+use Rattle.std.proofs.Common.{ℕ, zero, suc, ◌≡◌, ◌≤◌, ◌<◌, ◌+◌, Bool, true, false, ◌&&◌, cond, List, [], ◌∷◌, ◌++◌, map, length, length-append, arith, refl, sym, ap, ◌∙◌, subst, inl, inr, Some}
+use Rattle.std.specs.Prelude.{◌==◌}
 use Rattle.std.specs.List.{AllByRecursion as All, Contains, list_any}
-use Rattle.std.proofs.lemmas.Bool.{cases_Bool, and_from, and_parts, and_right, or_from, cond_both, eq-eqb, eqb-true, eqb-false}
+use Rattle.std.proofs.lemmas.Bool.{cases_Bool, and_from, and_right, or_from, cond_both, eq-eqb, eqb-true, eqb-false}
 use Rattle.std.proofs.lemmas.List.Folds.{list_any-append}
 use Rattle.bq_job.specs.declared.answer.Answer.{Answer}
 use Rattle.bq_job.specs.declared.answer.Answer.TheVariants as answers
 use Rattle.bq_job.specs.declared.job.Job.{Job}
-use Rattle.bq_job.specs.declared.job.JobState.TheVariants as states
-use Rattle.bq_job.specs.declared.refusal.Refusal.{Refusal}
-use Rattle.bq_job.specs.declared.refusal.Refusal.TheVariants as refusals
-use Rattle.bq_job.specs.declared.request.Request.{Request}
-use Rattle.bq_job.specs.declared.request.Request.TheVariants as requests
-use Rattle.bq_job.specs.declared.step.Step.{Step}
-use Rattle.bq_job.specs.declared.step.Step.TheVariants as steps
-use Rattle.bq_job.specs.machine.Acts.{Effect, on_found, showing, silent, telling}
-use Rattle.bq_job.specs.machine.Asked.{after_close, after_connect, asked, at_found, effect, refusal_answer, with_end}
-use Rattle.bq_job.specs.machine.Changes.{in_state, is_held_by, is_waiting, job_with, seat_with, with_job, with_seat, without_wait}
-use Rattle.bq_job.specs.machine.Dispatch.{DispatchTurn, GivenAnswer, IsHandOut, next_seat, reserved_by}
-use Rattle.bq_job.specs.machine.JobCommands.{after_delete, after_put, buried, is_free_for, kicked, new_job, released, reserve_effect, waiting_from}
-use Rattle.bq_job.specs.machine.JobStates.{is_reserved}
-use Rattle.bq_job.specs.promise.LineSteps.{answers_wanted, is_waiting_request}
-use Rattle.bq_job.specs.machine.Limits.{later, raised}
-use Rattle.bq_job.specs.machine.Machine.{Machine, SeatRecord, empty_seat, numbers}
+use Rattle.bq_job.specs.machine.Changes.{is_waiting, seat_with, without_wait}
+use Rattle.bq_job.specs.machine.Dispatch.{DispatchTurn, GivenAnswer, IsHandOut, next_seat}
+use Rattle.bq_job.specs.machine.Machine.{Machine, SeatRecord, numbers}
 use Rattle.bq_job.specs.machine.OneClient.{has_closed, is_closed_answer}
 use Rattle.bq_job.specs.promise.Runs.{answers_to}
-use Rattle.bq_job.specs.machine.StatisticsCommands.{job_statistics_or_not}
-use Rattle.bq_job.specs.machine.Steps.{Memory, Serves, acted, addressed, granted, growth_refused, is_possible, share_refused, shares_body, step_takes_memory}
-use Rattle.bq_job.specs.machine.TubeCommands.{using, watched_with, watching, watching_or_refused}
-use Rattle.bq_job.specs.machine.Tubes.{is_tube}
+use Rattle.bq_job.specs.machine.Steps.{Serves}
 use Rattle.bq_job.specs.machine.Waits.{Chain, WaitEndTurn, end_of_wait, is_deadline_soon}
 use Rattle.bq_job.proofs.ComputedLemmas.{next_end_waits, next_seat_waits}
 use Rattle.bq_job.proofs.DispatchLemmas.{turn_of}
 use Rattle.bq_job.proofs.KeptLemmas.{only_seat}
 use Rattle.bq_job.proofs.LawfulLemmas.{end_of}
 use Rattle.bq_job.proofs.ListLemmas.{all_always, all_of_map, all_weaker, found_passes, keys_of_map, list_any_not, list_any_of_map, list_any_with}
-use Rattle.bq_job.proofs.PutLemmas.{each_put}
 
 -- whether the client at the seat waits, and whether there is one
 abbrev pub waits_in : ℕ → List SeatRecord → Bool
@@ -283,150 +266,8 @@ changed_quiet seat number f q seats same as_before =
     any_of_map (λ s. s.number == seat && q s) (λ s. s.number == seat && q s) (λ s. cond (s.number == number) (f s) s) seats
     (λ s. cond_both (s.number == number) (f s) s (λ t. (t.number == seat && q t) ≡ (s.number == seat && q s)) (λ e. ap (λ n. n == seat && q (f s)) (same s) ∙ ap (λ b. s.number == seat && b) (as_before s)) (λ e. refl))
 
--- what the command itself tells the client
-abbrev pub told : Option Answer → List Answer
-told None = []
-told (Some answer) = answer ∷ []
-
--- The client asks without waiting: it is told so much, or waits for it.
-pub record Replies (seat wanted : ℕ) (may_wait : Bool) (seats : List SeatRecord) (e : Effect) : Type 0 where
-  pub count : length (told e.answer) + one_for (waits_in seat (e.machine).seats) ≡ wanted
-  pub at_once : may_wait ≡ false → waits_in seat (e.machine).seats ≡ false
-  pub unclosed : has_closed (told e.answer) ≡ false
-  pub connected : connected_in seat (e.machine).seats ≡ connected_in seat seats
-
-replies_telling : {b : Bool} (seat : ℕ) (m n : Machine) (answer : Answer) → is_closed_answer answer ≡ false → waits_in seat n.seats ≡ false → connected_in seat n.seats ≡ connected_in seat m.seats → Replies seat 1 b m.seats (telling answer n)
-replies_telling seat m n answer stays w c = record { count = rw w refl; at_once = λ e. w; unclosed = rw stays refl; connected = c }
-
--- the same machine with other jobs
-replies_jobs : {b : Bool} (seat : ℕ) (m n : Machine) (answer : Answer) → waits_in seat m.seats ≡ false → is_closed_answer answer ≡ false → n.seats ≡ m.seats → Replies seat 1 b m.seats (telling answer n)
-replies_jobs seat m n answer w stays same = replies_telling seat m n answer stays (ap (waits_in seat) same ∙ w) (ap (connected_in seat) same)
-
--- A seat changes, and its client waits as before.
-replies_seat : (seat number : ℕ) (f : SeatRecord → SeatRecord) (m : Machine) (answer : Answer) → waits_in seat m.seats ≡ false → is_closed_answer answer ≡ false → ((s : SeatRecord) → (f s).number ≡ s.number) → ((s : SeatRecord) → (f s).connected ≡ s.connected) → ((s : SeatRecord) → is_waiting (f s) ≡ is_waiting s) → Replies seat 1 false m.seats (telling answer (with_seat number f m))
-replies_seat seat number f m answer w stays same connects waits_as =
-    replies_telling seat m (with_seat number f m) answer stays
-    (changed_quiet seat number f is_waiting m.seats same waits_as ∙ w) (changed_quiet seat number f (λ s. s.connected) m.seats same connects)
-
-replies_on_job : (seat : ℕ) (passes : Job → Bool) (act : Job → Effect) (m : Machine) (o : Option Job) → waits_in seat m.seats ≡ false → ((j : Job) → Replies seat 1 false m.seats (act j)) → Replies seat 1 false m.seats (on_found passes act m o)
-replies_on_job seat passes act m None w goes = replies_jobs seat m m answers.NotFound w refl refl
-replies_on_job seat passes act m (Some j) w goes =
-    cond_both (passes j) (act j) (telling answers.NotFound m) (Replies seat 1 false m.seats) (λ e. goes j) (λ e. replies_jobs seat m m answers.NotFound w refl refl)
-
-replies_showing : (seat : ℕ) (m : Machine) (o : Option Job) → waits_in seat m.seats ≡ false → Replies seat 1 false m.seats (showing m o)
-replies_showing seat m None w = replies_jobs seat m m answers.NotFound w refl refl
-replies_showing seat m (Some j) w = replies_jobs seat m m (answers.Found j.id j.body) w refl refl
-
-replies_statistics : (seat : ℕ) (m : Machine) (o : Option Job) → waits_in seat m.seats ≡ false → Replies seat 1 false m.seats (job_statistics_or_not m o)
-replies_statistics seat m None w = replies_jobs seat m m answers.NotFound w refl refl
-replies_statistics seat m (Some j) w = replies_jobs seat m m _ w refl refl
-
-replies_watching : (seat : ℕ) (tubes : List (List ℕ)) (m : Machine) (s : SeatRecord) → waits_in seat m.seats ≡ false → Replies seat 1 false m.seats (watching_or_refused tubes m s)
-replies_watching seat [] m s w = replies_jobs seat m m answers.NotIgnored w refl refl
-replies_watching seat (tube ∷ tubes) m s w = replies_seat seat s.number (watching (tube ∷ tubes)) m _ w refl (λ s. refl) (λ s. refl) (λ s. refl)
-
--- The client begins to wait.
-replies_reserve : (until : Option ℕ) (m : Machine) (s : SeatRecord) → Contains m.seats s → Replies s.number 1 true m.seats (reserve_effect until m s)
-replies_reserve until m s there = record {
-  count = rw (changed_some (waiting_from (raised m.tickets) until) is_waiting m.seats s there (λ t. refl) (λ t. refl)) refl;
-  at_once = λ e. absurd cc;
-  unclosed = refl;
-  connected = changed_quiet s.number s.number (waiting_from (raised m.tickets) until) (λ t. t.connected) m.seats (λ t. refl) (λ t. refl);
-}
-
-refusal_stays : (why : Refusal) → is_closed_answer (refusal_answer why) ≡ false
-refusal_stays refusals.UnknownCommand = refl
-refusal_stays refusals.BadFormat = refl
-refusal_stays refusals.JobTooBig = refl
-refusal_stays refusals.ExpectedCrlf = refl
-refusal_stays refusals.OutOfMemory = refl
-
--- every request
-replies_asked : (request : Request) (m : Machine) (s : SeatRecord) → Contains m.seats s → waits_in s.number m.seats ≡ false → Replies s.number (answers_wanted request) (is_waiting_request request) m.seats (asked request m s)
-replies_asked (requests.Put pri delay ttr body) m s there w =
-    each_put pri delay ttr body m s (Replies s.number 1 false m.seats) (λ e. replies_jobs s.number m m answers.Draining w refl refl)
-    (λ e f. replies_jobs s.number m m answers.OutOfMemory w refl refl)
-    (λ e f. replies_jobs s.number m (after_put m (new_job m s pri delay ttr body)) (answers.Inserted m.next_id) w refl refl)
-replies_asked requests.Reserve m s there w = replies_reserve None m s there
-replies_asked (requests.ReserveWithTimeout seconds) m s there w = replies_reserve (Some (later m.moment seconds)) m s there
-replies_asked (requests.ReserveJob id) m s there w =
-    replies_on_job s.number (λ j. not (is_reserved j.state)) (λ j. telling (answers.Reserved j.id j.body) (with_job id (reserved_by m.moment s.number) m)) m (job_with id m.jobs) w
-    (λ j. replies_jobs s.number m (with_job id (reserved_by m.moment s.number) m) (answers.Reserved j.id j.body) w refl refl)
-replies_asked (requests.Delete id) m s there w =
-    replies_on_job s.number (is_free_for s) (λ j. telling answers.Deleted (after_delete m j)) m (job_with id m.jobs) w
-    (λ j. replies_jobs s.number m (after_delete m j) answers.Deleted w refl refl)
-replies_asked (requests.Release id pri delay) m s there w =
-    replies_on_job s.number (is_held_by s.number) (λ j. telling answers.Released (with_job id (released m.moment pri delay) m)) m (job_with id m.jobs) w
-    (λ j. replies_jobs s.number m (with_job id (released m.moment pri delay) m) answers.Released w refl refl)
-replies_asked (requests.Bury id pri) m s there w =
-    replies_on_job s.number (is_held_by s.number) (λ j. telling answers.Buried (record (with_job id (buried (raised m.burials) pri) m) { burials = raised m.burials })) m (job_with id m.jobs) w
-    (λ j. replies_jobs s.number m _ answers.Buried w refl refl)
-replies_asked (requests.Touch id) m s there w =
-    replies_on_job s.number (is_held_by s.number) (λ j. telling answers.Touched (with_job id (in_state (states.Reserved s.number (later m.moment j.ttr))) m)) m (job_with id m.jobs) w
-    (λ j. replies_jobs s.number m _ answers.Touched w refl refl)
-replies_asked (requests.Kick bound) m s there w = replies_jobs s.number m _ _ w refl refl
-replies_asked (requests.KickJob id) m s there w =
-    replies_on_job s.number _ (λ j. telling answers.Kicked (with_job id kicked m)) m (job_with id m.jobs) w (λ j. replies_jobs s.number m _ answers.Kicked w refl refl)
-replies_asked (requests.Use tube) m s there w = replies_seat s.number s.number (using tube) m (answers.Using tube) w refl (λ s. refl) (λ s. refl) (λ s. refl)
-replies_asked requests.ListTubeUsed m s there w = replies_jobs s.number m m (answers.Using s.used) w refl refl
-replies_asked (requests.Watch tube) m s there w = replies_seat s.number s.number (watching (watched_with tube s)) m _ w refl (λ s. refl) (λ s. refl) (λ s. refl)
-replies_asked (requests.Ignore tube) m s there w = replies_watching s.number _ m s w
-replies_asked (requests.Peek id) m s there w = replies_showing s.number m (job_with id m.jobs) w
-replies_asked requests.PeekReady m s there w = replies_showing s.number m _ w
-replies_asked requests.PeekDelayed m s there w = replies_showing s.number m _ w
-replies_asked requests.PeekBuried m s there w = replies_showing s.number m _ w
-replies_asked (requests.PauseTube tube delay) m s there w =
-    cond_both (is_tube tube m) _ _ (Replies s.number 1 false m.seats) (λ e. replies_jobs s.number m _ answers.Paused w refl refl) (λ e. replies_jobs s.number m m answers.NotFound w refl refl)
-replies_asked (requests.StatsJob id) m s there w = replies_statistics s.number m (job_with id m.jobs) w
-replies_asked (requests.StatsTube tube) m s there w =
-    cond_both (is_tube tube m) _ _ (Replies s.number 1 false m.seats) (λ e. replies_jobs s.number m m _ w refl refl) (λ e. replies_jobs s.number m m answers.NotFound w refl refl)
-replies_asked requests.Stats m s there w = replies_jobs s.number m m _ w refl refl
-replies_asked requests.ListTubes m s there w = replies_jobs s.number m m _ w refl refl
-replies_asked requests.ListTubesWatched m s there w = replies_jobs s.number m m _ w refl refl
-replies_asked requests.Quit m s there w = record { count = rw w refl; at_once = λ e. w; unclosed = refl; connected = refl }
-replies_asked (requests.Refused why) m s there w = replies_jobs s.number m m (refusal_answer why) w (refusal_stays why) refl
-
--- an open client that doesn't wait asks
-pub replies_effect : (m : Machine) (seat : ℕ) (request : Request) (f : Found seat m.seats) → connected_in seat m.seats ≡ true → waits_in seat m.seats ≡ false → Replies seat (answers_wanted request) (is_waiting_request request) m.seats (effect m seat (steps.Ask request))
-replies_effect m seat request f c w =
-    let s = f.client in
-    let open_now : s.connected ≡ true = sym f.connected ∙ c in
-    let waits_not : is_waiting s ≡ false = sym f.waits ∙ w in
-    subst (λ o. Replies seat (answers_wanted request) (is_waiting_request request) m.seats (at_found (steps.Ask request) m o)) (sym f.found)
-    (subst (λ b. Replies seat (answers_wanted request) (is_waiting_request request) m.seats (cond b (asked request m s) (silent m))) (sym (and_from s.connected (not (is_waiting s)) open_now (ap not waits_not)))
-    (subst (λ n. Replies n (answers_wanted request) (is_waiting_request request) m.seats (asked request m s)) f.number
-    (replies_asked request m s f.there (subst (λ n. waits_in n m.seats ≡ false) (sym f.number) w))))
-
-wants_one : (request : Request) → step_takes_memory (steps.Ask request) ≡ true → answers_wanted request ≡ 1
-wants_one requests.Quit h = absurd cc
-wants_one _ h = refl
-
--- What shares a body is an answer to a request that wants one.
-shares_one : (request : Request) (o : Option Answer) (n : ℕ) → shares_body o ≡ true → length (told o) + n ≡ answers_wanted request → answers_wanted request ≡ 1
-shares_one requests.Quit None n h e = absurd cc
-shares_one requests.Quit (Some answer) n h e = let one : 1 + n ≡ 0 = e in absurd (omega arith)
-shares_one _ o n h e = refl
-
--- the same whatever became of the memory that it wanted
-pub replies_acted : (memory : Memory) (m : Machine) (seat : ℕ) (request : Request) → waits_in seat m.seats ≡ false → IsTrue (is_possible memory m seat (steps.Ask request)) → Replies seat (answers_wanted request) (is_waiting_request request) m.seats (effect m seat (steps.Ask request)) → Replies seat (answers_wanted request) (is_waiting_request request) m.seats (acted memory m seat (steps.Ask request))
-replies_acted granted m seat request w p h = h
-replies_acted growth_refused m seat request w p h =
-    let one = wants_one request ((and_parts _ _ p).0) in
-    subst (λ n. Replies seat n (is_waiting_request request) m.seats (telling answers.OutOfMemory m)) (sym one) (replies_jobs seat m m answers.OutOfMemory w refl refl)
-replies_acted share_refused m seat request w p h =
-    let one = shares_one request (effect m seat (steps.Ask request)).answer _ p h.count in
-    subst (λ n. Replies seat n (is_waiting_request request) m.seats (telling answers.OutOfMemory m)) (sym one) (replies_jobs seat m m answers.OutOfMemory w refl refl)
-
--- What a command at a seat leaves to the client of another.
-pub record Stays (client number : ℕ) (m : Machine) (e : Effect) : Type 0 where
-  pub settings : (e.machine).settings ≡ m.settings
-  pub waits : (number == client) ≡ false → waits_in client (e.machine).seats ≡ waits_in client m.seats
-  pub connected : (number == client) ≡ false → connected_in client (e.machine).seats ≡ connected_in client m.seats
-
-stays_same : (client number : ℕ) (m : Machine) (e : Effect) → (e.machine).settings ≡ m.settings → (e.machine).seats ≡ m.seats → Stays client number m e
-stays_same client number m e same seats = record { settings = same; waits = λ d. ap (waits_in client) seats; connected = λ d. ap (connected_in client) seats }
-
-changed_elsewhere : (client number : ℕ) (f : SeatRecord → SeatRecord) (q : SeatRecord → Bool) (seats : List SeatRecord) → (number == client) ≡ false → ((s : SeatRecord) → (f s).number ≡ s.number) → list_any (λ s. s.number == client && q s) (changed number f seats) ≡ list_any (λ s. s.number == client && q s) seats
+-- A change of another seat leaves the test of this one.
+pub changed_elsewhere : (client number : ℕ) (f : SeatRecord → SeatRecord) (q : SeatRecord → Bool) (seats : List SeatRecord) → (number == client) ≡ false → ((s : SeatRecord) → (f s).number ≡ s.number) → list_any (λ s. s.number == client && q s) (changed number f seats) ≡ list_any (λ s. s.number == client && q s) seats
 changed_elsewhere client number f q seats other same =
     any_of_map (λ s. s.number == client && q s) (λ s. s.number == client && q s) (λ s. cond (s.number == number) (f s) s) seats
     (λ s. cond_both (s.number == number) (f s) s (λ t. (t.number == client && q t) ≡ (s.number == client && q s))
@@ -435,99 +276,3 @@ changed_elsewhere client number f q seats other same =
     let there : ((f s).number == client) ≡ false = subst (λ n. (n == client) ≡ false) (sym (same s)) elsewhere in
     rw (elsewhere, there) refl)
     (λ e. refl))
-
-stays_seat : (client number : ℕ) (f : SeatRecord → SeatRecord) (m : Machine) (e : Effect) → ((s : SeatRecord) → (f s).number ≡ s.number) → (e.machine).settings ≡ m.settings → (e.machine).seats ≡ changed number f m.seats → Stays client number m e
-stays_seat client number f m e same settings seats = record {
-  settings = settings;
-  waits = λ d. ap (waits_in client) seats ∙ changed_elsewhere client number f is_waiting m.seats d same;
-  connected = λ d. ap (connected_in client) seats ∙ changed_elsewhere client number f (λ s. s.connected) m.seats d same;
-}
-
-stays_found : (client number : ℕ) (passes : Job → Bool) (act : Job → Effect) (m : Machine) (o : Option Job) → ((j : Job) → Stays client number m (act j)) → Stays client number m (on_found passes act m o)
-stays_found client number passes act m None goes = stays_same client number m (telling answers.NotFound m) refl refl
-stays_found client number passes act m (Some j) goes =
-    cond_both (passes j) (act j) (telling answers.NotFound m) (Stays client number m) (λ e. goes j) (λ e. stays_same client number m (telling answers.NotFound m) refl refl)
-
-stays_showing : (client number : ℕ) (m : Machine) (o : Option Job) → Stays client number m (showing m o)
-stays_showing client number m None = stays_same client number m _ refl refl
-stays_showing client number m (Some j) = stays_same client number m _ refl refl
-
-stays_statistics : (client number : ℕ) (m : Machine) (o : Option Job) → Stays client number m (job_statistics_or_not m o)
-stays_statistics client number m None = stays_same client number m _ refl refl
-stays_statistics client number m (Some j) = stays_same client number m _ refl refl
-
-stays_watching : (client : ℕ) (tubes : List (List ℕ)) (m : Machine) (s : SeatRecord) → Stays client s.number m (watching_or_refused tubes m s)
-stays_watching client [] m s = stays_same client s.number m (telling answers.NotIgnored m) refl refl
-stays_watching client (tube ∷ tubes) m s = stays_seat client s.number (watching (tube ∷ tubes)) m (watching_or_refused (tube ∷ tubes) m s) (λ t. refl) refl refl
-
-stays_asked : (client : ℕ) (request : Request) (m : Machine) (s : SeatRecord) → Stays client s.number m (asked request m s)
-stays_asked client (requests.Put pri delay ttr body) m s =
-    each_put pri delay ttr body m s (Stays client s.number m) (λ e. stays_same client s.number m (telling answers.Draining m) refl refl)
-    (λ e f. stays_same client s.number m (telling answers.OutOfMemory m) refl refl)
-    (λ e f. stays_same client s.number m (telling (answers.Inserted m.next_id) (after_put m (new_job m s pri delay ttr body))) refl refl)
-stays_asked client requests.Reserve m s = stays_seat client s.number (waiting_from (raised m.tickets) None) m (reserve_effect None m s) (λ t. refl) refl refl
-stays_asked client (requests.ReserveWithTimeout seconds) m s = stays_seat client s.number (waiting_from (raised m.tickets) (Some (later m.moment seconds))) m (reserve_effect (Some (later m.moment seconds)) m s) (λ t. refl) refl refl
-stays_asked client (requests.ReserveJob id) m s =
-    stays_found client s.number (λ j. not (is_reserved j.state)) (λ j. telling (answers.Reserved j.id j.body) (with_job id (reserved_by m.moment s.number) m)) m (job_with id m.jobs) (λ j. stays_same client s.number m _ refl refl)
-stays_asked client (requests.Delete id) m s = stays_found client s.number (is_free_for s) (λ j. telling answers.Deleted (after_delete m j)) m (job_with id m.jobs) (λ j. stays_same client s.number m _ refl refl)
-stays_asked client (requests.Release id pri delay) m s =
-    stays_found client s.number (is_held_by s.number) (λ j. telling answers.Released (with_job id (released m.moment pri delay) m)) m (job_with id m.jobs) (λ j. stays_same client s.number m _ refl refl)
-stays_asked client (requests.Bury id pri) m s =
-    stays_found client s.number (is_held_by s.number) (λ j. telling answers.Buried (record (with_job id (buried (raised m.burials) pri) m) { burials = raised m.burials })) m (job_with id m.jobs) (λ j. stays_same client s.number m _ refl refl)
-stays_asked client (requests.Touch id) m s =
-    stays_found client s.number (is_held_by s.number) (λ j. telling answers.Touched (with_job id (in_state (states.Reserved s.number (later m.moment j.ttr))) m)) m (job_with id m.jobs) (λ j. stays_same client s.number m _ refl refl)
-stays_asked client (requests.Kick bound) m s = stays_same client s.number m _ refl refl
-stays_asked client (requests.KickJob id) m s = stays_found client s.number _ (λ j. telling answers.Kicked (with_job id kicked m)) m (job_with id m.jobs) (λ j. stays_same client s.number m _ refl refl)
-stays_asked client (requests.Use tube) m s = stays_seat client s.number (using tube) m _ (λ t. refl) refl refl
-stays_asked client requests.ListTubeUsed m s = stays_same client s.number m _ refl refl
-stays_asked client (requests.Watch tube) m s = stays_seat client s.number (watching (watched_with tube s)) m _ (λ t. refl) refl refl
-stays_asked client (requests.Ignore tube) m s = stays_watching client _ m s
-stays_asked client (requests.Peek id) m s = stays_showing client s.number m (job_with id m.jobs)
-stays_asked client requests.PeekReady m s = stays_showing client s.number m _
-stays_asked client requests.PeekDelayed m s = stays_showing client s.number m _
-stays_asked client requests.PeekBuried m s = stays_showing client s.number m _
-stays_asked client (requests.PauseTube tube delay) m s = cond_both (is_tube tube m) _ _ (Stays client s.number m) (λ e. stays_same client s.number m _ refl refl) (λ e. stays_same client s.number m _ refl refl)
-stays_asked client (requests.StatsJob id) m s = stays_statistics client s.number m (job_with id m.jobs)
-stays_asked client (requests.StatsTube tube) m s = cond_both (is_tube tube m) _ _ (Stays client s.number m) (λ e. stays_same client s.number m _ refl refl) (λ e. stays_same client s.number m _ refl refl)
-stays_asked client requests.Stats m s = stays_same client s.number m _ refl refl
-stays_asked client requests.ListTubes m s = stays_same client s.number m _ refl refl
-stays_asked client requests.ListTubesWatched m s = stays_same client s.number m _ refl refl
-stays_asked client requests.Quit m s = stays_same client s.number m _ refl refl
-stays_asked client (requests.Refused why) m s = stays_same client s.number m _ refl refl
-
-stays_at : (client : ℕ) (what : Step) (m : Machine) (s : SeatRecord) → Stays client s.number m (at_found what m (Some s))
-stays_at client steps.Connect m s = cond_both s.connected (silent m) (silent (after_connect m s.number)) (Stays client s.number m)
-    (λ e. stays_same client s.number m (silent m) refl refl)
-    (λ e. stays_seat client s.number (λ t. record (empty_seat t.number) { connected = true }) m (silent (after_connect m s.number)) (λ t. refl) refl refl)
-stays_at client (steps.Ask request) m s = cond_both (s.connected && not (is_waiting s)) (asked request m s) (silent m) (Stays client s.number m) (λ e. stays_asked client request m s) (λ e. stays_same client s.number m (silent m) refl refl)
-stays_at client steps.End m s = cond_both s.connected (silent (with_seat s.number with_end m)) (silent m) (Stays client s.number m)
-    (λ e. stays_seat client s.number with_end m (silent (with_seat s.number with_end m)) (λ t. refl) refl refl) (λ e. stays_same client s.number m (silent m) refl refl)
-stays_at client steps.Close m s = cond_both s.connected (telling answers.Closed (after_close m s.number)) (silent m) (Stays client s.number m)
-    (λ e. stays_seat client s.number (λ t. empty_seat t.number) m (telling answers.Closed (after_close m s.number)) (λ t. refl) refl refl) (λ e. stays_same client s.number m (silent m) refl refl)
-stays_at client steps.Drain m s = stays_same client s.number m _ refl refl
-stays_at client steps.Tick m s = stays_same client s.number m (silent m) refl refl
-stays_at client steps.Gone m s = stays_same client s.number m (silent m) refl refl
-
-stays_at_found : (client seat : ℕ) (what : Step) (m : Machine) (o : Option SeatRecord) → seat_with seat m.seats ≡ o → Stays client seat m (at_found what m o)
-stays_at_found client seat what m None e = stays_same client seat m (silent m) refl refl
-stays_at_found client seat what m (Some s) e =
-    let p = found_passes (λ t. t.number == seat) m.seats s e in
-    subst (λ n. Stays client n m (at_found what m (Some s))) (eqb-true s.number seat p.0) (stays_at client what m s)
-
-stays_effect : (client : ℕ) (m : Machine) (seat : ℕ) (what : Step) → Stays client seat m (effect m seat what)
-stays_effect client m seat steps.Drain = stays_same client seat m _ refl refl
-stays_effect client m seat steps.Connect = stays_at_found client seat steps.Connect m (seat_with seat m.seats) refl
-stays_effect client m seat (steps.Ask request) = stays_at_found client seat (steps.Ask request) m (seat_with seat m.seats) refl
-stays_effect client m seat steps.End = stays_at_found client seat steps.End m (seat_with seat m.seats) refl
-stays_effect client m seat steps.Close = stays_at_found client seat steps.Close m (seat_with seat m.seats) refl
-stays_effect client m seat steps.Tick = stays_same client seat m (silent m) refl refl
-stays_effect client m seat steps.Gone = stays_same client seat m (silent m) refl refl
-
-pub stays_acted : (client : ℕ) (memory : Memory) (m : Machine) (seat : ℕ) (what : Step) → Stays client seat m (acted memory m seat what)
-stays_acted client granted m seat what = stays_effect client m seat what
-stays_acted client growth_refused m seat what = stays_same client seat m (telling answers.OutOfMemory m) refl refl
-stays_acted client share_refused m seat what = stays_same client seat m (telling answers.OutOfMemory m) refl refl
-
-pub told_elsewhere : (client seat : ℕ) (o : Option Answer) → (seat == client) ≡ false → answers_to client (addressed seat o) ≡ []
-told_elsewhere client seat None d = refl
-told_elsewhere client seat (Some answer) d = rw d refl

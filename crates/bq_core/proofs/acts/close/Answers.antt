@@ -5,7 +5,7 @@ use Rattle.bq_job.specs.machine.Acts.{telling}
 use Rattle.bq_job.specs.machine.Changes.{with_seat}
 use Rattle.bq_job.specs.machine.JobStates.{is_reserved}
 use Rattle.bq_job.specs.machine.Machine.{Machine}
-use Rattle.bq_job.proofs.ActLemmas.{free_by_delay}
+use Rattle.bq_job.proofs.BecomeLemmas.{free_by_delay}
 use Rattle.bq_jobs.specs.Kept.{Kept}
 use Rattle.bq_core.specs.Asking.{AsksAsChanged}
 use Rattle.bq_steps.specs.Cost.{changed_jobs}

@@ -1,0 +1,130 @@
+-- What becomes of a job that a command changes: who held it, and what is told of it.
+use Rattle.std.proofs.Common.{ℕ, zero, suc, ◌≡◌, Bool, true, false, ◌||◌, cond, List, [], ◌∷◌, sym, ap, ◌∙◌, refl, subst, inl, inr, Some}
+use Rattle.std.specs.Prelude.{filter, take, ◌==◌}
+use Rattle.std.specs.List.{AllByRecursion as All, Contains, list_any}
+use Rattle.std.proofs.lemmas.Bool.{and_parts, or_cases, or_left, or_right, cond_both, eqb-true, eq-eqb}
+use Rattle.bq_job.specs.declared.job.Job.{Job}
+use Rattle.bq_job.specs.declared.job.JobState.{JobState}
+use Rattle.bq_job.specs.declared.job.JobState.TheVariants as states
+use Rattle.bq_job.specs.declared.step.Step.{Step}
+use Rattle.bq_job.specs.machine.Changes.{is_held_by, is_holder, is_ready, is_ready_state, job_with}
+use Rattle.bq_job.specs.machine.JobCommands.{delayed_by, in_order, is_buried_in, is_delayed_in, kickable, kicked_first, put_in_order}
+use Rattle.bq_job.specs.machine.JobStates.{is_buried, is_buried_before, is_delayed, is_due_before, is_reserved}
+use Rattle.bq_job.specs.beside.Lawful.{AreIdsWithin}
+use Rattle.bq_job.specs.machine.Limits.{later}
+use Rattle.bq_job.specs.laws.Happenings.{Happening, change, given_up, named, taken_up}
+use Rattle.bq_job.specs.reading.TubeName.{is_same_name}
+use Rattle.bq_job.specs.laws.Undisturbed.{disturbs}
+use Rattle.bq_job.proofs.ChangeLemmas.{Becomes, becomes_itself}
+use Rattle.bq_job.proofs.ListLemmas.{all_from_members, all_of_filter, all_weaker}
+use Rattle.bq_job.proofs.LookupLemmas.{job_found}
+
+-- a job that is ready or delayed is held by nobody
+pub free_by_delay : (delay moment : ℕ) → is_reserved (delayed_by delay moment) ≡ false
+free_by_delay delay moment = cond_both (delay == 0) states.Ready (states.Delayed (later moment delay)) (λ s. is_reserved s ≡ false) (λ e. refl) (λ e. refl)
+
+pub held_not_ready : (seat : ℕ) (j : Job) → is_held_by seat j ≡ true → is_ready j ≡ true → ⊥
+held_not_ready seat j h i = of_state j.state h i
+  where
+    of_state : (s : JobState) → is_holder seat s ≡ true → is_ready_state s ≡ true → ⊥
+    of_state states.Ready h i = absurd cc
+    of_state (states.Delayed due) h i = absurd cc
+    of_state (states.Reserved holder deadline) h i = absurd cc
+    of_state (states.Buried number) h i = absurd cc
+
+pub put_aside_not_held : (s : JobState) → (is_buried s || is_delayed s) ≡ true → is_reserved s ≡ true → ⊥
+put_aside_not_held states.Ready h i = absurd cc
+put_aside_not_held (states.Delayed due) h i = absurd cc
+put_aside_not_held (states.Reserved holder deadline) h i = absurd cc
+put_aside_not_held (states.Buried number) h i = absurd cc
+
+-- A held job that its holder gives up is told of.
+pub told_if_given_up : (what : Step) (id : ℕ) (before : JobState) (delay moment : ℕ) → is_reserved before ≡ true → list_any (disturbs id) (given_up what id) ≡ true → list_any (disturbs id) (change what id before (delayed_by delay moment)) ≡ true
+told_if_given_up what id before delay moment h told =
+    cond_both (delay == 0) states.Ready (states.Delayed (later moment delay)) (λ s. list_any (disturbs id) (change what id before s) ≡ true) (λ e. ready before h) (λ e. delayed before h)
+  where
+    ready : (s : JobState) → is_reserved s ≡ true → list_any (disturbs id) (change what id s states.Ready) ≡ true
+    ready states.Ready i = absurd cc
+    ready (states.Delayed due) i = absurd cc
+    ready (states.Reserved holder deadline) i = told
+    ready (states.Buried number) i = absurd cc
+
+    delayed : (s : JobState) → is_reserved s ≡ true → list_any (disturbs id) (change what id s (states.Delayed (later moment delay))) ≡ true
+    delayed states.Ready i = absurd cc
+    delayed (states.Delayed due) i = absurd cc
+    delayed (states.Reserved holder deadline) i = told
+    delayed (states.Buried number) i = absurd cc
+
+pub told_if_buried : (what : Step) (id : ℕ) (before : JobState) (number : ℕ) → is_reserved before ≡ true → list_any (disturbs id) (given_up what id) ≡ true → list_any (disturbs id) (change what id before (states.Buried number)) ≡ true
+told_if_buried what id states.Ready number h told = absurd cc
+told_if_buried what id (states.Delayed due) number h told = absurd cc
+told_if_buried what id (states.Reserved holder deadline) number h told = told
+told_if_buried what id (states.Buried burial) number h told = absurd cc
+
+pub told_if_taken : (what : Step) (id : ℕ) (before : JobState) (seat deadline : ℕ) → is_ready_state before ≡ true → list_any (disturbs id) (taken_up what id) ≡ true → list_any (disturbs id) (change what id before (states.Reserved seat deadline)) ≡ true
+told_if_taken what id states.Ready seat deadline h told = told
+told_if_taken what id (states.Delayed due) seat deadline h told = absurd cc
+told_if_taken what id (states.Reserved holder until) seat deadline h told = absurd cc
+told_if_taken what id (states.Buried number) seat deadline h told = absurd cc
+
+pub itself_told : (id : ℕ) → ((id == id) || false) ≡ true
+itself_told id = or_left (id == id) false (eq-eqb id id refl)
+
+pub told_by_name : (other id : ℕ) (h : Happening) → other ≡ id → disturbs id h ≡ true → list_any (disturbs id) (named other id h) ≡ true
+told_by_name other id h e d = rw (eq-eqb other id e) (or_left (disturbs id h) false d)
+
+-- what holds of all holds of all in order, and of the first of them
+all_put_in_order : (P : Job → Type 0) (before : Job → Job → Bool) (j : Job) (jobs : List Job) → P j → All P jobs → All P (put_in_order before j jobs)
+all_put_in_order P before j [] h i = (h, tt)
+all_put_in_order P before j (k ∷ jobs) h i =
+    cond_both (before k j) (k ∷ put_in_order before j jobs) (j ∷ k ∷ jobs) (All P) (λ e. (i.0, all_put_in_order P before j jobs h i.1)) (λ e. (h, i))
+
+all_in_order : (P : Job → Type 0) (before : Job → Job → Bool) (jobs : List Job) → All P jobs → All P (in_order before jobs)
+all_in_order P before [] h = tt
+all_in_order P before (j ∷ jobs) h = all_put_in_order P before j (in_order before jobs) h.0 (all_in_order P before jobs h.1)
+
+pub all_of_take : (P : Job → Type 0) (n : ℕ) (jobs : List Job) → All P jobs → All P (take n jobs)
+all_of_take P zero jobs h = tt
+all_of_take P (suc n) [] h = tt
+all_of_take P (suc n) (j ∷ jobs) h = (h.0, all_of_take P n jobs h.1)
+
+-- the job of the list, which nobody holds
+abbrev pub IsAside : List Job → Job → Type 0
+IsAside jobs k = (job_with k.id jobs ≡ Some k) × (is_reserved k.state ≡ true → ⊥)
+
+aside_of_filter : (jobs : List Job) (p : Job → Bool) (next : ℕ) → AreIdsWithin 1 jobs next → ((j : Job) → p j ≡ true → (is_buried j.state || is_delayed j.state) ≡ true) → All (IsAside jobs) (filter p jobs)
+aside_of_filter jobs p next ids only =
+    all_weaker (λ j. (job_with j.id jobs ≡ Some j) × (p j ≡ true)) (IsAside jobs) (filter p jobs) (λ j h. (h.0, put_aside_not_held j.state (only j h.1)))
+    (all_of_filter (λ j. job_with j.id jobs ≡ Some j) p jobs (all_from_members (λ j. job_with j.id jobs ≡ Some j) jobs (λ j i. (job_found 1 next jobs j ids i).0)))
+
+pub kickable_aside : (tube : List ℕ) (jobs : List Job) (next : ℕ) → AreIdsWithin 1 jobs next → All (IsAside jobs) (kickable tube jobs)
+kickable_aside tube jobs next ids =
+    of_first (filter (is_buried_in tube) jobs)
+    (aside_of_filter jobs (is_buried_in tube) next ids (λ j e. or_left (is_buried j.state) (is_delayed j.state) (and_parts (is_buried j.state) (is_same_name tube j.tube) e).0))
+  where
+    of_first : (first : List Job) → All (IsAside jobs) first → All (IsAside jobs) (kicked_first tube jobs first)
+    of_first [] h =
+        all_in_order (IsAside jobs) is_due_before (filter (is_delayed_in tube) jobs)
+        (aside_of_filter jobs (is_delayed_in tube) next ids (λ j e. or_right (is_buried j.state) (is_delayed j.state) (and_parts (is_delayed j.state) (is_same_name tube j.tube) e).0))
+    of_first (j ∷ first) h = all_in_order (IsAside jobs) is_buried_before (j ∷ first) h
+
+pub chosen_not_held : (jobs chosen : List Job) (j : Job) → job_with j.id jobs ≡ Some j → All (IsAside jobs) chosen → list_any (λ k. k.id == j.id) chosen ≡ true → is_reserved j.state ≡ true → ⊥
+chosen_not_held jobs [] j found h any held = absurd cc
+chosen_not_held jobs (k ∷ chosen) j found h any held =
+    elim (or_cases (k.id == j.id) (list_any (λ k. k.id == j.id) chosen) any) [
+      | inl e ↦
+          let both : Some k ≡ Some j = sym h.0.0 ∙ ap (λ id. job_with id jobs) (eqb-true k.id j.id e) ∙ found in
+          let same : k ≡ j = (cc) in
+          h.0.1 (subst (λ (l : Job). is_reserved l.state ≡ true) (sym same) held)
+      | inr e ↦ chosen_not_held jobs chosen j found h.1 e held
+    ]
+
+-- Where the job of one id changes, each job of the list becomes what it may.
+pub one_becomes : (what : Step) (id : ℕ) (f : Job → Job) (jobs : List Job) (next : ℕ) (j : Job) → AreIdsWithin 1 jobs next → job_with id jobs ≡ Some j → Becomes what j (f j) → (k : Job) → Contains jobs k → Becomes what k (cond (k.id == id) (f k) k)
+one_becomes what id f jobs next j ids found becomes k i =
+    cond_both (k.id == id) (f k) k (λ l. Becomes what k l)
+    (λ e.
+    let both : Some j ≡ Some k = sym found ∙ subst (λ n. job_with n jobs ≡ Some k) (eqb-true k.id id e) (job_found 1 next jobs k ids i).0 in
+    let is : j ≡ k = (cc) in
+    subst (λ l. Becomes what l (f l)) is becomes)
+    (λ e. becomes_itself what k)

@@ -1,0 +1,204 @@
+-- Of which kind each command is: the one list of cases over all requests.
+use Rattle.std.proofs.Common.{ℕ, ◌≡◌, ◌≤◌, Bool, true, false, ◌||◌, not, cond, List, [], ◌∷◌, refl, sym, ap, inl, inr, ◌⊎◌, Option, Some, None}
+use Rattle.std.specs.Prelude.{filter, length, take, ◌==◌}
+use Rattle.std.specs.List.{list_any}
+use Rattle.std.proofs.Math.Nat.{min-le_right}
+use Rattle.std.proofs.lemmas.Bool.{and_parts, cond_both, eq-eqb}
+use Rattle.bq_job.specs.declared.answer.Answer.{Answer}
+use Rattle.bq_job.specs.declared.answer.Answer.TheVariants as answers
+use Rattle.bq_job.specs.declared.job.Job.{Job}
+use Rattle.bq_job.specs.declared.job.JobState.TheVariants as states
+use Rattle.bq_job.specs.declared.refusal.Refusal.{Refusal}
+use Rattle.bq_job.specs.declared.refusal.Refusal.TheVariants as refusals
+use Rattle.bq_job.specs.declared.request.Request.{Request}
+use Rattle.bq_job.specs.declared.request.Request.TheVariants as requests
+use Rattle.bq_job.specs.declared.step.Step.TheVariants as steps
+use Rattle.bq_job.specs.machine.Acts.{Effect, on_found, on_job, showing, telling}
+use Rattle.bq_job.specs.machine.Asked.{asked, refusal_answer}
+use Rattle.bq_job.specs.machine.Changes.{first_of, in_state, is_held_by, job_with, with_job}
+use Rattle.bq_job.specs.machine.Dispatch.{is_job_before, reserved_by}
+use Rattle.bq_job.specs.machine.JobCommands.{after_delete, buried, is_buried_in, is_delayed_in, is_free_for, kickable, kicked, released}
+use Rattle.bq_job.specs.machine.JobStates.{is_buried, is_buried_before, is_delayed, is_due_before, is_reserved}
+use Rattle.bq_job.specs.machine.Limits.{greatest, later, raised}
+use Rattle.bq_job.specs.machine.Machine.{Machine, SeatRecord}
+use Rattle.bq_job.specs.machine.OneClient.{is_closed_answer}
+use Rattle.bq_job.specs.machine.Statistics.{job_statistics, name_list, server_statistics, tube_statistics, tubes}
+use Rattle.bq_job.specs.machine.StatisticsCommands.{job_statistics_or_not}
+use Rattle.bq_job.specs.machine.TubeCommands.{is_ready_in, using, watched_with, watching, watching_or_refused, with_pause}
+use Rattle.bq_job.specs.machine.Tubes.{is_tube, with_tube}
+use Rattle.bq_job.specs.promise.LineSteps.{answers_wanted}
+use Rattle.bq_job.specs.beside.Lawful.{has_one, none_twice, watches_once}
+use Rattle.bq_job.specs.beside.Refusals.{is_refusal}
+use Rattle.bq_job.specs.laws.Happenings.{buried as happens_buried, released as happens_released, reserved_by_id}
+use Rattle.bq_job.specs.reading.TubeName.{is_same_name}
+use Rattle.bq_job.proofs.BecomeLemmas.{IsAside, all_of_take, chosen_not_held, free_by_delay, held_not_ready, kickable_aside, one_becomes, put_aside_not_held, told_by_name, told_if_buried, told_if_given_up, told_if_taken}
+use Rattle.bq_job.proofs.ChangeLemmas.{Becomes, becomes_itself}
+use Rattle.bq_job.proofs.EffectKinds.{IsFreeOrOwn, Kind, SaysDone, adds, changes_jobs, changes_seat, changes_tube, deletes, is_common, passes, tells, waits}
+use Rattle.bq_job.proofs.LookupLemmas.{found_job, job_found}
+use Rattle.bq_job.proofs.PutLemmas.{each_put}
+use Rattle.bq_job.proofs.WatchedLemmas.{none_twice_filter, watched_still}
+
+-- an answer that says that the command was carried out, and no RESERVED
+says : {request : Request} (answer : Answer) → answers_wanted request ≡ 1 → is_closed_answer answer ≡ false → is_refusal answer ≡ false → is_common (Some answer) ≡ true → SaysDone request answer
+says answer wanted unclosed done common = record { wanted = wanted; unclosed = unclosed; done = done; own = inl common }
+
+-- a command on the job of an id: it finds one that passes, or answers NOT_FOUND
+on_one : (request : Request) (id : ℕ) (test : Job → Bool) (act : Job → Effect) (m : Machine) (s : SeatRecord) → answers_wanted request ≡ 1 → ((j : Job) → job_with id m.jobs ≡ Some j → test j ≡ true → Kind m s request (act j)) → Kind m s request (on_job id test act m)
+on_one request id test act m s one each = of_found (job_with id m.jobs) refl
+  where
+    of_found : (o : Option Job) → job_with id m.jobs ≡ o → Kind m s request (on_found test act m o)
+    of_found None e = tells answers.NotFound one refl refl
+    of_found (Some j) e = cond_both (test j) (act j) (telling answers.NotFound m) (Kind m s request) (λ p. each j e p) (λ p. tells answers.NotFound one refl refl)
+
+-- The job of one id changes.
+one_changes : (request : Request) (m : Machine) (s : SeatRecord) (answer : Answer) (id : ℕ) (f : Job → Job) (burials : ℕ) (j : Job) → job_with id m.jobs ≡ Some j → SaysDone request answer → (m.burials ≤ greatest → burials ≤ greatest)
+    → ((k : Job) → (f k).id ≡ k.id) → ((k : Job) → IsFreeOrOwn s (f k)) → Becomes (steps.Ask request) j (f j) → Kind m s request (telling answer (record (with_job id f m) { burials = burials }))
+one_changes request m s answer id f burials j found done counts same holder becomes =
+    changes_jobs answer (λ k. cond (k.id == id) (f k) k) burials done (record {
+      counts = counts;
+      same = λ k. cond_both (k.id == id) (f k) k (λ l. l.id ≡ k.id) (λ e. same k) (λ e. refl);
+      holder = λ k. cond_both (k.id == id) (f k) k (λ l. (l ≡ k) ⊎ IsFreeOrOwn s l) (λ e. inr (holder k)) (λ e. inl refl);
+      becomes = λ ids k i. one_becomes (steps.Ask request) id f m.jobs m.next_id j ids found becomes k i;
+    })
+
+reserve_job_kind : (id : ℕ) (m : Machine) (s : SeatRecord) → Kind m s (requests.ReserveJob id) (asked (requests.ReserveJob id) m s)
+reserve_job_kind id m s =
+    on_one (requests.ReserveJob id) id (λ j. not (is_reserved j.state)) (λ j. telling (answers.Reserved j.id j.body) (with_job id (reserved_by m.moment s.number) m)) m s refl
+    (λ j e p.
+    one_changes (requests.ReserveJob id) m s (answers.Reserved j.id j.body) id (reserved_by m.moment s.number) m.burials j e
+    (record { wanted = refl; unclosed = refl; done = refl; own = inr (id, j.body, refl, ap (λ n. answers.Reserved n j.body) (found_job id m.jobs j e).0) })
+    (λ h. h) (λ k. refl) (λ k. inr (eq-eqb s.number s.number refl))
+    (record {
+      id = refl;
+      tube = refl;
+      body = refl;
+      ready = λ h. inr (told_if_taken (steps.Ask (requests.ReserveJob id)) j.id j.state s.number (later m.moment j.ttr) h (told_by_name id j.id (reserved_by_id j.id) (sym (found_job id m.jobs j e).0) (eq-eqb j.id j.id refl)));
+      held = λ h. inl refl;
+    }))
+
+delete_kind : (id : ℕ) (m : Machine) (s : SeatRecord) → Kind m s (requests.Delete id) (asked (requests.Delete id) m s)
+delete_kind id m s = on_one (requests.Delete id) id (is_free_for s) (λ j. telling answers.Deleted (after_delete m j)) m s refl (λ j e p. deletes id j refl e p)
+
+release_kind : (id pri delay : ℕ) (m : Machine) (s : SeatRecord) → Kind m s (requests.Release id pri delay) (asked (requests.Release id pri delay) m s)
+release_kind id pri delay m s =
+    on_one (requests.Release id pri delay) id (is_held_by s.number) (λ j. telling answers.Released (with_job id (released m.moment pri delay) m)) m s refl
+    (λ j e p.
+    one_changes (requests.Release id pri delay) m s answers.Released id (released m.moment pri delay) m.burials j e (says answers.Released refl refl refl refl)
+    (λ h. h) (λ k. refl) (λ k. inl (free_by_delay delay m.moment))
+    (record {
+      id = refl;
+      tube = refl;
+      body = refl;
+      ready = λ h. absurd (held_not_ready s.number j p h);
+      held = λ h. inr (told_if_given_up (steps.Ask (requests.Release id pri delay)) j.id j.state delay m.moment h (told_by_name id j.id (happens_released j.id) (sym (found_job id m.jobs j e).0) (eq-eqb j.id j.id refl)));
+    }))
+
+bury_kind : (id pri : ℕ) (m : Machine) (s : SeatRecord) → Kind m s (requests.Bury id pri) (asked (requests.Bury id pri) m s)
+bury_kind id pri m s =
+    on_one (requests.Bury id pri) id (is_held_by s.number) (λ j. telling answers.Buried (record (with_job id (buried (raised m.burials) pri) m) { burials = raised m.burials })) m s refl
+    (λ j e p.
+    one_changes (requests.Bury id pri) m s answers.Buried id (buried (raised m.burials) pri) (raised m.burials) j e (says answers.Buried refl refl refl refl)
+    (λ h. min-le_right _ greatest) (λ k. refl) (λ k. inl refl)
+    (record {
+      id = refl;
+      tube = refl;
+      body = refl;
+      ready = λ h. absurd (held_not_ready s.number j p h);
+      held = λ h. inr (told_if_buried (steps.Ask (requests.Bury id pri)) j.id j.state (raised m.burials) h (told_by_name id j.id (happens_buried j.id) (sym (found_job id m.jobs j e).0) (eq-eqb j.id j.id refl)));
+    }))
+
+touch_kind : (id : ℕ) (m : Machine) (s : SeatRecord) → Kind m s (requests.Touch id) (asked (requests.Touch id) m s)
+touch_kind id m s =
+    on_one (requests.Touch id) id (is_held_by s.number) (λ j. telling answers.Touched (with_job id (in_state (states.Reserved s.number (later m.moment j.ttr))) m)) m s refl
+    (λ j e p.
+    one_changes (requests.Touch id) m s answers.Touched id (in_state (states.Reserved s.number (later m.moment j.ttr))) m.burials j e (says answers.Touched refl refl refl refl)
+    (λ h. h) (λ k. refl) (λ k. inr (eq-eqb s.number s.number refl))
+    (record { id = refl; tube = refl; body = refl; ready = λ h. absurd (held_not_ready s.number j p h); held = λ h. inl refl }))
+
+kick_kind : (bound : ℕ) (m : Machine) (s : SeatRecord) → Kind m s (requests.Kick bound) (asked (requests.Kick bound) m s)
+kick_kind bound m s =
+    let chosen = take bound (kickable s.used m.jobs) in
+    changes_jobs (answers.KickedCount (length chosen)) (λ j. cond (list_any (λ k. k.id == j.id) chosen) (kicked j) j) m.burials (says (answers.KickedCount (length chosen)) refl refl refl refl) (record {
+      counts = λ h. h;
+      same = λ j. cond_both (list_any (λ k. k.id == j.id) chosen) (kicked j) j (λ k. k.id ≡ j.id) (λ e. refl) (λ e. refl);
+      holder = λ j. cond_both (list_any (λ k. k.id == j.id) chosen) (kicked j) j (λ k. (k ≡ j) ⊎ IsFreeOrOwn s k) (λ e. inr (inl refl)) (λ e. inl refl);
+      becomes = λ ids j i. cond_both (list_any (λ k. k.id == j.id) chosen) (kicked j) j (Becomes (steps.Ask (requests.Kick bound)) j)
+          (λ e. record { id = refl; tube = refl; body = refl; ready = λ h. inl (refl, refl); held = λ h. absurd (chosen_not_held m.jobs chosen j (job_found 1 m.next_id m.jobs j ids i).0 (all_of_take (IsAside m.jobs) bound (kickable s.used m.jobs) (kickable_aside s.used m.jobs m.next_id ids)) e h) })
+          (λ e. becomes_itself (steps.Ask (requests.Kick bound)) j);
+    })
+
+kick_job_kind : (id : ℕ) (m : Machine) (s : SeatRecord) → Kind m s (requests.KickJob id) (asked (requests.KickJob id) m s)
+kick_job_kind id m s =
+    on_one (requests.KickJob id) id (λ j. is_buried j.state || is_delayed j.state) (λ j. telling answers.Kicked (with_job id kicked m)) m s refl
+    (λ j e p.
+    one_changes (requests.KickJob id) m s answers.Kicked id kicked m.burials j e (says answers.Kicked refl refl refl refl) (λ h. h) (λ k. refl) (λ k. inl refl)
+    (record { id = refl; tube = refl; body = refl; ready = λ h. inl (refl, refl); held = λ h. absurd (put_aside_not_held j.state p h) }))
+
+-- commands that show a job, or tell of one
+showing_kind : (request : Request) (m : Machine) (s : SeatRecord) (o : Option Job) → answers_wanted request ≡ 1 → Kind m s request (showing m o)
+showing_kind request m s None one = tells answers.NotFound one refl refl
+showing_kind request m s (Some j) one = tells (answers.Found j.id j.body) one refl refl
+
+statistics_kind : (request : Request) (m : Machine) (s : SeatRecord) (o : Option Job) → answers_wanted request ≡ 1 → Kind m s request (job_statistics_or_not m o)
+statistics_kind request m s None one = tells answers.NotFound one refl refl
+statistics_kind request m s (Some j) one = tells (answers.Ok (job_statistics m j)) one refl refl
+
+watch_kind : (tube : List ℕ) (m : Machine) (s : SeatRecord) → Kind m s (requests.Watch tube) (asked (requests.Watch tube) m s)
+watch_kind tube m s =
+    let watched = watched_with tube s in
+    changes_seat (answers.Watching (length watched)) (watching watched) (says (answers.Watching (length watched)) refl refl refl refl)
+    (record { number = λ t. refl; connected = λ t. refl; wait = λ t. refl; watched = λ w t i. watched_still tube s w })
+
+ignore_kind : (tube : List ℕ) (m : Machine) (s : SeatRecord) → Kind m s (requests.Ignore tube) (asked (requests.Ignore tube) m s)
+ignore_kind tube m s =
+    of_rest (filter (λ name. not (is_same_name tube name)) s.watched)
+    (λ w. none_twice_filter (λ name. not (is_same_name tube name)) s.watched (and_parts (has_one s.watched) (none_twice s.watched) w).1)
+  where
+    of_rest : (names : List (List ℕ)) → (watches_once s ≡ true → none_twice names ≡ true) → Kind m s (requests.Ignore tube) (watching_or_refused names m s)
+    of_rest [] once = tells answers.NotIgnored refl refl refl
+    of_rest (name ∷ names) once =
+        changes_seat (answers.Watching (length (name ∷ names))) (watching (name ∷ names)) (says (answers.Watching (length (name ∷ names))) refl refl refl refl)
+        (record { number = λ t. refl; connected = λ t. refl; wait = λ t. refl; watched = λ w t i. once w })
+
+refused_kind : (why : Refusal) (m : Machine) (s : SeatRecord) → Kind m s (requests.Refused why) (telling (refusal_answer why) m)
+refused_kind refusals.UnknownCommand m s = tells answers.UnknownCommand refl refl refl
+refused_kind refusals.BadFormat m s = tells answers.BadFormat refl refl refl
+refused_kind refusals.JobTooBig m s = tells answers.JobTooBig refl refl refl
+refused_kind refusals.ExpectedCrlf m s = tells answers.ExpectedCrlf refl refl refl
+refused_kind refusals.OutOfMemory m s = tells answers.OutOfMemory refl refl refl
+
+-- every request
+pub kind_of : (request : Request) (m : Machine) (s : SeatRecord) → Kind m s request (asked request m s)
+kind_of (requests.Put pri delay ttr body) m s =
+    each_put pri delay ttr body m s (Kind m s (requests.Put pri delay ttr body)) (λ d. tells answers.Draining refl refl refl)
+    (λ d f. tells answers.OutOfMemory refl refl refl) (λ d f. adds pri delay ttr body refl d f)
+kind_of requests.Reserve m s = waits None refl refl
+kind_of (requests.ReserveWithTimeout seconds) m s = waits (Some (later m.moment seconds)) refl refl
+kind_of (requests.ReserveJob id) m s = reserve_job_kind id m s
+kind_of (requests.Delete id) m s = delete_kind id m s
+kind_of (requests.Release id pri delay) m s = release_kind id pri delay m s
+kind_of (requests.Bury id pri) m s = bury_kind id pri m s
+kind_of (requests.Touch id) m s = touch_kind id m s
+kind_of (requests.Kick bound) m s = kick_kind bound m s
+kind_of (requests.KickJob id) m s = kick_job_kind id m s
+kind_of (requests.Use tube) m s =
+    changes_seat (answers.Using tube) (using tube) (says (answers.Using tube) refl refl refl refl) (record { number = λ t. refl; connected = λ t. refl; wait = λ t. refl; watched = λ w t i. i })
+kind_of requests.ListTubeUsed m s = tells (answers.Using s.used) refl refl refl
+kind_of (requests.Watch tube) m s = watch_kind tube m s
+kind_of (requests.Ignore tube) m s = ignore_kind tube m s
+kind_of (requests.Peek id) m s = showing_kind (requests.Peek id) m s (job_with id m.jobs) refl
+kind_of requests.PeekReady m s = showing_kind requests.PeekReady m s (first_of (is_ready_in s.used) is_job_before m.jobs) refl
+kind_of requests.PeekDelayed m s = showing_kind requests.PeekDelayed m s (first_of (is_delayed_in s.used) is_due_before m.jobs) refl
+kind_of requests.PeekBuried m s = showing_kind requests.PeekBuried m s (first_of (is_buried_in s.used) is_buried_before m.jobs) refl
+kind_of (requests.PauseTube tube delay) m s =
+    cond_both (is_tube tube m) (telling answers.Paused (with_tube tube (with_pause delay m.moment) m)) (telling answers.NotFound m) (Kind m s (requests.PauseTube tube delay))
+    (λ e. changes_tube tube delay refl) (λ e. tells answers.NotFound refl refl refl)
+kind_of (requests.StatsJob id) m s = statistics_kind (requests.StatsJob id) m s (job_with id m.jobs) refl
+kind_of (requests.StatsTube tube) m s =
+    cond_both (is_tube tube m) (telling (answers.Ok (tube_statistics tube m)) m) (telling answers.NotFound m) (Kind m s (requests.StatsTube tube))
+    (λ e. tells (answers.Ok (tube_statistics tube m)) refl refl refl) (λ e. tells answers.NotFound refl refl refl)
+kind_of requests.Stats m s = tells (answers.Ok (server_statistics m)) refl refl refl
+kind_of requests.ListTubes m s = tells (answers.Ok (name_list (tubes m))) refl refl refl
+kind_of requests.ListTubesWatched m s = tells (answers.Ok (name_list s.watched)) refl refl refl
+kind_of requests.Quit m s = passes refl
+kind_of (requests.Refused why) m s = refused_kind why m s

@@ -1,0 +1,50 @@
+-- The tubes that a seat watches: at least one and none twice, through a watch and an ignore.
+use Rattle.std.proofs.Common.{◌≡◌, Bool, true, false, ◌&&◌, ◌||◌, not, List, [], ◌∷◌, ◌++◌, ℕ, sym, ◌∙◌, refl, inl, inr}
+use Rattle.std.specs.Prelude.{filter}
+use Rattle.std.specs.Cmp.Lexicographic.{bytes_decides}
+use Rattle.std.specs.List.{list_any}
+use Rattle.std.proofs.lemmas.List.Folds.{list_any-append}
+use Rattle.std.proofs.lemmas.Bool.{cases_Bool, and_parts, and_from, both_ways, cond_both, false_from_ne_true, or_from, or_parts}
+use Rattle.bq_job.specs.beside.Lawful.{has_one, none_twice, watches_once}
+use Rattle.bq_job.specs.machine.Machine.{SeatRecord}
+use Rattle.bq_job.specs.machine.TubeCommands.{watched_with, watching}
+use Rattle.bq_job.specs.machine.Tubes.{watches}
+use Rattle.bq_job.specs.reading.TubeName.{is_same_name}
+use Rattle.bq_job.proofs.ListLemmas.{all_of_filter, all_weaker, list_any_not, none_pass}
+
+not_true : (b : Bool) → not b ≡ true → b ≡ false
+not_true true h = absurd cc
+not_true false h = refl
+
+same_other : (a b : List ℕ) → is_same_name a b ≡ false → is_same_name b a ≡ false
+same_other a b e = false_from_ne_true (is_same_name b a) (λ t. both_ways (is_same_name a b) e ((bytes_decides a b).1 (sym ((bytes_decides b a).0 t))))
+
+none_twice_behind : (tube : List ℕ) (names : List (List ℕ)) → list_any (is_same_name tube) names ≡ false → none_twice names ≡ true → none_twice (names ++ tube ∷ []) ≡ true
+none_twice_behind tube [] e h = refl
+none_twice_behind tube (name ∷ names) e h =
+    let other = or_parts (is_same_name tube name) (list_any (is_same_name tube) names) e in
+    let parts = and_parts (not (list_any (is_same_name name) names)) (none_twice names) h in
+    let fresh : list_any (is_same_name name) (names ++ tube ∷ []) ≡ false =
+    list_any-append (is_same_name name) names (tube ∷ []) ∙ or_from (list_any (is_same_name name) names) (is_same_name name tube || false) (not_true (list_any (is_same_name name) names) parts.0) (or_from (is_same_name name tube) false (same_other tube name other.0) refl) in
+    rw fresh (none_twice_behind tube names other.1 parts.1)
+
+one_behind : (tube : List ℕ) (names : List (List ℕ)) → has_one (names ++ tube ∷ []) ≡ true
+one_behind tube [] = refl
+one_behind tube (name ∷ names) = refl
+
+pub watched_still : (tube : List ℕ) (s : SeatRecord) → watches_once s ≡ true → watches_once (watching (watched_with tube s) s) ≡ true
+watched_still tube s h =
+    let parts = and_parts (has_one s.watched) (none_twice s.watched) h in
+    cond_both (watches tube s) s.watched (s.watched ++ tube ∷ []) (λ names. (has_one names && none_twice names) ≡ true) (λ e. h)
+    (λ e. and_from (has_one (s.watched ++ tube ∷ [])) (none_twice (s.watched ++ tube ∷ [])) (one_behind tube s.watched) (none_twice_behind tube s.watched e parts.1))
+
+pub none_twice_filter : (p : List ℕ → Bool) (names : List (List ℕ)) → none_twice names ≡ true → none_twice (filter p names) ≡ true
+none_twice_filter p [] h = refl
+none_twice_filter p (name ∷ names) h =
+    let parts = and_parts (not (list_any (is_same_name name) names)) (none_twice names) h in
+    let rest = none_twice_filter p names parts.1 in
+    let fresh : list_any (is_same_name name) (filter p names) ≡ false =
+    list_any_not (is_same_name name) (filter p names)
+    (all_weaker (λ n. (is_same_name name n ≡ false) × (p n ≡ true)) (λ n. is_same_name name n ≡ false) (filter p names) (λ n c. c.0)
+    (all_of_filter (λ n. is_same_name name n ≡ false) p names (none_pass (is_same_name name) names (not_true (list_any (is_same_name name) names) parts.0)))) in
+    elim (cases_Bool (p name)) [ inl e ↦ rw (e, fresh) rest | inr e ↦ rw e rest ]
