@@ -1,37 +1,27 @@
 -- The tubes that the clients watch who wait, as commands change the seats.
-use Rattle.std.proofs.Common.{◌≡◌, ℕ, Bool, true, false, ◌≤◌, ◌==◌, ◌&&◌, ◌||◌, not, cond, List, [], ◌∷◌, Option, Some, None, map, length, refl, sym, ap, ◌∙◌, arith, subst, if◌then◌else◌}
-use Rattle.std.specs.Prelude.{count_by, filter}
+use Rattle.std.proofs.Common.{◌≡◌, ℕ, Bool, true, false, ◌≤◌, ◌==◌, ◌&&◌, ◌||◌, cond, List, [], ◌∷◌, map, length, refl, ap, ◌∙◌, arith, subst, if◌then◌else◌}
+use Rattle.std.specs.Prelude.{count_by, is_some}
 use Rattle.std.specs.List.{AllByRecursion as All, sum_by}
 use Rattle.std.proofs.lemmas.Bool.{eqb-true}
 use Rattle.std.proofs.lemmas.List.Sums.{sum_by-cons}
-use Rattle.bq_job.specs.declared.answer.Answer.TheVariants as answers
-use Rattle.bq_job.specs.declared.job.Job.{Job}
-use Rattle.bq_job.specs.declared.job.JobState.TheVariants as states
 use Rattle.bq_job.specs.declared.request.Request.{Request}
-use Rattle.bq_job.specs.declared.request.Request.TheVariants as requests
 use Rattle.bq_job.specs.declared.step.Step.{Step}
-use Rattle.bq_job.specs.declared.step.Step.TheVariants as steps
-use Rattle.bq_job.specs.machine.Acts.{Effect, on_found, showing, silent, telling}
-use Rattle.bq_job.specs.machine.Asked.{after_close, after_connect, asked, at_found, at_seat, effect, with_end}
-use Rattle.bq_job.specs.machine.Changes.{first_of, in_state, is_held_by, is_waiting, job_with, seat_with, with_job, with_seat}
+use Rattle.bq_job.specs.machine.Acts.{Effect}
+use Rattle.bq_job.specs.machine.Asked.{after_close, after_connect, asked, with_end}
+use Rattle.bq_job.specs.machine.Changes.{is_waiting, with_seat}
 use Rattle.bq_job.specs.beside.Computed.{waiting_count}
-use Rattle.bq_job.specs.machine.Dispatch.{is_job_before, reserved_by}
-use Rattle.bq_job.specs.machine.JobCommands.{after_delete, buried, is_buried_in, is_delayed_in, is_free_for, kicked, released, waiting_from}
-use Rattle.bq_job.specs.machine.JobStates.{is_buried, is_buried_before, is_delayed, is_due_before, is_reserved}
+use Rattle.bq_job.specs.machine.JobCommands.{waiting_from}
 use Rattle.bq_job.specs.beside.Lawful.{IsLawful, has_one, none_twice, watches_once}
-use Rattle.bq_job.specs.machine.Limits.{later, raised}
+use Rattle.bq_job.specs.machine.Limits.{raised}
 use Rattle.bq_job.specs.machine.Machine.{Machine, SeatRecord, empty_seat, numbers}
-use Rattle.bq_job.specs.machine.StatisticsCommands.{job_statistics_or_not}
-use Rattle.bq_job.specs.machine.Steps.{Memory, acted, granted, growth_refused, share_refused}
-use Rattle.bq_job.specs.machine.Statistics.{tube_statistics}
-use Rattle.bq_job.specs.machine.TubeCommands.{is_ready_in, using, watched_with, watching, watching_or_refused, with_pause}
-use Rattle.bq_job.specs.reading.TubeName.{is_same_name}
-use Rattle.bq_job.specs.machine.Tubes.{is_tube, with_tube}
+use Rattle.bq_job.specs.machine.Steps.{Memory, acted}
 use Rattle.bq_job.proofs.KeptLemmas.{only_seat}
-use Rattle.bq_job.proofs.ListLemmas.{all_always, all_pass, all_weaker, count_cons, found_passes}
-use Rattle.bq_job.proofs.PutLemmas.{each_put}
+use Rattle.bq_job.proofs.ListLemmas.{all_always, all_pass, all_weaker, count_cons}
 use Rattle.bq_core.specs.Cost.{waited, waited_tubes}
 use Rattle.bq_steps.specs.Cost.{watched_tubes, tubes_watched}
+use Rattle.bq_job.proofs.CommandKinds.{kind_of}
+use Rattle.bq_job.proofs.EachEvent.{IsSeat, each_acted}
+use Rattle.bq_job.proofs.EffectKinds.{Kind, adds, changes_jobs, changes_seat, changes_tube, deletes, passes, tells, waits}
 
 sum_no_more : {X : Type 0} (f g : X → ℕ) (xs : List X) → All (λ x. f x ≤ g x) xs → sum_by f xs ≤ sum_by g xs
 sum_no_more f g [] all = omega arith
@@ -82,109 +72,41 @@ with_seat_few number f m less =
 always_few : (number : ℕ) (f : SeatRecord → SeatRecord) (m : Machine) → ((s : SeatRecord) → waited_tubes (f s) ≤ length s.watched) → waited (with_seat number f m) ≤ watched_tubes number m
 always_few number f m less = with_seat_few number f m (all_always (λ s. s.number ≡ number → waited_tubes (f s) ≤ length s.watched) m.seats (λ s e. less s))
 
-either_few : (number : ℕ) (b : Bool) (x y : Effect) (m : Machine) → waited x.machine ≤ watched_tubes number m → waited y.machine ≤ watched_tubes number m → waited (if b then x else y).machine ≤ watched_tubes number m
-either_few number true x y m h i = h
-either_few number false x y m h i = i
+-- who asks doesn't wait, and its seat waits no more than before
+quiet_few : (f : SeatRecord → SeatRecord) (m : Machine) (s : SeatRecord) → ((t : SeatRecord) → (f t).wait ≡ t.wait) → All (λ t. t.number ≡ s.number → t ≡ s) m.seats → is_waiting s ≡ false → waited (with_seat s.number f m) ≤ watched_tubes s.number m
+quiet_few f m s waits_as alone quiet =
+    with_seat_few s.number f m
+    (all_weaker (λ t. t.number ≡ s.number → t ≡ s) (λ t. t.number ≡ s.number → waited_tubes (f t) ≤ length t.watched) m.seats
+    (λ t only e. let w : is_waiting (f t) ≡ false = ap is_some (waits_as t) ∙ ap is_waiting (only e) ∙ quiet in rw w (omega arith)) alone)
 
--- commands on a job leave the seats
-found_few : (number : ℕ) (passes : Job → Bool) (act : Job → Effect) (m : Machine) (o : Option Job) → ((j : Job) → (act j).machine.seats ≡ m.seats) → waited (on_found passes act m o).machine ≤ watched_tubes number m
-found_few number passes act m None same = waited_few number m
-found_few number passes act m (Some j) same =
-    either_few number (passes j) (act j) (telling answers.NotFound m) m (subst (λ seats. sum_by waited_tubes seats ≤ watched_tubes number m) (sym (same j)) (waited_few number m)) (waited_few number m)
+-- every kind of command
+kind_few : (request : Request) (m : Machine) (s : SeatRecord) {e : Effect} → Kind m s request e → All (λ t. t.number ≡ s.number → t ≡ s) m.seats → is_waiting s ≡ false → waited e.machine ≤ watched_tubes s.number m
+kind_few request m s (passes none) alone quiet = waited_few s.number m
+kind_few request m s (tells answer one common unclosed) alone quiet = waited_few s.number m
+kind_few request m s (waits until one waiting) alone quiet = always_few s.number (waiting_from (raised m.tickets) until) m (λ t. omega arith)
+kind_few request m s (adds pri delay ttr body one accepts free) alone quiet = waited_few s.number m
+kind_few request m s (deletes id j asks found free) alone quiet = waited_few s.number m
+kind_few request m s (changes_jobs answer f burials says changes) alone quiet = waited_few s.number m
+kind_few request m s (changes_seat answer f says changes) alone quiet = quiet_few f m s changes.wait alone quiet
+kind_few request m s (changes_tube tube seconds one) alone quiet = waited_few s.number m
 
-showing_few : (number : ℕ) (m : Machine) (o : Option Job) → waited (showing m o).machine ≤ watched_tubes number m
-showing_few number m None = waited_few number m
-showing_few number m (Some j) = waited_few number m
-
-statistics_few : (number : ℕ) (m : Machine) (o : Option Job) → waited (job_statistics_or_not m o).machine ≤ watched_tubes number m
-statistics_few number m None = waited_few number m
-statistics_few number m (Some j) = waited_few number m
-
--- who asks doesn't wait, whatever it watches then
-watching_few : (names : List (List ℕ)) (m : Machine) (s : SeatRecord) → All (λ t. t.number ≡ s.number → t ≡ s) m.seats → is_waiting s ≡ false → waited (with_seat s.number (watching names) m) ≤ watched_tubes s.number m
-watching_few names m s alone quiet =
-    with_seat_few s.number (watching names) m
-    (all_weaker (λ t. t.number ≡ s.number → t ≡ s) (λ t. t.number ≡ s.number → waited_tubes (watching names t) ≤ length t.watched) m.seats
-    (λ t only e. let w : is_waiting t ≡ false = ap is_waiting (only e) ∙ quiet in rw w (omega arith)) alone)
-
-refused_few : (names : List (List ℕ)) (m : Machine) (s : SeatRecord) → All (λ t. t.number ≡ s.number → t ≡ s) m.seats → is_waiting s ≡ false → waited (watching_or_refused names m s).machine ≤ watched_tubes s.number m
-refused_few [] m s alone quiet = waited_few s.number m
-refused_few (name ∷ names) m s alone quiet = watching_few (name ∷ names) m s alone quiet
-
--- every request
-asked_few : (request : Request) (m : Machine) (s : SeatRecord) → All (λ t. t.number ≡ s.number → t ≡ s) m.seats → is_waiting s ≡ false → waited (asked request m s).machine ≤ watched_tubes s.number m
-asked_few (requests.Put pri delay ttr body) m s alone quiet =
-    each_put pri delay ttr body m s (λ (e : Effect). waited e.machine ≤ watched_tubes s.number m) (λ d. waited_few s.number m) (λ d f. waited_few s.number m) (λ d f. waited_few s.number m)
-asked_few requests.Reserve m s alone quiet = always_few s.number (waiting_from (raised m.tickets) None) m (λ t. omega arith)
-asked_few (requests.ReserveWithTimeout seconds) m s alone quiet = always_few s.number (waiting_from (raised m.tickets) (Some (later m.moment seconds))) m (λ t. omega arith)
-asked_few (requests.ReserveJob id) m s alone quiet =
-    found_few s.number (λ j. not (is_reserved j.state)) (λ j. telling (answers.Reserved j.id j.body) (with_job id (reserved_by m.moment s.number) m)) m (job_with id m.jobs) (λ j. refl)
-asked_few (requests.Delete id) m s alone quiet =
-    found_few s.number (is_free_for s) (λ j. telling answers.Deleted (after_delete m j)) m (job_with id m.jobs) (λ j. refl)
-asked_few (requests.Release id pri delay) m s alone quiet =
-    found_few s.number (is_held_by s.number) (λ j. telling answers.Released (with_job id (released m.moment pri delay) m)) m (job_with id m.jobs) (λ j. refl)
-asked_few (requests.Bury id pri) m s alone quiet =
-    found_few s.number (is_held_by s.number) (λ j. telling answers.Buried (record (with_job id (buried (raised m.burials) pri) m) { burials = raised m.burials })) m (job_with id m.jobs) (λ j. refl)
-asked_few (requests.Touch id) m s alone quiet =
-    found_few s.number (is_held_by s.number) (λ j. telling answers.Touched (with_job id (in_state (states.Reserved s.number (later m.moment j.ttr))) m)) m (job_with id m.jobs) (λ j. refl)
-asked_few (requests.Kick bound) m s alone quiet = waited_few s.number m
-asked_few (requests.KickJob id) m s alone quiet =
-    found_few s.number (λ j. is_buried j.state || is_delayed j.state) (λ j. telling answers.Kicked (with_job id kicked m)) m (job_with id m.jobs) (λ j. refl)
-asked_few (requests.Use tube) m s alone quiet = always_few s.number (using tube) m at_most_watched
-asked_few requests.ListTubeUsed m s alone quiet = waited_few s.number m
-asked_few (requests.Watch tube) m s alone quiet = watching_few (watched_with tube s) m s alone quiet
-asked_few (requests.Ignore tube) m s alone quiet = refused_few (filter (λ name. not (is_same_name tube name)) s.watched) m s alone quiet
-asked_few (requests.Peek id) m s alone quiet = showing_few s.number m (job_with id m.jobs)
-asked_few requests.PeekReady m s alone quiet = showing_few s.number m (first_of (is_ready_in s.used) is_job_before m.jobs)
-asked_few requests.PeekDelayed m s alone quiet = showing_few s.number m (first_of (is_delayed_in s.used) is_due_before m.jobs)
-asked_few requests.PeekBuried m s alone quiet = showing_few s.number m (first_of (is_buried_in s.used) is_buried_before m.jobs)
-asked_few (requests.PauseTube tube delay) m s alone quiet =
-    either_few s.number (is_tube tube m) (telling answers.Paused (with_tube tube (with_pause delay m.moment) m)) (telling answers.NotFound m) m (waited_few s.number m) (waited_few s.number m)
-asked_few (requests.StatsJob id) m s alone quiet = statistics_few s.number m (job_with id m.jobs)
-asked_few (requests.StatsTube tube) m s alone quiet =
-    either_few s.number (is_tube tube m) (telling (answers.Ok (tube_statistics tube m)) m) (telling answers.NotFound m) m (waited_few s.number m) (waited_few s.number m)
-asked_few requests.Stats m s alone quiet = waited_few s.number m
-asked_few requests.ListTubes m s alone quiet = waited_few s.number m
-asked_few requests.ListTubesWatched m s alone quiet = waited_few s.number m
-asked_few requests.Quit m s alone quiet = waited_few s.number m
-asked_few (requests.Refused why) m s alone quiet = waited_few s.number m
-
-at_seat_few : (what : Step) (m : Machine) (s : SeatRecord) → All (λ t. t.number ≡ s.number → t ≡ s) m.seats → waited (at_seat what m s).machine ≤ watched_tubes s.number m
-at_seat_few steps.Connect m s alone =
-    either_few s.number s.connected (silent m) (silent (after_connect m s.number)) m (waited_few s.number m) (always_few s.number (λ t. record (empty_seat t.number) { connected = true }) m (λ t. omega arith))
-at_seat_few (steps.Ask request) m s alone = go s.connected (is_waiting s) refl
-  where
-    go : (c w : Bool) → is_waiting s ≡ w → waited (if (c && not w) then asked request m s else silent m).machine ≤ watched_tubes s.number m
-    go true true e = waited_few s.number m
-    go true false e = asked_few request m s alone e
-    go false w e = waited_few s.number m
-at_seat_few steps.End m s alone = either_few s.number s.connected (silent (with_seat s.number with_end m)) (silent m) m (always_few s.number with_end m at_most_watched) (waited_few s.number m)
-at_seat_few steps.Close m s alone = either_few s.number s.connected (telling answers.Closed (after_close m s.number)) (silent m) m (always_few s.number (λ t. empty_seat t.number) m (λ t. omega arith)) (waited_few s.number m)
-at_seat_few steps.Drain m s alone = waited_few s.number m
-at_seat_few steps.Tick m s alone = waited_few s.number m
-at_seat_few steps.Gone m s alone = waited_few s.number m
-
-at_found_few : (what : Step) (m : Machine) (seat : ℕ) (o : Option SeatRecord) → map (λ s. s.number) m.seats ≡ numbers 0 m.settings.seats → seat_with seat m.seats ≡ o → waited (at_found what m o).machine ≤ watched_tubes seat m
-at_found_few what m seat None seated e = waited_few seat m
-at_found_few what m seat (Some s) seated e =
-    let at : s.number ≡ seat = eqb-true s.number seat ((found_passes (λ t. t.number == seat) m.seats s e).0) in
-    let alone = all_weaker (λ t. t.number ≡ seat → t ≡ s) (λ t. t.number ≡ s.number → t ≡ s) m.seats (λ t only i. only (i ∙ at)) (only_seat 0 m.settings.seats seat m.seats s seated e) in
-    subst (λ n. waited (at_seat what m s).machine ≤ watched_tubes n m) at (at_seat_few what m s alone)
-
-effect_few : (m : Machine) (seat : ℕ) (what : Step) → map (λ s. s.number) m.seats ≡ numbers 0 m.settings.seats → waited (effect m seat what).machine ≤ watched_tubes seat m
-effect_few m seat steps.Drain seated = waited_few seat m
-effect_few m seat steps.Connect seated = at_found_few steps.Connect m seat (seat_with seat m.seats) seated refl
-effect_few m seat (steps.Ask request) seated = at_found_few (steps.Ask request) m seat (seat_with seat m.seats) seated refl
-effect_few m seat steps.End seated = at_found_few steps.End m seat (seat_with seat m.seats) seated refl
-effect_few m seat steps.Close seated = at_found_few steps.Close m seat (seat_with seat m.seats) seated refl
-effect_few m seat steps.Tick seated = waited_few seat m
-effect_few m seat steps.Gone seated = waited_few seat m
+alone_at : (m : Machine) (seat : ℕ) (s : SeatRecord) → map (λ s. s.number) m.seats ≡ numbers 0 m.settings.seats → IsSeat m seat s → All (λ t. t.number ≡ s.number → t ≡ s) m.seats
+alone_at m seat s seated is =
+    all_weaker (λ t. t.number ≡ seat → t ≡ s) (λ t. t.number ≡ s.number → t ≡ s) m.seats (λ t only i. only (i ∙ is.number)) (only_seat 0 m.settings.seats seat m.seats s seated is.found)
 
 -- After the command's own effect, who waits is one that waited before it or the one that asked.
 pub acted_few : (memory : Memory) (m : Machine) (seat : ℕ) (what : Step) → map (λ s. s.number) m.seats ≡ numbers 0 m.settings.seats → waited (acted memory m seat what).machine ≤ watched_tubes seat m
-acted_few granted m seat what seated = effect_few m seat what seated
-acted_few growth_refused m seat what seated = waited_few seat m
-acted_few share_refused m seat what seated = waited_few seat m
+acted_few memory m seat what seated = each_acted m seat (λ what e. waited e.machine ≤ watched_tubes seat m) (record {
+  nothing = λ what. waited_few seat m;
+  connects = λ s is. here (after_connect m s.number) is (always_few s.number (λ t. record (empty_seat t.number) { connected = true }) m (λ t. omega arith));
+  asks = λ request s is c w. here (asked request m s).machine is (kind_few request m s (kind_of request m s) (alone_at m seat s seated is) w);
+  ends = λ s is. here (with_seat s.number with_end m) is (always_few s.number with_end m at_most_watched);
+  closes = λ s is. here (after_close m s.number) is (always_few s.number (λ t. empty_seat t.number) m (λ t. omega arith));
+  drains = waited_few seat m;
+}) (λ what. waited_few seat m) memory what
+  where
+    here : {s : SeatRecord} (n : Machine) → IsSeat m seat s → waited n ≤ watched_tubes s.number m → waited n ≤ watched_tubes seat m
+    here {s} n is h = subst (λ number. waited n ≤ watched_tubes number m) is.number h
 
 -- each client watches at least one tube
 pub waiting_few : (seat : ℕ) (m : Machine) → IsLawful m → waiting_count m ≤ watched_tubes seat m
