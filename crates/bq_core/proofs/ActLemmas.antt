@@ -10,7 +10,7 @@ use Rattle.bq_job.specs.declared.step.Step.{Step}
 use Rattle.bq_job.specs.declared.step.Step.TheVariants as steps
 use Rattle.bq_job.specs.declared.request.Request.{Request}
 use Rattle.bq_job.specs.machine.Acts.{Effect, on_job, showing, telling}
-use Rattle.bq_job.specs.machine.Asked.{after_close, after_connect, asked, at_found, effect, with_end}
+use Rattle.bq_job.specs.machine.Asked.{after_close, after_connect, ask_effect, asked, at_found, close_effect, connect_effect, effect, end_effect, with_end}
 use Rattle.bq_job.specs.machine.Changes.{is_held_by, is_waiting, job_with, seat_with, with_job, with_seat}
 use Rattle.bq_job.specs.machine.JobCommands.{after_delete, delete_effect, is_free_for, is_full, last_id, new_job, put_effect, reserve_job_effect, with_delete, with_put}
 use Rattle.bq_job.specs.machine.Dispatch.{reserved_by}
@@ -42,7 +42,7 @@ pub id_found : (id : ℕ) (jobs : List Job) (j : Job) → job_with id jobs ≡ S
 id_found id jobs j h = eqb-true j.id id (found_passes (λ j. j.id == id) jobs j h)
 
 -- a client comes to a seat that is free
-connect_at : (m : Machine) (seat : ℕ) (o : Option SeatRecord) → seat_with seat m.seats ≡ o → is_free o ≡ true → (at_found steps.Connect m o).machine ≡ after_connect m seat
+connect_at : (m : Machine) (seat : ℕ) (o : Option SeatRecord) → seat_with seat m.seats ≡ o → is_free o ≡ true → (at_found connect_effect m o).machine ≡ after_connect m seat
 connect_at m seat None e free = absurd cc
 connect_at m seat (Some s) e free =
     let open_not : s.connected ≡ false = grind (arith, cases_Bool) in
@@ -51,14 +51,14 @@ connect_at m seat (Some s) e free =
 pub connected_free : (m : Machine) (seat : ℕ) → is_free (seat_with seat m.seats) ≡ true → (effect m seat steps.Connect).machine ≡ after_connect m seat
 connected_free m seat free = connect_at m seat (seat_with seat m.seats) refl free
 
-end_at : (m : Machine) (seat : ℕ) (o : Option SeatRecord) → seat_with seat m.seats ≡ o → is_connected o ≡ true → (at_found steps.End m o).machine ≡ with_seat seat with_end m
+end_at : (m : Machine) (seat : ℕ) (o : Option SeatRecord) → seat_with seat m.seats ≡ o → is_connected o ≡ true → (at_found end_effect m o).machine ≡ with_seat seat with_end m
 end_at m seat None e there = absurd cc
 end_at m seat (Some s) e there = rw (there, number_found seat m.seats s e) refl
 
 pub ended_connected : (m : Machine) (seat : ℕ) → is_connected (seat_with seat m.seats) ≡ true → (effect m seat steps.End).machine ≡ with_seat seat with_end m
 ended_connected m seat there = end_at m seat (seat_with seat m.seats) refl there
 
-close_at : (m : Machine) (seat : ℕ) (o : Option SeatRecord) → seat_with seat m.seats ≡ o → is_connected o ≡ true → at_found steps.Close m o ≡ telling answers.Closed (after_close m seat)
+close_at : (m : Machine) (seat : ℕ) (o : Option SeatRecord) → seat_with seat m.seats ≡ o → is_connected o ≡ true → at_found close_effect m o ≡ telling answers.Closed (after_close m seat)
 close_at m seat None e there = absurd cc
 close_at m seat (Some s) e there = rw (there, number_found seat m.seats s e) refl
 
@@ -128,7 +128,7 @@ ignored_now m s seat tube found h =
 pub record Asks (m : Machine) (seat : ℕ) (request : Request) : Type 0 where
   pub asker : SeatRecord
   pub found : seat_with seat m.seats ≡ Some asker
-  pub asks : at_found (steps.Ask request) m (seat_with seat m.seats) ≡ asked request m asker
+  pub asks : at_found (ask_effect request) m (seat_with seat m.seats) ≡ asked request m asker
 
 asks_at : (m : Machine) (seat : ℕ) (request : Request) (o : Option SeatRecord) → seat_with seat m.seats ≡ o → is_asking o ≡ true → Asks m seat request
 asks_at m seat request None e asking = absurd cc

@@ -10,12 +10,13 @@ use Rattle.bq_job.specs.declared.request.Request.{Request}
 use Rattle.bq_job.specs.declared.step.Step.{Step}
 use Rattle.bq_job.specs.declared.step.Step.TheVariants as steps
 use Rattle.bq_job.specs.machine.Acts.{Effect, silent, telling}
-use Rattle.bq_job.specs.machine.Asked.{after_close, after_connect, asked, at_found, effect, with_end}
+use Rattle.bq_job.specs.machine.Asked.{after_close, after_connect, ask_effect, asked, at_found, close_effect, connect_effect, effect, end_effect, with_end}
 use Rattle.bq_job.specs.machine.Changes.{is_waiting, seat_with, with_seat}
 use Rattle.bq_job.specs.machine.Dispatch.{DispatchTurn, GivenAnswer, IsHandOut, is_wait_before}
 use Rattle.bq_job.specs.beside.Lawful.{IsLawful}
 use Rattle.bq_job.specs.machine.Machine.{Machine, SeatRecord, empty_seat}
-use Rattle.bq_job.specs.machine.OneClient.{GetsAnswer, GetsAtMost, GetsClosed, GetsWhatWaits, GivesClient, has_closed, is_connected_at, owing}
+use Rattle.bq_job.specs.beside.ClientGets.{GetsAnswer, GetsAtMost, GetsClosed, GetsWhatWaits, GivesClient, owing}
+use Rattle.bq_job.specs.machine.OneClient.{has_closed, is_connected_at}
 use Rattle.bq_job.specs.promise.Runs.{answers_to}
 use Rattle.bq_job.specs.machine.Steps.{IsStep, Memory, Outcome, Serves, acted, addressed, granted, growth_refused, is_possible, share_refused, shares_body, step_takes_memory, may_be_left_out}
 use Rattle.bq_job.specs.machine.Timers.{after_timers, at_moment}
@@ -78,17 +79,17 @@ gets_quiet client first last seat what given p takes untold waits connects =
       connected = goes.connected ∙ connects m ∙ p.comes.connected;
     }
 
-end_untold : (m : Machine) (o : Option SeatRecord) → (at_found steps.End m o).answer ≡ None
+end_untold : (m : Machine) (o : Option SeatRecord) → (at_found end_effect m o).answer ≡ None
 end_untold m None = refl
 end_untold m (Some s) = cond_both s.connected (silent (with_seat s.number with_end m)) (silent m) (λ e. e.answer ≡ None) (λ e. refl) (λ e. refl)
 
-end_waits : (client : ℕ) (m : Machine) (o : Option SeatRecord) → waits_in client ((at_found steps.End m o).machine).seats ≡ waits_in client m.seats
+end_waits : (client : ℕ) (m : Machine) (o : Option SeatRecord) → waits_in client ((at_found end_effect m o).machine).seats ≡ waits_in client m.seats
 end_waits client m None = refl
 end_waits client m (Some s) =
     cond_both s.connected (silent (with_seat s.number with_end m)) (silent m) (λ e. waits_in client (e.machine).seats ≡ waits_in client m.seats)
     (λ e. changed_quiet client s.number with_end is_waiting m.seats (λ t. refl) (λ t. refl)) (λ e. refl)
 
-end_connects : (client : ℕ) (m : Machine) (o : Option SeatRecord) → connected_in client ((at_found steps.End m o).machine).seats ≡ connected_in client m.seats
+end_connects : (client : ℕ) (m : Machine) (o : Option SeatRecord) → connected_in client ((at_found end_effect m o).machine).seats ≡ connected_in client m.seats
 end_connects client m None = refl
 end_connects client m (Some s) =
     cond_both s.connected (silent (with_seat s.number with_end m)) (silent m) (λ e. connected_in client (e.machine).seats ≡ connected_in client m.seats)
@@ -144,7 +145,7 @@ gives_connect first last seat given h there p c =
     let begin = none_waited (length (answers_to seat p.early)) (waits_in seat m.seats) (p.comes.count ∙ ap one_for waits_first) in
     let gone : s.connected ≡ false = sym f.connected ∙ p.comes.connected ∙ c in
     let effect_is : effect m seat steps.Connect ≡ silent (after_connect m s.number) =
-    ap (at_found steps.Connect m) f.found ∙ ap (λ b. cond b (silent m) (silent (after_connect m s.number))) gone in
+    ap (at_found connect_effect m) f.found ∙ ap (λ b. cond b (silent m) (silent (after_connect m s.number))) gone in
     let e : acted p.memory m seat steps.Connect ≡ silent (after_connect m s.number) =
     acted_fully p.memory m seat steps.Connect refl (ap (λ (x : Effect). shares_body x.answer) effect_is) p.possible ∙ effect_is in
     let goes : Passes seat (changed s.number seated m.seats) last.seats p.late = subst (λ (x : Effect). Passes seat (x.machine).seats last.seats p.late) e p.goes in
@@ -185,7 +186,7 @@ gives_closed first last seat given h there p c =
     let s = f.client in
     let here : s.connected ≡ true = sym f.connected ∙ p.comes.connected ∙ c in
     let effect_is : effect m seat steps.Close ≡ telling answers.Closed (after_close m s.number) =
-    ap (at_found steps.Close m) f.found ∙ ap (λ b. cond b (telling answers.Closed (after_close m s.number)) (silent m)) here in
+    ap (at_found close_effect m) f.found ∙ ap (λ b. cond b (telling answers.Closed (after_close m s.number)) (silent m)) here in
     let e : acted p.memory m seat steps.Close ≡ telling answers.Closed (after_close m s.number) =
     acted_fully p.memory m seat steps.Close refl (ap (λ (x : Effect). shares_body x.answer) effect_is) p.possible ∙ effect_is in
     let emptied : SeatRecord → SeatRecord = λ s. empty_seat s.number in
@@ -224,7 +225,7 @@ gives_end first last seat given h i there p c =
     let s = f.client in
     let here : s.connected ≡ true = sym f.connected ∙ p.comes.connected ∙ c in
     let effect_is : effect m seat steps.End ≡ silent (with_seat s.number with_end m) =
-    ap (at_found steps.End m) f.found ∙ ap (λ b. cond b (silent (with_seat s.number with_end m)) (silent m)) here in
+    ap (at_found end_effect m) f.found ∙ ap (λ b. cond b (silent (with_seat s.number with_end m)) (silent m)) here in
     let e : acted p.memory m seat steps.End ≡ silent (with_seat s.number with_end m) =
     acted_fully p.memory m seat steps.End refl (ap (λ (x : Effect). shares_body x.answer) effect_is) p.possible ∙ effect_is in
     let goes : Passes seat (changed s.number with_end m.seats) last.seats p.late = subst (λ (x : Effect). Passes seat (x.machine).seats last.seats p.late) e p.goes in
@@ -270,7 +271,7 @@ asks_in_vain : (m : Machine) (seat : ℕ) (request : Request) (f : Found seat m.
 asks_in_vain m seat request f w =
     let s = f.client in
     let waits : is_waiting s ≡ true = sym f.waits ∙ w in
-    ap (λ o. at_found (steps.Ask request) m o) f.found ∙ ap (λ b. cond b (asked request m s) (silent m)) (and_right s.connected (not (is_waiting s)) (ap not waits))
+    ap (λ o. at_found (ask_effect request) m o) f.found ∙ ap (λ b. cond b (asked request m s) (silent m)) (and_right s.connected (not (is_waiting s)) (ap not waits))
 
 -- A connected client that asks, whether it waits or not.
 pub asks_at_most : (first last : Machine) (at seat : ℕ) (request : Request) (outcome : Outcome) (given : List GivenAnswer) → IsLawful first → seat < first.settings.seats → is_connected_at seat first ≡ true → IsStep first at seat (steps.Ask request) outcome given last → GetsAtMost first last seat request (answers_to seat given)

@@ -8,7 +8,7 @@ use Rattle.bq_job.specs.declared.request.Request.{Request}
 use Rattle.bq_job.specs.declared.step.Step.{Step}
 use Rattle.bq_job.specs.declared.step.Step.TheVariants as steps
 use Rattle.bq_job.specs.machine.Acts.{Effect, silent, telling}
-use Rattle.bq_job.specs.machine.Asked.{after_close, after_connect, asked, at_found, at_seat, effect, with_end}
+use Rattle.bq_job.specs.machine.Asked.{after_close, after_connect, ask_effect, asked, at_found, close_effect, connect_effect, effect, end_effect, with_end}
 use Rattle.bq_job.specs.machine.Changes.{is_waiting, seat_with, with_seat}
 use Rattle.bq_job.specs.machine.Machine.{Machine, SeatRecord}
 use Rattle.bq_job.specs.machine.Steps.{Memory, acted, granted, growth_refused, share_refused}
@@ -35,31 +35,35 @@ pub record HoldsOfEach (m : Machine) (seat : ℕ) (P : Step → Effect → Type 
   pub closes : (s : SeatRecord) → IsSeat m seat s → P steps.Close (telling answers.Closed (after_close m s.number))
   pub drains : P steps.Drain (silent (record m { draining = true }))
 
-of_seat : (m : Machine) (seat : ℕ) (P : Step → Effect → Type 0) → HoldsOfEach m seat P → (what : Step) (s : SeatRecord) → IsSeat m seat s → P what (at_seat what m s)
-of_seat m seat P h steps.Connect s is = cond_both s.connected (silent m) (silent (after_connect m s.number)) (P steps.Connect) (λ e. h.nothing steps.Connect) (λ e. h.connects s is)
-of_seat m seat P h (steps.Ask request) s is = of_client s.connected (is_waiting s) refl refl
+-- the seat of the number, if there is one
+at_seat : (m : Machine) (seat : ℕ) (act : Machine → SeatRecord → Effect) (P : Effect → Type 0) → P (silent m) → ((s : SeatRecord) → IsSeat m seat s → P (act m s)) → P (at_found act m (seat_with seat m.seats))
+at_seat m seat act P nothing each = of_found (seat_with seat m.seats) refl
   where
-    of_client : (c w : Bool) → s.connected ≡ c → is_waiting s ≡ w → P (steps.Ask request) (if c && not w then asked request m s else silent m)
-    of_client true true e f = h.nothing (steps.Ask request)
-    of_client true false e f = h.asks request s is e f
-    of_client false w e f = h.nothing (steps.Ask request)
-of_seat m seat P h steps.End s is = cond_both s.connected (silent (with_seat s.number with_end m)) (silent m) (P steps.End) (λ e. h.ends s is) (λ e. h.nothing steps.End)
-of_seat m seat P h steps.Close s is = cond_both s.connected (telling answers.Closed (after_close m s.number)) (silent m) (P steps.Close) (λ e. h.closes s is) (λ e. h.nothing steps.Close)
-of_seat m seat P h steps.Drain s is = h.drains
-of_seat m seat P h steps.Tick s is = h.nothing steps.Tick
-of_seat m seat P h steps.Gone s is = h.nothing steps.Gone
+    of_found : (o : Option SeatRecord) → seat_with seat m.seats ≡ o → P (at_found act m o)
+    of_found None e = nothing
+    of_found (Some s) e = each s (is_seat m seat s e)
 
-of_found : (m : Machine) (seat : ℕ) (P : Step → Effect → Type 0) → HoldsOfEach m seat P → (what : Step) (o : Option SeatRecord) → seat_with seat m.seats ≡ o → P what (at_found what m o)
-of_found m seat P h what None e = h.nothing what
-of_found m seat P h what (Some s) e = of_seat m seat P h what s (is_seat m seat s e)
+of_client : (m : Machine) (seat : ℕ) (P : Step → Effect → Type 0) → HoldsOfEach m seat P → (request : Request) (s : SeatRecord) → IsSeat m seat s → P (steps.Ask request) (ask_effect request m s)
+of_client m seat P h request s is = of_state s.connected (is_waiting s) refl refl
+  where
+    of_state : (c w : Bool) → s.connected ≡ c → is_waiting s ≡ w → P (steps.Ask request) (if c && not w then asked request m s else silent m)
+    of_state true true e f = h.nothing (steps.Ask request)
+    of_state true false e f = h.asks request s is e f
+    of_state false w e f = h.nothing (steps.Ask request)
 
 -- every event
 pub each_event : (m : Machine) (seat : ℕ) (P : Step → Effect → Type 0) → HoldsOfEach m seat P → (what : Step) → P what (effect m seat what)
+each_event m seat P h steps.Connect =
+    at_seat m seat connect_effect (P steps.Connect) (h.nothing steps.Connect)
+    (λ s is. cond_both s.connected (silent m) (silent (after_connect m s.number)) (P steps.Connect) (λ e. h.nothing steps.Connect) (λ e. h.connects s is))
+each_event m seat P h (steps.Ask request) = at_seat m seat (ask_effect request) (P (steps.Ask request)) (h.nothing (steps.Ask request)) (λ s is. of_client m seat P h request s is)
+each_event m seat P h steps.End =
+    at_seat m seat end_effect (P steps.End) (h.nothing steps.End)
+    (λ s is. cond_both s.connected (silent (with_seat s.number with_end m)) (silent m) (P steps.End) (λ e. h.ends s is) (λ e. h.nothing steps.End))
+each_event m seat P h steps.Close =
+    at_seat m seat close_effect (P steps.Close) (h.nothing steps.Close)
+    (λ s is. cond_both s.connected (telling answers.Closed (after_close m s.number)) (silent m) (P steps.Close) (λ e. h.closes s is) (λ e. h.nothing steps.Close))
 each_event m seat P h steps.Drain = h.drains
-each_event m seat P h steps.Connect = of_found m seat P h steps.Connect (seat_with seat m.seats) refl
-each_event m seat P h (steps.Ask request) = of_found m seat P h (steps.Ask request) (seat_with seat m.seats) refl
-each_event m seat P h steps.End = of_found m seat P h steps.End (seat_with seat m.seats) refl
-each_event m seat P h steps.Close = of_found m seat P h steps.Close (seat_with seat m.seats) refl
 each_event m seat P h steps.Tick = h.nothing steps.Tick
 each_event m seat P h steps.Gone = h.nothing steps.Gone
 

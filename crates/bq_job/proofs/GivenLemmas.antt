@@ -15,7 +15,8 @@ use Rattle.bq_job.specs.promise.History.{LineOver, is_tick, steps_at}
 use Rattle.bq_job.specs.beside.Lawful.{IsLawful}
 use Rattle.bq_job.specs.promise.LineSteps.{LineHeard, heard, MayTellEnd, answered_count, wanted}
 use Rattle.bq_job.specs.machine.Machine.{Machine, Settings}
-use Rattle.bq_job.specs.machine.OneClient.{GetsAtMost, GetsClosed, GetsWhatWaits, has_closed, is_closed_answer, is_connected_at, owing}
+use Rattle.bq_job.specs.beside.ClientGets.{GetsAtMost, GetsClosed, GetsWhatWaits, owing}
+use Rattle.bq_job.specs.machine.OneClient.{has_closed, is_closed_answer, is_connected_at}
 use Rattle.bq_job.specs.promise.Runs.{Entry, Run, answers_to}
 use Rattle.bq_job.specs.machine.Steps.{IsStep, Outcome}
 use Rattle.bq_job.proofs.LawfulLemmas.{step_is_lawful}

@@ -18,7 +18,8 @@ use Rattle.bq_job.specs.promise.History.{LineOver, steps_at}
 use Rattle.bq_job.specs.promise.LineOwed.{AreLinesOwed, IsLineOwed}
 use Rattle.bq_job.specs.promise.LineSteps.{AreAllAnswered, IsWritten, answered_count, answers_text, ends_by_wait}
 use Rattle.bq_job.specs.machine.Machine.{Machine, SeatRecord, Settings, empty_seat, new_machine, numbers}
-use Rattle.bq_job.specs.machine.OneClient.{has_closed, is_connected_at, owing}
+use Rattle.bq_job.specs.beside.ClientGets.{owing}
+use Rattle.bq_job.specs.machine.OneClient.{has_closed, is_connected_at}
 use Rattle.bq_job.specs.promise.Runs.{Entry, Run, answers_to}
 use Rattle.bq_job.specs.beside.SeatDid.{AreLinesServed, IsLineServed, IsNoneUnwritten}
 use Rattle.bq_job.specs.beside.Ties.{AreTied, IsJoined, IsLineJoined}

@@ -11,7 +11,7 @@ use Rattle.bq_job.specs.declared.request.Request.TheVariants as requests
 use Rattle.bq_job.specs.declared.step.Step.{Step}
 use Rattle.bq_job.specs.declared.step.Step.TheVariants as steps
 use Rattle.bq_job.specs.machine.Acts.{Effect, silent, telling}
-use Rattle.bq_job.specs.machine.Asked.{after_close, after_connect, asked, at_found, effect, with_end}
+use Rattle.bq_job.specs.machine.Asked.{after_close, after_connect, ask_effect, asked, at_found, effect, with_end}
 use Rattle.bq_job.specs.machine.Changes.{is_waiting, with_seat}
 use Rattle.bq_job.specs.machine.JobCommands.{after_delete, after_put, new_job, reserve_effect, waiting_from}
 use Rattle.bq_job.specs.promise.LineSteps.{answers_wanted, is_waiting_request}
@@ -86,7 +86,7 @@ replies_effect m seat request f c w =
     let s = f.client in
     let open_now : s.connected ≡ true = sym f.connected ∙ c in
     let waits_not : is_waiting s ≡ false = sym f.waits ∙ w in
-    subst (λ o. Replies seat (answers_wanted request) (is_waiting_request request) m.seats (at_found (steps.Ask request) m o)) (sym f.found)
+    subst (λ o. Replies seat (answers_wanted request) (is_waiting_request request) m.seats (at_found (ask_effect request) m o)) (sym f.found)
     (subst (λ b. Replies seat (answers_wanted request) (is_waiting_request request) m.seats (cond b (asked request m s) (silent m))) (sym (and_from s.connected (not (is_waiting s)) open_now (ap not waits_not)))
     (subst (λ n. Replies n (answers_wanted request) (is_waiting_request request) m.seats (asked request m s)) f.number
     (replies_kind request m s (kind_of request m s) f.there (subst (λ n. waits_in n m.seats ≡ false) (sym f.number) w))))

@@ -1,5 +1,6 @@
 -- What the headline does not reach: definitions of other contracts, and those that only proofs use.
 pub mod BodySoFar
+pub mod ClientGets
 pub mod Codes
 pub mod Computed
 pub mod ComputedReading

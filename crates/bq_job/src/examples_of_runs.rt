@@ -5,7 +5,7 @@ ghost use Rattle.bq_job.specs.declared.request.Request.TheVariants.{Bury, Delete
 ghost use Rattle.bq_job.specs.beside.ComputedRuns.{machine_after, transitions};
 ghost use Rattle.bq_job.specs.examples.Examples.{Plays, ask, at, close, connect, drain, server, tick, ◌gives◌};
 ghost use Rattle.bq_job.specs.machine.JobCommands.{last_id};
-ghost use Rattle.bq_job.specs.examples.RunExamples.{HandsOutDisturbed, HandsOutUndisturbed, happening_in, played};
+ghost use Rattle.bq_job.specs.examples.RunExamples.{HandsOutDisturbed, HandsOutUndisturbed, happening_in, taken};
 ghost use Rattle.bq_job.specs.laws.LawsOfRuns.{Holds, has_inserted};
 ghost use Rattle.bq_job.specs.laws.Undisturbed.{IsHandedOutBefore, IsPutBefore, is_deletion};
 ghost use Rattle.std.specs.Prelude.{List, [], ◌∷◌, ◌≡◌, codes, false, map, true};
@@ -116,7 +116,7 @@ fn put_before_and_after_the_drain()
 
 /// Of the steps of three connections, a put, the drain and a put the one before the drain gives INSERTED.
 fn inserted_before_the_drain()
-    ensures { map (λ t. has_inserted t.given) (played
+    ensures { map (λ t. has_inserted t.given) (taken
         (ask 0 (Put 0 0 9 (codes "x")) ∷ drain ∷ ask 0 (Put 0 0 9 (codes "y")) ∷ []))
         ≡ false ∷ false ∷ false ∷ true ∷ false ∷ false ∷ [] }
 {}

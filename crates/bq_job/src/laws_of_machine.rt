@@ -9,7 +9,7 @@ ghost use Rattle.bq_job.specs.beside.Lawful.{IsLawful};
 ghost use Rattle.bq_job.specs.laws.LeastJob.{GetsLeast};
 ghost use Rattle.bq_job.specs.machine.Machine.{Machine, Settings, new_machine};
 ghost use Rattle.bq_job.specs.beside.NextDue.{is_before, next_due};
-ghost use Rattle.bq_job.specs.machine.OneClient.{GivesClient};
+ghost use Rattle.bq_job.specs.beside.ClientGets.{GivesClient};
 ghost use Rattle.bq_job.specs.beside.Refusals.{ChangesNothing, is_refusal};
 ghost use Rattle.bq_job.specs.promise.Runs.{parts_of};
 ghost use Rattle.bq_job.specs.machine.Steps.{IsStep, Outcome, acted};

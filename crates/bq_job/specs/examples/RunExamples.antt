@@ -9,12 +9,12 @@ use Rattle.bq_job.specs.promise.Runs.{Entry, Transition}
 use Rattle.bq_job.specs.laws.Undisturbed.{IsUndisturbed}
 
 -- the steps of a server with three seats, once a client has come to each of them at the moment 0
-abbrev pub played : List Entry → List Transition
-played history = transitions (server 3 65535) (connect 0 ∷ connect 1 ∷ connect 2 ∷ history)
+abbrev pub taken : List Entry → List Transition
+taken history = transitions (server 3 65535) (connect 0 ∷ connect 1 ∷ connect 2 ∷ history)
 
 -- what happens to jobs in them
 abbrev pub happening_in : List Entry → List Happening
-happening_in history = happenings (parts_of_run (played history))
+happening_in history = happenings (parts_of_run (taken history))
 
 abbrev pub job_put : Happening → List Job
 job_put (put j) = j ∷ []

@@ -71,25 +71,32 @@ abbrev pub after_close : Machine → ℕ → Machine
 after_close m seat =
     record (with_seat seat (λ s. empty_seat s.number) m) { jobs = map (given_back (state_once_left m) seat) m.jobs }
 
-abbrev pub at_seat : Step → Machine → SeatRecord → Effect
-at_seat steps.Connect m s = if s.connected then silent m else silent (after_connect m s.number)
-at_seat (steps.Ask request) m s = if s.connected && not (is_waiting s) then asked request m s else silent m
-at_seat steps.End m s = if s.connected then silent (with_seat s.number with_end m) else silent m
-at_seat steps.Close m s = if s.connected then telling answers.Closed (after_close m s.number) else silent m
-at_seat steps.Drain m s = silent (record m { draining = true })
-at_seat steps.Tick m s = silent m
-at_seat steps.Gone m s = silent m
+-- A closed seat is opened; at an open one nothing happens.
+abbrev pub connect_effect : Machine → SeatRecord → Effect
+connect_effect m s = if s.connected then silent m else silent (after_connect m s.number)
 
-abbrev pub at_found : Step → Machine → Option SeatRecord → Effect
-at_found what m None = silent m
-at_found what m (Some s) = at_seat what m s
+-- A request is carried out at an open seat that doesn't wait, and at no other.
+abbrev pub ask_effect : Request → Machine → SeatRecord → Effect
+ask_effect request m s = if s.connected && not (is_waiting s) then asked request m s else silent m
+
+-- An open seat is marked.
+abbrev pub end_effect : Machine → SeatRecord → Effect
+end_effect m s = if s.connected then silent (with_seat s.number with_end m) else silent m
+
+-- An open seat is closed, and that is told.
+abbrev pub close_effect : Machine → SeatRecord → Effect
+close_effect m s = if s.connected then telling answers.Closed (after_close m s.number) else silent m
+
+abbrev pub at_found : (Machine → SeatRecord → Effect) → Machine → Option SeatRecord → Effect
+at_found act m None = silent m
+at_found act m (Some s) = act m s
 
 -- Draining begins at whatever seat. Any other event at a seat that there isn't does nothing.
 abbrev pub effect : Machine → ℕ → Step → Effect
+effect m seat steps.Connect = at_found connect_effect m (seat_with seat m.seats)
+effect m seat (steps.Ask request) = at_found (ask_effect request) m (seat_with seat m.seats)
+effect m seat steps.End = at_found end_effect m (seat_with seat m.seats)
+effect m seat steps.Close = at_found close_effect m (seat_with seat m.seats)
 effect m seat steps.Drain = silent (record m { draining = true })
-effect m seat steps.Connect = at_found steps.Connect m (seat_with seat m.seats)
-effect m seat (steps.Ask request) = at_found (steps.Ask request) m (seat_with seat m.seats)
-effect m seat steps.End = at_found steps.End m (seat_with seat m.seats)
-effect m seat steps.Close = at_found steps.Close m (seat_with seat m.seats)
 effect m seat steps.Tick = silent m
 effect m seat steps.Gone = silent m

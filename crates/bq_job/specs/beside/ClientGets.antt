@@ -1,0 +1,60 @@
+-- What a step gives to one client.
+use Rattle.std.specs.Prelude.{ℕ, true, false, ◌≡◌, ◌+◌, ◌≤◌, if◌then◌else◌, List, [], ◌∷◌, ◌++◌, length}
+use Rattle.bq_job.specs.declared.answer.Answer.{Answer}
+use Rattle.bq_job.specs.declared.answer.Answer.TheVariants as answers
+use Rattle.bq_job.specs.declared.request.Request.{Request}
+use Rattle.bq_job.specs.declared.step.Step.{Step}
+use Rattle.bq_job.specs.declared.step.Step.TheVariants as steps
+use Rattle.bq_job.specs.machine.Dispatch.{GivenAnswer}
+use Rattle.bq_job.specs.machine.Machine.{Machine}
+use Rattle.bq_job.specs.machine.OneClient.{has_closed, is_connected_at, is_waiting_at}
+use Rattle.bq_job.specs.promise.LineSteps.{answers_wanted, is_waiting_request}
+use Rattle.bq_job.specs.promise.Runs.{answers_to}
+
+-- how many answers the client waits for: one, or none
+abbrev pub owing : ℕ → Machine → ℕ
+owing seat m = if is_waiting_at seat m then 1 else 0
+
+-- An answer that the client waited for may have come, and nothing else.
+pub record GetsWhatWaits (first last : Machine) (seat : ℕ) (given : List Answer) : Type 0 where
+  pub count : length given + owing seat last ≡ owing seat first
+  pub unclosed : has_closed given ≡ false
+  pub connected : is_connected_at seat last ≡ is_connected_at seat first
+
+-- The client, who waits for nothing, asks: the answer comes, or is waited for if the request is one that
+-- may wait.
+pub record GetsAnswer (first last : Machine) (seat : ℕ) (request : Request) (given : List Answer) : Type 0 where
+  pub count : length given + owing seat last ≡ answers_wanted request
+  pub at_once : is_waiting_request request ≡ false → owing seat last ≡ 0
+  pub unclosed : has_closed given ≡ false
+  pub connected : is_connected_at seat last ≡ true
+
+-- The client asks, whether it waits or not: it is given, with what it then waits for, no more than it waited
+-- for and one answer more.
+pub record GetsAtMost (first last : Machine) (seat : ℕ) (request : Request) (given : List Answer) : Type 0 where
+  pub count : length given + owing seat last ≤ owing seat first + answers_wanted request
+  pub unclosed : has_closed given ≡ false
+  pub connected : is_connected_at seat last ≡ true
+
+-- The client is gone. What it waited for may just have come; the last answer says that it is gone.
+pub record GetsClosed (first last : Machine) (seat : ℕ) (given : List Answer) : Type 0 where
+  pub early : List Answer
+  pub given_is : given ≡ early ++ answers.Closed ∷ []
+  pub count : length early ≤ owing seat first
+  pub unclosed : has_closed early ≡ false
+  pub none : owing seat last ≡ 0
+  pub gone : is_connected_at seat last ≡ false
+
+-- The client at the seat, of these that there are, takes the step: what it is given, and what it waits
+-- for then. Who sends no more waits no more.
+abbrev pub GivesClient : ℕ → Machine → Step → List GivenAnswer → Machine → Type 0
+GivesClient seat first steps.Connect given last =
+    is_connected_at seat first ≡ false → (answers_to seat given ≡ []) × (owing seat last ≡ 0) × (is_connected_at seat last ≡ true)
+GivesClient seat first (steps.Ask request) given last =
+    is_connected_at seat first ≡ true → owing seat first ≡ 0 → GetsAnswer first last seat request (answers_to seat given)
+GivesClient seat first steps.Close given last = is_connected_at seat first ≡ true → GetsClosed first last seat (answers_to seat given)
+GivesClient seat first steps.End given last =
+    GetsWhatWaits first last seat (answers_to seat given) × (is_connected_at seat first ≡ true → owing seat last ≡ 0)
+GivesClient seat first steps.Drain given last = GetsWhatWaits first last seat (answers_to seat given)
+GivesClient seat first steps.Tick given last = GetsWhatWaits first last seat (answers_to seat given)
+GivesClient seat first steps.Gone given last = GetsWhatWaits first last seat (answers_to seat given)
