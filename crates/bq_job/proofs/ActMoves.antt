@@ -14,7 +14,7 @@ use Rattle.bq_job.specs.machine.Steps.{Memory, acted}
 use Rattle.bq_job.specs.laws.Happenings.{removed}
 use Rattle.bq_job.proofs.ChangeLemmas.{Becomes, JobsAfter, becomes_itself, changed, removed_one, added, unchanged}
 use Rattle.bq_job.proofs.LookupLemmas.{found_job}
-use Rattle.bq_job.proofs.BecomeLemmas.{held_not_ready, itself_told, told_if_given_up}
+use Rattle.bq_job.proofs.BecomeLemmas.{free_by_delay, held_not_ready, itself_told, told_if_given_up}
 use Rattle.bq_job.proofs.CommandKinds.{kind_of}
 use Rattle.bq_job.proofs.EachEvent.{each_acted}
 use Rattle.bq_job.proofs.EffectKinds.{Kind, adds, changes_jobs, changes_seat, changes_tube, deletes, passes, tells, waits}
@@ -48,7 +48,7 @@ after_closed m seat =
     changed (given_back left seat) refl refl
     (λ j. cond_both (is_held_by seat j) (in_state left j) j (λ k. k.id ≡ j.id) (λ e. refl) (λ e. refl))
     (λ j i. cond_both (is_held_by seat j) (in_state left j) j (Becomes steps.Close j)
-    (λ e. record { id = refl; tube = refl; body = refl; ready = λ h. absurd (held_not_ready seat j e h); held = λ h. inr (told_if_given_up steps.Close j.id j.state m.settings.requeue_delay m.moment h (itself_told j.id)) })
+    (λ e. record { id = refl; tube = refl; body = refl; ready = λ h. absurd (held_not_ready seat j e h); held = λ h. inr (told_if_given_up steps.Close j.id j.state left h (free_by_delay m.settings.requeue_delay m.moment) (itself_told j.id)) })
     (λ e. becomes_itself steps.Close j))
 
 -- whatever became of the memory that it wanted

@@ -28,44 +28,22 @@ held_not_ready seat j h i = of_state j.state h i
   where
     of_state : (s : JobState) → is_holder seat s ≡ true → is_ready_state s ≡ true → ⊥
     of_state states.Ready h i = absurd cc
-    of_state (states.Delayed due) h i = absurd cc
-    of_state (states.Reserved holder deadline) h i = absurd cc
-    of_state (states.Buried number) h i = absurd cc
+    of_state _ h i = absurd cc
 
 pub put_aside_not_held : (s : JobState) → (is_buried s || is_delayed s) ≡ true → is_reserved s ≡ true → ⊥
-put_aside_not_held states.Ready h i = absurd cc
-put_aside_not_held (states.Delayed due) h i = absurd cc
 put_aside_not_held (states.Reserved holder deadline) h i = absurd cc
-put_aside_not_held (states.Buried number) h i = absurd cc
+put_aside_not_held _ h i = absurd cc
 
--- A held job that its holder gives up is told of.
-pub told_if_given_up : (what : Step) (id : ℕ) (before : JobState) (delay moment : ℕ) → is_reserved before ≡ true → list_any (disturbs id) (given_up what id) ≡ true → list_any (disturbs id) (change what id before (delayed_by delay moment)) ≡ true
-told_if_given_up what id before delay moment h told =
-    cond_both (delay == 0) states.Ready (states.Delayed (later moment delay)) (λ s. list_any (disturbs id) (change what id before s) ≡ true) (λ e. ready before h) (λ e. delayed before h)
-  where
-    ready : (s : JobState) → is_reserved s ≡ true → list_any (disturbs id) (change what id s states.Ready) ≡ true
-    ready states.Ready i = absurd cc
-    ready (states.Delayed due) i = absurd cc
-    ready (states.Reserved holder deadline) i = told
-    ready (states.Buried number) i = absurd cc
+-- A held job that its holder gives up is told of,
+pub told_if_given_up : (what : Step) (id : ℕ) (before after : JobState) → is_reserved before ≡ true → is_reserved after ≡ false → list_any (disturbs id) (given_up what id) ≡ true → list_any (disturbs id) (change what id before after) ≡ true
+told_if_given_up what id (states.Reserved seat deadline) (states.Reserved holder until) held free told = absurd cc
+told_if_given_up what id (states.Reserved seat deadline) _ held free told = told
+told_if_given_up what id _ after held free told = absurd cc
 
-    delayed : (s : JobState) → is_reserved s ≡ true → list_any (disturbs id) (change what id s (states.Delayed (later moment delay))) ≡ true
-    delayed states.Ready i = absurd cc
-    delayed (states.Delayed due) i = absurd cc
-    delayed (states.Reserved holder deadline) i = told
-    delayed (states.Buried number) i = absurd cc
-
-pub told_if_buried : (what : Step) (id : ℕ) (before : JobState) (number : ℕ) → is_reserved before ≡ true → list_any (disturbs id) (given_up what id) ≡ true → list_any (disturbs id) (change what id before (states.Buried number)) ≡ true
-told_if_buried what id states.Ready number h told = absurd cc
-told_if_buried what id (states.Delayed due) number h told = absurd cc
-told_if_buried what id (states.Reserved holder deadline) number h told = told
-told_if_buried what id (states.Buried burial) number h told = absurd cc
-
+-- and so is a ready one that somebody takes.
 pub told_if_taken : (what : Step) (id : ℕ) (before : JobState) (seat deadline : ℕ) → is_ready_state before ≡ true → list_any (disturbs id) (taken_up what id) ≡ true → list_any (disturbs id) (change what id before (states.Reserved seat deadline)) ≡ true
-told_if_taken what id states.Ready seat deadline h told = told
-told_if_taken what id (states.Delayed due) seat deadline h told = absurd cc
-told_if_taken what id (states.Reserved holder until) seat deadline h told = absurd cc
-told_if_taken what id (states.Buried number) seat deadline h told = absurd cc
+told_if_taken what id states.Ready seat deadline ready told = told
+told_if_taken what id _ seat deadline ready told = absurd cc
 
 pub itself_told : (id : ℕ) → ((id == id) || false) ≡ true
 itself_told id = or_left (id == id) false (eq-eqb id id refl)

@@ -81,28 +81,14 @@ plain_removed (steps.Ask (requests.Delete other)) id = plain_named other id (del
 plain_removed _ id = tt
 
 plain_change : (what : Step) (id : ℕ) (before after : JobState) → All (λ h. is_plain h ≡ true) (change what id before after)
-plain_change what id states.Ready states.Ready = tt
-plain_change what id states.Ready (states.Delayed due) = tt
-plain_change what id states.Ready (states.Reserved holder until) = plain_taken_up what id
-plain_change what id states.Ready (states.Buried number) = tt
-plain_change what id (states.Delayed moment) states.Ready = tt
-plain_change what id (states.Delayed moment) (states.Delayed due) = tt
-plain_change what id (states.Delayed moment) (states.Reserved holder until) = plain_taken_up what id
-plain_change what id (states.Delayed moment) (states.Buried number) = tt
-plain_change what id (states.Reserved seat deadline) states.Ready = plain_given_up what id
-plain_change what id (states.Reserved seat deadline) (states.Delayed due) = plain_given_up what id
 plain_change what id (states.Reserved seat deadline) (states.Reserved holder until) = tt
-plain_change what id (states.Reserved seat deadline) (states.Buried number) = plain_given_up what id
-plain_change what id (states.Buried burial) states.Ready = tt
-plain_change what id (states.Buried burial) (states.Delayed due) = tt
-plain_change what id (states.Buried burial) (states.Reserved holder until) = plain_taken_up what id
-plain_change what id (states.Buried burial) (states.Buried number) = tt
+plain_change what id (states.Reserved seat deadline) _ = plain_given_up what id
+plain_change what id _ (states.Reserved holder until) = plain_taken_up what id
+plain_change what id _ _ = tt
 
 no_change : (what : Step) (id : ℕ) (state : JobState) → change what id state state ≡ []
 no_change what id states.Ready = refl
-no_change what id (states.Delayed due) = refl
-no_change what id (states.Reserved seat deadline) = refl
-no_change what id (states.Buried number) = refl
+no_change what id _ = refl
 
 plain_change_or_removal : (what : Step) (j : Job) (o : Option Job) → All (λ h. is_plain h ≡ true) (change_or_removal what j o)
 plain_change_or_removal what j None = plain_removed what j.id

@@ -17,7 +17,7 @@ use Rattle.bq_job.specs.machine.Acts.{Effect, on_found, on_job, showing, telling
 use Rattle.bq_job.specs.machine.Asked.{asked, refusal_answer}
 use Rattle.bq_job.specs.machine.Changes.{first_of, in_state, is_held_by, job_with, with_job}
 use Rattle.bq_job.specs.machine.Dispatch.{is_job_before, reserved_by}
-use Rattle.bq_job.specs.machine.JobCommands.{after_delete, buried, is_buried_in, is_delayed_in, is_free_for, kickable, kicked, released}
+use Rattle.bq_job.specs.machine.JobCommands.{after_delete, buried, delayed_by, is_buried_in, is_delayed_in, is_free_for, kickable, kicked, released}
 use Rattle.bq_job.specs.machine.JobStates.{is_buried, is_buried_before, is_delayed, is_due_before, is_reserved}
 use Rattle.bq_job.specs.machine.Limits.{greatest, later, raised}
 use Rattle.bq_job.specs.machine.Machine.{Machine, SeatRecord}
@@ -31,7 +31,7 @@ use Rattle.bq_job.specs.beside.Lawful.{has_one, none_twice, watches_once}
 use Rattle.bq_job.specs.beside.Refusals.{is_refusal}
 use Rattle.bq_job.specs.laws.Happenings.{buried as happens_buried, released as happens_released, reserved_by_id}
 use Rattle.bq_job.specs.reading.TubeName.{is_same_name}
-use Rattle.bq_job.proofs.BecomeLemmas.{IsAside, all_of_take, chosen_not_held, free_by_delay, held_not_ready, kickable_aside, one_becomes, put_aside_not_held, told_by_name, told_if_buried, told_if_given_up, told_if_taken}
+use Rattle.bq_job.proofs.BecomeLemmas.{IsAside, all_of_take, chosen_not_held, free_by_delay, held_not_ready, kickable_aside, one_becomes, put_aside_not_held, told_by_name, told_if_given_up, told_if_taken}
 use Rattle.bq_job.proofs.ChangeLemmas.{Becomes, becomes_itself}
 use Rattle.bq_job.proofs.EffectKinds.{IsFreeOrOwn, Kind, SaysDone, adds, changes_jobs, changes_seat, changes_tube, deletes, is_common, passes, tells, waits}
 use Rattle.bq_job.proofs.LookupLemmas.{found_job, job_found}
@@ -90,7 +90,7 @@ release_kind id pri delay m s =
       tube = refl;
       body = refl;
       ready = λ h. absurd (held_not_ready s.number j p h);
-      held = λ h. inr (told_if_given_up (steps.Ask (requests.Release id pri delay)) j.id j.state delay m.moment h (told_by_name id j.id (happens_released j.id) (sym (found_job id m.jobs j e).0) (eq-eqb j.id j.id refl)));
+      held = λ h. inr (told_if_given_up (steps.Ask (requests.Release id pri delay)) j.id j.state (delayed_by delay m.moment) h (free_by_delay delay m.moment) (told_by_name id j.id (happens_released j.id) (sym (found_job id m.jobs j e).0) (eq-eqb j.id j.id refl)));
     }))
 
 bury_kind : (id pri : ℕ) (m : Machine) (s : SeatRecord) → Kind m s (requests.Bury id pri) (asked (requests.Bury id pri) m s)
@@ -104,7 +104,7 @@ bury_kind id pri m s =
       tube = refl;
       body = refl;
       ready = λ h. absurd (held_not_ready s.number j p h);
-      held = λ h. inr (told_if_buried (steps.Ask (requests.Bury id pri)) j.id j.state (raised m.burials) h (told_by_name id j.id (happens_buried j.id) (sym (found_job id m.jobs j e).0) (eq-eqb j.id j.id refl)));
+      held = λ h. inr (told_if_given_up (steps.Ask (requests.Bury id pri)) j.id j.state (states.Buried (raised m.burials)) h refl (told_by_name id j.id (happens_buried j.id) (sym (found_job id m.jobs j e).0) (eq-eqb j.id j.id refl)));
     }))
 
 touch_kind : (id : ℕ) (m : Machine) (s : SeatRecord) → Kind m s (requests.Touch id) (asked (requests.Touch id) m s)
