@@ -9,9 +9,9 @@ use Rattle.std.proofs.lemmas.Bool.{cases_Bool, or_cases}
 use Rattle.bq_job.specs.machine.Machine.{Machine, TubeRecord, default_tube}
 use Rattle.bq_job.specs.beside.NameOrder.{is_in_order}
 use Rattle.bq_job.specs.reading.TubeName.{is_same_name}
-use Rattle.bq_job.specs.machine.TubeOrder.{in_name_order, seated_tubes, tubes, with_name}
+use Rattle.bq_job.specs.machine.TubeOrder.{in_name_order, name_list, seated_tubes, tubes, with_name}
 use Rattle.bq_job.specs.machine.Tubes.{fresh_tube, is_name_before, is_tube}
-use Rattle.bq_job.specs.texts.Yaml.{name_line, name_list}
+use Rattle.bq_job.specs.texts.Yaml.{name_line}
 use Rattle.bq_job.proofs.NameOrderLemmas.{after, first_of_order, in_order_fold, in_order_from, listed, not_before, not_same, rest_in_order, stays_fold}
 use Rattle.bq_core.specs.Texts.{is_named, names_of}
 use Rattle.bq_core.specs.TubeEntries.{AreEntries, AreInOrder, IsFreshUnlessCounted, counted, has_entry, is_counted, is_tube_of, names_alive}

@@ -1,6 +1,7 @@
 ghost use Rattle.std.specs.Prelude.{◌≡◌, ◌+◌, ◌≤◌, ◌++◌, codes, length, IfOk, IsTrue, flat_map};
 ghost use Rattle.bq_job.specs.beside.NameOrder.{is_in_order};
-ghost use Rattle.bq_job.specs.texts.Yaml.{name_line, name_list};
+ghost use Rattle.bq_job.specs.machine.TubeOrder.{name_list};
+ghost use Rattle.bq_job.specs.texts.Yaml.{name_line};
 ghost use Rattle.bq_core.specs.Texts.{IsSizeOf, names_of};
 
 use super::builder::TextBuilder;

@@ -8,10 +8,9 @@ use Rattle.bq_job.specs.machine.Changes.{is_ready, is_waiting}
 use Rattle.bq_job.specs.machine.JobStates.{is_reserved, is_delayed, is_buried}
 use Rattle.bq_job.specs.machine.Machine.{Machine, Pause}
 use Rattle.bq_job.specs.reading.TubeName.{is_same_name}
-pub use Rattle.bq_job.specs.machine.TubeOrder.{tubes}
+pub use Rattle.bq_job.specs.machine.TubeOrder.{name_list, tubes}
 use Rattle.bq_job.specs.machine.Tubes.{tube_record, watches}
 use Rattle.bq_job.specs.texts.Yaml.{KeyValue, key_number, statistics_text}
-pub use Rattle.bq_job.specs.texts.Yaml.{name_list}
 
 -- whole seconds from one moment to a later one, rounded down; 0 where it isn't later
 abbrev pub seconds_between : ℕ → ℕ → ℕ

@@ -1,8 +1,9 @@
 -- The tubes that exist, and the order in which names are listed.
-use Rattle.std.specs.Prelude.{ℕ, if◌then◌else◌, List, [], ◌∷◌, ◌++◌, fold, map, flat_map}
+use Rattle.std.specs.Prelude.{ℕ, if◌then◌else◌, List, [], ◌∷◌, ◌++◌, fold, map, flat_map, codes}
 use Rattle.bq_job.specs.machine.Machine.{Machine, SeatRecord, default_tube}
 use Rattle.bq_job.specs.reading.TubeName.{is_same_name}
 use Rattle.bq_job.specs.machine.Tubes.{is_name_before}
+use Rattle.bq_job.specs.texts.Yaml.{name_line}
 
 -- the names with this one at its place in byte order, unless it is there
 abbrev pub with_name : List (List ℕ) → List ℕ → List (List ℕ)
@@ -23,3 +24,7 @@ seated_tubes s = if s.connected then s.used ∷ s.watched else []
 -- open seats use and watch.
 abbrev pub tubes : Machine → List (List ℕ)
 tubes m = in_name_order (default_tube ∷ map (λ j. j.tube) m.jobs ++ flat_map seated_tubes m.seats)
+
+-- A list: a line `- name` for each of the names, in byte order.
+abbrev pub name_list : List (List ℕ) → List ℕ
+name_list names = codes "---\n" ++ flat_map name_line (in_name_order names)

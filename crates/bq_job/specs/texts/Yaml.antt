@@ -1,6 +1,5 @@
--- How statistics and lists are laid out, as YAML texts.
+-- How statistics and the lines of lists are laid out, as YAML texts.
 use Rattle.std.specs.Prelude.{ℕ, List, ◌++◌, flat_map, codes, decimal}
-use Rattle.bq_job.specs.machine.TubeOrder.{in_name_order}
 
 -- a key and its value
 abbrev pub KeyValue : Type 0
@@ -17,9 +16,6 @@ key_value_line pair = pair.0 ++ codes ": " ++ pair.1 ++ codes "\n"
 abbrev pub statistics_text : List KeyValue → List ℕ
 statistics_text pairs = codes "---\n" ++ flat_map key_value_line pairs
 
+-- a line of a list of names
 abbrev pub name_line : List ℕ → List ℕ
 name_line name = codes "- " ++ name ++ codes "\n"
-
--- A list: a line `- name` for each of the names, in byte order.
-abbrev pub name_list : List (List ℕ) → List ℕ
-name_list names = codes "---\n" ++ flat_map name_line (in_name_order names)

@@ -8,8 +8,7 @@ ghost use Rattle.bq_job.specs.texts.AnswerText.{answer_text};
 ghost use Rattle.bq_job.specs.machine.Machine.{default_tube};
 ghost use Rattle.bq_job.specs.machine.Statistics.{job_statistics, tube_statistics, server_statistics};
 ghost use Rattle.bq_job.specs.examples.TextExamples.{first_client, plain_job, job_reserved_again, after_one_deletion, after_coming_back};
-ghost use Rattle.bq_job.specs.machine.TubeOrder.{tubes};
-ghost use Rattle.bq_job.specs.texts.Yaml.{name_list};
+ghost use Rattle.bq_job.specs.machine.TubeOrder.{name_list, tubes};
 
 // An answer of each kind.
 fn every_answer()

@@ -3,8 +3,7 @@ use Rattle.bq_job.specs.declared.answer.Answer.TheVariants as answers
 use Rattle.bq_job.specs.machine.Acts.{telling}
 use Rattle.bq_job.specs.machine.Machine.{SeatRecord}
 use Rattle.bq_job.specs.beside.NameOrder.{is_in_order}
-use Rattle.bq_job.specs.machine.TubeOrder.{in_name_order}
-use Rattle.bq_job.specs.texts.Yaml.{name_list}
+use Rattle.bq_job.specs.machine.TubeOrder.{in_name_order, name_list}
 use Rattle.bq_job.proofs.NameOrderLemmas.{in_order_fold}
 use Rattle.bq_core.specs.State.{machine_of}
 use Rattle.bq_core.specs.Texts.{names_of}
