@@ -13,6 +13,7 @@ pub mod FiringLemmas
 pub mod FirstEndLemmas
 pub mod GoneLemmas
 pub mod KickLemmas
+pub mod KnowledgeLemmas
 pub mod LeavingLemmas
 pub mod LoopLemmas
 pub mod LossLemmas

@@ -127,6 +127,11 @@ pub some_next : (low next : ℕ) (jobs : List Job) → AreIdsWithin low jobs nex
 some_next low next [] h = h
 some_next low next (k ∷ jobs) h = let a = h.0 in let b = some_next (suc k.id) next jobs h.1 in omega arith
 
+-- and there are fewer jobs than ids
+pub as_many_ids : (low next : ℕ) (jobs : List Job) → AreIdsWithin low jobs next → length jobs + low ≤ next
+as_many_ids low next [] h = omega arith
+as_many_ids low next (k ∷ jobs) h = let a = h.0 in let b = as_many_ids (suc k.id) next jobs h.1 in omega arith
+
 -- where there is no job of the id, none is changed
 pub no_job_changed : (id : ℕ) (f : Job → Job) (jobs : List Job) → job_with id jobs ≡ None → map (λ j. if j.id == id then f j else j) jobs ≡ jobs
 no_job_changed id f [] h = refl
@@ -137,9 +142,9 @@ no_job_changed id f (k ∷ jobs) h = elim (cases_Bool (k.id == id)) [
 
 -- Where jobs were only looked at, the state is still sound.
 pub compared_sound : (st : State) (jobs : Kept) → jobs ≡ record st.jobs { comparisons = jobs.comparisons }
-    → Soundness jobs.jobs st.seats.items st.tubes st.tally st.clients st.loss st.stir st.warns st.first_end st.queue st.pause_end st.next_id st.draining
+    → Soundness jobs.jobs st.seats.items st.tubes st.queue st.known st.next_id st.draining
 compared_sound st jobs same =
-    subst (λ (k : Kept). Soundness k.jobs st.seats.items st.tubes st.tally st.clients st.loss st.stir st.warns st.first_end st.queue st.pause_end st.next_id st.draining) (sym same) st.sound
+    subst (λ (k : Kept). Soundness k.jobs st.seats.items st.tubes st.queue st.known st.next_id st.draining) (sym same) st.sound
 
 -- a change of a seat leaves it at tubes with entries
 seat_has : (entries : List TubeRecord) → has_entry default_tube entries ≡ true → (what : SeatChange) → has_tube_of what entries ≡ true → (s : SeatRecord) → HasTubes entries s → HasTubes entries (seat_changed what s)

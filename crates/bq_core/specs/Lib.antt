@@ -15,6 +15,7 @@ pub mod JobKinds
 pub mod Keeping
 pub mod KeptTubes
 pub mod Kicking
+pub mod Knowledge
 pub mod Leaving
 pub mod Losses
 pub mod Offers

@@ -1,5 +1,5 @@
 -- The machine that a core stands for.
-use Rattle.std.specs.Prelude.{ℕ, Bool, ◌≡◌, Option, Vec, count_by}
+use Rattle.std.specs.Prelude.{ℕ, Bool, ◌≡◌, Vec, count_by}
 use Rattle.std.specs.Global.{Global}
 use Rattle.bq_job.specs.declared.job.Job.{Job}
 use Rattle.bq_job.specs.declared.settings.Settings.{Settings}
@@ -9,13 +9,8 @@ use Rattle.bq_core.specs.Firing.{after_job_timers}
 use Rattle.bq_core.specs.KeptTubes.{KeptTubes}
 use Rattle.bq_core.specs.Queues.{Queued}
 use Rattle.bq_core.specs.TubeEntries.{counted}
-use Rattle.bq_core.specs.declared.clients.Clients.{Clients}
-use Rattle.bq_core.specs.declared.first_end.FirstEnd.{FirstEnd}
-use Rattle.bq_core.specs.declared.loss.Loss.{Loss}
+use Rattle.bq_core.specs.declared.known.Known.{Known}
 use Rattle.bq_core.specs.declared.state.State.{State}
-use Rattle.bq_core.specs.declared.stir.Stir.{Stir}
-use Rattle.bq_core.specs.declared.tally.Tally.{Tally}
-use Rattle.bq_core.specs.declared.warns.Warns.{Warns}
 
 -- what a state holds beside the fact that it is sound
 pub record Held : Type 0 where
@@ -24,13 +19,7 @@ pub record Held : Type 0 where
   pub seats : Vec SeatRecord Global
   pub queue : Queued
   pub tubes : KeptTubes
-  pub tally : Tally
-  pub clients : Clients
-  pub loss : Loss
-  pub stir : Stir
-  pub warns : Warns
-  pub first_end : FirstEnd
-  pub pause_end : Option ℕ
+  pub known : Known
   pub moment : ℕ
   pub next_id : ℕ
   pub burials : ℕ
@@ -47,13 +36,7 @@ held s = record {
   seats = s.seats;
   queue = s.queue;
   tubes = s.tubes;
-  tally = s.tally;
-  clients = s.clients;
-  loss = s.loss;
-  stir = s.stir;
-  warns = s.warns;
-  first_end = s.first_end;
-  pause_end = s.pause_end;
+  known = s.known;
   moment = s.moment;
   next_id = s.next_id;
   burials = s.burials;

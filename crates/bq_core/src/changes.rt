@@ -24,18 +24,16 @@ use crate::clients::Clients;
 use crate::crowd::Moving;
 use crate::first_end::FirstEnd;
 use crate::job_list::JobChange;
+use crate::known::Known;
 use crate::loss::Loss;
 use crate::name_lists::Names;
 use crate::queue::Queue;
 use crate::seat_list::SeatChange;
 use crate::seat_record::SeatRecord;
 use crate::state::State;
-use crate::stir::Stir;
-use crate::tally::Tally;
 use crate::tube_entry::TubeChange;
 use crate::tubes::Tubes;
-use crate::warns::Warns;
-use crate::{first_end, job_list, leaving, loss, seat_list, shares, stir, warns};
+use crate::{first_end, job_list, loss, seat_list, shares, stir, warns};
 use bq_job::{Job, JobId, JobState, Moment, NoMemory, Seat, TubeName};
 use bq_jobs::{Jobs, Moved};
 use bq_steps::Config;
@@ -63,15 +61,11 @@ pub(crate) fn add(state: &mut State, job: Job)
 {
     let is_wanted = state.is_wanted(&job);
     let waits = state.has_waiting_holder(&job);
-    let at = job.state;
-    stir::stir_tube_if(&mut state.stir, &job.tube, is_wanted);
-    state.tally.add(&job);
+    // There are fewer jobs than ids, and no count comes to its end.
+    let _ids = state.next_id;
+    state.known.add_job(&job, is_wanted, waits);
     state.tubes.add_job(&job);
-    loss::regain(&mut state.loss, &job.tube);
     state.jobs.add(job);
-    // So many jobs there can be, and no count comes to its end.
-    let _jobs = state.jobs.len();
-    warns::warn_holder_if(&mut state.warns, at, waits);
 }
 
 /// Takes the job of this id out, if there is one. Its room is kept.
@@ -86,9 +80,8 @@ pub(crate) fn take(state: &mut State, id: JobId) -> Option<Job>
     ensures asks { ComparesAtMost 4 state.old.jobs state.new.jobs }
 {
     let job = state.jobs.remove(id)?;
-    state.tally.remove(&job);
+    state.known.remove_job(&job);
     state.tubes.remove_job(&job);
-    loss::lose(&mut state.loss, &job.tube);
     Some(job)
 }
 
@@ -108,14 +101,11 @@ pub(crate) fn change_job(state: &mut State, id: JobId, what: &JobChange)
     let Some(moved) = state.jobs.change(id, what) else {
         return;
     };
-    let is_wanted = counts_waiter_of(&state.clients, &state.tubes, &moved);
+    let is_wanted = counts_waiter_of(&state.known.clients, &state.tubes, &moved);
     let waits = seat_list::holder_waits(state.seats.as_slice(), moved.to.state);
     // So many jobs there can be, and no count comes to its end.
     let _jobs = state.jobs.len();
-    stir::stir_tube_if(&mut state.stir, &moved.tube, is_wanted);
-    warns::warn_holder_if(&mut state.warns, moved.to.state, waits);
-    state.tally.leave(moved.from);
-    state.tally.enter(moved.to);
+    state.known.move_job(&moved, is_wanted, waits);
     state.tubes.move_job(&moved);
 }
 
@@ -123,32 +113,28 @@ pub(crate) fn change_job(state: &mut State, id: JobId, what: &JobChange)
 pub(crate) fn change_seat(state: &mut State, seat: Seat, what: &SeatChange)
     requires entry { has_tube_of what.now state.old.tubes.entries ≡ true }
     requires waits { may_wait what.now (seat_with seat state.old.seats.items) ≡ true }
-    requires holds { may_hold what.now seat state.old.warns state.old.jobs.jobs ≡ true }
+    requires holds { may_hold what.now seat state.old.known.warns state.old.jobs.jobs ≡ true }
     ensures after { machine_of state.new ≡ with_seat seat (seat_changed what.now) (machine_of state.old) }
     ensures jobs { state.new.jobs ≡ state.old.jobs }
 {
     let touched = shares::touched(what);
     let client = seat_list::find(state.seats.as_slice(), seat);
-    state.clients.remove(client);
     state.queue.leave(client);
-    first_end::change(&mut state.first_end, client, what);
     shares::recount(&mut state.tubes, client, Moving::Goes, touched);
-    leaving::lose(&mut state.loss, &state.tubes, client, touched);
+    state.known.leave(client, what, touched, &state.tubes);
     seat_list::change_at(&mut state.seats, seat, what);
     let client = seat_list::find(state.seats.as_slice(), seat);
-    state.clients.add(client);
     state.queue.join(client);
     shares::recount(&mut state.tubes, client, Moving::Comes, touched);
     // So many seats there can be, and no count comes to its end.
     let _seats = state.seats.len();
-    stir::stir_seat(&mut state.stir, seat, what);
-    warns::warn_seat(&mut state.warns, seat, what);
+    state.known.join(client, seat, what);
 }
 
 /// Takes down whether the client at the seat, which is about to wait, holds a job.
 pub(crate) fn note_leases(state: &mut State, seat: Seat)
-    ensures known { state.new.warns
-        ≡ (if list_any (is_held_by seat) state.old.jobs.jobs then with_holder seat state.old.warns else state.old.warns) }
+    ensures known { state.new.known.warns
+        ≡ (if list_any (is_held_by seat) state.old.jobs.jobs then with_holder seat state.old.known.warns else state.old.known.warns) }
     ensures tickets { state.new.tickets ≡ state.old.tickets }
     ensures seats { state.new.seats ≡ state.old.seats }
     ensures tubes { state.new.tubes ≡ state.old.tubes }
@@ -156,15 +142,15 @@ pub(crate) fn note_leases(state: &mut State, seat: Seat)
     ensures asks { Asks 1 state.old.jobs state.new.jobs }
 {
     let holds = job_list::holds_some(&mut state.jobs, seat);
-    warns::warn_if(&mut state.warns, seat, holds);
+    warns::warn_if(&mut state.known.warns, seat, holds);
 }
 
 /// Looks for when the first wait of a client is over by its timeout, where that isn't known.
 pub(crate) fn find_first_end(state: &mut State)
-    ensures { held state.new ≡ record (held state.old) { first_end = state.new.first_end } }
+    ensures { held state.new ≡ record (held state.old) { known = record state.old.known { first_end = state.new.known.first_end } } }
 {
-    if let FirstEnd::Unknown = &state.first_end {
-        state.first_end = first_end::find(state.seats.as_slice(), state.queue.as_slice());
+    if let FirstEnd::Unknown = &state.known.first_end {
+        state.known.first_end = first_end::find(state.seats.as_slice(), state.queue.as_slice());
     }
 }
 
@@ -175,8 +161,7 @@ pub(crate) fn change_tube(state: &mut State, tube: &TubeName, what: TubeChange)
     ensures jobs { state.new.jobs ≡ state.old.jobs }
 {
     state.tubes.change(tube, what);
-    stir::stir_change(&mut state.stir, tube, what);
-    state.pause_end = state.tubes.pause_end_after(what, state.pause_end);
+    state.known.change_tube(tube, what, &state.tubes);
 }
 
 /// Sees to it that a tube has an entry. The growth that this needs comes before any change.
@@ -192,7 +177,7 @@ pub(crate) fn provide_tube(
 {
     match state.tubes.provide(alloc, tube) {
         Ok(is_new) => {
-            loss::lose_if(&mut state.loss, tube, is_new);
+            loss::lose_if(&mut state.known.loss, tube, is_new);
             Ok(())
         }
         Err(fault) => Err(fault),
@@ -221,7 +206,7 @@ pub(crate) fn watch_tube(
     match seat_list::watch(&mut state.seats, alloc, seat, tube) {
         Ok(count) => {
             state.tubes.recount(tube, Moving::Comes, share);
-            stir::stir_all_if(&mut state.stir, share.waiting);
+            stir::stir_all_if(&mut state.known.stir, share.waiting);
             Ok(count)
         }
         Err(fault) => Err(fault),
@@ -239,7 +224,7 @@ pub(crate) fn ignore_tube(state: &mut State, seat: Seat, tube: &TubeName) -> u64
     if usize::from(seat) < state.seats.len() {
         let share = shares::at(&state.seats[usize::from(seat)], tube);
         state.tubes.recount(tube, Moving::Goes, share);
-        loss::lose(&mut state.loss, tube);
+        loss::lose(&mut state.known.loss, tube);
         seat_list::ignore(&mut state.seats, seat, tube)
     } else {
         0
@@ -257,7 +242,7 @@ pub(crate) fn is_tube(state: &State, tube: &TubeName) -> bool
 pub(crate) fn tube_count(state: &State) -> u64
     ensures { result ≡ length (tubes (machine_of state.now)) }
 {
-    match &state.loss {
+    match &state.known.loss {
         Loss::Nothing => state.tubes.len() as u64,
         _ => state.tubes.count_alive(),
     }
@@ -276,9 +261,8 @@ pub(crate) fn forget_tubes(state: &mut State)
     ensures jobs { state.new.jobs ≡ state.old.jobs }
 {
     let entries = state.tubes.len();
-    state.tubes.forget_lost(&state.loss);
-    state.loss = Loss::Nothing;
-    state.pause_end = state.tubes.pause_end_left(entries, state.pause_end);
+    state.tubes.forget_lost(&state.known.loss);
+    state.known.forget_tubes(entries, &state.tubes);
 }
 
 /// A moment below the last one counts as that one.
@@ -309,13 +293,7 @@ pub(crate) fn new_state(
         seats,
         queue,
         tubes,
-        tally: Tally::default(),
-        clients: Clients::default(),
-        loss: Loss::Nothing,
-        stir: Stir::Nothing,
-        warns: Warns::Nobody,
-        first_end: FirstEnd::Known(None),
-        pause_end: None,
+        known: Known::nothing(),
         moment: 0,
         next_id: 1,
         burials: 0,

@@ -168,7 +168,7 @@ fn next_offer(state: &mut State) -> Option<Offer>
     ensures next { result ≡ next_rank (machine_of state.old) }
     ensures kept { Looks (waited (machine_of state.old)) state.old state.new }
 {
-    match &state.stir {
+    match &state.known.stir {
         Stir::Nothing => None,
         Stir::Tube(name) => offer_to(&mut state.jobs, &state.tubes, name),
         Stir::Client(seat) => best_of_client(
@@ -223,7 +223,7 @@ fn pick(state: &mut State, id: JobId) -> Option<(Seat, Result<Body, NoMemory>)>
 {
     let job = state.jobs.get(id)?;
     let seat = taker(
-        &state.stir,
+        &state.known.stir,
         state.seats.as_slice(),
         state.queue.as_slice(),
         &job.tube,
@@ -314,11 +314,11 @@ pub(crate) fn dispatch(state: &mut State, outs: &mut Outs)
     requires room { HasRoom 0 (machine_of state.old) outs.old }
     ensures given { Gives DispatchTurn has_refused_share (machine_of state.old) (machine_of state.new) outs.old outs.new }
     ensures done { next_job (machine_of state.new) ≡ None }
-    ensures idle { is_nothing state.old.stir ≡ true → state.new.jobs ≡ state.old.jobs }
+    ensures idle { is_nothing state.old.known.stir ≡ true → state.new.jobs ≡ state.old.jobs }
     ensures asks { AsksByTurn (waited (machine_of state.old)) outs.old outs.new state.old.jobs state.new.jobs }
 {
-    if !state.stir.is_nothing() {
+    if !state.known.stir.is_nothing() {
         dispatch_all(state, outs);
-        state.stir = Stir::Nothing;
+        state.known.stir = Stir::Nothing;
     }
 }

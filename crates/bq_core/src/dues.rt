@@ -182,16 +182,16 @@ pub(crate) fn next_due(state: &mut State) -> Option<Moment>
         &mut state.jobs,
         state.seats.as_slice(),
         state.queue.as_slice(),
-        &state.warns,
+        &state.known.warns,
     );
-    warns::settle(&mut state.warns, warning.is_some());
+    warns::settle(&mut state.known.warns, warning.is_some());
     let seats = seats_due(
-        &state.first_end,
+        &state.known.first_end,
         state.seats.as_slice(),
         state.queue.as_slice(),
     );
     earlier_of(
         earlier_of(jobs, warning),
-        earlier_of(state.pause_end, seats),
+        earlier_of(state.known.pause_end, seats),
     )
 }

@@ -19,6 +19,7 @@ mod growth;
 mod job_acts;
 mod job_list;
 mod kicks;
+mod known;
 mod leases;
 mod leaving;
 mod loss;

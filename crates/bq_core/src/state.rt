@@ -1,16 +1,11 @@
 //! What a core holds.
 ghost use Rattle.bq_core.specs.Soundness.{Soundness, Soundness-prop};
 
-use crate::clients::Clients;
-use crate::first_end::FirstEnd;
 use crate::job_list::{JobKind, JobTest};
-use crate::loss::Loss;
+use crate::known::Known;
 use crate::queue::Queue;
 use crate::seat_record::SeatRecord;
-use crate::stir::Stir;
-use crate::tally::Tally;
 use crate::tubes::Tubes;
-use crate::warns::Warns;
 use crate::{job_list, seat_list};
 use bq_job::{Body, Job, JobId, Moment, NoMemory, Seat, TubeName};
 use bq_jobs::Jobs;
@@ -28,20 +23,8 @@ pub(crate) struct State {
     pub(crate) queue: Queue,
     /// What is kept of each tube that exists.
     pub(crate) tubes: Tubes,
-    /// How many jobs are in each state.
-    pub(crate) tally: Tally,
-    /// How many clients there are.
-    pub(crate) clients: Clients,
-    /// Which tubes may be gone whose entries are still there.
-    pub(crate) loss: Loss,
-    /// Which jobs the clients that wait may have.
-    pub(crate) stir: Stir,
-    /// Which clients that wait may hold a job, and so be told when its time to run ends soon.
-    pub(crate) warns: Warns,
-    /// When the first wait of a client is over by its timeout.
-    pub(crate) first_end: FirstEnd,
-    /// When the first pause of a tube ends.
-    pub(crate) pause_end: Option<Moment>,
+    /// What is known without a search.
+    pub(crate) known: Known,
     pub(crate) moment: Moment,
     pub(crate) next_id: JobId,
     pub(crate) burials: u64,
@@ -50,9 +33,8 @@ pub(crate) struct State {
     pub(crate) timeouts: u64,
     pub(crate) puts: u64,
     pub(crate) connections: u64,
-    ghost sound: { Soundness jobs.jobs seats.items tubes tally clients loss stir warns first_end
-        queue pause_end next_id draining } by { Soundness-prop jobs.jobs seats.items tubes tally clients loss stir warns first_end queue
-            pause_end next_id draining },
+    ghost sound: { Soundness jobs.jobs seats.items tubes queue known
+        next_id draining } by { Soundness-prop jobs.jobs seats.items tubes queue known next_id draining },
 }
 
 impl State {
@@ -135,7 +117,7 @@ impl State {
     pub(crate) fn has_waiter(&self) -> bool
         ensures { result ≡ list_any is_waiting self.now.seats.items }
     {
-        self.clients.waiting > 0
+        self.known.clients.waiting > 0
     }
 
     /// Whether somebody waits at the tube.

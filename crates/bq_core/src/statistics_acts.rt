@@ -97,13 +97,13 @@ fn server_numbers(state: &State) -> ServerNumbers
     ensures { AreOfServer result (machine_of state.now) }
 {
     ServerNumbers {
-        jobs: state.tally,
+        jobs: state.known.tally,
         timeouts: state.timeouts,
         puts: state.puts,
         max_job_size: state.config.max_job_size,
         tubes: changes::tube_count(state),
-        connected: state.clients.connected,
-        waiting: state.clients.waiting,
+        connected: state.known.clients.connected,
+        waiting: state.known.clients.waiting,
         connections: state.connections,
         draining: state.draining,
     }

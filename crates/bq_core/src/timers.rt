@@ -112,12 +112,12 @@ fn end_pauses(state: &mut State)
     ensures after { machine_of state.new ≡ with_pauses_ended (machine_of state.old) }
     ensures jobs { state.new.jobs ≡ state.old.jobs }
 {
-    if !pauses::is_over(state.pause_end, state.moment) {
+    if !pauses::is_over(state.known.pause_end, state.moment) {
         return;
     }
     state.tubes.fire_timers(state.moment);
-    state.pause_end = state.tubes.first_pause_end();
-    state.stir = Stir::Any;
+    state.known.pause_end = state.tubes.first_pause_end();
+    state.known.stir = Stir::Any;
 }
 
 /// Timers that are due fire.

@@ -108,10 +108,10 @@ fn end_all(state: &mut State, outs: &mut Outs)
 // Whether some wait is over by its timeout, or because its client sends no more.
 fn is_some_wait_over(state: &mut State) -> bool
     ensures over { result ≡ list_any (has_waited state.old.moment) state.old.seats.items }
-    ensures same { held state.new ≡ record (held state.old) { first_end = state.new.first_end } }
+    ensures same { held state.new ≡ record (held state.old) { known = record state.old.known { first_end = state.new.known.first_end } } }
 {
     changes::find_first_end(state);
-    match &state.first_end {
+    match &state.known.first_end {
         FirstEnd::Known(first) => pauses::is_over(*first, state.moment),
         FirstEnd::Unknown => seat_list::is_some_wait_over(
             state.seats.as_slice(),

@@ -10,7 +10,7 @@ pub returns-in-Nothing : goal.returns-in-Nothing
 returns-in-Nothing c =
     let s = c.args.state.now in
     let es = s.tubes.entries in
-    let alive = subst (λ loss. AreAlive loss s.jobs.jobs s.seats.items es) c.in-Nothing.is c.args.state.now.sound.alive in
+    let alive = subst (λ loss. AreAlive loss s.jobs.jobs s.seats.items es) c.in-Nothing.is c.args.state.now.sound.known.alive in
     c.len.ensures
     ∙ sym (length-map es (λ t. t.name))
     ∙ ap (λ left. length (map (λ t. t.name) left)) (sym (all_kept_alive s.jobs.jobs s.seats.items es alive))
@@ -19,5 +19,5 @@ returns-in-Nothing c =
 pub returns-in_default : goal.returns-in_default
 returns-in_default c =
     let s = c.args.state.now in
-    c.count_alive.ensures s.jobs.jobs s.seats.items c.args.state.now.sound.counts.each c.args.state.now.sound.crowds.each
+    c.count_alive.ensures s.jobs.jobs s.seats.items c.args.state.now.sound.known.counts.each c.args.state.now.sound.known.crowds.each
     ∙ ap length (alive_are_tubes (machine_of s) s.tubes.entries c.args.state.now.sound.entries)

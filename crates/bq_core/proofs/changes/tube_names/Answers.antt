@@ -9,4 +9,4 @@ pub returns : goal.returns
 returns c =
     let s = c.args.state.now in
     subst (λ list. IfOk c.names_alive.result (λ names. names_of names.items ≡ list)) (alive_are_tubes (machine_of s) s.tubes.entries c.args.state.now.sound.entries)
-    (c.names_alive.ensures s.jobs.jobs s.seats.items c.args.state.now.sound.counts.each c.args.state.now.sound.crowds.each)
+    (c.names_alive.ensures s.jobs.jobs s.seats.items c.args.state.now.sound.known.counts.each c.args.state.now.sound.known.crowds.each)

@@ -29,13 +29,13 @@ use Rattle.bq_core.proofs.dispatch.next_offer.Goals as goal
 -- the tube's count tells whether somebody waits at it
 counted_there : (name : List ℕ) (st : State) → is_waited_at name st.tubes ≡ list_any (is_waiter name) st.seats.items
 counted_there name st =
-    ap (λ (k : Crowd). nat_lt 0 k.waiting) (crowd_there name st.tubes.crowds st.seats.items st.tubes.entries st.sound.entries.of_seats st.sound.crowds)
+    ap (λ (k : Crowd). nat_lt 0 k.waiting) (crowd_there name st.tubes.crowds st.seats.items st.tubes.entries st.sound.entries.of_seats st.sound.known.crowds)
     ∙ some_pass (is_waiter name) st.seats.items
 
 pub returns-in-Nothing-clause-next : goal.returns-in-Nothing-clause-next
 returns-in-Nothing-clause-next c =
     let m = machine_of c.args.state.now in
-    let known = subst (λ (f : Stir). AreKnown f m.jobs m.seats m.tubes) c.in-Nothing.is c.args.state.now.sound.stirs in
+    let known = subst (λ (f : Stir). AreKnown f m.jobs m.seats m.tubes) c.in-Nothing.is c.args.state.now.sound.known.stirs in
     sym (ap (option_map (ranked (λ j. j.pri))) (none_known Nothing m refl known))
 
 pub returns-in-Tube-clause-next : goal.returns-in-Tube-clause-next
@@ -47,7 +47,7 @@ returns-in-Tube-clause-next c =
         → (if w then offered c.args.state.now.jobs.jobs c.args.state.now.tubes.entries c.in-Tube.name else None) ≡ next_rank (machine_of c.args.state.now)
     go false e =
         let m = machine_of c.args.state.now in
-        let known = subst (λ (f : Stir). AreKnown f m.jobs m.seats m.tubes) c.in-Tube.is c.args.state.now.sound.stirs in
+        let known = subst (λ (f : Stir). AreKnown f m.jobs m.seats m.tubes) c.in-Tube.is c.args.state.now.sound.known.stirs in
         sym
         (rank_agrees m (λ j. false) (tube_waits m c.in-Tube.name false e known)
         ∙ ap (option_map (ranked (λ j. j.pri))) (first_of_none_passes (λ j. false) is_job_before m.jobs (list_any_not (λ j. false) m.jobs (all_always (λ j. false ≡ false) m.jobs (λ j. refl)))))
@@ -55,7 +55,7 @@ returns-in-Tube-clause-next c =
         let st = c.args.state.now in
         let m = machine_of st in
         let name = c.in-Tube.name in
-        let known = subst (λ (f : Stir). AreKnown f m.jobs m.seats m.tubes) c.in-Tube.is c.args.state.now.sound.stirs in
+        let known = subst (λ (f : Stir). AreKnown f m.jobs m.seats m.tubes) c.in-Tube.is c.args.state.now.sound.known.stirs in
         offered_is m.next_id m.jobs c.args.state.now.sound.ids st.tubes.entries (λ n. is_paused n m) (λ n. sym (paused_is n st.tubes.entries c.args.state.now.sound.entries.order c.args.state.now.sound.entries.fresh)) name
         ∙ sym (rank_agrees m (λ j. is_ready_in name j && not (is_paused name m)) (tube_waits m name true e known))
 
@@ -76,7 +76,7 @@ returns-in-Client-clause-next c =
     let st = c.args.state.now in
     let m = machine_of st in
     let o = seat_with c.in-Client.seat m.seats in
-    let known = subst (λ (f : Stir). AreKnown f m.jobs m.seats m.tubes) c.in-Client.is c.args.state.now.sound.stirs in
+    let known = subst (λ (f : Stir). AreKnown f m.jobs m.seats m.tubes) c.in-Client.is c.args.state.now.sound.known.stirs in
     c.best_of_client.ensures.best
     ∙ ap (λ seats. fold (with_offers st.jobs.jobs st.tubes.entries) None (these (seat_with c.in-Client.seat seats))) c.as_slice.ensures.value
     ∙ next_offer m.next_id m.jobs c.args.state.now.sound.ids st.tubes.entries (λ name. is_paused name m) (λ name. sym (paused_is name st.tubes.entries c.args.state.now.sound.entries.order c.args.state.now.sound.entries.fresh)) m (λ name. refl) (these o)

@@ -29,8 +29,8 @@ taker-requires-clause-known c =
     let m = machine_of st in
     let x = c.in_ok-job.job.now in
     let next = next_is m c.args.id x c.args.state.now.sound.ids c.requires.next (sym c.in_ok-job.ensures.job) in
-    subst (All (λ (s : SeatRecord). waits_at x.tube s ≡ true → may_get st.stir x.tube s.number ≡ true)) (sym c.as_slice.ensures.value)
-    (takers_known m st.stir x next c.args.state.now.sound.stirs)
+    subst (All (λ (s : SeatRecord). waits_at x.tube s ≡ true → may_get st.known.stir x.tube s.number ≡ true)) (sym c.as_slice.ensures.value)
+    (takers_known m st.known.stir x next c.args.state.now.sound.known.stirs)
 
 pub returns-in_err-seat-clause-some : goal.returns-in_err-seat-clause-some
 returns-in_err-seat-clause-some c =

@@ -1,5 +1,5 @@
 use Rattle.std.proofs.Common.{◌≡◌, ◌∙◌, None, ap, sym}
-use Rattle.std.specs.Prelude.{flat_map, fold}
+use Rattle.std.specs.Prelude.{flat_map, fold, is_some}
 use Rattle.bq_job.specs.declared.job.Job.{Job}
 use Rattle.bq_job.specs.machine.Machine.{SeatRecord, TubeRecord}
 use Rattle.bq_job.specs.beside.NextDue.{dues_of_pause, dues_of_state, dues_of_wait, earliest}
@@ -8,14 +8,13 @@ use Rattle.bq_core.specs.Dues.{earlier_of_both, with_seat_due, with_warning_due}
 use Rattle.bq_core.specs.State.{held, machine_held, machine_of}
 use Rattle.bq_core.specs.TubeEntries.{counted}
 use Rattle.bq_core.proofs.DueLemmas.{all_due, earliest_of_all, jobs_due_is, pauses_counted}
-use Rattle.bq_core.proofs.StateLemmas.{compared_sound}
-use Rattle.bq_core.proofs.WarningLemmas.{warned_by_due}
+use Rattle.bq_core.proofs.KnowledgeLemmas.{so_settled}
 use Rattle.bq_core.proofs.dues.next_due.Goals as goal
 
 pub warnings_due-warning-requires-clause-warned : goal.warnings_due-warning-requires-clause-warned
 warnings_due-warning-requires-clause-warned c =
     let same = ap (λ (k : Kept). k.jobs) c.jobs_due-jobs.ensures.same in
-    rw (same, c.as_slice.ensures.value) c.args.state.now.sound.warnings
+    rw (same, c.as_slice.ensures.value) c.args.state.now.sound.known.warnings
 
 pub returns-clause-due : goal.returns-clause-due
 returns-clause-due c =
@@ -29,8 +28,8 @@ returns-clause-due c =
     c.warnings_due-warning.ensures.due ∙ (λ i. fold (with_warning_due (kept i)) None (c.as_slice.ensures.value i)) in
     let jobs : earlier_of_both c.jobs_due-jobs.result c.warnings_due-warning.result ≡ earliest (flat_map of_job st.jobs.jobs) =
     (λ i. earlier_of_both (c.jobs_due-jobs.ensures.due i) (warning i)) ∙ jobs_due_is m in
-    let tubes : st.pause_end ≡ earliest (flat_map of_tube (counted st.tubes.entries)) =
-    c.args.state.now.sound.pauses ∙ earliest_of_all of_tube st.tubes.entries ∙ ap earliest (pauses_counted st.tubes.entries c.args.state.now.sound.entries.fresh) in
+    let tubes : st.known.pause_end ≡ earliest (flat_map of_tube (counted st.tubes.entries)) =
+    c.args.state.now.sound.known.pauses ∙ earliest_of_all of_tube st.tubes.entries ∙ ap earliest (pauses_counted st.tubes.entries c.args.state.now.sound.entries.fresh) in
     let seats : c.seats_due-seats.result ≡ earliest (flat_map of_seat st.seats.items) =
     c.seats_due-seats.ensures ∙ ap (fold with_seat_due None) c.as_slice-3.ensures.value ∙ earliest_of_all of_seat st.seats.items in
     c.earlier_of-3.ensures
@@ -45,24 +44,12 @@ returns-clause-same c =
 pub invariant_of-state : goal.invariant_of-state
 invariant_of-state c =
     let st = c.args.state.now in
+    let was = c.args.state.now.sound in
     let kept = ap (λ (k : Kept). k.jobs) c.jobs_due-jobs.ensures.same in
-    let jobs = c.warnings_due-warning.ensures.same ∙ ap (λ (k : Kept). record k { comparisons = c.warnings_due-warning.new.jobs.comparisons }) c.jobs_due-jobs.ensures.same in
-    let was = compared_sound st c.warnings_due-warning.new.jobs jobs in
+    let jobs = ap (λ (k : Kept). k.jobs) c.warnings_due-warning.ensures.same ∙ kept in
+    let due = c.is_some.ensures ∙ ap is_some c.warnings_due-warning.ensures.due ∙ (λ i. is_some (fold (with_warning_due (kept i)) None (c.as_slice.ensures.value i))) in
     record {
       sound =
-          record {
-            entries = was.entries;
-            numbered = was.numbered;
-            next = was.next;
-            ids = was.ids;
-            counts = was.counts;
-            clients = was.clients;
-            crowds = was.crowds;
-            alive = was.alive;
-            stirs = was.stirs;
-            warnings = rw (c.settle.ensures, c.is_some.ensures, c.warnings_due-warning.ensures.due, kept, c.as_slice.ensures.value, jobs) (warned_by_due st.warns st.jobs.jobs st.seats.items c.args.state.now.sound.warnings);
-            timeouts = was.timeouts;
-            queue = was.queue;
-            pauses = was.pauses;
-          };
+          rw (c.settle.ensures, jobs)
+          (record { entries = was.entries; numbered = was.numbered; next = was.next; ids = was.ids; queue = was.queue; known = so_settled st c.is_some.result due });
     }

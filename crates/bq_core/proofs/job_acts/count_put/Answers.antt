@@ -14,14 +14,7 @@ invariant_of-state c =
             numbered = was.numbered;
             next = λ d. let h = leb-false 18446744073709551614 st.next_id d in omega arith;
             ids = ids_further 1 st.next_id (st.next_id + 1) st.jobs.jobs (omega arith) was.ids;
-            counts = was.counts;
-            clients = was.clients;
-            crowds = was.crowds;
-            alive = was.alive;
-            stirs = was.stirs;
-            warnings = was.warnings;
-            timeouts = was.timeouts;
             queue = was.queue;
-            pauses = was.pauses;
+            known = was.known;
           };
     }

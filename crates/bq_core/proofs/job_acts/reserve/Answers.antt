@@ -14,4 +14,4 @@ change_seat-requires-clause-waits c =
 pub change_seat-requires-clause-holds : goal.change_seat-requires-clause-holds
 change_seat-requires-clause-holds c =
     let jobs = ap (λ (m : Machine). m.jobs) c.note_leases.ensures.after in
-    rw jobs (known_holds c.args.seat 0 c.args.until c.note_leases.new.state.warns c.args.state.now.warns c.args.state.now.jobs.jobs c.note_leases.ensures.known)
+    rw jobs (known_holds c.args.seat 0 c.args.until c.note_leases.new.state.known.warns c.args.state.now.known.warns c.args.state.now.jobs.jobs c.note_leases.ensures.known)

@@ -24,10 +24,10 @@ returns c =
     ∙ lent_or (record_of name) c.entry_of.result _ _ c.entry_of.ensures
     ∙ ap (λ t. unwrap_or (find (λ t. is_same_name name t.name) s.tubes.entries) (record_of name t)) c.new-fresh.ensures
     ∙ sym (record_of_entry name s.tubes.entries c.args.state.now.sound.entries.order c.args.state.now.sound.entries.fresh) in
-    let crowd : c.crowd_of-crowd.result ≡ crowd_of s.seats.items name = c.crowd_of-crowd.ensures ∙ crowd_there name s.tubes.crowds s.seats.items s.tubes.entries c.args.state.now.sound.entries.of_seats c.args.state.now.sound.crowds in
+    let crowd : c.crowd_of-crowd.result ≡ crowd_of s.seats.items name = c.crowd_of-crowd.ensures ∙ crowd_there name s.tubes.crowds s.seats.items s.tubes.entries c.args.state.now.sound.entries.of_seats c.args.state.now.sound.known.crowds in
     record {
       jobs = c.tally_of.ensures
-          ∙ ap (tally_at name s.tubes.entries) c.args.state.now.sound.counts.each
+          ∙ ap (tally_at name s.tubes.entries) c.args.state.now.sound.known.counts.each
           ∙ tally_there name s.jobs.jobs s.tubes.entries c.args.state.now.sound.entries.of_jobs;
       puts = c.puts.ensures ∙ ap (λ (t : TubeRecord). t.puts) entry;
       using = ap (λ (n : Crowd). n.using) crowd;

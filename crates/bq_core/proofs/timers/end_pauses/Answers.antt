@@ -2,17 +2,14 @@ use Rattle.std.proofs.Common.{◌≡◌, ◌∙◌, ap, refl, false, sym}
 use Rattle.std.specs.List.{list_any}
 use Rattle.bq_job.specs.machine.Timers.{tube_after_timers}
 use Rattle.bq_core.specs.KeptTubes.{KeptTubes}
-use Rattle.bq_core.specs.Dues.{is_end_over}
+use Rattle.bq_core.specs.Dues.{first_pause_end, is_end_over}
 use Rattle.bq_core.specs.State.{machine_of}
 use Rattle.bq_core.specs.TubeEntries.{counted, is_counted, is_pause_over}
 use Rattle.bq_core.proofs.FiringLemmas.{no_pause_ends, none_counted}
-use Rattle.bq_core.proofs.CrowdPlaces.{crowds_kept}
-use Rattle.bq_core.proofs.LossLemmas.{alive_renamed}
+use Rattle.bq_core.proofs.KnowledgeLemmas.{so_with_pauses}
 use Rattle.bq_core.proofs.PauseLemmas.{none_over}
 use Rattle.bq_core.proofs.StateLemmas.{entries_of_timers}
-use Rattle.bq_core.proofs.TallyPlaces.{counted_kept}
 use Rattle.bq_core.proofs.TubeLemmas.{filter_of_map}
-use Rattle.bq_core.proofs.StirLemmas.{known_any}
 use Rattle.bq_core.proofs.timers.end_pauses.Goals as goal
 
 pub returns-clause-after : goal.returns-clause-after
@@ -26,25 +23,19 @@ invariant_of-state c =
     let was = c.args.state.now.sound in
     record {
       sound =
-          record {
-            entries = rw (ap (λ (k : KeptTubes). k.entries) c.fire_timers.ensures) (entries_of_timers s.moment s.jobs.jobs s.seats.items s.tubes.entries was.entries);
+          rw (c.first_pause_end-state.ensures ∙ ap (λ (k : KeptTubes). first_pause_end k.entries) c.fire_timers.ensures, c.fire_timers.ensures)
+          (record {
+            entries = entries_of_timers s.moment s.jobs.jobs s.seats.items s.tubes.entries was.entries;
             numbered = was.numbered;
             next = was.next;
             ids = was.ids;
-            counts = rw ((ap (λ (k : KeptTubes). k.entries) c.fire_timers.ensures), (ap (λ (k : KeptTubes). k.tallies) c.fire_timers.ensures)) (counted_kept (tube_after_timers s.moment) (λ t. refl) s.tally s.tubes.tallies s.jobs.jobs s.tubes.entries was.counts);
-            clients = was.clients;
-            crowds = rw ((ap (λ (k : KeptTubes). k.entries) c.fire_timers.ensures), (ap (λ (k : KeptTubes). k.crowds) c.fire_timers.ensures)) (crowds_kept (tube_after_timers s.moment) (λ t. refl) s.tubes.crowds s.seats.items s.tubes.entries was.crowds);
-            alive = rw (ap (λ (k : KeptTubes). k.entries) c.fire_timers.ensures) (alive_renamed (tube_after_timers s.moment) (λ t. refl) s.loss s.jobs.jobs s.seats.items s.tubes.entries was.alive);
-            stirs = known_any s.jobs.jobs s.seats.items (counted c.fire_timers.new.self.entries);
-            warnings = was.warnings;
-            timeouts = was.timeouts;
             queue = was.queue;
-            pauses = c.first_pause_end-state.ensures;
-          };
+            known = so_with_pauses s;
+          });
     }
 
 pub returns-then-not-is_over-clause-after : goal.returns-then-not-is_over-clause-after
 returns-then-not-is_over-clause-after c =
     let s = c.args.state.now in
-    let none : list_any (is_pause_over s.moment) s.tubes.entries ≡ false = none_over s.moment s.tubes.entries (ap (is_end_over s.moment) (sym c.args.state.now.sound.pauses) ∙ sym c.if-not-is_over.ensures) in
+    let none : list_any (is_pause_over s.moment) s.tubes.entries ≡ false = none_over s.moment s.tubes.entries (ap (is_end_over s.moment) (sym c.args.state.now.sound.known.pauses) ∙ sym c.if-not-is_over.ensures) in
     ap (λ tubes. record (machine_of s) { tubes = tubes }) (sym (no_pause_ends s.moment (counted s.tubes.entries) (none_counted s.moment s.tubes.entries none)))

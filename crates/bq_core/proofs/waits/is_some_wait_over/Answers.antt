@@ -10,7 +10,7 @@ use Rattle.bq_core.proofs.waits.is_some_wait_over.Goals as goal
 pub returns-in-Known-clause-over : goal.returns-in-Known-clause-over
 returns-in-Known-clause-over c =
     let st = c.find_first_end.new.state in
-    let known = subst (λ (f : FirstEnd). AreTimeouts f st.seats.items) c.in-Known.is c.find_first_end.new.state.sound.timeouts in
+    let known = subst (λ (f : FirstEnd). AreTimeouts f st.seats.items) c.in-Known.is c.find_first_end.new.state.sound.known.timeouts in
     c.is_over.ensures
     ∙ over_known st.moment c.in-Known.first st.seats.items known
     ∙ ap (λ (h : Held). list_any (has_waited h.moment) h.seats.items) c.find_first_end.ensures

@@ -6,4 +6,4 @@ use Rattle.bq_core.proofs.ClientLemmas.{some_pass}
 use Rattle.bq_core.proofs.state.State.has_waiter.Goals as goal
 
 pub returns : goal.returns
-returns c = ap (λ (n : Clients). nat_lt 0 n.waiting) c.args.self.now.sound.clients ∙ some_pass is_waiting c.args.self.now.seats.items
+returns c = ap (λ (n : Clients). nat_lt 0 n.waiting) c.args.self.now.sound.known.clients ∙ some_pass is_waiting c.args.self.now.seats.items

@@ -14,7 +14,7 @@ pub returns-then-has_waiter : goal.returns-then-has_waiter
 returns-then-has_waiter c =
     let st = c.args.self.now in
     let name = c.args.tube.now in
-    ap (λ (k : Crowd). nat_lt 0 k.waiting) (c.crowd_of.ensures ∙ crowd_there name st.tubes.crowds st.seats.items st.tubes.entries c.args.self.now.sound.entries.of_seats c.args.self.now.sound.crowds)
+    ap (λ (k : Crowd). nat_lt 0 k.waiting) (c.crowd_of.ensures ∙ crowd_there name st.tubes.crowds st.seats.items st.tubes.entries c.args.self.now.sound.entries.of_seats c.args.self.now.sound.known.crowds)
     ∙ some_pass (is_waiter name) st.seats.items
 
 pub returns-else-has_waiter : goal.returns-else-has_waiter
