@@ -172,6 +172,7 @@ fn reply_to(state: &mut State, alloc: Global, seat: Seat, what: &Step, told: &mu
 }
 
 /// Carries out the command's own effect, and adds its answer.
+#[tactic(auto, using(crate::proofs::ActLemmas::acts_silent, crate::proofs::ActLemmas::acts_told))]
 pub(crate) fn act(state: &mut State, alloc: Global, seat: Seat, what: &Step, outs: &mut Outs)
     requires room { HasRoom 1 (machine_of state.old) outs.old }
     ensures acts { Acts (machine_of state.old) seat what.now outs.old outs.new (machine_of state.new) }

@@ -232,6 +232,7 @@ pub(crate) fn ignore_tube(state: &mut State, seat: Seat, tube: &TubeName) -> u64
 }
 
 /// Whether the tube exists.
+#[tactic(auto, using(crate::proofs::CrowdPlaces::tube_there))]
 pub(crate) fn is_tube(state: &State, tube: &TubeName) -> bool
     ensures { result ≡ is_tube_of (machine_of state.now).jobs (machine_of state.now).seats tube.now }
 {

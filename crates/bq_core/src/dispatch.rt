@@ -188,6 +188,7 @@ fn next_offer(state: &mut State) -> Option<Offer>
 }
 
 // The id of the job that is handed out next.
+#[tactic(auto, using(crate::proofs::DispatchLemmas::id_of_best))]
 fn next_job(state: &mut State) -> Option<JobId>
     ensures id { result ≡ option_map (λ j. j.id) (next_job (machine_of state.old)) }
     ensures kept { Looks (waited (machine_of state.old)) state.old state.new }
@@ -258,6 +259,7 @@ fn refuse(state: &mut State, outs: &mut Outs, number: Seat)
 }
 
 // The job of this id goes to the client at the seat, unless the share of its body was refused.
+#[tactic(auto, using(crate::proofs::TurnLemmas::shared_given, crate::proofs::TurnLemmas::refused_given))]
 fn hand_out(
     state: &mut State,
     outs: &mut Outs,

@@ -150,6 +150,7 @@ fn first_end_among(seats: &[SeatRecord], turns: &[Turn]) -> Option<Moment>
 }
 
 /// When the first of the clients that wait gives up. Only who waits is looked at.
+#[tactic(auto, using(crate::proofs::DueLemmas::ends_walked))]
 pub(crate) fn first_to_give_up(seats: &[SeatRecord], turns: &[Turn]) -> Option<Moment>
     requires numbered { AreNumbered seats.now }
     requires turns { turns.now ≡ turns_of seats.now }

@@ -17,6 +17,7 @@ use bq_job::{Answer, Seat, TubeName};
 use bq_jobs::Jobs;
 
 // Which jobs of a tube a kick makes ready: the buried ones, or where there are none, the delayed ones.
+#[tactic(auto, using(crate::proofs::KickLemmas::kickable_buried, crate::proofs::KickLemmas::kickable_delayed))]
 fn kind_to_kick(jobs: &mut Jobs, tube: &TubeName) -> JobKind
     ensures order { jobs_of result tube.now jobs.old.jobs ≡ kickable tube.now jobs.old.jobs }
     ensures out { (k : Job) → is_of result tube.now (kicked k) ≡ false }

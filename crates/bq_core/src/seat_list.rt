@@ -89,6 +89,7 @@ pub(crate) fn ignore(seats: &mut Vec<SeatRecord, Global>, number: Seat, name: &T
 }
 
 /// The seat of this number. No other is looked at.
+#[tactic(auto, using(crate::proofs::SeatPlaces::found_there))]
 pub(crate) fn find(seats: &[SeatRecord], number: Seat) -> Option<&SeatRecord>
     requires { AreNumbered seats.now }
     ensures { option_copied result ≡ seat_with number seats.now }
@@ -181,6 +182,7 @@ fn is_some_turn_over(seats: &[SeatRecord], turns: &[Turn], moment: Moment) -> bo
 }
 
 /// Whether some wait is over by its timeout, or because its client sends no more. Only who waits is looked at.
+#[tactic(auto, using(crate::proofs::WalkLemmas::any_turn))]
 pub(crate) fn is_some_wait_over(seats: &[SeatRecord], turns: &[Turn], moment: Moment) -> bool
     requires numbered { AreNumbered seats.now }
     requires turns { turns.now ≡ turns_of seats.now }
@@ -212,6 +214,7 @@ fn is_some_turn_gone(seats: &[SeatRecord], turns: &[Turn]) -> bool
 }
 
 /// Whether some client waits that sends no more. Only who waits is looked at.
+#[tactic(auto, using(crate::proofs::WalkLemmas::any_turn))]
 pub(crate) fn is_some_waiter_gone(seats: &[SeatRecord], turns: &[Turn]) -> bool
     requires numbered { AreNumbered seats.now }
     requires turns { turns.now ≡ turns_of seats.now }

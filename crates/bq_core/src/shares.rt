@@ -62,6 +62,7 @@ pub(crate) fn at(client: &SeatRecord, name: &TubeName) -> Share
 }
 
 // Counts a share at a tube, or counts it no longer. Where it is none, the tube isn't looked for.
+#[tactic(auto, using(crate::proofs::CrowdLemmas::beside_same, crate::proofs::CrowdLemmas::none_recounted))]
 fn recount_at(tubes: &mut Tubes, name: &TubeName, moving: Moving, share: Share)
     ensures { tubes.new ≡ with_crowds_at name.now (recounted moving share) tubes.old }
 {
@@ -80,6 +81,7 @@ fn recount_all(tubes: &mut Tubes, names: &[TubeName], moving: Moving, share: Sha
 }
 
 // The same; where the share is none, no tube is looked for.
+#[tactic(auto, using(crate::proofs::CrowdLemmas::all_same, crate::proofs::CrowdLemmas::none_recounted))]
 fn recount_watched(tubes: &mut Tubes, names: &[TubeName], moving: Moving, share: Share)
     ensures { tubes.new ≡ with_crowds_at_all names.now (recounted moving share) tubes.old }
 {

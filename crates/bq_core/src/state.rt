@@ -81,6 +81,7 @@ impl State {
     }
 
     /// Whether there is a job of this id, and it passes.
+    #[tactic(auto, using(crate::proofs::StateLemmas::compared_sound))]
     pub(crate) fn has_job(&mut self, id: JobId, test: JobTest) -> bool
         ensures has { result ≡ is_passed_by (passes test) (job_with id (machine_of self.old).jobs) }
         ensures kept { Looks 1 self.old self.new }
@@ -89,6 +90,7 @@ impl State {
     }
 
     /// How long the client at the seat may hold the job of this id, in seconds, if it holds it.
+    #[tactic(auto, using(crate::proofs::StateLemmas::compared_sound))]
     pub(crate) fn time_to_run(&mut self, id: JobId, seat: Seat) -> Option<u32>
         ensures ttr { result ≡ ttr_held_by seat (job_with id (machine_of self.old).jobs) }
         ensures kept { Looks 1 self.old self.new }
@@ -97,6 +99,7 @@ impl State {
     }
 
     /// One more owner of the body of the job of this id, unless it is refused; None where there is no job.
+    #[tactic(auto, using(crate::proofs::StateLemmas::compared_sound))]
     pub(crate) fn share(&mut self, id: JobId) -> Option<Result<Body, NoMemory>>
         ensures none { is_some result ≡ is_some (job_with id (machine_of self.old).jobs) }
         ensures share { IfSome result (λ shared. IfOk shared (IsBodyOf (job_with id (machine_of self.old).jobs))) }
@@ -106,6 +109,7 @@ impl State {
     }
 
     /// The id of the first job of this kind in this tube.
+    #[tactic(auto, using(crate::proofs::StateLemmas::compared_sound))]
     pub(crate) fn first(&mut self, kind: JobKind, tube: &TubeName) -> Option<JobId>
         ensures id { result ≡ option_map (λ j. j.id) (first_of_kind kind tube.now self.old.jobs.jobs) }
         ensures kept { Looks 1 self.old self.new }
@@ -114,6 +118,7 @@ impl State {
     }
 
     /// Whether somebody waits.
+    #[tactic(auto, using(crate::proofs::ClientLemmas::some_pass))]
     pub(crate) fn has_waiter(&self) -> bool
         ensures { result ≡ list_any is_waiting self.now.seats.items }
     {

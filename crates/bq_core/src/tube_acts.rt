@@ -96,6 +96,7 @@ pub(crate) fn ignore(state: &mut State, seat: Seat, tube: &TubeName, told: &mut 
 }
 
 /// Pauses a tube that exists.
+#[tactic(auto, using(crate::proofs::StateLemmas::tube_has_entry))]
 pub(crate) fn pause(state: &mut State, tube: &TubeName, seconds: u32, told: &mut Answer)
     ensures reply { pause_effect tube.now seconds (machine_of state.old) ≡ telling told.new (machine_of state.new) }
     ensures asks { AsksAsChanged state.old.jobs state.new.jobs }

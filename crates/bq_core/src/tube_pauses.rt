@@ -103,6 +103,7 @@ fn end_first(kept: &mut Catalog<TubeName, TubeEntry>, ends: &mut PauseEnds, mome
 }
 
 /// Pauses that are over end. No other tube is looked at.
+#[tactic(auto, using(crate::proofs::FiringLemmas::no_pause_ends, crate::proofs::PauseLemmas::none_over))]
 pub(crate) fn end_all(kept: &mut Catalog<TubeName, TubeEntry>, ends: &mut PauseEnds, moment: Moment)
     requires { AreEnds (map record_at kept.old.entries) ends.old }
     ensures records { map record_at kept.new.entries ≡ records_ended moment kept.old.entries }

@@ -101,6 +101,7 @@ impl Tubes {
     }
 
     /// Pauses that are over end.
+    #[tactic(auto, using(crate::proofs::NamedLemmas::kept_alike))]
     pub(crate) fn fire_timers(&mut self, moment: Moment)
         ensures { self.new ≡ record self.old { entries = map (tube_after_timers moment) self.old.entries } }
     {

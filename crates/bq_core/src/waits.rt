@@ -139,6 +139,7 @@ fn may_end(state: &mut State) -> bool
 }
 
 /// The waits that end now end, the longest one first.
+#[tactic(auto, using(crate::proofs::TurnLemmas::gives_nothing))]
 pub(crate) fn end_waits(state: &mut State, outs: &mut Outs)
     requires room { HasRoom 0 (machine_of state.old) outs.old }
     ensures given { Gives WaitEndTurn none_refused (machine_of state.old) (machine_of state.new) outs.old outs.new }
