@@ -115,6 +115,7 @@ fn offer_to(jobs: &mut Jobs, tubes: &Tubes, tube: &TubeName) -> Option<Offer>
 }
 
 // The best of this job and those that the client at this seat waits for, if there is one.
+#[tactic(auto, using(crate::proofs::AskLemmas::asks_more, crate::proofs::AskLemmas::asks_none))]
 fn best_of_client(
     jobs: &mut Jobs,
     tubes: &Tubes,
@@ -134,6 +135,7 @@ fn best_of_client(
 }
 
 // The best of the jobs that the clients of these turns wait for.
+#[tactic(auto, using(crate::proofs::AskLemmas::asks_summed, crate::proofs::LoopLemmas::folded_beside))]
 fn best_of_turns(
     jobs: &mut Jobs,
     tubes: &Tubes,
@@ -153,6 +155,7 @@ fn best_of_turns(
 }
 
 // The best of the jobs that waiting clients may have. Only who waits is looked at.
+#[tactic(auto, using(crate::proofs::AskLemmas::asks_more, crate::proofs::OfferLemmas::offers_walked, crate::proofs::OfferLemmas::tubes_walked))]
 fn best_offer(jobs: &mut Jobs, tubes: &Tubes, seats: &[SeatRecord], turns: &[Turn]) -> Option<Offer>
     requires numbered { AreNumbered seats.now }
     requires turns { turns.now ≡ turns_of seats.now }

@@ -83,6 +83,7 @@ fn with_warning_of(
 }
 
 // When the first of the clients that have these turns is told so.
+#[tactic(auto, using(crate::proofs::AskLemmas::asks_then, crate::proofs::LoopLemmas::folded_beside))]
 fn first_warning(jobs: &mut Jobs, seats: &[SeatRecord], turns: &[Turn]) -> Option<Moment>
     ensures due { result ≡ fold (at_turn (with_warning_due jobs.old.jobs) seats.now) None turns.now }
     ensures same { jobs.new ≡ record jobs.old { comparisons = jobs.new.comparisons } }
@@ -139,6 +140,7 @@ fn with_end_of(best: Option<Moment>, seats: &[SeatRecord], turn: Turn) -> Option
 }
 
 // When the first of the clients that have these turns gives up.
+#[tactic(auto, using(crate::proofs::LoopLemmas::folded_on))]
 fn first_end_among(seats: &[SeatRecord], turns: &[Turn]) -> Option<Moment>
     ensures { result ≡ fold (at_turn with_seat_due seats.now) None turns.now }
 {

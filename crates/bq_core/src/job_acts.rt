@@ -122,6 +122,7 @@ pub(crate) fn put(
 }
 
 /// The client waits, until this moment if there is one.
+#[tactic(auto, using(crate::proofs::CrowdLemmas::asking_is_connected, crate::proofs::WarningLemmas::known_holds))]
 pub(crate) fn reserve(state: &mut State, seat: Seat, until: Option<Moment>)
     requires asks { is_asking (seat_with seat state.old.seats.items) ≡ true }
     ensures reply { Waits seat until state.old state.new }

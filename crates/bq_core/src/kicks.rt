@@ -74,6 +74,7 @@ fn kick_in(state: &mut State, tube: &TubeName, bound: u32) -> u64
 }
 
 /// Kicks jobs of the tube that the client uses, so many at most.
+#[tactic(auto, using(crate::proofs::AskLemmas::within))]
 pub(crate) fn kick(state: &mut State, seat: Seat, bound: u32, told: &mut Answer) -> Reply
     ensures reply { RepliesAt seat false (kick_effect bound) state.old result told.new state.new }
     ensures asks { AsksAsChanged state.old.jobs state.new.jobs }

@@ -19,6 +19,7 @@ fn lose_unless_there(loss: &mut Loss, tubes: &Tubes, name: &TubeName)
 }
 
 // The same for each of these tubes.
+#[tactic(auto, using(crate::proofs::LoopLemmas::folded_more))]
 fn lose_all(loss: &mut Loss, tubes: &Tubes, names: &[TubeName])
     ensures { loss.new ≡ lost_all tubes.now names.now loss.old }
 {

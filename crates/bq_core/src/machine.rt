@@ -87,6 +87,7 @@ fn is_job_limit(most: Option<u32>) -> bool
 
 impl Core {
     /// A core with no jobs and all seats free.
+    #[tactic(auto, using(bq_job::proofs::LawfulLemmas::new_is_lawful))]
     pub fn new(alloc: Global, config: Config) -> Result<Core, CoreFault>
         ensures made { IfOk result (λ core. core ≡ record { machine = new_machine config; comparisons = 0 }) }
         ensures bad_seats { IsErrOf result CoreFault.BadSeats ↔ IsTrue (not (is_seat_count config.seats)) }

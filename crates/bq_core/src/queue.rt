@@ -137,6 +137,7 @@ impl Queue {
     }
 
     /// The first turn that comes after the last one, or where there is no last one, the first of all.
+    #[tactic(auto, using(crate::proofs::WalkLemmas::item_found))]
     pub(crate) fn next_after(&self, last: Option<Turn>) -> Option<Turn>
         ensures { result ≡ find (is_turn_after last) self.now.turns }
     {

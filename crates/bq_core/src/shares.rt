@@ -72,6 +72,7 @@ fn recount_at(tubes: &mut Tubes, name: &TubeName, moving: Moving, share: Share)
 }
 
 // Counts a share at each of these tubes, or counts it no longer.
+#[tactic(auto, using(crate::proofs::LoopLemmas::folded_more))]
 fn recount_all(tubes: &mut Tubes, names: &[TubeName], moving: Moving, share: Share)
     ensures { tubes.new ≡ with_crowds_at_all names.now (recounted moving share) tubes.old }
 {
@@ -113,6 +114,7 @@ fn as_watcher(client: &SeatRecord, what: Share) -> Share
 }
 
 /// Counts what a seat counts for, of what is asked for, or counts it no longer.
+#[tactic(auto, using(crate::proofs::NamedLemmas::kept_alike))]
 pub(crate) fn recount(tubes: &mut Tubes, client: Option<&SeatRecord>, moving: Moving, what: Share)
     ensures { tubes.new ≡ recounted_for moving what (option_copied client.entry) tubes.old }
 {

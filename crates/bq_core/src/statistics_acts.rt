@@ -139,6 +139,7 @@ pub(crate) fn list_tubes(state: &State, alloc: Global, told: &mut Answer) -> Rep
 }
 
 /// Lists the tubes that the client watches.
+#[tactic(auto, using(bq_job::proofs::NameOrderLemmas::in_order_fold, crate::proofs::NameLemmas::list_of_order))]
 pub(crate) fn list_tubes_watched(
     state: &State,
     alloc: Global,

@@ -183,6 +183,7 @@ impl Tubes {
     }
 
     /// How many tubes exist.
+    #[tactic(auto, using(crate::proofs::GoneLemmas::counted_names))]
     pub(crate) fn count_alive(&self) -> u64
         ensures { IfCounted self.now (λ jobs seats. result ≡ length (names_alive jobs seats self.now.entries)) }
     {

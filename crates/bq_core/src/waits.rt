@@ -106,6 +106,7 @@ fn end_all(state: &mut State, outs: &mut Outs)
 }
 
 // Whether some wait is over by its timeout, or because its client sends no more.
+#[tactic(auto, using(crate::proofs::FirstEndLemmas::over_known))]
 fn is_some_wait_over(state: &mut State) -> bool
     ensures over { result ≡ list_any (has_waited state.old.moment) state.old.seats.items }
     ensures same { held state.new ≡ record (held state.old) { known = record state.old.known { first_end = state.new.known.first_end } } }
