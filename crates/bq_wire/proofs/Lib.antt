@@ -1,4 +1,3 @@
-pub mod CommandLemmas
 pub mod HasReadLemmas
 pub mod LineEndLemmas
 pub mod LineReadLemmas

@@ -1,6 +1,7 @@
 pub mod Asked
 pub mod HasRead
 pub mod LineEnds
+pub mod Named
 pub mod PutBodies
 pub mod Standing
 pub mod WordsLeft

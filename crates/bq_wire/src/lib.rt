@@ -15,6 +15,7 @@ mod numbers;
 mod pieces;
 mod put_body;
 mod reader;
+mod shapes;
 mod state;
 mod texts;
 mod words;
