@@ -67,6 +67,7 @@ fn next_gone(catalog: &Catalog<TubeName, TubeEntry>, from: &Option<TubeName>) ->
 }
 
 /// Drops all entries whose tubes are gone. After each, the search goes on from there.
+#[tactic(auto, using(crate::proofs::GoneLemmas::name_removed, crate::proofs::GoneLemmas::no_name, crate::proofs::GoneLemmas::none_gone))]
 pub(crate) fn forget_all(catalog: &mut Catalog<TubeName, TubeEntry>, ends: &mut PauseEnds)
     requires { AreEnds (map record_at catalog.old.entries) ends.old }
     ensures ends { AreEnds (map record_at catalog.new.entries) ends.new }

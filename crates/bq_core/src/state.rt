@@ -126,6 +126,7 @@ impl State {
     }
 
     /// Whether somebody waits at the tube.
+    #[tactic(auto, using(bq_job::proofs::ListLemmas::all_weaker, bq_job::proofs::ListLemmas::list_any_not, bq_job::proofs::ListLemmas::none_pass, crate::proofs::ClientLemmas::some_pass, crate::proofs::CrowdPlaces::crowd_there))]
     pub(crate) fn has_waiter_at(&self, tube: &TubeName) -> bool
         ensures { result ≡ list_any (is_waiter tube.now) self.now.seats.items }
     {

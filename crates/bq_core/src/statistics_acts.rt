@@ -56,6 +56,7 @@ pub(crate) fn stats_job(state: &mut State, alloc: Global, id: JobId, told: &mut 
 }
 
 // What is told of the tube of this name.
+#[tactic(auto, using(crate::proofs::CrowdPlaces::crowd_there, crate::proofs::NameLemmas::lent_or, crate::proofs::NameLemmas::record_of_entry, crate::proofs::TallyPlaces::tally_there))]
 fn tube_numbers(state: &State, tube: &TubeName) -> TubeNumbers
     ensures { AreOfTube result tube.now (machine_of state.now) }
 {
