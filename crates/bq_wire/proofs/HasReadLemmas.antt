@@ -84,6 +84,9 @@ HasRead-Reads s taken requests read = record {
     go (inl h) = inl h.0
     go (inr h) = inr (Stands-no_unit s s.place read.rest h.1)
 
+pub was_read : (s : State) (taken : List ℕ) (requests : List Request) → HasRead s taken requests → (rest : List ℕ) × Reads s.max_job_size taken requests rest
+was_read s taken requests read = (read.rest, HasRead-Reads s taken requests read)
+
 -- behind a quit anything may follow
 pub Reads-more : (s : State) (taken more : List ℕ) (requests : List Request) (read : HasRead s taken requests) → IsTrue (ends_by_quit requests)
     → Reads s.max_job_size (taken ++ more) requests (read.rest ++ more)

@@ -1,6 +1,7 @@
 -- The first word of a line.
-use Rattle.std.proofs.Common.{◌≡◌, ◌<◌, ℕ, ◌+◌, zero, suc, true, false, List, [], ◌∷◌, Option, Some, None, add-one, refl, arith, length, take, drop, get_or, MatchOption, ◌==◌}
+use Rattle.std.proofs.Common.{◌≡◌, ◌<◌, ℕ, ◌+◌, ◌-◌, zero, suc, true, false, List, [], ◌∷◌, Option, Some, None, add-one, refl, arith, length, take, drop, get_or, MatchOption, ◌==◌}
 use Rattle.std.proofs.lemmas.Bool.Decides.{nat_tests}
+use Rattle.std.proofs.lemmas.Grind.{common_steps}
 use Rattle.bq_job.specs.reading.Words.{words}
 use Rattle.memchr.specs.Find.{IsFirstByte, is_byte}
 
@@ -22,7 +23,10 @@ word_before (b ∷ line) (suc k) low here before =
     let later : words line ≡ take k line ∷ words (drop (suc k) line) = word_before line k (omega arith) here (λ j less. before (suc j) (omega arith)) in
     rw (not_here, later)
 
+-- as the code parts them
 pub words_first : (line : List ℕ) (r : Option ℕ) → IsFirstByte (is_byte 32) line r
-    → MatchOption r (words line ≡ line ∷ []) (λ k. words line ≡ take k line ∷ words (drop (k + 1) line))
+    → MatchOption r (words line ≡ line ∷ []) (λ k. words line ≡ take k line ∷ words (take (length line - (k + 1)) (drop (k + 1) line)))
 words_first line None none = one_word line (λ k low. none k (omega arith) low)
-words_first line (Some k) found = rw add-one (word_before line k found.0.high found.1 (λ j less. found.0.before j (omega arith) less))
+words_first line (Some k) found =
+    let all : take (length line - (k + 1)) (drop (k + 1) line) ≡ drop (k + 1) line = grind (arith, common_steps) in
+    rw (all, add-one) (word_before line k found.0.high found.1 (λ j less. found.0.before j (omega arith) less))

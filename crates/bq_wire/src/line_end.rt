@@ -27,6 +27,7 @@ fn first_line_feed(after_cr: bool, bytes: &[u8]) -> Option<LineFeed>
 }
 
 /// Whether the last byte is a CR: without a byte, as is told.
+#[tactic(auto, using(crate::proofs::LineEndLemmas::last_is_cr_last, std::proofs::lemmas::Grind::common_steps))]
 pub fn ends_in_cr(after_cr: bool, bytes: &[u8]) -> bool
     ensures { result ≡ spec.last_is_cr after_cr bytes.now }
 {

@@ -16,6 +16,7 @@ fn with_digit(value: u64, digit: u8) -> Option<u64>
 }
 
 // The number that a word is, digits alone, if it fits.
+#[tactic(auto, using(crate::proofs::NumberLemmas::too_great, crate::proofs::NumberLemmas::all_digits))]
 fn decimal(word: &[u8]) -> Option<u64>
     ensures { result ≡ spec.job_id word.now }
 {

@@ -53,6 +53,7 @@ fn feed_all(
 }
 
 /// What a reader has read since it was new or restarted is a reading of the bytes that it took.
+#[tactic(auto, using(crate::proofs::HasReadLemmas::was_read))]
 pub fn what_was_read_is_a_reading()
     ensures { (reader : State) (taken : List ℕ) (requests : List Request) → HasRead reader taken requests
         → (rest : List ℕ) × Reads reader.max_job_size taken requests rest }

@@ -89,6 +89,7 @@ impl RequestReader {
     }
 
     /// The same as `feed`, with the request put into a place, whatever lay there: it is not moved on the way.
+    #[tactic(auto, using(crate::proofs::HasReadLemmas::reads_on))]
     pub fn feed_in_place(
         &mut self,
         alloc: Global,

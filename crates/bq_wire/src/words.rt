@@ -41,6 +41,7 @@ impl<'a> Words<'a> {
 }
 
 // The first word of a line, and what comes after the space behind it.
+#[tactic(auto, using(crate::proofs::WordLemmas::words_first))]
 fn first_word(line: &[u8]) -> (&[u8], Option<&[u8]>)
     ensures { words line.now ≡ result.0.now ∷ words_left result.1 }
 {
