@@ -61,6 +61,7 @@ impl<K: Ord + Drop, V: Drop> Shelf<K, V> {
     ghost use Rattle.bq_index.specs.Walk.{entry_of, passes_by, passes_from, seen_by};
 
     /// A shelf with no entries and no spare boxes. It takes no memory.
+    #[tactic(auto, using(crate::proofs::Order::order_none))]
     pub fn new() -> Self
         ensures { result ≡ record { entries = []; spare = 0; comparisons = 0 } }
     {
@@ -180,6 +181,7 @@ impl<K: Ord + Drop, V: Drop> Shelf<K, V> {
     }
 
     /// The value at a key. Nothing changes but the count of comparisons.
+    #[tactic(auto, using(crate::proofs::Bound::height_bound))]
     pub fn get(&mut self, key: &K) -> Option<&V>
         ensures* after { sem 𝓛 (LeavesEntries K.row V.row K.Ord self.entry) }
         ensures value { option_map (λ v. v.now) result ≡ lookup (is_at (K.cmp key.now)) self.old.entries }
@@ -188,6 +190,7 @@ impl<K: Ord + Drop, V: Drop> Shelf<K, V> {
     }
 
     /// The least entry whose key is not below `key`. Nothing changes but the count of comparisons.
+    #[tactic(auto, using(crate::proofs::Bound::height_bound))]
     pub fn next_from(&mut self, key: &K) -> Option<(&K, &V)>
         ensures* after { sem 𝓛 (LeavesEntries K.row V.row K.Ord self.entry) }
         ensures entry { option_map (λ p. (p.0.now, p.1.now)) result ≡ entry_from (K.cmp key.now) self.old.entries }
