@@ -5,6 +5,7 @@ ghost use Rattle.bq_seat.specs.declared.machine.SeatMachine.{SeatMachine};
 
 /// Whatever past a machine stands for, the close is among its steps exactly where the past says so, and no
 /// mail was late before it.
+#[tactic(auto, using(crate::proofs::OrderlyLemmas::orderly))]
 pub fn pasts_are_orderly()
     ensures { (machine : SeatMachine) (p : Past) → StandsFor machine p → IsOrderly p }
 {}

@@ -158,6 +158,7 @@ impl SeatMachine {
 
     /// Whether a request waits for its answer while the line is read. Where it does, a read that waits would
     /// keep the answer from the client.
+    #[tactic(auto, using(crate::proofs::OutstandingLemmas::reads_alone, crate::proofs::OutstandingLemmas::reads_with_one))]
     pub fn has_outstanding(&self) -> bool
         ensures { ReadsWith result self.now }
     {

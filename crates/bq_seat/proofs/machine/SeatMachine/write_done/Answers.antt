@@ -1,5 +1,0 @@
-use Rattle.bq_seat.proofs.MoveLemmas as moves
-use Rattle.bq_seat.proofs.machine.SeatMachine.write_done.Goals as goal
-
-pub returns-in-Writing : goal.returns-in-Writing
-returns-in-Writing c = moves.wrote _ _ _ c.in-Writing.is c.go_on.ensures
