@@ -41,6 +41,7 @@ const RING_PLACES: usize = 4;
 
 impl CoreEnd {
     // Makes the next seat's end, and the ring between the two.
+    #[tactic(auto, using(crate::proofs::PassLemmas::makes))]
     pub(crate) fn next_end<J: Record>(
         &mut self,
         alloc: Global,
@@ -77,6 +78,7 @@ impl CoreEnd {
     /// Whether no step waits. A look that finds none moves nothing, where `take` would hand back room for a step.
     ///
     /// Where none waits the contract tells the same moment as that of `take`.
+    #[tactic(auto, using(crate::proofs::DeliveryLemmas::covered))]
     pub fn is_empty<J: Record>(&mut self, intake: &Intake<J>) -> bool
         requires intake { self.old.intake ≡ intake.now.id }
         ensures same { self.new ≡ self.old }

@@ -66,6 +66,7 @@ fn seat_ends<J: Record>(
 }
 
 // The intake, and the core's end before any seat's is made.
+#[tactic(auto, using(crate::proofs::DeliveryLemmas::begins))]
 fn no_ends<J: Record>(alloc: Global, ends: usize) -> Result<(Intake<J>, CoreEnd), AllocError>
     requires ends { (1 ≤ ends) × (ends ≤ 257) }
     requires start { J.was [] [] }
