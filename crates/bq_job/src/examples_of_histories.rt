@@ -86,6 +86,7 @@ fn line_dropped()
 
 /// A door that was never opened has not been done by two drains alone, which the control line must have
 /// said, and there are no answers at it.
+#[tactic(auto, using(crate::proofs::HistoryLemmas::none_behind))]
 fn door_never_opened()
     ensures steps { (control : List ℕ) (failed : Bool) (readings : List (Option ℕ)) (last : Machine)
         (h : IsHistoryOf (seated 1) ([] ∷ []) control failed readings last)

@@ -56,6 +56,7 @@ pub fn line_joins()
 {}
 
 /// Behind the lines that were served so far one line more was served.
+#[tactic(auto, using(crate::proofs::JoinLemmas::lines_more))]
 pub fn one_line_more()
     ensures { (max_job_size : ℕ) (lines : List LineOver) (line : LineOver) (submitted more : List Step) (taken got : List Answer)
         → AreLinesServed max_job_size lines submitted taken → IsLineServed max_job_size line more got
@@ -67,6 +68,7 @@ pub fn one_line_more()
 /// bytes that its answers come to. In that run each job that is handed out is the least that the client may have,
 /// an undisturbed one is handed out at most once and in its order, none is lost before a delete, one client at
 /// most holds a job, and once draining no put is accepted.
+#[tactic(auto, using(crate::proofs::HeadlineLemmas::headline_holds, crate::proofs::HeadlineLemmas::line_headline_holds))]
 pub fn the_headline()
     ensures run { (settings : Settings) (doors : List (List LineOver)) (control : List ℕ) (failed : Bool)
         (readings : List (Option ℕ)) (last : Machine)

@@ -7,11 +7,13 @@ ghost use Rattle.bq_job.specs.machine.Steps.{IsStep};
 ghost use Rattle.std.specs.Prelude.{◌≡◌, List, [], ◌∷◌, ◌++◌};
 
 /// The replay of an empty journal gives no answer, and leads to the machine as it is at the start.
+#[tactic(auto, using(crate::proofs::ReplayLemmas::replay_none))]
 pub fn replays_begin()
     ensures { (settings : Settings) → Replay settings [] [] (new_machine settings) }
 {}
 
 /// With an entry more, a replay goes on by that entry's step.
+#[tactic(auto, using(crate::proofs::ReplayLemmas::replay_more))]
 pub fn replays_go_on()
     ensures { (settings : Settings) (journal : List Entry) (entry : Entry) (given more : List GivenAnswer) (next last : Machine)
         → Replay settings journal given next

@@ -16,6 +16,7 @@ ghost use Rattle.std.specs.List.{list_any};
 
 /// Each RESERVED of a run is the command's own answer to a reserve-job, or dispatch gave the client the
 /// least job, by priority and then by id, that it might have at that moment.
+#[tactic(auto, using(crate::proofs::AnswerPlaces::run_gives_least))]
 pub fn reserved_jobs_are_least()
     ensures { (first last : Machine) (taken : List Transition) (t : Transition)
         → GoesBy first taken last → Contains taken t → GivesLeast t }
@@ -41,6 +42,7 @@ pub fn undisturbed_jobs_are_handed_out_in_order()
 {}
 
 /// From the step that begins to drain on no answer is INSERTED, and none is after the last id was given.
+#[tactic(auto, using(crate::proofs::AnswerPlaces::none_after_drain, crate::proofs::AnswerPlaces::none_after_last_id))]
 pub fn no_put_is_accepted_once_draining()
     ensures drained { (first last : Machine) (early more : List Transition) (t : Transition)
         → GoesBy first (early ++ t ∷ more) last → t.entry.what ≡ Drain
@@ -53,6 +55,7 @@ pub fn no_put_is_accepted_once_draining()
 
 /// A job that was accepted is there, once and in its tube and with its body, after each part of a step
 /// until it is deleted.
+#[tactic(auto, using(crate::proofs::KeptJobLemmas::accepted_is_kept))]
 pub fn accepted_jobs_stay_until_deleted()
     ensures { (settings : Settings) (taken : List Transition) (last : Machine) (early late : List Part) (p : Part) (j : Job)
         → GoesBy (new_machine settings) taken last → parts_of_run taken ≡ early ++ p ∷ late
@@ -67,6 +70,7 @@ pub fn jobs_are_held_by_one_client()
 {}
 
 /// Where a limit on jobs was chosen, there are no more jobs after any part of a step, in whatever states.
+#[tactic(auto, using(crate::proofs::LimitLemmas::few_always))]
 pub fn jobs_stay_within_their_limit()
     ensures { (settings : Settings) (taken : List Transition) (last : Machine) (p : Part) (most : ℕ)
         → GoesBy (new_machine settings) taken last → Contains (parts_of_run taken) p
@@ -74,12 +78,14 @@ pub fn jobs_stay_within_their_limit()
 {}
 
 /// DELETED goes to who asked for it, and only where the job was there and nobody else held it.
+#[tactic(auto, using(crate::proofs::AnswerPlaces::run_deletes))]
 pub fn deleted_answers_its_asker()
     ensures { (first last : Machine) (taken : List Transition) (t : Transition) (seat : ℕ)
         → GoesBy first taken last → Contains taken t → Contains t.given (seat, Deleted) → IsDeletion t seat }
 {}
 
 /// Over every history there is a run with enough memory, and it can be computed.
+#[tactic(auto, using(crate::proofs::ComputedRunLemmas::computed_goes))]
 pub fn computed_is_run()
     ensures { (first : Machine) (history : List Entry)
         → GoesBy first (transitions first history) (machine_after first history) }

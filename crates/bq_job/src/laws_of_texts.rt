@@ -11,16 +11,19 @@ ghost use Rattle.bq_job.specs.machine.Tubes.{is_tube};
 mod examples;
 
 /// A tube is listed exactly where it exists.
+#[tactic(auto, using(crate::proofs::NameOrderLemmas::listed))]
 pub fn existing_tubes_are_listed()
     ensures { (name : List ℕ) (m : Machine) → list_any (is_same_name name) (tubes m) ≡ is_tube name m }
 {}
 
 /// Names are listed in byte order, each once.
+#[tactic(auto, using(crate::proofs::NameOrderLemmas::in_order_fold))]
 pub fn names_are_in_order()
     ensures { (names : List (List ℕ)) → IsTrue (is_in_order (in_name_order names)) }
 {}
 
 /// Names that stand in byte order are listed as they are.
+#[tactic(auto, using(crate::proofs::NameOrderLemmas::stays_fold))]
 pub fn order_stays()
     ensures { (names : List (List ℕ)) → IsTrue (is_in_order names) → in_name_order names ≡ names }
 {}

@@ -1,5 +1,0 @@
-use Rattle.std.proofs.Common.{refl}
-use Rattle.bq_job.proofs.examples_of_runs.released_job_goes_out_twice.Goals as goal
-
-pub returns : goal.returns
-returns c = (refl, (λ u. absurd (let e = u.undisturbed in cc), tt))
