@@ -3,3 +3,4 @@ pub mod LineNumberLemmas
 pub mod PartLemmas
 pub mod ReadingsLemmas
 pub mod SeenLemmas
+pub mod StreamLemmas

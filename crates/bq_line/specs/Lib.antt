@@ -8,3 +8,4 @@ pub mod LineParts
 pub mod MemDoors
 pub mod ReadingNumbers
 pub mod ScriptPlace
+pub mod Streams

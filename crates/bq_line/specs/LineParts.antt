@@ -17,6 +17,11 @@ bytes_up_to [] place offset = []
 bytes_up_to (part ∷ more) zero offset = take offset (part_bytes part)
 bytes_up_to (part ∷ more) (suc place) offset = part_bytes part ++ bytes_up_to more place offset
 
+-- the bytes of all parts
+abbrev pub all_bytes : List Part → List ℕ
+all_bytes [] = []
+all_bytes (part ∷ more) = part_bytes part ++ all_bytes more
+
 -- whether a part is over, once so many bytes of it were read and so many were written to the line
 abbrev pub is_over : ℕ → ℕ → Part → Bool
 is_over offset written (parts.Bytes bytes) = nat_le (length bytes.items) offset

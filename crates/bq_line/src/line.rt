@@ -4,25 +4,24 @@ ghost use Rattle.std.specs.Io.{ReadsAtMost, WritesAtMost};
 ghost use Rattle.std.specs.IoError.{error_kind};
 ghost use Rattle.bq_job.specs.promise.LineSteps.{LineSeen};
 ghost use Rattle.bq_line.specs.LineCalls.{after_flush, after_read, after_write, first_fault, is_nothing_yet};
+ghost use Rattle.bq_line.specs.Streams.{StaysOver, StreamSeen};
 
 pub use buffered::Buffered;
 pub use byte_record::ByteRecord;
 pub use connection::Connection;
-pub use expect_more::ExpectMore;
+pub use duplex::Duplex;
 pub use io_line::IoLine;
 pub use mem_line::{MemLine, Part};
 pub use read_buffer::{READ_ROOM, ReadBuffer};
-pub use read_now::ReadNow;
 pub use socket::Socket;
 
 mod buffered;
 mod byte_record;
 mod connection;
-mod expect_more;
+mod duplex;
 mod io_line;
 mod mem_line;
 mod read_buffer;
-mod read_now;
 mod socket;
 
 use bq_job::LineFault;
@@ -35,30 +34,38 @@ pub trait Line {
     /// What the line tells of itself.
     ghost seen: { Self → LineSeen };
 
+    /// Whether the line lies over the stream that told this of itself before the line was new. No call of a line
+    /// leaves its stream for another.
+    ghost lies_over: { StreamSeen → Self → Type 0 };
+
     /// Reads at most as many bytes as the buffer has, as `std::io::Read` does. 0 bytes are the end of the
     /// input. `WouldBlock`, `TimedOut` and `Interrupted` say that there are none yet; any other error is
     /// a read fault. It may wait for bytes, without end.
     fn read(&mut self, buf: &mut [u8]) -> io::Result<usize>
         requires { 0 < length buf.old }
         ensures bound { ReadsAtMost result buf.new }
-        ensures seen { seen self.new ≡ after_read result buf.new (seen self.old) };
+        ensures seen { seen self.new ≡ after_read result buf.new (seen self.old) }
+        ensures stays { StaysOver lies_over self.old self.new };
 
     /// The same where nothing may be waited for: without bytes it says so at once, if the line can.
     fn read_now(&mut self, buf: &mut [u8]) -> io::Result<usize>
         requires { 0 < length buf.old }
         ensures bound { ReadsAtMost result buf.new }
-        ensures seen { seen self.new ≡ after_read result buf.new (seen self.old) };
+        ensures seen { seen self.new ≡ after_read result buf.new (seen self.old) }
+        ensures stays { StaysOver lies_over self.old self.new };
 
     /// Writes first bytes of the buffer, and says how many, as `std::io::Write` does. An error is a write
     /// fault, and so is it that none were taken.
     fn write(&mut self, buf: &[u8]) -> io::Result<usize>
         requires { 0 < length buf.now }
         ensures bound { WritesAtMost result buf.now }
-        ensures seen { seen self.new ≡ after_write result buf.now (seen self.old) };
+        ensures seen { seen self.new ≡ after_write result buf.now (seen self.old) }
+        ensures stays { StaysOver lies_over self.old self.new };
 
     /// Hands on what is held back, if anything is. An error is a write fault.
     fn flush(&mut self) -> io::Result<()>
-        ensures seen { seen self.new ≡ after_flush result (seen self.old) };
+        ensures seen { seen self.new ≡ after_flush result (seen self.old) }
+        ensures stays { StaysOver lies_over self.old self.new };
 
     /// Whether bytes that came lie in the line, so that the next read gives them without waiting.
     fn has_unread(&self) -> bool {
@@ -69,6 +76,7 @@ pub trait Line {
     /// was written is on its way. A line that can't use it does nothing.
     fn expect_more(&mut self, more: bool)
         ensures seen { seen self.new ≡ seen self.old }
+        ensures stays { StaysOver lies_over self.old self.new }
     {}
 }
 

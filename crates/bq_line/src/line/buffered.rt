@@ -1,12 +1,10 @@
 ghost use Rattle.std.specs.Prelude.{◌≡◌, ◌==◌, [], Some, length, not, true};
 ghost use Rattle.std.specs.Io.{ReadsAtMost};
-ghost use Rattle.std.specs.Io.KnownBytes.{ReadConsumes, prepend_known};
+ghost use Rattle.std.specs.Io.KnownBytes.{Keeps, ReadConsumes, prepend_known};
 
-use super::expect_more::ExpectMore;
+use super::duplex::Duplex;
 use super::read_buffer::ReadBuffer;
-use super::read_now::ReadNow;
 use std::io;
-use std::io::{Read, Write};
 
 /// A stream that is read through a buffer. What lies there is given first, and only then is the stream asked, for as
 /// much as the buffer has room for. What is written goes to the stream at once.
@@ -36,28 +34,29 @@ impl<S> Buffered<S> {
     }
 }
 
-impl<S: ReadNow> Buffered<S> {
+impl<S: Duplex> Buffered<S> {
     fn read_by(&mut self, buf: &mut [u8], waits: bool) -> io::Result<usize>
         ensures bound { ReadsAtMost result buf.new }
         ensures bytes { ReadConsumes (prepend_known self.old.came (S.remaining self.old.stream))
             (prepend_known self.new.came (S.remaining self.new.stream)) result buf.new }
+        ensures apart { Keeps (S.contents self.old.stream) (S.contents self.new.stream) }
     {
         self.came.fill(&mut self.stream, waits)?;
         Ok(self.came.give(buf))
     }
 }
 
-impl<S: ReadNow> Read for Buffered<S> {
+impl<S: Duplex> Duplex for Buffered<S> {
     ghost use Rattle.std.specs.Io.KnownBytes.{prepend_known};
 
     ghost remaining = { λ b. prepend_known b.came (S.remaining b.stream) };
 
+    ghost contents = { λ b. S.contents b.stream };
+
     fn read(&mut self, buf: &mut [u8]) -> io::Result<usize> {
         self.read_by(buf, true)
     }
-}
 
-impl<S: ReadNow> ReadNow for Buffered<S> {
     fn read_now(&mut self, buf: &mut [u8]) -> io::Result<usize> {
         self.read_by(buf, false)
     }
@@ -68,10 +67,6 @@ impl<S: ReadNow> ReadNow for Buffered<S> {
     {
         !self.came.is_empty()
     }
-}
-
-impl<S: Write> Write for Buffered<S> {
-    ghost contents = { λ b. S.contents b.stream };
 
     fn write(&mut self, buf: &[u8]) -> io::Result<usize> {
         self.stream.write(buf)
@@ -80,9 +75,7 @@ impl<S: Write> Write for Buffered<S> {
     fn flush(&mut self) -> io::Result<()> {
         self.stream.flush()
     }
-}
 
-impl<S: ExpectMore> ExpectMore for Buffered<S> {
     fn expect_more(&mut self, more: bool) {
         self.stream.expect_more(more);
     }

@@ -1,11 +1,9 @@
 ghost use Rattle.std.specs.Prelude.{◌≡◌, IsOk, true, false};
 ghost use Rattle.std.specs.Io.KnownBytes.{Keeps};
 
-use super::expect_more::ExpectMore;
-use super::read_now::ReadNow;
+use super::duplex::Duplex;
 use super::socket::Socket;
 use std::io;
-use std::io::{Read, Write};
 
 /// A connection. Its reads and writes wait, however long it takes; `read_now` doesn't. What is written goes out at
 /// once; while more is expected, the system may gather it for a while. The stream is switched over only where the last
@@ -46,24 +44,20 @@ impl<S: Socket> Connection<S> {
     }
 }
 
-impl<S: Socket> Read for Connection<S> {
+impl<S: Socket> Duplex for Connection<S> {
     ghost remaining = { λ connection. S.remaining connection.stream };
+
+    ghost contents = { λ connection. S.contents connection.stream };
 
     fn read(&mut self, buf: &mut [u8]) -> io::Result<usize> {
         self.set_waits(true)?;
         self.stream.read(buf)
     }
-}
 
-impl<S: Socket> ReadNow for Connection<S> {
     fn read_now(&mut self, buf: &mut [u8]) -> io::Result<usize> {
         self.set_waits(false)?;
         self.stream.read(buf)
     }
-}
-
-impl<S: Socket> Write for Connection<S> {
-    ghost contents = { λ connection. S.contents connection.stream };
 
     fn write(&mut self, buf: &[u8]) -> io::Result<usize> {
         self.set_waits(true)?;
@@ -73,9 +67,7 @@ impl<S: Socket> Write for Connection<S> {
     fn flush(&mut self) -> io::Result<()> {
         self.stream.flush()
     }
-}
 
-impl<S: Socket> ExpectMore for Connection<S> {
     fn expect_more(&mut self, more: bool) {
         // A stream that can't be switched stays as it was, and is tried again at the next hint.
         if self.gathers != more && self.stream.set_gathers(more).is_ok() {

@@ -2,10 +2,10 @@ ghost use Rattle.std.specs.Prelude.{◌≡◌, ◌<◌, length, false, [], None}
 ghost use Rattle.std.specs.Io.{ReadsAtMost, WritesAtMost};
 ghost use Rattle.std.specs.Io.KnownBytes.{Keeps, ReadConsumes, WriteAppends};
 ghost use Rattle.bq_line.specs.LineCalls.{after_flush, after_read, after_write};
+ghost use Rattle.bq_line.specs.Streams.{StaysOver};
 
 use super::byte_record::ByteRecord;
-use super::expect_more::ExpectMore;
-use super::read_now::ReadNow;
+use super::duplex::Duplex;
 use super::{Line, is_nothing_yet, note_fault};
 use bq_job::LineFault;
 use std::io;
@@ -21,10 +21,11 @@ pub struct IoLine<S> {
     written: ByteRecord,
 }
 
-impl<S> IoLine<S> {
-    /// A line on which nothing was done.
+impl<S: Duplex> IoLine<S> {
+    /// A line on which nothing was done, over this stream.
     pub fn new(stream: S) -> IoLine<S>
-        ensures { result ≡ record { stream = stream; ended = false; fault = None; read = []; written = [] } }
+        ensures new { result ≡ record { stream = stream; ended = false; fault = None; read = []; written = [] } }
+        ensures over { ⟦<IoLine<S> as Line>⟧.lies_over (record { left = S.remaining stream; held = S.contents stream }) result }
     {
         IoLine {
             stream,
@@ -35,15 +36,6 @@ impl<S> IoLine<S> {
         }
     }
 
-    /// The stream, whatever was done on the line.
-    pub fn into_stream(self) -> S
-        ensures { result ≡ self.stream }
-    {
-        self.stream
-    }
-}
-
-impl<S: ReadNow + ExpectMore> IoLine<S> {
     // Keeps what came of a read.
     fn note_read(&mut self, came: &io::Result<usize>, buf: &[u8])
         requires { ReadsAtMost came.now buf.now }
@@ -62,16 +54,33 @@ impl<S: ReadNow + ExpectMore> IoLine<S> {
     }
 }
 
-// The clauses `stream` hold the line to its stream: where the stream tells the bytes that it has left and
-// that it holds, a line that answers other bytes than its stream, or makes no call, meets none of them.
-impl<S: ReadNow + ExpectMore> Line for IoLine<S> {
+impl<S> IoLine<S> {
+    /// The stream, whatever was done on the line.
+    pub fn into_stream(self) -> S
+        ensures { result ≡ self.stream }
+    {
+        self.stream
+    }
+}
+
+// The clauses `stream` hold each call to the stream: where that tells the bytes that it has left and that it holds, a
+// line that answers other bytes than its stream, or makes no call, meets none of them. The clauses `stays` hold the
+// line as a whole to the stream that it was made over.
+impl<S: Duplex> Line for IoLine<S> {
+    ghost use Rattle.bq_line.specs.Streams.{LiesOver};
+
     ghost seen = { λ line. record { read = line.read; written = line.written; ended = line.ended; fault = line.fault } };
+
+    ghost lies_over = { λ first line. LiesOver first
+        (record { read = line.read; written = line.written; ended = line.ended; fault = line.fault })
+        (record { left = S.remaining line.stream; held = S.contents line.stream }) };
 
     fn read(&mut self, buf: &mut [u8]) -> io::Result<usize>
         requires { 0 < length buf.old }
         ensures bound { ReadsAtMost result buf.new }
         ensures seen { ⟦<IoLine<S> as Line>⟧.seen self.new ≡ after_read result buf.new (⟦<IoLine<S> as Line>⟧.seen self.old) }
         ensures stream { ReadConsumes (S.remaining self.old.stream) (S.remaining self.new.stream) result buf.new }
+        ensures stays { StaysOver ⟦<IoLine<S> as Line>⟧.lies_over self.old self.new }
     {
         let result = self.stream.read(buf);
         self.note_read(&result, buf);
@@ -83,6 +92,7 @@ impl<S: ReadNow + ExpectMore> Line for IoLine<S> {
         ensures bound { ReadsAtMost result buf.new }
         ensures seen { ⟦<IoLine<S> as Line>⟧.seen self.new ≡ after_read result buf.new (⟦<IoLine<S> as Line>⟧.seen self.old) }
         ensures stream { ReadConsumes (S.remaining self.old.stream) (S.remaining self.new.stream) result buf.new }
+        ensures stays { StaysOver ⟦<IoLine<S> as Line>⟧.lies_over self.old self.new }
     {
         let result = self.stream.read_now(buf);
         self.note_read(&result, buf);
@@ -94,6 +104,7 @@ impl<S: ReadNow + ExpectMore> Line for IoLine<S> {
         ensures bound { WritesAtMost result buf.now }
         ensures seen { ⟦<IoLine<S> as Line>⟧.seen self.new ≡ after_write result buf.now (⟦<IoLine<S> as Line>⟧.seen self.old) }
         ensures stream { WriteAppends (S.contents self.old.stream) (S.contents self.new.stream) result buf.now }
+        ensures stays { StaysOver ⟦<IoLine<S> as Line>⟧.lies_over self.old self.new }
     {
         let result = self.stream.write(buf);
         match &result {
@@ -106,6 +117,7 @@ impl<S: ReadNow + ExpectMore> Line for IoLine<S> {
     fn flush(&mut self) -> io::Result<()>
         ensures seen { ⟦<IoLine<S> as Line>⟧.seen self.new ≡ after_flush result (⟦<IoLine<S> as Line>⟧.seen self.old) }
         ensures stream { Keeps (S.contents self.old.stream) (S.contents self.new.stream) }
+        ensures stays { StaysOver ⟦<IoLine<S> as Line>⟧.lies_over self.old self.new }
     {
         let result = self.stream.flush();
         if result.is_err() {
@@ -121,6 +133,7 @@ impl<S: ReadNow + ExpectMore> Line for IoLine<S> {
     fn expect_more(&mut self, more: bool)
         ensures seen { ⟦<IoLine<S> as Line>⟧.seen self.new ≡ ⟦<IoLine<S> as Line>⟧.seen self.old }
         ensures stream { Keeps (S.contents self.old.stream) (S.contents self.new.stream) }
+        ensures stays { StaysOver ⟦<IoLine<S> as Line>⟧.lies_over self.old self.new }
     {
         self.stream.expect_more(more);
     }

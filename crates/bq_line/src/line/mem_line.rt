@@ -3,6 +3,7 @@ ghost use Rattle.std.specs.Io.{ReadsAtMost, WritesAtMost};
 ghost use Rattle.std.specs.Vec.{vec_capacity};
 ghost use Rattle.bq_line.specs.LineCalls.{after_flush, after_read, after_write, new_line};
 ghost use Rattle.bq_line.specs.LineParts.{IsAnsweredBy, bytes_up_to, is_over, open_place, place_after};
+ghost use Rattle.bq_line.specs.Streams.{StaysOver};
 
 use super::{Line, copy_first, note_fault};
 use bq_job::{LineFault, NoMemory};
@@ -70,6 +71,9 @@ impl MemLine {
 }
 
 impl Line for MemLine {
+    ghost use Rattle.std.specs.Prelude.{[], Some};
+    ghost use Rattle.bq_line.specs.LineParts.{all_bytes};
+
     ghost seen = { λ line. record {
       read = bytes_up_to line.parts.items line.place line.offset;
       written = line.written.items;
@@ -77,10 +81,14 @@ impl Line for MemLine {
       fault = line.fault;
     } };
 
+    // Its stream are the bytes of its parts, and nothing was written to it at first.
+    ghost lies_over = { λ first line. first ≡ record { left = Some (all_bytes line.parts.items); held = Some [] } };
+
     fn read(&mut self, buf: &mut [u8]) -> io::Result<usize>
         requires { 0 < length buf.old }
         ensures bound { ReadsAtMost result buf.new }
         ensures seen { ⟦<MemLine as Line>⟧.seen self.new ≡ after_read result buf.new (⟦<MemLine as Line>⟧.seen self.old) }
+        ensures stays { StaysOver ⟦<MemLine as Line>⟧.lies_over self.old self.new }
         // The first part that isn't over answers, and no other is passed.
         ensures answered { IsAnsweredBy
             (slice_get self.old.parts.items (open_place self.old.parts.items self.old.place self.old.offset (vec_len self.old.written)))
@@ -120,6 +128,7 @@ impl Line for MemLine {
         requires { 0 < length buf.old }
         ensures bound { ReadsAtMost result buf.new }
         ensures seen { ⟦<MemLine as Line>⟧.seen self.new ≡ after_read result buf.new (⟦<MemLine as Line>⟧.seen self.old) }
+        ensures stays { StaysOver ⟦<MemLine as Line>⟧.lies_over self.old self.new }
         // The first part that isn't over answers, and no other is passed.
         ensures answered { IsAnsweredBy
             (slice_get self.old.parts.items (open_place self.old.parts.items self.old.place self.old.offset (vec_len self.old.written)))
@@ -138,6 +147,7 @@ impl Line for MemLine {
         requires { 0 < length buf.now }
         ensures bound { WritesAtMost result buf.now }
         ensures seen { ⟦<MemLine as Line>⟧.seen self.new ≡ after_write result buf.now (⟦<MemLine as Line>⟧.seen self.old) }
+        ensures stays { StaysOver ⟦<MemLine as Line>⟧.lies_over self.old self.new }
         // As many bytes as fit are taken. Only where none does is there a fault.
         ensures taken { IfOk result (λ count. (count ≡ min (length buf.now) self.old.room) × (self.new.room + count ≡ self.old.room)) }
         ensures full { IsErr result → (self.old.room ≡ 0) × (self.new.room ≡ 0) }
@@ -155,6 +165,7 @@ impl Line for MemLine {
 
     fn flush(&mut self) -> io::Result<()>
         ensures seen { ⟦<MemLine as Line>⟧.seen self.new ≡ after_flush result (⟦<MemLine as Line>⟧.seen self.old) }
+        ensures stays { StaysOver ⟦<MemLine as Line>⟧.lies_over self.old self.new }
         ensures nothing { IsOk result × (self.new ≡ self.old) }
     {
         Ok(())

@@ -3,7 +3,7 @@ ghost use Rattle.std.specs.Io.KnownBytes.{Consumes, IsAtEnd, Keeps, prepend_know
 ghost use Rattle.std.specs.Vec.{vec_capacity};
 
 use super::copy_first;
-use super::read_now::ReadNow;
+use super::duplex::Duplex;
 use bq_job::NoMemory;
 use std::alloc::Global;
 use std::fmt::{Debug, Formatter, Write};
@@ -81,9 +81,10 @@ impl ReadBuffer {
     }
 
     /// Reads the stream once, where nothing lies in the buffer. `waits` says whether it may wait for bytes.
-    pub fn fill<S: ReadNow>(&mut self, stream: &mut S, waits: bool) -> io::Result<()>
+    pub fn fill<S: Duplex>(&mut self, stream: &mut S, waits: bool) -> io::Result<()>
         ensures bytes { Keeps (prepend_known self.old (S.remaining stream.old)) (prepend_known self.new (S.remaining stream.new)) }
         ensures end { OnOk result (self.new ≡ [] → IsAtEnd (S.remaining stream.new)) }
+        ensures apart { Keeps (S.contents stream.old) (S.contents stream.new) }
     {
         if self.is_empty() {
             self.refill(stream, waits)
@@ -92,10 +93,11 @@ impl ReadBuffer {
         }
     }
 
-    fn refill<S: ReadNow>(&mut self, stream: &mut S, waits: bool) -> io::Result<()>
+    fn refill<S: Duplex>(&mut self, stream: &mut S, waits: bool) -> io::Result<()>
         requires { self.old ≡ [] }
         ensures bytes { Keeps (S.remaining stream.old) (prepend_known self.new (S.remaining stream.new)) }
         ensures end { OnOk result (self.new ≡ [] → IsAtEnd (S.remaining stream.new)) }
+        ensures apart { Keeps (S.contents stream.old) (S.contents stream.new) }
     {
         self.from = 0;
         self.to = 0;
@@ -118,7 +120,7 @@ fn make_whole(room: &mut Vec<u8, Global>)
 }
 
 // One read of a stream into the room.
-fn read_once<S: ReadNow>(
+fn read_once<S: Duplex>(
     stream: &mut S,
     room: &mut Vec<u8, Global>,
     waits: bool,
@@ -128,6 +130,7 @@ fn read_once<S: ReadNow>(
     ensures bytes { IfOk result (λ n. Consumes (S.remaining stream.old) (S.remaining stream.new) (take n room.new.items)) }
     ensures end { IfOk result (λ n. n ≡ 0 → 0 < vec_len room.old → IsAtEnd (S.remaining stream.new)) }
     ensures err { OnErr result (Keeps (S.remaining stream.old) (S.remaining stream.new)) }
+    ensures apart { Keeps (S.contents stream.old) (S.contents stream.new) }
 {
     if waits {
         stream.read(room.as_mut_slice())

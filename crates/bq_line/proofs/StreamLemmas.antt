@@ -1,0 +1,77 @@
+-- What calls of a stream come to for a line over it.
+use Rattle.std.proofs.Common.{◌≡◌, ◌<◌, ◌==◌, ◌||◌, ℕ, Bool, true, false, List, [], ◌∷◌, ◌++◌, Option, Some, None, IfSome, Result, Ok, Err, length, take, refl, sym, ap, ◌∙◌, append-nil, arith, subst, if◌then◌else◌}
+use Rattle.std.proofs.KnownBytes.{Appends-kept, Consumes-kept, Consumes-trans, Consumes-whole}
+use Rattle.std.proofs.lemmas.Bool.Decides.{nat_tests}
+use Rattle.std.proofs.lemmas.List.{append_cancel_left}
+use Rattle.std.specs.Io.KnownBytes.{Appends, Consumes, IsAtEnd, Keeps, ReadConsumes}
+use Rattle.std.specs.declared.io.Error.{Error}
+use Rattle.std.specs.IoError.{error_kind}
+use Rattle.bq_job.specs.declared.line_end.LineFault.TheVariants as faults
+use Rattle.bq_job.specs.promise.LineSteps.{LineSeen}
+use Rattle.bq_line.specs.LineCalls.{after_read, is_nothing_yet, with_line_fault}
+use Rattle.bq_line.specs.Streams.{LiesOver, StreamSeen}
+
+nothing_before : (bytes more : List ℕ) → [] ≡ bytes ++ more → bytes ≡ []
+nothing_before [] more none = refl
+nothing_before (b ∷ bs) more none = absurd cc
+
+-- A stream of which all was read gives no more.
+still_all : (first old new : Option (List ℕ)) (read bytes : List ℕ) → Consumes first old read → Consumes old new bytes
+    → IfSome first (λ all. all ≡ read) → IfSome first (λ all. all ≡ read ++ bytes)
+still_all None old new read bytes over more all = tt
+still_all (Some xs) None new read bytes over more all = absurd over
+still_all (Some xs) (Some ys) None read bytes over more all = absurd more
+still_all (Some xs) (Some ys) (Some zs) read bytes over more all =
+    let none : [] ≡ bytes ++ zs = append_cancel_left read [] (bytes ++ zs) (append-nil read ∙ sym all ∙ over ∙ ap (λ l. read ++ l) more) in
+    all ∙ sym (ap (λ l. read ++ l) (nothing_before bytes zs none) ∙ append-nil read)
+
+by_either : (ended none : Bool) (A : Type 0) → (ended ≡ true → A) → (none ≡ true → A) → (ended || none) ≡ true → A
+by_either true none A first second either = first refl
+by_either false none A first second either = second either
+
+-- A line that read so on is over the stream that gave it.
+read_bytes : (first old new : StreamSeen) (line : LineSeen) (n : ℕ) (buf : List ℕ) → 0 < length buf
+    → Consumes old.left new.left (take n buf) × (n ≡ 0 → 0 < length buf → IsAtEnd new.left) → Keeps old.held new.held
+    → LiesOver first line old → LiesOver first (record line { read = line.read ++ take n buf; ended = line.ended || n == 0 }) new
+read_bytes first old new line n buf room gave apart over =
+    let whole : Consumes first.left new.left (line.read ++ take n buf) = Consumes-trans first.left old.left new.left line.read (take n buf) over.read gave.0 in
+    record {
+      read = whole;
+      written = Appends-kept first.held old.held new.held line.written over.written apart;
+      ended = by_either line.ended (n == 0) (IfSome first.left (λ all. all ≡ line.read ++ take n buf))
+          (λ is. still_all first.left old.left new.left line.read (take n buf) over.read gave.0 (over.ended is))
+          (λ is. let none : n ≡ 0 = grind (arith, nat_tests) in
+          Consumes-whole first.left new.left (line.read ++ take n buf) (λ all. all ≡ line.read ++ take n buf) whole (gave.1 none room) refl);
+    }
+
+-- A call that moved no bytes.
+nothing_moved : (first old new : StreamSeen) (line later : LineSeen) → Keeps old.left new.left → Keeps old.held new.held
+    → later.read ≡ line.read → later.written ≡ line.written → later.ended ≡ line.ended → LiesOver first line old → LiesOver first later new
+nothing_moved first old new line later left held read written ended over =
+    record {
+      read = subst (Consumes first.left new.left) (sym read) (Consumes-kept first.left old.left new.left line.read over.read left);
+      written = subst (Appends first.held new.held) (sym written) (Appends-kept first.held old.held new.held line.written over.written held);
+      ended = λ is. subst (λ bytes. IfSome first.left (λ all. all ≡ bytes)) (sym read) (over.ended (sym ended ∙ is));
+    }
+
+read_on : (first old new : StreamSeen) (line : LineSeen) (result : Result ℕ Error) (buf : List ℕ) → 0 < length buf
+    → ReadConsumes old.left new.left result buf → Keeps old.held new.held → LiesOver first line old → LiesOver first (after_read result buf line) new
+read_on first old new line (Ok n) buf room gave apart over = read_bytes first old new line n buf room gave apart over
+read_on first old new line (Err e) buf room gave apart over = failed (is_nothing_yet (error_kind e))
+  where
+    failed : (yet : Bool) → LiesOver first (if yet then line else with_line_fault faults.Read line) new
+    failed true = nothing_moved first old new line line gave apart refl refl refl over
+    failed false = nothing_moved first old new line (with_line_fault faults.Read line) gave apart refl refl refl over
+
+-- The line noted what a read of its stream came to.
+pub read_noted : {S : Type 0} (left held : S → Option (List ℕ)) (first : StreamSeen) (old gave new : S) (line later : LineSeen) (result : Result ℕ Error) (buf : List ℕ) (room : ℕ)
+    → length buf ≡ room → 0 < room → ReadConsumes (left old) (left gave) result buf → Keeps (held old) (held gave)
+    → later ≡ after_read result buf line → new ≡ gave
+    → LiesOver first line (record { left = left old; held = held old }) → LiesOver first later (record { left = left new; held = held new })
+read_noted {S} left held first old gave new line later result buf room length_is some took apart noted stays over =
+    let on : LiesOver first (after_read result buf line) (record { left = left gave; held = held gave }) =
+    read_on first (record { left = left old; held = held old }) (record { left = left gave; held = held gave }) line result buf
+    (subst (λ n. 0 < n) (sym length_is) some) took apart over in
+    let same : LiesOver first later (record { left = left gave; held = held gave }) =
+    subst (λ seen. LiesOver first seen (record { left = left gave; held = held gave })) (sym noted) on in
+    subst (λ stream. LiesOver first later (record { left = left stream; held = held stream })) (sym stays) same
