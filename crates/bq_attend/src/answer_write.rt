@@ -1,5 +1,6 @@
 ghost use Rattle.std.specs.Prelude.{◌≡◌, ◌≤◌, ◌+◌, ◌++◌, true, length, take};
 ghost use Rattle.bq_job.specs.texts.AnswerText.{answer_text};
+ghost use Rattle.bq_line.specs.Streams.{StaysOver};
 ghost use Rattle.bq_attend.specs.Writing.{Writes};
 
 use crate::room::Room;
@@ -12,7 +13,8 @@ use bq_wire::{HeadBuf, answer_body, answer_head, answer_tail, push_bytes};
 ///
 /// As much of it as the room holds goes out in one write. What lies in the room before and after has no meaning.
 pub fn write_answer<L: Line>(line: &mut L, answer: &Answer, room: &mut Room) -> bool
-    ensures { Writes (answer_text answer.now) (L.seen line.old) (L.seen line.new) result }
+    ensures text { Writes (answer_text answer.now) (L.seen line.old) (L.seen line.new) result }
+    ensures stays { StaysOver L.lies_over line.old line.new }
 {
     if !write_text(line, answer, room) {
         return false;
@@ -26,7 +28,8 @@ pub fn write_answer<L: Line>(line: &mut L, answer: &Answer, room: &mut Room) -> 
 // Most texts have few bytes behind the head, or none. These go out from the room of the head, so that no
 // other has to be made.
 fn write_text<L: Line>(line: &mut L, answer: &Answer, room: &mut Room) -> bool
-    ensures { Writes (answer_text answer.now) (L.seen line.old) (L.seen line.new) result }
+    ensures text { Writes (answer_text answer.now) (L.seen line.old) (L.seen line.new) result }
+    ensures stays { StaysOver L.lies_over line.old line.new }
 {
     let mut head = HeadBuf::new();
     answer_head(answer, &mut head);
@@ -50,7 +53,8 @@ fn have_room(head: &HeadBuf, body: &[u8], tail: &[u8]) -> bool
 // Puts the other parts behind the head, and writes them together.
 fn write_behind<L: Line>(line: &mut L, head: &mut HeadBuf, body: &[u8], tail: &[u8]) -> bool
     requires { length head.old.items + length body.now + length tail.now ≤ 256 }
-    ensures { Writes (head.old.items ++ body.now ++ tail.now) (L.seen line.old) (L.seen line.new) result }
+    ensures text { Writes (head.old.items ++ body.now ++ tail.now) (L.seen line.old) (L.seen line.new) result }
+    ensures stays { StaysOver L.lies_over line.old line.new }
 {
     push_bytes(head, body);
     push_bytes(head, tail);
@@ -59,7 +63,8 @@ fn write_behind<L: Line>(line: &mut L, head: &mut HeadBuf, body: &[u8], tail: &[
 
 // Of the others most are joined in a piece. The room for answers isn't touched for these.
 fn write_long<L: Line>(line: &mut L, room: &mut Room, head: &[u8], body: &[u8], tail: &[u8]) -> bool
-    ensures { Writes (head.now ++ body.now ++ tail.now) (L.seen line.old) (L.seen line.new) result }
+    ensures text { Writes (head.now ++ body.now ++ tail.now) (L.seen line.old) (L.seen line.new) result }
+    ensures stays { StaysOver L.lies_over line.old line.new }
 {
     if room.answer.is_none() || fits(PIECE_ROOM, head, body, tail) {
         write_joined(line, &mut room.piece, head, body, tail)
@@ -76,7 +81,8 @@ fn write_joined<L: Line>(
     body: &[u8],
     tail: &[u8],
 ) -> bool
-    ensures { Writes (head.now ++ body.now ++ tail.now) (L.seen line.old) (L.seen line.new) result }
+    ensures text { Writes (head.now ++ body.now ++ tail.now) (L.seen line.old) (L.seen line.new) result }
+    ensures stays { StaysOver L.lies_over line.old line.new }
 {
     if fits(room.len(), head, body, tail) {
         let behind_head = put(room, 0, head);
@@ -110,7 +116,8 @@ fn put(room: &mut [u8], at: usize, bytes: &[u8]) -> usize
 // Writes what lies in the room up to this place, and these bytes, together.
 fn write_with<L: Line>(line: &mut L, room: &mut [u8], at: usize, bytes: &[u8]) -> bool
     requires { at + length bytes.now ≤ length room.old }
-    ensures { Writes (take at room.old ++ bytes.now) (L.seen line.old) (L.seen line.new) result }
+    ensures text { Writes (take at room.old ++ bytes.now) (L.seen line.old) (L.seen line.new) result }
+    ensures stays { StaysOver L.lies_over line.old line.new }
 {
     let end = put(room, at, bytes);
     write_all(line, &room[..end])
@@ -125,7 +132,8 @@ fn write_parts<L: Line>(
     body: &[u8],
     tail: &[u8],
 ) -> bool
-    ensures { Writes (head.now ++ body.now ++ tail.now) (L.seen line.old) (L.seen line.new) result }
+    ensures text { Writes (head.now ++ body.now ++ tail.now) (L.seen line.old) (L.seen line.new) result }
+    ensures stays { StaysOver L.lies_over line.old line.new }
 {
     let beside_head = room.len().saturating_sub(head.len());
     let (first, rest) = body.split_at(body.len().min(beside_head));
@@ -137,7 +145,8 @@ fn write_parts<L: Line>(
 
 // The rest of a body, and the tail with its last bytes.
 fn write_rest<L: Line>(line: &mut L, room: &mut [u8], rest: &[u8], tail: &[u8]) -> bool
-    ensures { Writes (rest.now ++ tail.now) (L.seen line.old) (L.seen line.new) result }
+    ensures text { Writes (rest.now ++ tail.now) (L.seen line.old) (L.seen line.new) result }
+    ensures stays { StaysOver L.lies_over line.old line.new }
 {
     let beside_tail = room.len().saturating_sub(tail.len());
     let (middle, last) = rest.split_at(rest.len().saturating_sub(beside_tail));
@@ -149,7 +158,8 @@ fn write_rest<L: Line>(line: &mut L, room: &mut [u8], rest: &[u8], tail: &[u8]) 
 
 // Two parts go out in one write where the room holds them.
 fn write_pair<L: Line>(line: &mut L, room: &mut [u8], first: &[u8], second: &[u8]) -> bool
-    ensures { Writes (first.now ++ second.now) (L.seen line.old) (L.seen line.new) result }
+    ensures text { Writes (first.now ++ second.now) (L.seen line.old) (L.seen line.new) result }
+    ensures stays { StaysOver L.lies_over line.old line.new }
 {
     if fits(room.len(), first, second, &[]) {
         let behind_first = put(room, 0, first);
@@ -163,7 +173,8 @@ fn write_pair<L: Line>(line: &mut L, room: &mut [u8], first: &[u8], second: &[u8
 
 // Writes until all bytes are taken or a write fails.
 fn write_all<L: Line>(line: &mut L, bytes: &[u8]) -> bool
-    ensures { Writes bytes.now (L.seen line.old) (L.seen line.new) result }
+    ensures text { Writes bytes.now (L.seen line.old) (L.seen line.new) result }
+    ensures stays { StaysOver L.lies_over line.old line.new }
 {
     let mut done = 0;
     while done < bytes.len() {

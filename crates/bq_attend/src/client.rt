@@ -4,6 +4,7 @@ ghost use Rattle.std.specs.Io.{ReadsAtMost};
 ghost use Rattle.bq_job.specs.declared.answer.Answer.{Answer};
 ghost use Rattle.bq_job.specs.declared.step.Step.{Step};
 ghost use Rattle.bq_line.specs.LineCalls.{after_read};
+ghost use Rattle.bq_line.specs.Streams.{StaysOver};
 ghost use Rattle.bq_attend.specs.Carried.{Carried, HasGone};
 
 use crate::answer_write::write_answer;
@@ -31,6 +32,7 @@ pub fn carry_out<L: Line, K: Link>(
     ensures ready { K.is_ready link.new }
     ensures carried { (submitted : List Step) × (taken : List Answer) × HasGone K.went link.old action.old submitted taken link.new ×
         Carried machine.old (L.seen line.old) action.old machine.new (L.seen line.new) action.new submitted taken }
+    ensures stays { StaysOver L.lies_over line.old line.new }
 {
     match action {
         Action::Submit(step) => {
@@ -76,7 +78,8 @@ fn read<L: Line>(
     room: &mut [u8],
 ) -> bool
     requires { length room.old ≡ PIECE_ROOM }
-    ensures { Carried machine.old (L.seen line.old) Action.Read machine.new (L.seen line.new) next.new [] [] }
+    ensures carried { Carried machine.old (L.seen line.old) Action.Read machine.new (L.seen line.new) next.new [] [] }
+    ensures stays { StaysOver L.lies_over line.old line.new }
 {
     match read_line(machine, line, room) {
         Ok(0) => {
@@ -101,7 +104,8 @@ fn read<L: Line>(
 
 // More is written soon where bytes that came lie behind the command whose answer is written now.
 fn expect_answers<L: Line>(machine: &SeatMachine, line: &mut L)
-    ensures { L.seen line.new ≡ L.seen line.old }
+    ensures seen { L.seen line.new ≡ L.seen line.old }
+    ensures stays { StaysOver L.lies_over line.old line.new }
 {
     if machine.has_unread() || line.has_unread() {
         line.expect_more(true);
@@ -113,6 +117,7 @@ fn read_line<L: Line>(machine: &SeatMachine, line: &mut L, room: &mut [u8]) -> i
     requires { 0 < length room.old }
     ensures bound { ReadsAtMost result room.new }
     ensures seen { L.seen line.new ≡ after_read result room.new (L.seen line.old) }
+    ensures stays { StaysOver L.lies_over line.old line.new }
 {
     if !line.has_unread() {
         line.expect_more(false);

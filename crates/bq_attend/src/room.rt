@@ -45,6 +45,7 @@ impl AnswerRoom {
         }
     }
 
+    /// Whether it is no room, so that no answer goes out from it.
     pub fn is_none(&self) -> bool
         ensures { result ≡ (self.now == 0) }
     {

@@ -14,15 +14,15 @@ returns-else-submit_in_place-clause-carried g c =
     comes_by g.K.Link.went _ _ _ _ _ _ _ _ (actions.Submit c.in-Submit.step) c.in-Submit.is [] [] back.1 (refl, refl, inr (refl, ap actions.Submit back.0, refl))
 
 pub returns-in-Read-clause-carried : goal.returns-in-Read-clause-carried
-returns-in-Read-clause-carried g c = comes_by g.K.Link.went _ _ _ _ _ _ _ _ actions.Read c.in-Read.is [] [] refl c.read.ensures
+returns-in-Read-clause-carried g c = comes_by g.K.Link.went _ _ _ _ _ _ _ _ actions.Read c.in-Read.is [] [] refl c.read.ensures.carried
 
 pub returns-then-write_answer-clause-carried : goal.returns-then-write_answer-clause-carried
 returns-then-write_answer-clause-carried g c =
-    comes_by g.K.Link.went _ _ _ _ _ _ _ _ (actions.Write c.in-Write.answer) c.in-Write.is [] [] refl (refl, refl, inl (rw (c.if-write_answer.true, c.expect_answers.ensures) at c.write_answer.ensures, c.on_in_place-then-write_answer.ensures))
+    comes_by g.K.Link.went _ _ _ _ _ _ _ _ (actions.Write c.in-Write.answer) c.in-Write.is [] [] refl (refl, refl, inl (rw (c.if-write_answer.true, c.expect_answers.ensures.seen) at c.write_answer.ensures.text, c.on_in_place-then-write_answer.ensures))
 
 pub returns-else-write_answer-clause-carried : goal.returns-else-write_answer-clause-carried
 returns-else-write_answer-clause-carried g c =
-    comes_by g.K.Link.went _ _ _ _ _ _ _ _ (actions.Write c.in-Write.answer) c.in-Write.is [] [] refl (refl, refl, inr (rw (c.if-write_answer.false, c.expect_answers.ensures) at c.write_answer.ensures, c.on_in_place-else-write_answer.ensures))
+    comes_by g.K.Link.went _ _ _ _ _ _ _ _ (actions.Write c.in-Write.answer) c.in-Write.is [] [] refl (refl, refl, inr (rw (c.if-write_answer.false, c.expect_answers.ensures.seen) at c.write_answer.ensures.text, c.on_in_place-else-write_answer.ensures))
 
 pub returns-then-mail_in_place-clause-carried : goal.returns-then-mail_in_place-clause-carried
 returns-then-mail_in_place-clause-carried g c =
