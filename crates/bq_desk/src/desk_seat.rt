@@ -2,6 +2,7 @@
 ghost use Rattle.std.specs.Prelude.{◌≡◌, ◌<◌, ℕ, List, length};
 ghost use Rattle.bq_job.specs.declared.answer.Answer.{Answer};
 ghost use Rattle.bq_job.specs.declared.step.Step.{Step};
+ghost use Rattle.bq_line.specs.Streams.{StaysOver};
 ghost use Rattle.bq_attend.specs.Carried.{Carried};
 ghost use Rattle.bq_desk.specs.DeskOf.{WentAt, state_of};
 ghost use Rattle.bq_desk.specs.DeskState.{HasMails};
@@ -53,6 +54,7 @@ pub fn act<L: Line, C: Clock + Drop>(
     ensures mails { HasMails (state_of desk.new) }
     ensures carried { (submitted : List Step) × (taken : List Answer) × WentAt C.given seat desk.old submitted taken desk.new ×
         Carried machine.old (L.seen line.old) action.old machine.new (L.seen line.new) action.new submitted taken }
+    ensures stays { StaysOver L.lies_over line.old line.new }
 {
     let alloc = desk.alloc;
     let mut link = DeskSeat { desk, seat };

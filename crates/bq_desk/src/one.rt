@@ -1,6 +1,7 @@
 ghost use Rattle.std.specs.Prelude.{◌↔◌, ◌≡◌, List, Option, ℕ, IfOk, IsErrOf, IsTrue, not};
 ghost use Rattle.bq_job.specs.promise.Headline.{IsHistoryOfLine};
 ghost use Rattle.bq_line.specs.LineCalls.{new_line};
+ghost use Rattle.bq_line.specs.Streams.{StaysOver};
 ghost use Rattle.bq_desk.specs.RunSettings.{is_lone};
 
 use crate::desk::Desk;
@@ -49,6 +50,8 @@ pub fn run_one<R: Wait, L: Line + Drop, C: Clock + Drop>(
     // one-list machine takes it, and the line was written exactly what it is owed along it.
     ensures served { IfOk result (λ one. (readings : List (Option ℕ)) × C.given clock readings one.clock ×
         IsHistoryOfLine config 0 (record { seen = L.seen one.line; over = one.end }) readings) }
+    // It is the line that was handed in, over the same stream.
+    ensures stays { IfOk result (λ one. StaysOver L.lies_over line one.line) }
     ensures bad_configuration { IsErrOf result RunFault.BadConfiguration ↔ IsTrue (not (is_lone config)) }
     ensures no_thread { IsErrOf result RunFault.ThreadRefused ↔ ⊥ }
 {

@@ -19,6 +19,7 @@ loop-init g c =
         begins_alone c.args.config 0 (state_of c.in_ok-desk.desk) c.on-action.new.self (g.L.Line.seen c.args.line) c.on-action.result made
             (opened_on c.args.config.max_job_size _ c.on-action.new.self c.on-action.result (g.L.Line.seen c.args.line) c.in-Ok.ensures.awaits c.in-Ok.ensures.limit c.on-action.ensures c.requires.new),
       );
+      stays = λ first over. over;
       mails = record { many = many ∙ ap (λ m. m.settings.seats) (sym made.core); room = subst (λ m. m.settings.seats < (state_of c.in_ok-desk.desk).most) (sym made.core) made.room };
       within = omega (arith, many, seats);
     }
@@ -43,6 +44,7 @@ loop-preserved g c =
         w.1 c.args.clock i.0 i.1,
         goes_on_alone c.args.config 0 i.0 w.0 (state_of c.loop.desk) next c.loop.machine c.act-moved.new.machine (g.L.Line.seen c.loop.line) (g.L.Line.seen c.act-moved.new.line) c.loop.action c.act-moved.new.action h.0 h.1 i.2 w.2 h.3,
       );
+      stays = λ first over. c.act-moved.ensures.stays first (c.loop.invariant.stays first over);
       mails = c.act-moved.ensures.mails;
       within = omega (arith, w.2.went.many, c.loop.invariant.within);
     }
