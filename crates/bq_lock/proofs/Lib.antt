@@ -1,4 +1,5 @@
 pub mod DeliveryLemmas
+pub mod FaultLemmas
 pub mod LastPartLemmas
 pub mod LockedLemmas
 pub mod PostLemmas
