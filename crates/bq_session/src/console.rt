@@ -1,7 +1,7 @@
 //! An input and an output as one stream.
 ghost use Rattle.std.specs.Prelude.{◌≡◌};
 
-use bq_line::line::{ExpectMore, ReadNow};
+use bq_line::line::Duplex;
 use std::io;
 use std::io::{Read, Write};
 
@@ -31,19 +31,15 @@ impl<I, O> Console<I, O> {
     }
 }
 
-impl<I: Read, O> Read for Console<I, O> {
+impl<I: Read, O: Write> Duplex for Console<I, O> {
     ghost remaining = { λ console. I.remaining console.input };
 
+    ghost contents = { λ console. O.contents console.output };
+
+    // A program's input is waited for, whatever else comes: it has no read that doesn't wait.
     fn read(&mut self, buf: &mut [u8]) -> io::Result<usize> {
         self.input.read(buf)
     }
-}
-
-// A program's input is waited for, whatever else comes.
-impl<I: Read, O> ReadNow for Console<I, O> {}
-
-impl<I, O: Write> Write for Console<I, O> {
-    ghost contents = { λ console. O.contents console.output };
 
     fn write(&mut self, buf: &[u8]) -> io::Result<usize> {
         self.output.write(buf)
@@ -53,5 +49,3 @@ impl<I, O: Write> Write for Console<I, O> {
         self.output.flush()
     }
 }
-
-impl<I, O: Write> ExpectMore for Console<I, O> {}

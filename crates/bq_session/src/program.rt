@@ -8,7 +8,7 @@ ghost use Rattle.bq_session.specs.declared.session.Served.{Served};
 use crate::session::{Served, serve_client};
 use crate::told::tell_client;
 use bq_line::clock::MachineClock;
-use bq_line::line::{ExpectMore, IoLine, Line, ReadNow};
+use bq_line::line::{Duplex, IoLine, Line};
 use bq_program::{Stop, words};
 use std::io::{Eprint, Print};
 use std::rt::{Clock, Env};
@@ -16,24 +16,29 @@ use std::sync::Wait;
 
 /// All that `bq` does: it serves the client at the other end of the stream, as the program's words choose, and
 /// tells what came of it. It returns the status of the program.
-pub fn run_bq<R: AllocGlobal + Env + Wait + Clock + Print + Eprint, S: ReadNow + ExpectMore + Drop>(
+pub fn run_bq<R: AllocGlobal + Env + Wait + Clock + Print + Eprint, S: Duplex + Drop>(
     rt: &R,
     stream: S,
 ) -> u8
-    // The status is that of what came of the client. One that was served has the promise of `serve_client`.
+    // The status is that of what came of the client. One that was served has the promise of `serve_client`, over the
+    // stream that was handed in: what his line read is what this stream gave, and what it wrote this stream took.
     ensures { (came : Result (Served S) Stop)
         × IfOk came (λ served. IsSessionFor (⟦<IoLine<S> as Line>⟧.seen served.line) served.end)
+        × IfOk came (λ served. ⟦<IoLine<S> as Line>⟧.lies_over (record { left = S.remaining stream; held = S.contents stream })
+        served.line)
         × IsStatusOfClient came result }
 {
     let came = came_of_client(rt, stream);
     tell_client(rt, &came)
 }
 
-fn came_of_client<R: AllocGlobal + Env + Wait + Clock, S: ReadNow + ExpectMore + Drop>(
+fn came_of_client<R: AllocGlobal + Env + Wait + Clock, S: Duplex + Drop>(
     rt: &R,
     stream: S,
 ) -> Result<Served<S>, Stop>
-    ensures { IfOk result (λ served. IsSessionFor (⟦<IoLine<S> as Line>⟧.seen served.line) served.end) }
+    ensures served { IfOk result (λ served. IsSessionFor (⟦<IoLine<S> as Line>⟧.seen served.line) served.end) }
+    ensures over { IfOk result (λ served. ⟦<IoLine<S> as Line>⟧.lies_over (record { left = S.remaining stream; held = S.contents stream })
+        served.line) }
 {
     let words = words(rt)?;
     serve_client(

@@ -8,7 +8,7 @@ use bq_core::Config;
 use bq_desk::run_one;
 use bq_job::LineEnd;
 use bq_line::clock::{Clock, MachineClock, ScriptClock};
-use bq_line::line::{ExpectMore, IoLine, Line, ReadNow};
+use bq_line::line::{Duplex, IoLine, Line};
 use bq_options::{BqOptions, bq_options};
 use bq_program::{Fault, Need, Stop};
 use std::alloc::{AllocError, Global};
@@ -25,7 +25,7 @@ pub struct Served<S> {
 
 /// Serves the client at the other end of the stream, as the words choose. The first word is the program's
 /// name.
-pub fn serve_client<'a, R: Wait, W: AsStr, S: ReadNow + ExpectMore + Drop, K: rt::Clock + Drop>(
+pub fn serve_client<'a, R: Wait, W: AsStr, S: Duplex + Drop, K: rt::Clock + Drop>(
     rt: &R,
     alloc: Global,
     words: &'a [W],
@@ -35,6 +35,9 @@ pub fn serve_client<'a, R: Wait, W: AsStr, S: ReadNow + ExpectMore + Drop, K: rt
     // There are options in their ranges, and one history of the client's steps, which the one-list machine
     // takes by these options. The line was written exactly what it is owed along it.
     ensures served { IfOk result (λ served. IsSessionFor (⟦<IoLine<S> as Line>⟧.seen served.line) served.end) }
+    // The line lies over the stream that was handed in.
+    ensures over { IfOk result (λ served. ⟦<IoLine<S> as Line>⟧.lies_over (record { left = S.remaining stream; held = S.contents stream })
+        served.line) }
 {
     let options = bq_options(alloc, words)?;
     let served = serve_chosen(rt, alloc, &options, stream, clock)?;
@@ -42,7 +45,7 @@ pub fn serve_client<'a, R: Wait, W: AsStr, S: ReadNow + ExpectMore + Drop, K: rt
 }
 
 // Serves the client by these options.
-fn serve_chosen<R: Wait, S: ReadNow + ExpectMore + Drop, K: rt::Clock + Drop>(
+fn serve_chosen<R: Wait, S: Duplex + Drop, K: rt::Clock + Drop>(
     rt: &R,
     alloc: Global,
     options: &BqOptions,
@@ -51,6 +54,8 @@ fn serve_chosen<R: Wait, S: ReadNow + ExpectMore + Drop, K: rt::Clock + Drop>(
 ) -> Result<Served<S>, Fault>
     requires { IsForBq options.now }
     ensures served { IfOk result (λ served. IsSession options.now (⟦<IoLine<S> as Line>⟧.seen served.line) served.end) }
+    ensures over { IfOk result (λ served. ⟦<IoLine<S> as Line>⟧.lies_over (record { left = S.remaining stream; held = S.contents stream })
+        served.line) }
     ensures fault { IfErr result IsMemoryRefused }
 {
     if !options.still {
@@ -64,7 +69,7 @@ fn serve_chosen<R: Wait, S: ReadNow + ExpectMore + Drop, K: rt::Clock + Drop>(
 
 // Serves the client by this clock: the line lies over the stream, and what is promised of it is what
 // `run_one` promises.
-fn serve_by<R: Wait, S: ReadNow + ExpectMore + Drop, C: Clock + Drop>(
+fn serve_by<R: Wait, S: Duplex + Drop, C: Clock + Drop>(
     rt: &R,
     alloc: Global,
     options: &BqOptions,
@@ -73,6 +78,8 @@ fn serve_by<R: Wait, S: ReadNow + ExpectMore + Drop, C: Clock + Drop>(
 ) -> Result<Served<S>, Fault>
     requires { IsForBq options.now }
     ensures served { IfOk result (λ served. IsSession options.now (⟦<IoLine<S> as Line>⟧.seen served.line) served.end) }
+    ensures over { IfOk result (λ served. ⟦<IoLine<S> as Line>⟧.lies_over (record { left = S.remaining stream; held = S.contents stream })
+        served.line) }
     ensures fault { IfErr result (λ fault. fault ≡ Fault.NoMemory Need.Queue) }
 {
     match run_one(rt, alloc, config_of(options), IoLine::new(stream), clock) {
