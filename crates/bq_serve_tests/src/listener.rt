@@ -2,11 +2,11 @@
 ghost use Rattle.std.specs.Prelude.{◌≡◌, false, true};
 
 use bq_job::LineEnd;
-use bq_serve::line::{ReadBuffer, Socket};
+use bq_serve::line::{Duplex, ReadBuffer, Socket};
 use bq_serve::{Door, Listen, ListenDoor};
 use std::alloc::Global;
 use std::io;
-use std::io::{Eprint, ErrorKind, Read, Write};
+use std::io::{Eprint, ErrorKind};
 use std::rt::Clock;
 use std::sync::Wait;
 use std::sync::atomic::{AtomicU64, Ordering};
@@ -16,13 +16,11 @@ use std::test::Fail;
 #[derive(Drop)]
 struct Silent;
 
-impl Read for Silent {
+impl Duplex for Silent {
     fn read(&mut self, _buf: &mut [u8]) -> io::Result<usize> {
         Ok(0)
     }
-}
 
-impl Write for Silent {
     fn write(&mut self, buf: &[u8]) -> io::Result<usize> {
         Ok(buf.len())
     }

@@ -1,10 +1,10 @@
 //! A client that waits for others.
 
 use super::awaited::Meeting;
-use bq_serve::line::{ExpectMore, ReadNow};
+use bq_serve::line::Duplex;
 use std::alloc::Global;
 use std::io;
-use std::io::{ErrorKind, Read, Write};
+use std::io::ErrorKind;
 
 /// How many clients there are.
 pub const GUESTS: u16 = 4;
@@ -47,7 +47,7 @@ impl<'m> Guest<'m> {
     }
 }
 
-impl<'m> Read for Guest<'m> {
+impl<'m> Duplex for Guest<'m> {
     fn read(&mut self, buf: &mut [u8]) -> io::Result<usize> {
         if !self.begins() {
             return Err(io::Error::from(ErrorKind::BrokenPipe));
@@ -57,11 +57,7 @@ impl<'m> Read for Guest<'m> {
         self.sends = &self.sends[count..];
         Ok(count)
     }
-}
 
-impl<'m> ReadNow for Guest<'m> {}
-
-impl<'m> Write for Guest<'m> {
     fn write(&mut self, buf: &[u8]) -> io::Result<usize> {
         if self.written.extend_from_slice(buf).is_err() {
             return Err(io::Error::from(ErrorKind::OutOfMemory));
@@ -76,5 +72,3 @@ impl<'m> Write for Guest<'m> {
         Ok(())
     }
 }
-
-impl<'m> ExpectMore for Guest<'m> {}
