@@ -56,6 +56,7 @@ pub(crate) fn leave<G: Ord + Drop>(order: &mut Shelf<Place<G>, ()>, place: Optio
 }
 
 /// Takes a place out, if there is one, and puts another one in, if there is one.
+#[tactic(auto, using(crate::proofs::Counting::digits_grow, crate::proofs::Orders::fewer_places))]
 pub(crate) fn shift<G: Ord + Drop>(
     order: &mut Shelf<Place<G>, ()>,
     from: Option<Place<G>>,
