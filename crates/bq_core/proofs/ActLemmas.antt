@@ -190,6 +190,10 @@ pub some_there : (o : Option Job) → is_some o ≡ true → (j : Job) × (o ≡
 some_there None h = absurd cc
 some_there (Some j) h = (j, refl)
 
+pub none_there : (o : Option Job) → false ≡ is_some o → o ≡ None
+none_there None h = refl
+none_there (Some j) h = absurd cc
+
 -- what changes nothing by itself
 pub shown_same : (m : Machine) (o : Option Job) → (showing m o).machine ≡ m
 shown_same m None = refl

@@ -122,6 +122,11 @@ crowd_there name crowds seats es has was = ap (crowd_at name es) was.each ∙ go
     go true e = named_crowd name (crowd_of seats) es e
     go false e = crowd_missing name seats es e ∙ sym (nobody_there name es e seats has was.seated)
 
+-- Whether a tube has jobs is told by the count of them.
+pub jobs_there : (name : List ℕ) (tallies : List Tally) (jobs : List Job) (seats : List SeatRecord) (es : List TubeRecord) → AreEntries jobs seats es
+    → tallies ≡ tallies_of jobs es → has_jobs (tally_at name es tallies) ≡ list_any (λ j. is_same_name name j.tube) jobs
+jobs_there name tallies jobs seats es entries counted = ap has_jobs (ap (tally_at name es) counted ∙ tally_there name jobs es entries.of_jobs) ∙ has_jobs_in name jobs
+
 -- Whether a tube exists is told by its counts.
 pub exists_by_counts : (jobs : List Job) (seats : List SeatRecord) (name : List ℕ) (some seated : Bool) → some ≡ list_any (λ j. is_same_name name j.tube) jobs → seated ≡ list_any (is_seated_at name) seats
     → is_tube_by some seated name ≡ is_tube_of jobs seats name
@@ -132,7 +137,7 @@ pub tube_there : (name : List ℕ) (tallies : List Tally) (crowds : List Crowd) 
     → is_tube_by (has_jobs (tally_at name es tallies)) (has_seats (crowd_at name es crowds)) name ≡ is_tube_of jobs seats name
 tube_there name tallies crowds jobs seats es entries counted was =
     exists_by_counts jobs seats name _ _
-    (ap has_jobs (ap (tally_at name es) counted ∙ tally_there name jobs es entries.of_jobs) ∙ has_jobs_in name jobs)
+    (jobs_there name tallies jobs seats es entries counted)
     (ap has_seats (crowd_there name crowds seats es entries.of_seats was) ∙ has_seats_of seats name)
 
 -- at the start nobody is there

@@ -13,7 +13,7 @@ use Rattle.bq_job.specs.machine.Timers.{is_due, is_expired}
 use Rattle.bq_job.specs.reading.TubeName.{is_same_name}
 use Rattle.bq_job.specs.machine.Tubes.{is_seated_at, watches}
 use Rattle.bq_jobs.specs.declared.edit.Moved.{Moved}
-use Rattle.bq_jobs.specs.Changed.{KeepsId, KeepsTube, moved_by, with_changed}
+use Rattle.bq_jobs.specs.Changed.{IgnoresTube, KeepsId, KeepsTube, moved_by, with_changed}
 use Rattle.bq_jobs.specs.Kept.{with_added, without}
 use Rattle.bq_jobs.proofs.Changes.{changed as changed_by_id, found_id}
 use Rattle.bq_core.specs.declared.job_list.JobChange.{JobChange}
@@ -58,6 +58,23 @@ tube_kept (Release pri delay moment) j = refl
 tube_kept (Bury number pri) j = refl
 tube_kept (Touch seat deadline) j = refl
 tube_kept Kick j = refl
+
+-- and none depends on the tube
+pub tube_ignored : (change : JobChange) → IgnoresTube (changed change)
+tube_ignored (FireTimers moment) j tube =
+    elim (cases_Bool (is_due moment j.state)) [
+      | inl due ↦ rw due refl
+      | inr later ↦ elim (cases_Bool (is_expired moment j.state)) [
+        | inl over ↦ rw (later, over) refl
+        | inr kept ↦ rw (later, kept) refl
+      ]
+    ]
+tube_ignored (HandOut seat moment) j tube = refl
+tube_ignored (GiveBack state) j tube = refl
+tube_ignored (Release pri delay moment) j tube = refl
+tube_ignored (Bury number pri) j tube = refl
+tube_ignored (Touch seat deadline) j tube = refl
+tube_ignored Kick j tube = refl
 
 -- one job alone is changed
 module _ (id : ℕ) (f : Job → Job) where

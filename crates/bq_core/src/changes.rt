@@ -7,6 +7,7 @@ ghost use Rattle.bq_job.specs.machine.Timers.{at_moment};
 ghost use Rattle.bq_job.specs.machine.TubeOrder.{tubes};
 ghost use Rattle.bq_job.specs.machine.Tubes.{forgetting, watches, with_tube};
 ghost use Rattle.bq_jobs.specs.Kept.{ComparesAtMost, with_added, without};
+ghost use Rattle.bq_jobs.specs.Known.{is_known};
 ghost use Rattle.bq_core.specs.Asking.{Asks};
 ghost use Rattle.bq_core.specs.Crowds.{may_wait};
 ghost use Rattle.bq_core.specs.JobChanges.{changed};
@@ -39,15 +40,17 @@ use bq_jobs::{Jobs, Moved};
 use bq_steps::Config;
 use std::alloc::Global;
 
-/// Makes room for a job, where there is none.
-pub(crate) fn make_room(state: &mut State, alloc: Global) -> Result<(), NoMemory>
+/// Makes room for a job of this tube, where there is none.
+pub(crate) fn make_room(state: &mut State, alloc: Global, tube: &TubeName) -> Result<(), NoMemory>
     ensures room { IfOk result (λ _. 0 < state.new.jobs.room) }
+    ensures known { IfOk result (λ _. is_known tube.now state.new.jobs ≡ true) }
     ensures after { machine_of state.new ≡ machine_of state.old }
     ensures seats { state.new.seats ≡ state.old.seats }
     ensures tubes { state.new.tubes ≡ state.old.tubes }
     ensures asks { Asks 0 state.old.jobs state.new.jobs }
 {
-    state.jobs.reserve_one(alloc)
+    state.jobs.reserve_one(alloc)?;
+    state.jobs.know(alloc, tube)
 }
 
 /// Puts a job in, where there is room for it. Its id is one that was given, and its tube has an entry.
@@ -55,6 +58,7 @@ pub(crate) fn add(state: &mut State, job: Job)
     requires room { 0 < state.old.jobs.room }
     requires given { (1 ≤ job.id) × (job.id < state.old.next_id) }
     requires free { job_with job.id (machine_of state.old).jobs ≡ None }
+    requires known { is_known job.tube state.old.jobs ≡ true }
     requires entry { has_entry job.tube state.old.tubes.entries ≡ true }
     ensures after { machine_of state.new ≡ record (machine_of state.old) { jobs = with_added job (machine_of state.old).jobs } }
     ensures asks { ComparesAtMost 4 state.old.jobs state.new.jobs }
@@ -83,6 +87,16 @@ pub(crate) fn take(state: &mut State, id: JobId) -> Option<Job>
     state.known.remove_job(&job);
     state.tubes.remove_job(&job);
     Some(job)
+}
+
+/// The jobs know a tube no longer where none is left in it.
+pub(crate) fn forget_last(state: &mut State, tube: &TubeName)
+    ensures jobs { state.new.jobs ≡ record state.old.jobs { tubes = state.new.jobs.tubes } }
+    ensures after { machine_of state.new ≡ machine_of state.old }
+{
+    if !state.tubes.tally_of(tube).has_jobs() {
+        state.jobs.forget(tube);
+    }
 }
 
 // Whether the job is ready now, and somebody waits at its tube, by the counts that are kept.

@@ -225,14 +225,14 @@ fn pick(state: &mut State, id: JobId) -> Option<(Seat, Result<Body, NoMemory>)>
     ensures share { IfSome result (λ p. IfOk p.1 (IsBodyOf (next_job (machine_of state.old)))) }
     ensures kept { Looks 1 state.old state.new }
 {
-    let job = state.jobs.get(id)?;
+    let (tube, shared) = state.jobs.share(id)?;
     let seat = taker(
         &state.known.stir,
         state.seats.as_slice(),
         state.queue.as_slice(),
-        &job.tube,
+        &tube,
     )?;
-    Some((seat, job.body.share()))
+    Some((seat, shared))
 }
 
 // The client at the seat gets the job, with this share of its body.

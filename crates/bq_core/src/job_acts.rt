@@ -108,7 +108,7 @@ pub(crate) fn put(
         return Reply::LeftOut;
     };
     let job = new_job(state, client.used(), new, shared);
-    let Ok(()) = changes::make_room(state, alloc) else {
+    let Ok(()) = changes::make_room(state, alloc, &job.tube) else {
         return Reply::LeftOut;
     };
     let id = job.id;
@@ -180,6 +180,7 @@ pub(crate) fn delete(state: &mut State, seat: Seat, id: JobId, told: &mut Answer
         return;
     };
     changes::change_tube(state, &job.tube, TubeChange::CountDelete);
+    changes::forget_last(state, &job.tube);
     *told = Answer::Deleted;
 }
 

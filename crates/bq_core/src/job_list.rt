@@ -15,7 +15,7 @@ ghost use Rattle.bq_core.specs.JobChanges.{IsBodyOf, changed, is_passed_by, pass
 ghost use Rattle.bq_core.specs.JobKinds.{first_of_kind};
 
 use bq_job::{Body, Job, JobId, JobState, Moment, NoMemory, Pri, Seat, TubeName};
-use bq_jobs::{JobEdit, Jobs};
+use bq_jobs::{JobEdit, Jobs, Row};
 
 /// What happens to a job.
 #[derive(Clone, Copy)]
@@ -51,7 +51,7 @@ pub(crate) fn later(moment: Moment, seconds: u32) -> Moment
     moment.saturating_add(u64::from(seconds) * 1000)
 }
 
-fn fire_timers(job: &mut Job, moment: Moment)
+fn fire_timers(job: &mut Row, moment: Moment)
     ensures { job.new ≡ job_after_timers moment job.old }
 {
     match job.state {
@@ -70,7 +70,7 @@ fn fire_timers(job: &mut Job, moment: Moment)
     }
 }
 
-fn hand_out(job: &mut Job, seat: Seat, moment: Moment)
+fn hand_out(job: &mut Row, seat: Seat, moment: Moment)
     ensures { job.new ≡ reserved_by moment seat job.old }
 {
     job.state = JobState::Reserved(seat, later(moment, job.ttr));
@@ -78,7 +78,7 @@ fn hand_out(job: &mut Job, seat: Seat, moment: Moment)
 }
 
 /// Whether the client at the seat holds the job.
-pub(crate) fn is_held_by(job: &Job, seat: Seat) -> bool
+pub(crate) fn is_held_by(job: &Row, seat: Seat) -> bool
     ensures { result ≡ held_by seat job.now }
 {
     match job.state {
@@ -104,21 +104,21 @@ pub(crate) fn holds_some(jobs: &mut Jobs, seat: Seat) -> bool
 }
 
 /// Whether some client holds the job.
-pub(crate) fn is_reserved(job: &Job) -> bool
+pub(crate) fn is_reserved(job: &Row) -> bool
     ensures { result ≡ is_reserved job.now.state }
 {
     matches!(job.state, JobState::Reserved(_, _))
 }
 
 /// Whether nobody holds the job, or the client at the seat does.
-pub(crate) fn is_free_for(job: &Job, seat: Seat) -> bool
+pub(crate) fn is_free_for(job: &Row, seat: Seat) -> bool
     ensures { result ≡ (not (is_reserved job.now.state) || held_by seat job.now) }
 {
     !is_reserved(job) || is_held_by(job, seat)
 }
 
 /// Whether the job is buried or delayed.
-pub(crate) fn is_kickable(job: &Job) -> bool
+pub(crate) fn is_kickable(job: &Row) -> bool
     ensures { result ≡ (is_buried job.now.state || is_delayed job.now.state) }
 {
     matches!(job.state, JobState::Buried(_) | JobState::Delayed(_))
@@ -135,7 +135,7 @@ pub(crate) fn delayed_by(delay: u32, moment: Moment) -> JobState
     }
 }
 
-fn release(job: &mut Job, pri: Pri, delay: u32, moment: Moment)
+fn release(job: &mut Row, pri: Pri, delay: u32, moment: Moment)
     ensures { job.new ≡ released moment pri delay job.old }
 {
     job.pri = pri;
@@ -144,7 +144,7 @@ fn release(job: &mut Job, pri: Pri, delay: u32, moment: Moment)
     job.counts.releases = job.counts.releases.saturating_add(1);
 }
 
-fn bury(job: &mut Job, number: u64, pri: Pri)
+fn bury(job: &mut Row, number: u64, pri: Pri)
     ensures { job.new ≡ buried number pri job.old }
 {
     job.pri = pri;
@@ -152,7 +152,7 @@ fn bury(job: &mut Job, number: u64, pri: Pri)
     job.counts.buries = job.counts.buries.saturating_add(1);
 }
 
-fn kick(job: &mut Job)
+fn kick(job: &mut Row)
     ensures { job.new ≡ kicked job.old }
 {
     job.state = JobState::Ready;
@@ -160,7 +160,7 @@ fn kick(job: &mut Job)
 }
 
 /// Changes a job.
-pub(crate) fn change(job: &mut Job, change: &JobChange)
+pub(crate) fn change(job: &mut Row, change: &JobChange)
     ensures { job.new ≡ changed change.now job.old }
 {
     match *change {
@@ -177,7 +177,7 @@ pub(crate) fn change(job: &mut Job, change: &JobChange)
 impl JobEdit for JobChange {
     ghost edited = { changed };
 
-    fn edit(&self, job: &mut Job) {
+    fn edit(&self, job: &mut Row) {
         change(job, self);
     }
 }
@@ -208,7 +208,7 @@ pub(crate) enum JobTest {
     Kickable,
 }
 
-fn passes(job: &Job, test: JobTest) -> bool
+fn passes(job: &Row, test: JobTest) -> bool
     ensures { result ≡ passes test job.now }
 {
     match test {
@@ -254,9 +254,9 @@ pub(crate) fn share(jobs: &mut Jobs, id: JobId) -> Option<Result<Body, NoMemory>
     ensures same { jobs.new ≡ record jobs.old { comparisons = jobs.new.comparisons } }
     ensures comparisons { ComparesAtMost 1 jobs.old jobs.new }
 {
-    match jobs.get(id) {
+    match jobs.share(id) {
         None => None,
-        Some(job) => Some(job.body.share()),
+        Some((_, body)) => Some(body),
     }
 }
 

@@ -29,11 +29,12 @@ fn text_of_job(
     ensures none { is_some result ≡ is_some (job_with id jobs.old.jobs) }
     ensures text { IfSome result (λ told. IfOk told (TellsJob moment (job_with id jobs.old.jobs))) }
     ensures same { jobs.new ≡ record jobs.old { comparisons = jobs.new.comparisons } }
-    ensures comparisons { ComparesAtMost 1 jobs.old jobs.new }
+    ensures comparisons { ComparesAtMost 2 jobs.old jobs.new }
 {
+    let tube = jobs.tube_of(id)?;
     match jobs.get(id) {
         None => None,
-        Some(job) => Some(job_text(alloc, job, moment)),
+        Some(job) => Some(job_text(alloc, job, &tube, moment)),
     }
 }
 

@@ -13,7 +13,7 @@ use Rattle.bq_job.specs.beside.Lawful.{AreIdsWithin}
 use Rattle.bq_job.proofs.KeptLemmas.{ids_of_map}
 use Rattle.bq_jobs.specs.contracts.place.GroupOrd.TheImpl.Laws as group_laws
 use Rattle.bq_jobs.specs.contracts.place.TimerOrd.TheImpl.Laws as timer_laws
-use Rattle.bq_jobs.specs.declared.jobs.Jobs.TheInside.{Inside as Parts}
+use Rattle.bq_jobs.specs.declared.rows.Rows.TheInside.{Inside as Parts}
 use Rattle.bq_jobs.specs.Changed.{KeepsId, with_changed}
 use Rattle.bq_jobs.specs.Inside.{ById, IsOrderOf, IsShelved, jobs_of, with_id}
 use Rattle.bq_jobs.specs.Kept.{search_bound, with_added, without}

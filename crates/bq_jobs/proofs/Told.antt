@@ -4,27 +4,27 @@ use Rattle.std.specs.Prelude.{◌==◌, option_map}
 use Rattle.std.proofs.lemmas.Bool.{cases_Bool}
 use Rattle.bq_job.specs.declared.job.Job.{Job}
 use Rattle.bq_job.specs.machine.Changes.{job_with}
-use Rattle.bq_jobs.specs.declared.edit.Moved.{Moved}
-use Rattle.bq_jobs.specs.declared.jobs.Jobs.TheInside.{Inside as Parts}
-use Rattle.bq_jobs.specs.Changed.{KeepsId, KeepsTube, entry_at, moved_by, with_changed}
+use Rattle.bq_jobs.specs.declared.edit.MovedRow.{MovedRow}
+use Rattle.bq_jobs.specs.declared.rows.Rows.TheInside.{Inside as Parts}
+use Rattle.bq_jobs.specs.Changed.{KeepsId, KeepsTube, entry_at, row_moved_by, with_changed}
 use Rattle.bq_jobs.specs.Inside.{jobs_of}
 use Rattle.bq_jobs.specs.Places.{in_timers_at, in_groups_at, timer_place, group_place}
 use Rattle.bq_jobs.proofs.Changes.{found_id}
 use Rattle.bq_jobs.proofs.Shelved.{AreShelved, found_in}
 
 -- the job of which m is told
-pub record IsOf (f : Job → Job) (o : Option Job) (m : Moved) : Type 0 where
+pub record IsOf {M : Type 0} (tells : Job → M) (o : Option Job) (m : M) : Type 0 where
   pub job : Job
   pub there : o ≡ Some job
-  pub is : m ≡ moved_by f job
+  pub is : m ≡ tells job
 
-pub told_of : (f : Job → Job) (o : Option Job) (m : Moved) → option_map (moved_by f) o ≡ Some m → IsOf f o m
-told_of f None m e = absurd cc
-told_of f (Some j) m e = record { job = j; there = refl; is = cc }
+pub told_of : {M : Type 0} (tells : Job → M) (o : Option Job) (m : M) → option_map tells o ≡ Some m → IsOf tells o m
+told_of tells None m e = absurd cc
+told_of tells (Some j) m e = record { job = j; there = refl; is = cc }
 
-module _ (id : ℕ) (f : Job → Job) (keeps : KeepsId f) (stays : KeepsTube f) (s : Parts) (h : AreShelved s) (m : Moved) (told : option_map (moved_by f) (entry_at id s.by_id.entries) ≡ Some m) where
-  of : IsOf f (entry_at id s.by_id.entries) m
-  of = told_of f (entry_at id s.by_id.entries) m told
+module _ (id : ℕ) (f : Job → Job) (keeps : KeepsId f) (stays : KeepsTube f) (s : Parts) (h : AreShelved s) (m : MovedRow) (told : option_map (row_moved_by f) (entry_at id s.by_id.entries) ≡ Some m) where
+  of : IsOf (row_moved_by f) (entry_at id s.by_id.entries) m
+  of = told_of (row_moved_by f) (entry_at id s.by_id.entries) m told
 
   pub job_then : Job
   job_then = of.job
@@ -33,7 +33,7 @@ module _ (id : ℕ) (f : Job → Job) (keeps : KeepsId f) (stays : KeepsTube f) 
   unfolding job_then
   entry_then = of.there
 
-  pub told_is : m ≡ moved_by f job_then
+  pub told_is : m ≡ row_moved_by f job_then
   unfolding job_then
   told_is = of.is
 
@@ -47,24 +47,24 @@ module _ (id : ℕ) (f : Job → Job) (keeps : KeepsId f) (stays : KeepsTube f) 
   id_after = keeps job_then ∙ sym its_id
 
   pub left_group : in_groups_at m.from.state m.from.pri m.tube id ≡ group_place job_then
-  left_group = ap (λ (n : Moved). in_groups_at n.from.state n.from.pri n.tube id) told_is ∙ ap (in_groups_at job_then.state job_then.pri job_then.tube) its_id
+  left_group = ap (λ (n : MovedRow). in_groups_at n.from.state n.from.pri n.tube id) told_is ∙ ap (in_groups_at job_then.state job_then.pri job_then.tube) its_id
 
   pub entered_group : in_groups_at m.to.state m.to.pri m.tube id ≡ group_place (f job_then)
-  entered_group = ap (λ (n : Moved). in_groups_at n.to.state n.to.pri n.tube id) told_is ∙ ap (λ t. in_groups_at (f job_then).state (f job_then).pri t id) (sym (stays job_then)) ∙ ap (in_groups_at (f job_then).state (f job_then).pri (f job_then).tube) (sym id_after)
+  entered_group = ap (λ (n : MovedRow). in_groups_at n.to.state n.to.pri n.tube id) told_is ∙ ap (λ t. in_groups_at (f job_then).state (f job_then).pri t id) (sym (stays job_then)) ∙ ap (in_groups_at (f job_then).state (f job_then).pri (f job_then).tube) (sym id_after)
 
   pub left_timer : in_timers_at m.from.state id ≡ timer_place job_then
-  left_timer = ap (λ (n : Moved). in_timers_at n.from.state id) told_is ∙ ap (in_timers_at job_then.state) its_id
+  left_timer = ap (λ (n : MovedRow). in_timers_at n.from.state id) told_is ∙ ap (in_timers_at job_then.state) its_id
 
   pub entered_timer : in_timers_at m.to.state id ≡ timer_place (f job_then)
-  entered_timer = ap (λ (n : Moved). in_timers_at n.to.state id) told_is ∙ ap (in_timers_at (f job_then).state) (sym id_after)
+  entered_timer = ap (λ (n : MovedRow). in_timers_at n.to.state id) told_is ∙ ap (in_timers_at (f job_then).state) (sym id_after)
 
 -- where nothing is told, there is no job
-pub nothing_told_of : (f : Job → Job) (o : Option Job) → option_map (moved_by f) o ≡ None → o ≡ None
-nothing_told_of f None e = refl
-nothing_told_of f (Some j) e = absurd cc
+pub nothing_told_of : {M : Type 0} (tells : Job → M) (o : Option Job) → option_map tells o ≡ None → o ≡ None
+nothing_told_of tells None e = refl
+nothing_told_of tells (Some j) e = absurd cc
 
-pub nothing_told : (id : ℕ) (f : Job → Job) (es : List (ℕ × Job)) → option_map (moved_by f) (entry_at id es) ≡ None → entry_at id es ≡ None
-nothing_told id f es e = nothing_told_of f (entry_at id es) e
+pub nothing_told : (id : ℕ) (f : Job → Job) (es : List (ℕ × Job)) → option_map (row_moved_by f) (entry_at id es) ≡ None → entry_at id es ≡ None
+nothing_told id f es e = nothing_told_of (row_moved_by f) (entry_at id es) e
 
 none_changed_in : (id : ℕ) (f : Job → Job) (jobs : List Job) → job_with id jobs ≡ None → with_changed id f jobs ≡ jobs
 none_changed_in id f [] h = refl

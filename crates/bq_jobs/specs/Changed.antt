@@ -5,6 +5,7 @@ use Rattle.std.specs.Map.{lookup, set_value}
 use Rattle.std.specs.BTreeMap.{is_at}
 use Rattle.bq_job.specs.declared.job.Job.{Job}
 use Rattle.bq_jobs.specs.declared.edit.Moved.{Moved}
+use Rattle.bq_jobs.specs.declared.edit.MovedRow.{MovedRow}
 use Rattle.bq_jobs.specs.declared.edit.Standing.{Standing}
 
 abbrev pub standing : Job → Standing
@@ -18,11 +19,23 @@ with_changed id f jobs = map (λ k. if k.id == id then f k else k) jobs
 abbrev pub moved_by : (Job → Job) → Job → Moved
 moved_by f j = record { tube = j.tube; from = standing j; to = standing (f j) }
 
+-- the same, of a record inside
+abbrev pub row_moved_by : (Job → Job) → Job → MovedRow
+row_moved_by f j = record { tube = j.tube; from = standing j; to = standing (f j) }
+
+-- what is told of a record, with the name of its tube
+abbrev pub moved_in : MovedRow → List ℕ → Moved
+moved_in m tube = record { tube = tube; from = m.from; to = m.to }
+
 abbrev pub KeepsId : (Job → Job) → Type 0
 KeepsId f = (j : Job) → (f j).id ≡ j.id
 
 abbrev pub KeepsTube : (Job → Job) → Type 0
 KeepsTube f = (j : Job) → (f j).tube ≡ j.tube
+
+-- What f does to a job doesn't depend on its tube, and leaves it in it.
+abbrev pub IgnoresTube : (Job → Job) → Type 0
+IgnoresTube f = (j : Job) (tube : List ℕ) → f (record j { tube = tube }) ≡ record (f j) { tube = tube }
 
 -- the job of this id
 abbrev pub entry_at : ℕ → List (ℕ × Job) → Option Job

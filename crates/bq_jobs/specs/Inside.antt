@@ -1,5 +1,5 @@
 -- How the jobs are kept: by id with all that is known of them, and by id alone in two more orders.
-use Rattle.std.specs.Prelude.{◌≡◌, ℕ, Bool, false, ◌+◌, ◌^◌, ◌≤◌, min, List, Option, Some, None, map, length, is_some, count_by}
+use Rattle.std.specs.Prelude.{◌≡◌, ℕ, Bool, false, ◌+◌, ◌^◌, ◌≤◌, min, List, [], Option, Some, None, map, length, is_some, count_by}
 use Rattle.std.specs.declared.cmp.Ordering.{Ordering}
 use Rattle.std.specs.Ordering.{is_eq}
 use Rattle.bq_index.specs.Shelf.{Seen}
@@ -31,6 +31,7 @@ kept_in by_id groups timers = record {
   jobs = jobs_of by_id.entries;
   room = by_id.spare;
   comparisons = min (by_id.comparisons + groups.comparisons + timers.comparisons) greatest;
+  tubes = [];
 }
 
 -- whether the job has this place

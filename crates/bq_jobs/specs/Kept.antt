@@ -4,11 +4,13 @@ use Rattle.bq_index.specs.Digits.{binary_digits}
 use Rattle.bq_job.specs.declared.job.Job.{Job}
 use Rattle.bq_job.specs.machine.JobCommands.{put_in_order}
 
--- the jobs in the order of their ids, how many more can be added without memory, and the comparisons of keys so far
+-- the jobs in the order of their ids, how many more can be added without memory, the comparisons of keys so far,
+-- and the tubes that are known, each with its number
 pub record Kept : Type 0 where
   pub jobs : List Job
   pub room : ℕ
   pub comparisons : ℕ
+  pub tubes : List (List ℕ × ℕ)
 
 -- the order of the list of jobs
 abbrev pub is_id_before : Job → Job → Bool

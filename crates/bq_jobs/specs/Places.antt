@@ -15,7 +15,7 @@ abbrev pub placed : {G : Type 0} → G → ℕ → ℕ → Option (Place G)
 placed group at id = Some (record { at = at; id = id; group = group })
 
 abbrev pub list_of : List ℕ → JobList → Group
-list_of tube list = groups.Listed (record { list = list; tube = record { 0 = tube } })
+list_of tube list = groups.Listed (record { list = list; tube = tube })
 
 -- among the ready, delayed or buried jobs of its tube, or the leases of its holder
 abbrev pub in_groups_at : JobState → ℕ → List ℕ → ℕ → Option (Place Group)

@@ -1,22 +1,29 @@
 //! The jobs of a work queue.
 ghost use Rattle.std.specs.Option.{option_map};
-ghost use Rattle.std.specs.Prelude.{◌≡◌, ◌+◌, ◌<◌, ◌^◌, if◌then◌else◌, [], length, max, is_some, IfSome, None, OnOk, OnErr};
+ghost use Rattle.std.specs.Prelude.{◌≡◌, ◌+◌, ◌<◌, ◌^◌, if◌then◌else◌, [], ℕ, List, true, false, length, max, is_some, IfOk, IfSome, None, OnOk, OnErr};
 ghost use Rattle.bq_job.specs.machine.Changes.{first_of, is_held_by, job_with};
 ghost use Rattle.bq_job.specs.machine.Dispatch.{is_job_before};
 ghost use Rattle.bq_job.specs.machine.JobCommands.{is_buried_in, is_delayed_in};
 ghost use Rattle.bq_job.specs.machine.JobStates.{due_of, is_buried_before, is_delayed, is_due_before, is_reserved};
 ghost use Rattle.bq_job.specs.beside.Lawful.{AreIdsWithin};
 ghost use Rattle.bq_job.specs.machine.TubeCommands.{is_ready_in};
-ghost use Rattle.bq_index.specs.Shelf.{ComparesFew};
-ghost use Rattle.bq_jobs.specs.Changed.{KeepsId, KeepsTube, entry_at, moved_by, with_changed, with_edited};
+ghost use Rattle.bq_job.specs.reading.TubeName.{is_same_name};
+ghost use Rattle.std.specs.List.{list_any};
+ghost use Rattle.bq_jobs.specs.Changed.{IgnoresTube, KeepsId, moved_by, moved_in, with_changed};
+ghost use Rattle.bq_jobs.specs.Known.{IsPaired, is_known, name_of};
+ghost use Rattle.bq_jobs.specs.Names.{number_in};
+ghost use Rattle.bq_jobs.specs.Seen.{IsBodyOf, IsTubeOf, but_for_tube, in_tube};
 ghost use Rattle.bq_jobs.specs.Kept.{ComparesAtMost, ranked, with_added, without};
 ghost use Rattle.bq_jobs.specs.Leases.{deadline_of, is_lease_before};
 
-use super::edit::{JobEdit, Moved, Standing};
-use super::order;
-use super::place::{self, Group, JobList, Place, Timer};
-use bq_index::{BoxSource, Shelf};
-use bq_job::{Job, JobId, Moment, NoMemory, Seat, TubeName};
+use super::edit::{JobEdit, Moved, MovedRow};
+use super::known::KnownTubes;
+use super::number::TubeNumber;
+use super::row;
+use super::row::Row;
+use super::rows::Rows;
+use bq_index::BoxSource;
+use bq_job::{Body, Job, JobId, Moment, NoMemory, Seat, TubeName};
 use std::alloc::Global;
 use std::marker::Model;
 
@@ -25,20 +32,19 @@ use std::marker::Model;
 /// gives its room back: so a job that is taken out, changed and added again takes no memory.
 #[derive(Drop)]
 pub struct Jobs {
-    by_id: Shelf<JobId, Job>,
-    groups: Shelf<Place<Group>, ()>,
-    timers: Shelf<Place<Timer>, ()>,
+    rows: Rows,
+    known: KnownTubes,
 }
 
 impl Model for Jobs {
-    ghost use Rattle.bq_jobs.specs.Inside.{kept_in, IsShelved};
     ghost use Rattle.bq_jobs.specs.Kept.{Kept};
+    ghost use Rattle.bq_jobs.specs.Known.{AreNumbered, kept_named};
 
     ghost Value = { Kept };
 
-    ghost view = { λ s. kept_in s.by_id s.groups s.timers };
+    ghost view = { λ s. kept_named s.rows s.known };
 
-    ghost invariant = { λ s. IsShelved ⟦<Group as Ord>⟧.cmp ⟦<Timer as Ord>⟧.cmp s.by_id s.groups s.timers };
+    ghost invariant = { λ s. AreNumbered s.known s.rows.jobs };
 }
 
 impl Jobs {
@@ -47,12 +53,11 @@ impl Jobs {
 
     /// No jobs, and no room for one.
     pub fn new() -> Jobs
-        ensures { result ≡ record { jobs = []; room = 0; comparisons = 0 } }
+        ensures { result ≡ record { jobs = []; room = 0; comparisons = 0; tubes = [] } }
     {
         Jobs {
-            by_id: Shelf::new(),
-            groups: Shelf::new(),
-            timers: Shelf::new(),
+            rows: Rows::new(),
+            known: KnownTubes::new(),
         }
     }
 
@@ -61,24 +66,21 @@ impl Jobs {
         ensures len { result ≡ length self.now.jobs }
         ensures ordered { AreIdsWithin 0 self.now.jobs (2 ^ 64) }
     {
-        self.by_id.len()
+        self.rows.len()
     }
 
     /// How many more jobs can be added.
     pub fn room(&self) -> usize
         ensures { result ≡ self.now.room }
     {
-        self.by_id.spare()
+        self.rows.room()
     }
 
     /// The comparisons of keys so far. The count stops at 2^64 - 1.
     pub fn comparisons(&self) -> u64
         ensures { result ≡ self.now.comparisons }
     {
-        self.by_id
-            .comparisons()
-            .saturating_add(self.groups.comparisons())
-            .saturating_add(self.timers.comparisons())
+        self.rows.comparisons()
     }
 
     /// Makes room for a job, where there is none. What was taken before a refusal is kept for the next
@@ -99,79 +101,82 @@ impl Jobs {
         ensures refused { OnErr result (self.old.room ≡ 0) }
         ensures same { OnErr result (self.new ≡ self.old) }
     {
-        if self.by_id.spare() > 0 {
-            return Ok(());
-        }
-        let Some(places) = self.by_id.len().checked_add(1) else {
-            return Err(NoMemory);
-        };
-        order::make_room(&mut self.groups, source, places)?;
-        order::make_room(&mut self.timers, source, places)?;
-        match self.by_id.reserve_from(source, 1) {
-            Ok(()) => Ok(()),
-            Err(_) => Err(NoMemory),
-        }
+        self.rows.reserve_one_from(source)
     }
 
     /// Puts a job in. It uses the room of one.
     pub fn add(&mut self, job: Job)
         requires room { 0 < self.old.room }
         requires absent { job_with job.id self.old.jobs ≡ None }
+        requires known { is_known job.tube self.old ≡ true }
         ensures jobs { self.new.jobs ≡ with_added job self.old.jobs }
+        ensures tubes { self.new.tubes ≡ self.old.tubes }
         ensures room { self.new.room + 1 ≡ self.old.room }
         ensures comparisons { ComparesAtMost 4 self.old self.new }
     {
-        order::enter(&mut self.groups, place::group_place(&job));
-        order::enter(&mut self.timers, place::timer_place(&job));
-        self.by_id.insert(id_of(&job), job);
+        if let Some(number) = self.known.number_of(&job.tube) {
+            self.rows.add(row::row_of(job, number));
+        }
     }
 
     /// Takes the job of this id out, if there is one. Its room comes back.
     pub fn remove(&mut self, id: JobId) -> Option<Job>
         ensures job { result ≡ job_with id self.old.jobs }
         ensures jobs { self.new.jobs ≡ without id self.old.jobs }
+        ensures tubes { self.new.tubes ≡ self.old.tubes }
         ensures room { self.new.room ≡ self.old.room + (if is_some result then 1 else 0) }
         ensures id { IfSome result (λ job. job.id ≡ id) }
         ensures gone { job_with id self.new.jobs ≡ None }
         ensures comparisons { ComparesAtMost 4 self.old self.new }
     {
-        let job = self.by_id.remove(&id)?;
-        order::leave(&mut self.groups, place::group_place(&job));
-        order::leave(&mut self.timers, place::timer_place(&job));
-        Some(job)
+        let row = self.rows.remove(id)?;
+        job_of(&self.known, row)
     }
 
     /// Changes the job of this id, if there is one. Its record stays where it lies, and it goes from its
     /// places in the orders to those where it stands then. No memory is taken.
     pub fn change<E: JobEdit>(&mut self, id: JobId, edit: &E) -> Option<Moved>
         requires id { KeepsId (E.edited edit.now) }
-        requires tube { KeepsTube (E.edited edit.now) }
+        requires tube { IgnoresTube (E.edited edit.now) }
         ensures moved { result ≡ option_map (moved_by (E.edited edit.now)) (job_with id self.old.jobs) }
         ensures jobs { self.new.jobs ≡ with_changed id (E.edited edit.now) self.old.jobs }
+        ensures tubes { self.new.tubes ≡ self.old.tubes }
         ensures room { self.new.room ≡ self.old.room }
         ensures comparisons { ComparesAtMost 7 self.old self.new }
     {
-        let moved = edit_at(&mut self.by_id, id, edit)?;
-        let (from, to) = (moved.from, moved.to);
-        let (left, entered) = (
-            place::place_in_groups(id, &moved.tube, from),
-            place::place_in_groups(id, &moved.tube, to),
-        );
-        order::shift(&mut self.groups, left, entered);
-        order::shift(
-            &mut self.timers,
-            place::place_in_timers(id, from),
-            place::place_in_timers(id, to),
-        );
-        Some(moved)
+        let moved = self.rows.change(id, edit)?;
+        told_of(&self.known, moved)
     }
 
-    /// The job of this id.
-    pub fn get(&mut self, id: JobId) -> Option<&Job>
+    /// The record of the job of this id, which tells all of it but the name of its tube.
+    pub fn get(&mut self, id: JobId) -> Option<&Row>
         ensures* after { sem 𝓛 (LeavesJobs self.entry) }
-        ensures job { option_map (λ j. j.now) result ≡ job_with id self.old.jobs }
+        ensures job { option_map (λ row. but_for_tube row.now) result ≡ option_map but_for_tube (job_with id self.old.jobs) }
     {
-        self.by_id.get(&id)
+        self.rows.get(id)
+    }
+
+    /// The tube of the job of this id.
+    pub fn tube_of(&mut self, id: JobId) -> Option<TubeName>
+        ensures tube { result ≡ option_map (λ j. j.tube) (job_with id self.old.jobs) }
+        ensures same { self.new ≡ record self.old { comparisons = self.new.comparisons } }
+        ensures comparisons { ComparesAtMost 1 self.old self.new }
+    {
+        let number = self.rows.number_of(id)?;
+        self.known.name_of(number).copied()
+    }
+
+    /// The tube of the job of this id, and one more owner of its body, unless that is refused.
+    pub fn share(&mut self, id: JobId) -> Option<(TubeName, Result<Body, NoMemory>)>
+        ensures none { is_some result ≡ is_some (job_with id self.old.jobs) }
+        ensures tube { IfSome result (λ s. IsTubeOf (job_with id self.old.jobs) s.0) }
+        ensures body { IfSome result (λ s. IfOk s.1 (IsBodyOf (job_with id self.old.jobs))) }
+        ensures same { self.new ≡ record self.old { comparisons = self.new.comparisons } }
+        ensures comparisons { ComparesAtMost 1 self.old self.new }
+    {
+        let (number, body) = self.rows.share(id)?;
+        let tube = self.known.name_of(number)?;
+        Some((*tube, body))
     }
 
     /// The id of the most urgent ready job of a tube: by priority, then by id.
@@ -180,7 +185,8 @@ impl Jobs {
         ensures same { self.new ≡ record self.old { comparisons = self.new.comparisons } }
         ensures comparisons { ComparesAtMost 1 self.old self.new }
     {
-        order::first_in_group(&mut self.groups, Group::list(JobList::Ready, *tube))
+        let number = self.known.number_of(tube)?;
+        self.rows.first_ready(&TubeNumber::of(number))
     }
 
     /// The id of the delayed job of a tube that is due first: by due moment, then by id.
@@ -189,7 +195,8 @@ impl Jobs {
         ensures same { self.new ≡ record self.old { comparisons = self.new.comparisons } }
         ensures comparisons { ComparesAtMost 1 self.old self.new }
     {
-        order::first_in_group(&mut self.groups, Group::list(JobList::Delayed, *tube))
+        let number = self.known.number_of(tube)?;
+        self.rows.first_delayed(&TubeNumber::of(number))
     }
 
     /// The id of the job of a tube that was buried first: by burial number, then by id.
@@ -198,7 +205,8 @@ impl Jobs {
         ensures same { self.new ≡ record self.old { comparisons = self.new.comparisons } }
         ensures comparisons { ComparesAtMost 1 self.old self.new }
     {
-        order::first_in_group(&mut self.groups, Group::list(JobList::Buried, *tube))
+        let number = self.known.number_of(tube)?;
+        self.rows.first_buried(&TubeNumber::of(number))
     }
 
     /// The id of the delayed job that is due first, in whatever tube: by due moment, then by id.
@@ -207,7 +215,7 @@ impl Jobs {
         ensures same { self.new ≡ record self.old { comparisons = self.new.comparisons } }
         ensures comparisons { ComparesAtMost 1 self.old self.new }
     {
-        order::first_in_group(&mut self.timers, Timer::Due)
+        self.rows.first_due()
     }
 
     /// The id of the reserved job whose time to run ends first, whoever holds it: by deadline, then by id.
@@ -216,7 +224,7 @@ impl Jobs {
         ensures same { self.new ≡ record self.old { comparisons = self.new.comparisons } }
         ensures comparisons { ComparesAtMost 1 self.old self.new }
     {
-        order::first_in_group(&mut self.timers, Timer::Lease)
+        self.rows.first_lease()
     }
 
     /// The id of the job of the client at a seat whose time to run ends first: by deadline, then by id.
@@ -225,7 +233,7 @@ impl Jobs {
         ensures same { self.new ≡ record self.old { comparisons = self.new.comparisons } }
         ensures comparisons { ComparesAtMost 1 self.old self.new }
     {
-        order::first_in_group(&mut self.groups, Group::Held(seat))
+        self.rows.first_held(seat)
     }
 
     /// The priority and the id of the most urgent ready job of a tube: by priority, then by id.
@@ -234,8 +242,8 @@ impl Jobs {
         ensures same { self.new ≡ record self.old { comparisons = self.new.comparisons } }
         ensures comparisons { ComparesAtMost 1 self.old self.new }
     {
-        let ready = JobList::Ready;
-        order::first_rank(&mut self.groups, Group::list(ready, *tube))
+        let number = self.known.number_of(tube)?;
+        self.rows.most_urgent(&TubeNumber::of(number))
     }
 
     /// The due moment and the id of the delayed job that is due first, in whatever tube.
@@ -244,7 +252,7 @@ impl Jobs {
         ensures same { self.new ≡ record self.old { comparisons = self.new.comparisons } }
         ensures comparisons { ComparesAtMost 1 self.old self.new }
     {
-        order::first_rank(&mut self.timers, Timer::Due)
+        self.rows.next_due()
     }
 
     /// The deadline and the id of the reserved job whose time to run ends first, whoever holds it.
@@ -254,7 +262,7 @@ impl Jobs {
         ensures same { self.new ≡ record self.old { comparisons = self.new.comparisons } }
         ensures comparisons { ComparesAtMost 1 self.old self.new }
     {
-        order::first_rank(&mut self.timers, Timer::Lease)
+        self.rows.next_deadline()
     }
 
     /// The deadline and the id of the job of the client at a seat whose time to run ends first.
@@ -263,42 +271,53 @@ impl Jobs {
         ensures same { self.new ≡ record self.old { comparisons = self.new.comparisons } }
         ensures comparisons { ComparesAtMost 1 self.old self.new }
     {
-        order::first_rank(&mut self.groups, Group::Held(seat))
+        self.rows.next_deadline_of(seat)
+    }
+
+    /// Sees to it that jobs can be put into a tube. The growth that this needs comes before any change.
+    ///
+    /// # Errors
+    /// `NoMemory` where it is refused.
+    pub fn know(&mut self, alloc: Global, tube: &TubeName) -> Result<(), NoMemory>
+        ensures known { IfOk result (λ _. is_known tube.now self.new ≡ true) }
+        ensures others { (other : List ℕ) → is_known other self.old ≡ true → is_known other self.new ≡ true }
+        ensures same { self.new ≡ record self.old { tubes = self.new.tubes } }
+    {
+        self.known.add(alloc, tube)
+    }
+
+    /// No job is put into the tube any more, unless it is known anew. It has none.
+    pub fn forget(&mut self, tube: &TubeName)
+        requires none { list_any (λ j. is_same_name tube.now j.tube) self.old.jobs ≡ false }
+        ensures others { (other : List ℕ) → is_same_name tube.now other ≡ false → is_known other self.new ≡ is_known other self.old }
+        ensures same { self.new ≡ record self.old { tubes = self.new.tubes } }
+    {
+        self.known.remove(tube);
     }
 }
 
-// The id of a job.
-fn id_of(job: &Job) -> JobId
-    ensures { result ≡ job.now.id }
+// The job of a record, in the tube of its number.
+fn job_of(known: &KnownTubes, row: Row) -> Option<Job>
+    ensures job { result ≡ option_map (in_tube row) (name_of (number_in row.tube) known.now) }
+    ensures paired { IsPaired known.now }
 {
-    job.id
-}
-
-// Changes a job where it lies.
-fn apply<E: JobEdit>(edit: &E, job: &mut Job) -> Moved
-    requires { KeepsTube (E.edited edit.now) }
-    ensures job { job.new ≡ E.edited edit.now job.old }
-    ensures moved { result ≡ moved_by (E.edited edit.now) job.old }
-{
-    let from = Standing::of(job);
-    edit.edit(job);
-    Moved {
-        tube: job.tube,
-        from,
-        to: Standing::of(job),
+    match known.name_of(row.tube.get()) {
+        None => None,
+        Some(tube) => Some(row::job_of(row, *tube)),
     }
 }
 
-// Changes the job of this id where it lies, if there is one.
-fn edit_at<E: JobEdit>(by_id: &mut Shelf<JobId, Job>, id: JobId, edit: &E) -> Option<Moved>
-    requires { KeepsTube (E.edited edit.now) }
-    ensures moved { result ≡ option_map (moved_by (E.edited edit.now)) (entry_at id by_id.old.entries) }
-    ensures entries { by_id.new.entries ≡ with_edited id (E.edited edit.now) (entry_at id by_id.old.entries) by_id.old.entries }
-    ensures spare { by_id.new.spare ≡ by_id.old.spare }
-    ensures comparisons { ComparesFew by_id.old by_id.new }
+// What is told of a changed record, with the name of its tube.
+fn told_of(known: &KnownTubes, moved: MovedRow) -> Option<Moved>
+    ensures told { result ≡ option_map (moved_in moved) (name_of (number_in moved.tube) known.now) }
+    ensures paired { IsPaired known.now }
 {
-    if let Some(job) = by_id.get_mut(&id) {
-        return Some(apply(edit, job));
+    match known.name_of(moved.tube.get()) {
+        None => None,
+        Some(tube) => Some(Moved {
+            tube: *tube,
+            from: moved.from,
+            to: moved.to,
+        }),
     }
-    None
 }

@@ -2,25 +2,32 @@
 //!
 //! A [`Jobs`] has three shelves: the jobs by their ids, and places of jobs by tube and state or by holder,
 //! and by moment. A job has a box in each, used or spare, and so it can go from any state to any other.
+//! Inside, a tube is a number: it is known by one before a job is put into it ([`Jobs::know`]), and once it has
+//! none it can be forgotten. A number is never given again.
 //! What a job with a body of 64 bytes costs of the heap:
 //!
 //! | piece | bytes |
 //! |---|---|
-//! | its box by id | 352 |
-//! | its place in its tube or at its holder | 272 |
+//! | its box by id | 160 |
+//! | its place in its tube or at its holder | 88 |
 //! | its place among delays and leases | 72 |
 //! | the vector of its body and the count of its owners | 48 at most |
 //! | the bytes of its body | 64 |
 //! | what a heap keeps beside each of these five pieces | 80 at most |
-//! | together | 888 at most |
+//! | together | 512 at most |
 #![tactic(auto)]
 
 pub use edit::{JobEdit, Moved, Standing};
 pub use jobs::Jobs;
+pub use number::TubeNumber;
+pub use row::Row;
 
 mod edit;
 mod jobs;
+mod known;
 pub mod laws;
-mod name;
+mod number;
 mod order;
 mod place;
+mod row;
+mod rows;

@@ -3,8 +3,9 @@ ghost use Rattle.std.specs.Prelude.{◌≡◌};
 ghost use Rattle.bq_jobs.specs.Places.{group_place, in_groups_at, in_timers_at, timer_place};
 
 use super::edit::Standing;
-use super::name::OrderedName;
-use bq_job::{Job, JobId, JobState, Seat, TubeName};
+use super::number::TubeNumber;
+use super::row::Row;
+use bq_job::{JobId, JobState, Seat};
 use std::cmp::Ordering;
 
 /// A place in an order: by group, then by a number, then by the id of the job. The numbers lie before the
@@ -83,7 +84,7 @@ pub enum JobList {
 #[derive(Clone, Copy, PartialEq, Eq, PartialOrd, Ord)]
 pub struct TubeList {
     pub list: JobList,
-    pub tube: OrderedName,
+    pub tube: TubeNumber,
 }
 
 /// Who has a job: the client at a seat, or a list of the job's tube. It is never in both, and so one order
@@ -105,13 +106,10 @@ impl Group {
     ghost use Rattle.bq_jobs.specs.Places.{list_of};
 
     /// The jobs of a tube in one state.
-    pub fn list(list: JobList, tube: TubeName) -> Group
+    pub fn list(list: JobList, tube: TubeNumber) -> Group
         ensures { result ≡ list_of tube list }
     {
-        Group::Listed(TubeList {
-            list,
-            tube: OrderedName(tube),
-        })
+        Group::Listed(TubeList { list, tube })
     }
 }
 
@@ -134,28 +132,28 @@ impl<G> Place<G> {
 }
 
 /// The place of a job among those of its tube's list or of its holder.
-pub(crate) fn group_place(job: &Job) -> Option<Place<Group>>
+pub(crate) fn group_place(job: &Row) -> Option<Place<Group>>
     ensures { result ≡ group_place job.now }
 {
-    place_in_groups(job.id, &job.tube, Standing::of(job))
+    place_in_groups(job.id, job.tube, Standing::of_row(job))
 }
 
 /// The place of a job among all delays and leases.
-pub(crate) fn timer_place(job: &Job) -> Option<Place<Timer>>
+pub(crate) fn timer_place(job: &Row) -> Option<Place<Timer>>
     ensures { result ≡ timer_place job.now }
 {
-    place_in_timers(job.id, Standing::of(job))
+    place_in_timers(job.id, Standing::of_row(job))
 }
 
 /// The place in its tube's list, or at its holder, of the job of this id that stands so. Each job has one.
-pub(crate) fn place_in_groups(id: JobId, tube: &TubeName, at: Standing) -> Option<Place<Group>>
-    ensures { result ≡ in_groups_at at.state at.pri tube.now id }
+pub(crate) fn place_in_groups(id: JobId, tube: TubeNumber, at: Standing) -> Option<Place<Group>>
+    ensures { result ≡ in_groups_at at.state at.pri tube id }
 {
     let (group, number) = match at.state {
-        JobState::Ready => (Group::list(JobList::Ready, *tube), u64::from(at.pri)),
-        JobState::Delayed(due) => (Group::list(JobList::Delayed, *tube), due),
+        JobState::Ready => (Group::list(JobList::Ready, tube), u64::from(at.pri)),
+        JobState::Delayed(due) => (Group::list(JobList::Delayed, tube), due),
         JobState::Reserved(seat, deadline) => (Group::Held(seat), deadline),
-        JobState::Buried(number) => (Group::list(JobList::Buried, *tube), number),
+        JobState::Buried(number) => (Group::list(JobList::Buried, tube), number),
     };
     Some(Place::of(group, number, id))
 }

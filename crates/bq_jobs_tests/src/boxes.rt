@@ -37,7 +37,7 @@ fn refuse_one(
 ) -> Result<(), Fail> {
     let mut jobs = Jobs::new();
     jobs.reserve_one(alloc)?;
-    assert!(rt; put(&mut jobs, job(alloc, 1, name, 0, JobState::Ready)?));
+    assert!(rt; put(alloc, &mut jobs, job(alloc, 1, name, 0, JobState::Ready)?));
     let mut source = Refusing {
         heap: alloc,
         asked: 0,
@@ -50,7 +50,7 @@ fn refuse_one(
     source.refused = 4;
     assert!(rt; jobs.reserve_one_from(&mut source).is_ok());
     assert_eq!(rt; (source.asked, jobs.room()), (left, 1));
-    assert!(rt; put(&mut jobs, job(alloc, 2, name, 0, JobState::Ready)?));
+    assert!(rt; put(alloc, &mut jobs, job(alloc, 2, name, 0, JobState::Ready)?));
     Ok(())
 }
 
@@ -86,6 +86,6 @@ fn bytes_of_a_job(rt: HostRuntime) -> Result<(), Fail> {
         sizes: [0; 3],
     };
     Jobs::new().reserve_one_from(&mut source)?;
-    assert_eq!(rt; source.sizes, [272, 72, 352]);
+    assert_eq!(rt; source.sizes, [88, 72, 160]);
     Ok(())
 }

@@ -11,3 +11,5 @@ mod many_jobs;
 mod putting;
 #[cfg(test)]
 mod states;
+#[cfg(test)]
+mod tubes;

@@ -13,7 +13,7 @@ fn fill(alloc: Global, jobs: &mut Jobs, name: TubeName) -> Result<bool, NoMemory
     for id in 0..JOBS {
         let pri = (JOBS - id) as u32;
         jobs.reserve_one(alloc)?;
-        if !put(jobs, job(alloc, id, name, pri, JobState::Ready)?) {
+        if !put(alloc, jobs, job(alloc, id, name, pri, JobState::Ready)?) {
             return Ok(false);
         }
     }

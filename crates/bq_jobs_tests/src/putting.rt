@@ -31,8 +31,8 @@ pub fn job(
 }
 
 /// Adds a job, where there is room and no job of its id.
-pub fn put(jobs: &mut Jobs, job: Job) -> bool {
-    if jobs.room() == 0 || jobs.get(job.id).is_some() {
+pub fn put(alloc: Global, jobs: &mut Jobs, job: Job) -> bool {
+    if jobs.room() == 0 || jobs.get(job.id).is_some() || jobs.know(alloc, &job.tube).is_err() {
         return false;
     }
     jobs.add(job);
@@ -40,12 +40,12 @@ pub fn put(jobs: &mut Jobs, job: Job) -> bool {
 }
 
 /// Changes the state of a job by taking it out and adding it again.
-pub fn change(jobs: &mut Jobs, id: JobId, state: JobState) -> bool {
+pub fn change(alloc: Global, jobs: &mut Jobs, id: JobId, state: JobState) -> bool {
     match jobs.remove(id) {
         None => false,
         Some(mut job) => {
             job.state = state;
-            put(jobs, job)
+            put(alloc, jobs, job)
         }
     }
 }

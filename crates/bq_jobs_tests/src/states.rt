@@ -42,10 +42,16 @@ fn all_states_in_one_room(rt: HostRuntime) -> Result<(), Fail> {
     jobs.reserve_one(rt.alloc())?;
     jobs.reserve_one(rt.alloc())?;
     assert_eq!(rt; jobs.room(), 1);
-    assert!(rt; put(&mut jobs, job(rt.alloc(), 1, name, 3, JobState::Ready)?));
+    assert!(rt;
+        put(
+            rt.alloc(),
+            &mut jobs,
+            job(rt.alloc(), 1, name, 3, JobState::Ready)?
+        )
+    );
     for (state, kinds) in STATES {
         let before = jobs.comparisons();
-        assert!(rt; change(&mut jobs, 1, *state));
+        assert!(rt; change(rt.alloc(), &mut jobs, 1, *state));
         assert!(rt; jobs.comparisons() > before);
         assert_eq!(rt; (jobs.len(), jobs.room()), (1, 0));
         assert!(rt; jobs.get(1).map(|job| job.state) == Some(*state));

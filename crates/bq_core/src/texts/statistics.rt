@@ -2,12 +2,14 @@ ghost use Rattle.std.specs.Prelude.{◌≡◌, IfOk};
 ghost use Rattle.bq_job.specs.machine.Machine.{Machine};
 ghost use Rattle.bq_job.specs.machine.Statistics.{bool_word, pause_seconds, pause_time_left, seconds_between, state_word, time_left};
 ghost use Rattle.bq_job.specs.machine.Statistics.{job_statistics, server_statistics, tube_statistics};
+ghost use Rattle.bq_jobs.specs.Seen.{in_tube};
 ghost use Rattle.bq_core.specs.Numbers.{AreOfServer, AreOfTube};
 
 use super::key_value::{number, statistics_text, word};
 use crate::tally::Tally;
 use crate::tube_entry::Pausing;
-use bq_job::{Job, JobState, Moment, NoMemory, Text, TubeName};
+use bq_job::{JobState, Moment, NoMemory, Text, TubeName};
+use bq_jobs::Row;
 use std::alloc::Global;
 
 /// What is told of a tube.
@@ -95,13 +97,18 @@ fn bool_word(value: bool) -> &'static [u8]
     if value { b"true" } else { b"false" }
 }
 
-/// The statistics of a job at this moment.
-pub(crate) fn job_text(alloc: Global, job: &Job, moment: Moment) -> Result<Text, NoMemory>
-    ensures { IfOk result (λ text. (m : Machine) → m.moment ≡ moment → text ≡ job_statistics m job.now) }
+/// The statistics of the job of a record in a tube, at this moment.
+pub(crate) fn job_text(
+    alloc: Global,
+    job: &Row,
+    tube: &TubeName,
+    moment: Moment,
+) -> Result<Text, NoMemory>
+    ensures { IfOk result (λ text. (m : Machine) → m.moment ≡ moment → text ≡ job_statistics m (in_tube job.now tube.now)) }
 {
     let lines = [
         number(b"id", job.id),
-        word(b"tube", job.tube.as_slice()),
+        word(b"tube", tube.as_slice()),
         word(b"state", state_word(job.state)),
         number(b"pri", u64::from(job.pri)),
         number(b"age", seconds_between(job.put_at, moment)),

@@ -3,17 +3,18 @@ use Rattle.bq_job.specs.machine.Changes.{is_ready_state, job_with}
 use Rattle.bq_job.proofs.KeptLemmas.{ids_of_map}
 use Rattle.std.proofs.lemmas.List.{length-map}
 use Rattle.bq_jobs.proofs.Told.{nothing_told_of, told_of}
+use Rattle.bq_jobs.specs.Changed.{moved_by}
 use Rattle.bq_core.specs.JobChanges.{changed}
 use Rattle.bq_core.specs.Warnings.{has_waiting_holder}
 use Rattle.bq_core.proofs.KnowledgeLemmas.{so_with_moved}
-use Rattle.bq_core.proofs.MovedLemmas.{entries_of_changed, one_id, one_tube, tube_kept, waiters_counted}
+use Rattle.bq_core.proofs.MovedLemmas.{entries_of_changed, one_id, one_tube, tube_ignored, tube_kept, waiters_counted}
 use Rattle.bq_core.proofs.StateLemmas.{id_kept, no_job_changed}
 use Rattle.bq_core.proofs.changes.change_job.Goals as goal
 
 pub invariant_of-state : goal.invariant_of-state
 invariant_of-state c =
     let st = c.args.state.now in
-    let none = nothing_told_of (changed c.args.what.now) (job_with c.args.id st.jobs.jobs) (sym c.in_default.ensures.moved) in
+    let none = nothing_told_of (moved_by (changed c.args.what.now)) (job_with c.args.id st.jobs.jobs) (sym c.in_default.ensures.moved) in
     let same = c.in_default.ensures.jobs ∙ no_job_changed c.args.id (changed c.args.what.now) st.jobs.jobs none in
     record { sound = rw same c.args.state.now.sound }
 
@@ -25,7 +26,7 @@ invariant_of-state-2 c =
     let what = c.args.what.now in
     let f = changed what in
     let m = c.in-Some.moved in
-    let of = told_of f (job_with id st.jobs.jobs) m (sym c.in-Some.ensures.moved) in
+    let of = told_of (moved_by f) (job_with id st.jobs.jobs) m (sym c.in-Some.ensures.moved) in
     let many = c.len-jobs.ensures.len ∙ ap length c.in-Some.ensures.jobs ∙ length-map st.jobs.jobs _ in
     let fits : length st.jobs.jobs ≤ 18446744073709551615 = omega (arith, many) in
     let wanted = c.counts_waiter_of-is_wanted.ensures ∙ ap (λ b. is_ready_state m.to.state && b) (waiters_counted m.tube st.known.clients st.tubes.crowds st.seats.items st.tubes.entries was.entries.of_seats was.known.crowds was.known.clients) in
@@ -42,3 +43,6 @@ invariant_of-state-2 c =
             known = so_with_moved st id what of.job m c.counts_waiter_of-is_wanted.result c.holder_waits-waits.result of.there of.is fits wanted waits;
           });
     }
+
+pub change-requires-clause-tube : goal.change-requires-clause-tube
+change-requires-clause-tube c = tube_ignored c.args.what.now

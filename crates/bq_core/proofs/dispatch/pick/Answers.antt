@@ -1,46 +1,56 @@
 use Rattle.std.proofs.Common.{◌≡◌, ◌∙◌, ap, subst, sym, true, Some, None}
-use Rattle.std.specs.Prelude.{option_map}
+use Rattle.std.specs.Prelude.{is_some, option_map}
 use Rattle.std.specs.List.{AllByRecursion as All, list_any}
 use Rattle.bq_job.specs.declared.job.Job.{Job}
-use Rattle.bq_job.specs.machine.Changes.{first_of}
+use Rattle.bq_job.specs.machine.Changes.{first_of, job_with}
 use Rattle.bq_job.specs.machine.Dispatch.{is_wait_before, next_seat}
 use Rattle.bq_job.specs.machine.Machine.{SeatRecord}
 use Rattle.bq_job.proofs.ComputedLemmas.{next_has_seat}
 use Rattle.bq_core.specs.Offers.{waits_at}
 use Rattle.bq_core.specs.State.{machine_of}
 use Rattle.bq_core.specs.Stirs.{may_get}
+use Rattle.bq_core.proofs.ActLemmas.{none_there, some_there}
 use Rattle.bq_core.proofs.DispatchLemmas.{next_is, next_there, seat_at_tube, some_at_tube, takers_known}
 use Rattle.bq_core.proofs.TurnLemmas.{ok_weaker}
 use Rattle.bq_core.proofs.dispatch.pick.Goals as goal
 
-pub returns-in_err-job-clause-some : goal.returns-in_err-job-clause-some
-returns-in_err-job-clause-some c = absurd (next_there (machine_of c.args.state.now) c.args.id c.args.state.now.sound.ids c.requires.next c.in_err-job.ensures.job)
+pub returns-in_err-tube-clause-some : goal.returns-in_err-tube-clause-some
+returns-in_err-tube-clause-some c =
+    let m = machine_of c.args.state.now in
+    let none = none_there (job_with c.args.id m.jobs) (sym (ap is_some c.in_err-tube.was) ∙ c.share.ensures.none) in
+    absurd (next_there m c.args.id c.args.state.now.sound.ids c.requires.next (sym none))
 
 pub taker-requires-clause-some : goal.taker-requires-clause-some
 taker-requires-clause-some c =
     let m = machine_of c.args.state.now in
-    let x = c.in_ok-job.job.now in
-    let next = next_is m c.args.id x c.args.state.now.sound.ids c.requires.next (sym c.in_ok-job.ensures.job) in
-    ap (list_any (waits_at x.tube)) c.as_slice.ensures.value ∙ some_at_tube m x next
+    let there = some_there (job_with c.args.id m.jobs) (sym c.in_ok-tube.ensures.none) in
+    let x = there.0 in
+    let next = next_is m c.args.id x c.args.state.now.sound.ids c.requires.next there.1 in
+    ap (list_any (waits_at c.in_ok-tube.tube)) c.as_slice.ensures.value
+    ∙ ap (λ t. list_any (waits_at t) c.args.state.now.seats.items) (c.in_ok-tube.ensures.tube x there.1) ∙ some_at_tube m x next
 
 pub taker-requires-clause-known : goal.taker-requires-clause-known
 taker-requires-clause-known c =
     let st = c.args.state.now in
     let m = machine_of st in
-    let x = c.in_ok-job.job.now in
-    let next = next_is m c.args.id x c.args.state.now.sound.ids c.requires.next (sym c.in_ok-job.ensures.job) in
-    subst (All (λ (s : SeatRecord). waits_at x.tube s ≡ true → may_get st.known.stir x.tube s.number ≡ true)) (sym c.as_slice.ensures.value)
-    (takers_known m st.known.stir x next c.args.state.now.sound.known.stirs)
+    let there = some_there (job_with c.args.id m.jobs) (sym c.in_ok-tube.ensures.none) in
+    let x = there.0 in
+    let next = next_is m c.args.id x c.args.state.now.sound.ids c.requires.next there.1 in
+    subst (λ t. All (λ (s : SeatRecord). waits_at t s ≡ true → may_get st.known.stir t s.number ≡ true) c.as_slice.result.now) (sym (c.in_ok-tube.ensures.tube x there.1))
+    (subst (All (λ (s : SeatRecord). waits_at x.tube s ≡ true → may_get st.known.stir x.tube s.number ≡ true)) (sym c.as_slice.ensures.value)
+    (takers_known m st.known.stir x next c.args.state.now.sound.known.stirs))
 
 pub returns-in_err-seat-clause-some : goal.returns-in_err-seat-clause-some
 returns-in_err-seat-clause-some c =
     let m = machine_of c.args.state.now in
-    let x = c.in_ok-job.job.now in
-    let next = next_is m c.args.id x c.args.state.now.sound.ids c.requires.next (sym c.in_ok-job.ensures.job) in
+    let there = some_there (job_with c.args.id m.jobs) (sym c.in_ok-tube.ensures.none) in
+    let x = there.0 in
+    let next = next_is m c.args.id x c.args.state.now.sound.ids c.requires.next there.1 in
     let seat = next_has_seat m x next in
     let none : None ≡ option_map (λ (s : SeatRecord). s.number) (next_seat m x) =
     c.in_err-seat.ensures
-    ∙ ap (λ seats. option_map (λ (s : SeatRecord). s.number) (first_of (waits_at x.tube) is_wait_before seats)) c.as_slice.ensures.value
+    ∙ ap (λ seats. option_map (λ (s : SeatRecord). s.number) (first_of (waits_at c.in_ok-tube.tube) is_wait_before seats)) c.as_slice.ensures.value
+    ∙ ap (λ t. option_map (λ (s : SeatRecord). s.number) (first_of (waits_at t) is_wait_before m.seats)) (c.in_ok-tube.ensures.tube x there.1)
     ∙ ap (option_map (λ (s : SeatRecord). s.number)) (seat_at_tube m x next) in
     let some : option_map (λ (s : SeatRecord). s.number) (next_seat m x) ≡ Some seat.0.number = ap (option_map (λ (s : SeatRecord). s.number)) seat.1 in
     absurd (let e = none ∙ some in cc)
@@ -48,17 +58,20 @@ returns-in_err-seat-clause-some c =
 pub returns-clause-picked : goal.returns-clause-picked
 returns-clause-picked c j is =
     let m = machine_of c.args.state.now in
-    let x = c.in_ok-job.job.now in
-    let next = next_is m c.args.id x c.args.state.now.sound.ids c.requires.next (sym c.in_ok-job.ensures.job) in
-    let same : x ≡ j = cc in
+    let there = some_there (job_with c.args.id m.jobs) (sym c.in_ok-tube.ensures.none) in
+    let x = there.0 in
+    let next = next_is m c.args.id x c.args.state.now.sound.ids c.requires.next there.1 in
+    let same : x ≡ j = (let two : Some x ≡ Some j = sym next ∙ is in cc) in
     c.in_ok-seat.ensures
-    ∙ ap (λ seats. option_map (λ (s : SeatRecord). s.number) (first_of (waits_at x.tube) is_wait_before seats)) c.as_slice.ensures.value
+    ∙ ap (λ seats. option_map (λ (s : SeatRecord). s.number) (first_of (waits_at c.in_ok-tube.tube) is_wait_before seats)) c.as_slice.ensures.value
+    ∙ ap (λ t. option_map (λ (s : SeatRecord). s.number) (first_of (waits_at t) is_wait_before m.seats)) (c.in_ok-tube.ensures.tube x there.1)
     ∙ ap (option_map (λ (s : SeatRecord). s.number)) (seat_at_tube m x next)
     ∙ ap (λ k. option_map (λ (s : SeatRecord). s.number) (next_seat m k)) same
 
 pub returns-clause-share : goal.returns-clause-share
 returns-clause-share c =
     let m = machine_of c.args.state.now in
-    let x = c.in_ok-job.job.now in
-    let next = next_is m c.args.id x c.args.state.now.sound.ids c.requires.next (sym c.in_ok-job.ensures.job) in
-    ok_weaker c.share.result _ _ (λ body e j is. let same : x ≡ j = cc in e ∙ ap (λ (k : Job). k.body) same) c.share.ensures
+    let there = some_there (job_with c.args.id m.jobs) (sym c.in_ok-tube.ensures.none) in
+    let x = there.0 in
+    let next = next_is m c.args.id x c.args.state.now.sound.ids c.requires.next there.1 in
+    ok_weaker c.in_ok-tube.shared _ _ (λ body h j is. let two : Some x ≡ Some j = sym next ∙ is in let same : x ≡ j = (cc) in h x there.1 ∙ ap (λ (k : Job). k.body) same) c.in_ok-tube.ensures.body

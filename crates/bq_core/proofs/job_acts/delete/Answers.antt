@@ -1,4 +1,4 @@
-use Rattle.std.proofs.Common.{arith, subst, sym}
+use Rattle.std.proofs.Common.{◌∙◌, arith, subst, sym}
 use Rattle.bq_jobs.specs.Kept.{Kept}
 use Rattle.bq_core.specs.Asking.{AsksAsChanged}
 use Rattle.bq_core.proofs.AskLemmas.{asked_before}
@@ -6,4 +6,6 @@ use Rattle.bq_core.proofs.job_acts.delete.Goals as goal
 
 pub returns-clause-asks : goal.returns-clause-asks
 returns-clause-asks c =
-    subst (λ (k : Kept). AsksAsChanged c.args.state.now.jobs k) (sym c.change_tube.ensures.jobs) (asked_before 1 4 (omega arith) c.has_job.ensures.kept.asks c.take.ensures.asks)
+    let asked = asked_before 1 4 (omega arith) c.has_job.ensures.kept.asks c.take.ensures.asks in
+    let changed = subst (λ (k : Kept). AsksAsChanged c.args.state.now.jobs k) (sym c.change_tube.ensures.jobs) asked in
+    subst (λ (k : Kept). AsksAsChanged c.args.state.now.jobs k) (sym c.forget_last.ensures.jobs) (record { stays = changed.stays; rise = changed.rise })

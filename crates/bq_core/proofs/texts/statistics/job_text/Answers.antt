@@ -1,16 +1,20 @@
 -- The lines are those of the definition, at a machine of this moment.
 use Rattle.std.proofs.Common.{◌≡◌, ◌∙◌, [], ◌∷◌, ap, sym}
+use Rattle.bq_job.specs.declared.job.Job.{Job}
+use Rattle.bq_job.specs.machine.Machine.{Machine}
 use Rattle.bq_job.specs.machine.Statistics.{job_statistics, seconds_between, time_left}
 use Rattle.bq_job.specs.texts.Yaml.{statistics_text}
+use Rattle.bq_jobs.specs.Seen.{in_tube}
 use Rattle.bq_core.proofs.TextLemmas.{told_of, with_number, with_word}
 use Rattle.bq_core.proofs.texts.statistics.job_text.Goals as goal
 
 pub returns : goal.returns
 returns c =
-    let j = c.args.job.now in
-    told_of _ _ (λ m. m.moment ≡ c.args.moment) (λ m. job_statistics m j) c.statistics_text.ensures (λ m at.
-    let age = c.seconds_between.ensures ∙ sym (ap (seconds_between j.put_at) at) in
-    let left = c.time_left.ensures ∙ sym (ap (λ moment. time_left moment j.state) at) in
+    let row = c.job.inside in
+    let lines = λ (m : Machine) (j : Job). job_statistics m (in_tube j c.args.tube.now) in
+    told_of _ _ (λ m. m.moment ≡ c.args.moment) (λ m. lines m c.args.job.now) c.statistics_text.ensures (λ m at.
+    let age = c.seconds_between.ensures ∙ sym (ap (seconds_between row.put_at) at) in
+    let left = c.time_left.ensures ∙ sym (ap (λ moment. time_left moment row.state) at) in
     let tube = with_word _ _ _ _ c.word.ensures c.as_slice.ensures.bytes in
     let state = with_word _ _ _ _ c.word-2.ensures c.state_word.ensures in
     let pri = with_number _ _ _ _ c.number-2.ensures c.from.ensures in
@@ -18,5 +22,5 @@ returns c =
     let delay = with_number _ _ _ _ c.number-4.ensures c.from-2.ensures in
     let ttr = with_number _ _ _ _ c.number-5.ensures c.from-3.ensures in
     let time = with_number _ _ _ _ c.number-6.ensures left in
-    λ i. statistics_text (c.number.ensures i ∷ tube i ∷ state i ∷ pri i ∷ aged i ∷ delay i ∷ ttr i ∷ time i
-    ∷ c.number-7.ensures i ∷ c.number-8.ensures i ∷ c.number-9.ensures i ∷ c.number-10.ensures i ∷ c.number-11.ensures i ∷ []))
+    (λ i. statistics_text (c.number.ensures i ∷ tube i ∷ state i ∷ pri i ∷ aged i ∷ delay i ∷ ttr i ∷ time i
+    ∷ c.number-7.ensures i ∷ c.number-8.ensures i ∷ c.number-9.ensures i ∷ c.number-10.ensures i ∷ c.number-11.ensures i ∷ [])) ∙ ap (lines m) c.job.view_is)

@@ -1,165 +1,50 @@
-use Rattle.std.proofs.Common.{arith, ◌∙◌, ◌+◌, ◌^◌, ap, cond, refl, sym}
-use Rattle.std.specs.Prelude.{is_some, option_map}
+use Rattle.std.proofs.Common.{map, sym, ap, ◌∙◌, subst}
+use Rattle.std.specs.Prelude.{option_map}
 use Rattle.bq_job.specs.machine.Changes.{job_with}
-use Rattle.bq_jobs.specs.contracts.place.GroupOrd.TheImpl.Laws as group_laws
-use Rattle.bq_jobs.specs.contracts.place.TimerOrd.TheImpl.Laws as timer_laws
-use Rattle.bq_jobs.specs.Changed.{moved_by, with_changed, with_edited}
-use Rattle.bq_jobs.specs.Inside.{jobs_of, kept_in}
+use Rattle.bq_jobs.specs.Changed.{moved_by, with_changed}
 use Rattle.bq_jobs.specs.Kept.{Kept}
-use Rattle.bq_jobs.specs.PlaceOrder.{holds_place, with_place, without_place}
-use Rattle.bq_jobs.specs.Places.{timer_place, group_place}
-use Rattle.bq_jobs.proofs.Counting.{few_more}
-use Rattle.bq_jobs.proofs.Firsts.{group_cmp, timer_cmp, timer_own, group_own}
-use Rattle.bq_jobs.proofs.Orders.{absent_then, has_spare_then, held_place}
-use Rattle.bq_jobs.proofs.Shelved.{found_in, id_search, jobs_changed, shelved_changed, timer_search, group_search}
-use Rattle.bq_jobs.proofs.Told.{entered_timer, entered_group, entry_then, found_then, id_after, job_then, left_timer, left_group, nothing_told, unchanged}
+use Rattle.bq_jobs.specs.Known.{AreNumbered, named}
+use Rattle.bq_jobs.proofs.NamedJobs.{changed_named, moved_named, not_moved, numbered_changed, stays_in}
 use Rattle.bq_jobs.proofs.jobs.Jobs.change.Goals as goal
+
+pub change-requires-clause-tube : goal.change-requires-clause-tube
+change-requires-clause-tube g c = stays_in c.self.inside.known c.args.id (g.E.JobEdit.edited c.args.edit.now) c.requires.tube
+
+pub invariant_of-self : goal.invariant_of-self
+invariant_of-self g c =
+    let k = c.self.inside.known in
+    let f = g.E.JobEdit.edited c.args.edit.now in
+    subst (AreNumbered k) (sym c.change.ensures.jobs) (numbered_changed k c.args.id f (stays_in k c.args.id f c.requires.tube) c.self.inside.rows.jobs c.self.invariant)
 
 pub returns-in_err-moved-clause-moved : goal.returns-in_err-moved-clause-moved
 returns-in_err-moved-clause-moved g c =
     let f = g.E.JobEdit.edited c.args.edit.now in
-    c.from_residual.ensures ∙ sym c.in_err-moved.was ∙ c.edit_at.ensures.moved ∙ ap (option_map (moved_by f)) (found_in c.args.id c.self.inside c.self.invariant ∙ ap (λ (m : Kept). job_with c.args.id m.jobs) c.self.view_is)
+    c.from_residual.ensures ∙ not_moved c.self.inside.known c.args.id f c.self.inside.rows.jobs (sym c.change.ensures.moved ∙ c.in_err-moved.was)
+    ∙ ap (λ (m : Kept). option_map (moved_by f) (job_with c.args.id m.jobs)) c.self.view_is
 
 pub returns-in_err-moved-clause-jobs : goal.returns-in_err-moved-clause-jobs
 returns-in_err-moved-clause-jobs g c =
+    let k = c.self.inside.known in
     let f = g.E.JobEdit.edited c.args.edit.now in
-    let none = nothing_told c.args.id f c.self.inside.by_id.entries (sym c.edit_at.ensures.moved ∙ c.in_err-moved.was) in
-    ap jobs_of (c.edit_at.ensures.entries ∙ ap (λ o. with_edited c.args.id f o c.self.inside.by_id.entries) none) ∙ unchanged c.args.id f c.self.inside c.self.invariant none
+    ap (map (named k)) c.change.ensures.jobs ∙ sym (changed_named k c.args.id f c.requires.tube c.self.inside.rows.jobs)
     ∙ ap (λ (m : Kept). with_changed c.args.id f m.jobs) c.self.view_is
-
-pub returns-in_err-moved-clause-comparisons : goal.returns-in_err-moved-clause-comparisons
-returns-in_err-moved-clause-comparisons g c =
-    let s = c.self.inside in
-    let few = c.edit_at.ensures.comparisons in
-    few_more 7 (kept_in s.by_id s.groups s.timers) c.args.self.now _ _ c.self.view_is refl (omega (arith, few)) (omega (arith, few, id_search s.by_id))
-
-pub shift-requires-clause-held : goal.shift-requires-clause-held
-shift-requires-clause-held g c =
-    let s = c.self.inside in
-    let h = c.self.invariant in
-    let f = g.E.JobEdit.edited c.args.edit.now in
-    let m = c.in_ok-moved.moved in
-    let told = sym c.edit_at.ensures.moved ∙ c.in_ok-moved.was in
-    let j = job_then c.args.id f c.requires.id c.requires.tube s h m told in
-    let found = found_then c.args.id f c.requires.id c.requires.tube s h m told in
-    let left = c.place_in_groups-left.ensures ∙ left_group c.args.id f c.requires.id c.requires.tube s h m told in
-    λ p e. held_place group_laws.total-law group_place group_own c.args.id j (jobs_of s.by_id.entries) s.by_id.spare s.groups h.in_groups found p (sym left ∙ e)
-
-pub shift-requires-clause-spare : goal.shift-requires-clause-spare
-shift-requires-clause-spare g c =
-    let s = c.self.inside in
-    let h = c.self.invariant in
-    let f = g.E.JobEdit.edited c.args.edit.now in
-    let m = c.in_ok-moved.moved in
-    let told = sym c.edit_at.ensures.moved ∙ c.in_ok-moved.was in
-    let j = job_then c.args.id f c.requires.id c.requires.tube s h m told in
-    let found = found_then c.args.id f c.requires.id c.requires.tube s h m told in
-    let left = c.place_in_groups-left.ensures ∙ left_group c.args.id f c.requires.id c.requires.tube s h m told in
-    λ order p e.
-    let some = ap (λ q. s.groups.spare + cond (is_some q) 1 0) left in
-    omega (arith, some, has_spare_then group_laws.total-law group_place group_own 0 (2 ^ 64) c.args.id j (f j) (jobs_of s.by_id.entries) s.by_id.spare s.groups h.in_groups h.ids found (id_after c.args.id f c.requires.id c.requires.tube s h m told) order)
-
-pub shift-requires-clause-absent : goal.shift-requires-clause-absent
-shift-requires-clause-absent g c =
-    let s = c.self.inside in
-    let h = c.self.invariant in
-    let f = g.E.JobEdit.edited c.args.edit.now in
-    let m = c.in_ok-moved.moved in
-    let told = sym c.edit_at.ensures.moved ∙ c.in_ok-moved.was in
-    let j = job_then c.args.id f c.requires.id c.requires.tube s h m told in
-    let found = found_then c.args.id f c.requires.id c.requires.tube s h m told in
-    let left = c.place_in_groups-left.ensures ∙ left_group c.args.id f c.requires.id c.requires.tube s h m told in
-    let entered = c.place_in_groups-entered.ensures ∙ entered_group c.args.id f c.requires.id c.requires.tube s h m told in
-    λ order p e.
-    ap (λ q. holds_place group_cmp p (without_place group_cmp q s.groups.entries)) left
-    ∙ absent_then group_laws.total-law group_place group_own 0 (2 ^ 64) c.args.id j (f j) (jobs_of s.by_id.entries) s.by_id.spare s.groups h.in_groups h.ids found (id_after c.args.id f c.requires.id c.requires.tube s h m told) order p (sym entered ∙ e)
-
-pub shift-requires-2-clause-held : goal.shift-requires-2-clause-held
-shift-requires-2-clause-held g c =
-    let s = c.self.inside in
-    let h = c.self.invariant in
-    let f = g.E.JobEdit.edited c.args.edit.now in
-    let m = c.in_ok-moved.moved in
-    let told = sym c.edit_at.ensures.moved ∙ c.in_ok-moved.was in
-    let j = job_then c.args.id f c.requires.id c.requires.tube s h m told in
-    let found = found_then c.args.id f c.requires.id c.requires.tube s h m told in
-    let left = c.place_in_timers.ensures ∙ left_timer c.args.id f c.requires.id c.requires.tube s h m told in
-    λ p e. held_place timer_laws.total-law timer_place timer_own c.args.id j (jobs_of s.by_id.entries) s.by_id.spare s.timers h.in_timers found p (sym left ∙ e)
-
-pub shift-requires-2-clause-spare : goal.shift-requires-2-clause-spare
-shift-requires-2-clause-spare g c =
-    let s = c.self.inside in
-    let h = c.self.invariant in
-    let f = g.E.JobEdit.edited c.args.edit.now in
-    let m = c.in_ok-moved.moved in
-    let told = sym c.edit_at.ensures.moved ∙ c.in_ok-moved.was in
-    let j = job_then c.args.id f c.requires.id c.requires.tube s h m told in
-    let found = found_then c.args.id f c.requires.id c.requires.tube s h m told in
-    let left = c.place_in_timers.ensures ∙ left_timer c.args.id f c.requires.id c.requires.tube s h m told in
-    λ order p e.
-    let some = ap (λ q. s.timers.spare + cond (is_some q) 1 0) left in
-    omega (arith, some, has_spare_then timer_laws.total-law timer_place timer_own 0 (2 ^ 64) c.args.id j (f j) (jobs_of s.by_id.entries) s.by_id.spare s.timers h.in_timers h.ids found (id_after c.args.id f c.requires.id c.requires.tube s h m told) order)
-
-pub shift-requires-2-clause-absent : goal.shift-requires-2-clause-absent
-shift-requires-2-clause-absent g c =
-    let s = c.self.inside in
-    let h = c.self.invariant in
-    let f = g.E.JobEdit.edited c.args.edit.now in
-    let m = c.in_ok-moved.moved in
-    let told = sym c.edit_at.ensures.moved ∙ c.in_ok-moved.was in
-    let j = job_then c.args.id f c.requires.id c.requires.tube s h m told in
-    let found = found_then c.args.id f c.requires.id c.requires.tube s h m told in
-    let left = c.place_in_timers.ensures ∙ left_timer c.args.id f c.requires.id c.requires.tube s h m told in
-    let entered = c.place_in_timers-2.ensures ∙ entered_timer c.args.id f c.requires.id c.requires.tube s h m told in
-    λ order p e.
-    ap (λ q. holds_place timer_cmp p (without_place timer_cmp q s.timers.entries)) left
-    ∙ absent_then timer_laws.total-law timer_place timer_own 0 (2 ^ 64) c.args.id j (f j) (jobs_of s.by_id.entries) s.by_id.spare s.timers h.in_timers h.ids found (id_after c.args.id f c.requires.id c.requires.tube s h m told) order p (sym entered ∙ e)
 
 pub invariant_of-self-2 : goal.invariant_of-self-2
 invariant_of-self-2 g c =
-    let s = c.self.inside in
-    let h = c.self.invariant in
+    let k = c.self.inside.known in
     let f = g.E.JobEdit.edited c.args.edit.now in
-    let m = c.in_ok-moved.moved in
-    let told = sym c.edit_at.ensures.moved ∙ c.in_ok-moved.was in
-    let j = job_then c.args.id f c.requires.id c.requires.tube s h m told in
-    let found = found_then c.args.id f c.requires.id c.requires.tube s h m told in
-    let from_group = c.place_in_groups-left.ensures ∙ left_group c.args.id f c.requires.id c.requires.tube s h m told in
-    let to_group = c.place_in_groups-entered.ensures ∙ entered_group c.args.id f c.requires.id c.requires.tube s h m told in
-    let from_timer = c.place_in_timers.ensures ∙ left_timer c.args.id f c.requires.id c.requires.tube s h m told in
-    let to_timer = c.place_in_timers-2.ensures ∙ entered_timer c.args.id f c.requires.id c.requires.tube s h m told in
-    let entries = c.edit_at.ensures.entries ∙ ap (λ o. with_edited c.args.id f o s.by_id.entries) (entry_then c.args.id f c.requires.id c.requires.tube s h m told) in
-    shelved_changed c.args.id f c.requires.id s h j found (record { by_id = c.edit_at.new.by_id; groups = c.shift.new.order; timers = c.shift-2.new.order }) entries (record {
-      room = c.edit_at.ensures.spare;
-      groups = c.shift.ensures.entries ∙ ap (λ p. with_place group_cmp p (without_place group_cmp c.place_in_groups-left.result s.groups.entries)) to_group ∙ ap (λ p. with_place group_cmp (group_place (f j)) (without_place group_cmp p s.groups.entries)) from_group;
-      group_order = c.shift.ensures.ordered;
-      group_spare = sym (ap (λ p. c.shift.new.order.spare + cond (is_some p) 1 0) to_group) ∙ c.shift.ensures.spare ∙ ap (λ p. s.groups.spare + cond (is_some p) 1 0) from_group;
-      timers = c.shift-2.ensures.entries ∙ ap (λ p. with_place timer_cmp p (without_place timer_cmp c.place_in_timers.result s.timers.entries)) to_timer ∙ ap (λ p. with_place timer_cmp (timer_place (f j)) (without_place timer_cmp p s.timers.entries)) from_timer;
-      timer_order = c.shift-2.ensures.ordered;
-      timer_spare = sym (ap (λ p. c.shift-2.new.order.spare + cond (is_some p) 1 0) to_timer) ∙ c.shift-2.ensures.spare ∙ ap (λ p. s.timers.spare + cond (is_some p) 1 0) from_timer;
-    })
+    subst (AreNumbered k) (sym c.change.ensures.jobs) (numbered_changed k c.args.id f (stays_in k c.args.id f c.requires.tube) c.self.inside.rows.jobs c.self.invariant)
 
 pub returns-clause-moved : goal.returns-clause-moved
 returns-clause-moved g c =
     let f = g.E.JobEdit.edited c.args.edit.now in
-    sym c.in_ok-moved.was ∙ c.edit_at.ensures.moved ∙ ap (option_map (moved_by f)) (found_in c.args.id c.self.inside c.self.invariant ∙ ap (λ (m : Kept). job_with c.args.id m.jobs) c.self.view_is)
+    c.told_of.ensures.told
+    ∙ moved_named c.self.inside.known c.args.id f c.requires.tube c.in_ok-moved.moved c.self.inside.rows.jobs c.self.invariant (sym c.change.ensures.moved ∙ c.in_ok-moved.was)
+    ∙ ap (λ (m : Kept). option_map (moved_by f) (job_with c.args.id m.jobs)) c.self.view_is
 
 pub returns-clause-jobs : goal.returns-clause-jobs
 returns-clause-jobs g c =
-    let s = c.self.inside in
-    let h = c.self.invariant in
+    let k = c.self.inside.known in
     let f = g.E.JobEdit.edited c.args.edit.now in
-    let m = c.in_ok-moved.moved in
-    let told = sym c.edit_at.ensures.moved ∙ c.in_ok-moved.was in
-    let j = job_then c.args.id f c.requires.id c.requires.tube s h m told in
-    let found = found_then c.args.id f c.requires.id c.requires.tube s h m told in
-    let entries = c.edit_at.ensures.entries ∙ ap (λ o. with_edited c.args.id f o s.by_id.entries) (entry_then c.args.id f c.requires.id c.requires.tube s h m told) in
-    ap jobs_of entries ∙ jobs_changed c.args.id f c.requires.id s h j found ∙ ap (λ (k : Kept). with_changed c.args.id f k.jobs) c.self.view_is
-
-pub returns-clause-comparisons : goal.returns-clause-comparisons
-returns-clause-comparisons g c =
-    let s = c.self.inside in
-    let h = c.self.invariant in
-    few_more 7 (kept_in s.by_id s.groups s.timers) c.args.self.now _ _ c.self.view_is refl
-    (omega (arith, c.edit_at.ensures.comparisons, c.shift.ensures.comparisons, c.shift-2.ensures.comparisons))
-    (omega (arith, c.edit_at.ensures.comparisons, c.shift.ensures.comparisons, c.shift-2.ensures.comparisons, id_search s.by_id, group_search s h, timer_search s h))
+    ap (map (named k)) c.change.ensures.jobs ∙ sym (changed_named k c.args.id f c.requires.tube c.self.inside.rows.jobs)
+    ∙ ap (λ (m : Kept). with_changed c.args.id f m.jobs) c.self.view_is

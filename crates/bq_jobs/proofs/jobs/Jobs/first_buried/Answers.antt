@@ -1,28 +1,29 @@
-use Rattle.std.proofs.Common.{arith, refl, ap, ◌∙◌}
+use Rattle.std.proofs.Common.{[], ◌∷◌, refl, sym, ap, ◌∙◌}
 use Rattle.std.specs.Prelude.{option_map}
 use Rattle.bq_job.specs.machine.Changes.{first_of}
+use Rattle.bq_job.specs.machine.JobStates.{is_buried, is_buried_before}
 use Rattle.bq_job.specs.machine.JobCommands.{is_buried_in}
-use Rattle.bq_job.specs.machine.JobStates.{is_buried_before}
-use Rattle.bq_jobs.specs.Inside.{jobs_of, kept_in}
 use Rattle.bq_jobs.specs.Kept.{Kept}
-use Rattle.bq_jobs.specs.PlaceOrder.{first_in_group}
-use Rattle.bq_jobs.proofs.Counting.{few_more}
-use Rattle.bq_jobs.proofs.FirstJobs.{buried_is}
-use Rattle.bq_jobs.proofs.Firsts.{group_cmp}
-use Rattle.bq_jobs.proofs.Shelved.{group_search}
+use Rattle.bq_jobs.specs.Known.{named}
+use Rattle.bq_jobs.proofs.NamedJobs.{all_told, none_first, none_told, told_first}
 use Rattle.bq_jobs.proofs.jobs.Jobs.first_buried.Goals as goal
+
+pub returns-in_err-number-clause-id : goal.returns-in_err-number-clause-id
+returns-in_err-number-clause-id c =
+    let k = c.self.inside.known in
+    let name = c.args.tube.now in
+    let rows = c.self.inside.rows.jobs in
+    let none = none_told k c.number_of.ensures.paired name (sym c.number_of.ensures.number ∙ c.in_err-number.was) (λ j. is_buried j.state) rows c.self.invariant in
+    c.from_residual.ensures ∙ sym (ap (option_map (λ j. j.id)) (none_first (named k) (is_buried_in name) is_buried_before rows none))
+    ∙ ap (λ (m : Kept). option_map (λ j. j.id) (first_of (is_buried_in name) is_buried_before m.jobs)) c.self.view_is
 
 pub returns-clause-id : goal.returns-clause-id
 returns-clause-id c =
-    let s = c.self.inside in
-    let h = c.self.invariant in
-    c.first_in_group.ensures.id
-    ∙ ap (λ g. first_in_group group_cmp g s.groups.entries) c.list.ensures
-    ∙ buried_is (jobs_of s.by_id.entries) s.by_id.spare h.ids s.groups h.in_groups c.first_in_group.ensures.ordered c.args.tube.now
-    ∙ ap (λ (m : Kept). option_map (λ j. j.id) (first_of (is_buried_in c.args.tube.now) is_buried_before m.jobs)) c.self.view_is
-
-pub returns-clause-comparisons : goal.returns-clause-comparisons
-returns-clause-comparisons c =
-    let s = c.self.inside in
-    let few = c.first_in_group.ensures.comparisons in
-    few_more 1 (kept_in s.by_id s.groups s.timers) c.args.self.now _ _ c.self.view_is refl (omega (arith, few)) (omega (arith, few, group_search s c.self.invariant))
+    let k = c.self.inside.known in
+    let name = c.args.tube.now in
+    let rows = c.self.inside.rows.jobs in
+    let n = c.in_ok-number.number in
+    let told = all_told k c.number_of.ensures.paired name n (sym c.number_of.ensures.number ∙ c.in_ok-number.was) (λ j. is_buried j.state) rows c.self.invariant in
+    c.first_buried.ensures.id ∙ ap (λ t. option_map (λ j. j.id) (first_of (is_buried_in t) is_buried_before rows)) c.of.ensures
+    ∙ sym (told_first (named k) (is_buried_in name) (is_buried_in (n ∷ [])) is_buried_before (λ a b. refl) (λ j. j.id) (λ j. refl) rows told)
+    ∙ ap (λ (m : Kept). option_map (λ j. j.id) (first_of (is_buried_in name) is_buried_before m.jobs)) c.self.view_is

@@ -1,27 +1,30 @@
-use Rattle.std.proofs.Common.{arith, refl, ap, ◌∙◌}
+use Rattle.std.proofs.Common.{Some, None, Option, map, refl, sym, ap, ◌∙◌, ◌≡◌, ◌≤◌, subst}
+use Rattle.std.specs.Prelude.{option_map}
 use Rattle.bq_job.specs.machine.Changes.{job_with}
-use Rattle.bq_jobs.specs.Inside.{jobs_of, kept_in}
-use Rattle.bq_jobs.specs.Kept.{Kept}
-use Rattle.bq_jobs.proofs.Counting.{few_more}
-use Rattle.bq_jobs.proofs.Shelved.{found_in, id_search}
+use Rattle.bq_jobs.specs.Kept.{Kept, search_bound}
+use Rattle.bq_jobs.specs.Known.{named}
+use Rattle.bq_jobs.specs.Seen.{but_for_tube}
+use Rattle.bq_jobs.proofs.NamedJobs.{but_named, counted_as, same_looks}
 use Rattle.bq_jobs.proofs.jobs.Jobs.get.Goals as goal
 
 pub returns : goal.returns
 returns c =
-    let s = c.self.inside in
-    let left = c.get.follows.holds-at-none in
-    let few = left.2 in (
+    let k = c.self.inside.known in
+    let rows = c.self.inside.rows in
+    let left = c.get.follows.holds-at-none in (
       (
         refl,
         λ _. tt,
         (
-          ap jobs_of left.0 ∙ ap (λ (m : Kept). m.jobs) c.self.view_is,
+          ap (map (named k)) left.0 ∙ ap (λ (m : Kept). m.jobs) c.self.view_is,
           left.1 ∙ ap (λ (m : Kept). m.room) c.self.view_is,
-          few_more 1 (kept_in s.by_id s.groups s.timers) c.args.self.now _ _ c.self.view_is refl (omega (arith, few)) (omega (arith, few, id_search s.by_id)),
+          ap (λ (m : Kept). m.tubes) c.self.view_is,
+          counted_as k rows c.args.self.now c.get.follows.lender-at-none c.self.view_is left.3,
         ),
       ),
       record {
         after = tt;
-        job = c.get.ensures.value ∙ found_in c.args.id s c.self.invariant ∙ ap (λ (m : Kept). job_with c.args.id m.jobs) c.self.view_is;
+        job = same_looks c.get.result ∙ ap (option_map but_for_tube) c.get.ensures.job ∙ but_named k c.args.id rows.jobs
+            ∙ ap (λ (m : Kept). option_map but_for_tube (job_with c.args.id m.jobs)) c.self.view_is;
       },
     )

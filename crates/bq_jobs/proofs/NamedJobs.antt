@@ -1,0 +1,394 @@
+-- Jobs by the names of their tubes are what they are by their numbers.
+use Rattle.std.proofs.Common.{◌≡◌, ◌+◌, ◌*◌, ◌≤◌, ℕ, suc, length, Bor, Bool, true, false, cond, ◌&&◌, ◌||◌, List, [], ◌∷◌, Option, Some, None, is_some, map, refl, sym, ap, ◌∙◌, subst, inl, inr}
+use Rattle.std.specs.Prelude.{◌==◌, fold, nat_lt, not, unwrap_or, if◌then◌else◌, is_ok, Result, Ok, Err, IfOk}
+use Rattle.std.specs.Cmp.Lexicographic.{bytes_decides}
+use Rattle.std.specs.List.{AllByRecursion as All, list_any}
+use Rattle.std.specs.Option.{option_map}
+use Rattle.std.proofs.Common.{arith}
+use Rattle.std.proofs.lemmas.Bool.{cases_Bool, eqb-true}
+use Rattle.std.proofs.lemmas.Bool.Decides.{nat_tests}
+use Rattle.bq_job.specs.declared.job.Job.{Job}
+use Rattle.bq_job.specs.machine.Changes.{better_of, first_of, job_with}
+use Rattle.bq_job.specs.reading.TubeName.{is_same_name}
+use Rattle.bq_job.proofs.LookupLemmas.{job_in_map}
+use Rattle.bq_index.specs.Digits.{binary_digits}
+use Rattle.bq_jobs.specs.Kept.{ComparesAtMost, Kept, with_added, without}
+use Rattle.bq_jobs.specs.declared.edit.MovedRow.{MovedRow}
+use Rattle.bq_jobs.specs.Changed.{IgnoresTube, KeepsTube, moved_by, moved_in, row_moved_by, standing, with_changed}
+use Rattle.bq_jobs.specs.Known.{AreNumbered, IsNumbered, IsPaired, Known, kept_named, name_of, named, number_of, with_known, without_known}
+use Rattle.bq_jobs.specs.Names.{number_in}
+use Rattle.bq_jobs.specs.Seen.{IsBodyOf, IsNumberOf, IsTubeOf, but_for_tube, in_tube}
+use Rattle.bq_jobs.proofs.KnownLemmas.{is_known_then, name_kept, name_left, number_kept}
+
+or_parts : (a b : Bool) → (a || b) ≡ false → (a ≡ false) × (b ≡ false)
+or_parts true b e = absurd cc
+or_parts false b e = (refl, e)
+
+same_itself : (a : List ℕ) → is_same_name a a ≡ true
+same_itself a = (bytes_decides a a).1 refl
+
+module _ (k : Known) (h : IsPaired k) (name : List ℕ) where
+  -- the name of a tube is this one where its number is,
+  told_by : (n m : ℕ) → number_of name k ≡ Some n → (o : Option (List ℕ)) → name_of m k ≡ o → is_some o ≡ true
+      → is_same_name name (unwrap_or o []) ≡ is_same_name (n ∷ []) (m ∷ [])
+  told_by n m own None its some = absurd cc
+  told_by n m own (Some other) its some = elim (cases_Bool (n == m)) [
+    | inl e ↦
+        let there : name_of m k ≡ Some name = subst (λ i. name_of i k ≡ Some name) (eqb-true n m e) (h.there name n own) in
+        let two : Some name ≡ Some other = sym there ∙ its in
+        let is : name ≡ other = (cc) in
+        rw e (ap (is_same_name name) (sym is) ∙ same_itself name)
+    | inr e ↦ rw e (elim (cases_Bool (is_same_name name other)) [
+      | inl same ↦ absurd (
+          let is : name ≡ other = (bytes_decides name other).0 same in
+          let two : Some n ≡ Some m = sym own ∙ ap (λ s. number_of s k) is ∙ h.back m other its in
+          let tie : n ≡ m = (cc) in
+          let itself : (n == m) ≡ true = ap (λ i. n == i) (sym tie) ∙ same_number n in
+          cc)
+      | inr other_name ↦ other_name
+    ])
+  ]
+    where
+      same_number : (n : ℕ) → (n == n) ≡ true
+      same_number n = grind (arith, nat_tests)
+
+  pub tube_told : (n : ℕ) → number_of name k ≡ Some n → (j : Job) → IsNumbered k j → is_same_name name (named k j).tube ≡ is_same_name (n ∷ []) j.tube
+  tube_told n own j is = told_by n (number_in j.tube) own (name_of (number_in j.tube) k) refl is.1 ∙ ap (is_same_name (n ∷ [])) (sym is.0)
+
+  -- and no tube has it that isn't known.
+  not_told_by : number_of name k ≡ None → (m : ℕ) (o : Option (List ℕ)) → name_of m k ≡ o → is_some o ≡ true → is_same_name name (unwrap_or o []) ≡ false
+  not_told_by none m None its some = absurd cc
+  not_told_by none m (Some other) its some = elim (cases_Bool (is_same_name name other)) [
+    | inl same ↦ absurd (
+        let is : name ≡ other = (bytes_decides name other).0 same in
+        let two : None ≡ Some m = sym none ∙ ap (λ s. number_of s k) is ∙ h.back m other its in
+        cc)
+    | inr apart ↦ apart
+  ]
+
+  pub tube_not_told : number_of name k ≡ None → (j : Job) → IsNumbered k j → is_same_name name (named k j).tube ≡ false
+  tube_not_told none j is = not_told_by none (number_in j.tube) (name_of (number_in j.tube) k) refl is.1
+
+  -- what passes a test of its state and is in the tube
+  pub all_told : (n : ℕ) → number_of name k ≡ Some n → (test : Job → Bool) (rows : List Job) → AreNumbered k rows
+      → All (λ j. (test j && is_same_name name (named k j).tube) ≡ (test j && is_same_name (n ∷ []) j.tube)) rows
+  all_told n own test [] all = tt
+  all_told n own test (j ∷ rows) all = (ap (λ b. test j && b) (tube_told n own j all.0), all_told n own test rows all.1)
+
+  pub none_told : number_of name k ≡ None → (test : Job → Bool) (rows : List Job) → AreNumbered k rows
+      → All (λ j. (test j && is_same_name name (named k j).tube) ≡ false) rows
+  none_told none test [] all = tt
+  none_told none test (j ∷ rows) all = (ap (λ b. test j && b) (tube_not_told none j all.0) ∙ and_false (test j), none_told none test rows all.1)
+    where
+      and_false : (b : Bool) → (b && false) ≡ false
+      and_false true = refl
+      and_false false = refl
+
+-- The first of the jobs is the first of the records.
+module _ (f : Job → Job) (passes test : Job → Bool) (before : Job → Job → Bool) (alike : (a b : Job) → before (f a) (f b) ≡ before a b) where
+  better_named : (j : Job) → passes (f j) ≡ test j → (o : Option Job) → better_of passes before (option_map f o) (f j) ≡ option_map f (better_of test before o j)
+  better_named j e None = elim (cases_Bool (test j)) [
+    | inl t ↦ rw (e ∙ t, t) refl
+    | inr t ↦ rw (e ∙ t, t) refl
+  ]
+  better_named j e (Some best) = elim (cases_Bool (test j && before j best)) [
+    | inl t ↦ rw (ap (λ b. b && before (f j) (f best)) e ∙ ap (λ b. test j && b) (alike j best) ∙ t, t) refl
+    | inr t ↦ rw (ap (λ b. b && before (f j) (f best)) e ∙ ap (λ b. test j && b) (alike j best) ∙ t, t) refl
+  ]
+
+  fold_named : (rows : List Job) → All (λ j. passes (f j) ≡ test j) rows → (o : Option Job)
+      → fold (better_of passes before) (option_map f o) (map f rows) ≡ option_map f (fold (better_of test before) o rows)
+  fold_named [] all o = refl
+  fold_named (j ∷ rows) all o =
+      ap (λ b. fold (better_of passes before) b (map f rows)) (better_named j all.0 o) ∙ fold_named rows all.1 (better_of test before o j)
+
+  pub first_named : (rows : List Job) → All (λ j. passes (f j) ≡ test j) rows → first_of passes before (map f rows) ≡ option_map f (first_of test before rows)
+  first_named rows all = fold_named rows all None
+
+  -- what is told of it, where that doesn't depend on the name
+  pub told_first : {A : Type 0} (tells : Job → A) → ((j : Job) → tells (f j) ≡ tells j) → (rows : List Job) → All (λ j. passes (f j) ≡ test j) rows
+      → option_map tells (first_of passes before (map f rows)) ≡ option_map tells (first_of test before rows)
+  told_first tells same rows all = ap (option_map tells) (first_named rows all) ∙ of (first_of test before rows)
+    where
+      of : (o : Option Job) → option_map tells (option_map f o) ≡ option_map tells o
+      of None = refl
+      of (Some j) = ap (λ a. Some a) (same j)
+
+-- None passes, so none is first.
+pub none_first : (f : Job → Job) (passes : Job → Bool) (before : Job → Job → Bool) (rows : List Job) → All (λ j. passes (f j) ≡ false) rows
+    → first_of passes before (map f rows) ≡ None
+none_first f passes before [] all = refl
+none_first f passes before (j ∷ rows) all = ap (λ b. fold (better_of passes before) b (map f rows)) (rw all.0 refl) ∙ none_first f passes before rows all.1
+
+-- each passes as it does
+pub all_alike : (test : Job → Bool) (rows : List Job) → All (λ j. test j ≡ test j) rows
+all_alike test [] = tt
+all_alike test (j ∷ rows) = (refl, all_alike test rows)
+
+-- Additions, removals and changes are those of the records.
+pub added_named : (k : Known) (j : Job) (rows : List Job) → with_added (named k j) (map (named k) rows) ≡ map (named k) (with_added j rows)
+added_named k j [] = refl
+added_named k j (r ∷ rows) = elim (cases_Bool (nat_lt r.id j.id)) [
+  | inl e ↦ rw e (ap (λ ks. named k r ∷ ks) (added_named k j rows))
+  | inr e ↦ rw e refl
+]
+
+pub without_named : (k : Known) (id : ℕ) (rows : List Job) → without id (map (named k) rows) ≡ map (named k) (without id rows)
+without_named k id [] = refl
+without_named k id (r ∷ rows) = elim (cases_Bool (r.id == id)) [
+  | inl e ↦ rw e (without_named k id rows)
+  | inr e ↦ rw e (ap (λ ks. named k r ∷ ks) (without_named k id rows))
+]
+
+module _ (k : Known) (id : ℕ) (f : Job → Job) (ignores : IgnoresTube f) where
+  -- a change that ignores the tube stays in it
+  pub stays_in : KeepsTube f
+  stays_in j = ap (λ (i : Job). i.tube) (ignores j j.tube)
+
+  -- and is the same whatever the tube is called
+  pub edited_named : (j : Job) → f (named k j) ≡ named k (f j)
+  edited_named j = ignores j (named k j).tube ∙ ap (λ tube. record (f j) { tube = unwrap_or (name_of (number_in tube) k) [] }) (sym (stays_in j))
+
+  pub changed_named : (rows : List Job) → with_changed id f (map (named k) rows) ≡ map (named k) (with_changed id f rows)
+  changed_named [] = refl
+  changed_named (r ∷ rows) = elim (cases_Bool (r.id == id)) [
+    | inl e ↦ rw e (ap (λ j. j ∷ with_changed id f (map (named k) rows)) (edited_named r) ∙ ap (λ ks. named k (f r) ∷ ks) (changed_named rows))
+    | inr e ↦ rw e (ap (λ ks. named k r ∷ ks) (changed_named rows))
+  ]
+
+-- the job of an id is its record's
+pub job_named : (k : Known) (id : ℕ) (rows : List Job) → job_with id (map (named k) rows) ≡ option_map (named k) (job_with id rows)
+job_named k id rows = job_in_map (named k) id rows (λ j. refl)
+
+-- All stay numbered.
+pub numbered_added : (k : Known) (j : Job) (rows : List Job) → IsNumbered k j → AreNumbered k rows → AreNumbered k (with_added j rows)
+numbered_added k j [] is all = (is, tt)
+numbered_added k j (r ∷ rows) is all = elim (cases_Bool (nat_lt r.id j.id)) [
+  | inl e ↦ rw e (all.0, numbered_added k j rows is all.1)
+  | inr e ↦ rw e (is, all)
+]
+
+pub numbered_without : (k : Known) (id : ℕ) (rows : List Job) → AreNumbered k rows → AreNumbered k (without id rows)
+numbered_without k id [] all = tt
+numbered_without k id (r ∷ rows) all = elim (cases_Bool (r.id == id)) [
+  | inl e ↦ rw e (numbered_without k id rows all.1)
+  | inr e ↦ rw e (all.0, numbered_without k id rows all.1)
+]
+
+pub numbered_changed : (k : Known) (id : ℕ) (f : Job → Job) → KeepsTube f → (rows : List Job) → AreNumbered k rows → AreNumbered k (with_changed id f rows)
+numbered_changed k id f stays [] all = tt
+numbered_changed k id f stays (r ∷ rows) all = elim (cases_Bool (r.id == id)) [
+  | inl e ↦ rw e (subst (λ tube. (tube ≡ number_in tube ∷ []) × (is_some (name_of (number_in tube) k) ≡ true)) (sym (stays r)) all.0, numbered_changed k id f stays rows all.1)
+  | inr e ↦ rw e (all.0, numbered_changed k id f stays rows all.1)
+]
+
+-- the record of an id is numbered
+pub numbered_there : (k : Known) (id : ℕ) (rows : List Job) (j : Job) → AreNumbered k rows → job_with id rows ≡ Some j → IsNumbered k j
+numbered_there k id [] j all e = absurd cc
+numbered_there k id (r ∷ rows) j all e = elim (cases_Bool (r.id == id)) [
+  | inl t ↦ let two : Some r ≡ Some j = rw t at e in let is : r ≡ j = (cc) in subst (IsNumbered k) is all.0
+  | inr t ↦ numbered_there k id rows j all.1 (rw t at e)
+]
+
+-- a numbered record has a name
+named_by : (j : Job) (o : Option (List ℕ)) → is_some o ≡ true → option_map (in_tube j) o ≡ Some (record j { tube = unwrap_or o [] })
+named_by j None some = absurd cc
+named_by j (Some name) some = refl
+
+pub told_row : (k : Known) (j : Job) → IsNumbered k j → option_map (in_tube j) (name_of (number_in j.tube) k) ≡ Some (named k j)
+told_row k j is = named_by j (name_of (number_in j.tube) k) is.1
+
+-- no record, no job
+pub none_named : (k : Known) (id : ℕ) (rows : List Job) → job_with id (map (named k) rows) ≡ None → job_with id rows ≡ None
+none_named k id rows e = of (job_with id rows) (sym (job_named k id rows) ∙ e)
+  where
+    of : (o : Option Job) → option_map (named k) o ≡ None → o ≡ None
+    of None e = refl
+    of (Some j) e = absurd cc
+
+-- a job that was given the number of its tube
+pub numbered_row : (k : Known) (h : IsPaired k) (j : Job) (n : ℕ) → number_of j.tube k ≡ Some n → IsNumbered k (record j { tube = n ∷ [] })
+numbered_row k h j n own = (refl, ap is_some (h.there j.tube n own))
+
+pub row_named : (k : Known) (h : IsPaired k) (j : Job) (n : ℕ) → number_of j.tube k ≡ Some n → named k (record j { tube = n ∷ [] }) ≡ j
+row_named k h j n own = ap (λ o. record j { tube = unwrap_or o [] }) (h.there j.tube n own)
+
+-- what is told of a changed record is told of the job
+module _ (k : Known) (id : ℕ) (f : Job → Job) (ignores : IgnoresTube f) (m : MovedRow) where
+  moved_by_name : (j : Job) → IsNumbered k j → row_moved_by f j ≡ m → option_map (moved_in m) (name_of (number_in m.tube) k) ≡ Some (moved_by f (named k j))
+  moved_by_name j is e =
+      ap (λ (i : MovedRow). option_map (moved_in i) (name_of (number_in i.tube) k)) (sym e)
+      ∙ of (name_of (number_in j.tube) k) is.1
+      ∙ ap (λ i. Some (record { tube = (named k j).tube; from = standing j; to = standing i })) (sym (edited_named k id f ignores j))
+    where
+      of : (o : Option (List ℕ)) → is_some o ≡ true
+          → option_map (moved_in (row_moved_by f j)) o ≡ Some (record { tube = unwrap_or o []; from = standing j; to = standing (named k (f j)) })
+      of None some = absurd cc
+      of (Some name) some = refl
+
+  pub moved_named : (rows : List Job) → AreNumbered k rows → option_map (row_moved_by f) (job_with id rows) ≡ Some m
+      → option_map (moved_in m) (name_of (number_in m.tube) k) ≡ option_map (moved_by f) (job_with id (map (named k) rows))
+  moved_named rows all e = of (job_with id rows) refl e ∙ ap (option_map (moved_by f)) (sym (job_named k id rows))
+    where
+      of : (o : Option Job) → job_with id rows ≡ o → option_map (row_moved_by f) o ≡ Some m
+          → option_map (moved_in m) (name_of (number_in m.tube) k) ≡ option_map (moved_by f) (option_map (named k) o)
+      of None there e = absurd cc
+      of (Some j) there e = moved_by_name j (numbered_there k id rows j all there) (let two : Some (row_moved_by f j) ≡ Some m = e in (cc))
+
+pub not_moved : (k : Known) (id : ℕ) (f : Job → Job) (rows : List Job) → option_map (row_moved_by f) (job_with id rows) ≡ None
+    → None ≡ option_map (moved_by f) (job_with id (map (named k) rows))
+not_moved k id f rows e = of (job_with id rows) e ∙ ap (option_map (moved_by f)) (sym (job_named k id rows))
+  where
+    of : (o : Option Job) → option_map (row_moved_by f) o ≡ None → None ≡ option_map (moved_by f) (option_map (named k) o)
+    of None e = refl
+    of (Some j) e = absurd cc
+
+-- A tube more that is known changes no job's.
+pub numbered_known : (k : Known) (h : IsPaired k) (name : List ℕ) (rows : List Job) → AreNumbered k rows → AreNumbered (with_known name k) rows
+numbered_known k h name [] all = tt
+numbered_known k h name (j ∷ rows) all = ((all.0.0, ap is_some (name_kept k h name (number_in j.tube) all.0.1) ∙ all.0.1), numbered_known k h name rows all.1)
+
+pub named_known : (k : Known) (h : IsPaired k) (name : List ℕ) (rows : List Job) → AreNumbered k rows → map (named (with_known name k)) rows ≡ map (named k) rows
+named_known k h name [] all = refl
+named_known k h name (j ∷ rows) all =
+    ap (λ o. record j { tube = unwrap_or o [] } ∷ map (named (with_known name k)) rows) (name_kept k h name (number_in j.tube) all.0.1)
+    ∙ ap (λ js. named k j ∷ js) (named_known k h name rows all.1)
+
+-- Nor does one less, of which there is no job.
+module _ (k : Known) (h : IsPaired k) (name : List ℕ) where
+  stays_by : (m : ℕ) (o : Option (List ℕ)) → name_of m k ≡ o → is_some o ≡ true → is_same_name name (unwrap_or o []) ≡ false → name_of m (without_known name k) ≡ name_of m k
+  stays_by m None its some apart = absurd cc
+  stays_by m (Some other) its some apart = name_left k h name m other its apart
+
+  stays_named : (j : Job) → IsNumbered k j → is_same_name name (named k j).tube ≡ false → name_of (number_in j.tube) (without_known name k) ≡ name_of (number_in j.tube) k
+  stays_named j is apart = stays_by (number_in j.tube) (name_of (number_in j.tube) k) refl is.1 apart
+
+  pub numbered_left : (rows : List Job) → AreNumbered k rows → list_any (λ j. is_same_name name j.tube) (map (named k) rows) ≡ false → AreNumbered (without_known name k) rows
+  numbered_left [] all none = tt
+  numbered_left (j ∷ rows) all none =
+      let both = or_parts (is_same_name name (named k j).tube) (list_any (λ i. is_same_name name i.tube) (map (named k) rows)) none in
+      ((all.0.0, ap is_some (stays_named j all.0 both.0) ∙ all.0.1), numbered_left rows all.1 both.1)
+
+  pub named_left : (rows : List Job) → AreNumbered k rows → list_any (λ j. is_same_name name j.tube) (map (named k) rows) ≡ false → map (named (without_known name k)) rows ≡ map (named k) rows
+  named_left [] all none = refl
+  named_left (j ∷ rows) all none =
+      let both = or_parts (is_same_name name (named k j).tube) (list_any (λ i. is_same_name name i.tube) (map (named k) rows)) none in
+      ap (λ o. record j { tube = unwrap_or o [] } ∷ map (named (without_known name k)) rows) (stays_named j all.0 both.0)
+      ∙ ap (λ js. named k j ∷ js) (named_left rows all.1 both.1)
+
+-- The same of a call that was refused the memory for it, or wasn't.
+abbrev pub known_if : Bool → List ℕ → Known → Known
+known_if b name k = if b then with_known name k else k
+
+pub numbered_if : (b : Bool) (k : Known) (h : IsPaired k) (name : List ℕ) (rows : List Job) → AreNumbered k rows → AreNumbered (known_if b name k) rows
+numbered_if true k h name rows all = numbered_known k h name rows all
+numbered_if false k h name rows all = all
+
+pub named_if : (b : Bool) (k : Known) (h : IsPaired k) (name : List ℕ) (rows : List Job) → AreNumbered k rows → map (named (known_if b name k)) rows ≡ map (named k) rows
+named_if true k h name rows all = named_known k h name rows all
+named_if false k h name rows all = refl
+
+pub kept_if : (b : Bool) (k : Known) (h : IsPaired k) (name other : List ℕ) → is_some (number_of other k) ≡ true → is_some (number_of other (known_if b name k)) ≡ true
+kept_if true k h name other some = number_kept k h name other some
+kept_if false k h name other some = some
+
+pub known_of : {E : Type 0} (r : Result (Unit {0}) E) (k : Known) (h : IsPaired k) (name : List ℕ) → IfOk r (λ _. is_some (number_of name (known_if (is_ok r) name k)) ≡ true)
+known_of (Ok x) k h name = is_known_then k h name
+known_of (Err e) k h name = tt
+
+pub ok_as : {A E : Type 0} (r : Result A E) (P Q : Type 0) → (P → Q) → IfOk r (λ _. P) → IfOk r (λ _. Q)
+ok_as (Ok x) P Q h p = h p
+ok_as (Err e) P Q h p = tt
+
+-- the tube of a job is the name of its number
+pub tube_named : (k : Known) (id : ℕ) (rows : List Job) → AreNumbered k rows → (n : ℕ) → option_map (λ j. number_in j.tube) (job_with id rows) ≡ Some n
+    → name_of n k ≡ option_map (λ j. j.tube) (job_with id (map (named k) rows))
+tube_named k id rows all n e = of (job_with id rows) refl e ∙ ap (option_map (λ j. j.tube)) (sym (job_named k id rows))
+  where
+    of : (o : Option Job) → job_with id rows ≡ o → option_map (λ j. number_in j.tube) o ≡ Some n → name_of n k ≡ option_map (λ j. j.tube) (option_map (named k) o)
+    of None there e = absurd cc
+    of (Some j) there e =
+        let two : Some (number_in j.tube) ≡ Some n = e in
+        let is : number_in j.tube ≡ n = (cc) in
+        ap (λ i. name_of i k) (sym is) ∙ named_is (name_of (number_in j.tube) k) ((numbered_there k id rows j all there).1)
+      where
+        named_is : (o : Option (List ℕ)) → is_some o ≡ true → o ≡ Some (unwrap_or o [])
+        named_is None some = absurd cc
+        named_is (Some name) some = refl
+
+pub no_tube_named : (k : Known) (id : ℕ) (rows : List Job) → option_map (λ j. number_in j.tube) (job_with id rows) ≡ None
+    → None ≡ option_map (λ j. j.tube) (job_with id (map (named k) rows))
+no_tube_named k id rows e = of (job_with id rows) e ∙ ap (option_map (λ j. j.tube)) (sym (job_named k id rows))
+  where
+    of : (o : Option Job) → option_map (λ j. number_in j.tube) o ≡ None → None ≡ option_map (λ j. j.tube) (option_map (named k) o)
+    of None e = refl
+    of (Some j) e = absurd cc
+
+-- a record is the job but for its tube
+pub but_named : (k : Known) (id : ℕ) (rows : List Job) → option_map but_for_tube (job_with id rows) ≡ option_map but_for_tube (job_with id (map (named k) rows))
+but_named k id rows = of (job_with id rows) ∙ ap (option_map but_for_tube) (sym (job_named k id rows))
+  where
+    of : (o : Option Job) → option_map but_for_tube o ≡ option_map but_for_tube (option_map (named k) o)
+    of None = refl
+    of (Some j) = refl
+
+-- the look at a record and the look at the job
+pub same_looks : (r : Option (Bor Job)) → option_map (λ row. but_for_tube row.now) r ≡ option_map but_for_tube (option_map (λ j. j.now) r)
+same_looks None = refl
+same_looks (Some row) = refl
+
+length_named : (k : Known) (rows : List Job) → length (map (named k) rows) ≡ length rows
+length_named k [] = refl
+length_named k (j ∷ rows) = ap suc (length_named k rows)
+
+-- As many comparisons are those of a search among the jobs.
+pub counted_as : (k : Known) (rows old new : Kept) → kept_named rows k ≡ old → ComparesAtMost 1 rows new → ComparesAtMost 1 old new
+counted_as k rows old new is few =
+    subst (λ (m : Kept). ComparesAtMost 1 m new) is
+    (few.0, subst (λ n. new.comparisons ≤ rows.comparisons + 1 * (2 * binary_digits (2 * n + 2))) (sym (length_named k rows.jobs)) few.1)
+
+-- Of the record of a job, what is told is told of the job.
+record IsNamedFrom (k : Known) (o : Option Job) (j : Job) : Type 0 where
+  row : Job
+  there : o ≡ Some row
+  is : j ≡ named k row
+
+named_from_by : (k : Known) (o : Option Job) (j : Job) → option_map (named k) o ≡ Some j → IsNamedFrom k o j
+named_from_by k None j e = absurd cc
+named_from_by k (Some row) j e = record { row = row; there = refl; is = (cc) }
+
+named_from : (k : Known) (id : ℕ) (rows : List Job) (j : Job) → job_with id (map (named k) rows) ≡ Some j → IsNamedFrom k (job_with id rows) j
+named_from k id rows j e = named_from_by k (job_with id rows) j (sym (job_named k id rows) ∙ e)
+
+pub some_named : (k : Known) (id : ℕ) (rows : List Job) → is_some (job_with id rows) ≡ is_some (job_with id (map (named k) rows))
+some_named k id rows = of (job_with id rows) ∙ ap is_some (sym (job_named k id rows))
+  where
+    of : (o : Option Job) → is_some o ≡ is_some (option_map (named k) o)
+    of None = refl
+    of (Some j) = refl
+
+pub no_name : (k : Known) (id : ℕ) (rows : List Job) → AreNumbered k rows → (n : ℕ) → true ≡ is_some (job_with id rows) → IsNumberOf (job_with id rows) n → name_of n k ≡ None → ⊥
+no_name k id rows all n some is none = of (job_with id rows) refl some is
+  where
+    of : (o : Option Job) → job_with id rows ≡ o → true ≡ is_some o → IsNumberOf o n → ⊥
+    of None there e is = absurd cc
+    of (Some j) there e is =
+        let has : is_some (name_of (number_in j.tube) k) ≡ true = (numbered_there k id rows j all there).1 in
+        let gone : name_of (number_in j.tube) k ≡ None = ap (λ i. name_of i k) (sym (is j refl)) ∙ none in
+        let two : is_some (name_of (number_in j.tube) k) ≡ false = ap is_some gone in
+        absurd cc
+
+pub tube_is : (k : Known) (id : ℕ) (rows : List Job) (n : ℕ) (tube : List ℕ) → IsNumberOf (job_with id rows) n → name_of n k ≡ Some tube → IsTubeOf (job_with id (map (named k) rows)) tube
+tube_is k id rows n tube is its j e =
+    let from = named_from k id rows j e in
+    let has : name_of (number_in from.row.tube) k ≡ Some tube = ap (λ i. name_of i k) (sym (is from.row from.there)) ∙ its in
+    ap (λ o. unwrap_or o []) (sym has) ∙ ap (λ (i : Job). i.tube) (sym from.is)
+
+pub body_is : (k : Known) (id : ℕ) (rows : List Job) (body : List ℕ) → IsBodyOf (job_with id rows) body → IsBodyOf (job_with id (map (named k) rows)) body
+body_is k id rows body is j e =
+    let from = named_from k id rows j e in
+    is from.row from.there ∙ ap (λ (i : Job). i.body) (sym from.is)
+
+pub ok_to : {A E : Type 0} (r : Result A E) (P Q : A → Type 0) → ((a : A) → P a → Q a) → IfOk r P → IfOk r Q
+ok_to (Ok x) P Q h p = h x p
+ok_to (Err e) P Q h p = tt

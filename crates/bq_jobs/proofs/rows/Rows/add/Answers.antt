@@ -1,0 +1,47 @@
+use Rattle.std.proofs.Common.{arith, ◌+◌, cond, refl, sym, ap, ◌∙◌}
+use Rattle.std.specs.Prelude.{is_some}
+use Rattle.std.specs.Ordering.{nat_cmp}
+use Rattle.std.specs.Map.{lookup}
+use Rattle.std.specs.BTreeMap.{is_at, insert_entry}
+use Rattle.bq_job.specs.machine.Changes.{job_with}
+use Rattle.bq_jobs.specs.Inside.{jobs_of, kept_in}
+use Rattle.bq_jobs.specs.Kept.{Kept, with_added}
+use Rattle.bq_jobs.proofs.Counting.{few_more}
+use Rattle.bq_jobs.proofs.Firsts.{group_cmp, timer_cmp}
+use Rattle.bq_jobs.specs.PlaceOrder.{with_place}
+use Rattle.bq_jobs.proofs.Shelved.{found_in, id_search, jobs_added, shelved_added, group_search, timer_search}
+use Rattle.bq_jobs.proofs.rows.Rows.add.Goals as goal
+
+pub insert-requires-clause-absent : goal.insert-requires-clause-absent
+insert-requires-clause-absent c =
+    ap (λ id. lookup (is_at (nat_cmp id)) c.self.inside.by_id.entries) c.id_of.ensures
+    ∙ found_in c.args.job.id c.self.inside c.self.invariant ∙ ap (λ (m : Kept). job_with c.args.job.id m.jobs) c.self.view_is ∙ c.requires.absent
+
+pub invariant_of-self : goal.invariant_of-self
+invariant_of-self c =
+    let s = c.self.inside in
+    let j = c.args.job in
+    shelved_added j s (record { by_id = c.insert.new.self; groups = c.enter.new.order; timers = c.enter-2.new.order })
+    c.self.invariant (rw (← c.id_of.ensures) c.id_of.type_inv)
+    (ap (λ (m : Kept). job_with j.id m.jobs) c.self.view_is ∙ c.requires.absent) (record {
+      by_id = c.insert.ensures.entries ∙ ap (λ id. insert_entry nat_cmp s.by_id.entries id j) c.id_of.ensures;
+      room = c.insert.ensures.spare;
+      groups = c.enter.ensures.entries ∙ ap (λ p. with_place group_cmp p s.groups.entries) c.group_place.ensures;
+      group_spare = ap (λ p. c.enter.new.order.spare + cond (is_some p) 1 0) (sym c.group_place.ensures) ∙ c.enter.ensures.spare;
+      timers = c.enter-2.ensures.entries ∙ ap (λ p. with_place timer_cmp p s.timers.entries) c.timer_place.ensures;
+      timer_spare = ap (λ p. c.enter-2.new.order.spare + cond (is_some p) 1 0) (sym c.timer_place.ensures) ∙ c.enter-2.ensures.spare;
+    })
+
+pub returns-clause-jobs : goal.returns-clause-jobs
+returns-clause-jobs c =
+    ap jobs_of (c.insert.ensures.entries ∙ ap (λ id. insert_entry nat_cmp c.self.inside.by_id.entries id c.args.job) c.id_of.ensures)
+    ∙ jobs_added c.args.job c.self.inside c.self.invariant (ap (λ (m : Kept). job_with c.args.job.id m.jobs) c.self.view_is ∙ c.requires.absent)
+    ∙ ap (λ (m : Kept). with_added c.args.job m.jobs) c.self.view_is
+
+pub returns-clause-comparisons : goal.returns-clause-comparisons
+returns-clause-comparisons c =
+    let s = c.self.inside in
+    let h = c.self.invariant in
+    few_more 4 (kept_in s.by_id s.groups s.timers) c.args.self.now _ _ c.self.view_is refl
+    (omega (arith, c.insert.ensures.comparisons, c.enter.ensures.comparisons, c.enter-2.ensures.comparisons))
+    (omega (arith, c.insert.ensures.comparisons, c.enter.ensures.comparisons, c.enter-2.ensures.comparisons, id_search s.by_id, group_search s h, timer_search s h))

@@ -1,0 +1,24 @@
+use Rattle.std.proofs.Common.{arith, refl, ap, ◌∙◌}
+use Rattle.std.specs.Prelude.{option_map}
+use Rattle.bq_job.specs.machine.Changes.{first_of, is_held_by}
+use Rattle.bq_jobs.specs.Leases.{deadline_of, is_lease_before}
+use Rattle.bq_jobs.specs.Inside.{jobs_of, kept_in}
+use Rattle.bq_jobs.specs.Kept.{Kept, ranked}
+use Rattle.bq_jobs.proofs.Counting.{few_more}
+use Rattle.bq_jobs.proofs.FirstJobs.{held_rank_is}
+use Rattle.bq_jobs.proofs.Shelved.{group_search}
+use Rattle.bq_jobs.proofs.rows.Rows.next_deadline_of.Goals as goal
+
+pub returns-clause-rank : goal.returns-clause-rank
+returns-clause-rank c =
+    let s = c.self.inside in
+    let h = c.self.invariant in
+    c.first_rank.ensures.rank
+    ∙ held_rank_is (jobs_of s.by_id.entries) s.by_id.spare h.ids s.groups h.in_groups c.first_rank.ensures.ordered c.args.seat
+    ∙ ap (λ (m : Kept). option_map (ranked (λ j. deadline_of j.state)) (first_of (is_held_by c.args.seat) is_lease_before m.jobs)) c.self.view_is
+
+pub returns-clause-comparisons : goal.returns-clause-comparisons
+returns-clause-comparisons c =
+    let s = c.self.inside in
+    let few = c.first_rank.ensures.comparisons in
+    few_more 1 (kept_in s.by_id s.groups s.timers) c.args.self.now _ _ c.self.view_is refl (omega (arith, few)) (omega (arith, few, group_search s c.self.invariant))

@@ -1,0 +1,93 @@
+//! The tubes that are known.
+ghost use Rattle.std.specs.Prelude.{◌≡◌, [], is_ok, if◌then◌else◌};
+ghost use Rattle.std.specs.Option.{option_map};
+ghost use Rattle.bq_jobs.specs.Known.{IsPaired, name_of, number_of, with_known, without_known};
+
+use bq_index::Catalog;
+use bq_job::{NoMemory, TubeName};
+use std::alloc::Global;
+use std::marker::Model;
+
+/// The tubes that are known, each by its name and by its number. A number is given once and not again: so none
+/// can come to stand for another tube than the jobs were put into that have it.
+#[derive(Drop)]
+pub(crate) struct KnownTubes {
+    numbers: Catalog<TubeName, u64>,
+    names: Catalog<u64, TubeName>,
+    next: u64,
+}
+
+impl Model for KnownTubes {
+    ghost use Rattle.bq_jobs.specs.Known.{IsPaired, Known};
+
+    ghost Value = { Known };
+
+    ghost view = { λ k. record { numbers = k.numbers.entries; names = k.names.entries; next = k.next } };
+
+    ghost invariant = { λ k. IsPaired (record { numbers = k.numbers.entries; names = k.names.entries; next = k.next }) };
+}
+
+impl KnownTubes {
+    /// No tube.
+    pub(crate) fn new() -> KnownTubes
+        ensures { result ≡ record { numbers = []; names = []; next = 0 } }
+    {
+        KnownTubes {
+            numbers: Catalog::new(),
+            names: Catalog::new(),
+            next: 0,
+        }
+    }
+
+    /// The number of a tube.
+    pub(crate) fn number_of(&self, name: &TubeName) -> Option<u64>
+        ensures number { result ≡ number_of name.now self.now }
+        ensures paired { IsPaired self.now }
+    {
+        match self.numbers.peek(name) {
+            None => None,
+            Some(number) => Some(*number),
+        }
+    }
+
+    /// The name of the tube of this number.
+    pub(crate) fn name_of(&self, number: u64) -> Option<&TubeName>
+        ensures name { option_map (λ name. name.now) result ≡ name_of number self.now }
+        ensures paired { IsPaired self.now }
+    {
+        self.names.peek(&number)
+    }
+
+    /// Sees to it that a tube is known. The growth that this needs comes before any change.
+    pub(crate) fn add(&mut self, alloc: Global, name: &TubeName) -> Result<(), NoMemory>
+        ensures after { self.new ≡ (if is_ok result then with_known name.now self.old else self.old) }
+        ensures paired { IsPaired self.old }
+    {
+        if self.numbers.peek(name).is_some() {
+            return Ok(());
+        }
+        let Some(next) = self.next.checked_add(1) else {
+            return Err(NoMemory);
+        };
+        let Ok(()) = self.numbers.reserve(alloc, 1) else {
+            return Err(NoMemory);
+        };
+        let Ok(()) = self.names.reserve(alloc, 1) else {
+            return Err(NoMemory);
+        };
+        self.numbers.insert(*name, self.next);
+        self.names.insert(self.next, *name);
+        self.next = next;
+        Ok(())
+    }
+
+    /// Knows a tube no longer.
+    pub(crate) fn remove(&mut self, name: &TubeName)
+        ensures after { self.new ≡ without_known name.now self.old }
+        ensures paired { IsPaired self.old }
+    {
+        if let Some(number) = self.numbers.remove(name) {
+            let _name = self.names.remove(&number);
+        }
+    }
+}
