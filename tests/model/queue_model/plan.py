@@ -7,13 +7,15 @@ from . import beside, lockstep, programs, sessions, soak, worked
 from .broken import BROKEN
 from .machine import Machine
 
-# A round: batches of sessions, runs of 8, of 60 and of 100 clients, runs of clients side by side, and soaks, with their sizes.
+# A round: batches of sessions, runs of 8, of 60 and of 100 clients, runs of clients side by side, and soaks, with their
+# sizes; and how many tubes come and go in one session.
 BATCHES, SESSIONS = 40, 40
 EIGHT, EIGHT_ACTIONS = 24, 300
 SIXTY, SIXTY_ACTIONS = 6, 500
 HUNDRED, HUNDRED_ACTIONS = 2, 600
 BESIDE, BESIDE_CLIENTS = 3, 64
 SOAKS, SOAK_SECONDS = 2, 10
+TUBES = 10_000
 PROCESSES = 5
 LATE_TRIES = 4  # for the runs that couldn't be judged, once all others are done: a machine is held up for a minute, not for ever
 
@@ -33,6 +35,7 @@ def round_of(bq, bqd, known, rules, seed, one_in=1):
     calls += [(lockstep.lockstep, bqd, known["bqd"], rules, "%s/sixty/%d" % (seed, at), *sixty) for at in some(SIXTY)]
     calls += [(lockstep.lockstep, bqd, known["bqd"], rules, "%s/eight/%d" % (seed, at), *eight) for at in some(EIGHT)]
     calls += [(beside.beside, bqd, rules, "%s/beside/%d" % (seed, at), BESIDE_CLIENTS) for at in some(BESIDE)]
+    calls += [(sessions.tubes_in_turn, bq, rules, TUBES // one_in)]
     calls += [(soak.soak, bqd, "%s/soak/%d" % (seed, at), SOAK_SECONDS) for at in some(SOAKS)]
     return calls + [(sessions.batch, bq, known["bq"], rules, "%s/sessions/%d" % (seed, at), SESSIONS) for at in some(BATCHES)]
 

@@ -91,6 +91,26 @@ def one_session(program, known, rules, seed, will_shrink):
     return expected[1], None
 
 
+def in_turn(number):
+    """What is asked of the tube of this number: its one job comes into a state, is looked at, and goes two tubes later."""
+    tube, body = b"t%d" % number, b"%d" % number
+    delay = 100 if number % 4 == 1 else 0
+    lines = [b"use " + tube, b"put %d %d 60 %d\r\n%s" % (number % 7, delay, len(body), body), b"watch " + tube]
+    lines += [b"reserve-with-timeout 0"] * (number % 4 >= 2) + [b"bury %d 3" % number] * (number % 4 == 3)
+    lines += [b"peek-ready", b"peek-delayed", b"peek-buried", b"stats-job %d" % number, b"ignore " + tube]
+    lines += [b"delete %d" % (number - 2), b"stats-tube t%d" % (number - 2)] * (number > 2)
+    return b"".join(line + b"\r\n" for line in lines + [b"list-tubes"] * (number % 500 == 0))
+
+
+def tubes_in_turn(program, rules, many):
+    """So many tubes that come and go, each with a job: none is seen in another's tube."""
+    texts = [in_turn(number) for number in range(1, many + 1)]
+    told = difference(program, rules, PLAIN, [b"".join(texts)], 4 * programs.PATIENCE)
+    if told:
+        return report.failed("tubes in turn", 0, "%d tubes, differs %s" % (many, told))
+    return report.passed("tubes in turn", 1, sum(text.count(b"\r\n") - 1 for text in texts))
+
+
 def batch(program, known, rules, seed, many, will_shrink=True):
     """Some sessions, up to the first that differs."""
     commands = 0
