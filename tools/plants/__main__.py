@@ -142,7 +142,7 @@ class Judge:
                         continue
                     failed = self.failed(trial, root, programs, names)
                     if failed and failed >= names:
-                        return f"test {trial.name} {' '.join(sorted(failed))}"
+                        return f"test {trial.name} {', '.join(sorted(failed))}"
             except NotBuilt as it:
                 return str(it)
         return "passes"
@@ -167,7 +167,8 @@ def is_as_told(plant, said):
     kind = plant.end.split(" ")[0]
     if kind == "test":
         name, part = plant.told_trial()
-        return said.startswith(f"test {name} ") and part in said
+        kind, _, parts = said.partition(f"test {name} ")
+        return not kind and part in parts.split(", ")
     if kind == "clause":
         return said == "refused"
     return kind in ("allowed", "beyond") and said == "passes"
