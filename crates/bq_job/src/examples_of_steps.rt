@@ -1,8 +1,12 @@
 //! Worked examples of the machine. Each is a clause that holds by evaluating the definitions, and none
 //! runs our code.
-ghost use Rattle.bq_job.specs.declared.answer.Answer.TheVariants.{Buried, Closed, DeadlineSoon, Deleted, Draining, Found, Inserted, KickedCount, NotFound, Ok, OutOfMemory, Paused, Released, Reserved, TimedOut, Touched, Using, Watching};
-ghost use Rattle.bq_job.specs.declared.request.Request.TheVariants.{Bury, Delete, Ignore, Kick, PauseTube, Peek, Put, Release, Reserve, ReserveWithTimeout, StatsJob, Touch, Use, Watch};
-ghost use Rattle.bq_job.specs.examples.Examples.{Plays, PlaysWith, ask, at, at_most, close, drain, due_after, due_with, end, plain, requeued_after, tick, ◌gives◌};
+ghost use Rattle.bq_job.specs.declared.answer.Answer.TheVariants.{Buried, Closed, DeadlineSoon, Deleted, Draining, Found};
+ghost use Rattle.bq_job.specs.declared.answer.Answer.TheVariants.{Inserted, KickedCount, NotFound, Ok, OutOfMemory, Paused};
+ghost use Rattle.bq_job.specs.declared.answer.Answer.TheVariants.{Released, Reserved, TimedOut, Touched, Using, Watching};
+ghost use Rattle.bq_job.specs.declared.request.Request.TheVariants.{Bury, Delete, Ignore, Kick, PauseTube, Peek, Put};
+ghost use Rattle.bq_job.specs.declared.request.Request.TheVariants.{Release, Reserve, ReserveWithTimeout, StatsJob, Touch, Use, Watch};
+ghost use Rattle.bq_job.specs.examples.Examples.{Plays, PlaysWith, ask, at, at_most, close, drain};
+ghost use Rattle.bq_job.specs.examples.Examples.{due_after, due_with, end, plain, requeued_after, tick, ◌gives◌};
 ghost use Rattle.std.specs.Prelude.{List, [], ◌∷◌, ◌++◌, ◌≡◌, None, Some, codes};
 
 /// Of two waiting clients each gets the job of a tube that it watches, whoever has waited longer.

@@ -40,7 +40,14 @@ impl Model for TubeName {
         let whole : filled_up name ≡ n.bytes = sym h.2 in
         let rest : List ℕ = replicate (200 - length name) 0 in
         let len : length name ≡ n.len =
-        omega (arith, h.0, length-take n.len n.bytes, ap length h.2, length-append name rest, length-replicate {A = ℕ} (200 - length name) 0)
+        omega (
+          arith,
+          h.0,
+          length-take n.len n.bytes,
+          ap length h.2,
+          length-append name rest,
+          length-replicate {A = ℕ} (200 - length name) 0,
+        )
         in λ i. record { bytes = whole i; len = len i } };
 }
 

@@ -20,7 +20,8 @@ is_refusal answers.Draining = true
 is_refusal _ = false
 
 -- The command changed nothing: the step with these parts is what a tick is, but for its last answer.
-pub record ChangesNothing (parts : Parts) (seat : ℕ) (what : Step) (answer : Answer) (given : List GivenAnswer) (last : Machine) : Type 0 where
+pub record ChangesNothing (parts : Parts) (seat : ℕ) (what : Step) (answer : Answer)
+    (given : List GivenAnswer) (last : Machine) : Type 0 where
   pub machine : (acted parts.memory parts.before seat what).machine ≡ parts.before
   pub last_is : last ≡ parts.before
   pub given_is : given ≡ parts.handed ++ parts.ended ++ (seat, answer) ∷ []

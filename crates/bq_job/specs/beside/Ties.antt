@@ -14,7 +14,8 @@ use Rattle.bq_job.specs.beside.SeatDid.{AreLinesServed, IsSeatDone}
 
 -- At each seat the history has what the seat submitted, and what the run gives it is what it took
 -- and what waits for it.
-abbrev pub AreTied : ℕ → ℕ → List (List LineOver) → (ℕ → List Step) → (ℕ → List Answer) → (ℕ → List Answer) → List Entry → List GivenAnswer → Type 0
+abbrev pub AreTied : ℕ → ℕ → List (List LineOver) → (ℕ → List Step) → (ℕ → List Answer) → (ℕ → List Answer)
+    → List Entry → List GivenAnswer → Type 0
 AreTied max_job_size seat [] submitted taken waiting history given = Unit {0}
 AreTied max_job_size seat (lines ∷ doors) submitted taken waiting history given =
     (steps_at seat history ≡ submitted seat) × (answers_to seat given ≡ taken seat ++ waiting seat)
@@ -22,7 +23,8 @@ AreTied max_job_size seat (lines ∷ doors) submitted taken waiting history give
     × AreTied max_job_size (suc seat) doors submitted taken waiting history given
 
 -- what each part did, and the tie
-pub record IsJoined (settings : Settings) (doors : List (List LineOver)) (control : List ℕ) (failed : Bool) (readings : List (Option ℕ)) (history : List Entry) (given : List GivenAnswer) (last : Machine) : Type 0 where
+pub record IsJoined (settings : Settings) (doors : List (List LineOver)) (control : List ℕ) (failed : Bool)
+    (readings : List (Option ℕ)) (history : List Entry) (given : List GivenAnswer) (last : Machine) : Type 0 where
   pub submitted : ℕ → List Step
   pub taken : ℕ → List Answer
   pub waiting : ℕ → List Answer
@@ -34,7 +36,8 @@ pub record IsJoined (settings : Settings) (doors : List (List LineOver)) (contro
   pub of_nobody_else : AreSeatsUpTo settings.seats history
 
 -- what a lone seat and the core did, and the tie
-pub record IsLineJoined (settings : Settings) (seat : ℕ) (line : LineOver) (readings : List (Option ℕ)) (history : List Entry) (given : List GivenAnswer) (last : Machine) : Type 0 where
+pub record IsLineJoined (settings : Settings) (seat : ℕ) (line : LineOver) (readings : List (Option ℕ))
+    (history : List Entry) (given : List GivenAnswer) (last : Machine) : Type 0 where
   pub taken : List Answer
   pub waiting : List Answer
   pub within : seat < settings.seats

@@ -1,6 +1,7 @@
 -- The headline whole: of a run that left a history, the one run of the machine along it, the bytes of each
 -- line, and what became of jobs.
-use Rattle.std.specs.Prelude.{ℕ, Bool, false, ◌≡◌, ◌≤◌, ◌==◌, List, [], ◌∷◌, ◌++◌, Option, Contains, IsTrue, count_by, flat_map, length, map}
+use Rattle.std.specs.Prelude.{ℕ, Bool, false, ◌≡◌, ◌≤◌, ◌==◌, List, [], ◌∷◌, ◌++◌, Option}
+use Rattle.std.specs.Prelude.{Contains, IsTrue, count_by, flat_map, length, map}
 use Rattle.std.specs.List.{list_all, list_any}
 use Rattle.bq_job.specs.declared.answer.Answer.TheVariants.{Deleted, Inserted}
 use Rattle.bq_job.specs.declared.job.Job.{Job}
@@ -28,7 +29,8 @@ pub record AreJobsServed (taken : List Transition) (happened : List Happening) :
       → IsPutBefore a.id b.id happened → IsHandedOut a.id happened → IsHandedOut b.id happened → IsHandedOutBefore a.id b.id happened
   -- A job that was accepted is there, once, after each part of a step until it is deleted.
   pub kept : (early late : List Part) (p : Part) (j : Job) → parts_of_run taken ≡ early ++ p ∷ late
-      → Contains (happenings (early ++ p ∷ [])) (put j) → list_any (is_deletion j.id) (happenings (early ++ p ∷ [])) ≡ false → IsKept j p.machine
+      → Contains (happenings (early ++ p ∷ [])) (put j)
+      → list_any (is_deletion j.id) (happenings (early ++ p ∷ [])) ≡ false → IsKept j p.machine
   -- One client at most holds a job, and it is connected.
   pub held : (p : Part) → Contains (parts_of_run taken) p → IsHeldByOne p.machine
   -- DELETED goes to who asked, for a job that nobody else held.
@@ -36,11 +38,12 @@ pub record AreJobsServed (taken : List Transition) (happened : List Happening) :
   -- From the step that begins to drain on no put is accepted, and none is after the last id was given.
   pub drained : (early more : List Transition) (t : Transition) → taken ≡ early ++ t ∷ more → t.entry.what ≡ Drain
       → has_inserted (flat_map (λ (u : Transition). u.given) (t ∷ more)) ≡ false
-  pub last_id_given : (early more : List GivenAnswer) (seat : ℕ) → flat_map (λ (u : Transition). u.given) taken ≡ early ++ (seat, Inserted last_id) ∷ more
-      → has_inserted more ≡ false
+  pub last_id_given : (early more : List GivenAnswer) (seat : ℕ)
+      → flat_map (λ (u : Transition). u.given) taken ≡ early ++ (seat, Inserted last_id) ∷ more → has_inserted more ≡ false
 
 -- One list of everybody's steps, and of it all that is promised.
-pub record HeadlineHolds (settings : Settings) (doors : List (List LineOver)) (control : List ℕ) (failed : Bool) (readings : List (Option ℕ)) (last : Machine) : Type 0 where
+pub record HeadlineHolds (settings : Settings) (doors : List (List LineOver)) (control : List ℕ) (failed : Bool)
+    (readings : List (Option ℕ)) (last : Machine) : Type 0 where
   pub history : List Entry
   pub given : List GivenAnswer
   pub taken : List Transition

@@ -1,5 +1,6 @@
 -- The commands put, reserve, delete, release, bury, touch, kick and their kin.
-use Rattle.std.specs.Prelude.{ℕ, Bool, false, ◌+◌, ◌-◌, ◌^◌, ◌&&◌, ◌||◌, ◌==◌, not, nat_le, if◌then◌else◌, max, Option, None, Some, List, [], ◌∷◌, ◌++◌, map, filter, length, take}
+use Rattle.std.specs.Prelude.{ℕ, Bool, false, ◌+◌, ◌-◌, ◌^◌, ◌&&◌, ◌||◌, ◌==◌, not, nat_le, if◌then◌else◌, max}
+use Rattle.std.specs.Prelude.{Option, None, Some, List, [], ◌∷◌, ◌++◌, map, filter, length, take}
 use Rattle.std.specs.List.{list_any}
 use Rattle.bq_job.specs.declared.answer.Answer.TheVariants as answers
 use Rattle.bq_job.specs.declared.job.Counts.{Counts}
@@ -74,7 +75,8 @@ reserve_effect until m s =
 -- a job that nobody holds, in whatever tube, paused or not, watched or not
 abbrev pub reserve_job_effect : ℕ → Machine → SeatRecord → Effect
 reserve_job_effect id m s =
-    on_job id (λ j. not (is_reserved j.state)) (λ j. telling (answers.Reserved j.id j.body) (with_job id (reserved_by m.moment s.number) m)) m
+    on_job id (λ j. not (is_reserved j.state))
+    (λ j. telling (answers.Reserved j.id j.body) (with_job id (reserved_by m.moment s.number) m)) m
 
 -- a job that nobody holds, or that the client holds itself
 abbrev pub is_free_for : SeatRecord → Job → Bool

@@ -1,6 +1,7 @@
 -- Statistics of a job, of a tube and of the server. They are counts over the lists of the machine made
 -- now, beside the counters that the machine keeps.
-use Rattle.std.specs.Prelude.{ℕ, Bool, true, false, ◌&&◌, ◌-◌, ◌/◌, nat_lt, Option, Some, None, List, [], ◌∷◌, ◌++◌, length, count_by, filter, codes}
+use Rattle.std.specs.Prelude.{ℕ, Bool, true, false, ◌&&◌, ◌-◌, ◌/◌, nat_lt, Option, Some, None, List}
+use Rattle.std.specs.Prelude.{[], ◌∷◌, ◌++◌, length, count_by, filter, codes}
 use Rattle.bq_job.specs.declared.job.Job.{Job}
 use Rattle.bq_job.specs.declared.job.JobState.{JobState}
 use Rattle.bq_job.specs.declared.job.JobState.TheVariants as states

@@ -109,7 +109,8 @@ pub record Outcome : Type 0 where
 
 -- Timers fire, jobs are dispatched, waits end; then comes the command's own effect, and once more jobs
 -- are dispatched and waits end. The answers are in that order.
-pub record IsStep (first : Machine) (at seat : ℕ) (what : Step) (outcome : Outcome) (answers : List GivenAnswer) (last : Machine) : Type 0 where
+pub record IsStep (first : Machine) (at seat : ℕ) (what : Step) (outcome : Outcome)
+    (answers : List GivenAnswer) (last : Machine) : Type 0 where
   pub memory : Memory
   -- before and after the command's own effect
   pub before : Machine

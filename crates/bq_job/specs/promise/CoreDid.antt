@@ -6,6 +6,7 @@ use Rattle.bq_job.specs.promise.History.{IsTimedBy}
 use Rattle.bq_job.specs.machine.Machine.{Machine, Settings, new_machine}
 use Rattle.bq_job.specs.promise.Runs.{Entry, Run}
 
-pub record IsRun (settings : Settings) (readings : List (Option ℕ)) (history : List Entry) (given : List GivenAnswer) (last : Machine) : Type 0 where
+pub record IsRun (settings : Settings) (readings : List (Option ℕ)) (history : List Entry)
+    (given : List GivenAnswer) (last : Machine) : Type 0 where
   pub runs : Run (new_machine settings) history given last
   pub timed : IsTimedBy readings history

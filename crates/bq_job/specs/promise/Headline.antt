@@ -32,7 +32,8 @@ AreSeatsUpTo seat history = IsTrue (list_all (λ e. nat_le e.seat seat) (without
 -- One history holds the steps of each door's lines once and in their order, and for the control line so many
 -- drains and its end. Each entry has a reading of the clock of its own. The machine runs over it from the
 -- start, and each line was written exactly the bytes that it gives it there. There is a door at each seat.
-pub record IsHistoryOf (settings : Settings) (doors : List (List LineOver)) (control : List ℕ) (failed : Bool) (readings : List (Option ℕ)) (last : Machine) : Type 0 where
+pub record IsHistoryOf (settings : Settings) (doors : List (List LineOver)) (control : List ℕ) (failed : Bool)
+    (readings : List (Option ℕ)) (last : Machine) : Type 0 where
   pub history : List Entry
   pub given : List GivenAnswer
   pub run : IsRun settings readings history given last

@@ -1,5 +1,6 @@
 -- What a client's line does: its steps, and the bytes that are written to it.
-use Rattle.std.specs.Prelude.{ℕ, Bool, true, false, ◌≡◌, ◌≢◌, ◌⊎◌, ◌+◌, not, IsTrue, List, [], ◌∷◌, ◌++◌, map, length, flat_map, Option, Some}
+use Rattle.std.specs.Prelude.{ℕ, Bool, true, false, ◌≡◌, ◌≢◌, ◌⊎◌, ◌+◌, not, IsTrue, List, []}
+use Rattle.std.specs.Prelude.{◌∷◌, ◌++◌, map, length, flat_map, Option, Some}
 use Rattle.bq_job.specs.declared.answer.Answer.{Answer}
 use Rattle.bq_job.specs.declared.line_end.LineEnd.{LineEnd}
 use Rattle.bq_job.specs.declared.line_end.LineEnd.TheVariants as ends

@@ -62,7 +62,8 @@ GoesBy first (t ∷ taken) last = (t.first ≡ first) × IsTransition t × GoesB
 
 -- The machine takes the steps of the history, one after another. They come out so, and give these answers
 -- in this order. What is to be said of each step of the run is said of the list of steps taken.
-pub record RunBy (first : Machine) (history : List Entry) (outcomes : List Outcome) (given : List GivenAnswer) (last : Machine) : Type 0 where
+pub record RunBy (first : Machine) (history : List Entry) (outcomes : List Outcome)
+    (given : List GivenAnswer) (last : Machine) : Type 0 where
   pub taken : List Transition
   pub goes : GoesBy first taken last
   pub history_is : map (λ t. t.entry) taken ≡ history

@@ -58,7 +58,10 @@ word_of ListTubesWatched = codes "list-tubes-watched"
 word_of Quit = codes "quit"
 
 abbrev pub all_commands : List Command
-all_commands = Put ∷ Reserve ∷ ReserveWithTimeout ∷ ReserveJob ∷ Delete ∷ Release ∷ Bury ∷ Touch ∷ Kick ∷ KickJob ∷ Use ∷ ListTubeUsed ∷ Watch ∷ Ignore ∷ Peek ∷ PeekReady ∷ PeekDelayed ∷ PeekBuried ∷ PauseTube ∷ StatsJob ∷ StatsTube ∷ Stats ∷ ListTubes ∷ ListTubesWatched ∷ Quit ∷ []
+all_commands =
+    Put ∷ Reserve ∷ ReserveWithTimeout ∷ ReserveJob ∷ Delete ∷ Release ∷ Bury ∷ Touch ∷ Kick ∷ KickJob
+    ∷ Use ∷ ListTubeUsed ∷ Watch ∷ Ignore ∷ Peek ∷ PeekReady ∷ PeekDelayed ∷ PeekBuried ∷ PauseTube
+    ∷ StatsJob ∷ StatsTube ∷ Stats ∷ ListTubes ∷ ListTubesWatched ∷ Quit ∷ []
 
 -- the command that a word names. Upper and lower case are different.
 abbrev pub command_named : List ℕ → Option Command

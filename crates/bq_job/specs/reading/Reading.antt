@@ -1,5 +1,6 @@
 -- The reading of a text into requests. It depends on how many bytes a job may have at most.
-use Rattle.std.specs.Prelude.{ℕ, ◌≡◌, ◌+◌, ◌⊎◌, Bool, true, false, ◌&&◌, not, nat_lt, IsTrue, MatchBool, MatchOption, List, [], ◌∷◌, ◌++◌, length, take, drop, if◌then◌else◌}
+use Rattle.std.specs.Prelude.{ℕ, ◌≡◌, ◌+◌, ◌⊎◌, Bool, true, false, ◌&&◌, not, nat_lt, IsTrue, MatchBool}
+use Rattle.std.specs.Prelude.{MatchOption, List, [], ◌∷◌, ◌++◌, length, take, drop, if◌then◌else◌}
 use Rattle.bq_job.specs.reading.TubeName.{is_same_name}
 use Rattle.bq_job.specs.reading.Line.{first_line, line_end}
 use Rattle.bq_job.specs.reading.LineRead.{LineRead, Whole, PutWaits, PutLine, read_line}

@@ -1,5 +1,6 @@
 -- The words of a line, and the numbers and names that they can be.
-use Rattle.std.specs.Prelude.{ℕ, Bool, ◌&&◌, ◌==◌, nat_le, nat_lt, ◌+◌, ◌*◌, ◌-◌, ◌^◌, List, Option, Some, None, fold, length, if◌then◌else◌}
+use Rattle.std.specs.Prelude.{ℕ, Bool, ◌&&◌, ◌==◌, nat_le, nat_lt, ◌+◌, ◌*◌, ◌-◌, ◌^◌, List}
+use Rattle.std.specs.Prelude.{Option, Some, None, fold, length, if◌then◌else◌}
 use Rattle.std.specs.List.{list_all, slice_split}
 use Rattle.bq_job.specs.reading.TubeName.{is_tube_name}
 
