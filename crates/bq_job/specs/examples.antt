@@ -1,5 +1,6 @@
 -- Worked examples, checked by evaluation.
 pub mod AnswerExamples
+pub mod Digits
 pub mod Examples
 pub mod HistoryExamples
 pub mod RunExamples

@@ -2,6 +2,8 @@
 //! is a clause that holds by evaluating the definitions of the reading, the machine and the texts, and
 //! none runs our code.
 
+#![tactic(auto, unfolding(crate::specs::examples::Digits::digits))]
+
 ghost use Rattle.bq_job.specs.examples.Examples.{at_most, plain, replies, replies_with, replies_within};
 ghost use Rattle.std.specs.Prelude.{List, [], ◌≡◌, ◌++◌, codes, replicate};
 

@@ -38,6 +38,7 @@ fn deadline_soon_at_one_second()
 {}
 
 /// A client that waits when its own lease ends gets that job again.
+#[tactic(auto, unfolding(crate::specs::examples::Digits::digits))]
 fn lease_expires_to_its_waiter()
     ensures { Plays
         (ask 0 (Put 0 0 2 (codes "x")) gives ((0, Inserted 1) ∷ [])
@@ -78,6 +79,7 @@ fn close_hands_on()
 
 /// With a delay for the jobs of a lost connection, such a job comes back when the delay is over, with its
 /// own delay and counts. An expired lease is ready at once.
+#[tactic(auto, unfolding(crate::specs::examples::Digits::digits))]
 fn requeue_after_close()
     ensures lost { PlaysWith (requeued_after 5 (plain 3 65535))
         (ask 0 (Put 0 0 9 (codes "x")) gives ((0, Inserted 1) ∷ [])

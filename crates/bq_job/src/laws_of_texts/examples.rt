@@ -1,6 +1,6 @@
 //! Texts that were written down by hand, computed out of the definitions: each contract holds by
 //! computing both of its sides, and the bodies are empty.
-#![tactic(auto)]
+#![tactic(auto, unfolding(crate::specs::examples::Digits::digits))]
 
 ghost use Rattle.std.specs.Prelude.{◌≡◌, codes, length, [], ◌∷◌, ◌++◌, map};
 ghost use Rattle.bq_job.specs.examples.AnswerExamples.{sample_answers, sample_texts};

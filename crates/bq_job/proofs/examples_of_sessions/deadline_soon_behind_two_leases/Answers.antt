@@ -1,7 +1,0 @@
-use Rattle.std.proofs.Common.{refl}
-use Rattle.std.specs.Fmt.{digits}
-use Rattle.bq_job.proofs.examples_of_sessions.deadline_soon_behind_two_leases.Goals as goal
-
-pub returns : goal.returns
-unfolding digits
-returns c = refl
