@@ -1,4 +1,4 @@
--- Runs, one step at a time: what a run of no step, of a first step, of a last step and of two parts is.
+-- Runs, one step at a time: what a run of no step, of a first step and of a last step is, and how two join.
 use Rattle.std.proofs.Common.{◌≡◌, List, [], ◌∷◌, ◌++◌, map, refl, sym, ap, ◌∙◌, subst, append_assoc}
 use Rattle.std.specs.Prelude.{flat_map}
 use Rattle.bq_job.specs.machine.Dispatch.{GivenAnswer}
@@ -15,15 +15,6 @@ pub record Begins (first : Machine) (e : Entry) (history : List Entry) (given : 
   pub step : IsStep first e.moment e.seat e.what outcome now next
   pub given_is : given ≡ now ++ more
   pub rest : Run next history more last
-
--- A run consists of two.
-pub record Splits (first : Machine) (history more : List Entry) (given : List GivenAnswer) (last : Machine) : Type 0 where
-  pub given_first : List GivenAnswer
-  pub given_then : List GivenAnswer
-  pub middle : Machine
-  pub run_first : Run first history given_first middle
-  pub run_then : Run middle more given_then last
-  pub given_is : given ≡ given_first ++ given_then
 
 -- the step, as one that was taken
 abbrev pub taken_as : (first : Machine) (e : Entry) (outcome : Outcome) (given : List GivenAnswer) (last : Machine) → IsStep first e.moment e.seat e.what outcome given last → Transition
@@ -81,17 +72,3 @@ run_append first next last (e ∷ history) more given later r s =
     let b = run_first first next e history given r in
     subst (λ (xs : List GivenAnswer). Run first (e ∷ history ++ more) xs last) (sym (append_assoc b.now b.more later) ∙ ap (λ (xs : List GivenAnswer). xs ++ later) (sym b.given_is))
     (run_from first b.next last e (history ++ more) b.outcome b.now (b.more ++ later) b.step (run_append b.next next last history more b.more later b.rest s))
-
-pub run_split : (first last : Machine) (history more : List Entry) (given : List GivenAnswer) → Run first (history ++ more) given last → Splits first history more given last
-run_split first last [] more given r = record { given_first = []; given_then = given; middle = first; run_first = run_none first; run_then = r; given_is = refl }
-run_split first last (e ∷ history) more given r =
-    let b = run_first first last e (history ++ more) given r in
-    let s = run_split b.next last history more b.more b.rest in
-    record {
-      given_first = b.now ++ s.given_first;
-      given_then = s.given_then;
-      middle = s.middle;
-      run_first = run_from first b.next s.middle e history b.outcome b.now s.given_first b.step s.run_first;
-      run_then = s.run_then;
-      given_is = b.given_is ∙ ap (λ (xs : List GivenAnswer). b.now ++ xs) s.given_is ∙ sym (append_assoc b.now s.given_first s.given_then);
-    }
