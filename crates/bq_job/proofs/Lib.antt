@@ -44,3 +44,4 @@ pub mod CutLemmas
 pub mod GivenLemmas
 pub mod JoinLemmas
 pub mod HistoryLemmas
+pub mod FilledLemmas

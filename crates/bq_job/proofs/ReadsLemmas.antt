@@ -77,6 +77,9 @@ reading_within-Reads (suc n) size text short = go (reading_within-Reads n size) 
 pub reading-Reads : (size : ℕ) (text : List ℕ) → Reads size text (reading size text).0 (reading size text).1
 reading-Reads size text = reading_within-Reads (length text) size text (omega arith)
 
+-- the same, by a name that an attribute can cite
+pub ruleset computed_readings = (reading-Reads)
+
 -- a put that had its memory is no quit
 had_memory-quit : (r : Request) → IsTrue (had_memory r) → is_quit r ≡ false
 had_memory-quit requests.Quit h = cc

@@ -9,6 +9,7 @@ ghost use Rattle.bq_job.specs.declared.request.Request.{Request};
 mod examples;
 
 /// Every text has a reading: the computed one, which meets no want of memory.
+#[tactic(auto, using(crate::proofs::ReadsLemmas::computed_readings))]
 pub fn every_text_is_read()
     ensures { (max_job_size : ℕ) (text : List ℕ) → Reads max_job_size text (reading max_job_size text).0 (reading max_job_size text).1 }
 {}

@@ -109,6 +109,7 @@ fn is_name(bytes: &[u8]) -> bool
 }
 
 // The bytes at the front of an array of zeros.
+#[tactic(auto, using(crate::proofs::FilledLemmas::filled_front))]
 fn filled(bytes: &[u8]) -> [u8; LONGEST_NAME]
     requires { length bytes.now ≤ 200 }
     ensures { result ≡ filled_up bytes.now }
