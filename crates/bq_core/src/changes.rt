@@ -7,7 +7,7 @@ ghost use Rattle.bq_job.specs.machine.Timers.{at_moment};
 ghost use Rattle.bq_job.specs.machine.TubeOrder.{tubes};
 ghost use Rattle.bq_job.specs.machine.Tubes.{forgetting, watches, with_tube};
 ghost use Rattle.bq_jobs.specs.Kept.{ComparesAtMost, with_added, without};
-ghost use Rattle.bq_jobs.specs.Known.{is_known};
+ghost use Rattle.bq_jobs.specs.Numbering.{is_known};
 ghost use Rattle.bq_core.specs.Asking.{Asks};
 ghost use Rattle.bq_core.specs.Crowds.{may_wait};
 ghost use Rattle.bq_core.specs.JobChanges.{changed};

@@ -5,8 +5,8 @@ pub mod Counting
 pub mod FirstJobs
 pub mod FirstOfGroup
 pub mod Firsts
-pub mod KnownLemmas
 pub mod NamedJobs
+pub mod NumberingLemmas
 pub mod Orders
 pub mod Shelved
 pub mod Told

@@ -15,10 +15,10 @@ use Rattle.bq_index.specs.Digits.{binary_digits}
 use Rattle.bq_jobs.specs.Kept.{ComparesAtMost, Kept, with_added, without}
 use Rattle.bq_jobs.specs.declared.edit.MovedRow.{MovedRow}
 use Rattle.bq_jobs.specs.Changed.{IgnoresTube, KeepsTube, moved_by, moved_in, row_moved_by, standing, with_changed}
-use Rattle.bq_jobs.specs.Known.{AreNumbered, IsNumbered, IsPaired, Known, kept_named, name_of, named, number_of, with_known, without_known}
+use Rattle.bq_jobs.specs.Numbering.{AreNumbered, IsNumbered, IsPaired, Numbering, kept_named, name_of, named, number_of, with_known, without_known}
 use Rattle.bq_jobs.specs.Names.{number_in}
 use Rattle.bq_jobs.specs.Seen.{IsBodyOf, IsNumberOf, IsTubeOf, but_for_tube, in_tube}
-use Rattle.bq_jobs.proofs.KnownLemmas.{is_known_then, name_kept, name_left, number_kept}
+use Rattle.bq_jobs.proofs.NumberingLemmas.{is_known_then, name_kept, name_left, number_kept}
 
 or_parts : (a b : Bool) → (a || b) ≡ false → (a ≡ false) × (b ≡ false)
 or_parts true b e = absurd cc
@@ -27,7 +27,7 @@ or_parts false b e = (refl, e)
 same_itself : (a : List ℕ) → is_same_name a a ≡ true
 same_itself a = (bytes_decides a a).1 refl
 
-module _ (k : Known) (h : IsPaired k) (name : List ℕ) where
+module _ (k : Numbering) (h : IsPaired k) (name : List ℕ) where
   -- the name of a tube is this one where its number is,
   told_by : (n m : ℕ) → number_of name k ≡ Some n → (o : Option (List ℕ)) → name_of m k ≡ o → is_some o ≡ true
       → is_same_name name (unwrap_or o []) ≡ is_same_name (n ∷ []) (m ∷ [])
@@ -126,21 +126,21 @@ all_alike test [] = tt
 all_alike test (j ∷ rows) = (refl, all_alike test rows)
 
 -- Additions, removals and changes are those of the records.
-pub added_named : (k : Known) (j : Job) (rows : List Job) → with_added (named k j) (map (named k) rows) ≡ map (named k) (with_added j rows)
+pub added_named : (k : Numbering) (j : Job) (rows : List Job) → with_added (named k j) (map (named k) rows) ≡ map (named k) (with_added j rows)
 added_named k j [] = refl
 added_named k j (r ∷ rows) = elim (cases_Bool (nat_lt r.id j.id)) [
   | inl e ↦ rw e (ap (λ ks. named k r ∷ ks) (added_named k j rows))
   | inr e ↦ rw e refl
 ]
 
-pub without_named : (k : Known) (id : ℕ) (rows : List Job) → without id (map (named k) rows) ≡ map (named k) (without id rows)
+pub without_named : (k : Numbering) (id : ℕ) (rows : List Job) → without id (map (named k) rows) ≡ map (named k) (without id rows)
 without_named k id [] = refl
 without_named k id (r ∷ rows) = elim (cases_Bool (r.id == id)) [
   | inl e ↦ rw e (without_named k id rows)
   | inr e ↦ rw e (ap (λ ks. named k r ∷ ks) (without_named k id rows))
 ]
 
-module _ (k : Known) (id : ℕ) (f : Job → Job) (ignores : IgnoresTube f) where
+module _ (k : Numbering) (id : ℕ) (f : Job → Job) (ignores : IgnoresTube f) where
   -- a change that ignores the tube stays in it
   pub stays_in : KeepsTube f
   stays_in j = ap (λ (i : Job). i.tube) (ignores j j.tube)
@@ -157,25 +157,25 @@ module _ (k : Known) (id : ℕ) (f : Job → Job) (ignores : IgnoresTube f) wher
   ]
 
 -- the job of an id is its record's
-pub job_named : (k : Known) (id : ℕ) (rows : List Job) → job_with id (map (named k) rows) ≡ option_map (named k) (job_with id rows)
+pub job_named : (k : Numbering) (id : ℕ) (rows : List Job) → job_with id (map (named k) rows) ≡ option_map (named k) (job_with id rows)
 job_named k id rows = job_in_map (named k) id rows (λ j. refl)
 
 -- All stay numbered.
-pub numbered_added : (k : Known) (j : Job) (rows : List Job) → IsNumbered k j → AreNumbered k rows → AreNumbered k (with_added j rows)
+pub numbered_added : (k : Numbering) (j : Job) (rows : List Job) → IsNumbered k j → AreNumbered k rows → AreNumbered k (with_added j rows)
 numbered_added k j [] is all = (is, tt)
 numbered_added k j (r ∷ rows) is all = elim (cases_Bool (nat_lt r.id j.id)) [
   | inl e ↦ rw e (all.0, numbered_added k j rows is all.1)
   | inr e ↦ rw e (is, all)
 ]
 
-pub numbered_without : (k : Known) (id : ℕ) (rows : List Job) → AreNumbered k rows → AreNumbered k (without id rows)
+pub numbered_without : (k : Numbering) (id : ℕ) (rows : List Job) → AreNumbered k rows → AreNumbered k (without id rows)
 numbered_without k id [] all = tt
 numbered_without k id (r ∷ rows) all = elim (cases_Bool (r.id == id)) [
   | inl e ↦ rw e (numbered_without k id rows all.1)
   | inr e ↦ rw e (all.0, numbered_without k id rows all.1)
 ]
 
-pub numbered_changed : (k : Known) (id : ℕ) (f : Job → Job) → KeepsTube f → (rows : List Job) → AreNumbered k rows → AreNumbered k (with_changed id f rows)
+pub numbered_changed : (k : Numbering) (id : ℕ) (f : Job → Job) → KeepsTube f → (rows : List Job) → AreNumbered k rows → AreNumbered k (with_changed id f rows)
 numbered_changed k id f stays [] all = tt
 numbered_changed k id f stays (r ∷ rows) all = elim (cases_Bool (r.id == id)) [
   | inl e ↦ rw e (subst (λ tube. (tube ≡ number_in tube ∷ []) × (is_some (name_of (number_in tube) k) ≡ true)) (sym (stays r)) all.0, numbered_changed k id f stays rows all.1)
@@ -183,7 +183,7 @@ numbered_changed k id f stays (r ∷ rows) all = elim (cases_Bool (r.id == id)) 
 ]
 
 -- the record of an id is numbered
-pub numbered_there : (k : Known) (id : ℕ) (rows : List Job) (j : Job) → AreNumbered k rows → job_with id rows ≡ Some j → IsNumbered k j
+pub numbered_there : (k : Numbering) (id : ℕ) (rows : List Job) (j : Job) → AreNumbered k rows → job_with id rows ≡ Some j → IsNumbered k j
 numbered_there k id [] j all e = absurd cc
 numbered_there k id (r ∷ rows) j all e = elim (cases_Bool (r.id == id)) [
   | inl t ↦ let two : Some r ≡ Some j = rw t at e in let is : r ≡ j = (cc) in subst (IsNumbered k) is all.0
@@ -195,11 +195,11 @@ named_by : (j : Job) (o : Option (List ℕ)) → is_some o ≡ true → option_m
 named_by j None some = absurd cc
 named_by j (Some name) some = refl
 
-pub told_row : (k : Known) (j : Job) → IsNumbered k j → option_map (in_tube j) (name_of (number_in j.tube) k) ≡ Some (named k j)
+pub told_row : (k : Numbering) (j : Job) → IsNumbered k j → option_map (in_tube j) (name_of (number_in j.tube) k) ≡ Some (named k j)
 told_row k j is = named_by j (name_of (number_in j.tube) k) is.1
 
 -- no record, no job
-pub none_named : (k : Known) (id : ℕ) (rows : List Job) → job_with id (map (named k) rows) ≡ None → job_with id rows ≡ None
+pub none_named : (k : Numbering) (id : ℕ) (rows : List Job) → job_with id (map (named k) rows) ≡ None → job_with id rows ≡ None
 none_named k id rows e = of (job_with id rows) (sym (job_named k id rows) ∙ e)
   where
     of : (o : Option Job) → option_map (named k) o ≡ None → o ≡ None
@@ -207,14 +207,14 @@ none_named k id rows e = of (job_with id rows) (sym (job_named k id rows) ∙ e)
     of (Some j) e = absurd cc
 
 -- a job that was given the number of its tube
-pub numbered_row : (k : Known) (h : IsPaired k) (j : Job) (n : ℕ) → number_of j.tube k ≡ Some n → IsNumbered k (record j { tube = n ∷ [] })
+pub numbered_row : (k : Numbering) (h : IsPaired k) (j : Job) (n : ℕ) → number_of j.tube k ≡ Some n → IsNumbered k (record j { tube = n ∷ [] })
 numbered_row k h j n own = (refl, ap is_some (h.there j.tube n own))
 
-pub row_named : (k : Known) (h : IsPaired k) (j : Job) (n : ℕ) → number_of j.tube k ≡ Some n → named k (record j { tube = n ∷ [] }) ≡ j
+pub row_named : (k : Numbering) (h : IsPaired k) (j : Job) (n : ℕ) → number_of j.tube k ≡ Some n → named k (record j { tube = n ∷ [] }) ≡ j
 row_named k h j n own = ap (λ o. record j { tube = unwrap_or o [] }) (h.there j.tube n own)
 
 -- what is told of a changed record is told of the job
-module _ (k : Known) (id : ℕ) (f : Job → Job) (ignores : IgnoresTube f) (m : MovedRow) where
+module _ (k : Numbering) (id : ℕ) (f : Job → Job) (ignores : IgnoresTube f) (m : MovedRow) where
   moved_by_name : (j : Job) → IsNumbered k j → row_moved_by f j ≡ m → option_map (moved_in m) (name_of (number_in m.tube) k) ≡ Some (moved_by f (named k j))
   moved_by_name j is e =
       ap (λ (i : MovedRow). option_map (moved_in i) (name_of (number_in i.tube) k)) (sym e)
@@ -235,7 +235,7 @@ module _ (k : Known) (id : ℕ) (f : Job → Job) (ignores : IgnoresTube f) (m :
       of None there e = absurd cc
       of (Some j) there e = moved_by_name j (numbered_there k id rows j all there) (let two : Some (row_moved_by f j) ≡ Some m = e in (cc))
 
-pub not_moved : (k : Known) (id : ℕ) (f : Job → Job) (rows : List Job) → option_map (row_moved_by f) (job_with id rows) ≡ None
+pub not_moved : (k : Numbering) (id : ℕ) (f : Job → Job) (rows : List Job) → option_map (row_moved_by f) (job_with id rows) ≡ None
     → None ≡ option_map (moved_by f) (job_with id (map (named k) rows))
 not_moved k id f rows e = of (job_with id rows) e ∙ ap (option_map (moved_by f)) (sym (job_named k id rows))
   where
@@ -244,18 +244,18 @@ not_moved k id f rows e = of (job_with id rows) e ∙ ap (option_map (moved_by f
     of (Some j) e = absurd cc
 
 -- A tube more that is known changes no job's.
-pub numbered_known : (k : Known) (h : IsPaired k) (name : List ℕ) (rows : List Job) → AreNumbered k rows → AreNumbered (with_known name k) rows
+pub numbered_known : (k : Numbering) (h : IsPaired k) (name : List ℕ) (rows : List Job) → AreNumbered k rows → AreNumbered (with_known name k) rows
 numbered_known k h name [] all = tt
 numbered_known k h name (j ∷ rows) all = ((all.0.0, ap is_some (name_kept k h name (number_in j.tube) all.0.1) ∙ all.0.1), numbered_known k h name rows all.1)
 
-pub named_known : (k : Known) (h : IsPaired k) (name : List ℕ) (rows : List Job) → AreNumbered k rows → map (named (with_known name k)) rows ≡ map (named k) rows
+pub named_known : (k : Numbering) (h : IsPaired k) (name : List ℕ) (rows : List Job) → AreNumbered k rows → map (named (with_known name k)) rows ≡ map (named k) rows
 named_known k h name [] all = refl
 named_known k h name (j ∷ rows) all =
     ap (λ o. record j { tube = unwrap_or o [] } ∷ map (named (with_known name k)) rows) (name_kept k h name (number_in j.tube) all.0.1)
     ∙ ap (λ js. named k j ∷ js) (named_known k h name rows all.1)
 
 -- Nor does one less, of which there is no job.
-module _ (k : Known) (h : IsPaired k) (name : List ℕ) where
+module _ (k : Numbering) (h : IsPaired k) (name : List ℕ) where
   stays_by : (m : ℕ) (o : Option (List ℕ)) → name_of m k ≡ o → is_some o ≡ true → is_same_name name (unwrap_or o []) ≡ false → name_of m (without_known name k) ≡ name_of m k
   stays_by m None its some apart = absurd cc
   stays_by m (Some other) its some apart = name_left k h name m other its apart
@@ -277,22 +277,22 @@ module _ (k : Known) (h : IsPaired k) (name : List ℕ) where
       ∙ ap (λ js. named k j ∷ js) (named_left rows all.1 both.1)
 
 -- The same of a call that was refused the memory for it, or wasn't.
-abbrev pub known_if : Bool → List ℕ → Known → Known
+abbrev pub known_if : Bool → List ℕ → Numbering → Numbering
 known_if b name k = if b then with_known name k else k
 
-pub numbered_if : (b : Bool) (k : Known) (h : IsPaired k) (name : List ℕ) (rows : List Job) → AreNumbered k rows → AreNumbered (known_if b name k) rows
+pub numbered_if : (b : Bool) (k : Numbering) (h : IsPaired k) (name : List ℕ) (rows : List Job) → AreNumbered k rows → AreNumbered (known_if b name k) rows
 numbered_if true k h name rows all = numbered_known k h name rows all
 numbered_if false k h name rows all = all
 
-pub named_if : (b : Bool) (k : Known) (h : IsPaired k) (name : List ℕ) (rows : List Job) → AreNumbered k rows → map (named (known_if b name k)) rows ≡ map (named k) rows
+pub named_if : (b : Bool) (k : Numbering) (h : IsPaired k) (name : List ℕ) (rows : List Job) → AreNumbered k rows → map (named (known_if b name k)) rows ≡ map (named k) rows
 named_if true k h name rows all = named_known k h name rows all
 named_if false k h name rows all = refl
 
-pub kept_if : (b : Bool) (k : Known) (h : IsPaired k) (name other : List ℕ) → is_some (number_of other k) ≡ true → is_some (number_of other (known_if b name k)) ≡ true
+pub kept_if : (b : Bool) (k : Numbering) (h : IsPaired k) (name other : List ℕ) → is_some (number_of other k) ≡ true → is_some (number_of other (known_if b name k)) ≡ true
 kept_if true k h name other some = number_kept k h name other some
 kept_if false k h name other some = some
 
-pub known_of : {E : Type 0} (r : Result (Unit {0}) E) (k : Known) (h : IsPaired k) (name : List ℕ) → IfOk r (λ _. is_some (number_of name (known_if (is_ok r) name k)) ≡ true)
+pub known_of : {E : Type 0} (r : Result (Unit {0}) E) (k : Numbering) (h : IsPaired k) (name : List ℕ) → IfOk r (λ _. is_some (number_of name (known_if (is_ok r) name k)) ≡ true)
 known_of (Ok x) k h name = is_known_then k h name
 known_of (Err e) k h name = tt
 
@@ -301,7 +301,7 @@ ok_as (Ok x) P Q h p = h p
 ok_as (Err e) P Q h p = tt
 
 -- the tube of a job is the name of its number
-pub tube_named : (k : Known) (id : ℕ) (rows : List Job) → AreNumbered k rows → (n : ℕ) → option_map (λ j. number_in j.tube) (job_with id rows) ≡ Some n
+pub tube_named : (k : Numbering) (id : ℕ) (rows : List Job) → AreNumbered k rows → (n : ℕ) → option_map (λ j. number_in j.tube) (job_with id rows) ≡ Some n
     → name_of n k ≡ option_map (λ j. j.tube) (job_with id (map (named k) rows))
 tube_named k id rows all n e = of (job_with id rows) refl e ∙ ap (option_map (λ j. j.tube)) (sym (job_named k id rows))
   where
@@ -316,7 +316,7 @@ tube_named k id rows all n e = of (job_with id rows) refl e ∙ ap (option_map (
         named_is None some = absurd cc
         named_is (Some name) some = refl
 
-pub no_tube_named : (k : Known) (id : ℕ) (rows : List Job) → option_map (λ j. number_in j.tube) (job_with id rows) ≡ None
+pub no_tube_named : (k : Numbering) (id : ℕ) (rows : List Job) → option_map (λ j. number_in j.tube) (job_with id rows) ≡ None
     → None ≡ option_map (λ j. j.tube) (job_with id (map (named k) rows))
 no_tube_named k id rows e = of (job_with id rows) e ∙ ap (option_map (λ j. j.tube)) (sym (job_named k id rows))
   where
@@ -325,7 +325,7 @@ no_tube_named k id rows e = of (job_with id rows) e ∙ ap (option_map (λ j. j.
     of (Some j) e = absurd cc
 
 -- a record is the job but for its tube
-pub but_named : (k : Known) (id : ℕ) (rows : List Job) → option_map but_for_tube (job_with id rows) ≡ option_map but_for_tube (job_with id (map (named k) rows))
+pub but_named : (k : Numbering) (id : ℕ) (rows : List Job) → option_map but_for_tube (job_with id rows) ≡ option_map but_for_tube (job_with id (map (named k) rows))
 but_named k id rows = of (job_with id rows) ∙ ap (option_map but_for_tube) (sym (job_named k id rows))
   where
     of : (o : Option Job) → option_map but_for_tube o ≡ option_map but_for_tube (option_map (named k) o)
@@ -337,37 +337,37 @@ pub same_looks : (r : Option (Bor Job)) → option_map (λ row. but_for_tube row
 same_looks None = refl
 same_looks (Some row) = refl
 
-length_named : (k : Known) (rows : List Job) → length (map (named k) rows) ≡ length rows
+length_named : (k : Numbering) (rows : List Job) → length (map (named k) rows) ≡ length rows
 length_named k [] = refl
 length_named k (j ∷ rows) = ap suc (length_named k rows)
 
 -- As many comparisons are those of a search among the jobs.
-pub counted_as : (k : Known) (rows old new : Kept) → kept_named rows k ≡ old → ComparesAtMost 1 rows new → ComparesAtMost 1 old new
+pub counted_as : (k : Numbering) (rows old new : Kept) → kept_named rows k ≡ old → ComparesAtMost 1 rows new → ComparesAtMost 1 old new
 counted_as k rows old new is few =
     subst (λ (m : Kept). ComparesAtMost 1 m new) is
     (few.0, subst (λ n. new.comparisons ≤ rows.comparisons + 1 * (2 * binary_digits (2 * n + 2))) (sym (length_named k rows.jobs)) few.1)
 
 -- Of the record of a job, what is told is told of the job.
-record IsNamedFrom (k : Known) (o : Option Job) (j : Job) : Type 0 where
+record IsNamedFrom (k : Numbering) (o : Option Job) (j : Job) : Type 0 where
   row : Job
   there : o ≡ Some row
   is : j ≡ named k row
 
-named_from_by : (k : Known) (o : Option Job) (j : Job) → option_map (named k) o ≡ Some j → IsNamedFrom k o j
+named_from_by : (k : Numbering) (o : Option Job) (j : Job) → option_map (named k) o ≡ Some j → IsNamedFrom k o j
 named_from_by k None j e = absurd cc
 named_from_by k (Some row) j e = record { row = row; there = refl; is = (cc) }
 
-named_from : (k : Known) (id : ℕ) (rows : List Job) (j : Job) → job_with id (map (named k) rows) ≡ Some j → IsNamedFrom k (job_with id rows) j
+named_from : (k : Numbering) (id : ℕ) (rows : List Job) (j : Job) → job_with id (map (named k) rows) ≡ Some j → IsNamedFrom k (job_with id rows) j
 named_from k id rows j e = named_from_by k (job_with id rows) j (sym (job_named k id rows) ∙ e)
 
-pub some_named : (k : Known) (id : ℕ) (rows : List Job) → is_some (job_with id rows) ≡ is_some (job_with id (map (named k) rows))
+pub some_named : (k : Numbering) (id : ℕ) (rows : List Job) → is_some (job_with id rows) ≡ is_some (job_with id (map (named k) rows))
 some_named k id rows = of (job_with id rows) ∙ ap is_some (sym (job_named k id rows))
   where
     of : (o : Option Job) → is_some o ≡ is_some (option_map (named k) o)
     of None = refl
     of (Some j) = refl
 
-pub no_name : (k : Known) (id : ℕ) (rows : List Job) → AreNumbered k rows → (n : ℕ) → true ≡ is_some (job_with id rows) → IsNumberOf (job_with id rows) n → name_of n k ≡ None → ⊥
+pub no_name : (k : Numbering) (id : ℕ) (rows : List Job) → AreNumbered k rows → (n : ℕ) → true ≡ is_some (job_with id rows) → IsNumberOf (job_with id rows) n → name_of n k ≡ None → ⊥
 no_name k id rows all n some is none = of (job_with id rows) refl some is
   where
     of : (o : Option Job) → job_with id rows ≡ o → true ≡ is_some o → IsNumberOf o n → ⊥
@@ -378,13 +378,13 @@ no_name k id rows all n some is none = of (job_with id rows) refl some is
         let two : is_some (name_of (number_in j.tube) k) ≡ false = ap is_some gone in
         absurd cc
 
-pub tube_is : (k : Known) (id : ℕ) (rows : List Job) (n : ℕ) (tube : List ℕ) → IsNumberOf (job_with id rows) n → name_of n k ≡ Some tube → IsTubeOf (job_with id (map (named k) rows)) tube
+pub tube_is : (k : Numbering) (id : ℕ) (rows : List Job) (n : ℕ) (tube : List ℕ) → IsNumberOf (job_with id rows) n → name_of n k ≡ Some tube → IsTubeOf (job_with id (map (named k) rows)) tube
 tube_is k id rows n tube is its j e =
     let from = named_from k id rows j e in
     let has : name_of (number_in from.row.tube) k ≡ Some tube = ap (λ i. name_of i k) (sym (is from.row from.there)) ∙ its in
     ap (λ o. unwrap_or o []) (sym has) ∙ ap (λ (i : Job). i.tube) (sym from.is)
 
-pub body_is : (k : Known) (id : ℕ) (rows : List Job) (body : List ℕ) → IsBodyOf (job_with id rows) body → IsBodyOf (job_with id (map (named k) rows)) body
+pub body_is : (k : Numbering) (id : ℕ) (rows : List Job) (body : List ℕ) → IsBodyOf (job_with id rows) body → IsBodyOf (job_with id (map (named k) rows)) body
 body_is k id rows body is j e =
     let from = named_from k id rows j e in
     is from.row from.there ∙ ap (λ (i : Job). i.body) (sym from.is)

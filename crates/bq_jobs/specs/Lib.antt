@@ -1,11 +1,11 @@
 pub mod Changed
 pub mod Inside
 pub mod Kept
-pub mod Known
 pub mod Laws
 pub mod Leases
 pub mod Lent
 pub mod Names
+pub mod Numbering
 pub mod PlaceOrder
 pub mod Places
 pub mod Seen

@@ -10,18 +10,18 @@ ghost use Rattle.bq_job.specs.machine.TubeCommands.{is_ready_in};
 ghost use Rattle.bq_job.specs.reading.TubeName.{is_same_name};
 ghost use Rattle.std.specs.List.{list_any};
 ghost use Rattle.bq_jobs.specs.Changed.{IgnoresTube, KeepsId, moved_by, moved_in, with_changed};
-ghost use Rattle.bq_jobs.specs.Known.{IsPaired, is_known, name_of};
+ghost use Rattle.bq_jobs.specs.Numbering.{IsPaired, is_known, name_of};
 ghost use Rattle.bq_jobs.specs.Names.{number_in};
 ghost use Rattle.bq_jobs.specs.Seen.{IsBodyOf, IsTubeOf, but_for_tube, in_tube};
 ghost use Rattle.bq_jobs.specs.Kept.{ComparesAtMost, ranked, with_added, without};
 ghost use Rattle.bq_jobs.specs.Leases.{deadline_of, is_lease_before};
 
 use super::edit::{JobEdit, Moved, MovedRow};
-use super::known::KnownTubes;
 use super::number::TubeNumber;
 use super::row;
 use super::row::Row;
 use super::rows::Rows;
+use super::tube_numbers::TubeNumbers;
 use bq_index::BoxSource;
 use bq_job::{Body, Job, JobId, Moment, NoMemory, Seat, TubeName};
 use std::alloc::Global;
@@ -33,18 +33,18 @@ use std::marker::Model;
 #[derive(Drop)]
 pub struct Jobs {
     rows: Rows,
-    known: KnownTubes,
+    tubes: TubeNumbers,
 }
 
 impl Model for Jobs {
     ghost use Rattle.bq_jobs.specs.Kept.{Kept};
-    ghost use Rattle.bq_jobs.specs.Known.{AreNumbered, kept_named};
+    ghost use Rattle.bq_jobs.specs.Numbering.{AreNumbered, kept_named};
 
     ghost Value = { Kept };
 
-    ghost view = { λ s. kept_named s.rows s.known };
+    ghost view = { λ s. kept_named s.rows s.tubes };
 
-    ghost invariant = { λ s. AreNumbered s.known s.rows.jobs };
+    ghost invariant = { λ s. AreNumbered s.tubes s.rows.jobs };
 }
 
 impl Jobs {
@@ -57,7 +57,7 @@ impl Jobs {
     {
         Jobs {
             rows: Rows::new(),
-            known: KnownTubes::new(),
+            tubes: TubeNumbers::new(),
         }
     }
 
@@ -114,7 +114,7 @@ impl Jobs {
         ensures room { self.new.room + 1 ≡ self.old.room }
         ensures comparisons { ComparesAtMost 4 self.old self.new }
     {
-        if let Some(number) = self.known.number_of(&job.tube) {
+        if let Some(number) = self.tubes.number_of(&job.tube) {
             self.rows.add(row::row_of(job, number));
         }
     }
@@ -130,7 +130,7 @@ impl Jobs {
         ensures comparisons { ComparesAtMost 4 self.old self.new }
     {
         let row = self.rows.remove(id)?;
-        job_of(&self.known, row)
+        job_of(&self.tubes, row)
     }
 
     /// Changes the job of this id, if there is one. Its record stays where it lies, and it goes from its
@@ -145,7 +145,7 @@ impl Jobs {
         ensures comparisons { ComparesAtMost 7 self.old self.new }
     {
         let moved = self.rows.change(id, edit)?;
-        told_of(&self.known, moved)
+        told_of(&self.tubes, moved)
     }
 
     /// The record of the job of this id, which tells all of it but the name of its tube.
@@ -163,7 +163,7 @@ impl Jobs {
         ensures comparisons { ComparesAtMost 1 self.old self.new }
     {
         let number = self.rows.number_of(id)?;
-        self.known.name_of(number).copied()
+        self.tubes.name_of(number).copied()
     }
 
     /// The tube of the job of this id, and one more owner of its body, unless that is refused.
@@ -175,7 +175,7 @@ impl Jobs {
         ensures comparisons { ComparesAtMost 1 self.old self.new }
     {
         let (number, body) = self.rows.share(id)?;
-        let tube = self.known.name_of(number)?;
+        let tube = self.tubes.name_of(number)?;
         Some((*tube, body))
     }
 
@@ -185,7 +185,7 @@ impl Jobs {
         ensures same { self.new ≡ record self.old { comparisons = self.new.comparisons } }
         ensures comparisons { ComparesAtMost 1 self.old self.new }
     {
-        let number = self.known.number_of(tube)?;
+        let number = self.tubes.number_of(tube)?;
         self.rows.first_ready(&TubeNumber::of(number))
     }
 
@@ -195,7 +195,7 @@ impl Jobs {
         ensures same { self.new ≡ record self.old { comparisons = self.new.comparisons } }
         ensures comparisons { ComparesAtMost 1 self.old self.new }
     {
-        let number = self.known.number_of(tube)?;
+        let number = self.tubes.number_of(tube)?;
         self.rows.first_delayed(&TubeNumber::of(number))
     }
 
@@ -205,7 +205,7 @@ impl Jobs {
         ensures same { self.new ≡ record self.old { comparisons = self.new.comparisons } }
         ensures comparisons { ComparesAtMost 1 self.old self.new }
     {
-        let number = self.known.number_of(tube)?;
+        let number = self.tubes.number_of(tube)?;
         self.rows.first_buried(&TubeNumber::of(number))
     }
 
@@ -242,7 +242,7 @@ impl Jobs {
         ensures same { self.new ≡ record self.old { comparisons = self.new.comparisons } }
         ensures comparisons { ComparesAtMost 1 self.old self.new }
     {
-        let number = self.known.number_of(tube)?;
+        let number = self.tubes.number_of(tube)?;
         self.rows.most_urgent(&TubeNumber::of(number))
     }
 
@@ -283,7 +283,7 @@ impl Jobs {
         ensures others { (other : List ℕ) → is_known other self.old ≡ true → is_known other self.new ≡ true }
         ensures same { self.new ≡ record self.old { tubes = self.new.tubes } }
     {
-        self.known.add(alloc, tube)
+        self.tubes.add(alloc, tube)
     }
 
     /// No job is put into the tube any more, unless it is known anew. It has none.
@@ -292,27 +292,27 @@ impl Jobs {
         ensures others { (other : List ℕ) → is_same_name tube.now other ≡ false → is_known other self.new ≡ is_known other self.old }
         ensures same { self.new ≡ record self.old { tubes = self.new.tubes } }
     {
-        self.known.remove(tube);
+        self.tubes.remove(tube);
     }
 }
 
 // The job of a record, in the tube of its number.
-fn job_of(known: &KnownTubes, row: Row) -> Option<Job>
-    ensures job { result ≡ option_map (in_tube row) (name_of (number_in row.tube) known.now) }
-    ensures paired { IsPaired known.now }
+fn job_of(tubes: &TubeNumbers, row: Row) -> Option<Job>
+    ensures job { result ≡ option_map (in_tube row) (name_of (number_in row.tube) tubes.now) }
+    ensures paired { IsPaired tubes.now }
 {
-    match known.name_of(row.tube.get()) {
+    match tubes.name_of(row.tube.get()) {
         None => None,
         Some(tube) => Some(row::job_of(row, *tube)),
     }
 }
 
 // What is told of a changed record, with the name of its tube.
-fn told_of(known: &KnownTubes, moved: MovedRow) -> Option<Moved>
-    ensures told { result ≡ option_map (moved_in moved) (name_of (number_in moved.tube) known.now) }
-    ensures paired { IsPaired known.now }
+fn told_of(tubes: &TubeNumbers, moved: MovedRow) -> Option<Moved>
+    ensures told { result ≡ option_map (moved_in moved) (name_of (number_in moved.tube) tubes.now) }
+    ensures paired { IsPaired tubes.now }
 {
-    match known.name_of(moved.tube.get()) {
+    match tubes.name_of(moved.tube.get()) {
         None => None,
         Some(tube) => Some(Moved {
             tube: *tube,

@@ -24,10 +24,10 @@ pub use row::Row;
 
 mod edit;
 mod jobs;
-mod known;
 pub mod laws;
 mod number;
 mod order;
 mod place;
 mod row;
 mod rows;
+mod tube_numbers;

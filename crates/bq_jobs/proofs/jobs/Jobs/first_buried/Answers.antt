@@ -4,13 +4,13 @@ use Rattle.bq_job.specs.machine.Changes.{first_of}
 use Rattle.bq_job.specs.machine.JobStates.{is_buried, is_buried_before}
 use Rattle.bq_job.specs.machine.JobCommands.{is_buried_in}
 use Rattle.bq_jobs.specs.Kept.{Kept}
-use Rattle.bq_jobs.specs.Known.{named}
+use Rattle.bq_jobs.specs.Numbering.{named}
 use Rattle.bq_jobs.proofs.NamedJobs.{all_told, none_first, none_told, told_first}
 use Rattle.bq_jobs.proofs.jobs.Jobs.first_buried.Goals as goal
 
 pub returns-in_err-number-clause-id : goal.returns-in_err-number-clause-id
 returns-in_err-number-clause-id c =
-    let k = c.self.inside.known in
+    let k = c.self.inside.tubes in
     let name = c.args.tube.now in
     let rows = c.self.inside.rows.jobs in
     let none = none_told k c.number_of.ensures.paired name (sym c.number_of.ensures.number ∙ c.in_err-number.was) (λ j. is_buried j.state) rows c.self.invariant in
@@ -19,7 +19,7 @@ returns-in_err-number-clause-id c =
 
 pub returns-clause-id : goal.returns-clause-id
 returns-clause-id c =
-    let k = c.self.inside.known in
+    let k = c.self.inside.tubes in
     let name = c.args.tube.now in
     let rows = c.self.inside.rows.jobs in
     let n = c.in_ok-number.number in

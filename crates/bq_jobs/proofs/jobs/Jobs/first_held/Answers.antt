@@ -2,14 +2,14 @@ use Rattle.std.proofs.Common.{refl, sym, ap, ◌∙◌}
 use Rattle.std.specs.Prelude.{option_map}
 use Rattle.bq_job.specs.machine.Changes.{first_of, is_held_by}
 use Rattle.bq_jobs.specs.Kept.{Kept}
-use Rattle.bq_jobs.specs.Known.{named}
+use Rattle.bq_jobs.specs.Numbering.{named}
 use Rattle.bq_jobs.specs.Leases.{is_lease_before}
 use Rattle.bq_jobs.proofs.NamedJobs.{all_alike, told_first}
 use Rattle.bq_jobs.proofs.jobs.Jobs.first_held.Goals as goal
 
 pub returns-clause-id : goal.returns-clause-id
 returns-clause-id c =
-    let k = c.self.inside.known in
+    let k = c.self.inside.tubes in
     let rows = c.self.inside.rows.jobs in
     c.first_held.ensures.id
     ∙ sym (told_first (named k) (is_held_by c.args.seat) (is_held_by c.args.seat) is_lease_before (λ a b. refl) (λ j. j.id) (λ j. refl) rows (all_alike (is_held_by c.args.seat) rows))

@@ -2,14 +2,14 @@ use Rattle.std.proofs.Common.{Some, None, Option, map, refl, sym, ap, ◌∙◌,
 use Rattle.std.specs.Prelude.{option_map}
 use Rattle.bq_job.specs.machine.Changes.{job_with}
 use Rattle.bq_jobs.specs.Kept.{Kept, search_bound}
-use Rattle.bq_jobs.specs.Known.{named}
+use Rattle.bq_jobs.specs.Numbering.{named}
 use Rattle.bq_jobs.specs.Seen.{but_for_tube}
 use Rattle.bq_jobs.proofs.NamedJobs.{but_named, counted_as, same_looks}
 use Rattle.bq_jobs.proofs.jobs.Jobs.get.Goals as goal
 
 pub returns : goal.returns
 returns c =
-    let k = c.self.inside.known in
+    let k = c.self.inside.tubes in
     let rows = c.self.inside.rows in
     let left = c.get.follows.holds-at-none in (
       (

@@ -1,32 +1,32 @@
 use Rattle.std.proofs.Common.{map, sym, ap, ◌∙◌, ◌≡◌, is_some, true, subst}
 use Rattle.std.specs.Prelude.{is_ok}
 use Rattle.bq_jobs.specs.Kept.{Kept}
-use Rattle.bq_jobs.specs.Known.{AreNumbered, is_known, named, number_of}
+use Rattle.bq_jobs.specs.Numbering.{AreNumbered, is_known, named, number_of}
 use Rattle.bq_jobs.proofs.NamedJobs.{kept_if, known_if, known_of, named_if, numbered_if, ok_as}
 use Rattle.bq_jobs.proofs.jobs.Jobs.know.Goals as goal
 
 pub invariant_of-self : goal.invariant_of-self
 invariant_of-self c =
-    let k = c.self.inside.known in
+    let k = c.self.inside.tubes in
     let rows = c.self.inside.rows.jobs in
     subst (λ n. AreNumbered n rows) (sym c.add.ensures.after) (numbered_if (is_ok c.add.result) k c.add.ensures.paired c.args.tube.now rows c.self.invariant)
 
 pub returns-clause-known : goal.returns-clause-known
 returns-clause-known c =
-    let k = c.self.inside.known in
+    let k = c.self.inside.tubes in
     let name = c.args.tube.now in
     ok_as c.add.result (is_some (number_of name (known_if (is_ok c.add.result) name k)) ≡ true) (is_some (number_of name c.add.new.self) ≡ true)
     (λ h. ap (λ n. is_some (number_of name n)) c.add.ensures.after ∙ h) (known_of c.add.result k c.add.ensures.paired name)
 
 pub returns-clause-others : goal.returns-clause-others
 returns-clause-others c other some =
-    let k = c.self.inside.known in
+    let k = c.self.inside.tubes in
     ap (λ n. is_some (number_of other n)) c.add.ensures.after
     ∙ kept_if (is_ok c.add.result) k c.add.ensures.paired c.args.tube.now other (ap (λ (m : Kept). is_known other m) c.self.view_is ∙ some)
 
 pub returns-clause-same : goal.returns-clause-same
 returns-clause-same c =
-    let k = c.self.inside.known in
+    let k = c.self.inside.tubes in
     let rows = c.self.inside.rows.jobs in
     let jobs = ap (λ n. map (named n) rows) c.add.ensures.after ∙ named_if (is_ok c.add.result) k c.add.ensures.paired c.args.tube.now rows c.self.invariant in
     ap (λ js. record { jobs = js; room = c.self.inside.rows.room; comparisons = c.self.inside.rows.comparisons; tubes = c.add.new.self.numbers }) jobs

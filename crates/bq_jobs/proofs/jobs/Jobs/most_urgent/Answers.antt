@@ -4,13 +4,13 @@ use Rattle.bq_job.specs.machine.Changes.{first_of, is_ready}
 use Rattle.bq_job.specs.machine.Dispatch.{is_job_before}
 use Rattle.bq_job.specs.machine.TubeCommands.{is_ready_in}
 use Rattle.bq_jobs.specs.Kept.{Kept, ranked}
-use Rattle.bq_jobs.specs.Known.{named}
+use Rattle.bq_jobs.specs.Numbering.{named}
 use Rattle.bq_jobs.proofs.NamedJobs.{all_told, none_first, none_told, told_first}
 use Rattle.bq_jobs.proofs.jobs.Jobs.most_urgent.Goals as goal
 
 pub returns-in_err-number-clause-rank : goal.returns-in_err-number-clause-rank
 returns-in_err-number-clause-rank c =
-    let k = c.self.inside.known in
+    let k = c.self.inside.tubes in
     let name = c.args.tube.now in
     let rows = c.self.inside.rows.jobs in
     let none = none_told k c.number_of.ensures.paired name (sym c.number_of.ensures.number ∙ c.in_err-number.was) is_ready rows c.self.invariant in
@@ -19,7 +19,7 @@ returns-in_err-number-clause-rank c =
 
 pub returns-clause-rank : goal.returns-clause-rank
 returns-clause-rank c =
-    let k = c.self.inside.known in
+    let k = c.self.inside.tubes in
     let name = c.args.tube.now in
     let rows = c.self.inside.rows.jobs in
     let n = c.in_ok-number.number in

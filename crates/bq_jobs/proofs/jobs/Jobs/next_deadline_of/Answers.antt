@@ -2,14 +2,14 @@ use Rattle.std.proofs.Common.{refl, sym, ap, ◌∙◌}
 use Rattle.std.specs.Prelude.{option_map}
 use Rattle.bq_job.specs.machine.Changes.{first_of, is_held_by}
 use Rattle.bq_jobs.specs.Kept.{Kept, ranked}
-use Rattle.bq_jobs.specs.Known.{named}
+use Rattle.bq_jobs.specs.Numbering.{named}
 use Rattle.bq_jobs.specs.Leases.{deadline_of, is_lease_before}
 use Rattle.bq_jobs.proofs.NamedJobs.{all_alike, told_first}
 use Rattle.bq_jobs.proofs.jobs.Jobs.next_deadline_of.Goals as goal
 
 pub returns-clause-rank : goal.returns-clause-rank
 returns-clause-rank c =
-    let k = c.self.inside.known in
+    let k = c.self.inside.tubes in
     let rows = c.self.inside.rows.jobs in
     c.next_deadline_of.ensures.rank
     ∙ sym (told_first (named k) (is_held_by c.args.seat) (is_held_by c.args.seat) is_lease_before (λ a b. refl) (ranked (λ j. deadline_of j.state)) (λ j. refl) rows (all_alike (is_held_by c.args.seat) rows))

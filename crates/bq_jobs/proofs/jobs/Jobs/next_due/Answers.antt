@@ -3,13 +3,13 @@ use Rattle.std.specs.Prelude.{option_map}
 use Rattle.bq_job.specs.machine.Changes.{first_of}
 use Rattle.bq_job.specs.machine.JobStates.{due_of, is_delayed, is_due_before}
 use Rattle.bq_jobs.specs.Kept.{Kept, ranked}
-use Rattle.bq_jobs.specs.Known.{named}
+use Rattle.bq_jobs.specs.Numbering.{named}
 use Rattle.bq_jobs.proofs.NamedJobs.{all_alike, told_first}
 use Rattle.bq_jobs.proofs.jobs.Jobs.next_due.Goals as goal
 
 pub returns-clause-rank : goal.returns-clause-rank
 returns-clause-rank c =
-    let k = c.self.inside.known in
+    let k = c.self.inside.tubes in
     let rows = c.self.inside.rows.jobs in
     c.next_due.ensures.rank
     ∙ sym (told_first (named k) (λ j. is_delayed j.state) (λ j. is_delayed j.state) is_due_before (λ a b. refl) (ranked (λ j. due_of j.state)) (λ j. refl) rows (all_alike (λ j. is_delayed j.state) rows))

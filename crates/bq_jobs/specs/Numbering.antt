@@ -11,19 +11,19 @@ use Rattle.bq_jobs.specs.Kept.{Kept}
 use Rattle.bq_jobs.specs.Names.{number_in}
 
 -- the number of each tube by its name, the name of each number, and the number that the next tube gets
-pub record Known : Type 0 where
+pub record Numbering : Type 0 where
   pub numbers : List (List ℕ × ℕ)
   pub names : List (ℕ × List ℕ)
   pub next : ℕ
 
-abbrev pub number_of : List ℕ → Known → Option ℕ
+abbrev pub number_of : List ℕ → Numbering → Option ℕ
 number_of name k = lookup (is_at (slice_cmp nat_cmp name)) k.numbers
 
-abbrev pub name_of : ℕ → Known → Option (List ℕ)
+abbrev pub name_of : ℕ → Numbering → Option (List ℕ)
 name_of n k = lookup (is_at (nat_cmp n)) k.names
 
 -- A name and its number stand for one another, and no number that is still to come has a name.
-pub record IsPaired (k : Known) : Type 0 where
+pub record IsPaired (k : Numbering) : Type 0 where
   pub by_name : InOrder (slice_cmp nat_cmp) k.numbers
   pub by_number : InOrder nat_cmp k.names
   pub there : (name : List ℕ) (n : ℕ) → number_of name k ≡ Some n → name_of n k ≡ Some name
@@ -31,14 +31,14 @@ pub record IsPaired (k : Known) : Type 0 where
   pub fresh : (n : ℕ) → k.next ≤ n → name_of n k ≡ None
 
 -- with one more tube, which gets the next number
-abbrev pub paired_with : List ℕ → Known → Known
+abbrev pub paired_with : List ℕ → Numbering → Numbering
 paired_with name k = record {
   numbers = insert_entry (slice_cmp nat_cmp) k.numbers name k.next;
   names = insert_entry nat_cmp k.names k.next name;
   next = k.next + 1;
 }
 
-abbrev pub with_known : List ℕ → Known → Known
+abbrev pub with_known : List ℕ → Numbering → Numbering
 with_known name k = if is_some (number_of name k) then k else paired_with name k
 
 abbrev pub names_without : Option ℕ → List (ℕ × List ℕ) → List (ℕ × List ℕ)
@@ -46,25 +46,25 @@ names_without None names = names
 names_without (Some n) names = remove_entry (is_at (nat_cmp n)) names
 
 -- without the tube of this name, if it is known
-abbrev pub without_known : List ℕ → Known → Known
+abbrev pub without_known : List ℕ → Numbering → Numbering
 without_known name k = record k {
   numbers = remove_entry (is_at (slice_cmp nat_cmp name)) k.numbers;
   names = names_without (number_of name k) k.names;
 }
 
 -- the job with the name of its tube in place of the number
-abbrev pub named : Known → Job → Job
+abbrev pub named : Numbering → Job → Job
 named k j = record j { tube = unwrap_or (name_of (number_in j.tube) k) [] }
 
 -- The tube of the job is a number that has a name.
-abbrev pub IsNumbered : Known → Job → Type 0
+abbrev pub IsNumbered : Numbering → Job → Type 0
 IsNumbered k j = (j.tube ≡ number_in j.tube ∷ []) × (is_some (name_of (number_in j.tube) k) ≡ true)
 
-abbrev pub AreNumbered : Known → List Job → Type 0
+abbrev pub AreNumbered : Numbering → List Job → Type 0
 AreNumbered k rows = AllByRecursion (IsNumbered k) rows
 
 -- what is kept, seen with the names of the tubes
-abbrev pub kept_named : Kept → Known → Kept
+abbrev pub kept_named : Kept → Numbering → Kept
 kept_named rows k = record { jobs = map (named k) rows.jobs; room = rows.room; comparisons = rows.comparisons; tubes = k.numbers }
 
 -- whether the tube of this name is known

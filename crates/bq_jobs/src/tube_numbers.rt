@@ -1,7 +1,7 @@
 //! The tubes that are known.
 ghost use Rattle.std.specs.Prelude.{◌≡◌, [], is_ok, if◌then◌else◌};
 ghost use Rattle.std.specs.Option.{option_map};
-ghost use Rattle.bq_jobs.specs.Known.{IsPaired, name_of, number_of, with_known, without_known};
+ghost use Rattle.bq_jobs.specs.Numbering.{IsPaired, name_of, number_of, with_known, without_known};
 
 use bq_index::Catalog;
 use bq_job::{NoMemory, TubeName};
@@ -11,28 +11,28 @@ use std::marker::Model;
 /// The tubes that are known, each by its name and by its number. A number is given once and not again: so none
 /// can come to stand for another tube than the jobs were put into that have it.
 #[derive(Drop)]
-pub(crate) struct KnownTubes {
+pub(crate) struct TubeNumbers {
     numbers: Catalog<TubeName, u64>,
     names: Catalog<u64, TubeName>,
     next: u64,
 }
 
-impl Model for KnownTubes {
-    ghost use Rattle.bq_jobs.specs.Known.{IsPaired, Known};
+impl Model for TubeNumbers {
+    ghost use Rattle.bq_jobs.specs.Numbering.{IsPaired, Numbering};
 
-    ghost Value = { Known };
+    ghost Value = { Numbering };
 
     ghost view = { λ k. record { numbers = k.numbers.entries; names = k.names.entries; next = k.next } };
 
     ghost invariant = { λ k. IsPaired (record { numbers = k.numbers.entries; names = k.names.entries; next = k.next }) };
 }
 
-impl KnownTubes {
+impl TubeNumbers {
     /// No tube.
-    pub(crate) fn new() -> KnownTubes
+    pub(crate) fn new() -> TubeNumbers
         ensures { result ≡ record { numbers = []; names = []; next = 0 } }
     {
-        KnownTubes {
+        TubeNumbers {
             numbers: Catalog::new(),
             names: Catalog::new(),
             next: 0,

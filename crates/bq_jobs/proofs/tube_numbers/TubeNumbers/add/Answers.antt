@@ -2,14 +2,14 @@ use Rattle.std.proofs.Common.{rules, ◌≡◌, ◌∙◌, ◌+◌, ap, sym, Opt
 use Rattle.std.proofs.Common.{nat_cmp}
 use Rattle.std.specs.BTreeMap.{insert_entry}
 use Rattle.std.specs.Cmp.Lexicographic.{slice_cmp}
-use Rattle.bq_jobs.specs.Known.{IsPaired, Known, number_of}
-use Rattle.bq_jobs.proofs.KnownLemmas.{paired_to}
-use Rattle.bq_jobs.proofs.known.KnownTubes.add.Goals as goal
+use Rattle.bq_jobs.specs.Numbering.{IsPaired, Numbering, number_of}
+use Rattle.bq_jobs.proofs.NumberingLemmas.{paired_to}
+use Rattle.bq_jobs.proofs.tube_numbers.TubeNumbers.add.Goals as goal
 
 pub invariant_of-self-2 : goal.invariant_of-self-2
 invariant_of-self-2 c =
     let name = c.args.name.now in
-    let k : Known = record { numbers = c.self.inside.numbers.entries; names = c.self.inside.names.entries; next = c.self.inside.next } in
+    let k : Numbering = record { numbers = c.self.inside.numbers.entries; names = c.self.inside.names.entries; next = c.self.inside.next } in
     let absent : number_of name k ≡ None = search rules in
     let next : c.in-Some.next ≡ c.self.inside.next + 1 = search rules in
     paired_to k (record { numbers = c.insert.new.self.entries; names = c.insert-2.new.self.entries; next = c.in-Some.next }) name c.self.invariant absent

@@ -10,7 +10,7 @@ use Rattle.std.proofs.lemmas.Bool.{cases_Bool, eqb-true}
 use Rattle.std.proofs.lemmas.Bool.Decides.{nat_tests}
 use Rattle.bq_index.proofs.Order.{order_insert, order_remove}
 use Rattle.bq_job.specs.reading.TubeName.{is_same_name}
-use Rattle.bq_jobs.specs.Known.{IsPaired, Known, name_of, names_without, number_of, paired_with, with_known, without_known}
+use Rattle.bq_jobs.specs.Numbering.{IsPaired, Numbering, name_of, names_without, number_of, paired_with, with_known, without_known}
 use Rattle.bq_jobs.proofs.ById.{is_eq_nat}
 use Rattle.bq_jobs.proofs.Choice.{lookup_inserted, lookup_removed}
 
@@ -34,7 +34,7 @@ none_by (Some a) e = absurd cc
 some_is : {A : Type 0} (a b : A) → Some a ≡ Some b → a ≡ b
 some_is a b e = cc
 
-module _ (k : Known) (h : IsPaired k) (name : List ℕ) where
+module _ (k : Numbering) (h : IsPaired k) (name : List ℕ) where
   module _ (absent : number_of name k ≡ None) where
     free : name_of k.next k ≡ None
     free = h.fresh k.next (omega arith)
@@ -148,18 +148,18 @@ module _ (k : Known) (h : IsPaired k) (name : List ℕ) where
   removed_is_paired = removed_by (number_of name k) refl
 
 -- the same, of whatever has these lists
-pub paired_to : (k new : Known) (name : List ℕ) → IsPaired k → number_of name k ≡ None
+pub paired_to : (k new : Numbering) (name : List ℕ) → IsPaired k → number_of name k ≡ None
     → new.numbers ≡ insert_entry (slice_cmp nat_cmp) k.numbers name k.next → new.names ≡ insert_entry nat_cmp k.names k.next name → new.next ≡ k.next + 1 → IsPaired new
 paired_to k new name h absent numbers names next =
     subst IsPaired (λ i. record { numbers = sym numbers i; names = sym names i; next = sym next i }) (added_is_paired k h name absent)
 
-pub removed_to : (k new : Known) (name : List ℕ) (o : Option ℕ) → IsPaired k → number_of name k ≡ o
+pub removed_to : (k new : Numbering) (name : List ℕ) (o : Option ℕ) → IsPaired k → number_of name k ≡ o
     → new.numbers ≡ remove_entry (is_at (slice_cmp nat_cmp name)) k.numbers → new.names ≡ names_without o k.names → new.next ≡ k.next → IsPaired new
 removed_to k new name o h own numbers names next =
     subst IsPaired (λ i. record { numbers = sym numbers i; names = sym names i; next = sym next i }) (removed_by k h name o own)
 
 -- What is known of the others stays.
-module _ (k : Known) (h : IsPaired k) (name : List ℕ) where
+module _ (k : Numbering) (h : IsPaired k) (name : List ℕ) where
   kept_by : (b : Bool) → is_some (number_of name k) ≡ b → (n : ℕ) → is_some (name_of n k) ≡ true → name_of n (if b then k else paired_with name k) ≡ name_of n k
   kept_by true e n some = refl
   kept_by false e n some = names_stay k h name (none_by (number_of name k) e) n some
