@@ -1,6 +1,6 @@
 -- Jobs by the names of their tubes are what they are by their numbers.
 use Rattle.std.proofs.Common.{◌≡◌, ◌+◌, ◌*◌, ◌≤◌, ℕ, suc, length, Bor, Bool, true, false, cond, ◌&&◌, ◌||◌, List, [], ◌∷◌, Option, Some, None, is_some, map, refl, sym, ap, ◌∙◌, subst, inl, inr}
-use Rattle.std.specs.Prelude.{◌==◌, fold, nat_lt, not, unwrap_or, if◌then◌else◌, is_ok, Result, Ok, Err, IfOk}
+use Rattle.std.specs.Prelude.{◌==◌, fold, nat_lt, not, unwrap_or, if◌then◌else◌, is_ok, Result, Ok, Err, IfOk, OnErr}
 use Rattle.std.specs.Cmp.Lexicographic.{bytes_decides}
 use Rattle.std.specs.List.{AllByRecursion as All, list_any}
 use Rattle.std.specs.Option.{option_map}
@@ -18,7 +18,7 @@ use Rattle.bq_jobs.specs.Changed.{IgnoresTube, KeepsTube, moved_by, moved_in, ro
 use Rattle.bq_jobs.specs.Numbering.{AreNumbered, IsNumbered, IsPaired, Numbering, kept_named, name_of, named, number_of, with_known, without_known}
 use Rattle.bq_jobs.specs.Names.{number_in}
 use Rattle.bq_jobs.specs.Seen.{IsBodyOf, IsNumberOf, IsTubeOf, but_for_tube, in_tube}
-use Rattle.bq_jobs.proofs.NumberingLemmas.{is_known_then, name_kept, name_left, number_kept}
+use Rattle.bq_jobs.proofs.NumberingLemmas.{is_known_then, name_kept, name_left, number_kept, other_numbers}
 
 or_parts : (a b : Bool) → (a || b) ≡ false → (a ≡ false) × (b ≡ false)
 or_parts true b e = absurd cc
@@ -291,6 +291,14 @@ named_if false k h name rows all = refl
 pub kept_if : (b : Bool) (k : Numbering) (h : IsPaired k) (name other : List ℕ) → is_some (number_of other k) ≡ true → is_some (number_of other (known_if b name k)) ≡ true
 kept_if true k h name other some = number_kept k h name other some
 kept_if false k h name other some = some
+
+pub others_if : (b : Bool) (k : Numbering) (h : IsPaired k) (name other : List ℕ) → is_same_name name other ≡ false → number_of other (known_if b name k) ≡ number_of other k
+others_if true k h name other apart = other_numbers k h name other apart
+others_if false k h name other apart = refl
+
+pub refused_if : {E : Type 0} {P : Type 0} (r : Result (Unit {0}) E) (k new : Numbering) (name : List ℕ) → new ≡ known_if (is_ok r) name k → (new ≡ k → P) → OnErr r P
+refused_if (Ok x) k new name after so = tt
+refused_if (Err e) k new name after so = so after
 
 pub known_of : {E : Type 0} (r : Result (Unit {0}) E) (k : Numbering) (h : IsPaired k) (name : List ℕ) → IfOk r (λ _. is_some (number_of name (known_if (is_ok r) name k)) ≡ true)
 known_of (Ok x) k h name = is_known_then k h name

@@ -177,6 +177,16 @@ module _ (k : Numbering) (h : IsPaired k) (name : List ℕ) where
   pub number_kept : (other : List ℕ) → is_some (number_of other k) ≡ true → is_some (number_of other (with_known name k)) ≡ true
   number_kept other some = known_by (is_some (number_of name k)) refl other some
 
+  others_by : (b : Bool) → is_some (number_of name k) ≡ b → (other : List ℕ) → is_same_name name other ≡ false → number_of other (if b then k else paired_with name k) ≡ number_of other k
+  others_by true e other apart = refl
+  others_by false e other apart = elim (cases_Bool (is_eq (slice_cmp nat_cmp other name))) [
+    | inl t ↦ absurd (let same : is_same_name name other ≡ true = (bytes_decides name other).1 (sym (tied_names other name t)) in cc)
+    | inr t ↦ number_then k h name (none_by (number_of name k) e) other ∙ rw t refl
+  ]
+
+  pub other_numbers : (other : List ℕ) → is_same_name name other ≡ false → number_of other (with_known name k) ≡ number_of other k
+  other_numbers other apart = others_by (is_some (number_of name k)) refl other apart
+
   own_by : (b : Bool) → is_some (number_of name k) ≡ b → is_some (number_of name (if b then k else paired_with name k)) ≡ true
   own_by true e = e
   own_by false e = ap is_some (number_then k h name (none_by (number_of name k) e) name) ∙ rw (tie_names name name refl) refl
@@ -199,6 +209,10 @@ module _ (k : Numbering) (h : IsPaired k) (name : List ℕ) where
   pub name_left : (m : ℕ) (other : List ℕ) → name_of m k ≡ Some other → is_same_name name other ≡ false → name_of m (without_known name k) ≡ name_of m k
   name_left = left_by (number_of name k) refl
 
-  -- and are known as before.
+  -- and are known as before;
   pub number_left : (other : List ℕ) → is_same_name name other ≡ false → number_of other (without_known name k) ≡ number_of other k
   number_left other apart = removed_then k h name other ∙ (let t : is_eq (slice_cmp nat_cmp name other) ≡ false = sym (texts_ties name other) ∙ apart in rw t refl)
+
+  -- it has no number.
+  pub number_gone : number_of name (without_known name k) ≡ None
+  number_gone = removed_then k h name name ∙ rw (tie_names name name refl) refl

@@ -28,8 +28,9 @@ use std::alloc::Global;
 use std::marker::Model;
 
 /// The jobs, of which each is found by its id, and the first of each kind at once. A job comes in by
-/// [`Jobs::add`], with the room that [`Jobs::reserve_one`] made, and goes out by [`Jobs::remove`], which
-/// gives its room back: so a job that is taken out, changed and added again takes no memory.
+/// [`Jobs::add`], into a tube that [`Jobs::know`] made known and with the room that [`Jobs::reserve_one`]
+/// made, and goes out by [`Jobs::remove`], which leaves that room for the next job: so a job that is taken
+/// out, changed and added again takes no memory.
 #[derive(Drop)]
 pub struct Jobs {
     rows: Rows,
@@ -104,7 +105,7 @@ impl Jobs {
         self.rows.reserve_one_from(source)
     }
 
-    /// Puts a job in. It uses the room of one.
+    /// Puts a job in. It uses the room of one. Its tube has to be known, see [`Jobs::know`].
     pub fn add(&mut self, job: Job)
         requires room { 0 < self.old.room }
         requires absent { job_with job.id self.old.jobs ≡ None }
@@ -281,6 +282,8 @@ impl Jobs {
     pub fn know(&mut self, alloc: Global, tube: &TubeName) -> Result<(), NoMemory>
         ensures known { IfOk result (λ _. is_known tube.now self.new ≡ true) }
         ensures others { (other : List ℕ) → is_known other self.old ≡ true → is_known other self.new ≡ true }
+        ensures only { (other : List ℕ) → is_same_name tube.now other ≡ false → is_known other self.new ≡ is_known other self.old }
+        ensures refused { OnErr result (self.new ≡ self.old) }
         ensures same { self.new ≡ record self.old { tubes = self.new.tubes } }
     {
         self.tubes.add(alloc, tube)
@@ -289,6 +292,7 @@ impl Jobs {
     /// No job is put into the tube any more, unless it is known anew. It has none.
     pub fn forget(&mut self, tube: &TubeName)
         requires none { list_any (λ j. is_same_name tube.now j.tube) self.old.jobs ≡ false }
+        ensures gone { is_known tube.now self.new ≡ false }
         ensures others { (other : List ℕ) → is_same_name tube.now other ≡ false → is_known other self.new ≡ is_known other self.old }
         ensures same { self.new ≡ record self.old { tubes = self.new.tubes } }
     {

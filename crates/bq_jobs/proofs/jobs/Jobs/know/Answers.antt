@@ -1,8 +1,8 @@
 use Rattle.std.proofs.Common.{map, sym, ap, ◌∙◌, ◌≡◌, is_some, true, subst}
 use Rattle.std.specs.Prelude.{is_ok}
 use Rattle.bq_jobs.specs.Kept.{Kept}
-use Rattle.bq_jobs.specs.Numbering.{AreNumbered, is_known, named, number_of}
-use Rattle.bq_jobs.proofs.NamedJobs.{kept_if, known_if, known_of, named_if, numbered_if, ok_as}
+use Rattle.bq_jobs.specs.Numbering.{AreNumbered, is_known, kept_named, named, number_of}
+use Rattle.bq_jobs.proofs.NamedJobs.{kept_if, known_if, known_of, named_if, numbered_if, ok_as, others_if, refused_if}
 use Rattle.bq_jobs.proofs.jobs.Jobs.know.Goals as goal
 
 pub invariant_of-self : goal.invariant_of-self
@@ -23,6 +23,17 @@ returns-clause-others c other some =
     let k = c.self.inside.tubes in
     ap (λ n. is_some (number_of other n)) c.add.ensures.after
     ∙ kept_if (is_ok c.add.result) k c.add.ensures.paired c.args.tube.now other (ap (λ (m : Kept). is_known other m) c.self.view_is ∙ some)
+
+pub returns-clause-only : goal.returns-clause-only
+returns-clause-only c other apart =
+    let k = c.self.inside.tubes in
+    ap (λ n. is_some (number_of other n)) c.add.ensures.after
+    ∙ ap is_some (others_if (is_ok c.add.result) k c.add.ensures.paired c.args.tube.now other apart) ∙ ap (λ (m : Kept). is_known other m) c.self.view_is
+
+pub returns-clause-refused : goal.returns-clause-refused
+returns-clause-refused c =
+    refused_if c.add.result c.self.inside.tubes c.add.new.self c.args.tube.now c.add.ensures.after
+    (λ same. ap (λ n. kept_named c.self.inside.rows n) same ∙ c.self.view_is)
 
 pub returns-clause-same : goal.returns-clause-same
 returns-clause-same c =
