@@ -1,5 +1,5 @@
 // An ordered map whose insertions take no memory.
-ghost use Rattle.std.specs.Prelude.{◌≡◌, ◌+◌, ◌<◌, ◌≤◌, max, [], find, fold, length, map, is_some, if◌then◌else◌, None, IfOk, OnOk, OnErr};
+ghost use Rattle.std.specs.Prelude.{◌≡◌, ◌+◌, ◌-◌, ◌<◌, ◌≤◌, max, [], find, fold, length, map, is_some, if◌then◌else◌, None, IfOk, OnOk, OnErr};
 ghost use Rattle.std.specs.Option.{option_map, option_copied_mut};
 ghost use Rattle.bq_index.specs.Order.{InOrder, entry_from};
 ghost use Rattle.std.specs.Map.{lookup, remove_entry};
@@ -141,6 +141,22 @@ impl<K: Ord + Drop, V: Drop> Shelf<K, V> {
         Ok(())
     }
 
+    /// Gives one spare box back to the allocator, where there is one. It takes no memory and compares no keys.
+    ///
+    /// The boxes of entries that are gone stay spare, so a peak would keep its memory for ever. Who calls this now
+    /// and then gives it back in small steps, and no call has to let go of many boxes at once.
+    pub fn give_back(&mut self)
+        ensures { self.new ≡ record self.old { spare = self.old.spare - 1 } }
+    {
+        if self.spare == 0 {
+            return;
+        }
+        let (node, spares) = chain::unlink(mem::replace(&mut self.spares, Tree::Leaf));
+        drop(node);
+        self.spares = spares;
+        self.spare -= 1;
+    }
+
     /// Adds an entry whose key is not there yet. Its box is a spare one.
     pub fn insert(&mut self, key: K, value: V)
         requires spare { 0 < self.old.spare }
@@ -151,7 +167,7 @@ impl<K: Ord + Drop, V: Drop> Shelf<K, V> {
     {
         let (mut node, spares) = chain::unlink(mem::replace(&mut self.spares, Tree::Leaf));
         self.spares = spares;
-        self.spare -= 1;
+        self.spare -= 1; // the box of the entry to come
         node.entry = Some((key, value));
         let tree = mem::replace(&mut self.tree, Tree::Leaf);
         self.tree = change::insert(tree, node, &mut self.comparisons);

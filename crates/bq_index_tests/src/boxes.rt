@@ -1,5 +1,6 @@
 //! Boxes are asked for one by one, and those before a refusal are kept.
 
+use crate::putting::put;
 use bq_index::{BoxSource, NoMemory, Shelf};
 use std::alloc::Global;
 use std::process::Abort;
@@ -55,6 +56,24 @@ fn boxes_of_the_heap(rt: HostRuntime) {
     let made = shelf.reserve(rt.alloc(), 3);
     let spare = shelf.spare();
     assert!(rt; made == Ok(()) && spare == 3 || made == Err(NoMemory) && spare < 3);
+}
+
+/// A box that is given back is no longer there for an insertion. Where none is spare, nothing is given back.
+#[test]
+fn one_box_given_back(rt: HostRuntime) -> Result<(), Fail> {
+    let mut shelf: Shelf<u64, u64> = Shelf::new();
+    shelf.reserve(rt.alloc(), 3)?;
+    assert!(rt; put(&mut shelf, 7, 70));
+    shelf.give_back();
+    assert_eq!(rt;
+        (shelf.spare(), shelf.len(), shelf.get(&7).copied()),
+        (1, 1, Some(70))
+    );
+    assert!(rt; put(&mut shelf, 8, 80));
+    assert!(rt; !put(&mut shelf, 9, 90));
+    shelf.give_back();
+    assert_eq!(rt; (shelf.spare(), shelf.len()), (0, 2));
+    Ok(())
 }
 
 /// A chain of spare boxes that is far longer than a stack is deep is let go, one box after another.
