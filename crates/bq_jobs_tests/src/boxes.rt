@@ -1,4 +1,4 @@
-//! The three boxes of a job, of which any may be refused.
+//! The three boxes of a job, of which any may be refused, and which go back to the heap after a peak.
 
 use crate::putting::{job, put, tube};
 use bq_index::{BoxSource, NoMemory as Refused};
@@ -60,6 +60,56 @@ fn each_box_refused_in_turn(rt: HostRuntime) -> Result<(), Fail> {
     refuse_one(&rt, rt.alloc(), name, 1, 3)?;
     refuse_one(&rt, rt.alloc(), name, 2, 2)?;
     refuse_one(&rt, rt.alloc(), name, 3, 1)
+}
+
+/// Gives back the room of as many jobs as there is room for, and tells of how many it went.
+fn give_back_all(jobs: &mut Jobs) -> usize {
+    let before = jobs.room();
+    for _ in 0..before {
+        jobs.give_back();
+    }
+    before.saturating_sub(jobs.room())
+}
+
+/// After a peak the room goes back to the heap, three boxes for each job, but for that of the jobs there are.
+#[test]
+fn room_of_a_peak_given_back(rt: HostRuntime) -> Result<(), Fail> {
+    let name = tube(&rt, "default");
+    let mut jobs = Jobs::new();
+    for id in 0..200 {
+        jobs.reserve_one(rt.alloc())?;
+        assert!(rt;
+            put(
+                rt.alloc(),
+                &mut jobs,
+                job(rt.alloc(), id, name, 0, JobState::Ready)?
+            )
+        );
+    }
+    jobs.give_back();
+    assert_eq!(rt; (jobs.len(), jobs.room()), (200, 0));
+    for id in 3..200 {
+        assert!(rt; jobs.remove(id).is_some());
+    }
+    assert_eq!(rt; (jobs.len(), jobs.room()), (3, 197));
+    assert_eq!(rt; (give_back_all(&mut jobs), jobs.room()), (194, 3));
+    jobs.give_back();
+    assert_eq!(rt; (jobs.len(), jobs.room()), (3, 3));
+    for id in 0..3 {
+        assert!(rt; jobs.remove(id).is_some());
+    }
+    assert_eq!(rt;
+        (give_back_all(&mut jobs), jobs.len(), jobs.room()),
+        (6, 0, 0)
+    );
+    let mut source = Refusing {
+        heap: rt.alloc(),
+        asked: 0,
+        refused: 4,
+    };
+    assert!(rt; jobs.reserve_one_from(&mut source).is_ok());
+    assert_eq!(rt; (source.asked, jobs.room()), (3, 1));
+    Ok(())
 }
 
 /// A heap that notes how large the last three boxes are that it is asked for.
