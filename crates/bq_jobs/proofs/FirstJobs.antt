@@ -9,23 +9,22 @@ use Rattle.bq_job.specs.machine.JobCommands.{is_buried_in, is_delayed_in}
 use Rattle.bq_job.specs.machine.JobStates.{burial_of, due_of, is_buried_before, is_delayed, is_due_before, is_reserved}
 use Rattle.bq_job.specs.beside.Lawful.{AreIdsWithin}
 use Rattle.bq_job.specs.machine.TubeCommands.{is_ready_in}
-use Rattle.bq_jobs.specs.contracts.place.GroupOrd.TheImpl.Laws as group_laws
+use Rattle.bq_jobs.specs.contracts.group.GroupOrd.TheImpl.Laws as group_laws
 use Rattle.bq_jobs.specs.contracts.place.TimerOrd.TheImpl.Laws as timer_laws
-use Rattle.bq_jobs.specs.declared.place.JobList.TheVariants as lists
+use Rattle.bq_jobs.specs.declared.holder.Holder.{Holder}
+use Rattle.bq_jobs.specs.declared.holder.JobList.TheVariants as lists
 use Rattle.bq_jobs.specs.declared.place.Timer.{Timer}
 use Rattle.bq_jobs.specs.declared.place.Timer.TheVariants as timers
-use Rattle.bq_jobs.specs.declared.place.Group.{Group}
-use Rattle.bq_jobs.specs.declared.place.Group.TheVariants as groups
 use Rattle.bq_jobs.specs.Inside.{IsOrderOf, Order}
 use Rattle.bq_jobs.specs.Leases.{deadline_of, is_lease_before}
 use Rattle.bq_jobs.specs.Kept.{ranked}
 use Rattle.bq_jobs.specs.PlaceOrder.{first_in_group, first_rank, place_cmp}
-use Rattle.bq_jobs.specs.Places.{list_of, timer_place, group_place}
+use Rattle.bq_jobs.specs.Places.{held_by, list_of, timer_place, group_place}
 use Rattle.bq_jobs.proofs.FirstOfGroup.{first_is, rank_is}
 use Rattle.bq_jobs.proofs.Firsts.{group_cmp, timer_cmp, group_own, timer_own, ready_grouped, delayed_grouped, buried_grouped, due_grouped, lease_grouped, held_grouped, ready_numbered, delayed_numbered, buried_numbered, due_numbered, lease_numbered, held_numbered}
 
 module _ (jobs : List Job) (room : ℕ) (ids : AreIdsWithin 0 jobs (2 ^ 64)) where
-  module _ (order : Order Group) (h : IsOrderOf group_cmp group_place jobs room order) (s : InOrder (place_cmp group_cmp) order.entries) (tube : List ℕ) where
+  module _ (order : Order Holder) (h : IsOrderOf group_cmp group_place jobs room order) (s : InOrder (place_cmp group_cmp) order.entries) (tube : List ℕ) where
     pub ready_is : first_in_group group_cmp (list_of tube lists.Ready) order.entries ≡ option_map (λ j. j.id) (first_of (is_ready_in tube) is_job_before jobs)
     ready_is = first_is group_laws.total-law (list_of tube lists.Ready) group_place group_own (is_ready_in tube) (λ j. j.pri) (λ j. ready_grouped tube j.state j) (λ j. ready_numbered tube j.state j) 0 (2 ^ 64) jobs room order h ids s
 
@@ -51,9 +50,9 @@ module _ (jobs : List Job) (room : ℕ) (ids : AreIdsWithin 0 jobs (2 ^ 64)) whe
     pub lease_rank_is : first_rank timer_cmp timers.Lease order.entries ≡ option_map (ranked (λ j. deadline_of j.state)) (first_of (λ j. is_reserved j.state) is_lease_before jobs)
     lease_rank_is = rank_is timer_laws.total-law timers.Lease timer_place timer_own (λ j. is_reserved j.state) (λ j. deadline_of j.state) (λ j. lease_grouped j.state j) (λ j. lease_numbered j.state j) 0 (2 ^ 64) jobs room order h ids s
 
-  module _ (order : Order Group) (h : IsOrderOf group_cmp group_place jobs room order) (s : InOrder (place_cmp group_cmp) order.entries) (seat : ℕ) where
-    pub held_is : first_in_group group_cmp (groups.Held seat) order.entries ≡ option_map (λ j. j.id) (first_of (is_held_by seat) is_lease_before jobs)
-    held_is = first_is group_laws.total-law (groups.Held seat) group_place group_own (is_held_by seat) (λ j. deadline_of j.state) (λ j. held_grouped seat j.state j) (λ j. held_numbered seat j.state j) 0 (2 ^ 64) jobs room order h ids s
+  module _ (order : Order Holder) (h : IsOrderOf group_cmp group_place jobs room order) (s : InOrder (place_cmp group_cmp) order.entries) (seat : ℕ) where
+    pub held_is : first_in_group group_cmp (held_by seat) order.entries ≡ option_map (λ j. j.id) (first_of (is_held_by seat) is_lease_before jobs)
+    held_is = first_is group_laws.total-law (held_by seat) group_place group_own (is_held_by seat) (λ j. deadline_of j.state) (λ j. held_grouped seat j.state j) (λ j. held_numbered seat j.state j) 0 (2 ^ 64) jobs room order h ids s
 
-    pub held_rank_is : first_rank group_cmp (groups.Held seat) order.entries ≡ option_map (ranked (λ j. deadline_of j.state)) (first_of (is_held_by seat) is_lease_before jobs)
-    held_rank_is = rank_is group_laws.total-law (groups.Held seat) group_place group_own (is_held_by seat) (λ j. deadline_of j.state) (λ j. held_grouped seat j.state j) (λ j. held_numbered seat j.state j) 0 (2 ^ 64) jobs room order h ids s
+    pub held_rank_is : first_rank group_cmp (held_by seat) order.entries ≡ option_map (ranked (λ j. deadline_of j.state)) (first_of (is_held_by seat) is_lease_before jobs)
+    held_rank_is = rank_is group_laws.total-law (held_by seat) group_place group_own (is_held_by seat) (λ j. deadline_of j.state) (λ j. held_grouped seat j.state j) (λ j. held_numbered seat j.state j) 0 (2 ^ 64) jobs room order h ids s

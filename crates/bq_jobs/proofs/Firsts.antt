@@ -1,12 +1,12 @@
 -- The orders of places, and what passes in each.
-use Rattle.std.proofs.Common.{◌≡◌, ℕ, suc, true, false, ◌&&◌, List, [], ◌∷◌, Option, Some, None, length, arith, refl, sym, ap, ◌∙◌, inl, inr}
+use Rattle.std.proofs.Common.{◌≡◌, ◌<◌, ◌+◌, ◌*◌, ℕ, suc, true, false, ◌&&◌, List, [], ◌∷◌, Option, Some, None, length, arith, refl, sym, ap, ◌∙◌, inl, inr}
 use Rattle.std.specs.Prelude.{◌==◌}
 use Rattle.std.specs.Option.{IfSome}
 use Rattle.std.specs.declared.cmp.Ordering.{Ordering}
 use Rattle.std.specs.declared.cmp.Ordering.TheVariants.{Less, Equal, Greater}
-use Rattle.std.specs.Cmp.Lexicographic.{slice_cmp, texts_ties}
+use Rattle.std.specs.Cmp.Lexicographic.{bytes_decides, slice_cmp, texts_ties}
 use Rattle.std.specs.Ordering.{is_eq, nat_cmp, ordering_then}
-use Rattle.std.proofs.lemmas.Bool.{cases_Bool, and_parts}
+use Rattle.std.proofs.lemmas.Bool.{cases_Bool, and_parts, eqb-true}
 use Rattle.std.proofs.lemmas.Bool.Decides.{nat_tests}
 use Rattle.bq_job.specs.declared.job.Job.{Job}
 use Rattle.bq_job.specs.declared.job.JobState.{JobState}
@@ -14,21 +14,20 @@ use Rattle.bq_job.specs.declared.job.JobState.TheVariants as states
 use Rattle.bq_job.specs.machine.Changes.{is_holder, is_ready_state}
 use Rattle.bq_job.specs.machine.JobStates.{burial_of, due_of, is_buried, is_delayed, is_reserved}
 use Rattle.bq_job.specs.reading.TubeName.{is_same_name}
-use Rattle.bq_jobs.specs.contracts.place.GroupOrd.TheImpl as group_ord
+use Rattle.bq_jobs.specs.contracts.group.GroupOrd.TheImpl as group_ord
 use Rattle.bq_jobs.specs.contracts.place.TimerOrd.TheImpl as timer_ord
+use Rattle.bq_jobs.specs.declared.holder.Holder.{Holder}
+use Rattle.bq_jobs.specs.declared.holder.JobList.TheVariants as lists
 use Rattle.bq_jobs.specs.declared.place.Place.{Place}
-use Rattle.bq_jobs.specs.declared.place.Group.{Group}
-use Rattle.bq_jobs.specs.declared.place.Group.TheVariants as groups
-use Rattle.bq_jobs.specs.declared.place.JobList.TheVariants as lists
 use Rattle.bq_jobs.specs.declared.place.Timer.{Timer}
 use Rattle.bq_jobs.specs.declared.place.Timer.TheVariants as timers
 use Rattle.bq_jobs.specs.Leases.{deadline_of}
-use Rattle.bq_jobs.specs.Names.{name_cmp}
-use Rattle.bq_jobs.specs.Places.{in_timers, in_groups, list_of, timer_place, group_place}
+use Rattle.bq_jobs.specs.Names.{name_cmp, number_in}
+use Rattle.bq_jobs.specs.Places.{held_by, in_timers, in_groups, list_of, timer_place, group_place}
 use Rattle.bq_jobs.proofs.ById.{is_eq_nat}
 use Rattle.bq_jobs.proofs.FirstOfGroup.{in_group}
 
-abbrev pub group_cmp : Group → Group → Ordering
+abbrev pub group_cmp : Holder → Holder → Ordering
 group_cmp = group_ord.ghosts.cmp
 
 abbrev pub timer_cmp : Timer → Timer → Ordering
@@ -62,6 +61,41 @@ name_ties a b =
       ]
     ]
 
+then_second : (a b : Ordering) → is_eq b ≡ false → is_eq (ordering_then a b) ≡ false
+then_second Less b h = refl
+then_second Equal b h = h
+then_second Greater b h = refl
+
+-- lists of one kind are the same where their tubes are,
+list_ties : (k : ℕ) (a b : List ℕ) → is_same_name a b ≡ is_eq (ordering_then (nat_cmp (number_in a * 4 + k) (number_in b * 4 + k)) (name_cmp a b))
+list_ties k a b =
+    let m = number_in a * 4 + k in
+    let n = number_in b * 4 + k in
+    elim (cases_Bool (is_same_name a b)) [
+      | inl e ↦
+          let same : m ≡ n = ap (λ name. number_in name * 4 + k) ((bytes_decides a b).0 e) in
+          name_ties a b ∙ sym (then_on (nat_cmp m n) (name_cmp a b) (is_eq_nat m n ∙ grind (arith, nat_tests)))
+      | inr e ↦ e ∙ sym (then_second (nat_cmp m n) (name_cmp a b) (sym (name_ties a b) ∙ e))
+    ]
+
+-- those of a client where their seats are,
+held_ties : (seat holder : ℕ) → (holder == seat) ≡ is_eq (ordering_then (nat_cmp (seat * 4 + 3) (holder * 4 + 3)) Equal)
+held_ties seat holder =
+    let m = seat * 4 + 3 in
+    let n = holder * 4 + 3 in
+    elim (cases_Bool (holder == seat)) [
+      | inl e ↦ e ∙ sym (then_on (nat_cmp m n) Equal (is_eq_nat m n ∙ (let same = eqb-true holder seat e in grind (arith, nat_tests))))
+      | inr e ↦ e ∙ sym (then_apart (nat_cmp m n) Equal (is_eq_nat m n ∙ grind (arith, nat_tests)))
+    ]
+
+-- and those of two kinds never.
+apart : (a b i k : ℕ) (x : Ordering) → i < 4 → k < 4 → (k == i) ≡ false → false ≡ is_eq (ordering_then (nat_cmp (a * 4 + i) (b * 4 + k)) x)
+apart a b i k x few less other =
+    sym (then_apart (nat_cmp (a * 4 + i) (b * 4 + k)) x (is_eq_nat (a * 4 + i) (b * 4 + k) ∙ elim (cases_Bool (b * 4 + k == a * 4 + i)) [
+      | inr e ↦ e
+      | inl e ↦ absurd (let same = eqb-true (b * 4 + k) (a * 4 + i) e in let kind : k ≡ i = omega arith in grind (arith, nat_tests))
+    ]))
+
 -- a place has the id of its job
 own_group : (s : JobState) (j : Job) → IfSome (in_groups s j) (λ p. p.id ≡ j.id)
 own_group states.Ready j = refl
@@ -83,22 +117,22 @@ timer_own j = own_timer j.state j
 
 -- what passes is of the group
 pub ready_grouped : (tube : List ℕ) (s : JobState) (j : Job) → (is_ready_state s && is_same_name tube j.tube) ≡ in_group group_cmp (list_of tube lists.Ready) (in_groups s j)
-ready_grouped tube states.Ready j = name_ties tube j.tube
-ready_grouped tube (states.Delayed due) j = refl
-ready_grouped tube (states.Reserved seat deadline) j = refl
-ready_grouped tube (states.Buried number) j = refl
+ready_grouped tube states.Ready j = list_ties 0 tube j.tube
+ready_grouped tube (states.Delayed due) j = apart (number_in tube) (number_in j.tube) 0 1 (name_cmp tube j.tube) (omega arith) (omega arith) refl
+ready_grouped tube (states.Reserved seat deadline) j = apart (number_in tube) seat 0 3 (name_cmp tube []) (omega arith) (omega arith) refl
+ready_grouped tube (states.Buried number) j = apart (number_in tube) (number_in j.tube) 0 2 (name_cmp tube j.tube) (omega arith) (omega arith) refl
 
 pub delayed_grouped : (tube : List ℕ) (s : JobState) (j : Job) → (is_delayed s && is_same_name tube j.tube) ≡ in_group group_cmp (list_of tube lists.Delayed) (in_groups s j)
-delayed_grouped tube states.Ready j = refl
-delayed_grouped tube (states.Delayed due) j = name_ties tube j.tube
-delayed_grouped tube (states.Reserved seat deadline) j = refl
-delayed_grouped tube (states.Buried number) j = refl
+delayed_grouped tube states.Ready j = apart (number_in tube) (number_in j.tube) 1 0 (name_cmp tube j.tube) (omega arith) (omega arith) refl
+delayed_grouped tube (states.Delayed due) j = list_ties 1 tube j.tube
+delayed_grouped tube (states.Reserved seat deadline) j = apart (number_in tube) seat 1 3 (name_cmp tube []) (omega arith) (omega arith) refl
+delayed_grouped tube (states.Buried number) j = apart (number_in tube) (number_in j.tube) 1 2 (name_cmp tube j.tube) (omega arith) (omega arith) refl
 
 pub buried_grouped : (tube : List ℕ) (s : JobState) (j : Job) → (is_buried s && is_same_name tube j.tube) ≡ in_group group_cmp (list_of tube lists.Buried) (in_groups s j)
-buried_grouped tube states.Ready j = refl
-buried_grouped tube (states.Delayed due) j = refl
-buried_grouped tube (states.Reserved seat deadline) j = refl
-buried_grouped tube (states.Buried number) j = name_ties tube j.tube
+buried_grouped tube states.Ready j = apart (number_in tube) (number_in j.tube) 2 0 (name_cmp tube j.tube) (omega arith) (omega arith) refl
+buried_grouped tube (states.Delayed due) j = apart (number_in tube) (number_in j.tube) 2 1 (name_cmp tube j.tube) (omega arith) (omega arith) refl
+buried_grouped tube (states.Reserved seat deadline) j = apart (number_in tube) seat 2 3 (name_cmp tube []) (omega arith) (omega arith) refl
+buried_grouped tube (states.Buried number) j = list_ties 2 tube j.tube
 
 pub due_grouped : (s : JobState) (j : Job) → is_delayed s ≡ in_group timer_cmp timers.Due (in_timers s j)
 due_grouped states.Ready j = refl
@@ -112,32 +146,32 @@ lease_grouped (states.Delayed due) j = refl
 lease_grouped (states.Reserved seat deadline) j = refl
 lease_grouped (states.Buried number) j = refl
 
-pub held_grouped : (seat : ℕ) (s : JobState) (j : Job) → is_holder seat s ≡ in_group group_cmp (groups.Held seat) (in_groups s j)
-held_grouped seat states.Ready j = refl
-held_grouped seat (states.Delayed due) j = refl
-held_grouped seat (states.Reserved holder deadline) j = sym (is_eq_nat seat holder)
-held_grouped seat (states.Buried number) j = refl
+pub held_grouped : (seat : ℕ) (s : JobState) (j : Job) → is_holder seat s ≡ in_group group_cmp (held_by seat) (in_groups s j)
+held_grouped seat states.Ready j = apart seat (number_in j.tube) 3 0 (name_cmp [] j.tube) (omega arith) (omega arith) refl
+held_grouped seat (states.Delayed due) j = apart seat (number_in j.tube) 3 1 (name_cmp [] j.tube) (omega arith) (omega arith) refl
+held_grouped seat (states.Reserved holder deadline) j = held_ties seat holder
+held_grouped seat (states.Buried number) j = apart seat (number_in j.tube) 3 2 (name_cmp [] j.tube) (omega arith) (omega arith) refl
 
 -- by which number
 at_of : {G : Type 0} → Option (Place G) → ℕ
 at_of None = 0
 at_of (Some p) = p.at
 
-pub ready_numbered : (tube : List ℕ) (s : JobState) (j : Job) (p : Place Group) → in_groups s j ≡ Some p → (is_ready_state s && is_same_name tube j.tube) ≡ true → p.at ≡ j.pri
+pub ready_numbered : (tube : List ℕ) (s : JobState) (j : Job) (p : Place Holder) → in_groups s j ≡ Some p → (is_ready_state s && is_same_name tube j.tube) ≡ true → p.at ≡ j.pri
 unfolding at_of
 ready_numbered tube states.Ready j p e h = sym (ap at_of e)
 ready_numbered tube (states.Delayed due) j p e h = absurd cc
 ready_numbered tube (states.Reserved seat deadline) j p e h = absurd cc
 ready_numbered tube (states.Buried number) j p e h = absurd cc
 
-pub delayed_numbered : (tube : List ℕ) (s : JobState) (j : Job) (p : Place Group) → in_groups s j ≡ Some p → (is_delayed s && is_same_name tube j.tube) ≡ true → p.at ≡ due_of s
+pub delayed_numbered : (tube : List ℕ) (s : JobState) (j : Job) (p : Place Holder) → in_groups s j ≡ Some p → (is_delayed s && is_same_name tube j.tube) ≡ true → p.at ≡ due_of s
 unfolding at_of
 delayed_numbered tube states.Ready j p e h = absurd cc
 delayed_numbered tube (states.Delayed due) j p e h = sym (ap at_of e)
 delayed_numbered tube (states.Reserved seat deadline) j p e h = absurd cc
 delayed_numbered tube (states.Buried number) j p e h = absurd cc
 
-pub buried_numbered : (tube : List ℕ) (s : JobState) (j : Job) (p : Place Group) → in_groups s j ≡ Some p → (is_buried s && is_same_name tube j.tube) ≡ true → p.at ≡ burial_of s
+pub buried_numbered : (tube : List ℕ) (s : JobState) (j : Job) (p : Place Holder) → in_groups s j ≡ Some p → (is_buried s && is_same_name tube j.tube) ≡ true → p.at ≡ burial_of s
 unfolding at_of
 buried_numbered tube states.Ready j p e h = absurd cc
 buried_numbered tube (states.Delayed due) j p e h = absurd cc
@@ -158,7 +192,7 @@ lease_numbered (states.Delayed due) j p e h = absurd cc
 lease_numbered (states.Reserved seat deadline) j p e h = sym (ap at_of e)
 lease_numbered (states.Buried number) j p e h = absurd cc
 
-pub held_numbered : (seat : ℕ) (s : JobState) (j : Job) (p : Place Group) → in_groups s j ≡ Some p → is_holder seat s ≡ true → p.at ≡ deadline_of s
+pub held_numbered : (seat : ℕ) (s : JobState) (j : Job) (p : Place Holder) → in_groups s j ≡ Some p → is_holder seat s ≡ true → p.at ≡ deadline_of s
 unfolding at_of
 held_numbered seat states.Ready j p e h = absurd cc
 held_numbered seat (states.Delayed due) j p e h = absurd cc

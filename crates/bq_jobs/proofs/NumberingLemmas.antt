@@ -1,6 +1,6 @@
 -- What comes of the tubes that are known.
-use Rattle.std.proofs.Common.{◌≡◌, ◌≤◌, ◌+◌, ℕ, Bool, true, false, cond, if◌then◌else◌, List, Option, Some, None, is_some, arith, refl, sym, ap, ◌∙◌, subst, inl, inr}
-use Rattle.std.specs.Prelude.{◌==◌}
+use Rattle.std.proofs.Common.{◌≡◌, ◌≤◌, ◌<◌, ◌+◌, ◌^◌, ℕ, Bool, true, false, cond, if◌then◌else◌, List, Option, Some, None, is_some, arith, refl, sym, ap, ◌∙◌, subst, inl, inr}
+use Rattle.std.specs.Prelude.{◌==◌, nat_lt, IfSome}
 use Rattle.std.specs.BTreeMap.{is_at, insert_entry}
 use Rattle.std.specs.Cmp.{nat_cmp_total}
 use Rattle.std.specs.Cmp.Lexicographic.{bytes_decides, nat_list_cmp_total, slice_cmp, texts_ties}
@@ -52,8 +52,9 @@ module _ (k : Numbering) (h : IsPaired k) (name : List ℕ) where
       | inr e ↦ name_then n ∙ rw e refl
     ]
 
-    pub added_is_paired : IsPaired (paired_with name k)
-    added_is_paired = record {
+    pub added_is_paired : k.next < 2 ^ 62 → IsPaired (paired_with name k)
+    added_is_paired few = record {
+      few = omega arith;
       by_name = order_insert nat_list_cmp_total name k.next k.numbers h.by_name;
       by_number = order_insert nat_cmp_total k.next name k.names h.by_number;
       there = λ q n own. elim (cases_Bool (is_eq (slice_cmp nat_cmp q name))) [
@@ -108,6 +109,7 @@ module _ (k : Numbering) (h : IsPaired k) (name : List ℕ) where
       | inr e ↦ removed_then q ∙ rw e (h.back n q its)
     ];
     fresh = h.fresh;
+    few = h.few;
   }
   removed_by (Some m) its_own = record {
     by_name = order_remove (slice_cmp nat_cmp) (is_at (slice_cmp nat_cmp name)) k.numbers h.by_name;
@@ -142,21 +144,30 @@ module _ (k : Numbering) (h : IsPaired k) (name : List ℕ) where
       | inl t ↦ taken_then m n ∙ rw t refl
       | inr t ↦ taken_then m n ∙ rw t (h.fresh n above)
     ];
+    few = h.few;
   }
 
   pub removed_is_paired : IsPaired (without_known name k)
   removed_is_paired = removed_by (number_of name k) refl
 
 -- the same, of whatever has these lists
-pub paired_to : (k new : Numbering) (name : List ℕ) → IsPaired k → number_of name k ≡ None
+pub paired_to : (k new : Numbering) (name : List ℕ) → IsPaired k → number_of name k ≡ None → k.next < 2 ^ 62
     → new.numbers ≡ insert_entry (slice_cmp nat_cmp) k.numbers name k.next → new.names ≡ insert_entry nat_cmp k.names k.next name → new.next ≡ k.next + 1 → IsPaired new
-paired_to k new name h absent numbers names next =
-    subst IsPaired (λ i. record { numbers = sym numbers i; names = sym names i; next = sym next i }) (added_is_paired k h name absent)
+paired_to k new name h absent few numbers names next =
+    subst IsPaired (λ i. record { numbers = sym numbers i; names = sym names i; next = sym next i }) (added_is_paired k h name absent few)
 
 pub removed_to : (k new : Numbering) (name : List ℕ) (o : Option ℕ) → IsPaired k → number_of name k ≡ o
     → new.numbers ≡ remove_entry (is_at (slice_cmp nat_cmp name)) k.numbers → new.names ≡ names_without o k.names → new.next ≡ k.next → IsPaired new
 removed_to k new name o h own numbers names next =
     subst IsPaired (λ i. record { numbers = sym numbers i; names = sym names i; next = sym next i }) (removed_by k h name o own)
+
+-- A number of a tube is small.
+pub number_few : (k : Numbering) (name : List ℕ) (o : Option ℕ) → IsPaired k → number_of name k ≡ o → IfSome o (λ n. n < 2 ^ 62)
+number_few k name None h own = tt
+number_few k name (Some n) h own = elim (cases_Bool (nat_lt n k.next)) [
+  | inl less ↦ let below : n < k.next = grind (arith, nat_tests) in omega (arith, h.few)
+  | inr e ↦ absurd (let above : k.next ≤ n = grind (arith, nat_tests) in let none = h.fresh n above in let there = h.there name n own in cc)
+]
 
 -- What is known of the others stays.
 module _ (k : Numbering) (h : IsPaired k) (name : List ℕ) where

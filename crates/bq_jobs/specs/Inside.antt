@@ -7,8 +7,8 @@ use Rattle.bq_job.specs.declared.job.Job.{Job}
 use Rattle.bq_job.specs.machine.Changes.{job_with}
 use Rattle.bq_job.specs.beside.Lawful.{AreIdsWithin}
 use Rattle.bq_job.specs.machine.Limits.{greatest}
+use Rattle.bq_jobs.specs.declared.holder.Holder.{Holder}
 use Rattle.bq_jobs.specs.declared.place.Place.{Place}
-use Rattle.bq_jobs.specs.declared.place.Group.{Group}
 use Rattle.bq_jobs.specs.declared.place.Timer.{Timer}
 use Rattle.bq_jobs.specs.Kept.{Kept}
 use Rattle.bq_jobs.specs.PlaceOrder.{place_cmp, holds_place}
@@ -26,7 +26,7 @@ jobs_of es = map (λ e. e.1) es
 abbrev pub with_id : Job → ℕ × Job
 with_id j = (j.id, j)
 
-abbrev pub kept_in : ById → Order Group → Order Timer → Kept
+abbrev pub kept_in : ById → Order Holder → Order Timer → Kept
 kept_in by_id groups timers = record {
   jobs = jobs_of by_id.entries;
   room = by_id.spare;
@@ -51,8 +51,8 @@ pub record IsOrderOf {G : Type 0} (compare : G → G → Ordering) (place_of : J
   pub roomy : length jobs + room ≤ length order.entries + order.spare
 
 -- The jobs stand by their own ids, which ascend, and each order is that of these jobs.
-pub record IsShelved (group_cmp : Group → Group → Ordering) (timer_cmp : Timer → Timer → Ordering)
-    (by_id : ById) (groups : Order Group) (timers : Order Timer) : Type 0 where
+pub record IsShelved (group_cmp : Holder → Holder → Ordering) (timer_cmp : Timer → Timer → Ordering)
+    (by_id : ById) (groups : Order Holder) (timers : Order Timer) : Type 0 where
   pub by_own_id : by_id.entries ≡ map with_id (jobs_of by_id.entries)
   pub ids : AreIdsWithin 0 (jobs_of by_id.entries) (2 ^ 64)
   pub in_groups : IsOrderOf group_cmp group_place (jobs_of by_id.entries) by_id.spare groups

@@ -1,4 +1,5 @@
 pub mod Changed
+pub mod Groups
 pub mod Inside
 pub mod Kept
 pub mod Laws

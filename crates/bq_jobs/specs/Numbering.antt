@@ -1,5 +1,5 @@
 -- The tubes that are known, and their numbers.
-use Rattle.std.specs.Prelude.{◌≡◌, ◌≤◌, ◌+◌, ◌∷◌, [], ℕ, Bool, true, List, Option, Some, None, is_some, if◌then◌else◌, unwrap_or, map}
+use Rattle.std.specs.Prelude.{◌≡◌, ◌≤◌, ◌+◌, ◌^◌, ◌∷◌, [], ℕ, Bool, true, List, Option, Some, None, is_some, if◌then◌else◌, unwrap_or, map}
 use Rattle.std.specs.BTreeMap.{is_at, insert_entry}
 use Rattle.std.specs.Cmp.Lexicographic.{slice_cmp}
 use Rattle.std.specs.List.{AllByRecursion}
@@ -22,13 +22,14 @@ number_of name k = lookup (is_at (slice_cmp nat_cmp name)) k.numbers
 abbrev pub name_of : ℕ → Numbering → Option (List ℕ)
 name_of n k = lookup (is_at (nat_cmp n)) k.names
 
--- A name and its number stand for one another, and no number that is still to come has a name.
+-- A name and its number stand for one another, and no number that is still to come has a name. Numbers stay small.
 pub record IsPaired (k : Numbering) : Type 0 where
   pub by_name : InOrder (slice_cmp nat_cmp) k.numbers
   pub by_number : InOrder nat_cmp k.names
   pub there : (name : List ℕ) (n : ℕ) → number_of name k ≡ Some n → name_of n k ≡ Some name
   pub back : (n : ℕ) (name : List ℕ) → name_of n k ≡ Some name → number_of name k ≡ Some n
   pub fresh : (n : ℕ) → k.next ≤ n → name_of n k ≡ None
+  pub few : k.next ≤ 2 ^ 62
 
 -- with one more tube, which gets the next number
 abbrev pub paired_with : List ℕ → Numbering → Numbering

@@ -3,31 +3,34 @@ use Rattle.std.specs.Prelude.{ℕ, List, Option, Some, None}
 use Rattle.bq_job.specs.declared.job.Job.{Job}
 use Rattle.bq_job.specs.declared.job.JobState.{JobState}
 use Rattle.bq_job.specs.declared.job.JobState.TheVariants as states
+use Rattle.bq_jobs.specs.declared.holder.Holder.{Holder}
+use Rattle.bq_jobs.specs.declared.holder.Holder.TheVariants as holders
+use Rattle.bq_jobs.specs.declared.holder.JobList.{JobList}
+use Rattle.bq_jobs.specs.declared.holder.JobList.TheVariants as lists
 use Rattle.bq_jobs.specs.declared.place.Place.{Place}
-use Rattle.bq_jobs.specs.declared.place.Group.{Group}
-use Rattle.bq_jobs.specs.declared.place.Group.TheVariants as groups
-use Rattle.bq_jobs.specs.declared.place.JobList.{JobList}
-use Rattle.bq_jobs.specs.declared.place.JobList.TheVariants as lists
 use Rattle.bq_jobs.specs.declared.place.Timer.{Timer}
 use Rattle.bq_jobs.specs.declared.place.Timer.TheVariants as timers
 
 abbrev pub placed : {G : Type 0} → G → ℕ → ℕ → Option (Place G)
 placed group at id = Some (record { at = at; id = id; group = group })
 
-abbrev pub list_of : List ℕ → JobList → Group
-list_of tube list = groups.Listed (record { list = list; tube = tube })
+abbrev pub list_of : List ℕ → JobList → Holder
+list_of tube list = holders.Listed (record { list = list; tube = tube })
+
+abbrev pub held_by : ℕ → Holder
+held_by seat = holders.Held seat
 
 -- among the ready, delayed or buried jobs of its tube, or the leases of its holder
-abbrev pub in_groups_at : JobState → ℕ → List ℕ → ℕ → Option (Place Group)
+abbrev pub in_groups_at : JobState → ℕ → List ℕ → ℕ → Option (Place Holder)
 in_groups_at states.Ready pri tube id = placed (list_of tube lists.Ready) pri id
 in_groups_at (states.Delayed due) pri tube id = placed (list_of tube lists.Delayed) due id
-in_groups_at (states.Reserved seat deadline) pri tube id = placed (groups.Held seat) deadline id
+in_groups_at (states.Reserved seat deadline) pri tube id = placed (held_by seat) deadline id
 in_groups_at (states.Buried number) pri tube id = placed (list_of tube lists.Buried) number id
 
-abbrev pub in_groups : JobState → Job → Option (Place Group)
+abbrev pub in_groups : JobState → Job → Option (Place Holder)
 in_groups state j = in_groups_at state j.pri j.tube j.id
 
-abbrev pub group_place : Job → Option (Place Group)
+abbrev pub group_place : Job → Option (Place Holder)
 group_place j = in_groups j.state j
 
 -- among the delays or the leases

@@ -9,12 +9,12 @@
 //! | piece | bytes |
 //! |---|---|
 //! | its box by id | 160 |
-//! | its place in its tube or at its holder | 88 |
+//! | its place in its tube or at its holder | 72 |
 //! | its place among delays and leases | 72 |
 //! | the vector of its body and the count of its owners | 48 at most |
 //! | the bytes of its body | 64 |
 //! | what a heap keeps beside each of these five pieces | 80 at most |
-//! | together | 512 at most |
+//! | together | 496 at most |
 #![tactic(auto)]
 
 pub use edit::{JobEdit, Moved, Standing};
@@ -23,6 +23,8 @@ pub use number::TubeNumber;
 pub use row::Row;
 
 mod edit;
+mod group;
+mod holder;
 mod jobs;
 pub mod laws;
 mod number;

@@ -13,22 +13,26 @@ use std::marker::Model;
 pub struct TubeNumber(u64);
 
 impl Model for TubeNumber {
-    ghost use Rattle.std.specs.Prelude.{List, ℕ, [], ◌∷◌};
+    ghost use Rattle.std.specs.Prelude.{List, ℕ, [], ◌∷◌, ◌<◌, ◌^◌};
     ghost use Rattle.bq_jobs.specs.Names.{number_in};
 
     ghost Value = { List ℕ };
 
     ghost view = { λ n. n.0 ∷ [] };
 
+    // Two bits are left for what is told of a tube beside its number.
+    ghost invariant = { λ n. n.0 < 2 ^ 62 };
+
     ghost inverse = { λ name. record { 0 = number_in name } };
 }
 
 impl TubeNumber {
-    ghost use Rattle.std.specs.Prelude.{◌≡◌, [], ◌∷◌};
+    ghost use Rattle.std.specs.Prelude.{◌≡◌, [], ◌∷◌, ◌<◌, ◌^◌};
     ghost use Rattle.bq_jobs.specs.Names.{number_in};
 
     /// The tube of this number.
     pub(crate) fn of(number: u64) -> TubeNumber
+        requires { number < 2 ^ 62 }
         ensures { result ≡ number ∷ [] }
     {
         TubeNumber(number)
@@ -36,7 +40,9 @@ impl TubeNumber {
 
     /// The number.
     pub(crate) fn get(self) -> u64
-        ensures { result ≡ number_in self }
+        ensures number { result ≡ number_in self }
+        ensures alone { self ≡ result ∷ [] }
+        ensures few { result < 2 ^ 62 }
     {
         self.0
     }

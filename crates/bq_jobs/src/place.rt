@@ -3,13 +3,14 @@ ghost use Rattle.std.specs.Prelude.{◌≡◌};
 ghost use Rattle.bq_jobs.specs.Places.{group_place, in_groups_at, in_timers_at, timer_place};
 
 use super::edit::Standing;
+use super::group::Group;
+use super::holder::JobList;
 use super::number::TubeNumber;
 use super::row::Row;
-use bq_job::{JobId, JobState, Seat};
+use bq_job::{JobId, JobState};
 use std::cmp::Ordering;
 
-/// A place in an order: by group, then by a number, then by the id of the job. The numbers lie before the
-/// group, whose end is the rest of a tube's name: so most places are told apart by what lies side by side.
+/// A place in an order: by group, then by a number, then by the id of the job.
 #[derive(Clone, Copy)]
 pub struct Place<G> {
     pub at: u64,
@@ -72,45 +73,11 @@ impl<G: Ord> Ord for Place<G> {
     }
 }
 
-/// A state in which jobs stand in an order of their tube.
-#[derive(Clone, Copy, PartialEq, Eq, PartialOrd, Ord)]
-pub enum JobList {
-    Ready,
-    Delayed,
-    Buried,
-}
-
-/// The jobs of a tube in one state. The state is told quicker than the tube, and so it comes first.
-#[derive(Clone, Copy, PartialEq, Eq, PartialOrd, Ord)]
-pub struct TubeList {
-    pub list: JobList,
-    pub tube: TubeNumber,
-}
-
-/// Who has a job: the client at a seat, or a list of the job's tube. It is never in both, and so one order
-/// serves for both.
-#[derive(Clone, Copy, PartialEq, Eq, PartialOrd, Ord)]
-pub enum Group {
-    Held(Seat),
-    Listed(TubeList),
-}
-
 /// What ends at a moment: a delay or a lease.
 #[derive(Clone, Copy, PartialEq, Eq, PartialOrd, Ord)]
 pub enum Timer {
     Due,
     Lease,
-}
-
-impl Group {
-    ghost use Rattle.bq_jobs.specs.Places.{list_of};
-
-    /// The jobs of a tube in one state.
-    pub fn list(list: JobList, tube: TubeNumber) -> Group
-        ensures { result ≡ list_of tube list }
-    {
-        Group::Listed(TubeList { list, tube })
-    }
 }
 
 impl<G> Place<G> {
@@ -152,7 +119,7 @@ pub(crate) fn place_in_groups(id: JobId, tube: TubeNumber, at: Standing) -> Opti
     let (group, number) = match at.state {
         JobState::Ready => (Group::list(JobList::Ready, tube), u64::from(at.pri)),
         JobState::Delayed(due) => (Group::list(JobList::Delayed, tube), due),
-        JobState::Reserved(seat, deadline) => (Group::Held(seat), deadline),
+        JobState::Reserved(seat, deadline) => (Group::held(seat), deadline),
         JobState::Buried(number) => (Group::list(JobList::Buried, tube), number),
     };
     Some(Place::of(group, number, id))

@@ -1,5 +1,5 @@
 //! The record of a job, inside.
-ghost use Rattle.std.specs.Prelude.{◌≡◌, [], ◌∷◌};
+ghost use Rattle.std.specs.Prelude.{◌≡◌, ◌<◌, ◌^◌, [], ◌∷◌};
 
 use super::number::TubeNumber;
 use bq_job::{Body, Counts, Job, JobId, JobState, Moment, Pri, TubeName};
@@ -43,6 +43,7 @@ impl Model for Row {
 
 /// The record of a job in the tube of this number.
 pub(crate) fn row_of(job: Job, number: u64) -> Row
+    requires { number < 2 ^ 62 }
     ensures { result ≡ record job { tube = number ∷ [] } }
 {
     Row {

@@ -15,9 +15,11 @@ ghost use Rattle.bq_jobs.specs.Names.{number_in};
 ghost use Rattle.bq_jobs.specs.Seen.{IsBodyOf, IsNumberOf};
 
 use super::edit::{JobEdit, MovedRow, Standing};
+use super::group::Group;
+use super::holder::JobList;
 use super::number::TubeNumber;
 use super::order;
-use super::place::{self, Group, JobList, Place, Timer};
+use super::place::{self, Place, Timer};
 use super::row::Row;
 use bq_index::{BoxSource, Shelf};
 use bq_job::{Body, JobId, Moment, NoMemory, Seat};
@@ -265,7 +267,7 @@ impl Rows {
         ensures same { self.new ≡ record self.old { comparisons = self.new.comparisons } }
         ensures comparisons { ComparesAtMost 1 self.old self.new }
     {
-        order::first_in_group(&mut self.groups, Group::Held(seat))
+        order::first_in_group(&mut self.groups, Group::held(seat))
     }
 
     /// The priority and the id of the most urgent ready job of a tube: by priority, then by id.
@@ -303,7 +305,7 @@ impl Rows {
         ensures same { self.new ≡ record self.old { comparisons = self.new.comparisons } }
         ensures comparisons { ComparesAtMost 1 self.old self.new }
     {
-        order::first_rank(&mut self.groups, Group::Held(seat))
+        order::first_rank(&mut self.groups, Group::held(seat))
     }
 }
 

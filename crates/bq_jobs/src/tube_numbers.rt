@@ -1,5 +1,5 @@
 //! The tubes that are known.
-ghost use Rattle.std.specs.Prelude.{◌≡◌, [], is_ok, if◌then◌else◌};
+ghost use Rattle.std.specs.Prelude.{◌≡◌, ◌<◌, ◌^◌, [], is_ok, if◌then◌else◌, IfSome};
 ghost use Rattle.std.specs.Option.{option_map};
 ghost use Rattle.bq_jobs.specs.Numbering.{IsPaired, name_of, number_of, with_known, without_known};
 
@@ -8,12 +8,16 @@ use bq_job::{NoMemory, TubeName};
 use std::alloc::Global;
 use std::marker::Model;
 
+// One more than the greatest number, which leaves two bits for what is told of a tube beside it.
+const TUBES: u64 = 1 << 62;
+
 /// The tubes that are known, each by its name and by its number. A number is given once and not again: so none
 /// can come to stand for another tube than the jobs were put into that have it.
 #[derive(Drop)]
 pub(crate) struct TubeNumbers {
     numbers: Catalog<TubeName, u64>,
     names: Catalog<u64, TubeName>,
+    // The number of the next tube. After 2^62 tubes, one after another, none more can be known.
     next: u64,
 }
 
@@ -42,6 +46,7 @@ impl TubeNumbers {
     /// The number of a tube.
     pub(crate) fn number_of(&self, name: &TubeName) -> Option<u64>
         ensures number { result ≡ number_of name.now self.now }
+        ensures few { IfSome result (λ n. n < 2 ^ 62) }
         ensures paired { IsPaired self.now }
     {
         match self.numbers.peek(name) {
@@ -66,9 +71,10 @@ impl TubeNumbers {
         if self.numbers.peek(name).is_some() {
             return Ok(());
         }
-        let Some(next) = self.next.checked_add(1) else {
+        if self.next >= TUBES {
             return Err(NoMemory);
-        };
+        }
+        let next = self.next + 1;
         let Ok(()) = self.numbers.reserve(alloc, 1) else {
             return Err(NoMemory);
         };

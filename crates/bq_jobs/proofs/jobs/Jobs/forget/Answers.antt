@@ -2,7 +2,7 @@ use Rattle.std.proofs.Common.{is_some, map, sym, ap, ◌∙◌, subst}
 use Rattle.std.specs.List.{list_any}
 use Rattle.bq_job.specs.reading.TubeName.{is_same_name}
 use Rattle.bq_jobs.specs.Kept.{Kept}
-use Rattle.bq_jobs.specs.Numbering.{AreNumbered, is_known, kept_named, named, number_of}
+use Rattle.bq_jobs.specs.Numbering.{AreNumbered, is_known, named, number_of}
 use Rattle.bq_jobs.proofs.NumberingLemmas.{number_gone, number_left}
 use Rattle.bq_jobs.proofs.NamedJobs.{named_left, numbered_left}
 use Rattle.bq_jobs.proofs.jobs.Jobs.forget.Goals as goal

@@ -1,7 +1,7 @@
 use Rattle.std.proofs.Common.{arith, ◌∙◌, ◌+◌, ◌^◌, ap, cond, refl, sym}
 use Rattle.std.specs.Prelude.{is_some, option_map}
 use Rattle.bq_job.specs.machine.Changes.{job_with}
-use Rattle.bq_jobs.specs.contracts.place.GroupOrd.TheImpl.Laws as group_laws
+use Rattle.bq_jobs.specs.contracts.group.GroupOrd.TheImpl.Laws as group_laws
 use Rattle.bq_jobs.specs.contracts.place.TimerOrd.TheImpl.Laws as timer_laws
 use Rattle.bq_jobs.specs.Changed.{row_moved_by, with_changed, with_edited}
 use Rattle.bq_jobs.specs.Inside.{jobs_of, kept_in}

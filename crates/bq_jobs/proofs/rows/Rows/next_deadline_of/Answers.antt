@@ -4,8 +4,10 @@ use Rattle.bq_job.specs.machine.Changes.{first_of, is_held_by}
 use Rattle.bq_jobs.specs.Leases.{deadline_of, is_lease_before}
 use Rattle.bq_jobs.specs.Inside.{jobs_of, kept_in}
 use Rattle.bq_jobs.specs.Kept.{Kept, ranked}
+use Rattle.bq_jobs.specs.PlaceOrder.{first_rank}
 use Rattle.bq_jobs.proofs.Counting.{few_more}
 use Rattle.bq_jobs.proofs.FirstJobs.{held_rank_is}
+use Rattle.bq_jobs.proofs.Firsts.{group_cmp}
 use Rattle.bq_jobs.proofs.Shelved.{group_search}
 use Rattle.bq_jobs.proofs.rows.Rows.next_deadline_of.Goals as goal
 
@@ -14,6 +16,7 @@ returns-clause-rank c =
     let s = c.self.inside in
     let h = c.self.invariant in
     c.first_rank.ensures.rank
+    ∙ ap (λ g. first_rank group_cmp g s.groups.entries) c.held.ensures
     ∙ held_rank_is (jobs_of s.by_id.entries) s.by_id.spare h.ids s.groups h.in_groups c.first_rank.ensures.ordered c.args.seat
     ∙ ap (λ (m : Kept). option_map (ranked (λ j. deadline_of j.state)) (first_of (is_held_by c.args.seat) is_lease_before m.jobs)) c.self.view_is
 

@@ -1,0 +1,10 @@
+use Rattle.std.proofs.Common.{◌∙◌, Some, Bor, ℕ, ap, sym}
+use Rattle.std.specs.Prelude.{option_map}
+use Rattle.bq_jobs.specs.Numbering.{Numbering}
+use Rattle.bq_jobs.proofs.NumberingLemmas.{number_few}
+use Rattle.bq_jobs.proofs.tube_numbers.TubeNumbers.number_of.Goals as goal
+
+pub returns-in-Some-clause-few : goal.returns-in-Some-clause-few
+returns-in-Some-clause-few c =
+    let k : Numbering = record { numbers = c.self.inside.numbers.entries; names = c.self.inside.names.entries; next = c.self.inside.next } in
+    number_few k c.args.name.now (Some c.in-Some.number.now) c.self.invariant (sym c.peek.ensures ∙ ap (option_map (λ (n : Bor ℕ). n.now)) c.in-Some.is)

@@ -1,0 +1,43 @@
+-- The numbers by which the holders of jobs are told apart.
+use Rattle.std.specs.Prelude.{ℕ, ◌+◌, ◌*◌, ◌/◌, ◌%◌, ◌==◌, if◌then◌else◌, List, [], ◌∷◌}
+use Rattle.std.specs.declared.cmp.Ordering.{Ordering}
+use Rattle.std.specs.Cmp.{IsTotalOrder, nat_cmp_total, on_total, then_total}
+use Rattle.std.specs.Ordering.{nat_cmp, on, then_cmp}
+use Rattle.bq_jobs.specs.declared.holder.Holder.{Holder}
+use Rattle.bq_jobs.specs.declared.holder.Holder.TheVariants as holders
+use Rattle.bq_jobs.specs.declared.holder.JobList.{JobList}
+use Rattle.bq_jobs.specs.declared.holder.JobList.TheVariants as lists
+use Rattle.bq_jobs.specs.Names.{name_cmp, name_total, number_in}
+
+abbrev pub list_number : JobList → ℕ
+list_number lists.Ready = 0
+list_number lists.Delayed = 1
+list_number lists.Buried = 2
+
+-- four times the number of the tube or the seat, and which of the four it is
+abbrev pub group_number : Holder → ℕ
+group_number (holders.Held seat) = seat * 4 + 3
+group_number (holders.Listed l) = number_in l.tube * 4 + list_number l.list
+
+-- the holder of the number that is four times n and k
+abbrev pub holder_of : ℕ → ℕ → Holder
+holder_of n k =
+    if k == 0 then holders.Listed (record { list = lists.Ready; tube = n ∷ [] })
+    else if k == 1 then holders.Listed (record { list = lists.Delayed; tube = n ∷ [] })
+    else if k == 2 then holders.Listed (record { list = lists.Buried; tube = n ∷ [] })
+    else holders.Held n
+
+abbrev pub group_at : ℕ → Holder
+group_at number = holder_of (number / 4) (number % 4)
+
+-- the tube of a list
+abbrev pub tube_in : Holder → List ℕ
+tube_in (holders.Held seat) = []
+tube_in (holders.Listed l) = l.tube
+
+-- by number; a tube is told by its number, so its name comes too late to tell more
+abbrev pub group_cmp : Holder → Holder → Ordering
+group_cmp = then_cmp (on group_number nat_cmp) (on tube_in name_cmp)
+
+pub group_total : IsTotalOrder group_cmp
+group_total = then_total (on_total group_number nat_cmp_total) (on_total tube_in name_total)
