@@ -8,6 +8,7 @@ use Rattle.bq_jobs.specs.declared.holder.Holder.TheVariants as holders
 use Rattle.bq_jobs.specs.declared.holder.JobList.{JobList}
 use Rattle.bq_jobs.specs.declared.holder.JobList.TheVariants as lists
 use Rattle.bq_jobs.specs.Names.{name_cmp, name_total, number_in}
+use Rattle.bq_jobs.specs.Places.{held_by, list_of}
 
 abbrev pub list_number : JobList → ℕ
 list_number lists.Ready = 0
@@ -22,10 +23,10 @@ group_number (holders.Listed l) = number_in l.tube * 4 + list_number l.list
 -- the holder of the number that is four times n and k
 abbrev pub holder_of : ℕ → ℕ → Holder
 holder_of n k =
-    if k == 0 then holders.Listed (record { list = lists.Ready; tube = n ∷ [] })
-    else if k == 1 then holders.Listed (record { list = lists.Delayed; tube = n ∷ [] })
-    else if k == 2 then holders.Listed (record { list = lists.Buried; tube = n ∷ [] })
-    else holders.Held n
+    if k == 0 then list_of (n ∷ []) lists.Ready
+    else if k == 1 then list_of (n ∷ []) lists.Delayed
+    else if k == 2 then list_of (n ∷ []) lists.Buried
+    else held_by n
 
 abbrev pub group_at : ℕ → Holder
 group_at number = holder_of (number / 4) (number % 4)
@@ -35,7 +36,7 @@ abbrev pub tube_in : Holder → List ℕ
 tube_in (holders.Held seat) = []
 tube_in (holders.Listed l) = l.tube
 
--- by number; a tube is told by its number, so its name comes too late to tell more
+-- by number; the tube comes too late to tell more, for it is told by its number
 abbrev pub group_cmp : Holder → Holder → Ordering
 group_cmp = then_cmp (on group_number nat_cmp) (on tube_in name_cmp)
 

@@ -48,8 +48,10 @@ module _ {G : Type 0} (compare : G → G → Ordering) where
 
 -- places are in order where their groups are
 pub place_total : {G : Type 0} {compare : G → G → Ordering} → IsTotalOrder compare → IsTotalOrder (place_cmp compare)
-place_total o = then_total (on_total (λ p. p.group) o) (then_total (on_total (λ p. p.at) nat_cmp_total) (on_total (λ p. p.id) nat_cmp_total))
+place_total o =
+    then_total (on_total (λ p. p.group) o) (then_total (on_total (λ p. p.at) nat_cmp_total) (on_total (λ p. p.id) nat_cmp_total))
 
 -- the comparisons of two searches in an order that doesn't grow
 abbrev pub ComparesTwice : {G : Type 0} → Seen (Place G) (Unit {0}) → Seen (Place G) (Unit {0}) → Type 0
-ComparesTwice old new = (old.comparisons ≤ new.comparisons) × (new.comparisons ≤ old.comparisons + 4 * binary_digits (length old.entries + 1))
+ComparesTwice old new =
+    (old.comparisons ≤ new.comparisons) × (new.comparisons ≤ old.comparisons + 4 * binary_digits (length old.entries + 1))

@@ -1,6 +1,7 @@
 //! The jobs of a work queue.
 ghost use Rattle.std.specs.Option.{option_map};
-ghost use Rattle.std.specs.Prelude.{◌≡◌, ◌+◌, ◌-◌, ◌<◌, nat_lt, ◌^◌, if◌then◌else◌, [], ℕ, List, true, false, length, max, is_some, IfOk, IfSome, None, OnOk, OnErr};
+ghost use Rattle.std.specs.Prelude.{◌≡◌, ◌+◌, ◌-◌, ◌<◌, ◌^◌, if◌then◌else◌, [], ℕ, List};
+ghost use Rattle.std.specs.Prelude.{nat_lt, true, false, length, max, is_some, IfOk, IfSome, None, OnOk, OnErr};
 ghost use Rattle.bq_job.specs.machine.Changes.{first_of, is_held_by, job_with};
 ghost use Rattle.bq_job.specs.machine.Dispatch.{is_job_before};
 ghost use Rattle.bq_job.specs.machine.JobCommands.{is_buried_in, is_delayed_in};
@@ -108,7 +109,10 @@ impl Jobs {
     /// Gives back the room of one job, where there is room for more jobs than there are. It takes no memory:
     /// so after a peak the room of the jobs that are gone goes back to the heap in small steps.
     pub fn give_back(&mut self)
-        ensures { self.new ≡ record self.old { room = if nat_lt (length self.old.jobs) self.old.room then self.old.room - 1 else self.old.room } }
+        ensures { self.new ≡ record self.old {
+          room =
+              if nat_lt (length self.old.jobs) self.old.room then self.old.room - 1 else self.old.room;
+        } }
     {
         self.rows.give_back();
     }

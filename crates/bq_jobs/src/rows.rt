@@ -1,6 +1,7 @@
 //! The records of the jobs, in which a tube is a number.
 ghost use Rattle.std.specs.Option.{option_map};
-ghost use Rattle.std.specs.Prelude.{◌≡◌, ◌+◌, ◌-◌, ◌<◌, nat_lt, ◌^◌, if◌then◌else◌, [], length, max, is_some, IfOk, IfSome, None, OnOk, OnErr};
+ghost use Rattle.std.specs.Prelude.{◌≡◌, ◌+◌, ◌-◌, ◌<◌, ◌^◌, if◌then◌else◌, []};
+ghost use Rattle.std.specs.Prelude.{nat_lt, length, max, is_some, IfOk, IfSome, None, OnOk, OnErr};
 ghost use Rattle.bq_job.specs.machine.Changes.{first_of, is_held_by, job_with};
 ghost use Rattle.bq_job.specs.machine.Dispatch.{is_job_before};
 ghost use Rattle.bq_job.specs.machine.JobCommands.{is_buried_in, is_delayed_in};
@@ -120,7 +121,10 @@ impl Rows {
 
     /// Gives back the room of one job, where there is room for more jobs than there are.
     pub(crate) fn give_back(&mut self)
-        ensures { self.new ≡ record self.old { room = if nat_lt (length self.old.jobs) self.old.room then self.old.room - 1 else self.old.room } }
+        ensures { self.new ≡ record self.old {
+          room =
+              if nat_lt (length self.old.jobs) self.old.room then self.old.room - 1 else self.old.room;
+        } }
     {
         if self.by_id.len() < self.by_id.spare() {
             self.by_id.give_back();
