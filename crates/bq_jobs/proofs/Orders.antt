@@ -12,7 +12,7 @@ use Rattle.std.proofs.lemmas.Bool.Decides.{nat_tests}
 use Rattle.std.proofs.lemmas.Cmp.{tied_back, tied_itself}
 use Rattle.bq_index.specs.Digits.{binary_digits}
 use Rattle.bq_index.specs.Order.{InOrder}
-use Rattle.bq_index.proofs.Order.{length_inserted, length_removed}
+use Rattle.bq_index.proofs.Order.{length_inserted, length_removed, order_insert, order_remove}
 use Rattle.bq_job.specs.declared.job.Job.{Job}
 use Rattle.bq_job.specs.machine.Changes.{job_with}
 use Rattle.bq_job.specs.beside.Lawful.{AreIdsWithin}
@@ -101,6 +101,15 @@ module _ {G : Type 0} {C : G → G → Ordering} (o : IsTotalOrder C) where
         let found_then : job_with p.id jobs ≡ Some j = rw same found in
         h.places p ∙ ap (has_place C place_of p) found_then ∙ ap (is_place C p) e ∙ ap is_eq (tied_itself (place_total o) p)
 
+    -- places stay in order where one comes or goes
+    sorted_with : (place : Option (Place G)) (es : List (Place G × Unit {0})) → InOrder (place_cmp C) es → InOrder (place_cmp C) (with_place C place es)
+    sorted_with None es s = s
+    sorted_with (Some p) es s = order_insert (place_total o) p tt es s
+
+    sorted_without : (place : Option (Place G)) (es : List (Place G × Unit {0})) → InOrder (place_cmp C) es → InOrder (place_cmp C) (without_place C place es)
+    sorted_without None es s = s
+    sorted_without (Some p) es s = order_remove (place_cmp C) (is_at (place_cmp C p)) es s
+
     -- after an addition
     added_places : (j : Job) (place : Option (Place G)) (jobs : List Job) (room : ℕ) (order : Order G) → place_of j ≡ place → IfSome place (λ p. p.id ≡ j.id) → IsOrderOf C place_of jobs room order → job_with j.id jobs ≡ None
         → (q : Place G) → is_some (holds_place C q (with_place C place order.entries)) ≡ has_place C place_of q (cond (j.id == q.id) (Some j) (job_with q.id jobs))
@@ -144,6 +153,7 @@ module _ {G : Type 0} {C : G → G → Ordering} (o : IsTotalOrder C) where
           places = λ q. ap (λ es. is_some (holds_place C q es)) entries ∙ added_places j (place_of j) jobs room order refl (own j) h free q ∙ sym (ap (has_place C place_of q) (found_among_added q.id j jobs));
           counted = omega (arith, long, h.counted, count_added (λ k. is_some (place_of k)) j jobs);
           roomy = omega (arith, long, spare, h.roomy, length_added j jobs, l);
+          sorted = subst (InOrder (place_cmp C)) (sym entries) (sorted_with (place_of j) order.entries h.sorted);
         }
 
     -- after a removal
@@ -182,26 +192,27 @@ module _ {G : Type 0} {C : G → G → Ordering} (o : IsTotalOrder C) where
         let held = some_unit (holds_place C p order.entries) (held_place id j jobs room order h found p e) in
         omega (arith, length_removed (is_at (place_cmp C p)) order.entries (Some (p, tt)) refl (sym held))
 
-    pub order_removed : (low next id : ℕ) (j : Job) (jobs : List Job) (room more : ℕ) (order new : Order G) → IsOrderOf C place_of jobs room order → AreIdsWithin low jobs next → job_with id jobs ≡ Some j → InOrder (place_cmp C) order.entries → more ≡ room + 1
+    pub order_removed : (low next id : ℕ) (j : Job) (jobs : List Job) (room more : ℕ) (order new : Order G) → IsOrderOf C place_of jobs room order → AreIdsWithin low jobs next → job_with id jobs ≡ Some j → more ≡ room + 1
         → new.entries ≡ without_place C (place_of j) order.entries → new.spare ≡ order.spare + cond (is_some (place_of j)) 1 0 → IsOrderOf C place_of (without id jobs) more new
-    order_removed low next id j jobs room more order new h ids found s m entries spare =
+    order_removed low next id j jobs room more order new h ids found m entries spare =
         let long = removed_length id j (place_of j) jobs room order refl h found in
         let now = ap length entries in
         record {
-          places = λ q. ap (λ es. is_some (holds_place C q es)) entries ∙ removed_places id j (place_of j) jobs room order refl (own j) h found s q ∙ sym (ap (has_place C place_of q) (found_without q.id id jobs));
+          places = λ q. ap (λ es. is_some (holds_place C q es)) entries ∙ removed_places id j (place_of j) jobs room order refl (own j) h found h.sorted q ∙ sym (ap (has_place C place_of q) (found_without q.id id jobs));
           counted = omega (arith, long, now, h.counted, count_without (λ k. is_some (place_of k)) low next id j jobs ids found);
           roomy = omega (arith, long, now, spare, h.roomy, length_without low next id j jobs ids found, m);
+          sorted = subst (InOrder (place_cmp C)) (sym entries) (sorted_without (place_of j) order.entries h.sorted);
         }
 
     -- where a job goes from its place to that of k, which has its id
     module _ (low next id : ℕ) (j k : Job) (jobs : List Job) (room : ℕ) (order : Order G) (h : IsOrderOf C place_of jobs room order)
-        (ids : AreIdsWithin low jobs next) (found : job_with id jobs ≡ Some j) (same : k.id ≡ id) (s : InOrder (place_cmp C) order.entries) where
+        (ids : AreIdsWithin low jobs next) (found : job_with id jobs ≡ Some j) (same : k.id ≡ id) where
       abbrev left : Order G
       left = record { entries = without_place C (place_of j) order.entries; spare = order.spare + cond (is_some (place_of j)) 1 0; comparisons = order.comparisons }
 
       -- once it left
       once_left : IsOrderOf C place_of (without id jobs) (room + 1) left
-      once_left = order_removed low next id j jobs room (room + 1) order left h ids found s refl refl refl
+      once_left = order_removed low next id j jobs room (room + 1) order left h ids found refl refl refl
 
       free_then : job_with k.id (without id jobs) ≡ None
       free_then = ap (λ n. job_with n (without id jobs)) same ∙ not_there id jobs

@@ -6,7 +6,6 @@ use Rattle.std.specs.Map.{lookup, remove_entry, set_value}
 use Rattle.std.specs.BTreeMap.{is_at, insert_entry}
 use Rattle.std.proofs.lemmas.Bool.{cases_Bool}
 use Rattle.bq_index.specs.Digits.{binary_digits}
-use Rattle.bq_index.specs.Order.{InOrder}
 use Rattle.bq_job.specs.declared.job.Job.{Job}
 use Rattle.bq_job.specs.machine.Changes.{job_with}
 use Rattle.bq_job.specs.beside.Lawful.{AreIdsWithin}
@@ -17,7 +16,7 @@ use Rattle.bq_jobs.specs.declared.rows.Rows.TheInside.{Inside as Parts}
 use Rattle.bq_jobs.specs.Changed.{KeepsId, with_changed}
 use Rattle.bq_jobs.specs.Inside.{ById, IsOrderOf, IsShelved, jobs_of, with_id}
 use Rattle.bq_jobs.specs.Kept.{search_bound, with_added, without}
-use Rattle.bq_jobs.specs.PlaceOrder.{place_cmp, with_place, without_place}
+use Rattle.bq_jobs.specs.PlaceOrder.{with_place, without_place}
 use Rattle.bq_jobs.specs.Places.{timer_place, group_place}
 use Rattle.bq_jobs.proofs.ById.{insert_by_id, lookup_by_id, remove_by_id, same_jobs, set_by_id}
 use Rattle.bq_jobs.proofs.Changes.{added_within, changed, found_id, not_there, without_none, without_within}
@@ -93,10 +92,8 @@ pub record Removed (id : ℕ) (j : Job) (s n : Parts) : Type 0 where
   pub by_id : n.by_id.entries ≡ remove_entry (is_at (nat_cmp id)) s.by_id.entries
   pub room : n.by_id.spare ≡ s.by_id.spare + 1
   pub groups : n.groups.entries ≡ without_place group_cmp (group_place j) s.groups.entries
-  pub group_order : InOrder (place_cmp group_cmp) s.groups.entries
   pub group_spare : n.groups.spare ≡ s.groups.spare + cond (is_some (group_place j)) 1 0
   pub timers : n.timers.entries ≡ without_place timer_cmp (timer_place j) s.timers.entries
-  pub timer_order : InOrder (place_cmp timer_cmp) s.timers.entries
   pub timer_spare : n.timers.spare ≡ s.timers.spare + cond (is_some (timer_place j)) 1 0
 
 pub shelved_removed : (id : ℕ) (j : Job) (s n : Parts) → AreShelved s → job_with id (jobs_of s.by_id.entries) ≡ Some j → Removed id j s n → AreShelved n
@@ -105,8 +102,8 @@ shelved_removed id j s n h found a =
     shelved_from n (without id jobs) (record {
       own = a.by_id ∙ entries_removed id s h;
       ids = without_within 0 (2 ^ 64) id jobs h.ids;
-      tubes = order_removed group_laws.total-law group_place group_own 0 (2 ^ 64) id j jobs s.by_id.spare n.by_id.spare s.groups n.groups h.in_groups h.ids found a.group_order a.room a.groups a.group_spare;
-      timed = order_removed timer_laws.total-law timer_place timer_own 0 (2 ^ 64) id j jobs s.by_id.spare n.by_id.spare s.timers n.timers h.in_timers h.ids found a.timer_order a.room a.timers a.timer_spare;
+      tubes = order_removed group_laws.total-law group_place group_own 0 (2 ^ 64) id j jobs s.by_id.spare n.by_id.spare s.groups n.groups h.in_groups h.ids found a.room a.groups a.group_spare;
+      timed = order_removed timer_laws.total-law timer_place timer_own 0 (2 ^ 64) id j jobs s.by_id.spare n.by_id.spare s.timers n.timers h.in_timers h.ids found a.room a.timers a.timer_spare;
     })
 
 -- a search in each order
@@ -137,10 +134,8 @@ gone_after id s h = ap (job_with id) (jobs_removed id s h) ∙ not_there id (job
 pub record Changed (j k : Job) (s n : Parts) : Type 0 where
   pub room : n.by_id.spare ≡ s.by_id.spare
   pub groups : n.groups.entries ≡ with_place group_cmp (group_place k) (without_place group_cmp (group_place j) s.groups.entries)
-  pub group_order : InOrder (place_cmp group_cmp) s.groups.entries
   pub group_spare : n.groups.spare + cond (is_some (group_place k)) 1 0 ≡ s.groups.spare + cond (is_some (group_place j)) 1 0
   pub timers : n.timers.entries ≡ with_place timer_cmp (timer_place k) (without_place timer_cmp (timer_place j) s.timers.entries)
-  pub timer_order : InOrder (place_cmp timer_cmp) s.timers.entries
   pub timer_spare : n.timers.spare + cond (is_some (timer_place k)) 1 0 ≡ s.timers.spare + cond (is_some (timer_place j)) 1 0
 
 module _ (id : ℕ) (f : Job → Job) (keeps : KeepsId f) (s : Parts) (h : AreShelved s) (j : Job) (found : job_with id (jobs_of s.by_id.entries) ≡ Some j) where
@@ -165,7 +160,7 @@ module _ (id : ℕ) (f : Job → Job) (keeps : KeepsId f) (s : Parts) (h : AreSh
         own = entries ∙ entries_changed;
         ids = ids_of_map (λ k. cond (k.id == id) (f k) k) 0 (2 ^ 64) jobs changed_keeps h.ids;
         tubes = subst (λ r. IsOrderOf group_cmp group_place (with_changed id f jobs) r n.groups) (sym a.room) (subst (λ js. IsOrderOf group_cmp group_place js room n.groups) made
-            (order_moved group_laws.total-law group_place group_own 0 (2 ^ 64) id j (f j) jobs room s.groups h.in_groups h.ids found id_then a.group_order n.groups a.groups a.group_spare));
+            (order_moved group_laws.total-law group_place group_own 0 (2 ^ 64) id j (f j) jobs room s.groups h.in_groups h.ids found id_then n.groups a.groups a.group_spare));
         timed = subst (λ r. IsOrderOf timer_cmp timer_place (with_changed id f jobs) r n.timers) (sym a.room) (subst (λ js. IsOrderOf timer_cmp timer_place js room n.timers) made
-            (order_moved timer_laws.total-law timer_place timer_own 0 (2 ^ 64) id j (f j) jobs room s.timers h.in_timers h.ids found id_then a.timer_order n.timers a.timers a.timer_spare));
+            (order_moved timer_laws.total-law timer_place timer_own 0 (2 ^ 64) id j (f j) jobs room s.timers h.in_timers h.ids found id_then n.timers a.timers a.timer_spare));
       })

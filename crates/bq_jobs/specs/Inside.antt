@@ -2,6 +2,7 @@
 use Rattle.std.specs.Prelude.{◌≡◌, ℕ, Bool, false, ◌+◌, ◌^◌, ◌≤◌, min, List, [], Option, Some, None, map, length, is_some, count_by}
 use Rattle.std.specs.declared.cmp.Ordering.{Ordering}
 use Rattle.std.specs.Ordering.{is_eq}
+use Rattle.bq_index.specs.Order.{InOrder}
 use Rattle.bq_index.specs.Shelf.{Seen}
 use Rattle.bq_job.specs.declared.job.Job.{Job}
 use Rattle.bq_job.specs.machine.Changes.{job_with}
@@ -43,12 +44,13 @@ abbrev pub has_place : {G : Type 0} → (G → G → Ordering) → (Job → Opti
 has_place compare place_of p None = false
 has_place compare place_of p (Some j) = is_place compare p (place_of j)
 
--- An order has the places of all jobs and no others, and boxes for those of the jobs to come.
+-- An order has the places of all jobs and no others, ascending, and boxes for those of the jobs to come.
 pub record IsOrderOf {G : Type 0} (compare : G → G → Ordering) (place_of : Job → Option (Place G))
     (jobs : List Job) (room : ℕ) (order : Order G) : Type 0 where
   pub places : (p : Place G) → is_some (holds_place compare p order.entries) ≡ has_place compare place_of p (job_with p.id jobs)
   pub counted : length order.entries ≡ count_by (λ j. is_some (place_of j)) jobs
   pub roomy : length jobs + room ≤ length order.entries + order.spare
+  pub sorted : InOrder (place_cmp compare) order.entries
 
 -- The jobs stand by their own ids, which ascend, and each order is that of these jobs.
 pub record IsShelved (group_cmp : Holder → Holder → Ordering) (timer_cmp : Timer → Timer → Ordering)

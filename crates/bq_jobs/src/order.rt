@@ -1,8 +1,7 @@
 //! Lists of places in their order.
 ghost use Rattle.std.specs.Prelude.{◌≡◌, ◌+◌, ◌<◌, ◌≤◌, length, is_some, if◌then◌else◌, IsSome, OnOk};
-ghost use Rattle.bq_index.specs.Order.{InOrder};
 ghost use Rattle.bq_index.specs.Shelf.{ComparesFew};
-ghost use Rattle.bq_jobs.specs.PlaceOrder.{ComparesTwice, first_in_group, first_rank, holds_place, place_cmp, with_place, without_place};
+ghost use Rattle.bq_jobs.specs.PlaceOrder.{ComparesTwice, first_in_group, first_rank, holds_place, with_place, without_place};
 ghost use Rattle.std.specs.Option.{ForSome};
 ghost use Rattle.std.specs.Prelude.{None};
 
@@ -46,10 +45,8 @@ pub(crate) fn leave<G: Ord + Drop>(order: &mut Shelf<Place<G>, ()>, place: Optio
     requires held { ForSome place (λ p. IsSome (holds_place G.cmp p order.old.entries)) }
     ensures entries { order.new.entries ≡ without_place G.cmp place order.old.entries }
     ensures spare { order.new.spare ≡ order.old.spare + (if is_some place then 1 else 0) }
-    ensures ordered { InOrder (place_cmp G.cmp) order.old.entries }
     ensures comparisons { ComparesFew order.old order.new }
 {
-    let _places = order.len();
     if let Some(place) = place {
         let _held = order.remove(&place);
     }
@@ -63,12 +60,10 @@ pub(crate) fn shift<G: Ord + Drop>(
     to: Option<Place<G>>,
 )
     requires held { ForSome from (λ p. IsSome (holds_place G.cmp p order.old.entries)) }
-    requires spare { InOrder (place_cmp G.cmp) order.old.entries → ForSome to (λ _. 0 < order.old.spare + (if is_some from then 1 else 0)) }
-    requires absent { InOrder (place_cmp G.cmp) order.old.entries →
-        ForSome to (λ p. holds_place G.cmp p (without_place G.cmp from order.old.entries) ≡ None) }
+    requires spare { ForSome to (λ _. 0 < order.old.spare + (if is_some from then 1 else 0)) }
+    requires absent { ForSome to (λ p. holds_place G.cmp p (without_place G.cmp from order.old.entries) ≡ None) }
     ensures entries { order.new.entries ≡ with_place G.cmp to (without_place G.cmp from order.old.entries) }
     ensures spare { order.new.spare + (if is_some to then 1 else 0) ≡ order.old.spare + (if is_some from then 1 else 0) }
-    ensures ordered { InOrder (place_cmp G.cmp) order.old.entries }
     ensures comparisons { ComparesTwice order.old order.new }
 {
     leave(order, from);
@@ -81,12 +76,10 @@ pub(crate) fn first_rank<G: Ord + Drop + Copy>(
     group: G,
 ) -> Option<(u64, JobId)>
     ensures rank { result ≡ first_rank G.cmp group order.old.entries }
-    ensures ordered { InOrder (place_cmp G.cmp) order.old.entries }
     ensures entries { order.new.entries ≡ order.old.entries }
     ensures spare { order.new.spare ≡ order.old.spare }
     ensures comparisons { ComparesFew order.old order.new }
 {
-    let _places = order.len();
     let front = Place {
         at: 0,
         id: 0,
@@ -106,7 +99,6 @@ pub(crate) fn first_in_group<G: Ord + Drop + Copy>(
     group: G,
 ) -> Option<JobId>
     ensures id { result ≡ first_in_group G.cmp group order.old.entries }
-    ensures ordered { InOrder (place_cmp G.cmp) order.old.entries }
     ensures entries { order.new.entries ≡ order.old.entries }
     ensures spare { order.new.spare ≡ order.old.spare }
     ensures comparisons { ComparesFew order.old order.new }

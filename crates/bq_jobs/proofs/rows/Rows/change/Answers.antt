@@ -55,9 +55,9 @@ shift-requires-clause-spare g c =
     let j = job_then c.args.id f c.requires.id c.requires.tube s h m told in
     let found = found_then c.args.id f c.requires.id c.requires.tube s h m told in
     let left = c.place_in_groups-left.ensures ∙ left_group c.args.id f c.requires.id c.requires.tube s h m told in
-    λ order p e.
+    λ p e.
     let some = ap (λ q. s.groups.spare + cond (is_some q) 1 0) left in
-    omega (arith, some, has_spare_then group_laws.total-law group_place group_own 0 (2 ^ 64) c.args.id j (f j) (jobs_of s.by_id.entries) s.by_id.spare s.groups h.in_groups h.ids found (id_after c.args.id f c.requires.id c.requires.tube s h m told) order)
+    omega (arith, some, has_spare_then group_laws.total-law group_place group_own 0 (2 ^ 64) c.args.id j (f j) (jobs_of s.by_id.entries) s.by_id.spare s.groups h.in_groups h.ids found (id_after c.args.id f c.requires.id c.requires.tube s h m told))
 
 pub shift-requires-clause-absent : goal.shift-requires-clause-absent
 shift-requires-clause-absent g c =
@@ -70,9 +70,9 @@ shift-requires-clause-absent g c =
     let found = found_then c.args.id f c.requires.id c.requires.tube s h m told in
     let left = c.place_in_groups-left.ensures ∙ left_group c.args.id f c.requires.id c.requires.tube s h m told in
     let entered = c.place_in_groups-entered.ensures ∙ entered_group c.args.id f c.requires.id c.requires.tube s h m told in
-    λ order p e.
+    λ p e.
     ap (λ q. holds_place group_cmp p (without_place group_cmp q s.groups.entries)) left
-    ∙ absent_then group_laws.total-law group_place group_own 0 (2 ^ 64) c.args.id j (f j) (jobs_of s.by_id.entries) s.by_id.spare s.groups h.in_groups h.ids found (id_after c.args.id f c.requires.id c.requires.tube s h m told) order p (sym entered ∙ e)
+    ∙ absent_then group_laws.total-law group_place group_own 0 (2 ^ 64) c.args.id j (f j) (jobs_of s.by_id.entries) s.by_id.spare s.groups h.in_groups h.ids found (id_after c.args.id f c.requires.id c.requires.tube s h m told) p (sym entered ∙ e)
 
 pub shift-requires-2-clause-held : goal.shift-requires-2-clause-held
 shift-requires-2-clause-held g c =
@@ -96,9 +96,9 @@ shift-requires-2-clause-spare g c =
     let j = job_then c.args.id f c.requires.id c.requires.tube s h m told in
     let found = found_then c.args.id f c.requires.id c.requires.tube s h m told in
     let left = c.place_in_timers.ensures ∙ left_timer c.args.id f c.requires.id c.requires.tube s h m told in
-    λ order p e.
+    λ p e.
     let some = ap (λ q. s.timers.spare + cond (is_some q) 1 0) left in
-    omega (arith, some, has_spare_then timer_laws.total-law timer_place timer_own 0 (2 ^ 64) c.args.id j (f j) (jobs_of s.by_id.entries) s.by_id.spare s.timers h.in_timers h.ids found (id_after c.args.id f c.requires.id c.requires.tube s h m told) order)
+    omega (arith, some, has_spare_then timer_laws.total-law timer_place timer_own 0 (2 ^ 64) c.args.id j (f j) (jobs_of s.by_id.entries) s.by_id.spare s.timers h.in_timers h.ids found (id_after c.args.id f c.requires.id c.requires.tube s h m told))
 
 pub shift-requires-2-clause-absent : goal.shift-requires-2-clause-absent
 shift-requires-2-clause-absent g c =
@@ -111,9 +111,9 @@ shift-requires-2-clause-absent g c =
     let found = found_then c.args.id f c.requires.id c.requires.tube s h m told in
     let left = c.place_in_timers.ensures ∙ left_timer c.args.id f c.requires.id c.requires.tube s h m told in
     let entered = c.place_in_timers-2.ensures ∙ entered_timer c.args.id f c.requires.id c.requires.tube s h m told in
-    λ order p e.
+    λ p e.
     ap (λ q. holds_place timer_cmp p (without_place timer_cmp q s.timers.entries)) left
-    ∙ absent_then timer_laws.total-law timer_place timer_own 0 (2 ^ 64) c.args.id j (f j) (jobs_of s.by_id.entries) s.by_id.spare s.timers h.in_timers h.ids found (id_after c.args.id f c.requires.id c.requires.tube s h m told) order p (sym entered ∙ e)
+    ∙ absent_then timer_laws.total-law timer_place timer_own 0 (2 ^ 64) c.args.id j (f j) (jobs_of s.by_id.entries) s.by_id.spare s.timers h.in_timers h.ids found (id_after c.args.id f c.requires.id c.requires.tube s h m told) p (sym entered ∙ e)
 
 pub invariant_of-self-2 : goal.invariant_of-self-2
 invariant_of-self-2 g c =
@@ -132,10 +132,8 @@ invariant_of-self-2 g c =
     shelved_changed c.args.id f c.requires.id s h j found (record { by_id = c.edit_at.new.by_id; groups = c.shift.new.order; timers = c.shift-2.new.order }) entries (record {
       room = c.edit_at.ensures.spare;
       groups = c.shift.ensures.entries ∙ ap (λ p. with_place group_cmp p (without_place group_cmp c.place_in_groups-left.result s.groups.entries)) to_group ∙ ap (λ p. with_place group_cmp (group_place (f j)) (without_place group_cmp p s.groups.entries)) from_group;
-      group_order = c.shift.ensures.ordered;
       group_spare = sym (ap (λ p. c.shift.new.order.spare + cond (is_some p) 1 0) to_group) ∙ c.shift.ensures.spare ∙ ap (λ p. s.groups.spare + cond (is_some p) 1 0) from_group;
       timers = c.shift-2.ensures.entries ∙ ap (λ p. with_place timer_cmp p (without_place timer_cmp c.place_in_timers.result s.timers.entries)) to_timer ∙ ap (λ p. with_place timer_cmp (timer_place (f j)) (without_place timer_cmp p s.timers.entries)) from_timer;
-      timer_order = c.shift-2.ensures.ordered;
       timer_spare = sym (ap (λ p. c.shift-2.new.order.spare + cond (is_some p) 1 0) to_timer) ∙ c.shift-2.ensures.spare ∙ ap (λ p. s.timers.spare + cond (is_some p) 1 0) from_timer;
     })
 

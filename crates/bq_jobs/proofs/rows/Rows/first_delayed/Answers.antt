@@ -18,7 +18,7 @@ returns-clause-id c =
     let h = c.self.invariant in
     c.first_in_group.ensures.id
     ∙ ap (λ g. first_in_group group_cmp g s.groups.entries) c.list.ensures
-    ∙ delayed_is (jobs_of s.by_id.entries) s.by_id.spare h.ids s.groups h.in_groups c.first_in_group.ensures.ordered c.args.tube.now
+    ∙ delayed_is (jobs_of s.by_id.entries) s.by_id.spare h.ids s.groups h.in_groups c.args.tube.now
     ∙ ap (λ (m : Kept). option_map (λ j. j.id) (first_of (is_delayed_in c.args.tube.now) is_due_before m.jobs)) c.self.view_is
 
 pub returns-clause-comparisons : goal.returns-clause-comparisons

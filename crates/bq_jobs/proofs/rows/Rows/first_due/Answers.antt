@@ -14,7 +14,7 @@ returns-clause-id c =
     let s = c.self.inside in
     let h = c.self.invariant in
     c.first_in_group.ensures.id
-    ∙ due_is (jobs_of s.by_id.entries) s.by_id.spare h.ids s.timers h.in_timers c.first_in_group.ensures.ordered
+    ∙ due_is (jobs_of s.by_id.entries) s.by_id.spare h.ids s.timers h.in_timers
     ∙ ap (λ (m : Kept). option_map (λ j. j.id) (first_of (λ j. is_delayed j.state) is_due_before m.jobs)) c.self.view_is
 
 pub returns-clause-comparisons : goal.returns-clause-comparisons

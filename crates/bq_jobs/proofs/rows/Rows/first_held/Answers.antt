@@ -17,7 +17,7 @@ returns-clause-id c =
     let h = c.self.invariant in
     c.first_in_group.ensures.id
     ∙ ap (λ g. first_in_group group_cmp g s.groups.entries) c.held.ensures
-    ∙ held_is (jobs_of s.by_id.entries) s.by_id.spare h.ids s.groups h.in_groups c.first_in_group.ensures.ordered c.args.seat
+    ∙ held_is (jobs_of s.by_id.entries) s.by_id.spare h.ids s.groups h.in_groups c.args.seat
     ∙ ap (λ (m : Kept). option_map (λ j. j.id) (first_of (is_held_by c.args.seat) is_lease_before m.jobs)) c.self.view_is
 
 pub returns-clause-comparisons : goal.returns-clause-comparisons

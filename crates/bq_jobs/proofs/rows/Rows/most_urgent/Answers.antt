@@ -18,7 +18,7 @@ returns-clause-rank c =
     let h = c.self.invariant in
     c.first_rank.ensures.rank
     ∙ ap (λ g. first_rank group_cmp g s.groups.entries) c.list.ensures
-    ∙ ready_rank_is (jobs_of s.by_id.entries) s.by_id.spare h.ids s.groups h.in_groups c.first_rank.ensures.ordered c.args.tube.now
+    ∙ ready_rank_is (jobs_of s.by_id.entries) s.by_id.spare h.ids s.groups h.in_groups c.args.tube.now
     ∙ ap (λ (m : Kept). option_map (ranked (λ j. j.pri)) (first_of (is_ready_in c.args.tube.now) is_job_before m.jobs)) c.self.view_is
 
 pub returns-clause-comparisons : goal.returns-clause-comparisons

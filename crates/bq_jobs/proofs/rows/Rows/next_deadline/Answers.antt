@@ -15,7 +15,7 @@ returns-clause-rank c =
     let s = c.self.inside in
     let h = c.self.invariant in
     c.first_rank.ensures.rank
-    ∙ lease_rank_is (jobs_of s.by_id.entries) s.by_id.spare h.ids s.timers h.in_timers c.first_rank.ensures.ordered
+    ∙ lease_rank_is (jobs_of s.by_id.entries) s.by_id.spare h.ids s.timers h.in_timers
     ∙ ap (λ (m : Kept). option_map (ranked (λ j. deadline_of j.state)) (first_of (λ j. is_reserved j.state) is_lease_before m.jobs)) c.self.view_is
 
 pub returns-clause-comparisons : goal.returns-clause-comparisons

@@ -17,7 +17,7 @@ returns-clause-rank c =
     let h = c.self.invariant in
     c.first_rank.ensures.rank
     ∙ ap (λ g. first_rank group_cmp g s.groups.entries) c.held.ensures
-    ∙ held_rank_is (jobs_of s.by_id.entries) s.by_id.spare h.ids s.groups h.in_groups c.first_rank.ensures.ordered c.args.seat
+    ∙ held_rank_is (jobs_of s.by_id.entries) s.by_id.spare h.ids s.groups h.in_groups c.args.seat
     ∙ ap (λ (m : Kept). option_map (ranked (λ j. deadline_of j.state)) (first_of (is_held_by c.args.seat) is_lease_before m.jobs)) c.self.view_is
 
 pub returns-clause-comparisons : goal.returns-clause-comparisons

@@ -14,7 +14,7 @@ returns-clause-rank c =
     let s = c.self.inside in
     let h = c.self.invariant in
     c.first_rank.ensures.rank
-    ∙ due_rank_is (jobs_of s.by_id.entries) s.by_id.spare h.ids s.timers h.in_timers c.first_rank.ensures.ordered
+    ∙ due_rank_is (jobs_of s.by_id.entries) s.by_id.spare h.ids s.timers h.in_timers
     ∙ ap (λ (m : Kept). option_map (ranked (λ j. due_of j.state)) (first_of (λ j. is_delayed j.state) is_due_before m.jobs)) c.self.view_is
 
 pub returns-clause-comparisons : goal.returns-clause-comparisons

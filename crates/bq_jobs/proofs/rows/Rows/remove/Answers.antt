@@ -64,10 +64,8 @@ invariant_of-self-2 c =
       by_id = c.remove.ensures.entries;
       room = omega (arith, c.remove.ensures.spare, spare);
       groups = c.leave.ensures.entries ∙ ap (λ p. without_place group_cmp p s.groups.entries) c.group_place.ensures;
-      group_order = c.leave.ensures.ordered;
       group_spare = c.leave.ensures.spare ∙ ap (λ p. s.groups.spare + cond (is_some p) 1 0) c.group_place.ensures;
       timers = c.leave-2.ensures.entries ∙ ap (λ p. without_place timer_cmp p s.timers.entries) c.timer_place.ensures;
-      timer_order = c.leave-2.ensures.ordered;
       timer_spare = c.leave-2.ensures.spare ∙ ap (λ p. s.timers.spare + cond (is_some p) 1 0) c.timer_place.ensures;
     })
 
