@@ -1,10 +1,10 @@
 // The chain of the spare boxes, which leads from each to its right.
 ghost use Rattle.std.specs.Prelude.{◌≡◌, ◌+◌, ◌<◌};
-ghost use Rattle.bq_index.specs.Tree.{chain_length};
+ghost use Rattle.bq_index.specs.Tree.{chain_length, length_behind};
 
 use super::NoMemory;
 use super::boxes::BoxSource;
-use super::tree::{Node, Tree};
+use super::tree::{Node, Sides, Tree};
 use std::mem;
 
 // A box with nothing in it.
@@ -14,9 +14,7 @@ where
     V: Drop,
 {
     source.box_of(Node {
-        left: Tree::Leaf,
-        right: Tree::Leaf,
-        height: 0,
+        sides: Sides::Neither,
         entry: None,
     })
 }
@@ -28,21 +26,40 @@ where
     V: Drop,
     ensures { chain_length result ≡ chain_length chain + 1 }
 {
-    node.right = chain;
+    node.sides = match chain {
+        Tree::Leaf => Sides::Neither,
+        Tree::Fork(next) => Sides::Right(next),
+    };
     Tree::Fork(node)
 }
 
 // The first box of a chain, and the others.
 pub(crate) fn unlink<K, V>(chain: Tree<K, V>) -> (Box<Node<K, V>>, Tree<K, V>)
+where
+    K: Drop,
+    V: Drop,
     requires { 0 < chain_length chain }
     ensures { chain_length chain ≡ chain_length result.1 + 1 }
 {
     match chain {
         Tree::Leaf => unreachable!(),
         Tree::Fork(mut node) => {
-            let rest = mem::replace(&mut node.right, Tree::Leaf);
+            let rest = behind(mem::replace(&mut node.sides, Sides::Neither));
             (node, rest)
         }
+    }
+}
+
+// The chain behind a box that has these sides.
+fn behind<K, V>(sides: Sides<K, V>) -> Tree<K, V>
+where
+    K: Drop,
+    V: Drop,
+    ensures { chain_length result ≡ length_behind sides }
+{
+    match sides {
+        Sides::Right(next) => Tree::Fork(next),
+        _ => Tree::Leaf,
     }
 }
 
@@ -54,6 +71,6 @@ where
 {
     let mut chain = chain;
     while let Tree::Fork(mut node) = chain {
-        chain = mem::replace(&mut node.right, Tree::Leaf);
+        chain = behind(mem::replace(&mut node.sides, Sides::Neither));
     }
 }

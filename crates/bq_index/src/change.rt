@@ -31,6 +31,7 @@ where
     ensures not_higher { height result ≤ height tree + 1 }
     ensures counted { RaisedByAtMost (height tree) count.old count.new }
 {
+    let high = tree.height();
     let Some((left, here, right)) = open(tree) else {
         return join(node, Tree::Leaf, Tree::Leaf);
     };
@@ -39,13 +40,13 @@ where
             let before = left.height();
             let left = insert(left, node, count);
             let same = left.height() == before;
-            balance(here, left, right, same)
+            balance(here, left, right, high, same)
         }
         Ordering::Greater => {
             let before = right.height();
             let right = insert(right, node, count);
             let same = right.height() == before;
-            balance(here, left, right, same)
+            balance(here, left, right, high, same)
         }
         Ordering::Equal => unreachable!(),
     }
@@ -62,6 +63,7 @@ where
     ensures empty { IfNone result (entries tree ≡ []) }
     ensures low { IfNone result (height tree ≡ 0) }
 {
+    let high = tree.height();
     let Some((left, here, right)) = open(tree) else {
         return None;
     };
@@ -70,7 +72,7 @@ where
         None => Some((here, right)),
         Some((first, rest)) => {
             let same = rest.height() == before;
-            Some((first, balance(here, rest, right, same)))
+            Some((first, balance(here, rest, right, high, same)))
         }
     }
 }
@@ -91,7 +93,7 @@ where
 {
     match take_first(right) {
         None => left,
-        Some((first, rest)) => balance(first, left, rest, false),
+        Some((first, rest)) => balance(first, left, rest, 0, false),
     }
 }
 
@@ -115,6 +117,7 @@ where
     ensures not_lower { height tree ≤ height result.0 + 1 }
     ensures counted { RaisedByAtMost (height tree) count.old count.new }
 {
+    let high = tree.height();
     let Some((left, here, right)) = open(tree) else {
         return (Tree::Leaf, None);
     };
@@ -123,13 +126,13 @@ where
             let before = left.height();
             let (left, found) = remove(left, key, count);
             let same = left.height() == before;
-            (balance(here, left, right, same), found)
+            (balance(here, left, right, high, same), found)
         }
         Ordering::Greater => {
             let before = right.height();
             let (right, found) = remove(right, key, count);
             let same = right.height() == before;
-            (balance(here, left, right, same), found)
+            (balance(here, left, right, high, same), found)
         }
         Ordering::Equal => (close(left, right), Some(here)),
     }

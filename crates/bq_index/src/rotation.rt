@@ -4,11 +4,13 @@ ghost use Rattle.bq_index.specs.Tree.{height, IsBalanced, DifferByAtMost, IsReba
 
 use super::tree::{Node, Tree, join, open, rejoin};
 
-// The same, where the sides' heights differ by up to two, or where neither side's height changed.
+// The tree of two sides and a box between them, where the sides' heights differ by up to two. Where neither
+// changed, the box is as high as it was.
 pub(crate) fn balance<K, V>(
     node: Box<Node<K, V>>,
     left: Tree<K, V>,
     right: Tree<K, V>,
+    high: u8,
     same: bool,
 ) -> Tree<K, V>
 where
@@ -19,12 +21,12 @@ where
     requires right_balanced { IsBalanced right }
     requires near { DifferByAtMost 2 (height left) (height right) }
     requires fits { max (height left) (height right) < 254 }
-    requires height_known { IsTrue same → node.value.height ≡ max (height left) (height right) + 1 }
+    requires height_known { IsTrue same → high ≡ max (height left) (height right) + 1 }
     requires still_near { IsTrue same → DifferByAtMost 1 (height left) (height right) }
     ensures { IsRebalanced left node.value.entry right result }
 {
     if same {
-        return rejoin(node, left, right);
+        return rejoin(node, left, right, high);
     }
     let (l, r) = (left.height(), right.height());
     if l > r + 1 {

@@ -6,10 +6,9 @@ ghost use Rattle.std.specs.Map.{lookup, remove_entry};
 ghost use Rattle.std.specs.BTreeMap.{is_at, insert_entry};
 
 use super::boxes::BoxSource;
-use super::descent::{Deepest, Descent};
 use super::tree::Tree;
 use super::walk::{Test, Visitor};
-use super::{NoMemory, chain, change, find, walk};
+use super::{NoMemory, chain, change, descent, find, walk};
 use std::alloc::Global;
 use std::marker::Model;
 use std::mem;
@@ -202,7 +201,7 @@ impl<K: Ord + Drop, V: Drop> Shelf<K, V> {
         ensures* after { sem 𝓛 (LeavesEntries K.row V.row K.Ord self.entry) }
         ensures value { option_map (λ v. v.now) result ≡ lookup (is_at (K.cmp key.now)) self.old.entries }
     {
-        find::get(&self.tree, key, &mut self.comparisons)
+        find::get(self.tree.top(), key, &mut self.comparisons)
     }
 
     /// The least entry whose key is not below `key`. Nothing changes but the count of comparisons.
@@ -211,7 +210,7 @@ impl<K: Ord + Drop, V: Drop> Shelf<K, V> {
         ensures* after { sem 𝓛 (LeavesEntries K.row V.row K.Ord self.entry) }
         ensures entry { option_map (λ p. (p.0.now, p.1.now)) result ≡ entry_from (K.cmp key.now) self.old.entries }
     {
-        find::next_from(&self.tree, key, &mut self.comparisons)
+        find::next_from(self.tree.top(), key, &mut self.comparisons)
     }
 
     // What follows up to `list` is for a catalog, which counts no comparisons: the value at a key.
@@ -219,28 +218,28 @@ impl<K: Ord + Drop, V: Drop> Shelf<K, V> {
         ensures { option_map (λ v. v.now) result ≡ lookup (is_at (K.cmp key.now)) self.now.entries }
     {
         let mut uncounted = 0;
-        find::get(&self.tree, key, &mut uncounted)
+        find::get(self.tree.top(), key, &mut uncounted)
     }
 
     // Shows a visitor each entry, in the order of the keys. No keys are compared.
     pub(crate) fn walk<T: Visitor<K, V>>(&self, visitor: &mut T)
         ensures { visitor.new ≡ fold (seen_by T.after) visitor.old self.now.entries }
     {
-        walk::walk(&self.tree, visitor);
+        walk::walk(self.tree.top(), visitor);
     }
 
     // The first entry that passes a test.
     pub(crate) fn first<T: Test<K, V>>(&self, test: &T) -> Option<(&K, &V)>
         ensures { option_map entry_of result ≡ find (passes_by (T.passed test.now)) self.now.entries }
     {
-        walk::first(&self.tree, test)
+        walk::first(self.tree.top(), test)
     }
 
     // The first entry that passes a test among those whose key is not below `from`.
     pub(crate) fn first_from<T: Test<K, V>>(&self, from: &K, test: &T) -> Option<(&K, &V)>
         ensures { option_map entry_of result ≡ find (passes_from (K.cmp from.now) (T.passed test.now)) self.now.entries }
     {
-        walk::first_from(&self.tree, from, test)
+        walk::first_from(self.tree.top(), from, test)
     }
 
     // The entries, in the order of their keys. The memory of the list is asked for before, and where it is
@@ -251,7 +250,7 @@ impl<K: Ord + Drop, V: Drop> Shelf<K, V> {
         let Ok(mut listed) = Vec::with_capacity(alloc, self.len()) else {
             return Err(NoMemory);
         };
-        walk::list(&self.tree, &mut listed);
+        walk::list(self.tree.top(), &mut listed);
         Ok(listed)
     }
 
@@ -260,6 +259,6 @@ impl<K: Ord + Drop, V: Drop> Shelf<K, V> {
         ensures* writes_back { sem 𝓛 (LendsValue K.row V.row K.Ord self.entry (K.cmp key.now) result) }
         ensures value { option_copied_mut result ≡ lookup (is_at (K.cmp key.now)) self.old.entries }
     {
-        Deepest::value_mut(&mut self.tree, key, &mut self.comparisons)
+        descent::value_mut(&mut self.tree, key, &mut self.comparisons)
     }
 }

@@ -3,10 +3,10 @@ ghost use Rattle.std.specs.Prelude.{◌≡◌, ◌+◌, ◌≤◌, ◌++◌, Boo
 ghost use Rattle.std.specs.Option.{option_map};
 ghost use Rattle.std.specs.Vec.{vec_capacity};
 ghost use Rattle.bq_index.specs.Order.{InOrder};
-ghost use Rattle.bq_index.specs.Tree.{entries, IsBalanced};
+ghost use Rattle.bq_index.specs.Tree.{entries_of, lent, IsBalancedFrom};
 ghost use Rattle.bq_index.specs.Walk.{entry_of, passes_by, passes_from, seen_by};
 
-use super::tree::{Tree, parts};
+use super::tree::{Node, parts};
 use std::alloc::Global;
 
 /// Who is shown entries, one after another.
@@ -30,9 +30,9 @@ pub trait Test<K, V> {
 }
 
 // Shows each entry.
-pub(crate) fn walk<K, V, T: Visitor<K, V>>(tree: &Tree<K, V>, visitor: &mut T)
-    requires { IsBalanced tree.now }
-    ensures { visitor.new ≡ fold (seen_by T.after) visitor.old (entries tree.now) }
+pub(crate) fn walk<K, V, T: Visitor<K, V>>(tree: Option<&Node<K, V>>, visitor: &mut T)
+    requires { IsBalancedFrom (lent tree) }
+    ensures { visitor.new ≡ fold (seen_by T.after) visitor.old (entries_of (lent tree.entry)) }
 {
     let Some((left, key, value, right)) = parts(tree) else {
         return;
@@ -44,11 +44,11 @@ pub(crate) fn walk<K, V, T: Visitor<K, V>>(tree: &Tree<K, V>, visitor: &mut T)
 
 // The first entry that passes.
 pub(crate) fn first<'a, K, V, T: Test<K, V>>(
-    tree: &'a Tree<K, V>,
+    tree: Option<&'a Node<K, V>>,
     test: &T,
 ) -> Option<(&'a K, &'a V)>
-    requires { IsBalanced tree.now }
-    ensures { option_map entry_of result ≡ find (passes_by (T.passed test.now)) (entries tree.now) }
+    requires { IsBalancedFrom (lent tree) }
+    ensures { option_map entry_of result ≡ find (passes_by (T.passed test.now)) (entries_of (lent tree.entry)) }
 {
     let (left, key, value, right) = parts(tree)?;
     match first(left, test) {
@@ -63,13 +63,13 @@ pub(crate) fn first<'a, K, V, T: Test<K, V>>(
 
 // The first entry that passes among those whose key is not below `key`. It compares keys, and counts nothing.
 pub(crate) fn first_from<'a, K: Ord, V, T: Test<K, V>>(
-    tree: &'a Tree<K, V>,
+    tree: Option<&'a Node<K, V>>,
     from: &K,
     test: &T,
 ) -> Option<(&'a K, &'a V)>
-    requires balanced { IsBalanced tree.now }
-    requires in_order { InOrder K.cmp (entries tree.now) }
-    ensures { option_map entry_of result ≡ find (passes_from (K.cmp from.now) (T.passed test.now)) (entries tree.now) }
+    requires balanced { IsBalancedFrom (lent tree) }
+    requires in_order { InOrder K.cmp (entries_of (lent tree)) }
+    ensures { option_map entry_of result ≡ find (passes_from (K.cmp from.now) (T.passed test.now)) (entries_of (lent tree.entry)) }
 {
     let (left, key, value, right) = parts(tree)?;
     if from.cmp(key).is_gt() {
@@ -86,11 +86,11 @@ pub(crate) fn first_from<'a, K: Ord, V, T: Test<K, V>>(
 }
 
 // Lists each entry. There is room for all of them.
-pub(crate) fn list<'a, K, V>(tree: &'a Tree<K, V>, listed: &mut Vec<(&'a K, &'a V), Global>)
-    requires balanced { IsBalanced tree.now }
-    requires room { vec_len listed.old + length (entries tree.now) ≤ vec_capacity listed.old }
-    ensures items { map entry_of listed.new.items ≡ map entry_of listed.old.items ++ entries tree.now }
-    ensures len { vec_len listed.new ≡ vec_len listed.old + length (entries tree.now) }
+pub(crate) fn list<'a, K, V>(tree: Option<&'a Node<K, V>>, listed: &mut Vec<(&'a K, &'a V), Global>)
+    requires balanced { IsBalancedFrom (lent tree) }
+    requires room { vec_len listed.old + length (entries_of (lent tree)) ≤ vec_capacity listed.old }
+    ensures items { map entry_of listed.new.items ≡ map entry_of listed.old.items ++ entries_of (lent tree.entry) }
+    ensures len { vec_len listed.new ≡ vec_len listed.old + length (entries_of (lent tree.entry)) }
     ensures capacity { vec_capacity listed.new ≡ vec_capacity listed.old }
 {
     let Some((left, key, value, right)) = parts(tree) else {

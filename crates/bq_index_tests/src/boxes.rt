@@ -3,6 +3,7 @@
 use crate::putting::put;
 use bq_index::{BoxSource, NoMemory, Shelf};
 use std::alloc::Global;
+use std::mem::size_of_val;
 use std::process::Abort;
 use std::test::Fail;
 
@@ -56,6 +57,36 @@ fn boxes_of_the_heap(rt: HostRuntime) {
     let made = shelf.reserve(rt.alloc(), 3);
     let spare = shelf.spare();
     assert!(rt; made == Ok(()) && spare == 3 || made == Err(NoMemory) && spare < 3);
+}
+
+/// A heap that notes how large the last box is that it is asked for.
+#[derive(Drop)]
+struct Weighing {
+    heap: Global,
+    size: usize,
+}
+
+impl BoxSource for Weighing {
+    fn box_of<T: Drop>(&mut self, value: T) -> Result<Box<T>, NoMemory> {
+        self.size = size_of_val(&value);
+        self.heap.box_of(value)
+    }
+}
+
+/// A box has 32 bytes beside its key and its value.
+#[test]
+fn bytes_of_a_box(rt: HostRuntime) -> Result<(), Fail> {
+    let mut source = Weighing {
+        heap: rt.alloc(),
+        size: 0,
+    };
+    let mut keys: Shelf<u64, ()> = Shelf::new();
+    keys.reserve_from(&mut source, 1)?;
+    assert_eq!(rt; source.size, 40);
+    let mut entries: Shelf<u64, (u64, u64)> = Shelf::new();
+    entries.reserve_from(&mut source, 1)?;
+    assert_eq!(rt; source.size, 56);
+    Ok(())
 }
 
 /// A box that is given back is no longer there for an insertion. Where none is spare, nothing is given back.
