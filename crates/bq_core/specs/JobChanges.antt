@@ -36,7 +36,3 @@ is_passed_by passes (Some j) = passes j
 abbrev pub ttr_held_by : ℕ → Option Job → Option ℕ
 ttr_held_by seat None = None
 ttr_held_by seat (Some j) = if is_held_by seat j then Some j.ttr else None
-
--- the body is the job's, if there is one
-abbrev pub IsBodyOf : Option Job → List ℕ → Type 0
-IsBodyOf o body = (j : Job) → o ≡ Some j → body ≡ j.body

@@ -8,10 +8,10 @@ ghost use Rattle.bq_job.specs.machine.Changes.{first_of, seat_with, with_seat, w
 ghost use Rattle.bq_job.specs.beside.Computed.{waiting_count};
 ghost use Rattle.bq_job.specs.machine.Dispatch.{DispatchTurn, is_wait_before, next_job};
 ghost use Rattle.bq_job.specs.machine.Steps.{has_refused_share};
+ghost use Rattle.bq_jobs.specs.Seen.{IsBodyOf};
 ghost use Rattle.bq_core.specs.Asking.{Asks, AsksByTurn};
 ghost use Rattle.bq_core.specs.Cost.{waited, waited_tubes};
 ghost use Rattle.bq_core.specs.HandOuts.{HandsOut, IsPicked, handed_to};
-ghost use Rattle.bq_core.specs.JobChanges.{IsBodyOf};
 ghost use Rattle.bq_core.specs.Offers.{better_rank, is_waited_at, next_rank, offered, these, waits_at, with_offer, with_offers};
 ghost use Rattle.bq_core.specs.Queues.{by_seat, turns_of, waited_at};
 ghost use Rattle.bq_core.specs.SeatChanges.{AreNumbered};

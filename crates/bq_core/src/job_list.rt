@@ -10,8 +10,9 @@ ghost use Rattle.bq_job.specs.machine.Waits.{is_ending_lease};
 ghost use Rattle.bq_job.specs.machine.Timers.{job_after_timers};
 ghost use Rattle.bq_job.specs.machine.JobCommands.{buried, delayed_by as delayed_for, kicked, released};
 ghost use Rattle.bq_jobs.specs.Kept.{ComparesAtMost};
+ghost use Rattle.bq_jobs.specs.Seen.{IsBodyOf};
 ghost use Rattle.bq_core.specs.EndingWaits.{is_lease_short};
-ghost use Rattle.bq_core.specs.JobChanges.{IsBodyOf, changed, is_passed_by, passes, ttr_held_by};
+ghost use Rattle.bq_core.specs.JobChanges.{changed, is_passed_by, passes, ttr_held_by};
 ghost use Rattle.bq_core.specs.JobKinds.{first_of_kind};
 
 use bq_job::{Body, Job, JobId, JobState, Moment, NoMemory, Pri, Seat, TubeName};

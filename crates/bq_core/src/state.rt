@@ -42,13 +42,15 @@ impl State {
     ghost use Rattle.std.specs.List.{list_any};
     ghost use Rattle.std.specs.Option.{option_map};
     ghost use Rattle.bq_job.specs.machine.Changes.{is_ready, is_waiting, job_with, seat_with};
+    ghost use Rattle.bq_job.specs.reading.TubeName.{is_same_name};
+    ghost use Rattle.bq_jobs.specs.Seen.{IsBodyOf};
     ghost use Rattle.bq_core.specs.JobKinds.{first_of_kind};
     ghost use Rattle.bq_core.specs.Acting.{is_asking, is_connected, is_free};
     ghost use Rattle.bq_core.specs.Crowds.{is_waiter};
     ghost use Rattle.bq_core.specs.Keeping.{Looks};
     ghost use Rattle.bq_core.specs.State.{machine_of};
     ghost use Rattle.bq_core.specs.Warnings.{has_waiting_holder};
-    ghost use Rattle.bq_core.specs.JobChanges.{IsBodyOf, is_passed_by, passes, ttr_held_by};
+    ghost use Rattle.bq_core.specs.JobChanges.{is_passed_by, passes, ttr_held_by};
 
     /// Whether there is a seat of this number, and nobody is connected there.
     pub(crate) fn is_free(&self, seat: Seat) -> bool
