@@ -49,17 +49,7 @@ same_id : (b : Bool) (x y : Job) (id : ℕ) → x.id ≡ id → y.id ≡ id → 
 same_id true x y id h i = h
 same_id false x y id h i = i
 
--- no change brings a job into another tube
-pub tube_kept : (change : JobChange) → KeepsTube (changed change)
-tube_kept (FireTimers moment) j = same_tube (is_due moment j.state) _ _ j.tube refl (same_tube (is_expired moment j.state) _ _ j.tube refl refl)
-tube_kept (HandOut seat moment) j = refl
-tube_kept (GiveBack state) j = refl
-tube_kept (Release pri delay moment) j = refl
-tube_kept (Bury number pri) j = refl
-tube_kept (Touch seat deadline) j = refl
-tube_kept Kick j = refl
-
--- and none depends on the tube
+-- no change depends on the tube
 pub tube_ignored : (change : JobChange) → IgnoresTube (changed change)
 tube_ignored (FireTimers moment) j tube =
     elim (cases_Bool (is_due moment j.state)) [
@@ -75,6 +65,10 @@ tube_ignored (Release pri delay moment) j tube = refl
 tube_ignored (Bury number pri) j tube = refl
 tube_ignored (Touch seat deadline) j tube = refl
 tube_ignored Kick j tube = refl
+
+-- and so none brings a job into another one
+pub tube_kept : (change : JobChange) → KeepsTube (changed change)
+tube_kept change j = ap (λ (i : Job). i.tube) (tube_ignored change j j.tube)
 
 -- one job alone is changed
 module _ (id : ℕ) (f : Job → Job) where
