@@ -1,6 +1,6 @@
 -- The counts of the clients at tubes stand at the places of their entries.
 use Rattle.std.proofs.Common.{◌≡◌, ◌∙◌, ◌||◌, ◌++◌, ℕ, Bool, true, false, ◌&&◌, List, [], ◌∷◌, refl, sym, ap, map, inl, inr}
-use Rattle.std.specs.Prelude.{count_by, drop, take}
+use Rattle.std.specs.Prelude.{count_by, drop, nat_lt, take}
 use Rattle.std.proofs.lemmas.List.{drop-map, map-append, take-map}
 use Rattle.std.specs.List.{AllByRecursion as All, insert, list_any, prefix_len}
 use Rattle.std.proofs.lemmas.Bool.{cases_Bool}
@@ -9,12 +9,15 @@ use Rattle.bq_job.specs.machine.Changes.{is_waiting}
 use Rattle.bq_job.specs.machine.Machine.{SeatRecord, TubeRecord, default_tube, empty_seat}
 use Rattle.bq_job.specs.reading.TubeName.{is_same_name}
 use Rattle.bq_job.specs.machine.Tubes.{fresh_tube, is_name_before, is_seated_at, watches}
-use Rattle.bq_job.proofs.ListLemmas.{count_all_not}
+use Rattle.bq_job.proofs.ListLemmas.{all_weaker, count_all_not, list_any_not, none_pass}
+use Rattle.bq_core.specs.declared.clients.Clients.{Clients}
 use Rattle.bq_core.specs.declared.crowd.Crowd.{Crowd}
 use Rattle.bq_core.specs.declared.tally.Tally.{Tally}
+use Rattle.bq_core.specs.Clients.{clients_of}
 use Rattle.bq_core.specs.Crowds.{AreCrowds, IsSeated, crowd_at, crowd_in, crowd_of, crowds_of, crowds_provided, has_seats, is_user, is_waiter, is_watcher, no_crowd}
 use Rattle.bq_core.specs.Tallies.{has_jobs, tallies_of, tally_at}
 use Rattle.bq_core.specs.TubeEntries.{AreEntries, HasTubes, has_entry, is_tube_by, is_tube_of, provided}
+use Rattle.bq_core.proofs.ClientLemmas.{some_pass}
 use Rattle.bq_core.proofs.CrowdLemmas.{has_seats_of}
 use Rattle.bq_core.proofs.TallyPlaces.{has_jobs_in, tally_there}
 use Rattle.bq_core.proofs.TubeLemmas.{provided_new, same_name}
@@ -122,10 +125,28 @@ crowd_there name crowds seats es has was = ap (crowd_at name es) was.each ∙ go
     go true e = named_crowd name (crowd_of seats) es e
     go false e = crowd_missing name seats es e ∙ sym (nobody_there name es e seats has was.seated)
 
+-- Who waits at a tube is counted.
+pub waiters_counted : (name : List ℕ) (clients : Clients) (crowds : List Crowd) (seats : List SeatRecord) (entries : List TubeRecord) → All (HasTubes entries) seats → AreCrowds crowds seats entries → clients ≡ clients_of seats
+    → (nat_lt 0 clients.waiting && nat_lt 0 (crowd_at name entries crowds).waiting) ≡ list_any (is_waiter name) seats
+waiters_counted name clients crowds seats entries of_seats are is =
+    let at : nat_lt 0 (crowd_at name entries crowds).waiting ≡ list_any (is_waiter name) seats =
+    ap (λ (k : Crowd). nat_lt 0 k.waiting) (crowd_there name crowds seats entries of_seats are) ∙ some_pass (is_waiter name) seats in
+    let any : nat_lt 0 clients.waiting ≡ list_any is_waiting seats = ap (λ (n : Clients). nat_lt 0 n.waiting) is ∙ some_pass is_waiting seats in
+    elim (cases_Bool (list_any is_waiting seats)) [
+      | inl e ↦ ap (λ b. b && nat_lt 0 (crowd_at name entries crowds).waiting) (any ∙ e) ∙ at
+      | inr e ↦
+          ap (λ b. b && nat_lt 0 (crowd_at name entries crowds).waiting) (any ∙ e)
+          ∙ sym (list_any_not (is_waiter name) seats (all_weaker (λ s. is_waiting s ≡ false) (λ s. is_waiter name s ≡ false) seats (λ s h. nor (is_waiting s) (watches name s) h) (none_pass is_waiting seats e)))
+    ]
+  where
+    nor : (w n : Bool) → w ≡ false → (w && n) ≡ false
+    nor true n h = absurd cc
+    nor false n h = h
+
 -- Whether a tube has jobs is told by the count of them.
-pub jobs_there : (name : List ℕ) (tallies : List Tally) (jobs : List Job) (seats : List SeatRecord) (es : List TubeRecord) → AreEntries jobs seats es
+pub jobs_there : (name : List ℕ) (tallies : List Tally) (jobs : List Job) (es : List TubeRecord) → All (λ j. has_entry j.tube es ≡ true) jobs
     → tallies ≡ tallies_of jobs es → has_jobs (tally_at name es tallies) ≡ list_any (λ j. is_same_name name j.tube) jobs
-jobs_there name tallies jobs seats es entries counted = ap has_jobs (ap (tally_at name es) counted ∙ tally_there name jobs es entries.of_jobs) ∙ has_jobs_in name jobs
+jobs_there name tallies jobs es of_jobs counted = ap has_jobs (ap (tally_at name es) counted ∙ tally_there name jobs es of_jobs) ∙ has_jobs_in name jobs
 
 -- Whether a tube exists is told by its counts.
 pub exists_by_counts : (jobs : List Job) (seats : List SeatRecord) (name : List ℕ) (some seated : Bool) → some ≡ list_any (λ j. is_same_name name j.tube) jobs → seated ≡ list_any (is_seated_at name) seats
@@ -137,7 +158,7 @@ pub tube_there : (name : List ℕ) (tallies : List Tally) (crowds : List Crowd) 
     → is_tube_by (has_jobs (tally_at name es tallies)) (has_seats (crowd_at name es crowds)) name ≡ is_tube_of jobs seats name
 tube_there name tallies crowds jobs seats es entries counted was =
     exists_by_counts jobs seats name _ _
-    (jobs_there name tallies jobs seats es entries counted)
+    (jobs_there name tallies jobs es entries.of_jobs counted)
     (ap has_seats (crowd_there name crowds seats es entries.of_seats was) ∙ has_seats_of seats name)
 
 -- at the start nobody is there

@@ -1,17 +1,16 @@
 -- What the change of a job keeps.
 use Rattle.std.proofs.Common.{◌≡◌, ◌∙◌, ◌≤◌, ◌&&◌, ◌||◌, ◌==◌, not, ℕ, Bool, true, false, if◌then◌else◌, List, [], ◌∷◌, Some, refl, sym, ap, arith, length, map, subst, inl, inr}
-use Rattle.std.specs.Prelude.{nat_lt}
 use Rattle.std.specs.List.{AllByRecursion as All, list_any}
 use Rattle.std.proofs.lemmas.Bool.{cases_Bool}
 use Rattle.std.proofs.lemmas.List.{length-map}
 use Rattle.bq_job.specs.declared.job.Job.{Job}
-use Rattle.bq_job.specs.machine.Changes.{is_ready, is_ready_state, is_waiting, job_with}
+use Rattle.bq_job.specs.machine.Changes.{is_ready, is_ready_state, job_with}
 use Rattle.bq_job.specs.beside.Lawful.{AreIdsWithin}
 use Rattle.bq_job.specs.machine.Limits.{greatest}
 use Rattle.bq_job.specs.machine.Machine.{SeatRecord, TubeRecord, default_tube}
 use Rattle.bq_job.specs.machine.Timers.{is_due, is_expired}
 use Rattle.bq_job.specs.reading.TubeName.{is_same_name}
-use Rattle.bq_job.specs.machine.Tubes.{is_seated_at, watches}
+use Rattle.bq_job.specs.machine.Tubes.{is_seated_at}
 use Rattle.bq_jobs.specs.declared.edit.Moved.{Moved}
 use Rattle.bq_jobs.specs.Changed.{IgnoresTube, KeepsId, KeepsTube, moved_by, with_changed}
 use Rattle.bq_jobs.specs.Kept.{with_added, without}
@@ -20,22 +19,16 @@ use Rattle.bq_core.specs.declared.job_list.JobChange.{JobChange}
 use Rattle.bq_core.specs.declared.job_list.JobChange.TheVariants.{FireTimers, HandOut, GiveBack, Release, Bury, Touch, Kick}
 use Rattle.bq_core.specs.declared.loss.Loss.{Loss}
 use Rattle.bq_core.specs.declared.tally.Tally.{Tally}
-use Rattle.bq_core.specs.declared.clients.Clients.{Clients}
-use Rattle.bq_core.specs.declared.crowd.Crowd.{Crowd}
 use Rattle.bq_core.specs.declared.stir.Stir.{Stir}
-use Rattle.bq_core.specs.Clients.{clients_of}
-use Rattle.bq_core.specs.Crowds.{AreCrowds, crowd_at, is_waiter}
+use Rattle.bq_core.specs.Crowds.{is_waiter}
 use Rattle.bq_core.specs.JobChanges.{changed}
 use Rattle.bq_core.specs.Losses.{AreAlive, may_be_gone}
 use Rattle.bq_core.specs.SeatChanges.{AreNumbered}
 use Rattle.bq_core.specs.Stirs.{AreKnown, IsKnown, with_stirred}
 use Rattle.bq_core.specs.Tallies.{AreCounted, tallies_at, tallies_of, tallies_without, tally_moved, tally_of, tally_with, tally_without}
-use Rattle.bq_core.specs.TubeEntries.{AreEntries, AreInOrder, HasTubes, has_entry}
+use Rattle.bq_core.specs.TubeEntries.{AreEntries, AreInOrder, has_entry}
 use Rattle.bq_core.specs.Warnings.{AreWarned, IsWarned, has_waiting_holder, with_holder_of}
 use Rattle.bq_core.specs.declared.warns.Warns.{Warns}
-use Rattle.bq_job.proofs.ListLemmas.{all_weaker, list_any_not, none_pass}
-use Rattle.bq_core.proofs.ClientLemmas.{some_pass}
-use Rattle.bq_core.proofs.CrowdPlaces.{crowd_there}
 use Rattle.bq_core.proofs.StateLemmas.{all_filtered, all_kept}
 use Rattle.bq_core.proofs.StirLemmas.{known_added}
 use Rattle.bq_core.proofs.TallyPlaces.{counted_added, counted_taken}
@@ -135,24 +128,6 @@ counted_moved low next id f keeps stays j m is tally tallies jobs es ids found o
           ∙ ap (λ tube. tallies_at tube (tally_with (f j)) es (tallies_without j es tallies)) (sym (stays j))
           ∙ after.each ∙ ap (λ js. tallies_of js es) made;
     }
-
--- Who waits at a tube is counted.
-pub waiters_counted : (name : List ℕ) (clients : Clients) (crowds : List Crowd) (seats : List SeatRecord) (entries : List TubeRecord) → All (HasTubes entries) seats → AreCrowds crowds seats entries → clients ≡ clients_of seats
-    → (nat_lt 0 clients.waiting && nat_lt 0 (crowd_at name entries crowds).waiting) ≡ list_any (is_waiter name) seats
-waiters_counted name clients crowds seats entries of_seats are is =
-    let at : nat_lt 0 (crowd_at name entries crowds).waiting ≡ list_any (is_waiter name) seats =
-    ap (λ (k : Crowd). nat_lt 0 k.waiting) (crowd_there name crowds seats entries of_seats are) ∙ some_pass (is_waiter name) seats in
-    let any : nat_lt 0 clients.waiting ≡ list_any is_waiting seats = ap (λ (n : Clients). nat_lt 0 n.waiting) is ∙ some_pass is_waiting seats in
-    elim (cases_Bool (list_any is_waiting seats)) [
-      | inl e ↦ ap (λ b. b && nat_lt 0 (crowd_at name entries crowds).waiting) (any ∙ e) ∙ at
-      | inr e ↦
-          ap (λ b. b && nat_lt 0 (crowd_at name entries crowds).waiting) (any ∙ e)
-          ∙ sym (list_any_not (is_waiter name) seats (all_weaker (λ s. is_waiting s ≡ false) (λ s. is_waiter name s ≡ false) seats (λ s h. nor (is_waiting s) (watches name s) h) (none_pass is_waiting seats e)))
-    ]
-  where
-    nor : (w n : Bool) → w ≡ false → (w && n) ≡ false
-    nor true n h = absurd cc
-    nor false n h = h
 
 module _ (low next id : ℕ) (f : Job → Job) (keeps : KeepsId f) (stays : KeepsTube f) (j : Job) (m : Moved) (is : m ≡ moved_by f j) (jobs : List Job) (ids : AreIdsWithin low jobs next) (found : job_with id jobs ≡ Some j) where
   made_of : with_added (f j) (without id jobs) ≡ with_changed id f jobs

@@ -3,6 +3,7 @@ ghost use Rattle.std.specs.Prelude.{◌≡◌, ◌&&◌, ◌<◌, ◌≤◌, OnE
 ghost use Rattle.std.specs.List.{list_any};
 ghost use Rattle.bq_job.specs.machine.Changes.{is_held_by, is_ready_state, job_with, seat_with, with_job, with_seat};
 ghost use Rattle.bq_job.specs.machine.Machine.{empty_seat, new_machine, numbers};
+ghost use Rattle.bq_job.specs.reading.TubeName.{is_same_name};
 ghost use Rattle.bq_job.specs.machine.Timers.{at_moment};
 ghost use Rattle.bq_job.specs.machine.TubeOrder.{tubes};
 ghost use Rattle.bq_job.specs.machine.Tubes.{forgetting, watches, with_tube};
@@ -91,10 +92,11 @@ pub(crate) fn take(state: &mut State, id: JobId) -> Option<Job>
 
 /// The jobs know a tube no longer where none is left in it.
 pub(crate) fn forget_last(state: &mut State, tube: &TubeName)
+    ensures gone { list_any (λ j. is_same_name tube.now j.tube) state.old.jobs.jobs ≡ false → is_known tube.now state.new.jobs ≡ false }
     ensures jobs { state.new.jobs ≡ record state.old.jobs { tubes = state.new.jobs.tubes } }
     ensures after { machine_of state.new ≡ machine_of state.old }
 {
-    if !state.tubes.tally_of(tube).has_jobs() {
+    if !state.has_job_in(tube) {
         state.jobs.forget(tube);
     }
 }
@@ -103,8 +105,7 @@ pub(crate) fn forget_last(state: &mut State, tube: &TubeName)
 fn counts_waiter_of(clients: &Clients, tubes: &Tubes, moved: &Moved) -> bool
     ensures { result ≡ (is_ready_state moved.now.to.state && (nat_lt 0 clients.now.waiting && is_waited_at moved.now.tube tubes.now)) }
 {
-    matches!(moved.to.state, JobState::Ready)
-        && (clients.waiting > 0 && tubes.crowd_of(&moved.tube).waiting > 0)
+    matches!(moved.to.state, JobState::Ready) && tubes.has_waiter_at(clients, &moved.tube)
 }
 
 /// Changes the job of this id, if there is one.

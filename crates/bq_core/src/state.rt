@@ -128,11 +128,18 @@ impl State {
     }
 
     /// Whether somebody waits at the tube.
-    #[tactic(auto, using(bq_job::proofs::ListLemmas::all_weaker, bq_job::proofs::ListLemmas::list_any_not, bq_job::proofs::ListLemmas::none_pass, crate::proofs::ClientLemmas::some_pass, crate::proofs::CrowdPlaces::crowd_there))]
+    #[tactic(auto, using(crate::proofs::CrowdPlaces::waiters_counted))]
     pub(crate) fn has_waiter_at(&self, tube: &TubeName) -> bool
         ensures { result ≡ list_any (is_waiter tube.now) self.now.seats.items }
     {
-        self.has_waiter() && self.tubes.crowd_of(tube).waiting > 0
+        self.tubes.has_waiter_at(&self.known.clients, tube)
+    }
+
+    /// Whether a job is in the tube.
+    pub(crate) fn has_job_in(&self, tube: &TubeName) -> bool
+        ensures { result ≡ list_any (λ j. is_same_name tube.now j.tube) self.now.jobs.jobs }
+    {
+        self.tubes.has_jobs_in(tube)
     }
 
     /// Whether the job is ready, and somebody waits at its tube.

@@ -1,5 +1,5 @@
 //! The tubes: what is kept of each that exists.
-ghost use Rattle.std.specs.Prelude.{◌≡◌, ◌&&◌, [], IfOk, find, length, map, not, is_some, is_ok, if◌then◌else◌};
+ghost use Rattle.std.specs.Prelude.{◌≡◌, ◌&&◌, [], IfOk, find, length, map, not, nat_lt, is_some, is_ok, if◌then◌else◌};
 ghost use Rattle.std.specs.List.{list_any};
 ghost use Rattle.std.specs.Option.{option_map};
 ghost use Rattle.bq_job.specs.reading.TubeName.{is_same_name};
@@ -8,10 +8,12 @@ ghost use Rattle.bq_core.specs.Counting.{AreCounts, DropsGone, IfCounted, tubes_
 ghost use Rattle.bq_core.specs.Crowds.{crowd_at, recounted};
 ghost use Rattle.bq_core.specs.Dues.{first_pause_end, pause_end_after, pause_end_left};
 ghost use Rattle.bq_core.specs.Leaving.{exists_in};
-ghost use Rattle.bq_core.specs.Tallies.{tallies_with, tallies_without, tally_at, tally_moved};
+ghost use Rattle.bq_core.specs.Offers.{is_waited_at};
+ghost use Rattle.bq_core.specs.Tallies.{has_jobs, tallies_with, tallies_without, tally_at, tally_moved};
 ghost use Rattle.bq_core.specs.Texts.{names_of};
 ghost use Rattle.bq_core.specs.TubeEntries.{has_entry, names_alive, tube_changed_at};
 
+use crate::clients::Clients;
 use crate::crowd::{Crowd, Moving, Share};
 use crate::loss::Loss;
 use crate::name_lists::Names;
@@ -158,6 +160,13 @@ impl Tubes {
         }
     }
 
+    /// Whether a job is counted in the tube of this name.
+    pub(crate) fn has_jobs_in(&self, name: &TubeName) -> bool
+        ensures { result ≡ has_jobs (tally_at name.now self.now.entries self.now.tallies) }
+    {
+        self.tally_of(name).has_jobs()
+    }
+
     /// Counts a share of a seat at the tube of this name, or counts it no longer.
     pub(crate) fn recount(&mut self, name: &TubeName, moving: Moving, share: Share)
         ensures { self.new ≡ with_crowds_at name.now (recounted moving share) self.old }
@@ -175,11 +184,18 @@ impl Tubes {
         }
     }
 
+    /// Whether somebody waits at the tube of this name, where there are so many clients. Where nobody waits, it isn't looked for.
+    pub(crate) fn has_waiter_at(&self, clients: &Clients, name: &TubeName) -> bool
+        ensures { result ≡ (nat_lt 0 clients.now.waiting && is_waited_at name.now self.now) }
+    {
+        clients.waiting > 0 && self.crowd_of(name).waiting > 0
+    }
+
     /// Whether the tube exists.
     pub(crate) fn is_tube(&self, name: &TubeName) -> bool
         ensures { result ≡ exists_in self.now name.now }
     {
-        *name == default_tube() || self.tally_of(name).has_jobs() || self.crowd_of(name).has_seats()
+        *name == default_tube() || self.has_jobs_in(name) || self.crowd_of(name).has_seats()
     }
 
     /// How many tubes exist.

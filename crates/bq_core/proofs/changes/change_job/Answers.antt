@@ -7,7 +7,8 @@ use Rattle.bq_jobs.specs.Changed.{moved_by}
 use Rattle.bq_core.specs.JobChanges.{changed}
 use Rattle.bq_core.specs.Warnings.{has_waiting_holder}
 use Rattle.bq_core.proofs.KnowledgeLemmas.{so_with_moved}
-use Rattle.bq_core.proofs.MovedLemmas.{entries_of_changed, one_id, one_tube, tube_ignored, tube_kept, waiters_counted}
+use Rattle.bq_core.proofs.CrowdPlaces.{waiters_counted}
+use Rattle.bq_core.proofs.MovedLemmas.{entries_of_changed, one_id, one_tube, tube_ignored, tube_kept}
 use Rattle.bq_core.proofs.StateLemmas.{id_kept, no_job_changed}
 use Rattle.bq_core.proofs.changes.change_job.Goals as goal
 
