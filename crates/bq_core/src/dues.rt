@@ -140,15 +140,12 @@ fn with_end_of(best: Option<Moment>, seats: &[SeatRecord], turn: Turn) -> Option
 }
 
 // When the first of the clients that have these turns gives up.
-#[tactic(auto, using(crate::proofs::LoopLemmas::folded_on))]
 fn first_end_among(seats: &[SeatRecord], turns: &[Turn]) -> Option<Moment>
     ensures { result ≡ fold (at_turn with_seat_due seats.now) None turns.now }
 {
-    let mut best = None;
-    for i in 0..turns.len() {
-        best = with_end_of(best, seats, turns[i]);
-    }
-    best
+    turns
+        .iter()
+        .fold(None, |best, turn| with_end_of(best, seats, *turn))
 }
 
 /// When the first of the clients that wait gives up. Only who waits is looked at.

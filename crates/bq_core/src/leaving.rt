@@ -19,13 +19,13 @@ fn lose_unless_there(loss: &mut Loss, tubes: &Tubes, name: &TubeName)
 }
 
 // The same for each of these tubes.
-#[tactic(auto, using(crate::proofs::LoopLemmas::folded_more))]
 fn lose_all(loss: &mut Loss, tubes: &Tubes, names: &[TubeName])
     ensures { loss.new ≡ lost_all tubes.now names.now loss.old }
 {
-    for i in 0..names.len() {
-        lose_unless_there(loss, tubes, &names[i]);
-    }
+    *loss = names.iter().fold(*loss, |mut lost, name| {
+        lose_unless_there(&mut lost, tubes, name);
+        lost
+    });
 }
 
 fn lose_used(loss: &mut Loss, tubes: &Tubes, name: &TubeName, is_left: bool)
