@@ -1,5 +1,5 @@
 -- Which job is handed out next, found tube by tube.
-use Rattle.std.proofs.Common.{◌≡◌, ℕ, Bool, true, false, ◌==◌, ◌||◌, ◌&&◌, not, List, [], ◌∷◌, Option, Some, None, refl, sym, ap, ◌∙◌, arith, inl, inr, if◌then◌else◌}
+use Rattle.std.proofs.Common.{◌≡◌, ℕ, Bool, true, false, ◌==◌, ◌||◌, ◌&&◌, not, List, [], ◌∷◌, Option, Some, None, refl, sym, ap, ◌∙◌, arith, inl, inr, if◌then◌else◌, subst}
 use Rattle.std.specs.Prelude.{fold, is_some, option_map}
 use Rattle.std.specs.List.{AllByRecursion as All, Contains, list_any}
 use Rattle.std.proofs.lemmas.Bool.{cases_Bool, eqb-true, or_cases, or_left, or_right}
@@ -19,6 +19,7 @@ use Rattle.bq_jobs.specs.Kept.{ranked}
 use Rattle.bq_core.specs.Offers.{better_rank, is_paused_among, offered, waits_at, with_offer, with_offers}
 use Rattle.bq_core.specs.Stirs.{AreKnown, IsKnown, may_get}
 use Rattle.bq_core.specs.declared.stir.Stir.{Stir}
+use Rattle.bq_core.specs.declared.stir.Stir.TheVariants.{Client}
 use Rattle.bq_core.proofs.FiringLemmas.{chosen}
 use Rattle.bq_core.proofs.KickLemmas.{finds_each}
 use Rattle.bq_core.proofs.TubeLemmas.{same_itself, same_name}
@@ -232,12 +233,13 @@ takers_known m stir j e known =
     (λ s k waits. k (sym (waits_alike m j e s) ∙ waits))
     (all_at (λ k. All (IsKnown stir m.tubes k) m.seats) m.jobs j known (first_of_contains (λ j. list_any (is_waiting_for m j) m.seats) is_job_before m.jobs j e))
 
--- where one client alone may wait at the tube, it is the first that does
-pub only_taker : (asker : ℕ) (tube : List ℕ) (seats : List SeatRecord) → list_any (waits_at tube) seats ≡ true → All (λ s. waits_at tube s ≡ true → (s.number == asker) ≡ true) seats
-    → Some asker ≡ option_map (λ (s : SeatRecord). s.number) (first_of (waits_at tube) is_wait_before seats)
-only_taker asker tube seats some known =
+-- where one client alone may have jobs, it is the first that waits at the tube
+pub taker_known : (asker : ℕ) (stir : Stir) (tube : List ℕ) (seats : List SeatRecord) → stir ≡ Client asker → list_any (waits_at tube) seats ≡ true
+    → All (λ s. waits_at tube s ≡ true → may_get stir tube s.number ≡ true) seats → Some asker ≡ option_map (λ (s : SeatRecord). s.number) (first_of (waits_at tube) is_wait_before seats)
+taker_known asker stir tube seats is some known =
     let s = first_of_some (waits_at tube) is_wait_before seats some in
-    let at = all_at (λ t. waits_at tube t ≡ true → (t.number == asker) ≡ true) seats s.0 known (first_of_contains (waits_at tube) is_wait_before seats s.0 s.1) (first_of_passes (waits_at tube) is_wait_before seats s.0 s.1) in
+    let may = all_at (λ t. waits_at tube t ≡ true → may_get stir tube t.number ≡ true) seats s.0 known (first_of_contains (waits_at tube) is_wait_before seats s.0 s.1) (first_of_passes (waits_at tube) is_wait_before seats s.0 s.1) in
+    let at : (s.0.number == asker) ≡ true = subst (λ f. may_get f tube s.0.number ≡ true) is may in
     ap Some (sym (eqb-true s.0.number asker at)) ∙ sym (ap (option_map (λ (t : SeatRecord). t.number)) s.1)
 
 -- the job of this id is the next one

@@ -3,9 +3,9 @@ use Rattle.std.proofs.Common.{◌≡◌, ℕ, zero, suc, Bool, true, false, ◌&
 use Rattle.std.proofs.Math.Bool.{and-false}
 use Rattle.std.proofs.lemmas.Bool.Decides.{nat_tests}
 use Rattle.std.proofs.lemmas.List.{length-map}
-use Rattle.std.specs.Prelude.{filter, nat_lt}
+use Rattle.std.specs.Prelude.{filter, nat_le, nat_lt}
 use Rattle.std.specs.List.{AllByRecursion as All, Contains, list_any}
-use Rattle.std.proofs.lemmas.Bool.{cases_Bool, eq-eqb, ne_eqb, or_cases, or_left, or_right, and_parts, and_from}
+use Rattle.std.proofs.lemmas.Bool.{cases_Bool, eq-eqb, leb-false, ne_eqb, or_cases, or_left, or_right, and_parts, and_from}
 use Rattle.bq_job.specs.declared.job.Job.{Job}
 use Rattle.bq_job.specs.machine.Changes.{job_with, seat_with}
 use Rattle.bq_job.specs.beside.Lawful.{AreIdsWithin}
@@ -145,6 +145,19 @@ pub compared_sound : (st : State) (jobs : Kept) → jobs ≡ record st.jobs { co
     → Soundness jobs.jobs st.seats.items st.tubes st.queue st.known st.next_id st.draining
 compared_sound st jobs same =
     subst (λ (k : Kept). Soundness k.jobs st.seats.items st.tubes st.queue st.known st.next_id st.draining) (sym same) st.sound
+
+-- or where an id was given.
+pub sound_given : (st : State) → Soundness st.jobs.jobs st.seats.items st.tubes st.queue st.known (st.next_id + 1) (nat_le 18446744073709551614 st.next_id)
+sound_given st =
+    let was = st.sound in
+    record {
+      entries = was.entries;
+      numbered = was.numbered;
+      next = λ d. let h = leb-false 18446744073709551614 st.next_id d in omega arith;
+      ids = ids_further 1 st.next_id (st.next_id + 1) st.jobs.jobs (omega arith) was.ids;
+      queue = was.queue;
+      known = was.known;
+    }
 
 -- a change of a seat leaves it at tubes with entries
 seat_has : (entries : List TubeRecord) → has_entry default_tube entries ≡ true → (what : SeatChange) → has_tube_of what entries ≡ true → (s : SeatRecord) → HasTubes entries s → HasTubes entries (seat_changed what s)

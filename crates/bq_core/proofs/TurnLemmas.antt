@@ -68,7 +68,7 @@ pub no_next_job : (m : Machine) → list_any is_waiting m.seats ≡ false → ne
 no_next_job m h = first_of_none_passes (λ j. list_any (is_waiting_for m j) m.seats) is_job_before m.jobs (none_wanted m m.jobs h)
 
 -- what is told of a value that was had
-pub ok_weaker : (r : Result (List ℕ) NoMemory) (P Q : List ℕ → Type 0) → ((x : List ℕ) → P x → Q x) → IfOk r P → IfOk r Q
+pub ok_weaker : {A E : Type 0} (r : Result A E) (P Q : A → Type 0) → ((x : A) → P x → Q x) → IfOk r P → IfOk r Q
 ok_weaker (Ok x) P Q h p = h x p
 ok_weaker (Err e) P Q h p = tt
 
@@ -195,7 +195,7 @@ refused_given m last number j s old new n after told = record {
       ∙ ap (λ u. record old { given = old.given ++ (s.number, answers.OutOfMemory) ∷ []; unshared = u }) (sym (or-true old.unshared));
 }
 
-pub ended_given : (m last : Machine) (k number : ℕ) (s t : SeatRecord) (answer : Answer) (old new : Outbox) → k < length m.seats → t ≡ get_or m.seats k t → slice_get m.seats k ≡ Some s → number ≡ t.number → (number ≡ s.number → answer ≡ end_of_wait m s) → last ≡ with_seat number without_wait m → new ≡ record old { given = old.given ++ (number, answer) ∷ [] } → AddsWaitEnd m s old new last
+pub ended_given : (m last : Machine) (k number : ℕ) (s t : SeatRecord) (answer : Answer) (old new : Outbox) → k < length m.seats → t ≡ get_or m.seats k t → slice_get m.seats k ≡ Some s → number ≡ t.number → answer ≡ end_of_wait m s → last ≡ with_seat number without_wait m → new ≡ record old { given = old.given ++ (number, answer) ∷ [] } → AddsWaitEnd m s old new last
 ended_given m last k number s t answer old new seat_there seat_read seat number_is answer_is after told =
     let f : t ≡ s = same_read m.seats k s t seat_there seat_read seat in
     let n : number ≡ s.number = number_is ∙ ap (λ r. r.number) f in
@@ -204,5 +204,5 @@ ended_given m last k number s t answer old new seat_there seat_read seat number_
       added =
           told
           ∙ ap (λ a. record old { given = old.given ++ (a, answer) ∷ [] }) n
-          ∙ ap (λ a. record old { given = old.given ++ (s.number, a) ∷ [] }) (answer_is n);
+          ∙ ap (λ a. record old { given = old.given ++ (s.number, a) ∷ [] }) answer_is;
     }

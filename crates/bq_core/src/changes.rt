@@ -1,6 +1,7 @@
 //! How what a core holds is changed.
 ghost use Rattle.std.specs.Prelude.{◌≡◌, ◌&&◌, ◌<◌, ◌≤◌, OnErr, [], None, true, false, length, map, nat_lt, if◌then◌else◌, IfSome, IfOk};
 ghost use Rattle.std.specs.List.{list_any};
+ghost use Rattle.bq_job.specs.beside.NameOrder.{is_in_order};
 ghost use Rattle.bq_job.specs.machine.Changes.{is_held_by, is_ready_state, job_with, seat_with, with_job, with_seat};
 ghost use Rattle.bq_job.specs.machine.Machine.{empty_seat, new_machine, numbers};
 ghost use Rattle.bq_job.specs.reading.TubeName.{is_same_name};
@@ -266,7 +267,8 @@ pub(crate) fn tube_count(state: &State) -> u64
 
 /// The names of the tubes that exist, in byte order. Their memory is asked for before.
 pub(crate) fn tube_names<'a>(state: &'a State, alloc: Global) -> Result<Names<'a>, NoMemory>
-    ensures { IfOk result (λ names. names_of names.items ≡ tubes (machine_of state.now)) }
+    ensures names { IfOk result (λ names. names_of names.items ≡ tubes (machine_of state.now)) }
+    ensures ordered { IfOk result (λ names. is_in_order (names_of names.items) ≡ true) }
 {
     state.tubes.names_alive(alloc)
 }

@@ -58,6 +58,7 @@ fn new_job(state: &State, tube: &TubeName, new: NewJob, body: Body) -> Job
 }
 
 // An id is given.
+#[tactic(auto, using(crate::proofs::StateLemmas::sound_given))]
 fn count_put(state: &mut State)
     requires accepts { state.old.draining ≡ false }
     ensures after { machine_of state.new ≡ after_given (machine_of state.old) }

@@ -1,4 +1,4 @@
-ghost use Rattle.std.specs.Prelude.{◌≡◌, ◌++◌, ◌∷◌, [], true, filter, not, length, IfOk, OnErr};
+ghost use Rattle.std.specs.Prelude.{◌≡◌, ◌<◌, ◌++◌, ◌∷◌, [], true, filter, not, length, IfOk, OnErr};
 ghost use Rattle.std.specs.List.{list_any};
 ghost use Rattle.bq_job.specs.machine.Machine.{default_tube};
 ghost use Rattle.bq_job.specs.reading.TubeName.{is_same_name};
@@ -34,8 +34,11 @@ pub(crate) fn default_tube() -> TubeName
     name
 }
 
+// Some other name is there, and so some are left.
 fn keep_others(names: &mut Vec<TubeName, Global>, name: &TubeName)
-    ensures { names.new.items ≡ filter (λ other. not (is_same_name name.now other)) names.old.items }
+    requires other { list_any (λ other. not (is_same_name name.now other)) names.old.items ≡ true }
+    ensures kept { names.new.items ≡ filter (λ other. not (is_same_name name.now other)) names.old.items }
+    ensures some { 0 < length names.new.items }
 {
     names.retain(|other| name != other);
 }
