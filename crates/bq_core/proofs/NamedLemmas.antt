@@ -256,15 +256,6 @@ change_kept CountDelete name t = refl
 change_kept (Pause seconds moment) name t = refl
 
 -- What is lent is what is found.
-pub lent_tally : (o x : Option (Bor KeptTube)) {found : Option KeptTube} → o ≡ x → option_map (λ (t : Bor KeptTube). t.now) o ≡ found → tally_by (option_map (λ (t : Bor KeptTube). t.now) x) ≡ tally_by found
-lent_tally o x is e = ap (λ y. tally_by (option_map (λ (t : Bor KeptTube). t.now) y)) (sym is) ∙ ap tally_by e
-
-pub lent_crowd : (o x : Option (Bor KeptTube)) {found : Option KeptTube} → o ≡ x → option_map (λ (t : Bor KeptTube). t.now) o ≡ found → crowd_by (option_map (λ (t : Bor KeptTube). t.now) x) ≡ crowd_by found
-lent_crowd o x is e = ap (λ y. crowd_by (option_map (λ (t : Bor KeptTube). t.now) y)) (sym is) ∙ ap crowd_by e
-
-pub lent_pause : (o x : Option (Bor KeptTube)) {found : Option KeptTube} → o ≡ x → option_map (λ (t : Bor KeptTube). t.now) o ≡ found → is_paused_by (option_map (λ (t : Bor KeptTube). t.now) x) ≡ is_paused_by found
-lent_pause o x is e = ap (λ y. is_paused_by (option_map (λ (t : Bor KeptTube). t.now) y)) (sym is) ∙ ap is_paused_by e
-
 pub lent_any : (o : Option (Bor KeptTube)) {found : Option KeptTube} → option_map (λ (t : Bor KeptTube). t.now) o ≡ found → is_some o ≡ is_some found
 lent_any None e = ap is_some e
 lent_any (Some t) e = ap is_some e

@@ -24,9 +24,6 @@ use Rattle.bq_core.specs.TubeEntries.{AreInOrder, has_entry, provided}
 use Rattle.bq_core.proofs.TubeLemmas.{provided_new}
 use Rattle.bq_core.proofs.TallyLemmas.{tally_added, tally_stays_added, tally_stays_taken, tally_taken, whole_added, whole_taken}
 
-pub none_counted : (t : Tally) → (t.urgent ≡ 0) × ((t.ready ≡ 0) × ((t.reserved ≡ 0) × ((t.delayed ≡ 0) × (t.buried ≡ 0)))) → t ≡ tally_of []
-none_counted t e = λ i. record { urgent = e.0 i; ready = e.1.0 i; reserved = e.1.1.0 i; delayed = e.1.1.1.0 i; buried = e.1.1.1.1 i }
-
 module _ (j : Job) (old new : List Job) (f : Tally → Tally)
     (here : (t : TubeRecord) → is_same_name t.name j.tube ≡ true → tally_in new t ≡ f (tally_in old t))
     (elsewhere : (t : TubeRecord) → is_same_name t.name j.tube ≡ false → tally_in new t ≡ tally_in old t) where

@@ -1,6 +1,6 @@
 //! How many clients are at a tube.
 ghost use Rattle.std.specs.Prelude.{◌≡◌};
-ghost use Rattle.bq_core.specs.Crowds.{crowd_with, crowd_without, has_seats, is_none, recounted};
+ghost use Rattle.bq_core.specs.Crowds.{crowd_with, crowd_without, has_seats, is_none, no_crowd, recounted};
 
 /// What a seat counts for at a tube: whether its client uses it, watches it, and waits at it.
 #[derive(Clone, Copy)]
@@ -12,7 +12,7 @@ pub(crate) struct Share {
 
 /// How many clients use a tube, watch it, and wait at it. A count stops at 2^64 - 1, which no number of
 /// seats comes to.
-#[derive(Clone, Copy, Default, PartialEq, Eq)]
+#[derive(Clone, Copy, PartialEq, Eq)]
 pub(crate) struct Crowd {
     pub(crate) using: u64,
     pub(crate) watching: u64,
@@ -36,6 +36,17 @@ impl Share {
 }
 
 impl Crowd {
+    /// Nobody is counted.
+    pub(crate) fn none() -> Crowd
+        ensures { result ≡ no_crowd }
+    {
+        Crowd {
+            using: 0,
+            watching: 0,
+            waiting: 0,
+        }
+    }
+
     /// Whether a client uses or watches the tube.
     pub(crate) fn has_seats(&self) -> bool
         ensures { result ≡ has_seats self.now }

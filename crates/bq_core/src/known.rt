@@ -44,7 +44,7 @@ impl Known {
         ensures { result ≡ nothing_known }
     {
         Known {
-            tally: Tally::default(),
+            tally: Tally::none(),
             clients: Clients::default(),
             loss: Loss::Nothing,
             stir: Stir::Nothing,

@@ -1,5 +1,5 @@
-ghost use Rattle.std.specs.Prelude.{◌≡◌};
-ghost use Rattle.bq_core.specs.Tallies.{has_jobs, tally_entered, tally_left, tally_with, tally_without};
+ghost use Rattle.std.specs.Prelude.{◌≡◌, []};
+ghost use Rattle.bq_core.specs.Tallies.{has_jobs, tally_entered, tally_left, tally_of, tally_with, tally_without};
 
 use bq_job::{Job, JobState, Pri};
 use bq_jobs::Standing;
@@ -9,7 +9,7 @@ const URGENT_BELOW: Pri = 1024;
 
 /// How many jobs are in each state. Urgent ones count as ready too. A count stops at 2^64 - 1, which no
 /// number of jobs comes to.
-#[derive(Clone, Copy, Default, PartialEq, Eq)]
+#[derive(Clone, Copy, PartialEq, Eq)]
 pub(crate) struct Tally {
     pub(crate) urgent: u64,
     pub(crate) ready: u64,
@@ -19,6 +19,19 @@ pub(crate) struct Tally {
 }
 
 impl Tally {
+    /// Nothing is counted.
+    pub(crate) fn none() -> Tally
+        ensures { result ≡ tally_of [] }
+    {
+        Tally {
+            urgent: 0,
+            ready: 0,
+            reserved: 0,
+            delayed: 0,
+            buried: 0,
+        }
+    }
+
     /// Whether a job is counted.
     pub(crate) fn has_jobs(&self) -> bool
         ensures { result ≡ has_jobs self.now }

@@ -86,8 +86,8 @@ impl TubeEntry {
             puts: 0,
             deletes: 0,
             pauses: 0,
-            tally: Tally::default(),
-            crowd: Crowd::default(),
+            tally: Tally::none(),
+            crowd: Crowd::none(),
         }
     }
 

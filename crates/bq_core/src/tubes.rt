@@ -50,7 +50,7 @@ impl Model for Tubes {
 }
 
 impl Tubes {
-    ghost use Rattle.bq_core.specs.KeptTubes.{first_tubes, record_of, tubes_kept};
+    ghost use Rattle.bq_core.specs.KeptTubes.{crowd_by, first_tubes, is_paused_by, record_of, tally_by, tubes_kept};
 
     /// The default tube, which has no job and no client.
     pub(crate) fn new(alloc: Global) -> Result<Tubes, NoMemory>
@@ -110,10 +110,16 @@ impl Tubes {
         tube_pauses::end_all(&mut self.kept, &mut self.ends, moment);
     }
 
-    /// The entry of this name.
+    /// The entry of this name, which tells how many jobs and clients are there, and whether the tube is paused.
     pub(crate) fn entry_of(&self, name: &TubeName) -> Option<&TubeEntry>
-        ensures { option_map (λ t. record_of name.now t.now) result ≡ find (λ t. is_same_name name.now t.name) self.now.entries }
+        ensures entry { option_map (λ t. record_of name.now t.now) result ≡ find (λ t. is_same_name name.now t.name) self.now.entries }
+        ensures tally { tally_by (option_map (λ t. t.now) result) ≡ tally_at name.now self.now.entries self.now.tallies }
+        ensures crowd { crowd_by (option_map (λ t. t.now) result) ≡ crowd_at name.now self.now.entries self.now.crowds }
+        ensures pause { is_paused_by (option_map (λ t. t.now) result)
+            ≡ list_any (λ t. is_same_name name.now t.name && is_some t.pause) self.now.entries }
     {
+        // The names are in order.
+        let _entries = self.kept.len();
         self.kept.peek(name)
     }
 
@@ -121,9 +127,7 @@ impl Tubes {
     pub(crate) fn is_paused(&self, name: &TubeName) -> bool
         ensures { result ≡ list_any (λ t. is_same_name name.now t.name && is_some t.pause) self.now.entries }
     {
-        // The names are in order.
-        let _entries = self.kept.len();
-        match self.kept.peek(name) {
+        match self.entry_of(name) {
             None => false,
             Some(entry) => entry.is_paused(),
         }
@@ -154,8 +158,8 @@ impl Tubes {
     pub(crate) fn tally_of(&self, name: &TubeName) -> Tally
         ensures { result ≡ tally_at name.now self.now.entries self.now.tallies }
     {
-        match self.kept.peek(name) {
-            None => Tally::default(),
+        match self.entry_of(name) {
+            None => Tally::none(),
             Some(entry) => entry.tally(),
         }
     }
@@ -178,8 +182,8 @@ impl Tubes {
     pub(crate) fn crowd_of(&self, name: &TubeName) -> Crowd
         ensures { result ≡ crowd_at name.now self.now.entries self.now.crowds }
     {
-        match self.kept.peek(name) {
-            None => Crowd::default(),
+        match self.entry_of(name) {
+            None => Crowd::none(),
             Some(entry) => entry.crowd(),
         }
     }
