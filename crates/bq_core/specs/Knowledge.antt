@@ -90,7 +90,10 @@ with_joined o number what k = record k {
 
 -- once a tube was changed, and these are the entries
 abbrev pub with_tube_changed : List ℕ → TubeChange → List TubeRecord → Known → Known
-with_tube_changed name what entries k = record k { stir = stirred_by_change name what k.stir; pause_end = pause_end_after entries what k.pause_end }
+with_tube_changed name what entries k = record k {
+  stir = stirred_by_change name what k.stir;
+  pause_end = pause_end_after entries what k.pause_end;
+}
 
 -- once tubes that are gone were forgotten, and these are left of so many
 abbrev pub with_forgotten : ℕ → List TubeRecord → Known → Known

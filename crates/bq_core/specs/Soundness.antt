@@ -17,7 +17,8 @@ use Rattle.bq_core.specs.declared.first_end.FirstEnd.TheVariants as ends
 use Rattle.bq_core.specs.declared.known.Known.{Known}
 
 -- The fields of a state agree with one another: these jobs, seats and tubes with what is kept beside them.
-pub record Soundness (jobs : List Job) (seats : List SeatRecord) (tubes : KeptTubes) (turns : Queued) (k : Known) (next_id : ℕ) (draining : Bool) : Type 0 where
+pub record Soundness (jobs : List Job) (seats : List SeatRecord) (tubes : KeptTubes) (turns : Queued) (k : Known)
+    (next_id : ℕ) (draining : Bool) : Type 0 where
   pub entries : AreEntries jobs seats tubes.entries
   -- Seats are numbered in order.
   pub numbered : AreNumbered seats
@@ -43,6 +44,7 @@ AreTimeouts-prop ends.Unknown seats = Unit-prop
 AreTimeouts-prop (ends.Known first) seats = Prim.hlevel props
 
 -- There is one proof of it at most, so a field can hold it.
-pub Soundness-prop : (jobs : List Job) (seats : List SeatRecord) (tubes : KeptTubes) (turns : Queued) (k : Known) (next_id : ℕ) (draining : Bool)
+pub Soundness-prop : (jobs : List Job) (seats : List SeatRecord) (tubes : KeptTubes) (turns : Queued) (k : Known)
+    → (next_id : ℕ) (draining : Bool)
     → IsProp (Soundness jobs seats tubes turns k next_id draining)
 Soundness-prop jobs seats tubes turns k next_id draining = Prim.hlevel (props, AreInOrder-prop, AreIdsWithin-prop, AreTimeouts-prop)
