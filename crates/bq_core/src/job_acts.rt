@@ -80,8 +80,8 @@ fn is_full(state: &State) -> bool
     }
 }
 
-/// Puts a job. The one growth that it needs comes before any change, and where there are as many jobs as
-/// there may be, none is asked for. The job is one more owner of the body, which its client's step has still.
+/// Puts a job. The growths that it needs, boxes and the number of a tube that had no job, come before any change, and where
+/// there are as many jobs as there may be, none is asked for. The job is one more owner of the body, which its client's step has still.
 pub(crate) fn put(
     state: &mut State,
     alloc: Global,
