@@ -74,7 +74,7 @@ pub(crate) fn add(state: &mut State, job: Job)
     state.jobs.add(job);
 }
 
-/// Takes the job of this id out, if there is one. Its room is kept.
+/// Takes the job of this id out, if there is one. Its room is kept, but for what nobody needs.
 pub(crate) fn take(state: &mut State, id: JobId) -> Option<Job>
     ensures job { result ≡ job_with id (machine_of state.old).jobs }
     ensures after { machine_of state.new ≡ record (machine_of state.old) { jobs = without id (machine_of state.old).jobs } }
@@ -86,6 +86,7 @@ pub(crate) fn take(state: &mut State, id: JobId) -> Option<Job>
     ensures asks { ComparesAtMost 4 state.old.jobs state.new.jobs }
 {
     let job = state.jobs.remove(id)?;
+    job_list::give_back(&mut state.jobs);
     state.known.remove_job(&job);
     state.tubes.remove_job(&job);
     Some(job)

@@ -1,4 +1,4 @@
-ghost use Rattle.std.specs.Prelude.{◌≡◌, ◌||◌, not, is_some, IfSome, IfOk};
+ghost use Rattle.std.specs.Prelude.{◌≡◌, ◌<◌, ◌||◌, not, is_some, IfSome, IfOk};
 ghost use Rattle.std.specs.Option.{option_map};
 ghost use Rattle.bq_job.specs.machine.Changes.{is_ready, job_with};
 ghost use Rattle.bq_job.specs.machine.Changes.{is_held_by as held_by};
@@ -17,6 +17,9 @@ ghost use Rattle.bq_core.specs.JobKinds.{first_of_kind};
 
 use bq_job::{Body, Job, JobId, JobState, Moment, NoMemory, Pri, Seat, TubeName};
 use bq_jobs::{JobEdit, Jobs, Row};
+
+// Room for so many more jobs than there are is kept.
+const ROOM_TO_SPARE: usize = 1000;
 
 /// What happens to a job.
 #[derive(Clone, Copy)]
@@ -259,6 +262,25 @@ pub(crate) fn share(jobs: &mut Jobs, id: JobId) -> Option<Result<Body, NoMemory>
         None => None,
         Some((_, body)) => Some(body),
     }
+}
+
+// The room of one job goes back to the heap, where there is room for so many more than there are.
+fn give_back_one(jobs: &mut Jobs)
+    ensures same { jobs.new ≡ record jobs.old { room = jobs.new.room } }
+    ensures room { 0 < jobs.old.room → 0 < jobs.new.room }
+{
+    if jobs.room().saturating_sub(jobs.len()) >= ROOM_TO_SPARE {
+        jobs.give_back();
+    }
+}
+
+/// Room that nobody needs goes back to the heap: that of two jobs at a time, so that no step takes long.
+pub(crate) fn give_back(jobs: &mut Jobs)
+    ensures same { jobs.new ≡ record jobs.old { room = jobs.new.room } }
+    ensures room { 0 < jobs.old.room → 0 < jobs.new.room }
+{
+    give_back_one(jobs);
+    give_back_one(jobs);
 }
 
 /// Whether the client at the seat holds a job whose time to run ends within a second.

@@ -1,6 +1,7 @@
 use Rattle.std.proofs.Common.{◌∙◌, ap, sym, not, ◌==◌}
 use Rattle.bq_job.proofs.KeptLemmas.{ids_of_filter}
 use Rattle.bq_jobs.proofs.Changes.{without_none}
+use Rattle.bq_jobs.specs.Kept.{Kept}
 use Rattle.bq_core.specs.KeptTubes.{KeptTubes}
 use Rattle.bq_core.specs.TubeEntries.{has_entry}
 use Rattle.bq_core.proofs.KnowledgeLemmas.{so_without_job}
@@ -29,7 +30,7 @@ invariant_of-state-2 c =
     let j = c.in_ok-job.job in
     record {
       sound =
-          rw (c.remove_job.ensures, c.remove_job-2.ensures, c.remove.ensures.jobs)
+          rw (c.remove_job.ensures, c.remove_job-2.ensures, ap (λ (k : Kept). k.jobs) c.give_back.ensures.same ∙ c.remove.ensures.jobs)
           (record {
             entries = entries_of_fewer (λ k. not (k.id == c.args.id)) st.jobs.jobs st.seats.items st.tubes.entries was.entries;
             numbered = was.numbered;
