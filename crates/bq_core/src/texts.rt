@@ -4,5 +4,6 @@ pub(crate) use statistics::{ServerNumbers, TubeNumbers, job_text, server_text, t
 
 mod builder;
 mod key_value;
+mod lines;
 mod names;
 mod statistics;

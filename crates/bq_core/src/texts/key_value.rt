@@ -1,8 +1,9 @@
-ghost use Rattle.std.specs.Prelude.{◌≡◌, ◌+◌, ◌≤◌, ◌++◌, length, decimal, flat_map, IfOk};
-ghost use Rattle.bq_job.specs.texts.Yaml.{key_value_line, statistics_text};
-ghost use Rattle.bq_core.specs.Texts.{IsSizeOf, value_text};
+ghost use Rattle.std.specs.Prelude.{◌≡◌, ◌+◌, ◌≤◌, ◌++◌, length, decimal, IfOk};
+ghost use Rattle.bq_job.specs.texts.Yaml.{statistics_text};
+ghost use Rattle.bq_core.specs.Texts.{value_text};
 
 use super::builder::{TextBuilder, digit_count};
+use super::lines::{Line, text_of};
 use bq_job::{NoMemory, Text};
 use std::alloc::Global;
 use std::marker::Model;
@@ -52,11 +53,12 @@ impl<'a> Model for KeyValue<'a> {
     ghost view = { λ p. (p.key.now, value_text p.value) };
 }
 
-impl<'a> KeyValue<'a> {
-    // How many bytes its line has, with the end of the line; `None` above 2^64 - 1.
-    fn size(&self) -> Option<usize>
-        ensures { IsSizeOf (key_value_line self.now) result }
-    {
+impl<'a> Line for KeyValue<'a> {
+    ghost use Rattle.bq_job.specs.texts.Yaml.{key_value_line};
+
+    ghost line = { key_value_line };
+
+    fn size(&self) -> Option<usize> {
         let separators = b": \n".len();
         self.key
             .len()
@@ -64,11 +66,7 @@ impl<'a> KeyValue<'a> {
             .checked_add(separators)
     }
 
-    fn write(&self, text: &mut TextBuilder)
-        requires { length (key_value_line self.now) ≤ text.old.room }
-        ensures bytes { text.new.bytes ≡ text.old.bytes ++ key_value_line self.now }
-        ensures room { text.old.room ≤ text.new.room + length (key_value_line self.now) }
-    {
+    fn write(&self, text: &mut TextBuilder) {
         text.push(self.key);
         text.push(b": ");
         self.value.write(text);
@@ -96,36 +94,9 @@ pub(crate) fn word<'a>(key: &'a [u8], word: &'a [u8]) -> KeyValue<'a>
     }
 }
 
-// How many bytes the text of these lines has.
-fn size_of(pairs: &[KeyValue<'_>]) -> Option<usize>
-    ensures { IsSizeOf (statistics_text pairs.now) result }
-{
-    let mut size = b"---\n".len();
-    for pair in pairs {
-        size = size.checked_add(pair.size()?)?;
-    }
-    Some(size)
-}
-
-// Writes these lines.
-fn write_all(pairs: &[KeyValue<'_>], text: &mut TextBuilder)
-    requires { length (flat_map key_value_line pairs.now) ≤ text.old.room }
-    ensures { text.new.bytes ≡ text.old.bytes ++ flat_map key_value_line pairs.now }
-{
-    for pair in pairs {
-        pair.write(text);
-    }
-}
-
 /// The text of these lines. Where its memory is refused there is none.
 pub(crate) fn statistics_text(alloc: Global, pairs: &[KeyValue<'_>]) -> Result<Text, NoMemory>
     ensures { IfOk result (λ text. text ≡ statistics_text pairs.now) }
 {
-    let Some(size) = size_of(pairs) else {
-        return Err(NoMemory);
-    };
-    let mut text = TextBuilder::new(alloc, size)?;
-    text.push(b"---\n");
-    write_all(pairs, &mut text);
-    Ok(text.finish())
+    text_of(alloc, pairs)
 }

@@ -1,13 +1,18 @@
 -- Names in order are listed as they are.
-use Rattle.std.proofs.Common.{◌∙◌, ◌++◌, [], ap, sym, codes, flat_map}
+use Rattle.std.proofs.Common.{◌≡◌, ◌∙◌, ◌++◌, List, ℕ, [], ◌∷◌, Bor, ap, sym, codes, flat_map, refl}
+use Rattle.std.specs.Prelude.{IfOk, Result, Ok, Err}
 use Rattle.bq_job.specs.texts.Yaml.{name_line}
 use Rattle.bq_job.proofs.NameOrderLemmas.{stays_fold}
 use Rattle.bq_core.specs.Texts.{names_of}
+use Rattle.bq_core.proofs.TurnLemmas.{ok_weaker}
 use Rattle.bq_core.proofs.texts.names.names_text.Goals as goal
+
+lines_of : (names : List (Bor (List ℕ))) → flat_map (λ (name : Bor (List ℕ)). name_line name.now) names ≡ flat_map name_line (names_of names)
+lines_of [] = refl
+lines_of (name ∷ names) = ap (λ more. name_line name.now ++ more) (lines_of names)
 
 pub returns : goal.returns
 returns c =
     let names = names_of c.args.names.now in
-    let begun = c.push.ensures.bytes ∙ ap (λ b. b ++ codes "---\n") c.in_ok-text.ensures.empty in
-    let written = c.write_all.ensures ∙ ap (λ b. b ++ flat_map name_line names) begun in
-    c.finish.ensures ∙ written ∙ ap (λ ns. codes "---\n" ++ flat_map name_line ns) (sym (stays_fold names [] c.requires))
+    let start = λ (lines : List ℕ). codes "---\n" ++ lines in
+    ok_weaker c.text_of.result _ _ (λ text is. is ∙ ap start (lines_of c.args.names.now ∙ ap (flat_map name_line) (sym (stays_fold names [] c.requires)))) c.text_of.ensures

@@ -1,0 +1,9 @@
+-- The bytes so far, and those of the lines that are left, are the text's; and there is room for these.
+use Rattle.std.proofs.Common.{◌≡◌, ◌≤◌, ◌++◌, length, flat_map, drop}
+use Rattle.bq_core.proofs.texts.lines.write_all.Given as goal
+
+abbrev pub invariant-loop-line : goal.invariant-loop-line
+invariant-loop-line g l = record {
+  written : l.text.bytes ++ flat_map g.L.Line.line (drop l.line-index l.lines) ≡ l.fn.text.bytes ++ flat_map g.L.Line.line l.lines;
+  room : length (flat_map g.L.Line.line (drop l.line-index l.lines)) ≤ l.text.room;
+}
