@@ -1,5 +1,5 @@
 -- What a walk over those that wait finds for them.
-use Rattle.std.proofs.Common.{◌≡◌, ◌∙◌, ◌+◌, ℕ, Bool, true, false, List, [], ◌∷◌, Option, Some, None, if◌then◌else◌, refl, sym, ap, arith, slice_get}
+use Rattle.std.proofs.Common.{◌≡◌, ◌∙◌, ◌+◌, ℕ, Bool, true, false, List, [], ◌∷◌, Option, Some, None, if◌then◌else◌, refl, sym, ap, arith, slice_get, subst}
 use Rattle.std.specs.Prelude.{fold}
 use Rattle.std.specs.List.{sum_by}
 use Rattle.std.proofs.lemmas.Bool.Decides.{nat_tests}
@@ -7,6 +7,8 @@ use Rattle.bq_job.specs.declared.job.Job.{Job}
 use Rattle.bq_job.specs.machine.Changes.{is_pair_before, is_waiting, seat_with}
 use Rattle.bq_job.specs.machine.Machine.{SeatRecord, TubeRecord}
 use Rattle.bq_job.proofs.ChoiceLemmas.{pair_order}
+use Rattle.bq_jobs.specs.Kept.{Kept}
+use Rattle.bq_core.specs.Asking.{Asks}
 use Rattle.bq_core.specs.Cost.{waited_tubes}
 use Rattle.bq_core.specs.Offers.{better_rank, offered, these, with_offer, with_offers}
 use Rattle.bq_core.specs.Queues.{at_turn, by_seat, is_turn_before, turns_of, waited_at}
@@ -64,7 +66,7 @@ offers_walked jobs entries seats h =
     go false false b xs ys = refl
 
 -- and how many tubes those that wait watch
-pub tubes_walked : (seats : List SeatRecord) → AreNumbered seats → sum_by (waited_at seats) (turns_of seats) ≡ sum_by waited_tubes seats
+tubes_walked : (seats : List SeatRecord) → AreNumbered seats → sum_by (waited_at seats) (turns_of seats) ≡ sum_by waited_tubes seats
 tubes_walked seats h =
     fold_same (λ (a : ℕ) t. a + waited_at seats t) (at_turn (λ (a : ℕ) s. a + waited_tubes s) seats) (λ a t. go a (seat_with t.1 seats) (slice_get seats t.1) (sym (place_is_seat seats t.1 h))) 0 (turns_of seats)
     ∙ walked (λ (a : ℕ) s. a + waited_tubes s) (λ s e a. rw e (none a)) (λ s t _ a. swap a (waited_tubes s) (waited_tubes t)) seats h 0
@@ -84,3 +86,6 @@ tubes_walked seats h =
 
     go : (a : ℕ) (o u : Option SeatRecord) → o ≡ u → a + sum_by waited_tubes (these o) ≡ fold (λ (k : ℕ) s. k + waited_tubes s) a (these u)
     go a o u same = counted a o ∙ ap (λ v. fold (λ (k : ℕ) s. k + waited_tubes s) a (these v)) same
+
+pub asks_walked : (seats : List SeatRecord) {old new : Kept} → AreNumbered seats → Asks (sum_by (waited_at seats) (turns_of seats)) old new → Asks (sum_by waited_tubes seats) old new
+asks_walked seats {old = old} {new = new} numbered asked = subst (λ n. Asks n old new) (tubes_walked seats numbered) asked

@@ -155,7 +155,7 @@ fn best_of_turns(
 }
 
 // The best of the jobs that waiting clients may have. Only who waits is looked at.
-#[tactic(auto, using(crate::proofs::AskLemmas::asks_more, crate::proofs::OfferLemmas::offers_walked, crate::proofs::OfferLemmas::tubes_walked))]
+#[tactic(auto, using(crate::proofs::OfferLemmas::asks_walked, crate::proofs::OfferLemmas::offers_walked))]
 fn best_offer(jobs: &mut Jobs, tubes: &Tubes, seats: &[SeatRecord], turns: &[Turn]) -> Option<Offer>
     requires numbered { AreNumbered seats.now }
     requires turns { turns.now ≡ turns_of seats.now }

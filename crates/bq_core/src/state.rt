@@ -1,10 +1,12 @@
 //! What a core holds.
 ghost use Rattle.bq_core.specs.Soundness.{Soundness, Soundness-prop};
 
+use crate::crowd::Crowd;
 use crate::job_list::{JobKind, JobTest};
 use crate::known::Known;
 use crate::queue::Queue;
 use crate::seat_record::SeatRecord;
+use crate::tally::Tally;
 use crate::tubes::Tubes;
 use crate::{job_list, seat_list};
 use bq_job::{Body, Job, JobId, Moment, NoMemory, Seat, TubeName};
@@ -38,7 +40,7 @@ pub(crate) struct State {
 }
 
 impl State {
-    ghost use Rattle.std.specs.Prelude.{◌≡◌, ◌&&◌, is_some, IfSome, IfOk};
+    ghost use Rattle.std.specs.Prelude.{◌≡◌, ◌&&◌, filter, is_some, IfSome, IfOk};
     ghost use Rattle.std.specs.List.{list_any};
     ghost use Rattle.std.specs.Option.{option_map};
     ghost use Rattle.bq_job.specs.machine.Changes.{is_ready, is_waiting, job_with, seat_with};
@@ -46,9 +48,10 @@ impl State {
     ghost use Rattle.bq_jobs.specs.Seen.{IsBodyOf};
     ghost use Rattle.bq_core.specs.JobKinds.{first_of_kind};
     ghost use Rattle.bq_core.specs.Acting.{is_asking, is_connected, is_free};
-    ghost use Rattle.bq_core.specs.Crowds.{is_waiter};
+    ghost use Rattle.bq_core.specs.Crowds.{crowd_of, is_waiter};
     ghost use Rattle.bq_core.specs.Keeping.{Looks};
     ghost use Rattle.bq_core.specs.State.{machine_of};
+    ghost use Rattle.bq_core.specs.Tallies.{tally_of};
     ghost use Rattle.bq_core.specs.Warnings.{has_waiting_holder};
     ghost use Rattle.bq_core.specs.JobChanges.{is_passed_by, passes, ttr_held_by};
 
@@ -133,6 +136,22 @@ impl State {
         ensures { result ≡ list_any (is_waiter tube.now) self.now.seats.items }
     {
         self.tubes.has_waiter_at(&self.known.clients, tube)
+    }
+
+    /// How many jobs are in the tube.
+    #[tactic(auto, using(crate::proofs::TallyPlaces::tally_there))]
+    pub(crate) fn tally_in(&self, tube: &TubeName) -> Tally
+        ensures { result ≡ tally_of (filter (λ j. is_same_name tube.now j.tube) self.now.jobs.jobs) }
+    {
+        self.tubes.tally_of(tube)
+    }
+
+    /// How many clients are at the tube.
+    #[tactic(auto, using(crate::proofs::CrowdPlaces::crowd_there))]
+    pub(crate) fn crowd_at(&self, tube: &TubeName) -> Crowd
+        ensures { result ≡ crowd_of self.now.seats.items tube.now }
+    {
+        self.tubes.crowd_of(tube)
     }
 
     /// Whether a job is in the tube.

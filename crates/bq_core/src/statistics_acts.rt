@@ -57,15 +57,15 @@ pub(crate) fn stats_job(state: &mut State, alloc: Global, id: JobId, told: &mut 
 }
 
 // What is told of the tube of this name.
-#[tactic(auto, using(crate::proofs::CrowdPlaces::crowd_there, crate::proofs::NameLemmas::lent_or, crate::proofs::NameLemmas::record_of_entry, crate::proofs::TallyPlaces::tally_there))]
+#[tactic(auto, using(crate::proofs::NameLemmas::lent_or, crate::proofs::NameLemmas::record_of_entry))]
 fn tube_numbers(state: &State, tube: &TubeName) -> TubeNumbers
     ensures { AreOfTube result tube.now (machine_of state.now) }
 {
     let fresh = TubeEntry::new();
     let entry = state.tubes.entry_of(tube).unwrap_or(&fresh);
-    let crowd = state.tubes.crowd_of(tube);
+    let crowd = state.crowd_at(tube);
     TubeNumbers {
-        jobs: state.tubes.tally_of(tube),
+        jobs: state.tally_in(tube),
         puts: entry.puts(),
         using: crowd.using,
         watching: crowd.watching,
