@@ -53,6 +53,8 @@ fn take_step(state: &mut State, alloc: Global, at: Moment, seat: Seat, what: &St
     requires room { state.old.config.seats < outs.old.most }
     ensures step { IsStep (machine_of state.old) at seat what.now (outcome_of outs.new) outs.new.given (machine_of state.new) }
     ensures comparisons { TakesStepWithin at seat what.now state.old state.new outs.new }
+    ensures lawful { IsLawful (machine_of state.new) }
+    ensures settings { state.new.config ≡ state.old.config }
     ensures most { outs.new.most ≡ outs.old.most }
 {
     outs.begin();

@@ -7,7 +7,9 @@ use Rattle.bq_core.specs.Firing.{is_ripe}
 use Rattle.bq_job.specs.machine.Timers.{after_timers}
 use Rattle.bq_core.specs.Serving.{NoneIsGone}
 use Rattle.bq_core.specs.State.{machine_of}
+use Rattle.bq_job.proofs.LawfulLemmas.{step_is_lawful}
 use Rattle.bq_core.proofs.AskLemmas.{asks_more}
+use Rattle.bq_core.proofs.SettingLemmas.{settings_stay}
 use Rattle.bq_core.proofs.StepCosts.{step_within}
 use Rattle.bq_core.proofs.StepLemmas.{first_room, forgotten_none, less_room, room_after_act, timers_alike, whole_step}
 use Rattle.bq_core.proofs.machine.take_step.Goals as goal
@@ -62,3 +64,9 @@ returns-clause-comparisons c =
     timers c.serve.ensures.served.asks
     (subst (λ (k : Kept). AsksAsChanged c.serve.new.state.jobs k) (sym c.forget_tubes.ensures.jobs) c.act.ensures.asks)
     c.serve-2.ensures.served.asks
+
+pub returns-clause-lawful : goal.returns-clause-lawful
+returns-clause-lawful c = step_is_lawful _ _ c.args.at c.args.seat c.args.what.now _ _ c.requires.lawful (returns-clause-step c)
+
+pub returns-clause-settings : goal.returns-clause-settings
+returns-clause-settings c = settings_stay _ c.args.at c.args.seat c.args.what.now _ _ _ (returns-clause-step c)
