@@ -11,11 +11,13 @@ use Rattle.bq_job.specs.machine.Changes.{first_of, is_held_by, is_holder, is_pai
 use Rattle.bq_job.specs.machine.JobStates.{due_of, is_delayed, is_due_before, is_reserved}
 use Rattle.bq_job.specs.machine.Machine.{Machine, SeatRecord, TubeRecord, Wait}
 use Rattle.bq_job.specs.machine.OneClient.{is_waiting_at}
-use Rattle.bq_job.proofs.ChoiceLemmas.{first_of_contains, first_of_is_least, first_of_none, first_of_passes, pair_order}
+use Rattle.bq_job.proofs.ChoiceLemmas.{first_of_contains, first_of_is_least, first_of_is_some, first_of_none, first_of_passes, pair_order}
 use Rattle.bq_job.proofs.ListLemmas.{all_at, all_from_members, all_pass, all_weaker, list_all_from, none_pass}
+use Rattle.bq_jobs.specs.Kept.{ranked}
 use Rattle.bq_jobs.specs.Leases.{deadline_of, is_lease_before}
 use Rattle.bq_job.specs.beside.NextDue.{dues_of_pause, dues_of_state, dues_of_wait, earliest, is_before}
 use Rattle.bq_core.specs.Dues.{earlier_of_both, jobs_due, warning_due, with_seat_due, with_warning_due}
+use Rattle.bq_core.specs.FirstEnds.{IsThere, is_gone_in_wait}
 use Rattle.bq_core.specs.Queues.{at_turn, turns_of}
 use Rattle.bq_core.specs.SeatChanges.{AreNumbered}
 use Rattle.bq_core.specs.TubeEntries.{IsFreshUnlessCounted, counted, is_counted}
@@ -45,6 +47,18 @@ one_or_other (Some x) (Some y) = ap Some (least x y)
 
 dues_swap : (b x y : Option ℕ) → earlier_of_both (earlier_of_both b x) y ≡ earlier_of_both (earlier_of_both b y) x
 dues_swap b x y = in_any_order b x y ∙ ap (earlier_of_both b) (one_or_other x y) ∙ sym (in_any_order b y x)
+
+-- nobody waits who sends no more
+pub all_there : (seats : List SeatRecord) → false ≡ list_any is_gone_in_wait seats → All IsThere seats
+all_there seats none = none_pass is_gone_in_wait seats (sym none)
+
+-- A client holds a job where there is a lease of it that ends first.
+pub held_some : (seat : ℕ) (jobs : List Job) → is_some (option_map (ranked (λ j. deadline_of j.state)) (first_of (is_held_by seat) is_lease_before jobs)) ≡ list_any (is_held_by seat) jobs
+held_some seat jobs = mapped (first_of (is_held_by seat) is_lease_before jobs) ∙ first_of_is_some (is_held_by seat) is_lease_before jobs
+  where
+    mapped : (o : Option Job) → is_some (option_map (ranked (λ j. deadline_of j.state)) o) ≡ is_some o
+    mapped None = refl
+    mapped (Some j) = refl
 
 -- A walk over those that wait finds the first who gives up, and the first who is told of its deadline.
 pub ends_walked : (seats : List SeatRecord) → AreNumbered seats → fold (at_turn with_seat_due seats) None (turns_of seats) ≡ fold with_seat_due None seats

@@ -12,6 +12,7 @@ pub mod EndMoves
 pub mod FiringLemmas
 pub mod FirstEndLemmas
 pub mod GoneLemmas
+pub mod IdleLemmas
 pub mod KickLemmas
 pub mod KnowledgeLemmas
 pub mod LeavingLemmas

@@ -315,6 +315,7 @@ fn dispatch_all(state: &mut State, outs: &mut Outs)
 
 /// While some waiting client may have a ready job, the least of them goes to the client that has waited
 /// longest. Where it is known that nobody may have one, none is looked for.
+#[tactic(auto, using(crate::proofs::IdleLemmas::is_sound, crate::proofs::IdleLemmas::none_next, crate::proofs::TurnLemmas::gives_nothing))]
 pub(crate) fn dispatch(state: &mut State, outs: &mut Outs)
     requires room { HasRoom 0 (machine_of state.old) outs.old }
     ensures given { Gives DispatchTurn has_refused_share (machine_of state.old) (machine_of state.new) outs.old outs.new }

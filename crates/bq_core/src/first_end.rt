@@ -48,6 +48,7 @@ pub(crate) fn change(first: &mut FirstEnd, client: Option<&SeatRecord>, what: &S
 }
 
 /// What is known once it was looked for. Only who waits is looked at.
+#[tactic(auto, using(crate::proofs::DueLemmas::all_there))]
 pub(crate) fn find(seats: &[SeatRecord], turns: &[Turn]) -> FirstEnd
     requires numbered { AreNumbered seats.now }
     requires turns { turns.now ≡ turns_of seats.now }

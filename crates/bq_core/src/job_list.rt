@@ -99,6 +99,7 @@ pub(crate) fn is_ready(job: &Job) -> bool
 }
 
 /// Whether the client at the seat holds a job.
+#[tactic(auto, using(crate::proofs::DueLemmas::held_some))]
 pub(crate) fn holds_some(jobs: &mut Jobs, seat: Seat) -> bool
     ensures holds { result ≡ list_any (held_by seat) jobs.old.jobs }
     ensures same { jobs.new ≡ record jobs.old { comparisons = jobs.new.comparisons } }

@@ -224,6 +224,7 @@ pub(crate) fn is_some_waiter_gone(seats: &[SeatRecord], turns: &[Turn]) -> bool
 }
 
 /// So many seats, with nobody there.
+#[tactic(auto, using(crate::proofs::StepLemmas::places_more))]
 pub(crate) fn free_seats(alloc: Global, count: u16) -> Result<Vec<SeatRecord, Global>, NoMemory>
     ensures { IfOk result (λ seats. seats.items ≡ map empty_seat (numbers 0 count)) }
 {
