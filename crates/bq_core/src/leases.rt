@@ -35,6 +35,7 @@ fn give_back_one(state: &mut State, seat: Seat, becomes: JobState) -> bool
 }
 
 /// The client at the seat gives back the jobs that it holds. They then stand so.
+#[tactic(auto, using(crate::proofs::AskLemmas::asks_more, crate::proofs::AskLemmas::asks_none, crate::proofs::AskLemmas::asks_then))]
 pub(crate) fn give_back_all(state: &mut State, seat: Seat, becomes: JobState)
     requires free { is_reserved becomes ≡ false }
     ensures after { machine_of state.new ≡ after_giving_back becomes seat (machine_of state.old) }

@@ -1,6 +1,6 @@
 //! The ends of the pauses of tubes, in their order: the first of them, and what a change of a pause does to them.
 ghost use Rattle.std.specs.Prelude.{◌≡◌, ◌+◌, ◌<◌, ◌≤◌, length, is_some, if◌then◌else◌, IfOk, None, true};
-ghost use Rattle.std.specs.Option.{ForSome};
+ghost use Rattle.std.specs.Option.{ForSome, option_map};
 ghost use Rattle.bq_core.specs.Dues.{is_end_over};
 ghost use Rattle.bq_core.specs.PauseEnds.{first_end, found_end, has_end, if_over, with_end, without_end};
 
@@ -43,6 +43,16 @@ pub(crate) fn first(ends: &PauseEnds) -> Option<PauseEnd>
     match ends.first(&Each) {
         None => None,
         Some((end, _)) => Some(*end),
+    }
+}
+
+/// When the first pause ends, if there is one.
+pub(crate) fn first_until(ends: &PauseEnds) -> Option<Moment>
+    ensures { result ≡ option_map (λ e. e.until) (first_end ends.now.entries) }
+{
+    match first(ends) {
+        None => None,
+        Some(end) => Some(end.until),
     }
 }
 

@@ -241,10 +241,7 @@ impl Tubes {
         ensures { result ≡ first_pause_end self.now.entries }
     {
         let _ends = self.ends.len();
-        match pauses::first(&self.ends) {
-            None => None,
-            Some(end) => Some(end.until),
-        }
+        pauses::first_until(&self.ends)
     }
 
     /// When the first pause ends after a change of a tube, and when it did before.
