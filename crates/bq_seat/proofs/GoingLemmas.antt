@@ -7,7 +7,7 @@ use Rattle.bq_job.specs.declared.step.Step.TheVariants as steps
 use Rattle.bq_job.specs.reading.Reading.{is_quit}
 use Rattle.bq_job.specs.promise.LineSteps.{is_waiting_request}
 use Rattle.bq_seat.specs.Past.{Past, with_action}
-use Rattle.bq_seat.specs.SeatParts.{GoesOn, in_stage, asking_stage}
+use Rattle.bq_seat.specs.SeatParts.{GoesOn, asking_stage, holding, in_stage}
 use Rattle.bq_seat.specs.SeatStands.{AgreesWith, IsOpen, StandsInStage}
 use Rattle.bq_wire.specs.Standing.{Stands, HandsRequest}
 use Rattle.bq_wire.specs.declared.state.State.{State}
@@ -17,13 +17,14 @@ use Rattle.bq_seat.specs.declared.machine.SeatMachine.{SeatMachine}
 use Rattle.bq_seat.specs.declared.machine.Stage.TheVariants as stages
 use Rattle.bq_seat.proofs.OpenLemmas.{ends_line, asks, quits, open_at, waiting_at}
 
--- it was told that the client sends no more, so the line is closed
-pub goes_told : (m : SeatMachine) → m.end_told ≡ true → GoesOn m (actions.Submit steps.Close) (in_stage (stages.Closing ends.EndOfInput) m)
-goes_told m told = record {
+-- it was told that the client sends no more, so the line is closed, whatever is kept
+pub goes_told : (m : SeatMachine) (kept : List ℕ) → m.end_told ≡ true
+    → GoesOn (holding kept m) (actions.Submit steps.Close) (in_stage (stages.Closing ends.EndOfInput) m)
+goes_told m kept told = record {
   further = tt;
   awaits = refl;
   limit = refl;
-  past = λ p o. ends_line m.reader m.kept m.end_told p.ended p o (o.stepped.told_well told).1 (o.stepped.ended_is ∙ told);
+  past = λ p o. ends_line m.reader kept m.end_told p.ended p o (o.stepped.told_well told).1 (o.stepped.ended_is ∙ told);
 }
 
 -- the machine after it has fed what it kept and asked a request

@@ -27,6 +27,10 @@ pub record GoesOn (old : SeatMachine) (action : Action) (new : SeatMachine) : Ty
 abbrev pub in_stage : Stage → SeatMachine → SeatMachine
 in_stage stage m = record m { stage = stage }
 
+-- the machine with these bytes kept
+abbrev pub holding : List ℕ → SeatMachine → SeatMachine
+holding bytes m = record m { kept = bytes }
+
 -- what is awaited once this request was asked
 abbrev pub asking_stage : Request → Stage
 asking_stage request = if is_quit request then stages.AskingQuit else stages.Asking (is_waiting_request request)

@@ -70,6 +70,15 @@ impl Kept {
         self.to = piece.len();
     }
 
+    /// Keeps what lies behind the first `n` bytes of this piece, in place of what was kept.
+    pub fn replace_by_rest(&mut self, piece: &[u8], n: usize)
+        requires fits { length piece.now ≤ PIECE_ROOM }
+        requires within { n ≤ length piece.now }
+        ensures { self.new ≡ drop n piece.now }
+    {
+        self.replace(&piece[n..]);
+    }
+
     /// Keeps the first `n` bytes no longer.
     pub fn drop_front(&mut self, n: usize)
         requires { n ≤ length self.old }

@@ -90,7 +90,7 @@ impl SeatMachine {
     ghost use Rattle.bq_job.specs.machine.OneClient.{is_closed_answer};
     ghost use Rattle.bq_seat.specs.Outstanding.{ReadsWith};
     ghost use Rattle.bq_seat.specs.SeatMoves.{FitsPiece, IsMove};
-    ghost use Rattle.bq_seat.specs.SeatParts.{GoesOn, IsStagedMove, asking_stage, in_stage, reads_on};
+    ghost use Rattle.bq_seat.specs.SeatParts.{GoesOn, IsStagedMove, asking_stage, holding, in_stage, reads_on};
     ghost use Rattle.bq_seat.specs.SeatStands.{awaited, kept_bytes};
 
     /// A machine that awaits its first line. Bodies of more than `max_job_size` bytes, of 1 to 1,048,576,
@@ -208,10 +208,7 @@ impl SeatMachine {
         ensures { IsStagedMove self.old (Event.Bytes bytes.entry) next.new self.new }
     {
         match self.stage {
-            Stage::Reading => {
-                self.kept.replace(bytes);
-                self.go_on(alloc, next)
-            }
+            Stage::Reading => self.take_in(alloc, bytes, next),
             Stage::ReadingOn => {
                 self.kept.replace(bytes);
                 self.poll(true, next)
@@ -297,6 +294,24 @@ impl SeatMachine {
             .reader
             .feed_in_place(alloc, self.kept.as_slice(), &mut request);
         self.kept.drop_front(taken);
+        match request {
+            None => self.read(next),
+            Some(request) => self.ask(request, next),
+        }
+    }
+
+    // The same where nothing is kept and these bytes came: the request is read where they lie, and only
+    // what came behind it is kept.
+    fn take_in(&mut self, alloc: Global, bytes: &[u8], next: &mut Action)
+        requires { length bytes.now ≤ PIECE_ROOM }
+        ensures { GoesOn (holding bytes.now self.old) next.new self.new }
+    {
+        if self.end_told {
+            return self.close(LineEnd::EndOfInput, next);
+        }
+        let mut request = None;
+        let taken = self.reader.feed_in_place(alloc, bytes, &mut request);
+        self.kept.replace_by_rest(bytes, taken);
         match request {
             None => self.read(next),
             Some(request) => self.ask(request, next),

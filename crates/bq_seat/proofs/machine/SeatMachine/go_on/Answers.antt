@@ -3,7 +3,7 @@ use Rattle.bq_seat.proofs.GoingLemmas as going
 use Rattle.bq_seat.proofs.machine.SeatMachine.go_on.Goals as goal
 
 pub returns-then-self : goal.returns-then-self
-returns-then-self c = going.by_result _ _ _ _ _ c.close.ensures.action c.close.ensures.after (going.goes_told c.args.self.now c.if-self.true)
+returns-then-self c = going.by_result _ _ _ _ _ c.close.ensures.action c.close.ensures.after (going.goes_told c.args.self.now c.args.self.now.kept c.if-self.true)
 
 pub returns-in-Some : goal.returns-in-Some
 returns-in-Some c =
