@@ -20,7 +20,8 @@ IsInTurn steps.Connect taken mail = taken ≡ []
 IsInTurn (steps.Ask request) taken mail = (asked : List Request) × HasAsked asked taken × (length mail ≡ length asked)
 IsInTurn steps.End taken mail = (asked : List Request) × HasAsked asked taken × (wanted taken ≤ length mail + 1)
 IsInTurn steps.Close taken mail =
-    (asked : List Request) × (told : Bool) × (taken ≡ (steps.Connect ∷ map steps.Ask asked) ++ end_if told) × (wanted taken ≤ length mail + 1)
+    (asked : List Request) × (told : Bool) × (taken ≡ (steps.Connect ∷ map steps.Ask asked) ++ end_if told)
+    × (wanted taken ≤ length mail + 1)
 IsInTurn steps.Drain taken mail = ⊥
 IsInTurn steps.Tick taken mail = ⊥
 IsInTurn steps.Gone taken mail = ⊥

@@ -1,5 +1,6 @@
 -- What a seat machine does next, by what happened and by the line's past alone.
 use Rattle.std.specs.Prelude.{ℕ, ◌≡◌, Bool, false, not, ◌&&◌, MatchBool, nat_lt, if◌then◌else◌, List, [], ◌∷◌, length, Option, Some, None}
+use Rattle.bq_job.specs.declared.answer.Answer.{Answer}
 use Rattle.bq_job.specs.declared.request.Request.{Request}
 use Rattle.bq_job.specs.declared.request.Request.TheVariants as requests
 use Rattle.bq_job.specs.declared.step.Step.{Step}
@@ -56,8 +57,11 @@ LooksForMore Awaited.AReading kept p action = action ≡ (if is_unanswered p the
 LooksForMore Awaited.AMail kept p action = action ≡ (if not p.closing && is_read_on kept p then actions.Read else actions.PollMail)
 LooksForMore _ kept p action = ⊥
 
--- The event, which was awaited, happened to a line of this past, while these bytes were kept. After the
--- close the mail is looked at until the close's own answer ends the line; other mail is thrown away.
+-- After the close the mail is looked at until the close's own answer ends the line; other mail is thrown away.
+abbrev pub LooksAfterClose : Answer → Action → Type 0
+LooksAfterClose answer action = MatchBool (is_closed_answer answer) (IsLineOver action) (action ≡ actions.PollMail)
+
+-- The event, which was awaited, happened to a line of this past, while these bytes were kept.
 abbrev pub LooksOn : Awaited → List ℕ → Event → Past → Action → Type 0
 LooksOn what kept events.Opened p action = action ≡ actions.Submit steps.Connect
 LooksOn what kept events.Submitted p action = LooksBehindStep (last_step p.steps) action
@@ -65,7 +69,6 @@ LooksOn what kept (events.Bytes bytes) p action = MatchBool (is_unanswered p) (a
 LooksOn what kept events.NothingYet p action = LooksForMore what kept p action
 LooksOn what kept events.EndOfInput p action = action ≡ actions.Submit (if is_unanswered p then steps.End else steps.Close)
 LooksOn what kept events.ReadFault p action = action ≡ actions.Submit steps.Close
-LooksOn what kept (events.Mail answer) p action =
-    MatchBool p.closing (MatchBool (is_closed_answer answer) (IsLineOver action) (action ≡ actions.PollMail)) (action ≡ actions.Write answer)
+LooksOn what kept (events.Mail answer) p action = MatchBool p.closing (LooksAfterClose answer action) (action ≡ actions.Write answer)
 LooksOn what kept events.WriteDone p action = GoesFurther action
 LooksOn what kept events.WriteFault p action = action ≡ actions.Submit steps.Close

@@ -48,6 +48,11 @@ abbrev pub IfLineOver : Action → (LineEnd → Type 0) → Type 0
 IfLineOver (actions.LineOver end) P = P end
 IfLineOver _ P = Unit {0}
 
+-- By this event and this action every past that the machine agrees with was served, whatever was written.
+abbrev pub ServesAll : SeatMachine → Event → Action → LineEnd → Type 0
+ServesAll old event action end =
+    (p : Past) → AgreesWith old p → (written : List ℕ) → IsServed old.reader.max_job_size written end (past_after event action p)
+
 -- A move by the machine's fields: the pasts that they agree with go on.
 pub record IsStagedMove (old : SeatMachine) (event : Event) (action : Action) (new : SeatMachine) : Type 0 where
   pub stray : is_stray action ≡ not (answers event (awaited old))
@@ -56,5 +61,5 @@ pub record IsStagedMove (old : SeatMachine) (event : Event) (action : Action) (n
   pub limit : new.reader.max_job_size ≡ old.reader.max_job_size
   pub opened : OpensLine event action new
   pub past : (p : Past) → AgreesWith old p → AgreesWith new (past_after event action p)
-  pub over : IfLineOver action (λ end. (p : Past) → AgreesWith old p → (written : List ℕ) → IsServed old.reader.max_job_size written end (past_after event action p))
+  pub over : IfLineOver action (ServesAll old event action)
   pub looks : is_stray action ≡ false → (p : Past) → AgreesWith old p → LooksOn (awaited old) old.kept event p action
