@@ -63,6 +63,16 @@ read_on first old new line (Err e) buf room gave apart over = failed (is_nothing
     failed true = nothing_moved first old new line line gave apart refl refl refl over
     failed false = nothing_moved first old new line (with_line_fault faults.Read line) gave apart refl refl refl over
 
+-- A line that read these bytes, of which some lay before its stream, is over the stream that is left.
+pub read_more : (first old new : StreamSeen) (line : LineSeen) (bytes all : List ℕ) → all ≡ line.read ++ bytes
+    → Consumes old.left new.left bytes → Keeps old.held new.held → LiesOver first line old → LiesOver first (record line { read = all }) new
+read_more first old new line bytes all all_is gave apart over =
+    subst (λ read. LiesOver first (record line { read = read }) new) (sym all_is) (record {
+      read = Consumes-trans first.left old.left new.left line.read bytes over.read gave;
+      written = Appends-kept first.held old.held new.held line.written over.written apart;
+      ended = λ is. still_all first.left old.left new.left line.read bytes over.read gave (over.ended is);
+    })
+
 -- The line noted what a read of its stream came to.
 pub read_noted : {S : Type 0} (left held : S → Option (List ℕ)) (first : StreamSeen) (old gave new : S) (line later : LineSeen) (result : Result ℕ Error) (buf : List ℕ) (room : ℕ)
     → length buf ≡ room → 0 < room → ReadConsumes (left old) (left gave) result buf → Keeps (held old) (held gave)

@@ -32,6 +32,15 @@ abbrev pub after_read : Result ℕ Error → List ℕ → LineSeen → LineSeen
 after_read (Ok n) buf line = record line { read = line.read ++ take n buf; ended = line.ended || n == 0 }
 after_read (Err e) buf line = if is_nothing_yet (error_kind e) then line else with_line_fault faults.Read line
 
+-- What comes into a line's own room isn't read yet.
+abbrev pub after_fill : Result (Unit {0}) Error → LineSeen → LineSeen
+after_fill (Ok done) line = line
+after_fill (Err e) line = after_read (Err e) [] line
+
+-- So many first bytes of those that lie in a line's own room are read. Where it is none, nothing changes.
+abbrev pub after_take : ℕ → List ℕ → LineSeen → LineSeen
+after_take n came line = if n == 0 then line else after_read (Ok n) came line
+
 -- A write that takes no bytes is a fault, and so is any error.
 abbrev pub after_write : Result ℕ Error → List ℕ → LineSeen → LineSeen
 after_write (Ok n) buf line = if n == 0 then with_line_fault faults.Write line else record line { written = line.written ++ take n buf }

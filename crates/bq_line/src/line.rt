@@ -1,12 +1,13 @@
 //! Lines of bytes, each to one client and back.
-ghost use Rattle.std.specs.Prelude.{◌≡◌, ◌<◌, ℕ, length, min, take};
+ghost use Rattle.std.specs.Prelude.{◌≡◌, ◌≤◌, ◌<◌, ℕ, List, length, min, take};
 ghost use Rattle.std.specs.Io.{ReadsAtMost, WritesAtMost};
 ghost use Rattle.std.specs.IoError.{error_kind};
 ghost use Rattle.bq_job.specs.promise.LineSteps.{LineSeen};
-ghost use Rattle.bq_line.specs.LineCalls.{after_flush, after_read, after_write, first_fault, is_nothing_yet};
+ghost use Rattle.bq_line.specs.LineCalls.{after_fill, after_flush, after_read, after_take, after_write, first_fault, is_nothing_yet};
 ghost use Rattle.bq_line.specs.Streams.{StaysOver, StreamSeen};
 
 pub use buffered::Buffered;
+pub use buffered_line::BufferedLine;
 pub use byte_record::ByteRecord;
 pub use connection::Connection;
 pub use duplex::Duplex;
@@ -16,6 +17,7 @@ pub use read_buffer::{READ_ROOM, ReadBuffer};
 pub use socket::Socket;
 
 mod buffered;
+mod buffered_line;
 mod byte_record;
 mod connection;
 mod duplex;
@@ -38,6 +40,9 @@ pub trait Line {
     /// leaves its stream for another.
     ghost lies_over: { StreamSeen → Self → Type 0 };
 
+    /// The bytes that lie in a room of the line's own: they came, and aren't read yet.
+    ghost unread: { Self → List ℕ };
+
     /// Reads at most as many bytes as the buffer has, as `std::io::Read` does. 0 bytes are the end of the
     /// input. `WouldBlock`, `TimedOut` and `Interrupted` say that there are none yet; any other error is
     /// a read fault. It may wait for bytes, without end.
@@ -52,6 +57,25 @@ pub trait Line {
         requires { 0 < length buf.old }
         ensures bound { ReadsAtMost result buf.new }
         ensures seen { seen self.new ≡ after_read result buf.new (seen self.old) }
+        ensures stays { StaysOver lies_over self.old self.new };
+
+    /// Where nothing lies in the line's own room, what comes goes there by one read, which may wait or not. A line that
+    /// has no such room does nothing. Errors are as those of `read`, and no byte is read by it yet.
+    fn fill(&mut self, waits: bool) -> io::Result<()>
+        ensures seen { seen self.new ≡ after_fill result (seen self.old) }
+        ensures stays { StaysOver lies_over self.old self.new }
+    {
+        Ok(())
+    }
+
+    /// Lends the bytes that lie in the line's own room.
+    fn unread(&self) -> &[u8]
+        ensures { result.now ≡ unread self.now };
+
+    /// So many first bytes of those that lie in the line's own room are read.
+    fn take_unread(&mut self, count: usize)
+        requires { count ≤ length (unread self.old) }
+        ensures seen { seen self.new ≡ after_take count (unread self.old) (seen self.old) }
         ensures stays { StaysOver lies_over self.old self.new };
 
     /// Writes first bytes of the buffer, and says how many, as `std::io::Write` does. An error is a write

@@ -7,7 +7,7 @@ use super::free_doors::FreeDoors;
 use super::line_record::LineRecord;
 use super::refusals::Refusals;
 use super::{Door, DoorFault, Listen};
-use crate::line::{Buffered, Connection, IoLine, Line, ReadBuffer, Socket};
+use crate::line::{BufferedLine, Connection, Line, ReadBuffer, Socket};
 use bq_job::LineEnd;
 use std::io::Eprint;
 use std::rt::Clock;
@@ -157,7 +157,7 @@ impl<'l, R: Wait + Clock + Eprint, S: Socket + Drop + Send, T: Listen<Stream = S
     for ListenDoor<'l, R, T> {
     ghost use Rattle.std.proofs.Common.{refl};
 
-    type Line = IoLine<Buffered<Connection<S>>>;
+    type Line = BufferedLine<Connection<S>>;
 
     ghost is_out = { λ door. door.is_out };
 
@@ -171,10 +171,10 @@ impl<'l, R: Wait + Clock + Eprint, S: Socket + Drop + Send, T: Listen<Stream = S
 
     ghost same_self = { λ door. (refl, refl) };
 
-    fn open(&mut self) -> Result<Option<IoLine<Buffered<Connection<S>>>>, DoorFault>
+    fn open(&mut self) -> Result<Option<BufferedLine<Connection<S>>>, DoorFault>
         requires inside { self.old.is_out ≡ false }
         requires more { self.old.is_at_end ≡ false }
-        ensures opened { IsOpened ⟦<IoLine<Buffered<Connection<S>>> as Line>⟧.seen self.new.is_out self.new.is_at_end result }
+        ensures opened { IsOpened ⟦<BufferedLine<Connection<S>> as Line>⟧.seen self.new.is_out self.new.is_at_end result }
         ensures over { self.new.over ≡ self.old.over }
         ensures same { (first : _) → ⟦<ListenDoor<'l, R, T> as Door>⟧.same first self.old →
             ⟦<ListenDoor<'l, R, T> as Door>⟧.same first self.new }
@@ -194,7 +194,7 @@ impl<'l, R: Wait + Clock + Eprint, S: Socket + Drop + Send, T: Listen<Stream = S
             Ok(stream) => {
                 self.tell_taken();
                 let buffer = self.lend();
-                Ok(Some(IoLine::new(Buffered::new(stream, buffer))))
+                Ok(Some(BufferedLine::new(stream, buffer)))
             }
             Err(_) => {
                 self.is_at_end = true;
@@ -207,11 +207,11 @@ impl<'l, R: Wait + Clock + Eprint, S: Socket + Drop + Send, T: Listen<Stream = S
 
     // What the system still gathers is sent first: closing drops it where the client sent bytes that nobody read. The
     // connection is closed where its stream is dropped, and the buffer is kept for the next one.
-    fn shut(&mut self, mut line: IoLine<Buffered<Connection<S>>>, end: LineEnd) {
+    fn shut(&mut self, mut line: BufferedLine<Connection<S>>, end: LineEnd) {
         line.expect_more(false);
         self.tell_free();
         self.is_out = false;
         self.over.note(&line, end);
-        self.buffer = Some(line.into_stream().into_buffer());
+        self.buffer = Some(line.into_buffer());
     }
 }

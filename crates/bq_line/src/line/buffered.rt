@@ -1,6 +1,6 @@
-ghost use Rattle.std.specs.Prelude.{◌≡◌, ◌==◌, [], Some, length, not, true};
+ghost use Rattle.std.specs.Prelude.{◌≡◌, ◌≤◌, ◌==◌, [], Some, length, not, take, true};
 ghost use Rattle.std.specs.Io.{ReadsAtMost};
-ghost use Rattle.std.specs.Io.KnownBytes.{Keeps, ReadConsumes, prepend_known};
+ghost use Rattle.std.specs.Io.KnownBytes.{Consumes, Keeps, ReadConsumes, prepend_known};
 
 use super::duplex::Duplex;
 use super::read_buffer::ReadBuffer;
@@ -35,6 +35,32 @@ impl<S> Buffered<S> {
 }
 
 impl<S: Duplex> Buffered<S> {
+    /// Reads the stream once, where nothing lies in the buffer. `waits` says whether it may wait for bytes.
+    pub fn fill(&mut self, waits: bool) -> io::Result<()>
+        ensures bytes { Keeps (prepend_known self.old.came (S.remaining self.old.stream))
+            (prepend_known self.new.came (S.remaining self.new.stream)) }
+        ensures apart { Keeps (S.contents self.old.stream) (S.contents self.new.stream) }
+    {
+        self.came.fill(&mut self.stream, waits)
+    }
+
+    /// What lies in the buffer.
+    pub fn unread(&self) -> &[u8]
+        ensures { result.now ≡ self.now.came }
+    {
+        self.came.as_slice()
+    }
+
+    /// So many first bytes of what lies in the buffer are read.
+    pub fn take_unread(&mut self, count: usize)
+        requires { count ≤ length self.old.came }
+        ensures bytes { Consumes (prepend_known self.old.came (S.remaining self.old.stream))
+            (prepend_known self.new.came (S.remaining self.new.stream)) (take count self.old.came) }
+        ensures apart { Keeps (S.contents self.old.stream) (S.contents self.new.stream) }
+    {
+        self.came.drop_front(count);
+    }
+
     fn read_by(&mut self, buf: &mut [u8], waits: bool) -> io::Result<usize>
         ensures bound { ReadsAtMost result buf.new }
         ensures bytes { ReadConsumes (prepend_known self.old.came (S.remaining self.old.stream))

@@ -1,9 +1,10 @@
-ghost use Rattle.std.specs.Prelude.{◌≡◌, ◌<◌, length, false, [], None};
+ghost use Rattle.std.specs.Prelude.{◌≡◌, ◌≤◌, ◌<◌, length, false, [], None};
 ghost use Rattle.std.specs.Io.{ReadsAtMost, WritesAtMost};
 ghost use Rattle.std.specs.Io.KnownBytes.{Keeps, ReadConsumes, WriteAppends};
-ghost use Rattle.bq_line.specs.LineCalls.{after_flush, after_read, after_write};
+ghost use Rattle.bq_line.specs.LineCalls.{after_fill, after_flush, after_read, after_write};
 ghost use Rattle.bq_line.specs.Streams.{StaysOver};
 
+use super::buffered::Buffered;
 use super::byte_record::ByteRecord;
 use super::duplex::Duplex;
 use super::{Line, is_nothing_yet, note_fault};
@@ -54,6 +55,42 @@ impl<S: Duplex> IoLine<S> {
     }
 }
 
+impl<S: Duplex> IoLine<Buffered<S>> {
+    /// Reads the stream once, where nothing lies in its buffer, and keeps a fault.
+    pub fn fill_buffer(&mut self, waits: bool) -> io::Result<()>
+        ensures seen { ⟦<IoLine<Buffered<S>> as Line>⟧.seen self.new ≡ after_fill result (⟦<IoLine<Buffered<S>> as Line>⟧.seen self.old) }
+        ensures stays { StaysOver ⟦<IoLine<Buffered<S>> as Line>⟧.lies_over self.old self.new }
+    {
+        let result = self.stream.fill(waits);
+        if let Err(e) = &result {
+            if !is_nothing_yet(e) {
+                note_fault(&mut self.fault, LineFault::Read);
+            }
+        }
+        result
+    }
+
+    /// What lies in the buffer of its stream.
+    pub fn buffered(&self) -> &[u8]
+        ensures { result.now ≡ self.now.stream.came }
+    {
+        self.stream.unread()
+    }
+
+    /// So many first bytes of what lies in the buffer are read.
+    pub fn take_buffered(&mut self, count: usize)
+        requires some { 0 < count }
+        requires within { count ≤ length self.old.stream.came }
+        ensures seen { ⟦<IoLine<Buffered<S>> as Line>⟧.seen self.new
+            ≡ after_read (Ok count) self.old.stream.came (⟦<IoLine<Buffered<S>> as Line>⟧.seen self.old) }
+        ensures stays { StaysOver ⟦<IoLine<Buffered<S>> as Line>⟧.lies_over self.old self.new }
+    {
+        let came = self.stream.unread();
+        self.read.note(&came[..count]);
+        self.stream.take_unread(count);
+    }
+}
+
 impl<S> IoLine<S> {
     /// The stream, whatever was done on the line.
     pub fn into_stream(self) -> S
@@ -67,6 +104,7 @@ impl<S> IoLine<S> {
 // line that answers other bytes than its stream, or makes no call, meets none of them. The clauses `stays` hold the
 // line as a whole to the stream that it was made over.
 impl<S: Duplex> Line for IoLine<S> {
+    ghost use Rattle.std.specs.Prelude.{[]};
     ghost use Rattle.bq_line.specs.Streams.{LiesOver};
 
     ghost seen = { λ line. record { read = line.read; written = line.written; ended = line.ended; fault = line.fault } };
@@ -74,6 +112,9 @@ impl<S: Duplex> Line for IoLine<S> {
     ghost lies_over = { λ first line. LiesOver first
         (record { read = line.read; written = line.written; ended = line.ended; fault = line.fault })
         (record { left = S.remaining line.stream; held = S.contents line.stream }) };
+
+    // It has no room of its own.
+    ghost unread = { λ line. [] };
 
     fn read(&mut self, buf: &mut [u8]) -> io::Result<usize>
         requires { 0 < length buf.old }
@@ -98,6 +139,12 @@ impl<S: Duplex> Line for IoLine<S> {
         self.note_read(&result, buf);
         result
     }
+
+    fn unread(&self) -> &[u8] {
+        &[]
+    }
+
+    fn take_unread(&mut self, _count: usize) {}
 
     fn write(&mut self, buf: &[u8]) -> io::Result<usize>
         requires { 0 < length buf.now }

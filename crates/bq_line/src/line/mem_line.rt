@@ -84,6 +84,9 @@ impl Line for MemLine {
     // Its stream are the bytes of its parts, and nothing was written to it at first.
     ghost lies_over = { λ first line. first ≡ record { left = Some (all_bytes line.parts.items); held = Some [] } };
 
+    // It has no room of its own.
+    ghost unread = { λ line. [] };
+
     fn read(&mut self, buf: &mut [u8]) -> io::Result<usize>
         requires { 0 < length buf.old }
         ensures bound { ReadsAtMost result buf.new }
@@ -142,6 +145,12 @@ impl Line for MemLine {
     {
         self.read(buf)
     }
+
+    fn unread(&self) -> &[u8] {
+        &[]
+    }
+
+    fn take_unread(&mut self, _count: usize) {}
 
     fn write(&mut self, buf: &[u8]) -> io::Result<usize>
         requires { 0 < length buf.now }

@@ -74,7 +74,15 @@ impl ReadBuffer {
         count
     }
 
-    fn as_slice(&self) -> &[u8]
+    /// Gives up the first `n` bytes.
+    pub fn drop_front(&mut self, n: usize)
+        requires { n ≤ length self.old }
+        ensures { self.new ≡ drop n self.old }
+    {
+        self.from += n;
+    }
+
+    pub fn as_slice(&self) -> &[u8]
         ensures { result.now ≡ self.now }
     {
         &self.room[self.from..self.to]
