@@ -9,7 +9,12 @@ use Rattle.bq_line.specs.declared.line.mem_line.MemLine.{MemLine}
 
 -- what a line in memory tells of itself
 abbrev pub seen_of : MemLine → LineSeen
-seen_of line = record { read = bytes_up_to line.parts.items line.place line.offset; written = line.written.items; ended = line.ended; fault = line.fault }
+seen_of line = record {
+  read = bytes_up_to line.parts.items line.place line.offset;
+  written = line.written.items;
+  ended = line.ended;
+  fault = line.fault;
+}
 
 -- nothing was done on the line
 abbrev pub IsFresh : MemLine → Type 0
