@@ -3,7 +3,8 @@ ghost use Rattle.std.specs.Prelude.{◌≡◌, ◌<◌, ◌++◌, [], ℕ, List,
 ghost use Rattle.std.specs.Io.{ReadsAtMost};
 ghost use Rattle.bq_job.specs.declared.answer.Answer.{Answer};
 ghost use Rattle.bq_job.specs.declared.step.Step.{Step};
-ghost use Rattle.bq_line.specs.LineCalls.{after_read};
+ghost use Rattle.bq_job.specs.promise.LineSteps.{LineSeen};
+ghost use Rattle.bq_line.specs.LineCalls.{after_fill, after_read};
 ghost use Rattle.bq_line.specs.Streams.{StaysOver};
 ghost use Rattle.bq_attend.specs.Carried.{Carried, HasGone};
 
@@ -70,7 +71,46 @@ pub fn carry_out<L: Line, K: Link>(
     }
 }
 
+// What lies in the line's own room is handed on from where it lies. A line that has none is read into this one.
 fn read<L: Line>(
+    alloc: Global,
+    machine: &mut SeatMachine,
+    next: &mut Action,
+    line: &mut L,
+    room: &mut [u8],
+) -> bool
+    requires { length room.old ≡ PIECE_ROOM }
+    ensures carried { Carried machine.old (L.seen line.old) Action.Read machine.new (L.seen line.new) next.new [] [] }
+    ensures stays { StaysOver L.lies_over line.old line.new }
+{
+    match fill_line(machine, line) {
+        Ok(()) => hand_on(alloc, machine, next, line, room),
+        Err(e) => tell_error(alloc, machine, next, &e),
+    }
+}
+
+// Where nothing lies in the line's own room, it has none or its input has ended.
+fn hand_on<L: Line>(
+    alloc: Global,
+    machine: &mut SeatMachine,
+    next: &mut Action,
+    line: &mut L,
+    room: &mut [u8],
+) -> bool
+    requires { length room.old ≡ PIECE_ROOM }
+    ensures carried { Carried machine.old (L.seen line.old) Action.Read machine.new (L.seen line.new) next.new [] [] }
+    ensures stays { StaysOver L.lies_over line.old line.new }
+{
+    let count = line.unread().len().min(PIECE_ROOM);
+    if count == 0 {
+        return read_piece(alloc, machine, next, line, room);
+    }
+    machine.on_in_place(alloc, Event::Bytes(&line.unread()[..count]), next);
+    line.take_unread(count);
+    true
+}
+
+fn read_piece<L: Line>(
     alloc: Global,
     machine: &mut SeatMachine,
     next: &mut Action,
@@ -90,15 +130,20 @@ fn read<L: Line>(
             machine.on_in_place(alloc, Event::Bytes(&room[..count]), next);
             true
         }
-        Err(e) => {
-            if is_nothing_yet(&e) {
-                machine.on_in_place(alloc, Event::NothingYet, next);
-                false
-            } else {
-                machine.on_in_place(alloc, Event::ReadFault, next);
-                true
-            }
-        }
+        Err(e) => tell_error(alloc, machine, next, &e),
+    }
+}
+
+// There are no bytes yet, or the read failed.
+fn tell_error(alloc: Global, machine: &mut SeatMachine, next: &mut Action, e: &io::Error) -> bool
+    ensures { (seen : LineSeen) → Carried machine.old seen Action.Read machine.new (after_fill (Err e.now) seen) next.new [] [] }
+{
+    if is_nothing_yet(e) {
+        machine.on_in_place(alloc, Event::NothingYet, next);
+        false
+    } else {
+        machine.on_in_place(alloc, Event::ReadFault, next);
+        true
     }
 }
 
@@ -113,15 +158,23 @@ fn expect_answers<L: Line>(machine: &SeatMachine, line: &mut L)
 }
 
 // The line is waited for only where no answer is outstanding. All answers so far are on their way to the client before.
+fn fill_line<L: Line>(machine: &SeatMachine, line: &mut L) -> io::Result<()>
+    ensures seen { L.seen line.new ≡ after_fill result (L.seen line.old) }
+    ensures stays { StaysOver L.lies_over line.old line.new }
+{
+    if !line.has_unread() {
+        line.expect_more(false);
+    }
+    line.fill(!machine.has_outstanding())
+}
+
+// The same for a line that has no room of its own.
 fn read_line<L: Line>(machine: &SeatMachine, line: &mut L, room: &mut [u8]) -> io::Result<usize>
     requires { 0 < length room.old }
     ensures bound { ReadsAtMost result room.new }
     ensures seen { L.seen line.new ≡ after_read result room.new (L.seen line.old) }
     ensures stays { StaysOver L.lies_over line.old line.new }
 {
-    if !line.has_unread() {
-        line.expect_more(false);
-    }
     if machine.has_outstanding() {
         line.read_now(room)
     } else {

@@ -1,4 +1,4 @@
-//! The room of a seat: for what it reads of its line, and for what it writes there.
+//! The room of a seat: for what it writes to its line, and for what it reads there.
 ghost use Rattle.std.specs.Prelude.{◌≡◌, ◌==◌, IfOk, length};
 
 use bq_job::NoMemory;
@@ -65,8 +65,8 @@ impl AnswerRoom {
     }
 }
 
-/// Room for one read of a line and for the answers that are written there: a piece for most of them, and more for
-/// the others. It is made once a run, since a new one would be filled with zeros first.
+/// Room for the answers that are written to a line, a piece for most of them and more for the others, and for one read
+/// of a line that has no room of its own. It is made once a run, since a new one would be filled with zeros first.
 #[derive(Drop)]
 pub struct Room {
     pub piece: [u8; PIECE_ROOM],
