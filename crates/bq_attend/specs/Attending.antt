@@ -25,7 +25,8 @@ IsWrittenSo (Some faults.Write) handed written = IsCutOff handed written
 
 -- A line that is out, while this action is carried out: what was submitted and taken for it up to the event
 -- that the action answers.
-pub record IsOnLine (max_job_size : ℕ) (machine : SeatMachine) (seen : LineSeen) (action : Action) (submitted : List Step) (taken : List Answer) : Type 0 where
+pub record IsOnLine (max_job_size : ℕ) (machine : SeatMachine) (seen : LineSeen) (action : Action)
+    (submitted : List Step) (taken : List Answer) : Type 0 where
   pub past : Past
   pub written : List ℕ
   pub submitted_is : past.steps ≡ submitted
@@ -39,13 +40,15 @@ pub record IsOnLine (max_job_size : ℕ) (machine : SeatMachine) (seen : LineSee
 
 -- what was done for the line that is out
 abbrev pub IsAt : {L : Type 0} → (L → LineSeen) → ℕ → SeatMachine → Place L → List Step → List Answer → Type 0
-IsAt seen max_job_size machine places.Between submitted taken = (submitted ≡ []) × (taken ≡ []) × (awaited machine ≡ Awaited.ALine) × (machine.reader.max_job_size ≡ max_job_size)
+IsAt seen max_job_size machine places.Between submitted taken =
+    (submitted ≡ []) × (taken ≡ []) × (awaited machine ≡ Awaited.ALine) × (machine.reader.max_job_size ≡ max_job_size)
 IsAt seen max_job_size machine (places.On line action) submitted taken = IsOnLine max_job_size machine (seen line) action submitted taken
 IsAt seen max_job_size machine places.Leaving submitted taken = (submitted ≡ []) × (taken ≡ [])
 IsAt seen max_job_size machine places.Done submitted taken = (submitted ≡ Gone ∷ []) × (taken ≡ [])
 
 -- What a seat did: its lines that are over, and then the one that is out.
-pub record IsAttending {L : Type 0} (seen : L → LineSeen) (max_job_size : ℕ) (machine : SeatMachine) (place : Place L) (lines : List LineOver) (submitted : List Step) (taken : List Answer) : Type 0 where
+pub record IsAttending {L : Type 0} (seen : L → LineSeen) (max_job_size : ℕ) (machine : SeatMachine) (place : Place L)
+    (lines : List LineOver) (submitted : List Step) (taken : List Answer) : Type 0 where
   pub before : List Step
   pub now : List Step
   pub got : List Answer

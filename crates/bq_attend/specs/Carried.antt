@@ -24,7 +24,8 @@ IsReadAs seen events.ReadFault later = later ≡ with_line_fault faults.Read see
 IsReadAs seen _ later = ⊥
 
 -- There was nothing to carry out, and nothing was done.
-pub record IsLeft (old : SeatMachine) (seen : LineSeen) (action : Action) (new : SeatMachine) (later : LineSeen) (next : Action) (submitted : List Step) (taken : List Answer) : Type 0 where
+pub record IsLeft (old : SeatMachine) (seen : LineSeen) (action : Action) (new : SeatMachine) (later : LineSeen) (next : Action)
+    (submitted : List Step) (taken : List Answer) : Type 0 where
   pub machine : new ≡ old
   pub line : later ≡ seen
   pub action_is : next ≡ action
@@ -47,7 +48,8 @@ Carried old seen (actions.Write answer) new later next submitted taken =
     (submitted ≡ []) × (taken ≡ [])
     × (((later ≡ with_written (answer_text answer) seen) × IsMove old events.WriteDone next new)
     ⊎ (BreaksOff (answer_text answer) seen later × IsMove old events.WriteFault next new))
-Carried old seen (actions.LineOver end) new later next submitted taken = IsLeft old seen (actions.LineOver end) new later next submitted taken
+Carried old seen (actions.LineOver end) new later next submitted taken =
+    IsLeft old seen (actions.LineOver end) new later next submitted taken
 Carried old seen actions.Stray new later next submitted taken = IsLeft old seen actions.Stray new later next submitted taken
 
 -- Only a submission and a look at the mail go to the link, which else is left alone.

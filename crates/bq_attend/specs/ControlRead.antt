@@ -18,7 +18,9 @@ IsReadToEnd (Some before) (Some after) text failed = (before ≡ text ++ after) 
 -- These bytes of a line were read after what was kept of it. Where the line is over, what is kept says
 -- whether it was a `drain`; else it is kept what matters for the rest, whatever that is.
 abbrev pub HasRead : List ℕ → List ℕ → Bool → List ℕ → Type 0
-HasRead kept bytes true new = (rest : List ℕ) (failed : Bool) → drains_from kept (bytes ++ rest) failed ≡ one_if (are_same new drain_word) + drains_from [] rest failed
+HasRead kept bytes true new =
+    (rest : List ℕ) (failed : Bool)
+    → drains_from kept (bytes ++ rest) failed ≡ one_if (are_same new drain_word) + drains_from [] rest failed
 HasRead kept bytes false new = (rest : List ℕ) (failed : Bool) → drains_from kept (bytes ++ rest) failed ≡ drains_from new rest failed
 
 -- The step was submitted after those before, or it was handed back and nothing was.

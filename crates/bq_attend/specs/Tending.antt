@@ -41,19 +41,23 @@ IsPlaced places.Leaving door = (door.is_out ≡ false) × (door.is_at_end ≡ tr
 IsPlaced places.Done door = (door.is_out ≡ false) × (door.is_at_end ≡ true)
 
 -- What a seat did so far: it submitted these steps and took these answers, and its door with it.
-pub record IsTended {L : Type 0} (seen : L → LineSeen) (max_job_size : ℕ) (a : Attendant L) (door : DoorSeen) (submitted : List Step) (taken : List Answer) : Type 0 where
+pub record IsTended {L : Type 0} (seen : L → LineSeen) (max_job_size : ℕ) (a : Attendant L) (door : DoorSeen)
+    (submitted : List Step) (taken : List Answer) : Type 0 where
   pub attends : IsAttending seen max_job_size a.machine a.place door.lines_over submitted taken
   pub placed : IsPlaced a.place door
 
 -- Whatever the seat did before, it went on by these steps and answers.
 abbrev pub Tends : {L : Type 0} → (L → LineSeen) → Attendant L → DoorSeen → List Step → List Answer → Attendant L → DoorSeen → Type 0
 Tends seen old at_old submitted taken new at_new =
-    (max_job_size : ℕ) (before : List Step) (got : List Answer) → IsTended seen max_job_size old at_old before got → IsTended seen max_job_size new at_new (before ++ submitted) (got ++ taken)
+    (max_job_size : ℕ) (before : List Step) (got : List Answer) → IsTended seen max_job_size old at_old before got
+    → IsTended seen max_job_size new at_new (before ++ submitted) (got ++ taken)
 
 -- A seat went on, and its link with it.
-abbrev pub GoesOn : {K L : Type 0} → (K → List Step → List Answer → K → Type 0) → K → K → (L → LineSeen) → Attendant L → DoorSeen → Attendant L → DoorSeen → Type 0
+abbrev pub GoesOn : {K L : Type 0} → (K → List Step → List Answer → K → Type 0) → K → K → (L → LineSeen)
+    → Attendant L → DoorSeen → Attendant L → DoorSeen → Type 0
 GoesOn went first last seen old at_old new at_new =
-    (submitted : List Step) × (taken : List Answer) × Calls went first submitted taken last × Tends seen old at_old submitted taken new at_new
+    (submitted : List Step) × (taken : List Answer) × Calls went first submitted taken last
+    × Tends seen old at_old submitted taken new at_new
 
 -- A seat that has done nothing.
 pub record IsNewSeat {L : Type 0} (max_job_size : ℕ) (a : Attendant L) : Type 0 where
