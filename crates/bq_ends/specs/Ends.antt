@@ -13,7 +13,8 @@ pub record IsNewEnd (seat : SeatState) : Type 0 where
 
 -- It is the same end, and between these steps were submitted at it and these answers taken.
 abbrev pub EndWent : SeatState → List Step → List Answer → SeatState → Type 0
-EndWent first submitted taken last = IsSameSeat first last × (last.submitted ≡ first.submitted ++ submitted) × (last.taken ≡ first.taken ++ taken)
+EndWent first submitted taken last =
+    IsSameSeat first last × (last.submitted ≡ first.submitted ++ submitted) × (last.taken ≡ first.taken ++ taken)
 
 -- The same at a link to the end. Who drops the last one knows the end by it.
 abbrev pub LinkWent : {R S : Type 0} → EndSeat R S → List Step → List Answer → EndSeat R S → Type 0
