@@ -20,4 +20,5 @@ state_of d = record {
 -- what a seat did at a desk
 abbrev pub WentAt : {C : Type 0} → (C → List (Option ℕ) → C → Type 0) → ℕ → Desk C → List Step → List Answer → Desk C → Type 0
 WentAt given seat old submitted taken new =
-    (readings : List (Option ℕ)) × GaveReadings given old.clock readings new.clock × SeatWent seat (state_of old) readings submitted taken (state_of new)
+    (readings : List (Option ℕ)) × GaveReadings given old.clock readings new.clock
+    × SeatWent seat (state_of old) readings submitted taken (state_of new)

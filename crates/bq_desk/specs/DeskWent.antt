@@ -9,7 +9,8 @@ use Rattle.bq_desk.specs.DeskState.{DeskState, waiting}
 
 -- The core took the steps of this history at moments of these readings, and at each seat these answers were
 -- taken out of the mail.
-pub record DeskWent (first : DeskState) (readings : List (Option ℕ)) (history : List Entry) (taken : ℕ → List Answer) (last : DeskState) : Type 0 where
+pub record DeskWent (first : DeskState) (readings : List (Option ℕ)) (history : List Entry)
+    (taken : ℕ → List Answer) (last : DeskState) : Type 0 where
   pub given : List GivenAnswer
   pub runs : Run first.core history given last.core
   pub timed : IsTimedFrom first.heard readings history last.heard
@@ -17,7 +18,8 @@ pub record DeskWent (first : DeskState) (readings : List (Option ℕ)) (history 
   pub tied : (seat : ℕ) → seat < length first.mails → waiting seat first ++ answers_to seat given ≡ taken seat ++ waiting seat last
 
 -- What happened at a desk, as its seat sees it: it alone submitted these steps and took these answers.
-pub record SeatWent (seat : ℕ) (first : DeskState) (readings : List (Option ℕ)) (submitted : List Step) (taken : List Answer) (last : DeskState) : Type 0 where
+pub record SeatWent (seat : ℕ) (first : DeskState) (readings : List (Option ℕ))
+    (submitted : List Step) (taken : List Answer) (last : DeskState) : Type 0 where
   pub history : List Entry
   pub took : ℕ → List Answer
   pub went : DeskWent first readings history took last
