@@ -87,6 +87,7 @@ impl<S: Duplex> Duplex for Buffered<S> {
         self.read_by(buf, false)
     }
 
+    #[tactic(auto, using(crate::proofs::BufferLemmas::not_at_end))]
     fn has_unread(&self) -> bool
         ensures left { result ≡ true → prepend_known self.now.came (S.remaining self.now.stream) ≡ Some [] → ⊥ }
         ensures held { result ≡ not (length self.now.came == 0) }

@@ -42,6 +42,7 @@ pub struct MemLine {
 
 impl MemLine {
     /// A line of these parts, to which `room` bytes can be written. Their memory is asked for here.
+    #[tactic(auto, using(crate::proofs::PartLemmas::at_first))]
     pub fn new(alloc: Global, parts: Vec<Part, Global>, room: usize) -> Result<MemLine, NoMemory>
         ensures parts { IfOk result (λ line. line.parts ≡ parts) }
         ensures room { IfOk result (λ line. line.room ≡ room) }

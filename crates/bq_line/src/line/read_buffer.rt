@@ -128,6 +128,7 @@ fn make_whole(room: &mut Vec<u8, Global>)
 }
 
 // One read of a stream into the room.
+#[tactic(auto, using(std::proofs::lemmas::List::with_items_is))]
 fn read_once<S: Duplex>(
     stream: &mut S,
     room: &mut Vec<u8, Global>,
