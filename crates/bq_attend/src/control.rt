@@ -68,6 +68,7 @@ impl LineSoFar {
     }
 
     // Whether the line is over by this byte; else it is noted.
+    #[tactic(auto, using(crate::proofs::ControlLemmas::line_read, crate::proofs::ControlLemmas::byte_read))]
     fn ends_by(&mut self, byte: u8) -> bool
         ensures { HasRead self.old (byte ∷ []) result self.new }
     {
@@ -78,6 +79,7 @@ impl LineSoFar {
         false
     }
 
+    #[tactic(auto, using(crate::proofs::ControlLemmas::same_bytes))]
     fn says_drain(&self) -> bool
         ensures { result ≡ are_same self.now drain_word }
     {
