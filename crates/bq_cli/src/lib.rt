@@ -2,7 +2,8 @@
 //! it, and what is chosen for them. Each program stands on the crate of its own alone.
 #![tactic(auto)]
 
-pub use bq_options::{OptionFault, Program};
-pub use bq_program::{Fault, Need, Options, Stop, options, tell_cannot_listen, tell_fault};
+pub use bq_program::{
+    Fault, Need, OptionFault, Options, Program, Stop, options, tell_cannot_listen, tell_fault,
+};
 pub use bq_server::{run_bqd, serve, serve_doors};
 pub use bq_session::{Console, Served, run_bq, serve_client};

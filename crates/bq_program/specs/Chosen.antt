@@ -1,15 +1,23 @@
 -- What is chosen for either program, in one form.
 use Rattle.std.specs.Prelude.{◌≡◌, false, Some, None}
-use Rattle.bq_options.specs.Ranges.{IsForBq, IsForBqd}
-use Rattle.bq_options.specs.declared.chosen.BqOptions.{BqOptions}
-use Rattle.bq_options.specs.declared.chosen.BqdOptions.{BqdOptions}
-use Rattle.bq_options.specs.declared.chosen.Program.{Program}
-use Rattle.bq_options.specs.declared.chosen.Program.TheVariants.{Bq, Bqd}
+use Rattle.bq_program.specs.Ranges.{IsForBq, IsForBqd}
+use Rattle.bq_program.specs.declared.chosen.BqOptions.{BqOptions}
+use Rattle.bq_program.specs.declared.chosen.BqdOptions.{BqdOptions}
+use Rattle.bq_program.specs.declared.program.Program.{Program}
+use Rattle.bq_program.specs.declared.program.Program.TheVariants.{Bq, Bqd}
 use Rattle.bq_program.specs.declared.chosen.Options.{Options}
 
 -- A lone client has one seat, nobody listens, and no job waits once its connection is lost.
 abbrev pub of_bq : BqOptions → Options
-of_bq o = record { listen = None; still = o.still; seats = 1; max_job_size = o.max_job_size; max_jobs = o.max_jobs; requeue_delay = 0; sessions = None }
+of_bq o = record {
+  listen = None;
+  still = o.still;
+  seats = 1;
+  max_job_size = o.max_job_size;
+  max_jobs = o.max_jobs;
+  requeue_delay = 0;
+  sessions = None;
+}
 
 -- A server listens, and its clock goes.
 abbrev pub of_bqd : BqdOptions → Options

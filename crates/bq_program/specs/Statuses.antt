@@ -2,8 +2,8 @@
 use Rattle.std.specs.Prelude.{ℕ, ◌≡◌, ◌≤◌, Result, Ok, Err}
 use Rattle.bq_job.specs.declared.line_end.LineEnd.{LineEnd}
 use Rattle.bq_job.specs.declared.line_end.LineEnd.TheVariants as ends
-use Rattle.bq_options.specs.declared.chosen.OptionFault.{OptionFault}
-use Rattle.bq_options.specs.declared.chosen.OptionFault.TheVariants as words
+use Rattle.bq_program.specs.declared.chosen.OptionFault.{OptionFault}
+use Rattle.bq_program.specs.declared.chosen.OptionFault.TheVariants as words
 use Rattle.bq_program.specs.declared.fault.Fault.{Fault}
 use Rattle.bq_program.specs.declared.fault.Stop.{Stop}
 use Rattle.bq_program.specs.declared.fault.Stop.TheVariants as stops

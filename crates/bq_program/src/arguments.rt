@@ -1,6 +1,6 @@
 //! The words of a program's command line.
 
-use bq_options::OptionFault;
+use crate::chosen::OptionFault;
 use std::alloc::Global;
 use std::io::ErrorKind;
 use std::rt::Env;

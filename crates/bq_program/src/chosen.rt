@@ -1,8 +1,35 @@
-//! What is chosen for either program, in one form.
+//! What is chosen for each program, and for either in one form.
 ghost use Rattle.std.specs.Prelude.{◌≡◌};
 ghost use Rattle.bq_program.specs.Chosen.{of_bq, of_bqd};
 
-use bq_options::{BqOptions, BqdOptions};
+/// What is chosen for `bq`.
+#[derive(Clone, Copy, Debug)]
+pub struct BqOptions {
+    /// Whether the clock stands at 0.
+    pub still: bool,
+    /// How many bytes a job's body may have, 1 to 1,048,576.
+    pub max_job_size: u32,
+    /// How many jobs there can be at a time, 1 or more. None: no limit. The definitions have a meaning for 0, a
+    /// queue that takes no job, which no program chooses: its words refuse it.
+    pub max_jobs: Option<u32>,
+}
+
+/// What is chosen for `bqd`.
+#[derive(Debug, Drop)]
+pub struct BqdOptions {
+    /// The address to listen at, as it was written.
+    pub listen: String,
+    /// How many clients can be connected at a time, 1 to 256.
+    pub seats: u16,
+    /// How many bytes a job's body may have, 1 to 1,048,576.
+    pub max_job_size: u32,
+    /// How many jobs there can be at a time, 1 or more, as for `bq`. None: no limit.
+    pub max_jobs: Option<u32>,
+    /// For how many seconds a job of a lost connection is delayed; 0: it is ready at once.
+    pub requeue_delay: u32,
+    /// How many connections each seat serves, 1 or more. None: without end.
+    pub sessions: Option<u32>,
+}
 
 /// What is chosen for a program. A program that doesn't take an option has its default, and `bq` one seat.
 #[derive(Debug, Drop)]
@@ -54,4 +81,15 @@ impl From<BqdOptions> for Options {
             sessions: bqd.sessions,
         }
     }
+}
+
+/// Why there are no options.
+#[derive(Debug, Drop)]
+pub enum OptionFault {
+    /// The words are no options of the program; the text says why.
+    BadOptions(String),
+    /// The text is the help that was asked for, or the version.
+    AskedHelp(String),
+    /// A growth of memory was refused.
+    NoMemory,
 }

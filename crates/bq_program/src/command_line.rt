@@ -1,11 +1,24 @@
 //! The options in the words of either program.
-ghost use Rattle.std.specs.Prelude.{IfOk};
+ghost use Rattle.std.specs.Prelude.{◌≡◌, ◌≤◌, ℕ, IfOk, IfSome, None, Some, string_bytes};
 ghost use Rattle.bq_program.specs.Chosen.{AreInRange};
+ghost use Rattle.bq_program.specs.Ranges.{IsForBq, IsForBqd};
 
-use crate::chosen::Options;
-use bq_options::{OptionFault, Program, bq_options, bqd_options};
-use std::alloc::Global;
+use crate::chosen::{BqOptions, BqdOptions, OptionFault, Options};
+use crate::program::Program;
+use bq_job::{LARGEST_BODY, MOST_SEATS, USUAL_BODY};
+use clap::ArgMatches;
+use clap::error::ErrorKind;
+use commands::{
+    LISTEN, MAX_JOB_SIZE, MAX_JOBS, PORT, REQUEUE_DELAY, SEATS, SESSIONS, STILL, bq_command,
+    bqd_command,
+};
+use std::alloc::{AllocError, Global};
 use std::convert::AsStr;
+
+mod commands;
+
+/// How many seats a server has, where nothing else is chosen.
+const USUAL_SEATS: u16 = 16;
 
 /// The options in a program's words, of which the first is its name.
 ///
@@ -39,5 +52,128 @@ fn of_bqd_words<'a, S: AsStr>(alloc: Global, words: &'a [S]) -> Result<Options, 
     match bqd_options(alloc, words) {
         Ok(bqd) => Ok(Options::from(bqd)),
         Err(fault) => Err(fault),
+    }
+}
+
+impl From<AllocError> for OptionFault {
+    fn from(_e: AllocError) -> OptionFault {
+        OptionFault::NoMemory
+    }
+}
+
+/// The options of `bq` in its words, of which the first is its name.
+///
+/// The fault is `AskedHelp` where help or the version was asked for, `BadOptions` where the words are no
+/// options of the program or a number is out of its range, and `NoMemory`.
+pub fn bq_options<'a, S: AsStr>(alloc: Global, words: &'a [S]) -> Result<BqOptions, OptionFault>
+    ensures { IfOk result (λ o. IsForBq o) }
+{
+    match bq_command(alloc)?.try_get_matches_from(words) {
+        Ok(matches) => Ok(bq_chosen(&matches)),
+        Err(e) => Err(fault_of(alloc, &e)),
+    }
+}
+
+/// The options of `bqd` in its words, of which the first is its name. The faults are those of `bq_options`.
+pub fn bqd_options<'a, S: AsStr>(alloc: Global, words: &'a [S]) -> Result<BqdOptions, OptionFault>
+    ensures { IfOk result (λ o. IsForBqd o) }
+{
+    match bqd_command(alloc)?.try_get_matches_from(words) {
+        Ok(matches) => bqd_chosen(alloc, &matches),
+        Err(e) => Err(fault_of(alloc, &e)),
+    }
+}
+
+// The parser has refused numbers that are out of range; the bounds here say so where they are read.
+
+fn max_job_size(asked: Option<u32>) -> u32
+    ensures least { 1 ≤ result }
+    ensures most { result ≤ LARGEST_BODY }
+    ensures usual { asked ≡ None → result ≡ USUAL_BODY }
+    ensures chosen { (bytes : ℕ) → asked ≡ Some bytes → 1 ≤ bytes → bytes ≤ LARGEST_BODY → result ≡ bytes }
+{
+    asked.unwrap_or(USUAL_BODY).clamp(1, LARGEST_BODY)
+}
+
+fn seats(asked: Option<u16>) -> u16
+    ensures least { 1 ≤ result }
+    ensures most { result ≤ MOST_SEATS }
+    ensures usual { asked ≡ None → result ≡ USUAL_SEATS }
+    ensures chosen { (many : ℕ) → asked ≡ Some many → 1 ≤ many → many ≤ MOST_SEATS → result ≡ many }
+{
+    asked.unwrap_or(USUAL_SEATS).clamp(1, MOST_SEATS)
+}
+
+// A number that may be left out: how many connections a seat serves, or how many jobs there can be.
+fn count(asked: Option<u32>) -> Option<u32>
+    ensures least { IfSome result (λ k. 1 ≤ k) }
+    ensures left_out { asked ≡ None → result ≡ None }
+    ensures chosen { (many : ℕ) → asked ≡ Some many → 1 ≤ many → result ≡ Some many }
+{
+    match asked {
+        None => None,
+        Some(many) => Some(many.max(1)),
+    }
+}
+
+// The word of the address that the listener is bound to: the address as it was written, or with the port that
+// was chosen beside it. The colons of an address are no port's then.
+fn listen_word(alloc: Global, address: &str, port: Option<u16>) -> Result<String, AllocError>
+    ensures alone { port ≡ None → IfOk result (λ word. string_bytes word ≡ address.now) }
+{
+    match port {
+        None => String::from_str(alloc, address),
+        Some(port) => with_port(alloc, address, port),
+    }
+}
+
+fn with_port(alloc: Global, address: &str, port: u16) -> Result<String, AllocError> {
+    if address.contains(":") && !address.starts_with("[") {
+        format!(in alloc; "[{address}]:{port}")
+    } else {
+        format!(in alloc; "{address}:{port}")
+    }
+}
+
+fn bq_chosen(matches: &ArgMatches<'_>) -> BqOptions
+    ensures { IsForBq result }
+{
+    BqOptions {
+        still: matches.get_flag(STILL),
+        max_job_size: max_job_size(matches.get_one::<u32>(MAX_JOB_SIZE)),
+        max_jobs: count(matches.get_one::<u32>(MAX_JOBS)),
+    }
+}
+
+fn bqd_chosen(alloc: Global, matches: &ArgMatches<'_>) -> Result<BqdOptions, OptionFault>
+    ensures { IfOk result (λ o. IsForBqd o) }
+{
+    // The parser has refused words without an address.
+    let address = matches.get_str(LISTEN).unwrap_or("");
+    let listen = listen_word(alloc, address, matches.get_one::<u16>(PORT))?;
+    Ok(BqdOptions {
+        listen,
+        seats: seats(matches.get_one::<u16>(SEATS)),
+        max_job_size: max_job_size(matches.get_one::<u32>(MAX_JOB_SIZE)),
+        max_jobs: count(matches.get_one::<u32>(MAX_JOBS)),
+        requeue_delay: matches.get_one::<u32>(REQUEUE_DELAY).unwrap_or(0),
+        sessions: count(matches.get_one::<u32>(SESSIONS)),
+    })
+}
+
+// What the parse says, as text: help and the version for standard output, what is wrong for standard error.
+fn fault_of(alloc: Global, e: &clap::Error) -> OptionFault {
+    if e.kind() == ErrorKind::OutOfMemory {
+        return OptionFault::NoMemory;
+    }
+    match format!(in alloc; "{e}") {
+        Err(_) => OptionFault::NoMemory,
+        Ok(text) => {
+            if e.use_stderr() {
+                OptionFault::BadOptions(text)
+            } else {
+                OptionFault::AskedHelp(text)
+            }
+        }
     }
 }

@@ -2,8 +2,8 @@
 ghost use Rattle.std.specs.Prelude.{◌≡◌, option_map};
 ghost use Rattle.bq_program.specs.Faults.{fault_of_end, fault_of_run, fault_text, need_text};
 
+use crate::chosen::OptionFault;
 use bq_job::LineEnd;
-use bq_options::OptionFault;
 use bq_start::RunFault;
 
 /// What a program needs memory for.

@@ -3,8 +3,9 @@
 ghost use Rattle.std.specs.Prelude.{◌≡◌};
 ghost use Rattle.bq_program.specs.Statuses.{IsStatusOfOptionFault, IsStatusOfStop, status_of_server};
 
+use crate::chosen::OptionFault;
 use crate::fault::{Fault, Need, Stop};
-use bq_options::{OptionFault, Program};
+use crate::program::Program;
 use std::io;
 use std::io::{Eprint, Print};
 

@@ -7,9 +7,9 @@ use Rattle.bq_job.specs.declared.settings.Settings.{Settings}
 use Rattle.bq_job.specs.machine.Machine.{Machine}
 use Rattle.bq_line.specs.InAll.{in_all}
 use Rattle.bq_line.specs.declared.door.listen_door.ListenDoor.{ListenDoor}
-use Rattle.bq_options.specs.Ranges.{IsForBqd}
-use Rattle.bq_options.specs.declared.chosen.BqdOptions.{BqdOptions}
-use Rattle.bq_options.specs.declared.chosen.OptionFault.{OptionFault}
+use Rattle.bq_program.specs.Ranges.{IsForBqd}
+use Rattle.bq_program.specs.declared.chosen.BqdOptions.{BqdOptions}
+use Rattle.bq_program.specs.declared.chosen.OptionFault.{OptionFault}
 use Rattle.bq_program.specs.Chosen.{of_bqd}
 use Rattle.bq_program.specs.Statuses.{IsStatusOfOptionFault, status_of_server}
 use Rattle.bq_program.specs.declared.chosen.Options.{Options}

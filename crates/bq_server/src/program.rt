@@ -1,13 +1,12 @@
 //! The server as a program, from the words of its command line to its status.
 ghost use Rattle.std.specs.Prelude.{◌≤◌, IfOk};
-ghost use Rattle.bq_options.specs.Ranges.{IsForBqd};
+ghost use Rattle.bq_program.specs.Ranges.{IsForBqd};
 ghost use Rattle.bq_server.specs.Servers.{IsStatusOfProgram};
 
 use crate::server::listen_and_serve;
 use bq_attend::control_reader::ControlReader;
 use bq_core::Core;
-use bq_options::{BqdOptions, OptionFault, Program, bqd_options};
-use bq_program::{Stop, tell_stop, words};
+use bq_program::{BqdOptions, OptionFault, Program, Stop, bqd_options, tell_stop, words};
 use bq_steps::QueueCore;
 use std::io::{BufReader, Eprint, Print, Read};
 use std::net::{Net, TcpListener, TcpStream};

@@ -14,8 +14,9 @@ use bq_core::{Config, Core};
 use bq_job::NoMemory;
 use bq_line::line::ReadBuffer;
 use bq_line::{Door, FreeDoors, Refusals, TcpDoor, clock};
-use bq_options::{BqdOptions, Program};
-use bq_program::{Fault, Need, Options, tell_cannot_listen, tell_fault, tell_server};
+use bq_program::{
+    BqdOptions, Fault, Need, Options, Program, tell_cannot_listen, tell_fault, tell_server,
+};
 use bq_run::{Run, run_sessions};
 use bq_start::RunFault;
 use bq_steps::QueueCore;

@@ -4,8 +4,8 @@ use Rattle.bq_job.specs.declared.line_end.LineEnd.{LineEnd}
 use Rattle.bq_job.specs.promise.Headline.{IsHistoryOfLine}
 use Rattle.bq_job.specs.promise.LineSteps.{LineSeen}
 use Rattle.bq_job.specs.declared.settings.Settings.{Settings}
-use Rattle.bq_options.specs.Ranges.{IsForBq}
-use Rattle.bq_options.specs.declared.chosen.BqOptions.{BqOptions}
+use Rattle.bq_program.specs.Ranges.{IsForBq}
+use Rattle.bq_program.specs.declared.chosen.BqOptions.{BqOptions}
 
 -- what the options say to the run of a lone client, no job of whom waits once his connection is lost
 abbrev pub settings_of_bq : BqOptions → Settings

@@ -2,15 +2,14 @@
 ghost use Rattle.std.specs.Prelude.{◌≡◌, ◌≢◌, IfErr, IfOk};
 ghost use Rattle.bq_program.specs.Faults.{IsMemoryRefused};
 ghost use Rattle.bq_session.specs.Sessions.{IsSession, IsSessionFor, settings_of_bq};
-ghost use Rattle.bq_options.specs.Ranges.{IsForBq};
+ghost use Rattle.bq_program.specs.Ranges.{IsForBq};
 
 use bq_core::Config;
 use bq_desk::run_one;
 use bq_job::LineEnd;
 use bq_line::clock::{Clock, MachineClock, ScriptClock};
 use bq_line::line::{Duplex, IoLine, Line};
-use bq_options::{BqOptions, bq_options};
-use bq_program::{Fault, Need, Stop};
+use bq_program::{BqOptions, Fault, Need, Stop, bq_options};
 use std::alloc::{AllocError, Global};
 use std::convert::AsStr;
 use std::rt;

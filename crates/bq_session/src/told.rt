@@ -5,8 +5,7 @@ ghost use Rattle.bq_session.specs.Clients.{IsStatusOfClient};
 
 use crate::session::Served;
 use bq_job::LineEnd;
-use bq_options::Program;
-use bq_program::{Stop, fault_of_end, tell_fault, tell_stop};
+use bq_program::{Program, Stop, fault_of_end, tell_fault, tell_stop};
 use std::io::{Eprint, Print};
 
 // Tells how the line of a client was over.

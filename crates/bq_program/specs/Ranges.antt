@@ -1,8 +1,8 @@
 -- The ranges of the options.
 use Rattle.std.specs.Prelude.{◌≤◌, IfSome}
 use Rattle.bq_job.specs.declared.limits.TheConstants.{LARGEST_BODY, MOST_SEATS}
-use Rattle.bq_options.specs.declared.chosen.BqOptions.{BqOptions}
-use Rattle.bq_options.specs.declared.chosen.BqdOptions.{BqdOptions}
+use Rattle.bq_program.specs.declared.chosen.BqOptions.{BqOptions}
+use Rattle.bq_program.specs.declared.chosen.BqdOptions.{BqdOptions}
 
 -- what is chosen for a lone client
 pub record IsForBq (o : BqOptions) : Type 0 where

@@ -1,7 +1,7 @@
 -- What the programs are called.
 use Rattle.std.specs.Prelude.{ℕ, List, codes}
-use Rattle.bq_options.specs.declared.chosen.Program.{Program}
-use Rattle.bq_options.specs.declared.chosen.Program.TheVariants.{Bq, Bqd}
+use Rattle.bq_program.specs.declared.program.Program.{Program}
+use Rattle.bq_program.specs.declared.program.Program.TheVariants.{Bq, Bqd}
 
 abbrev pub name_of : Program → List ℕ
 name_of Bq = codes "bq"
