@@ -1,3 +1,4 @@
 pub mod SendingLemmas
 pub mod SharedLemmas
+pub mod TurnLemmas
 pub mod WorkedLemmas

@@ -1,5 +1,6 @@
 -- What the core did on a thread of its own.
-use Rattle.std.specs.Prelude.{ℕ, ◌≡◌, ◌<◌, ◌≤◌, ◌+◌, ◌++◌, ◌∷◌, not, false, List, [], Option, filter, map, replicate}
+use Rattle.std.specs.Prelude.{ℕ, ◌≡◌, ◌<◌, ◌≤◌, ◌+◌, ◌++◌, ◌∷◌, not, false}
+use Rattle.std.specs.Prelude.{List, [], Option, filter, map, replicate}
 use Rattle.std.specs.VecDeque.{deque_capacity}
 use Rattle.bq_job.specs.declared.settings.Settings.{Settings}
 use Rattle.bq_job.specs.declared.step.Step.{Step}
@@ -13,6 +14,10 @@ use Rattle.bq_link.specs.EndStates.{CoreState, sent_to}
 use Rattle.bq_link.specs.Submissions.{AreBelow, steps_of}
 use Rattle.bq_hub.specs.Compared.{AreCompared}
 use Rattle.bq_hub.specs.declared.core_work.room.CoreRoom.{CoreRoom}
+
+-- What a clock gives: which readings, between which two states of it.
+abbrev pub Gives : Type 0 → Type 1
+Gives C = C → List (Option ℕ) → C → Type 0
 
 -- Among these steps of an end it says that no more come.
 abbrev pub HasGone : List Step → Type 0
@@ -34,9 +39,10 @@ pub record IsNewRoom (ends : ℕ) (room : CoreRoom) : Type 0 where
   pub for_aside : ends ≤ deque_capacity room.aside
   pub none_gone : room.gone.items ≡ replicate ends false
 
--- A core that is done. From the start it took the steps that came by its end of the links, in their order, and
--- ticks of its own, each at the moment of a reading; nobody but the ends submits any. All that it gave to an end was sent to it, in its order, and
--- no end has more to submit. Its comparisons, from so many to so many, stayed within the bounds of each step.
+-- A core that is done. From the start it took the steps that came by its end of the links, in their order, and ticks of
+-- its own, each at the moment of a reading; nobody but the ends submits any. All that it gave to an end was sent to it,
+-- in its order, and no end has more to submit. Its comparisons, from so many to so many, stayed within the bounds of each
+-- step, and of one look for what is due before each and one behind the last.
 pub record IsCoreDone (settings : Settings) (readings : List (Option ℕ)) (core : CoreState) (last : Machine) (from to : ℕ) : Type 0 where
   pub history : List Entry
   pub given : List GivenAnswer
@@ -48,6 +54,6 @@ pub record IsCoreDone (settings : Settings) (readings : List (Option ℕ)) (core
   pub compared : AreCompared (new_machine settings) history given last from to
 
 -- A core ran to its end at a clock, which gave the readings between.
-abbrev pub RanToEnd : {C : Type 0} → (C → List (Option ℕ) → C → Type 0) → Settings → C → CoreState → Machine → C → ℕ → ℕ → Type 0
+abbrev pub RanToEnd : {C : Type 0} → Gives C → Settings → C → CoreState → Machine → C → ℕ → ℕ → Type 0
 RanToEnd given settings first core last clock from to =
     (readings : List (Option ℕ)) × given first readings clock × IsCoreDone settings readings core last from to

@@ -11,7 +11,8 @@ pub record AreSent (old : CoreState) (before : List GivenAnswer) (new : CoreStat
   pub intake : new.intake ≡ old.intake
   pub rings : new.rings ≡ old.rings
   pub taken : new.taken ≡ old.taken
-  pub each : (seat : ℕ) → seat < length old.rings → sent_to new seat ++ answers_to seat after ≡ sent_to old seat ++ answers_to seat before
+  pub each : (seat : ℕ) → seat < length old.rings
+      → sent_to new seat ++ answers_to seat after ≡ sent_to old seat ++ answers_to seat before
 
 -- An end for which one of these answers is kept has a ring that was full when it was last tried.
 abbrev pub AreStuck : CoreState → List GivenAnswer → Type 0

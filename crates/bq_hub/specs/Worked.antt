@@ -1,5 +1,6 @@
 -- The core at work on a thread of its own.
-use Rattle.std.specs.Prelude.{ℕ, ◌≡◌, ◌⊎◌, ◌<◌, ◌++◌, ◌∷◌, Bool, true, false, List, [], Option, length, slice_index_or, slice_set}
+use Rattle.std.specs.Prelude.{ℕ, ◌≡◌, ◌⊎◌, ◌<◌, ◌++◌, ◌∷◌, Bool, true, false}
+use Rattle.std.specs.Prelude.{List, [], Option, length, slice_index_or, slice_set}
 use Rattle.bq_job.specs.beside.NextDue.{is_before, next_due}
 use Rattle.bq_job.specs.declared.settings.Settings.{Settings}
 use Rattle.bq_job.specs.declared.step.Step.{Step}
@@ -10,11 +11,11 @@ use Rattle.bq_job.specs.machine.Machine.{Machine, new_machine}
 use Rattle.bq_job.specs.promise.Runs.{Entry, Run, answers_to}
 use Rattle.bq_job.specs.machine.Steps.{IsStep, Outcome}
 use Rattle.bq_line.specs.GivenReadings.{GaveReadings}
-use Rattle.bq_link.specs.EndStates.{CoreState, sent_to}
+use Rattle.bq_link.specs.EndStates.{CoreState, IsSameCore, sent_to}
 use Rattle.bq_link.specs.Submissions.{AreBelow, steps_of}
 use Rattle.bq_steps.specs.Cost.{IsStepWithin}
 use Rattle.bq_hub.specs.Compared.{AreWithin, LooksOnce}
-use Rattle.bq_hub.specs.CoreWork.{HasGone, no_ticks, steps_made}
+use Rattle.bq_hub.specs.CoreWork.{Gives, HasGone, no_ticks, steps_made}
 use Rattle.bq_hub.specs.Flags.{AreAllSet}
 use Rattle.bq_hub.specs.Sending.{IsAtRest}
 use Rattle.bq_hub.specs.declared.core_work.gone.Gone.{Gone as Gones}
@@ -60,14 +61,9 @@ pub record HasWorked (settings : Settings) (from : ℕ) (readings : List (Option
   pub looked : LooksOnce h.known h.core count h.compared
 
 -- the same with the clock, which gave these readings from the first on
-abbrev pub IsAtWork : {C K : Type 0} → (C → List (Option ℕ) → C → Type 0) → (K → Machine) → (K → ℕ) → Settings → ℕ → C → Hub C K → Type 0
+abbrev pub IsAtWork : {C K : Type 0} → Gives C → (K → Machine) → (K → ℕ) → Settings → ℕ → C → Hub C K → Type 0
 IsAtWork given machine compared settings from first hub =
     (readings : List (Option ℕ)) × given first readings hub.clock × HasWorked settings from readings (hub_state machine compared hub)
-
--- Whatever was done before, the work went on.
-abbrev pub WorksOn : {C K : Type 0} → (C → List (Option ℕ) → C → Type 0) → (K → Machine) → (K → ℕ) → Hub C K → Hub C K → Type 0
-WorksOn {C} given machine compared old new =
-    (settings : Settings) (from : ℕ) (first : C) → IsAtWork given machine compared settings from first old → IsAtWork given machine compared settings from first new
 
 -- It is known whether each end is gone.
 pub record KnowsAll (gone : Gones) : Type 0 where
@@ -82,18 +78,28 @@ pub record IsInOrder {C K : Type 0} (machine : K → Machine) (h : Hub C K) : Ty
   pub all : KnowsAll h.gone
   pub due : h.is_due_known ≡ true → h.due ≡ next_due (machine h.core)
 
+-- The hub is in order still, and has the same end and settings. Whatever was done before, the work went on.
+pub record WorksOn {C K : Type 0} (given : Gives C) (machine : K → Machine) (compared : K → ℕ) (old new : Hub C K) : Type 0 where
+  pub order : IsInOrder machine new
+  pub end : IsSameCore old.sender.end new.sender.end
+  pub settings : (machine new.core).settings ≡ (machine old.core).settings
+  pub work : (settings : Settings) (from : ℕ) (first : C) → IsAtWork given machine compared settings from first old
+      → IsAtWork given machine compared settings from first new
+
 -- of each end whether it is gone, after a step: an end's own step says so
 abbrev pub gone_after : ℕ → Step → List Bool → List Bool
 gone_after seat Gone flags = slice_set flags seat true
 gone_after seat _ flags = flags
 
 -- The core took a step at the moment of one reading of its clock.
-pub record TakesStep {C K : Type 0} (given : C → List (Option ℕ) → C → Type 0) (machine : K → Machine) (compared : K → ℕ) (old : Hub C K) (seat : ℕ) (what : Step) (new : Hub C K) : Type 0 where
+pub record TakesStep {C K : Type 0} (given : Gives C) (machine : K → Machine) (compared : K → ℕ) (old : Hub C K) (seat : ℕ) (what : Step)
+    (new : Hub C K) : Type 0 where
   pub reading : Option ℕ
   pub outcome : Outcome
   pub gave : GaveReadings given old.clock (reading ∷ []) new.clock
   pub heard : new.heard ≡ moment_heard old.heard reading
-  pub step : IsStepWithin (machine old.core) new.heard seat what outcome new.outs.given (machine new.core) (compared old.core) (compared new.core)
+  pub step : IsStepWithin (machine old.core) new.heard seat what outcome new.outs.given (machine new.core) (compared old.core)
+      (compared new.core)
   pub unknown : new.is_due_known ≡ false
   pub sender : new.sender ≡ old.sender
   pub marked : new.gone.flags.items ≡ gone_after seat what old.gone.flags.items
@@ -115,7 +121,8 @@ IsIdle machine old new = is_before new.heard (next_due (machine old.core)) ≡ t
 -- was taken or a tick made, or nothing is due.
 abbrev pub TurnWent : {C K : Type 0} → (K → Machine) → Hub C K → Hub C K → Type 0
 TurnWent machine old new =
-    (length new.sender.kept.items ≡ new.sender.ends) ⊎ (TookOne old.sender.end new.sender.end ⊎ (HasTicked machine old new ⊎ IsIdle machine old new))
+    (length new.sender.kept.items ≡ new.sender.ends)
+    ⊎ (TookOne old.sender.end new.sender.end ⊎ (HasTicked machine old new ⊎ IsIdle machine old new))
 
 -- Nothing is left to be done.
 pub record IsOver {C K : Type 0} (h : Hub C K) : Type 0 where

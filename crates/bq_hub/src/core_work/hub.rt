@@ -2,7 +2,6 @@
 ghost use Rattle.std.specs.Prelude.{◌≡◌, ◌⊎◌, ◌↔◌, ◌<◌, ◌+◌, ◌∷◌, [], false, not, true, length};
 ghost use Rattle.bq_job.specs.beside.NextDue.{is_before, next_due};
 ghost use Rattle.bq_job.specs.promise.History.{moment_heard};
-ghost use Rattle.bq_link.specs.EndStates.{IsSameCore};
 
 use crate::core_work::answered::Answered;
 use crate::core_work::gone::Gone;
@@ -107,15 +106,15 @@ impl<C: Clock + Drop, K: QueueCore + Drop> Hub<C, K> {
     pub fn turn<R: Wait>(&mut self, rt: &R, intake: &Intake<NoTicks>) -> bool
         requires intake { self.old.sender.end.intake ≡ intake.now.id }
         requires order { IsInOrder K.machine self.old }
-        ensures order { IsInOrder K.machine self.new }
-        ensures end { IsSameCore self.old.sender.end self.new.sender.end }
-        ensures settings { (K.machine self.new.core).settings ≡ (K.machine self.old.core).settings }
-        ensures work { WorksOn C.given K.machine K.comparisons self.old self.new }
+        ensures on { WorksOn C.given K.machine K.comparisons self.old self.new }
         ensures over { result ≡ true → IsOver self.new }
         ensures stuck { AreStuck self.new.sender.end self.new.sender.kept.items }
         ensures turned { result ≡ false → TurnWent K.machine self.old self.new }
     {
-        if !self.send_and_ring(intake) {
+        let mut answered = Answered::none();
+        let has_room = self.send_all(intake, &mut answered);
+        answered.ring(intake, None);
+        if !has_room {
             self.rest(rt, intake);
             return false;
         }
@@ -141,10 +140,7 @@ impl<C: Clock + Drop, K: QueueCore + Drop> Hub<C, K> {
     ) -> bool
         requires intake { self.old.sender.end.intake ≡ intake.now.id }
         requires order { IsInOrder K.machine self.old }
-        ensures order { IsInOrder K.machine self.new }
-        ensures end { IsSameCore self.old.sender.end self.new.sender.end }
-        ensures settings { (K.machine self.new.core).settings ≡ (K.machine self.old.core).settings }
-        ensures work { WorksOn C.given K.machine K.comparisons self.old self.new }
+        ensures on { WorksOn C.given K.machine K.comparisons self.old self.new }
     {
         for _ in 0..MOST {
             if !self.work_once(rt, intake, answered) {
@@ -164,10 +160,7 @@ impl<C: Clock + Drop, K: QueueCore + Drop> Hub<C, K> {
     ) -> bool
         requires intake { self.old.sender.end.intake ≡ intake.now.id }
         requires order { IsInOrder K.machine self.old }
-        ensures order { IsInOrder K.machine self.new }
-        ensures end { IsSameCore self.old.sender.end self.new.sender.end }
-        ensures settings { (K.machine self.new.core).settings ≡ (K.machine self.old.core).settings }
-        ensures work { WorksOn C.given K.machine K.comparisons self.old self.new }
+        ensures on { WorksOn C.given K.machine K.comparisons self.old self.new }
     {
         if !self.send_all(intake, answered) || self.gone.all {
             return false;
@@ -198,10 +191,7 @@ impl<C: Clock + Drop, K: QueueCore + Drop> Hub<C, K> {
     // Sends what is pending, as far as rings and places reach. Whether the next step's answers have room.
     fn send_all(&mut self, intake: &Intake<NoTicks>, answered: &mut Answered) -> bool
         requires order { IsInOrder K.machine self.old }
-        ensures order { IsInOrder K.machine self.new }
-        ensures end { IsSameCore self.old.sender.end self.new.sender.end }
-        ensures settings { (K.machine self.new.core).settings ≡ (K.machine self.old.core).settings }
-        ensures work { WorksOn C.given K.machine K.comparisons self.old self.new }
+        ensures on { WorksOn C.given K.machine K.comparisons self.old self.new }
         ensures stuck { AreStuck self.new.sender.end self.new.sender.kept.items }
         ensures none { result ≡ true → self.new.outs.given ≡ [] }
         ensures full { result ≡ false → length self.new.sender.kept.items ≡ self.new.sender.ends }
@@ -209,25 +199,6 @@ impl<C: Clock + Drop, K: QueueCore + Drop> Hub<C, K> {
         ensures rest { self.new ≡ record self.old { sender = self.new.sender; outs = self.new.outs } }
     {
         self.sender.send_all(intake, &mut self.outs, answered)
-    }
-
-    // The same, and rings the bells of the ends that were answered.
-    fn send_and_ring(&mut self, intake: &Intake<NoTicks>) -> bool
-        requires order { IsInOrder K.machine self.old }
-        ensures order { IsInOrder K.machine self.new }
-        ensures end { IsSameCore self.old.sender.end self.new.sender.end }
-        ensures settings { (K.machine self.new.core).settings ≡ (K.machine self.old.core).settings }
-        ensures work { WorksOn C.given K.machine K.comparisons self.old self.new }
-        ensures stuck { AreStuck self.new.sender.end self.new.sender.kept.items }
-        ensures none { result ≡ true → self.new.outs.given ≡ [] }
-        ensures full { result ≡ false → length self.new.sender.kept.items ≡ self.new.sender.ends }
-        ensures taken { self.new.sender.end.taken ≡ self.old.sender.end.taken }
-        ensures rest { self.new ≡ record self.old { sender = self.new.sender; outs = self.new.outs } }
-    {
-        let mut answered = Answered::none();
-        let has_room = self.send_all(intake, &mut answered);
-        answered.ring(intake, None);
-        has_room
     }
 
     // Whether every end is gone and has been sent all that it was given.
@@ -248,10 +219,7 @@ impl<C: Clock + Drop, K: QueueCore + Drop> Hub<C, K> {
         requires may { MayTake J.was }
         requires order { IsInOrder K.machine self.old }
         requires none { self.old.outs.given ≡ [] }
-        ensures order { IsInOrder K.machine self.new }
-        ensures end { IsSameCore self.old.sender.end self.new.sender.end }
-        ensures settings { (K.machine self.new.core).settings ≡ (K.machine self.old.core).settings }
-        ensures work { WorksOn C.given K.machine K.comparisons self.old self.new }
+        ensures on { WorksOn C.given K.machine K.comparisons self.old self.new }
         ensures stuck { AreStuck self.old.sender.end self.old.sender.kept.items
             → AreStuck self.new.sender.end self.new.sender.kept.items }
         ensures empty { result ≡ false → J.was self.old.sender.end.taken [] }
@@ -261,7 +229,13 @@ impl<C: Clock + Drop, K: QueueCore + Drop> Hub<C, K> {
         if self.has_none(intake) {
             return self.tick_if_due();
         }
-        self.take_oldest(rt, intake)
+        match self.sender.end.take(rt, intake) {
+            Some((seat, what)) => {
+                self.take_step(seat, &what);
+                true
+            }
+            None => self.tick_if_due(),
+        }
     }
 
     // Whether no step waits.
@@ -271,31 +245,6 @@ impl<C: Clock + Drop, K: QueueCore + Drop> Hub<C, K> {
         ensures same { self.new ≡ self.old }
     {
         self.sender.end.is_empty(intake)
-    }
-
-    // Takes the oldest step that waits; where none does any more, time passes.
-    fn take_oldest<R: Wait, J: Record>(&mut self, rt: &R, intake: &Intake<J>) -> bool
-        requires intake { self.old.sender.end.intake ≡ intake.now.id }
-        requires may { MayTake J.was }
-        requires order { IsInOrder K.machine self.old }
-        requires none { self.old.outs.given ≡ [] }
-        ensures order { IsInOrder K.machine self.new }
-        ensures end { IsSameCore self.old.sender.end self.new.sender.end }
-        ensures settings { (K.machine self.new.core).settings ≡ (K.machine self.old.core).settings }
-        ensures work { WorksOn C.given K.machine K.comparisons self.old self.new }
-        ensures stuck { AreStuck self.old.sender.end self.old.sender.kept.items
-            → AreStuck self.new.sender.end self.new.sender.kept.items }
-        ensures empty { result ≡ false → J.was self.old.sender.end.taken [] }
-        ensures idle { result ≡ false → is_before self.new.heard (next_due (K.machine self.old.core)) ≡ true }
-        ensures busy { result ≡ true → TookOne self.old.sender.end self.new.sender.end ⊎ HasTicked K.machine self.old self.new }
-    {
-        match self.sender.end.take(rt, intake) {
-            Some((seat, what)) => {
-                self.take_step(seat, &what);
-                true
-            }
-            None => self.tick_if_due(),
-        }
     }
 
     // The core takes a step of an end, and what an operator has to see of it is told. The step stays where it lies.
@@ -338,10 +287,8 @@ impl<C: Clock + Drop, K: QueueCore + Drop> Hub<C, K> {
     fn tick_if_due(&mut self) -> bool
         requires order { IsInOrder K.machine self.old }
         requires none { self.old.outs.given ≡ [] }
-        ensures order { IsInOrder K.machine self.new }
         ensures sender { self.new.sender ≡ self.old.sender }
-        ensures settings { (K.machine self.new.core).settings ≡ (K.machine self.old.core).settings }
-        ensures work { WorksOn C.given K.machine K.comparisons self.old self.new }
+        ensures on { WorksOn C.given K.machine K.comparisons self.old self.new }
         ensures due { self.new.due ≡ next_due (K.machine self.old.core) }
         ensures ticks { result ≡ not (is_before self.new.heard (next_due (K.machine self.old.core))) }
         ensures still { result ≡ false → K.machine self.new.core ≡ K.machine self.old.core }

@@ -43,26 +43,6 @@ impl Sender {
         ensures full { result ≡ false → length self.new.kept.items ≡ self.new.ends }
     {
         self.try_again(intake, answered);
-        self.send_given(intake, outs, answered)
-    }
-
-    // Sends what was given, as long as there is a place for an answer that must be kept.
-    fn send_given(
-        &mut self,
-        intake: &Intake<NoTicks>,
-        outs: &mut Outs,
-        answered: &mut Answered,
-    ) -> bool
-        requires rest { IsAtRest self.old }
-        requires stuck { AreStuck self.old.end self.old.kept.items }
-        ensures rest { IsAtRest self.new }
-        ensures ends { self.new.ends ≡ self.old.ends }
-        ensures sent { AreSent self.old.end (self.old.kept.items ++ outs.old.given) self.new.end (self.new.kept.items ++ outs.new.given) }
-        ensures most { outs.new.most ≡ outs.old.most }
-        ensures stuck { AreStuck self.new.end self.new.kept.items }
-        ensures none { result ≡ true → outs.new.given ≡ [] }
-        ensures full { result ≡ false → length self.new.kept.items ≡ self.new.ends }
-    {
         while self.kept.len() < self.ends {
             let Some((seat, answer)) = outs.take_first() else {
                 return true;

@@ -1,11 +1,8 @@
-use Rattle.bq_link.specs.EndStates.{IsSameCore}
-use Rattle.bq_hub.specs.Worked.{IsInOrder, WorksOn}
+use Rattle.bq_hub.specs.Worked.{WorksOn}
 use Rattle.bq_hub.proofs.core_work.last_turns.run_out.Given as goal
 
 abbrev pub invariant-loop : goal.invariant-loop
 invariant-loop g l = record {
   iterator : (goal.iterator-loop g).can_next l.iterator' × (goal.iterator-loop g).is_finite l.iterator';
-  order : IsInOrder g.K.QueueCore.machine l.hub;
-  end : IsSameCore l.fn.hub.sender.end l.hub.sender.end;
-  work : WorksOn g.C.Clock.given g.K.QueueCore.machine g.K.QueueCore.comparisons l.fn.hub l.hub;
+  on : WorksOn g.C.Clock.given g.K.QueueCore.machine g.K.QueueCore.comparisons l.fn.hub l.hub;
 }

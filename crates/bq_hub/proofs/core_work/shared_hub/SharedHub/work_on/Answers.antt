@@ -5,9 +5,9 @@ use Rattle.bq_hub.proofs.core_work.shared_hub.SharedHub.work_on.Goals as goal
 
 pub invariant_of-self : goal.invariant_of-self
 invariant_of-self g c =
-    let h = c.help.ensures in
+    let on = c.help.ensures.on in
     let old = c.args.self.now in record {
-      of_intake = h.end.0 ∙ old.of_intake;
-      order = h.order;
-      work = ∥∥₁_elim old.work ∥∥₁_prop (λ w. ∣ begun_on g.C.Clock.given g.K.QueueCore.machine g.K.QueueCore.comparisons g.O.Origin.start old.hub c.help.new.self w h.end h.settings h.work ∣₁);
+      of_intake = on.end.0 ∙ old.of_intake;
+      order = on.order;
+      work = ∥∥₁_elim old.work ∥∥₁_prop (λ w. ∣ begun_on g.C.Clock.given g.K.QueueCore.machine g.K.QueueCore.comparisons g.O.Origin.start old.hub c.help.new.self w on ∣₁);
     }
