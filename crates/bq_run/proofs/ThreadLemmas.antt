@@ -1,42 +1,20 @@
 -- The threads of a run: their posts, their starts and what they gave back.
-use Rattle.std.proofs.Common.{◌≡◌, ℕ, zero, suc, ◌+◌, ◌<◌, Bool, true, false, Ok, Err, List, [], ◌∷◌, ◌++◌, Some, map, length, refl, sym, ap, ◌∙◌, arith, subst, append-nil, append_assoc, slice_get, slice_index_or}
-use Rattle.std.specs.Prelude.{IsErrOf}
+use Rattle.std.proofs.Common.{◌≡◌, ◌==◌, ◌&&◌, ℕ, zero, suc, ◌<◌, true, false, not, Ok, Err, List, [], ◌∷◌, ◌++◌, Some, map, length, refl, sym, ap, ◌∙◌, arith, subst, append_assoc, slice_get, slice_index_or}
+use Rattle.std.specs.Prelude.{◌↔◌, IsErrOf, IsTrue, Result}
+use Rattle.std.proofs.lemmas.Bool.{eq-eqb}
+use Rattle.bq_job.specs.declared.settings.Settings.{Settings}
+use Rattle.bq_steps.specs.Limits.{are_in_range}
 use Rattle.std.specs.List.{All}
-use Rattle.std.specs.Option.{option_to_list}
 use Rattle.std.proofs.lemmas.List.{length-append}
 use Rattle.bq_attend.specs.Tending.{DoorSeen, IsDoorServed}
 use Rattle.bq_start.specs.declared.fault.RunFault.{RunFault}
 use Rattle.bq_start.specs.declared.fault.RunFault.TheVariants.{BadConfiguration, NoMemory}
-use Rattle.bq_link.specs.EndStates.{CoreState, IsPair, IsSameCore, IsSameSeat, SeatState}
+use Rattle.bq_link.specs.EndStates.{CoreState, IsSameCore, IsSameSeat, SeatState}
 use Rattle.bq_link.specs.NewEnds.{AreNewSeats}
 use Rattle.atomic_table.specs.Seated.{TableId}
 use Rattle.bq_ends.specs.Ends.{IsNewEnd}
 use Rattle.bq_run.specs.Linked.{ArePaired}
-use Rattle.bq_run.specs.Threads.{AreServed, last_first}
-
-last_comes_first : {X : Type 0} (xs : List X) (x : X) → last_first (xs ++ x ∷ []) ≡ x ∷ last_first xs
-last_comes_first [] x = refl
-last_comes_first (y ∷ xs) x = ap (λ ys. ys ++ y ∷ []) (last_comes_first xs x)
-
-mapped_push : {X Y : Type 0} (f : X → Y) (xs : List X) (x : X) → map f (xs ++ x ∷ []) ≡ map f xs ++ f x ∷ []
-mapped_push f [] x = refl
-mapped_push f (y ∷ xs) x = ap (λ ys. f y ∷ ys) (mapped_push f xs x)
-
--- One was taken from the end of some, and one that shows the same was put behind others.
-pub moved_over : {X Y Z : Type 0} (f : X → Z) (g : Y → Z) (xs rest : List X) (x : X) (ys more : List Y) (y : Y)
-    → xs ≡ rest ++ option_to_list (Some x) → more ≡ ys ++ y ∷ [] → g y ≡ f x
-    → map g more ++ last_first (map f rest) ≡ map g ys ++ last_first (map f xs)
-moved_over {X} {Y} {Z} f g xs rest x ys more y taken put same =
-    ap (λ (zs : List Y). map g zs ++ last_first (map f rest)) put ∙ ap (λ (zs : List Z). zs ++ last_first (map f rest)) (mapped_push g ys y) ∙ append_assoc (map g ys) (g y ∷ []) (last_first (map f rest))
-    ∙ ap (λ (z : Z). map g ys ++ z ∷ last_first (map f rest)) same ∙ sym (ap (λ (zs : List X). map g ys ++ last_first (map f zs)) taken ∙ ap (λ (zs : List Z). map g ys ++ last_first zs) (mapped_push f rest x) ∙ ap (λ (zs : List Z). map g ys ++ zs) (last_comes_first (map f rest) (f x)))
-
--- One was taken from the end of some, and was put behind others that stand from the last one on.
-pub moved_back : {X Y : Type 0} (f : X → Y) (ys rest : List Y) (y : Y) (xs more : List X) (x : X)
-    → ys ≡ rest ++ option_to_list (Some y) → more ≡ xs ++ x ∷ [] → f x ≡ y
-    → rest ++ last_first (map f more) ≡ ys ++ last_first (map f xs)
-moved_back {X} {Y} f ys rest y xs more x taken put same =
-    ap (λ (zs : List X). rest ++ last_first (map f zs)) put ∙ ap (λ (zs : List Y). rest ++ last_first zs) (mapped_push f xs x) ∙ ap (λ (zs : List Y). rest ++ zs) (last_comes_first (map f xs) (f x))
-    ∙ ap (λ (z : Y). rest ++ z ∷ last_first (map f xs)) same ∙ sym (append_assoc rest (y ∷ []) (last_first (map f xs))) ∙ ap (λ (zs : List Y). zs ++ last_first (map f xs)) (sym taken)
+use Rattle.bq_run.specs.Threads.{AreServed}
 
 -- One more thread was joined.
 pub served_more : {D : Type 0} (at : D → DoorSeen) (size : ℕ) (firsts lasts : List SeatState) (doors : List D) (first last : SeatState) (door : D)
@@ -114,5 +92,13 @@ no_fault t fault e = absurd cc
 pub other_fault : {T : Type 0} → IsErrOf {T = T} {E = RunFault} (Err NoMemory) BadConfiguration → ⊥
 other_fault e = absurd cc
 
-pub never : false ≡ true → ⊥
+never : false ≡ true → ⊥
 never e = absurd cc
+
+-- A run of a configuration in its ranges, with a door for each seat, is not refused for its configuration.
+pub well_configured : {T : Type 0} (result : Result T RunFault) (config same : Settings) (doors : ℕ) → same ≡ config → IsTrue (are_in_range same) → doors ≡ config.seats → (IsErrOf result BadConfiguration → ⊥)
+    → IsErrOf result BadConfiguration ↔ IsTrue (not (are_in_range config && doors == config.seats))
+well_configured result config same doors is range many other =
+    let fits : (doors == config.seats) ≡ true = eq-eqb doors config.seats many in
+    let good : are_in_range config ≡ true = subst (λ (s : Settings). are_in_range s ≡ true) is range in
+    (λ e. absurd (other e), λ h. absurd (never (rw (good, fits) at h)))

@@ -6,6 +6,7 @@ use Rattle.bq_job.specs.promise.Headline.{IsHistoryOf}
 use Rattle.bq_job.specs.promise.History.{LineOver}
 use Rattle.bq_attend.specs.ControlRead.{IsReadToEnd}
 use Rattle.bq_hub.specs.Compared.{AreCompared}
+use Rattle.bq_hub.specs.CoreWork.{Gives}
 use Rattle.bq_run.specs.Linked.{IsLinked}
 use Rattle.bq_run.specs.declared.sessions.Run.{Run}
 
@@ -15,7 +16,8 @@ use Rattle.bq_run.specs.declared.sessions.Run.{Run}
 -- machine that the core stands for. The core took its steps, but for ticks, by its end of the links; each other end
 -- submitted those that the history has of it, and was sent what the run gave it. Its comparisons of keys stayed within
 -- the bound of each of its steps, and of one look for what is due, at most, before each and behind the last.
-pub record IsRunOf {D C I K : Type 0} (given : C → List (Option ℕ) → C → Type 0) (lines_over : D → List LineOver) (left : I → Option (List ℕ)) (may_fail : I → Bool) (machine : K → Machine) (comparisons : K → ℕ) (config : Settings) (clock : C) (control : I) (run : Run D C I K) : Type 0 where
+pub record IsRunOf {D C I K : Type 0} (given : Gives C) (lines_over : D → List LineOver) (left : I → Option (List ℕ)) (may_fail : I → Bool)
+    (machine : K → Machine) (comparisons : K → ℕ) (config : Settings) (clock : C) (control : I) (run : Run D C I K) : Type 0 where
   pub readings : List (Option ℕ)
   pub gave : given clock readings run.clock
   pub over : IsTrue (run.control.ended || run.control.failed)

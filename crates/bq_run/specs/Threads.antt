@@ -1,13 +1,14 @@
 -- What the threads of a run come to.
-use Rattle.std.specs.Prelude.{ℕ, ◌≡◌, ◌||◌, Bool, true, IsTrue, List, [], ◌∷◌, ◌++◌, Option}
+use Rattle.std.specs.Prelude.{ℕ, ◌≡◌, ◌||◌, Bool, true, IsTrue, List, [], ◌∷◌, Option, reverse}
 use Rattle.bq_job.specs.declared.settings.Settings.{Settings}
 use Rattle.bq_job.specs.promise.ControlDid.{IsControlDone}
 use Rattle.bq_job.specs.machine.Machine.{Machine}
 use Rattle.bq_attend.specs.ControlRead.{IsReadToEnd}
-use Rattle.bq_attend.specs.Tending.{DoorSeen, IsDoorServed}
+use Rattle.bq_attend.specs.Tending.{AreSame, DoorSeen, IsDoorServed}
 use Rattle.bq_attend.specs.declared.control_line.ControlLine.{ControlLine}
 use Rattle.bq_link.specs.EndStates.{CoreState, IsSameCore, IsSameSeat, SeatState}
-use Rattle.bq_hub.specs.CoreWork.{IsCoreDone}
+use Rattle.bq_hub.specs.CoreWork.{Gives, IsCoreDone}
+use Rattle.bq_run.specs.declared.sessions.posts.EndedEnds.{EndedEnds}
 
 -- The seats' threads are over, in the order of their seats: each has the end that it began with, and served its
 -- door to its end.
@@ -18,21 +19,27 @@ AreServed at max_job_size (first ∷ firsts) (last ∷ lasts) (door ∷ doors) =
 AreServed at max_job_size _ _ _ = ⊥
 
 -- The core's thread is over. The core had compared nothing at first, and has made so many comparisons.
-pub record IsCoreOver {C : Type 0} (gives : C → List (Option ℕ) → C → Type 0) (settings : Settings) (first : CoreState) (clock : C) (last : CoreState) (machine : Machine) (compared : ℕ) (after : C) : Type 0 where
+pub record IsCoreOver {C : Type 0} (gives : Gives C) (settings : Settings) (first : CoreState) (clock : C) (last : CoreState)
+    (machine : Machine) (compared : ℕ) (after : C) : Type 0 where
   pub same : IsSameCore first last
   pub readings : List (Option ℕ)
   pub gave : gives clock readings after
   pub done : IsCoreDone settings readings last machine 0 compared
 
 -- The control line was read to its end or until it failed, the latter only where a read of it may fail.
-pub record IsControlOver {I : Type 0} (left : I → Option (List ℕ)) (may_fail : I → Bool) (first : SeatState) (control : I) (last : SeatState) (after : ControlLine I) : Type 0 where
+pub record IsControlOver {I : Type 0} (left : I → Option (List ℕ)) (may_fail : I → Bool) (first : SeatState) (control : I)
+    (last : SeatState) (after : ControlLine I) : Type 0 where
   pub same : IsSameSeat first last
   pub over : IsTrue (after.ended || after.failed)
   pub read : IsReadToEnd (left control) (left after.reader) after.read after.failed
   pub fault : after.failed ≡ true → may_fail control ≡ true
   pub done : IsControlDone after.read after.failed last.submitted
 
--- the same from the last one on
-abbrev pub last_first : {X : Type 0} → List X → List X
-last_first [] = []
-last_first (x ∷ xs) = last_first xs ++ x ∷ []
+-- The threads of all ends are over. Those of the seats began with these ends and doors, which stand from the last one on,
+-- and have come back in the order of their seats.
+pub record AreOver {D I : Type 0} (at : D → DoorSeen) (is_same : D → D → Type 0) (left : I → Option (List ℕ)) (may_fail : I → Bool)
+    (max_job_size : ℕ) (ends : List SeatState) (doors : List D) (control_end : SeatState) (reader : I)
+    (over : EndedEnds D I) : Type 0 where
+  pub served : AreServed at max_job_size (reverse ends) over.ends.items over.doors.items
+  pub same : AreSame is_same (reverse doors) over.doors.items
+  pub control : IsControlOver left may_fail control_end reader over.control_end over.control

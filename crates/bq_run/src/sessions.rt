@@ -14,8 +14,9 @@ use bq_line::line::Line;
 use bq_link::{CoreEnd, Intake, NoTicks, SeatEnd, links};
 use bq_start::{RunFault, Start};
 use bq_steps::{Config, QueueCore};
-use new_posts::{NewCore, new_posts};
-use posts::Ended;
+use core_post::NewCore;
+use new_posts::new_posts;
+use posts::{Ended, EndedEnds};
 use settle::settle;
 use std::alloc::Global;
 use std::marker::Brand;
@@ -85,11 +86,11 @@ pub fn run_sessions<
     if doors.len() != usize::from(config.seats) {
         return Err(RunFault::BadConfiguration);
     }
-    let new = NewCore::<K>::new(alloc, config)?;
+    let new_core = NewCore::<K>::new(alloc, config)?;
     let Ok((intake, core_end, ends)) = links::<NoTicks>(alloc, config.seats) else {
         return Err(RunFault::NoMemory);
     };
-    let Ok(posts) = new_posts(alloc, config, &intake, new, core_end, ends, doors, clock) else {
+    let Ok(posts) = new_posts(alloc, &intake, new_core, core_end, ends, doors, clock) else {
         return Err(RunFault::NoMemory);
     };
     let start = Start::new();
@@ -98,14 +99,17 @@ pub fn run_sessions<
         Err(fault) => return Err(fault),
     };
     let Ended {
-        mut ends,
-        doors,
+        ends,
         mut core_end,
         core,
         clock,
+    } = ended;
+    let EndedEnds {
+        mut ends,
+        doors,
         control_end,
         control,
-    } = ended;
+    } = ends;
     let Ok(()) = ends.push(control_end) else {
         return Err(RunFault::NoMemory);
     };

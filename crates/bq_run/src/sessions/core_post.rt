@@ -1,6 +1,7 @@
 //! The core with its end of the links and the clock.
-ghost use Rattle.std.specs.Prelude.{◌≡◌, ◌<◌, ◌+◌, [], Some};
+ghost use Rattle.std.specs.Prelude.{◌≡◌, ◌<◌, ◌+◌, ◌↔◌, [], Some, IfOk, IsErrOf, IsTrue, not};
 ghost use Rattle.bq_job.specs.machine.Machine.{new_machine};
+ghost use Rattle.bq_steps.specs.Limits.{are_in_range};
 ghost use Rattle.bq_link.specs.NewEnds.{IsNewCore};
 ghost use Rattle.bq_hub.specs.CoreWork.{IsNewRoom};
 
@@ -8,44 +9,81 @@ use crate::sessions::locked_core::LockedCore;
 use bq_hub::core_work::{CoreRoom, Hub, Origin, SharedHub};
 use bq_line::clock::Clock;
 use bq_link::{CoreEnd, Intake, NoTicks};
-use bq_steps::{Config, Outs, QueueCore};
+use bq_start::RunFault;
+use bq_steps::{Config, CoreFault, Outs, QueueCore};
 use std::alloc::Global;
 
-/// A core and its end, at neither of which anything was done, and what it needs.
+/// A core at which nothing was done, and what its work needs beside it.
 #[derive(Drop)]
-pub struct CorePost<'a, C, K: QueueCore> {
-    pub alloc: Global,
-    pub intake: &'a Intake<NoTicks>,
-    pub end: CoreEnd,
+pub struct NewCore<K: QueueCore> {
     pub config: Config,
-    pub core: K,
-    pub outs: Outs,
-    pub room: CoreRoom,
-    pub clock: C,
-    ghost of_intake: { end.intake ≡ intake.now.id },
-    ghost new_end: { IsNewCore (config.seats + 1) end },
-    ghost new_core: { K.machine core ≡ new_machine config },
+    core: K,
+    outs: Outs,
+    room: CoreRoom,
+    ghost range: { IsTrue (are_in_range config) },
+    ghost stands: { K.machine core ≡ new_machine config },
     ghost none_compared: { K.comparisons core ≡ 0 },
     ghost none_given: { outs.given ≡ [] },
     ghost places: { config.seats < outs.most },
     ghost new_room: { IsNewRoom (config.seats + 1) room },
 }
 
+impl<K: QueueCore + Drop> NewCore<K> {
+    /// All memory but that for jobs is asked for here.
+    pub fn new(alloc: Global, config: Config) -> Result<NewCore<K>, RunFault>
+        ensures config { IfOk result (λ new. new.config ≡ config) }
+        ensures bad_configuration { IsErrOf result RunFault.BadConfiguration ↔ IsTrue (not (are_in_range config)) }
+    {
+        let core = match K::new(alloc, config) {
+            Ok(core) => core,
+            Err(CoreFault::NoMemory) => return Err(RunFault::NoMemory),
+            Err(_) => return Err(RunFault::BadConfiguration),
+        };
+        let Ok(outs) = Outs::new(alloc, config.seats) else {
+            return Err(RunFault::NoMemory);
+        };
+        let Ok(room) = CoreRoom::new(alloc, config.seats) else {
+            return Err(RunFault::NoMemory);
+        };
+        Ok(NewCore {
+            config,
+            core,
+            outs,
+            room,
+        })
+    }
+}
+
+/// A new core and its end, at which nothing was done either.
+#[derive(Drop)]
+pub struct CorePost<'a, C, K: QueueCore> {
+    pub alloc: Global,
+    pub intake: &'a Intake<NoTicks>,
+    pub end: CoreEnd,
+    pub new_core: NewCore<K>,
+    pub clock: C,
+    ghost of_intake: { end.intake ≡ intake.now.id },
+    ghost new_end: { IsNewCore (new_core.config.seats + 1) end },
+}
+
 impl<'a, C: Clock + Drop, K: QueueCore + Drop> CorePost<'a, C, K> {
     /// The core under a lock, with nothing done yet.
     pub fn locked<O: Origin<C>>(self) -> LockedCore<'a, C, K, O>
-        requires start { O.start ≡ Some (self.clock, (self.config, self.end)) }
+        requires start { O.start ≡ Some (self.clock, (self.new_core.config, self.end)) }
     {
         let CorePost {
             alloc,
             intake,
             end,
+            new_core,
+            clock,
+        } = self;
+        let NewCore {
             config: _,
             core,
             outs,
             room,
-            clock,
-        } = self;
+        } = new_core;
         let hub = Hub::new(alloc, end, core, outs, room, clock);
         LockedCore::new(SharedHub::new(hub, intake), intake)
     }

@@ -20,17 +20,14 @@ pub struct ControlPost<'a> {
     ghost new_end: { IsNewEnd end },
 }
 
-/// The posts of a run. Those of the seats stand from the last one on, and have one limit of bodies.
+/// The posts of a run.
 #[derive(Drop)]
 pub struct Posts<'a, D: Door, C, K: QueueCore> {
-    pub seats: Vec<SeatPost<'a, D>, Global>,
+    pub ends: EndPosts<'a, D>,
     pub core: CorePost<'a, C, K>,
-    pub control: ControlPost<'a>,
-    pub max_job_size: u32,
-    ghost limits: { All (λ post. post.max_job_size ≡ max_job_size) seats.items },
 }
 
-/// The same without the core.
+/// The posts of its ends. Those of the seats stand from the last one on, and have one limit of bodies.
 #[derive(Drop)]
 pub struct EndPosts<'a, D: Door> {
     pub seats: Vec<SeatPost<'a, D>, Global>,
@@ -39,7 +36,7 @@ pub struct EndPosts<'a, D: Door> {
     ghost limits: { All (λ post. post.max_job_size ≡ max_job_size) seats.items },
 }
 
-/// What the threads of the ends gave back.
+/// What the threads of the ends gave back. The ends and the doors stand in the order of their seats.
 #[derive(Drop)]
 pub struct EndedEnds<D, I> {
     pub ends: Vec<SeatEnd, Global>,
@@ -48,14 +45,11 @@ pub struct EndedEnds<D, I> {
     pub control: ControlLine<I>,
 }
 
-/// What the threads of a run gave back. The ends and the doors stand in the order of their seats.
+/// What the threads of a run gave back.
 #[derive(Drop)]
 pub struct Ended<D, C, I, K> {
-    pub ends: Vec<SeatEnd, Global>,
-    pub doors: Vec<D, Global>,
+    pub ends: EndedEnds<D, I>,
     pub core_end: CoreEnd,
     pub core: K,
     pub clock: C,
-    pub control_end: SeatEnd,
-    pub control: ControlLine<I>,
 }

@@ -1,9 +1,9 @@
 //! The threads of a run: they start together or not at all, and give back what they served.
-ghost use Rattle.std.specs.Prelude.{◌≡◌, ◌++◌, [], Some, IfOk, IfSome, IsErrOf, IsTrue, map, vec_len};
+ghost use Rattle.std.specs.Prelude.{◌≡◌, [], Some, IfOk, IfSome, IsErrOf, IsTrue, map, reverse, vec_len};
 ghost use Rattle.std.specs.List.{All};
 ghost use Rattle.bq_attend.specs.Tending.{AreSame, IsDoorServed, door_seen};
 ghost use Rattle.bq_link.specs.EndStates.{IsSameSeat};
-ghost use Rattle.bq_run.specs.Threads.{AreServed, IsControlOver, IsCoreOver, last_first};
+ghost use Rattle.bq_run.specs.Threads.{AreOver, AreServed, IsControlOver, IsCoreOver};
 
 use crate::sessions::locked_core::LockedCore;
 use crate::sessions::posts::{ControlPost, EndPosts, Ended, EndedEnds, Posts};
@@ -57,47 +57,29 @@ pub fn serve_in_scope<
     start: &Start,
     control: I,
 ) -> Result<Ended<D, C, I, K>, RunFault>
-    requires start { O.start ≡ Some (posts.core.clock, (posts.core.config, posts.core.end)) }
+    requires start { O.start ≡ Some (posts.core.clock, (posts.core.new_core.config, posts.core.end)) }
     ensures fault { IsErrOf result RunFault.BadConfiguration → ⊥ }
-    ensures served { let at = door_seen D.is_out D.is_at_end D.lines_over in
-        let firsts = last_first (map (λ p. p.end) posts.entry.seats.items) in
-        IfOk result (λ r. AreServed at posts.entry.max_job_size firsts r.ends.items r.doors.items) }
-    ensures same { IfOk result (λ r. AreSame D.same (last_first (map (λ p. p.door) posts.entry.seats.items)) r.doors.items) }
+    ensures over { let at = door_seen D.is_out D.is_at_end D.lines_over in
+        let ends = posts.entry.ends in
+        let over = AreOver at D.same I.remaining I.may_fail ends.max_job_size (map (λ p. p.end) ends.seats.items)
+        (map (λ p. p.door) ends.seats.items) ends.control.end control in
+        IfOk result (λ r. over r.ends) }
     ensures core { let core = posts.entry.core in
-        IfOk result (λ r. IsCoreOver C.given core.config core.end core.clock r.core_end (K.machine r.core) (K.comparisons r.core) r.clock) }
-    ensures control { IfOk result (λ r. IsControlOver I.remaining I.may_fail posts.entry.control.end control r.control_end r.control) }
+        IfOk result (λ r. IsCoreOver C.given core.new_core.config core.end core.clock r.core_end (K.machine r.core) (K.comparisons r.core)
+        r.clock) }
 {
-    let Posts {
-        seats,
-        core,
-        control: control_post,
-        max_job_size,
-    } = posts;
+    let Posts { ends, core } = posts;
     let core: LockedCore<'_, C, K, O> = core.locked();
-    let posts = EndPosts {
-        seats,
-        control: control_post,
-        max_job_size,
-    };
-    let ended = match serve_ends(rt, alloc, posts, &core, start, control) {
-        Ok(ended) => ended,
+    let ends = match serve_ends(rt, alloc, ends, &core, start, control) {
+        Ok(ends) => ends,
         Err(fault) => return Err(fault),
     };
-    let EndedEnds {
-        ends,
-        doors,
-        control_end,
-        control,
-    } = ended;
     let (core_end, core, clock) = core.run_out(rt);
     Ok(Ended {
         ends,
-        doors,
         core_end,
         core,
         clock,
-        control_end,
-        control,
     })
 }
 
@@ -117,23 +99,20 @@ fn serve_ends<
     control: I,
 ) -> Result<EndedEnds<D, I>, RunFault>
     ensures fault { IsErrOf result RunFault.BadConfiguration → ⊥ }
-    ensures served { let at = door_seen D.is_out D.is_at_end D.lines_over in
-        let firsts = last_first (map (λ p. p.end) posts.entry.seats.items) in
-        IfOk result (λ r. AreServed at posts.entry.max_job_size firsts r.ends.items r.doors.items) }
-    ensures same { IfOk result (λ r. AreSame D.same (last_first (map (λ p. p.door) posts.entry.seats.items)) r.doors.items) }
-    ensures control { IfOk result (λ r. IsControlOver I.remaining I.may_fail posts.entry.control.end control r.control_end r.control) }
+    ensures over { let at = door_seen D.is_out D.is_at_end D.lines_over in
+        let seats = posts.entry.seats.items in
+        IfOk result (AreOver at D.same I.remaining I.may_fail posts.entry.max_job_size (map (λ p. p.end) seats) (map (λ p. p.door) seats)
+        posts.entry.control.end control) }
 {
     thread::scope(
         thread::scope_env(),
         rt,
         move |scope| -> Result<EndedEnds<D, I>, RunFault>
             ensures fault { IsErrOf result RunFault.BadConfiguration → ⊥ }
-            ensures served { let at = door_seen D.is_out D.is_at_end D.lines_over in
-                let firsts = last_first (map (λ p. p.end) posts.entry.seats.items) in
-                IfOk result (λ r. AreServed at posts.entry.max_job_size firsts r.ends.items r.doors.items) }
-            ensures same { IfOk result (λ r. AreSame D.same (last_first (map (λ p. p.door) posts.entry.seats.items)) r.doors.items) }
-            ensures control { IfOk result (λ r. IsControlOver I.remaining I.may_fail posts.entry.control.end control r.control_end
-                r.control) }
+            ensures over { let at = door_seen D.is_out D.is_at_end D.lines_over in
+                let seats = posts.entry.seats.items in
+                IfOk result (AreOver at D.same I.remaining I.may_fail posts.entry.max_job_size (map (λ p. p.end) seats)
+                (map (λ p. p.door) seats) posts.entry.control.end control) }
         { serve_all(scope, rt, alloc, posts, core, start, control) },
     )
 }
@@ -157,11 +136,10 @@ fn serve_all<
     control: I,
 ) -> Result<EndedEnds<D, I>, RunFault>
     ensures fault { IsErrOf result RunFault.BadConfiguration → ⊥ }
-    ensures served { let at = door_seen D.is_out D.is_at_end D.lines_over in
-        let firsts = last_first (map (λ p. p.end) posts.entry.seats.items) in
-        IfOk result (λ r. AreServed at posts.entry.max_job_size firsts r.ends.items r.doors.items) }
-    ensures same { IfOk result (λ r. AreSame D.same (last_first (map (λ p. p.door) posts.entry.seats.items)) r.doors.items) }
-    ensures control { IfOk result (λ r. IsControlOver I.remaining I.may_fail posts.entry.control.end control r.control_end r.control) }
+    ensures over { let at = door_seen D.is_out D.is_at_end D.lines_over in
+        let seats = posts.entry.seats.items in
+        IfOk result (AreOver at D.same I.remaining I.may_fail posts.entry.max_job_size (map (λ p. p.end) seats) (map (λ p. p.door) seats)
+        posts.entry.control.end control) }
 {
     let EndPosts {
         seats,
@@ -234,8 +212,10 @@ fn start_seats<
 ) -> bool
     requires none { vec_len threads.old ≡ 0 }
     requires limits { All (λ post. post.max_job_size ≡ max_job_size) posts.items }
-    ensures ends { IsTrue result → map (λ t. t.promise.end.value) threads.new.items ≡ last_first (map (λ p. p.end) posts.entry.items) }
-    ensures doors { IsTrue result → map (λ t. t.promise.door.value) threads.new.items ≡ last_first (map (λ p. p.door) posts.entry.items) }
+    ensures ends { IsTrue result
+        → map (λ t. t.promise.end.value) threads.new.items ≡ reverse (map (λ p. p.end) posts.entry.items) }
+    ensures doors { IsTrue result
+        → map (λ t. t.promise.door.value) threads.new.items ≡ reverse (map (λ p. p.door) posts.entry.items) }
     ensures limits { IsTrue result → All (λ t. t.promise.max_job_size ≡ max_job_size) threads.new.items }
 {
     while let Some(post) = posts.pop() {

@@ -12,8 +12,8 @@ new_seats-requires-clause-of_intake g c κs within =
 pub new_seats-requires-clause-new_ends : goal.new_seats-requires-clause-new_ends
 new_seats-requires-clause-new_ends g c κs within = all_taken (vec_len c.args.ends - 1) c.args.ends.items _ (λ e. IsNewEnd e) c.pop.ensures.rest (new_ends c.args.core_end c.args.ends.items c.requires.ends)
 
-pub invariant_of-result-2 : goal.invariant_of-result-2
-invariant_of-result-2 g c =
+pub invariant_of-result : goal.invariant_of-result
+invariant_of-result g c =
     let id = c.args.intake.now.id in
     record {
       of_intake = popped_passes c.args.ends.items _ c.in-Some.end (λ e. e.intake ≡ id) c.in-Some.ensures.items (new_intakes c.args.core_end c.args.ends.items id c.requires.ends c.requires.of_intake);

@@ -1,10 +1,7 @@
-use Rattle.std.proofs.Common.{◌≡◌, ◌-◌, ◌∙◌, vec_len, List, subst, sym, arith}
-use Rattle.std.specs.List.{All}
-use Rattle.std.proofs.lemmas.List.Elements.{All-take}
+use Rattle.std.proofs.Common.{◌≡◌, ◌-◌, ◌∙◌, vec_len, arith}
 use Rattle.bq_attend.specs.Tending.{IsNewDoor, door_seen}
 use Rattle.bq_ends.specs.Ends.{IsNewEnd}
-use Rattle.bq_start.proofs.ListLemmas.{all_pushed, all_taken}
-use Rattle.bq_run.proofs.ThreadLemmas.{moved_back}
+use Rattle.bq_start.proofs.ListLemmas.{all_pushed, all_taken, put_behind}
 use Rattle.bq_run.proofs.sessions.new_posts.new_seats.Goals as goal
 
 pub loop-door-preserved : goal.loop-door-preserved
@@ -17,6 +14,6 @@ loop-door-preserved g c =
       of_intake = all_taken (vec_len c.loop-door.ends - 1) c.loop-door.ends.items _ (λ e. e.intake ≡ c.args.intake.now.id) c.pop-in-Some.ensures.rest i.of_intake;
       new_ends = all_taken (vec_len c.loop-door.ends - 1) c.loop-door.ends.items _ (λ e. IsNewEnd e) c.pop-in-Some.ensures.rest i.new_ends;
       new = all_taken (vec_len c.loop-door.doors - 1) c.loop-door.doors.items _ (λ d. IsNewDoor (at d)) c.pop.ensures.rest i.new;
-      whole = moved_back (λ p. p.end) c.loop-door.ends.items _ c.in-Some-pop.end c.loop-door.posts.items _ c.in_ok-post.post c.in-Some-pop.ensures.items c.in-Ok-push.ensures.items c.in_ok-post.ensures.end ∙ i.whole;
-      doors = moved_back (λ p. p.door) c.loop-door.doors.items _ c.in-Some.door c.loop-door.posts.items _ c.in_ok-post.post c.in-Some.ensures.items c.in-Ok-push.ensures.items c.in_ok-post.ensures.door ∙ i.doors;
+      whole = put_behind (λ p. p.end) c.loop-door.ends.items _ c.in-Some-pop.end c.loop-door.posts.items _ c.in_ok-post.post c.in-Some-pop.ensures.items c.in-Ok-push.ensures.items c.in_ok-post.ensures.end ∙ i.whole;
+      doors = put_behind (λ p. p.door) c.loop-door.doors.items _ c.in-Some.door c.loop-door.posts.items _ c.in_ok-post.post c.in-Some.ensures.items c.in-Ok-push.ensures.items c.in_ok-post.ensures.door ∙ i.doors;
     }

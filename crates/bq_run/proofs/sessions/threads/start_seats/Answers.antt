@@ -1,8 +1,5 @@
-use Rattle.std.proofs.Common.{◌≡◌, ◌-◌, ◌∙◌, vec_len, arith, subst, sym, ap, append-nil, map, List, [], length}
-use Rattle.std.specs.List.{All}
-use Rattle.bq_start.proofs.ListLemmas.{all_pushed, all_taken, popped_passes}
-use Rattle.bq_run.specs.Threads.{last_first}
-use Rattle.bq_run.proofs.ThreadLemmas.{moved_over}
+use Rattle.std.proofs.Common.{◌≡◌, ◌-◌, ◌∙◌, vec_len, ap}
+use Rattle.bq_start.proofs.ListLemmas.{all_pushed, all_taken, handed_on, popped_passes}
 use Rattle.bq_run.proofs.sessions.threads.start_seats.Goals as goal
 
 pub loop-post-preserved : goal.loop-post-preserved
@@ -13,9 +10,9 @@ loop-post-preserved g c =
       limits = all_taken (vec_len c.loop-post.posts - 1) c.loop-post.posts.items _ (λ p. p.max_job_size ≡ size) c.pop.ensures.rest c.loop-post.invariant.limits;
       promised = all_pushed c.loop-post.threads.items _ c.in-Ok.thread (λ t. t.promise.max_job_size ≡ size) c.in-Ok-push.ensures.items c.loop-post.invariant.promised (ap (λ p. p.max_job_size) c.in-Ok.ensures.ok ∙ limit);
       whole =
-          moved_over (λ p. p.end) (λ t. t.promise.end.value) c.loop-post.posts.items _ c.in-Some.post c.loop-post.threads.items _ c.in-Ok.thread c.in-Some.ensures.items c.in-Ok-push.ensures.items
+          handed_on (λ p. p.end) (λ t. t.promise.end.value) c.loop-post.posts.items _ c.in-Some.post c.loop-post.threads.items _ c.in-Ok.thread c.in-Some.ensures.items c.in-Ok-push.ensures.items
           (ap (λ p. p.end.value) c.in-Ok.ensures.ok ∙ c.of.ensures) ∙ c.loop-post.invariant.whole;
       doors =
-          moved_over (λ p. p.door) (λ t. t.promise.door.value) c.loop-post.posts.items _ c.in-Some.post c.loop-post.threads.items _ c.in-Ok.thread c.in-Some.ensures.items c.in-Ok-push.ensures.items
+          handed_on (λ p. p.door) (λ t. t.promise.door.value) c.loop-post.posts.items _ c.in-Some.post c.loop-post.threads.items _ c.in-Ok.thread c.in-Some.ensures.items c.in-Ok-push.ensures.items
           (ap (λ p. p.door.value) c.in-Ok.ensures.ok ∙ c.of-in-Some.ensures) ∙ c.loop-post.invariant.doors;
     }

@@ -1,14 +1,14 @@
 use Rattle.std.proofs.Common.{◌≡◌, ◌++◌, map, vec_len}
 use Rattle.std.specs.List.{All}
-use Rattle.bq_run.specs.Threads.{last_first}
+use Rattle.std.specs.Prelude.{reverse}
 use Rattle.bq_run.proofs.sessions.threads.start_seats.Given as goal
 
 abbrev pub invariant-loop-post : goal.invariant-loop-post
 invariant-loop-post g l = record {
   limits : All (λ post. post.max_job_size ≡ l.fn.max_job_size) l.posts.items;
   promised : All (λ t. t.promise.max_job_size ≡ l.fn.max_job_size) l.threads.items;
-  whole : map (λ t. t.promise.end.value) l.threads.items ++ last_first (map (λ p. p.end) l.posts.items) ≡ last_first (map (λ p. p.end) l.fn.posts.items);
-  doors : map (λ t. t.promise.door.value) l.threads.items ++ last_first (map (λ p. p.door) l.posts.items) ≡ last_first (map (λ p. p.door) l.fn.posts.items);
+  whole : map (λ t. t.promise.end.value) l.threads.items ++ reverse (map (λ p. p.end) l.posts.items) ≡ reverse (map (λ p. p.end) l.fn.posts.items);
+  doors : map (λ t. t.promise.door.value) l.threads.items ++ reverse (map (λ p. p.door) l.posts.items) ≡ reverse (map (λ p. p.door) l.fn.posts.items);
 }
 
 abbrev pub decreases-loop-post : goal.decreases-loop-post
