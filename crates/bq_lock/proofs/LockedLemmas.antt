@@ -1,6 +1,6 @@
 -- What is true at every hold of the lock stays true.
 use Rattle.std.proofs.Common.{◌≡◌, ℕ, ◌<◌, ◌≤◌, ◌⊎◌, Bool, true, false, not, ◌&&◌, List, [], ◌∷◌, ◌++◌, Option, Some, None, drop, length, refl, sym, ap, ◌∙◌, arith, subst, inl, inr, replicate}
-use Rattle.std.specs.Prelude.{◌==◌, IfSome, IsNone, IsSome, IsTrue, slice_set}
+use Rattle.std.specs.Prelude.{◌==◌, IfSome, IsNone, IsSome, IsTrue}
 use Rattle.std.proofs.lemmas.Bool.{cases_Bool, cases_lt, eqb-true, eqb-false, false≢true}
 use Rattle.std.proofs.lemmas.List.{get_or_past, get_or-replicate, get_or-set_other, get_or-set_same, length-append, length-replicate, length-set, set_past}
 use Rattle.bq_job.specs.declared.answer.Answer.{Answer}
@@ -18,7 +18,7 @@ use Rattle.bq_job.proofs.LawfulLemmas.{new_is_lawful}
 use Rattle.bq_job.proofs.OneClientLemmas.{answers_append}
 use Rattle.bq_job.proofs.ReplayLemmas.{replay_more, replay_none}
 use Rattle.bq_desk.specs.LastParts.{EndsWith, last_part}
-use Rattle.bq_lock.specs.LockedState.{IsLawfulHold, IsReplayed, JournalState, LockedState, locked_of, new_locked, outbox_at}
+use Rattle.bq_lock.specs.LockedState.{IsLawfulHold, IsReplayed, JournalState, LockedState, locked_of, new_locked, outbox_at, without_oldest}
 use Rattle.bq_lock.specs.LockedSteps.{AreDelivered, IsAdded, IsLeftOut, TakesStep, with_entry, without_entry}
 use Rattle.bq_lock.proofs.DeliveryLemmas.{few_delivered, outbox_past}
 use Rattle.bq_lock.proofs.LastPartLemmas.{ends_with_drop, ends_with_last, ends_with_more, ends_with_none, ends_with_then}
@@ -127,12 +127,12 @@ hold_step old at seat what new h lawful settings taken = record {
     by_journal (inl added) whole = step_replayed old at seat what new taken.outcome taken.given taken.step taken.delivered settings h.replayed added whole
     by_journal (inr left) whole = absurd (false≢true (sym (ap (λ (j : JournalState). j.whole) left.new_is) ∙ whole))
 
-ends_fetched : (outboxes : List (List Answer)) (seat other : ℕ) → EndsWith (outbox_at other outboxes) (outbox_at other (slice_set outboxes seat (drop 1 (outbox_at seat outboxes))))
+ends_fetched : (outboxes : List (List Answer)) (seat other : ℕ) → EndsWith (outbox_at other outboxes) (outbox_at other (without_oldest seat outboxes))
 ends_fetched outboxes seat other =
     elim (cases_lt seat (length outboxes)) [
       | inl here ↦ elim (cases_Bool (other == seat)) [
         | inl e ↦
-            subst (λ (t : ℕ). EndsWith (outbox_at t outboxes) (outbox_at t (slice_set outboxes seat (drop 1 (outbox_at seat outboxes))))) (sym (eqb-true other seat e))
+            subst (λ (t : ℕ). EndsWith (outbox_at t outboxes) (outbox_at t (without_oldest seat outboxes))) (sym (eqb-true other seat e))
             (subst (λ (xs : List Answer). EndsWith (outbox_at seat outboxes) xs) (sym (get_or-set_same outboxes seat (drop 1 (outbox_at seat outboxes)) [] here)) (ends_with_drop 1 (outbox_at seat outboxes)))
         | inr e ↦
             subst (λ (xs : List Answer). EndsWith (outbox_at other outboxes) xs) (sym (get_or-set_other outboxes seat other (drop 1 (outbox_at seat outboxes)) [] (eqb-false other seat e)))
@@ -146,7 +146,7 @@ few_of_part : (xs part : List Answer) → EndsWith xs part → length xs ≤ 4 �
 few_of_part xs part (front, is) few = let l = length-append front part in let m = ap length is in omega (arith, l, m, few)
 
 -- what holds stays after a fetch
-pub hold_fetch : (l : LockedState) (seat : ℕ) → IsLawfulHold l → IsLawfulHold (record l { outboxes = slice_set l.outboxes seat (drop 1 (outbox_at seat l.outboxes)) })
+pub hold_fetch : (l : LockedState) (seat : ℕ) → IsLawfulHold l → IsLawfulHold (record l { outboxes = without_oldest seat l.outboxes })
 hold_fetch l seat h = record {
   lawful = h.lawful;
   many = length-set l.outboxes seat (drop 1 (outbox_at seat l.outboxes)) ∙ h.many;
@@ -171,10 +171,10 @@ hold_first settings room machine outboxes answered journal m o a j =
     (hold_new settings room (new_is_lawful settings))
 
 pub hold_fetched : (machine : Machine) (outboxes fetched : List (List Answer)) (answered still : List ℕ) (journal : JournalState) (seat : ℕ)
-    → fetched ≡ slice_set outboxes seat (drop 1 (outbox_at seat outboxes)) → still ≡ answered
+    → fetched ≡ without_oldest seat outboxes → still ≡ answered
     → IsLawfulHold (locked_of machine outboxes answered journal) → IsLawfulHold (locked_of machine fetched still journal)
 hold_fetched machine outboxes fetched answered still journal seat f s h =
     subst IsLawfulHold
     (sym (ap (λ (x : List (List Answer)). locked_of machine x still journal) f
-    ∙ ap (λ (x : List ℕ). locked_of machine (slice_set outboxes seat (drop 1 (outbox_at seat outboxes))) x journal) s))
+    ∙ ap (λ (x : List ℕ). locked_of machine (without_oldest seat outboxes) x journal) s))
     (hold_fetch (locked_of machine outboxes answered journal) seat h)

@@ -1,12 +1,12 @@
 -- What happens at a desk under a lock.
-use Rattle.std.specs.Prelude.{ℕ, drop, slice_get, slice_set, ◌≡◌, ◌+◌, ◌≤◌, max, MatchBool, nat_le, List, [], ◌∷◌, Option, Some, None}
+use Rattle.std.specs.Prelude.{ℕ, ◌≡◌, ◌+◌, ◌≤◌, max, MatchBool, nat_le, List, [], ◌∷◌, Option, Some, None}
 use Rattle.bq_job.specs.declared.answer.Answer.{Answer}
 use Rattle.bq_job.specs.declared.step.Step.{Step}
 use Rattle.bq_job.specs.declared.step.Step.TheVariants.{Tick}
 use Rattle.bq_job.specs.promise.History.{moment_heard}
 use Rattle.bq_line.specs.GivenReadings.{GaveReadings}
 use Rattle.bq_job.specs.beside.NextDue.{next_due}
-use Rattle.bq_lock.specs.LockedState.{outbox_at}
+use Rattle.bq_lock.specs.LockedState.{oldest_for, without_oldest}
 use Rattle.bq_lock.specs.LockedSteps.{TakesStep}
 use Rattle.bq_lock.specs.declared.locked_desk.LockedDesk.{LockedDesk}
 use Rattle.bq_lock.specs.declared.shared_desk.Look.{Look}
@@ -14,7 +14,8 @@ use Rattle.bq_lock.specs.declared.shared_desk.Look.TheVariants as looks
 
 -- The clock was read once, and the moment heard last follows the reading.
 abbrev pub HasHeard : {C : Type 0} → (C → List (Option ℕ) → C → Type 0) → LockedDesk C → LockedDesk C → Type 0
-HasHeard given old new = (reading : Option ℕ) × GaveReadings given old.clock (reading ∷ []) new.clock × (new.heard ≡ moment_heard old.heard reading)
+HasHeard given old new =
+    (reading : Option ℕ) × GaveReadings given old.clock (reading ∷ []) new.clock × (new.heard ≡ moment_heard old.heard reading)
 
 -- The step was taken at the moment of one reading.
 abbrev pub HasTaken : {C : Type 0} → (C → List (Option ℕ) → C → Type 0) → ℕ → Step → LockedDesk C → LockedDesk C → Type 0
@@ -24,7 +25,9 @@ HasTaken given seat what old new = HasHeard given old new × TakesStep old.locke
 -- moment heard then has come to what is due.
 abbrev pub HasPassed : {C : Type 0} → (C → List (Option ℕ) → C → Type 0) → ℕ → Option ℕ → LockedDesk C → LockedDesk C → Type 0
 HasPassed given seat None old new = new ≡ old
-HasPassed given seat (Some due) old new = HasHeard given old new × MatchBool (nat_le due new.heard) (TakesStep old.locked new.heard seat Tick new.locked) (new.locked ≡ old.locked)
+HasPassed given seat (Some due) old new =
+    HasHeard given old new
+    × MatchBool (nat_le due new.heard) (TakesStep old.locked new.heard seat Tick new.locked) (new.locked ≡ old.locked)
 
 -- How long a seat may rest: never past the next moment at which something is due.
 abbrev pub EndsInTime : Option ℕ → ℕ → ℕ → Type 0
@@ -36,14 +39,18 @@ abbrev pub Tells : Look → Option Answer → Type 0
 Tells (looks.Mail answer) fetched = fetched ≡ Some answer
 Tells (looks.Nothing rest) fetched = fetched ≡ None
 
+-- the desk once the oldest answer for a seat was taken out
+abbrev pub once_fetched : {C : Type 0} → ℕ → LockedDesk C → LockedDesk C
+once_fetched seat desk = record desk { locked = record desk.locked { outboxes = without_oldest seat desk.locked.outboxes } }
+
 -- Time passed, and then the oldest answer was taken out of the seat's outbox.
 abbrev pub HasLooked : {C : Type 0} → (C → List (Option ℕ) → C → Type 0) → ℕ → LockedDesk C → Look → LockedDesk C → Type 0
 HasLooked {C} given seat old look new =
-    (at_look : LockedDesk C) × HasPassed given seat (next_due old.locked.machine) old at_look × Tells look (slice_get (outbox_at seat at_look.locked.outboxes) 0)
-    × (new ≡ record at_look { locked = record at_look.locked { outboxes = slice_set at_look.locked.outboxes seat (drop 1 (outbox_at seat at_look.locked.outboxes)) } })
+    (at_look : LockedDesk C) × HasPassed given seat (next_due old.locked.machine) old at_look
+    × Tells look (oldest_for seat at_look.locked.outboxes) × (new ≡ once_fetched seat at_look)
 
 -- The step was taken, and then the oldest answer for its seat.
 abbrev pub HasServed : {C : Type 0} → (C → List (Option ℕ) → C → Type 0) → ℕ → Step → LockedDesk C → Option Answer → LockedDesk C → Type 0
 HasServed {C} given seat what old answer new =
-    (at_step : LockedDesk C) × HasTaken given seat what old at_step × (answer ≡ slice_get (outbox_at seat at_step.locked.outboxes) 0)
-    × (new ≡ record at_step { locked = record at_step.locked { outboxes = slice_set at_step.locked.outboxes seat (drop 1 (outbox_at seat at_step.locked.outboxes)) } })
+    (at_step : LockedDesk C) × HasTaken given seat what old at_step × (answer ≡ oldest_for seat at_step.locked.outboxes)
+    × (new ≡ once_fetched seat at_step)

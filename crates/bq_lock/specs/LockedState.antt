@@ -1,5 +1,5 @@
 -- What the lock holds, and what is true of it at every hold.
-use Rattle.std.specs.Prelude.{ℕ, Bool, true, ◌≡◌, ◌≤◌, List, [], length, replicate, slice_index_or}
+use Rattle.std.specs.Prelude.{ℕ, Bool, true, ◌≡◌, ◌≤◌, List, [], Option, drop, length, replicate, slice_get, slice_index_or, slice_set}
 use Rattle.bq_job.specs.declared.answer.Answer.{Answer}
 use Rattle.bq_job.specs.declared.journal.Entry.{Entry}
 use Rattle.bq_job.specs.declared.settings.Settings.{Settings}
@@ -30,6 +30,14 @@ locked_of machine outboxes answered journal = record { machine = machine; outbox
 -- what lies in the outbox of a seat, nothing where there is no such seat
 abbrev pub outbox_at : ℕ → List (List Answer) → List Answer
 outbox_at seat outboxes = slice_index_or outboxes seat []
+
+-- the oldest answer for a seat, where there is any
+abbrev pub oldest_for : ℕ → List (List Answer) → Option Answer
+oldest_for seat outboxes = slice_get (outbox_at seat outboxes) 0
+
+-- the outboxes once that was taken out
+abbrev pub without_oldest : ℕ → List (List Answer) → List (List Answer)
+without_oldest seat outboxes = slice_set outboxes seat (drop 1 (outbox_at seat outboxes))
 
 -- Each outbox holds four answers at most.
 abbrev pub AreFew : List (List Answer) → Type 0

@@ -1,8 +1,8 @@
 //! What the one lock of a server holds.
-ghost use Rattle.std.specs.Prelude.{◌≡◌, ◌↔◌, IfOk, IsErrOf, IsTrue, drop, not, slice_get, slice_set};
+ghost use Rattle.std.specs.Prelude.{◌≡◌, ◌↔◌, IfOk, IsErrOf, IsTrue, not};
 ghost use Rattle.bq_steps.specs.Limits.{are_in_range};
 ghost use Rattle.bq_job.specs.beside.NextDue.{next_due};
-ghost use Rattle.bq_lock.specs.LockedState.{IsLawfulHold, new_locked, outbox_at};
+ghost use Rattle.bq_lock.specs.LockedState.{IsLawfulHold, new_locked, oldest_for, without_oldest};
 ghost use Rattle.bq_lock.specs.LockedSteps.{TakesStep};
 
 mod journal;
@@ -96,9 +96,8 @@ impl Locked {
     /// Takes the oldest answer out of a seat's outbox. There is none where the outbox is empty, or where
     /// there is no such seat.
     pub fn fetch(&mut self, seat: Seat) -> Option<Answer>
-        ensures oldest { result ≡ slice_get (outbox_at seat self.old.outboxes) 0 }
-        ensures rest { self.new ≡ record self.old
-            { outboxes = slice_set self.old.outboxes seat (drop 1 (outbox_at seat self.old.outboxes)) } }
+        ensures oldest { result ≡ oldest_for seat self.old.outboxes }
+        ensures rest { self.new ≡ record self.old { outboxes = without_oldest seat self.old.outboxes } }
         ensures holds { IsLawfulHold self.new }
     {
         self.outboxes.fetch(seat)

@@ -1,8 +1,8 @@
 //! The outboxes of the seats.
-ghost use Rattle.std.specs.Prelude.{◌≡◌, ◌≤◌, ◌<◌, ◌∷◌, [], IfOk, drop, length, map, replicate, slice_get, slice_set};
+ghost use Rattle.std.specs.Prelude.{◌≡◌, ◌≤◌, ◌<◌, ◌∷◌, [], IfOk, length, map, replicate};
 ghost use Rattle.std.specs.Vec.{vec_capacity};
 ghost use Rattle.bq_job.specs.machine.Dispatch.{GivenAnswer};
-ghost use Rattle.bq_lock.specs.LockedState.{AreFew, outbox_at};
+ghost use Rattle.bq_lock.specs.LockedState.{AreFew, oldest_for, without_oldest};
 ghost use Rattle.bq_lock.specs.LockedSteps.{AreDelivered};
 
 use bq_core::Outs;
@@ -50,8 +50,8 @@ impl Outboxes {
 
     /// Takes the oldest answer out of the outbox of a seat.
     pub fn fetch(&mut self, seat: Seat) -> Option<Answer>
-        ensures oldest { result ≡ slice_get (outbox_at seat self.old.mails.items) 0 }
-        ensures rest { self.new.mails.items ≡ slice_set self.old.mails.items seat (drop 1 (outbox_at seat self.old.mails.items)) }
+        ensures oldest { result ≡ oldest_for seat self.old.mails.items }
+        ensures rest { self.new.mails.items ≡ without_oldest seat self.old.mails.items }
         ensures answered { self.new.answered ≡ self.old.answered }
     {
         match self.mails.get_mut(usize::from(seat)) {
