@@ -1,14 +1,30 @@
 -- What can't be, each by itself: a search among all that is known of a run is too long.
-use Rattle.std.proofs.Common.{◌≡◌, true, false}
-use Rattle.std.specs.Prelude.{Result, Ok, Err}
+use Rattle.std.proofs.Common.{◌≡◌, ◌==◌, ◌&&◌, ℕ, true, false, not, inl, inr, refl}
+use Rattle.std.specs.Prelude.{◌↔◌, IsErrOf, IsTrue, Result, Ok, Err}
+use Rattle.std.proofs.lemmas.Bool.{cases_Bool, eq-eqb}
+use Rattle.bq_job.specs.declared.settings.Settings.{Settings}
+use Rattle.bq_steps.specs.Limits.{are_in_range}
 use Rattle.bq_start.specs.declared.fault.RunFault.{RunFault}
 use Rattle.bq_start.specs.declared.fault.RunFault.TheVariants.{BadConfiguration, NoMemory}
 
 pub no_memory_is_another : {A : Type 0} (x y : Result A RunFault) → x ≡ Err NoMemory → y ≡ Err BadConfiguration → x ≡ y → ⊥
 no_memory_is_another x y a b e = cc
 
-pub ok_is_no_fault : {A E : Type 0} (x y : Result A E) (ok : A) (fault : E) → x ≡ Ok ok → y ≡ Err fault → x ≡ y → ⊥
+ok_is_no_fault : {A E : Type 0} (x y : Result A E) (ok : A) (fault : E) → x ≡ Ok ok → y ≡ Err fault → x ≡ y → ⊥
 ok_is_no_fault x y ok fault a b e = cc
 
-pub false_is_not_true : false ≡ true → ⊥
+false_is_not_true : false ≡ true → ⊥
 false_is_not_true e = cc
+
+-- A run with a door for each seat, for which what the lock holds was made, is not refused for its configuration.
+pub well_configured : {A T : Type 0} (result : Result T RunFault) (config : Settings) (doors : ℕ) (made : A)
+    → (IsErrOf {T = A} {E = RunFault} (Ok made) BadConfiguration ↔ IsTrue (not (are_in_range config))) → doors ≡ config.seats → (IsErrOf result BadConfiguration → ⊥)
+    → IsErrOf result BadConfiguration ↔ IsTrue (not (are_in_range config && doors == config.seats))
+well_configured result config doors made bad many other =
+    let fits : (doors == config.seats) ≡ true = eq-eqb doors config.seats many in (
+      λ e. absurd (other e),
+      λ h. elim (cases_Bool (are_in_range config)) [
+        | inl good ↦ absurd (false_is_not_true (rw (good, fits) at h))
+        | inr out ↦ absurd (ok_is_no_fault _ _ _ _ refl refl (bad.1 (rw out refl)))
+      ],
+    )
