@@ -9,7 +9,7 @@ ghost use Rattle.bq_attend.specs.Tending.{AreSame, IsNewDoor, door_seen};
 use crate::bells::Bells;
 use crate::locked::Locked;
 use crate::locked_desk::LockedDesk;
-use crate::post::{Post, Posts};
+use crate::post::{Post, SeatPosts};
 use crate::shared_desk::{SharedDesk, SharedSeat};
 use bq_attend::control::submit_control;
 use bq_attend::control_line::ControlLine;
@@ -79,7 +79,7 @@ pub fn run_locked<
     let Ok(posts) = new_posts(alloc, config.max_job_size, doors) else {
         return Err(RunFault::NoMemory);
     };
-    let posts = Posts {
+    let posts = SeatPosts {
         all: posts,
         max_job_size: config.max_job_size,
     };
@@ -118,7 +118,7 @@ fn serve_in_scope<
 >(
     rt: &R,
     alloc: Global,
-    posts: Posts<L, D>,
+    posts: SeatPosts<L, D>,
     desk: &K,
     bells: &Bells,
     start: &Start,
@@ -183,12 +183,12 @@ fn new_posts<L: Line + Drop, D: Door<Line = L> + Drop>(
 
 // That this door was served to its end, where its thread began.
 #[derive(Drop)]
-struct Served<D> {
+struct DoorPromise<D> {
     max_job_size: u32,
     door: Snapshot<D>,
 }
 
-impl<D: Door> Promise<Option<D>> for Served<D> {
+impl<D: Door> Promise<Option<D>> for DoorPromise<D> {
     ghost kept_by = { λ promise door.
         IfSome door (λ d. IsServedToEnd promise.max_job_size (door_seen D.is_out D.is_at_end D.lines_over d))
         × IfSome door (D.same promise.door.value) };
@@ -208,7 +208,7 @@ fn serve_all<
     scope: &'s Scope<'s, E>,
     rt: &'s R,
     alloc: Global,
-    posts: Posts<L, D>,
+    posts: SeatPosts<L, D>,
     desk: &'s K,
     bells: &'s Bells,
     start: &'s Start,
@@ -221,7 +221,7 @@ fn serve_all<
         (λ door. IsServedToEnd posts.max_job_size (door_seen D.is_out D.is_at_end D.lines_over door)) doors.items) }
     ensures same { IfOk result (λ doors. AreSame D.same (reverse (map (λ post. post.door) posts.all.items)) doors.items) }
 {
-    let Posts { all, max_job_size } = posts;
+    let SeatPosts { all, max_job_size } = posts;
     let seats = all.len();
     let (Ok(mut threads), Ok(doors)) = (
         Vec::with_capacity(alloc, seats),
@@ -272,7 +272,7 @@ fn start_threads<
     bells: &'s Bells,
     start: &'s Start,
     max_job_size: u32,
-    threads: &mut Vec<PromisedHandle<Option<D>, Served<D>>, Global>,
+    threads: &mut Vec<PromisedHandle<Option<D>, DoorPromise<D>>, Global>,
 ) -> bool
     requires none { vec_len threads.old ≡ 0 }
     requires limits { All (λ post. post.max_job_size ≡ max_job_size) posts.items }
@@ -283,7 +283,7 @@ fn start_threads<
         → map (λ thread. thread.promise.door.value) threads.new.items ≡ reverse (map (λ post. post.door) posts.items) }
 {
     while let Some(post) = posts.pop() {
-        let promise = Served {
+        let promise = DoorPromise {
             max_job_size: post.max_job_size,
             door: Snapshot::of(&post.door),
         };
@@ -301,7 +301,7 @@ fn start_threads<
 // Waits for all threads. Their doors come behind one another, for which there is room.
 fn join_all<R: Threads, D: Door + Drop + Send>(
     rt: &R,
-    threads: Vec<PromisedHandle<Option<D>, Served<D>>, Global>,
+    threads: Vec<PromisedHandle<Option<D>, DoorPromise<D>>, Global>,
     mut doors: Vec<D, Global>,
     max_job_size: u32,
 ) -> Result<Vec<D, Global>, RunFault>

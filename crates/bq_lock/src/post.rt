@@ -105,7 +105,7 @@ impl<L: Line + Drop, D: Door<Line = L> + Drop> Post<L, D> {
 
 /// Posts that all have the same limit of bodies.
 #[derive(Drop)]
-pub struct Posts<L: Line + Drop, D: Door<Line = L>> {
+pub struct SeatPosts<L: Line + Drop, D: Door<Line = L>> {
     pub all: Vec<Post<L, D>, Global>,
     pub max_job_size: u32,
     ghost limits: { All (λ post. post.max_job_size ≡ max_job_size) all.items },
