@@ -72,8 +72,7 @@ pub record IsStatusOfServer (R : Type 0) {I K : Type 0} (left : I → Option (Li
   pub status_is : status ≡ status_of_server (came_of_run (λ door. door.met_fault) came)
 
 -- None: it says that the address can't be bound or that memory for the control line was refused, and no clause tells
--- whether that is so. Else a server began at some listener
--- with a control line over this input.
+-- whether that is so. Else a server began at some listener, with a control line over this input.
 abbrev pub IsStatusOfBegun : (R : Type 0) {I K : Type 0} → (I → Option (List ℕ)) → (I → Bool) → (K → Machine) → (K → ℕ)
     → Options → Option (List ℕ) → Option (TcpListener × I) → ℕ → Type 0
 IsStatusOfBegun R left may_fail machine comparisons options input None status = status ≡ 1
