@@ -19,10 +19,10 @@ ghost use Rattle.bq_jobs.specs.Leases.{deadline_of, is_lease_before};
 
 use super::edit::{JobEdit, Moved, MovedRow};
 use super::number::TubeNumber;
+use super::numbered_tubes::NumberedTubes;
 use super::row;
 use super::row::Row;
 use super::rows::Rows;
-use super::tube_numbers::TubeNumbers;
 use bq_index::BoxSource;
 use bq_job::{Body, Job, JobId, Moment, NoMemory, Seat, TubeName};
 use std::alloc::Global;
@@ -35,7 +35,7 @@ use std::marker::Model;
 #[derive(Drop)]
 pub struct Jobs {
     rows: Rows,
-    tubes: TubeNumbers,
+    tubes: NumberedTubes,
 }
 
 impl Model for Jobs {
@@ -59,7 +59,7 @@ impl Jobs {
     {
         Jobs {
             rows: Rows::new(),
-            tubes: TubeNumbers::new(),
+            tubes: NumberedTubes::new(),
         }
     }
 
@@ -313,7 +313,7 @@ impl Jobs {
 }
 
 // The job of a record, in the tube of its number.
-fn job_of(tubes: &TubeNumbers, row: Row) -> Option<Job>
+fn job_of(tubes: &NumberedTubes, row: Row) -> Option<Job>
     ensures job { result ≡ option_map (in_tube row) (name_of (number_in row.tube) tubes.now) }
     ensures paired { IsPaired tubes.now }
 {
@@ -324,7 +324,7 @@ fn job_of(tubes: &TubeNumbers, row: Row) -> Option<Job>
 }
 
 // What is told of a changed record, with the name of its tube.
-fn told_of(tubes: &TubeNumbers, moved: MovedRow) -> Option<Moved>
+fn told_of(tubes: &NumberedTubes, moved: MovedRow) -> Option<Moved>
     ensures told { result ≡ option_map (moved_in moved) (name_of (number_in moved.tube) tubes.now) }
     ensures paired { IsPaired tubes.now }
 {

@@ -14,14 +14,14 @@ const TUBES: u64 = 1 << 62;
 /// The tubes that are known, each by its name and by its number. A number is given once and not again: so none
 /// can come to stand for another tube than the jobs were put into that have it.
 #[derive(Drop)]
-pub(crate) struct TubeNumbers {
+pub(crate) struct NumberedTubes {
     numbers: Catalog<TubeName, u64>,
     names: Catalog<u64, TubeName>,
     // The number of the next tube. After 2^62 tubes, one after another, none more can be known.
     next: u64,
 }
 
-impl Model for TubeNumbers {
+impl Model for NumberedTubes {
     ghost use Rattle.bq_jobs.specs.Numbering.{IsPaired, Numbering};
 
     ghost Value = { Numbering };
@@ -31,12 +31,12 @@ impl Model for TubeNumbers {
     ghost invariant = { λ k. IsPaired (record { numbers = k.numbers.entries; names = k.names.entries; next = k.next }) };
 }
 
-impl TubeNumbers {
+impl NumberedTubes {
     /// No tube.
-    pub(crate) fn new() -> TubeNumbers
+    pub(crate) fn new() -> NumberedTubes
         ensures { result ≡ record { numbers = []; names = []; next = 0 } }
     {
-        TubeNumbers {
+        NumberedTubes {
             numbers: Catalog::new(),
             names: Catalog::new(),
             next: 0,
