@@ -25,6 +25,7 @@ pub mod Places
 pub mod Putting
 pub mod Queues
 pub mod Replying
+pub mod Room
 pub mod SeatChanges
 pub mod SeatView
 pub mod Serving

@@ -1,4 +1,4 @@
-ghost use Rattle.std.specs.Prelude.{◌≡◌, ◌<◌, ◌||◌, not, is_some, IfSome, IfOk};
+ghost use Rattle.std.specs.Prelude.{◌≡◌, ◌<◌, ◌||◌, length, not, is_some, IfSome, IfOk};
 ghost use Rattle.std.specs.Option.{option_map};
 ghost use Rattle.bq_job.specs.machine.Changes.{is_ready, job_with};
 ghost use Rattle.bq_job.specs.machine.Changes.{is_held_by as held_by};
@@ -14,6 +14,7 @@ ghost use Rattle.bq_jobs.specs.Seen.{IsBodyOf};
 ghost use Rattle.bq_core.specs.EndingWaits.{is_lease_short};
 ghost use Rattle.bq_core.specs.JobChanges.{changed, is_passed_by, passes, ttr_held_by};
 ghost use Rattle.bq_core.specs.JobKinds.{first_of_kind};
+ghost use Rattle.bq_core.specs.Room.{room_left};
 
 use bq_job::{Body, Job, JobId, JobState, Moment, NoMemory, Pri, Seat, TubeName};
 use bq_jobs::{JobEdit, Jobs, Row};
@@ -268,6 +269,7 @@ pub(crate) fn share(jobs: &mut Jobs, id: JobId) -> Option<Result<Body, NoMemory>
 // The room of one job goes back to the heap, where there is room for so many more than there are.
 fn give_back_one(jobs: &mut Jobs)
     ensures same { jobs.new ≡ record jobs.old { room = jobs.new.room } }
+    ensures given { jobs.new.room ≡ room_left (length jobs.old.jobs) jobs.old.room }
     ensures room { 0 < jobs.old.room → 0 < jobs.new.room }
 {
     if jobs.room().saturating_sub(jobs.len()) >= ROOM_TO_SPARE {
@@ -278,6 +280,7 @@ fn give_back_one(jobs: &mut Jobs)
 /// Room that nobody needs goes back to the heap: that of two jobs at a time, so that no step takes long.
 pub(crate) fn give_back(jobs: &mut Jobs)
     ensures same { jobs.new ≡ record jobs.old { room = jobs.new.room } }
+    ensures given { jobs.new.room ≡ room_left (length jobs.old.jobs) (room_left (length jobs.old.jobs) jobs.old.room) }
     ensures room { 0 < jobs.old.room → 0 < jobs.new.room }
 {
     give_back_one(jobs);
