@@ -20,5 +20,6 @@ abbrev pub IsUnchanged : {K V : Type 0} → CatalogSeen K V → CatalogSeen K V 
 IsUnchanged m n = (n.entries ≡ m.entries) × (n.spare ≡ m.spare)
 
 -- the catalog behind s ends with the last value behind r at the key
-abbrev pub LendsEntry : (K V : RattleType) (g : OrdMembers K.Denot) → MutBor (CatalogSeen K.Denot V.Denot) → (K.Denot → Ordering) → Option (MutBor V.Denot) → Fml
+abbrev pub LendsEntry : (K V : RattleType) (g : OrdMembers K.Denot) → MutBor (CatalogSeen K.Denot V.Denot)
+    → (K.Denot → Ordering) → Option (MutBor V.Denot) → Fml
 LendsEntry K V g s compare r = LendsSo (catalog_row K V g) V s r (λ n w. IsRewritten compare s.now w n) (IsUnchanged s.now)

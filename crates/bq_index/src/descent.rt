@@ -4,7 +4,8 @@ ghost use Rattle.std.specs.Prelude.{◌≡◌, ℕ, ◌+◌, ◌≤◌, IsSome};
 ghost use Rattle.std.specs.Option.{option_copied_mut};
 ghost use Rattle.std.specs.Borrow.{LendsIf, sem};
 ghost use Rattle.bq_index.specs.Tree.{height, height_over, heights, AreBalanced, IsBalanced, IsLevel, RaisedByAtMost};
-ghost use Rattle.bq_index.specs.Lent.{put_left, put_right, put_value, put_value_in, value_at, value_in, value_left, value_of, value_right, with_value};
+ghost use Rattle.bq_index.specs.Lent.{put_left, put_right, put_value, put_value_in, with_value};
+ghost use Rattle.bq_index.specs.Lent.{value_at, value_in, value_left, value_of, value_right};
 ghost use Rattle.bq_index.specs.contracts.tree.Tree.{the_row as tree_row};
 ghost use Rattle.bq_index.specs.contracts.tree.Node.{the_row as node_row};
 ghost use Rattle.bq_index.specs.contracts.tree.Sides.{the_row as sides_row};
@@ -111,7 +112,8 @@ fn right_of<'a, D: Descent, K: Ord, V>(
 ) -> Option<&'a mut V>
     requires balanced { AreBalanced sides.old }
     requires reached { (heights sides.old).1 ≤ D.depth }
-    ensures* writes_back { sem 𝓛 (LendsIf (sides_row K.row V.row) V.row sides.entry result (put_right (K.cmp key.now) sides.old) sides.old) }
+    ensures* writes_back { sem 𝓛 (LendsIf (sides_row K.row V.row) V.row sides.entry result (put_right (K.cmp key.now) sides.old)
+        sides.old) }
     ensures value { option_copied_mut result ≡ value_right (K.cmp key.now) sides.old }
     ensures counted { RaisedByAtMost (heights sides.old).1 count.old count.new }
 {
