@@ -5,6 +5,8 @@
 #[cfg(test)]
 mod bench;
 #[cfg(test)]
+mod come_and_go;
+#[cfg(test)]
 mod comparisons;
 #[cfg(test)]
 mod each_answer;

@@ -60,7 +60,7 @@ fn many_jobs(rt: HostRuntime) -> Result<(), Fail> {
 }
 
 // A name of 200 bytes. Names are in the order of their numbers.
-fn long_name(number: u32) -> [u8; 200] {
+pub(crate) fn long_name(number: u32) -> [u8; 200] {
     let mut name = [b'a'; 200];
     name[0] = b'0' + (number / 1000 % 10) as u8;
     name[1] = b'0' + (number / 100 % 10) as u8;

@@ -1,0 +1,168 @@
+//! Tubes that come and go by the thousand, each with a job in one of the states.
+use crate::bench::Bench;
+use crate::event::tube;
+use crate::play::start;
+use crate::scale::long_name;
+use bq_job::{Answer, Body, JobId, Request, Seat};
+use std::alloc::Global;
+use std::test::Fail;
+
+/// How many tubes come.
+const TUBES: u32 = 3000;
+
+/// How many others come before a tube goes.
+const STAY: u32 = 5;
+
+/// How many names they share.
+const NAMES: u32 = 700;
+
+/// The state that the job of a turn is in.
+#[derive(Clone, Copy)]
+enum State {
+    Ready,
+    Delayed,
+    Buried,
+    Held,
+}
+
+fn state_of(turn: u32) -> State {
+    match turn % 4 {
+        0 => State::Ready,
+        1 => State::Delayed,
+        2 => State::Buried,
+        _ => State::Held,
+    }
+}
+
+fn ended<E: Into<Fail> + Drop>(is_well: bool, told: E) -> Result<(), Fail> {
+    if is_well { Ok(()) } else { Err(told.into()) }
+}
+
+// The client at seat 0 uses the tube of a turn. Its name comes back once it is long gone.
+fn use_tube(bench: &mut Bench, turn: u32) -> Result<(), Fail> {
+    bench.ask(
+        0,
+        Request::Use {
+            tube: tube(&long_name(turn % NAMES))?,
+        },
+    );
+    ended(
+        matches!(bench.answer(), Some((0, Answer::Using(_)))),
+        ("use", turn),
+    )
+}
+
+fn is_found(answer: &Option<(Seat, Answer)>, wanted: Option<JobId>) -> bool {
+    match answer {
+        Some((0, Answer::Found(id, _))) => wanted == Some(*id),
+        Some((0, Answer::NotFound)) => wanted.is_none(),
+        _ => false,
+    }
+}
+
+// What the three peeks of the used tube find.
+fn see(
+    bench: &mut Bench,
+    ready: Option<JobId>,
+    delayed: Option<JobId>,
+    buried: Option<JobId>,
+) -> Result<(), Fail> {
+    bench.ask(0, Request::PeekReady);
+    ended(is_found(&bench.answer(), ready), ("ready", ready))?;
+    bench.ask(0, Request::PeekDelayed);
+    ended(is_found(&bench.answer(), delayed), ("delayed", delayed))?;
+    bench.ask(0, Request::PeekBuried);
+    ended(is_found(&bench.answer(), buried), ("buried", buried))
+}
+
+fn see_job(bench: &mut Bench, turn: u32) -> Result<(), Fail> {
+    let job = Some(JobId::from(turn));
+    match state_of(turn) {
+        State::Ready => see(bench, job, None, None),
+        State::Delayed => see(bench, None, job, None),
+        State::Buried => see(bench, None, None, job),
+        State::Held => see(bench, None, None, None),
+    }
+}
+
+fn put(alloc: Global, bench: &mut Bench, turn: u32) -> Result<(), Fail> {
+    let delay = match state_of(turn) {
+        State::Delayed => 9,
+        _ => 0,
+    };
+    bench.ask(
+        0,
+        Request::Put {
+            pri: turn,
+            delay,
+            ttr: 9,
+            body: Body::new(alloc, b"x")?,
+        },
+    );
+    let is_put =
+        matches!(bench.answer(), Some((0, Answer::Inserted(id))) if id == JobId::from(turn));
+    ended(is_put, ("put", turn))
+}
+
+fn hold(bench: &mut Bench, turn: u32) -> Result<(), Fail> {
+    let id = JobId::from(turn);
+    bench.ask(0, Request::ReserveJob { id });
+    ended(
+        matches!(bench.answer(), Some((0, Answer::Reserved(_, _)))),
+        ("hold", turn),
+    )
+}
+
+fn bury(bench: &mut Bench, turn: u32) -> Result<(), Fail> {
+    let id = JobId::from(turn);
+    bench.ask(0, Request::Bury { id, pri: turn });
+    ended(
+        matches!(bench.answer(), Some((0, Answer::Buried))),
+        ("bury", turn),
+    )
+}
+
+// A tube comes: no job of another is in it, and its own is, in the state of its turn.
+fn come(alloc: Global, bench: &mut Bench, turn: u32) -> Result<(), Fail> {
+    use_tube(bench, turn)?;
+    see(bench, None, None, None)?;
+    put(alloc, bench, turn)?;
+    match state_of(turn) {
+        State::Ready | State::Delayed => {}
+        State::Buried => {
+            hold(bench, turn)?;
+            bury(bench, turn)?;
+        }
+        State::Held => hold(bench, turn)?,
+    }
+    see_job(bench, turn)
+}
+
+// A tube goes with its job, which is in it still.
+fn go(bench: &mut Bench, turn: u32) -> Result<(), Fail> {
+    use_tube(bench, turn)?;
+    see_job(bench, turn)?;
+    let id = JobId::from(turn);
+    bench.ask(0, Request::Delete { id });
+    ended(
+        matches!(bench.answer(), Some((0, Answer::Deleted))),
+        ("delete", turn),
+    )
+}
+
+fn come_and_go(alloc: Global, bench: &mut Bench) -> Result<(), Fail> {
+    for turn in 1..=TUBES {
+        come(alloc, bench, turn)?;
+        if turn > STAY {
+            go(bench, turn - STAY)?;
+        }
+    }
+    Ok(())
+}
+
+/// No job is ever seen in another's tube, though tubes come and go and their names come back.
+#[test]
+fn tubes_come_and_go(rt: HostRuntime) -> Result<(), Fail> {
+    let mut bench = start(rt.alloc())?;
+    come_and_go(rt.alloc(), &mut bench)
+}

@@ -1,0 +1,63 @@
+"""Runs of bqd whose memory is watched."""
+from held import Held
+from programs import same
+from servers import Server
+
+# How many commands are sent before their answers are read.
+AT_ONCE = 500
+
+# How many tubes come and go, and how many bytes they may take each once they have gone: a name alone has 200.
+TUBES = 20000
+OF_A_TUBE = 40
+
+
+def in_turn(client, commands):
+    """Sends commands, each a text with its answer, some at a time."""
+    for begun in range(0, len(commands), AT_ONCE):
+        some = commands[begun : begun + AT_ONCE]
+        client.sends(b"".join(text for text, _ in some))
+        client.hears(b"".join(answer for _, answer in some))
+
+
+def come_and_gone(name, first, count):
+    """So many tubes, one after another, each with a job that is put and deleted, from the job of this id on."""
+    commands = []
+    for id in range(first, first + count):
+        tube = (name % id).ljust(200, b"x")
+        commands += [
+            (b"use %s\r\n" % tube, b"USING %s\r\n" % tube),
+            (b"put 0 0 60 1\r\na\r\n", b"INSERTED %d\r\n" % id),
+            (b"delete %d\r\n" % id, b"DELETED\r\n"),
+        ]
+    return commands
+
+
+def run_tubes_that_have_gone(bqd):
+    """Tubes that have gone leave no memory behind them, though each had jobs."""
+    with Server(bqd, "--seats", "1") as server:
+        client = server.client()
+        in_turn(client, come_and_gone(b"a%d-", 1, 500))
+        before = server.memory()
+        in_turn(client, come_and_gone(b"b%d-", 501, TUBES))
+        same(server.memory() - before < TUBES * OF_A_TUBE, True)
+
+
+# How many jobs there are at a peak, how many spare places the server may keep behind it (docs/OPERATING.md), and how
+# many bytes a place may take.
+JOBS = 20000
+SPARE = 1100
+OF_A_PLACE = 512
+
+
+def run_memory_behind_a_peak(bqd):
+    """What a peak of jobs took is given back to the allocator, in small steps, once they are deleted."""
+    held = Held()
+    with Server(bqd, "--seats", "1", env=held.env) as server:
+        client = server.client()
+        client.asks(b"list-tube-used\r\n", b"USING default\r\n")
+        before = held.now()
+        ids = range(1, JOBS + 1)
+        in_turn(client, [(b"put 0 0 60 1\r\na\r\n", b"INSERTED %d\r\n" % id) for id in ids])
+        same(held.now() - before > JOBS * 200, True)
+        in_turn(client, [(b"delete %d\r\n" % id, b"DELETED\r\n") for id in ids])
+        same(held.now() - before < SPARE * OF_A_PLACE, True)
