@@ -18,7 +18,8 @@ pub record HasRead (reader : State) (taken : List ℕ) (requests : List Request)
 -- so many bytes of a piece were taken, and perhaps a request was handed out
 abbrev pub ReadsOn : State → State → List ℕ → ℕ → Option Request → Type 0
 ReadsOn old new piece count request =
-    (taken : List ℕ) (requests : List Request) → HasRead old taken requests → HasRead new (taken ++ take count piece) (requests ++ option_to_list request)
+    (taken : List ℕ) (requests : List Request) → HasRead old taken requests
+    → HasRead new (taken ++ take count piece) (requests ++ option_to_list request)
 
 -- of a text that was offered, all was taken, or what comes behind a quit was left
 pub record HasReadText (reader : State) (text : List ℕ) (requests : List Request) : Type 0 where
