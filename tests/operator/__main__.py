@@ -8,6 +8,7 @@ beanstalkd is tried where that is given. The last line is 'N passed, M failed', 
 import argparse
 import os
 import pathlib
+import signal
 import sys
 import traceback
 
@@ -36,6 +37,8 @@ def main():
     parser.add_argument("--beanstalkd", help="the program beanstalkd")
     parser.add_argument("names", nargs="*", help="the runs whose names have one of these words; all, unless given")
     words = parser.parse_args()
+    # Where it is begun in the background interrupts are ignored, and the programs would take that over.
+    signal.signal(signal.SIGINT, signal.default_int_handler)
     given = {"run_": [], "bqd_run_": [os.path.abspath(words.bqd)]}
     if words.beanstalkd:
         given["beanstalkd_run_"] = [os.path.abspath(words.beanstalkd)]

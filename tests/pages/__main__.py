@@ -10,6 +10,7 @@ import argparse
 import os
 import pathlib
 import re
+import signal
 import subprocess
 import sys
 
@@ -63,6 +64,8 @@ def main():
     parser.add_argument("--bq", required=True, help="the built program bq")
     parser.add_argument("--bqd", required=True, help="the built program bqd")
     words = parser.parse_args()
+    # Where it is begun in the background interrupts are ignored, and the programs would take that over.
+    signal.signal(signal.SIGINT, signal.default_int_handler)
     programs = [os.path.abspath(words.bq), os.path.abspath(words.bqd)]
     room = commands.Room(*programs)
     try:
