@@ -1,10 +1,11 @@
 -- Answers line by line: where a list of them is cut.
-use Rattle.std.proofs.Common.{◌≡◌, ℕ, suc, ◌+◌, ◌≤◌, false, List, [], ◌∷◌, ◌++◌, length, refl, ap, ◌∙◌, arith}
+use Rattle.std.proofs.Common.{◌≡◌, ℕ, suc, ◌+◌, ◌≤◌, true, false, List, [], ◌∷◌, ◌++◌, length, refl, sym, ap, ◌∙◌, subst, arith}
+use Rattle.std.proofs.lemmas.Bool.{or_parts}
 use Rattle.bq_job.specs.declared.answer.Answer.{Answer}
 use Rattle.bq_job.specs.declared.answer.Answer.TheVariants as answers
 use Rattle.bq_job.specs.declared.step.Step.{Step}
 use Rattle.bq_job.specs.promise.History.{LineOver}
-use Rattle.bq_job.specs.machine.OneClient.{has_closed}
+use Rattle.bq_job.specs.machine.OneClient.{has_closed, is_closed_answer}
 use Rattle.bq_job.specs.beside.SeatDid.{AreLinesServed}
 use Rattle.bq_job.proofs.GivenLemmas.{AreParts, most_of_lines}
 
@@ -45,16 +46,26 @@ lines_close size (line ∷ lines) own taken h =
     let d = lines_close size lines h.1 h.3 h.7 in
     omega arith
 
--- A list is cut at its first `Closed` in one way.
+-- the first of a list and the others
+heads : {A : Type 0} (x y : A) (xs ys : List A) → (x ∷ xs) ≡ (y ∷ ys) → (x ≡ y) × (xs ≡ ys)
+heads x y xs ys e = (cc, cc)
+
+-- a list with no `Closed` begins with none
+begins_unclosed : (x : Answer) (xs : List Answer) → has_closed (x ∷ xs) ≡ false → answers.Closed ≡ x → ⊥
+begins_unclosed x xs h e =
+    let no : true ≡ false = subst (λ (y : Answer). has_closed (y ∷ xs) ≡ false) (sym e) h in
+    absurd cc
+
+-- A list is cut at its first `Closed` in one way. No case is made for each kind of answer: that would be one for
+-- each two of them.
 pub same_cut : (xs ys later rest : List Answer) → has_closed xs ≡ false → has_closed ys ≡ false → xs ++ answers.Closed ∷ later ≡ ys ++ answers.Closed ∷ rest → (xs ≡ ys) × (later ≡ rest)
-same_cut [] [] later rest h i e = (refl, cc)
-same_cut [] (answers.Closed ∷ ys) later rest h i e = absurd cc
-same_cut [] (y ∷ ys) later rest h i e = absurd cc
-same_cut (answers.Closed ∷ xs) ys later rest h i e = absurd cc
-same_cut (x ∷ xs) [] later rest h i e = absurd cc
-same_cut (x ∷ xs) (answers.Closed ∷ ys) later rest h i e = absurd cc
+same_cut [] [] later rest h i e = (refl, (heads answers.Closed answers.Closed later rest e).1)
+same_cut [] (y ∷ ys) later rest h i e = absurd (begins_unclosed y ys i (heads answers.Closed y later (ys ++ answers.Closed ∷ rest) e).0)
+same_cut (x ∷ xs) [] later rest h i e =
+    absurd (begins_unclosed x xs h (sym (heads x answers.Closed (xs ++ answers.Closed ∷ later) rest e).0))
 same_cut (x ∷ xs) (y ∷ ys) later rest h i e =
-    let first : x ≡ y = cc in
-    let tail : xs ++ answers.Closed ∷ later ≡ ys ++ answers.Closed ∷ rest = cc in
-    let r = same_cut xs ys later rest h i tail in
-    let same = r.0 in (cc, r.1)
+    let both = heads x y (xs ++ answers.Closed ∷ later) (ys ++ answers.Closed ∷ rest) e in
+    let none = (or_parts (is_closed_answer x) (has_closed xs) h).1 in
+    let nor = (or_parts (is_closed_answer y) (has_closed ys) i).1 in
+    let cut = same_cut xs ys later rest none nor both.1 in
+    (ap (λ (z : Answer). z ∷ xs) both.0 ∙ ap (λ (zs : List Answer). y ∷ zs) cut.0, cut.1)

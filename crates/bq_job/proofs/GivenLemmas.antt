@@ -352,6 +352,7 @@ gives_parts t size (line ∷ lines) own taken h m last history given s free none
       e.later,
       e.unclosed,
       (let a = e.few in let b = c.owes in let w = line_wants (heard line.seen) l.asked l.end_steps l.ends in omega arith),
-      c.answers_are ∙ e.given_is,
-      subst (λ (xs : List Answer). AreParts (most_of_lines size lines h.1 h.3 h.7) xs) g.answers_are later,
+      ◌∙◌ {c = e.part ++ answers.Closed ∷ e.later} c.answers_are e.given_is,
+      subst (λ (xs : List Answer). AreParts (most_of_lines size lines h.1 h.3 h.7) xs)
+          {x = answers_to t g.given} {y = e.later} g.answers_are later,
     )
