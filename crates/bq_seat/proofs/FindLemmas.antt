@@ -12,7 +12,7 @@ use Rattle.bq_seat.specs.SeatMoves.{IsMove, OpensPast}
 use Rattle.bq_seat.specs.SeatParts.{IfLineOver, IsStagedMove, OpensLine}
 use Rattle.bq_seat.specs.SeatStands.{AgreesWith, StandsInStage, StandsFor, awaited, awaited_at}
 use Rattle.bq_seat.specs.Served.{IsServed}
-use Rattle.bq_wire.specs.declared.state.State.{State}
+use Rattle.bq_wire.specs.declared.reader_state.ReaderState.{ReaderState}
 use Rattle.bq_seat.specs.declared.machine.Action.{Action}
 use Rattle.bq_seat.specs.declared.machine.Action.TheVariants as actions
 use Rattle.bq_seat.specs.declared.machine.Event.{Event}
@@ -24,7 +24,7 @@ use Rattle.bq_seat.proofs.InTurnLemmas.{few_missing, in_turn, wanted_joined}
 use Rattle.bq_seat.proofs.LooksLemmas.{wanted_open}
 
 -- a look at the mail finds one answer outstanding at most
-few_at_look : (stage : Stage) (reader : State) (kept : List ℕ) (told : Bool) (p : Past) → awaited_at stage ≡ Awaited.AMail → StandsInStage stage reader kept told p → wanted p.steps ≤ length p.mail + 1
+few_at_look : (stage : Stage) (reader : ReaderState) (kept : List ℕ) (told : Bool) (p : Past) → awaited_at stage ≡ Awaited.AMail → StandsInStage stage reader kept told p → wanted p.steps ≤ length p.mail + 1
 few_at_look (stages.Polling waits) reader kept told p e h = let w = wanted_open reader kept told 1 p h.0 in omega arith
 few_at_look (stages.Leaving end) reader kept told p e h =
     let served = h.served [] in
@@ -46,7 +46,7 @@ few_at_look stages.AskingQuit reader kept told p e h = cc
 few_at_look (stages.Closing end) reader kept told p e h = cc
 
 -- a read finds a line that goes on
-goes_on_at_read : (stage : Stage) (reader : State) (kept : List ℕ) (told : Bool) (p : Past) → awaited_at stage ≡ Awaited.AReading → StandsInStage stage reader kept told p → (p.closing ≡ false) × (p.ended ≡ false) × (p.fault ≡ None)
+goes_on_at_read : (stage : Stage) (reader : ReaderState) (kept : List ℕ) (told : Bool) (p : Past) → awaited_at stage ≡ Awaited.AReading → StandsInStage stage reader kept told p → (p.closing ≡ false) × (p.ended ≡ false) × (p.fault ≡ None)
 goes_on_at_read stages.Reading reader kept told p e h = (h.0.stepped.closing_is, h.0.stepped.ended_is ∙ h.2, h.0.handed.fault_is)
 goes_on_at_read stages.ReadingOn reader kept told p e h = (h.0.0.stepped.closing_is, h.0.0.stepped.ended_is ∙ h.2, h.0.0.handed.fault_is)
 goes_on_at_read stages.Between reader kept told p e h = cc
@@ -60,7 +60,7 @@ goes_on_at_read (stages.Closing end) reader kept told p e h = cc
 goes_on_at_read (stages.Leaving end) reader kept told p e h = cc
 
 -- a write finds no fault
-unbroken_at : (stage : Stage) (reader : State) (kept : List ℕ) (told : Bool) (p : Past) → awaited_at stage ≡ Awaited.AWriting → StandsInStage stage reader kept told p → (p.closing ≡ false) × (p.fault ≡ None)
+unbroken_at : (stage : Stage) (reader : ReaderState) (kept : List ℕ) (told : Bool) (p : Past) → awaited_at stage ≡ Awaited.AWriting → StandsInStage stage reader kept told p → (p.closing ≡ false) × (p.fault ≡ None)
 unbroken_at stages.Writing reader kept told p e h = (h.0.stepped.closing_is, h.0.handed.fault_is)
 unbroken_at stages.Between reader kept told p e h = cc
 unbroken_at stages.Connecting reader kept told p e h = cc

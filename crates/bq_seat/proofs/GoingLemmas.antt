@@ -10,7 +10,7 @@ use Rattle.bq_seat.specs.Past.{Past, with_action}
 use Rattle.bq_seat.specs.SeatParts.{GoesOn, asking_stage, holding, in_stage}
 use Rattle.bq_seat.specs.SeatStands.{AgreesWith, IsOpen, StandsInStage}
 use Rattle.bq_wire.specs.Standing.{Stands, HandsRequest}
-use Rattle.bq_wire.specs.declared.state.State.{State}
+use Rattle.bq_wire.specs.declared.reader_state.ReaderState.{ReaderState}
 use Rattle.bq_seat.specs.declared.machine.Action.{Action}
 use Rattle.bq_seat.specs.declared.machine.Action.TheVariants as actions
 use Rattle.bq_seat.specs.declared.machine.SeatMachine.{SeatMachine}
@@ -28,17 +28,17 @@ goes_told m kept told = record {
 }
 
 -- the machine after it has fed what it kept and asked a request
-abbrev pub after_asking : SeatMachine → State → ℕ → Request → SeatMachine
+abbrev pub after_asking : SeatMachine → ReaderState → ℕ → Request → SeatMachine
 after_asking m next taken request = record m { reader = next; kept = drop taken m.kept; stage = asking_stage request }
 
-asking_quit : (m : SeatMachine) (next : State) (n : ℕ) → m.end_told ≡ false → next.max_job_size ≡ m.reader.max_job_size
+asking_quit : (m : SeatMachine) (next : ReaderState) (n : ℕ) → m.end_told ≡ false → next.max_job_size ≡ m.reader.max_job_size
     → ((text : List ℕ) → Stands m.reader text → HandsRequest next text m.kept n requests.Quit)
     → (p : Past) → IsOpen m.reader m.kept m.end_told 0 p → AgreesWith (after_asking m next n requests.Quit) (with_action (actions.Submit (steps.Ask requests.Quit)) p)
 asking_quit m next n untold same fed p line =
     let o : IsOpen m.reader m.kept false 0 p = open_at m.reader m.kept m.kept m.end_told false 0 p refl untold line in
     quits m.reader next m.kept n p o same (fed o.read.begun o.read.stands).unit
 
-asking : (m : SeatMachine) (next : State) (n : ℕ) (q : Request) → is_quit q ≡ false → m.end_told ≡ false → next.max_job_size ≡ m.reader.max_job_size
+asking : (m : SeatMachine) (next : ReaderState) (n : ℕ) (q : Request) → is_quit q ≡ false → m.end_told ≡ false → next.max_job_size ≡ m.reader.max_job_size
     → ((text : List ℕ) → Stands m.reader text → HandsRequest next text m.kept n q) → (p : Past) → IsOpen m.reader m.kept m.end_told 0 p
     → StandsInStage (stages.Asking (is_waiting_request q)) next (drop n m.kept) m.end_told (with_action (actions.Submit (steps.Ask q)) p)
 asking m next n q not_quit untold same fed p line =
@@ -48,7 +48,7 @@ asking m next n q not_quit untold same fed p line =
     (waiting_at next (drop n m.kept) false m.end_told (is_waiting_request q) _ (sym untold) (asks m.reader next m.kept n q p o same out.unit empty not_quit), untold)
 
 -- the reader has handed out a request, and it is asked
-pub goes_asking : (m : SeatMachine) (next : State) (n : ℕ) (q : Request) → m.end_told ≡ false → next.max_job_size ≡ m.reader.max_job_size
+pub goes_asking : (m : SeatMachine) (next : ReaderState) (n : ℕ) (q : Request) → m.end_told ≡ false → next.max_job_size ≡ m.reader.max_job_size
     → ((text : List ℕ) → Stands m.reader text → HandsRequest next text m.kept n q)
     → GoesOn m (actions.Submit (steps.Ask q)) (after_asking m next n q)
 goes_asking m next n requests.Quit untold same fed = record {
@@ -65,7 +65,7 @@ goes_asking m next n q untold same fed = record {
 }
 
 -- the same, as the reader and the kept bytes tell it
-pub goes_handed : (m : SeatMachine) (next : State) (n : ℕ) (q : Request) (piece kept : List ℕ) (found : Option Request)
+pub goes_handed : (m : SeatMachine) (next : ReaderState) (n : ℕ) (q : Request) (piece kept : List ℕ) (found : Option Request)
     → m.end_told ≡ false → next.max_job_size ≡ m.reader.max_job_size → piece ≡ m.kept → kept ≡ drop n m.kept → found ≡ Some q
     → IfSome found (λ request. (text : List ℕ) → Stands m.reader text → HandsRequest next text piece n request)
     → GoesOn m (actions.Submit (steps.Ask q)) (record m { reader = next; kept = kept; stage = asking_stage q })

@@ -13,7 +13,7 @@ use Rattle.bq_seat.specs.InTurn.{IsInTurn}
 use Rattle.bq_seat.proofs.StepLemmas.{answered_count-asked}
 use Rattle.bq_seat.specs.Past.{Awaited, Past}
 use Rattle.bq_seat.specs.SeatStands.{HasAskedQuit, StandsInStage, awaited_at, end_if, has_quit}
-use Rattle.bq_wire.specs.declared.state.State.{State}
+use Rattle.bq_wire.specs.declared.reader_state.ReaderState.{ReaderState}
 use Rattle.bq_seat.specs.declared.machine.Stage.{Stage}
 use Rattle.bq_seat.specs.declared.machine.Stage.TheVariants as stages
 use Rattle.bq_seat.proofs.ReadingLemmas.{neither}
@@ -104,7 +104,7 @@ few_missing ends.ReadFault asked mail (inl h) = omega arith
 few_missing ends.ReadFault asked mail (inr h) = let one = h.1 in omega arith
 
 -- what a machine stands for while a step is submitted says that it comes in its turn
-pub in_turn : (stage : Stage) (reader : State) (kept : List ℕ) (told : Bool) (p : Past) (taken : List Step) (step : Step) → awaited_at stage ≡ Awaited.ASubmission → p.steps ≡ taken ++ step ∷ [] → StandsInStage stage reader kept told p → IsInTurn step taken p.mail
+pub in_turn : (stage : Stage) (reader : ReaderState) (kept : List ℕ) (told : Bool) (p : Past) (taken : List Step) (step : Step) → awaited_at stage ≡ Awaited.ASubmission → p.steps ≡ taken ++ step ∷ [] → StandsInStage stage reader kept told p → IsInTurn step taken p.mail
 in_turn stages.Between reader kept told p taken step e are h = cc
 in_turn stages.Connecting reader kept told p taken step e are h = connects taken p.mail step (sym are ∙ h.2)
 in_turn stages.Reading reader kept told p taken step e are h = cc

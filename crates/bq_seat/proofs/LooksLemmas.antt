@@ -8,7 +8,7 @@ use Rattle.bq_job.specs.declared.step.Step.TheVariants as steps
 use Rattle.bq_job.specs.reading.Reading.{is_quit}
 use Rattle.bq_job.specs.promise.LineSteps.{ends_by_wait, wanted}
 use Rattle.bq_job.specs.declared.line_end.LineEnd.{LineEnd}
-use Rattle.bq_wire.specs.declared.state.State.{State}
+use Rattle.bq_wire.specs.declared.reader_state.ReaderState.{ReaderState}
 use Rattle.bq_seat.specs.Looks.{GoesFurther, LooksBehindStep, asked_in, is_read_on, is_unanswered, last_step}
 use Rattle.bq_seat.specs.Past.{Past}
 use Rattle.bq_seat.specs.SeatStands.{HasAskedQuit, IsClosing, IsOpen, IsWaiting, end_if, has_quit}
@@ -51,13 +51,13 @@ behind_asked (r ∷ asked) taken is some none =
     subst (λ s. LooksBehindStep s actions.PollMail) (sym last) (no_quit_behind ends.last (last_no_quit ends.before ends.last (ap has_quit (sym ends.is) ∙ none)))
 
 -- behind a request that is answered
-pub behind_request : (r : State) (kept : List ℕ) (told : Bool) (p : Past) → IsOpen r kept told 1 p → told ≡ false → LooksBehindStep (last_step p.steps) actions.PollMail
+pub behind_request : (r : ReaderState) (kept : List ℕ) (told : Bool) (p : Past) → IsOpen r kept told 1 p → told ≡ false → LooksBehindStep (last_step p.steps) actions.PollMail
 behind_request r kept told p o untold =
     behind_asked o.asked p.steps (o.stepped.steps_are ∙ ap (λ t. (steps.Connect ∷ map steps.Ask o.asked) ++ end_if t) untold ∙ append-nil (steps.Connect ∷ map steps.Ask o.asked))
     (let all = o.handed.answered in omega arith) o.stepped.no_quit
 
 -- behind the end that was told
-pub behind_end : (r : State) (kept : List ℕ) (told : Bool) (p : Past) → IsOpen r kept told 1 p → told ≡ true → LooksBehindStep (last_step p.steps) actions.PollMail
+pub behind_end : (r : ReaderState) (kept : List ℕ) (told : Bool) (p : Past) → IsOpen r kept told 1 p → told ≡ true → LooksBehindStep (last_step p.steps) actions.PollMail
 behind_end r kept told p o was_told =
     let is = ap last_step (o.stepped.steps_are ∙ ap (λ t. (steps.Connect ∷ map steps.Ask o.asked) ++ end_if t) was_told) ∙ last_step-append (steps.Connect ∷ map steps.Ask o.asked) steps.End in
     subst (λ s. LooksBehindStep s actions.PollMail) (sym is) refl
@@ -73,7 +73,7 @@ no_ends : (told : Bool) → wanted (end_if told) ≡ 0
 no_ends true = refl
 no_ends false = refl
 
-pub wanted_open : (r : State) (kept : List ℕ) (told : Bool) (out : ℕ) (p : Past) → IsOpen r kept told out p → wanted p.steps ≡ length p.mail + out
+pub wanted_open : (r : ReaderState) (kept : List ℕ) (told : Bool) (out : ℕ) (p : Past) → IsOpen r kept told out p → wanted p.steps ≡ length p.mail + out
 wanted_open r kept told out p o =
     let same = ap wanted o.stepped.steps_are in
     let joined = wanted_joined (map steps.Ask o.asked) (end_if told) in
@@ -82,7 +82,7 @@ wanted_open r kept told out p o =
     omega (arith, no_ends told)
 
 -- nothing is outstanding
-pub answered_all : (r : State) (kept : List ℕ) (told : Bool) (p : Past) → IsOpen r kept told 0 p → is_unanswered p ≡ false
+pub answered_all : (r : ReaderState) (kept : List ℕ) (told : Bool) (p : Past) → IsOpen r kept told 0 p → is_unanswered p ≡ false
 answered_all r kept told p o = let w = wanted_open r kept told 0 p o in at (is_unanswered p) refl w
   where
     at : (b : Bool) → is_unanswered p ≡ b → wanted p.steps ≡ length p.mail + 0 → b ≡ false
@@ -90,7 +90,7 @@ answered_all r kept told p o = let w = wanted_open r kept told 0 p o in at (is_u
     at true e w = absurd (grind (arith, nat_tests))
 
 -- an answer is outstanding
-pub one_unanswered : (r : State) (kept : List ℕ) (told : Bool) (p : Past) → IsOpen r kept told 1 p → is_unanswered p ≡ true
+pub one_unanswered : (r : ReaderState) (kept : List ℕ) (told : Bool) (p : Past) → IsOpen r kept told 1 p → is_unanswered p ≡ true
 one_unanswered r kept told p o = let w = wanted_open r kept told 1 p o in at (is_unanswered p) refl w
   where
     at : (b : Bool) → is_unanswered p ≡ b → wanted p.steps ≡ length p.mail + 1 → b ≡ true
@@ -103,7 +103,7 @@ asked_in-ends [] false = refl
 asked_in-ends (r ∷ asked) told = ap (λ rs. r ∷ rs) (asked_in-ends asked told)
 
 -- whether the line is read on, while an answer is outstanding
-pub read_on_is : (r : State) (kept : List ℕ) (told waits : Bool) (p : Past) → IsWaiting r kept told waits p → is_read_on kept p ≡ (waits && not told && (length kept == 0))
+pub read_on_is : (r : ReaderState) (kept : List ℕ) (told waits : Bool) (p : Past) → IsWaiting r kept told waits p → is_read_on kept p ≡ (waits && not told && (length kept == 0))
 read_on_is r [] told waits p w =
     let o = w.0 in
     let may_wait = ap (λ s. ends_by_wait (asked_in s)) o.stepped.steps_are ∙ ap ends_by_wait (asked_in-ends o.asked told) ∙ w.1 in

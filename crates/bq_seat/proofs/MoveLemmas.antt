@@ -12,7 +12,7 @@ use Rattle.bq_seat.specs.Past.{Past, with_action, with_event, past_after, is_str
 use Rattle.bq_seat.specs.SeatParts.{GoesOn, IfLineOver, IsStagedMove, OpensLine, in_stage, reads_on}
 use Rattle.bq_seat.specs.SeatStands.{AgreesWith, IsOpen, StandsInStage, awaited_at}
 use Rattle.bq_wire.specs.Standing.{Stands}
-use Rattle.bq_wire.specs.declared.state.State.{State}
+use Rattle.bq_wire.specs.declared.reader_state.ReaderState.{ReaderState}
 use Rattle.bq_seat.specs.declared.machine.Action.{Action}
 use Rattle.bq_seat.specs.declared.machine.Action.TheVariants as actions
 use Rattle.bq_seat.specs.declared.machine.Event.{Event}
@@ -192,7 +192,7 @@ fault_in_writing m = record {
 }
 
 -- a line is opened
-pub opens : (m : SeatMachine) (next : State) (kept : List ℕ) → Stands next [] → next.max_job_size ≡ m.reader.max_job_size → kept ≡ []
+pub opens : (m : SeatMachine) (next : ReaderState) (kept : List ℕ) → Stands next [] → next.max_job_size ≡ m.reader.max_job_size → kept ≡ []
     → IsStagedMove (in_stage stages.Between m) events.Opened (actions.Submit steps.Connect) (record { reader = next; kept = kept; stage = stages.Connecting; end_told = false })
 opens m next kept stands same none =
     let P : List ℕ → Type 0 = λ k. StandsInStage stages.Connecting next k false first_past in

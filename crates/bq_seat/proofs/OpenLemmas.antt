@@ -18,14 +18,14 @@ use Rattle.bq_seat.specs.Past.{Past, with_action, with_mail, with_fault, first_p
 use Rattle.bq_seat.specs.Served.{IsLastBroken, IsServed, IsServedToClose}
 use Rattle.bq_seat.specs.SeatStands.{IsClosing, IsOpen, IsWaiting, StandsInStage, end_if}
 use Rattle.bq_wire.specs.Standing.{Stands}
-use Rattle.bq_wire.specs.declared.state.State.{State}
+use Rattle.bq_wire.specs.declared.reader_state.ReaderState.{ReaderState}
 use Rattle.bq_seat.specs.declared.machine.Action.TheVariants as actions
 use Rattle.bq_seat.specs.declared.machine.Stage.TheVariants as stages
 use Rattle.bq_seat.proofs.ReadingLemmas.{BeginsNoUnit-[], AreUnits-append, one_unit, Reads-after, Reads-begun, Reads-quit, ends_by_quit-append, neither}
 use Rattle.bq_seat.proofs.StepLemmas.{answered_count-asked, answered_count-quit, ends_by_wait-asked, has_quit-asked, map-asked, no_quit_last, some_asked}
 
 -- a line is opened
-pub opened : (r : State) → Stands r [] → StandsInStage stages.Connecting r [] false first_past
+pub opened : (r : ReaderState) → Stands r [] → StandsInStage stages.Connecting r [] false first_past
 opened r h = (
   record {
     asked = [];
@@ -56,7 +56,7 @@ opened r h = (
 )
 
 -- bytes are handed in where none are kept
-pub handed_in : (r : State) (kept : List ℕ) (told : Bool) (out : ℕ) (p : Past) (more : List ℕ) → IsOpen r kept told out p → kept ≡ [] → told ≡ false
+pub handed_in : (r : ReaderState) (kept : List ℕ) (told : Bool) (out : ℕ) (p : Past) (more : List ℕ) → IsOpen r kept told out p → kept ≡ [] → told ≡ false
     → IsOpen r more told out (record p { bytes = p.bytes ++ more })
 handed_in r kept told out p more o none untold = record {
   asked = o.asked;
@@ -79,17 +79,17 @@ handed_in r kept told out p more o none untold = record {
   handed = o.handed;
 }
 
-pub handed_in_waiting : (r : State) (kept : List ℕ) (told waits : Bool) (p : Past) (more : List ℕ) → IsWaiting r kept told waits p → kept ≡ [] → told ≡ false
+pub handed_in_waiting : (r : ReaderState) (kept : List ℕ) (told waits : Bool) (p : Past) (more : List ℕ) → IsWaiting r kept told waits p → kept ≡ [] → told ≡ false
     → IsWaiting r more told waits (record p { bytes = p.bytes ++ more })
 unfolding handed_in
 handed_in_waiting r kept told waits p more w none untold = (handed_in r kept told 1 p more w.0 none untold, w.1)
 
 -- the reader reads as it did
-same_units : (r next : State) (units : List ℕ) (asked : List Request) → next.max_job_size ≡ r.max_job_size → AreUnits r.max_job_size units asked → AreUnits next.max_job_size units asked
+same_units : (r next : ReaderState) (units : List ℕ) (asked : List Request) → next.max_job_size ≡ r.max_job_size → AreUnits r.max_job_size units asked → AreUnits next.max_job_size units asked
 same_units r next units asked same u = let P : ℕ → Type 0 = λ x. AreUnits x units asked in subst P (sym same) u
 
 -- the reader has taken all bytes that were kept, and they hold no whole request
-pub read_on : (r next : State) (kept : List ℕ) (p : Past) (o : IsOpen r kept false 0 p) → next.max_job_size ≡ r.max_job_size
+pub read_on : (r next : ReaderState) (kept : List ℕ) (p : Past) (o : IsOpen r kept false 0 p) → next.max_job_size ≡ r.max_job_size
     → Stands next (o.read.begun ++ kept) → BeginsNoUnit next.max_job_size (o.read.begun ++ kept) → IsOpen next [] false 0 p
 read_on r next kept p o same h none = record {
   asked = o.asked;
@@ -116,14 +116,14 @@ split_bytes : (units begun kept : List ℕ) (n : ℕ) → units ++ (begun ++ kep
 split_bytes units begun kept n = rw (append_assoc units (begun ++ take n kept) (drop n kept), append_assoc begun (take n kept) (drop n kept), take-append-drop n kept) refl
 
 -- the steps of an open line, if this request is asked
-asked_steps : (r : State) (kept : List ℕ) (p : Past) (o : IsOpen r kept false 0 p) (q : Request)
+asked_steps : (r : ReaderState) (kept : List ℕ) (p : Past) (o : IsOpen r kept false 0 p) (q : Request)
     → p.steps ++ steps.Ask q ∷ [] ≡ steps.Connect ∷ map steps.Ask (o.asked ++ q ∷ [])
 asked_steps r kept p o q =
     ap (λ x. x ++ steps.Ask q ∷ []) (o.stepped.steps_are ∙ append-nil (steps.Connect ∷ map steps.Ask o.asked))
     ∙ ap (λ x. steps.Connect ∷ x) (sym (map-asked o.asked q))
 
 -- a request is asked
-pub asks : (r next : State) (kept : List ℕ) (n : ℕ) (q : Request) (p : Past) (o : IsOpen r kept false 0 p)
+pub asks : (r next : ReaderState) (kept : List ℕ) (n : ℕ) (q : Request) (p : Past) (o : IsOpen r kept false 0 p)
     → next.max_job_size ≡ r.max_job_size → IsUnit next.max_job_size (o.read.begun ++ take n kept) q → Stands next [] → is_quit q ≡ false
     → IsWaiting next (drop n kept) false (is_waiting_request q) (with_action (actions.Submit (steps.Ask q)) p)
 asks r next kept n q p o same unit h not_quit = (
@@ -156,7 +156,7 @@ asks r next kept n q p o same unit h not_quit = (
 )
 
 -- a quit is asked
-pub quits : (r next : State) (kept : List ℕ) (n : ℕ) (p : Past) (o : IsOpen r kept false 0 p)
+pub quits : (r next : ReaderState) (kept : List ℕ) (n : ℕ) (p : Past) (o : IsOpen r kept false 0 p)
     → next.max_job_size ≡ r.max_job_size → IsUnit next.max_job_size (o.read.begun ++ take n kept) requests.Quit
     → StandsInStage stages.AskingQuit next (drop n kept) false (with_action (actions.Submit (steps.Ask requests.Quit)) p)
 quits r next kept n p o same unit =
@@ -194,12 +194,12 @@ quits r next kept n p o same unit =
     )
 
 -- the steps of an open line, if the close follows
-closed_steps : (r : State) (kept : List ℕ) (told : Bool) (out : ℕ) (p : Past) (o : IsOpen r kept told out p)
+closed_steps : (r : ReaderState) (kept : List ℕ) (told : Bool) (out : ℕ) (p : Past) (o : IsOpen r kept told out p)
     → p.steps ++ steps.Close ∷ [] ≡ (steps.Connect ∷ map steps.Ask o.asked) ++ end_if told ++ steps.Close ∷ []
 closed_steps r kept told out p o = ap (λ x. x ++ steps.Close ∷ []) o.stepped.steps_are
 
 -- every request was asked where no bytes are kept
-all_read : (r : State) (kept : List ℕ) (told : Bool) (out : ℕ) (p : Past) (o : IsOpen r kept told out p) → kept ≡ []
+all_read : (r : ReaderState) (kept : List ℕ) (told : Bool) (out : ℕ) (p : Past) (o : IsOpen r kept told out p) → kept ≡ []
     → Reads r.max_job_size p.bytes o.asked o.read.begun
 all_read r kept told out p o none =
     Reads-begun r.max_job_size p.bytes o.read.units o.read.begun o.asked (o.read.bytes_are ∙ ap (λ k. o.read.units ++ (o.read.begun ++ k)) none ∙ ap (λ b. o.read.units ++ b) (append-nil o.read.begun))
@@ -212,7 +212,7 @@ told_well bytes written ended fault asked true h = inr (refl, (h refl).0, (h ref
 told_well bytes written ended fault asked false h = inl refl
 
 -- a line is closed at the end of its input
-served_at_end : (r : State) (kept : List ℕ) (told ended : Bool) (p : Past) → IsOpen r kept told 0 p → kept ≡ [] → ended ≡ true → (written : List ℕ)
+served_at_end : (r : ReaderState) (kept : List ℕ) (told ended : Bool) (p : Past) → IsOpen r kept told 0 p → kept ≡ [] → ended ≡ true → (written : List ℕ)
     → IsServedToClose r.max_job_size written ends.EndOfInput (with_action (actions.Submit steps.Close) (record p { ended = ended }))
 served_at_end r kept told ended p o none e written = record {
   line = record {
@@ -236,7 +236,7 @@ closed : (size : ℕ) (end : LineEnd) (p : Past) → p.late_mail ≡ [] → ((wr
     → IsClosing size end (with_action (actions.Submit steps.Close) p)
 closed size end p none served = record { served = served; closing_is = or-true p.closing; unclosed = ap has_closed none }
 
-pub ends_line : (r : State) (kept : List ℕ) (told ended : Bool) (p : Past) → IsOpen r kept told 0 p → kept ≡ [] → ended ≡ true
+pub ends_line : (r : ReaderState) (kept : List ℕ) (told ended : Bool) (p : Past) → IsOpen r kept told 0 p → kept ≡ [] → ended ≡ true
     → IsClosing r.max_job_size ends.EndOfInput (with_action (actions.Submit steps.Close) (record p { ended = ended }))
 ends_line r kept told ended p o none e = closed r.max_job_size ends.EndOfInput (record p { ended = ended }) o.handed.late_is (served_at_end r kept told ended p o none e)
 
@@ -246,13 +246,13 @@ first_fault : (p : Past) (fault : LineFault) → p.fault ≡ None
 first_fault p fault e = ap (λ f. if is_some f then p else record p { fault = Some fault; written_at_fault = length p.written }) e
 
 -- the answers of a line of which a read failed
-fault_answers : (r : State) (kept : List ℕ) (told : Bool) (p : Past) (out : ℕ) (o : IsOpen r kept told out p)
+fault_answers : (r : ReaderState) (kept : List ℕ) (told : Bool) (p : Past) (out : ℕ) (o : IsOpen r kept told out p)
     → ((out ≡ 0) ⊎ ((out ≡ 1) × (ends_by_wait o.asked ≡ true))) → AreAllAnswered ends.ReadFault o.asked p.mail
 fault_answers r kept told p out o (inl e) = inl (omega (arith, e, o.handed.answered, answered_count-asked o.asked o.stepped.no_quit))
 fault_answers r kept told p out o (inr e) = inr (e.1, omega (arith, e.0, o.handed.answered, answered_count-asked o.asked o.stepped.no_quit))
 
 -- a line is closed after a read fault
-served_at_read_fault : (r : State) (kept : List ℕ) (told : Bool) (out : ℕ) (p : Past) (o : IsOpen r kept told out p) → kept ≡ []
+served_at_read_fault : (r : ReaderState) (kept : List ℕ) (told : Bool) (out : ℕ) (p : Past) (o : IsOpen r kept told out p) → kept ≡ []
     → ((out ≡ 0) ⊎ ((out ≡ 1) × (ends_by_wait o.asked ≡ true))) → (written : List ℕ)
     → IsServedToClose r.max_job_size written ends.ReadFault (with_action (actions.Submit steps.Close) (with_fault faults.Read p))
 served_at_read_fault r kept told out p o none answers written =
@@ -281,14 +281,14 @@ late_after_fault fault p = go p.fault refl
     go None e = rw e refl
     go (Some x) e = rw e refl
 
-pub read_fails : (r : State) (kept : List ℕ) (told : Bool) (out : ℕ) (p : Past) (o : IsOpen r kept told out p) → kept ≡ []
+pub read_fails : (r : ReaderState) (kept : List ℕ) (told : Bool) (out : ℕ) (p : Past) (o : IsOpen r kept told out p) → kept ≡ []
     → ((out ≡ 0) ⊎ ((out ≡ 1) × (ends_by_wait o.asked ≡ true)))
     → IsClosing r.max_job_size ends.ReadFault (with_action (actions.Submit steps.Close) (with_fault faults.Read p))
 read_fails r kept told out p o none answers =
     closed r.max_job_size ends.ReadFault (with_fault faults.Read p) (late_after_fault faults.Read p ∙ o.handed.late_is) (served_at_read_fault r kept told out p o none answers)
 
 -- a line is closed after a write fault
-served_at_write_fault : (r : State) (kept : List ℕ) (told : Bool) (p : Past) → IsOpen r kept told 0 p → 0 < length p.written
+served_at_write_fault : (r : ReaderState) (kept : List ℕ) (told : Bool) (p : Past) → IsOpen r kept told 0 p → 0 < length p.written
     → ((text : List ℕ) → (requests : List Request) × (rest : List ℕ) × Reads r.max_job_size text requests rest) → (written : List ℕ)
     → IsServedToClose r.max_job_size written ends.WriteFault (with_action (actions.Submit steps.Close) (with_fault faults.Write p))
 served_at_write_fault r kept told p o some_written all written =
@@ -312,7 +312,7 @@ served_at_write_fault r kept told p o some_written all written =
       fault = refl;
     })
 
-pub write_fails : (r : State) (kept : List ℕ) (told : Bool) (p : Past) → IsOpen r kept told 0 p → 0 < length p.written
+pub write_fails : (r : ReaderState) (kept : List ℕ) (told : Bool) (p : Past) → IsOpen r kept told 0 p → 0 < length p.written
     → ((text : List ℕ) → (requests : List Request) × (rest : List ℕ) × Reads r.max_job_size text requests rest)
     → IsClosing r.max_job_size ends.WriteFault (with_action (actions.Submit steps.Close) (with_fault faults.Write p))
 write_fails r kept told p o some_written all =
@@ -327,7 +327,7 @@ late_mail : (p : Past) (a : Answer) → p.closing ≡ true → with_mail a p ≡
 late_mail p a e = ap (λ c. if c then record p { late_mail = p.late_mail ++ a ∷ [] } else record p { mail = p.mail ++ a ∷ [] }) e
 
 -- the outstanding answer comes, and is handed out
-pub answered : (r : State) (kept : List ℕ) (told waits : Bool) (p : Past) (a : Answer) → IsWaiting r kept told waits p
+pub answered : (r : ReaderState) (kept : List ℕ) (told waits : Bool) (p : Past) (a : Answer) → IsWaiting r kept told waits p
     → StandsInStage stages.Writing r kept told (with_action (actions.Write a) (with_mail a p))
 answered r kept told waits p a w =
     let o = w.0 in
@@ -385,7 +385,7 @@ served_now size end p a own c written =
     })
 
 -- while a reserve waits, it is told that the client sends no more
-pub tells_end : (r : State) (kept : List ℕ) (told : Bool) (p : Past) → IsWaiting r kept told true p → kept ≡ [] → told ≡ false
+pub tells_end : (r : ReaderState) (kept : List ℕ) (told : Bool) (p : Past) → IsWaiting r kept told true p → kept ≡ [] → told ≡ false
     → IsWaiting r kept true true (with_action (actions.Submit steps.End) (record p { ended = true }))
 tells_end r kept told p w none untold = let o = w.0 in let front : List Step = steps.Connect ∷ map steps.Ask o.asked in (
   record {
@@ -404,12 +404,12 @@ tells_end r kept told p w none untold = let o = w.0 in let front : List Step = s
 )
 
 -- the same machine's line, in other words for what is kept and told
-pub open_at : (r : State) (kept other : List ℕ) (told same : Bool) (out : ℕ) (p : Past) → kept ≡ other → told ≡ same
+pub open_at : (r : ReaderState) (kept other : List ℕ) (told same : Bool) (out : ℕ) (p : Past) → kept ≡ other → told ≡ same
     → IsOpen r kept told out p → IsOpen r other same out p
 open_at r kept other told same out p e f o =
     let P : List ℕ → Type 0 = λ k. IsOpen r k told out p in
     let Q : Bool → Type 0 = λ t. IsOpen r other t out p in
     subst Q f (subst P e o)
 
-pub waiting_at : (r : State) (kept : List ℕ) (told same waits : Bool) (p : Past) → told ≡ same → IsWaiting r kept told waits p → IsWaiting r kept same waits p
+pub waiting_at : (r : ReaderState) (kept : List ℕ) (told same waits : Bool) (p : Past) → told ≡ same → IsWaiting r kept told waits p → IsWaiting r kept same waits p
 waiting_at r kept told same waits p e w = let P : Bool → Type 0 = λ t. IsWaiting r kept t waits p in subst P e w

@@ -13,7 +13,7 @@ use Rattle.bq_job.specs.reading.Reading.{AreUnits, BeginsNoUnit, is_quit}
 use Rattle.bq_job.specs.promise.LineSteps.{ends_by_wait}
 use Rattle.bq_job.specs.machine.OneClient.{has_closed}
 use Rattle.bq_wire.specs.Standing.{Stands}
-use Rattle.bq_wire.specs.declared.state.State.{State}
+use Rattle.bq_wire.specs.declared.reader_state.ReaderState.{ReaderState}
 use Rattle.bq_seat.specs.Past.{Past, Awaited, IsOrderly, with_action}
 use Rattle.bq_seat.specs.Served.{IsServed, IsServedToClose}
 use Rattle.bq_seat.specs.declared.machine.Action.TheVariants as actions
@@ -29,7 +29,7 @@ end_if told = if told then steps.End ∷ [] else []
 
 -- The bytes that were handed in are the units of the requests that were asked, then the text that the
 -- reader has begun, then those that are kept.
-pub record HasReadTo (reader : State) (kept : List ℕ) (asked : List Request) (bytes : List ℕ) : Type 0 where
+pub record HasReadTo (reader : ReaderState) (kept : List ℕ) (asked : List Request) (bytes : List ℕ) : Type 0 where
   pub units : List ℕ
   pub begun : List ℕ
   pub stands : Stands reader begun
@@ -54,14 +54,14 @@ pub record HasHandedOut (outstanding : ℕ) (asked : List Request) (mail late wr
   pub fault_is : fault ≡ None
 
 -- a line that is open
-pub record IsOpen (reader : State) (kept : List ℕ) (told : Bool) (outstanding : ℕ) (p : Past) : Type 0 where
+pub record IsOpen (reader : ReaderState) (kept : List ℕ) (told : Bool) (outstanding : ℕ) (p : Past) : Type 0 where
   pub asked : List Request
   pub read : HasReadTo reader kept asked p.bytes
   pub stepped : HasStepped kept told asked p.steps p.closing p.ended
   pub handed : HasHandedOut outstanding asked p.mail p.late_mail p.written p.fault
 
 -- the same with one answer outstanding, and whether the last request was one that may wait
-abbrev pub IsWaiting : State → List ℕ → Bool → Bool → Past → Type 0
+abbrev pub IsWaiting : ReaderState → List ℕ → Bool → Bool → Past → Type 0
 IsWaiting reader kept told waits p =
     (line : IsOpen reader kept told 1 p) × (ends_by_wait line.asked ≡ waits)
 
@@ -78,7 +78,7 @@ pub record IsClosing (max_job_size : ℕ) (end : LineEnd) (p : Past) : Type 0 wh
   pub closing_is : p.closing ≡ true
   pub unclosed : has_closed p.late_mail ≡ false
 
-abbrev pub StandsInStage : Stage → State → List ℕ → Bool → Past → Type 0
+abbrev pub StandsInStage : Stage → ReaderState → List ℕ → Bool → Past → Type 0
 StandsInStage stages.Between reader kept told p = (end : LineEnd) × ((written : List ℕ) → IsServed reader.max_job_size written end p)
 StandsInStage stages.Connecting reader kept told p = IsOpen reader kept told 0 p × (told ≡ false) × (p.steps ≡ steps.Connect ∷ [])
 StandsInStage stages.Reading reader kept told p = IsOpen reader kept told 0 p × (kept ≡ []) × (told ≡ false)

@@ -10,18 +10,18 @@ use Rattle.bq_job.specs.declared.request.Request.{Request}
 use Rattle.bq_job.proofs.UnitsLemmas.{AreUnits-append, ends_by_quit-append, quits_last-append}
 use Rattle.bq_wire.specs.HasRead.{HasRead, HasReadText, ReadsOn}
 use Rattle.bq_wire.specs.Standing.{Stands, StandsAt, Feeds, FeedsText, Waits, HandsRequest}
-use Rattle.bq_wire.specs.declared.state.Place.{Place}
-use Rattle.bq_wire.specs.declared.state.Place.TheVariants.{InLine, InLongLine, InBody, Over}
-use Rattle.bq_wire.specs.declared.state.State.{State}
+use Rattle.bq_wire.specs.declared.reader_state.ReaderPlace.{ReaderPlace}
+use Rattle.bq_wire.specs.declared.reader_state.ReaderPlace.TheVariants.{InLine, InLongLine, InBody, Over}
+use Rattle.bq_wire.specs.declared.reader_state.ReaderState.{ReaderState}
 use Rattle.bq_wire.proofs.PutBodyLemmas.{take_two}
 use Rattle.bq_wire.proofs.ReaderLemmas.{Stands-no_unit}
 
 -- a reader that stands for the empty text has read nothing
-pub HasRead-none : (s : State) → Stands s [] → HasRead s [] []
+pub HasRead-none : (s : ReaderState) → Stands s [] → HasRead s [] []
 HasRead-none s stands = record { units = []; rest = []; taken_is = refl; are_units = refl; last_quits = refl; goes_on = inr (refl, stands) }
 
 -- a call without a request
-HasRead-waits : (old new : State) (piece taken : List ℕ) (count : ℕ) (requests : List Request) → new.max_job_size ≡ old.max_job_size
+HasRead-waits : (old new : ReaderState) (piece taken : List ℕ) (count : ℕ) (requests : List Request) → new.max_job_size ≡ old.max_job_size
     → (read : HasRead old taken requests) → ends_by_quit requests ≡ false → Waits new read.rest piece count → HasRead new (taken ++ take count piece) requests
 HasRead-waits old new piece taken count requests same read no_quit waits =
     let all : take count piece ≡ piece = rw waits.all (take-length piece) in
@@ -35,7 +35,7 @@ HasRead-waits old new piece taken count requests same read no_quit waits =
     }
 
 -- a call with one
-HasRead-hands_out : (old new : State) (piece taken : List ℕ) (count : ℕ) (requests : List Request) (r : Request) → new.max_job_size ≡ old.max_job_size
+HasRead-hands_out : (old new : ReaderState) (piece taken : List ℕ) (count : ℕ) (requests : List Request) (r : Request) → new.max_job_size ≡ old.max_job_size
     → (read : HasRead old taken requests) → ends_by_quit requests ≡ false → HandsRequest new read.rest piece count r → HasRead new (taken ++ take count piece) (requests ++ r ∷ [])
 HasRead-hands_out old new piece taken count requests r same read no_quit out = record {
   units = read.units ++ (read.rest ++ take count piece);
@@ -52,7 +52,7 @@ HasRead-hands_out old new piece taken count requests r same read no_quit out = r
     go false q next = inr (rw (ends_by_quit-append requests r) q, next)
 
 -- a call
-pub reads_on : (old new : State) (piece : List ℕ) (count : ℕ) (request : Option Request) → new.max_job_size ≡ old.max_job_size
+pub reads_on : (old new : ReaderState) (piece : List ℕ) (count : ℕ) (request : Option Request) → new.max_job_size ≡ old.max_job_size
     → Feeds (Stands old) new piece count request → (old.place ≡ Over → (count ≡ 0) × (request ≡ None) × (new ≡ old)) → ReadsOn old new piece count request
 reads_on old new piece count request same feeds over taken requests read = go read.goes_on
   where
@@ -70,7 +70,7 @@ reads_on old new piece count request same feeds over taken requests read = go re
     go (inr h) = fed h.0 request (feeds read.rest h.1)
 
 -- what was read is a reading of the bytes taken
-pub HasRead-Reads : (s : State) (taken : List ℕ) (requests : List Request) (read : HasRead s taken requests) → Reads s.max_job_size taken requests read.rest
+pub HasRead-Reads : (s : ReaderState) (taken : List ℕ) (requests : List Request) (read : HasRead s taken requests) → Reads s.max_job_size taken requests read.rest
 HasRead-Reads s taken requests read = record {
   units = read.units;
   text_is = read.taken_is;
@@ -84,11 +84,11 @@ HasRead-Reads s taken requests read = record {
     go (inl h) = inl h.0
     go (inr h) = inr (Stands-no_unit s s.place read.rest h.1)
 
-pub was_read : (s : State) (taken : List ℕ) (requests : List Request) → HasRead s taken requests → (rest : List ℕ) × Reads s.max_job_size taken requests rest
+pub was_read : (s : ReaderState) (taken : List ℕ) (requests : List Request) → HasRead s taken requests → (rest : List ℕ) × Reads s.max_job_size taken requests rest
 was_read s taken requests read = (read.rest, HasRead-Reads s taken requests read)
 
 -- behind a quit anything may follow
-pub Reads-more : (s : State) (taken more : List ℕ) (requests : List Request) (read : HasRead s taken requests) → IsTrue (ends_by_quit requests)
+pub Reads-more : (s : ReaderState) (taken more : List ℕ) (requests : List Request) (read : HasRead s taken requests) → IsTrue (ends_by_quit requests)
     → Reads s.max_job_size (taken ++ more) requests (read.rest ++ more)
 Reads-more s taken more requests read quit = record {
   units = read.units;
@@ -99,7 +99,7 @@ Reads-more s taken more requests read quit = record {
 }
 
 -- a request out of what is left of a piece
-pub read_further : (old new : State) (taken piece : List ℕ) (from count : ℕ) (requests : List Request) (r : Request)
+pub read_further : (old new : ReaderState) (taken piece : List ℕ) (from count : ℕ) (requests : List Request) (r : Request)
     → HasRead old (taken ++ take from piece) requests → ReadsOn old new (take (length piece - from) (drop from piece)) count (Some r)
     → HasRead new (taken ++ take (from + count) piece) (requests ++ r ∷ [])
 read_further old new taken piece from count requests r read reads =
@@ -107,7 +107,7 @@ read_further old new taken piece from count requests r read reads =
     (reads (taken ++ take from piece) requests read)
 
 -- nothing out of what is left of a piece
-pub read_to_end : (old new : State) (taken piece : List ℕ) (from count : ℕ) (requests : List Request) (request : Option Request) → request ≡ None → from ≤ length piece
+pub read_to_end : (old new : ReaderState) (taken piece : List ℕ) (from count : ℕ) (requests : List Request) (request : Option Request) → request ≡ None → from ≤ length piece
     → HasRead old (taken ++ take from piece) requests → ReadsOn old new (take (length piece - from) (drop from piece)) count request
     → ((text : List ℕ) → Stands old text → Waits new text (take (length piece - from) (drop from piece)) count) → (old.place ≡ Over → new ≡ old)
     → HasReadText new (taken ++ piece) requests
@@ -136,7 +136,7 @@ read_to_end old new taken piece from count requests request none within read rea
     go (inr h) = let all = (waits read.rest h.1).all in inl (drop_all count rest (omega (arith, all)))
 
 -- one more piece of a text
-pub read_piece : (old new : State) (text piece : List ℕ) (before after : List Request)
+pub read_piece : (old new : ReaderState) (text piece : List ℕ) (before after : List Request)
     → HasReadText old text before → ((taken : List ℕ) → HasRead old taken before → HasReadText new (taken ++ piece) after)
     → (old.place ≡ Over → (new ≡ old) × (after ≡ before)) → HasReadText new (text ++ piece) after
 read_piece old new text piece before after was reads over = go was.all
@@ -158,10 +158,10 @@ read_piece old new text piece before after was reads over = go was.all
     go (inr e) = let h = over e in rw (h.0, h.1) (same e)
 
 -- the text that was offered is read
-pub HasReadText-Reads : (s : State) (text : List ℕ) (requests : List Request) → HasReadText s text requests → (rest : List ℕ) × Reads s.max_job_size text requests rest
+pub HasReadText-Reads : (s : ReaderState) (text : List ℕ) (requests : List Request) → HasReadText s text requests → (rest : List ℕ) × Reads s.max_job_size text requests rest
 HasReadText-Reads s text requests read = go read.all read.read.goes_on
   where
-    nowhere : (place : Place) (rest : List ℕ) → place ≡ Over → StandsAt s place rest → ⊥
+    nowhere : (place : ReaderPlace) (rest : List ℕ) → place ≡ Over → StandsAt s place rest → ⊥
     nowhere InLine rest e stands = cc
     nowhere (InLongLine after_cr) rest e stands = cc
     nowhere (InBody body) rest e stands = cc
@@ -174,14 +174,14 @@ HasReadText-Reads s text requests read = go read.all read.read.goes_on
     go (inr e) (inr on) = absurd (nowhere s.place read.read.rest e on.1)
 
 -- behind a quit no request comes
-pub over_gives_none : (was now : State) (request : Option Request) (r : Request) → was.place ≡ Over → now ≡ was → request ≡ Some r → (now.place ≡ Over → request ≡ None) → ⊥
+pub over_gives_none : (was now : ReaderState) (request : Option Request) (r : Request) → was.place ≡ Over → now ≡ was → request ≡ Some r → (now.place ≡ Over → request ≡ None) → ⊥
 over_gives_none was now request r e same some over =
     let still : now.place ≡ Over = ap (λ s. s.place) same ∙ e in
     let none : request ≡ None = over still in
     cc
 
 -- the same, by the most bytes of a job
-pub read_of : (m : ℕ) (s : State) (text : List ℕ) (requests : List Request) → s.max_job_size ≡ m → HasReadText s text requests
+pub read_of : (m : ℕ) (s : ReaderState) (text : List ℕ) (requests : List Request) → s.max_job_size ≡ m → HasReadText s text requests
     → (rest : List ℕ) × Reads m text requests rest
 read_of m s text requests e read = rw (← e) (HasReadText-Reads s text requests read)
 

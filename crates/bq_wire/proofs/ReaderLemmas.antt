@@ -19,9 +19,9 @@ use Rattle.bq_wire.specs.LineEnds.{line_end_after, last_is_cr}
 use Rattle.bq_wire.specs.PutBodies.{IsBodySoFar, TakesBytes}
 use Rattle.bq_wire.specs.Standing.{Stands, StandsAt, IsPutBegun, EndsLineAsking, Waits, HandsRequest, FeedsText, length_beside_cr, but_last, Keeps}
 use Rattle.bq_wire.specs.declared.put_body.PutBody.{PutBody}
-use Rattle.bq_wire.specs.declared.state.Place.{Place}
-use Rattle.bq_wire.specs.declared.state.Place.TheVariants.{InLine, InLongLine, InBody, Over}
-use Rattle.bq_wire.specs.declared.state.State.{State}
+use Rattle.bq_wire.specs.declared.reader_state.ReaderPlace.{ReaderPlace}
+use Rattle.bq_wire.specs.declared.reader_state.ReaderPlace.TheVariants.{InLine, InLongLine, InBody, Over}
+use Rattle.bq_wire.specs.declared.reader_state.ReaderState.{ReaderState}
 use Rattle.bq_wire.proofs.LineEndLemmas.{goes_on, ends_there, line_end_within, line_end_one, last_is_cr-append}
 
 -- a text with no line begins with no unit
@@ -36,14 +36,14 @@ begun_no_unit m body text begun = no_first_unit m text (rw (begun.first_line_is,
     none = let short : nat_le (body.put.bytes + 2) (length begun.after) ≡ false = grind (arith, nat_tests, begun.less) in rw short
 
 -- no beginning of a text that a reader stands for is a unit
-pub Stands-no_unit : (s : State) (place : Place) (text : List ℕ) → StandsAt s place text → BeginsNoUnit s.max_job_size text
+pub Stands-no_unit : (s : ReaderState) (place : ReaderPlace) (text : List ℕ) → StandsAt s place text → BeginsNoUnit s.max_job_size text
 Stands-no_unit s InLine text stands = no_line_no_unit s.max_job_size text stands.1
 Stands-no_unit s (InLongLine after_cr) text stands = no_line_no_unit s.max_job_size text stands.1
 Stands-no_unit s (InBody body) text stands = begun_no_unit s.max_job_size body text stands.1
 Stands-no_unit s Over text stands = absurd stands
 
 -- Waits, by what the reader stands for
-pub waits_by : (s : State) (text piece : List ℕ) (taken : ℕ) → taken ≡ length piece → Stands s (text ++ piece) → Waits s text piece taken
+pub waits_by : (s : ReaderState) (text piece : List ℕ) (taken : ℕ) → taken ≡ length piece → Stands s (text ++ piece) → Waits s text piece taken
 waits_by s text piece taken all stands = record { all = all; none = Stands-no_unit s s.place (text ++ piece) stands; stands = stands }
 
 -- the request of a put is no quit
@@ -102,7 +102,7 @@ line_begins body text bytes asked line is so_far = record {
 }
 
 -- what was fed behind the first bytes of a piece
-pub feeds_behind : (new : State) (text piece rest : List ℕ) (end taken : ℕ) (r : Option Request) → end ≤ length piece → rest ≡ drop end piece
+pub feeds_behind : (new : ReaderState) (text piece rest : List ℕ) (end taken : ℕ) (r : Option Request) → end ≤ length piece → rest ≡ drop end piece
     → FeedsText new (text ++ take end piece) rest taken r → FeedsText new text piece (end + taken) r
 feeds_behind new text piece rest end taken r within is fed = go r fed
   where
@@ -160,7 +160,7 @@ long_line_read text piece e none long here =
     read : line_read.read_line (but_last (text ++ take (e - 1) piece)) ≡ line_read.bad_format
     read = rw too_long
 
-abbrev pub in_line : ℕ → List ℕ → State
+abbrev pub in_line : ℕ → List ℕ → ReaderState
 in_line m kept = record { max_job_size = m; kept = kept; place = InLine }
 
 -- a request that is no quit is handed out at its end, where nothing is kept
@@ -178,7 +178,7 @@ keep_long kept piece room true most is long exact = rw is (omega (arith, length-
 keep_long kept piece room false most is long exact = rw is (omega (arith, length-append kept piece))
 
 -- what stands for a line that goes on
-pub kept_stands : (m : ℕ) (old new : List ℕ) (place : Place) (text piece : List ℕ) → text ≡ old → first_line text ≡ None
+pub kept_stands : (m : ℕ) (old new : List ℕ) (place : ReaderPlace) (text piece : List ℕ) → text ≡ old → first_line text ≡ None
     → line_end_after (last_is_cr false old) piece ≡ None → Keeps old new place piece
     → StandsAt (record { max_job_size = m; kept = new; place = place }) place (text ++ piece)
 kept_stands m old new InLine text piece is none more keeps = (rw is (sym keeps), goes_on text piece none (rw is more))

@@ -9,9 +9,9 @@ use Rattle.bq_wire.specs.Asked.{put_line_of}
 use Rattle.bq_wire.specs.LineEnds.{last_is_cr}
 use Rattle.bq_wire.specs.PutBodies.{IsBodySoFar, HasBodyRoom}
 use Rattle.bq_wire.specs.declared.put_body.PutBody.{PutBody}
-use Rattle.bq_wire.specs.declared.state.Place.{Place}
-use Rattle.bq_wire.specs.declared.state.Place.TheVariants.{InLine, InLongLine, InBody, Over}
-use Rattle.bq_wire.specs.declared.state.State.{State}
+use Rattle.bq_wire.specs.declared.reader_state.ReaderPlace.{ReaderPlace}
+use Rattle.bq_wire.specs.declared.reader_state.ReaderPlace.TheVariants.{InLine, InLongLine, InBody, Over}
+use Rattle.bq_wire.specs.declared.reader_state.ReaderState.{ReaderState}
 
 -- how many bytes a begun line has beside a last CR, which may be the one of its CR LF
 abbrev pub length_beside_cr : List ℕ → ℕ
@@ -28,48 +28,48 @@ pub record IsPutBegun (body : PutBody) (text : List ℕ) : Type 0 where
 
 -- The text that is kept, which has no CR LF; or any text without CR LF that is too long for a line; or
 -- the line of a put and less than the bytes that it wants; or after a quit none.
-abbrev pub StandsAt : State → Place → List ℕ → Type 0
+abbrev pub StandsAt : ReaderState → ReaderPlace → List ℕ → Type 0
 StandsAt state InLine text = (text ≡ state.kept) × (first_line text ≡ None)
 StandsAt state (InLongLine after_cr) text =
     (state.kept ≡ []) × (first_line text ≡ None) × (last_is_cr false text ≡ after_cr) × (longest_line < length_beside_cr text)
 StandsAt state (InBody body) text = (state.kept ≡ []) × IsPutBegun body text
 StandsAt state Over text = ⊥
 
-abbrev pub Stands : State → List ℕ → Type 0
+abbrev pub Stands : ReaderState → List ℕ → Type 0
 Stands state text = StandsAt state state.place text
 
 -- a quit was read, and no restart came since
-abbrev pub IsOver : State → Type 0
+abbrev pub IsOver : ReaderState → Type 0
 IsOver state = state.place ≡ Over
 
 -- a body that is begun isn't whole, and has room for the rest
-abbrev pub IsSoundPlace : Place → Type 0
+abbrev pub IsSoundPlace : ReaderPlace → Type 0
 IsSoundPlace InLine = Unit {0}
 IsSoundPlace (InLongLine after_cr) = Unit {0}
 IsSoundPlace (InBody body) = HasBodyRoom body × (body.taken < body.put.bytes + 2)
 IsSoundPlace Over = Unit {0}
 
-abbrev pub IsSoundReader : State → Type 0
+abbrev pub IsSoundReader : ReaderState → Type 0
 IsSoundReader state = IsSoundPlace state.place
 
 -- no request is whole: the piece was taken, and the reader stands for the text that goes on with it
-pub record Waits (new : State) (text piece : List ℕ) (taken : ℕ) : Type 0 where
+pub record Waits (new : ReaderState) (text piece : List ℕ) (taken : ℕ) : Type 0 where
   pub all : taken ≡ length piece
   pub none : BeginsNoUnit new.max_job_size (text ++ piece)
   pub stands : Stands new (text ++ piece)
 
 -- the text and the bytes taken are one request: the reader stands for the empty text, or after a quit
 -- for none
-pub record HandsRequest (new : State) (text piece : List ℕ) (taken : ℕ) (request : Request) : Type 0 where
+pub record HandsRequest (new : ReaderState) (text piece : List ℕ) (taken : ℕ) (request : Request) : Type 0 where
   pub unit : IsUnit new.max_job_size (text ++ take taken piece) request
   pub next : MatchBool (is_quit request) (IsOver new) (Stands new [])
 
-abbrev pub FeedsText : State → List ℕ → List ℕ → ℕ → Option Request → Type 0
+abbrev pub FeedsText : ReaderState → List ℕ → List ℕ → ℕ → Option Request → Type 0
 FeedsText new text piece taken None = Waits new text piece taken
 FeedsText new text piece taken (Some request) = HandsRequest new text piece taken request
 
 -- a piece was fed to a reader that stood for such texts
-abbrev pub Feeds : (List ℕ → Type 0) → State → List ℕ → ℕ → Option Request → Type 0
+abbrev pub Feeds : (List ℕ → Type 0) → ReaderState → List ℕ → ℕ → Option Request → Type 0
 Feeds stood new piece taken request = (text : List ℕ) → stood text → FeedsText new text piece taken request
 
 -- the text and these bytes are one line with its CR LF, which asks for this
@@ -83,7 +83,7 @@ abbrev pub but_last : List ℕ → List ℕ
 but_last bytes = take (length bytes - 1) bytes
 
 -- more bytes of a line are kept, or it is too long
-abbrev pub Keeps : List ℕ → List ℕ → Place → List ℕ → Type 0
+abbrev pub Keeps : List ℕ → List ℕ → ReaderPlace → List ℕ → Type 0
 Keeps old new InLine piece = new ≡ old ++ piece
 Keeps old new (InLongLine after_cr) piece =
     (new ≡ []) × (last_is_cr false (old ++ piece) ≡ after_cr) × (longest_line < length_beside_cr (old ++ piece))

@@ -1,17 +1,17 @@
-ghost use Rattle.std.specs.Prelude.{◌≡◌, ◌≤◌, ◌<◌, ◌+◌, ◌++◌, ℕ, List, [], length, take, IfOk, IfSome, Some, None, if◌then◌else◌};
+ghost use Rattle.std.specs.Prelude.{◌≡◌, ◌≤◌, ◌<◌, ◌+◌, ◌++◌, ℕ, List, [], length, take, IfOk, OnOk, IfSome, Some, None, if◌then◌else◌};
+ghost use Rattle.std.specs.List.{flat_map};
 ghost use Rattle.bq_job.specs.reading.LineRead as line_read;
-ghost use Rattle.bq_job.specs.reading.Reading.{is_quit};
+ghost use Rattle.bq_job.specs.reading.Reading.{Reads, is_quit};
 ghost use Rattle.bq_wire.specs.Asked.{asked_by};
-ghost use Rattle.bq_wire.specs.HasRead.{HasRead, ReadsOn};
+ghost use Rattle.bq_wire.specs.HasRead.{HasRead, HasReadText, ReadsOn};
 ghost use Rattle.bq_wire.specs.PutBodies.{HasBodyRoom, IsBodySoFar};
 ghost use Rattle.bq_wire.specs.Standing.{IsOver, IsSoundPlace, IsSoundReader, Stands, StandsAt, Feeds, Keeps, EndsLineAsking, Waits, HandsRequest, but_last};
-ghost use Rattle.bq_wire.specs.declared.state.Place.TheVariants.{InLine, InLongLine, InBody, Over};
+ghost use Rattle.bq_wire.specs.declared.reader_state.ReaderPlace.TheVariants.{InLine, InLongLine, InBody, Over};
 
-use crate::kept_line::KeptLine;
 use crate::line_end::{ends_in_cr, line_end_after};
 use crate::line_read::{LineRead, PutLine, read_line};
 use crate::put_body::PutBody;
-use crate::state::{Place, State};
+use crate::reader_state::{KeptLine, ReaderPlace, ReaderState};
 use bq_job::{LARGEST_BODY, NoMemory, Refusal, Request};
 use std::alloc::Global;
 use std::marker::Model;
@@ -20,13 +20,13 @@ use std::mem;
 /// Reads requests out of bytes that come in pieces.
 #[derive(Drop)]
 pub struct RequestReader {
-    state: State,
+    state: ReaderState,
 }
 
 impl Model for RequestReader {
-    ghost use Rattle.bq_wire.specs.declared.state.State.{State};
+    ghost use Rattle.bq_wire.specs.declared.reader_state.ReaderState.{ReaderState};
 
-    ghost Value = { State };
+    ghost Value = { ReaderState };
 
     ghost use Rattle.bq_wire.specs.Standing.{IsSoundReader};
 
@@ -46,10 +46,10 @@ impl RequestReader {
     {
         let kept = KeptLine::new(alloc)?;
         Ok(RequestReader {
-            state: State {
+            state: ReaderState {
                 max_job_size,
                 kept,
-                place: Place::InLine,
+                place: ReaderPlace::InLine,
             },
         })
     }
@@ -61,7 +61,7 @@ impl RequestReader {
         ensures limit { self.new.max_job_size ≡ self.old.max_job_size }
     {
         self.state.kept.clear();
-        self.state.place = Place::InLine;
+        self.state.place = ReaderPlace::InLine;
     }
 
     /// Takes bytes up to and with the last byte of the first whole request, else all, and says how many
@@ -111,7 +111,7 @@ impl RequestReader {
 
 fn feed_state(
     alloc: Global,
-    state: &mut State,
+    state: &mut ReaderState,
     piece: &[u8],
     request: &mut Option<Request>,
 ) -> usize
@@ -123,11 +123,11 @@ fn feed_state(
     ensures over { IsOver state.old → (result ≡ 0) × (request.new ≡ None) × (state.new ≡ state.old) }
     ensures limit { state.new.max_job_size ≡ state.old.max_job_size }
 {
-    match mem::replace(&mut state.place, Place::Over) {
-        Place::InLine => feed_line(alloc, state, piece, request),
-        Place::InLongLine(after_cr) => feed_long_line(state, after_cr, piece, request),
-        Place::InBody(body) => feed_body(state, body, piece, request),
-        Place::Over => {
+    match mem::replace(&mut state.place, ReaderPlace::Over) {
+        ReaderPlace::InLine => feed_line(alloc, state, piece, request),
+        ReaderPlace::InLongLine(after_cr) => feed_long_line(state, after_cr, piece, request),
+        ReaderPlace::InBody(body) => feed_body(state, body, piece, request),
+        ReaderPlace::Over => {
             *request = None;
             0
         }
@@ -135,7 +135,12 @@ fn feed_state(
 }
 
 // Feeds a line whose bytes are kept.
-fn feed_line(alloc: Global, state: &mut State, piece: &[u8], request: &mut Option<Request>) -> usize
+fn feed_line(
+    alloc: Global,
+    state: &mut ReaderState,
+    piece: &[u8],
+    request: &mut Option<Request>,
+) -> usize
     ensures sound { IsSoundReader state.new }
     ensures within { result ≤ length piece.now }
     ensures progress { IfSome request.new (λ _. 0 < result) }
@@ -156,17 +161,17 @@ fn feed_line(alloc: Global, state: &mut State, piece: &[u8], request: &mut Optio
 }
 
 // Keeps bytes of a line that isn't whole, or of one that is too long none.
-fn keep(kept: &mut KeptLine, piece: &[u8]) -> Place
+fn keep(kept: &mut KeptLine, piece: &[u8]) -> ReaderPlace
     ensures { Keeps kept.old kept.new result piece.now }
 {
     let after_cr = ends_in_cr(ends_in_cr(false, kept.as_slice()), piece);
     let room = kept.room();
     if piece.len() < room || (piece.len() == room && after_cr) {
         kept.push_slice(piece);
-        Place::InLine
+        ReaderPlace::InLine
     } else {
         kept.clear();
-        Place::InLongLine(after_cr)
+        ReaderPlace::InLongLine(after_cr)
     }
 }
 
@@ -195,7 +200,7 @@ fn whole_line(kept: &mut KeptLine, last: &[u8], place: &mut Option<Request>) -> 
 // Goes on behind a whole line, which ends in the piece.
 fn after_line(
     alloc: Global,
-    state: &mut State,
+    state: &mut ReaderState,
     read: LineRead,
     piece: &[u8],
     end: usize,
@@ -239,19 +244,19 @@ fn begun_body(alloc: Global, put: PutLine, max_job_size: u32) -> PutBody
 }
 
 // Where a reader is behind a request of one line.
-fn place_behind(request: &Option<Request>) -> Place
+fn place_behind(request: &Option<Request>) -> ReaderPlace
     ensures sound { IsSoundPlace result }
     ensures behind { IfSome request.now (λ asked. result ≡ (if is_quit asked then Over else InLine)) }
 {
     match request {
-        Some(Request::Quit) => Place::Over,
-        _ => Place::InLine,
+        Some(Request::Quit) => ReaderPlace::Over,
+        _ => ReaderPlace::InLine,
     }
 }
 
 // Feeds a line that is too long.
 fn feed_long_line(
-    state: &mut State,
+    state: &mut ReaderState,
     after_cr: bool,
     piece: &[u8],
     request: &mut Option<Request>,
@@ -264,12 +269,12 @@ fn feed_long_line(
 {
     match line_end_after(after_cr, piece) {
         None => {
-            state.place = Place::InLongLine(ends_in_cr(after_cr, piece));
+            state.place = ReaderPlace::InLongLine(ends_in_cr(after_cr, piece));
             *request = None;
             piece.len()
         }
         Some(end) => {
-            state.place = Place::InLine;
+            state.place = ReaderPlace::InLine;
             *request = Some(bad_format());
             end
         }
@@ -277,7 +282,12 @@ fn feed_long_line(
 }
 
 // Feeds the body of a put.
-fn feed_body(state: &mut State, body: PutBody, piece: &[u8], request: &mut Option<Request>) -> usize
+fn feed_body(
+    state: &mut ReaderState,
+    body: PutBody,
+    piece: &[u8],
+    request: &mut Option<Request>,
+) -> usize
     requires room { HasBodyRoom body }
     requires not_whole { body.taken < body.put.bytes + 2 }
     ensures sound { IsSoundReader state.new }
@@ -289,11 +299,11 @@ fn feed_body(state: &mut State, body: PutBody, piece: &[u8], request: &mut Optio
     let mut body = body;
     let taken = body.take(piece);
     if body.is_whole() {
-        state.place = Place::InLine;
+        state.place = ReaderPlace::InLine;
         *request = Some(body.into_request(state.max_job_size));
         taken
     } else {
-        state.place = Place::InBody(body);
+        state.place = ReaderPlace::InBody(body);
         *request = None;
         taken
     }
@@ -304,3 +314,53 @@ fn bad_format() -> Request
 {
     Request::Refused(Refusal::BadFormat)
 }
+
+/// The requests of a text that comes in these pieces: those of the whole text, however it was cut.
+pub fn requests_of(
+    alloc: Global,
+    max_job_size: u32,
+    pieces: &[Vec<u8, Global>],
+) -> Result<Vec<Request, Global>, NoMemory>
+    requires { (1 ≤ max_job_size) × (max_job_size ≤ LARGEST_BODY) }
+    ensures { IfOk result (λ requests. (rest : List ℕ)
+        × Reads max_job_size (flat_map (λ piece. piece.items) pieces.now) requests.items rest) }
+{
+    let mut reader = RequestReader::new(alloc, max_job_size)?;
+    let mut requests = Vec::new(alloc);
+    for piece in pieces {
+        feed_all(alloc, &mut reader, piece.as_slice(), &mut requests)?;
+    }
+    Ok(requests)
+}
+
+// Feeds a whole piece, up to a quit, and puts the requests at the end.
+fn feed_all(
+    alloc: Global,
+    reader: &mut RequestReader,
+    piece: &[u8],
+    requests: &mut Vec<Request, Global>,
+) -> Result<(), NoMemory>
+    ensures reads { OnOk result ((taken : List ℕ) → HasRead reader.old taken requests.old.items →
+        HasReadText reader.new (taken ++ piece.now) requests.new.items) }
+    ensures over { OnOk result (IsOver reader.old → (reader.new ≡ reader.old) × (requests.new.items ≡ requests.old.items)) }
+    ensures limit { reader.new.max_job_size ≡ reader.old.max_job_size }
+{
+    let mut from = 0;
+    loop {
+        let (taken, request) = reader.feed(alloc, &piece[from..]);
+        let Some(request) = request else {
+            return Ok(());
+        };
+        from += taken;
+        let Ok(()) = requests.push(request) else {
+            return Err(NoMemory);
+        };
+    }
+}
+
+/// What a reader has read since it was new or restarted is a reading of the bytes that it took.
+#[tactic(auto, using(crate::proofs::HasReadLemmas::was_read))]
+pub fn what_was_read_is_a_reading()
+    ensures { (reader : ReaderState) (taken : List ℕ) (requests : List Request) → HasRead reader taken requests
+        → (rest : List ℕ) × Reads reader.max_job_size taken requests rest }
+{}

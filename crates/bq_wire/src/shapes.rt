@@ -7,8 +7,7 @@ ghost use Rattle.bq_job.specs.declared.request.Request.{Request};
 ghost use Rattle.bq_wire.specs.Asked.{asked_by, only, IsNextNumber};
 
 use crate::line_read::{LineRead, PutLine};
-use crate::numbers::{job_id, number};
-use crate::words::Words;
+use crate::words::{Words, job_id, number};
 use bq_job::{JobId, Refusal, Request, TubeName};
 
 // The number that the next word is, if it is one below 2^32.

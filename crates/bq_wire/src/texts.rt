@@ -2,7 +2,6 @@ ghost use Rattle.std.specs.Prelude.{◌≡◌, ◌+◌, ◌≤◌, ◌++◌, len
 ghost use Rattle.bq_job.specs.texts.AnswerText as spec;
 ghost use Rattle.bq_job.specs.reading.Line.{line_end};
 
-use crate::bytes::push_bytes;
 use arrayvec::ArrayVec;
 use bq_job::Answer;
 use itoa::Buffer;
@@ -12,6 +11,16 @@ const HEAD_ROOM: usize = 256;
 
 /// Room for the head of an answer, in a fixed array. Contracts see what it holds as its items.
 pub type HeadBuf = ArrayVec<u8, HEAD_ROOM>;
+
+/// Puts bytes behind those that the buffer holds. There has to be room for them.
+pub fn push_bytes<const ROOM: usize>(buf: &mut ArrayVec<u8, ROOM>, more: &[u8])
+    requires { length buf.old.items + length more.now ≤ ROOM }
+    ensures { buf.new.items ≡ buf.old.items ++ more.now }
+{
+    let Ok(()) = buf.try_extend_from_slice(more) else {
+        unreachable!()
+    };
+}
 
 // The digits of a number, behind what the head holds.
 fn push_number(head: &mut HeadBuf, n: u64)

@@ -2,7 +2,7 @@ use Rattle.std.proofs.Common.{◌≤◌, ◌-◌, arith, length, drop, Some, ◌
 use Rattle.std.proofs.lemmas.Grind.{common_steps}
 use Rattle.bq_wire.specs.HasRead.{ReadsOn}
 use Rattle.bq_wire.proofs.HasReadLemmas.{read_further, read_to_end, over_gives_none}
-use Rattle.bq_wire.proofs.pieces.feed_all.Goals as goal
+use Rattle.bq_wire.proofs.reader.feed_all.Goals as goal
 
 pub returns-in_default-clause-reads : goal.returns-in_default-clause-reads
 returns-in_default-clause-reads c = λ taken read.

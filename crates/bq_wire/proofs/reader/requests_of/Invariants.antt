@@ -1,7 +1,7 @@
 use Rattle.std.proofs.Common.{◌≡◌, take}
 use Rattle.std.specs.List.{flat_map}
 use Rattle.bq_wire.specs.HasRead.{HasReadText}
-use Rattle.bq_wire.proofs.pieces.requests_of.Given as goal
+use Rattle.bq_wire.proofs.reader.requests_of.Given as goal
 
 abbrev pub invariant-loop-piece : goal.invariant-loop-piece
 invariant-loop-piece l = record {

@@ -1,9 +1,31 @@
 ghost use Rattle.std.specs.Prelude.{◌≡◌, ◌≤◌, ◌+◌, ◌++◌, [], length, IfOk};
 
 use crate::line_read::LONGEST_LINE;
+use crate::put_body::PutBody;
 use bq_job::NoMemory;
 use std::alloc::Global;
 use std::marker::Model;
+
+/// What a reader holds.
+#[derive(Drop)]
+pub struct ReaderState {
+    pub max_job_size: u32,
+    pub kept: KeptLine,
+    pub place: ReaderPlace,
+}
+
+/// What a reader is in the middle of.
+#[derive(Drop)]
+pub enum ReaderPlace {
+    /// A line, whose bytes are kept.
+    InLine,
+    /// A line that is too long, of which nothing is kept but whether its last byte is a CR.
+    InLongLine(bool),
+    /// The body of a put, or what stands behind it.
+    InBody(PutBody),
+    /// A quit was read.
+    Over,
+}
 
 /// How many bytes are kept of a line at most: the longest line, and a CR.
 pub const MOST_KEPT: usize = LONGEST_LINE + 1;
@@ -17,7 +39,7 @@ pub struct KeptLine {
 impl Model for KeptLine {
     ghost use Rattle.std.specs.Prelude.{List, ℕ, ◌≤◌, vec_len};
     ghost use Rattle.std.specs.Vec.{vec_capacity};
-    ghost use Rattle.bq_wire.specs.declared.kept_line.TheConstants.{MOST_KEPT};
+    ghost use Rattle.bq_wire.specs.declared.reader_state.TheConstants.{MOST_KEPT};
 
     ghost Value = { List ℕ };
 

@@ -1,7 +1,7 @@
 use Rattle.std.proofs.Common.{◌≡◌, ◌≤◌, ◌++◌, ◌-◌, ℕ, List, length, take}
 use Rattle.bq_wire.specs.HasRead.{HasRead}
-use Rattle.bq_wire.specs.declared.state.Place.TheVariants.{Over}
-use Rattle.bq_wire.proofs.pieces.feed_all.Given as goal
+use Rattle.bq_wire.specs.declared.reader_state.ReaderPlace.TheVariants.{Over}
+use Rattle.bq_wire.proofs.reader.feed_all.Given as goal
 
 abbrev pub invariant-loop-request : goal.invariant-loop-request
 invariant-loop-request l = record {

@@ -3,7 +3,7 @@ use Rattle.std.proofs.lemmas.Grind.{common_steps}
 use Rattle.std.specs.List.{flat_map}
 use Rattle.bq_wire.specs.HasRead.{HasRead, HasReadText}
 use Rattle.bq_wire.proofs.HasReadLemmas.{read_piece, read_of, flat_map_more}
-use Rattle.bq_wire.proofs.pieces.requests_of.Goals as goal
+use Rattle.bq_wire.proofs.reader.requests_of.Goals as goal
 
 pub loop-piece-preserved : goal.loop-piece-preserved
 loop-piece-preserved c =
