@@ -1,11 +1,27 @@
-// The chain of the spare boxes, which leads from each to its right.
-ghost use Rattle.std.specs.Prelude.{◌≡◌, ◌+◌, ◌<◌};
+// The spare boxes: who gives them, and the chain that they lie in, which leads from each to its right.
+ghost use Rattle.std.specs.Prelude.{◌≡◌, ◌+◌, ◌<◌, IfOk};
 ghost use Rattle.bq_index.specs.Tree.{chain_length, length_behind};
 
 use super::NoMemory;
-use super::boxes::BoxSource;
 use super::tree::{Node, Sides, Tree};
+use std::alloc::Global;
 use std::mem;
+
+/// Who gives boxes, one at a time: the heap, or in a test somebody who refuses some of them.
+pub trait BoxSource {
+    fn box_of<T: Drop>(&mut self, value: T) -> Result<Box<T>, NoMemory>
+        ensures { IfOk result (λ b. b.value ≡ value) };
+}
+
+/// The heap. It is asked once for each box.
+impl BoxSource for Global {
+    fn box_of<T: Drop>(&mut self, value: T) -> Result<Box<T>, NoMemory> {
+        match Box::new(*self, value) {
+            Ok(filled) => Ok(filled),
+            Err(_) => Err(NoMemory),
+        }
+    }
+}
 
 // A box with nothing in it.
 pub(crate) fn spare_box<K, V, S: BoxSource>(source: &mut S) -> Result<Box<Node<K, V>>, NoMemory>

@@ -6,7 +6,7 @@ ghost use Rattle.std.specs.BTreeMap.{is_at};
 ghost use Rattle.bq_index.specs.Order.{InOrder, LacksKeyOf, with_entry};
 ghost use Rattle.bq_index.specs.Tree.{entries, height, IsBalanced, DifferByAtMost, RaisedByAtMost, IsFirstTaken};
 
-use super::compare::{compare_entries, compare_to};
+use super::find::{compare_entries, compare_to};
 use super::rotation::balance;
 use super::tree::{Node, Tree, join, open};
 use std::cmp::Ordering;

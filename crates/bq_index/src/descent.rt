@@ -10,7 +10,7 @@ ghost use Rattle.bq_index.specs.contracts.tree.Tree.{the_row as tree_row};
 ghost use Rattle.bq_index.specs.contracts.tree.Node.{the_row as node_row};
 ghost use Rattle.bq_index.specs.contracts.tree.Sides.{the_row as sides_row};
 
-use super::compare::compare_to;
+use super::find::compare_to;
 use super::tree::{Node, Sides, Tree};
 use std::cmp::Ordering;
 use std::marker::PhantomData;

@@ -8,17 +8,15 @@
 //! A [`Catalog`] is the same without the count. It can be read by who only looks, and gone over.
 #![tactic(auto)]
 
-pub use boxes::BoxSource;
 pub use catalog::Catalog;
+pub use chain::BoxSource;
 pub use fault::NoMemory;
 pub use shelf::Shelf;
 pub use walk::{Test, Visitor};
 
-mod boxes;
 mod catalog;
 mod chain;
 mod change;
-mod compare;
 mod descent;
 mod fault;
 mod find;

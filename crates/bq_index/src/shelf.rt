@@ -6,7 +6,7 @@ ghost use Rattle.bq_index.specs.Order.{InOrder, entry_from};
 ghost use Rattle.std.specs.Map.{lookup, remove_entry};
 ghost use Rattle.std.specs.BTreeMap.{is_at, insert_entry};
 
-use super::boxes::BoxSource;
+use super::chain::BoxSource;
 use super::tree::Tree;
 use super::walk::{Test, Visitor};
 use super::{NoMemory, chain, change, descent, find, walk};
