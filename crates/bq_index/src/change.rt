@@ -7,7 +7,7 @@ ghost use Rattle.bq_index.specs.Order.{InOrder, LacksKeyOf, with_entry};
 ghost use Rattle.bq_index.specs.Tree.{entries, height, IsBalanced, DifferByAtMost, RaisedByAtMost, IsFirstTaken};
 
 use super::find::{compare_entries, compare_to};
-use super::rotation::balance;
+use super::rotation::{balance, with_left, with_right};
 use super::tree::{Node, Tree, join, open};
 use std::cmp::Ordering;
 
@@ -39,14 +39,12 @@ where
         Ordering::Less => {
             let before = left.height();
             let left = insert(left, node, count);
-            let same = left.height() == before;
-            balance(here, left, right, high, same)
+            with_left(here, left, right, high, before)
         }
         Ordering::Greater => {
             let before = right.height();
             let right = insert(right, node, count);
-            let same = right.height() == before;
-            balance(here, left, right, high, same)
+            with_right(here, left, right, high, before)
         }
         Ordering::Equal => unreachable!(),
     }
@@ -70,10 +68,7 @@ where
     let before = left.height();
     match take_first(left) {
         None => Some((here, right)),
-        Some((first, rest)) => {
-            let same = rest.height() == before;
-            Some((first, balance(here, rest, right, high, same)))
-        }
+        Some((first, rest)) => Some((first, with_left(here, rest, right, high, before))),
     }
 }
 
@@ -125,14 +120,12 @@ where
         Ordering::Less => {
             let before = left.height();
             let (left, found) = remove(left, key, count);
-            let same = left.height() == before;
-            (balance(here, left, right, high, same), found)
+            (with_left(here, left, right, high, before), found)
         }
         Ordering::Greater => {
             let before = right.height();
             let (right, found) = remove(right, key, count);
-            let same = right.height() == before;
-            (balance(here, left, right, high, same), found)
+            (with_right(here, left, right, high, before), found)
         }
         Ordering::Equal => (close(left, right), Some(here)),
     }

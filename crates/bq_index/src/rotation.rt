@@ -1,8 +1,65 @@
 // What keeps a tree balanced.
-ghost use Rattle.std.specs.Prelude.{◌≡◌, ◌+◌, ◌<◌, max, IsSome, IsTrue};
-ghost use Rattle.bq_index.specs.Tree.{height, IsBalanced, DifferByAtMost, IsRebalanced};
+ghost use Rattle.std.specs.Prelude.{◌≡◌, ◌+◌, ◌-◌, ◌<◌, ◌≤◌, ◌++◌, max, IsSome, IsTrue};
+ghost use Rattle.std.specs.Option.{option_to_list};
+ghost use Rattle.bq_index.specs.Tree.{entries, height, IsBalanced, DifferByAtMost, IsRebalanced};
 
 use super::tree::{Node, Tree, join, open, rejoin};
+
+// The tree of a box whose left side has changed by a level at most: it was `before` high, and the box `high`.
+// The whole has risen or fallen no more than that side.
+pub(crate) fn with_left<K, V>(
+    node: Box<Node<K, V>>,
+    left: Tree<K, V>,
+    right: Tree<K, V>,
+    high: u8,
+    before: u8,
+) -> Tree<K, V>
+where
+    K: Drop,
+    V: Drop,
+    requires filled { IsSome node.value.entry }
+    requires left_balanced { IsBalanced left }
+    requires right_balanced { IsBalanced right }
+    requires known { high ≡ max before (height right) + 1 }
+    requires near { DifferByAtMost 1 before (height right) }
+    requires changed { DifferByAtMost 1 before (height left) }
+    requires fits { high < 200 }
+    ensures is { entries result ≡ entries left ++ (option_to_list node.value.entry ++ entries right) }
+    ensures balanced { IsBalanced result }
+    ensures not_higher { height result ≤ high + (height left - before) }
+    ensures not_lower { high ≤ height result + (before - height left) }
+{
+    let same = left.height() == before;
+    balance(node, left, right, high, same)
+}
+
+// The tree of a box whose right side has changed by a level at most: it was `before` high, and the box `high`.
+// The whole has risen or fallen no more than that side.
+pub(crate) fn with_right<K, V>(
+    node: Box<Node<K, V>>,
+    left: Tree<K, V>,
+    right: Tree<K, V>,
+    high: u8,
+    before: u8,
+) -> Tree<K, V>
+where
+    K: Drop,
+    V: Drop,
+    requires filled { IsSome node.value.entry }
+    requires left_balanced { IsBalanced left }
+    requires right_balanced { IsBalanced right }
+    requires known { high ≡ max before (height left) + 1 }
+    requires near { DifferByAtMost 1 before (height left) }
+    requires changed { DifferByAtMost 1 before (height right) }
+    requires fits { high < 200 }
+    ensures is { entries result ≡ entries left ++ (option_to_list node.value.entry ++ entries right) }
+    ensures balanced { IsBalanced result }
+    ensures not_higher { height result ≤ high + (height right - before) }
+    ensures not_lower { high ≤ height result + (before - height right) }
+{
+    let same = right.height() == before;
+    balance(node, left, right, high, same)
+}
 
 // The tree of two sides and a box between them, where the sides' heights differ by up to two. Where neither
 // changed, the box is as high as it was.

@@ -1,0 +1,34 @@
+-- The height of a box that is made anew after one of its sides changed by a level at most.
+use Rattle.std.proofs.Common.{◌≡◌, ℕ, ◌+◌, ◌-◌, ◌<◌, ◌≤◌, max, Option, inl, inr, arith}
+use Rattle.std.proofs.lemmas.Bool.{cases_order}
+use Rattle.bq_index.specs.Tree.{height, DifferByAtMost, IsRebalanced}
+use Rattle.bq_index.specs.declared.tree.Tree.{Tree}
+
+-- A box was `high`, with sides of the heights `before` and r. The first side is l high now, and the box t, which is
+-- known to the level where the sides are near.
+levels : (high before l r t : ℕ) → high ≡ max before r + 1 → DifferByAtMost 1 before r → DifferByAtMost 1 before l
+    → max l r ≤ t → t ≤ max l r + 1 → (DifferByAtMost 1 l r → t ≡ max l r + 1) → (t ≤ high + (l - before)) × (high ≤ t + (before - l))
+levels high before l r t known near changed low top exact =
+    elim (cases_order l (r + 2)) [
+      | inl e ↦ (omega arith, omega arith)
+      | inr (inl less) ↦ elim (cases_order r (l + 2)) [
+        | inl e ↦ (omega arith, omega arith)
+        | inr (inl close) ↦ let is = exact (omega arith, omega arith) in (omega arith, omega arith)
+        | inr (inr more) ↦ absurd (omega arith)
+      ]
+      | inr (inr more) ↦ absurd (omega arith)
+    ]
+
+module _ {K V : Type 0} {l r t : Tree K V} {e : Option (K × V)} (b : IsRebalanced l e r t) (high before : ℕ) where
+  -- where the left side has changed
+  pub left_levels : high ≡ max before (height r) + 1 → DifferByAtMost 1 before (height r) → DifferByAtMost 1 before (height l)
+      → (height t ≤ high + (height l - before)) × (high ≤ height t + (before - height l))
+  left_levels known near changed = levels high before (height l) (height r) (height t) known near changed b.not_lower b.not_higher b.near
+
+  -- or the right one
+  pub right_levels : high ≡ max before (height l) + 1 → DifferByAtMost 1 before (height l) → DifferByAtMost 1 before (height r)
+      → (height t ≤ high + (height r - before)) × (high ≤ height t + (before - height r))
+  right_levels known near changed =
+      let low : max (height r) (height l) ≤ height t = omega (arith, b.not_lower) in
+      let top : height t ≤ max (height r) (height l) + 1 = omega (arith, b.not_higher) in
+      levels high before (height r) (height l) (height t) known near changed low top (λ d. let is = b.near (d.1, d.0) in omega (arith, is))
