@@ -1,5 +1,5 @@
 -- The first entry of a tree that passes, by what its sides have.
-use Rattle.std.proofs.Common.{◌≡◌, Bool, true, false, ◌&&◌, not, if◌then◌else◌, List, [], ◌∷◌, Option, None, Some, refl, sym, ap, ◌∙◌, subst}
+use Rattle.std.proofs.Common.{◌≡◌, Bool, true, false, ◌&&◌, not, if◌then◌else◌, List, [], ◌∷◌, ◌++◌, Option, None, Some, refl, sym, ap, ◌∙◌, subst}
 use Rattle.std.specs.Prelude.{find}
 use Rattle.std.proofs.lemmas.List.Folds.{find-append}
 use Rattle.std.specs.declared.cmp.Ordering.{Ordering}
@@ -19,26 +19,25 @@ module _ {K V : Type 0} (p : K × V → Bool) {t l r : Option (Node K V)} {x : K
   by_parts : find p (entries_of t) ≡ option_or (find p (entries_of l)) (if p x then Some x else find p (entries_of r))
   by_parts = ap (find p) c.is ∙ find-append p (entries_of l) (x ∷ entries_of r)
 
-  -- None passes on the left:
-  module _ (none : find p (entries_of l) ≡ None) where
-    without_left : find p (entries_of t) ≡ (if p x then Some x else find p (entries_of r))
-    without_left = by_parts ∙ ap (λ o. option_or o (if p x then Some x else find p (entries_of r))) none
-
-    -- it is x,
-    pub found_here : p x ≡ true → find p (entries_of t) ≡ Some x
-    found_here h = without_left ∙ ap (λ b. if b then Some x else find p (entries_of r)) h
-
-    -- or it is on the right.
-    pub found_right : p x ≡ false → find p (entries_of t) ≡ find p (entries_of r)
-    found_right h = without_left ∙ ap (λ b. if b then Some x else find p (entries_of r)) h
-
-  -- One passes there.
+  -- One passes on the left.
   pub found_left : {B : Type 0} (f : B → K × V) (o : Option B) → (o ≡ None → ⊥) → option_map f o ≡ find p (entries_of l) → option_map f o ≡ find p (entries_of t)
   found_left f None n e = absurd (n refl)
   found_left f (Some b) n e = sym (by_parts ∙ ap (λ o. option_or o (if p x then Some x else find p (entries_of r))) (sym e))
 
-pub none_by : {B C : Type 0} (f : B → C) (o : Option B) {y : Option C} → o ≡ None → option_map f o ≡ y → y ≡ None
-none_by f o n e = sym e ∙ ap (option_map f) n
+  -- None passes there:
+  module _ {B : Type 0} (f : B → K × V) (o : Option B) (n : o ≡ None) (e : option_map f o ≡ find p (entries_of l)) where
+    without_left : (b : Bool) → b ≡ p x → (if b then Some x else find p (entries_of r)) ≡ find p (entries_of t)
+    without_left b h =
+        ap (λ d. if d then Some x else find p (entries_of r)) h
+        ∙ sym (by_parts ∙ ap (λ z. option_or z (if p x then Some x else find p (entries_of r))) (sym e ∙ ap (option_map f) n))
+
+    -- it is x,
+    pub found_here : true ≡ p x → Some x ≡ find p (entries_of t)
+    found_here h = without_left true h
+
+    -- or it is on the right.
+    pub found_right : {C : Type 0} → false ≡ p x → (g : C → K × V) (u : Option C) → option_map g u ≡ find p (entries_of r) → option_map g u ≡ find p (entries_of t)
+    found_right h g u i = i ∙ without_left false h
 
 module _ {K V : Type 0} {R : K → K → Ordering} (o : IsTotalOrder R) (k : K) (p : K → V → Bool) where
   -- what is below k doesn't pass from k on
@@ -51,22 +50,38 @@ module _ {K V : Type 0} {R : K → K → Ordering} (o : IsTotalOrder R) (k : K) 
   all_beyond [] all = refl
   all_beyond (x ∷ es) all = rw (all.0, all_beyond es all.1) refl
 
-  module _ {t l r : Option (Node K V)} {x : K × V} (c : HasParts t l (Some x) r) (s : InOrder R (entries_of t)) where
-    -- x is below k
-    pub from_right : is_gt (R k x.0) ≡ true → find (passes_from (R k) p) (entries_of t) ≡ find (passes_from (R k) p) (entries_of r)
-    from_right h = found_right (passes_from (R k) p) c
-        (none_below (entries_of l) (greater_left o k (entries_of l) x (entries_of r) (subst (InOrder R) c.is s) (greater (R k x.0) h)))
-        (ap (λ b. not b && p x.0 x.1) h)
+  module _ {t l r : Option (Node K V)} {x : K × V} (c : HasParts t l (Some x) r) (s : InOrder R (entries_of t)) (a : Ordering) (is : a ≡ R k x.0) where
+    whole_order : InOrder R (entries_of l ++ x ∷ entries_of r)
+    whole_order = subst (InOrder R) c.is s
+
+    -- x is below k: it is on the right,
+    pub from_right : {C : Type 0} → true ≡ is_gt a → (g : C → K × V) (u : Option C) → option_map g u ≡ find (passes_from (R k) p) (entries_of r)
+        → option_map g u ≡ find (passes_from (R k) p) (entries_of t)
+    from_right h g u i =
+        let gt : is_gt (R k x.0) ≡ true = ap is_gt (sym is) ∙ sym h in
+        let none = none_below (entries_of l) (greater_left o k (entries_of l) x (entries_of r) whole_order (greater (R k x.0) gt)) in
+        found_right (passes_from (R k) p) c (λ (y : K × V). y) None refl (sym none) (sym (ap (λ b. not b && p x.0 x.1) gt)) g u i
       where
         greater : (a : Ordering) → is_gt a ≡ true → is_lt a ≡ false
         greater Less h = absurd cc
         greater Equal h = absurd cc
         greater Greater h = refl
 
-    -- or it isn't
-    module _ (h : is_gt (R k x.0) ≡ false) where
-      pub here_from : (b : Bool) → p x.0 x.1 ≡ b → passes_from (R k) p x ≡ b
-      here_from b e = ap (λ g. not g && p x.0 x.1) h ∙ e
+    -- or it isn't, and none passes on the left:
+    module _ (h : false ≡ is_gt a) {B : Type 0} (f : B → K × V) (u : Option B) (n : u ≡ None) (e : option_map f u ≡ find (passes_from (R k) p) (entries_of l)) where
+      not_greater : is_gt (R k x.0) ≡ false
+      not_greater = ap is_gt (sym is) ∙ sym h
 
-      pub right_from : find (passes_from (R k) p) (entries_of r) ≡ find (passes_by p) (entries_of r)
-      right_from = all_beyond (entries_of r) (less_right o k (entries_of l) x (entries_of r) (subst (InOrder R) c.is s) h)
+      passes_here : (b : Bool) → b ≡ p x.0 x.1 → b ≡ passes_from (R k) p x
+      passes_here b i = i ∙ sym (ap (λ g. not g && p x.0 x.1) not_greater)
+
+      -- it is x,
+      pub first_here : true ≡ p x.0 x.1 → Some x ≡ find (passes_from (R k) p) (entries_of t)
+      first_here i = found_here (passes_from (R k) p) c f u n e (passes_here true i)
+
+      -- or it is the first on the right.
+      pub first_right : {C : Type 0} → false ≡ p x.0 x.1 → (g : C → K × V) (w : Option C) → option_map g w ≡ find (passes_by p) (entries_of r)
+          → option_map g w ≡ find (passes_from (R k) p) (entries_of t)
+      first_right i g w j =
+          found_right (passes_from (R k) p) c f u n e (passes_here false i) g w
+          (j ∙ sym (all_beyond (entries_of r) (less_right o k (entries_of l) x (entries_of r) whole_order not_greater)))
