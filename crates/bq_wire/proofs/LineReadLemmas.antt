@@ -1,5 +1,5 @@
 -- What a line with a known first word comes to.
-use Rattle.std.proofs.Common.{◌≡◌, ℕ, List, Option, Some, None, option_map, unwrap_or}
+use Rattle.std.proofs.Common.{◌≡◌, ℕ, List, Option, Some, None, refl, option_map, unwrap_or}
 use Rattle.bq_job.specs.declared.request.Request.{Request}
 use Rattle.bq_job.specs.reading.CommandWords.{Command}
 use Rattle.bq_job.specs.reading.LineRead as spec
@@ -20,3 +20,14 @@ pub read_so : (place : Option Request) (read : LineRead) (command : Option Comma
     → asked_by read place ≡ Some (spec.read_command command more)
 read_so place read None more e = same_some (asked_by read place) (Some spec.unknown_command) e
 read_so place read (Some command) more e = read_own place read (spec.read_words command more) e
+
+-- no words of the command's own
+none_own : (place : Option Request) (words : Option spec.LineRead) → option_map (λ (r : LineRead). asked_by r place) None ≡ option_map Some words
+    → unwrap_or words spec.bad_format ≡ spec.bad_format
+none_own place None e = refl
+none_own place (Some asked) e = absurd cc
+
+pub read_none : (place : Option Request) (command : Option Command) (more : List (List ℕ)) → AsksFor command more None place
+    → spec.read_command command more ≡ spec.bad_format
+read_none place None more e = absurd cc
+read_none place (Some command) more e = none_own place (spec.read_words command more) e
