@@ -15,7 +15,7 @@ use Rattle.bq_job.specs.machine.Changes.{first_of, is_pair_before, job_with}
 use Rattle.bq_job.specs.beside.Lawful.{AreIdsWithin}
 use Rattle.bq_job.proofs.ChoiceLemmas.{first_of_is, first_of_none_passes, pair_order}
 use Rattle.bq_job.proofs.ListLemmas.{all_from_members, found_passes, list_any_not}
-use Rattle.bq_jobs.specs.declared.place.Place.{Place}
+use Rattle.bq_jobs.specs.declared.place.ShelfPlace.{ShelfPlace}
 use Rattle.bq_jobs.specs.Inside.{IsOrderOf, Order, has_place, is_place}
 use Rattle.bq_jobs.specs.Kept.{ranked}
 use Rattle.bq_jobs.specs.PlaceOrder.{place_total, front, first_in_group, first_rank, holds_place, place_cmp, rank_in_group}
@@ -24,12 +24,12 @@ use Rattle.bq_jobs.proofs.Choice.{equal_from, found_below, from_found, from_leas
 use Rattle.bq_jobs.proofs.Orders.{held_place}
 
 -- whether a place is of the group
-abbrev pub in_group : {G : Type 0} → (G → G → Ordering) → G → Option (Place G) → Bool
+abbrev pub in_group : {G : Type 0} → (G → G → Ordering) → G → Option (ShelfPlace G) → Bool
 in_group C g None = false
 in_group C g (Some p) = is_eq (C g p.group)
 
 -- the number and the id of a place
-abbrev rank_at : {G : Type 0} → Place G × Unit {0} → ℕ × ℕ
+abbrev rank_at : {G : Type 0} → ShelfPlace G × Unit {0} → ℕ × ℕ
 rank_at e = (e.0.at, e.0.id)
 
 false_or : (b : Bool) → (b ≡ true → ⊥) → b ≡ false
@@ -52,13 +52,13 @@ same_pairs a i b j c k d l e f g h is = grind (arith, nat_tests)
 
 module _ {G : Type 0} {C : G → G → Ordering} (o : IsTotalOrder C) (g : G) where
   -- no place of the group is below its front
-  front_first : (p : Place G) → is_eq (C g p.group) ≡ true → is_gt (place_cmp C (front C g) p) ≡ false
+  front_first : (p : ShelfPlace G) → is_eq (C g p.group) ≡ true → is_gt (place_cmp C (front C g) p) ≡ false
   front_first p h =
       then_not_greater (C g p.group) (ordering_then (nat_cmp 0 p.at) (nat_cmp 0 p.id)) (ap is_gt (equal_from (C g p.group) h))
       (then_not_greater (nat_cmp 0 p.at) (nat_cmp 0 p.id) (none_below p.at) (none_below p.id))
 
   -- a place between the front and a place of the group is of the group
-  between : (k q : Place G) → is_gt (place_cmp C (front C g) k) ≡ false → is_gt (place_cmp C k q) ≡ false → is_eq (C g q.group) ≡ true → is_eq (C g k.group) ≡ true
+  between : (k q : ShelfPlace G) → is_gt (place_cmp C (front C g) k) ≡ false → is_gt (place_cmp C k q) ≡ false → is_eq (C g q.group) ≡ true → is_eq (C g k.group) ≡ true
   between k q l u h =
       elim (cases_Bool (is_eq (C g k.group))) [
         | inl e ↦ e
@@ -70,19 +70,19 @@ module _ {G : Type 0} {C : G → G → Ordering} (o : IsTotalOrder C) (g : G) wh
             absurd (let m = rw more at u in cc)
       ]
 
-  module _ (place_of : Job → Option (Place G)) (own : (j : Job) → IfSome (place_of j) (λ p. p.id ≡ j.id))
+  module _ (place_of : Job → Option (ShelfPlace G)) (own : (j : Job) → IfSome (place_of j) (λ p. p.id ≡ j.id))
       (passes : Job → Bool) (number : Job → ℕ)
       (grouped : (j : Job) → passes j ≡ in_group C g (place_of j))
-      (numbered : (j : Job) (p : Place G) → place_of j ≡ Some p → passes j ≡ true → p.at ≡ number j) where
+      (numbered : (j : Job) (p : ShelfPlace G) → place_of j ≡ Some p → passes j ≡ true → p.at ≡ number j) where
     -- what a job that passes has
     record Placed (j : Job) : Type 0 where
-      place : Place G
+      place : ShelfPlace G
       is : place_of j ≡ Some place
       group : is_eq (C g place.group) ≡ true
       at : place.at ≡ number j
       id : place.id ≡ j.id
 
-    placed_in : (j : Job) (place : Option (Place G)) → place_of j ≡ place → passes j ≡ true → Placed j
+    placed_in : (j : Job) (place : Option (ShelfPlace G)) → place_of j ≡ place → passes j ≡ true → Placed j
     placed_in j None e h = absurd (let i = sym (grouped j) ∙ h in let k = ap (in_group C g) e in cc)
     placed_in j (Some p) e h = record {
       place = p;
@@ -100,7 +100,7 @@ module _ {G : Type 0} {C : G → G → Ordering} (o : IsTotalOrder C) (g : G) wh
 
     module _ (low next : ℕ) (jobs : List Job) (room : ℕ) (order : Order G) (h : IsOrderOf C place_of jobs room order)
         (ids : AreIdsWithin low jobs next) (s : InOrder (place_cmp C) order.entries) where
-      held : (j : Job) → Contains jobs j → (p : Place G) → place_of j ≡ Some p → is_some (holds_place C p order.entries) ≡ true
+      held : (j : Job) → Contains jobs j → (p : ShelfPlace G) → place_of j ≡ Some p → is_some (holds_place C p order.entries) ≡ true
       held j i p e = held_place o place_of own j.id j jobs room order h (found_by_id low next jobs j ids i) p e
 
       none_passes : ((j : Job) → Contains jobs j → Placed j → ⊥) → first_of passes before jobs ≡ None
@@ -115,32 +115,32 @@ module _ {G : Type 0} {C : G → G → Ordering} (o : IsTotalOrder C) (g : G) wh
           absurd (cc))
 
       -- the first place from the front on is that of another group
-      none_of_group : (e : Place G × Unit {0}) → entry_from (place_cmp C (front C g)) order.entries ≡ Some e → is_eq (C g e.0.group) ≡ false → first_of passes before jobs ≡ None
+      none_of_group : (e : ShelfPlace G × Unit {0}) → entry_from (place_cmp C (front C g)) order.entries ≡ Some e → is_eq (C g e.0.group) ≡ false → first_of passes before jobs ≡ None
       none_of_group e n apart = none_passes (λ j i p.
           let above = from_least (place_total o) (front C g) p.place e order.entries s n (held j i p.place p.is) (front_first p.place p.group) in
           let same = between e.0 p.place (from_not_below (place_total o) (front C g) e order.entries n) above p.group in
           absurd (cc))
 
       -- the job whose place is held
-      record Standing (q : Place G) : Type 0 where
+      record Standing (q : ShelfPlace G) : Type 0 where
         job : Job
         found : job_with q.id jobs ≡ Some job
-        place : Place G
+        place : ShelfPlace G
         is : place_of job ≡ Some place
         ties : place_cmp C q place ≡ Equal
 
-      standing_at : (q : Place G) (j : Job) (p : Option (Place G)) → job_with q.id jobs ≡ Some j → place_of j ≡ p → is_place C q p ≡ true → Standing q
+      standing_at : (q : ShelfPlace G) (j : Job) (p : Option (ShelfPlace G)) → job_with q.id jobs ≡ Some j → place_of j ≡ p → is_place C q p ≡ true → Standing q
       standing_at q j None found e t = absurd cc
       standing_at q j (Some p) found e t = record { job = j; found = found; place = p; is = e; ties = equal_from (place_cmp C q p) t }
 
-      standing_in : (q : Place G) (u : Option Job) → job_with q.id jobs ≡ u → has_place C place_of q u ≡ true → Standing q
+      standing_in : (q : ShelfPlace G) (u : Option Job) → job_with q.id jobs ≡ u → has_place C place_of q u ≡ true → Standing q
       standing_in q None found t = absurd cc
       standing_in q (Some j) found t = standing_at q j (place_of j) found refl t
 
-      standing : (q : Place G) → is_some (holds_place C q order.entries) ≡ true → Standing q
+      standing : (q : ShelfPlace G) → is_some (holds_place C q order.entries) ≡ true → Standing q
       standing q t = standing_in q (job_with q.id jobs) refl (sym (h.places q) ∙ t)
 
-      tied_group : (k q : Place G) → is_eq (C g k.group) ≡ true → is_eq (C g q.group) ≡ true → C k.group q.group ≡ Equal
+      tied_group : (k q : ShelfPlace G) → is_eq (C g k.group) ≡ true → is_eq (C g q.group) ≡ true → C k.group q.group ≡ Equal
       tied_group k q a b = sym (o.congr g k.group q.group (equal_from (C g k.group) a)) ∙ equal_from (C g q.group) b
 
       same_job : (x y : Job) → job_with x.id jobs ≡ Some x → Contains jobs y → before x y ≡ false → before y x ≡ false → y ≡ x
@@ -149,7 +149,7 @@ module _ {G : Type 0} {C : G → G → Ordering} (o : IsTotalOrder C) (g : G) wh
           let found_then : job_with x.id jobs ≡ Some y = subst (λ n. job_with n jobs ≡ Some y) same (found_by_id low next jobs y ids i) in
           cc
 
-      one_of_group : (e : Place G × Unit {0}) → entry_from (place_cmp C (front C g)) order.entries ≡ Some e → is_eq (C g e.0.group) ≡ true → option_map (ranked number) (first_of passes before jobs) ≡ Some (rank_at e)
+      one_of_group : (e : ShelfPlace G × Unit {0}) → entry_from (place_cmp C (front C g)) order.entries ≡ Some e → is_eq (C g e.0.group) ≡ true → option_map (ranked number) (first_of passes before jobs) ≡ Some (rank_at e)
       one_of_group e n t =
           let st = standing e.0 (from_found (place_total o) (front C g) e order.entries n) in
           let x = st.job in
@@ -171,7 +171,7 @@ module _ {G : Type 0} {C : G → G → Ordering} (o : IsTotalOrder C) (g : G) wh
           ap (option_map (ranked number)) (first_of_is passes (pair_order number (λ j. j.id)) jobs x ((found_passes (λ j. j.id == e.0.id) jobs x st.found).1) pass least (λ y i a b. same_job x y found i a b))
           ∙ ap Some pair
 
-      rank_by : (u : Option (Place G × Unit {0})) → entry_from (place_cmp C (front C g)) order.entries ≡ u → option_and_then (rank_in_group C g) u ≡ option_map (ranked number) (first_of passes before jobs)
+      rank_by : (u : Option (ShelfPlace G × Unit {0})) → entry_from (place_cmp C (front C g)) order.entries ≡ u → option_and_then (rank_in_group C g) u ≡ option_map (ranked number) (first_of passes before jobs)
       rank_by None n = sym (ap (option_map (ranked number)) (none_first n))
       rank_by (Some e) n =
           elim (cases_Bool (is_eq (C g e.0.group))) [

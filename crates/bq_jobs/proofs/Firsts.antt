@@ -18,7 +18,7 @@ use Rattle.bq_jobs.specs.contracts.group.GroupOrd.TheImpl as group_ord
 use Rattle.bq_jobs.specs.contracts.place.TimerOrd.TheImpl as timer_ord
 use Rattle.bq_jobs.specs.declared.holder.Holder.{Holder}
 use Rattle.bq_jobs.specs.declared.holder.JobList.TheVariants as lists
-use Rattle.bq_jobs.specs.declared.place.Place.{Place}
+use Rattle.bq_jobs.specs.declared.place.ShelfPlace.{ShelfPlace}
 use Rattle.bq_jobs.specs.declared.place.Timer.{Timer}
 use Rattle.bq_jobs.specs.declared.place.Timer.TheVariants as timers
 use Rattle.bq_jobs.specs.Leases.{deadline_of}
@@ -153,46 +153,46 @@ held_grouped seat (states.Reserved holder deadline) j = held_ties seat holder
 held_grouped seat (states.Buried number) j = apart seat (number_in j.tube) 3 2 (name_cmp [] j.tube) (omega arith) (omega arith) refl
 
 -- by which number
-at_of : {G : Type 0} → Option (Place G) → ℕ
+at_of : {G : Type 0} → Option (ShelfPlace G) → ℕ
 at_of None = 0
 at_of (Some p) = p.at
 
-pub ready_numbered : (tube : List ℕ) (s : JobState) (j : Job) (p : Place Holder) → in_groups s j ≡ Some p → (is_ready_state s && is_same_name tube j.tube) ≡ true → p.at ≡ j.pri
+pub ready_numbered : (tube : List ℕ) (s : JobState) (j : Job) (p : ShelfPlace Holder) → in_groups s j ≡ Some p → (is_ready_state s && is_same_name tube j.tube) ≡ true → p.at ≡ j.pri
 unfolding at_of
 ready_numbered tube states.Ready j p e h = sym (ap at_of e)
 ready_numbered tube (states.Delayed due) j p e h = absurd cc
 ready_numbered tube (states.Reserved seat deadline) j p e h = absurd cc
 ready_numbered tube (states.Buried number) j p e h = absurd cc
 
-pub delayed_numbered : (tube : List ℕ) (s : JobState) (j : Job) (p : Place Holder) → in_groups s j ≡ Some p → (is_delayed s && is_same_name tube j.tube) ≡ true → p.at ≡ due_of s
+pub delayed_numbered : (tube : List ℕ) (s : JobState) (j : Job) (p : ShelfPlace Holder) → in_groups s j ≡ Some p → (is_delayed s && is_same_name tube j.tube) ≡ true → p.at ≡ due_of s
 unfolding at_of
 delayed_numbered tube states.Ready j p e h = absurd cc
 delayed_numbered tube (states.Delayed due) j p e h = sym (ap at_of e)
 delayed_numbered tube (states.Reserved seat deadline) j p e h = absurd cc
 delayed_numbered tube (states.Buried number) j p e h = absurd cc
 
-pub buried_numbered : (tube : List ℕ) (s : JobState) (j : Job) (p : Place Holder) → in_groups s j ≡ Some p → (is_buried s && is_same_name tube j.tube) ≡ true → p.at ≡ burial_of s
+pub buried_numbered : (tube : List ℕ) (s : JobState) (j : Job) (p : ShelfPlace Holder) → in_groups s j ≡ Some p → (is_buried s && is_same_name tube j.tube) ≡ true → p.at ≡ burial_of s
 unfolding at_of
 buried_numbered tube states.Ready j p e h = absurd cc
 buried_numbered tube (states.Delayed due) j p e h = absurd cc
 buried_numbered tube (states.Reserved seat deadline) j p e h = absurd cc
 buried_numbered tube (states.Buried number) j p e h = sym (ap at_of e)
 
-pub due_numbered : (s : JobState) (j : Job) (p : Place Timer) → in_timers s j ≡ Some p → is_delayed s ≡ true → p.at ≡ due_of s
+pub due_numbered : (s : JobState) (j : Job) (p : ShelfPlace Timer) → in_timers s j ≡ Some p → is_delayed s ≡ true → p.at ≡ due_of s
 unfolding at_of
 due_numbered states.Ready j p e h = absurd cc
 due_numbered (states.Delayed due) j p e h = sym (ap at_of e)
 due_numbered (states.Reserved seat deadline) j p e h = absurd cc
 due_numbered (states.Buried number) j p e h = absurd cc
 
-pub lease_numbered : (s : JobState) (j : Job) (p : Place Timer) → in_timers s j ≡ Some p → is_reserved s ≡ true → p.at ≡ deadline_of s
+pub lease_numbered : (s : JobState) (j : Job) (p : ShelfPlace Timer) → in_timers s j ≡ Some p → is_reserved s ≡ true → p.at ≡ deadline_of s
 unfolding at_of
 lease_numbered states.Ready j p e h = absurd cc
 lease_numbered (states.Delayed due) j p e h = absurd cc
 lease_numbered (states.Reserved seat deadline) j p e h = sym (ap at_of e)
 lease_numbered (states.Buried number) j p e h = absurd cc
 
-pub held_numbered : (seat : ℕ) (s : JobState) (j : Job) (p : Place Holder) → in_groups s j ≡ Some p → is_holder seat s ≡ true → p.at ≡ deadline_of s
+pub held_numbered : (seat : ℕ) (s : JobState) (j : Job) (p : ShelfPlace Holder) → in_groups s j ≡ Some p → is_holder seat s ≡ true → p.at ≡ deadline_of s
 unfolding at_of
 held_numbered seat states.Ready j p e h = absurd cc
 held_numbered seat (states.Delayed due) j p e h = absurd cc

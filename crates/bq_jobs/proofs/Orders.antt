@@ -17,7 +17,7 @@ use Rattle.bq_job.specs.declared.job.Job.{Job}
 use Rattle.bq_job.specs.machine.Changes.{job_with}
 use Rattle.bq_job.specs.beside.Lawful.{AreIdsWithin}
 use Rattle.bq_job.proofs.ListLemmas.{count_cons}
-use Rattle.bq_jobs.specs.declared.place.Place.{Place}
+use Rattle.bq_jobs.specs.declared.place.ShelfPlace.{ShelfPlace}
 use Rattle.bq_jobs.specs.Inside.{IsOrderOf, Order, has_place, is_place}
 use Rattle.bq_jobs.specs.Kept.{search_bound, with_added, without}
 use Rattle.bq_jobs.specs.PlaceOrder.{place_cmp, place_total, holds_place, with_place, without_place}
@@ -34,7 +34,7 @@ count_few p (j ∷ jobs) = rw (count_cons p j jobs) (elim (cases_Bool (p j)) [
 ])
 
 -- a search in an order of places
-pub order_search : {G : Type 0} (C : G → G → Ordering) (place_of : Job → Option (Place G)) (jobs : List Job) (room : ℕ) (order : Order G) → IsOrderOf C place_of jobs room order → 2 * binary_digits (length order.entries + 1) ≤ search_bound jobs
+pub order_search : {G : Type 0} (C : G → G → Ordering) (place_of : Job → Option (ShelfPlace G)) (jobs : List Job) (room : ℕ) (order : Order G) → IsOrderOf C place_of jobs room order → 2 * binary_digits (length order.entries + 1) ≤ search_bound jobs
 order_search C place_of jobs room order h = search_is_bounded jobs (length order.entries) (omega (arith, h.counted, count_few (λ j. is_some (place_of j)) jobs))
 
 some_unit : (u : Option (Unit {0})) → is_some u ≡ true → u ≡ Some tt
@@ -53,27 +53,27 @@ fewer_entries test (e ∷ es) = elim (cases_Bool (test e.0)) [
 ]
 
 -- without a place there are no more
-pub fewer_places : {G : Type 0} (C : G → G → Ordering) (place : Option (Place G)) (es : List (Place G × Unit {0})) → length (without_place C place es) ≤ length es
+pub fewer_places : {G : Type 0} (C : G → G → Ordering) (place : Option (ShelfPlace G)) (es : List (ShelfPlace G × Unit {0})) → length (without_place C place es) ≤ length es
 fewer_places C None es = omega arith
 fewer_places C (Some p) es = fewer_entries (is_at (place_cmp C p)) es
 
-own_id : {G : Type 0} (j : Job) (place : Option (Place G)) → IfSome place (λ p. p.id ≡ j.id) → (p : Place G) → place ≡ Some p → p.id ≡ j.id
+own_id : {G : Type 0} (j : Job) (place : Option (ShelfPlace G)) → IfSome place (λ p. p.id ≡ j.id) → (p : ShelfPlace G) → place ≡ Some p → p.id ≡ j.id
 own_id j None h p e = absurd cc
 own_id j (Some q) h p e = let is : q ≡ p = (cc) in subst (λ z. z.id ≡ j.id) is h
 
 module _ {G : Type 0} {C : G → G → Ordering} (o : IsTotalOrder C) where
   -- places that tie are of one job
-  pub same_id : (p q : Place G) → is_eq (place_cmp C p q) ≡ true → p.id ≡ q.id
+  pub same_id : (p q : ShelfPlace G) → is_eq (place_cmp C p q) ≡ true → p.id ≡ q.id
   same_id p q h = numbers_tie p.id q.id (then_equal_second (nat_cmp p.at q.at) (nat_cmp p.id q.id) (then_equal_second (C p.group q.group) (ordering_then (nat_cmp p.at q.at) (nat_cmp p.id q.id)) (equal_from (place_cmp C p q) h)))
 
-  other_id : (p q : Place G) → (p.id == q.id) ≡ false → is_eq (place_cmp C p q) ≡ false
+  other_id : (p q : ShelfPlace G) → (p.id == q.id) ≡ false → is_eq (place_cmp C p q) ≡ false
   other_id p q h =
       elim (cases_Bool (is_eq (place_cmp C p q))) [
         | inr e ↦ e
         | inl e ↦ absurd (let same = same_id p q e in grind (arith, nat_tests))
       ]
 
-  tie_back : (p q : Place G) → is_eq (place_cmp C p q) ≡ is_eq (place_cmp C q p)
+  tie_back : (p q : ShelfPlace G) → is_eq (place_cmp C p q) ≡ is_eq (place_cmp C q p)
   tie_back p q =
       elim (cases_Bool (is_eq (place_cmp C p q))) [
         | inl e ↦ e ∙ sym (ap is_eq (tied_back (place_total o) p q (equal_from (place_cmp C p q) e)))
@@ -83,36 +83,36 @@ module _ {G : Type 0} {C : G → G → Ordering} (o : IsTotalOrder C) where
         ])
       ]
 
-  module _ (place_of : Job → Option (Place G)) (own : (j : Job) → IfSome (place_of j) (λ p. p.id ≡ j.id)) where
+  module _ (place_of : Job → Option (ShelfPlace G)) (own : (j : Job) → IfSome (place_of j) (λ p. p.id ≡ j.id)) where
     -- there is a box for a place, where there is room for a job
     pub has_spare : (jobs : List Job) (room : ℕ) (order : Order G) → IsOrderOf C place_of jobs room order → 0 < room → 0 < order.spare
     has_spare jobs room order h r = omega (arith, h.roomy, h.counted, count_few (λ j. is_some (place_of j)) jobs, r)
 
     -- the places of a job that is not there are free
-    pub absent_place : (j : Job) (jobs : List Job) (room : ℕ) (order : Order G) → IsOrderOf C place_of jobs room order → job_with j.id jobs ≡ None → (p : Place G) → p.id ≡ j.id → holds_place C p order.entries ≡ None
+    pub absent_place : (j : Job) (jobs : List Job) (room : ℕ) (order : Order G) → IsOrderOf C place_of jobs room order → job_with j.id jobs ≡ None → (p : ShelfPlace G) → p.id ≡ j.id → holds_place C p order.entries ≡ None
     absent_place j jobs room order h free p same =
         let found : job_with p.id jobs ≡ None = rw same free in
         none_from (holds_place C p order.entries) (h.places p ∙ ap (has_place C place_of p) found)
 
     -- the place of a job that is there is taken
-    pub held_place : (id : ℕ) (j : Job) (jobs : List Job) (room : ℕ) (order : Order G) → IsOrderOf C place_of jobs room order → job_with id jobs ≡ Some j → (p : Place G) → place_of j ≡ Some p → is_some (holds_place C p order.entries) ≡ true
+    pub held_place : (id : ℕ) (j : Job) (jobs : List Job) (room : ℕ) (order : Order G) → IsOrderOf C place_of jobs room order → job_with id jobs ≡ Some j → (p : ShelfPlace G) → place_of j ≡ Some p → is_some (holds_place C p order.entries) ≡ true
     held_place id j jobs room order h found p e =
         let same : p.id ≡ id = own_id j (place_of j) (own j) p e ∙ found_id id jobs j found in
         let found_then : job_with p.id jobs ≡ Some j = rw same found in
         h.places p ∙ ap (has_place C place_of p) found_then ∙ ap (is_place C p) e ∙ ap is_eq (tied_itself (place_total o) p)
 
     -- places stay in order where one comes or goes
-    sorted_with : (place : Option (Place G)) (es : List (Place G × Unit {0})) → InOrder (place_cmp C) es → InOrder (place_cmp C) (with_place C place es)
+    sorted_with : (place : Option (ShelfPlace G)) (es : List (ShelfPlace G × Unit {0})) → InOrder (place_cmp C) es → InOrder (place_cmp C) (with_place C place es)
     sorted_with None es s = s
     sorted_with (Some p) es s = order_insert (place_total o) p tt es s
 
-    sorted_without : (place : Option (Place G)) (es : List (Place G × Unit {0})) → InOrder (place_cmp C) es → InOrder (place_cmp C) (without_place C place es)
+    sorted_without : (place : Option (ShelfPlace G)) (es : List (ShelfPlace G × Unit {0})) → InOrder (place_cmp C) es → InOrder (place_cmp C) (without_place C place es)
     sorted_without None es s = s
     sorted_without (Some p) es s = order_remove (place_cmp C) (is_at (place_cmp C p)) es s
 
     -- after an addition
-    added_places : (j : Job) (place : Option (Place G)) (jobs : List Job) (room : ℕ) (order : Order G) → place_of j ≡ place → IfSome place (λ p. p.id ≡ j.id) → IsOrderOf C place_of jobs room order → job_with j.id jobs ≡ None
-        → (q : Place G) → is_some (holds_place C q (with_place C place order.entries)) ≡ has_place C place_of q (cond (j.id == q.id) (Some j) (job_with q.id jobs))
+    added_places : (j : Job) (place : Option (ShelfPlace G)) (jobs : List Job) (room : ℕ) (order : Order G) → place_of j ≡ place → IfSome place (λ p. p.id ≡ j.id) → IsOrderOf C place_of jobs room order → job_with j.id jobs ≡ None
+        → (q : ShelfPlace G) → is_some (holds_place C q (with_place C place order.entries)) ≡ has_place C place_of q (cond (j.id == q.id) (Some j) (job_with q.id jobs))
     added_places j None jobs room order e own h free q =
         elim (cases_Bool (j.id == q.id)) [
           | inr other ↦ rw other (h.places q)
@@ -139,7 +139,7 @@ module _ {G : Type 0} {C : G → G → Ordering} (o : IsTotalOrder C) where
         here_only true u h = refl
         here_only false u h = h
 
-    added_length : (j : Job) (place : Option (Place G)) (jobs : List Job) (room : ℕ) (order : Order G) → IfSome place (λ p. p.id ≡ j.id) → IsOrderOf C place_of jobs room order → job_with j.id jobs ≡ None
+    added_length : (j : Job) (place : Option (ShelfPlace G)) (jobs : List Job) (room : ℕ) (order : Order G) → IfSome place (λ p. p.id ≡ j.id) → IsOrderOf C place_of jobs room order → job_with j.id jobs ≡ None
         → length (with_place C place order.entries) ≡ cond (is_some place) 1 0 + length order.entries
     added_length j None jobs room order own h free = omega arith
     added_length j (Some p) jobs room order own h free =
@@ -157,8 +157,8 @@ module _ {G : Type 0} {C : G → G → Ordering} (o : IsTotalOrder C) where
         }
 
     -- after a removal
-    removed_places : (id : ℕ) (j : Job) (place : Option (Place G)) (jobs : List Job) (room : ℕ) (order : Order G) → place_of j ≡ place → IfSome place (λ p. p.id ≡ j.id) → IsOrderOf C place_of jobs room order → job_with id jobs ≡ Some j → InOrder (place_cmp C) order.entries
-        → (q : Place G) → is_some (holds_place C q (without_place C place order.entries)) ≡ has_place C place_of q (cond (id == q.id) None (job_with q.id jobs))
+    removed_places : (id : ℕ) (j : Job) (place : Option (ShelfPlace G)) (jobs : List Job) (room : ℕ) (order : Order G) → place_of j ≡ place → IfSome place (λ p. p.id ≡ j.id) → IsOrderOf C place_of jobs room order → job_with id jobs ≡ Some j → InOrder (place_cmp C) order.entries
+        → (q : ShelfPlace G) → is_some (holds_place C q (without_place C place order.entries)) ≡ has_place C place_of q (cond (id == q.id) None (job_with q.id jobs))
     removed_places id j None jobs room order e own h found s q =
         elim (cases_Bool (id == q.id)) [
           | inr other ↦ rw other (h.places q)
@@ -185,7 +185,7 @@ module _ {G : Type 0} {C : G → G → Ordering} (o : IsTotalOrder C) where
         gone_now true u h = refl
         gone_now false u h = h
 
-    removed_length : (id : ℕ) (j : Job) (place : Option (Place G)) (jobs : List Job) (room : ℕ) (order : Order G) → place_of j ≡ place → IsOrderOf C place_of jobs room order → job_with id jobs ≡ Some j
+    removed_length : (id : ℕ) (j : Job) (place : Option (ShelfPlace G)) (jobs : List Job) (room : ℕ) (order : Order G) → place_of j ≡ place → IsOrderOf C place_of jobs room order → job_with id jobs ≡ Some j
         → cond (is_some place) 1 0 + length (without_place C place order.entries) ≡ length order.entries
     removed_length id j None jobs room order e h found = omega arith
     removed_length id j (Some p) jobs room order e h found =
@@ -220,7 +220,7 @@ module _ {G : Type 0} {C : G → G → Ordering} (o : IsTotalOrder C) where
       pub has_spare_then : 0 < order.spare + cond (is_some (place_of j)) 1 0
       has_spare_then = has_spare (without id jobs) (room + 1) left once_left (omega arith)
 
-      pub absent_then : (p : Place G) → place_of k ≡ Some p → holds_place C p (without_place C (place_of j) order.entries) ≡ None
+      pub absent_then : (p : ShelfPlace G) → place_of k ≡ Some p → holds_place C p (without_place C (place_of j) order.entries) ≡ None
       absent_then p e = absent_place k (without id jobs) (room + 1) left once_left free_then p (own_id k (place_of k) (own k) p e)
 
       pub order_moved : (new : Order G) → new.entries ≡ with_place C (place_of k) (without_place C (place_of j) order.entries)

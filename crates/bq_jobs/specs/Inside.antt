@@ -9,7 +9,7 @@ use Rattle.bq_job.specs.machine.Changes.{job_with}
 use Rattle.bq_job.specs.beside.Lawful.{AreIdsWithin}
 use Rattle.bq_job.specs.machine.Limits.{greatest}
 use Rattle.bq_jobs.specs.declared.holder.Holder.{Holder}
-use Rattle.bq_jobs.specs.declared.place.Place.{Place}
+use Rattle.bq_jobs.specs.declared.place.ShelfPlace.{ShelfPlace}
 use Rattle.bq_jobs.specs.declared.place.Timer.{Timer}
 use Rattle.bq_jobs.specs.Kept.{Kept}
 use Rattle.bq_jobs.specs.PlaceOrder.{place_cmp, holds_place}
@@ -19,7 +19,7 @@ abbrev pub ById : Type 0
 ById = Seen ℕ Job
 
 abbrev pub Order : Type 0 → Type 0
-Order G = Seen (Place G) (Unit {0})
+Order G = Seen (ShelfPlace G) (Unit {0})
 
 abbrev pub jobs_of : List (ℕ × Job) → List Job
 jobs_of es = map (λ e. e.1) es
@@ -36,18 +36,18 @@ kept_in by_id groups timers = record {
 }
 
 -- whether the job has this place
-abbrev pub is_place : {G : Type 0} → (G → G → Ordering) → Place G → Option (Place G) → Bool
+abbrev pub is_place : {G : Type 0} → (G → G → Ordering) → ShelfPlace G → Option (ShelfPlace G) → Bool
 is_place compare p None = false
 is_place compare p (Some q) = is_eq (place_cmp compare p q)
 
-abbrev pub has_place : {G : Type 0} → (G → G → Ordering) → (Job → Option (Place G)) → Place G → Option Job → Bool
+abbrev pub has_place : {G : Type 0} → (G → G → Ordering) → (Job → Option (ShelfPlace G)) → ShelfPlace G → Option Job → Bool
 has_place compare place_of p None = false
 has_place compare place_of p (Some j) = is_place compare p (place_of j)
 
 -- An order has the places of all jobs and no others, ascending, and boxes for those of the jobs to come.
-pub record IsOrderOf {G : Type 0} (compare : G → G → Ordering) (place_of : Job → Option (Place G))
+pub record IsOrderOf {G : Type 0} (compare : G → G → Ordering) (place_of : Job → Option (ShelfPlace G))
     (jobs : List Job) (room : ℕ) (order : Order G) : Type 0 where
-  pub places : (p : Place G) → is_some (holds_place compare p order.entries) ≡ has_place compare place_of p (job_with p.id jobs)
+  pub places : (p : ShelfPlace G) → is_some (holds_place compare p order.entries) ≡ has_place compare place_of p (job_with p.id jobs)
   pub counted : length order.entries ≡ count_by (λ j. is_some (place_of j)) jobs
   pub roomy : length jobs + room ≤ length order.entries + order.spare
   pub sorted : InOrder (place_cmp compare) order.entries

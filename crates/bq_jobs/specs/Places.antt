@@ -7,11 +7,11 @@ use Rattle.bq_jobs.specs.declared.holder.Holder.{Holder}
 use Rattle.bq_jobs.specs.declared.holder.Holder.TheVariants as holders
 use Rattle.bq_jobs.specs.declared.holder.JobList.{JobList}
 use Rattle.bq_jobs.specs.declared.holder.JobList.TheVariants as lists
-use Rattle.bq_jobs.specs.declared.place.Place.{Place}
+use Rattle.bq_jobs.specs.declared.place.ShelfPlace.{ShelfPlace}
 use Rattle.bq_jobs.specs.declared.place.Timer.{Timer}
 use Rattle.bq_jobs.specs.declared.place.Timer.TheVariants as timers
 
-abbrev pub placed : {G : Type 0} → G → ℕ → ℕ → Option (Place G)
+abbrev pub placed : {G : Type 0} → G → ℕ → ℕ → Option (ShelfPlace G)
 placed group at id = Some (record { at = at; id = id; group = group })
 
 abbrev pub list_of : List ℕ → JobList → Holder
@@ -21,26 +21,26 @@ abbrev pub held_by : ℕ → Holder
 held_by seat = holders.Held seat
 
 -- among the ready, delayed or buried jobs of its tube, or the leases of its holder
-abbrev pub in_groups_at : JobState → ℕ → List ℕ → ℕ → Option (Place Holder)
+abbrev pub in_groups_at : JobState → ℕ → List ℕ → ℕ → Option (ShelfPlace Holder)
 in_groups_at states.Ready pri tube id = placed (list_of tube lists.Ready) pri id
 in_groups_at (states.Delayed due) pri tube id = placed (list_of tube lists.Delayed) due id
 in_groups_at (states.Reserved seat deadline) pri tube id = placed (held_by seat) deadline id
 in_groups_at (states.Buried number) pri tube id = placed (list_of tube lists.Buried) number id
 
-abbrev pub in_groups : JobState → Job → Option (Place Holder)
+abbrev pub in_groups : JobState → Job → Option (ShelfPlace Holder)
 in_groups state j = in_groups_at state j.pri j.tube j.id
 
-abbrev pub group_place : Job → Option (Place Holder)
+abbrev pub group_place : Job → Option (ShelfPlace Holder)
 group_place j = in_groups j.state j
 
 -- among the delays or the leases
-abbrev pub in_timers_at : JobState → ℕ → Option (Place Timer)
+abbrev pub in_timers_at : JobState → ℕ → Option (ShelfPlace Timer)
 in_timers_at (states.Delayed due) id = placed timers.Due due id
 in_timers_at (states.Reserved seat deadline) id = placed timers.Lease deadline id
 in_timers_at _ id = None
 
-abbrev pub in_timers : JobState → Job → Option (Place Timer)
+abbrev pub in_timers : JobState → Job → Option (ShelfPlace Timer)
 in_timers state j = in_timers_at state j.id
 
-abbrev pub timer_place : Job → Option (Place Timer)
+abbrev pub timer_place : Job → Option (ShelfPlace Timer)
 timer_place j = in_timers j.state j

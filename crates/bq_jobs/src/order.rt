@@ -5,13 +5,13 @@ ghost use Rattle.bq_jobs.specs.PlaceOrder.{ComparesTwice, first_in_group, first_
 ghost use Rattle.std.specs.Option.{ForSome};
 ghost use Rattle.std.specs.Prelude.{None};
 
-use super::place::Place;
+use super::place::ShelfPlace;
 use bq_index::{BoxSource, Shelf};
 use bq_job::{JobId, NoMemory};
 
 /// Sets boxes aside for so many places, those that are taken included.
 pub(crate) fn make_room<G: Ord + Drop, S: BoxSource>(
-    order: &mut Shelf<Place<G>, ()>,
+    order: &mut Shelf<ShelfPlace<G>, ()>,
     source: &mut S,
     places: usize,
 ) -> Result<(), NoMemory>
@@ -28,7 +28,7 @@ pub(crate) fn make_room<G: Ord + Drop, S: BoxSource>(
 }
 
 /// Puts a place in, if there is one.
-pub(crate) fn enter<G: Ord + Drop>(order: &mut Shelf<Place<G>, ()>, place: Option<Place<G>>)
+pub(crate) fn enter<G: Ord + Drop>(order: &mut Shelf<ShelfPlace<G>, ()>, place: Option<ShelfPlace<G>>)
     requires spare { ForSome place (λ _. 0 < order.old.spare) }
     requires absent { ForSome place (λ p. holds_place G.cmp p order.old.entries ≡ None) }
     ensures entries { order.new.entries ≡ with_place G.cmp place order.old.entries }
@@ -41,7 +41,7 @@ pub(crate) fn enter<G: Ord + Drop>(order: &mut Shelf<Place<G>, ()>, place: Optio
 }
 
 /// Takes a place out, if there is one.
-pub(crate) fn leave<G: Ord + Drop>(order: &mut Shelf<Place<G>, ()>, place: Option<Place<G>>)
+pub(crate) fn leave<G: Ord + Drop>(order: &mut Shelf<ShelfPlace<G>, ()>, place: Option<ShelfPlace<G>>)
     requires held { ForSome place (λ p. IsSome (holds_place G.cmp p order.old.entries)) }
     ensures entries { order.new.entries ≡ without_place G.cmp place order.old.entries }
     ensures spare { order.new.spare ≡ order.old.spare + (if is_some place then 1 else 0) }
@@ -55,9 +55,9 @@ pub(crate) fn leave<G: Ord + Drop>(order: &mut Shelf<Place<G>, ()>, place: Optio
 /// Takes a place out, if there is one, and puts another one in, if there is one.
 #[tactic(auto, using(crate::proofs::Counting::digits_grow, crate::proofs::Orders::fewer_places))]
 pub(crate) fn shift<G: Ord + Drop>(
-    order: &mut Shelf<Place<G>, ()>,
-    from: Option<Place<G>>,
-    to: Option<Place<G>>,
+    order: &mut Shelf<ShelfPlace<G>, ()>,
+    from: Option<ShelfPlace<G>>,
+    to: Option<ShelfPlace<G>>,
 )
     requires held { ForSome from (λ p. IsSome (holds_place G.cmp p order.old.entries)) }
     requires spare { ForSome to (λ _. 0 < order.old.spare + (if is_some from then 1 else 0)) }
@@ -72,7 +72,7 @@ pub(crate) fn shift<G: Ord + Drop>(
 
 /// The number and the id at the first place of a group.
 pub(crate) fn first_rank<G: Ord + Drop + Copy>(
-    order: &mut Shelf<Place<G>, ()>,
+    order: &mut Shelf<ShelfPlace<G>, ()>,
     group: G,
 ) -> Option<(u64, JobId)>
     ensures rank { result ≡ first_rank G.cmp group order.old.entries }
@@ -80,7 +80,7 @@ pub(crate) fn first_rank<G: Ord + Drop + Copy>(
     ensures spare { order.new.spare ≡ order.old.spare }
     ensures comparisons { ComparesFew order.old order.new }
 {
-    let front = Place {
+    let front = ShelfPlace {
         at: 0,
         id: 0,
         group,
@@ -95,7 +95,7 @@ pub(crate) fn first_rank<G: Ord + Drop + Copy>(
 
 /// The id at the first place of a group.
 pub(crate) fn first_in_group<G: Ord + Drop + Copy>(
-    order: &mut Shelf<Place<G>, ()>,
+    order: &mut Shelf<ShelfPlace<G>, ()>,
     group: G,
 ) -> Option<JobId>
     ensures id { result ≡ first_in_group G.cmp group order.old.entries }

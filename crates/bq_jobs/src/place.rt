@@ -12,13 +12,13 @@ use std::cmp::Ordering;
 
 /// A place in an order: by group, then by a number, then by the id of the job.
 #[derive(Clone, Copy)]
-pub struct Place<G> {
+pub struct ShelfPlace<G> {
     pub at: u64,
     pub id: JobId,
     pub group: G,
 }
 
-impl<G: Ord> PartialEq for Place<G> {
+impl<G: Ord> PartialEq for ShelfPlace<G> {
     ghost use Rattle.std.specs.Cmp as Cmp;
     ghost use Rattle.std.specs.Ordering.{eq_by_cmp};
     ghost use Rattle.bq_jobs.specs.PlaceOrder.{place_cmp, place_total};
@@ -27,19 +27,19 @@ impl<G: Ord> PartialEq for Place<G> {
 
     ghost laws = { Cmp.partial_equiv_from_equiv (Cmp.eq_by_cmp_equiv (place_total G.total)) };
 
-    fn eq(&self, other: &Place<G>) -> bool {
+    fn eq(&self, other: &ShelfPlace<G>) -> bool {
         self.cmp(other).is_eq()
     }
 }
 
-impl<G: Ord> Eq for Place<G> {
+impl<G: Ord> Eq for ShelfPlace<G> {
     ghost use Rattle.std.specs.Cmp as Cmp;
     ghost use Rattle.bq_jobs.specs.PlaceOrder.{place_total};
 
     ghost laws = { Cmp.eq_by_cmp_equiv (place_total G.total) };
 }
 
-impl<G: Ord> PartialOrd for Place<G> {
+impl<G: Ord> PartialOrd for ShelfPlace<G> {
     ghost use Rattle.std.proofs.Common.{refl};
     ghost use Rattle.std.specs.Cmp as Cmp;
     ghost use Rattle.std.specs.Ordering.{as_partial_cmp};
@@ -49,12 +49,12 @@ impl<G: Ord> PartialOrd for Place<G> {
 
     ghost laws = { Cmp.partial_order_from_agreeing_total (place_cmp G.cmp) (place_total G.total) (λ a b. refl) (λ a b. refl) };
 
-    fn partial_cmp(&self, other: &Place<G>) -> Option<Ordering> {
+    fn partial_cmp(&self, other: &ShelfPlace<G>) -> Option<Ordering> {
         Some(self.cmp(other))
     }
 }
 
-impl<G: Ord> Ord for Place<G> {
+impl<G: Ord> Ord for ShelfPlace<G> {
     ghost use Rattle.std.proofs.Common.{refl};
     ghost use Rattle.bq_jobs.specs.PlaceOrder.{place_cmp, place_total};
 
@@ -66,7 +66,7 @@ impl<G: Ord> Ord for Place<G> {
 
     ghost matches_eq = { λ a b. refl };
 
-    fn cmp(&self, other: &Place<G>) -> Ordering {
+    fn cmp(&self, other: &ShelfPlace<G>) -> Ordering {
         self.group
             .cmp(&other.group)
             .then_with(|| self.cmp_numbers(other))
@@ -80,18 +80,18 @@ pub enum Timer {
     Lease,
 }
 
-impl<G> Place<G> {
+impl<G> ShelfPlace<G> {
     ghost use Rattle.bq_jobs.specs.PlaceOrder.{numbers_cmp};
 
     /// The place of a job in a group.
-    fn of(group: G, at: u64, id: JobId) -> Place<G>
+    fn of(group: G, at: u64, id: JobId) -> ShelfPlace<G>
         ensures { result ≡ record { at = at; id = id; group = group } }
     {
-        Place { at, id, group }
+        ShelfPlace { at, id, group }
     }
 
     // The order within a group.
-    fn cmp_numbers(&self, other: &Place<G>) -> Ordering
+    fn cmp_numbers(&self, other: &ShelfPlace<G>) -> Ordering
         ensures { result ≡ numbers_cmp self.now other.now }
     {
         self.at.cmp(&other.at).then_with(|| self.id.cmp(&other.id))
@@ -99,21 +99,21 @@ impl<G> Place<G> {
 }
 
 /// The place of a job among those of its tube's list or of its holder.
-pub(crate) fn group_place(job: &Row) -> Option<Place<Group>>
+pub(crate) fn group_place(job: &Row) -> Option<ShelfPlace<Group>>
     ensures { result ≡ group_place job.now }
 {
     place_in_groups(job.id, job.tube, Standing::of_row(job))
 }
 
 /// The place of a job among all delays and leases.
-pub(crate) fn timer_place(job: &Row) -> Option<Place<Timer>>
+pub(crate) fn timer_place(job: &Row) -> Option<ShelfPlace<Timer>>
     ensures { result ≡ timer_place job.now }
 {
     place_in_timers(job.id, Standing::of_row(job))
 }
 
 /// The place in its tube's list, or at its holder, of the job of this id that stands so. Each job has one.
-pub(crate) fn place_in_groups(id: JobId, tube: TubeNumber, at: Standing) -> Option<Place<Group>>
+pub(crate) fn place_in_groups(id: JobId, tube: TubeNumber, at: Standing) -> Option<ShelfPlace<Group>>
     ensures { result ≡ in_groups_at at.state at.pri tube id }
 {
     let (group, number) = match at.state {
@@ -122,16 +122,16 @@ pub(crate) fn place_in_groups(id: JobId, tube: TubeNumber, at: Standing) -> Opti
         JobState::Reserved(seat, deadline) => (Group::held(seat), deadline),
         JobState::Buried(number) => (Group::list(JobList::Buried, tube), number),
     };
-    Some(Place::of(group, number, id))
+    Some(ShelfPlace::of(group, number, id))
 }
 
 /// The place among all delays and leases of the job of this id that stands so.
-pub(crate) fn place_in_timers(id: JobId, at: Standing) -> Option<Place<Timer>>
+pub(crate) fn place_in_timers(id: JobId, at: Standing) -> Option<ShelfPlace<Timer>>
     ensures { result ≡ in_timers_at at.state id }
 {
     match at.state {
-        JobState::Delayed(due) => Some(Place::of(Timer::Due, due, id)),
-        JobState::Reserved(_, deadline) => Some(Place::of(Timer::Lease, deadline, id)),
+        JobState::Delayed(due) => Some(ShelfPlace::of(Timer::Due, due, id)),
+        JobState::Reserved(_, deadline) => Some(ShelfPlace::of(Timer::Lease, deadline, id)),
         JobState::Ready | JobState::Buried(_) => None,
     }
 }

@@ -20,7 +20,7 @@ use super::group::Group;
 use super::holder::JobList;
 use super::number::TubeNumber;
 use super::order;
-use super::place::{self, Place, Timer};
+use super::place::{self, ShelfPlace, Timer};
 use super::row::Row;
 use bq_index::{BoxSource, Shelf};
 use bq_job::{Body, JobId, Moment, NoMemory, Seat};
@@ -32,8 +32,8 @@ use std::marker::Model;
 #[derive(Drop)]
 pub(crate) struct Rows {
     by_id: Shelf<JobId, Row>,
-    groups: Shelf<Place<Group>, ()>,
-    timers: Shelf<Place<Timer>, ()>,
+    groups: Shelf<ShelfPlace<Group>, ()>,
+    timers: Shelf<ShelfPlace<Timer>, ()>,
 }
 
 impl Model for Rows {
