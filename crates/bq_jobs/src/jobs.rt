@@ -128,7 +128,7 @@ impl Jobs {
         ensures comparisons { ComparesAtMost 4 self.old self.new }
     {
         if let Some(number) = self.tubes.number_of(&job.tube) {
-            self.rows.add(row::row_of(job, number));
+            self.rows.add(job.id, row::row_of(job, number));
         }
     }
 
@@ -143,7 +143,7 @@ impl Jobs {
         ensures comparisons { ComparesAtMost 4 self.old self.new }
     {
         let row = self.rows.remove(id)?;
-        job_of(&self.tubes, row)
+        job_of(&self.tubes, id, row)
     }
 
     /// Changes the job of this id, if there is one. Its record stays where it lies, and it goes from its
@@ -312,14 +312,15 @@ impl Jobs {
     }
 }
 
-// The job of a record, in the tube of its number.
-fn job_of(tubes: &NumberedTubes, row: Row) -> Option<Job>
+// The job of the record at this id, in the tube of its number.
+fn job_of(tubes: &NumberedTubes, id: JobId, row: Row) -> Option<Job>
+    requires id { row.id ≡ id }
     ensures job { result ≡ option_map (in_tube row) (name_of (number_in row.tube) tubes.now) }
     ensures paired { IsPaired tubes.now }
 {
     match tubes.name_of(row.tube.get()) {
         None => None,
-        Some(tube) => Some(row::job_of(row, *tube)),
+        Some(tube) => Some(row::job_of(id, row, *tube)),
     }
 }
 

@@ -8,13 +8,13 @@
 //!
 //! | piece | bytes |
 //! |---|---|
-//! | its box by id | 144 |
+//! | its box by id | 136 |
 //! | its place in its tube or at its holder | 56 |
 //! | its place among delays and leases | 56 |
 //! | the vector of its body and the count of its owners | 48 at most |
 //! | the bytes of its body | 64 |
 //! | what a heap keeps beside each of these five pieces | 80 at most |
-//! | together | 448 at most |
+//! | together | 440 at most |
 #![tactic(auto)]
 
 pub use edit::{JobEdit, Moved, Standing};

@@ -98,18 +98,20 @@ impl<G> ShelfPlace<G> {
     }
 }
 
-/// The place of a job among those of its tube's list or of its holder.
-pub(crate) fn group_place(job: &Row) -> Option<ShelfPlace<Group>>
+/// The place of the job of this id among those of its tube's list or of its holder.
+pub(crate) fn group_place(id: JobId, job: &Row) -> Option<ShelfPlace<Group>>
+    requires { job.now.id ≡ id }
     ensures { result ≡ group_place job.now }
 {
-    place_in_groups(job.id, job.tube, Standing::of_row(job))
+    place_in_groups(id, job.tube, Standing::of_row(job))
 }
 
-/// The place of a job among all delays and leases.
-pub(crate) fn timer_place(job: &Row) -> Option<ShelfPlace<Timer>>
+/// The place of the job of this id among all delays and leases.
+pub(crate) fn timer_place(id: JobId, job: &Row) -> Option<ShelfPlace<Timer>>
+    requires { job.now.id ≡ id }
     ensures { result ≡ timer_place job.now }
 {
-    place_in_timers(job.id, Standing::of_row(job))
+    place_in_timers(id, Standing::of_row(job))
 }
 
 /// The place in its tube's list, or at its holder, of the job of this id that stands so. Each job has one.

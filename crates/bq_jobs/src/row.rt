@@ -4,13 +4,15 @@ ghost use Rattle.std.specs.Prelude.{◌≡◌, ◌<◌, ◌^◌, [], ◌∷◌};
 use super::number::TubeNumber;
 use bq_job::{Body, Counts, Job, JobId, JobState, Moment, Pri, TubeName};
 use std::marker::Model;
+use std::snapshot::Snapshot;
 
 /// The record of a job, in which its tube is a number. To a contract it is a job in the tube of that number.
+// Fields lie in memory as they stand here: what tells the places of a job comes first, beside its key.
 #[derive(Drop)]
 pub struct Row {
-    pub id: JobId,
     /// The tube that it was put into, for life.
     pub tube: TubeNumber,
+    pub state: JobState,
     pub pri: Pri,
     /// The delay of its put or of its last release, in seconds.
     pub delay: u32,
@@ -20,7 +22,8 @@ pub struct Row {
     /// When its put was accepted.
     pub put_at: Moment,
     pub counts: Counts,
-    pub state: JobState,
+    /// Its id, which only contracts see: a record is found by it, and keeps no second one.
+    pub id: Snapshot<JobId>,
 }
 
 impl Model for Row {
@@ -29,7 +32,7 @@ impl Model for Row {
     ghost Value = { Job };
 
     ghost view = { λ r. record {
-      id = r.id;
+      id = r.id.value;
       tube = r.tube;
       pri = r.pri;
       delay = r.delay;
@@ -47,24 +50,25 @@ pub(crate) fn row_of(job: Job, number: u64) -> Row
     ensures { result ≡ record job { tube = number ∷ [] } }
 {
     Row {
-        id: job.id,
         tube: TubeNumber::of(number),
+        state: job.state,
         pri: job.pri,
         delay: job.delay,
         ttr: job.ttr,
         body: job.body,
         put_at: job.put_at,
         counts: job.counts,
-        state: job.state,
+        id: Snapshot::of(&job.id),
     }
 }
 
-/// The job of a record, in the tube of this name.
-pub(crate) fn job_of(row: Row, tube: TubeName) -> Job
+/// The job of the record at this id, in the tube of this name.
+pub(crate) fn job_of(id: JobId, row: Row, tube: TubeName) -> Job
+    requires { row.id ≡ id }
     ensures { result ≡ record row { tube = tube } }
 {
     Job {
-        id: row.id,
+        id,
         tube,
         pri: row.pri,
         delay: row.delay,

@@ -133,17 +133,18 @@ impl Rows {
         }
     }
 
-    /// Puts a job in. It uses the room of one.
-    pub(crate) fn add(&mut self, job: Row)
+    /// Puts the job of this id in. It uses the room of one.
+    pub(crate) fn add(&mut self, id: JobId, job: Row)
+        requires id { job.id ≡ id }
         requires room { 0 < self.old.room }
         requires absent { job_with job.id self.old.jobs ≡ None }
         ensures jobs { self.new.jobs ≡ with_added job self.old.jobs }
         ensures room { self.new.room + 1 ≡ self.old.room }
         ensures comparisons { ComparesAtMost 4 self.old self.new }
     {
-        order::enter(&mut self.groups, place::group_place(&job));
-        order::enter(&mut self.timers, place::timer_place(&job));
-        self.by_id.insert(id_of(&job), job);
+        order::enter(&mut self.groups, place::group_place(id, &job));
+        order::enter(&mut self.timers, place::timer_place(id, &job));
+        self.by_id.insert(id, job);
     }
 
     /// Takes the job of this id out, if there is one. Its room comes back.
@@ -156,8 +157,8 @@ impl Rows {
         ensures comparisons { ComparesAtMost 4 self.old self.new }
     {
         let job = self.by_id.remove(&id)?;
-        order::leave(&mut self.groups, place::group_place(&job));
-        order::leave(&mut self.timers, place::timer_place(&job));
+        order::leave(&mut self.groups, place::group_place(id, &job));
+        order::leave(&mut self.timers, place::timer_place(id, &job));
         Some(job)
     }
 
@@ -311,13 +312,6 @@ impl Rows {
     {
         order::first_rank(&mut self.groups, Group::held(seat))
     }
-}
-
-// The id of a job.
-fn id_of(job: &Row) -> JobId
-    ensures { result ≡ job.now.id }
-{
-    job.id
 }
 
 // Changes a job where it lies.

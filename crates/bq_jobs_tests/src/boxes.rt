@@ -139,6 +139,6 @@ fn bytes_of_a_job(rt: HostRuntime) -> Result<(), Fail> {
     let [place, timer, record] = source.sizes;
     assert!(rt; 0 < place && place <= 56);
     assert!(rt; 0 < timer && timer <= 56);
-    assert!(rt; 0 < record && record <= 144);
+    assert!(rt; 0 < record && record <= 136);
     Ok(())
 }

@@ -14,7 +14,7 @@ use Rattle.bq_jobs.proofs.rows.Rows.add.Goals as goal
 
 pub insert-requires-clause-absent : goal.insert-requires-clause-absent
 insert-requires-clause-absent c =
-    ap (λ id. lookup (is_at (nat_cmp id)) c.self.inside.by_id.entries) c.id_of.ensures
+    ap (λ id. lookup (is_at (nat_cmp id)) c.self.inside.by_id.entries) (sym c.requires.id)
     ∙ found_in c.args.job.id c.self.inside c.self.invariant ∙ ap (λ (m : Kept). job_with c.args.job.id m.jobs) c.self.view_is ∙ c.requires.absent
 
 pub invariant_of-self : goal.invariant_of-self
@@ -22,9 +22,9 @@ invariant_of-self c =
     let s = c.self.inside in
     let j = c.args.job in
     shelved_added j s (record { by_id = c.insert.new.self; groups = c.enter.new.order; timers = c.enter-2.new.order })
-    c.self.invariant (rw (← c.id_of.ensures) c.id_of.type_inv)
+    c.self.invariant (omega (arith, c.requires.id, c.ranges.id))
     (ap (λ (m : Kept). job_with j.id m.jobs) c.self.view_is ∙ c.requires.absent) (record {
-      by_id = c.insert.ensures.entries ∙ ap (λ id. insert_entry nat_cmp s.by_id.entries id j) c.id_of.ensures;
+      by_id = c.insert.ensures.entries ∙ ap (λ id. insert_entry nat_cmp s.by_id.entries id j) (sym c.requires.id);
       room = c.insert.ensures.spare;
       groups = c.enter.ensures.entries ∙ ap (λ p. with_place group_cmp p s.groups.entries) c.group_place.ensures;
       group_spare = ap (λ p. c.enter.new.order.spare + cond (is_some p) 1 0) (sym c.group_place.ensures) ∙ c.enter.ensures.spare;
@@ -34,7 +34,7 @@ invariant_of-self c =
 
 pub returns-clause-jobs : goal.returns-clause-jobs
 returns-clause-jobs c =
-    ap jobs_of (c.insert.ensures.entries ∙ ap (λ id. insert_entry nat_cmp c.self.inside.by_id.entries id c.args.job) c.id_of.ensures)
+    ap jobs_of (c.insert.ensures.entries ∙ ap (λ id. insert_entry nat_cmp c.self.inside.by_id.entries id c.args.job) (sym c.requires.id))
     ∙ jobs_added c.args.job c.self.inside c.self.invariant (ap (λ (m : Kept). job_with c.args.job.id m.jobs) c.self.view_is ∙ c.requires.absent)
     ∙ ap (λ (m : Kept). with_added c.args.job m.jobs) c.self.view_is
 
