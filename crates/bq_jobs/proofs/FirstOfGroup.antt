@@ -18,7 +18,7 @@ use Rattle.bq_job.proofs.ListLemmas.{all_from_members, found_passes, list_any_no
 use Rattle.bq_jobs.specs.declared.place.ShelfPlace.{ShelfPlace}
 use Rattle.bq_jobs.specs.Inside.{IsOrderOf, Order, has_place, is_place}
 use Rattle.bq_jobs.specs.Kept.{ranked}
-use Rattle.bq_jobs.specs.PlaceOrder.{place_total, front, first_in_group, first_rank, holds_place, place_cmp, rank_in_group}
+use Rattle.bq_jobs.specs.PlaceOrder.{place_total, front, first_rank, holds_place, place_cmp, rank_in_group}
 use Rattle.bq_jobs.proofs.Changes.{found_by_id, found_id}
 use Rattle.bq_jobs.proofs.Choice.{equal_from, found_below, from_found, from_least, from_not_below, none_below, numbers_tie, pair_not_after, then_equal_first, then_equal_second, then_not_greater}
 use Rattle.bq_jobs.proofs.Orders.{held_place}
@@ -182,11 +182,3 @@ module _ {G : Type 0} {C : G → G → Ordering} (o : IsTotalOrder C) (g : G) wh
       -- the number and the id at the first place of the group are those of the first job that passes
       pub rank_is : first_rank C g order.entries ≡ option_map (ranked number) (first_of passes (λ a b. is_pair_before (number a) a.id (number b) b.id) jobs)
       rank_is = rank_by (entry_from (place_cmp C (front C g)) order.entries) refl
-
-      second_of : (o : Option Job) → option_map (λ (p : ℕ × ℕ). p.1) (option_map (ranked number) o) ≡ option_map (λ j. j.id) o
-      second_of None = refl
-      second_of (Some j) = refl
-
-      -- so is the id alone
-      pub first_is : first_in_group C g order.entries ≡ option_map (λ j. j.id) (first_of passes (λ a b. is_pair_before (number a) a.id (number b) b.id) jobs)
-      first_is = ap (option_map (λ (p : ℕ × ℕ). p.1)) rank_is ∙ second_of (first_of passes before jobs)

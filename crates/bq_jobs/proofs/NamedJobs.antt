@@ -8,12 +8,16 @@ use Rattle.std.proofs.Common.{arith}
 use Rattle.std.proofs.lemmas.Bool.{cases_Bool, eqb-true}
 use Rattle.std.proofs.lemmas.Bool.Decides.{nat_tests}
 use Rattle.bq_job.specs.declared.job.Job.{Job}
-use Rattle.bq_job.specs.machine.Changes.{better_of, first_of, job_with}
+use Rattle.bq_job.specs.machine.Changes.{better_of, first_of, is_held_by, is_pair_before, job_with}
 use Rattle.bq_job.specs.reading.TubeName.{is_same_name}
 use Rattle.bq_job.proofs.LookupLemmas.{job_in_map}
 use Rattle.bq_index.specs.Digits.{binary_digits}
-use Rattle.bq_jobs.specs.Kept.{ComparesAtMost, Kept, with_added, without}
+use Rattle.bq_jobs.specs.Kept.{ComparesAtMost, Kept, ranked, with_added, without}
+use Rattle.bq_jobs.specs.Leases.{deadline_of}
+use Rattle.bq_jobs.specs.Ranks.{first_by, first_ranked, is_in_list, is_listed, is_timer_of, list_rank, moment_of}
 use Rattle.bq_jobs.specs.declared.edit.MovedRow.{MovedRow}
+use Rattle.bq_jobs.specs.declared.holder.JobList.{JobList}
+use Rattle.bq_jobs.specs.declared.place.Timer.{Timer}
 use Rattle.bq_jobs.specs.Changed.{IgnoresTube, KeepsTube, moved_by, moved_in, row_moved_by, standing, with_changed}
 use Rattle.bq_jobs.specs.Numbering.{AreNumbered, IsNumbered, IsPaired, Numbering, kept_named, name_of, named, number_of, with_known, without_known}
 use Rattle.bq_jobs.specs.Names.{number_in}
@@ -52,7 +56,7 @@ module _ (k : Numbering) (h : IsPaired k) (name : List ℕ) where
       same_number : (n : ℕ) → (n == n) ≡ true
       same_number n = grind (arith, nat_tests)
 
-  pub tube_told : (n : ℕ) → number_of name k ≡ Some n → (j : Job) → IsNumbered k j → is_same_name name (named k j).tube ≡ is_same_name (n ∷ []) j.tube
+  tube_told : (n : ℕ) → number_of name k ≡ Some n → (j : Job) → IsNumbered k j → is_same_name name (named k j).tube ≡ is_same_name (n ∷ []) j.tube
   tube_told n own j is = told_by n (number_in j.tube) own (name_of (number_in j.tube) k) refl is.1 ∙ ap (is_same_name (n ∷ [])) (sym is.0)
 
   -- and no tube has it that isn't known.
@@ -66,16 +70,16 @@ module _ (k : Numbering) (h : IsPaired k) (name : List ℕ) where
     | inr apart ↦ apart
   ]
 
-  pub tube_not_told : number_of name k ≡ None → (j : Job) → IsNumbered k j → is_same_name name (named k j).tube ≡ false
+  tube_not_told : number_of name k ≡ None → (j : Job) → IsNumbered k j → is_same_name name (named k j).tube ≡ false
   tube_not_told none j is = not_told_by none (number_in j.tube) (name_of (number_in j.tube) k) refl is.1
 
   -- what passes a test of its state and is in the tube
-  pub all_told : (n : ℕ) → number_of name k ≡ Some n → (test : Job → Bool) (rows : List Job) → AreNumbered k rows
+  all_told : (n : ℕ) → number_of name k ≡ Some n → (test : Job → Bool) (rows : List Job) → AreNumbered k rows
       → All (λ j. (test j && is_same_name name (named k j).tube) ≡ (test j && is_same_name (n ∷ []) j.tube)) rows
   all_told n own test [] all = tt
   all_told n own test (j ∷ rows) all = (ap (λ b. test j && b) (tube_told n own j all.0), all_told n own test rows all.1)
 
-  pub none_told : number_of name k ≡ None → (test : Job → Bool) (rows : List Job) → AreNumbered k rows
+  none_told : number_of name k ≡ None → (test : Job → Bool) (rows : List Job) → AreNumbered k rows
       → All (λ j. (test j && is_same_name name (named k j).tube) ≡ false) rows
   none_told none test [] all = tt
   none_told none test (j ∷ rows) all = (ap (λ b. test j && b) (tube_not_told none j all.0) ∙ and_false (test j), none_told none test rows all.1)
@@ -102,28 +106,53 @@ module _ (f : Job → Job) (passes test : Job → Bool) (before : Job → Job �
   fold_named (j ∷ rows) all o =
       ap (λ b. fold (better_of passes before) b (map f rows)) (better_named j all.0 o) ∙ fold_named rows all.1 (better_of test before o j)
 
-  pub first_named : (rows : List Job) → All (λ j. passes (f j) ≡ test j) rows → first_of passes before (map f rows) ≡ option_map f (first_of test before rows)
+  first_named : (rows : List Job) → All (λ j. passes (f j) ≡ test j) rows → first_of passes before (map f rows) ≡ option_map f (first_of test before rows)
   first_named rows all = fold_named rows all None
 
-  -- what is told of it, where that doesn't depend on the name
-  pub told_first : {A : Type 0} (tells : Job → A) → ((j : Job) → tells (f j) ≡ tells j) → (rows : List Job) → All (λ j. passes (f j) ≡ test j) rows
-      → option_map tells (first_of passes before (map f rows)) ≡ option_map tells (first_of test before rows)
-  told_first tells same rows all = ap (option_map tells) (first_named rows all) ∙ of (first_of test before rows)
-    where
-      of : (o : Option Job) → option_map tells (option_map f o) ≡ option_map tells o
-      of None = refl
-      of (Some j) = ap (λ a. Some a) (same j)
+-- Its number and its id are the same, where they don't depend on the name,
+module _ (k : Numbering) (passes test : Job → Bool) (number : Job → ℕ) (same : (j : Job) → number (named k j) ≡ number j) where
+  alike : (a b : Job) → is_pair_before (number (named k a)) a.id (number (named k b)) b.id ≡ is_pair_before (number a) a.id (number b) b.id
+  alike a b = ap (λ n. is_pair_before n a.id (number (named k b)) b.id) (same a) ∙ ap (λ n. is_pair_before (number a) a.id n b.id) (same b)
 
--- None passes, so none is first.
-pub none_first : (f : Job → Job) (passes : Job → Bool) (before : Job → Job → Bool) (rows : List Job) → All (λ j. passes (f j) ≡ false) rows
+  first_told : (rows : List Job) → All (λ j. passes (named k j) ≡ test j) rows → first_ranked passes number (map (named k) rows) ≡ first_ranked test number rows
+  first_told rows all =
+      ap (option_map (ranked number)) (first_named (named k) passes test (λ a b. is_pair_before (number a) a.id (number b) b.id) alike rows all) ∙ of (first_by test number rows)
+    where
+      of : (o : Option Job) → option_map (ranked number) (option_map (named k) o) ≡ option_map (ranked number) o
+      of None = refl
+      of (Some j) = ap (λ n. Some (n, j.id)) (same j)
+
+-- as in a list of a tube that is known,
+pub listed_told : (k : Numbering) (h : IsPaired k) (name : List ℕ) (n : ℕ) → number_of name k ≡ Some n → (list : JobList) (rows : List Job) → AreNumbered k rows
+    → first_ranked (is_listed list name) (list_rank list) (map (named k) rows) ≡ first_ranked (is_listed list (n ∷ [])) (list_rank list) rows
+listed_told k h name n own list rows all =
+    first_told k (is_listed list name) (is_listed list (n ∷ [])) (list_rank list) (λ j. refl) rows (all_told k h name n own (λ j. is_in_list list j.state) rows all)
+
+-- among those of a client, and among delays and leases.
+all_alike : (test : Job → Bool) (rows : List Job) → All (λ j. test j ≡ test j) rows
+all_alike test [] = tt
+all_alike test (j ∷ rows) = (refl, all_alike test rows)
+
+pub held_told : (k : Numbering) (seat : ℕ) (rows : List Job)
+    → first_ranked (is_held_by seat) (λ j. deadline_of j.state) (map (named k) rows) ≡ first_ranked (is_held_by seat) (λ j. deadline_of j.state) rows
+held_told k seat rows = first_told k (is_held_by seat) (is_held_by seat) (λ j. deadline_of j.state) (λ j. refl) rows (all_alike (is_held_by seat) rows)
+
+pub timed_told : (k : Numbering) (t : Timer) (rows : List Job)
+    → first_ranked (λ j. is_timer_of t j.state) (λ j. moment_of t j.state) (map (named k) rows) ≡ first_ranked (λ j. is_timer_of t j.state) (λ j. moment_of t j.state) rows
+timed_told k t rows =
+    first_told k (λ j. is_timer_of t j.state) (λ j. is_timer_of t j.state) (λ j. moment_of t j.state) (λ j. refl) rows (all_alike (λ j. is_timer_of t j.state) rows)
+
+-- In a tube that isn't known there is none.
+none_first : (f : Job → Job) (passes : Job → Bool) (before : Job → Job → Bool) (rows : List Job) → All (λ j. passes (f j) ≡ false) rows
     → first_of passes before (map f rows) ≡ None
 none_first f passes before [] all = refl
 none_first f passes before (j ∷ rows) all = ap (λ b. fold (better_of passes before) b (map f rows)) (rw all.0 refl) ∙ none_first f passes before rows all.1
 
--- each passes as it does
-pub all_alike : (test : Job → Bool) (rows : List Job) → All (λ j. test j ≡ test j) rows
-all_alike test [] = tt
-all_alike test (j ∷ rows) = (refl, all_alike test rows)
+pub none_listed : (k : Numbering) (h : IsPaired k) (name : List ℕ) → number_of name k ≡ None → (list : JobList) (rows : List Job) → AreNumbered k rows
+    → first_ranked (is_listed list name) (list_rank list) (map (named k) rows) ≡ None
+none_listed k h name none list rows all =
+    ap (option_map (ranked (list_rank list)))
+    (none_first (named k) (is_listed list name) (λ a b. is_pair_before (list_rank list a) a.id (list_rank list b) b.id) rows (none_told k h name none (λ j. is_in_list list j.state) rows all))
 
 -- Additions, removals and changes are those of the records.
 pub added_named : (k : Numbering) (j : Job) (rows : List Job) → with_added (named k j) (map (named k) rows) ≡ map (named k) (with_added j rows)

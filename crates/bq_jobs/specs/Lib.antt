@@ -9,4 +9,5 @@ pub mod Names
 pub mod Numbering
 pub mod PlaceOrder
 pub mod Places
+pub mod Ranks
 pub mod Seen

@@ -3,7 +3,7 @@ use Rattle.std.specs.Prelude.{ℕ, ◌+◌, ◌*◌, ◌≤◌, if◌then◌else
 use Rattle.std.specs.declared.cmp.Ordering.{Ordering}
 use Rattle.std.specs.Cmp.{IsTotalOrder, nat_cmp_total, on_total, then_total}
 use Rattle.std.specs.Ordering.{is_eq, nat_cmp, on, then_cmp}
-use Rattle.std.specs.Option.{option_and_then, option_map}
+use Rattle.std.specs.Option.{option_and_then}
 use Rattle.std.specs.Map.{lookup, remove_entry}
 use Rattle.std.specs.BTreeMap.{is_at, insert_entry}
 use Rattle.bq_index.specs.Digits.{binary_digits}
@@ -30,10 +30,6 @@ module _ {G : Type 0} (compare : G → G → Ordering) where
   -- the number and the id at the first place of the group
   abbrev pub first_rank : G → List (ShelfPlace G × Unit {0}) → Option (ℕ × ℕ)
   first_rank group es = option_and_then (rank_in_group group) (entry_from (place_cmp (front group)) es)
-
-  -- the id there
-  abbrev pub first_in_group : G → List (ShelfPlace G × Unit {0}) → Option ℕ
-  first_in_group group es = option_map (λ p. p.1) (first_rank group es)
 
   abbrev pub holds_place : ShelfPlace G → List (ShelfPlace G × Unit {0}) → Option (Unit {0})
   holds_place p es = lookup (is_at (place_cmp p)) es

@@ -16,10 +16,14 @@ ghost use Rattle.bq_jobs.specs.Names.{number_in};
 ghost use Rattle.bq_jobs.specs.Seen.{IsBodyOf, IsTubeOf, but_for_tube, in_tube};
 ghost use Rattle.bq_jobs.specs.Kept.{ComparesAtMost, ranked, with_added, without};
 ghost use Rattle.bq_jobs.specs.Leases.{deadline_of, is_lease_before};
+ghost use Rattle.bq_jobs.specs.Ranks.{first_id, first_ranked, is_listed, is_timer_of, list_rank, moment_of};
 
 use super::edit::{JobEdit, Moved, MovedRow};
+use super::group::Group;
+use super::holder::JobList;
 use super::number::TubeNumber;
 use super::numbered_tubes::NumberedTubes;
+use super::place::Timer;
 use super::row;
 use super::row::Row;
 use super::rows::Rows;
@@ -198,8 +202,7 @@ impl Jobs {
         ensures same { self.new ≡ record self.old { comparisons = self.new.comparisons } }
         ensures comparisons { ComparesAtMost 1 self.old self.new }
     {
-        let number = self.tubes.number_of(tube)?;
-        self.rows.first_ready(&TubeNumber::of(number))
+        id_in(self.first_listed(JobList::Ready, tube))
     }
 
     /// The id of the delayed job of a tube that is due first: by due moment, then by id.
@@ -208,8 +211,7 @@ impl Jobs {
         ensures same { self.new ≡ record self.old { comparisons = self.new.comparisons } }
         ensures comparisons { ComparesAtMost 1 self.old self.new }
     {
-        let number = self.tubes.number_of(tube)?;
-        self.rows.first_delayed(&TubeNumber::of(number))
+        id_in(self.first_listed(JobList::Delayed, tube))
     }
 
     /// The id of the job of a tube that was buried first: by burial number, then by id.
@@ -218,8 +220,7 @@ impl Jobs {
         ensures same { self.new ≡ record self.old { comparisons = self.new.comparisons } }
         ensures comparisons { ComparesAtMost 1 self.old self.new }
     {
-        let number = self.tubes.number_of(tube)?;
-        self.rows.first_buried(&TubeNumber::of(number))
+        id_in(self.first_listed(JobList::Buried, tube))
     }
 
     /// The id of the delayed job that is due first, in whatever tube: by due moment, then by id.
@@ -228,7 +229,7 @@ impl Jobs {
         ensures same { self.new ≡ record self.old { comparisons = self.new.comparisons } }
         ensures comparisons { ComparesAtMost 1 self.old self.new }
     {
-        self.rows.first_due()
+        id_in(self.first_timed(Timer::Due))
     }
 
     /// The id of the reserved job whose time to run ends first, whoever holds it: by deadline, then by id.
@@ -237,7 +238,7 @@ impl Jobs {
         ensures same { self.new ≡ record self.old { comparisons = self.new.comparisons } }
         ensures comparisons { ComparesAtMost 1 self.old self.new }
     {
-        self.rows.first_lease()
+        id_in(self.first_timed(Timer::Lease))
     }
 
     /// The id of the job of the client at a seat whose time to run ends first: by deadline, then by id.
@@ -246,7 +247,7 @@ impl Jobs {
         ensures same { self.new ≡ record self.old { comparisons = self.new.comparisons } }
         ensures comparisons { ComparesAtMost 1 self.old self.new }
     {
-        self.rows.first_held(seat)
+        id_in(self.first_at_seat(seat))
     }
 
     /// The priority and the id of the most urgent ready job of a tube: by priority, then by id.
@@ -255,8 +256,7 @@ impl Jobs {
         ensures same { self.new ≡ record self.old { comparisons = self.new.comparisons } }
         ensures comparisons { ComparesAtMost 1 self.old self.new }
     {
-        let number = self.tubes.number_of(tube)?;
-        self.rows.most_urgent(&TubeNumber::of(number))
+        self.first_listed(JobList::Ready, tube)
     }
 
     /// The due moment and the id of the delayed job that is due first, in whatever tube.
@@ -265,7 +265,7 @@ impl Jobs {
         ensures same { self.new ≡ record self.old { comparisons = self.new.comparisons } }
         ensures comparisons { ComparesAtMost 1 self.old self.new }
     {
-        self.rows.next_due()
+        self.first_timed(Timer::Due)
     }
 
     /// The deadline and the id of the reserved job whose time to run ends first, whoever holds it.
@@ -275,7 +275,7 @@ impl Jobs {
         ensures same { self.new ≡ record self.old { comparisons = self.new.comparisons } }
         ensures comparisons { ComparesAtMost 1 self.old self.new }
     {
-        self.rows.next_deadline()
+        self.first_timed(Timer::Lease)
     }
 
     /// The deadline and the id of the job of the client at a seat whose time to run ends first.
@@ -284,7 +284,40 @@ impl Jobs {
         ensures same { self.new ≡ record self.old { comparisons = self.new.comparisons } }
         ensures comparisons { ComparesAtMost 1 self.old self.new }
     {
-        self.rows.next_deadline_of(seat)
+        self.first_at_seat(seat)
+    }
+
+    // The number and the id of the first job of a tube in one state: by that number, then by id.
+    fn first_listed(&mut self, list: JobList, tube: &TubeName) -> Option<(u64, JobId)>
+        ensures rank { result ≡ first_ranked (is_listed list tube.now) (list_rank list) self.old.jobs }
+        ensures id { option_map (λ p. p.1) result ≡ first_id (is_listed list tube.now) (list_rank list) self.old.jobs }
+        ensures same { self.new ≡ record self.old { comparisons = self.new.comparisons } }
+        ensures comparisons { ComparesAtMost 1 self.old self.new }
+    {
+        let number = self.tubes.number_of(tube)?;
+        self.rows
+            .first_of_group(Group::list(list, TubeNumber::of(number)))
+    }
+
+    // The deadline and the id of the first job of the client at a seat.
+    fn first_at_seat(&mut self, seat: Seat) -> Option<(Moment, JobId)>
+        ensures rank { result ≡ first_ranked (is_held_by seat) (λ j. deadline_of j.state) self.old.jobs }
+        ensures id { option_map (λ p. p.1) result ≡ first_id (is_held_by seat) (λ j. deadline_of j.state) self.old.jobs }
+        ensures same { self.new ≡ record self.old { comparisons = self.new.comparisons } }
+        ensures comparisons { ComparesAtMost 1 self.old self.new }
+    {
+        self.rows.first_of_group(Group::held(seat))
+    }
+
+    // The moment and the id of the first delay or lease.
+    fn first_timed(&mut self, timer: Timer) -> Option<(Moment, JobId)>
+        ensures rank { result ≡ first_ranked (λ j. is_timer_of timer j.state) (λ j. moment_of timer j.state) self.old.jobs }
+        ensures id { option_map (λ p. p.1) result ≡
+            first_id (λ j. is_timer_of timer j.state) (λ j. moment_of timer j.state) self.old.jobs }
+        ensures same { self.new ≡ record self.old { comparisons = self.new.comparisons } }
+        ensures comparisons { ComparesAtMost 1 self.old self.new }
+    {
+        self.rows.first_of_timer(timer)
     }
 
     /// Sees to it that jobs can be put into a tube. The growth that this needs comes before any change.
@@ -310,6 +343,14 @@ impl Jobs {
     {
         self.tubes.remove(tube);
     }
+}
+
+// The id in a pair.
+fn id_in(rank: Option<(u64, JobId)>) -> Option<JobId>
+    ensures { result ≡ option_map (λ p. p.1) rank }
+{
+    let (_, id) = rank?;
+    Some(id)
 }
 
 // The job of the record at this id, in the tube of its number.

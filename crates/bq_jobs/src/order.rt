@@ -1,7 +1,7 @@
 //! Lists of places in their order.
 ghost use Rattle.std.specs.Prelude.{◌≡◌, ◌+◌, ◌<◌, ◌≤◌, length, is_some, if◌then◌else◌, IsSome, OnOk};
 ghost use Rattle.bq_index.specs.Shelf.{ComparesFew};
-ghost use Rattle.bq_jobs.specs.PlaceOrder.{ComparesTwice, first_in_group, first_rank, holds_place, with_place, without_place};
+ghost use Rattle.bq_jobs.specs.PlaceOrder.{ComparesTwice, first_rank, holds_place, with_place, without_place};
 ghost use Rattle.std.specs.Option.{ForSome};
 ghost use Rattle.std.specs.Prelude.{None};
 
@@ -91,18 +91,4 @@ pub(crate) fn first_rank<G: Ord + Drop + Copy>(
     } else {
         None
     }
-}
-
-/// The id at the first place of a group.
-pub(crate) fn first_in_group<G: Ord + Drop + Copy>(
-    order: &mut Shelf<ShelfPlace<G>, ()>,
-    group: G,
-) -> Option<JobId>
-    ensures id { result ≡ first_in_group G.cmp group order.old.entries }
-    ensures entries { order.new.entries ≡ order.old.entries }
-    ensures spare { order.new.spare ≡ order.old.spare }
-    ensures comparisons { ComparesFew order.old order.new }
-{
-    let (_, id) = first_rank(order, group)?;
-    Some(id)
 }

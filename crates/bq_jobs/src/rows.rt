@@ -2,28 +2,22 @@
 ghost use Rattle.std.specs.Option.{option_map};
 ghost use Rattle.std.specs.Prelude.{◌≡◌, ◌+◌, ◌-◌, ◌<◌, ◌^◌, if◌then◌else◌, []};
 ghost use Rattle.std.specs.Prelude.{nat_lt, length, max, is_some, IfOk, IfSome, None, OnOk, OnErr};
-ghost use Rattle.bq_job.specs.machine.Changes.{first_of, is_held_by, job_with};
-ghost use Rattle.bq_job.specs.machine.Dispatch.{is_job_before};
-ghost use Rattle.bq_job.specs.machine.JobCommands.{is_buried_in, is_delayed_in};
-ghost use Rattle.bq_job.specs.machine.JobStates.{due_of, is_buried_before, is_delayed, is_due_before, is_reserved};
+ghost use Rattle.bq_job.specs.machine.Changes.{job_with};
 ghost use Rattle.bq_job.specs.beside.Lawful.{AreIdsWithin};
-ghost use Rattle.bq_job.specs.machine.TubeCommands.{is_ready_in};
 ghost use Rattle.bq_index.specs.Shelf.{ComparesFew};
 ghost use Rattle.bq_jobs.specs.Changed.{KeepsId, KeepsTube, entry_at, row_moved_by, with_changed, with_edited};
-ghost use Rattle.bq_jobs.specs.Kept.{ComparesAtMost, ranked, with_added, without};
-ghost use Rattle.bq_jobs.specs.Leases.{deadline_of, is_lease_before};
+ghost use Rattle.bq_jobs.specs.Kept.{ComparesAtMost, with_added, without};
 ghost use Rattle.bq_jobs.specs.Names.{number_in};
+ghost use Rattle.bq_jobs.specs.Ranks.{first_ranked, is_of, is_timer_of, moment_of, rank_of};
 ghost use Rattle.bq_jobs.specs.Seen.{IsBodyOf, IsNumberOf};
 
 use super::edit::{JobEdit, MovedRow, Standing};
 use super::group::Group;
-use super::holder::JobList;
-use super::number::TubeNumber;
 use super::order;
 use super::place::{self, ShelfPlace, Timer};
 use super::row::Row;
 use bq_index::{BoxSource, Shelf};
-use bq_job::{Body, JobId, Moment, NoMemory, Seat};
+use bq_job::{Body, JobId, Moment, NoMemory};
 use std::alloc::Global;
 use std::marker::Model;
 
@@ -221,96 +215,22 @@ impl Rows {
         }
     }
 
-    /// The id of the most urgent ready job of a tube: by priority, then by id.
-    pub(crate) fn first_ready(&mut self, tube: &TubeNumber) -> Option<JobId>
-        ensures id { result ≡ option_map (λ j. j.id) (first_of (is_ready_in tube.now) is_job_before self.old.jobs) }
+    /// The number and the id of the first job that a holder has: by that number, then by id.
+    pub(crate) fn first_of_group(&mut self, group: Group) -> Option<(u64, JobId)>
+        ensures rank { result ≡ first_ranked (is_of group) (rank_of group) self.old.jobs }
         ensures same { self.new ≡ record self.old { comparisons = self.new.comparisons } }
         ensures comparisons { ComparesAtMost 1 self.old self.new }
     {
-        order::first_in_group(&mut self.groups, Group::list(JobList::Ready, *tube))
+        order::first_rank(&mut self.groups, group)
     }
 
-    /// The id of the delayed job of a tube that is due first: by due moment, then by id.
-    pub(crate) fn first_delayed(&mut self, tube: &TubeNumber) -> Option<JobId>
-        ensures id { result ≡ option_map (λ j. j.id) (first_of (is_delayed_in tube.now) is_due_before self.old.jobs) }
+    /// The moment and the id of the first delay or lease: by moment, then by id.
+    pub(crate) fn first_of_timer(&mut self, timer: Timer) -> Option<(Moment, JobId)>
+        ensures rank { result ≡ first_ranked (λ j. is_timer_of timer j.state) (λ j. moment_of timer j.state) self.old.jobs }
         ensures same { self.new ≡ record self.old { comparisons = self.new.comparisons } }
         ensures comparisons { ComparesAtMost 1 self.old self.new }
     {
-        order::first_in_group(&mut self.groups, Group::list(JobList::Delayed, *tube))
-    }
-
-    /// The id of the job of a tube that was buried first: by burial number, then by id.
-    pub(crate) fn first_buried(&mut self, tube: &TubeNumber) -> Option<JobId>
-        ensures id { result ≡ option_map (λ j. j.id) (first_of (is_buried_in tube.now) is_buried_before self.old.jobs) }
-        ensures same { self.new ≡ record self.old { comparisons = self.new.comparisons } }
-        ensures comparisons { ComparesAtMost 1 self.old self.new }
-    {
-        order::first_in_group(&mut self.groups, Group::list(JobList::Buried, *tube))
-    }
-
-    /// The id of the delayed job that is due first, in whatever tube: by due moment, then by id.
-    pub(crate) fn first_due(&mut self) -> Option<JobId>
-        ensures id { result ≡ option_map (λ j. j.id) (first_of (λ j. is_delayed j.state) is_due_before self.old.jobs) }
-        ensures same { self.new ≡ record self.old { comparisons = self.new.comparisons } }
-        ensures comparisons { ComparesAtMost 1 self.old self.new }
-    {
-        order::first_in_group(&mut self.timers, Timer::Due)
-    }
-
-    /// The id of the reserved job whose time to run ends first, whoever holds it: by deadline, then by id.
-    pub(crate) fn first_lease(&mut self) -> Option<JobId>
-        ensures id { result ≡ option_map (λ j. j.id) (first_of (λ j. is_reserved j.state) is_lease_before self.old.jobs) }
-        ensures same { self.new ≡ record self.old { comparisons = self.new.comparisons } }
-        ensures comparisons { ComparesAtMost 1 self.old self.new }
-    {
-        order::first_in_group(&mut self.timers, Timer::Lease)
-    }
-
-    /// The id of the job of the client at a seat whose time to run ends first: by deadline, then by id.
-    pub(crate) fn first_held(&mut self, seat: Seat) -> Option<JobId>
-        ensures id { result ≡ option_map (λ j. j.id) (first_of (is_held_by seat) is_lease_before self.old.jobs) }
-        ensures same { self.new ≡ record self.old { comparisons = self.new.comparisons } }
-        ensures comparisons { ComparesAtMost 1 self.old self.new }
-    {
-        order::first_in_group(&mut self.groups, Group::held(seat))
-    }
-
-    /// The priority and the id of the most urgent ready job of a tube: by priority, then by id.
-    pub(crate) fn most_urgent(&mut self, tube: &TubeNumber) -> Option<(u64, JobId)>
-        ensures rank { result ≡ option_map (ranked (λ j. j.pri)) (first_of (is_ready_in tube.now) is_job_before self.old.jobs) }
-        ensures same { self.new ≡ record self.old { comparisons = self.new.comparisons } }
-        ensures comparisons { ComparesAtMost 1 self.old self.new }
-    {
-        let ready = JobList::Ready;
-        order::first_rank(&mut self.groups, Group::list(ready, *tube))
-    }
-
-    /// The due moment and the id of the delayed job that is due first, in whatever tube.
-    pub(crate) fn next_due(&mut self) -> Option<(Moment, JobId)>
-        ensures rank { result ≡ option_map (ranked (λ j. due_of j.state)) (first_of (λ j. is_delayed j.state) is_due_before self.old.jobs) }
-        ensures same { self.new ≡ record self.old { comparisons = self.new.comparisons } }
-        ensures comparisons { ComparesAtMost 1 self.old self.new }
-    {
-        order::first_rank(&mut self.timers, Timer::Due)
-    }
-
-    /// The deadline and the id of the reserved job whose time to run ends first, whoever holds it.
-    pub(crate) fn next_deadline(&mut self) -> Option<(Moment, JobId)>
-        ensures rank { result ≡ option_map (ranked (λ j. deadline_of j.state))
-            (first_of (λ j. is_reserved j.state) is_lease_before self.old.jobs) }
-        ensures same { self.new ≡ record self.old { comparisons = self.new.comparisons } }
-        ensures comparisons { ComparesAtMost 1 self.old self.new }
-    {
-        order::first_rank(&mut self.timers, Timer::Lease)
-    }
-
-    /// The deadline and the id of the job of the client at a seat whose time to run ends first.
-    pub(crate) fn next_deadline_of(&mut self, seat: Seat) -> Option<(Moment, JobId)>
-        ensures rank { result ≡ option_map (ranked (λ j. deadline_of j.state)) (first_of (is_held_by seat) is_lease_before self.old.jobs) }
-        ensures same { self.new ≡ record self.old { comparisons = self.new.comparisons } }
-        ensures comparisons { ComparesAtMost 1 self.old self.new }
-    {
-        order::first_rank(&mut self.groups, Group::held(seat))
+        order::first_rank(&mut self.timers, timer)
     }
 }
 

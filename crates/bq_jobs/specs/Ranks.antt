@@ -1,0 +1,62 @@
+-- What the jobs of each kind are ordered by, and the first of them.
+use Rattle.std.specs.Prelude.{ℕ, Bool, ◌&&◌, List, Option}
+use Rattle.std.specs.Option.{option_map}
+use Rattle.bq_job.specs.declared.job.Job.{Job}
+use Rattle.bq_job.specs.declared.job.JobState.{JobState}
+use Rattle.bq_job.specs.machine.Changes.{first_of, is_holder, is_pair_before, is_ready_state}
+use Rattle.bq_job.specs.machine.JobStates.{burial_of, due_of, is_buried, is_delayed, is_reserved}
+use Rattle.bq_job.specs.reading.TubeName.{is_same_name}
+use Rattle.bq_jobs.specs.declared.holder.Holder.{Holder}
+use Rattle.bq_jobs.specs.declared.holder.Holder.TheVariants as holders
+use Rattle.bq_jobs.specs.declared.holder.JobList.{JobList}
+use Rattle.bq_jobs.specs.declared.holder.JobList.TheVariants as lists
+use Rattle.bq_jobs.specs.declared.place.Timer.{Timer}
+use Rattle.bq_jobs.specs.declared.place.Timer.TheVariants as timers
+use Rattle.bq_jobs.specs.Kept.{ranked}
+use Rattle.bq_jobs.specs.Leases.{deadline_of}
+
+-- the state of the jobs of a list, and the number that orders them
+abbrev pub is_in_list : JobList → JobState → Bool
+is_in_list lists.Ready s = is_ready_state s
+is_in_list lists.Delayed s = is_delayed s
+is_in_list lists.Buried s = is_buried s
+
+abbrev pub list_rank_at : JobList → ℕ → JobState → ℕ
+list_rank_at lists.Ready pri s = pri
+list_rank_at lists.Delayed pri s = due_of s
+list_rank_at lists.Buried pri s = burial_of s
+
+abbrev pub is_listed : JobList → List ℕ → Job → Bool
+is_listed list tube j = is_in_list list j.state && is_same_name tube j.tube
+
+abbrev pub list_rank : JobList → Job → ℕ
+list_rank list j = list_rank_at list j.pri j.state
+
+-- the same of whoever has a job,
+abbrev pub is_of : Holder → Job → Bool
+is_of (holders.Held seat) j = is_holder seat j.state
+is_of (holders.Listed l) j = is_listed l.list l.tube j
+
+abbrev pub rank_of : Holder → Job → ℕ
+rank_of (holders.Held seat) j = deadline_of j.state
+rank_of (holders.Listed l) j = list_rank l.list j
+
+-- and of delays and leases
+abbrev pub is_timer_of : Timer → JobState → Bool
+is_timer_of timers.Due s = is_delayed s
+is_timer_of timers.Lease s = is_reserved s
+
+abbrev pub moment_of : Timer → JobState → ℕ
+moment_of timers.Due s = due_of s
+moment_of timers.Lease s = deadline_of s
+
+-- the first of the jobs that pass, by this number, then by id
+abbrev pub first_by : (Job → Bool) → (Job → ℕ) → List Job → Option Job
+first_by passes number jobs = first_of passes (λ a b. is_pair_before (number a) a.id (number b) b.id) jobs
+
+-- its number and its id, and its id alone
+abbrev pub first_ranked : (Job → Bool) → (Job → ℕ) → List Job → Option (ℕ × ℕ)
+first_ranked passes number jobs = option_map (ranked number) (first_by passes number jobs)
+
+abbrev pub first_id : (Job → Bool) → (Job → ℕ) → List Job → Option ℕ
+first_id passes number jobs = option_map (λ j. j.id) (first_by passes number jobs)
