@@ -3,7 +3,7 @@ use Rattle.std.proofs.Common.{◌≡◌, ◌+◌, ◌*◌, ◌≤◌, ℕ, suc, 
 use Rattle.std.specs.Prelude.{◌==◌, fold, nat_lt, not, unwrap_or, if◌then◌else◌, is_ok, Result, Ok, Err, IfOk, OnErr}
 use Rattle.std.specs.Cmp.Lexicographic.{bytes_decides}
 use Rattle.std.specs.List.{AllByRecursion as All, list_any}
-use Rattle.std.specs.Option.{option_map}
+use Rattle.std.specs.Option.{option_and_then, option_map}
 use Rattle.std.proofs.Common.{arith}
 use Rattle.std.proofs.lemmas.Bool.{cases_Bool, eqb-true}
 use Rattle.std.proofs.lemmas.Bool.Decides.{nat_tests}
@@ -15,12 +15,12 @@ use Rattle.bq_index.specs.Digits.{binary_digits}
 use Rattle.bq_jobs.specs.Kept.{ComparesAtMost, Kept, ranked, with_added, without}
 use Rattle.bq_jobs.specs.Leases.{deadline_of}
 use Rattle.bq_jobs.specs.Ranks.{first_by, first_ranked, is_in_list, is_listed, is_timer_of, list_rank, moment_of}
-use Rattle.bq_jobs.specs.declared.edit.MovedRow.{MovedRow}
 use Rattle.bq_jobs.specs.declared.holder.JobList.{JobList}
 use Rattle.bq_jobs.specs.declared.place.Timer.{Timer}
 use Rattle.bq_jobs.specs.Changed.{IgnoresTube, KeepsTube, moved_by, moved_in, row_moved_by, standing, with_changed}
 use Rattle.bq_jobs.specs.Numbering.{AreNumbered, IsNumbered, IsPaired, Numbering, kept_named, name_of, named, number_of, with_known, without_known}
 use Rattle.bq_jobs.specs.Names.{number_in}
+use Rattle.bq_jobs.specs.Told.{job_told, moved_told}
 use Rattle.bq_jobs.specs.Seen.{IsBodyOf, IsNumberOf, IsTubeOf, but_for_tube, in_tube}
 use Rattle.bq_jobs.proofs.NumberingLemmas.{is_known_then, name_kept, name_left, number_kept, other_numbers}
 
@@ -224,8 +224,12 @@ named_by : (j : Job) (o : Option (List ℕ)) → is_some o ≡ true → option_m
 named_by j None some = absurd cc
 named_by j (Some name) some = refl
 
-pub told_row : (k : Numbering) (j : Job) → IsNumbered k j → option_map (in_tube j) (name_of (number_in j.tube) k) ≡ Some (named k j)
-told_row k j is = named_by j (name_of (number_in j.tube) k) is.1
+pub told_rows : (k : Numbering) (id : ℕ) (rows : List Job) → AreNumbered k rows → option_and_then (job_told k) (job_with id rows) ≡ job_with id (map (named k) rows)
+told_rows k id rows all = of (job_with id rows) refl ∙ sym (job_named k id rows)
+  where
+    of : (o : Option Job) → job_with id rows ≡ o → option_and_then (job_told k) o ≡ option_map (named k) o
+    of None there = refl
+    of (Some j) there = named_by j (name_of (number_in j.tube) k) ((numbered_there k id rows j all there).1)
 
 -- no record, no job
 pub none_named : (k : Numbering) (id : ℕ) (rows : List Job) → job_with id (map (named k) rows) ≡ None → job_with id rows ≡ None
@@ -243,34 +247,21 @@ pub row_named : (k : Numbering) (h : IsPaired k) (j : Job) (n : ℕ) → number_
 row_named k h j n own = ap (λ o. record j { tube = unwrap_or o [] }) (h.there j.tube n own)
 
 -- what is told of a changed record is told of the job
-module _ (k : Numbering) (id : ℕ) (f : Job → Job) (ignores : IgnoresTube f) (m : MovedRow) where
-  moved_by_name : (j : Job) → IsNumbered k j → row_moved_by f j ≡ m → option_map (moved_in m) (name_of (number_in m.tube) k) ≡ Some (moved_by f (named k j))
-  moved_by_name j is e =
-      ap (λ (i : MovedRow). option_map (moved_in i) (name_of (number_in i.tube) k)) (sym e)
-      ∙ of (name_of (number_in j.tube) k) is.1
-      ∙ ap (λ i. Some (record { tube = (named k j).tube; from = standing j; to = standing i })) (sym (edited_named k id f ignores j))
-    where
-      of : (o : Option (List ℕ)) → is_some o ≡ true
-          → option_map (moved_in (row_moved_by f j)) o ≡ Some (record { tube = unwrap_or o []; from = standing j; to = standing (named k (f j)) })
-      of None some = absurd cc
-      of (Some name) some = refl
+module _ (k : Numbering) (id : ℕ) (f : Job → Job) (ignores : IgnoresTube f) where
+  moved_by_name : (j : Job) (o : Option (List ℕ)) → is_some o ≡ true
+      → option_map (moved_in (row_moved_by f j)) o ≡ Some (record { tube = unwrap_or o []; from = standing j; to = standing (named k (f j)) })
+  moved_by_name j None some = absurd cc
+  moved_by_name j (Some name) some = refl
 
-  pub moved_named : (rows : List Job) → AreNumbered k rows → option_map (row_moved_by f) (job_with id rows) ≡ Some m
-      → option_map (moved_in m) (name_of (number_in m.tube) k) ≡ option_map (moved_by f) (job_with id (map (named k) rows))
-  moved_named rows all e = of (job_with id rows) refl e ∙ ap (option_map (moved_by f)) (sym (job_named k id rows))
+  pub told_moved : (rows : List Job) → AreNumbered k rows
+      → option_and_then (moved_told k) (option_map (row_moved_by f) (job_with id rows)) ≡ option_map (moved_by f) (job_with id (map (named k) rows))
+  told_moved rows all = of (job_with id rows) refl ∙ ap (option_map (moved_by f)) (sym (job_named k id rows))
     where
-      of : (o : Option Job) → job_with id rows ≡ o → option_map (row_moved_by f) o ≡ Some m
-          → option_map (moved_in m) (name_of (number_in m.tube) k) ≡ option_map (moved_by f) (option_map (named k) o)
-      of None there e = absurd cc
-      of (Some j) there e = moved_by_name j (numbered_there k id rows j all there) (let two : Some (row_moved_by f j) ≡ Some m = e in (cc))
-
-pub not_moved : (k : Numbering) (id : ℕ) (f : Job → Job) (rows : List Job) → option_map (row_moved_by f) (job_with id rows) ≡ None
-    → None ≡ option_map (moved_by f) (job_with id (map (named k) rows))
-not_moved k id f rows e = of (job_with id rows) e ∙ ap (option_map (moved_by f)) (sym (job_named k id rows))
-  where
-    of : (o : Option Job) → option_map (row_moved_by f) o ≡ None → None ≡ option_map (moved_by f) (option_map (named k) o)
-    of None e = refl
-    of (Some j) e = absurd cc
+      of : (o : Option Job) → job_with id rows ≡ o → option_and_then (moved_told k) (option_map (row_moved_by f) o) ≡ option_map (moved_by f) (option_map (named k) o)
+      of None there = refl
+      of (Some j) there =
+          moved_by_name j (name_of (number_in j.tube) k) ((numbered_there k id rows j all there).1)
+          ∙ ap (λ i. Some (record { tube = (named k j).tube; from = standing j; to = standing i })) (sym (edited_named k id f ignores j))
 
 -- A tube more that is known changes no job's.
 pub numbered_known : (k : Numbering) (h : IsPaired k) (name : List ℕ) (rows : List Job) → AreNumbered k rows → AreNumbered (with_known name k) rows

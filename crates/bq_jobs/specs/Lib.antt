@@ -11,3 +11,4 @@ pub mod PlaceOrder
 pub mod Places
 pub mod Ranks
 pub mod Seen
+pub mod Told

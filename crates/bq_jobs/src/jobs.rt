@@ -1,5 +1,5 @@
 //! The jobs of a work queue.
-ghost use Rattle.std.specs.Option.{option_map};
+ghost use Rattle.std.specs.Option.{option_and_then, option_map};
 ghost use Rattle.std.specs.Prelude.{◌≡◌, ◌+◌, ◌-◌, ◌<◌, ◌^◌, if◌then◌else◌, [], ℕ, List};
 ghost use Rattle.std.specs.Prelude.{nat_lt, true, false, length, max, is_some, IfOk, IfSome, None, OnOk, OnErr};
 ghost use Rattle.bq_job.specs.machine.Changes.{first_of, is_held_by, job_with};
@@ -10,10 +10,10 @@ ghost use Rattle.bq_job.specs.beside.Lawful.{AreIdsWithin};
 ghost use Rattle.bq_job.specs.machine.TubeCommands.{is_ready_in};
 ghost use Rattle.bq_job.specs.reading.TubeName.{is_same_name};
 ghost use Rattle.std.specs.List.{list_any};
-ghost use Rattle.bq_jobs.specs.Changed.{IgnoresTube, KeepsId, moved_by, moved_in, with_changed};
-ghost use Rattle.bq_jobs.specs.Numbering.{IsPaired, is_known, name_of};
-ghost use Rattle.bq_jobs.specs.Names.{number_in};
-ghost use Rattle.bq_jobs.specs.Seen.{IsBodyOf, IsTubeOf, but_for_tube, in_tube};
+ghost use Rattle.bq_jobs.specs.Changed.{IgnoresTube, KeepsId, moved_by, with_changed};
+ghost use Rattle.bq_jobs.specs.Numbering.{is_known};
+ghost use Rattle.bq_jobs.specs.Seen.{IsBodyOf, IsTubeOf, but_for_tube};
+ghost use Rattle.bq_jobs.specs.Told.{job_told, moved_told};
 ghost use Rattle.bq_jobs.specs.Kept.{ComparesAtMost, ranked, with_added, without};
 ghost use Rattle.bq_jobs.specs.Leases.{deadline_of, is_lease_before};
 ghost use Rattle.bq_jobs.specs.Ranks.{first_id, first_ranked, is_listed, is_timer_of, list_rank, moment_of};
@@ -146,7 +146,7 @@ impl Jobs {
         ensures gone { job_with id self.new.jobs ≡ None }
         ensures comparisons { ComparesAtMost 4 self.old self.new }
     {
-        let row = self.rows.remove(id)?;
+        let row = self.rows.remove(id);
         job_of(&self.tubes, id, row)
     }
 
@@ -161,7 +161,7 @@ impl Jobs {
         ensures room { self.new.room ≡ self.old.room }
         ensures comparisons { ComparesAtMost 7 self.old self.new }
     {
-        let moved = self.rows.change(id, edit)?;
+        let moved = self.rows.change(id, edit);
         told_of(&self.tubes, moved)
     }
 
@@ -353,12 +353,12 @@ fn id_in(rank: Option<(u64, JobId)>) -> Option<JobId>
     Some(id)
 }
 
-// The job of the record at this id, in the tube of its number.
-fn job_of(tubes: &NumberedTubes, id: JobId, row: Row) -> Option<Job>
-    requires id { row.id ≡ id }
-    ensures job { result ≡ option_map (in_tube row) (name_of (number_in row.tube) tubes.now) }
-    ensures paired { IsPaired tubes.now }
+// The job of the record at this id, in the tube of its number, if there is one.
+fn job_of(tubes: &NumberedTubes, id: JobId, row: Option<Row>) -> Option<Job>
+    requires id { IfSome row (λ r. r.id ≡ id) }
+    ensures { result ≡ option_and_then (job_told tubes.now) row }
 {
+    let row = row?;
     match tubes.name_of(row.tube.get()) {
         None => None,
         Some(tube) => Some(row::job_of(id, row, *tube)),
@@ -366,10 +366,10 @@ fn job_of(tubes: &NumberedTubes, id: JobId, row: Row) -> Option<Job>
 }
 
 // What is told of a changed record, with the name of its tube.
-fn told_of(tubes: &NumberedTubes, moved: MovedRow) -> Option<Moved>
-    ensures told { result ≡ option_map (moved_in moved) (name_of (number_in moved.tube) tubes.now) }
-    ensures paired { IsPaired tubes.now }
+fn told_of(tubes: &NumberedTubes, moved: Option<MovedRow>) -> Option<Moved>
+    ensures { result ≡ option_and_then (moved_told tubes.now) moved }
 {
+    let moved = moved?;
     match tubes.name_of(moved.tube.get()) {
         None => None,
         Some(tube) => Some(Moved {

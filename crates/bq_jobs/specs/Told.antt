@@ -1,0 +1,18 @@
+-- What is told of a record, with the name of its tube.
+use Rattle.std.specs.Prelude.{List, ℕ, Option}
+use Rattle.std.specs.Option.{option_map}
+use Rattle.bq_job.specs.declared.job.Job.{Job}
+use Rattle.bq_jobs.specs.declared.edit.Moved.{Moved}
+use Rattle.bq_jobs.specs.declared.edit.MovedRow.{MovedRow}
+use Rattle.bq_jobs.specs.Changed.{moved_in}
+use Rattle.bq_jobs.specs.Names.{number_in}
+use Rattle.bq_jobs.specs.Numbering.{Numbering, name_of}
+use Rattle.bq_jobs.specs.Seen.{in_tube}
+
+-- the job
+abbrev pub job_told : Numbering → Job → Option Job
+job_told k row = option_map (in_tube row) (name_of (number_in row.tube) k)
+
+-- and how it was changed
+abbrev pub moved_told : Numbering → MovedRow → Option Moved
+moved_told k m = option_map (moved_in m) (name_of (number_in m.tube) k)
