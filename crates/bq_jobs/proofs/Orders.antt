@@ -57,6 +57,12 @@ pub fewer_places : {G : Type 0} (C : G → G → Ordering) (place : Option (Shel
 fewer_places C None es = omega arith
 fewer_places C (Some p) es = fewer_entries (is_at (place_cmp C p)) es
 
+-- What a move from one place to another needs: the first is held, there is a box for the other, and it is free then.
+pub record CanMove {G : Type 0} (C : G → G → Ordering) (from to : Option (ShelfPlace G)) (order : Order G) : Type 0 where
+  pub held : (p : ShelfPlace G) → from ≡ Some p → is_some (holds_place C p order.entries) ≡ true
+  pub spare : (p : ShelfPlace G) → to ≡ Some p → 0 < order.spare + cond (is_some from) 1 0
+  pub absent : (p : ShelfPlace G) → to ≡ Some p → holds_place C p (without_place C from order.entries) ≡ None
+
 own_id : {G : Type 0} (j : Job) (place : Option (ShelfPlace G)) → IfSome place (λ p. p.id ≡ j.id) → (p : ShelfPlace G) → place ≡ Some p → p.id ≡ j.id
 own_id j None h p e = absurd cc
 own_id j (Some q) h p e = let is : q ≡ p = (cc) in subst (λ z. z.id ≡ j.id) is h
@@ -217,11 +223,19 @@ module _ {G : Type 0} {C : G → G → Ordering} (o : IsTotalOrder C) where
       free_then : job_with k.id (without id jobs) ≡ None
       free_then = ap (λ n. job_with n (without id jobs)) same ∙ not_there id jobs
 
-      pub has_spare_then : 0 < order.spare + cond (is_some (place_of j)) 1 0
+      has_spare_then : 0 < order.spare + cond (is_some (place_of j)) 1 0
       has_spare_then = has_spare (without id jobs) (room + 1) left once_left (omega arith)
 
-      pub absent_then : (p : ShelfPlace G) → place_of k ≡ Some p → holds_place C p (without_place C (place_of j) order.entries) ≡ None
+      absent_then : (p : ShelfPlace G) → place_of k ≡ Some p → holds_place C p (without_place C (place_of j) order.entries) ≡ None
       absent_then p e = absent_place k (without id jobs) (room + 1) left once_left free_then p (own_id k (place_of k) (own k) p e)
+
+      -- so it can move
+      pub can_move : (from to : Option (ShelfPlace G)) → from ≡ place_of j → to ≡ place_of k → CanMove C from to order
+      can_move from to left entered = record {
+        held = λ p e. held_place id j jobs room order h found p (sym left ∙ e);
+        spare = λ p e. let some = ap (λ q. order.spare + cond (is_some q) 1 0) left in omega (arith, some, has_spare_then);
+        absent = λ p e. ap (λ q. holds_place C p (without_place C q order.entries)) left ∙ absent_then p (sym entered ∙ e);
+      }
 
       pub order_moved : (new : Order G) → new.entries ≡ with_place C (place_of k) (without_place C (place_of j) order.entries)
           → new.spare + cond (is_some (place_of k)) 1 0 ≡ order.spare + cond (is_some (place_of j)) 1 0 → IsOrderOf C place_of (with_added k (without id jobs)) room new

@@ -1,15 +1,22 @@
 -- What is told of a changed job is of the job that was there.
-use Rattle.std.proofs.Common.{◌≡◌, ℕ, List, [], ◌∷◌, Option, Some, None, refl, sym, ap, ◌∙◌, inl, inr}
+use Rattle.std.proofs.Common.{◌≡◌, ℕ, ◌^◌, List, [], ◌∷◌, Option, Some, None, refl, sym, ap, ◌∙◌, inl, inr}
 use Rattle.std.specs.Prelude.{◌==◌, option_map}
 use Rattle.std.proofs.lemmas.Bool.{cases_Bool}
 use Rattle.bq_job.specs.declared.job.Job.{Job}
 use Rattle.bq_job.specs.machine.Changes.{job_with}
+use Rattle.bq_jobs.specs.contracts.group.GroupOrd.TheImpl.Laws as group_laws
+use Rattle.bq_jobs.specs.contracts.place.TimerOrd.TheImpl.Laws as timer_laws
 use Rattle.bq_jobs.specs.declared.edit.MovedRow.{MovedRow}
+use Rattle.bq_jobs.specs.declared.holder.Holder.{Holder}
+use Rattle.bq_jobs.specs.declared.place.ShelfPlace.{ShelfPlace}
+use Rattle.bq_jobs.specs.declared.place.Timer.{Timer}
 use Rattle.bq_jobs.specs.declared.rows.Rows.TheInside.{Inside as Parts}
 use Rattle.bq_jobs.specs.Changed.{KeepsId, KeepsTube, entry_at, row_moved_by, with_changed}
 use Rattle.bq_jobs.specs.Inside.{jobs_of}
 use Rattle.bq_jobs.specs.Places.{in_timers_at, in_groups_at, timer_place, group_place}
 use Rattle.bq_jobs.proofs.Changes.{found_id}
+use Rattle.bq_jobs.proofs.Firsts.{group_cmp, timer_cmp, timer_own, group_own}
+use Rattle.bq_jobs.proofs.Orders.{CanMove, can_move}
 use Rattle.bq_jobs.proofs.Shelved.{AreShelved, found_in}
 
 -- the job of which m is told
@@ -43,7 +50,7 @@ module _ (id : ℕ) (f : Job → Job) (keeps : KeepsId f) (stays : KeepsTube f) 
   its_id : id ≡ job_then.id
   its_id = sym (found_id id (jobs_of s.by_id.entries) job_then found_then)
 
-  pub id_after : (f job_then).id ≡ id
+  id_after : (f job_then).id ≡ id
   id_after = keeps job_then ∙ sym its_id
 
   pub left_group : in_groups_at m.from.state m.from.pri m.tube id ≡ group_place job_then
@@ -57,6 +64,16 @@ module _ (id : ℕ) (f : Job → Job) (keeps : KeepsId f) (stays : KeepsTube f) 
 
   pub entered_timer : in_timers_at m.to.state id ≡ timer_place (f job_then)
   entered_timer = ap (λ (n : MovedRow). in_timers_at n.to.state id) told_is ∙ ap (in_timers_at (f job_then).state) (sym id_after)
+
+  -- the moves in both orders
+  pub group_moves : (from to : Option (ShelfPlace Holder)) → from ≡ in_groups_at m.from.state m.from.pri m.tube id → to ≡ in_groups_at m.to.state m.to.pri m.tube id
+      → CanMove group_cmp from to s.groups
+  group_moves from to left entered =
+      can_move group_laws.total-law group_place group_own 0 (2 ^ 64) id job_then (f job_then) (jobs_of s.by_id.entries) s.by_id.spare s.groups h.in_groups h.ids found_then id_after from to (left ∙ left_group) (entered ∙ entered_group)
+
+  pub timer_moves : (from to : Option (ShelfPlace Timer)) → from ≡ in_timers_at m.from.state id → to ≡ in_timers_at m.to.state id → CanMove timer_cmp from to s.timers
+  timer_moves from to left entered =
+      can_move timer_laws.total-law timer_place timer_own 0 (2 ^ 64) id job_then (f job_then) (jobs_of s.by_id.entries) s.by_id.spare s.timers h.in_timers h.ids found_then id_after from to (left ∙ left_timer) (entered ∙ entered_timer)
 
 -- where nothing is told, there is no job
 pub nothing_told_of : {M : Type 0} (tells : Job → M) (o : Option Job) → option_map tells o ≡ None → o ≡ None

@@ -1,18 +1,15 @@
-use Rattle.std.proofs.Common.{arith, ◌∙◌, ◌+◌, ◌^◌, ap, cond, refl, sym}
+use Rattle.std.proofs.Common.{arith, ◌∙◌, ◌+◌, ap, cond, refl, sym}
 use Rattle.std.specs.Prelude.{is_some, option_map}
 use Rattle.bq_job.specs.machine.Changes.{job_with}
-use Rattle.bq_jobs.specs.contracts.group.GroupOrd.TheImpl.Laws as group_laws
-use Rattle.bq_jobs.specs.contracts.place.TimerOrd.TheImpl.Laws as timer_laws
 use Rattle.bq_jobs.specs.Changed.{row_moved_by, with_changed, with_edited}
 use Rattle.bq_jobs.specs.Inside.{jobs_of, kept_in}
 use Rattle.bq_jobs.specs.Kept.{Kept}
-use Rattle.bq_jobs.specs.PlaceOrder.{holds_place, with_place, without_place}
+use Rattle.bq_jobs.specs.PlaceOrder.{with_place, without_place}
 use Rattle.bq_jobs.specs.Places.{timer_place, group_place}
 use Rattle.bq_jobs.proofs.Counting.{few_more}
-use Rattle.bq_jobs.proofs.Firsts.{group_cmp, timer_cmp, timer_own, group_own}
-use Rattle.bq_jobs.proofs.Orders.{absent_then, has_spare_then, held_place}
+use Rattle.bq_jobs.proofs.Firsts.{group_cmp, timer_cmp}
 use Rattle.bq_jobs.proofs.Shelved.{found_in, id_search, jobs_changed, shelved_changed, timer_search, group_search}
-use Rattle.bq_jobs.proofs.Told.{entered_timer, entered_group, entry_then, found_then, id_after, job_then, left_timer, left_group, nothing_told, unchanged}
+use Rattle.bq_jobs.proofs.Told.{entered_timer, entered_group, entry_then, found_then, group_moves, job_then, left_timer, left_group, nothing_told, timer_moves, unchanged}
 use Rattle.bq_jobs.proofs.rows.Rows.change.Goals as goal
 
 pub returns-in_err-moved-clause-moved : goal.returns-in_err-moved-clause-moved
@@ -33,87 +30,19 @@ returns-in_err-moved-clause-comparisons g c =
     let few = c.edit_at.ensures.comparisons in
     few_more 7 (kept_in s.by_id s.groups s.timers) c.args.self.now _ _ c.self.view_is refl (omega (arith, few)) (omega (arith, few, id_search s.by_id))
 
-pub shift-requires-clause-held : goal.shift-requires-clause-held
-shift-requires-clause-held g c =
-    let s = c.self.inside in
-    let h = c.self.invariant in
-    let f = g.E.JobEdit.edited c.args.edit.now in
-    let m = c.in_ok-moved.moved in
+pub shift-requires : goal.shift-requires
+shift-requires g c =
     let told = sym c.edit_at.ensures.moved ∙ c.in_ok-moved.was in
-    let j = job_then c.args.id f c.requires.id c.requires.tube s h m told in
-    let found = found_then c.args.id f c.requires.id c.requires.tube s h m told in
-    let left = c.place_in_groups-left.ensures ∙ left_group c.args.id f c.requires.id c.requires.tube s h m told in
-    λ p e. held_place group_laws.total-law group_place group_own c.args.id j (jobs_of s.by_id.entries) s.by_id.spare s.groups h.in_groups found p (sym left ∙ e)
+    let moves = group_moves c.args.id (g.E.JobEdit.edited c.args.edit.now) c.requires.id c.requires.tube c.self.inside c.self.invariant c.in_ok-moved.moved told
+    c.place_in_groups-left.result c.place_in_groups-entered.result c.place_in_groups-left.ensures c.place_in_groups-entered.ensures in
+    record { held = moves.held; spare = moves.spare; absent = moves.absent }
 
-pub shift-requires-clause-spare : goal.shift-requires-clause-spare
-shift-requires-clause-spare g c =
-    let s = c.self.inside in
-    let h = c.self.invariant in
-    let f = g.E.JobEdit.edited c.args.edit.now in
-    let m = c.in_ok-moved.moved in
+pub shift-requires-2 : goal.shift-requires-2
+shift-requires-2 g c =
     let told = sym c.edit_at.ensures.moved ∙ c.in_ok-moved.was in
-    let j = job_then c.args.id f c.requires.id c.requires.tube s h m told in
-    let found = found_then c.args.id f c.requires.id c.requires.tube s h m told in
-    let left = c.place_in_groups-left.ensures ∙ left_group c.args.id f c.requires.id c.requires.tube s h m told in
-    λ p e.
-    let some = ap (λ q. s.groups.spare + cond (is_some q) 1 0) left in
-    omega (arith, some, has_spare_then group_laws.total-law group_place group_own 0 (2 ^ 64) c.args.id j (f j) (jobs_of s.by_id.entries) s.by_id.spare s.groups h.in_groups h.ids found (id_after c.args.id f c.requires.id c.requires.tube s h m told))
-
-pub shift-requires-clause-absent : goal.shift-requires-clause-absent
-shift-requires-clause-absent g c =
-    let s = c.self.inside in
-    let h = c.self.invariant in
-    let f = g.E.JobEdit.edited c.args.edit.now in
-    let m = c.in_ok-moved.moved in
-    let told = sym c.edit_at.ensures.moved ∙ c.in_ok-moved.was in
-    let j = job_then c.args.id f c.requires.id c.requires.tube s h m told in
-    let found = found_then c.args.id f c.requires.id c.requires.tube s h m told in
-    let left = c.place_in_groups-left.ensures ∙ left_group c.args.id f c.requires.id c.requires.tube s h m told in
-    let entered = c.place_in_groups-entered.ensures ∙ entered_group c.args.id f c.requires.id c.requires.tube s h m told in
-    λ p e.
-    ap (λ q. holds_place group_cmp p (without_place group_cmp q s.groups.entries)) left
-    ∙ absent_then group_laws.total-law group_place group_own 0 (2 ^ 64) c.args.id j (f j) (jobs_of s.by_id.entries) s.by_id.spare s.groups h.in_groups h.ids found (id_after c.args.id f c.requires.id c.requires.tube s h m told) p (sym entered ∙ e)
-
-pub shift-requires-2-clause-held : goal.shift-requires-2-clause-held
-shift-requires-2-clause-held g c =
-    let s = c.self.inside in
-    let h = c.self.invariant in
-    let f = g.E.JobEdit.edited c.args.edit.now in
-    let m = c.in_ok-moved.moved in
-    let told = sym c.edit_at.ensures.moved ∙ c.in_ok-moved.was in
-    let j = job_then c.args.id f c.requires.id c.requires.tube s h m told in
-    let found = found_then c.args.id f c.requires.id c.requires.tube s h m told in
-    let left = c.place_in_timers.ensures ∙ left_timer c.args.id f c.requires.id c.requires.tube s h m told in
-    λ p e. held_place timer_laws.total-law timer_place timer_own c.args.id j (jobs_of s.by_id.entries) s.by_id.spare s.timers h.in_timers found p (sym left ∙ e)
-
-pub shift-requires-2-clause-spare : goal.shift-requires-2-clause-spare
-shift-requires-2-clause-spare g c =
-    let s = c.self.inside in
-    let h = c.self.invariant in
-    let f = g.E.JobEdit.edited c.args.edit.now in
-    let m = c.in_ok-moved.moved in
-    let told = sym c.edit_at.ensures.moved ∙ c.in_ok-moved.was in
-    let j = job_then c.args.id f c.requires.id c.requires.tube s h m told in
-    let found = found_then c.args.id f c.requires.id c.requires.tube s h m told in
-    let left = c.place_in_timers.ensures ∙ left_timer c.args.id f c.requires.id c.requires.tube s h m told in
-    λ p e.
-    let some = ap (λ q. s.timers.spare + cond (is_some q) 1 0) left in
-    omega (arith, some, has_spare_then timer_laws.total-law timer_place timer_own 0 (2 ^ 64) c.args.id j (f j) (jobs_of s.by_id.entries) s.by_id.spare s.timers h.in_timers h.ids found (id_after c.args.id f c.requires.id c.requires.tube s h m told))
-
-pub shift-requires-2-clause-absent : goal.shift-requires-2-clause-absent
-shift-requires-2-clause-absent g c =
-    let s = c.self.inside in
-    let h = c.self.invariant in
-    let f = g.E.JobEdit.edited c.args.edit.now in
-    let m = c.in_ok-moved.moved in
-    let told = sym c.edit_at.ensures.moved ∙ c.in_ok-moved.was in
-    let j = job_then c.args.id f c.requires.id c.requires.tube s h m told in
-    let found = found_then c.args.id f c.requires.id c.requires.tube s h m told in
-    let left = c.place_in_timers.ensures ∙ left_timer c.args.id f c.requires.id c.requires.tube s h m told in
-    let entered = c.place_in_timers-2.ensures ∙ entered_timer c.args.id f c.requires.id c.requires.tube s h m told in
-    λ p e.
-    ap (λ q. holds_place timer_cmp p (without_place timer_cmp q s.timers.entries)) left
-    ∙ absent_then timer_laws.total-law timer_place timer_own 0 (2 ^ 64) c.args.id j (f j) (jobs_of s.by_id.entries) s.by_id.spare s.timers h.in_timers h.ids found (id_after c.args.id f c.requires.id c.requires.tube s h m told) p (sym entered ∙ e)
+    let moves = timer_moves c.args.id (g.E.JobEdit.edited c.args.edit.now) c.requires.id c.requires.tube c.self.inside c.self.invariant c.in_ok-moved.moved told
+    c.place_in_timers.result c.place_in_timers-2.result c.place_in_timers.ensures c.place_in_timers-2.ensures in
+    record { held = moves.held; spare = moves.spare; absent = moves.absent }
 
 pub invariant_of-self-2 : goal.invariant_of-self-2
 invariant_of-self-2 g c =
