@@ -9,6 +9,7 @@ use Rattle.bq_job.specs.machine.Changes.{job_with}
 use Rattle.bq_job.specs.beside.Lawful.{AreIdsWithin}
 use Rattle.bq_job.proofs.ChoiceLemmas.{first_of_contains}
 use Rattle.bq_job.proofs.ListLemmas.{all_at, all_weaker, count_cons}
+use Rattle.bq_jobs.specs.Changed.{IgnoresTube, KeepsTube}
 use Rattle.bq_jobs.specs.Kept.{with_added, without}
 use Rattle.bq_jobs.specs.Laws.{AddsAtTheEnd, ChosenHasItsId, NextIsFree}
 
@@ -78,6 +79,10 @@ all_found low next (j ∷ jobs) h =
 
 pub found_by_id : (low next : ℕ) (jobs : List Job) (j : Job) → AreIdsWithin low jobs next → Contains jobs j → job_with j.id jobs ≡ Some j
 found_by_id low next jobs j h i = all_at (λ k. job_with k.id jobs ≡ Some k) jobs j (all_found low next jobs h) i
+
+-- a change that ignores the tube stays in it
+pub stays_in : (f : Job → Job) → IgnoresTube f → KeepsTube f
+stays_in f ignores j = ap (λ (i : Job). i.tube) (ignores j j.tube)
 
 pub chosen_has_its_id : ChosenHasItsId
 chosen_has_its_id low next jobs passes before j h chosen = found_by_id low next jobs j h (first_of_contains passes before jobs j chosen)

@@ -1,5 +1,5 @@
 -- The first job of each kind is at the first place of a group.
-use Rattle.std.proofs.Common.{◌≡◌, ℕ, ◌^◌, Bool, true, List, Option, Some, None, refl, ap, ◌∙◌}
+use Rattle.std.proofs.Common.{◌≡◌, ℕ, ◌^◌, true, List, Option, Some, None, refl}
 use Rattle.std.specs.Prelude.{option_map}
 use Rattle.bq_job.specs.declared.job.Job.{Job}
 use Rattle.bq_jobs.specs.contracts.group.GroupOrd.TheImpl.Laws as group_laws
@@ -16,7 +16,7 @@ use Rattle.bq_jobs.specs.Inside.{jobs_of}
 use Rattle.bq_jobs.specs.Kept.{ranked}
 use Rattle.bq_jobs.specs.PlaceOrder.{first_rank}
 use Rattle.bq_jobs.specs.Places.{list_of, timer_place, group_place}
-use Rattle.bq_jobs.specs.Ranks.{first_id, first_ranked, is_listed, is_of, is_timer_of, list_rank, moment_of, rank_of}
+use Rattle.bq_jobs.specs.Ranks.{first_by, first_held, first_timed, id_in, is_listed, is_of, is_timed, list_rank, moment_of, rank_of}
 use Rattle.bq_jobs.proofs.FirstOfGroup.{in_group, rank_is}
 use Rattle.bq_jobs.proofs.Firsts.{group_cmp, timer_cmp, group_own, timer_own, ready_grouped, delayed_grouped, buried_grouped, due_grouped, lease_grouped, held_grouped, ready_numbered, delayed_numbered, buried_numbered, due_numbered, lease_numbered, held_numbered}
 use Rattle.bq_jobs.proofs.Shelved.{AreShelved}
@@ -39,25 +39,36 @@ numbered : (g : Holder) (j : Job) (p : ShelfPlace Holder) → group_place j ≡ 
 numbered (holders.Held seat) j p e h = held_numbered seat j.state j p e h
 numbered (holders.Listed l) j p e h = listed_numbered l.list l.tube j p e h
 
-timed : (t : Timer) (j : Job) → is_timer_of t j.state ≡ in_group timer_cmp t (timer_place j)
+timed : (t : Timer) (j : Job) → is_timed t j ≡ in_group timer_cmp t (timer_place j)
 timed timers.Due j = due_grouped j.state j
 timed timers.Lease j = lease_grouped j.state j
 
-timed_numbered : (t : Timer) (j : Job) (p : ShelfPlace Timer) → timer_place j ≡ Some p → is_timer_of t j.state ≡ true → p.at ≡ moment_of t j.state
+timed_numbered : (t : Timer) (j : Job) (p : ShelfPlace Timer) → timer_place j ≡ Some p → is_timed t j ≡ true → p.at ≡ moment_of t j
 timed_numbered timers.Due j p e h = due_numbered j.state j p e h
 timed_numbered timers.Lease j p e h = lease_numbered j.state j p e h
 
 module _ (s : Parts) (h : AreShelved s) where
-  pub group_first : (g : Holder) → first_rank group_cmp g s.groups.entries ≡ first_ranked (is_of g) (rank_of g) (jobs_of s.by_id.entries)
-  group_first g = rank_is group_laws.total-law g group_place group_own (is_of g) (rank_of g) (grouped g) (numbered g) 0 (2 ^ 64) (jobs_of s.by_id.entries) s.by_id.spare s.groups h.in_groups h.ids h.in_groups.sorted
+  pub group_first : (g : Holder) → first_rank group_cmp g s.groups.entries ≡ first_held g (jobs_of s.by_id.entries)
+  unfolding first_held
+  group_first g =
+      rank_is group_laws.total-law g group_place group_own (is_of g) (rank_of g) (grouped g) (numbered g)
+      0 (2 ^ 64) (jobs_of s.by_id.entries) s.by_id.spare s.groups h.in_groups h.ids h.in_groups.sorted
 
-  pub timer_first : (t : Timer) → first_rank timer_cmp t s.timers.entries ≡ first_ranked (λ j. is_timer_of t j.state) (λ j. moment_of t j.state) (jobs_of s.by_id.entries)
-  timer_first t = rank_is timer_laws.total-law t timer_place timer_own (λ j. is_timer_of t j.state) (λ j. moment_of t j.state) (timed t) (timed_numbered t) 0 (2 ^ 64) (jobs_of s.by_id.entries) s.by_id.spare s.timers h.in_timers h.ids h.in_timers.sorted
+  pub timer_first : (t : Timer) → first_rank timer_cmp t s.timers.entries ≡ first_timed t (jobs_of s.by_id.entries)
+  unfolding first_timed
+  timer_first t =
+      rank_is timer_laws.total-law t timer_place timer_own (is_timed t) (moment_of t) (timed t) (timed_numbered t)
+      0 (2 ^ 64) (jobs_of s.by_id.entries) s.by_id.spare s.timers h.in_timers h.ids h.in_timers.sorted
 
 -- the id in the pair is that of the first
-pub id_of_first : (passes : Job → Bool) (number : Job → ℕ) (jobs : List Job) (r : Option (ℕ × ℕ)) → r ≡ first_ranked passes number jobs → option_map (λ (p : ℕ × ℕ). p.1) r ≡ first_id passes number jobs
-id_of_first passes number jobs r is = ap (option_map (λ (p : ℕ × ℕ). p.1)) is ∙ of _
-  where
-    of : (o : Option Job) → option_map (λ (p : ℕ × ℕ). p.1) (option_map (ranked number) o) ≡ option_map (λ j. j.id) o
-    of None = refl
-    of (Some j) = refl
+second_of : (number : Job → ℕ) (o : Option Job) → option_map (λ (p : ℕ × ℕ). p.1) (option_map (ranked number) o) ≡ option_map (λ j. j.id) o
+second_of number None = refl
+second_of number (Some j) = refl
+
+pub held_id : (g : Holder) (jobs : List Job) → id_in (first_held g jobs) ≡ option_map (λ j. j.id) (first_by (is_of g) (rank_of g) jobs)
+unfolding first_held id_in
+held_id g jobs = second_of (rank_of g) (first_by (is_of g) (rank_of g) jobs)
+
+pub timed_id : (t : Timer) (jobs : List Job) → id_in (first_timed t jobs) ≡ option_map (λ j. j.id) (first_by (is_timed t) (moment_of t) jobs)
+unfolding first_timed id_in
+timed_id t jobs = second_of (moment_of t) (first_by (is_timed t) (moment_of t) jobs)

@@ -1,6 +1,6 @@
 -- Jobs by the names of their tubes are what they are by their numbers.
-use Rattle.std.proofs.Common.{◌≡◌, ◌+◌, ◌*◌, ◌≤◌, ℕ, suc, length, Bor, Bool, true, false, cond, ◌&&◌, ◌||◌, List, [], ◌∷◌, Option, Some, None, is_some, map, refl, sym, ap, ◌∙◌, subst, inl, inr}
-use Rattle.std.specs.Prelude.{◌==◌, fold, nat_lt, not, unwrap_or, if◌then◌else◌, is_ok, Result, Ok, Err, IfOk, OnErr}
+use Rattle.std.proofs.Common.{◌≡◌, ◌+◌, ◌*◌, ◌≤◌, ℕ, suc, length, Bor, Bool, true, false, ◌&&◌, ◌||◌, List, [], ◌∷◌, Option, Some, None, is_some, map, refl, sym, ap, ◌∙◌, subst, inl, inr}
+use Rattle.std.specs.Prelude.{◌==◌, nat_lt, unwrap_or, if◌then◌else◌, is_ok, Result, Ok, Err, IfOk}
 use Rattle.std.specs.Cmp.Lexicographic.{bytes_decides}
 use Rattle.std.specs.List.{AllByRecursion as All, list_any}
 use Rattle.std.specs.Option.{option_and_then, option_map}
@@ -8,20 +8,19 @@ use Rattle.std.proofs.Common.{arith}
 use Rattle.std.proofs.lemmas.Bool.{cases_Bool, eqb-true}
 use Rattle.std.proofs.lemmas.Bool.Decides.{nat_tests}
 use Rattle.bq_job.specs.declared.job.Job.{Job}
-use Rattle.bq_job.specs.machine.Changes.{better_of, first_of, is_held_by, is_pair_before, job_with}
+use Rattle.bq_job.specs.machine.Changes.{job_with}
 use Rattle.bq_job.specs.reading.TubeName.{is_same_name}
+use Rattle.bq_job.specs.beside.Lawful.{AreIdsWithin}
+use Rattle.bq_job.proofs.KeptLemmas.{ids_of_map}
 use Rattle.bq_job.proofs.LookupLemmas.{job_in_map}
 use Rattle.bq_index.specs.Digits.{binary_digits}
-use Rattle.bq_jobs.specs.Kept.{ComparesAtMost, Kept, ranked, with_added, without}
-use Rattle.bq_jobs.specs.Leases.{deadline_of}
-use Rattle.bq_jobs.specs.Ranks.{first_by, first_ranked, is_in_list, is_listed, is_timer_of, list_rank, moment_of}
-use Rattle.bq_jobs.specs.declared.holder.JobList.{JobList}
-use Rattle.bq_jobs.specs.declared.place.Timer.{Timer}
-use Rattle.bq_jobs.specs.Changed.{IgnoresTube, KeepsTube, moved_by, moved_in, row_moved_by, standing, with_changed}
+use Rattle.bq_jobs.specs.Kept.{ComparesAtMost, Kept, with_added, without}
+use Rattle.bq_jobs.specs.Changed.{IgnoresTube, moved_by, moved_in, row_moved_by, standing, with_changed}
 use Rattle.bq_jobs.specs.Numbering.{AreNumbered, IsNumbered, IsPaired, Numbering, kept_named, name_of, named, number_of, with_known, without_known}
 use Rattle.bq_jobs.specs.Names.{number_in}
 use Rattle.bq_jobs.specs.Told.{job_told, moved_told}
 use Rattle.bq_jobs.specs.Seen.{IsBodyOf, IsNumberOf, IsTubeOf, but_for_tube, in_tube}
+use Rattle.bq_jobs.proofs.Changes.{stays_in}
 use Rattle.bq_jobs.proofs.NumberingLemmas.{is_known_then, name_kept, name_left, number_kept, other_numbers}
 
 or_parts : (a b : Bool) → (a || b) ≡ false → (a ≡ false) × (b ≡ false)
@@ -74,12 +73,12 @@ module _ (k : Numbering) (h : IsPaired k) (name : List ℕ) where
   tube_not_told none j is = not_told_by none (number_in j.tube) (name_of (number_in j.tube) k) refl is.1
 
   -- what passes a test of its state and is in the tube
-  all_told : (n : ℕ) → number_of name k ≡ Some n → (test : Job → Bool) (rows : List Job) → AreNumbered k rows
+  pub all_told : (n : ℕ) → number_of name k ≡ Some n → (test : Job → Bool) (rows : List Job) → AreNumbered k rows
       → All (λ j. (test j && is_same_name name (named k j).tube) ≡ (test j && is_same_name (n ∷ []) j.tube)) rows
   all_told n own test [] all = tt
   all_told n own test (j ∷ rows) all = (ap (λ b. test j && b) (tube_told n own j all.0), all_told n own test rows all.1)
 
-  none_told : number_of name k ≡ None → (test : Job → Bool) (rows : List Job) → AreNumbered k rows
+  pub none_told : number_of name k ≡ None → (test : Job → Bool) (rows : List Job) → AreNumbered k rows
       → All (λ j. (test j && is_same_name name (named k j).tube) ≡ false) rows
   none_told none test [] all = tt
   none_told none test (j ∷ rows) all = (ap (λ b. test j && b) (tube_not_told none j all.0) ∙ and_false (test j), none_told none test rows all.1)
@@ -88,74 +87,8 @@ module _ (k : Numbering) (h : IsPaired k) (name : List ℕ) where
       and_false true = refl
       and_false false = refl
 
--- The first of the jobs is the first of the records.
-module _ (f : Job → Job) (passes test : Job → Bool) (before : Job → Job → Bool) (alike : (a b : Job) → before (f a) (f b) ≡ before a b) where
-  better_named : (j : Job) → passes (f j) ≡ test j → (o : Option Job) → better_of passes before (option_map f o) (f j) ≡ option_map f (better_of test before o j)
-  better_named j e None = elim (cases_Bool (test j)) [
-    | inl t ↦ rw (e ∙ t, t) refl
-    | inr t ↦ rw (e ∙ t, t) refl
-  ]
-  better_named j e (Some best) = elim (cases_Bool (test j && before j best)) [
-    | inl t ↦ rw (ap (λ b. b && before (f j) (f best)) e ∙ ap (λ b. test j && b) (alike j best) ∙ t, t) refl
-    | inr t ↦ rw (ap (λ b. b && before (f j) (f best)) e ∙ ap (λ b. test j && b) (alike j best) ∙ t, t) refl
-  ]
-
-  fold_named : (rows : List Job) → All (λ j. passes (f j) ≡ test j) rows → (o : Option Job)
-      → fold (better_of passes before) (option_map f o) (map f rows) ≡ option_map f (fold (better_of test before) o rows)
-  fold_named [] all o = refl
-  fold_named (j ∷ rows) all o =
-      ap (λ b. fold (better_of passes before) b (map f rows)) (better_named j all.0 o) ∙ fold_named rows all.1 (better_of test before o j)
-
-  first_named : (rows : List Job) → All (λ j. passes (f j) ≡ test j) rows → first_of passes before (map f rows) ≡ option_map f (first_of test before rows)
-  first_named rows all = fold_named rows all None
-
--- Its number and its id are the same, where they don't depend on the name,
-module _ (k : Numbering) (passes test : Job → Bool) (number : Job → ℕ) (same : (j : Job) → number (named k j) ≡ number j) where
-  alike : (a b : Job) → is_pair_before (number (named k a)) a.id (number (named k b)) b.id ≡ is_pair_before (number a) a.id (number b) b.id
-  alike a b = ap (λ n. is_pair_before n a.id (number (named k b)) b.id) (same a) ∙ ap (λ n. is_pair_before (number a) a.id n b.id) (same b)
-
-  first_told : (rows : List Job) → All (λ j. passes (named k j) ≡ test j) rows → first_ranked passes number (map (named k) rows) ≡ first_ranked test number rows
-  first_told rows all =
-      ap (option_map (ranked number)) (first_named (named k) passes test (λ a b. is_pair_before (number a) a.id (number b) b.id) alike rows all) ∙ of (first_by test number rows)
-    where
-      of : (o : Option Job) → option_map (ranked number) (option_map (named k) o) ≡ option_map (ranked number) o
-      of None = refl
-      of (Some j) = ap (λ n. Some (n, j.id)) (same j)
-
--- as in a list of a tube that is known,
-pub listed_told : (k : Numbering) (h : IsPaired k) (name : List ℕ) (n : ℕ) → number_of name k ≡ Some n → (list : JobList) (rows : List Job) → AreNumbered k rows
-    → first_ranked (is_listed list name) (list_rank list) (map (named k) rows) ≡ first_ranked (is_listed list (n ∷ [])) (list_rank list) rows
-listed_told k h name n own list rows all =
-    first_told k (is_listed list name) (is_listed list (n ∷ [])) (list_rank list) (λ j. refl) rows (all_told k h name n own (λ j. is_in_list list j.state) rows all)
-
--- among those of a client, and among delays and leases.
-all_alike : (test : Job → Bool) (rows : List Job) → All (λ j. test j ≡ test j) rows
-all_alike test [] = tt
-all_alike test (j ∷ rows) = (refl, all_alike test rows)
-
-pub held_told : (k : Numbering) (seat : ℕ) (rows : List Job)
-    → first_ranked (is_held_by seat) (λ j. deadline_of j.state) (map (named k) rows) ≡ first_ranked (is_held_by seat) (λ j. deadline_of j.state) rows
-held_told k seat rows = first_told k (is_held_by seat) (is_held_by seat) (λ j. deadline_of j.state) (λ j. refl) rows (all_alike (is_held_by seat) rows)
-
-pub timed_told : (k : Numbering) (t : Timer) (rows : List Job)
-    → first_ranked (λ j. is_timer_of t j.state) (λ j. moment_of t j.state) (map (named k) rows) ≡ first_ranked (λ j. is_timer_of t j.state) (λ j. moment_of t j.state) rows
-timed_told k t rows =
-    first_told k (λ j. is_timer_of t j.state) (λ j. is_timer_of t j.state) (λ j. moment_of t j.state) (λ j. refl) rows (all_alike (λ j. is_timer_of t j.state) rows)
-
--- In a tube that isn't known there is none.
-none_first : (f : Job → Job) (passes : Job → Bool) (before : Job → Job → Bool) (rows : List Job) → All (λ j. passes (f j) ≡ false) rows
-    → first_of passes before (map f rows) ≡ None
-none_first f passes before [] all = refl
-none_first f passes before (j ∷ rows) all = ap (λ b. fold (better_of passes before) b (map f rows)) (rw all.0 refl) ∙ none_first f passes before rows all.1
-
-pub none_listed : (k : Numbering) (h : IsPaired k) (name : List ℕ) → number_of name k ≡ None → (list : JobList) (rows : List Job) → AreNumbered k rows
-    → first_ranked (is_listed list name) (list_rank list) (map (named k) rows) ≡ None
-none_listed k h name none list rows all =
-    ap (option_map (ranked (list_rank list)))
-    (none_first (named k) (is_listed list name) (λ a b. is_pair_before (list_rank list a) a.id (list_rank list b) b.id) rows (none_told k h name none (λ j. is_in_list list j.state) rows all))
-
 -- Additions, removals and changes are those of the records.
-pub added_named : (k : Numbering) (j : Job) (rows : List Job) → with_added (named k j) (map (named k) rows) ≡ map (named k) (with_added j rows)
+added_named : (k : Numbering) (j : Job) (rows : List Job) → with_added (named k j) (map (named k) rows) ≡ map (named k) (with_added j rows)
 added_named k j [] = refl
 added_named k j (r ∷ rows) = elim (cases_Bool (nat_lt r.id j.id)) [
   | inl e ↦ rw e (ap (λ ks. named k r ∷ ks) (added_named k j rows))
@@ -170,13 +103,9 @@ without_named k id (r ∷ rows) = elim (cases_Bool (r.id == id)) [
 ]
 
 module _ (k : Numbering) (id : ℕ) (f : Job → Job) (ignores : IgnoresTube f) where
-  -- a change that ignores the tube stays in it
-  pub stays_in : KeepsTube f
-  stays_in j = ap (λ (i : Job). i.tube) (ignores j j.tube)
-
-  -- and is the same whatever the tube is called
-  pub edited_named : (j : Job) → f (named k j) ≡ named k (f j)
-  edited_named j = ignores j (named k j).tube ∙ ap (λ tube. record (f j) { tube = unwrap_or (name_of (number_in tube) k) [] }) (sym (stays_in j))
+  -- the same whatever the tube is called
+  edited_named : (j : Job) → f (named k j) ≡ named k (f j)
+  edited_named j = ignores j (named k j).tube ∙ ap (λ tube. record (f j) { tube = unwrap_or (name_of (number_in tube) k) [] }) (sym (stays_in f ignores j))
 
   pub changed_named : (rows : List Job) → with_changed id f (map (named k) rows) ≡ map (named k) (with_changed id f rows)
   changed_named [] = refl
@@ -204,11 +133,14 @@ numbered_without k id (r ∷ rows) all = elim (cases_Bool (r.id == id)) [
   | inr e ↦ rw e (all.0, numbered_without k id rows all.1)
 ]
 
-pub numbered_changed : (k : Numbering) (id : ℕ) (f : Job → Job) → KeepsTube f → (rows : List Job) → AreNumbered k rows → AreNumbered k (with_changed id f rows)
-numbered_changed k id f stays [] all = tt
-numbered_changed k id f stays (r ∷ rows) all = elim (cases_Bool (r.id == id)) [
-  | inl e ↦ rw e (subst (λ tube. (tube ≡ number_in tube ∷ []) × (is_some (name_of (number_in tube) k) ≡ true)) (sym (stays r)) all.0, numbered_changed k id f stays rows all.1)
-  | inr e ↦ rw e (all.0, numbered_changed k id f stays rows all.1)
+pub numbered_changed : (k : Numbering) (id : ℕ) (f : Job → Job) → IgnoresTube f → (rows : List Job) → AreNumbered k rows → AreNumbered k (with_changed id f rows)
+numbered_changed k id f ignores [] all = tt
+numbered_changed k id f ignores (r ∷ rows) all = elim (cases_Bool (r.id == id)) [
+  | inl e ↦ rw e (
+    subst (λ tube. (tube ≡ number_in tube ∷ []) × (is_some (name_of (number_in tube) k) ≡ true)) (sym (stays_in f ignores r)) all.0,
+    numbered_changed k id f ignores rows all.1,
+  )
+  | inr e ↦ rw e (all.0, numbered_changed k id f ignores rows all.1)
 ]
 
 -- the record of an id is numbered
@@ -231,6 +163,10 @@ told_rows k id rows all = of (job_with id rows) refl ∙ sym (job_named k id row
     of None there = refl
     of (Some j) there = named_by j (name_of (number_in j.tube) k) ((numbered_there k id rows j all there).1)
 
+-- their ids are the same
+pub ids_named : (k : Numbering) (low next : ℕ) (rows : List Job) → AreIdsWithin low rows next → AreIdsWithin low (map (named k) rows) next
+ids_named k low next rows ids = ids_of_map (named k) low next rows (λ j. refl) ids
+
 -- no record, no job
 pub none_named : (k : Numbering) (id : ℕ) (rows : List Job) → job_with id (map (named k) rows) ≡ None → job_with id rows ≡ None
 none_named k id rows e = of (job_with id rows) (sym (job_named k id rows) ∙ e)
@@ -243,8 +179,12 @@ none_named k id rows e = of (job_with id rows) (sym (job_named k id rows) ∙ e)
 pub numbered_row : (k : Numbering) (h : IsPaired k) (j : Job) (n : ℕ) → number_of j.tube k ≡ Some n → IsNumbered k (record j { tube = n ∷ [] })
 numbered_row k h j n own = (refl, ap is_some (h.there j.tube n own))
 
-pub row_named : (k : Numbering) (h : IsPaired k) (j : Job) (n : ℕ) → number_of j.tube k ≡ Some n → named k (record j { tube = n ∷ [] }) ≡ j
+row_named : (k : Numbering) (h : IsPaired k) (j : Job) (n : ℕ) → number_of j.tube k ≡ Some n → named k (record j { tube = n ∷ [] }) ≡ j
 row_named k h j n own = ap (λ o. record j { tube = unwrap_or o [] }) (h.there j.tube n own)
+
+pub row_added : (k : Numbering) (h : IsPaired k) (j : Job) (n : ℕ) → number_of j.tube k ≡ Some n → (rows : List Job)
+    → with_added j (map (named k) rows) ≡ map (named k) (with_added (record j { tube = n ∷ [] }) rows)
+row_added k h j n own rows = ap (λ i. with_added i (map (named k) rows)) (sym (row_named k h j n own)) ∙ added_named k (record j { tube = n ∷ [] }) rows
 
 -- what is told of a changed record is told of the job
 module _ (k : Numbering) (id : ℕ) (f : Job → Job) (ignores : IgnoresTube f) where
@@ -316,17 +256,9 @@ pub others_if : (b : Bool) (k : Numbering) (h : IsPaired k) (name other : List �
 others_if true k h name other apart = other_numbers k h name other apart
 others_if false k h name other apart = refl
 
-pub refused_if : {E : Type 0} {P : Type 0} (r : Result (Unit {0}) E) (k new : Numbering) (name : List ℕ) → new ≡ known_if (is_ok r) name k → (new ≡ k → P) → OnErr r P
-refused_if (Ok x) k new name after so = tt
-refused_if (Err e) k new name after so = so after
-
 pub known_of : {E : Type 0} (r : Result (Unit {0}) E) (k : Numbering) (h : IsPaired k) (name : List ℕ) → IfOk r (λ _. is_some (number_of name (known_if (is_ok r) name k)) ≡ true)
 known_of (Ok x) k h name = is_known_then k h name
 known_of (Err e) k h name = tt
-
-pub ok_as : {A E : Type 0} (r : Result A E) (P Q : Type 0) → (P → Q) → IfOk r (λ _. P) → IfOk r (λ _. Q)
-ok_as (Ok x) P Q h p = h p
-ok_as (Err e) P Q h p = tt
 
 -- the tube of a job is the name of its number
 pub tube_named : (k : Numbering) (id : ℕ) (rows : List Job) → AreNumbered k rows → (n : ℕ) → option_map (λ j. number_in j.tube) (job_with id rows) ≡ Some n
@@ -412,11 +344,20 @@ tube_is k id rows n tube is its j e =
     let has : name_of (number_in from.row.tube) k ≡ Some tube = ap (λ i. name_of i k) (sym (is from.row from.there)) ∙ its in
     ap (λ o. unwrap_or o []) (sym has) ∙ ap (λ (i : Job). i.tube) (sym from.is)
 
-pub body_is : (k : Numbering) (id : ℕ) (rows : List Job) (body : List ℕ) → IsBodyOf (job_with id rows) body → IsBodyOf (job_with id (map (named k) rows)) body
+body_is : (k : Numbering) (id : ℕ) (rows : List Job) (body : List ℕ) → IsBodyOf (job_with id rows) body → IsBodyOf (job_with id (map (named k) rows)) body
 body_is k id rows body is j e =
     let from = named_from k id rows j e in
     is from.row from.there ∙ ap (λ (i : Job). i.body) (sym from.is)
 
-pub ok_to : {A E : Type 0} (r : Result A E) (P Q : A → Type 0) → ((a : A) → P a → Q a) → IfOk r P → IfOk r Q
-ok_to (Ok x) P Q h p = h x p
-ok_to (Err e) P Q h p = tt
+pub body_told : {E : Type 0} (k : Numbering) (id : ℕ) (rows : List Job) (r : Result (List ℕ) E) → IfOk r (IsBodyOf (job_with id rows)) → IfOk r (IsBodyOf (job_with id (map (named k) rows)))
+body_told k id rows (Ok body) is = body_is k id rows body is
+body_told k id rows (Err e) is = tt
+
+-- what the search takes for an addition, a removal, a change and a share
+pub ruleset additions = (none_named, numbered_added, numbered_row, row_added)
+
+pub ruleset removals = (job_named, numbered_without, some_named, told_rows, without_named)
+
+pub ruleset changes = (changed_named, numbered_changed, told_moved)
+
+pub ruleset shares = (some_named, no_name, tube_is, body_told)

@@ -56,6 +56,10 @@ id_search by_id = search_is_bounded (jobs_of by_id.entries) (length by_id.entrie
 pub found_in : (id : ℕ) (s : Parts) → AreShelved s → lookup (is_at (nat_cmp id)) s.by_id.entries ≡ job_with id (jobs_of s.by_id.entries)
 found_in id s h = ap (lookup (is_at (nat_cmp id))) h.by_own_id ∙ lookup_by_id id (jobs_of s.by_id.entries)
 
+-- it has that id
+pub found_own : (id : ℕ) (s : Parts) → AreShelved s → (j : Job) → lookup (is_at (nat_cmp id)) s.by_id.entries ≡ Some j → j.id ≡ id
+found_own id s h j found = found_id id (jobs_of s.by_id.entries) j (sym (found_in id s h) ∙ found)
+
 pub entries_added : (j : Job) (s : Parts) → AreShelved s → job_with j.id (jobs_of s.by_id.entries) ≡ None → insert_entry nat_cmp s.by_id.entries j.id j ≡ map with_id (with_added j (jobs_of s.by_id.entries))
 entries_added j s h free = ap (λ es. insert_entry nat_cmp es j.id j) h.by_own_id ∙ insert_by_id j (jobs_of s.by_id.entries) free
 
@@ -129,6 +133,9 @@ shelved_same id s by_id h none entries spare =
 -- no job has an id after its removal
 pub gone_after : (id : ℕ) (s : Parts) → AreShelved s → job_with id (jobs_of (remove_entry (is_at (nat_cmp id)) s.by_id.entries)) ≡ None
 gone_after id s h = ap (job_with id) (jobs_removed id s h) ∙ not_there id (jobs_of s.by_id.entries)
+
+-- what the search takes for a removal
+pub ruleset removals = (found_in, found_own, gone_after, jobs_removed)
 
 -- after a change
 pub record Changed (j k : Job) (s n : Parts) : Type 0 where

@@ -11,10 +11,10 @@ use Rattle.bq_jobs.specs.declared.holder.Holder.{Holder}
 use Rattle.bq_jobs.specs.declared.place.ShelfPlace.{ShelfPlace}
 use Rattle.bq_jobs.specs.declared.place.Timer.{Timer}
 use Rattle.bq_jobs.specs.declared.rows.Rows.TheInside.{Inside as Parts}
-use Rattle.bq_jobs.specs.Changed.{KeepsId, KeepsTube, entry_at, row_moved_by, with_changed}
+use Rattle.bq_jobs.specs.Changed.{IgnoresTube, KeepsId, entry_at, row_moved_by, with_changed}
 use Rattle.bq_jobs.specs.Inside.{jobs_of}
 use Rattle.bq_jobs.specs.Places.{in_timers_at, in_groups_at, timer_place, group_place}
-use Rattle.bq_jobs.proofs.Changes.{found_id}
+use Rattle.bq_jobs.proofs.Changes.{found_id, stays_in}
 use Rattle.bq_jobs.proofs.Firsts.{group_cmp, timer_cmp, timer_own, group_own}
 use Rattle.bq_jobs.proofs.Orders.{CanMove, can_move}
 use Rattle.bq_jobs.proofs.Shelved.{AreShelved, found_in}
@@ -29,7 +29,7 @@ pub told_of : {M : Type 0} (tells : Job → M) (o : Option Job) (m : M) → opti
 told_of tells None m e = absurd cc
 told_of tells (Some j) m e = record { job = j; there = refl; is = cc }
 
-module _ (id : ℕ) (f : Job → Job) (keeps : KeepsId f) (stays : KeepsTube f) (s : Parts) (h : AreShelved s) (m : MovedRow) (told : option_map (row_moved_by f) (entry_at id s.by_id.entries) ≡ Some m) where
+module _ (id : ℕ) (f : Job → Job) (keeps : KeepsId f) (ignores : IgnoresTube f) (s : Parts) (h : AreShelved s) (m : MovedRow) (told : option_map (row_moved_by f) (entry_at id s.by_id.entries) ≡ Some m) where
   of : IsOf (row_moved_by f) (entry_at id s.by_id.entries) m
   of = told_of (row_moved_by f) (entry_at id s.by_id.entries) m told
 
@@ -57,7 +57,7 @@ module _ (id : ℕ) (f : Job → Job) (keeps : KeepsId f) (stays : KeepsTube f) 
   left_group = ap (λ (n : MovedRow). in_groups_at n.from.state n.from.pri n.tube id) told_is ∙ ap (in_groups_at job_then.state job_then.pri job_then.tube) its_id
 
   pub entered_group : in_groups_at m.to.state m.to.pri m.tube id ≡ group_place (f job_then)
-  entered_group = ap (λ (n : MovedRow). in_groups_at n.to.state n.to.pri n.tube id) told_is ∙ ap (λ t. in_groups_at (f job_then).state (f job_then).pri t id) (sym (stays job_then)) ∙ ap (in_groups_at (f job_then).state (f job_then).pri (f job_then).tube) (sym id_after)
+  entered_group = ap (λ (n : MovedRow). in_groups_at n.to.state n.to.pri n.tube id) told_is ∙ ap (λ t. in_groups_at (f job_then).state (f job_then).pri t id) (sym (stays_in f ignores job_then)) ∙ ap (in_groups_at (f job_then).state (f job_then).pri (f job_then).tube) (sym id_after)
 
   pub left_timer : in_timers_at m.from.state id ≡ timer_place job_then
   left_timer = ap (λ (n : MovedRow). in_timers_at n.from.state id) told_is ∙ ap (in_timers_at job_then.state) its_id

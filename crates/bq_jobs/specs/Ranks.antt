@@ -42,21 +42,26 @@ rank_of (holders.Held seat) j = deadline_of j.state
 rank_of (holders.Listed l) j = list_rank l.list j
 
 -- and of delays and leases
-abbrev pub is_timer_of : Timer → JobState → Bool
-is_timer_of timers.Due s = is_delayed s
-is_timer_of timers.Lease s = is_reserved s
+abbrev pub is_timed : Timer → Job → Bool
+is_timed timers.Due j = is_delayed j.state
+is_timed timers.Lease j = is_reserved j.state
 
-abbrev pub moment_of : Timer → JobState → ℕ
-moment_of timers.Due s = due_of s
-moment_of timers.Lease s = deadline_of s
+abbrev pub moment_of : Timer → Job → ℕ
+moment_of timers.Due j = due_of j.state
+moment_of timers.Lease j = deadline_of j.state
 
--- the first of the jobs that pass, by this number, then by id
+-- the first of the jobs that pass, by a number, then by id
 abbrev pub first_by : (Job → Bool) → (Job → ℕ) → List Job → Option Job
 first_by passes number jobs = first_of passes (λ a b. is_pair_before (number a) a.id (number b) b.id) jobs
 
--- its number and its id, and its id alone
-abbrev pub first_ranked : (Job → Bool) → (Job → ℕ) → List Job → Option (ℕ × ℕ)
-first_ranked passes number jobs = option_map (ranked number) (first_by passes number jobs)
+-- the number and the id of the first that a holder has
+unfoldable pub first_held : Holder → List Job → Option (ℕ × ℕ)
+first_held g jobs = option_map (ranked (rank_of g)) (first_by (is_of g) (rank_of g) jobs)
 
-abbrev pub first_id : (Job → Bool) → (Job → ℕ) → List Job → Option ℕ
-first_id passes number jobs = option_map (λ j. j.id) (first_by passes number jobs)
+-- the same of the delays or the leases
+unfoldable pub first_timed : Timer → List Job → Option (ℕ × ℕ)
+first_timed t jobs = option_map (ranked (moment_of t)) (first_by (is_timed t) (moment_of t) jobs)
+
+-- the id in the pair
+unfoldable pub id_in : Option (ℕ × ℕ) → Option ℕ
+id_in rank = option_map (λ p. p.1) rank

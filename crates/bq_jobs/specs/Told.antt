@@ -1,5 +1,5 @@
 -- What is told of a record, with the name of its tube.
-use Rattle.std.specs.Prelude.{List, ℕ, Option}
+use Rattle.std.specs.Prelude.{Option}
 use Rattle.std.specs.Option.{option_map}
 use Rattle.bq_job.specs.declared.job.Job.{Job}
 use Rattle.bq_jobs.specs.declared.edit.Moved.{Moved}

@@ -16,7 +16,8 @@ ghost use Rattle.bq_jobs.specs.Seen.{IsBodyOf, IsTubeOf, but_for_tube};
 ghost use Rattle.bq_jobs.specs.Told.{job_told, moved_told};
 ghost use Rattle.bq_jobs.specs.Kept.{ComparesAtMost, ranked, with_added, without};
 ghost use Rattle.bq_jobs.specs.Leases.{deadline_of, is_lease_before};
-ghost use Rattle.bq_jobs.specs.Ranks.{first_id, first_ranked, is_listed, is_timer_of, list_rank, moment_of};
+ghost use Rattle.bq_jobs.specs.Places.{held_by, list_of};
+ghost use Rattle.bq_jobs.specs.Ranks.{first_held, first_timed, id_in};
 
 use super::edit::{JobEdit, Moved, MovedRow};
 use super::group::Group;
@@ -68,6 +69,7 @@ impl Jobs {
     }
 
     /// How many jobs there are.
+    #[tactic(auto, using(crate::proofs::NamedJobs::ids_named))]
     pub fn len(&self) -> usize
         ensures len { result ≡ length self.now.jobs }
         ensures ordered { AreIdsWithin 0 self.now.jobs (2 ^ 64) }
@@ -122,6 +124,7 @@ impl Jobs {
     }
 
     /// Puts a job in. It uses the room of one. Its tube has to be known, see [`Jobs::know`].
+    #[tactic(auto, using(crate::proofs::NamedJobs::additions))]
     pub fn add(&mut self, job: Job)
         requires room { 0 < self.old.room }
         requires absent { job_with job.id self.old.jobs ≡ None }
@@ -137,6 +140,7 @@ impl Jobs {
     }
 
     /// Takes the job of this id out, if there is one. Its room comes back.
+    #[tactic(auto, using(crate::proofs::NamedJobs::removals))]
     pub fn remove(&mut self, id: JobId) -> Option<Job>
         ensures job { result ≡ job_with id self.old.jobs }
         ensures jobs { self.new.jobs ≡ without id self.old.jobs }
@@ -152,6 +156,7 @@ impl Jobs {
 
     /// Changes the job of this id, if there is one. Its record stays where it lies, and it goes from its
     /// places in the orders to those where it stands then. No memory is taken.
+    #[tactic(auto, using(crate::proofs::NamedJobs::changes))]
     pub fn change<E: JobEdit>(&mut self, id: JobId, edit: &E) -> Option<Moved>
         requires id { KeepsId (E.edited edit.now) }
         requires tube { IgnoresTube (E.edited edit.now) }
@@ -174,6 +179,7 @@ impl Jobs {
     }
 
     /// The tube of the job of this id.
+    #[tactic(auto, using(crate::proofs::NamedJobs::tube_named, crate::proofs::NamedJobs::no_tube_named))]
     pub fn tube_of(&mut self, id: JobId) -> Option<TubeName>
         ensures tube { result ≡ option_map (λ j. j.tube) (job_with id self.old.jobs) }
         ensures same { self.new ≡ record self.old { comparisons = self.new.comparisons } }
@@ -184,6 +190,7 @@ impl Jobs {
     }
 
     /// The tube of the job of this id, and one more owner of its body, unless that is refused.
+    #[tactic(auto, using(crate::proofs::NamedJobs::shares))]
     pub fn share(&mut self, id: JobId) -> Option<(TubeName, Result<Body, NoMemory>)>
         ensures none { is_some result ≡ is_some (job_with id self.old.jobs) }
         ensures tube { IfSome result (λ s. IsTubeOf (job_with id self.old.jobs) s.0) }
@@ -197,6 +204,7 @@ impl Jobs {
     }
 
     /// The id of the most urgent ready job of a tube: by priority, then by id.
+    #[tactic(auto, using(crate::proofs::FirstJobs::held_id))]
     pub fn first_ready(&mut self, tube: &TubeName) -> Option<JobId>
         ensures id { result ≡ option_map (λ j. j.id) (first_of (is_ready_in tube.now) is_job_before self.old.jobs) }
         ensures same { self.new ≡ record self.old { comparisons = self.new.comparisons } }
@@ -206,6 +214,7 @@ impl Jobs {
     }
 
     /// The id of the delayed job of a tube that is due first: by due moment, then by id.
+    #[tactic(auto, using(crate::proofs::FirstJobs::held_id))]
     pub fn first_delayed(&mut self, tube: &TubeName) -> Option<JobId>
         ensures id { result ≡ option_map (λ j. j.id) (first_of (is_delayed_in tube.now) is_due_before self.old.jobs) }
         ensures same { self.new ≡ record self.old { comparisons = self.new.comparisons } }
@@ -215,6 +224,7 @@ impl Jobs {
     }
 
     /// The id of the job of a tube that was buried first: by burial number, then by id.
+    #[tactic(auto, using(crate::proofs::FirstJobs::held_id))]
     pub fn first_buried(&mut self, tube: &TubeName) -> Option<JobId>
         ensures id { result ≡ option_map (λ j. j.id) (first_of (is_buried_in tube.now) is_buried_before self.old.jobs) }
         ensures same { self.new ≡ record self.old { comparisons = self.new.comparisons } }
@@ -224,6 +234,7 @@ impl Jobs {
     }
 
     /// The id of the delayed job that is due first, in whatever tube: by due moment, then by id.
+    #[tactic(auto, using(crate::proofs::FirstJobs::timed_id))]
     pub fn first_due(&mut self) -> Option<JobId>
         ensures id { result ≡ option_map (λ j. j.id) (first_of (λ j. is_delayed j.state) is_due_before self.old.jobs) }
         ensures same { self.new ≡ record self.old { comparisons = self.new.comparisons } }
@@ -233,6 +244,7 @@ impl Jobs {
     }
 
     /// The id of the reserved job whose time to run ends first, whoever holds it: by deadline, then by id.
+    #[tactic(auto, using(crate::proofs::FirstJobs::timed_id))]
     pub fn first_lease(&mut self) -> Option<JobId>
         ensures id { result ≡ option_map (λ j. j.id) (first_of (λ j. is_reserved j.state) is_lease_before self.old.jobs) }
         ensures same { self.new ≡ record self.old { comparisons = self.new.comparisons } }
@@ -242,6 +254,7 @@ impl Jobs {
     }
 
     /// The id of the job of the client at a seat whose time to run ends first: by deadline, then by id.
+    #[tactic(auto, using(crate::proofs::FirstJobs::held_id))]
     pub fn first_held(&mut self, seat: Seat) -> Option<JobId>
         ensures id { result ≡ option_map (λ j. j.id) (first_of (is_held_by seat) is_lease_before self.old.jobs) }
         ensures same { self.new ≡ record self.old { comparisons = self.new.comparisons } }
@@ -251,6 +264,7 @@ impl Jobs {
     }
 
     /// The priority and the id of the most urgent ready job of a tube: by priority, then by id.
+    #[tactic(auto, unfolding(crate::specs::Ranks::first_held))]
     pub fn most_urgent(&mut self, tube: &TubeName) -> Option<(u64, JobId)>
         ensures rank { result ≡ option_map (ranked (λ j. j.pri)) (first_of (is_ready_in tube.now) is_job_before self.old.jobs) }
         ensures same { self.new ≡ record self.old { comparisons = self.new.comparisons } }
@@ -260,6 +274,7 @@ impl Jobs {
     }
 
     /// The due moment and the id of the delayed job that is due first, in whatever tube.
+    #[tactic(auto, unfolding(crate::specs::Ranks::first_timed))]
     pub fn next_due(&mut self) -> Option<(Moment, JobId)>
         ensures rank { result ≡ option_map (ranked (λ j. due_of j.state)) (first_of (λ j. is_delayed j.state) is_due_before self.old.jobs) }
         ensures same { self.new ≡ record self.old { comparisons = self.new.comparisons } }
@@ -269,6 +284,7 @@ impl Jobs {
     }
 
     /// The deadline and the id of the reserved job whose time to run ends first, whoever holds it.
+    #[tactic(auto, unfolding(crate::specs::Ranks::first_timed))]
     pub fn next_deadline(&mut self) -> Option<(Moment, JobId)>
         ensures rank { result ≡ option_map (ranked (λ j. deadline_of j.state))
             (first_of (λ j. is_reserved j.state) is_lease_before self.old.jobs) }
@@ -279,6 +295,7 @@ impl Jobs {
     }
 
     /// The deadline and the id of the job of the client at a seat whose time to run ends first.
+    #[tactic(auto, unfolding(crate::specs::Ranks::first_held))]
     pub fn next_deadline_of(&mut self, seat: Seat) -> Option<(Moment, JobId)>
         ensures rank { result ≡ option_map (ranked (λ j. deadline_of j.state)) (first_of (is_held_by seat) is_lease_before self.old.jobs) }
         ensures same { self.new ≡ record self.old { comparisons = self.new.comparisons } }
@@ -288,9 +305,9 @@ impl Jobs {
     }
 
     // The number and the id of the first job of a tube in one state: by that number, then by id.
+    #[tactic(auto, using(crate::proofs::NamedFirsts::listed_told, crate::proofs::NamedFirsts::none_listed))]
     fn first_listed(&mut self, list: JobList, tube: &TubeName) -> Option<(u64, JobId)>
-        ensures rank { result ≡ first_ranked (is_listed list tube.now) (list_rank list) self.old.jobs }
-        ensures id { option_map (λ p. p.1) result ≡ first_id (is_listed list tube.now) (list_rank list) self.old.jobs }
+        ensures rank { result ≡ first_held (list_of tube.now list) self.old.jobs }
         ensures same { self.new ≡ record self.old { comparisons = self.new.comparisons } }
         ensures comparisons { ComparesAtMost 1 self.old self.new }
     {
@@ -300,9 +317,9 @@ impl Jobs {
     }
 
     // The deadline and the id of the first job of the client at a seat.
+    #[tactic(auto, using(crate::proofs::NamedFirsts::seat_told))]
     fn first_at_seat(&mut self, seat: Seat) -> Option<(Moment, JobId)>
-        ensures rank { result ≡ first_ranked (is_held_by seat) (λ j. deadline_of j.state) self.old.jobs }
-        ensures id { option_map (λ p. p.1) result ≡ first_id (is_held_by seat) (λ j. deadline_of j.state) self.old.jobs }
+        ensures rank { result ≡ first_held (held_by seat) self.old.jobs }
         ensures same { self.new ≡ record self.old { comparisons = self.new.comparisons } }
         ensures comparisons { ComparesAtMost 1 self.old self.new }
     {
@@ -310,10 +327,9 @@ impl Jobs {
     }
 
     // The moment and the id of the first delay or lease.
+    #[tactic(auto, using(crate::proofs::NamedFirsts::timed_told))]
     fn first_timed(&mut self, timer: Timer) -> Option<(Moment, JobId)>
-        ensures rank { result ≡ first_ranked (λ j. is_timer_of timer j.state) (λ j. moment_of timer j.state) self.old.jobs }
-        ensures id { option_map (λ p. p.1) result ≡
-            first_id (λ j. is_timer_of timer j.state) (λ j. moment_of timer j.state) self.old.jobs }
+        ensures rank { result ≡ first_timed timer self.old.jobs }
         ensures same { self.new ≡ record self.old { comparisons = self.new.comparisons } }
         ensures comparisons { ComparesAtMost 1 self.old self.new }
     {
@@ -324,6 +340,7 @@ impl Jobs {
     ///
     /// # Errors
     /// `NoMemory` where it is refused.
+    #[tactic(auto, using(crate::proofs::NamedJobs::kept_if, crate::proofs::NamedJobs::others_if, crate::proofs::NamedJobs::known_of))]
     pub fn know(&mut self, alloc: Global, tube: &TubeName) -> Result<(), NoMemory>
         ensures known { IfOk result (λ _. is_known tube.now self.new ≡ true) }
         ensures others { (other : List ℕ) → is_known other self.old ≡ true → is_known other self.new ≡ true }
@@ -335,6 +352,7 @@ impl Jobs {
     }
 
     /// No job is put into the tube any more, unless it is known anew. It has none.
+    #[tactic(auto, using(crate::proofs::NumberingLemmas::number_left, crate::proofs::NumberingLemmas::number_gone))]
     pub fn forget(&mut self, tube: &TubeName)
         requires none { list_any (λ j. is_same_name tube.now j.tube) self.old.jobs ≡ false }
         ensures gone { is_known tube.now self.new ≡ false }
@@ -346,8 +364,9 @@ impl Jobs {
 }
 
 // The id in a pair.
+#[tactic(auto, unfolding(crate::specs::Ranks::id_in))]
 fn id_in(rank: Option<(u64, JobId)>) -> Option<JobId>
-    ensures { result ≡ option_map (λ p. p.1) rank }
+    ensures { result ≡ id_in rank }
 {
     let (_, id) = rank?;
     Some(id)

@@ -28,7 +28,10 @@ pub(crate) fn make_room<G: Ord + Drop, S: BoxSource>(
 }
 
 /// Puts a place in, if there is one.
-pub(crate) fn enter<G: Ord + Drop>(order: &mut Shelf<ShelfPlace<G>, ()>, place: Option<ShelfPlace<G>>)
+pub(crate) fn enter<G: Ord + Drop>(
+    order: &mut Shelf<ShelfPlace<G>, ()>,
+    place: Option<ShelfPlace<G>>,
+)
     requires spare { ForSome place (λ _. 0 < order.old.spare) }
     requires absent { ForSome place (λ p. holds_place G.cmp p order.old.entries ≡ None) }
     ensures entries { order.new.entries ≡ with_place G.cmp place order.old.entries }
@@ -41,7 +44,10 @@ pub(crate) fn enter<G: Ord + Drop>(order: &mut Shelf<ShelfPlace<G>, ()>, place: 
 }
 
 /// Takes a place out, if there is one.
-pub(crate) fn leave<G: Ord + Drop>(order: &mut Shelf<ShelfPlace<G>, ()>, place: Option<ShelfPlace<G>>)
+pub(crate) fn leave<G: Ord + Drop>(
+    order: &mut Shelf<ShelfPlace<G>, ()>,
+    place: Option<ShelfPlace<G>>,
+)
     requires held { ForSome place (λ p. IsSome (holds_place G.cmp p order.old.entries)) }
     ensures entries { order.new.entries ≡ without_place G.cmp place order.old.entries }
     ensures spare { order.new.spare ≡ order.old.spare + (if is_some place then 1 else 0) }

@@ -115,7 +115,11 @@ pub(crate) fn timer_place(id: JobId, job: &Row) -> Option<ShelfPlace<Timer>>
 }
 
 /// The place in its tube's list, or at its holder, of the job of this id that stands so. Each job has one.
-pub(crate) fn place_in_groups(id: JobId, tube: TubeNumber, at: Standing) -> Option<ShelfPlace<Group>>
+pub(crate) fn place_in_groups(
+    id: JobId,
+    tube: TubeNumber,
+    at: Standing,
+) -> Option<ShelfPlace<Group>>
     ensures { result ≡ in_groups_at at.state at.pri tube id }
 {
     let (group, number) = match at.state {

@@ -5,10 +5,10 @@ ghost use Rattle.std.specs.Prelude.{nat_lt, length, max, is_some, IfOk, IfSome, 
 ghost use Rattle.bq_job.specs.machine.Changes.{job_with};
 ghost use Rattle.bq_job.specs.beside.Lawful.{AreIdsWithin};
 ghost use Rattle.bq_index.specs.Shelf.{ComparesFew};
-ghost use Rattle.bq_jobs.specs.Changed.{KeepsId, KeepsTube, entry_at, row_moved_by, with_changed, with_edited};
+ghost use Rattle.bq_jobs.specs.Changed.{IgnoresTube, KeepsId, entry_at, row_moved_by, with_changed, with_edited};
 ghost use Rattle.bq_jobs.specs.Kept.{ComparesAtMost, with_added, without};
 ghost use Rattle.bq_jobs.specs.Names.{number_in};
-ghost use Rattle.bq_jobs.specs.Ranks.{first_ranked, is_of, is_timer_of, moment_of, rank_of};
+ghost use Rattle.bq_jobs.specs.Ranks.{first_held, first_timed};
 ghost use Rattle.bq_jobs.specs.Seen.{IsBodyOf, IsNumberOf};
 
 use super::edit::{JobEdit, MovedRow, Standing};
@@ -128,6 +128,7 @@ impl Rows {
     }
 
     /// Puts the job of this id in. It uses the room of one.
+    #[tactic(auto, using(crate::proofs::Shelved::found_in, crate::proofs::Shelved::jobs_added))]
     pub(crate) fn add(&mut self, id: JobId, job: Row)
         requires id { job.id ≡ id }
         requires room { 0 < self.old.room }
@@ -142,6 +143,7 @@ impl Rows {
     }
 
     /// Takes the job of this id out, if there is one. Its room comes back.
+    #[tactic(auto, using(crate::proofs::Shelved::removals))]
     pub(crate) fn remove(&mut self, id: JobId) -> Option<Row>
         ensures job { result ≡ job_with id self.old.jobs }
         ensures jobs { self.new.jobs ≡ without id self.old.jobs }
@@ -160,7 +162,7 @@ impl Rows {
     /// places in the orders to those where it stands then. No memory is taken.
     pub(crate) fn change<E: JobEdit>(&mut self, id: JobId, edit: &E) -> Option<MovedRow>
         requires id { KeepsId (E.edited edit.now) }
-        requires tube { KeepsTube (E.edited edit.now) }
+        requires tube { IgnoresTube (E.edited edit.now) }
         ensures moved { result ≡ option_map (row_moved_by (E.edited edit.now)) (job_with id self.old.jobs) }
         ensures jobs { self.new.jobs ≡ with_changed id (E.edited edit.now) self.old.jobs }
         ensures room { self.new.room ≡ self.old.room }
@@ -217,7 +219,7 @@ impl Rows {
 
     /// The number and the id of the first job that a holder has: by that number, then by id.
     pub(crate) fn first_of_group(&mut self, group: Group) -> Option<(u64, JobId)>
-        ensures rank { result ≡ first_ranked (is_of group) (rank_of group) self.old.jobs }
+        ensures rank { result ≡ first_held group self.old.jobs }
         ensures same { self.new ≡ record self.old { comparisons = self.new.comparisons } }
         ensures comparisons { ComparesAtMost 1 self.old self.new }
     {
@@ -226,7 +228,7 @@ impl Rows {
 
     /// The moment and the id of the first delay or lease: by moment, then by id.
     pub(crate) fn first_of_timer(&mut self, timer: Timer) -> Option<(Moment, JobId)>
-        ensures rank { result ≡ first_ranked (λ j. is_timer_of timer j.state) (λ j. moment_of timer j.state) self.old.jobs }
+        ensures rank { result ≡ first_timed timer self.old.jobs }
         ensures same { self.new ≡ record self.old { comparisons = self.new.comparisons } }
         ensures comparisons { ComparesAtMost 1 self.old self.new }
     {
@@ -236,14 +238,13 @@ impl Rows {
 
 // Changes a job where it lies.
 fn apply<E: JobEdit>(edit: &E, job: &mut Row) -> MovedRow
-    requires { KeepsTube (E.edited edit.now) }
     ensures job { job.new ≡ E.edited edit.now job.old }
     ensures moved { result ≡ row_moved_by (E.edited edit.now) job.old }
 {
-    let from = Standing::of_row(job);
+    let (tube, from) = (job.tube, Standing::of_row(job));
     edit.edit(job);
     MovedRow {
-        tube: job.tube,
+        tube,
         from,
         to: Standing::of_row(job),
     }
@@ -251,7 +252,6 @@ fn apply<E: JobEdit>(edit: &E, job: &mut Row) -> MovedRow
 
 // Changes the job of this id where it lies, if there is one.
 fn edit_at<E: JobEdit>(by_id: &mut Shelf<JobId, Row>, id: JobId, edit: &E) -> Option<MovedRow>
-    requires { KeepsTube (E.edited edit.now) }
     ensures moved { result ≡ option_map (row_moved_by (E.edited edit.now)) (entry_at id by_id.old.entries) }
     ensures entries { by_id.new.entries ≡ with_edited id (E.edited edit.now) (entry_at id by_id.old.entries) by_id.old.entries }
     ensures spare { by_id.new.spare ≡ by_id.old.spare }

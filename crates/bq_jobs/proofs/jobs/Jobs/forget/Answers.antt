@@ -1,9 +1,8 @@
-use Rattle.std.proofs.Common.{is_some, map, sym, ap, ◌∙◌, subst}
+use Rattle.std.proofs.Common.{map, sym, ap, ◌∙◌, subst}
 use Rattle.std.specs.List.{list_any}
 use Rattle.bq_job.specs.reading.TubeName.{is_same_name}
 use Rattle.bq_jobs.specs.Kept.{Kept}
-use Rattle.bq_jobs.specs.Numbering.{AreNumbered, is_known, named, number_of}
-use Rattle.bq_jobs.proofs.NumberingLemmas.{number_gone, number_left}
+use Rattle.bq_jobs.specs.Numbering.{AreNumbered, named}
 use Rattle.bq_jobs.proofs.NamedJobs.{named_left, numbered_left}
 use Rattle.bq_jobs.proofs.jobs.Jobs.forget.Goals as goal
 
@@ -13,16 +12,6 @@ invariant_of-self c =
     let rows = c.self.inside.rows.jobs in
     let none = ap (λ (m : Kept). list_any (λ j. is_same_name c.args.tube.now j.tube) m.jobs) c.self.view_is ∙ c.requires.none in
     subst (λ n. AreNumbered n rows) (sym c.remove.ensures.after) (numbered_left k c.remove.ensures.paired c.args.tube.now rows c.self.invariant none)
-
-pub returns-clause-others : goal.returns-clause-others
-returns-clause-others c other apart =
-    let k = c.self.inside.tubes in
-    ap (λ n. is_some (number_of other n)) c.remove.ensures.after ∙ ap is_some (number_left k c.remove.ensures.paired c.args.tube.now other apart)
-    ∙ ap (λ (m : Kept). is_known other m) c.self.view_is
-
-pub returns-clause-gone : goal.returns-clause-gone
-returns-clause-gone c =
-    ap (λ n. is_some (number_of c.args.tube.now n)) c.remove.ensures.after ∙ ap is_some (number_gone c.self.inside.tubes c.remove.ensures.paired c.args.tube.now)
 
 pub returns-clause-same : goal.returns-clause-same
 returns-clause-same c =

@@ -1,7 +1,7 @@
-use Rattle.std.proofs.Common.{Some, None, Option, map, refl, sym, ap, ◌∙◌, ◌≡◌, ◌≤◌, subst}
+use Rattle.std.proofs.Common.{map, refl, ap, ◌∙◌}
 use Rattle.std.specs.Prelude.{option_map}
 use Rattle.bq_job.specs.machine.Changes.{job_with}
-use Rattle.bq_jobs.specs.Kept.{Kept, search_bound}
+use Rattle.bq_jobs.specs.Kept.{Kept}
 use Rattle.bq_jobs.specs.Numbering.{named}
 use Rattle.bq_jobs.specs.Seen.{but_for_tube}
 use Rattle.bq_jobs.proofs.NamedJobs.{but_named, counted_as, same_looks}

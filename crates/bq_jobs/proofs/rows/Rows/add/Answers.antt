@@ -1,21 +1,15 @@
 use Rattle.std.proofs.Common.{arith, ◌+◌, cond, refl, sym, ap, ◌∙◌}
 use Rattle.std.specs.Prelude.{is_some}
 use Rattle.std.specs.Ordering.{nat_cmp}
-use Rattle.std.specs.Map.{lookup}
-use Rattle.std.specs.BTreeMap.{is_at, insert_entry}
+use Rattle.std.specs.BTreeMap.{insert_entry}
 use Rattle.bq_job.specs.machine.Changes.{job_with}
-use Rattle.bq_jobs.specs.Inside.{jobs_of, kept_in}
-use Rattle.bq_jobs.specs.Kept.{Kept, with_added}
+use Rattle.bq_jobs.specs.Inside.{kept_in}
+use Rattle.bq_jobs.specs.Kept.{Kept}
 use Rattle.bq_jobs.proofs.Counting.{few_more}
 use Rattle.bq_jobs.proofs.Firsts.{group_cmp, timer_cmp}
 use Rattle.bq_jobs.specs.PlaceOrder.{with_place}
-use Rattle.bq_jobs.proofs.Shelved.{found_in, id_search, jobs_added, shelved_added, group_search, timer_search}
+use Rattle.bq_jobs.proofs.Shelved.{id_search, shelved_added, group_search, timer_search}
 use Rattle.bq_jobs.proofs.rows.Rows.add.Goals as goal
-
-pub insert-requires-clause-absent : goal.insert-requires-clause-absent
-insert-requires-clause-absent c =
-    ap (λ id. lookup (is_at (nat_cmp id)) c.self.inside.by_id.entries) (sym c.requires.id)
-    ∙ found_in c.args.job.id c.self.inside c.self.invariant ∙ ap (λ (m : Kept). job_with c.args.job.id m.jobs) c.self.view_is ∙ c.requires.absent
 
 pub invariant_of-self : goal.invariant_of-self
 invariant_of-self c =
@@ -31,12 +25,6 @@ invariant_of-self c =
       timers = c.enter-2.ensures.entries ∙ ap (λ p. with_place timer_cmp p s.timers.entries) c.timer_place.ensures;
       timer_spare = ap (λ p. c.enter-2.new.order.spare + cond (is_some p) 1 0) (sym c.timer_place.ensures) ∙ c.enter-2.ensures.spare;
     })
-
-pub returns-clause-jobs : goal.returns-clause-jobs
-returns-clause-jobs c =
-    ap jobs_of (c.insert.ensures.entries ∙ ap (λ id. insert_entry nat_cmp c.self.inside.by_id.entries id c.args.job) (sym c.requires.id))
-    ∙ jobs_added c.args.job c.self.inside c.self.invariant (ap (λ (m : Kept). job_with c.args.job.id m.jobs) c.self.view_is ∙ c.requires.absent)
-    ∙ ap (λ (m : Kept). with_added c.args.job m.jobs) c.self.view_is
 
 pub returns-clause-comparisons : goal.returns-clause-comparisons
 returns-clause-comparisons c =

@@ -1,7 +1,7 @@
 use Rattle.std.proofs.Common.{arith, refl, ap, ◌∙◌}
 use Rattle.bq_jobs.specs.Inside.{kept_in}
 use Rattle.bq_jobs.specs.Kept.{Kept}
-use Rattle.bq_jobs.specs.Ranks.{first_ranked, is_of, rank_of}
+use Rattle.bq_jobs.specs.Ranks.{first_held}
 use Rattle.bq_jobs.proofs.Counting.{few_more}
 use Rattle.bq_jobs.proofs.FirstJobs.{group_first}
 use Rattle.bq_jobs.proofs.Shelved.{group_search}
@@ -10,7 +10,7 @@ use Rattle.bq_jobs.proofs.rows.Rows.first_of_group.Goals as goal
 pub returns-clause-rank : goal.returns-clause-rank
 returns-clause-rank c =
     c.first_rank.ensures.rank ∙ group_first c.self.inside c.self.invariant c.args.group
-    ∙ ap (λ (m : Kept). first_ranked (is_of c.args.group) (rank_of c.args.group) m.jobs) c.self.view_is
+    ∙ ap (λ (m : Kept). first_held c.args.group m.jobs) c.self.view_is
 
 pub returns-clause-comparisons : goal.returns-clause-comparisons
 returns-clause-comparisons c =

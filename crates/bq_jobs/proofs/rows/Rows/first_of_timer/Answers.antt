@@ -1,7 +1,7 @@
 use Rattle.std.proofs.Common.{arith, refl, ap, ◌∙◌}
 use Rattle.bq_jobs.specs.Inside.{kept_in}
 use Rattle.bq_jobs.specs.Kept.{Kept}
-use Rattle.bq_jobs.specs.Ranks.{first_ranked, is_timer_of, moment_of}
+use Rattle.bq_jobs.specs.Ranks.{first_timed}
 use Rattle.bq_jobs.proofs.Counting.{few_more}
 use Rattle.bq_jobs.proofs.FirstJobs.{timer_first}
 use Rattle.bq_jobs.proofs.Shelved.{timer_search}
@@ -9,9 +9,8 @@ use Rattle.bq_jobs.proofs.rows.Rows.first_of_timer.Goals as goal
 
 pub returns-clause-rank : goal.returns-clause-rank
 returns-clause-rank c =
-    let t = c.args.timer in
-    c.first_rank.ensures.rank ∙ timer_first c.self.inside c.self.invariant t
-    ∙ ap (λ (m : Kept). first_ranked (λ j. is_timer_of t j.state) (λ j. moment_of t j.state) m.jobs) c.self.view_is
+    c.first_rank.ensures.rank ∙ timer_first c.self.inside c.self.invariant c.args.timer
+    ∙ ap (λ (m : Kept). first_timed c.args.timer m.jobs) c.self.view_is
 
 pub returns-clause-comparisons : goal.returns-clause-comparisons
 returns-clause-comparisons c =

@@ -1,27 +1,15 @@
-use Rattle.std.proofs.Common.{arith, ◌≡◌, ℕ, ◌+◌, Option, Some, cond, refl, sym, ap, ◌∙◌}
+use Rattle.std.proofs.Common.{arith, ◌+◌, cond, refl, sym, ap, ◌∙◌}
 use Rattle.std.specs.Prelude.{is_some}
-use Rattle.std.specs.BTreeMap.{is_at}
-use Rattle.std.specs.Map.{lookup}
-use Rattle.std.specs.Ordering.{nat_cmp}
-use Rattle.bq_job.specs.declared.job.Job.{Job}
-use Rattle.bq_job.specs.machine.Changes.{job_with}
 use Rattle.bq_jobs.specs.contracts.group.GroupOrd.TheImpl.Laws as group_laws
 use Rattle.bq_jobs.specs.contracts.place.TimerOrd.TheImpl.Laws as timer_laws
-use Rattle.bq_jobs.specs.declared.rows.Rows.TheInside.{Inside as Parts}
 use Rattle.bq_jobs.specs.Inside.{jobs_of, kept_in}
-use Rattle.bq_jobs.specs.Kept.{Kept, without}
 use Rattle.bq_jobs.specs.PlaceOrder.{without_place}
 use Rattle.bq_jobs.specs.Places.{timer_place, group_place}
-use Rattle.bq_jobs.proofs.Changes.{found_id}
 use Rattle.bq_jobs.proofs.Counting.{few_more}
 use Rattle.bq_jobs.proofs.Firsts.{group_cmp, timer_cmp, timer_own, group_own}
 use Rattle.bq_jobs.proofs.Orders.{held_place}
-use Rattle.bq_jobs.proofs.Shelved.{AreShelved, found_in, gone_after, id_search, jobs_removed, shelved_removed, shelved_same, timer_search, group_search}
+use Rattle.bq_jobs.proofs.Shelved.{found_in, id_search, shelved_removed, shelved_same, timer_search, group_search}
 use Rattle.bq_jobs.proofs.rows.Rows.remove.Goals as goal
-
--- the record that is found is the one of this id
-its_id : (id : ℕ) (s : Parts) (h : AreShelved s) (o : Option Job) (j : Job) → o ≡ lookup (is_at (nat_cmp id)) s.by_id.entries → o ≡ Some j → j.id ≡ id
-its_id id s h o j value was = found_id id (jobs_of s.by_id.entries) j (sym (found_in id s h) ∙ sym value ∙ was)
 
 pub invariant_of-self : goal.invariant_of-self
 invariant_of-self c =
@@ -29,30 +17,11 @@ invariant_of-self c =
     let spare = ap (λ o. c.self.inside.by_id.spare + cond (is_some o) 1 0) was in
     shelved_same c.args.id c.self.inside c.remove.new.self c.self.invariant (sym c.remove.ensures.value ∙ was) c.remove.ensures.entries (omega (arith, c.remove.ensures.spare, spare))
 
-pub returns-in_err-job-clause-job : goal.returns-in_err-job-clause-job
-returns-in_err-job-clause-job c =
-    c.from_residual.ensures ∙ sym c.in_err-job.was ∙ c.remove.ensures.value ∙ found_in c.args.id c.self.inside c.self.invariant
-    ∙ ap (λ (m : Kept). job_with c.args.id m.jobs) c.self.view_is
-
-pub returns-in_err-job-clause-jobs : goal.returns-in_err-job-clause-jobs
-returns-in_err-job-clause-jobs c =
-    ap jobs_of c.remove.ensures.entries ∙ jobs_removed c.args.id c.self.inside c.self.invariant ∙ ap (λ (m : Kept). without c.args.id m.jobs) c.self.view_is
-
-pub returns-in_err-job-clause-gone : goal.returns-in_err-job-clause-gone
-returns-in_err-job-clause-gone c =
-    ap (λ es. job_with c.args.id (jobs_of es)) c.remove.ensures.entries ∙ gone_after c.args.id c.self.inside c.self.invariant
-
 pub returns-in_err-job-clause-comparisons : goal.returns-in_err-job-clause-comparisons
 returns-in_err-job-clause-comparisons c =
     let s = c.self.inside in
     let few = c.remove.ensures.comparisons in
     few_more 4 (kept_in s.by_id s.groups s.timers) c.args.self.now _ _ c.self.view_is refl (omega (arith, few)) (omega (arith, few, id_search s.by_id))
-
-pub group_place-requires : goal.group_place-requires
-group_place-requires c = its_id _ _ c.self.invariant _ _ c.remove.ensures.value c.in_ok-job.was
-
-pub timer_place-requires : goal.timer_place-requires
-timer_place-requires c = its_id _ _ c.self.invariant _ _ c.remove.ensures.value c.in_ok-job.was
 
 pub leave-requires : goal.leave-requires
 leave-requires c =
@@ -83,21 +52,6 @@ invariant_of-self-2 c =
       timers = c.leave-2.ensures.entries ∙ ap (λ p. without_place timer_cmp p s.timers.entries) c.timer_place.ensures;
       timer_spare = c.leave-2.ensures.spare ∙ ap (λ p. s.timers.spare + cond (is_some p) 1 0) c.timer_place.ensures;
     })
-
-pub returns-clause-job : goal.returns-clause-job
-returns-clause-job c =
-    sym c.in_ok-job.was ∙ c.remove.ensures.value ∙ found_in c.args.id c.self.inside c.self.invariant ∙ ap (λ (m : Kept). job_with c.args.id m.jobs) c.self.view_is
-
-pub returns-clause-jobs : goal.returns-clause-jobs
-returns-clause-jobs c =
-    ap jobs_of c.remove.ensures.entries ∙ jobs_removed c.args.id c.self.inside c.self.invariant ∙ ap (λ (m : Kept). without c.args.id m.jobs) c.self.view_is
-
-pub returns-clause-id : goal.returns-clause-id
-returns-clause-id c = its_id _ _ c.self.invariant _ _ c.remove.ensures.value c.in_ok-job.was
-
-pub returns-clause-gone : goal.returns-clause-gone
-returns-clause-gone c =
-    ap (λ es. job_with c.args.id (jobs_of es)) c.remove.ensures.entries ∙ gone_after c.args.id c.self.inside c.self.invariant
 
 pub returns-clause-comparisons : goal.returns-clause-comparisons
 returns-clause-comparisons c =
