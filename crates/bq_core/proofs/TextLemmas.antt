@@ -1,6 +1,10 @@
 -- Texts that are made.
-use Rattle.std.proofs.Common.{◌≡◌, ◌∙◌, ℕ, List, IfOk, Result, Ok, Err, ap, decimal}
+use Rattle.std.proofs.Common.{◌≡◌, ◌∙◌, ℕ, List, IfOk, Option, None, Some, Result, Ok, Err, ap, decimal, option_map, refl, sym}
+use Rattle.bq_job.specs.declared.job.Job.{Job}
+use Rattle.bq_job.specs.machine.Changes.{job_with}
 use Rattle.bq_job.specs.texts.Yaml.{KeyValue, key_number}
+use Rattle.bq_jobs.specs.Seen.{but_for_tube}
+use Rattle.bq_jobs.proofs.Changes.{found_id}
 
 -- A text that is known tells the same of each machine that fits.
 pub told_of : {T E M : Type 0} (r : Result T E) (x : T) (Fits : M → Type 0) (f : M → T)
@@ -15,3 +19,15 @@ with_number key p n k line is = line ∙ ap (key_number key) is
 -- a line of a word that is known
 pub with_word : (key : List ℕ) (p : KeyValue) (word known : List ℕ) → p ≡ (key, word) → word ≡ known → p ≡ (key, known)
 with_word key p word known line is = line ∙ ap (λ w. let pair : KeyValue = (key, w) in pair) is
+
+-- The record that is found by an id is of the job that has it.
+pub id_of_row : (id : ℕ) (row : Job) (jobs : List Job) → Some (but_for_tube row) ≡ option_map but_for_tube (job_with id jobs) → id ≡ row.id
+id_of_row id row jobs same = of (job_with id jobs) (found_id id jobs) same
+  where
+    id_or : Option Job → ℕ
+    id_or None = 0
+    id_or (Some j) = j.id
+
+    of : (o : Option Job) → ((j : Job) → o ≡ Some j → j.id ≡ id) → Some (but_for_tube row) ≡ option_map but_for_tube o → id ≡ row.id
+    of None has is = absurd cc
+    of (Some j) has is = sym (ap id_or is ∙ has j refl)

@@ -20,6 +20,7 @@ use bq_jobs::Jobs;
 use std::alloc::Global;
 
 // The text of the job of this id, unless its memory is refused; None where there is no job.
+#[tactic(auto, using(crate::proofs::TextLemmas::id_of_row))]
 fn text_of_job(
     jobs: &mut Jobs,
     alloc: Global,
@@ -34,7 +35,7 @@ fn text_of_job(
     let tube = jobs.tube_of(id)?;
     match jobs.get(id) {
         None => None,
-        Some(job) => Some(job_text(alloc, job, &tube, moment)),
+        Some(job) => Some(job_text(alloc, id, job, &tube, moment)),
     }
 }
 

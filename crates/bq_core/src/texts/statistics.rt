@@ -8,7 +8,7 @@ ghost use Rattle.bq_core.specs.Numbers.{AreOfServer, AreOfTube};
 use super::key_value::{number, statistics_text, word};
 use crate::tally::Tally;
 use crate::tube_entry::Pausing;
-use bq_job::{JobState, Moment, NoMemory, Text, TubeName};
+use bq_job::{JobId, JobState, Moment, NoMemory, Text, TubeName};
 use bq_jobs::Row;
 use std::alloc::Global;
 
@@ -97,17 +97,19 @@ fn bool_word(value: bool) -> &'static [u8]
     if value { b"true" } else { b"false" }
 }
 
-/// The statistics of the job of a record in a tube, at this moment.
+/// The statistics of the job of a record with this id in a tube, at this moment.
 pub(crate) fn job_text(
     alloc: Global,
+    id: JobId,
     job: &Row,
     tube: &TubeName,
     moment: Moment,
 ) -> Result<Text, NoMemory>
+    requires id { id ≡ job.now.id }
     ensures { IfOk result (λ text. (m : Machine) → m.moment ≡ moment → text ≡ job_statistics m (in_tube job.now tube.now)) }
 {
     let lines = [
-        number(b"id", job.id),
+        number(b"id", id),
         word(b"tube", tube.as_slice()),
         word(b"state", state_word(job.state)),
         number(b"pri", u64::from(job.pri)),

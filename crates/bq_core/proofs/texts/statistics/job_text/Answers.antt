@@ -15,6 +15,7 @@ returns c =
     told_of _ _ (λ m. m.moment ≡ c.args.moment) (λ m. lines m c.args.job.now) c.statistics_text.ensures (λ m at.
     let age = c.seconds_between.ensures ∙ sym (ap (seconds_between row.put_at) at) in
     let left = c.time_left.ensures ∙ sym (ap (λ moment. time_left moment row.state) at) in
+    let id = with_number _ _ _ _ c.number.ensures (c.requires.id ∙ sym (ap (λ (j : Job). j.id) c.job.view_is)) in
     let tube = with_word _ _ _ _ c.word.ensures c.as_slice.ensures.bytes in
     let state = with_word _ _ _ _ c.word-2.ensures c.state_word.ensures in
     let pri = with_number _ _ _ _ c.number-2.ensures c.from.ensures in
@@ -22,5 +23,5 @@ returns c =
     let delay = with_number _ _ _ _ c.number-4.ensures c.from-2.ensures in
     let ttr = with_number _ _ _ _ c.number-5.ensures c.from-3.ensures in
     let time = with_number _ _ _ _ c.number-6.ensures left in
-    (λ i. statistics_text (c.number.ensures i ∷ tube i ∷ state i ∷ pri i ∷ aged i ∷ delay i ∷ ttr i ∷ time i
+    (λ i. statistics_text (id i ∷ tube i ∷ state i ∷ pri i ∷ aged i ∷ delay i ∷ ttr i ∷ time i
     ∷ c.number-7.ensures i ∷ c.number-8.ensures i ∷ c.number-9.ensures i ∷ c.number-10.ensures i ∷ c.number-11.ensures i ∷ [])) ∙ ap (lines m) c.job.view_is)
