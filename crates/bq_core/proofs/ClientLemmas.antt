@@ -10,7 +10,7 @@ use Rattle.bq_job.specs.machine.Limits.{greatest}
 use Rattle.bq_job.specs.machine.Machine.{SeatRecord, empty_seat, numbers}
 use Rattle.bq_job.specs.machine.TubeCommands.{watching}
 use Rattle.bq_job.proofs.ListLemmas.{count_cons}
-use Rattle.bq_core.specs.declared.clients.Clients.{Clients}
+use Rattle.bq_core.specs.declared.known.clients.Clients.{Clients}
 use Rattle.bq_core.specs.declared.seat_list.SeatChange.{SeatChange}
 use Rattle.bq_core.specs.Clients.{clients_of, clients_with, clients_without, seat_passes}
 use Rattle.bq_core.specs.SeatChanges.{AreNumbered, seat_changed, seat_changed_at}

@@ -11,10 +11,10 @@ use Rattle.bq_job.specs.machine.Limits.{greatest}
 use Rattle.bq_job.specs.machine.Machine.{SeatRecord, TubeRecord}
 use Rattle.bq_job.specs.reading.TubeName.{is_same_name}
 use Rattle.bq_job.specs.machine.Tubes.{is_name_before, is_seated_at, watches}
-use Rattle.bq_core.specs.declared.crowd.Crowd.{Crowd}
-use Rattle.bq_core.specs.declared.crowd.Moving.{Moving}
-use Rattle.bq_core.specs.declared.crowd.Moving.TheVariants.{Comes, Goes}
-use Rattle.bq_core.specs.declared.crowd.Share.{Share}
+use Rattle.bq_core.specs.declared.tubes.crowd.Crowd.{Crowd}
+use Rattle.bq_core.specs.declared.tubes.crowd.Moving.{Moving}
+use Rattle.bq_core.specs.declared.tubes.crowd.Moving.TheVariants.{Comes, Goes}
+use Rattle.bq_core.specs.declared.tubes.crowd.Share.{Share}
 use Rattle.bq_core.specs.declared.seat_list.SeatChange.{SeatChange}
 use Rattle.bq_core.specs.declared.seat_list.SeatChange.TheVariants.{StopWaiting, Wait, Connect, Clear, End, Use}
 use Rattle.bq_core.specs.Acting.{is_asking, is_connected}

@@ -20,9 +20,9 @@ use Rattle.bq_job.proofs.ListLemmas.{count_cons}
 use Rattle.bq_core.specs.KeptTubes.{KeptTube, Named, edited, ended, is_named_at, kept_changed, record_at, record_of}
 use Rattle.bq_core.specs.PauseEnds.{AreEnds, Ends, end_cmp, end_of, ends_at, first_end, found_end, has_end, if_over, is_end_in, is_end_of, is_paused, pause_at, pause_in, with_end, without_end}
 use Rattle.bq_core.specs.TubeEntries.{AreInOrder, has_entry, tube_changed}
-use Rattle.bq_core.specs.declared.tube_entry.TubeChange.{TubeChange}
-use Rattle.bq_core.specs.declared.tube_entry.TubeChange.TheVariants.{CountPut, CountDelete, Pause}
-use Rattle.bq_core.specs.declared.pause_end.PauseEnd.{PauseEnd}
+use Rattle.bq_core.specs.declared.tubes.entry.TubeChange.{TubeChange}
+use Rattle.bq_core.specs.declared.tubes.entry.TubeChange.TheVariants.{CountPut, CountDelete, Pause}
+use Rattle.bq_core.specs.declared.tubes.pause_ends.PauseEnd.{PauseEnd}
 use Rattle.bq_core.proofs.EndLemmas.{ends_alike, ends_apart, has_entered, has_left, one_over}
 use Rattle.bq_core.proofs.NamedLemmas.{change_kept, edit_change, found_entry, ties}
 use Rattle.bq_core.proofs.TubeLemmas.{changed_one, head_differs, none_later, order_kept, same_itself, same_name}

@@ -8,8 +8,8 @@ use Rattle.bq_job.specs.machine.Machine.{Pause as PauseRecord}
 use Rattle.bq_job.specs.beside.NextDue.{dues_of_pause, earliest}
 use Rattle.bq_job.specs.reading.TubeName.{is_same_name}
 use Rattle.bq_job.specs.machine.Tubes.{fresh_tube, is_name_before, with_record}
-use Rattle.bq_core.specs.declared.tube_entry.TubeChange.{TubeChange}
-use Rattle.bq_core.specs.declared.tube_entry.TubeChange.TheVariants.{CountPut, CountDelete, Pause}
+use Rattle.bq_core.specs.declared.tubes.entry.TubeChange.{TubeChange}
+use Rattle.bq_core.specs.declared.tubes.entry.TubeChange.TheVariants.{CountPut, CountDelete, Pause}
 use Rattle.bq_core.specs.Dues.{earlier_of_both, first_pause_end, is_end_over, pause_end_after, with_tube_due}
 use Rattle.bq_core.specs.TubeEntries.{has_entry, is_over, is_pause_over, provided, tube_changed, tube_changed_at}
 use Rattle.bq_core.proofs.TubeLemmas.{head_differs}

@@ -21,10 +21,10 @@ use Rattle.bq_core.specs.Stirs.{AreKnown, IsKnown, is_nothing, is_paused_by, is_
 use Rattle.bq_core.specs.TubeEntries.{tube_changed}
 use Rattle.bq_core.specs.declared.seat_list.SeatChange.{SeatChange}
 use Rattle.bq_core.specs.declared.seat_list.SeatChange.TheVariants.{StopWaiting, Wait, Connect, Clear, End, Use}
-use Rattle.bq_core.specs.declared.stir.Stir.{Stir}
-use Rattle.bq_core.specs.declared.stir.Stir.TheVariants.{Nothing, Tube, Client, Any}
-use Rattle.bq_core.specs.declared.tube_entry.TubeChange.{TubeChange}
-use Rattle.bq_core.specs.declared.tube_entry.TubeChange.TheVariants.{CountPut, CountDelete, Pause as PauseFor}
+use Rattle.bq_core.specs.declared.known.stir.Stir.{Stir}
+use Rattle.bq_core.specs.declared.known.stir.Stir.TheVariants.{Nothing, Tube, Client, Any}
+use Rattle.bq_core.specs.declared.tubes.entry.TubeChange.{TubeChange}
+use Rattle.bq_core.specs.declared.tubes.entry.TubeChange.TheVariants.{CountPut, CountDelete, Pause as PauseFor}
 use Rattle.bq_core.proofs.StateLemmas.{all_added, all_read, all_set}
 use Rattle.bq_core.proofs.TubeLemmas.{same_itself, same_name}
 

@@ -10,10 +10,10 @@ use Rattle.bq_job.specs.machine.Tubes.{is_name_before, watches}
 use Rattle.bq_core.specs.Acting.{is_connected}
 use Rattle.bq_core.specs.Tallies.{count_with, count_without}
 use Rattle.bq_core.specs.TubeEntries.{has_entry}
-use Rattle.bq_core.specs.declared.crowd.Crowd.{Crowd}
-use Rattle.bq_core.specs.declared.crowd.Moving.{Moving}
-use Rattle.bq_core.specs.declared.crowd.Moving.TheVariants.{Comes, Goes}
-use Rattle.bq_core.specs.declared.crowd.Share.{Share}
+use Rattle.bq_core.specs.declared.tubes.crowd.Crowd.{Crowd}
+use Rattle.bq_core.specs.declared.tubes.crowd.Moving.{Moving}
+use Rattle.bq_core.specs.declared.tubes.crowd.Moving.TheVariants.{Comes, Goes}
+use Rattle.bq_core.specs.declared.tubes.crowd.Share.{Share}
 use Rattle.bq_core.specs.declared.seat_list.SeatChange.{SeatChange}
 use Rattle.bq_core.specs.declared.seat_list.SeatChange.TheVariants.{StopWaiting, Wait, Connect, Clear, End, Use}
 

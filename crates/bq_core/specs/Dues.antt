@@ -7,8 +7,8 @@ use Rattle.bq_job.specs.machine.JobStates.{due_of, is_delayed, is_due_before, is
 use Rattle.bq_job.specs.machine.Machine.{SeatRecord, TubeRecord}
 use Rattle.bq_job.specs.beside.NextDue.{dues_of_pause, dues_of_wait, earlier, earliest}
 use Rattle.bq_jobs.specs.Leases.{deadline_of, is_lease_before}
-use Rattle.bq_core.specs.declared.tube_entry.TubeChange.{TubeChange}
-use Rattle.bq_core.specs.declared.tube_entry.TubeChange.TheVariants.{CountPut, CountDelete, Pause}
+use Rattle.bq_core.specs.declared.tubes.entry.TubeChange.{TubeChange}
+use Rattle.bq_core.specs.declared.tubes.entry.TubeChange.TheVariants.{CountPut, CountDelete, Pause}
 
 abbrev pub earlier_of_both : Option ℕ → Option ℕ → Option ℕ
 earlier_of_both None other = other

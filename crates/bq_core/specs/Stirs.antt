@@ -8,10 +8,10 @@ use Rattle.bq_job.specs.reading.TubeName.{is_same_name}
 use Rattle.bq_job.specs.machine.Tubes.{fresh_tube, watches}
 use Rattle.bq_core.specs.declared.seat_list.SeatChange.{SeatChange}
 use Rattle.bq_core.specs.declared.seat_list.SeatChange.TheVariants.{Wait}
-use Rattle.bq_core.specs.declared.stir.Stir.{Stir}
-use Rattle.bq_core.specs.declared.stir.Stir.TheVariants.{Nothing, Tube, Client, Any}
-use Rattle.bq_core.specs.declared.tube_entry.TubeChange.{TubeChange}
-use Rattle.bq_core.specs.declared.tube_entry.TubeChange.TheVariants.{Pause}
+use Rattle.bq_core.specs.declared.known.stir.Stir.{Stir}
+use Rattle.bq_core.specs.declared.known.stir.Stir.TheVariants.{Nothing, Tube, Client, Any}
+use Rattle.bq_core.specs.declared.tubes.entry.TubeChange.{TubeChange}
+use Rattle.bq_core.specs.declared.tubes.entry.TubeChange.TheVariants.{Pause}
 
 -- the client at this seat may have a job of this tube
 abbrev pub may_get : Stir → List ℕ → ℕ → Bool

@@ -9,8 +9,8 @@ use Rattle.bq_job.specs.machine.Machine.{Pause as PauseRecord}
 use Rattle.bq_job.specs.machine.TubeCommands.{with_pause}
 use Rattle.bq_job.specs.reading.TubeName.{is_same_name}
 use Rattle.bq_job.specs.machine.Tubes.{fresh_tube, is_name_before, is_seated_at, with_record}
-use Rattle.bq_core.specs.declared.tube_entry.TubeChange.{TubeChange}
-use Rattle.bq_core.specs.declared.tube_entry.TubeChange.TheVariants.{CountPut, CountDelete, Pause}
+use Rattle.bq_core.specs.declared.tubes.entry.TubeChange.{TubeChange}
+use Rattle.bq_core.specs.declared.tubes.entry.TubeChange.TheVariants.{CountPut, CountDelete, Pause}
 
 -- something was counted in the tube: the machine has a record of it
 abbrev pub is_counted : TubeRecord → Bool

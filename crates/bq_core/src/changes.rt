@@ -23,20 +23,15 @@ ghost use Rattle.bq_core.specs.Texts.{names_of};
 ghost use Rattle.bq_core.specs.TubeEntries.{has_entry, is_tube_of, tube_changed};
 ghost use Rattle.bq_core.specs.Warnings.{has_waiting_holder, may_hold, with_holder};
 
-use crate::clients::Clients;
-use crate::crowd::Moving;
-use crate::first_end::FirstEnd;
 use crate::job_list::JobChange;
-use crate::known::Known;
-use crate::loss::Loss;
+use crate::known::{Clients, FirstEnd, Known, Loss};
 use crate::name_lists::Names;
 use crate::queue::Queue;
 use crate::seat_list::SeatChange;
 use crate::seat_record::SeatRecord;
 use crate::state::State;
-use crate::tube_entry::TubeChange;
-use crate::tubes::Tubes;
-use crate::{first_end, job_list, loss, seat_list, shares, stir, warns};
+use crate::tubes::{Moving, TubeChange, Tubes};
+use crate::{job_list, seat_list, shares};
 use bq_job::{Job, JobId, JobState, Moment, NoMemory, Seat, TubeName};
 use bq_jobs::{Jobs, Moved};
 use bq_steps::Config;
@@ -159,7 +154,7 @@ pub(crate) fn note_leases(state: &mut State, seat: Seat)
     ensures asks { Asks 1 state.old.jobs state.new.jobs }
 {
     let holds = job_list::holds_some(&mut state.jobs, seat);
-    warns::warn_if(&mut state.known.warns, seat, holds);
+    state.known.warns.warn_if(seat, holds);
 }
 
 /// Looks for when the first wait of a client is over by its timeout, where that isn't known.
@@ -167,7 +162,7 @@ pub(crate) fn find_first_end(state: &mut State)
     ensures { held state.new ≡ record (held state.old) { known = record state.old.known { first_end = state.new.known.first_end } } }
 {
     if let FirstEnd::Unknown = &state.known.first_end {
-        state.known.first_end = first_end::find(state.seats.as_slice(), state.queue.as_slice());
+        state.known.first_end = FirstEnd::find(state.seats.as_slice(), state.queue.as_slice());
     }
 }
 
@@ -194,7 +189,7 @@ pub(crate) fn provide_tube(
 {
     match state.tubes.provide(alloc, tube) {
         Ok(is_new) => {
-            loss::lose_if(&mut state.known.loss, tube, is_new);
+            state.known.loss.lose_if(tube, is_new);
             Ok(())
         }
         Err(fault) => Err(fault),
@@ -223,7 +218,7 @@ pub(crate) fn watch_tube(
     match seat_list::watch(&mut state.seats, alloc, seat, tube) {
         Ok(count) => {
             state.tubes.recount(tube, Moving::Comes, share);
-            stir::stir_all_if(&mut state.known.stir, share.waiting);
+            state.known.stir.stir_all_if(share.waiting);
             Ok(count)
         }
         Err(fault) => Err(fault),
@@ -241,7 +236,7 @@ pub(crate) fn ignore_tube(state: &mut State, seat: Seat, tube: &TubeName) -> u64
     if usize::from(seat) < state.seats.len() {
         let share = shares::at(&state.seats[usize::from(seat)], tube);
         state.tubes.recount(tube, Moving::Goes, share);
-        loss::lose(&mut state.known.loss, tube);
+        state.known.loss.lose(tube);
         seat_list::ignore(&mut state.seats, seat, tube)
     } else {
         0

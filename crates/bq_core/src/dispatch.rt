@@ -22,10 +22,10 @@ ghost use Rattle.bq_core.specs.Turns.{Gives, HasRoom};
 ghost use Rattle.bq_core.specs.Serving.{IsLastTurn};
 
 use crate::job_list::JobChange;
+use crate::known::Stir;
 use crate::seat_list::SeatChange;
 use crate::seat_record::{SeatRecord, Turn};
 use crate::state::State;
-use crate::stir::Stir;
 use crate::tubes::Tubes;
 use crate::{changes, seat_list};
 use bq_job::{Answer, Body, JobId, NoMemory, Seat, TubeName};

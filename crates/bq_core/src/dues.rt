@@ -3,18 +3,17 @@ ghost use Rattle.std.specs.Option.{option_copied, option_map};
 ghost use Rattle.bq_job.specs.machine.Changes.{is_waiting};
 ghost use Rattle.bq_job.specs.beside.NextDue.{next_due as next_due_of};
 ghost use Rattle.bq_core.specs.Asking.{Asks};
-ghost use Rattle.bq_core.specs.Dues.{earlier_of_both, timers_due, warning_due, warning_due_at, with_seat_due, with_warning_due};
+ghost use Rattle.bq_core.specs.Dues.{earlier_of_both, is_end_over, timers_due, warning_due, warning_due_at, with_seat_due, with_warning_due};
 ghost use Rattle.bq_core.specs.FirstEnds.{AreTimeouts};
 ghost use Rattle.bq_core.specs.Queues.{at_turn, turns_of};
 ghost use Rattle.bq_core.specs.SeatChanges.{AreNumbered};
 ghost use Rattle.bq_core.specs.State.{machine_of};
 ghost use Rattle.bq_core.specs.Warnings.{AreWarned, is_waiting_there};
 
-use crate::first_end::FirstEnd;
+use crate::known::{FirstEnd, Warns};
+use crate::seat_list;
 use crate::seat_record::{SeatRecord, Turn};
 use crate::state::State;
-use crate::warns::Warns;
-use crate::{seat_list, warns};
 use bq_job::{JobId, Moment};
 use bq_jobs::Jobs;
 
@@ -26,6 +25,16 @@ pub(crate) fn earlier_of(a: Option<Moment>, b: Option<Moment>) -> Option<Moment>
         (None, other) => other,
         (Some(due), None) => Some(due),
         (Some(due), Some(other)) => Some(due.min(other)),
+    }
+}
+
+/// Whether this moment, if there is one, has come.
+pub(crate) fn is_over(end: Option<Moment>, moment: Moment) -> bool
+    ensures { result ≡ is_end_over moment end }
+{
+    match end {
+        None => false,
+        Some(end) => end <= moment,
     }
 }
 
@@ -184,7 +193,7 @@ pub(crate) fn next_due(state: &mut State) -> Option<Moment>
         state.queue.as_slice(),
         &state.known.warns,
     );
-    warns::settle(&mut state.known.warns, warning.is_some());
+    state.known.warns.settle(warning.is_some());
     let seats = seats_due(
         &state.known.first_end,
         state.seats.as_slice(),

@@ -16,7 +16,7 @@ use crate::job_list::{JobChange, JobTest};
 use crate::reply::Reply;
 use crate::seat_list::SeatChange;
 use crate::state::State;
-use crate::tube_entry::TubeChange;
+use crate::tubes::TubeChange;
 use crate::{changes, job_list, seat_list};
 use bq_job::{Answer, Body, Counts, Job, JobId, Moment, Pri, Seat, TubeName};
 use bq_jobs::laws;

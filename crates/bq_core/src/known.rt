@@ -3,23 +3,27 @@ ghost use Rattle.std.specs.Prelude.{◌≡◌};
 ghost use Rattle.std.specs.Option.{option_copied};
 ghost use Rattle.bq_core.specs.Knowledge.{nothing_known, with_forgotten, with_job, with_joined, with_left, with_moved, with_tube_changed, without_job};
 
-use crate::clients::Clients;
-use crate::crowd::Share;
-use crate::first_end::{self, FirstEnd};
-use crate::leaving;
-use crate::loss::{self, Loss};
 use crate::seat_list::SeatChange;
 use crate::seat_record::SeatRecord;
-use crate::stir::{self, Stir};
-use crate::tally::Tally;
-use crate::tube_entry::TubeChange;
-use crate::tubes::Tubes;
-use crate::warns::{self, Warns};
+use crate::tubes::{Share, TubeChange, Tubes};
 use bq_job::{Job, Moment, Seat, TubeName};
 use bq_jobs::Moved;
+pub(crate) use clients::Clients;
+pub(crate) use first_end::FirstEnd;
+pub(crate) use loss::Loss;
+pub(crate) use stir::Stir;
+pub(crate) use tally::Tally;
+pub(crate) use warns::Warns;
 
-/// What is known without a search. Each field follows from the jobs, the seats and the tubes, and is kept where these change:
-/// what it says of them is a clause of `specs/Knowledge.antt`.
+mod clients;
+mod first_end;
+mod loss;
+mod stir;
+mod tally;
+mod warns;
+
+/// What is known without a search. Each field follows from the jobs, the seats and the tubes, and is
+/// kept where these change: what it says of them is a clause of `specs/Knowledge.antt`.
 #[derive(Clone, Copy)]
 pub(crate) struct Known {
     /// How many jobs are in each state.
@@ -59,9 +63,9 @@ impl Known {
         ensures { self.new ≡ with_job job.now is_wanted waits self.old }
     {
         self.tally.add(job);
-        loss::regain(&mut self.loss, &job.tube);
-        stir::stir_tube_if(&mut self.stir, &job.tube, is_wanted);
-        warns::warn_holder_if(&mut self.warns, job.state, waits);
+        self.loss.regain(&job.tube);
+        self.stir.stir_tube_if(&job.tube, is_wanted);
+        self.warns.warn_holder_if(job.state, waits);
     }
 
     /// A job is gone.
@@ -69,7 +73,7 @@ impl Known {
         ensures { self.new ≡ without_job job.now self.old }
     {
         self.tally.remove(job);
-        loss::lose(&mut self.loss, &job.tube);
+        self.loss.lose(&job.tube);
     }
 
     /// A job is changed: the same is told of it as it is now.
@@ -78,8 +82,8 @@ impl Known {
     {
         self.tally.leave(moved.from);
         self.tally.enter(moved.to);
-        stir::stir_tube_if(&mut self.stir, &moved.tube, is_wanted);
-        warns::warn_holder_if(&mut self.warns, moved.to.state, waits);
+        self.stir.stir_tube_if(&moved.tube, is_wanted);
+        self.warns.warn_holder_if(moved.to.state, waits);
     }
 
     /// A seat, if there is one, is about to be changed, and counts no longer for what is touched at its tubes.
@@ -93,8 +97,8 @@ impl Known {
         ensures { self.new ≡ with_left (option_copied client.entry) what.now touched tubes.now self.old }
     {
         self.clients.remove(client);
-        first_end::change(&mut self.first_end, client, what);
-        leaving::lose(&mut self.loss, tubes, client, touched);
+        self.first_end.change(client, what);
+        self.loss.leave(tubes, client, touched);
     }
 
     /// The seat of this number, if there is one, was changed.
@@ -102,15 +106,15 @@ impl Known {
         ensures { self.new ≡ with_joined (option_copied client.entry) seat what.now self.old }
     {
         self.clients.add(client);
-        stir::stir_seat(&mut self.stir, seat, what);
-        warns::warn_seat(&mut self.warns, seat, what);
+        self.stir.stir_seat(seat, what);
+        self.warns.warn_seat(seat, what);
     }
 
     /// The entry of a tube was changed.
     pub(crate) fn change_tube(&mut self, name: &TubeName, what: TubeChange, tubes: &Tubes)
         ensures { self.new ≡ with_tube_changed name.now what tubes.now.entries self.old }
     {
-        stir::stir_change(&mut self.stir, name, what);
+        self.stir.stir_change(name, what);
         self.pause_end = tubes.pause_end_after(what, self.pause_end);
     }
 

@@ -1,13 +1,11 @@
 //! What a core holds.
 ghost use Rattle.bq_core.specs.Soundness.{Soundness, Soundness-prop};
 
-use crate::crowd::Crowd;
 use crate::job_list::{JobKind, JobTest};
-use crate::known::Known;
+use crate::known::{Known, Tally};
 use crate::queue::Queue;
 use crate::seat_record::SeatRecord;
-use crate::tally::Tally;
-use crate::tubes::Tubes;
+use crate::tubes::{Crowd, Tubes};
 use crate::{job_list, seat_list};
 use bq_job::{Body, Job, JobId, Moment, NoMemory, Seat, TubeName};
 use bq_jobs::Jobs;

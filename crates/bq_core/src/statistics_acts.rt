@@ -13,7 +13,7 @@ ghost use Rattle.bq_core.specs.Texts.{TellsJob};
 use crate::reply::Reply;
 use crate::state::State;
 use crate::texts::{ServerNumbers, TubeNumbers, job_text, names_text, server_text, tube_text};
-use crate::tube_entry::TubeEntry;
+use crate::tubes::TubeEntry;
 use crate::{changes, name_lists, seat_list};
 use bq_job::{Answer, JobId, Moment, NoMemory, Seat, Text, TubeName};
 use bq_jobs::Jobs;

@@ -8,9 +8,9 @@ ghost use Rattle.bq_core.specs.Firing.{ExpiresOne, IsOne, after_job_timers, is_r
 ghost use Rattle.bq_core.specs.State.{machine_of, HaveFired, count_jobs};
 
 use crate::job_list::JobChange;
+use crate::known::Stir;
 use crate::state::State;
-use crate::stir::Stir;
-use crate::{changes, pauses};
+use crate::{changes, dues};
 use bq_job::{JobId, Moment};
 use bq_jobs::Jobs;
 
@@ -112,7 +112,7 @@ fn end_pauses(state: &mut State)
     ensures after { machine_of state.new ≡ with_pauses_ended (machine_of state.old) }
     ensures jobs { state.new.jobs ≡ state.old.jobs }
 {
-    if !pauses::is_over(state.known.pause_end, state.moment) {
+    if !dues::is_over(state.known.pause_end, state.moment) {
         return;
     }
     state.tubes.fire_timers(state.moment);

@@ -13,7 +13,7 @@ use crate::job_list::JobKind;
 use crate::reply::Reply;
 use crate::seat_list::SeatChange;
 use crate::state::State;
-use crate::tube_entry::TubeChange;
+use crate::tubes::TubeChange;
 use crate::{changes, job_list, seat_list};
 use bq_job::{Answer, JobId, Seat, TubeName};
 use std::alloc::Global;

@@ -13,21 +13,27 @@ ghost use Rattle.bq_core.specs.Tallies.{has_jobs, tallies_with, tallies_without,
 ghost use Rattle.bq_core.specs.Texts.{names_of};
 ghost use Rattle.bq_core.specs.TubeEntries.{has_entry, names_alive, tube_changed_at};
 
-use crate::clients::Clients;
-use crate::crowd::{Crowd, Moving, Share};
-use crate::loss::Loss;
+use crate::growth;
+use crate::known::{Clients, Loss, Tally};
 use crate::name_lists::Names;
-use crate::pauses::{self, PauseEnds};
-use crate::tally::Tally;
-use crate::tube_entry::{TubeChange, TubeEntry};
-use crate::tube_walks::{self, HowMany};
 use crate::watch_list::default_tube;
-use crate::{forgetting, growth, tube_edits, tube_pauses};
 use bq_index::Catalog;
 use bq_job::{Job, Moment, NoMemory, TubeName};
 use bq_jobs::Moved;
+pub(crate) use crowd::{Crowd, Moving, Share};
+pub(crate) use entry::{Pausing, TubeChange, TubeEntry};
+use pause_ends::PauseEnds;
 use std::alloc::Global;
 use std::marker::Model;
+use walks::HowMany;
+
+mod crowd;
+mod edits;
+mod entry;
+mod forgetting;
+mod pause_ends;
+mod pauses;
+mod walks;
 
 /// An entry for each tube that exists, found by its name. They are in the order of the names' bytes.
 #[derive(Drop)]
@@ -87,7 +93,7 @@ impl Tubes {
         if self.kept.peek(name).is_some() {
             return Ok(false);
         }
-        pauses::make_room(&mut self.ends, alloc, self.kept.len())?;
+        pause_ends::make_room(&mut self.ends, alloc, self.kept.len())?;
         growth::reserve_box(&mut self.kept, alloc)?;
         self.kept.insert(*name, TubeEntry::new());
         Ok(true)
@@ -99,7 +105,7 @@ impl Tubes {
     {
         // The names are in order.
         let _entries = self.kept.len();
-        tube_pauses::change(&mut self.kept, &mut self.ends, name, what);
+        pauses::change(&mut self.kept, &mut self.ends, name, what);
     }
 
     /// Pauses that are over end.
@@ -107,7 +113,7 @@ impl Tubes {
     pub(crate) fn fire_timers(&mut self, moment: Moment)
         ensures { self.new ≡ record self.old { entries = map (tube_after_timers moment) self.old.entries } }
     {
-        tube_pauses::end_all(&mut self.kept, &mut self.ends, moment);
+        pauses::end_all(&mut self.kept, &mut self.ends, moment);
     }
 
     /// The entry of this name, which tells how many jobs and clients are there, and whether the tube is paused.
@@ -137,21 +143,21 @@ impl Tubes {
     pub(crate) fn add_job(&mut self, job: &Job)
         ensures { self.new ≡ record self.old { tallies = tallies_with job.now self.old.entries self.old.tallies } }
     {
-        tube_edits::add_job(&mut self.kept, job);
+        edits::add_job(&mut self.kept, job);
     }
 
     /// Counts a job in its tube no longer.
     pub(crate) fn remove_job(&mut self, job: &Job)
         ensures { self.new ≡ record self.old { tallies = tallies_without job.now self.old.entries self.old.tallies } }
     {
-        tube_edits::remove_job(&mut self.kept, job);
+        edits::remove_job(&mut self.kept, job);
     }
 
     /// A job stands otherwise in its tube.
     pub(crate) fn move_job(&mut self, moved: &Moved)
         ensures { self.new ≡ with_tallies_at moved.now.tube (tally_moved moved.now) self.old }
     {
-        tube_edits::move_job(&mut self.kept, moved);
+        edits::move_job(&mut self.kept, moved);
     }
 
     /// The counts of the tube of this name; none where it has no entry.
@@ -175,7 +181,7 @@ impl Tubes {
     pub(crate) fn recount(&mut self, name: &TubeName, moving: Moving, share: Share)
         ensures { self.new ≡ with_crowds_at name.now (recounted moving share) self.old }
     {
-        tube_edits::recount(&mut self.kept, name, moving, share);
+        edits::recount(&mut self.kept, name, moving, share);
     }
 
     /// How many clients are at the tube of this name; none where it has no entry.
@@ -219,7 +225,7 @@ impl Tubes {
         ensures { IfCounted self.now (λ jobs seats. IfOk result (λ names. names_of names.items ≡ names_alive jobs seats self.now.entries)) }
     {
         match self.kept.list(alloc) {
-            Ok(listed) => tube_walks::names_alive(alloc, listed.as_slice()),
+            Ok(listed) => walks::names_alive(alloc, listed.as_slice()),
             Err(_) => Err(NoMemory),
         }
     }
@@ -241,7 +247,7 @@ impl Tubes {
         ensures { result ≡ first_pause_end self.now.entries }
     {
         let _ends = self.ends.len();
-        pauses::first_until(&self.ends)
+        pause_ends::first_until(&self.ends)
     }
 
     /// When the first pause ends after a change of a tube, and when it did before.

@@ -14,11 +14,11 @@ ghost use Rattle.bq_core.specs.State.{held, machine_of};
 ghost use Rattle.bq_core.specs.Turns.{Gives, HasRoom, none_refused};
 ghost use Rattle.bq_core.specs.WaitEnds.{EndsWait, LooksAt};
 
-use crate::first_end::FirstEnd;
+use crate::known::FirstEnd;
 use crate::seat_list::SeatChange;
 use crate::seat_record::Turn;
 use crate::state::State;
-use crate::{changes, job_list, pauses, seat_list};
+use crate::{changes, dues, job_list, seat_list};
 use bq_job::Answer;
 use bq_steps::Outs;
 
@@ -113,7 +113,7 @@ fn is_some_wait_over(state: &mut State) -> bool
 {
     changes::find_first_end(state);
     match &state.known.first_end {
-        FirstEnd::Known(first) => pauses::is_over(*first, state.moment),
+        FirstEnd::Known(first) => dues::is_over(*first, state.moment),
         FirstEnd::Unknown => seat_list::is_some_wait_over(
             state.seats.as_slice(),
             state.queue.as_slice(),

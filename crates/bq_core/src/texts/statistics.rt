@@ -6,8 +6,8 @@ ghost use Rattle.bq_jobs.specs.Seen.{in_tube};
 ghost use Rattle.bq_core.specs.Numbers.{AreOfServer, AreOfTube};
 
 use super::key_value::{number, statistics_text, word};
-use crate::tally::Tally;
-use crate::tube_entry::Pausing;
+use crate::known::Tally;
+use crate::tubes::Pausing;
 use bq_job::{JobId, JobState, Moment, NoMemory, Text, TubeName};
 use bq_jobs::Row;
 use std::alloc::Global;

@@ -7,7 +7,7 @@ use Rattle.bq_core.specs.Counting.{recounted_for}
 use Rattle.bq_core.specs.Knowledge.{with_joined, with_left}
 use Rattle.bq_core.specs.Queues.{IsRising, is_turn_before, turns_of, with_turn, without_turn}
 use Rattle.bq_core.specs.SeatChanges.{seat_changed_at}
-use Rattle.bq_core.specs.declared.crowd.Moving.TheVariants.{Comes, Goes}
+use Rattle.bq_core.specs.declared.tubes.crowd.Moving.TheVariants.{Comes, Goes}
 use Rattle.bq_core.proofs.KnowledgeLemmas.{so_with_seat}
 use Rattle.bq_core.proofs.QueueLemmas.{rising_left, turns_moved, turns_within}
 use Rattle.bq_core.proofs.StateLemmas.{entries_of_seat, numbered_after}

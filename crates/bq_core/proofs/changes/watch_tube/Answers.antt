@@ -10,8 +10,8 @@ use Rattle.bq_core.specs.KeptTubes.{KeptTubes}
 use Rattle.bq_core.specs.State.{machine_of}
 use Rattle.bq_core.specs.Stirs.{with_anything}
 use Rattle.bq_core.specs.TubeEntries.{counted}
-use Rattle.bq_core.specs.declared.crowd.Moving.TheVariants.{Comes}
-use Rattle.bq_core.specs.declared.crowd.Share.{Share}
+use Rattle.bq_core.specs.declared.tubes.crowd.Moving.TheVariants.{Comes}
+use Rattle.bq_core.specs.declared.tubes.crowd.Share.{Share}
 use Rattle.bq_core.proofs.KnowledgeLemmas.{so_watching}
 use Rattle.bq_core.proofs.QueueLemmas.{queued_watching}
 use Rattle.bq_core.proofs.StateLemmas.{changed_there, seat_read, seat_there, watching_more, watching_numbered}

@@ -5,10 +5,9 @@ ghost use Rattle.bq_core.specs.Dues.{first_pause_end, is_end_over};
 ghost use Rattle.bq_core.specs.KeptTubes.{crowd_kept, edited_at, is_named_at, kept_changed, record_at, records_ended, tally_kept};
 ghost use Rattle.bq_core.specs.PauseEnds.{AreEnds, end_of, pause_at, paused_count};
 
-use crate::pause_end::PauseEnd;
-use crate::pauses::{self, PauseEnds};
-use crate::tube_edits;
-use crate::tube_entry::{TubeChange, TubeEntry};
+use super::edits;
+use super::entry::{TubeChange, TubeEntry};
+use super::pause_ends::{self, PauseEnd, PauseEnds};
 use bq_index::Catalog;
 use bq_job::{Moment, TubeName};
 
@@ -37,10 +36,10 @@ fn pause(
     let _tubes = kept.len();
     let _ends = ends.len();
     let from = end_of(kept, name);
-    pauses::leave(ends, from);
-    tube_edits::change(kept, name, what);
+    pause_ends::leave(ends, from);
+    edits::change(kept, name, what);
     let to = end_of(kept, name);
-    pauses::enter(ends, to);
+    pause_ends::enter(ends, to);
 }
 
 /// Changes the tube of this name. Only where it is paused, ends are looked at.
@@ -58,8 +57,8 @@ pub(crate) fn change(
     let _tubes = kept.len();
     match what {
         TubeChange::Pause(_, _) => pause(kept, ends, name, what),
-        TubeChange::CountPut => tube_edits::change(kept, name, what),
-        TubeChange::CountDelete => tube_edits::change(kept, name, what),
+        TubeChange::CountPut => edits::change(kept, name, what),
+        TubeChange::CountDelete => edits::change(kept, name, what),
     }
 }
 
@@ -77,7 +76,7 @@ pub(crate) fn drop_entry(
     let _tubes = kept.len();
     let _ends = ends.len();
     let from = end_of(kept, name);
-    pauses::leave(ends, from);
+    pause_ends::leave(ends, from);
     let _entry = kept.remove(name);
 }
 
@@ -94,11 +93,11 @@ fn end_first(kept: &mut Catalog<TubeName, TubeEntry>, ends: &mut PauseEnds, mome
     // The names are in order, and so are the ends.
     let _tubes = kept.len();
     let _ends = ends.len();
-    let Some(end) = pauses::first_over(ends, moment) else {
+    let Some(end) = pause_ends::first_over(ends, moment) else {
         return false;
     };
-    tube_edits::end_pause(kept, &end.name, moment);
-    pauses::leave(ends, Some(end));
+    edits::end_pause(kept, &end.name, moment);
+    pause_ends::leave(ends, Some(end));
     true
 }
 

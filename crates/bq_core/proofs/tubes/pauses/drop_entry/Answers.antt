@@ -4,7 +4,7 @@ use Rattle.bq_core.specs.KeptTubes.{is_named_at, record_at}
 use Rattle.bq_core.specs.PauseEnds.{AreEnds, pause_at, without_end}
 use Rattle.bq_core.proofs.EndMoves.{end_held, ends_moved, moves_out, one_box}
 use Rattle.bq_core.proofs.NamedLemmas.{in_order}
-use Rattle.bq_core.proofs.tube_pauses.drop_entry.Goals as goal
+use Rattle.bq_core.proofs.tubes.pauses.drop_entry.Goals as goal
 
 pub leave-requires : goal.leave-requires
 leave-requires c x is =

@@ -5,18 +5,18 @@ ghost use Rattle.std.specs.Option.{option_map};
 ghost use Rattle.bq_core.specs.KeptTubes.{is_alive_at, is_alive_with, is_gone_by, is_gone_from, is_named_at, record_at, without_gone};
 ghost use Rattle.bq_core.specs.PauseEnds.{AreEnds};
 
-use crate::pauses::PauseEnds;
-use crate::tube_entry::TubeEntry;
-use crate::tube_pauses;
-use crate::tube_walks::is_alive;
+use super::entry::TubeEntry;
+use super::pause_ends::PauseEnds;
+use super::pauses;
+use super::walks::is_alive;
 use bq_index::{Catalog, Test};
 use bq_job::TubeName;
 
 // The tube of an entry is gone.
 #[derive(Clone, Copy)]
-struct Gone;
+struct GoneTube;
 
-impl Test<TubeName, TubeEntry> for Gone {
+impl Test<TubeName, TubeEntry> for GoneTube {
     ghost use Rattle.std.specs.Prelude.{not};
     ghost use Rattle.bq_core.specs.KeptTubes.{is_alive_with};
 
@@ -48,7 +48,7 @@ pub(crate) fn forget_named(
     ensures kept { catalog.new.entries ≡ without_gone name.now catalog.old.entries }
 {
     if is_gone(catalog, name) {
-        tube_pauses::drop_entry(catalog, ends, name);
+        pauses::drop_entry(catalog, ends, name);
     }
 }
 
@@ -57,8 +57,8 @@ fn next_gone(catalog: &Catalog<TubeName, TubeEntry>, from: &Option<TubeName>) ->
     ensures { result ≡ option_map (λ e. e.0) (find (is_gone_from from.now) catalog.now.entries) }
 {
     let found = match from {
-        None => catalog.first(&Gone),
-        Some(name) => catalog.first_from(name, &Gone),
+        None => catalog.first(&GoneTube),
+        Some(name) => catalog.first_from(name, &GoneTube),
     };
     match found {
         None => None,
@@ -77,7 +77,7 @@ pub(crate) fn forget_all(catalog: &mut Catalog<TubeName, TubeEntry>, ends: &mut 
     while let Some(name) = next_gone(catalog, &last) {
         // The names are in order.
         let _entries = catalog.len();
-        tube_pauses::drop_entry(catalog, ends, &name);
+        pauses::drop_entry(catalog, ends, &name);
         last = Some(name);
     }
 }

@@ -5,10 +5,10 @@ ghost use Rattle.bq_core.specs.KeptTubes.{ended, fresh_entry, kept_after, kept_c
 ghost use Rattle.bq_core.specs.PauseEnds.{end_of};
 ghost use Rattle.bq_core.specs.Tallies.{tally_with, tally_without};
 
-use crate::crowd::{Crowd, Moving, Share};
+use super::crowd::{Crowd, Moving, Share};
+use super::pause_ends::PauseEnd;
 use crate::job_list::later;
-use crate::pause_end::PauseEnd;
-use crate::tally::Tally;
+use crate::known::Tally;
 use bq_job::{Job, Moment, TubeName};
 use bq_jobs::Moved;
 use std::marker::Model;

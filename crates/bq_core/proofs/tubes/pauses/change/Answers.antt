@@ -2,7 +2,7 @@ use Rattle.std.proofs.Common.{ap}
 use Rattle.bq_core.specs.TubeEntries.{tube_changed}
 use Rattle.bq_core.proofs.EndMoves.{count_stays}
 use Rattle.bq_core.proofs.NamedLemmas.{in_order}
-use Rattle.bq_core.proofs.tube_pauses.change.Goals as goal
+use Rattle.bq_core.proofs.tubes.pauses.change.Goals as goal
 
 pub returns-in-CountPut-clause-ends : goal.returns-in-CountPut-clause-ends
 returns-in-CountPut-clause-ends c =

@@ -4,8 +4,8 @@ ghost use Rattle.std.specs.Vec.{vec_capacity};
 ghost use Rattle.bq_core.specs.KeptTubes.{is_alive_with, name_if_alive, with_alive, with_name_of};
 ghost use Rattle.bq_core.specs.Texts.{names_of};
 
+use super::entry::TubeEntry;
 use crate::name_lists::Names;
-use crate::tube_entry::TubeEntry;
 use crate::watch_list::default_tube;
 use bq_index::Visitor;
 use bq_job::{NoMemory, TubeName};

@@ -4,7 +4,7 @@ use Rattle.bq_core.specs.KeptTubes.{edited, is_named_at, kept_changed, record_at
 use Rattle.bq_core.specs.PauseEnds.{found_end, pause_at, with_end, without_end}
 use Rattle.bq_core.proofs.EndMoves.{change_moves, end_absent, end_fits, end_held, ends_moved, one_box}
 use Rattle.bq_core.proofs.NamedLemmas.{in_order}
-use Rattle.bq_core.proofs.tube_pauses.pause.Goals as goal
+use Rattle.bq_core.proofs.tubes.pauses.pause.Goals as goal
 
 pub leave-requires : goal.leave-requires
 leave-requires c x is =

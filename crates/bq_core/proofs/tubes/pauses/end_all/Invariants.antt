@@ -4,7 +4,7 @@ use Rattle.std.specs.Prelude.{count_by}
 use Rattle.bq_job.specs.machine.Timers.{tube_after_timers}
 use Rattle.bq_core.specs.KeptTubes.{crowd_kept, record_at, tally_kept}
 use Rattle.bq_core.specs.PauseEnds.{AreEnds, is_paused}
-use Rattle.bq_core.proofs.tube_pauses.end_all.Given as goal
+use Rattle.bq_core.proofs.tubes.pauses.end_all.Given as goal
 
 abbrev pub invariant-loop : goal.invariant-loop
 invariant-loop l = record {

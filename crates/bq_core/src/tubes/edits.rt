@@ -2,8 +2,8 @@
 ghost use Rattle.std.specs.Prelude.{◌≡◌};
 ghost use Rattle.bq_core.specs.KeptTubes.{edited_at, ended, kept_changed, kept_moved, kept_recounted, kept_with, kept_without};
 
-use crate::crowd::{Moving, Share};
-use crate::tube_entry::{TubeChange, TubeEntry};
+use super::crowd::{Moving, Share};
+use super::entry::{TubeChange, TubeEntry};
 use bq_index::Catalog;
 use bq_job::{Job, Moment, TubeName};
 use bq_jobs::Moved;

@@ -3,7 +3,7 @@ use Rattle.std.proofs.Common.{◌≡◌, filter, length, map}
 use Rattle.bq_core.specs.KeptTubes.{is_alive_at, record_at}
 use Rattle.bq_core.specs.PauseEnds.{AreEnds}
 use Rattle.bq_core.proofs.GoneLemmas.{AllLeftBefore}
-use Rattle.bq_core.proofs.forgetting.forget_all.Given as goal
+use Rattle.bq_core.proofs.tubes.forgetting.forget_all.Given as goal
 
 abbrev pub invariant-loop-name : goal.invariant-loop-name
 invariant-loop-name l = record {

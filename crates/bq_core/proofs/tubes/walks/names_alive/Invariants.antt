@@ -3,7 +3,7 @@ use Rattle.std.proofs.Common.{◌≡◌, ◌≤◌, [], length, take, vec_capaci
 use Rattle.std.specs.Prelude.{fold}
 use Rattle.bq_core.specs.KeptTubes.{with_name_of}
 use Rattle.bq_core.specs.Texts.{names_of}
-use Rattle.bq_core.proofs.tube_walks.names_alive.Given as goal
+use Rattle.bq_core.proofs.tubes.walks.names_alive.Given as goal
 
 abbrev pub invariant-loop-i : goal.invariant-loop-i
 invariant-loop-i l = record {

@@ -35,28 +35,30 @@ fn keeps(client: &SeatRecord, what: &SeatChange) -> bool
     }
 }
 
-/// What is known of it once a seat, as it stands yet, is changed.
-pub(crate) fn change(first: &mut FirstEnd, client: Option<&SeatRecord>, what: &SeatChange)
-    ensures { first.new ≡ end_after what.now (option_copied client.entry) first.old }
-{
-    let Some(client) = client else {
-        return;
-    };
-    if !keeps(client, what) {
-        *first = FirstEnd::Unknown;
+impl FirstEnd {
+    /// What is known of it once a seat, as it stands yet, is changed.
+    pub(crate) fn change(&mut self, client: Option<&SeatRecord>, what: &SeatChange)
+        ensures { self.new ≡ end_after what.now (option_copied client.entry) self.old }
+    {
+        let Some(client) = client else {
+            return;
+        };
+        if !keeps(client, what) {
+            *self = FirstEnd::Unknown;
+        }
     }
-}
 
-/// What is known once it was looked for. Only who waits is looked at.
-#[tactic(auto, using(crate::proofs::DueLemmas::all_there))]
-pub(crate) fn find(seats: &[SeatRecord], turns: &[Turn]) -> FirstEnd
-    requires numbered { AreNumbered seats.now }
-    requires turns { turns.now ≡ turns_of seats.now }
-    ensures { AreTimeouts result seats.now }
-{
-    if seat_list::is_some_waiter_gone(seats, turns) {
-        FirstEnd::Unknown
-    } else {
-        FirstEnd::Known(dues::first_to_give_up(seats, turns))
+    /// What is known once it was looked for. Only who waits is looked at.
+    #[tactic(auto, using(crate::proofs::DueLemmas::all_there))]
+    pub(crate) fn find(seats: &[SeatRecord], turns: &[Turn]) -> FirstEnd
+        requires numbered { AreNumbered seats.now }
+        requires turns { turns.now ≡ turns_of seats.now }
+        ensures { AreTimeouts result seats.now }
+    {
+        if seat_list::is_some_waiter_gone(seats, turns) {
+            FirstEnd::Unknown
+        } else {
+            FirstEnd::Known(dues::first_to_give_up(seats, turns))
+        }
     }
 }

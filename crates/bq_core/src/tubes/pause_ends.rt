@@ -1,26 +1,67 @@
-//! The ends of the pauses of tubes, in their order: the first of them, and what a change of a pause does to them.
+//! The ends of the pauses of tubes, in their order: the first of them, and what a change of a pause does
+//! to them.
+ghost use Rattle.std.proofs.Common.{refl};
+ghost use Rattle.std.specs.Cmp as Cmp;
+ghost use Rattle.std.specs.Ordering.{as_partial_cmp, eq_by_cmp};
 ghost use Rattle.std.specs.Prelude.{◌≡◌, ◌+◌, ◌<◌, ◌≤◌, length, is_some, if◌then◌else◌, IfOk, None, true};
 ghost use Rattle.std.specs.Option.{ForSome, option_map};
-ghost use Rattle.bq_core.specs.Dues.{is_end_over};
+ghost use Rattle.bq_core.specs.PauseEnds.{end_cmp, end_total};
 ghost use Rattle.bq_core.specs.PauseEnds.{first_end, found_end, has_end, if_over, with_end, without_end};
 
-use crate::pause_end::PauseEnd;
 use bq_index::{Catalog, Test};
-use bq_job::{Moment, NoMemory};
+use bq_job::{Moment, NoMemory, TubeName};
 use std::alloc::Global;
+use std::cmp::Ordering;
+
+/// When the pause of a tube ends: by moment, and at one moment by name.
+#[derive(Clone, Copy)]
+pub(crate) struct PauseEnd {
+    pub(crate) until: Moment,
+    pub(crate) name: TubeName,
+}
+
+impl PartialEq for PauseEnd {
+    ghost eq = { eq_by_cmp end_cmp };
+
+    ghost laws = { Cmp.partial_equiv_from_equiv (Cmp.eq_by_cmp_equiv end_total) };
+
+    fn eq(&self, other: &PauseEnd) -> bool {
+        self.cmp(other).is_eq()
+    }
+}
+
+impl Eq for PauseEnd {
+    ghost laws = { Cmp.eq_by_cmp_equiv end_total };
+}
+
+impl PartialOrd for PauseEnd {
+    ghost partial_cmp = { as_partial_cmp end_cmp };
+
+    ghost laws = { Cmp.partial_order_from_agreeing_total end_cmp end_total (λ a b. refl) (λ a b. refl) };
+
+    fn partial_cmp(&self, other: &PauseEnd) -> Option<Ordering> {
+        Some(self.cmp(other))
+    }
+}
+
+impl Ord for PauseEnd {
+    ghost cmp = { end_cmp };
+
+    ghost total = { end_total };
+
+    ghost matches_partial_cmp = { λ a b. refl };
+
+    ghost matches_eq = { λ a b. refl };
+
+    fn cmp(&self, other: &PauseEnd) -> Ordering {
+        self.until
+            .cmp(&other.until)
+            .then_with(|| self.name.cmp(&other.name))
+    }
+}
 
 /// The ends of pauses, one for each tube that is paused.
 pub(crate) type PauseEnds = Catalog<PauseEnd, ()>;
-
-/// Whether a pause that ends then, if there is one, is over.
-pub(crate) fn is_over(end: Option<Moment>, moment: Moment) -> bool
-    ensures { result ≡ is_end_over moment end }
-{
-    match end {
-        None => false,
-        Some(end) => end <= moment,
-    }
-}
 
 // Each end passes.
 #[derive(Clone, Copy)]
