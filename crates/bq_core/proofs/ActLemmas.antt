@@ -27,7 +27,7 @@ use Rattle.bq_core.specs.Acting.{Acts, is_asking, is_connected, is_free}
 use Rattle.bq_core.specs.JobChanges.{is_passed_by}
 use Rattle.bq_steps.specs.Outbox.{Outbox}
 use Rattle.bq_core.specs.SeatChanges.{AreNumbered}
-use Rattle.bq_core.proofs.StateLemmas.{changed_there, seat_there}
+use Rattle.bq_core.proofs.PartsLemmas.{changed_there, seat_there}
 use Rattle.bq_core.proofs.TubeLemmas.{some_left}
 
 -- what is found passes

@@ -15,7 +15,7 @@ use Rattle.bq_core.specs.declared.seat_list.SeatChange.{SeatChange}
 use Rattle.bq_core.specs.Clients.{clients_of, clients_with, clients_without, seat_passes}
 use Rattle.bq_core.specs.SeatChanges.{AreNumbered, seat_changed, seat_changed_at}
 use Rattle.bq_core.specs.Tallies.{count_with, count_without}
-use Rattle.bq_core.proofs.StateLemmas.{changed_there, number_kept}
+use Rattle.bq_core.proofs.PartsLemmas.{changed_there, number_kept}
 use Rattle.bq_core.proofs.TallyLemmas.{with_is, without_is}
 
 -- all seats but that of the number

@@ -21,8 +21,8 @@ use Rattle.bq_job.specs.machine.Waits.{Chain, WaitEndTurn}
 use Rattle.bq_job.proofs.DispatchLemmas.{turn_of}
 use Rattle.bq_job.proofs.LawfulLemmas.{end_of}
 use Rattle.bq_job.proofs.ListLemmas.{count_cons}
-use Rattle.bq_core.specs.declared.job_list.JobKind.{JobKind}
-use Rattle.bq_core.specs.declared.job_list.JobKind.TheVariants.{Ready, Delayed, Buried}
+use Rattle.bq_core.specs.declared.job_store.JobKind.{JobKind}
+use Rattle.bq_core.specs.declared.job_store.JobKind.TheVariants.{Ready, Delayed, Buried}
 use Rattle.bq_core.specs.Cost.{waited_tubes}
 use Rattle.bq_steps.specs.Cost.{changed_jobs, tubes_watched, is_gone_or_changed, is_same_job, is_same_state}
 use Rattle.bq_core.specs.JobKinds.{is_of}

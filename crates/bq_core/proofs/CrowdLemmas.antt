@@ -23,7 +23,7 @@ use Rattle.bq_core.specs.SeatChanges.{AreNumbered, seat_changed, seat_changed_at
 use Rattle.bq_core.specs.Tallies.{count_with, count_without}
 use Rattle.bq_core.specs.TubeEntries.{AreInOrder}
 use Rattle.bq_core.proofs.ClientLemmas.{count_changed, count_stays, found_changed, some_pass}
-use Rattle.bq_core.proofs.StateLemmas.{all_read, all_set, changed_there, number_kept, numbered_after, seat_there}
+use Rattle.bq_core.proofs.PartsLemmas.{all_read, all_set, changed_there, number_kept, numbered_after, seat_there}
 use Rattle.bq_core.proofs.TubeLemmas.{before_differs, same_name}
 
 -- names are the same either way round

@@ -18,7 +18,7 @@ use Rattle.bq_core.specs.Tallies.{count_with, count_without}
 use Rattle.bq_core.specs.TubeEntries.{AreInOrder}
 use Rattle.bq_core.proofs.ClientLemmas.{count_changed, count_unchanged}
 use Rattle.bq_core.proofs.CrowdLemmas.{at_named, map_same, same_turned}
-use Rattle.bq_core.proofs.StateLemmas.{all_read, all_set, changed_there, seat_read, watching_numbered}
+use Rattle.bq_core.proofs.PartsLemmas.{all_read, all_set, changed_there, seat_read, watching_numbered}
 use Rattle.bq_core.proofs.TubeLemmas.{same_name}
 
 -- Names of which none stands twice: one more that isn't there,

@@ -18,7 +18,7 @@ use Rattle.bq_jobs.specs.Leases.{deadline_of, is_lease_before}
 use Rattle.bq_job.specs.beside.NextDue.{dues_of_pause, dues_of_state, dues_of_wait, earliest, is_before}
 use Rattle.bq_core.specs.Dues.{earlier_of_both, jobs_due, warning_due, with_seat_due, with_warning_due}
 use Rattle.bq_core.specs.FirstEnds.{IsThere, is_gone_in_wait}
-use Rattle.bq_core.specs.Queues.{at_turn, turns_of}
+use Rattle.bq_core.specs.WaitingTurns.{at_turn, turns_of}
 use Rattle.bq_core.specs.SeatChanges.{AreNumbered}
 use Rattle.bq_core.specs.TubeEntries.{IsFreshUnlessCounted, counted, is_counted}
 use Rattle.bq_core.proofs.WalkLemmas.{walked}

@@ -21,7 +21,7 @@ use Rattle.bq_core.specs.declared.seat_list.SeatChange.{SeatChange}
 use Rattle.bq_core.specs.declared.seat_list.SeatChange.TheVariants.{StopWaiting, Connect, Clear, End, Use}
 use Rattle.bq_core.specs.declared.seat_list.SeatChange.TheVariants.{Wait as WaitFrom}
 use Rattle.bq_core.proofs.CrowdLemmas.{none_changed}
-use Rattle.bq_core.proofs.StateLemmas.{all_read, all_set}
+use Rattle.bq_core.proofs.PartsLemmas.{all_read, all_set}
 
 -- the same moments, and so the same first one
 fold_kept : (g : SeatRecord → SeatRecord) (best : Option ℕ) (seats : List SeatRecord) → All (λ s. gives_up_at (g s) ≡ gives_up_at s) seats → fold with_seat_due best (map g seats) ≡ fold with_seat_due best seats

@@ -2,20 +2,20 @@
 use Rattle.std.proofs.Common.{◌≡◌, true, None, sym}
 use Rattle.bq_job.specs.machine.Dispatch.{next_job}
 use Rattle.bq_core.specs.Soundness.{Soundness}
-use Rattle.bq_core.specs.State.{machine_of}
+use Rattle.bq_core.specs.CoreParts.{machine_of}
 use Rattle.bq_core.specs.Stirs.{is_nothing}
-use Rattle.bq_core.specs.declared.state.State.{State}
+use Rattle.bq_core.specs.declared.core_parts.CoreParts.{CoreParts}
 use Rattle.bq_core.specs.declared.known.stir.Stir.TheVariants.{Nothing}
 use Rattle.bq_core.proofs.KnowledgeLemmas.{so_with_nothing}
 use Rattle.bq_core.proofs.StirLemmas.{none_known}
 
 -- Where that is known, there is no next job.
-pub none_next : (st : State) → true ≡ is_nothing st.known.stir → next_job (machine_of st) ≡ None
+pub none_next : (st : CoreParts) → true ≡ is_nothing st.known.stir → next_job (machine_of st) ≡ None
 none_next st nothing = none_known st.known.stir (machine_of st) (sym nothing) st.sound.known.stirs
 
 -- Where there is none, that may be known.
-pub is_sound : (st : State) → next_job (machine_of st) ≡ None
-    → Soundness st.jobs.jobs st.seats.items st.tubes st.queue (record st.known { stir = Nothing }) st.next_id st.draining
+pub is_sound : (st : CoreParts) → next_job (machine_of st) ≡ None
+    → Soundness st.jobs.jobs st.seats.items st.tubes st.waiting (record st.known { stir = Nothing }) st.next_id st.draining
 is_sound st none =
     let was = st.sound in
-    record { entries = was.entries; numbered = was.numbered; next = was.next; ids = was.ids; queue = was.queue; known = so_with_nothing st none }
+    record { entries = was.entries; numbered = was.numbered; next = was.next; ids = was.ids; waiting = was.waiting; known = so_with_nothing st none }

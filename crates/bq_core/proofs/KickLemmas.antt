@@ -12,8 +12,8 @@ use Rattle.bq_job.specs.beside.Lawful.{AreIdsWithin}
 use Rattle.bq_job.proofs.ChoiceLemmas.{first_of_contains, first_of_is_least, first_of_is_some, first_of_none, first_of_passes, pair_order}
 use Rattle.bq_job.proofs.KeptLemmas.{ids_from_below, ids_of_filter}
 use Rattle.bq_job.proofs.ListLemmas.{all_at, all_from_members, list_any_with}
-use Rattle.bq_core.specs.declared.job_list.JobKind.{JobKind}
-use Rattle.bq_core.specs.declared.job_list.JobKind.TheVariants.{Delayed, Buried}
+use Rattle.bq_core.specs.declared.job_store.JobKind.{JobKind}
+use Rattle.bq_core.specs.declared.job_store.JobKind.TheVariants.{Delayed, Buried}
 use Rattle.bq_core.specs.JobKinds.{is_before_of, is_of, rank_of}
 use Rattle.bq_core.specs.Kicking.{KicksFirst, all_kicked, jobs_of}
 use Rattle.bq_core.proofs.ActLemmas.{none_left}

@@ -22,15 +22,15 @@ use Rattle.bq_core.specs.KeptTubes.{KeptTubes, first_tubes}
 use Rattle.bq_core.specs.Knowledge.{IsSo, nothing_known, with_forgotten, with_job, with_joined, with_left, with_moved, with_tube_changed, without_job}
 use Rattle.bq_core.specs.Losses.{with_lost}
 use Rattle.bq_core.specs.SeatChanges.{seat_changed_at}
-use Rattle.bq_core.specs.State.{machine_of}
+use Rattle.bq_core.specs.CoreParts.{machine_of}
 use Rattle.bq_core.specs.Stirs.{AreKnown, IsKnown, stirred_by_change, with_anything}
 use Rattle.bq_core.specs.Tallies.{tallies_with, tallies_without, tally_moved}
 use Rattle.bq_core.specs.TubeEntries.{counted, has_entry, is_counted, is_tube_of, tube_changed, tube_changed_at}
 use Rattle.bq_core.specs.Warnings.{IsWarned, has_waiting_holder, may_hold, warned_if_due}
 use Rattle.bq_core.specs.declared.tubes.crowd.Moving.TheVariants.{Comes, Goes}
-use Rattle.bq_core.specs.declared.job_list.JobChange.{JobChange}
+use Rattle.bq_core.specs.declared.job_store.JobChange.{JobChange}
 use Rattle.bq_core.specs.declared.seat_list.SeatChange.{SeatChange}
-use Rattle.bq_core.specs.declared.state.State.{State}
+use Rattle.bq_core.specs.declared.core_parts.CoreParts.{CoreParts}
 use Rattle.bq_core.specs.declared.known.stir.Stir.TheVariants as stirs
 use Rattle.bq_core.specs.declared.tubes.entry.TubeChange.{TubeChange}
 use Rattle.bq_core.proofs.ClientLemmas.{clients_moved, clients_watching, first_clients}
@@ -42,13 +42,13 @@ use Rattle.bq_core.proofs.LeavingLemmas.{alive_left}
 use Rattle.bq_core.proofs.LossLemmas.{alive_added, alive_forgotten, alive_ignoring, alive_provided, alive_renamed, alive_taken, alive_watching, end_of_those_left}
 use Rattle.bq_core.proofs.MovedLemmas.{alive_changed, counted_moved, known_moved, one_tube, tube_kept, warned_moved}
 use Rattle.bq_core.proofs.PauseLemmas.{end_after_change, end_provided}
-use Rattle.bq_core.proofs.StateLemmas.{all_filtered, counted_provided, id_kept, name_kept_at, numbered_after, tube_counts, tube_name_kept}
+use Rattle.bq_core.proofs.PartsLemmas.{all_filtered, counted_provided, id_kept, name_kept_at, numbered_after, tube_counts, tube_name_kept}
 use Rattle.bq_core.proofs.StirLemmas.{known_added, known_any, known_forgotten, known_ignoring, known_nothing, known_of_change, known_of_seat, known_watching}
 use Rattle.bq_core.proofs.TallyPlaces.{counted_added, counted_kept, counted_taken, counted_provided as tallies_of_provided}
 use Rattle.bq_core.proofs.TubeLemmas.{filters_swap, record_changed}
 use Rattle.bq_core.proofs.WarningLemmas.{warned_added, warned_by_due, warned_of_seat, warned_watching}
 
-module _ (st : State) where
+module _ (st : CoreParts) where
   -- A job comes,
   pub so_with_job : (j : Job) → length (with_added j st.jobs.jobs) ≤ greatest
       → IsSo (with_job j (is_ready j && list_any (is_waiter j.tube) st.seats.items) (has_waiting_holder j.state st.seats.items) st.known)

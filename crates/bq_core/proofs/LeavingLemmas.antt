@@ -26,7 +26,7 @@ use Rattle.bq_core.specs.TubeEntries.{AreInOrder, has_entry, is_tube_of}
 use Rattle.bq_core.proofs.CrowdLemmas.{all_recounted, crowd_moved, has_seats_of, none_changed, share_at}
 use Rattle.bq_core.proofs.CrowdPlaces.{named_crowd}
 use Rattle.bq_core.proofs.LossLemmas.{any_set, by_job, by_loss, by_seat, now_lost, still_accounted, still_lost}
-use Rattle.bq_core.proofs.StateLemmas.{all_read, changed_there, raised_some, seat_there}
+use Rattle.bq_core.proofs.PartsLemmas.{all_read, changed_there, raised_some, seat_there}
 use Rattle.bq_core.proofs.TallyPlaces.{has_jobs_in, tally_there}
 use Rattle.bq_core.proofs.TubeLemmas.{same_itself, same_name}
 

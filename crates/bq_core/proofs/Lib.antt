@@ -23,12 +23,12 @@ pub mod NameLemmas
 pub mod NamedLemmas
 pub mod OfferLemmas
 pub mod PauseLemmas
-pub mod QueueLemmas
+pub mod WaitingLemmas
 pub mod SearchLemmas
 pub mod SeatPlaces
 pub mod SendLemmas
 pub mod SettingLemmas
-pub mod StateLemmas
+pub mod PartsLemmas
 pub mod StepCosts
 pub mod StepLemmas
 pub mod StirLemmas

@@ -15,8 +15,8 @@ use Rattle.bq_jobs.specs.declared.edit.Moved.{Moved}
 use Rattle.bq_jobs.specs.Changed.{IgnoresTube, KeepsId, KeepsTube, moved_by, with_changed}
 use Rattle.bq_jobs.specs.Kept.{with_added, without}
 use Rattle.bq_jobs.proofs.Changes.{changed as changed_by_id, found_id}
-use Rattle.bq_core.specs.declared.job_list.JobChange.{JobChange}
-use Rattle.bq_core.specs.declared.job_list.JobChange.TheVariants.{FireTimers, HandOut, GiveBack, Release, Bury, Touch, Kick}
+use Rattle.bq_core.specs.declared.job_store.JobChange.{JobChange}
+use Rattle.bq_core.specs.declared.job_store.JobChange.TheVariants.{FireTimers, HandOut, GiveBack, Release, Bury, Touch, Kick}
 use Rattle.bq_core.specs.declared.known.loss.Loss.{Loss}
 use Rattle.bq_core.specs.declared.known.tally.Tally.{Tally}
 use Rattle.bq_core.specs.declared.known.stir.Stir.{Stir}
@@ -29,7 +29,7 @@ use Rattle.bq_core.specs.Tallies.{AreCounted, tallies_at, tallies_of, tallies_wi
 use Rattle.bq_core.specs.TubeEntries.{AreEntries, AreInOrder, has_entry}
 use Rattle.bq_core.specs.Warnings.{AreWarned, IsWarned, has_waiting_holder, with_holder_of}
 use Rattle.bq_core.specs.declared.known.warns.Warns.{Warns}
-use Rattle.bq_core.proofs.StateLemmas.{all_filtered, all_kept}
+use Rattle.bq_core.proofs.PartsLemmas.{all_filtered, all_kept}
 use Rattle.bq_core.proofs.StirLemmas.{known_added}
 use Rattle.bq_core.proofs.TallyPlaces.{counted_added, counted_taken}
 use Rattle.bq_core.proofs.WarningLemmas.{warned_added}

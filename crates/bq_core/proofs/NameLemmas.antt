@@ -15,7 +15,7 @@ use Rattle.bq_job.specs.texts.Yaml.{name_line}
 use Rattle.bq_job.proofs.NameOrderLemmas.{after, first_of_order, in_order_fold, in_order_from, listed, not_before, not_same, rest_in_order, stays_fold}
 use Rattle.bq_core.specs.Texts.{is_named, names_of}
 use Rattle.bq_core.specs.TubeEntries.{AreEntries, AreInOrder, IsFreshUnlessCounted, counted, has_entry, is_counted, is_tube_of, names_alive}
-use Rattle.bq_core.proofs.StateLemmas.{tube_has_entry}
+use Rattle.bq_core.proofs.PartsLemmas.{tube_has_entry}
 use Rattle.bq_core.proofs.TubeLemmas.{before_differs, none_found, none_later, order_filtered, same_itself, same_name}
 
 -- names that come later are others

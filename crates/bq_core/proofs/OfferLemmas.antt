@@ -11,7 +11,7 @@ use Rattle.bq_jobs.specs.Kept.{Kept}
 use Rattle.bq_core.specs.Asking.{Asks}
 use Rattle.bq_core.specs.Cost.{waited_tubes}
 use Rattle.bq_core.specs.Offers.{better_rank, offered, these, with_offer, with_offers}
-use Rattle.bq_core.specs.Queues.{at_turn, by_seat, is_turn_before, turns_of, waited_at}
+use Rattle.bq_core.specs.WaitingTurns.{at_turn, by_seat, is_turn_before, turns_of, waited_at}
 use Rattle.bq_core.specs.SeatChanges.{AreNumbered}
 use Rattle.bq_core.proofs.SeatPlaces.{place_is_seat}
 use Rattle.bq_core.proofs.WalkLemmas.{chosen, chosen_twice, walked}

@@ -8,7 +8,7 @@ use Rattle.std.proofs.lemmas.Option.{slice_get_past, slice_get_read}
 use Rattle.bq_job.specs.machine.Changes.{seat_with}
 use Rattle.bq_job.specs.machine.Machine.{SeatRecord, numbers}
 use Rattle.bq_core.specs.SeatChanges.{AreNumbered}
-use Rattle.bq_core.proofs.StateLemmas.{seat_read, seat_there}
+use Rattle.bq_core.proofs.PartsLemmas.{seat_read, seat_there}
 
 -- what stands at the place of a number is the seat of that number, if there is one
 pub place_is_seat : (seats : List SeatRecord) (i : ℕ) → AreNumbered seats → slice_get seats i ≡ seat_with i seats

@@ -1,7 +1,7 @@
 -- A core may go to another thread. It is said step by step, since one search through all its
 -- shelves would be too long.
 use denote.Param.Send.{IsSend, sendable}
-use Rattle.bq_core.specs.contracts.machine.Core as Core
+use Rattle.bq_core.specs.contracts.step.Core as Core
 use Rattle.bq_core.specs.contracts.tubes.Tubes as Tubes
 use Rattle.bq_index.proofs.tree.Sides.TheLaws.TheKnot as TheKnot
 use Rattle.bq_jobs.specs.contracts.jobs.Jobs as Jobs

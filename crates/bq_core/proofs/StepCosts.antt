@@ -13,13 +13,13 @@ use Rattle.bq_job.specs.machine.Waits.{WaitEndTurn, next_end}
 use Rattle.bq_job.specs.machine.Dispatch.{next_job}
 use Rattle.bq_job.proofs.LawfulLemmas.{leaves_acted}
 use Rattle.bq_jobs.specs.Kept.{Kept}
-use Rattle.bq_core.specs.declared.state.State.{State}
+use Rattle.bq_core.specs.declared.core_parts.CoreParts.{CoreParts}
 use Rattle.bq_core.specs.Asking.{Asks, AsksAsChanged, AsksByTurn, search_among}
 use Rattle.bq_core.specs.Cost.{waited}
 use Rattle.bq_steps.specs.Cost.{IsStepWithin, changed_jobs, watched_tubes, tubes_watched, ripening}
 use Rattle.bq_steps.specs.Outbox.{Outbox}
 use Rattle.bq_core.specs.Serving.{NoneIsGone, ServesAsking, ServesInto}
-use Rattle.bq_core.specs.State.{machine_of}
+use Rattle.bq_core.specs.CoreParts.{machine_of}
 use Rattle.bq_core.specs.Turns.{Gives, none_refused}
 use Rattle.bq_core.proofs.AskLemmas.{asks_more, asks_then, search_grows}
 use Rattle.bq_core.proofs.CostLemmas.{ended_stop, entries_less, given_length, handed_stop}
@@ -27,7 +27,7 @@ use Rattle.bq_core.proofs.StepLemmas.{Begun, keeps, serves_into, whole_step}
 use Rattle.bq_core.proofs.WatchLemmas.{acted_few, waited_few, waiting_few}
 
 -- dispatch and the ends of waits, one after the other
-pub serves_asking : (first between last : State) (old middle new : Outbox) → Gives DispatchTurn has_refused_share (machine_of first) (machine_of between) old middle → next_job (machine_of between) ≡ None → Gives WaitEndTurn none_refused (machine_of between) (machine_of last) middle new → next_end (machine_of last) ≡ None → NoneIsGone (machine_of first)
+pub serves_asking : (first between last : CoreParts) (old middle new : Outbox) → Gives DispatchTurn has_refused_share (machine_of first) (machine_of between) old middle → next_job (machine_of between) ≡ None → Gives WaitEndTurn none_refused (machine_of between) (machine_of last) middle new → next_end (machine_of last) ≡ None → NoneIsGone (machine_of first)
     → AsksByTurn (waited (machine_of first)) old middle first.jobs between.jobs → Asks (waiting_count (machine_of between) + 1) between.jobs last.jobs → ServesAsking (machine_of first) old new (machine_of last) first.jobs last.jobs
 unfolding serves_into
 serves_asking first between last old middle new d dispatched w ended none a b =
@@ -95,7 +95,7 @@ waits_less : (s : SeatRecord) → cond (is_waiting (without_wait s)) 1 0 ≤ con
 waits_less s = omega arith
 
 -- A step is within its bound.
-pub step_within : (first : State) (at seat : ℕ) (what : Step) (begun between asked new : Outbox) (acted_state left last : State) → begun.given ≡ [] → begun.left_out ≡ false → begun.unshared ≡ false → (b : Begun first at seat what begun between asked acted_state left) → (y : ServesInto (machine_of left) asked new (machine_of last))
+pub step_within : (first : CoreParts) (at seat : ℕ) (what : Step) (begun between asked new : Outbox) (acted_state left last : CoreParts) → begun.given ≡ [] → begun.left_out ≡ false → begun.unshared ≡ false → (b : Begun first at seat what begun between asked acted_state left) → (y : ServesInto (machine_of left) asked new (machine_of last))
     → Asks (10 * ripening at (machine_of first) + 2) first.jobs b.fired.jobs
     → Asks (length b.serves.handed * (waited (machine_of b.fired) + 9) + waited (machine_of b.fired) + waiting_count (machine_of b.fired) + 1) b.fired.jobs b.served_state.jobs
     → AsksAsChanged b.served_state.jobs left.jobs

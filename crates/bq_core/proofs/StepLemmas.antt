@@ -24,11 +24,11 @@ use Rattle.bq_job.proofs.DispatchLemmas.{turn_of}
 use Rattle.bq_job.proofs.KeptLemmas.{Keeps, kept_of_lawful}
 use Rattle.bq_job.proofs.RecordLemmas.{Booked, booked_of_lawful, booked_timers}
 use Rattle.bq_job.proofs.LawfulLemmas.{end_of, lawful_when_served, kept_of_timers, only_tubes, leaves_acted, length_addressed, seats_many, served}
-use Rattle.bq_core.specs.declared.state.State.{State}
+use Rattle.bq_core.specs.declared.core_parts.CoreParts.{CoreParts}
 use Rattle.bq_core.specs.Acting.{Acts}
 use Rattle.bq_steps.specs.Outbox.{Outbox}
 use Rattle.bq_core.specs.Serving.{NoneIsGone, ServesInto}
-use Rattle.bq_core.specs.State.{machine_of}
+use Rattle.bq_core.specs.CoreParts.{machine_of}
 use Rattle.bq_core.specs.Turns.{Gives, HasRoom, none_refused}
 use Rattle.bq_core.proofs.TurnLemmas.{room_kept}
 
@@ -147,7 +147,7 @@ places_more n =
     ∙ ap (λ k. map empty_seat (numbers 0 n) ++ empty_seat k ∷ []) (omega arith)
 
 -- dispatch and the ends of waits, one after the other
-unfoldable pub serves_into : (first between last : State) (old middle new : Outbox) → Gives DispatchTurn has_refused_share (machine_of first) (machine_of between) old middle → next_job (machine_of between) ≡ None → Gives WaitEndTurn none_refused (machine_of between) (machine_of last) middle new → next_end (machine_of last) ≡ None → NoneIsGone (machine_of first) → ServesInto (machine_of first) old new (machine_of last)
+unfoldable pub serves_into : (first between last : CoreParts) (old middle new : Outbox) → Gives DispatchTurn has_refused_share (machine_of first) (machine_of between) old middle → next_job (machine_of between) ≡ None → Gives WaitEndTurn none_refused (machine_of between) (machine_of last) middle new → next_end (machine_of last) ≡ None → NoneIsGone (machine_of first) → ServesInto (machine_of first) old new (machine_of last)
 serves_into first between last old middle new d dispatched w ended none =
     let then_none = chain_alike DispatchTurn dispatch_turn_alike (machine_of first) d.given (machine_of between) d.turns none in
     let last_none = chain_alike WaitEndTurn wait_turn_alike (machine_of between) w.given (machine_of last) w.turns then_none in
@@ -167,11 +167,11 @@ serves_into first between last old middle new d dispatched w ended none =
       room = λ more h. room_kept WaitEndTurn none_refused more (machine_of between) (machine_of last) middle new w (room_kept DispatchTurn has_refused_share more (machine_of first) (machine_of between) old middle d h);
     }
 
-pub begins : (first fired : State) (at : ℕ) → IsLawful (machine_of first) → machine_of fired ≡ after_timers (at_moment at (machine_of first)) → forgetting (after_timers (at_moment at (machine_of first))) ≡ machine_of fired
+pub begins : (first fired : CoreParts) (at : ℕ) → IsLawful (machine_of first) → machine_of fired ≡ after_timers (at_moment at (machine_of first)) → forgetting (after_timers (at_moment at (machine_of first))) ≡ machine_of fired
 begins first fired at lawful fires = nothing_forgotten (after_timers (at_moment at (machine_of first))) (timers_alike at (machine_of first) lawful.tubes) ∙ sym fires
 
 -- at the beginning of a step there is room for an answer to each waiting client, and one more
-pub first_room : (first fired : State) (at : ℕ) (begun : Outbox) → IsLawful (machine_of first) → machine_of fired ≡ after_timers (at_moment at (machine_of first)) → begun.given ≡ [] → first.config.seats < begun.most → HasRoom 1 (machine_of fired) begun
+pub first_room : (first fired : CoreParts) (at : ℕ) (begun : Outbox) → IsLawful (machine_of first) → machine_of fired ≡ after_timers (at_moment at (machine_of first)) → begun.given ≡ [] → first.config.seats < begun.most → HasRoom 1 (machine_of fired) begun
 first_room first fired at begun lawful fires empty h =
     let same : waiting_count (machine_of fired) ≡ waiting_count (machine_of first) = ap waiting_count fires in
     let all = seats_many (machine_of first) (kept_of_lawful (machine_of first) lawful) in
@@ -184,22 +184,22 @@ pub less_room : (m : Machine) (o : Outbox) → HasRoom 1 m o → HasRoom 0 m o
 less_room m o h = omega arith
 
 -- the parts of a step up to and with the command's own effect
-pub record Begun (first : State) (at seat : ℕ) (what : Step) (begun between asked : Outbox) (acted_state left : State) : Type 0 where
-  pub fired : State
-  pub served_state : State
+pub record Begun (first : CoreParts) (at seat : ℕ) (what : Step) (begun between asked : Outbox) (acted_state left : CoreParts) : Type 0 where
+  pub fired : CoreParts
+  pub served_state : CoreParts
   pub lawful : IsLawful (machine_of first)
   pub fires : machine_of fired ≡ after_timers (at_moment at (machine_of first))
   pub serves : ServesInto (machine_of fired) begun between (machine_of served_state)
   pub acts : Acts (machine_of served_state) seat what between asked (machine_of acted_state)
   pub forgotten : machine_of left ≡ forgetting (machine_of acted_state)
 
-pub keeps : (first : State) (at seat : ℕ) (what : Step) (begun between asked : Outbox) (acted_state left : State) (b : Begun first at seat what begun between asked acted_state left) → Keeps (machine_of b.served_state)
+pub keeps : (first : CoreParts) (at seat : ℕ) (what : Step) (begun between asked : Outbox) (acted_state left : CoreParts) (b : Begun first at seat what begun between asked acted_state left) → Keeps (machine_of b.served_state)
 keeps first at seat what begun between asked acted_state left b =
     let h = kept_of_timers at (machine_of first) (kept_of_lawful (machine_of first) b.lawful) in
     (served (machine_of b.fired) b.serves.handed b.serves.ended (machine_of b.served_state) (subst Keeps (begins first b.fired at b.lawful b.fires) h) b.serves.serves).keeps
 
 -- the command's own effect leaves room for an answer to each waiting client
-pub room_after_act : (first : State) (at seat : ℕ) (what : Step) (begun between asked : Outbox) (acted_state left : State) (b : Begun first at seat what begun between asked acted_state left) → HasRoom 1 (machine_of b.served_state) between → HasRoom 0 (machine_of left) asked
+pub room_after_act : (first : CoreParts) (at seat : ℕ) (what : Step) (begun between asked : Outbox) (acted_state left : CoreParts) (b : Begun first at seat what begun between asked acted_state left) → HasRoom 1 (machine_of b.served_state) between → HasRoom 0 (machine_of left) asked
 room_after_act first at seat what begun between asked acted_state left b h =
     let a = b.acts in
     let e = acted a.memory (machine_of b.served_state) seat what in
@@ -210,7 +210,7 @@ room_after_act first at seat what begun between asked acted_state left b h =
     let most = a.most in
     omega arith
 
-unfoldable pub whole_step : (first : State) (at seat : ℕ) (what : Step) (begun between asked new : Outbox) (acted_state left last : State) → begun.given ≡ [] → begun.left_out ≡ false → begun.unshared ≡ false → Begun first at seat what begun between asked acted_state left → ServesInto (machine_of left) asked new (machine_of last) → IsStep (machine_of first) at seat what (record { left_out = new.left_out; unshared = new.unshared }) new.given (machine_of last)
+unfoldable pub whole_step : (first : CoreParts) (at seat : ℕ) (what : Step) (begun between asked new : Outbox) (acted_state left last : CoreParts) → begun.given ≡ [] → begun.left_out ≡ false → begun.unshared ≡ false → Begun first at seat what begun between asked acted_state left → ServesInto (machine_of left) asked new (machine_of last) → IsStep (machine_of first) at seat what (record { left_out = new.left_out; unshared = new.unshared }) new.given (machine_of last)
 whole_step first at seat what begun between asked new acted_state left last empty in_it shared b y =
     let x = b.serves in
     let a = b.acts in
@@ -247,7 +247,7 @@ whole_step first at seat what begun between asked new acted_state left last empt
     or_comm false false = refl
 
 -- before the command's own effect the machine is lawful, as it is between steps
-lawful_before_act : (first fired served_state : State) (at : ℕ) (begun between : Outbox) → IsLawful (machine_of first) → machine_of fired ≡ after_timers (at_moment at (machine_of first)) → ServesInto (machine_of fired) begun between (machine_of served_state) → IsLawful (machine_of served_state)
+lawful_before_act : (first fired served_state : CoreParts) (at : ℕ) (begun between : Outbox) → IsLawful (machine_of first) → machine_of fired ≡ after_timers (at_moment at (machine_of first)) → ServesInto (machine_of fired) begun between (machine_of served_state) → IsLawful (machine_of served_state)
 lawful_before_act first fired served_state at begun between lawful fires serves =
     lawful_when_served (machine_of fired) serves.handed serves.ended (machine_of served_state)
     (subst Keeps (begins first fired at lawful fires) (kept_of_timers at (machine_of first) (kept_of_lawful (machine_of first) lawful)))

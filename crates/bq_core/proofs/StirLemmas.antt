@@ -25,7 +25,7 @@ use Rattle.bq_core.specs.declared.known.stir.Stir.{Stir}
 use Rattle.bq_core.specs.declared.known.stir.Stir.TheVariants.{Nothing, Tube, Client, Any}
 use Rattle.bq_core.specs.declared.tubes.entry.TubeChange.{TubeChange}
 use Rattle.bq_core.specs.declared.tubes.entry.TubeChange.TheVariants.{CountPut, CountDelete, Pause as PauseFor}
-use Rattle.bq_core.proofs.StateLemmas.{all_added, all_read, all_set}
+use Rattle.bq_core.proofs.PartsLemmas.{all_added, all_read, all_set}
 use Rattle.bq_core.proofs.TubeLemmas.{same_itself, same_name}
 
 -- what could be had can be had yet

@@ -17,10 +17,10 @@ use Rattle.bq_job.specs.machine.Steps.{has_refused_share, is_out_of_memory}
 use Rattle.bq_job.specs.machine.Waits.{Chain, WaitEndTurn, end_of_wait, next_end}
 use Rattle.bq_job.proofs.ChoiceLemmas.{first_of_none_passes}
 use Rattle.bq_job.proofs.ComputedLemmas.{next_seat_waits, waiting_falls}
-use Rattle.bq_core.specs.declared.state.State.{State}
+use Rattle.bq_core.specs.declared.core_parts.CoreParts.{CoreParts}
 use Rattle.bq_core.specs.HandOuts.{AddsHandOut, HandsOut}
 use Rattle.bq_steps.specs.Outbox.{Outbox}
-use Rattle.bq_core.specs.State.{machine_of}
+use Rattle.bq_core.specs.CoreParts.{machine_of}
 use Rattle.bq_core.specs.Turns.{Gives, HasRoom, none_refused}
 use Rattle.bq_core.specs.WaitEnds.{AddsWaitEnd}
 
@@ -76,7 +76,7 @@ pub if_ok : (r : Result (List ℕ) NoMemory) (x : List ℕ) (P : List ℕ → Ty
 if_ok r x P e p = subst (λ z. IfOk z P) e p
 
 -- the job of this id is the next one
-module _ (st : State) (id : ℕ) (job_is : Some id ≡ option_map (λ j. j.id) (next_job (machine_of st))) where
+module _ (st : CoreParts) (id : ℕ) (job_is : Some id ≡ option_map (λ j. j.id) (next_job (machine_of st))) where
   the_job : (j : Job) × (next_job (machine_of st) ≡ Some j) × (id ≡ j.id)
   the_job = some_of (next_job (machine_of st)) job_is
     where

@@ -15,13 +15,13 @@ use Rattle.bq_job.proofs.ChoiceLemmas.{first_of_contains, first_of_is, first_of_
 use Rattle.bq_job.proofs.ComputedLemmas.{waiting_falls}
 use Rattle.bq_job.proofs.KeptLemmas.{only_seat}
 use Rattle.bq_job.proofs.ListLemmas.{all_always, all_at, all_from_members, all_of_map, count_cons, found_passes, list_any_not, list_any_with, none_pass}
-use Rattle.bq_core.specs.declared.state.State.{State}
+use Rattle.bq_core.specs.declared.core_parts.CoreParts.{CoreParts}
 use Rattle.bq_core.specs.EndingWaits.{AreLookedAt, is_after, left_after, told_at_end, turn_of, waits_after}
 use Rattle.bq_steps.specs.Outbox.{Outbox}
-use Rattle.bq_core.specs.State.{machine_of}
+use Rattle.bq_core.specs.CoreParts.{machine_of}
 use Rattle.bq_core.specs.Turns.{Gives, none_refused}
 use Rattle.bq_core.specs.WaitEnds.{LooksAt}
-use Rattle.bq_core.proofs.StateLemmas.{seat_read}
+use Rattle.bq_core.proofs.PartsLemmas.{seat_read}
 use Rattle.bq_core.proofs.TurnLemmas.{gives_nothing, one_end, some_at}
 
 -- what a waiting client is told, by its first lease and its timeout
@@ -125,7 +125,7 @@ map_self [] = refl
 map_self (x ∷ xs) = ap (λ ys. x ∷ ys) (map_self xs)
 
 -- the next one that is looked at
-module _ (st : State) (last : Option (ℕ × ℕ)) (looked : AreLookedAt (machine_of st) last) (k : ℕ) (there : k < length st.seats.items) (found : slice_get st.seats.items k ≡ first_of (waits_after last) is_wait_before st.seats.items) where
+module _ (st : CoreParts) (last : Option (ℕ × ℕ)) (looked : AreLookedAt (machine_of st) last) (k : ℕ) (there : k < length st.seats.items) (found : slice_get st.seats.items k ≡ first_of (waits_after last) is_wait_before st.seats.items) where
   pub s : SeatRecord
   s = (some_at st.seats.items k there).0
 

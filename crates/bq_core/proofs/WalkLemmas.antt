@@ -17,10 +17,10 @@ use Rattle.bq_core.specs.Clients.{seat_passes}
 use Rattle.bq_core.specs.EndingWaits.{is_after, turn_of, waits_after}
 use Rattle.bq_core.specs.Offers.{these}
 use Rattle.bq_core.specs.Places.{item_at}
-use Rattle.bq_core.specs.Queues.{IsRising, at_turn, is_turn_after, is_turn_before, passes_at, placed, turns_of}
+use Rattle.bq_core.specs.WaitingTurns.{IsRising, at_turn, is_turn_after, is_turn_before, passes_at, placed, turns_of}
 use Rattle.bq_core.specs.SeatChanges.{AreNumbered}
 use Rattle.bq_core.proofs.ClientLemmas.{heads}
-use Rattle.bq_core.proofs.QueueLemmas.{all_placed, rising_placed}
+use Rattle.bq_core.proofs.WaitingLemmas.{all_placed, rising_placed}
 use Rattle.bq_core.proofs.SeatPlaces.{place_is_seat}
 use Rattle.bq_core.proofs.WarningLemmas.{none_found}
 

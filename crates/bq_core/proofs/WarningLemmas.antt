@@ -22,7 +22,7 @@ use Rattle.bq_core.specs.declared.seat_list.SeatChange.{SeatChange}
 use Rattle.bq_core.specs.declared.seat_list.SeatChange.TheVariants.{StopWaiting, Wait, Connect, Clear, End, Use}
 use Rattle.bq_core.specs.declared.known.warns.Warns.{Warns}
 use Rattle.bq_core.specs.declared.known.warns.Warns.TheVariants.{Nobody, Client, Any}
-use Rattle.bq_core.proofs.StateLemmas.{all_added, all_read, all_set}
+use Rattle.bq_core.proofs.PartsLemmas.{all_added, all_read, all_set}
 
 -- more may be known
 abbrev AtLeast : Warns → Warns → Type 0

@@ -7,10 +7,10 @@ use Rattle.bq_job.specs.machine.Dispatch.{reserved_by}
 use Rattle.bq_job.specs.machine.JobCommands.{buried, kicked, released}
 use Rattle.bq_job.specs.machine.JobStates.{is_buried, is_delayed, is_reserved}
 use Rattle.bq_job.specs.machine.Timers.{job_after_timers}
-use Rattle.bq_core.specs.declared.job_list.JobChange.{JobChange}
-use Rattle.bq_core.specs.declared.job_list.JobChange.TheVariants.{FireTimers, HandOut, GiveBack, Release, Bury, Touch, Kick}
-use Rattle.bq_core.specs.declared.job_list.JobTest.{JobTest}
-use Rattle.bq_core.specs.declared.job_list.JobTest.TheVariants.{HeldBy, FreeFor, Free, Kickable}
+use Rattle.bq_core.specs.declared.job_store.JobChange.{JobChange}
+use Rattle.bq_core.specs.declared.job_store.JobChange.TheVariants.{FireTimers, HandOut, GiveBack, Release, Bury, Touch, Kick}
+use Rattle.bq_core.specs.declared.job_store.JobTest.{JobTest}
+use Rattle.bq_core.specs.declared.job_store.JobTest.TheVariants.{HeldBy, FreeFor, Free, Kickable}
 
 abbrev pub changed : JobChange → Job → Job
 changed (FireTimers moment) j = job_after_timers moment j

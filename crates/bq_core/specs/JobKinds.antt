@@ -5,8 +5,8 @@ use Rattle.bq_job.specs.machine.Changes.{first_of, is_pair_before}
 use Rattle.bq_job.specs.machine.JobCommands.{is_buried_in, is_delayed_in}
 use Rattle.bq_job.specs.machine.JobStates.{burial_of, due_of}
 use Rattle.bq_job.specs.machine.TubeCommands.{is_ready_in}
-use Rattle.bq_core.specs.declared.job_list.JobKind.{JobKind}
-use Rattle.bq_core.specs.declared.job_list.JobKind.TheVariants.{Ready, Delayed, Buried}
+use Rattle.bq_core.specs.declared.job_store.JobKind.{JobKind}
+use Rattle.bq_core.specs.declared.job_store.JobKind.TheVariants.{Ready, Delayed, Buried}
 
 abbrev pub is_of : JobKind → List ℕ → Job → Bool
 is_of Ready tube j = is_ready_in tube j

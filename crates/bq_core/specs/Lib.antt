@@ -23,14 +23,14 @@ pub mod Numbers
 pub mod PauseEnds
 pub mod Places
 pub mod Putting
-pub mod Queues
+pub mod WaitingTurns
 pub mod Replying
 pub mod Room
 pub mod SeatChanges
 pub mod SeatView
 pub mod Serving
 pub mod Soundness
-pub mod State
+pub mod CoreParts
 pub mod Stirs
 pub mod Tallies
 pub mod Texts

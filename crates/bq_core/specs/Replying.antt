@@ -8,38 +8,38 @@ use Rattle.bq_job.specs.machine.Machine.{Machine, SeatRecord}
 use Rattle.bq_job.specs.machine.TubeCommands.{watching}
 use Rattle.bq_core.specs.Acting.{Replies}
 use Rattle.bq_core.specs.JobKinds.{first_of_kind}
-use Rattle.bq_core.specs.State.{machine_of}
-use Rattle.bq_core.specs.declared.job_list.JobKind.{JobKind}
+use Rattle.bq_core.specs.CoreParts.{machine_of}
+use Rattle.bq_core.specs.declared.job_store.JobKind.{JobKind}
 use Rattle.bq_core.specs.declared.reply.Reply.{Reply}
-use Rattle.bq_core.specs.declared.state.State.{State}
+use Rattle.bq_core.specs.declared.core_parts.CoreParts.{CoreParts}
 
 -- a request came to this reply
-abbrev pub RepliesBy : Bool → (Machine → Effect) → State → Reply → Answer → State → Type 0
+abbrev pub RepliesBy : Bool → (Machine → Effect) → CoreParts → Reply → Answer → CoreParts → Type 0
 RepliesBy takes effect old reply told new = Replies takes (machine_of old) (effect (machine_of old)) reply told (machine_of new)
 
 -- a request of the client at this seat, of whose record this is so
-abbrev pub AtSeat : ℕ → State → (SeatRecord → Type 0) → Type 0
+abbrev pub AtSeat : ℕ → CoreParts → (SeatRecord → Type 0) → Type 0
 AtSeat seat state P = (s : SeatRecord) → seat_with seat (machine_of state).seats ≡ Some s → P s
 
-abbrev pub RepliesAt : ℕ → Bool → (Machine → SeatRecord → Effect) → State → Reply → Answer → State → Type 0
+abbrev pub RepliesAt : ℕ → Bool → (Machine → SeatRecord → Effect) → CoreParts → Reply → Answer → CoreParts → Type 0
 RepliesAt seat takes effect old reply told new = AtSeat seat old (λ s. RepliesBy takes (λ m. effect m s) old reply told new)
 
 -- the same of any record of this number
-abbrev pub RepliesTo : ℕ → Bool → (Machine → SeatRecord → Effect) → State → Reply → Answer → State → Type 0
+abbrev pub RepliesTo : ℕ → Bool → (Machine → SeatRecord → Effect) → CoreParts → Reply → Answer → CoreParts → Type 0
 RepliesTo seat takes effect old reply told new = (s : SeatRecord) → s.number ≡ seat → RepliesBy takes (λ m. effect m s) old reply told new
 
 -- and where the request is always answered
-abbrev pub AnswersTo : ℕ → (Machine → SeatRecord → Effect) → State → Answer → State → Type 0
+abbrev pub AnswersTo : ℕ → (Machine → SeatRecord → Effect) → CoreParts → Answer → CoreParts → Type 0
 AnswersTo seat effect old answer new =
     (s : SeatRecord) → s.number ≡ seat → effect (machine_of old) s ≡ telling answer (machine_of new)
 
 -- the client at this seat waits, until this moment if there is one
-abbrev pub Waits : ℕ → Option ℕ → State → State → Type 0
+abbrev pub Waits : ℕ → Option ℕ → CoreParts → CoreParts → Type 0
 Waits seat until old new =
     (s : SeatRecord) → s.number ≡ seat → reserve_effect until (machine_of old) s ≡ silent (machine_of new)
 
 -- the client at this seat watches these tubes, out of those that it watched
-abbrev pub Watches : ℕ → (SeatRecord → List (List ℕ)) → State → State → Type 0
+abbrev pub Watches : ℕ → (SeatRecord → List (List ℕ)) → CoreParts → CoreParts → Type 0
 Watches seat names old new = AtSeat seat old (λ s. machine_of new ≡ with_seat seat (watching (names s)) (machine_of old))
 
 -- the first job of this kind in the tube that the client uses is shown

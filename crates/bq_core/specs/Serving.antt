@@ -12,12 +12,12 @@ use Rattle.bq_core.specs.Asking.{Asks}
 use Rattle.bq_core.specs.Cost.{waited}
 use Rattle.bq_steps.specs.Cost.{IsStepWithin}
 use Rattle.bq_steps.specs.Outbox.{Outbox, outcome_of}
-use Rattle.bq_core.specs.State.{machine_of}
+use Rattle.bq_core.specs.CoreParts.{machine_of}
 use Rattle.bq_core.specs.Turns.{HasRoom}
-use Rattle.bq_core.specs.declared.state.State.{State}
+use Rattle.bq_core.specs.declared.core_parts.CoreParts.{CoreParts}
 
 -- there was no next one, and nothing happened
-abbrev pub IsLastTurn : {A : Type 0} → Option A → State → State → Outbox → Outbox → Type 0
+abbrev pub IsLastTurn : {A : Type 0} → Option A → CoreParts → CoreParts → Outbox → Outbox → Type 0
 IsLastTurn next old new outs more = (next ≡ None) × (machine_of new ≡ machine_of old) × (more ≡ outs)
 
 -- The machine keeps nothing of tubes that are gone.
@@ -42,6 +42,6 @@ pub record ServesAsking (first : Machine) (old new : Outbox) (last : Machine) (b
   pub asks : Asks (length serves.handed * (waited first + 9) + waited first + waiting_count first + 1) before after
 
 -- a step with these answers led from the first state to the last, within its bound of comparisons
-abbrev pub TakesStepWithin : ℕ → ℕ → Step → State → State → Outbox → Type 0
+abbrev pub TakesStepWithin : ℕ → ℕ → Step → CoreParts → CoreParts → Outbox → Type 0
 TakesStepWithin at seat what old new outs =
     IsStepWithin (machine_of old) at seat what (outcome_of outs) outs.given (machine_of new) old.jobs.comparisons new.jobs.comparisons

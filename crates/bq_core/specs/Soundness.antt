@@ -9,7 +9,7 @@ use Rattle.bq_job.specs.machine.Machine.{SeatRecord, TubeRecord}
 use Rattle.bq_core.specs.FirstEnds.{AreTimeouts}
 use Rattle.bq_core.specs.KeptTubes.{KeptTubes}
 use Rattle.bq_core.specs.Knowledge.{IsSo}
-use Rattle.bq_core.specs.Queues.{AreQueued, Queued}
+use Rattle.bq_core.specs.WaitingTurns.{AreInTurn, WaitingTurns}
 use Rattle.bq_core.specs.SeatChanges.{AreNumbered}
 use Rattle.bq_core.specs.TubeEntries.{AreEntries, AreInOrder}
 use Rattle.bq_core.specs.declared.known.first_end.FirstEnd.{FirstEnd}
@@ -17,7 +17,7 @@ use Rattle.bq_core.specs.declared.known.first_end.FirstEnd.TheVariants as ends
 use Rattle.bq_core.specs.declared.known.Known.{Known}
 
 -- The fields of a state agree with one another: these jobs, seats and tubes with what is kept beside them.
-pub record Soundness (jobs : List Job) (seats : List SeatRecord) (tubes : KeptTubes) (turns : Queued) (k : Known)
+pub record Soundness (jobs : List Job) (seats : List SeatRecord) (tubes : KeptTubes) (turns : WaitingTurns) (k : Known)
     (next_id : ℕ) (draining : Bool) : Type 0 where
   pub entries : AreEntries jobs seats tubes.entries
   -- Seats are numbered in order.
@@ -27,7 +27,7 @@ pub record Soundness (jobs : List Job) (seats : List SeatRecord) (tubes : KeptTu
   -- Each id was given once.
   pub ids : AreIdsWithin 1 jobs next_id
   -- Those that wait stand in their turn.
-  pub queue : AreQueued turns seats
+  pub waiting : AreInTurn turns seats
   -- What is known without a search is so.
   pub known : IsSo k jobs seats tubes
 
@@ -44,7 +44,7 @@ AreTimeouts-prop ends.Unknown seats = Unit-prop
 AreTimeouts-prop (ends.Known first) seats = Prim.hlevel props
 
 -- There is one proof of it at most, so a field can hold it.
-pub Soundness-prop : (jobs : List Job) (seats : List SeatRecord) (tubes : KeptTubes) (turns : Queued) (k : Known)
+pub Soundness-prop : (jobs : List Job) (seats : List SeatRecord) (tubes : KeptTubes) (turns : WaitingTurns) (k : Known)
     → (next_id : ℕ) (draining : Bool)
     → IsProp (Soundness jobs seats tubes turns k next_id draining)
 Soundness-prop jobs seats tubes turns k next_id draining = Prim.hlevel (props, AreInOrder-prop, AreIdsWithin-prop, AreTimeouts-prop)

@@ -1,3 +1,4 @@
+//! The command's own effect, by its kind, and its answer.
 ghost use Rattle.std.specs.Prelude.{◌≡◌, true};
 ghost use Rattle.bq_job.specs.declared.step.Step.TheVariants as steps;
 ghost use Rattle.bq_job.specs.machine.Asked.{asked, effect, refusal_answer as answer_of_refusal};
@@ -6,20 +7,20 @@ ghost use Rattle.bq_job.specs.machine.Steps.{step_takes_memory, takes_memory};
 ghost use Rattle.bq_core.specs.Asking.{AsksAsChanged};
 ghost use Rattle.bq_core.specs.Acting.{Acts, is_asking};
 ghost use Rattle.bq_core.specs.Replying.{RepliesAt, RepliesBy};
-ghost use Rattle.bq_core.specs.State.{machine_of};
+ghost use Rattle.bq_core.specs.CoreParts.{machine_of};
 ghost use Rattle.bq_core.specs.Turns.{HasRoom};
 
+use crate::core_parts::CoreParts;
 use crate::job_acts::{NewJob, NewTurn};
-use crate::job_list::JobKind;
+use crate::job_store::JobKind;
 use crate::reply::Reply;
 use crate::seat_list::SeatChange;
-use crate::state::State;
 use crate::{changes, job_acts, kicks, leases, statistics_acts, tube_acts};
 use bq_job::{Answer, Refusal, Request, Seat, Step};
 use bq_steps::Outs;
 use std::alloc::Global;
 
-fn connect(state: &mut State, seat: Seat)
+fn connect(state: &mut CoreParts, seat: Seat)
     ensures after { machine_of state.new ≡ (effect (machine_of state.old) seat steps.Connect).machine }
     ensures jobs { state.new.jobs ≡ state.old.jobs }
 {
@@ -29,7 +30,7 @@ fn connect(state: &mut State, seat: Seat)
     }
 }
 
-fn end(state: &mut State, seat: Seat)
+fn end(state: &mut CoreParts, seat: Seat)
     ensures after { machine_of state.new ≡ (effect (machine_of state.old) seat steps.End).machine }
     ensures jobs { state.new.jobs ≡ state.old.jobs }
 {
@@ -39,7 +40,7 @@ fn end(state: &mut State, seat: Seat)
 }
 
 // The jobs that the client holds become ready or delayed, and the seat is free.
-fn close(state: &mut State, seat: Seat) -> Option<Answer>
+fn close(state: &mut CoreParts, seat: Seat) -> Option<Answer>
     ensures reply { effect (machine_of state.old) seat steps.Close ≡ record { machine = machine_of state.new; answer = result } }
     ensures asks { AsksAsChanged state.old.jobs state.new.jobs }
 {
@@ -66,7 +67,7 @@ fn refusal_answer(why: Refusal) -> Answer
 
 // Carries a request out that an open seat may ask.
 fn answer(
-    state: &mut State,
+    state: &mut CoreParts,
     alloc: Global,
     seat: Seat,
     request: &Request,
@@ -138,7 +139,13 @@ fn answer(
     }
 }
 
-fn reply_to(state: &mut State, alloc: Global, seat: Seat, what: &Step, told: &mut Answer) -> Reply
+fn reply_to(
+    state: &mut CoreParts,
+    alloc: Global,
+    seat: Seat,
+    what: &Step,
+    told: &mut Answer,
+) -> Reply
     ensures reply { RepliesBy (step_takes_memory what.now) (λ m. effect m seat what.now) state.old result told.new state.new }
     ensures asks { AsksAsChanged state.old.jobs state.new.jobs }
 {
@@ -173,7 +180,7 @@ fn reply_to(state: &mut State, alloc: Global, seat: Seat, what: &Step, told: &mu
 
 /// Carries out the command's own effect, and adds its answer.
 #[tactic(auto, using(crate::proofs::ActLemmas::acts_silent, crate::proofs::ActLemmas::acts_told))]
-pub(crate) fn act(state: &mut State, alloc: Global, seat: Seat, what: &Step, outs: &mut Outs)
+pub(crate) fn act(state: &mut CoreParts, alloc: Global, seat: Seat, what: &Step, outs: &mut Outs)
     requires room { HasRoom 1 (machine_of state.old) outs.old }
     ensures acts { Acts (machine_of state.old) seat what.now outs.old outs.new (machine_of state.new) }
     ensures asks { AsksAsChanged state.old.jobs state.new.jobs }

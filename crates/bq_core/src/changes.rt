@@ -18,27 +18,31 @@ ghost use Rattle.bq_core.specs.Offers.{is_waited_at};
 ghost use Rattle.bq_core.specs.Replying.{AtSeat, Watches};
 ghost use Rattle.bq_core.specs.SeatChanges.{seat_changed, has_tube_of, more_watched, fewer_watched, watches_other};
 ghost use Rattle.bq_core.specs.Keeping.{Looks};
-ghost use Rattle.bq_core.specs.State.{held, machine_of};
+ghost use Rattle.bq_core.specs.CoreParts.{held, machine_of};
 ghost use Rattle.bq_core.specs.Texts.{names_of};
 ghost use Rattle.bq_core.specs.TubeEntries.{has_entry, is_tube_of, tube_changed};
 ghost use Rattle.bq_core.specs.Warnings.{has_waiting_holder, may_hold, with_holder};
 
-use crate::job_list::JobChange;
+use crate::core_parts::CoreParts;
+use crate::job_store::JobChange;
 use crate::known::{Clients, FirstEnd, Known, Loss};
 use crate::name_lists::Names;
-use crate::queue::Queue;
 use crate::seat_list::SeatChange;
 use crate::seat_record::SeatRecord;
-use crate::state::State;
 use crate::tubes::{Moving, TubeChange, Tubes};
-use crate::{job_list, seat_list, shares};
+use crate::waiting::Waiting;
+use crate::{job_store, seat_list, shares};
 use bq_job::{Job, JobId, JobState, Moment, NoMemory, Seat, TubeName};
 use bq_jobs::{Jobs, Moved};
 use bq_steps::Config;
 use std::alloc::Global;
 
 /// Makes room for a job of this tube, where there is none.
-pub(crate) fn make_room(state: &mut State, alloc: Global, tube: &TubeName) -> Result<(), NoMemory>
+pub(crate) fn make_room(
+    state: &mut CoreParts,
+    alloc: Global,
+    tube: &TubeName,
+) -> Result<(), NoMemory>
     ensures room { IfOk result (λ _. 0 < state.new.jobs.room) }
     ensures known { IfOk result (λ _. is_known tube.now state.new.jobs ≡ true) }
     ensures after { machine_of state.new ≡ machine_of state.old }
@@ -50,8 +54,9 @@ pub(crate) fn make_room(state: &mut State, alloc: Global, tube: &TubeName) -> Re
     state.jobs.know(alloc, tube)
 }
 
-/// Puts a job in, where there is room for it. Its id is one that was given, and its tube has an entry.
-pub(crate) fn add(state: &mut State, job: Job)
+/// Puts a job in, where there is room for it. Its id is one that was given, and its tube has an
+/// entry.
+pub(crate) fn add(state: &mut CoreParts, job: Job)
     requires room { 0 < state.old.jobs.room }
     requires given { (1 ≤ job.id) × (job.id < state.old.next_id) }
     requires free { job_with job.id (machine_of state.old).jobs ≡ None }
@@ -70,7 +75,7 @@ pub(crate) fn add(state: &mut State, job: Job)
 }
 
 /// Takes the job of this id out, if there is one. Its room is kept, but for what nobody needs.
-pub(crate) fn take(state: &mut State, id: JobId) -> Option<Job>
+pub(crate) fn take(state: &mut CoreParts, id: JobId) -> Option<Job>
     ensures job { result ≡ job_with id (machine_of state.old).jobs }
     ensures after { machine_of state.new ≡ record (machine_of state.old) { jobs = without id (machine_of state.old).jobs } }
     ensures id { IfSome result (λ job. job.id ≡ id) }
@@ -81,14 +86,14 @@ pub(crate) fn take(state: &mut State, id: JobId) -> Option<Job>
     ensures asks { ComparesAtMost 4 state.old.jobs state.new.jobs }
 {
     let job = state.jobs.remove(id)?;
-    job_list::give_back(&mut state.jobs);
+    job_store::let_room_go(&mut state.jobs);
     state.known.remove_job(&job);
     state.tubes.remove_job(&job);
     Some(job)
 }
 
 /// The jobs know a tube no longer where none is left in it.
-pub(crate) fn forget_last(state: &mut State, tube: &TubeName)
+pub(crate) fn forget_last(state: &mut CoreParts, tube: &TubeName)
     ensures gone { list_any (λ j. is_same_name tube.now j.tube) state.old.jobs.jobs ≡ false → is_known tube.now state.new.jobs ≡ false }
     ensures jobs { state.new.jobs ≡ record state.old.jobs { tubes = state.new.jobs.tubes } }
     ensures after { machine_of state.new ≡ machine_of state.old }
@@ -106,7 +111,7 @@ fn counts_waiter_of(clients: &Clients, tubes: &Tubes, moved: &Moved) -> bool
 }
 
 /// Changes the job of this id, if there is one.
-pub(crate) fn change_job(state: &mut State, id: JobId, what: &JobChange)
+pub(crate) fn change_job(state: &mut CoreParts, id: JobId, what: &JobChange)
     ensures after { machine_of state.new ≡ with_job id (changed what.now) (machine_of state.old) }
     ensures asks { Asks 8 state.old.jobs state.new.jobs }
 {
@@ -122,7 +127,7 @@ pub(crate) fn change_job(state: &mut State, id: JobId, what: &JobChange)
 }
 
 /// Changes the seat of this number. A tube that it uses then has an entry already.
-pub(crate) fn change_seat(state: &mut State, seat: Seat, what: &SeatChange)
+pub(crate) fn change_seat(state: &mut CoreParts, seat: Seat, what: &SeatChange)
     requires entry { has_tube_of what.now state.old.tubes.entries ≡ true }
     requires waits { may_wait what.now (seat_with seat state.old.seats.items) ≡ true }
     requires holds { may_hold what.now seat state.old.known.warns state.old.jobs.jobs ≡ true }
@@ -131,12 +136,12 @@ pub(crate) fn change_seat(state: &mut State, seat: Seat, what: &SeatChange)
 {
     let touched = shares::touched(what);
     let client = seat_list::find(state.seats.as_slice(), seat);
-    state.queue.leave(client);
+    state.waiting.leave(client);
     shares::recount(&mut state.tubes, client, Moving::Goes, touched);
     state.known.leave(client, what, touched, &state.tubes);
     seat_list::change_at(&mut state.seats, seat, what);
     let client = seat_list::find(state.seats.as_slice(), seat);
-    state.queue.join(client);
+    state.waiting.join(client);
     shares::recount(&mut state.tubes, client, Moving::Comes, touched);
     // So many seats there can be, and no count comes to its end.
     let _seats = state.seats.len();
@@ -144,7 +149,7 @@ pub(crate) fn change_seat(state: &mut State, seat: Seat, what: &SeatChange)
 }
 
 /// Takes down whether the client at the seat, which is about to wait, holds a job.
-pub(crate) fn note_leases(state: &mut State, seat: Seat)
+pub(crate) fn note_leases(state: &mut CoreParts, seat: Seat)
     ensures known { state.new.known.warns
         ≡ (if list_any (is_held_by seat) state.old.jobs.jobs then with_holder seat state.old.known.warns else state.old.known.warns) }
     ensures tickets { state.new.tickets ≡ state.old.tickets }
@@ -153,21 +158,21 @@ pub(crate) fn note_leases(state: &mut State, seat: Seat)
     ensures after { machine_of state.new ≡ machine_of state.old }
     ensures asks { Asks 1 state.old.jobs state.new.jobs }
 {
-    let holds = job_list::holds_some(&mut state.jobs, seat);
+    let holds = job_store::holds_some(&mut state.jobs, seat);
     state.known.warns.warn_if(seat, holds);
 }
 
 /// Looks for when the first wait of a client is over by its timeout, where that isn't known.
-pub(crate) fn find_first_end(state: &mut State)
+pub(crate) fn find_first_end(state: &mut CoreParts)
     ensures { held state.new ≡ record (held state.old) { known = record state.old.known { first_end = state.new.known.first_end } } }
 {
     if let FirstEnd::Unknown = &state.known.first_end {
-        state.known.first_end = FirstEnd::find(state.seats.as_slice(), state.queue.as_slice());
+        state.known.first_end = FirstEnd::find(state.seats.as_slice(), state.waiting.as_slice());
     }
 }
 
 /// Changes what is kept of a tube that has an entry.
-pub(crate) fn change_tube(state: &mut State, tube: &TubeName, what: TubeChange)
+pub(crate) fn change_tube(state: &mut CoreParts, tube: &TubeName, what: TubeChange)
     requires entry { has_entry tube.now state.old.tubes.entries ≡ true }
     ensures after { machine_of state.new ≡ with_tube tube.now (tube_changed what) (machine_of state.old) }
     ensures jobs { state.new.jobs ≡ state.old.jobs }
@@ -178,7 +183,7 @@ pub(crate) fn change_tube(state: &mut State, tube: &TubeName, what: TubeChange)
 
 /// Sees to it that a tube has an entry. The growth that this needs comes before any change.
 pub(crate) fn provide_tube(
-    state: &mut State,
+    state: &mut CoreParts,
     alloc: Global,
     tube: &TubeName,
 ) -> Result<(), NoMemory>
@@ -196,10 +201,10 @@ pub(crate) fn provide_tube(
     }
 }
 
-/// The client at the seat watches one more tube. The growths that this needs come before any change. Tells
-/// how many it watches then.
+/// The client at the seat watches one more tube. The growths that this needs come before any
+/// change. Tells how many it watches then.
 pub(crate) fn watch_tube(
-    state: &mut State,
+    state: &mut CoreParts,
     alloc: Global,
     seat: Seat,
     tube: &TubeName,
@@ -225,9 +230,9 @@ pub(crate) fn watch_tube(
     }
 }
 
-/// The client at the seat watches a tube no longer, where another one is still watched. Tells how many it
-/// watches then.
-pub(crate) fn ignore_tube(state: &mut State, seat: Seat, tube: &TubeName) -> u64
+/// The client at the seat watches a tube no longer, where another one is still watched. Tells how
+/// many it watches then.
+pub(crate) fn ignore_tube(state: &mut CoreParts, seat: Seat, tube: &TubeName) -> u64
     requires other { AtSeat seat state.old (λ s. watches_other tube.now s ≡ true) }
     ensures count { AtSeat seat state.old (λ s. result ≡ length (fewer_watched tube.now s)) }
     ensures after { Watches seat (fewer_watched tube.now) state.old state.new }
@@ -245,14 +250,14 @@ pub(crate) fn ignore_tube(state: &mut State, seat: Seat, tube: &TubeName) -> u64
 
 /// Whether the tube exists.
 #[tactic(auto, using(crate::proofs::CrowdPlaces::tube_there))]
-pub(crate) fn is_tube(state: &State, tube: &TubeName) -> bool
+pub(crate) fn is_tube(state: &CoreParts, tube: &TubeName) -> bool
     ensures { result ≡ is_tube_of (machine_of state.now).jobs (machine_of state.now).seats tube.now }
 {
     state.tubes.is_tube(tube)
 }
 
 /// How many tubes exist: so many as there are entries, where none may be gone.
-pub(crate) fn tube_count(state: &State) -> u64
+pub(crate) fn tube_count(state: &CoreParts) -> u64
     ensures { result ≡ length (tubes (machine_of state.now)) }
 {
     match &state.known.loss {
@@ -262,7 +267,7 @@ pub(crate) fn tube_count(state: &State) -> u64
 }
 
 /// The names of the tubes that exist, in byte order. Their memory is asked for before.
-pub(crate) fn tube_names<'a>(state: &'a State, alloc: Global) -> Result<Names<'a>, NoMemory>
+pub(crate) fn tube_names<'a>(state: &'a CoreParts, alloc: Global) -> Result<Names<'a>, NoMemory>
     ensures names { IfOk result (λ names. names_of names.items ≡ tubes (machine_of state.now)) }
     ensures ordered { IfOk result (λ names. is_in_order (names_of names.items) ≡ true) }
 {
@@ -270,7 +275,7 @@ pub(crate) fn tube_names<'a>(state: &'a State, alloc: Global) -> Result<Names<'a
 }
 
 /// Drops the entries of tubes that are gone. It looks only at those that may be.
-pub(crate) fn forget_tubes(state: &mut State)
+pub(crate) fn forget_tubes(state: &mut CoreParts)
     ensures after { machine_of state.new ≡ forgetting (machine_of state.old) }
     ensures jobs { state.new.jobs ≡ state.old.jobs }
 {
@@ -280,7 +285,7 @@ pub(crate) fn forget_tubes(state: &mut State)
 }
 
 /// A moment below the last one counts as that one.
-pub(crate) fn raise_moment(state: &mut State, at: Moment)
+pub(crate) fn raise_moment(state: &mut CoreParts, at: Moment)
     ensures after { machine_of state.new ≡ at_moment at (machine_of state.old) }
     ensures jobs { state.new.jobs ≡ state.old.jobs }
 {
@@ -288,24 +293,24 @@ pub(crate) fn raise_moment(state: &mut State, at: Moment)
 }
 
 /// No jobs, and nobody at the seats.
-pub(crate) fn new_state(
+pub(crate) fn new_parts(
     config: Config,
     seats: Vec<SeatRecord, Global>,
-    queue: Queue,
+    waiting: Waiting,
     tubes: Tubes,
-) -> State
+) -> CoreParts
     requires free { seats.items ≡ map empty_seat (numbers 0 config.seats) }
-    requires nobody { queue.turns ≡ [] }
-    requires room { config.seats ≤ queue.room }
+    requires nobody { waiting.turns ≡ [] }
+    requires room { config.seats ≤ waiting.room }
     requires first { tubes ≡ first_tubes }
     ensures empty { machine_of result ≡ new_machine config }
     ensures comparisons { result.jobs.comparisons ≡ 0 }
 {
-    State {
+    CoreParts {
         config,
         jobs: Jobs::new(),
         seats,
-        queue,
+        waiting,
         tubes,
         known: Known::nothing(),
         moment: 0,

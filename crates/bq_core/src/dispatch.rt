@@ -13,19 +13,19 @@ ghost use Rattle.bq_core.specs.Asking.{Asks, AsksByTurn};
 ghost use Rattle.bq_core.specs.Cost.{waited, waited_tubes};
 ghost use Rattle.bq_core.specs.HandOuts.{HandsOut, IsPicked, handed_to};
 ghost use Rattle.bq_core.specs.Offers.{better_rank, is_waited_at, next_rank, offered, these, waits_at, with_offer, with_offers};
-ghost use Rattle.bq_core.specs.Queues.{by_seat, turns_of, waited_at};
+ghost use Rattle.bq_core.specs.WaitingTurns.{by_seat, turns_of, waited_at};
 ghost use Rattle.bq_core.specs.SeatChanges.{AreNumbered};
 ghost use Rattle.bq_core.specs.Keeping.{Looks};
-ghost use Rattle.bq_core.specs.State.{machine_of};
+ghost use Rattle.bq_core.specs.CoreParts.{machine_of};
 ghost use Rattle.bq_core.specs.Stirs.{is_nothing, may_get};
 ghost use Rattle.bq_core.specs.Turns.{Gives, HasRoom};
 ghost use Rattle.bq_core.specs.Serving.{IsLastTurn};
 
-use crate::job_list::JobChange;
+use crate::core_parts::CoreParts;
+use crate::job_store::JobChange;
 use crate::known::Stir;
 use crate::seat_list::SeatChange;
 use crate::seat_record::{SeatRecord, Turn};
-use crate::state::State;
 use crate::tubes::Tubes;
 use crate::{changes, seat_list};
 use bq_job::{Answer, Body, JobId, NoMemory, Seat, TubeName};
@@ -167,7 +167,7 @@ fn best_offer(jobs: &mut Jobs, tubes: &Tubes, seats: &[SeatRecord], turns: &[Tur
 }
 
 // The job that is handed out next. Only what may be had is looked at.
-fn next_offer(state: &mut State) -> Option<Offer>
+fn next_offer(state: &mut CoreParts) -> Option<Offer>
     ensures next { result ≡ next_rank (machine_of state.old) }
     ensures kept { Looks (waited (machine_of state.old)) state.old state.new }
 {
@@ -185,14 +185,14 @@ fn next_offer(state: &mut State) -> Option<Offer>
             &mut state.jobs,
             &state.tubes,
             state.seats.as_slice(),
-            state.queue.as_slice(),
+            state.waiting.as_slice(),
         ),
     }
 }
 
 // The id of the job that is handed out next.
 #[tactic(auto, using(crate::proofs::DispatchLemmas::id_of_best))]
-fn next_job(state: &mut State) -> Option<JobId>
+fn next_job(state: &mut CoreParts) -> Option<JobId>
     ensures id { result ≡ option_map (λ j. j.id) (next_job (machine_of state.old)) }
     ensures kept { Looks (waited (machine_of state.old)) state.old state.new }
 {
@@ -202,8 +202,8 @@ fn next_job(state: &mut State) -> Option<JobId>
     }
 }
 
-// The seat of the client that has waited longest of those that wait at this tube. Where one client alone may
-// have any job, it is that one, and no other is looked at.
+// The seat of the client that has waited longest of those that wait at this tube. Where one client
+// alone may have any job, it is that one, and no other is looked at.
 fn taker(stir: &Stir, seats: &[SeatRecord], turns: &[Turn], tube: &TubeName) -> Option<Seat>
     requires numbered { AreNumbered seats.now }
     requires turns { turns.now ≡ turns_of seats.now }
@@ -218,7 +218,7 @@ fn taker(stir: &Stir, seats: &[SeatRecord], turns: &[Turn], tube: &TubeName) -> 
 }
 
 // The client that gets the next job, and one more owner of the job's body, unless it is refused.
-fn pick(state: &mut State, id: JobId) -> Option<(Seat, Result<Body, NoMemory>)>
+fn pick(state: &mut CoreParts, id: JobId) -> Option<(Seat, Result<Body, NoMemory>)>
     requires next { Some id ≡ option_map (λ j. j.id) (next_job (machine_of state.old)) }
     ensures some { is_some result ≡ true }
     ensures picked { IfSome result (λ p. IsPicked (machine_of state.old) p.0) }
@@ -229,14 +229,14 @@ fn pick(state: &mut State, id: JobId) -> Option<(Seat, Result<Body, NoMemory>)>
     let seat = taker(
         &state.known.stir,
         state.seats.as_slice(),
-        state.queue.as_slice(),
+        state.waiting.as_slice(),
         &tube,
     )?;
     Some((seat, shared))
 }
 
 // The client at the seat gets the job, with this share of its body.
-fn give(state: &mut State, outs: &mut Outs, number: Seat, id: JobId, body: Body)
+fn give(state: &mut CoreParts, outs: &mut Outs, number: Seat, id: JobId, body: Body)
     requires room { length outs.old.given < outs.old.most }
     ensures after { machine_of state.new ≡ handed_to number id (machine_of state.old) }
     ensures told { outs.new ≡ record outs.old { given = outs.old.given ++ (number, answers.Reserved id body) ∷ [] } }
@@ -250,7 +250,7 @@ fn give(state: &mut State, outs: &mut Outs, number: Seat, id: JobId, body: Body)
 }
 
 // One more owner of the body was refused: the client is told so, and waits no longer.
-fn refuse(state: &mut State, outs: &mut Outs, number: Seat)
+fn refuse(state: &mut CoreParts, outs: &mut Outs, number: Seat)
     requires room { length outs.old.given < outs.old.most }
     ensures after { machine_of state.new ≡ with_seat number without_wait (machine_of state.old) }
     ensures told { outs.new ≡ record outs.old { given = outs.old.given ++ (number, answers.OutOfMemory) ∷ []; unshared = true } }
@@ -264,7 +264,7 @@ fn refuse(state: &mut State, outs: &mut Outs, number: Seat)
 // The job of this id goes to the client at the seat, unless the share of its body was refused.
 #[tactic(auto, using(crate::proofs::TurnLemmas::shared_given, crate::proofs::TurnLemmas::refused_given))]
 fn hand_out(
-    state: &mut State,
+    state: &mut CoreParts,
     outs: &mut Outs,
     id: JobId,
     number: Seat,
@@ -281,7 +281,7 @@ fn hand_out(
 }
 
 // Hands one job out, if there is one that a waiting client may have.
-fn turn(state: &mut State, outs: &mut Outs) -> bool
+fn turn(state: &mut CoreParts, outs: &mut Outs) -> bool
     requires room { HasRoom 0 (machine_of state.old) outs.old }
     ensures done { result ≡ false → IsLastTurn (next_job (machine_of state.old)) state.old state.new outs.old outs.new }
     ensures given { result ≡ true → Gives DispatchTurn has_refused_share (machine_of state.old) (machine_of state.new) outs.old outs.new }
@@ -302,9 +302,9 @@ fn turn(state: &mut State, outs: &mut Outs) -> bool
     true
 }
 
-// While some waiting client may have a ready job, the least of them goes to the client that has waited
-// longest.
-fn dispatch_all(state: &mut State, outs: &mut Outs)
+// While some waiting client may have a ready job, the least of them goes to the client that has
+// waited longest.
+fn dispatch_all(state: &mut CoreParts, outs: &mut Outs)
     requires room { HasRoom 0 (machine_of state.old) outs.old }
     ensures given { Gives DispatchTurn has_refused_share (machine_of state.old) (machine_of state.new) outs.old outs.new }
     ensures done { next_job (machine_of state.new) ≡ None }
@@ -313,10 +313,10 @@ fn dispatch_all(state: &mut State, outs: &mut Outs)
     while turn(state, outs) {}
 }
 
-/// While some waiting client may have a ready job, the least of them goes to the client that has waited
-/// longest. Where it is known that nobody may have one, none is looked for.
+/// While some waiting client may have a ready job, the least of them goes to the client that has
+/// waited longest. Where it is known that nobody may have one, none is looked for.
 #[tactic(auto, using(crate::proofs::IdleLemmas::is_sound, crate::proofs::IdleLemmas::none_next, crate::proofs::TurnLemmas::gives_nothing))]
-pub(crate) fn dispatch(state: &mut State, outs: &mut Outs)
+pub(crate) fn dispatch(state: &mut CoreParts, outs: &mut Outs)
     requires room { HasRoom 0 (machine_of state.old) outs.old }
     ensures given { Gives DispatchTurn has_refused_share (machine_of state.old) (machine_of state.new) outs.old outs.new }
     ensures done { next_job (machine_of state.new) ≡ None }

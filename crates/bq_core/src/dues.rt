@@ -1,3 +1,4 @@
+//! When something happens by itself.
 ghost use Rattle.std.specs.Prelude.{◌≡◌, ◌+◌, None, count_by, fold, length, if◌then◌else◌};
 ghost use Rattle.std.specs.Option.{option_copied, option_map};
 ghost use Rattle.bq_job.specs.machine.Changes.{is_waiting};
@@ -5,15 +6,15 @@ ghost use Rattle.bq_job.specs.beside.NextDue.{next_due as next_due_of};
 ghost use Rattle.bq_core.specs.Asking.{Asks};
 ghost use Rattle.bq_core.specs.Dues.{earlier_of_both, is_end_over, timers_due, warning_due, warning_due_at, with_seat_due, with_warning_due};
 ghost use Rattle.bq_core.specs.FirstEnds.{AreTimeouts};
-ghost use Rattle.bq_core.specs.Queues.{at_turn, turns_of};
+ghost use Rattle.bq_core.specs.WaitingTurns.{at_turn, turns_of};
 ghost use Rattle.bq_core.specs.SeatChanges.{AreNumbered};
-ghost use Rattle.bq_core.specs.State.{machine_of};
+ghost use Rattle.bq_core.specs.CoreParts.{machine_of};
 ghost use Rattle.bq_core.specs.Warnings.{AreWarned, is_waiting_there};
 
+use crate::core_parts::CoreParts;
 use crate::known::{FirstEnd, Warns};
 use crate::seat_list;
 use crate::seat_record::{SeatRecord, Turn};
-use crate::state::State;
 use bq_job::{JobId, Moment};
 use bq_jobs::Jobs;
 
@@ -105,8 +106,8 @@ fn first_warning(jobs: &mut Jobs, seats: &[SeatRecord], turns: &[Turn]) -> Optio
     best
 }
 
-// When the first of the clients that wait is told so. Only who may hold a job is looked at, and where that is more than
-// one, who waits.
+// When the first of the clients that wait is told so. Only who may hold a job is looked at, and
+// where that is more than one, who waits.
 fn warnings_due(
     jobs: &mut Jobs,
     seats: &[SeatRecord],
@@ -181,7 +182,7 @@ fn seats_due(first: &FirstEnd, seats: &[SeatRecord], turns: &[Turn]) -> Option<M
 }
 
 /// The least moment at which something happens by itself, if there is any.
-pub(crate) fn next_due(state: &mut State) -> Option<Moment>
+pub(crate) fn next_due(state: &mut CoreParts) -> Option<Moment>
     ensures due { result ≡ next_due_of (machine_of state.old) }
     ensures same { machine_of state.new ≡ machine_of state.old }
     ensures asks { Asks (count_by is_waiting state.old.seats.items + 2) state.old.jobs state.new.jobs }
@@ -190,14 +191,14 @@ pub(crate) fn next_due(state: &mut State) -> Option<Moment>
     let warning = warnings_due(
         &mut state.jobs,
         state.seats.as_slice(),
-        state.queue.as_slice(),
+        state.waiting.as_slice(),
         &state.known.warns,
     );
     state.known.warns.settle(warning.is_some());
     let seats = seats_due(
         &state.known.first_end,
         state.seats.as_slice(),
-        state.queue.as_slice(),
+        state.waiting.as_slice(),
     );
     earlier_of(
         earlier_of(jobs, warning),

@@ -1,3 +1,4 @@
+//! Commands on one job, and those that wait for one.
 ghost use Rattle.std.specs.Prelude.{◌≡◌, true, false, Some};
 ghost use Rattle.bq_job.specs.machine.Acts.{telling};
 ghost use Rattle.bq_job.specs.machine.Changes.{seat_with};
@@ -10,14 +11,14 @@ ghost use Rattle.bq_core.specs.Asking.{AsksAsChanged};
 ghost use Rattle.bq_core.specs.Acting.{is_asking};
 ghost use Rattle.bq_core.specs.Putting.{after_given};
 ghost use Rattle.bq_core.specs.Replying.{AnswersTo, RepliesAt, RepliesTo, Waits};
-ghost use Rattle.bq_core.specs.State.{held, machine_of};
+ghost use Rattle.bq_core.specs.CoreParts.{held, machine_of};
 
-use crate::job_list::{JobChange, JobTest};
+use crate::core_parts::CoreParts;
+use crate::job_store::{JobChange, JobTest};
 use crate::reply::Reply;
 use crate::seat_list::SeatChange;
-use crate::state::State;
 use crate::tubes::TubeChange;
-use crate::{changes, job_list, seat_list};
+use crate::{changes, job_store, seat_list};
 use bq_job::{Answer, Body, Counts, Job, JobId, Moment, Pri, Seat, TubeName};
 use bq_jobs::laws;
 use std::alloc::Global;
@@ -41,7 +42,7 @@ pub(crate) struct NewTurn {
 }
 
 // The job that a put makes; its time to run is at least a second.
-fn new_job(state: &State, tube: &TubeName, new: NewJob, body: Body) -> Job
+fn new_job(state: &CoreParts, tube: &TubeName, new: NewJob, body: Body) -> Job
     ensures { (s : SeatRecord) → s.used ≡ tube.now → result ≡ job_of_put (machine_of state.now) s new.pri new.delay new.ttr body }
 {
     Job {
@@ -53,13 +54,13 @@ fn new_job(state: &State, tube: &TubeName, new: NewJob, body: Body) -> Job
         body,
         put_at: state.moment,
         counts: Counts::default(),
-        state: job_list::delayed_by(new.delay, state.moment),
+        state: job_store::delayed_by(new.delay, state.moment),
     }
 }
 
 // An id is given.
-#[tactic(auto, using(crate::proofs::StateLemmas::sound_given))]
-fn count_put(state: &mut State)
+#[tactic(auto, using(crate::proofs::PartsLemmas::sound_given))]
+fn count_put(state: &mut CoreParts)
     requires accepts { state.old.draining ≡ false }
     ensures after { machine_of state.new ≡ after_given (machine_of state.old) }
     ensures same { held state.new ≡ record (held state.old)
@@ -71,7 +72,7 @@ fn count_put(state: &mut State)
 }
 
 // Whether there are as many jobs as there may be.
-fn is_full(state: &State) -> bool
+fn is_full(state: &CoreParts) -> bool
     ensures { result ≡ is_full_of state.now.config.max_jobs (machine_of state.now).jobs }
 {
     match state.config.max_jobs {
@@ -80,10 +81,11 @@ fn is_full(state: &State) -> bool
     }
 }
 
-/// Puts a job. The growths that it needs, boxes and the number of a tube that had no job, come before any change, and where
-/// there are as many jobs as there may be, none is asked for. The job is one more owner of the body, which its client's step has still.
+/// Puts a job. The growths that it needs, boxes and the number of a tube that had no job, come
+/// before any change, and where there are as many jobs as there may be, none is asked for. The job
+/// is one more owner of the body, which its client's step has still.
 pub(crate) fn put(
-    state: &mut State,
+    state: &mut CoreParts,
     alloc: Global,
     seat: Seat,
     new: NewJob,
@@ -124,7 +126,7 @@ pub(crate) fn put(
 
 /// The client waits, until this moment if there is one.
 #[tactic(auto, using(crate::proofs::CrowdLemmas::asking_is_connected, crate::proofs::WarningLemmas::known_holds))]
-pub(crate) fn reserve(state: &mut State, seat: Seat, until: Option<Moment>)
+pub(crate) fn reserve(state: &mut CoreParts, seat: Seat, until: Option<Moment>)
     requires asks { is_asking (seat_with seat state.old.seats.items) ≡ true }
     ensures reply { Waits seat until state.old state.new }
     ensures asks { AsksAsChanged state.old.jobs state.new.jobs }
@@ -136,17 +138,17 @@ pub(crate) fn reserve(state: &mut State, seat: Seat, until: Option<Moment>)
 }
 
 /// The client waits, for so many seconds at most.
-pub(crate) fn reserve_until(state: &mut State, seat: Seat, seconds: u32)
+pub(crate) fn reserve_until(state: &mut CoreParts, seat: Seat, seconds: u32)
     requires asks { is_asking (seat_with seat state.old.seats.items) ≡ true }
     ensures reply { Waits seat (Some (later_by state.old.moment seconds)) state.old state.new }
     ensures asks { AsksAsChanged state.old.jobs state.new.jobs }
 {
-    let until = job_list::later(state.moment, seconds);
+    let until = job_store::later(state.moment, seconds);
     reserve(state, seat, Some(until));
 }
 
 /// Reserves a job that nobody holds, in whatever tube.
-pub(crate) fn reserve_job(state: &mut State, seat: Seat, id: JobId, told: &mut Answer) -> Reply
+pub(crate) fn reserve_job(state: &mut CoreParts, seat: Seat, id: JobId, told: &mut Answer) -> Reply
     ensures reply { RepliesTo seat false (reserve_job_effect id) state.old result told.new state.new }
     ensures asks { AsksAsChanged state.old.jobs state.new.jobs }
 {
@@ -168,7 +170,7 @@ pub(crate) fn reserve_job(state: &mut State, seat: Seat, id: JobId, told: &mut A
 }
 
 /// Takes out a job that nobody holds, or that the client holds itself.
-pub(crate) fn delete(state: &mut State, seat: Seat, id: JobId, told: &mut Answer)
+pub(crate) fn delete(state: &mut CoreParts, seat: Seat, id: JobId, told: &mut Answer)
     ensures reply { AnswersTo seat (delete_effect id) state.old told.new state.new }
     ensures asks { AsksAsChanged state.old.jobs state.new.jobs }
 {
@@ -186,7 +188,13 @@ pub(crate) fn delete(state: &mut State, seat: Seat, id: JobId, told: &mut Answer
 }
 
 /// Gives a job back that the client holds.
-pub(crate) fn release(state: &mut State, seat: Seat, id: JobId, with: NewTurn, told: &mut Answer)
+pub(crate) fn release(
+    state: &mut CoreParts,
+    seat: Seat,
+    id: JobId,
+    with: NewTurn,
+    told: &mut Answer,
+)
     ensures reply { AnswersTo seat (release_effect id with.pri with.delay) state.old told.new state.new }
     ensures asks { AsksAsChanged state.old.jobs state.new.jobs }
 {
@@ -200,7 +208,7 @@ pub(crate) fn release(state: &mut State, seat: Seat, id: JobId, with: NewTurn, t
 }
 
 /// Puts a job aside that the client holds.
-pub(crate) fn bury(state: &mut State, seat: Seat, id: JobId, pri: Pri, told: &mut Answer)
+pub(crate) fn bury(state: &mut CoreParts, seat: Seat, id: JobId, pri: Pri, told: &mut Answer)
     ensures reply { AnswersTo seat (bury_effect id pri) state.old told.new state.new }
     ensures asks { AsksAsChanged state.old.jobs state.new.jobs }
 {
@@ -215,7 +223,7 @@ pub(crate) fn bury(state: &mut State, seat: Seat, id: JobId, pri: Pri, told: &mu
 }
 
 /// The time to run of a job that the client holds begins anew.
-pub(crate) fn touch(state: &mut State, seat: Seat, id: JobId, told: &mut Answer)
+pub(crate) fn touch(state: &mut CoreParts, seat: Seat, id: JobId, told: &mut Answer)
     ensures reply { AnswersTo seat (touch_effect id) state.old told.new state.new }
     ensures asks { AsksAsChanged state.old.jobs state.new.jobs }
 {
@@ -223,13 +231,13 @@ pub(crate) fn touch(state: &mut State, seat: Seat, id: JobId, told: &mut Answer)
         *told = Answer::NotFound;
         return;
     };
-    let change = JobChange::Touch(seat, job_list::later(state.moment, ttr));
+    let change = JobChange::Touch(seat, job_store::later(state.moment, ttr));
     changes::change_job(state, id, &change);
     *told = Answer::Touched;
 }
 
 /// A buried or delayed job becomes ready.
-pub(crate) fn kick_job(state: &mut State, id: JobId, told: &mut Answer)
+pub(crate) fn kick_job(state: &mut CoreParts, id: JobId, told: &mut Answer)
     ensures reply { (s : SeatRecord) → kick_job_effect id (machine_of state.old) s ≡ telling told.new (machine_of state.new) }
     ensures asks { AsksAsChanged state.old.jobs state.new.jobs }
 {

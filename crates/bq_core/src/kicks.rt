@@ -7,16 +7,17 @@ ghost use Rattle.bq_steps.specs.Cost.{changed_jobs};
 ghost use Rattle.bq_core.specs.JobKinds.{is_of};
 ghost use Rattle.bq_core.specs.Kicking.{KicksFirst, jobs_of};
 ghost use Rattle.bq_core.specs.Replying.{RepliesAt};
-ghost use Rattle.bq_core.specs.State.{machine_of, count_jobs};
+ghost use Rattle.bq_core.specs.CoreParts.{machine_of, count_jobs};
 
-use crate::job_list::{JobChange, JobKind};
+use crate::core_parts::CoreParts;
+use crate::job_store::{JobChange, JobKind};
 use crate::reply::Reply;
-use crate::state::State;
 use crate::{changes, seat_list};
 use bq_job::{Answer, Seat, TubeName};
 use bq_jobs::Jobs;
 
-// Which jobs of a tube a kick makes ready: the buried ones, or where there are none, the delayed ones.
+// Which jobs of a tube a kick makes ready: the buried ones, or where there are none, the delayed
+// ones.
 #[tactic(auto, using(crate::proofs::KickLemmas::kickable_buried, crate::proofs::KickLemmas::kickable_delayed))]
 fn kind_to_kick(jobs: &mut Jobs, tube: &TubeName) -> JobKind
     ensures order { jobs_of result tube.now jobs.old.jobs ≡ kickable tube.now jobs.old.jobs }
@@ -31,7 +32,7 @@ fn kind_to_kick(jobs: &mut Jobs, tube: &TubeName) -> JobKind
 }
 
 // Kicks the first job of this kind, if there is one.
-fn kick_first(state: &mut State, kind: JobKind, tube: &TubeName) -> bool
+fn kick_first(state: &mut CoreParts, kind: JobKind, tube: &TubeName) -> bool
     requires out { (k : Job) → is_of kind tube.now (kicked k) ≡ false }
     ensures none { result ≡ false → (jobs_of kind tube.now state.old.jobs.jobs ≡ []) × (machine_of state.new ≡ machine_of state.old) }
     ensures kicked { result ≡ true → KicksFirst kind tube.now (machine_of state.old).jobs (machine_of state.new).jobs }
@@ -47,7 +48,7 @@ fn kick_first(state: &mut State, kind: JobKind, tube: &TubeName) -> bool
 }
 
 // Kicks the first jobs of this kind, so many at most. Tells how many there were.
-fn kick_some(state: &mut State, kind: JobKind, tube: &TubeName, bound: u32) -> u64
+fn kick_some(state: &mut CoreParts, kind: JobKind, tube: &TubeName, bound: u32) -> u64
     requires out { (k : Job) → is_of kind tube.now (kicked k) ≡ false }
     ensures kicked { machine_of state.new ≡ after_kick (take bound (jobs_of kind tube.now state.old.jobs.jobs)) (machine_of state.old) }
     ensures count { result ≡ length (take bound (jobs_of kind tube.now (machine_of state.old).jobs)) }
@@ -63,7 +64,7 @@ fn kick_some(state: &mut State, kind: JobKind, tube: &TubeName, bound: u32) -> u
 }
 
 // Kicks jobs of the tube, so many at most. Tells how many there were.
-fn kick_in(state: &mut State, tube: &TubeName, bound: u32) -> u64
+fn kick_in(state: &mut CoreParts, tube: &TubeName, bound: u32) -> u64
     ensures kicked { machine_of state.new ≡ after_kick (take bound (kickable tube.now (machine_of state.old).jobs)) (machine_of state.old) }
     ensures count { result ≡ length (take bound (kickable tube.now (machine_of state.old).jobs)) }
     ensures changed { result ≤ changed_jobs (machine_of state.old).jobs (machine_of state.new).jobs }
@@ -75,7 +76,7 @@ fn kick_in(state: &mut State, tube: &TubeName, bound: u32) -> u64
 
 /// Kicks jobs of the tube that the client uses, so many at most.
 #[tactic(auto, using(crate::proofs::AskLemmas::within))]
-pub(crate) fn kick(state: &mut State, seat: Seat, bound: u32, told: &mut Answer) -> Reply
+pub(crate) fn kick(state: &mut CoreParts, seat: Seat, bound: u32, told: &mut Answer) -> Reply
     ensures reply { RepliesAt seat false (kick_effect bound) state.old result told.new state.new }
     ensures asks { AsksAsChanged state.old.jobs state.new.jobs }
 {

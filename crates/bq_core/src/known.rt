@@ -22,8 +22,8 @@ mod stir;
 mod tally;
 mod warns;
 
-/// What is known without a search. Each field follows from the jobs, the seats and the tubes, and is
-/// kept where these change: what it says of them is a clause of `specs/Knowledge.antt`.
+/// What is known without a search. Each field follows from the jobs, the seats and the tubes, and
+/// is kept where these change: what it says of them is a clause of `specs/Knowledge.antt`.
 #[derive(Clone, Copy)]
 pub(crate) struct Known {
     /// How many jobs are in each state.
@@ -58,7 +58,8 @@ impl Known {
         }
     }
 
-    /// A job comes: whether it is ready while somebody waits at its tube, and whether its holder waits, is told.
+    /// A job comes: whether it is ready while somebody waits at its tube, and whether its holder
+    /// waits, is told.
     pub(crate) fn add_job(&mut self, job: &Job, is_wanted: bool, waits: bool)
         ensures { self.new ≡ with_job job.now is_wanted waits self.old }
     {
@@ -86,7 +87,8 @@ impl Known {
         self.warns.warn_holder_if(moved.to.state, waits);
     }
 
-    /// A seat, if there is one, is about to be changed, and counts no longer for what is touched at its tubes.
+    /// A seat, if there is one, is about to be changed, and counts no longer for what is touched at
+    /// its tubes.
     pub(crate) fn leave(
         &mut self,
         client: Option<&SeatRecord>,

@@ -5,31 +5,31 @@
 #![tactic(auto)]
 
 pub use bq_steps::{Config, CoreFault, Outs};
-pub use machine::Core;
+pub use step::Core;
 
 mod acts;
 mod changes;
+mod core_parts;
 mod dispatch;
 mod dues;
 mod growth;
 mod job_acts;
-mod job_list;
+mod job_store;
 mod kicks;
 mod known;
 mod leases;
-mod machine;
 mod name_lists;
-mod queue;
 mod queue_core;
 mod reply;
 mod seat_list;
 mod seat_record;
 mod shares;
-mod state;
 mod statistics_acts;
+mod step;
 mod texts;
 mod timers;
 mod tube_acts;
 mod tubes;
+mod waiting;
 mod waits;
 mod watch_list;

@@ -1,5 +1,5 @@
 //! The core as one that can be driven without a word on how it keeps its jobs.
-use crate::machine::Core;
+use crate::step::Core;
 use bq_job::{Moment, Seat, Step};
 use bq_steps::{Config, CoreFault, Outs, QueueCore};
 use std::alloc::Global;

@@ -1,5 +1,5 @@
-/// What a request comes to. An answer that is told lies in the place that went along: it can hold a tube's name, so
-/// it isn't moved on the way.
+/// What a request comes to. An answer that is told lies in the place that went along: it can hold a
+/// tube's name, so it isn't moved on the way.
 #[derive(Clone, Copy)]
 pub(crate) enum Reply {
     Silent,

@@ -10,11 +10,11 @@ ghost use Rattle.bq_core.specs.SeatChanges.{more_watched, fewer_watched, watches
 ghost use Rattle.bq_core.specs.EndingWaits.{has_waited};
 ghost use Rattle.bq_core.specs.FirstEnds.{is_gone_in_wait};
 ghost use Rattle.bq_core.specs.Offers.{waits_at};
-ghost use Rattle.bq_core.specs.Queues.{passes_at, turns_of};
+ghost use Rattle.bq_core.specs.WaitingTurns.{passes_at, turns_of};
 ghost use Rattle.bq_core.specs.Warnings.{has_waiting_holder, is_waiting_there};
 
-use crate::queue;
 use crate::seat_record::{SeatRecord, Turn};
+use crate::waiting;
 use bq_job::{JobState, Moment, NoMemory, Seat, TubeName};
 use std::alloc::Global;
 
@@ -75,8 +75,8 @@ pub(crate) fn watch(
     Ok(client.watch_count() as u64)
 }
 
-/// The client at the seat of this number watches a tube no longer, where another one is still watched. Tells
-/// how many it watches then.
+/// The client at the seat of this number watches a tube no longer, where another one is still
+/// watched. Tells how many it watches then.
 pub(crate) fn ignore(seats: &mut Vec<SeatRecord, Global>, number: Seat, name: &TubeName) -> u64
     requires there { number < length seats.old.items }
     requires other { AtPlace seats.old.items number (λ s. watches_other name.now s ≡ true) }
@@ -145,13 +145,14 @@ fn place_waiting(seats: &[SeatRecord], turns: &[Turn], tube: &TubeName) -> Optio
         .position(|turn| waits_there(seats, *turn, tube))
 }
 
-/// The seat of the client that has waited longest of those that wait at this tube. Only who waits is looked at.
+/// The seat of the client that has waited longest of those that wait at this tube. Only who waits
+/// is looked at.
 pub(crate) fn first_waiting(seats: &[SeatRecord], turns: &[Turn], tube: &TubeName) -> Option<Seat>
     requires numbered { AreNumbered seats.now }
     requires turns { turns.now ≡ turns_of seats.now }
     ensures { result ≡ option_map (λ s. s.number) (first_of (waits_at tube.now) is_wait_before seats.now) }
 {
-    match queue::turn_at(turns, place_waiting(seats, turns, tube)) {
+    match waiting::turn_at(turns, place_waiting(seats, turns, tube)) {
         None => None,
         Some(turn) => Some(turn.1),
     }
@@ -181,7 +182,8 @@ fn is_some_turn_over(seats: &[SeatRecord], turns: &[Turn], moment: Moment) -> bo
         .any(|turn| has_waited_there(seats, *turn, moment))
 }
 
-/// Whether some wait is over by its timeout, or because its client sends no more. Only who waits is looked at.
+/// Whether some wait is over by its timeout, or because its client sends no more. Only who waits is
+/// looked at.
 #[tactic(auto, using(crate::proofs::WalkLemmas::any_turn))]
 pub(crate) fn is_some_wait_over(seats: &[SeatRecord], turns: &[Turn], moment: Moment) -> bool
     requires numbered { AreNumbered seats.now }

@@ -36,8 +36,8 @@ impl Model for Waiting {
     ghost inverse = { λ w. record { ticket = w.ticket; until = w.until } };
 }
 
-/// What is known of a seat and of the client there, if one is connected. Who comes uses and watches the default
-/// tube alone.
+/// What is known of a seat and of the client there, if one is connected. Who comes uses and watches
+/// the default tube alone.
 #[derive(Drop)]
 pub(crate) struct SeatRecord {
     number: Seat,
@@ -158,7 +158,8 @@ impl SeatRecord {
         (self.ticket(), self.number)
     }
 
-    /// Whether a wait of this client would be over by its timeout, or because the client sends no more.
+    /// Whether a wait of this client would be over by its timeout, or because the client sends no
+    /// more.
     pub(crate) fn is_timed_out(&self, moment: Moment) -> bool
         ensures { result ≡ is_timed_out_at moment self.now }
     {

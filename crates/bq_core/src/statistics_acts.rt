@@ -7,11 +7,11 @@ ghost use Rattle.bq_jobs.specs.Kept.{ComparesAtMost};
 ghost use Rattle.bq_core.specs.Asking.{AsksAsChanged};
 ghost use Rattle.bq_core.specs.Numbers.{AreOfServer, AreOfTube};
 ghost use Rattle.bq_core.specs.Replying.{RepliesAt, RepliesBy};
-ghost use Rattle.bq_core.specs.State.{machine_of};
+ghost use Rattle.bq_core.specs.CoreParts.{machine_of};
 ghost use Rattle.bq_core.specs.Texts.{TellsJob};
 
+use crate::core_parts::CoreParts;
 use crate::reply::Reply;
-use crate::state::State;
 use crate::texts::{ServerNumbers, TubeNumbers, job_text, names_text, server_text, tube_text};
 use crate::tubes::TubeEntry;
 use crate::{changes, name_lists, seat_list};
@@ -40,7 +40,7 @@ fn text_of_job(
 }
 
 /// Tells of the job of this id.
-pub(crate) fn stats_job(state: &mut State, alloc: Global, id: JobId, told: &mut Answer) -> Reply
+pub(crate) fn stats_job(state: &mut CoreParts, alloc: Global, id: JobId, told: &mut Answer) -> Reply
     ensures reply { RepliesBy true (stats_job_effect id) state.old result told.new state.new }
     ensures asks { AsksAsChanged state.old.jobs state.new.jobs }
 {
@@ -59,7 +59,7 @@ pub(crate) fn stats_job(state: &mut State, alloc: Global, id: JobId, told: &mut 
 
 // What is told of the tube of this name.
 #[tactic(auto, using(crate::proofs::NameLemmas::lent_or, crate::proofs::NameLemmas::record_of_entry))]
-fn tube_numbers(state: &State, tube: &TubeName) -> TubeNumbers
+fn tube_numbers(state: &CoreParts, tube: &TubeName) -> TubeNumbers
     ensures { AreOfTube result tube.now (machine_of state.now) }
 {
     let fresh = TubeEntry::new();
@@ -79,7 +79,12 @@ fn tube_numbers(state: &State, tube: &TubeName) -> TubeNumbers
 }
 
 /// Tells of a tube that exists.
-pub(crate) fn stats_tube(state: &State, alloc: Global, tube: &TubeName, told: &mut Answer) -> Reply
+pub(crate) fn stats_tube(
+    state: &CoreParts,
+    alloc: Global,
+    tube: &TubeName,
+    told: &mut Answer,
+) -> Reply
     ensures { RepliesBy true (stats_tube_effect tube.now) state.now result told.new state.now }
 {
     if !changes::is_tube(state, tube) {
@@ -96,7 +101,7 @@ pub(crate) fn stats_tube(state: &State, alloc: Global, tube: &TubeName, told: &m
 }
 
 // What is told of the server.
-fn server_numbers(state: &State) -> ServerNumbers
+fn server_numbers(state: &CoreParts) -> ServerNumbers
     ensures { AreOfServer result (machine_of state.now) }
 {
     ServerNumbers {
@@ -113,7 +118,7 @@ fn server_numbers(state: &State) -> ServerNumbers
 }
 
 /// Tells of the server.
-pub(crate) fn stats(state: &State, alloc: Global, told: &mut Answer) -> Reply
+pub(crate) fn stats(state: &CoreParts, alloc: Global, told: &mut Answer) -> Reply
     ensures { RepliesBy true stats_effect state.now result told.new state.now }
 {
     match server_text(alloc, &server_numbers(state)) {
@@ -126,7 +131,7 @@ pub(crate) fn stats(state: &State, alloc: Global, told: &mut Answer) -> Reply
 }
 
 /// Lists the tubes that exist.
-pub(crate) fn list_tubes(state: &State, alloc: Global, told: &mut Answer) -> Reply
+pub(crate) fn list_tubes(state: &CoreParts, alloc: Global, told: &mut Answer) -> Reply
     ensures { RepliesBy true list_tubes_effect state.now result told.new state.now }
 {
     let Ok(names) = changes::tube_names(state, alloc) else {
@@ -144,7 +149,7 @@ pub(crate) fn list_tubes(state: &State, alloc: Global, told: &mut Answer) -> Rep
 /// Lists the tubes that the client watches.
 #[tactic(auto, using(bq_job::proofs::NameOrderLemmas::in_order_fold, crate::proofs::NameLemmas::list_of_order))]
 pub(crate) fn list_tubes_watched(
-    state: &State,
+    state: &CoreParts,
     alloc: Global,
     seat: Seat,
     told: &mut Answer,

@@ -5,11 +5,11 @@ ghost use Rattle.bq_job.specs.machine.Timers.{after_timers, is_due, is_expired};
 ghost use Rattle.bq_jobs.specs.Kept.{ComparesAtMost};
 ghost use Rattle.bq_core.specs.Asking.{Asks};
 ghost use Rattle.bq_core.specs.Firing.{ExpiresOne, IsOne, after_job_timers, is_ripe, is_some_due, is_some_expired, with_pauses_ended};
-ghost use Rattle.bq_core.specs.State.{machine_of, HaveFired, count_jobs};
+ghost use Rattle.bq_core.specs.CoreParts.{machine_of, HaveFired, count_jobs};
 
-use crate::job_list::JobChange;
+use crate::core_parts::CoreParts;
+use crate::job_store::JobChange;
 use crate::known::Stir;
-use crate::state::State;
 use crate::{changes, dues};
 use bq_job::{JobId, Moment};
 use bq_jobs::Jobs;
@@ -39,7 +39,7 @@ fn first_expired(jobs: &mut Jobs, moment: Moment) -> Option<JobId>
 }
 
 // One delayed job becomes ready, if one is due.
-fn ripen(state: &mut State) -> bool
+fn ripen(state: &mut CoreParts) -> bool
     ensures done { result ≡ false → is_some_due (machine_of state.old) ≡ false }
     ensures same { result ≡ false → machine_of state.new ≡ machine_of state.old }
     ensures fired { after_job_timers (machine_of state.new) ≡ after_job_timers (machine_of state.old) }
@@ -55,7 +55,7 @@ fn ripen(state: &mut State) -> bool
 }
 
 // One reservation ends, if its time to run is over.
-fn expire_first(state: &mut State) -> bool
+fn expire_first(state: &mut CoreParts) -> bool
     ensures none { result ≡ false → (is_some_expired (machine_of state.old) ≡ false) × (machine_of state.new ≡ machine_of state.old) }
     ensures one { result ≡ true → ExpiresOne (machine_of state.old) (machine_of state.new) }
     ensures asks { Asks (if result then 9 else 1) state.old.jobs state.new.jobs }
@@ -76,7 +76,7 @@ fn times(happened: bool) -> u64
 }
 
 // One reservation ends, if its time to run is over, and is counted.
-fn expire(state: &mut State) -> bool
+fn expire(state: &mut CoreParts) -> bool
     ensures done { result ≡ false → is_some_due (machine_of state.old) ≡ false → HaveFired state.old state.new }
     ensures same { result ≡ false → (machine_of state.new).jobs ≡ (machine_of state.old).jobs }
     ensures fired { after_job_timers (machine_of state.new) ≡ after_job_timers (machine_of state.old) }
@@ -89,7 +89,7 @@ fn expire(state: &mut State) -> bool
 }
 
 // One timer of a job fires, if one has come.
-fn fire_one(state: &mut State) -> bool
+fn fire_one(state: &mut CoreParts) -> bool
     ensures done { result ≡ false → HaveFired state.old state.new }
     ensures same { result ≡ false → (machine_of state.new).jobs ≡ (machine_of state.old).jobs }
     ensures fired { after_job_timers (machine_of state.new) ≡ after_job_timers (machine_of state.old) }
@@ -100,7 +100,7 @@ fn fire_one(state: &mut State) -> bool
 }
 
 // The timers of jobs fire.
-fn fire_jobs(state: &mut State)
+fn fire_jobs(state: &mut CoreParts)
     ensures after { HaveFired state.old state.new }
     ensures asks { Asks (10 * count_jobs (is_ripe state.old.moment) state.old + 2) state.old.jobs state.new.jobs }
 {
@@ -108,7 +108,7 @@ fn fire_jobs(state: &mut State)
 }
 
 // Pauses end. Where none does, no tube is looked at.
-fn end_pauses(state: &mut State)
+fn end_pauses(state: &mut CoreParts)
     ensures after { machine_of state.new ≡ with_pauses_ended (machine_of state.old) }
     ensures jobs { state.new.jobs ≡ state.old.jobs }
 {
@@ -121,7 +121,7 @@ fn end_pauses(state: &mut State)
 }
 
 /// Timers that are due fire.
-pub(crate) fn fire(state: &mut State)
+pub(crate) fn fire(state: &mut CoreParts)
     ensures after { machine_of state.new ≡ after_timers (machine_of state.old) }
     ensures asks { Asks (10 * count_jobs (is_ripe state.old.moment) state.old + 2) state.old.jobs state.new.jobs }
 {

@@ -7,21 +7,21 @@ ghost use Rattle.bq_core.specs.Asking.{Asks, AsksAsChanged};
 ghost use Rattle.bq_core.specs.JobKinds.{first_of_kind};
 ghost use Rattle.bq_core.specs.Replying.{AtSeat, RepliesAt, RepliesBy, RepliesTo, peek_first_effect};
 ghost use Rattle.bq_core.specs.Keeping.{Looks};
-ghost use Rattle.bq_core.specs.State.{machine_of};
+ghost use Rattle.bq_core.specs.CoreParts.{machine_of};
 
-use crate::job_list::JobKind;
+use crate::core_parts::CoreParts;
+use crate::job_store::JobKind;
 use crate::reply::Reply;
 use crate::seat_list::SeatChange;
-use crate::state::State;
 use crate::tubes::TubeChange;
-use crate::{changes, job_list, seat_list};
+use crate::{changes, job_store, seat_list};
 use bq_job::{Answer, JobId, Seat, TubeName};
 use std::alloc::Global;
 
-/// The client's jobs go into this tube from now on. The growth that a new tube needs comes before any
-/// change.
+/// The client's jobs go into this tube from now on. The growth that a new tube needs comes before
+/// any change.
 pub(crate) fn use_tube(
-    state: &mut State,
+    state: &mut CoreParts,
     alloc: Global,
     seat: Seat,
     tube: &TubeName,
@@ -39,7 +39,7 @@ pub(crate) fn use_tube(
 }
 
 /// Tells which tube the client's jobs go into.
-pub(crate) fn list_tube_used(state: &State, seat: Seat, told: &mut Answer) -> Reply
+pub(crate) fn list_tube_used(state: &CoreParts, seat: Seat, told: &mut Answer) -> Reply
     ensures { RepliesAt seat false (λ m s. telling (answers.Using s.used) m) state.now result told.new state.now }
 {
     match seat_list::find(state.seats.as_slice(), seat) {
@@ -53,7 +53,7 @@ pub(crate) fn list_tube_used(state: &State, seat: Seat, told: &mut Answer) -> Re
 
 /// The client watches this tube too. The growth that it needs comes before any change.
 pub(crate) fn watch(
-    state: &mut State,
+    state: &mut CoreParts,
     alloc: Global,
     seat: Seat,
     tube: &TubeName,
@@ -79,7 +79,7 @@ pub(crate) fn watch(
 }
 
 /// The client watches this tube no longer, unless it watches no other.
-pub(crate) fn ignore(state: &mut State, seat: Seat, tube: &TubeName, told: &mut Answer) -> Reply
+pub(crate) fn ignore(state: &mut CoreParts, seat: Seat, tube: &TubeName, told: &mut Answer) -> Reply
     ensures reply { RepliesAt seat false (ignore_effect tube.now) state.old result told.new state.new }
     ensures asks { AsksAsChanged state.old.jobs state.new.jobs }
 {
@@ -96,8 +96,8 @@ pub(crate) fn ignore(state: &mut State, seat: Seat, tube: &TubeName, told: &mut 
 }
 
 /// Pauses a tube that exists.
-#[tactic(auto, using(crate::proofs::StateLemmas::tube_has_entry))]
-pub(crate) fn pause(state: &mut State, tube: &TubeName, seconds: u32, told: &mut Answer)
+#[tactic(auto, using(crate::proofs::PartsLemmas::tube_has_entry))]
+pub(crate) fn pause(state: &mut CoreParts, tube: &TubeName, seconds: u32, told: &mut Answer)
     ensures reply { pause_effect tube.now seconds (machine_of state.old) ≡ telling told.new (machine_of state.new) }
     ensures asks { AsksAsChanged state.old.jobs state.new.jobs }
 {
@@ -111,7 +111,7 @@ pub(crate) fn pause(state: &mut State, tube: &TubeName, seconds: u32, told: &mut
 }
 
 // Shows the job of this id.
-fn show(state: &mut State, id: JobId, told: &mut Answer) -> Reply
+fn show(state: &mut CoreParts, id: JobId, told: &mut Answer) -> Reply
     ensures reply { RepliesBy false (peek_effect id) state.old result told.new state.new }
     ensures asks { Asks 1 state.old.jobs state.new.jobs }
 {
@@ -129,7 +129,7 @@ fn show(state: &mut State, id: JobId, told: &mut Answer) -> Reply
 }
 
 /// Shows the job of this id.
-pub(crate) fn peek(state: &mut State, id: JobId, told: &mut Answer) -> Reply
+pub(crate) fn peek(state: &mut CoreParts, id: JobId, told: &mut Answer) -> Reply
     ensures reply { RepliesBy false (peek_effect id) state.old result told.new state.new }
     ensures asks { AsksAsChanged state.old.jobs state.new.jobs }
 {
@@ -137,16 +137,21 @@ pub(crate) fn peek(state: &mut State, id: JobId, told: &mut Answer) -> Reply
 }
 
 // The id of the first job of this kind in the tube that the client uses.
-fn first_used(state: &mut State, seat: Seat, kind: JobKind) -> Option<JobId>
+fn first_used(state: &mut CoreParts, seat: Seat, kind: JobKind) -> Option<JobId>
     ensures id { AtSeat seat state.old (λ s. result ≡ option_map (λ j. j.id) (first_of_kind kind s.used state.old.jobs.jobs)) }
     ensures kept { Looks 1 state.old state.new }
 {
     let client = seat_list::find(state.seats.as_slice(), seat)?;
-    job_list::first(&mut state.jobs, kind, client.used())
+    job_store::first(&mut state.jobs, kind, client.used())
 }
 
 /// Shows the first job of this kind in the tube that the client uses.
-pub(crate) fn peek_first(state: &mut State, seat: Seat, kind: JobKind, told: &mut Answer) -> Reply
+pub(crate) fn peek_first(
+    state: &mut CoreParts,
+    seat: Seat,
+    kind: JobKind,
+    told: &mut Answer,
+) -> Reply
     ensures reply { RepliesAt seat false (peek_first_effect kind) state.old result told.new state.new }
     ensures asks { AsksAsChanged state.old.jobs state.new.jobs }
 {

@@ -35,7 +35,8 @@ mod pause_ends;
 mod pauses;
 mod walks;
 
-/// An entry for each tube that exists, found by its name. They are in the order of the names' bytes.
+/// An entry for each tube that exists, found by its name. They are in the order of the names'
+/// bytes.
 #[derive(Drop)]
 pub(crate) struct Tubes {
     kept: Catalog<TubeName, TubeEntry>,
@@ -84,8 +85,8 @@ impl Tubes {
         self.kept.len()
     }
 
-    /// Sees to it that a tube has an entry, and tells whether it is new. The growth that this needs comes
-    /// before any change.
+    /// Sees to it that a tube has an entry, and tells whether it is new. The growth that this needs
+    /// comes before any change.
     pub(crate) fn provide(&mut self, alloc: Global, name: &TubeName) -> Result<bool, NoMemory>
         ensures told { IfOk result (λ is_new. is_new ≡ not (has_entry name.now self.old.entries)) }
         ensures after { self.new ≡ (if is_ok result then tubes_with name.now self.old else self.old) }
@@ -116,7 +117,8 @@ impl Tubes {
         pauses::end_all(&mut self.kept, &mut self.ends, moment);
     }
 
-    /// The entry of this name, which tells how many jobs and clients are there, and whether the tube is paused.
+    /// The entry of this name, which tells how many jobs and clients are there, and whether the
+    /// tube is paused.
     pub(crate) fn entry_of(&self, name: &TubeName) -> Option<&TubeEntry>
         ensures entry { option_map (λ t. record_of name.now t.now) result ≡ find (λ t. is_same_name name.now t.name) self.now.entries }
         ensures tally { tally_by (option_map (λ t. t.now) result) ≡ tally_at name.now self.now.entries self.now.tallies }
@@ -194,7 +196,8 @@ impl Tubes {
         }
     }
 
-    /// Whether somebody waits at the tube of this name, where there are so many clients. Where nobody waits, it isn't looked for.
+    /// Whether somebody waits at the tube of this name, where there are so many clients. Where
+    /// nobody waits, it isn't looked for.
     pub(crate) fn has_waiter_at(&self, clients: &Clients, name: &TubeName) -> bool
         ensures { result ≡ (nat_lt 0 clients.now.waiting && is_waited_at name.now self.now) }
     {
@@ -260,8 +263,8 @@ impl Tubes {
         }
     }
 
-    /// When the first pause ends once entries were dropped, of which there were so many, and when it did
-    /// before.
+    /// When the first pause ends once entries were dropped, of which there were so many, and when
+    /// it did before.
     pub(crate) fn pause_end_left(&self, entries: usize, last: Option<Moment>) -> Option<Moment>
         ensures { result ≡ pause_end_left self.now.entries entries last }
     {

@@ -1,3 +1,4 @@
+//! Waits of clients end: by a timeout, or where a time to run ends soon.
 ghost use Rattle.std.specs.Prelude.{◌≡◌, ◌<◌, ◌+◌, None, Some, true, false, length, slice_get, IfSome, if◌then◌else◌};
 ghost use Rattle.std.specs.List.{list_any};
 ghost use Rattle.bq_job.specs.beside.Computed.{waiting_count};
@@ -10,27 +11,28 @@ ghost use Rattle.bq_core.specs.EndingWaits.{AreLookedAt, has_waited, left_after,
 ghost use Rattle.bq_core.specs.Serving.{IsLastTurn};
 ghost use Rattle.bq_core.specs.Keeping.{Looks};
 ghost use Rattle.bq_core.specs.Places.{item_at};
-ghost use Rattle.bq_core.specs.State.{held, machine_of};
+ghost use Rattle.bq_core.specs.CoreParts.{held, machine_of};
 ghost use Rattle.bq_core.specs.Turns.{Gives, HasRoom, none_refused};
 ghost use Rattle.bq_core.specs.WaitEnds.{EndsWait, LooksAt};
 
+use crate::core_parts::CoreParts;
 use crate::known::FirstEnd;
 use crate::seat_list::SeatChange;
 use crate::seat_record::Turn;
-use crate::state::State;
-use crate::{changes, dues, job_list, seat_list};
+use crate::{changes, dues, job_store, seat_list};
 use bq_job::Answer;
 use bq_steps::Outs;
 
-// What the client at place k, which waits, is told if its wait ends now. Its first lease is asked for once.
-fn told_at_end(state: &mut State, k: usize) -> Option<Answer>
+// What the client at place k, which waits, is told if its wait ends now. Its first lease is asked
+// for once.
+fn told_at_end(state: &mut CoreParts, k: usize) -> Option<Answer>
     requires seat { k < length state.old.seats.items }
     ensures told { (s : SeatRecord) → slice_get (machine_of state.old).seats k ≡ Some s → result ≡ told_at_end (machine_of state.old) s }
     ensures kept { Looks 1 state.old state.new }
 {
     let number = state.seats[k].number();
     let is_over = state.seats[k].is_timed_out(state.moment);
-    if job_list::is_deadline_soon(&mut state.jobs, number, state.moment) {
+    if job_store::is_deadline_soon(&mut state.jobs, number, state.moment) {
         Some(Answer::DeadlineSoon)
     } else if is_over {
         Some(Answer::TimedOut)
@@ -40,7 +42,7 @@ fn told_at_end(state: &mut State, k: usize) -> Option<Answer>
 }
 
 // The wait of the client at place k ends with this answer.
-fn end_wait(state: &mut State, outs: &mut Outs, k: usize, answer: Answer)
+fn end_wait(state: &mut CoreParts, outs: &mut Outs, k: usize, answer: Answer)
     requires seat { k < length state.old.seats.items }
     requires room { length outs.old.given < outs.old.most }
     ensures given { EndsWait (machine_of state.old) k answer outs.old outs.new (machine_of state.new) }
@@ -52,7 +54,7 @@ fn end_wait(state: &mut State, outs: &mut Outs, k: usize, answer: Answer)
 }
 
 // The wait of the client at place k, which waits, ends if it does now.
-fn look_at(state: &mut State, outs: &mut Outs, k: usize)
+fn look_at(state: &mut CoreParts, outs: &mut Outs, k: usize)
     requires seat { k < length state.old.seats.items }
     requires room { length outs.old.given < outs.old.most }
     ensures looked { LooksAt (machine_of state.old) k outs.old outs.new (machine_of state.new) }
@@ -65,18 +67,18 @@ fn look_at(state: &mut State, outs: &mut Outs, k: usize)
 }
 
 // The place of the client that has waited longest of those whose turn comes after the last one.
-fn next_waiting(state: &State, last: Option<Turn>) -> Option<usize>
+fn next_waiting(state: &CoreParts, last: Option<Turn>) -> Option<usize>
     ensures bound { IfSome result (λ k. k < length state.now.seats.items) }
     ensures least { item_at state.now.seats.items result ≡ first_of (waits_after last) is_wait_before state.now.seats.items }
 {
-    match state.queue.next_after(last) {
+    match state.waiting.next_after(last) {
         None => None,
         Some(turn) => Some(usize::from(turn.1)),
     }
 }
 
 // Looks at the next waiting client after the last one that was looked at, if there is one.
-fn turn(state: &mut State, outs: &mut Outs, last: &mut Option<Turn>) -> bool
+fn turn(state: &mut CoreParts, outs: &mut Outs, last: &mut Option<Turn>) -> bool
     requires looked { AreLookedAt (machine_of state.old) last.old }
     requires room { HasRoom 0 (machine_of state.old) outs.old }
     ensures done { result ≡ false → IsLastTurn (next_end (machine_of state.old)) state.old state.new outs.old outs.new }
@@ -93,9 +95,9 @@ fn turn(state: &mut State, outs: &mut Outs, last: &mut Option<Turn>) -> bool
     true
 }
 
-// The waits that end now end, where there may be some. Each waiting client is looked at once, in the order
-// of tickets.
-fn end_all(state: &mut State, outs: &mut Outs)
+// The waits that end now end, where there may be some. Each waiting client is looked at once, in
+// the order of tickets.
+fn end_all(state: &mut CoreParts, outs: &mut Outs)
     requires room { HasRoom 0 (machine_of state.old) outs.old }
     ensures given { Gives WaitEndTurn none_refused (machine_of state.old) (machine_of state.new) outs.old outs.new }
     ensures done { next_end (machine_of state.new) ≡ None }
@@ -107,7 +109,7 @@ fn end_all(state: &mut State, outs: &mut Outs)
 
 // Whether some wait is over by its timeout, or because its client sends no more.
 #[tactic(auto, using(crate::proofs::FirstEndLemmas::over_known))]
-fn is_some_wait_over(state: &mut State) -> bool
+fn is_some_wait_over(state: &mut CoreParts) -> bool
     ensures over { result ≡ list_any (has_waited state.old.moment) state.old.seats.items }
     ensures same { held state.new ≡ record (held state.old) { known = record state.old.known { first_end = state.new.known.first_end } } }
 {
@@ -116,15 +118,15 @@ fn is_some_wait_over(state: &mut State) -> bool
         FirstEnd::Known(first) => dues::is_over(*first, state.moment),
         FirstEnd::Unknown => seat_list::is_some_wait_over(
             state.seats.as_slice(),
-            state.queue.as_slice(),
+            state.waiting.as_slice(),
             state.moment,
         ),
     }
 }
 
-// Whether some wait may end now: a time to run ends within a second, or a timeout has come. Where nobody
-// waits, no shelf is asked.
-fn may_end(state: &mut State) -> bool
+// Whether some wait may end now: a time to run ends within a second, or a timeout has come. Where
+// nobody waits, no shelf is asked.
+fn may_end(state: &mut CoreParts) -> bool
     ensures none { result ≡ false → next_end (machine_of state.old) ≡ None }
     ensures some { result ≡ may_end (machine_of state.old) }
     ensures same { machine_of state.new ≡ machine_of state.old }
@@ -136,12 +138,12 @@ fn may_end(state: &mut State) -> bool
     if is_some_wait_over(state) {
         return true;
     }
-    job_list::is_some_deadline_soon(&mut state.jobs, state.moment)
+    job_store::is_some_deadline_soon(&mut state.jobs, state.moment)
 }
 
 /// The waits that end now end, the longest one first.
 #[tactic(auto, using(crate::proofs::TurnLemmas::gives_nothing))]
-pub(crate) fn end_waits(state: &mut State, outs: &mut Outs)
+pub(crate) fn end_waits(state: &mut CoreParts, outs: &mut Outs)
     requires room { HasRoom 0 (machine_of state.old) outs.old }
     ensures given { Gives WaitEndTurn none_refused (machine_of state.old) (machine_of state.new) outs.old outs.new }
     ensures done { next_end (machine_of state.new) ≡ None }

@@ -5,8 +5,8 @@ ghost use Rattle.bq_core.specs.Clients.{clients_with, clients_without};
 
 use crate::seat_record::SeatRecord;
 
-/// How many clients are connected, and how many wait. A count stops at 2^64 - 1, which no number of seats
-/// comes to.
+/// How many clients are connected, and how many wait. A count stops at 2^64 - 1, which no number of
+/// seats comes to.
 #[derive(Clone, Copy, Default, PartialEq, Eq)]
 pub(crate) struct Clients {
     pub(crate) connected: u64,

@@ -2,7 +2,7 @@
 ghost use Rattle.std.specs.Prelude.{◌≡◌};
 ghost use Rattle.std.specs.Option.{option_copied};
 ghost use Rattle.bq_core.specs.FirstEnds.{AreTimeouts, end_after, keeps_end};
-ghost use Rattle.bq_core.specs.Queues.{turns_of};
+ghost use Rattle.bq_core.specs.WaitingTurns.{turns_of};
 ghost use Rattle.bq_core.specs.SeatChanges.{AreNumbered};
 
 use crate::seat_list::SeatChange;

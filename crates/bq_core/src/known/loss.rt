@@ -8,8 +8,8 @@ use crate::seat_record::SeatRecord;
 use crate::tubes::{Share, Tubes};
 use bq_job::TubeName;
 
-/// Which tubes may be gone while their entries are still kept: only those are looked at when entries are
-/// dropped.
+/// Which tubes may be gone while their entries are still kept: only those are looked at when
+/// entries are dropped.
 #[derive(Clone, Copy)]
 pub(crate) enum Loss {
     /// None: each entry is of a tube that exists.
@@ -94,8 +94,9 @@ impl Loss {
         }
     }
 
-    /// Of the tubes that a seat uses and watches, those may be gone that don't exist by their counts, in which
-    /// it isn't counted any more: where it may be touched that it uses them, or watches them.
+    /// Of the tubes that a seat uses and watches, those may be gone that don't exist by their
+    /// counts, in which it isn't counted any more: where it may be touched that it uses them, or
+    /// watches them.
     pub(crate) fn leave(&mut self, tubes: &Tubes, client: Option<&SeatRecord>, what: Share)
         ensures { self.new ≡ loss_of what tubes.now (option_copied client.entry) self.old }
     {

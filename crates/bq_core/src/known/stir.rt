@@ -6,8 +6,8 @@ use crate::seat_list::SeatChange;
 use crate::tubes::TubeChange;
 use bq_job::{Seat, TubeName};
 
-/// Which jobs the clients that wait may have: only those are looked for when jobs are handed out. A tube at
-/// which nobody waits stirs nothing.
+/// Which jobs the clients that wait may have: only those are looked for when jobs are handed out. A
+/// tube at which nobody waits stirs nothing.
 #[derive(Clone, Copy)]
 pub(crate) enum Stir {
     /// None.

@@ -1,3 +1,4 @@
+//! How many jobs are in each state.
 ghost use Rattle.std.specs.Prelude.{◌≡◌, []};
 ghost use Rattle.bq_core.specs.Tallies.{has_jobs, tally_entered, tally_left, tally_of, tally_with, tally_without};
 
@@ -7,8 +8,8 @@ use bq_jobs::Standing;
 /// Ready jobs with a priority below this are urgent.
 const URGENT_BELOW: Pri = 1024;
 
-/// How many jobs are in each state. Urgent ones count as ready too. A count stops at 2^64 - 1, which no
-/// number of jobs comes to.
+/// How many jobs are in each state. Urgent ones count as ready too. A count stops at 2^64 - 1,
+/// which no number of jobs comes to.
 #[derive(Clone, Copy, PartialEq, Eq)]
 pub(crate) struct Tally {
     pub(crate) urgent: u64,

@@ -5,8 +5,8 @@ ghost use Rattle.bq_core.specs.Warnings.{with_holder, with_holder_of, without_ho
 use crate::seat_list::SeatChange;
 use bq_job::{JobState, Seat};
 
-/// Which clients may hold a job while they wait, and so be told when its time to run ends soon: only of those is it
-/// asked when that is.
+/// Which clients may hold a job while they wait, and so be told when its time to run ends soon:
+/// only of those is it asked when that is.
 #[derive(Clone, Copy)]
 pub(crate) enum Warns {
     /// None.
@@ -87,7 +87,8 @@ impl Warns {
         }
     }
 
-    /// What is known once it was asked when the first of them is told: where that is never, none holds a job.
+    /// What is known once it was asked when the first of them is told: where that is never, none
+    /// holds a job.
     pub(crate) fn settle(&mut self, is_due: bool)
         ensures { self.new ≡ warned_if_due is_due self.old }
     {

@@ -10,8 +10,8 @@ pub(crate) struct Share {
     pub(crate) waiting: bool,
 }
 
-/// How many clients use a tube, watch it, and wait at it. A count stops at 2^64 - 1, which no number of
-/// seats comes to.
+/// How many clients use a tube, watch it, and wait at it. A count stops at 2^64 - 1, which no
+/// number of seats comes to.
 #[derive(Clone, Copy, PartialEq, Eq)]
 pub(crate) struct Crowd {
     pub(crate) using: u64,

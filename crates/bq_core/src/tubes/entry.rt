@@ -7,7 +7,7 @@ ghost use Rattle.bq_core.specs.Tallies.{tally_with, tally_without};
 
 use super::crowd::{Crowd, Moving, Share};
 use super::pause_ends::PauseEnd;
-use crate::job_list::later;
+use crate::job_store::later;
 use crate::known::Tally;
 use bq_job::{Job, Moment, TubeName};
 use bq_jobs::Moved;

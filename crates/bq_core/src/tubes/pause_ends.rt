@@ -1,5 +1,5 @@
-//! The ends of the pauses of tubes, in their order: the first of them, and what a change of a pause does
-//! to them.
+//! The ends of the pauses of tubes, in their order: the first of them, and what a change of a pause
+//! does to them.
 ghost use Rattle.std.proofs.Common.{refl};
 ghost use Rattle.std.specs.Cmp as Cmp;
 ghost use Rattle.std.specs.Ordering.{as_partial_cmp, eq_by_cmp};

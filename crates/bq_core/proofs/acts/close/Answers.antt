@@ -12,7 +12,7 @@ use Rattle.bq_steps.specs.Cost.{changed_jobs}
 use Rattle.bq_core.specs.declared.seat_list.SeatChange.TheVariants.{Clear}
 use Rattle.bq_core.specs.SeatChanges.{seat_changed}
 use Rattle.bq_core.specs.Firing.{after_giving_back}
-use Rattle.bq_core.specs.State.{machine_of}
+use Rattle.bq_core.specs.CoreParts.{machine_of}
 use Rattle.bq_core.proofs.ActLemmas.{closed_connected}
 use Rattle.bq_core.proofs.AskLemmas.{within}
 use Rattle.bq_core.proofs.CostLemmas.{given_back_changed}

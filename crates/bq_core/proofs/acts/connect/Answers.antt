@@ -4,7 +4,7 @@ use Rattle.bq_job.specs.machine.Limits.{raised}
 use Rattle.bq_job.specs.machine.Machine.{Machine}
 use Rattle.bq_core.specs.declared.seat_list.SeatChange.TheVariants.{Connect}
 use Rattle.bq_core.specs.SeatChanges.{seat_changed}
-use Rattle.bq_core.specs.State.{machine_of}
+use Rattle.bq_core.specs.CoreParts.{machine_of}
 use Rattle.bq_core.proofs.ActLemmas.{connected_free}
 use Rattle.bq_core.proofs.acts.connect.Goals as goal
 

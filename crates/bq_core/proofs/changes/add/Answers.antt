@@ -2,7 +2,7 @@ use Rattle.std.proofs.Common.{◌∙◌, ◌≤◌, arith, length}
 use Rattle.bq_jobs.specs.Kept.{with_added}
 use Rattle.bq_core.specs.Knowledge.{with_job}
 use Rattle.bq_core.proofs.KnowledgeLemmas.{so_with_job}
-use Rattle.bq_core.proofs.StateLemmas.{as_many_ids, entries_of_added, ids_of_added}
+use Rattle.bq_core.proofs.PartsLemmas.{as_many_ids, entries_of_added, ids_of_added}
 use Rattle.bq_core.proofs.changes.add.Goals as goal
 
 pub invariant_of-state : goal.invariant_of-state
@@ -21,7 +21,7 @@ invariant_of-state c =
             numbered = was.numbered;
             next = was.next;
             ids = ids;
-            queue = was.queue;
+            waiting = was.waiting;
             known = so_with_job st j fits;
           });
     }

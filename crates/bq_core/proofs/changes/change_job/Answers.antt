@@ -9,7 +9,7 @@ use Rattle.bq_core.specs.Warnings.{has_waiting_holder}
 use Rattle.bq_core.proofs.KnowledgeLemmas.{so_with_moved}
 use Rattle.bq_core.proofs.CrowdPlaces.{waiters_counted}
 use Rattle.bq_core.proofs.MovedLemmas.{entries_of_changed, one_id, one_tube, tube_ignored, tube_kept}
-use Rattle.bq_core.proofs.StateLemmas.{id_kept, no_job_changed}
+use Rattle.bq_core.proofs.PartsLemmas.{id_kept, no_job_changed}
 use Rattle.bq_core.proofs.changes.change_job.Goals as goal
 
 pub invariant_of-state : goal.invariant_of-state
@@ -40,7 +40,7 @@ invariant_of-state-2 c =
             numbered = was.numbered;
             next = was.next;
             ids = ids_of_map (λ k. if k.id == id then f k else k) 1 st.next_id st.jobs.jobs (one_id id f (id_kept what)) was.ids;
-            queue = was.queue;
+            waiting = was.waiting;
             known = so_with_moved st id what of.job m c.counts_waiter_of-is_wanted.result c.holder_waits-waits.result of.there of.is fits wanted waits;
           });
     }

@@ -5,12 +5,12 @@ use Rattle.bq_job.specs.machine.Changes.{seat_with}
 use Rattle.bq_job.specs.machine.Limits.{greatest}
 use Rattle.bq_core.specs.Counting.{recounted_for}
 use Rattle.bq_core.specs.Knowledge.{with_joined, with_left}
-use Rattle.bq_core.specs.Queues.{IsRising, is_turn_before, turns_of, with_turn, without_turn}
+use Rattle.bq_core.specs.WaitingTurns.{IsRising, is_turn_before, turns_of, with_turn, without_turn}
 use Rattle.bq_core.specs.SeatChanges.{seat_changed_at}
 use Rattle.bq_core.specs.declared.tubes.crowd.Moving.TheVariants.{Comes, Goes}
 use Rattle.bq_core.proofs.KnowledgeLemmas.{so_with_seat}
-use Rattle.bq_core.proofs.QueueLemmas.{rising_left, turns_moved, turns_within}
-use Rattle.bq_core.proofs.StateLemmas.{entries_of_seat, numbered_after}
+use Rattle.bq_core.proofs.WaitingLemmas.{rising_left, turns_moved, turns_within}
+use Rattle.bq_core.proofs.PartsLemmas.{entries_of_seat, numbered_after}
 use Rattle.bq_core.proofs.changes.change_seat.Goals as goal
 
 pub find-client-requires-2 : goal.find-client-requires-2
@@ -26,16 +26,16 @@ join-requires-clause-fits c =
     let taken = c.find-client.ensures ∙ ap there c.as_slice.ensures.value in
     let given = c.find-client-2.ensures ∙ ap there (c.as_slice-2.ensures.value ∙ c.change_at.ensures) in
     let turns : with_turn (option_copied c.find-client-2.result) c.leave.new.self.turns ≡ turns_of (map (seat_changed_at c.args.seat c.args.what.now) seats) =
-    (λ i. with_turn (given i) ((c.leave.ensures.turns ∙ (λ k. without_turn (taken k) (was.queue.turns k))) i))
+    (λ i. with_turn (given i) ((c.leave.ensures.turns ∙ (λ k. without_turn (taken k) (was.waiting.turns k))) i))
     ∙ turns_moved c.args.seat c.args.what.now seats was.numbered in
-    omega (arith, ap length turns, turns_within (map (seat_changed_at c.args.seat c.args.what.now) seats), length-map seats (seat_changed_at c.args.seat c.args.what.now), was.queue.room, c.leave.ensures.room)
+    omega (arith, ap length turns, turns_within (map (seat_changed_at c.args.seat c.args.what.now) seats), length-map seats (seat_changed_at c.args.seat c.args.what.now), was.waiting.room, c.leave.ensures.room)
 
 pub join-requires-clause-rising : goal.join-requires-clause-rising
 join-requires-clause-rising c =
     let was = c.args.state.now.sound in
     let seats = c.args.state.now.seats.items in
     let taken = c.find-client.ensures ∙ ap (seat_with c.args.seat) c.as_slice.ensures.value in
-    subst (IsRising is_turn_before) (sym (c.leave.ensures.turns ∙ (λ k. without_turn (taken k) (was.queue.turns k)))) (rising_left c.args.seat seats was.numbered)
+    subst (IsRising is_turn_before) (sym (c.leave.ensures.turns ∙ (λ k. without_turn (taken k) (was.waiting.turns k)))) (rising_left c.args.seat seats was.numbered)
 
 pub invariant_of-state : goal.invariant_of-state
 invariant_of-state c =
@@ -60,12 +60,12 @@ invariant_of-state c =
             numbered = numbered_after n what seats was.numbered;
             next = was.next;
             ids = was.ids;
-            queue = record {
+            waiting = record {
               turns =
                   c.join.ensures.turns
-                  ∙ (λ i. with_turn (given i) ((c.leave.ensures.turns ∙ (λ k. without_turn (taken k) (was.queue.turns k))) i))
+                  ∙ (λ i. with_turn (given i) ((c.leave.ensures.turns ∙ (λ k. without_turn (taken k) (was.waiting.turns k))) i))
                   ∙ turns_moved n what seats was.numbered;
-              room = omega (arith, length-map seats (seat_changed_at n what), was.queue.room, c.leave.ensures.room, c.join.ensures.room);
+              room = omega (arith, length-map seats (seat_changed_at n what), was.waiting.room, c.leave.ensures.room, c.join.ensures.room);
             };
             known = so_with_seat st n what few c.requires.waits c.requires.holds;
           });

@@ -1,10 +1,10 @@
 use Rattle.std.proofs.Common.{◌∙◌, ap, sym}
 use Rattle.bq_core.specs.KeptTubes.{KeptTubes}
 use Rattle.bq_core.specs.Knowledge.{with_tube_changed}
-use Rattle.bq_core.specs.State.{machine_of}
+use Rattle.bq_core.specs.CoreParts.{machine_of}
 use Rattle.bq_core.specs.TubeEntries.{counted, tube_changed}
 use Rattle.bq_core.proofs.KnowledgeLemmas.{so_with_tube}
-use Rattle.bq_core.proofs.StateLemmas.{entries_of_tube, tube_counts, tube_name_kept}
+use Rattle.bq_core.proofs.PartsLemmas.{entries_of_tube, tube_counts, tube_name_kept}
 use Rattle.bq_core.proofs.TubeLemmas.{record_changed}
 use Rattle.bq_core.proofs.changes.change_tube.Goals as goal
 
@@ -29,7 +29,7 @@ invariant_of-state c =
             numbered = was.numbered;
             next = was.next;
             ids = was.ids;
-            queue = was.queue;
+            waiting = was.waiting;
             known = so_with_tube st c.args.tube.now c.args.what c.requires.entry;
           });
     }

@@ -1,9 +1,9 @@
 use Rattle.std.proofs.Common.{◌≡◌, ◌∙◌, ap, arith}
 use Rattle.std.specs.Prelude.{filter}
-use Rattle.bq_core.specs.State.{machine_of}
+use Rattle.bq_core.specs.CoreParts.{machine_of}
 use Rattle.bq_core.specs.TubeEntries.{counted, is_counted, is_tube_of}
 use Rattle.bq_core.proofs.KnowledgeLemmas.{so_forgotten}
-use Rattle.bq_core.proofs.StateLemmas.{entries_forgotten}
+use Rattle.bq_core.proofs.PartsLemmas.{entries_forgotten}
 use Rattle.bq_core.proofs.TubeLemmas.{filters_swap}
 use Rattle.bq_core.proofs.changes.forget_tubes.Goals as goal
 
@@ -27,7 +27,7 @@ invariant_of-state c =
             numbered = was.numbered;
             next = was.next;
             ids = was.ids;
-            queue = was.queue;
+            waiting = was.waiting;
             known =
                 rw c.forget_tubes.ensures
                 (so_forgotten s c.forget_lost.new.self c.len-entries.result (omega (arith, c.len-entries.ensures)) left (c.forget_lost.ensures.kept s.jobs.jobs s.seats.items was.known.counts.each was.known.crowds.each));

@@ -6,12 +6,12 @@ use Rattle.bq_job.specs.reading.TubeName.{is_same_name}
 use Rattle.bq_core.specs.Counting.{with_crowds_at}
 use Rattle.bq_core.specs.Crowds.{recounted}
 use Rattle.bq_core.specs.KeptTubes.{KeptTubes}
-use Rattle.bq_core.specs.State.{machine_of}
+use Rattle.bq_core.specs.CoreParts.{machine_of}
 use Rattle.bq_core.specs.TubeEntries.{counted}
 use Rattle.bq_core.specs.declared.tubes.crowd.Moving.TheVariants.{Goes}
 use Rattle.bq_core.proofs.KnowledgeLemmas.{so_ignoring}
-use Rattle.bq_core.proofs.QueueLemmas.{queued_watching}
-use Rattle.bq_core.proofs.StateLemmas.{changed_there, seat_read, seat_there, watching_fewer, watching_numbered}
+use Rattle.bq_core.proofs.WaitingLemmas.{in_turn_watching}
+use Rattle.bq_core.proofs.PartsLemmas.{changed_there, seat_read, seat_there, watching_fewer, watching_numbered}
 use Rattle.bq_core.proofs.changes.ignore_tube.Goals as goal
 
 pub ignore-requires-clause-other : goal.ignore-requires-clause-other
@@ -47,7 +47,7 @@ invariant_of-state c =
             numbered = watching_numbered (filter fewer t.watched) n t st.seats.items here was.numbered;
             next = was.next;
             ids = was.ids;
-            queue = queued_watching (filter fewer t.watched) n t st.queue st.seats.items here was.numbered was.queue;
+            waiting = in_turn_watching (filter fewer t.watched) n t st.waiting st.seats.items here was.numbered was.waiting;
             known = so_ignoring st name n t here few;
           });
     }

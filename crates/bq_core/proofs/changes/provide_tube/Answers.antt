@@ -1,9 +1,9 @@
 use Rattle.std.proofs.Common.{◌∙◌, ap}
 use Rattle.bq_core.specs.KeptTubes.{KeptTubes}
-use Rattle.bq_core.specs.State.{machine_of}
+use Rattle.bq_core.specs.CoreParts.{machine_of}
 use Rattle.bq_core.specs.TubeEntries.{counted, has_entry}
 use Rattle.bq_core.proofs.KnowledgeLemmas.{so_provided}
-use Rattle.bq_core.proofs.StateLemmas.{counted_provided, entries_provided, has_provided}
+use Rattle.bq_core.proofs.PartsLemmas.{counted_provided, entries_provided, has_provided}
 use Rattle.bq_core.proofs.changes.provide_tube.Goals as goal
 
 pub returns-in-Ok-clause-after : goal.returns-in-Ok-clause-after
@@ -25,7 +25,7 @@ invariant_of-state c =
             numbered = was.numbered;
             next = was.next;
             ids = was.ids;
-            queue = was.queue;
+            waiting = was.waiting;
             known = so_provided st c.args.tube.now;
           });
     }

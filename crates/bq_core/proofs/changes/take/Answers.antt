@@ -5,7 +5,7 @@ use Rattle.bq_jobs.specs.Kept.{Kept}
 use Rattle.bq_core.specs.KeptTubes.{KeptTubes}
 use Rattle.bq_core.specs.TubeEntries.{has_entry}
 use Rattle.bq_core.proofs.KnowledgeLemmas.{so_without_job}
-use Rattle.bq_core.proofs.StateLemmas.{entries_of_fewer, given_of_job, has_of_job}
+use Rattle.bq_core.proofs.PartsLemmas.{entries_of_fewer, given_of_job, has_of_job}
 use Rattle.bq_core.proofs.changes.take.Goals as goal
 
 pub invariant_of-state : goal.invariant_of-state
@@ -30,13 +30,13 @@ invariant_of-state-2 c =
     let j = c.in_ok-job.job in
     record {
       sound =
-          rw (c.remove_job.ensures, c.remove_job-2.ensures, ap (λ (k : Kept). k.jobs) c.give_back.ensures.same ∙ c.remove.ensures.jobs)
+          rw (c.remove_job.ensures, c.remove_job-2.ensures, ap (λ (k : Kept). k.jobs) c.let_room_go.ensures.same ∙ c.remove.ensures.jobs)
           (record {
             entries = entries_of_fewer (λ k. not (k.id == c.args.id)) st.jobs.jobs st.seats.items st.tubes.entries was.entries;
             numbered = was.numbered;
             next = was.next;
             ids = ids_of_filter (λ k. not (k.id == c.args.id)) 1 st.next_id st.jobs.jobs was.ids;
-            queue = was.queue;
+            waiting = was.waiting;
             known = so_without_job st c.args.id j (sym c.remove.ensures.job ∙ c.in_ok-job.was);
           });
     }

@@ -1,7 +1,7 @@
 use Rattle.std.proofs.Common.{◌∙◌, ap, length, map, subst, sym}
 use Rattle.std.proofs.lemmas.List.{length-map}
 use Rattle.bq_core.specs.Losses.{AreAlive}
-use Rattle.bq_core.specs.State.{machine_of}
+use Rattle.bq_core.specs.CoreParts.{machine_of}
 use Rattle.bq_core.proofs.LossLemmas.{all_kept_alive}
 use Rattle.bq_core.proofs.NameLemmas.{alive_are_tubes}
 use Rattle.bq_core.proofs.changes.tube_count.Goals as goal

@@ -1,7 +1,7 @@
 use Rattle.std.proofs.Common.{◌≡◌, ◌∙◌, true, ap, subst}
 use Rattle.std.specs.Prelude.{IfOk}
 use Rattle.bq_job.specs.beside.NameOrder.{is_in_order}
-use Rattle.bq_core.specs.State.{machine_of}
+use Rattle.bq_core.specs.CoreParts.{machine_of}
 use Rattle.bq_core.specs.Texts.{names_of}
 use Rattle.bq_core.proofs.NameLemmas.{alive_are_tubes, tubes_in_order}
 use Rattle.bq_core.proofs.TurnLemmas.{ok_weaker}

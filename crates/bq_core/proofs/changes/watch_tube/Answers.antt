@@ -7,14 +7,14 @@ use Rattle.bq_job.specs.machine.TubeCommands.{watching}
 use Rattle.bq_core.specs.Counting.{with_crowds_at}
 use Rattle.bq_core.specs.Crowds.{recounted}
 use Rattle.bq_core.specs.KeptTubes.{KeptTubes}
-use Rattle.bq_core.specs.State.{machine_of}
+use Rattle.bq_core.specs.CoreParts.{machine_of}
 use Rattle.bq_core.specs.Stirs.{with_anything}
 use Rattle.bq_core.specs.TubeEntries.{counted}
 use Rattle.bq_core.specs.declared.tubes.crowd.Moving.TheVariants.{Comes}
 use Rattle.bq_core.specs.declared.tubes.crowd.Share.{Share}
 use Rattle.bq_core.proofs.KnowledgeLemmas.{so_watching}
-use Rattle.bq_core.proofs.QueueLemmas.{queued_watching}
-use Rattle.bq_core.proofs.StateLemmas.{changed_there, seat_read, seat_there, watching_more, watching_numbered}
+use Rattle.bq_core.proofs.WaitingLemmas.{in_turn_watching}
+use Rattle.bq_core.proofs.PartsLemmas.{changed_there, seat_read, seat_there, watching_more, watching_numbered}
 use Rattle.bq_core.proofs.changes.watch_tube.Goals as goal
 
 pub returns-then-from-len-clause-count : goal.returns-then-from-len-clause-count
@@ -70,7 +70,7 @@ invariant_of-state c =
             numbered = watching_numbered (t.watched ++ name ∷ []) n t mid.seats.items here was.numbered;
             next = was.next;
             ids = was.ids;
-            queue = queued_watching (t.watched ++ name ∷ []) n t mid.queue mid.seats.items here was.numbered was.queue;
+            waiting = in_turn_watching (t.watched ++ name ∷ []) n t mid.waiting mid.seats.items here was.numbered was.waiting;
             known = so_watching mid name n t here few fresh;
           });
     }

@@ -5,7 +5,7 @@ use Rattle.bq_job.specs.machine.Dispatch.{DispatchTurn}
 use Rattle.bq_job.specs.machine.Steps.{has_refused_share}
 use Rattle.bq_core.specs.Asking.{Asks}
 use Rattle.bq_core.specs.Cost.{waited}
-use Rattle.bq_core.specs.State.{machine_of}
+use Rattle.bq_core.specs.CoreParts.{machine_of}
 use Rattle.bq_core.specs.Turns.{Gives, HasRoom}
 use Rattle.bq_core.proofs.dispatch.dispatch_all.Given as goal
 

@@ -11,10 +11,10 @@ use Rattle.bq_jobs.specs.Kept.{ranked}
 use Rattle.bq_core.specs.Cost.{waited_tubes}
 use Rattle.bq_core.specs.Crowds.{is_waiter}
 use Rattle.bq_core.specs.Offers.{is_waited_at, next_rank, offered, these, with_offers}
-use Rattle.bq_core.specs.State.{machine_of}
+use Rattle.bq_core.specs.CoreParts.{machine_of}
 use Rattle.bq_core.specs.Stirs.{AreKnown}
 use Rattle.bq_core.specs.declared.tubes.crowd.Crowd.{Crowd}
-use Rattle.bq_core.specs.declared.state.State.{State}
+use Rattle.bq_core.specs.declared.core_parts.CoreParts.{CoreParts}
 use Rattle.bq_core.specs.declared.known.stir.Stir.{Stir}
 use Rattle.bq_core.specs.declared.known.stir.Stir.TheVariants.{Nothing}
 use Rattle.bq_core.proofs.AskLemmas.{asks_more}
@@ -27,7 +27,7 @@ use Rattle.bq_core.proofs.TubeLemmas.{paused_is}
 use Rattle.bq_core.proofs.dispatch.next_offer.Goals as goal
 
 -- the tube's count tells whether somebody waits at it
-counted_there : (name : List ℕ) (st : State) → is_waited_at name st.tubes ≡ list_any (is_waiter name) st.seats.items
+counted_there : (name : List ℕ) (st : CoreParts) → is_waited_at name st.tubes ≡ list_any (is_waiter name) st.seats.items
 counted_there name st =
     ap (λ (k : Crowd). nat_lt 0 k.waiting) (crowd_there name st.tubes.crowds st.seats.items st.tubes.entries st.sound.entries.of_seats st.sound.known.crowds)
     ∙ some_pass (is_waiter name) st.seats.items

@@ -3,7 +3,7 @@ use Rattle.std.proofs.Common.{◌≡◌, None, take}
 use Rattle.std.specs.Prelude.{fold}
 use Rattle.bq_core.specs.Asking.{Asks}
 use Rattle.bq_core.specs.Dues.{with_warning_due}
-use Rattle.bq_core.specs.Queues.{at_turn}
+use Rattle.bq_core.specs.WaitingTurns.{at_turn}
 use Rattle.bq_core.proofs.dues.first_warning.Given as goal
 
 abbrev pub invariant-loop-i : goal.invariant-loop-i

@@ -5,7 +5,7 @@ use Rattle.bq_job.specs.machine.Machine.{SeatRecord, TubeRecord}
 use Rattle.bq_job.specs.beside.NextDue.{dues_of_pause, dues_of_state, dues_of_wait, earliest}
 use Rattle.bq_jobs.specs.Kept.{Kept}
 use Rattle.bq_core.specs.Dues.{earlier_of_both, with_seat_due, with_warning_due}
-use Rattle.bq_core.specs.State.{held, machine_held, machine_of}
+use Rattle.bq_core.specs.CoreParts.{held, machine_held, machine_of}
 use Rattle.bq_core.specs.TubeEntries.{counted}
 use Rattle.bq_core.proofs.DueLemmas.{all_due, earliest_of_all, jobs_due_is, pauses_counted}
 use Rattle.bq_core.proofs.KnowledgeLemmas.{so_settled}
@@ -51,5 +51,5 @@ invariant_of-state c =
     record {
       sound =
           rw (c.settle.ensures, jobs)
-          (record { entries = was.entries; numbered = was.numbered; next = was.next; ids = was.ids; queue = was.queue; known = so_settled st c.is_some.result due });
+          (record { entries = was.entries; numbered = was.numbered; next = was.next; ids = was.ids; waiting = was.waiting; known = so_settled st c.is_some.result due });
     }

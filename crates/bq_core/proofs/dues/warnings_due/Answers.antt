@@ -2,10 +2,10 @@ use Rattle.std.proofs.Common.{◌∙◌, None, ap, arith, length, subst, sym}
 use Rattle.std.specs.Prelude.{fold}
 use Rattle.bq_core.specs.Warnings.{AreWarned}
 use Rattle.bq_core.specs.Dues.{warning_due_at, with_warning_due}
-use Rattle.bq_core.specs.Queues.{at_turn}
+use Rattle.bq_core.specs.WaitingTurns.{at_turn}
 use Rattle.bq_core.proofs.AskLemmas.{asks_more}
 use Rattle.bq_core.proofs.DueLemmas.{warnings_walked}
-use Rattle.bq_core.proofs.QueueLemmas.{turns_counted}
+use Rattle.bq_core.proofs.WaitingLemmas.{turns_counted}
 use Rattle.bq_core.proofs.WarningLemmas.{none_due, one_due, one_waits}
 use Rattle.bq_core.proofs.dues.warnings_due.Goals as goal
 

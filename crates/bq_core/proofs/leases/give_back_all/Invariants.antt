@@ -4,7 +4,7 @@ use Rattle.std.specs.Prelude.{count_by}
 use Rattle.bq_job.specs.machine.Changes.{is_held_by}
 use Rattle.bq_core.specs.Asking.{Asks}
 use Rattle.bq_core.specs.Firing.{after_giving_back}
-use Rattle.bq_core.specs.State.{machine_of}
+use Rattle.bq_core.specs.CoreParts.{machine_of}
 use Rattle.bq_core.proofs.leases.give_back_all.Given as goal
 
 abbrev pub invariant-loop-becomes : goal.invariant-loop-becomes

@@ -2,7 +2,7 @@ use Rattle.std.proofs.Common.{◌≡◌, ◌∙◌, ap, arith, length, refl, set
 use Rattle.std.proofs.lemmas.Option.{slice_get_read}
 use Rattle.bq_core.specs.SeatChanges.{seat_changed}
 use Rattle.bq_core.proofs.SeatPlaces.{none_there}
-use Rattle.bq_core.proofs.StateLemmas.{changed_there}
+use Rattle.bq_core.proofs.PartsLemmas.{changed_there}
 use Rattle.bq_core.proofs.seat_list.change_at.Goals as goal
 
 pub returns-in-Some : goal.returns-in-Some

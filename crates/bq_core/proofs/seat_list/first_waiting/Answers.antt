@@ -5,7 +5,7 @@ use Rattle.bq_job.specs.machine.Dispatch.{is_wait_before}
 use Rattle.bq_core.specs.Clients.{seat_passes}
 use Rattle.bq_core.specs.Offers.{waits_at}
 use Rattle.bq_core.specs.Places.{item_at}
-use Rattle.bq_core.specs.Queues.{passes_at}
+use Rattle.bq_core.specs.WaitingTurns.{passes_at}
 use Rattle.bq_core.proofs.WalkLemmas.{first_turn, item_found, number_of_turn}
 use Rattle.bq_core.proofs.seat_list.first_waiting.Goals as goal
 

@@ -3,12 +3,12 @@ use Rattle.std.specs.List.{list_any}
 use Rattle.bq_job.specs.machine.Timers.{tube_after_timers}
 use Rattle.bq_core.specs.KeptTubes.{KeptTubes}
 use Rattle.bq_core.specs.Dues.{first_pause_end, is_end_over}
-use Rattle.bq_core.specs.State.{machine_of}
+use Rattle.bq_core.specs.CoreParts.{machine_of}
 use Rattle.bq_core.specs.TubeEntries.{counted, is_counted, is_pause_over}
 use Rattle.bq_core.proofs.FiringLemmas.{no_pause_ends, none_counted}
 use Rattle.bq_core.proofs.KnowledgeLemmas.{so_with_pauses}
 use Rattle.bq_core.proofs.PauseLemmas.{none_over}
-use Rattle.bq_core.proofs.StateLemmas.{entries_of_timers}
+use Rattle.bq_core.proofs.PartsLemmas.{entries_of_timers}
 use Rattle.bq_core.proofs.TubeLemmas.{filter_of_map}
 use Rattle.bq_core.proofs.timers.end_pauses.Goals as goal
 
@@ -29,7 +29,7 @@ invariant_of-state c =
             numbered = was.numbered;
             next = was.next;
             ids = was.ids;
-            queue = was.queue;
+            waiting = was.waiting;
             known = so_with_pauses s;
           });
     }

@@ -2,7 +2,7 @@ use Rattle.std.proofs.Common.{◌≡◌, ◌∙◌, ap, sym}
 use Rattle.bq_job.specs.declared.answer.Answer.TheVariants as answers
 use Rattle.bq_job.specs.machine.Acts.{showing, telling}
 use Rattle.bq_job.specs.machine.Changes.{job_with}
-use Rattle.bq_core.specs.State.{machine_held, machine_of}
+use Rattle.bq_core.specs.CoreParts.{machine_held, machine_of}
 use Rattle.bq_core.proofs.ActLemmas.{id_found, some_there}
 use Rattle.bq_core.proofs.TurnLemmas.{if_ok}
 use Rattle.bq_core.proofs.tube_acts.show.Goals as goal

@@ -4,7 +4,7 @@ use Rattle.bq_job.specs.beside.Computed.{waiting_count}
 use Rattle.bq_job.specs.machine.Waits.{WaitEndTurn}
 use Rattle.bq_core.specs.Asking.{Asks}
 use Rattle.bq_core.specs.EndingWaits.{AreLookedAt, left_after}
-use Rattle.bq_core.specs.State.{machine_of}
+use Rattle.bq_core.specs.CoreParts.{machine_of}
 use Rattle.bq_core.specs.Turns.{Gives, HasRoom, none_refused}
 use Rattle.bq_core.proofs.waits.end_all.Given as goal
 

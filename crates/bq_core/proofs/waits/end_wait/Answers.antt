@@ -1,4 +1,4 @@
-use Rattle.bq_core.specs.State.{machine_of}
+use Rattle.bq_core.specs.CoreParts.{machine_of}
 use Rattle.bq_core.proofs.TurnLemmas.{ended_given}
 use Rattle.bq_core.proofs.waits.end_wait.Goals as goal
 

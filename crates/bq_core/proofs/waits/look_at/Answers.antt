@@ -1,6 +1,6 @@
 use Rattle.std.proofs.Common.{ap, refl, subst}
 use Rattle.bq_job.specs.machine.Machine.{Machine}
-use Rattle.bq_core.specs.State.{machine_held, machine_of}
+use Rattle.bq_core.specs.CoreParts.{machine_held, machine_of}
 use Rattle.bq_core.specs.WaitEnds.{EndsWait}
 use Rattle.bq_core.proofs.WaitLemmas.{told_is, told_nothing}
 use Rattle.bq_core.proofs.waits.look_at.Goals as goal

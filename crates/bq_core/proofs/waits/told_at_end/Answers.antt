@@ -1,7 +1,7 @@
 use Rattle.std.proofs.Common.{◌∙◌, ap, sym}
 use Rattle.std.specs.List.{list_any}
 use Rattle.bq_job.specs.machine.Waits.{is_ending_lease, is_timed_out_at}
-use Rattle.bq_core.specs.State.{machine_of}
+use Rattle.bq_core.specs.CoreParts.{machine_of}
 use Rattle.bq_core.proofs.TurnLemmas.{same_read}
 use Rattle.bq_core.proofs.WaitLemmas.{told_none, told_over, told_soon}
 use Rattle.bq_core.proofs.waits.told_at_end.Goals as goal

@@ -1,7 +1,7 @@
 use Rattle.std.proofs.Common.{◌≡◌, ◌∙◌, ◌<◌, Some, ap, arith, refl, subst, sym}
 use Rattle.std.specs.Prelude.{ℕ}
 use Rattle.bq_core.specs.EndingWaits.{AreLookedAt, left_after, turn_of}
-use Rattle.bq_core.specs.State.{machine_of}
+use Rattle.bq_core.specs.CoreParts.{machine_of}
 use Rattle.bq_core.proofs.TurnLemmas.{same_read}
 use Rattle.bq_core.proofs.WaitLemmas.{here, look_falls, look_given, look_passed, none_left, one_waits, s}
 use Rattle.bq_core.proofs.waits.turn.Goals as goal

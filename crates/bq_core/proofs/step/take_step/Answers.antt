@@ -1,0 +1,72 @@
+use Rattle.std.proofs.Common.{◌∙◌, ◌+◌, ◌*◌, ap, arith, sym, subst, ◌<◌}
+use Rattle.std.specs.Prelude.{count_by}
+use Rattle.bq_job.specs.machine.Machine.{Machine}
+use Rattle.bq_jobs.specs.Kept.{Kept}
+use Rattle.bq_core.specs.Asking.{Asks, AsksAsChanged}
+use Rattle.bq_core.specs.Firing.{is_ripe}
+use Rattle.bq_job.specs.machine.Timers.{after_timers}
+use Rattle.bq_core.specs.Serving.{NoneIsGone}
+use Rattle.bq_core.specs.CoreParts.{machine_of}
+use Rattle.bq_job.proofs.LawfulLemmas.{step_is_lawful}
+use Rattle.bq_core.proofs.AskLemmas.{asks_more}
+use Rattle.bq_core.proofs.SettingLemmas.{settings_stay}
+use Rattle.bq_core.proofs.StepCosts.{step_within}
+use Rattle.bq_core.proofs.StepLemmas.{first_room, forgotten_none, less_room, room_after_act, timers_alike, whole_step}
+use Rattle.bq_core.proofs.step.take_step.Goals as goal
+
+pub serve-requires-clause-tubes : goal.serve-requires-clause-tubes
+serve-requires-clause-tubes c =
+    let fires = c.fire.ensures.after ∙ ap after_timers c.raise_moment.ensures.after in
+    subst NoneIsGone (sym fires) (timers_alike c.args.at (machine_of c.args.state.now) c.requires.lawful.tubes)
+
+pub serve-requires-clause-room : goal.serve-requires-clause-room
+serve-requires-clause-room c =
+    let fires = c.fire.ensures.after ∙ ap after_timers c.raise_moment.ensures.after in
+    let most : c.args.state.now.config.seats < c.begin.new.self.most = rw c.begin.ensures c.requires.room in
+    less_room (machine_of c.fire.new.state) c.begin.new.self (first_room c.args.state.now c.fire.new.state c.args.at c.begin.new.self c.requires.lawful fires (ap (λ o. o.given) c.begin.ensures) most)
+
+pub act-requires : goal.act-requires
+act-requires c =
+    let fires = c.fire.ensures.after ∙ ap after_timers c.raise_moment.ensures.after in
+    let most : c.args.state.now.config.seats < c.begin.new.self.most = rw c.begin.ensures c.requires.room in
+    record { room = c.serve.ensures.served.serves.room 1 (first_room c.args.state.now c.fire.new.state c.args.at c.begin.new.self c.requires.lawful fires (ap (λ o. o.given) c.begin.ensures) most) }
+
+pub serve-requires-2-clause-tubes : goal.serve-requires-2-clause-tubes
+serve-requires-2-clause-tubes c = subst NoneIsGone (sym c.forget_tubes.ensures.after) (forgotten_none (machine_of c.act.new.state))
+
+pub serve-requires-2-clause-room : goal.serve-requires-2-clause-room
+serve-requires-2-clause-room c =
+    let fires = c.fire.ensures.after ∙ ap after_timers c.raise_moment.ensures.after in
+    let most : c.args.state.now.config.seats < c.begin.new.self.most = rw c.begin.ensures c.requires.room in
+    room_after_act c.args.state.now c.args.at c.args.seat c.args.what.now c.begin.new.self c.serve.new.outs c.act.new.outs c.act.new.state c.forget_tubes.new.state
+    (record { fired = c.fire.new.state; served_state = c.serve.new.state; lawful = c.requires.lawful; fires = fires; serves = c.serve.ensures.served.serves; acts = c.act.ensures.acts; forgotten = c.forget_tubes.ensures.after })
+    (c.serve.ensures.served.serves.room 1 (first_room c.args.state.now c.fire.new.state c.args.at c.begin.new.self c.requires.lawful fires (ap (λ o. o.given) c.begin.ensures) most))
+
+pub returns-clause-step : goal.returns-clause-step
+returns-clause-step c =
+    let fires = c.fire.ensures.after ∙ ap after_timers c.raise_moment.ensures.after in
+    whole_step c.args.state.now c.args.at c.args.seat c.args.what.now c.begin.new.self c.serve.new.outs c.act.new.outs c.serve-2.new.outs c.act.new.state c.forget_tubes.new.state c.serve-2.new.state
+    (ap (λ o. o.given) c.begin.ensures) (ap (λ o. o.left_out) c.begin.ensures) (ap (λ o. o.unshared) c.begin.ensures)
+    (record { fired = c.fire.new.state; served_state = c.serve.new.state; lawful = c.requires.lawful; fires = fires; serves = c.serve.ensures.served.serves; acts = c.act.ensures.acts; forgotten = c.forget_tubes.ensures.after })
+    c.serve-2.ensures.served.serves
+
+pub returns-clause-comparisons : goal.returns-clause-comparisons
+returns-clause-comparisons c =
+    let st = c.args.state.now in
+    let fires = c.fire.ensures.after ∙ ap after_timers c.raise_moment.ensures.after in
+    let raised = c.raise_moment.ensures.after in
+    let ripe = ap (λ (x : Machine). count_by (is_ripe x.moment) x.jobs) raised in
+    let timers = asks_more _ (omega (arith, ripe)) (subst (λ (k : Kept). Asks (10 * count_by (is_ripe c.raise_moment.new.state.moment) (machine_of c.raise_moment.new.state).jobs + 2) k c.fire.new.state.jobs) c.raise_moment.ensures.jobs c.fire.ensures.asks) in
+    step_within st c.args.at c.args.seat c.args.what.now c.begin.new.self c.serve.new.outs c.act.new.outs c.serve-2.new.outs c.act.new.state c.forget_tubes.new.state c.serve-2.new.state
+    (ap (λ o. o.given) c.begin.ensures) (ap (λ o. o.left_out) c.begin.ensures) (ap (λ o. o.unshared) c.begin.ensures)
+    (record { fired = c.fire.new.state; served_state = c.serve.new.state; lawful = c.requires.lawful; fires = fires; serves = c.serve.ensures.served.serves; acts = c.act.ensures.acts; forgotten = c.forget_tubes.ensures.after })
+    c.serve-2.ensures.served.serves
+    timers c.serve.ensures.served.asks
+    (subst (λ (k : Kept). AsksAsChanged c.serve.new.state.jobs k) (sym c.forget_tubes.ensures.jobs) c.act.ensures.asks)
+    c.serve-2.ensures.served.asks
+
+pub returns-clause-lawful : goal.returns-clause-lawful
+returns-clause-lawful c = step_is_lawful _ _ c.args.at c.args.seat c.args.what.now _ _ c.requires.lawful (returns-clause-step c)
+
+pub returns-clause-settings : goal.returns-clause-settings
+returns-clause-settings c = settings_stay _ c.args.at c.args.seat c.args.what.now _ _ _ (returns-clause-step c)

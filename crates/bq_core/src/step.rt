@@ -1,0 +1,188 @@
+//! The core, and the parts of a step in their order.
+ghost use Rattle.std.specs.Prelude.{◌≡◌, ◌<◌, ◌↔◌, ◌&&◌, not, IsTrue, IfOk, IsErrOf};
+ghost use Rattle.bq_job.specs.beside.Lawful.{IsLawful};
+ghost use Rattle.bq_job.specs.machine.Machine.{new_machine};
+ghost use Rattle.bq_job.specs.beside.NextDue.{next_due};
+ghost use Rattle.bq_job.specs.machine.Steps.{IsStep};
+ghost use Rattle.bq_steps.specs.Cost.{IsLookWithin, IsStepWithin};
+ghost use Rattle.bq_steps.specs.Limits.{is_body_size, is_job_limit, is_seat_count};
+ghost use Rattle.bq_core.specs.CoreParts.{machine_of};
+ghost use Rattle.bq_steps.specs.Outbox.{outcome_of};
+ghost use Rattle.bq_core.specs.Serving.{NoneIsGone, ServesAsking, TakesStepWithin};
+ghost use Rattle.bq_core.specs.Turns.{HasRoom};
+
+use crate::core_parts::CoreParts;
+use crate::tubes::Tubes;
+use crate::waiting::Waiting;
+use crate::{acts, changes, dispatch, dues, seat_list, timers, waits};
+use bq_job::{LARGEST_BODY, MOST_SEATS, Moment, Seat, Step};
+use bq_steps::{Config, CoreFault, Outs};
+use std::alloc::Global;
+use std::marker::Model;
+
+/// The core: it stands for the one-list machine, and takes its steps.
+#[derive(Drop)]
+pub struct Core {
+    parts: CoreParts,
+}
+
+impl Model for Core {
+    ghost use Rattle.bq_job.specs.beside.Lawful.{IsLawful};
+    ghost use Rattle.bq_core.specs.CoreState.{CoreState};
+    ghost use Rattle.bq_core.specs.CoreParts.{machine_of};
+
+    ghost Value = { CoreState };
+
+    ghost view = { λ c. record { machine = machine_of c.parts; comparisons = c.parts.jobs.comparisons } };
+
+    ghost invariant = { λ c. IsLawful (machine_of c.parts) };
+}
+
+// Jobs are dispatched, and then waits end.
+fn serve(state: &mut CoreParts, outs: &mut Outs)
+    requires tubes { NoneIsGone (machine_of state.old) }
+    requires room { HasRoom 0 (machine_of state.old) outs.old }
+    ensures served { ServesAsking (machine_of state.old) outs.old outs.new (machine_of state.new) state.old.jobs state.new.jobs }
+{
+    dispatch::dispatch(state, outs);
+    waits::end_waits(state, outs);
+}
+
+// One step.
+fn take_step(
+    state: &mut CoreParts,
+    alloc: Global,
+    at: Moment,
+    seat: Seat,
+    what: &Step,
+    outs: &mut Outs,
+)
+    requires lawful { IsLawful (machine_of state.old) }
+    requires room { state.old.config.seats < outs.old.most }
+    ensures step { IsStep (machine_of state.old) at seat what.now (outcome_of outs.new) outs.new.given (machine_of state.new) }
+    ensures comparisons { TakesStepWithin at seat what.now state.old state.new outs.new }
+    ensures lawful { IsLawful (machine_of state.new) }
+    ensures settings { state.new.config ≡ state.old.config }
+    ensures most { outs.new.most ≡ outs.old.most }
+{
+    outs.begin();
+    changes::raise_moment(state, at);
+    timers::fire(state);
+    serve(state, outs);
+    acts::act(state, alloc, seat, what, outs);
+    changes::forget_tubes(state);
+    serve(state, outs);
+}
+
+fn is_seat_count(seats: u16) -> bool
+    ensures { result ≡ is_seat_count seats }
+{
+    1 <= seats && seats <= MOST_SEATS
+}
+
+fn is_body_size(bytes: u32) -> bool
+    ensures { result ≡ is_body_size bytes }
+{
+    1 <= bytes && bytes <= LARGEST_BODY
+}
+
+fn is_job_limit(most: Option<u32>) -> bool
+    ensures { result ≡ is_job_limit most }
+{
+    match most {
+        None => true,
+        Some(most) => 1 <= most,
+    }
+}
+
+impl Core {
+    /// A core with no jobs and all seats free.
+    #[tactic(auto, using(bq_job::proofs::LawfulLemmas::new_is_lawful))]
+    pub fn new(alloc: Global, config: Config) -> Result<Core, CoreFault>
+        ensures made { IfOk result (λ core. core ≡ record { machine = new_machine config; comparisons = 0 }) }
+        ensures bad_seats { IsErrOf result CoreFault.BadSeats ↔ IsTrue (not (is_seat_count config.seats)) }
+        ensures bad_max_job_size { IsErrOf result CoreFault.BadMaxJobSize ↔
+            (IsTrue (is_seat_count config.seats) × IsTrue (not (is_body_size config.max_job_size))) }
+        ensures bad_max_jobs { IsErrOf result CoreFault.BadMaxJobs ↔
+            (IsTrue (is_seat_count config.seats && is_body_size config.max_job_size) × IsTrue (not (is_job_limit config.max_jobs))) }
+    {
+        if !is_seat_count(config.seats) {
+            return Err(CoreFault::BadSeats);
+        }
+        if !is_body_size(config.max_job_size) {
+            return Err(CoreFault::BadMaxJobSize);
+        }
+        if !is_job_limit(config.max_jobs) {
+            return Err(CoreFault::BadMaxJobs);
+        }
+        let Ok(seats) = seat_list::free_seats(alloc, config.seats) else {
+            return Err(CoreFault::NoMemory);
+        };
+        let Ok(waiting) = Waiting::new(alloc, config.seats) else {
+            return Err(CoreFault::NoMemory);
+        };
+        let Ok(tubes) = Tubes::new(alloc) else {
+            return Err(CoreFault::NoMemory);
+        };
+        Ok(Core {
+            parts: changes::new_parts(config, seats, waiting, tubes),
+        })
+    }
+
+    /// Takes a step: what happens at a seat, at a moment in milliseconds. `outs` then holds the
+    /// answers in their order. Any moment, seat and step is accepted.
+    pub fn step(&mut self, alloc: Global, at: Moment, seat: Seat, what: Step, outs: &mut Outs)
+        requires room { self.old.machine.settings.seats < outs.old.most }
+        ensures step { IsStep self.old.machine at seat what (record { left_out = outs.new.left_out; unshared = outs.new.unshared })
+            outs.new.given self.new.machine }
+        ensures comparisons { IsStepWithin self.old.machine at seat what
+            (record { left_out = outs.new.left_out; unshared = outs.new.unshared }) outs.new.given self.new.machine self.old.comparisons
+            self.new.comparisons }
+        ensures lawful { IsLawful self.new.machine }
+        ensures most { outs.new.most ≡ outs.old.most }
+        ensures settings { self.new.machine.settings ≡ self.old.machine.settings }
+    {
+        self.step_in_place(alloc, at, seat, &what, outs);
+    }
+
+    /// The same as `step`, with the step left where it lies: it may hold a tube's name, and isn't
+    /// moved on the way.
+    pub fn step_in_place(
+        &mut self,
+        alloc: Global,
+        at: Moment,
+        seat: Seat,
+        what: &Step,
+        outs: &mut Outs,
+    )
+        requires room { self.old.machine.settings.seats < outs.old.most }
+        ensures step { IsStep self.old.machine at seat what.now (record { left_out = outs.new.left_out; unshared = outs.new.unshared })
+            outs.new.given self.new.machine }
+        ensures comparisons { IsStepWithin self.old.machine at seat what.now
+            (record { left_out = outs.new.left_out; unshared = outs.new.unshared }) outs.new.given self.new.machine self.old.comparisons
+            self.new.comparisons }
+        ensures lawful { IsLawful self.new.machine }
+        ensures most { outs.new.most ≡ outs.old.most }
+        ensures settings { self.new.machine.settings ≡ self.old.machine.settings }
+    {
+        take_step(&mut self.parts, alloc, at, seat, what, outs);
+    }
+
+    /// The comparisons of keys among the jobs so far. The count stops at 2^64 - 1.
+    pub fn comparisons(&self) -> u64
+        ensures { result ≡ self.now.comparisons }
+    {
+        self.parts.jobs.comparisons()
+    }
+
+    /// The least moment at which something happens by itself: a delay, a time to run or a pause
+    /// ends, a client gives up, or is told that a time to run ends soon. A tick below it changes
+    /// the moment alone.
+    pub fn next_due(&mut self) -> Option<Moment>
+        ensures due { result ≡ next_due self.old.machine }
+        ensures same { self.new.machine ≡ self.old.machine }
+        ensures comparisons { IsLookWithin self.old.machine self.old.comparisons self.new.comparisons }
+    {
+        dues::next_due(&mut self.parts)
+    }
+}
