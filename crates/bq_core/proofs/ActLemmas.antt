@@ -21,9 +21,10 @@ use Rattle.bq_job.specs.machine.StatisticsCommands.{job_statistics_or_not}
 use Rattle.bq_job.specs.machine.Tubes.{watches, with_tube}
 use Rattle.bq_job.specs.machine.Limits.{raised}
 use Rattle.bq_job.specs.machine.Machine.{Machine, SeatRecord}
-use Rattle.bq_job.specs.machine.Steps.{granted, share_refused, shares_body}
+use Rattle.bq_job.specs.machine.Steps.{granted, share_refused, shares_body, step_takes_memory, takes_memory}
 use Rattle.bq_job.specs.reading.TubeName.{is_same_name}
-use Rattle.bq_core.specs.Acting.{Acts, is_asking, is_connected, is_free}
+use Rattle.bq_core.specs.Acting.{Acts, Replies, is_asking, is_connected, is_free}
+use Rattle.bq_core.specs.declared.reply.Reply.{Reply}
 use Rattle.bq_core.specs.JobChanges.{is_passed_by}
 use Rattle.bq_steps.specs.Outbox.{Outbox}
 use Rattle.bq_core.specs.SeatChanges.{AreNumbered}
@@ -207,3 +208,10 @@ pub tube_told_same : (m : Machine) (tube : List ℕ) (exists : Bool)
     → (if exists then telling (answers.Ok (tube_statistics tube m)) m else telling answers.NotFound m).machine ≡ m
 tube_told_same m tube true = refl
 tube_told_same m tube false = refl
+
+-- A request of a client that may ask comes to what it is answered.
+pub asked_so : (m next : Machine) (seat : ℕ) (what : Step) (request : Request) (reply : Reply) (told : Answer) → what ≡ steps.Ask request → true ≡ is_asking (seat_with seat m.seats)
+    → ((s : SeatRecord) → seat_with seat m.seats ≡ Some s → Replies (takes_memory request) m (asked request m s) reply told next) → Replies (step_takes_memory what) m (effect m seat what) reply told next
+asked_so m next seat what request reply told is asking answered =
+    let a = ask_at m seat request (sym asking) in
+    rw (is, a.asks) (answered a.asker a.found)

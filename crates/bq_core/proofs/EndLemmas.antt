@@ -1,5 +1,5 @@
 -- The ends of pauses: what is found among them after a change, and the first of them.
-use Rattle.std.proofs.Common.{◌≡◌, ◌∙◌, ◌≤◌, ℕ, Bool, true, false, cond, ◌&&◌, ◌||◌, if◌then◌else◌, List, [], ◌∷◌, Option, Some, None, min, refl, sym, ap, arith, subst, inl, inr, is_some}
+use Rattle.std.proofs.Common.{◌≡◌, ◌∙◌, ◌≤◌, ℕ, Bool, true, false, cond, ◌&&◌, ◌||◌, if◌then◌else◌, List, [], ◌∷◌, Option, Some, None, min, map, refl, sym, ap, arith, subst, inl, inr, is_some}
 use Rattle.std.specs.Prelude.{◌==◌, fold, nat_le, nat_lt}
 use Rattle.std.specs.declared.cmp.Ordering.{Ordering}
 use Rattle.std.specs.declared.cmp.Ordering.TheVariants.{Less, Equal, Greater}
@@ -21,6 +21,7 @@ use Rattle.bq_job.specs.beside.NextDue.{dues_of_pause, earliest}
 use Rattle.bq_job.specs.reading.TubeName.{is_same_name}
 use Rattle.bq_jobs.proofs.Choice.{equal_from, lookup_inserted, lookup_removed}
 use Rattle.bq_core.specs.Dues.{earlier_of_both, first_pause_end, is_end_over, with_tube_due}
+use Rattle.bq_core.specs.KeptTubes.{KeptTubes, Named, record_at, tubes_kept}
 use Rattle.bq_core.specs.PauseEnds.{AreEnds, Ends, end_cmp, end_total, ends_at, first_end, found_end, has_end, if_over, is_end_in, is_end_of, with_end, without_end}
 use Rattle.bq_core.specs.declared.tubes.pause_ends.PauseEnd.{PauseEnd}
 use Rattle.bq_core.proofs.NamedLemmas.{ties}
@@ -219,3 +220,8 @@ first_is entries ends h s = go ends.entries h.known s
     go [] known s = sym (none_stays entries None (λ e. sym (known e)))
     go (x ∷ es) known s =
         sym (least_found x.0.until entries None tt (λ e g. least_end x es s e (known e ∙ g)) (hit_of x.0 entries (sym (known x.0) ∙ first_there x es)))
+
+-- The first of the ends is the first end of a pause, as the tubes are seen.
+pub first_seen : (es : List Named) (ends : CatalogSeen PauseEnd (Unit {0})) (k : KeptTubes) (r : Option ℕ) → r ≡ option_map (λ e. e.until) (first_end ends.entries)
+    → AreEnds (map record_at es) ends → InOrder end_cmp ends.entries → tubes_kept es ≡ k → r ≡ first_pause_end k.entries
+first_seen es ends k r is h s seen = is ∙ first_is (map record_at es) ends h s ∙ ap (λ (k : KeptTubes). first_pause_end k.entries) seen

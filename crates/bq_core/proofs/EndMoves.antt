@@ -491,3 +491,11 @@ module _ (moment : ℕ) (e : PauseEnd) (es last : List Named) (ends : CatalogSee
 
   pub over_fewer : count_by is_paused (map record_at last) < count_by is_paused (map record_at es)
   over_fewer = let none = ap one_if over_to in omega (arith, over_moves.count, one_from, none)
+
+-- The end of the pause of a tube whose entry is lent,
+pub none_lent : (name : List ℕ) (es : List Named) (o : Option (Bor KeptTube)) → o ≡ None → option_map (λ (t : Bor KeptTube). t.now) o ≡ lookup (is_named_at name) es → None ≡ end_of name (pause_at name (map record_at es))
+none_lent name es o is e = lent_end name es o None is e
+
+pub some_lent : (name : List ℕ) (es : List Named) (o : Option (Bor KeptTube)) (t : Bor KeptTube) (r : Option PauseEnd) → o ≡ Some t → option_map (λ (t : Bor KeptTube). t.now) o ≡ lookup (is_named_at name) es
+    → r ≡ end_of name t.now.pause → r ≡ end_of name (pause_at name (map record_at es))
+some_lent name es o t r is e told = told ∙ lent_end name es o (Some t) is e

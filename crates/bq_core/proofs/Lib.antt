@@ -7,6 +7,7 @@ pub mod CrowdPlaces
 pub mod CrowdWatching
 pub mod DispatchLemmas
 pub mod DueLemmas
+pub mod EditLemmas
 pub mod EndLemmas
 pub mod EndMoves
 pub mod FiringLemmas
@@ -35,6 +36,7 @@ pub mod StirLemmas
 pub mod TallyLemmas
 pub mod TallyPlaces
 pub mod TextLemmas
+pub mod ToldLemmas
 pub mod TubeLemmas
 pub mod TurnLemmas
 pub mod WaitLemmas

@@ -1,5 +1,5 @@
 -- What is kept of tubes: the entries and the machine's records of them.
-use Rattle.std.proofs.Common.{◌≡◌, ℕ, suc, Bool, true, false, ◌&&◌, ◌||◌, not, List, [], ◌∷◌, Some, None, is_some, map, refl, sym, ap, ◌∙◌, if◌then◌else◌, inl, inr, length, ◌≤◌, ◌<◌, ◌⊎◌, ◌+◌, arith, cond}
+use Rattle.std.proofs.Common.{◌≡◌, ℕ, suc, Bool, true, false, ◌&&◌, ◌||◌, not, List, [], ◌∷◌, Option, Some, None, is_some, map, refl, sym, ap, ◌∙◌, if◌then◌else◌, inl, inr, length, ◌≤◌, ◌<◌, ◌⊎◌, ◌+◌, arith, cond}
 use Rattle.std.proofs.Math.Bool.{or-false, or-true}
 use Rattle.std.specs.Prelude.{filter, find, unwrap_or}
 use Rattle.std.specs.List.{AllByRecursion as All, insert, list_any, position, position_or_len, prefix_len}
@@ -344,3 +344,7 @@ some_left {A = A} p (x ∷ xs) h = go (p x) refl (λ more. some_left p xs more)
     go : (b : Bool) → p x ≡ b → (list_any p xs ≡ true → 0 < length (filter p xs)) → 0 < length (if b then x ∷ filter p xs else filter p xs)
     go true e rest = omega arith
     go false e rest = rest (rw e at h)
+
+-- The place of the first that doesn't pass, or the end, where the search for it is told.
+pub place_told : {A : Type 0} (p : A → Bool) (xs : List A) (o : Option ℕ) (r : ℕ) → r ≡ unwrap_or o (length xs) → o ≡ position (λ x. not (p x)) xs → r ≡ prefix_len p xs
+place_told p xs o r is found = is ∙ ap (λ k. unwrap_or k (length xs)) found ∙ place_read p xs

@@ -139,6 +139,7 @@ fn answer(
     }
 }
 
+#[tactic(auto, using(crate::proofs::ActLemmas::asked_so))]
 fn reply_to(
     state: &mut CoreParts,
     alloc: Global,

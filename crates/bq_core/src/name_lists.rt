@@ -26,6 +26,7 @@ fn first_after(names: &[&[u8]], name: &[u8]) -> Option<usize>
 }
 
 // Where the name would stand.
+#[tactic(auto, using(crate::proofs::TubeLemmas::place_told))]
 fn place_of(names: &[&[u8]], name: &[u8]) -> usize
     ensures { result ≡ prefix_len (λ other. is_name_before other.now name.now) names.now }
 {

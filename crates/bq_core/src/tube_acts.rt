@@ -111,6 +111,7 @@ pub(crate) fn pause(state: &mut CoreParts, tube: &TubeName, seconds: u32, told: 
 }
 
 // Shows the job of this id.
+#[tactic(auto, using(crate::proofs::ToldLemmas::shown_so))]
 fn show(state: &mut CoreParts, id: JobId, told: &mut Answer) -> Reply
     ensures reply { RepliesBy false (peek_effect id) state.old result told.new state.new }
     ensures asks { Asks 1 state.old.jobs state.new.jobs }

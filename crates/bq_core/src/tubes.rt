@@ -101,6 +101,7 @@ impl Tubes {
     }
 
     /// Changes the tube of this name.
+    #[tactic(auto, using(crate::proofs::EditLemmas::records_change))]
     pub(crate) fn change(&mut self, name: &TubeName, what: TubeChange)
         ensures { self.new ≡ record self.old { entries = map (tube_changed_at name.now what) self.old.entries } }
     {
@@ -142,6 +143,7 @@ impl Tubes {
     }
 
     /// Counts a job in its tube.
+    #[tactic(auto, using(crate::proofs::EditLemmas::tallies_change))]
     pub(crate) fn add_job(&mut self, job: &Job)
         ensures { self.new ≡ record self.old { tallies = tallies_with job.now self.old.entries self.old.tallies } }
     {
@@ -149,6 +151,7 @@ impl Tubes {
     }
 
     /// Counts a job in its tube no longer.
+    #[tactic(auto, using(crate::proofs::EditLemmas::tallies_change))]
     pub(crate) fn remove_job(&mut self, job: &Job)
         ensures { self.new ≡ record self.old { tallies = tallies_without job.now self.old.entries self.old.tallies } }
     {
@@ -156,6 +159,7 @@ impl Tubes {
     }
 
     /// A job stands otherwise in its tube.
+    #[tactic(auto, using(crate::proofs::EditLemmas::tallies_change))]
     pub(crate) fn move_job(&mut self, moved: &Moved)
         ensures { self.new ≡ with_tallies_at moved.now.tube (tally_moved moved.now) self.old }
     {
@@ -180,6 +184,7 @@ impl Tubes {
     }
 
     /// Counts a share of a seat at the tube of this name, or counts it no longer.
+    #[tactic(auto, using(crate::proofs::EditLemmas::crowds_change))]
     pub(crate) fn recount(&mut self, name: &TubeName, moving: Moving, share: Share)
         ensures { self.new ≡ with_crowds_at name.now (recounted moving share) self.old }
     {
@@ -246,6 +251,7 @@ impl Tubes {
     }
 
     /// When the first pause ends. The ends are in order.
+    #[tactic(auto, using(crate::proofs::EndLemmas::first_seen))]
     pub(crate) fn first_pause_end(&self) -> Option<Moment>
         ensures { result ≡ first_pause_end self.now.entries }
     {

@@ -12,6 +12,7 @@ use bq_index::Catalog;
 use bq_job::{Moment, TubeName};
 
 // The end of the pause of the tube of this name, if it is paused.
+#[tactic(auto, using(crate::proofs::EndMoves::none_lent, crate::proofs::EndMoves::some_lent))]
 fn end_of(kept: &Catalog<TubeName, TubeEntry>, name: &TubeName) -> Option<PauseEnd>
     ensures { result ≡ end_of name.now (pause_at name.now (map record_at kept.now.entries)) }
 {
