@@ -1,5 +1,6 @@
 -- Bytes that lie in a buffer, and those that are left behind it.
-use Rattle.std.proofs.Common.{◌≡◌, ◌==◌, ◌<◌, ℕ, Bool, true, false, not, List, [], ◌∷◌, ◌++◌, Option, Some, None, min, length, take, drop, refl, sym, ap, ◌∙◌, arith, append_assoc}
+use Rattle.std.proofs.Common.{◌≡◌, ◌<◌, ℕ, List, [], ◌∷◌, ◌++◌, Option, Some, None, min, length, take, drop, refl, sym, ap, ◌∙◌, arith, append_assoc}
+use Rattle.std.proofs.KnownBytes.{Keeps-refl}
 use Rattle.std.proofs.lemmas.List.{take-append-drop}
 use Rattle.std.specs.Io.KnownBytes.{Consumes, IsAtEnd, Keeps, prepend_known}
 
@@ -7,6 +8,12 @@ taken : (old new : Option (List ℕ)) (held given left : List ℕ) → Keeps old
 taken None new held given left h e = tt
 taken (Some xs) None held given left h e = absurd h
 taken (Some xs) (Some ys) held given left h e = sym h ∙ ap (λ b. b ++ ys) e ∙ append_assoc given left ys
+
+-- the first bytes of the buffer were taken
+pub taken_first : (held left : List ℕ) (known : Option (List ℕ)) (n : ℕ) → left ≡ drop n held → Consumes (prepend_known held known) (prepend_known left known) (take n held)
+taken_first held left known n is =
+    taken (prepend_known held known) known held (take n held) left (Keeps-refl (prepend_known held known))
+    (sym (take-append-drop n held) ∙ ap (λ l. take n held ++ l) (sym is))
 
 at_end : (left : List ℕ) (new : Option (List ℕ)) → left ≡ [] → IsAtEnd new → IsAtEnd (prepend_known left new)
 at_end left None e h = tt
@@ -26,10 +33,3 @@ given_first old new held left buf n m h count same given left_is end =
           let none : held ≡ [] = nothing_left held n m count zero (rw (sym same) some) in
           at_end left new (left_is ∙ ap (λ k. drop k held) zero ∙ none) (end none),
     )
-
--- A reader whose buffer has bytes isn't at its end.
-pub not_at_end : (held : List ℕ) (known : Option (List ℕ)) (empty : Bool) → empty ≡ (length held == 0) → not empty ≡ true → prepend_known held known ≡ Some [] → ⊥
-not_at_end [] known true is some end = cc
-not_at_end [] known false is some end = cc
-not_at_end (b ∷ bs) None empty is some end = cc
-not_at_end (b ∷ bs) (Some xs) empty is some end = cc

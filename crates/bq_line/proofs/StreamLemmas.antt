@@ -8,7 +8,7 @@ use Rattle.std.specs.declared.io.Error.{Error}
 use Rattle.std.specs.IoError.{error_kind}
 use Rattle.bq_job.specs.declared.line_end.LineFault.TheVariants as faults
 use Rattle.bq_job.specs.promise.LineSteps.{LineSeen}
-use Rattle.bq_line.specs.LineCalls.{after_read, is_nothing_yet, with_line_fault}
+use Rattle.bq_line.specs.LineCalls.{after_fill, after_read, is_nothing_yet, with_line_fault}
 use Rattle.bq_line.specs.Streams.{LiesOver, StreamSeen}
 
 nothing_before : (bytes more : List ℕ) → [] ≡ bytes ++ more → bytes ≡ []
@@ -54,14 +54,19 @@ nothing_moved first old new line later left held read written ended over =
       ended = λ is. subst (λ bytes. IfSome first.left (λ all. all ≡ bytes)) (sym read) (over.ended (sym ended ∙ is));
     }
 
+-- A read that failed.
+failed_on : (first old new : StreamSeen) (line : LineSeen) (e : Error)
+    → Keeps old.left new.left → Keeps old.held new.held → LiesOver first line old → LiesOver first (after_fill (Err e) line) new
+failed_on first old new line e kept apart over = failed (is_nothing_yet (error_kind e))
+  where
+    failed : (yet : Bool) → LiesOver first (if yet then line else with_line_fault faults.Read line) new
+    failed true = nothing_moved first old new line line kept apart refl refl refl over
+    failed false = nothing_moved first old new line (with_line_fault faults.Read line) kept apart refl refl refl over
+
 read_on : (first old new : StreamSeen) (line : LineSeen) (result : Result ℕ Error) (buf : List ℕ) → 0 < length buf
     → ReadConsumes old.left new.left result buf → Keeps old.held new.held → LiesOver first line old → LiesOver first (after_read result buf line) new
 read_on first old new line (Ok n) buf room gave apart over = read_bytes first old new line n buf room gave apart over
-read_on first old new line (Err e) buf room gave apart over = failed (is_nothing_yet (error_kind e))
-  where
-    failed : (yet : Bool) → LiesOver first (if yet then line else with_line_fault faults.Read line) new
-    failed true = nothing_moved first old new line line gave apart refl refl refl over
-    failed false = nothing_moved first old new line (with_line_fault faults.Read line) gave apart refl refl refl over
+read_on first old new line (Err e) buf room gave apart over = failed_on first old new line e gave apart over
 
 -- A line that read these bytes, of which some lay before its stream, is over the stream that is left.
 pub read_more : (first old new : StreamSeen) (line : LineSeen) (bytes all : List ℕ) → all ≡ line.read ++ bytes
@@ -73,15 +78,21 @@ read_more first old new line bytes all all_is gave apart over =
       ended = λ is. still_all first.left old.left new.left line.read bytes over.read gave (over.ended is);
     })
 
+-- what is so of a line and its stream, by equations
+noted_so : (first gave new : StreamSeen) (noted later : LineSeen) → later ≡ noted → new ≡ gave → LiesOver first noted gave → LiesOver first later new
+noted_so first gave new noted later is stays over =
+    subst (LiesOver first later) (sym stays) (subst (λ seen. LiesOver first seen gave) (sym is) over)
+
 -- The line noted what a read of its stream came to.
-pub read_noted : {S : Type 0} (left held : S → Option (List ℕ)) (first : StreamSeen) (old gave new : S) (line later : LineSeen) (result : Result ℕ Error) (buf : List ℕ) (room : ℕ)
-    → length buf ≡ room → 0 < room → ReadConsumes (left old) (left gave) result buf → Keeps (held old) (held gave)
-    → later ≡ after_read result buf line → new ≡ gave
-    → LiesOver first line (record { left = left old; held = held old }) → LiesOver first later (record { left = left new; held = held new })
-read_noted {S} left held first old gave new line later result buf room length_is some took apart noted stays over =
-    let on : LiesOver first (after_read result buf line) (record { left = left gave; held = held gave }) =
-    read_on first (record { left = left old; held = held old }) (record { left = left gave; held = held gave }) line result buf
-    (subst (λ n. 0 < n) (sym length_is) some) took apart over in
-    let same : LiesOver first later (record { left = left gave; held = held gave }) =
-    subst (λ seen. LiesOver first seen (record { left = left gave; held = held gave })) (sym noted) on in
-    subst (λ stream. LiesOver first later (record { left = left stream; held = held stream })) (sym stays) same
+pub read_noted : (first old gave new : StreamSeen) (line later : LineSeen) (result : Result ℕ Error) (buf : List ℕ) (room : ℕ)
+    → length buf ≡ room → 0 < room → ReadConsumes old.left gave.left result buf → Keeps old.held gave.held
+    → later ≡ after_read result buf line → new ≡ gave → LiesOver first line old → LiesOver first later new
+read_noted first old gave new line later result buf room length_is some took apart noted stays over =
+    noted_so first gave new (after_read result buf line) later noted stays
+    (read_on first old gave line result buf (subst (λ n. 0 < n) (sym length_is) some) took apart over)
+
+-- The line noted that a read of its stream failed.
+pub failed_noted : (first old gave new : StreamSeen) (line later : LineSeen) (e : Error) → Keeps old.left gave.left → Keeps old.held gave.held
+    → later ≡ after_fill (Err e) line → new ≡ gave → LiesOver first line old → LiesOver first later new
+failed_noted first old gave new line later e kept apart noted stays over =
+    noted_so first gave new (after_fill (Err e) line) later noted stays (failed_on first old gave line e kept apart over)

@@ -6,25 +6,17 @@ ghost use Rattle.bq_job.specs.promise.LineSteps.{LineSeen};
 ghost use Rattle.bq_line.specs.LineCalls.{after_fill, after_flush, after_read, after_take, after_write, first_fault, is_nothing_yet};
 ghost use Rattle.bq_line.specs.Streams.{StaysOver, StreamSeen};
 
-pub use buffered::Buffered;
-pub use buffered_line::BufferedLine;
 pub use byte_record::ByteRecord;
-pub use connection::Connection;
-pub use duplex::Duplex;
-pub use io_line::IoLine;
+pub use io_line::{BufferedLine, IoLine};
 pub use mem_line::{MemLine, Part};
 pub use read_buffer::{READ_ROOM, ReadBuffer};
-pub use socket::Socket;
+pub use stream::{Connection, Duplex, Socket};
 
-mod buffered;
-mod buffered_line;
 mod byte_record;
-mod connection;
-mod duplex;
 mod io_line;
 mod mem_line;
 mod read_buffer;
-mod socket;
+mod stream;
 
 use bq_job::LineFault;
 use std::io;

@@ -1,12 +1,12 @@
-ghost use Rattle.std.specs.Prelude.{◌≡◌, ◌≤◌, ◌<◌, length, false, [], None};
+ghost use Rattle.std.specs.Prelude.{◌≡◌, ◌<◌, [], Err, None, false, length};
 ghost use Rattle.std.specs.Io.{ReadsAtMost, WritesAtMost};
 ghost use Rattle.std.specs.Io.KnownBytes.{Keeps, ReadConsumes, WriteAppends};
 ghost use Rattle.bq_line.specs.LineCalls.{after_fill, after_flush, after_read, after_write};
 ghost use Rattle.bq_line.specs.Streams.{StaysOver};
 
-use super::buffered::Buffered;
 use super::byte_record::ByteRecord;
-use super::duplex::Duplex;
+use super::read_buffer::ReadBuffer;
+use super::stream::{Duplex, read_by};
 use super::{Line, is_nothing_yet, note_fault};
 use bq_job::LineFault;
 use std::io;
@@ -46,48 +46,31 @@ impl<S: Duplex> IoLine<S> {
         match came {
             Ok(0) => self.ended = true,
             Ok(count) => self.read.note(&buf[..*count]),
-            Err(e) => {
-                if !is_nothing_yet(e) {
-                    note_fault(&mut self.fault, LineFault::Read);
-                }
-            }
+            Err(e) => self.note_error(e),
         }
     }
-}
 
-impl<S: Duplex> IoLine<Buffered<S>> {
-    /// Reads the stream once, where nothing lies in its buffer, and keeps a fault.
-    pub fn fill_buffer(&mut self, waits: bool) -> io::Result<()>
-        ensures seen { ⟦<IoLine<Buffered<S>> as Line>⟧.seen self.new ≡ after_fill result (⟦<IoLine<Buffered<S>> as Line>⟧.seen self.old) }
-        ensures stays { StaysOver ⟦<IoLine<Buffered<S>> as Line>⟧.lies_over self.old self.new }
+    // Keeps that a read failed, unless there were only no bytes yet.
+    fn note_error(&mut self, e: &io::Error)
+        ensures seen { ⟦<IoLine<S> as Line>⟧.seen self.new ≡ after_fill (Err e.now) (⟦<IoLine<S> as Line>⟧.seen self.old) }
+        ensures stream { self.new.stream ≡ self.old.stream }
     {
-        let result = self.stream.fill(waits);
-        if let Err(e) = &result {
-            if !is_nothing_yet(e) {
-                note_fault(&mut self.fault, LineFault::Read);
-            }
+        if !is_nothing_yet(e) {
+            note_fault(&mut self.fault, LineFault::Read);
         }
+    }
+
+    // One read of the stream, which may wait or not.
+    fn read_by(&mut self, buf: &mut [u8], waits: bool) -> io::Result<usize>
+        requires { 0 < length buf.old }
+        ensures bound { ReadsAtMost result buf.new }
+        ensures seen { ⟦<IoLine<S> as Line>⟧.seen self.new ≡ after_read result buf.new (⟦<IoLine<S> as Line>⟧.seen self.old) }
+        ensures stream { ReadConsumes (S.remaining self.old.stream) (S.remaining self.new.stream) result buf.new }
+        ensures stays { StaysOver ⟦<IoLine<S> as Line>⟧.lies_over self.old self.new }
+    {
+        let result = read_by(&mut self.stream, buf, waits);
+        self.note_read(&result, buf);
         result
-    }
-
-    /// What lies in the buffer of its stream.
-    pub fn buffered(&self) -> &[u8]
-        ensures { result.now ≡ self.now.stream.came }
-    {
-        self.stream.unread()
-    }
-
-    /// So many first bytes of what lies in the buffer are read.
-    pub fn take_buffered(&mut self, count: usize)
-        requires some { 0 < count }
-        requires within { count ≤ length self.old.stream.came }
-        ensures seen { ⟦<IoLine<Buffered<S>> as Line>⟧.seen self.new
-            ≡ after_read (Ok count) self.old.stream.came (⟦<IoLine<Buffered<S>> as Line>⟧.seen self.old) }
-        ensures stays { StaysOver ⟦<IoLine<Buffered<S>> as Line>⟧.lies_over self.old self.new }
-    {
-        let came = self.stream.unread();
-        self.read.note(&came[..count]);
-        self.stream.take_unread(count);
     }
 }
 
@@ -123,9 +106,7 @@ impl<S: Duplex> Line for IoLine<S> {
         ensures stream { ReadConsumes (S.remaining self.old.stream) (S.remaining self.new.stream) result buf.new }
         ensures stays { StaysOver ⟦<IoLine<S> as Line>⟧.lies_over self.old self.new }
     {
-        let result = self.stream.read(buf);
-        self.note_read(&result, buf);
-        result
+        self.read_by(buf, true)
     }
 
     fn read_now(&mut self, buf: &mut [u8]) -> io::Result<usize>
@@ -135,9 +116,7 @@ impl<S: Duplex> Line for IoLine<S> {
         ensures stream { ReadConsumes (S.remaining self.old.stream) (S.remaining self.new.stream) result buf.new }
         ensures stays { StaysOver ⟦<IoLine<S> as Line>⟧.lies_over self.old self.new }
     {
-        let result = self.stream.read_now(buf);
-        self.note_read(&result, buf);
-        result
+        self.read_by(buf, false)
     }
 
     fn unread(&self) -> &[u8] {
@@ -151,6 +130,7 @@ impl<S: Duplex> Line for IoLine<S> {
         ensures bound { WritesAtMost result buf.now }
         ensures seen { ⟦<IoLine<S> as Line>⟧.seen self.new ≡ after_write result buf.now (⟦<IoLine<S> as Line>⟧.seen self.old) }
         ensures stream { WriteAppends (S.contents self.old.stream) (S.contents self.new.stream) result buf.now }
+        ensures apart { Keeps (S.remaining self.old.stream) (S.remaining self.new.stream) }
         ensures stays { StaysOver ⟦<IoLine<S> as Line>⟧.lies_over self.old self.new }
     {
         let result = self.stream.write(buf);
@@ -164,6 +144,7 @@ impl<S: Duplex> Line for IoLine<S> {
     fn flush(&mut self) -> io::Result<()>
         ensures seen { ⟦<IoLine<S> as Line>⟧.seen self.new ≡ after_flush result (⟦<IoLine<S> as Line>⟧.seen self.old) }
         ensures stream { Keeps (S.contents self.old.stream) (S.contents self.new.stream) }
+        ensures apart { Keeps (S.remaining self.old.stream) (S.remaining self.new.stream) }
         ensures stays { StaysOver ⟦<IoLine<S> as Line>⟧.lies_over self.old self.new }
     {
         let result = self.stream.flush();
@@ -173,15 +154,116 @@ impl<S: Duplex> Line for IoLine<S> {
         result
     }
 
-    fn has_unread(&self) -> bool {
-        self.stream.has_unread()
-    }
-
     fn expect_more(&mut self, more: bool)
         ensures seen { ⟦<IoLine<S> as Line>⟧.seen self.new ≡ ⟦<IoLine<S> as Line>⟧.seen self.old }
         ensures stream { Keeps (S.contents self.old.stream) (S.contents self.new.stream) }
+        ensures apart { Keeps (S.remaining self.old.stream) (S.remaining self.new.stream) }
         ensures stays { StaysOver ⟦<IoLine<S> as Line>⟧.lies_over self.old self.new }
     {
         self.stream.expect_more(more);
+    }
+}
+
+/// A line over a stream that is read through a buffer, which is the line's own room: what lies there is lent, so that
+/// nobody has to copy it. Only where nothing does is the stream asked, for as much as the buffer has room for. What is
+/// written goes to the stream at once.
+#[derive(Debug, Drop)]
+pub struct BufferedLine<S> {
+    line: IoLine<S>,
+    came: ReadBuffer,
+}
+
+impl<S: Duplex> BufferedLine<S> {
+    /// A line on which nothing was done, over this stream. What lay in the buffer is given up.
+    pub fn new(stream: S, mut came: ReadBuffer) -> BufferedLine<S>
+        ensures { result ≡ record {
+          line = record { stream = stream; ended = false; fault = None; read = []; written = [] };
+          came = [];
+        } }
+    {
+        came.clear();
+        BufferedLine {
+            line: IoLine::new(stream),
+            came,
+        }
+    }
+
+    // One read of what lies in the buffer, or else of the stream.
+    fn read_by(&mut self, buf: &mut [u8], waits: bool) -> io::Result<usize>
+        requires { 0 < length buf.old }
+        ensures bound { ReadsAtMost result buf.new }
+        ensures seen { ⟦<BufferedLine<S> as Line>⟧.seen self.new
+            ≡ after_read result buf.new (⟦<BufferedLine<S> as Line>⟧.seen self.old) }
+        ensures stays { StaysOver ⟦<BufferedLine<S> as Line>⟧.lies_over self.old self.new }
+    {
+        let result = self.came.read(&mut self.line.stream, buf, waits);
+        self.line.note_read(&result, buf);
+        result
+    }
+}
+
+impl<S> BufferedLine<S> {
+    /// The buffer, whatever was done on the line. The stream is dropped.
+    pub fn into_buffer(self) -> ReadBuffer
+    where
+        S: Drop,
+        ensures { result ≡ self.came }
+    {
+        self.came
+    }
+}
+
+impl<S: Duplex> Line for BufferedLine<S> {
+    ghost use Rattle.std.specs.Io.KnownBytes.{prepend_known};
+    ghost use Rattle.bq_line.specs.Streams.{LiesOver};
+
+    ghost seen = { λ line. ⟦<IoLine<S> as Line>⟧.seen line.line };
+
+    // What lies in the buffer comes before what the stream has left.
+    ghost lies_over = { λ first line. LiesOver first (⟦<IoLine<S> as Line>⟧.seen line.line)
+        (record { left = prepend_known line.came (S.remaining line.line.stream); held = S.contents line.line.stream }) };
+
+    ghost unread = { λ line. line.came };
+
+    fn read(&mut self, buf: &mut [u8]) -> io::Result<usize> {
+        self.read_by(buf, true)
+    }
+
+    fn read_now(&mut self, buf: &mut [u8]) -> io::Result<usize> {
+        self.read_by(buf, false)
+    }
+
+    fn fill(&mut self, waits: bool) -> io::Result<()> {
+        let result = self.came.fill(&mut self.line.stream, waits);
+        if let Err(e) = &result {
+            self.line.note_error(e);
+        }
+        result
+    }
+
+    fn unread(&self) -> &[u8] {
+        self.came.as_slice()
+    }
+
+    fn take_unread(&mut self, count: usize) {
+        let came = self.came.as_slice();
+        self.line.read.note(&came[..count]);
+        self.came.drop_front(count);
+    }
+
+    fn write(&mut self, buf: &[u8]) -> io::Result<usize> {
+        self.line.write(buf)
+    }
+
+    fn flush(&mut self) -> io::Result<()> {
+        self.line.flush()
+    }
+
+    fn has_unread(&self) -> bool {
+        !self.came.is_empty()
+    }
+
+    fn expect_more(&mut self, more: bool) {
+        self.line.expect_more(more);
     }
 }

@@ -1,9 +1,10 @@
 ghost use Rattle.std.specs.Prelude.{◌≡◌, ◌==◌, ◌≤◌, ◌<◌, [], IfOk, OnOk, OnErr, length, take, drop, min, vec_len};
-ghost use Rattle.std.specs.Io.KnownBytes.{Consumes, IsAtEnd, Keeps, prepend_known};
+ghost use Rattle.std.specs.Io.{ReadsAtMost};
+ghost use Rattle.std.specs.Io.KnownBytes.{Consumes, IsAtEnd, Keeps, ReadConsumes, prepend_known};
 ghost use Rattle.std.specs.Vec.{vec_capacity};
 
 use super::copy_first;
-use super::duplex::Duplex;
+use super::stream::{Duplex, read_by};
 use bq_job::NoMemory;
 use std::alloc::Global;
 use std::fmt::{Debug, Formatter, Write};
@@ -63,17 +64,6 @@ impl ReadBuffer {
         self.from == self.to
     }
 
-    /// Moves as many bytes as both have room for from the front into `buf`, and says how many.
-    pub fn give(&mut self, buf: &mut [u8]) -> usize
-        ensures count { result ≡ min (length self.old) (length buf.old) }
-        ensures given { take result buf.new ≡ take result self.old }
-        ensures left { self.new ≡ drop result self.old }
-    {
-        let count = copy_first(self.as_slice(), buf);
-        self.from += count;
-        count
-    }
-
     /// Gives up the first `n` bytes.
     pub fn drop_front(&mut self, n: usize)
         requires { n ≤ length self.old }
@@ -99,6 +89,33 @@ impl ReadBuffer {
         } else {
             Ok(())
         }
+    }
+
+    /// Reads what lies in the buffer. Where nothing does, the stream is read first, once.
+    pub fn read<S: Duplex>(
+        &mut self,
+        stream: &mut S,
+        buf: &mut [u8],
+        waits: bool,
+    ) -> io::Result<usize>
+        ensures bound { ReadsAtMost result buf.new }
+        ensures bytes { ReadConsumes (prepend_known self.old (S.remaining stream.old)) (prepend_known self.new (S.remaining stream.new))
+            result buf.new }
+        ensures apart { Keeps (S.contents stream.old) (S.contents stream.new) }
+    {
+        self.fill(stream, waits)?;
+        Ok(self.give(buf))
+    }
+
+    // Moves as many bytes as both have room for from the front into `buf`, and says how many.
+    fn give(&mut self, buf: &mut [u8]) -> usize
+        ensures count { result ≡ min (length self.old) (length buf.old) }
+        ensures given { take result buf.new ≡ take result self.old }
+        ensures left { self.new ≡ drop result self.old }
+    {
+        let count = copy_first(self.as_slice(), buf);
+        self.from += count;
+        count
     }
 
     fn refill<S: Duplex>(&mut self, stream: &mut S, waits: bool) -> io::Result<()>
@@ -141,11 +158,7 @@ fn read_once<S: Duplex>(
     ensures err { OnErr result (Keeps (S.remaining stream.old) (S.remaining stream.new)) }
     ensures apart { Keeps (S.contents stream.old) (S.contents stream.new) }
 {
-    if waits {
-        stream.read(room.as_mut_slice())
-    } else {
-        stream.read_now(room.as_mut_slice())
-    }
+    read_by(stream, room.as_mut_slice(), waits)
 }
 
 impl Debug for ReadBuffer {
