@@ -19,7 +19,7 @@ const REST: u64 = 100;
 const SHORTAGES: [i32; 4] = [12, 23, 24, 105];
 
 /// What an accept that failed says.
-enum Refusal {
+enum NotAccepted {
     /// The peer was gone before its connection was accepted.
     OfPeer,
     /// The system is short of something, which may come back.
@@ -50,12 +50,12 @@ pub(super) fn accept<R: Wait + Clock + Eprint, T: Listen>(
                 }
             }
             Err(e) => match meaning_of(&e) {
-                Refusal::OfPeer => {}
-                Refusal::Shortage => {
+                NotAccepted::OfPeer => {}
+                NotAccepted::Shortage => {
                     met.note(rt, &e);
                     thread::sleep(rt, Duration::from_millis(REST));
                 }
-                Refusal::OfListener => {
+                NotAccepted::OfListener => {
                     met.note(rt, &e);
                     return Err(e);
                 }
@@ -65,15 +65,15 @@ pub(super) fn accept<R: Wait + Clock + Eprint, T: Listen>(
     unreachable!()
 }
 
-fn meaning_of(e: &io::Error) -> Refusal
-    ensures { result ≡ Refusal.OfListener → ends_listener e.now ≡ true }
+fn meaning_of(e: &io::Error) -> NotAccepted
+    ensures { result ≡ NotAccepted.OfListener → ends_listener e.now ≡ true }
 {
     if is_of_peer(e.kind()) {
-        Refusal::OfPeer
+        NotAccepted::OfPeer
     } else if is_shortage(e) {
-        Refusal::Shortage
+        NotAccepted::Shortage
     } else {
-        Refusal::OfListener
+        NotAccepted::OfListener
     }
 }
 
