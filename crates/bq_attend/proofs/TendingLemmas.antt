@@ -19,8 +19,8 @@ use Rattle.bq_line.specs.LineCalls.{new_line}
 use Rattle.bq_attend.specs.Links.{Calls}
 use Rattle.bq_attend.specs.Tending.{DoorSeen, GoesOn, IsDoorServed, IsNewDoor, IsNewSeat, IsTended, Tends, attendant}
 use Rattle.bq_attend.specs.declared.attendant.Attendant.{Attendant}
-use Rattle.bq_attend.specs.declared.attendant.Place.{Place}
-use Rattle.bq_attend.specs.declared.attendant.Place.TheVariants as places
+use Rattle.bq_attend.specs.declared.attendant.LinePlace.{LinePlace}
+use Rattle.bq_attend.specs.declared.attendant.LinePlace.TheVariants as places
 use Rattle.bq_job.proofs.JoinLemmas.{lines_more}
 use Rattle.bq_attend.proofs.CarriedLemmas.{gone}
 use Rattle.bq_attend.proofs.SeatLemmas.{carried_on, line_served, opened_on}
@@ -151,7 +151,7 @@ tends_gone seen machine door size before got t =
 -- A seat that has done nothing, at a new door.
 pub tended_new : {L : Type 0} (seen : L → LineSeen) (size : ℕ) (a : Attendant L) (door : DoorSeen) → IsNewSeat size a → IsNewDoor door → IsTended seen size a door [] []
 tended_new {L} seen size a door seat new =
-    subst (λ (q : Place L). IsTended seen size (attendant a.machine q) door [] []) (sym seat.place) (record {
+    subst (λ (q : LinePlace L). IsTended seen size (attendant a.machine q) door [] []) (sym seat.place) (record {
       attends = record {
         before = [];
         now = [];
@@ -169,7 +169,7 @@ tended_new {L} seen size a door seat new =
 pub tended_done : {L : Type 0} (seen : L → LineSeen) (size : ℕ) (a : Attendant L) (door : DoorSeen) (submitted : List Step) (taken : List Answer)
     → a.place ≡ places.Done → IsTended seen size a door submitted taken → IsDoorServed size door submitted taken
 tended_done {L} seen size a door submitted taken e tended =
-    let t : IsTended seen size (attendant a.machine places.Done) door submitted taken = subst (λ (q : Place L). IsTended seen size (attendant a.machine q) door submitted taken) e tended in
+    let t : IsTended seen size (attendant a.machine places.Done) door submitted taken = subst (λ (q : LinePlace L). IsTended seen size (attendant a.machine q) door submitted taken) e tended in
     let did = t.attends in
     let at = did.at_place in
     let lines_served = subst (AreLinesServed size door.lines_over did.before) (sym (did.taken_is ∙ ap (λ (xs : List Answer). did.got ++ xs) at.1 ∙ append-nil did.got)) did.of_lines in
@@ -184,7 +184,7 @@ tended_done {L} seen size a door submitted taken e tended =
     }
 
 -- the place at which a seat begins, by an equation
-pub from_place : {K L : Type 0} (went : K → List Step → List Answer → K → Type 0) (first last : K) (seen : L → LineSeen) (machine new : SeatMachine) (place same later : Place L) (door next : DoorSeen)
+pub from_place : {K L : Type 0} (went : K → List Step → List Answer → K → Type 0) (first last : K) (seen : L → LineSeen) (machine new : SeatMachine) (place same later : LinePlace L) (door next : DoorSeen)
     → place ≡ same → GoesOn went first last seen (attendant machine same) door (attendant new later) next → GoesOn went first last seen (attendant machine place) door (attendant new later) next
 from_place {L} went first last seen machine new place same later door next e h =
-    subst (λ (q : Place L). GoesOn went first last seen (attendant machine q) door (attendant new later) next) (sym e) h
+    subst (λ (q : LinePlace L). GoesOn went first last seen (attendant machine q) door (attendant new later) next) (sym e) h

@@ -14,8 +14,8 @@ use Rattle.bq_seat.specs.SeatStands.{StandsFor, awaited}
 use Rattle.bq_seat.specs.Served.{seen_line}
 use Rattle.bq_seat.specs.declared.machine.Action.{Action}
 use Rattle.bq_seat.specs.declared.machine.SeatMachine.{SeatMachine}
-use Rattle.bq_attend.specs.declared.attendant.Place.{Place}
-use Rattle.bq_attend.specs.declared.attendant.Place.TheVariants as places
+use Rattle.bq_attend.specs.declared.attendant.LinePlace.{LinePlace}
+use Rattle.bq_attend.specs.declared.attendant.LinePlace.TheVariants as places
 
 -- what was written of the answers that were handed out for writing: all of it, but after a write fault
 abbrev pub IsWrittenSo : Option LineFault → List Answer → List ℕ → Type 0
@@ -39,7 +39,7 @@ pub record IsOnLine (max_job_size : ℕ) (machine : SeatMachine) (seen : LineSee
   pub limit_is : machine.reader.max_job_size ≡ max_job_size
 
 -- what was done for the line that is out
-abbrev pub IsAt : {L : Type 0} → (L → LineSeen) → ℕ → SeatMachine → Place L → List Step → List Answer → Type 0
+abbrev pub IsAt : {L : Type 0} → (L → LineSeen) → ℕ → SeatMachine → LinePlace L → List Step → List Answer → Type 0
 IsAt seen max_job_size machine places.Between submitted taken =
     (submitted ≡ []) × (taken ≡ []) × (awaited machine ≡ Awaited.ALine) × (machine.reader.max_job_size ≡ max_job_size)
 IsAt seen max_job_size machine (places.On line action) submitted taken = IsOnLine max_job_size machine (seen line) action submitted taken
@@ -47,7 +47,7 @@ IsAt seen max_job_size machine places.Leaving submitted taken = (submitted ≡ [
 IsAt seen max_job_size machine places.Done submitted taken = (submitted ≡ Gone ∷ []) × (taken ≡ [])
 
 -- What a seat did: its lines that are over, and then the one that is out.
-pub record IsAttending {L : Type 0} (seen : L → LineSeen) (max_job_size : ℕ) (machine : SeatMachine) (place : Place L)
+pub record IsAttending {L : Type 0} (seen : L → LineSeen) (max_job_size : ℕ) (machine : SeatMachine) (place : LinePlace L)
     (lines : List LineOver) (submitted : List Step) (taken : List Answer) : Type 0 where
   pub before : List Step
   pub now : List Step

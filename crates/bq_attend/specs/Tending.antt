@@ -11,10 +11,10 @@ use Rattle.bq_seat.specs.declared.machine.SeatMachine.{SeatMachine}
 use Rattle.bq_attend.specs.Attending.{IsAttending}
 use Rattle.bq_attend.specs.Links.{Calls}
 use Rattle.bq_attend.specs.declared.attendant.Attendant.{Attendant}
-use Rattle.bq_attend.specs.declared.attendant.Place.{Place}
-use Rattle.bq_attend.specs.declared.attendant.Place.TheVariants as places
+use Rattle.bq_attend.specs.declared.attendant.LinePlace.{LinePlace}
+use Rattle.bq_attend.specs.declared.attendant.LinePlace.TheVariants as places
 
-abbrev pub attendant : {L : Type 0} → SeatMachine → Place L → Attendant L
+abbrev pub attendant : {L : Type 0} → SeatMachine → LinePlace L → Attendant L
 attendant machine place = record { machine = machine; place = place }
 
 -- what a door tells of itself
@@ -34,7 +34,7 @@ pub record IsNewDoor (door : DoorSeen) : Type 0 where
   pub none_over : door.lines_over ≡ []
 
 -- A line is out exactly while the seat is on it. A door is at its end once its seat goes.
-abbrev pub IsPlaced : {L : Type 0} → Place L → DoorSeen → Type 0
+abbrev pub IsPlaced : {L : Type 0} → LinePlace L → DoorSeen → Type 0
 IsPlaced places.Between door = (door.is_out ≡ false) × (door.is_at_end ≡ false)
 IsPlaced (places.On line action) door = (door.is_out ≡ true) × (door.is_at_end ≡ false)
 IsPlaced places.Leaving door = (door.is_out ≡ false) × (door.is_at_end ≡ true)

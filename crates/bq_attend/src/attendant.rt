@@ -18,7 +18,7 @@ use std::mem;
 
 /// Where a seat is with its door.
 #[derive(Drop)]
-pub enum Place<L> {
+pub enum LinePlace<L> {
     /// The next line is to be opened.
     Between,
     /// This line is out, and the action is the next one for it.
@@ -33,38 +33,38 @@ pub enum Place<L> {
 #[derive(Drop)]
 pub struct Attendant<L> {
     pub machine: SeatMachine,
-    pub place: Place<L>,
+    pub place: LinePlace<L>,
 }
 
 impl<L: Line + Drop> Attendant<L> {
     /// A seat whose door is to be opened first. All memory but that for bodies is asked for here.
     pub fn new(alloc: Global, max_job_size: u32) -> Result<Attendant<L>, NoMemory>
         requires { (1 ≤ max_job_size) × (max_job_size ≤ LARGEST_BODY) }
-        ensures place { IfOk result (λ a. a.place ≡ Place.Between) }
+        ensures place { IfOk result (λ a. a.place ≡ LinePlace.Between) }
         ensures awaits { IfOk result (λ a. awaited a.machine ≡ Awaited.ALine) }
         ensures limit { IfOk result (λ a. a.machine.reader.max_job_size ≡ max_job_size) }
     {
         let machine = SeatMachine::new(alloc, max_job_size)?;
         Ok(Attendant {
             machine,
-            place: Place::Between,
+            place: LinePlace::Between,
         })
     }
 
     /// Whether its door is at its end, and that was submitted.
     pub fn is_done(&self) -> bool
-        ensures { IsTrue result ↔ (self.now.place ≡ Place.Done) }
+        ensures { IsTrue result ↔ (self.now.place ≡ LinePlace.Done) }
     {
-        matches!(self.place, Place::Done)
+        matches!(self.place, LinePlace::Done)
     }
 
     /// Whether nothing but its line can move it: the line is to be read, and no answer is outstanding.
     pub fn awaits_line(&self) -> bool
-        ensures reads { IsTrue result → (line : L) × (self.now.place ≡ Place.On line Action.Read) }
-        ensures outstanding { (line : L) → self.now.place ≡ Place.On line Action.Read
+        ensures reads { IsTrue result → (line : L) × (self.now.place ≡ LinePlace.On line Action.Read) }
+        ensures outstanding { (line : L) → self.now.place ≡ LinePlace.On line Action.Read
             → ReadsWith (not result) self.now.machine }
     {
-        matches!(self.place, Place::On(_, Action::Read)) && !self.machine.has_outstanding()
+        matches!(self.place, LinePlace::On(_, Action::Read)) && !self.machine.has_outstanding()
     }
 
     /// One action of the seat, and whether something moved by it. A step that was handed back is submitted
@@ -94,7 +94,7 @@ impl<L: Line + Drop> Attendant<L> {
 fn turn<L: Line + Drop, D: Door<Line = L>, K: Link>(
     alloc: Global,
     machine: &mut SeatMachine,
-    place: &mut Place<L>,
+    place: &mut LinePlace<L>,
     door: &mut D,
     link: &mut K,
     room: &mut Room,
@@ -108,22 +108,22 @@ fn turn<L: Line + Drop, D: Door<Line = L>, K: Link>(
     ensures same { (first : D) → D.same first door.old → D.same first door.new }
 {
     match place {
-        Place::On(line, action) => match action {
+        LinePlace::On(line, action) => match action {
             Action::LineOver(end) => {
                 let end = *end;
-                if let Place::On(line, _) = mem::replace(place, Place::Between) {
+                if let LinePlace::On(line, _) = mem::replace(place, LinePlace::Between) {
                     shut_line(door, line, end);
                 }
                 true
             }
             other => act(alloc, machine, line, other, link, room),
         },
-        Place::Between => {
+        LinePlace::Between => {
             *place = open_line(alloc, machine, door);
             true
         }
-        Place::Leaving => leave(place, link),
-        Place::Done => false,
+        LinePlace::Leaving => leave(place, link),
+        LinePlace::Done => false,
     }
 }
 
@@ -133,18 +133,18 @@ fn open_line<L: Line + Drop, D: Door<Line = L>>(
     alloc: Global,
     machine: &mut SeatMachine,
     door: &mut D,
-) -> Place<L>
+) -> LinePlace<L>
     requires inside { D.is_out door.old ≡ false }
     requires more { D.is_at_end door.old ≡ false }
-    ensures opened { result ≡ Place.Between → ⊥ }
+    ensures opened { result ≡ LinePlace.Between → ⊥ }
     ensures went { let at = door_seen D.is_out D.is_at_end D.lines_over in
-        Tends L.seen (attendant machine.old Place.Between) (at door.old) [] [] (attendant machine.new result) (at door.new) }
+        Tends L.seen (attendant machine.old LinePlace.Between) (at door.old) [] [] (attendant machine.new result) (at door.new) }
     ensures same { (first : D) → D.same first door.old → D.same first door.new }
 {
     match door.open() {
-        Ok(Some(line)) => Place::On(line, machine.on(alloc, Event::Opened)),
-        Ok(None) => Place::Leaving,
-        Err(_) => Place::Leaving,
+        Ok(Some(line)) => LinePlace::On(line, machine.on(alloc, Event::Opened)),
+        Ok(None) => LinePlace::Leaving,
+        Err(_) => LinePlace::Leaving,
     }
 }
 
@@ -152,8 +152,8 @@ fn open_line<L: Line + Drop, D: Door<Line = L>>(
 fn shut_line<L: Line + Drop, D: Door<Line = L>>(door: &mut D, line: L, end: LineEnd)
     requires { D.is_out door.old ≡ true }
     ensures went { let at = door_seen D.is_out D.is_at_end D.lines_over in (machine : SeatMachine)
-        → Tends L.seen (attendant machine (Place.On line (Action.LineOver end))) (at door.old) [] []
-        (attendant machine Place.Between) (at door.new) }
+        → Tends L.seen (attendant machine (LinePlace.On line (Action.LineOver end))) (at door.old) [] []
+        (attendant machine LinePlace.Between) (at door.new) }
     ensures same { (first : D) → D.same first door.old → D.same first door.new }
 {
     door.shut(line, end);
@@ -171,15 +171,15 @@ fn act<L: Line + Drop, K: Link>(
     requires ready { K.is_ready link.old }
     ensures ready { K.is_ready link.new }
     ensures went { (door : DoorSeen)
-        → GoesOn K.went link.old link.new L.seen (attendant machine.old (Place.On line.old action.old)) door
-        (attendant machine.new (Place.On line.new action.new)) door }
+        → GoesOn K.went link.old link.new L.seen (attendant machine.old (LinePlace.On line.old action.old)) door
+        (attendant machine.new (LinePlace.On line.new action.new)) door }
 {
     carry_out(alloc, machine, action, line, link, room)
 }
 
 // It is submitted that no more lines come.
-fn leave<L: Line + Drop, K: Link>(place: &mut Place<L>, link: &mut K) -> bool
-    requires leaving { place.old ≡ Place.Leaving }
+fn leave<L: Line + Drop, K: Link>(place: &mut LinePlace<L>, link: &mut K) -> bool
+    requires leaving { place.old ≡ LinePlace.Leaving }
     requires ready { K.is_ready link.old }
     ensures ready { K.is_ready link.new }
     ensures went { (machine : SeatMachine) (door : DoorSeen)
@@ -187,7 +187,7 @@ fn leave<L: Line + Drop, K: Link>(place: &mut Place<L>, link: &mut K) -> bool
 {
     match link.submit(Step::Gone) {
         Ok(()) => {
-            *place = Place::Done;
+            *place = LinePlace::Done;
             true
         }
         Err(_) => false,

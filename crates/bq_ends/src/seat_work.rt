@@ -8,7 +8,7 @@ ghost use Rattle.bq_ends.specs.Ends.{IsNewEnd};
 
 use crate::end_seat::{Pace, attend_at};
 use crate::shared_core::SharedCore;
-use bq_attend::attendant::{Attendant, Place};
+use bq_attend::attendant::{Attendant, LinePlace};
 use bq_attend::room::{AnswerRoom, Room};
 use bq_line::Door;
 use bq_line::line::Line;
@@ -51,7 +51,7 @@ pub fn seat_work<R: Wait, S: SharedCore, L: Line + Drop, D: Door<Line = L> + Dro
     let mut door = door;
     let mut attendant = Attendant {
         machine,
-        place: Place::Between,
+        place: LinePlace::Between,
     };
     let mut room = Room::new(room);
     let mut pace = Pace::new();

@@ -2,7 +2,7 @@ use Rattle.std.proofs.Common.{◌∙◌, refl, sym, subst, [], List}
 use Rattle.bq_job.specs.declared.answer.Answer.{Answer}
 use Rattle.bq_job.specs.declared.step.Step.{Step}
 use Rattle.bq_attend.specs.Tending.{IsTended, attendant, door_seen}
-use Rattle.bq_attend.specs.declared.attendant.Place.TheVariants as places
+use Rattle.bq_attend.specs.declared.attendant.LinePlace.TheVariants as places
 use Rattle.bq_attend.proofs.TendingLemmas.{tended_new}
 use Rattle.bq_link.specs.EndStates.{IsSameSeat, SeatState}
 use Rattle.bq_ends.proofs.SeatWorkLemmas.{tended_on}
