@@ -9,7 +9,7 @@ use Rattle.bq_seat.specs.SeatStands.{awaited}
 use Rattle.bq_lock.specs.LockedRuns.{IsServedToEnd}
 use Rattle.bq_attend.specs.Tending.{DoorSeen, IsTended, door_seen}
 use Rattle.bq_attend.specs.declared.attendant.Attendant.{Attendant}
-use Rattle.bq_attend.specs.declared.attendant.Place.TheVariants as places
+use Rattle.bq_attend.specs.declared.attendant.LinePlace.TheVariants as places
 use Rattle.bq_attend.proofs.TendingLemmas.{tended_done, tended_new}
 
 pub tended_first : {L D : Type 0} (seen : L → LineSeen) (is_out is_at_end : D → Bool) (lines_over : D → List LineOver) (a : Attendant L) (door : D)

@@ -4,7 +4,7 @@ ghost use Rattle.std.specs.List.{All};
 ghost use Rattle.bq_steps.specs.Limits.{is_body_size};
 ghost use Rattle.bq_seat.specs.Past.{Awaited};
 ghost use Rattle.bq_seat.specs.SeatStands.{awaited};
-ghost use Rattle.bq_attend.specs.declared.attendant.Place.TheVariants as places;
+ghost use Rattle.bq_attend.specs.declared.attendant.LinePlace.TheVariants as places;
 ghost use Rattle.bq_lock.specs.LockedRuns.{IsServedToEnd};
 ghost use Rattle.bq_attend.specs.Tending.{IsNewDoor, door_seen};
 
