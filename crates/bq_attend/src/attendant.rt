@@ -6,10 +6,10 @@ ghost use Rattle.bq_seat.specs.SeatStands.{awaited};
 ghost use Rattle.bq_seat.specs.declared.machine.SeatMachine.{SeatMachine};
 ghost use Rattle.bq_attend.specs.Tending.{DoorSeen, GoesOn, IsPlaced, Tends, attendant, door_seen};
 
-use crate::client::carry_out;
+use crate::carry_out::carry_out;
 use crate::link::Link;
 use crate::room::Room;
-use bq_job::{LARGEST_BODY, LineEnd, NoMemory, Step};
+use bq_job::{LARGEST_BODY, NoMemory, Step};
 use bq_line::Door;
 use bq_line::line::Line;
 use bq_seat::{Action, Event, SeatMachine};
@@ -85,45 +85,28 @@ impl<L: Line + Drop> Attendant<L> {
         // It is the same door still.
         ensures same { (first : D) → D.same first door.old → D.same first door.new }
     {
-        turn(alloc, &mut self.machine, &mut self.place, door, link, room)
-    }
-}
-
-// One action of a seat that is at this place, and whether something moved. A line that is out stays where it lies
-// until it is over.
-fn turn<L: Line + Drop, D: Door<Line = L>, K: Link>(
-    alloc: Global,
-    machine: &mut SeatMachine,
-    place: &mut LinePlace<L>,
-    door: &mut D,
-    link: &mut K,
-    room: &mut Room,
-) -> bool
-    requires placed { IsPlaced place.old (door_seen D.is_out D.is_at_end D.lines_over door.old) }
-    requires ready { K.is_ready link.old }
-    ensures ready { K.is_ready link.new }
-    ensures went { let at = door_seen D.is_out D.is_at_end D.lines_over in
-        GoesOn K.went link.old link.new L.seen (attendant machine.old place.old) (at door.old) (attendant machine.new place.new)
-        (at door.new) }
-    ensures same { (first : D) → D.same first door.old → D.same first door.new }
-{
-    match place {
-        LinePlace::On(line, action) => match action {
-            Action::LineOver(end) => {
-                let end = *end;
-                if let LinePlace::On(line, _) = mem::replace(place, LinePlace::Between) {
-                    shut_line(door, line, end);
+        // A line that is out stays where it lies until it is over.
+        match &mut self.place {
+            LinePlace::On(line, action) => match action {
+                Action::LineOver(end) => {
+                    let end = *end;
+                    if let LinePlace::On(line, _) = mem::replace(
+                        &mut self.place,
+                        LinePlace::Between,
+                    ) {
+                        door.shut(line, end);
+                    }
+                    true
                 }
+                other => carry_out(alloc, &mut self.machine, other, line, link, room),
+            },
+            LinePlace::Between => {
+                self.place = open_line(alloc, &mut self.machine, door);
                 true
             }
-            other => act(alloc, machine, line, other, link, room),
-        },
-        LinePlace::Between => {
-            *place = open_line(alloc, machine, door);
-            true
+            LinePlace::Leaving => leave(&mut self.place, link),
+            LinePlace::Done => false,
         }
-        LinePlace::Leaving => leave(place, link),
-        LinePlace::Done => false,
     }
 }
 
@@ -146,35 +129,6 @@ fn open_line<L: Line + Drop, D: Door<Line = L>>(
         Ok(None) => LinePlace::Leaving,
         Err(_) => LinePlace::Leaving,
     }
-}
-
-// A line that is over is shut.
-fn shut_line<L: Line + Drop, D: Door<Line = L>>(door: &mut D, line: L, end: LineEnd)
-    requires { D.is_out door.old ≡ true }
-    ensures went { let at = door_seen D.is_out D.is_at_end D.lines_over in (machine : SeatMachine)
-        → Tends L.seen (attendant machine (LinePlace.On line (Action.LineOver end))) (at door.old) [] []
-        (attendant machine LinePlace.Between) (at door.new) }
-    ensures same { (first : D) → D.same first door.old → D.same first door.new }
-{
-    door.shut(line, end);
-}
-
-// An action of the line that is out.
-fn act<L: Line + Drop, K: Link>(
-    alloc: Global,
-    machine: &mut SeatMachine,
-    line: &mut L,
-    action: &mut Action,
-    link: &mut K,
-    room: &mut Room,
-) -> bool
-    requires ready { K.is_ready link.old }
-    ensures ready { K.is_ready link.new }
-    ensures went { (door : DoorSeen)
-        → GoesOn K.went link.old link.new L.seen (attendant machine.old (LinePlace.On line.old action.old)) door
-        (attendant machine.new (LinePlace.On line.new action.new)) door }
-{
-    carry_out(alloc, machine, action, line, link, room)
 }
 
 // It is submitted that no more lines come.

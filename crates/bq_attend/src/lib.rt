@@ -4,9 +4,8 @@
 //! What lies behind a link nobody here knows.
 #![tactic(auto)]
 
-mod answer_write;
 pub mod attendant;
-pub mod client;
+pub mod carry_out;
 pub mod control;
 pub mod control_line;
 pub mod control_reader;

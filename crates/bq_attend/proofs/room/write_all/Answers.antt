@@ -1,7 +1,7 @@
 use Rattle.std.proofs.Common.{◌≡◌, ◌==◌, false, refl, rules, arith}
 use Rattle.std.proofs.lemmas.Bool.Decides.{nat_tests}
 use Rattle.bq_attend.proofs.WritingLemmas.{breaks_off, take_begins, written_on}
-use Rattle.bq_attend.proofs.answer_write.write_all.Goals as goal
+use Rattle.bq_attend.proofs.room.write_all.Goals as goal
 
 pub returns-then-count-eq0-clause-text : goal.returns-then-count-eq0-clause-text
 returns-then-count-eq0-clause-text g c =

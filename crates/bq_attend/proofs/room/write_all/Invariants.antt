@@ -1,7 +1,7 @@
 use Rattle.std.proofs.Common.{◌≡◌, ◌≤◌, ◌-◌, length, take}
 use Rattle.bq_line.specs.Streams.{StaysOver}
 use Rattle.bq_attend.specs.Writing.{with_written}
-use Rattle.bq_attend.proofs.answer_write.write_all.Given as goal
+use Rattle.bq_attend.proofs.room.write_all.Given as goal
 
 abbrev pub invariant-loop-done : goal.invariant-loop-done
 invariant-loop-done g l = record {

@@ -1,4 +1,4 @@
-//! A seat's machine at work on a line.
+//! How one action of a seat's machine is carried out.
 ghost use Rattle.std.specs.Prelude.{◌≡◌, ◌<◌, ◌++◌, [], ℕ, List, IsTrue, length};
 ghost use Rattle.std.specs.Io.{ReadsAtMost};
 ghost use Rattle.bq_job.specs.declared.answer.Answer.{Answer};
@@ -8,9 +8,8 @@ ghost use Rattle.bq_line.specs.LineCalls.{after_fill, after_read};
 ghost use Rattle.bq_line.specs.Streams.{StaysOver};
 ghost use Rattle.bq_attend.specs.Carried.{Carried, HasGone};
 
-use crate::answer_write::write_answer;
 use crate::link::Link;
-use crate::room::Room;
+use crate::room::{Room, write_answer};
 use bq_line::line::{Line, is_nothing_yet};
 use bq_seat::{Action, Event, PIECE_ROOM, SeatMachine};
 use std::alloc::Global;

@@ -1,5 +1,5 @@
 use Rattle.bq_attend.proofs.WritingLemmas.{breaks_behind, writes_behind}
-use Rattle.bq_attend.proofs.answer_write.write_parts.Goals as goal
+use Rattle.bq_attend.proofs.room.write_parts.Goals as goal
 
 pub returns-then-not-write_pair-clause-text : goal.returns-then-not-write_pair-clause-text
 returns-then-not-write_pair-clause-text g c =

@@ -2,7 +2,7 @@ use Rattle.std.proofs.Common.{[], ◌∷◌, refl, ap, inl, inr}
 use Rattle.bq_seat.specs.declared.machine.Action.TheVariants as actions
 use Rattle.bq_attend.specs.Links.{as_submitted}
 use Rattle.bq_attend.proofs.CarriedLemmas.{comes_by}
-use Rattle.bq_attend.proofs.client.carry_out.Goals as goal
+use Rattle.bq_attend.proofs.carry_out.carry_out.Goals as goal
 
 pub returns-then-submit_in_place-clause-carried : goal.returns-then-submit_in_place-clause-carried
 returns-then-submit_in_place-clause-carried g c =
