@@ -139,11 +139,10 @@ fn leave<L: Line + Drop, K: Link>(place: &mut LinePlace<L>, link: &mut K) -> boo
     ensures went { (machine : SeatMachine) (door : DoorSeen)
         → GoesOn K.went link.old link.new L.seen (attendant machine place.old) door (attendant machine place.new) door }
 {
-    match link.submit(Step::Gone) {
-        Ok(()) => {
-            *place = LinePlace::Done;
-            true
-        }
-        Err(_) => false,
+    if link.submit(&mut Step::Gone) {
+        *place = LinePlace::Done;
+        true
+    } else {
+        false
     }
 }

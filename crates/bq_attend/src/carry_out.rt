@@ -36,7 +36,7 @@ pub fn carry_out<L: Line, K: Link>(
 {
     match action {
         Action::Submit(step) => {
-            if link.submit_in_place(step) {
+            if link.submit(step) {
                 machine.on_in_place(alloc, Event::Submitted, action);
                 true
             } else {
@@ -45,7 +45,7 @@ pub fn carry_out<L: Line, K: Link>(
         }
         Action::Read => read(alloc, machine, action, line, &mut room.piece),
         Action::PollMail => {
-            if link.mail_in_place(action) {
+            if link.mail(action) {
                 machine.mail_in_place(action);
                 true
             } else {

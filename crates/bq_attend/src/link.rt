@@ -1,13 +1,11 @@
-//! Links, by which a seat submits steps and looks at its mail.
-ghost use Rattle.std.specs.Prelude.{[], List};
-ghost use Rattle.std.specs.Option.{option_to_list};
+//! Links, by which a seat submits steps and looks at its mail. A step and an answer stay where they lie.
+ghost use Rattle.std.specs.Prelude.{List};
 ghost use Rattle.bq_job.specs.declared.answer.Answer.{Answer};
 ghost use Rattle.bq_job.specs.declared.step.Step.{Step};
-ghost use Rattle.bq_attend.specs.Links.{Submits, SubmitsInPlace, TakesInPlace};
+ghost use Rattle.bq_attend.specs.Links.{SubmitsInPlace, TakesInPlace};
 
-use bq_job::{Answer, Step};
+use bq_job::Step;
 use bq_seat::Action;
-use std::mem;
 
 /// A seat's link to the core.
 pub trait Link {
@@ -18,47 +16,17 @@ pub trait Link {
     /// what was left.
     ghost went: { Self → List Step → List Answer → Self → Type 0 };
 
-    /// Submits a step, or hands it back where there is no room for it now.
-    fn submit(&mut self, step: Step) -> Result<(), Step>
+    /// Submits the step that lies there, or leaves it there where there is no room for it now. Whether it was
+    /// submitted: then what lies there has no meaning.
+    fn submit(&mut self, step: &mut Step) -> bool
         requires ready { is_ready self.old }
         ensures ready { is_ready self.new }
-        ensures went { Submits went self.old step result self.new };
+        ensures went { SubmitsInPlace went self.old step.old result step.new self.new };
 
-    /// Takes the oldest answer that waits, if there is one.
-    fn mail(&mut self) -> Option<Answer>
+    /// Takes the oldest answer that waits, if there is one, and puts it in the place of an action, as one that is to be
+    /// written. Whether there was one: else the action is as it was.
+    fn mail(&mut self, place: &mut Action) -> bool
         requires ready { is_ready self.old }
         ensures ready { is_ready self.new }
-        ensures went { went self.old [] (option_to_list result) self.new };
-
-    /// The same as `submit` for a step that stays where it lies if it is handed back. Whether it was submitted: then
-    /// what lies there has no meaning.
-    fn submit_in_place(&mut self, step: &mut Step) -> bool
-        requires ready { is_ready self.old }
-        ensures ready { is_ready self.new }
-        ensures went { SubmitsInPlace went self.old step.old result step.new self.new }
-    {
-        match self.submit(mem::replace(step, Step::Tick)) {
-            Ok(()) => true,
-            Err(back) => {
-                *step = back;
-                false
-            }
-        }
-    }
-
-    /// The same as `mail`, with the answer put in the place of an action, as one that is to be written. Whether there
-    /// was one: else the action is as it was.
-    fn mail_in_place(&mut self, place: &mut Action) -> bool
-        requires ready { is_ready self.old }
-        ensures ready { is_ready self.new }
-        ensures went { TakesInPlace went self.old place.old result place.new self.new }
-    {
-        match self.mail() {
-            Some(answer) => {
-                *place = Action::Write(answer);
-                true
-            }
-            None => false,
-        }
-    }
+        ensures went { TakesInPlace went self.old place.old result place.new self.new };
 }

@@ -1,13 +1,11 @@
 //! An end of the links, as a seat and as the control line see it.
-ghost use Rattle.std.specs.Prelude.{◌≡◌, [], IfNone, List, OnErr, Some, false, true};
-ghost use Rattle.std.specs.Option.{option_to_list};
+ghost use Rattle.std.specs.Prelude.{◌≡◌, [], List, false, true};
 ghost use Rattle.bq_job.specs.promise.ControlDid.{IsControlDone};
 ghost use Rattle.bq_job.specs.promise.History.{is_tick};
-ghost use Rattle.bq_job.specs.declared.answer.Answer.{Answer};
 ghost use Rattle.bq_job.specs.declared.step.Step.{Step};
 ghost use Rattle.bq_attend.specs.ControlRead.{IsOver, IsReadToEnd};
 ghost use Rattle.bq_attend.specs.ControlSeen.{new_control};
-ghost use Rattle.bq_attend.specs.Links.{Submits, SubmitsInPlace, TakesInPlace};
+ghost use Rattle.bq_attend.specs.Links.{SubmitsInPlace, TakesInPlace};
 ghost use Rattle.bq_attend.specs.Tending.{GoesOn, IsPlaced, door_seen};
 ghost use Rattle.bq_link.specs.EndStates.{IsSameSeat, WasFull};
 ghost use Rattle.bq_link.specs.Submissions.{MaySubmit};
@@ -19,7 +17,7 @@ use bq_attend::control::{ControlLink, submit_control};
 use bq_attend::control_line::ControlInput;
 use bq_attend::link::Link;
 use bq_attend::room::Room;
-use bq_job::{Answer, Step};
+use bq_job::Step;
 use bq_line::Door;
 use bq_line::line::Line;
 use bq_link::{Intake, NoTicks, Record, SeatEnd};
@@ -95,31 +93,19 @@ impl<'a, R: Wait, S: SharedCore> Link for EndSeat<'a, R, S> {
 
     ghost went = { LinkWent };
 
-    fn submit(&mut self, step: Step) -> Result<(), Step> {
-        let submitted = submit_at(self.rt, self.intake, self.end, step);
-        self.pace = Pace::after_step(self.core.help(self.rt, self.end.number()));
-        submitted
-    }
-
-    fn mail(&mut self) -> Option<Answer>
-        requires ready { self.old.end.now.intake ≡ self.old.intake.now.id }
-        ensures ready { self.new.end.now.intake ≡ self.new.intake.now.id }
-        ensures went { LinkWent self.old [] (option_to_list result) self.new }
-        // There is none only where none was known to wait.
-        ensures none { IfNone result (self.old.end.now.waiting ≡ []) }
-    {
-        let pace = self.pace;
-        self.pace = pace.after_look();
-        answer_at(self.rt, self.intake, self.end, pace)
-    }
-
-    fn submit_in_place(&mut self, step: &mut Step) -> bool {
-        let is_submitted = submit_step(self.rt, self.intake, self.end, step);
+    fn submit(&mut self, step: &mut Step) -> bool {
+        let is_submitted = submit_at(self.rt, self.intake, self.end, step);
         self.pace = Pace::after_step(self.core.help(self.rt, self.end.number()));
         is_submitted
     }
 
-    fn mail_in_place(&mut self, place: &mut Action) -> bool {
+    fn mail(&mut self, place: &mut Action) -> bool
+        requires ready { self.old.end.now.intake ≡ self.old.intake.now.id }
+        ensures ready { self.new.end.now.intake ≡ self.new.intake.now.id }
+        ensures went { TakesInPlace LinkWent self.old place.old result place.new self.new }
+        // There is none only where none was known to wait.
+        ensures none { result ≡ false → self.old.end.now.waiting ≡ [] }
+    {
         let pace = self.pace;
         self.pace = pace.after_look();
         mail_at(self.rt, self.intake, self.end, pace, place)
@@ -131,30 +117,10 @@ impl<'a, R: Wait, S: SharedCore> ControlLink for EndSeat<'a, R, S> {
 
     ghost went = { λ first submitted last. LinkWent first submitted [] last };
 
-    fn submit(&mut self, step: Step) -> Result<(), Step> {
-        let submitted = submit_at(self.rt, self.intake, self.end, step);
+    fn submit(&mut self, mut step: Step) -> Result<(), Step> {
+        let is_submitted = submit_at(self.rt, self.intake, self.end, &mut step);
         let _taken = self.core.help(self.rt, self.end.number());
-        submitted
-    }
-}
-
-// Submits a step at an end, or hands it back where the intake is full.
-fn submit_at<R: Wait, J: Record>(
-    rt: &R,
-    intake: &Intake<J>,
-    end: &mut SeatEnd,
-    mut step: Step,
-) -> Result<(), Step>
-    requires intake { end.old.intake ≡ intake.now.id }
-    requires may { is_tick step ≡ false → MaySubmit J.was intake.now.places end.old.number step }
-    ensures intake { end.new.intake ≡ intake.now.id }
-    ensures went { Submits EndWent end.old step result end.new }
-    ensures full { OnErr result (WasFull J.was intake.now.places end.old) }
-{
-    if submit_step(rt, intake, end, &mut step) {
-        Ok(())
-    } else {
-        Err(step)
+        if is_submitted { Ok(()) } else { Err(step) }
     }
 }
 
@@ -163,7 +129,7 @@ fn submit_at<R: Wait, J: Record>(
 //
 // Whatever is so of the intake at each moment: where the step was handed back, it was so of a full one, after the last
 // step that this end submitted.
-fn submit_step<R: Wait, J: Record>(
+fn submit_at<R: Wait, J: Record>(
     rt: &R,
     intake: &Intake<J>,
     end: &mut SeatEnd,
@@ -184,33 +150,6 @@ fn submit_step<R: Wait, J: Record>(
             *step = back;
             false
         }
-    }
-}
-
-// Takes the oldest answer that came to an end.
-fn answer_at<R: Wait>(
-    rt: &R,
-    intake: &Intake<NoTicks>,
-    end: &mut SeatEnd,
-    pace: Pace,
-) -> Option<Answer>
-    ensures went { EndWent end.old [] (option_to_list result) end.new }
-    ensures none { IfNone result ((end.old.waiting ≡ []) × (end.new ≡ end.old)) }
-{
-    let mut place = Action::PollMail;
-    if mail_at(rt, intake, end, pace, &mut place) {
-        answer_in(place)
-    } else {
-        None
-    }
-}
-
-fn answer_in(action: Action) -> Option<Answer>
-    ensures { (answer : Answer) → action ≡ Action.Write answer → result ≡ Some answer }
-{
-    match action {
-        Action::Write(answer) => Some(answer),
-        _ => None,
     }
 }
 

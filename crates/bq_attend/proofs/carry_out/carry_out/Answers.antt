@@ -4,13 +4,13 @@ use Rattle.bq_attend.specs.Links.{as_submitted}
 use Rattle.bq_attend.proofs.CarriedLemmas.{comes_by}
 use Rattle.bq_attend.proofs.carry_out.carry_out.Goals as goal
 
-pub returns-then-submit_in_place-clause-carried : goal.returns-then-submit_in_place-clause-carried
-returns-then-submit_in_place-clause-carried g c =
-    comes_by g.K.Link.went _ _ _ _ _ _ _ _ (actions.Submit c.in-Submit.step) c.in-Submit.is (as_submitted c.in-Submit.step) [] (rw c.if-submit_in_place.true at c.submit_in_place.ensures.went) (refl, refl, inl (refl, c.on_in_place.ensures))
+pub returns-then-submit-clause-carried : goal.returns-then-submit-clause-carried
+returns-then-submit-clause-carried g c =
+    comes_by g.K.Link.went _ _ _ _ _ _ _ _ (actions.Submit c.in-Submit.step) c.in-Submit.is (as_submitted c.in-Submit.step) [] (rw c.if-submit.true at c.submit.ensures.went) (refl, refl, inl (refl, c.on_in_place.ensures))
 
-pub returns-else-submit_in_place-clause-carried : goal.returns-else-submit_in_place-clause-carried
-returns-else-submit_in_place-clause-carried g c =
-    let back = rw c.if-submit_in_place.false at c.submit_in_place.ensures.went in
+pub returns-else-submit-clause-carried : goal.returns-else-submit-clause-carried
+returns-else-submit-clause-carried g c =
+    let back = rw c.if-submit.false at c.submit.ensures.went in
     comes_by g.K.Link.went _ _ _ _ _ _ _ _ (actions.Submit c.in-Submit.step) c.in-Submit.is [] [] back.1 (refl, refl, inr (refl, ap actions.Submit back.0, refl))
 
 pub returns-in-Read-clause-carried : goal.returns-in-Read-clause-carried
@@ -24,15 +24,15 @@ pub returns-else-write_answer-clause-carried : goal.returns-else-write_answer-cl
 returns-else-write_answer-clause-carried g c =
     comes_by g.K.Link.went _ _ _ _ _ _ _ _ (actions.Write c.in-Write.answer) c.in-Write.is [] [] refl (refl, refl, inr (rw (c.if-write_answer.false, c.expect_answers.ensures.seen) at c.write_answer.ensures.text, c.on_in_place-else-write_answer.ensures))
 
-pub returns-then-mail_in_place-clause-carried : goal.returns-then-mail_in_place-clause-carried
-returns-then-mail_in_place-clause-carried g c =
-    let came = rw c.if-mail_in_place.true at c.mail_in_place.ensures.went in
-    comes_by g.K.Link.went _ _ _ _ _ _ _ _ actions.PollMail c.in-PollMail.is [] (came.0 ∷ []) came.2 (refl, refl, inr (came.0, refl, c.mail_in_place-then-mail_in_place.ensures came.0 came.1))
+pub returns-then-mail-clause-carried : goal.returns-then-mail-clause-carried
+returns-then-mail-clause-carried g c =
+    let came = rw c.if-mail.true at c.mail.ensures.went in
+    comes_by g.K.Link.went _ _ _ _ _ _ _ _ actions.PollMail c.in-PollMail.is [] (came.0 ∷ []) came.2 (refl, refl, inr (came.0, refl, c.mail_in_place.ensures came.0 came.1))
 
-pub returns-else-mail_in_place-clause-carried : goal.returns-else-mail_in_place-clause-carried
-returns-else-mail_in_place-clause-carried g c =
-    let none = rw c.if-mail_in_place.false at c.mail_in_place.ensures.went in
-    comes_by g.K.Link.went _ _ _ _ _ _ _ _ actions.PollMail c.in-PollMail.is [] [] none.1 (c.expect_more.ensures.seen, refl, inl (refl, c.on_in_place-else-mail_in_place.ensures))
+pub returns-else-mail-clause-carried : goal.returns-else-mail-clause-carried
+returns-else-mail-clause-carried g c =
+    let none = rw c.if-mail.false at c.mail.ensures.went in
+    comes_by g.K.Link.went _ _ _ _ _ _ _ _ actions.PollMail c.in-PollMail.is [] [] none.1 (c.expect_more.ensures.seen, refl, inl (refl, c.on_in_place-else-mail.ensures))
 
 pub returns-in-LineOver-clause-carried : goal.returns-in-LineOver-clause-carried
 returns-in-LineOver-clause-carried g c =
