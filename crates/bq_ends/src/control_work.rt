@@ -5,8 +5,7 @@ ghost use Rattle.bq_attend.specs.ControlRead.{IsReadToEnd};
 ghost use Rattle.bq_link.specs.EndStates.{IsSameSeat};
 ghost use Rattle.bq_ends.specs.Ends.{IsNewEnd};
 
-use crate::end_seat::control_at;
-use crate::shared_core::SharedCore;
+use crate::end_seat::{SharedCore, control_at};
 use bq_attend::control_line::ControlLine;
 use bq_attend::control_reader::ControlReader;
 use bq_link::{Intake, NoTicks, SeatEnd};

@@ -11,13 +11,12 @@ ghost use Rattle.bq_link.specs.EndStates.{IsSameSeat, WasFull};
 ghost use Rattle.bq_link.specs.Submissions.{MaySubmit};
 ghost use Rattle.bq_ends.specs.Ends.{EndWent, LinkWent};
 
-use crate::shared_core::SharedCore;
 use bq_attend::attendant::Attendant;
 use bq_attend::control::{ControlLink, submit_control};
 use bq_attend::control_line::ControlInput;
 use bq_attend::link::Link;
 use bq_attend::room::Room;
-use bq_job::Step;
+use bq_job::{Seat, Step};
 use bq_line::Door;
 use bq_line::line::Line;
 use bq_link::{Intake, NoTicks, Record, SeatEnd};
@@ -27,6 +26,19 @@ use std::hint::spin_loop;
 use std::mem;
 use std::sync::Wait;
 use std::time::Duration;
+
+/// The core as the threads of the ends see it, which share it: whoever has submitted a step does its work.
+pub trait SharedCore {
+    /// Takes the steps that wait, whoever submitted them, and sends their answers. Where another thread does so just now
+    /// it doesn't wait: that one takes these steps too. It is called for an end, whose bell isn't rung: that looks at its
+    /// mail next.
+    ///
+    /// Says whether this thread took them. Where it didn't, the answer comes soon.
+    fn help<R: Wait>(&self, rt: &R, own: Seat) -> bool;
+
+    /// Watches the clock until no end has more to submit: what is due happens, whether anybody submits a step or not.
+    fn watch<R: Wait>(&self, rt: &R);
+}
 
 /// How long an end rests first whose answer hasn't come, in milliseconds. Then the line of a seat whose reserve waits
 /// is read again: a client that has gone is noticed.

@@ -3,6 +3,5 @@
 #![tactic(auto)]
 
 pub mod control_work;
-mod end_seat;
+pub mod end_seat;
 pub mod seat_work;
-pub mod shared_core;

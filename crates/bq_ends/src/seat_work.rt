@@ -6,8 +6,7 @@ ghost use Rattle.bq_attend.specs.Tending.{IsDoorServed, IsNewDoor, door_seen};
 ghost use Rattle.bq_link.specs.EndStates.{IsSameSeat};
 ghost use Rattle.bq_ends.specs.Ends.{IsNewEnd};
 
-use crate::end_seat::{Pace, attend_at};
-use crate::shared_core::SharedCore;
+use crate::end_seat::{Pace, SharedCore, attend_at};
 use bq_attend::attendant::{Attendant, LinePlace};
 use bq_attend::room::{AnswerRoom, Room};
 use bq_line::Door;
