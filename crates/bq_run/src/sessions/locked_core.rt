@@ -4,7 +4,7 @@ ghost use Rattle.bq_job.specs.declared.settings.Settings.{Settings};
 ghost use Rattle.bq_link.specs.EndStates.{CoreState};
 ghost use Rattle.bq_run.specs.Threads.{IsCoreOver};
 
-use bq_ends::shared_core::SharedCore;
+use bq_ends::end_seat::SharedCore;
 use bq_hub::core_work::{Answered, Origin, SharedHub, run_out};
 use bq_job::Seat;
 use bq_line::clock::Clock;

@@ -8,8 +8,8 @@ ghost use Rattle.bq_link.specs.EndStates.{IsSameSeat};
 ghost use Rattle.bq_ends.specs.Ends.{IsNewEnd};
 
 use bq_attend::room::AnswerRoom;
+use bq_ends::end_seat::SharedCore;
 use bq_ends::seat_work::seat_work;
-use bq_ends::shared_core::SharedCore;
 use bq_job::NoMemory;
 use bq_line::Door;
 use bq_line::line::Line;

@@ -11,7 +11,7 @@ use crate::sessions::seat_post::SeatPost;
 use bq_attend::control_line::ControlLine;
 use bq_attend::control_reader::ControlReader;
 use bq_ends::control_work::control_work;
-use bq_ends::shared_core::SharedCore;
+use bq_ends::end_seat::SharedCore;
 use bq_hub::core_work::Origin;
 use bq_line::Door;
 use bq_line::clock::Clock;
