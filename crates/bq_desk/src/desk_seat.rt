@@ -8,13 +8,14 @@ ghost use Rattle.bq_desk.specs.DeskOf.{WentAt, state_of};
 ghost use Rattle.bq_desk.specs.DeskState.{HasMails};
 
 use crate::desk::Desk;
-use bq_attend::client::carry_out;
+use bq_attend::carry_out::carry_out;
 use bq_attend::link::Link;
 use bq_attend::room::Room;
-use bq_job::{Answer, Seat, Step};
+use bq_job::{Seat, Step};
 use bq_line::clock::Clock;
 use bq_line::line::Line;
 use bq_seat::{Action, SeatMachine};
+use std::mem;
 
 /// A seat's link to the desk at which it is served.
 #[derive(Drop)]
@@ -30,12 +31,24 @@ impl<'a, C: Clock + Drop> Link for DeskSeat<'a, C> {
     ghost went = { λ first submitted taken last. (last.desk.ghost_name ≡ first.desk.ghost_name) × (last.seat ≡ first.seat) ×
         WentAt C.given first.seat first.desk.now submitted taken last.desk.now };
 
-    fn submit(&mut self, step: Step) -> Result<(), Step> {
-        self.desk.submit(self.seat, step)
+    fn submit(&mut self, step: &mut Step) -> bool {
+        match self.desk.submit(self.seat, mem::replace(step, Step::Tick)) {
+            Ok(()) => true,
+            Err(back) => {
+                *step = back;
+                false
+            }
+        }
     }
 
-    fn mail(&mut self) -> Option<Answer> {
-        self.desk.mail(self.seat)
+    fn mail(&mut self, place: &mut Action) -> bool {
+        match self.desk.mail(self.seat) {
+            Some(answer) => {
+                *place = Action::Write(answer);
+                true
+            }
+            None => false,
+        }
     }
 }
 
