@@ -5,6 +5,7 @@ use crate::bells::{Bells, Rings};
 use bq_attend::control::ControlLink;
 use bq_attend::link::Link;
 use bq_job::{Answer, Seat, Step};
+use bq_seat::Action;
 use std::mem;
 use std::sync::Wait;
 use std::time::Duration;
@@ -78,28 +79,12 @@ impl<'a, R: Wait, K: SharedDesk> SharedSeat<'a, R, K> {
             .wait(self.rt, self.seat, Duration::from_millis(most));
         if rung { 1 } else { most }
     }
-}
-
-impl<'a, R: Wait, K: SharedDesk> Link for SharedSeat<'a, R, K> {
-    ghost is_ready = { λ l. Unit {0} };
-
-    ghost went = { λ first submitted taken last. Unit {0} };
-
-    fn submit(&mut self, step: Step) -> Result<(), Step> {
-        self.rests = false;
-        if self.at_hand.is_none() {
-            self.serve(step);
-        } else {
-            self.step(step);
-        }
-        Ok(())
-    }
 
     // The first look behind a step that has no answer yet says so at once, so that what the line holds back can go out.
     // From then on, where there is no answer the seat rests, and looks again whenever its bell was rung or the core is due.
     // A bell may have been rung for an answer that was found before, so one ring isn't the end of the rest: a
     // line that is read meanwhile keeps its seat from the next answer for as long as the read waits.
-    fn mail(&mut self) -> Option<Answer> {
+    fn next_answer(&mut self) -> Option<Answer> {
         if let Some(answer) = self.at_hand.take() {
             return Some(answer);
         }
@@ -116,6 +101,33 @@ impl<'a, R: Wait, K: SharedDesk> Link for SharedSeat<'a, R, K> {
         match self.look() {
             Look::Mail(answer) => Some(answer),
             Look::Nothing(_) => None,
+        }
+    }
+}
+
+impl<'a, R: Wait, K: SharedDesk> Link for SharedSeat<'a, R, K> {
+    ghost is_ready = { λ l. Unit {0} };
+
+    ghost went = { λ first submitted taken last. Unit {0} };
+
+    fn submit(&mut self, step: &mut Step) -> bool {
+        self.rests = false;
+        let step = mem::replace(step, Step::Tick);
+        if self.at_hand.is_none() {
+            self.serve(step);
+        } else {
+            self.step(step);
+        }
+        true
+    }
+
+    fn mail(&mut self, place: &mut Action) -> bool {
+        match self.next_answer() {
+            Some(answer) => {
+                *place = Action::Write(answer);
+                true
+            }
+            None => false,
         }
     }
 }
