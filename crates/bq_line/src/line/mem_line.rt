@@ -69,6 +69,52 @@ impl MemLine {
     {
         self.written.as_slice()
     }
+
+    // The parts that are over are passed.
+    fn pass_parts(&mut self)
+        ensures seen { ⟦<MemLine as Line>⟧.seen self.new ≡ ⟦<MemLine as Line>⟧.seen self.old }
+        ensures open { IfSome (slice_get self.new.parts.items self.new.place)
+            (λ part. is_over self.new.offset (vec_len self.new.written) part ≡ false) }
+        ensures place { self.new.place ≡ open_place self.old.parts.items self.old.place self.old.offset (vec_len self.old.written) }
+        ensures parts { self.new.parts ≡ self.old.parts }
+        ensures room { self.new.room ≡ self.old.room }
+    {
+        let (place, offset) = next_open(&self.parts, self.place, self.offset, self.written.len());
+        self.place = place;
+        self.offset = offset;
+    }
+
+    // The part that comes next answers, which isn't over.
+    fn read_part(&mut self, buf: &mut [u8]) -> io::Result<usize>
+        requires some { 0 < length buf.old }
+        requires open { IfSome (slice_get self.old.parts.items self.old.place)
+            (λ part. is_over self.old.offset (vec_len self.old.written) part ≡ false) }
+        ensures bound { ReadsAtMost result buf.new }
+        ensures seen { ⟦<MemLine as Line>⟧.seen self.new ≡ after_read result buf.new (⟦<MemLine as Line>⟧.seen self.old) }
+        ensures answered { IsAnsweredBy (slice_get self.old.parts.items self.old.place) result }
+        ensures place { self.new.place ≡ place_after (slice_get self.old.parts.items self.old.place) self.old.place }
+        ensures parts { self.new.parts ≡ self.old.parts }
+        ensures room { self.new.room ≡ self.old.room }
+    {
+        match self.parts.get(self.place) {
+            None => {
+                self.ended = true;
+                Ok(0)
+            }
+            Some(Part::Bytes(bytes)) => {
+                let count = copy_first(&bytes[self.offset..], buf);
+                self.offset += count;
+                Ok(count)
+            }
+            Some(Part::AfterWritten(_)) => Err(io::Error::from(ErrorKind::WouldBlock)),
+            Some(Part::Fault) => {
+                self.place += 1;
+                self.offset = 0;
+                note_fault(&mut self.fault, LineFault::Read);
+                Err(io::Error::from(ErrorKind::BrokenPipe))
+            }
+        }
+    }
 }
 
 impl Line for MemLine {
@@ -104,27 +150,8 @@ impl Line for MemLine {
         ensures parts { self.new.parts ≡ self.old.parts }
         ensures room { self.new.room ≡ self.old.room }
     {
-        let (place, offset) = next_open(&self.parts, self.place, self.offset, self.written.len());
-        self.place = place;
-        self.offset = offset;
-        match self.parts.get(place) {
-            None => {
-                self.ended = true;
-                Ok(0)
-            }
-            Some(Part::Bytes(bytes)) => {
-                let count = copy_first(&bytes[offset..], buf);
-                self.offset = offset + count;
-                Ok(count)
-            }
-            Some(Part::AfterWritten(_)) => Err(io::Error::from(ErrorKind::WouldBlock)),
-            Some(Part::Fault) => {
-                self.place = place + 1;
-                self.offset = 0;
-                note_fault(&mut self.fault, LineFault::Read);
-                Err(io::Error::from(ErrorKind::BrokenPipe))
-            }
-        }
+        self.pass_parts();
+        self.read_part(buf)
     }
 
     // A client in memory is never waited for.
