@@ -111,7 +111,6 @@ impl<L: Line + Drop> Attendant<L> {
 }
 
 // The next line is opened, or no more come.
-#[tactic(auto, using(crate::proofs::TendingLemmas::tends_opened, crate::proofs::TendingLemmas::tends_at_end))]
 fn open_line<L: Line + Drop, D: Door<Line = L>>(
     alloc: Global,
     machine: &mut SeatMachine,
