@@ -6,8 +6,8 @@ ghost use Rattle.bq_program.specs.Ranges.{IsForBq, IsForBqd};
 use crate::chosen::{BqOptions, BqdOptions, OptionFault, Options};
 use crate::program::Program;
 use bq_job::{LARGEST_BODY, MOST_SEATS, USUAL_BODY};
-use clap::ArgMatches;
 use clap::error::ErrorKind;
+use clap::{ArgMatches, Command};
 use commands::{
     LISTEN, MAX_JOB_SIZE, MAX_JOBS, PORT, REQUEUE_DELAY, SEATS, SESSIONS, STILL, bq_command,
     bqd_command,
@@ -68,18 +68,26 @@ impl From<AllocError> for OptionFault {
 pub fn bq_options<'a, S: AsStr>(alloc: Global, words: &'a [S]) -> Result<BqOptions, OptionFault>
     ensures { IfOk result (λ o. IsForBq o) }
 {
-    match bq_command(alloc)?.try_get_matches_from(words) {
-        Ok(matches) => Ok(bq_chosen(&matches)),
-        Err(e) => Err(fault_of(alloc, &e)),
-    }
+    let matches = matches_of(alloc, bq_command(alloc)?, words)?;
+    Ok(bq_chosen(&matches))
 }
 
 /// The options of `bqd` in its words, of which the first is its name. The faults are those of `bq_options`.
 pub fn bqd_options<'a, S: AsStr>(alloc: Global, words: &'a [S]) -> Result<BqdOptions, OptionFault>
     ensures { IfOk result (λ o. IsForBqd o) }
 {
-    match bqd_command(alloc)?.try_get_matches_from(words) {
-        Ok(matches) => bqd_chosen(alloc, &matches),
+    let matches = matches_of(alloc, bqd_command(alloc)?, words)?;
+    bqd_chosen(alloc, &matches)
+}
+
+// What a command takes of these words.
+fn matches_of<'a, S: AsStr>(
+    alloc: Global,
+    command: Command<'a>,
+    words: &'a [S],
+) -> Result<ArgMatches<'a>, OptionFault> {
+    match command.try_get_matches_from(words) {
+        Ok(matches) => Ok(matches),
         Err(e) => Err(fault_of(alloc, &e)),
     }
 }

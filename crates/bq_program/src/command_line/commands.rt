@@ -1,6 +1,7 @@
 //! What the programs take in their words, for the parser, and the help for it.
 
 use bq_job::{LARGEST_BODY, MOST_SEATS};
+use clap::builder::ValueParser;
 use clap::{Arg, ArgAction, Command};
 use std::alloc::{AllocError, Global};
 
@@ -30,31 +31,63 @@ const VERSION_WORD: &str = "version";
 
 /// What `bq` takes.
 pub fn bq_command<'a>(alloc: Global) -> Result<Command<'a>, AllocError> {
+    let args = bq_args(alloc)?;
     Command::new(alloc, "bq")
         .version(VERSION)
         .disable_version_flag(true)
         .about("Serves one client of a work queue over standard input and output")
-        .arg(still_arg(alloc))?
-        .arg(max_job_size_arg(alloc))?
-        .arg(max_jobs_arg(alloc))?
-        .arg(version_arg(alloc))
+        .args(args)
 }
 
 /// What `bqd` takes.
 pub fn bqd_command<'a>(alloc: Global) -> Result<Command<'a>, AllocError> {
+    let args = bqd_args(alloc)?;
     Command::new(alloc, "bqd")
         .version(VERSION)
         .disable_version_flag(true)
         .about("Serves a work queue to many clients over TCP")
-        .arg(listen_arg(alloc))?
-        .arg(port_arg(alloc))?
-        .arg(seats_arg(alloc))?
-        .arg(max_job_size_arg(alloc).short('z'))?
-        .arg(max_jobs_arg(alloc))?
-        .arg(requeue_delay_arg(alloc))?
-        .arg(sessions_arg(alloc))?
-        .arg(verbose_arg(alloc))?
-        .arg(version_arg(alloc))
+        .args(args)
+}
+
+// A command is handed all its arguments at once: each call that may be refused memory is a way on which what was
+// made so far is dropped, and costs its proof.
+
+fn bq_args<'a>(alloc: Global) -> Result<Vec<Arg<'a>>, AllocError> {
+    Ok(vec![in alloc;
+        still_arg(alloc),
+        max_job_size_arg(alloc),
+        max_jobs_arg(alloc),
+        version_arg(alloc),
+    ]?)
+}
+
+fn bqd_args<'a>(alloc: Global) -> Result<Vec<Arg<'a>>, AllocError> {
+    Ok(vec![in alloc;
+        listen_arg(alloc),
+        port_arg(alloc),
+        seats_arg(alloc),
+        max_job_size_arg(alloc).short('z'),
+        max_jobs_arg(alloc),
+        requeue_delay_arg(alloc),
+        sessions_arg(alloc),
+        verbose_arg(alloc),
+        version_arg(alloc),
+    ]?)
+}
+
+// What takes one of these numbers, by its long word.
+fn number_arg<'a>(
+    alloc: Global,
+    name: &'a str,
+    value_name: &'a str,
+    help: &'a str,
+    numbers: ValueParser<'a>,
+) -> Arg<'a> {
+    Arg::new(alloc, name)
+        .long(name)
+        .value_name(value_name)
+        .help(help)
+        .value_parser(numbers)
 }
 
 fn still_arg<'a>(alloc: Global) -> Arg<'a> {
@@ -76,54 +109,70 @@ fn listen_arg<'a>(alloc: Global) -> Arg<'a> {
 }
 
 fn port_arg<'a>(alloc: Global) -> Arg<'a> {
-    Arg::new(alloc, PORT)
-        .short('p')
-        .long(PORT)
-        .value_name("PORT")
-        .help("The port to listen at, 0 to 65535, where ADDR has none; 0 takes a free one")
-        .value_parser(clap::value_parser!(u16).range(0..=65_535))
+    let numbers = clap::value_parser!(u16).range(0..=65_535);
+    number_arg(
+        alloc,
+        PORT,
+        "PORT",
+        "The port to listen at, 0 to 65535, where ADDR has none; 0 takes a free one",
+        numbers,
+    )
+    .short('p')
 }
 
 fn seats_arg<'a>(alloc: Global) -> Arg<'a> {
-    Arg::new(alloc, SEATS)
-        .long(SEATS)
-        .value_name("N")
-        .help("How many clients can be connected at a time, 1 to 256; 16 unless chosen")
-        .value_parser(clap::value_parser!(u16).range(1..=i64::from(MOST_SEATS)))
+    let numbers = clap::value_parser!(u16).range(1..=i64::from(MOST_SEATS));
+    number_arg(
+        alloc,
+        SEATS,
+        "N",
+        "How many clients can be connected at a time, 1 to 256; 16 unless chosen",
+        numbers,
+    )
 }
 
 fn sessions_arg<'a>(alloc: Global) -> Arg<'a> {
-    Arg::new(alloc, SESSIONS)
-        .long(SESSIONS)
-        .value_name("K")
-        .help("How many connections each seat serves, 1 to 4294967295; without end unless chosen")
-        .value_parser(clap::value_parser!(u32).range(1..=4_294_967_295))
+    let numbers = clap::value_parser!(u32).range(1..=4_294_967_295);
+    number_arg(
+        alloc,
+        SESSIONS,
+        "K",
+        "How many connections each seat serves, 1 to 4294967295; without end unless chosen",
+        numbers,
+    )
 }
 
 fn max_job_size_arg<'a>(alloc: Global) -> Arg<'a> {
-    Arg::new(alloc, MAX_JOB_SIZE)
-        .long(MAX_JOB_SIZE)
-        .value_name("BYTES")
-        .help("How many bytes a job's body may have, 1 to 1048576; 65535 unless chosen")
-        .value_parser(clap::value_parser!(u32).range(1..=i64::from(LARGEST_BODY)))
+    let numbers = clap::value_parser!(u32).range(1..=i64::from(LARGEST_BODY));
+    number_arg(
+        alloc,
+        MAX_JOB_SIZE,
+        "BYTES",
+        "How many bytes a job's body may have, 1 to 1048576; 65535 unless chosen",
+        numbers,
+    )
 }
 
 fn max_jobs_arg<'a>(alloc: Global) -> Arg<'a> {
-    Arg::new(alloc, MAX_JOBS)
-        .long(MAX_JOBS)
-        .value_name("N")
-        .help("How many jobs there can be at a time, 1 to 4294967295; no limit unless chosen")
-        .value_parser(clap::value_parser!(u32).range(1..=4_294_967_295))
+    let numbers = clap::value_parser!(u32).range(1..=4_294_967_295);
+    number_arg(
+        alloc,
+        MAX_JOBS,
+        "N",
+        "How many jobs there can be at a time, 1 to 4294967295; no limit unless chosen",
+        numbers,
+    )
 }
 
 fn requeue_delay_arg<'a>(alloc: Global) -> Arg<'a> {
-    Arg::new(alloc, REQUEUE_DELAY)
-        .long(REQUEUE_DELAY)
-        .value_name("SECONDS")
-        .help(
-            "For how long a job of a lost connection is delayed, 0 to 4294967295; 0 unless chosen",
-        )
-        .value_parser(clap::value_parser!(u32).range(0..=4_294_967_295))
+    let numbers = clap::value_parser!(u32).range(0..=4_294_967_295);
+    number_arg(
+        alloc,
+        REQUEUE_DELAY,
+        "SECONDS",
+        "For how long a job of a lost connection is delayed, 0 to 4294967295; 0 unless chosen",
+        numbers,
+    )
 }
 
 // beanstalkd's command lines have it, often more than once.
