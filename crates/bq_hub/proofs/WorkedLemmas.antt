@@ -24,7 +24,7 @@ use Rattle.bq_hub.specs.CoreWork.{HasGone, IsCoreDone, no_ticks, steps_made}
 use Rattle.bq_hub.specs.Flags.{AreAllSet}
 use Rattle.bq_hub.specs.Sending.{AreSent}
 use Rattle.bq_hub.specs.Worked.{HasWorked, HubState, KnowsAll, gone_after}
-use Rattle.bq_hub.specs.declared.core_work.gone.Gone.{Gone as Gones}
+use Rattle.bq_hub.specs.declared.core_work.gone_ends.GoneEnds.{GoneEnds}
 
 -- the core took these steps, and this is the moment heard last
 record Ran (settings : Settings) (readings : List (Option ℕ)) (history : List Entry) (given : List GivenAnswer) (core : Machine) (heard : ℕ) : Type 0 where
@@ -327,7 +327,7 @@ all_same (suc n) zero x = refl
 all_same (suc n) (suc t) x = all_same n t x
 
 -- While none of the ends is gone, not all are.
-pub known_none : (gone : Gones) (n : ℕ) → gone.flags.items ≡ replicate (n + 1) false → gone.all ≡ false → KnowsAll gone
+pub known_none : (gone : GoneEnds) (n : ℕ) → gone.flags.items ≡ replicate (n + 1) false → gone.all ≡ false → KnowsAll gone
 known_none gone n none not = record {
   each = λ all. absurd (true≢false (sym all ∙ not));
   known = λ set.

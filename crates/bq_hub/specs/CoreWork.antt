@@ -13,7 +13,7 @@ use Rattle.bq_job.specs.promise.Runs.{Entry, answers_to}
 use Rattle.bq_link.specs.EndStates.{CoreState, sent_to}
 use Rattle.bq_link.specs.Submissions.{AreBelow, steps_of}
 use Rattle.bq_hub.specs.Compared.{AreCompared}
-use Rattle.bq_hub.specs.declared.core_work.room.CoreRoom.{CoreRoom}
+use Rattle.bq_hub.specs.declared.core_work.CoreRoom.{CoreRoom}
 
 -- What a clock gives: which readings, between which two states of it.
 abbrev pub Gives : Type 0 → Type 1

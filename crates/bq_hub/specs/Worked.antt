@@ -18,7 +18,7 @@ use Rattle.bq_hub.specs.Compared.{AreWithin, LooksOnce}
 use Rattle.bq_hub.specs.CoreWork.{Gives, HasGone, no_ticks, steps_made}
 use Rattle.bq_hub.specs.Flags.{AreAllSet}
 use Rattle.bq_hub.specs.Sending.{IsAtRest}
-use Rattle.bq_hub.specs.declared.core_work.gone.Gone.{Gone as Gones}
+use Rattle.bq_hub.specs.declared.core_work.gone_ends.GoneEnds.{GoneEnds}
 use Rattle.bq_hub.specs.declared.core_work.hub.Hub.{Hub}
 
 -- what lies in the core's thread beside its clock
@@ -66,7 +66,7 @@ IsAtWork given machine compared settings from first hub =
     (readings : List (Option ℕ)) × given first readings hub.clock × HasWorked settings from readings (hub_state machine compared hub)
 
 -- It is known whether each end is gone.
-pub record KnowsAll (gone : Gones) : Type 0 where
+pub record KnowsAll (gone : GoneEnds) : Type 0 where
   pub each : gone.all ≡ true → AreAllSet gone.flags.items
   pub known : AreAllSet gone.flags.items → gone.all ≡ true
 

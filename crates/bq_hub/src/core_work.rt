@@ -1,33 +1,57 @@
 //! The core's work in the midst of the links: by one thread, or by whichever thread holds its lock.
-ghost use Rattle.std.specs.Prelude.{◌≡◌, ◌<◌, ◌+◌, []};
+ghost use Rattle.std.specs.Prelude.{ℕ, ◌≡◌, ◌<◌, ◌+◌, [], IfOk, length};
+ghost use Rattle.bq_job.specs.declared.settings.Settings.{Settings};
 ghost use Rattle.bq_job.specs.machine.Machine.{new_machine};
 ghost use Rattle.bq_link.specs.EndStates.{IsSameCore};
 ghost use Rattle.bq_link.specs.NewEnds.{IsNewCore};
 ghost use Rattle.bq_hub.specs.CoreWork.{IsNewRoom, RanToEnd};
+ghost use Rattle.bq_hub.specs.Worked.{IsAtWork, IsInOrder};
 
-pub use answered::Answered;
-pub use begun_hub::Origin;
 pub use hub::Hub;
-pub use last_turns::run_out;
-pub use room::CoreRoom;
-pub use shared_hub::{Left, SharedHub};
+pub use sender::Answered;
+pub use shared_hub::{Left, Origin, SharedHub};
 
-mod answered;
-mod begun_hub;
-mod gone;
+mod gone_ends;
 mod hub;
-mod last_turns;
 mod notices;
-mod room;
 mod sender;
 mod shared_hub;
-mod watch;
 
+use bq_job::{Answer, NoMemory, Seat};
 use bq_line::clock::Clock;
 use bq_link::{CoreEnd, Intake, NoTicks};
 use bq_steps::{Outs, QueueCore};
 use std::alloc::Global;
+use std::collections::VecDeque;
 use std::sync::Wait;
+
+/// Room that the core's work needs beside the core and its end: for answers whose rings are full, and for which ends
+/// are gone.
+#[derive(Drop)]
+pub struct CoreRoom {
+    kept: VecDeque<(Seat, Answer), Global>,
+    aside: VecDeque<(Seat, Answer), Global>,
+    gone: Vec<bool, Global>,
+}
+
+impl CoreRoom {
+    /// Room for the ends of so many seats and the control line. All memory is asked for here.
+    pub fn new(alloc: Global, seats: u16) -> Result<CoreRoom, NoMemory>
+        ensures { IfOk result (λ room. IsNewRoom (seats + 1) room) }
+    {
+        let ends = usize::from(seats) + 1;
+        let Ok(kept) = VecDeque::with_capacity(alloc, ends) else {
+            return Err(NoMemory);
+        };
+        let Ok(aside) = VecDeque::with_capacity(alloc, ends) else {
+            return Err(NoMemory);
+        };
+        let Ok(gone) = Vec::from_elem(alloc, false, ends) else {
+            return Err(NoMemory);
+        };
+        Ok(CoreRoom { kept, aside, gone })
+    }
+}
 
 /// The core takes the steps that come by its end of the links, and ticks where something is due, until no end has
 /// more to submit; and it sends each end its answers.
@@ -56,4 +80,26 @@ pub fn core_work<R: Wait, C: Clock + Drop, K: QueueCore + Drop>(
         (K.comparisons result.1) }
 {
     run_out(rt, intake, Hub::new(alloc, end, core, outs, room, clock))
+}
+
+/// Works on until no end has more to submit and each was sent all.
+pub fn run_out<R: Wait, C: Clock + Drop, K: QueueCore + Drop>(
+    rt: &R,
+    intake: &Intake<NoTicks>,
+    hub: Hub<C, K>,
+) -> (CoreEnd, K, C)
+    requires intake { hub.sender.end.intake ≡ intake.now.id }
+    requires order { IsInOrder K.machine hub }
+    ensures end { IsSameCore hub.sender.end result.0 }
+    ensures ran { (settings : Settings) (from : ℕ) (first : C) → IsAtWork C.given K.machine K.comparisons settings from first hub
+        → length hub.sender.end.rings ≡ settings.seats + 1
+        → RanToEnd C.given settings first result.0 (K.machine result.1) result.2 from (K.comparisons result.1) }
+{
+    let mut hub = hub;
+    for _ in rt.forever() {
+        if hub.turn(rt, intake) {
+            return hub.into_parts();
+        }
+    }
+    unreachable!()
 }

@@ -2,13 +2,12 @@
 ghost use Rattle.std.specs.Prelude.{◌≡◌, ◌⊎◌, ◌↔◌, ◌<◌, ◌+◌, ◌∷◌, [], false, not, true, length};
 ghost use Rattle.bq_job.specs.beside.NextDue.{is_before, next_due};
 ghost use Rattle.bq_job.specs.promise.History.{moment_heard};
+ghost use Rattle.bq_hub.specs.Rests.{rest_until};
 
-use crate::core_work::answered::Answered;
-use crate::core_work::gone::Gone;
+use crate::core_work::CoreRoom;
+use crate::core_work::gone_ends::GoneEnds;
 use crate::core_work::notices::{Concern, Notices, concern_of};
-use crate::core_work::room::CoreRoom;
-use crate::core_work::sender::Sender;
-use crate::core_work::watch::{HOUR, rest_until};
+use crate::core_work::sender::{Answered, Sender};
 use bq_job::{Moment, Seat, Step};
 use bq_line::clock::{Clock, moment_heard};
 use bq_link::{CoreEnd, Intake, NoTicks, Record};
@@ -20,6 +19,9 @@ use std::time::Duration;
 /// How many steps and ticks one who holds the lock makes at most, so that nobody waits for it for long.
 const MOST: u32 = 64;
 
+/// How long who watches the clock rests at most, in milliseconds, where no step was taken since it looked last.
+pub const HOUR: u64 = 3_600_000;
+
 /// The core with its clock, its end of the links, and what isn't sent yet.
 #[derive(Drop)]
 pub struct Hub<C, K> {
@@ -28,7 +30,7 @@ pub struct Hub<C, K> {
     pub core: K,
     pub outs: Outs,
     pub sender: Sender,
-    pub gone: Gone,
+    pub gone: GoneEnds,
     pub clock: C,
     /// The moment heard last, and the next one at which something is due.
     pub heard: Moment,
@@ -92,7 +94,7 @@ impl<C: Clock + Drop, K: QueueCore + Drop> Hub<C, K> {
                 kept,
                 aside,
             },
-            gone: Gone::none(gone),
+            gone: GoneEnds::none(gone),
             clock,
             heard: 0,
             due: None,
@@ -213,7 +215,7 @@ impl<C: Clock + Drop, K: QueueCore + Drop> Hub<C, K> {
     // Takes the oldest step that waits. Where there is none time passes. Whether there was something to do.
     //
     // Whatever is so of the intake at each moment: where there was nothing, it was so of an empty one, after the last
-    // step that was taken. It is asked first whether one waits, so that nothing is moved where none does.
+    // step that was taken.
     fn go_on<R: Wait, J: Record>(&mut self, rt: &R, intake: &Intake<J>) -> bool
         requires intake { self.old.sender.end.intake ≡ intake.now.id }
         requires may { MayTake J.was }
@@ -226,25 +228,13 @@ impl<C: Clock + Drop, K: QueueCore + Drop> Hub<C, K> {
         ensures idle { result ≡ false → is_before self.new.heard (next_due (K.machine self.old.core)) ≡ true }
         ensures busy { result ≡ true → TookOne self.old.sender.end self.new.sender.end ⊎ HasTicked K.machine self.old self.new }
     {
-        if self.has_none(intake) {
-            return self.tick_if_due();
-        }
-        match self.sender.end.take(rt, intake) {
+        match self.sender.next_step(rt, intake) {
             Some((seat, what)) => {
                 self.take_step(seat, &what);
                 true
             }
             None => self.tick_if_due(),
         }
-    }
-
-    // Whether no step waits.
-    fn has_none<J: Record>(&mut self, intake: &Intake<J>) -> bool
-        requires intake { self.old.sender.end.intake ≡ intake.now.id }
-        ensures empty { result ≡ true → J.was self.old.sender.end.taken [] }
-        ensures same { self.new ≡ self.old }
-    {
-        self.sender.end.is_empty(intake)
     }
 
     // The core takes a step of an end, and what an operator has to see of it is told. The step stays where it lies.
@@ -375,5 +365,15 @@ impl<C: Clock + Drop, K: QueueCore + Drop> Hub<C, K> {
             notices: _,
         } = self;
         (sender.end, core, clock)
+    }
+}
+
+/// How many milliseconds a rest takes, which lasts until something is due, and so long at most.
+pub fn rest_until(most: u64, due: Option<Moment>, heard: Moment) -> u64
+    ensures { result ≡ rest_until most due heard }
+{
+    match due {
+        None => most,
+        Some(due) => due.saturating_sub(heard).min(most),
     }
 }

@@ -1,16 +1,19 @@
-//! Answers on their way to the ends.
+//! The core's end of the links at work: the next step, answers on their way, and which ends were sent any.
 ghost use Rattle.std.specs.Prelude.{◌≡◌, ◌↔◌, ◌<◌, ◌≤◌, ◌+◌, ◌++◌, ◌∷◌, [], false, true, length};
-ghost use Rattle.std.specs.Prelude.{IfErr, IsOk, OnErr, OnOk};
+ghost use Rattle.std.specs.Prelude.{IfErr, IfNone, IfSome, IsOk, OnErr, OnOk};
 ghost use Rattle.bq_job.specs.promise.Runs.{answers_to};
 ghost use Rattle.bq_link.specs.EndStates.{room_for};
+ghost use Rattle.bq_link.specs.Submissions.{MayTake};
+ghost use Rattle.bq_hub.specs.Noted.{noted};
 
-use crate::core_work::answered::Answered;
-use bq_job::{Answer, Seat};
-use bq_link::{CoreEnd, Intake, NoTicks};
+use arrayvec::ArrayVec;
+use bq_job::{Answer, Seat, Step};
+use bq_link::{CoreEnd, Intake, NoTicks, Record};
 use bq_steps::Outs;
 use std::alloc::Global;
 use std::collections::VecDeque;
 use std::mem;
+use std::sync::Wait;
 
 /// The core's end of the links, and the answers that it couldn't send since their rings were full.
 #[derive(Drop)]
@@ -50,6 +53,35 @@ impl Sender {
             self.send_or_keep(intake, seat, answer, answered);
         }
         false
+    }
+
+    /// Takes the oldest step out of the intake. It is asked first whether one waits, so that nothing is moved where none
+    /// does.
+    pub fn next_step<R: Wait, J: Record>(
+        &mut self,
+        rt: &R,
+        intake: &Intake<J>,
+    ) -> Option<(Seat, Step)>
+        requires intake { self.old.end.intake ≡ intake.now.id }
+        requires may { MayTake J.was }
+        ensures taken { IfSome result
+            (λ t. self.new ≡ record self.old { end = record self.old.end { taken = self.old.end.taken ++ t ∷ [] } }) }
+        ensures number { IfSome result (λ t. t.0 < length self.old.end.rings) }
+        ensures none { IfNone result ((self.new ≡ self.old) × J.was self.old.end.taken []) }
+    {
+        if self.has_none(intake) {
+            return None;
+        }
+        self.end.take(rt, intake)
+    }
+
+    // Whether no step waits.
+    fn has_none<J: Record>(&mut self, intake: &Intake<J>) -> bool
+        requires intake { self.old.end.intake ≡ intake.now.id }
+        ensures empty { result ≡ true → J.was self.old.end.taken [] }
+        ensures same { self.new ≡ self.old }
+    {
+        self.end.is_empty(intake)
     }
 
     // Tries to send all that was kept. Where nothing is, which is so nearly always, nothing is moved.
@@ -128,5 +160,46 @@ impl Sender {
             }
         }
         false
+    }
+}
+
+/// How many ends can be noted. Who holds the lock makes as many steps at most, and nearly each answers one end.
+const MOST: usize = 64;
+
+/// The ends that were sent answers, and whose bells are still to be rung.
+#[derive(Drop)]
+pub struct Answered {
+    seats: ArrayVec<Seat, MOST>,
+}
+
+impl Answered {
+    /// None was answered.
+    pub fn none() -> Answered
+        ensures { result.seats.items ≡ [] }
+    {
+        Answered {
+            seats: ArrayVec::new(),
+        }
+    }
+
+    /// The end was answered. Where there is no place to note it, its bell is rung at once.
+    pub fn note(&mut self, intake: &Intake<NoTicks>, seat: Seat)
+        ensures { self.new.seats.items ≡ noted self.old.seats.items seat }
+    {
+        if self.seats.is_full() {
+            intake.wake(seat);
+        } else {
+            self.seats.push(seat);
+        }
+    }
+
+    /// Rings the bells of the ends that are noted, but for that of the end whose thread rings them: it looks at its
+    /// mail anyway.
+    pub fn ring(&self, intake: &Intake<NoTicks>, own: Option<Seat>) {
+        for seat in self.seats.as_slice() {
+            if own != Some(*seat) {
+                intake.wake(*seat);
+            }
+        }
     }
 }

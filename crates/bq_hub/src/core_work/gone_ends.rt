@@ -7,18 +7,18 @@ use std::alloc::Global;
 
 /// Of each end whether it is gone, and whether all are.
 #[derive(Drop)]
-pub struct Gone {
+pub struct GoneEnds {
     pub flags: Vec<bool, Global>,
     pub all: bool,
 }
 
-impl Gone {
+impl GoneEnds {
     /// None is gone.
-    pub fn none(flags: Vec<bool, Global>) -> Gone
+    pub fn none(flags: Vec<bool, Global>) -> GoneEnds
         ensures flags { result.flags ≡ flags }
         ensures all { result.all ≡ false }
     {
-        Gone { flags, all: false }
+        GoneEnds { flags, all: false }
     }
 
     /// The end is gone.

@@ -1,5 +1,5 @@
 use Rattle.bq_hub.specs.Worked.{WorksOn}
-use Rattle.bq_hub.proofs.core_work.last_turns.run_out.Given as goal
+use Rattle.bq_hub.proofs.core_work.run_out.Given as goal
 
 abbrev pub invariant-loop : goal.invariant-loop
 invariant-loop g l = record {

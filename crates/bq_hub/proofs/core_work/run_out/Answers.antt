@@ -4,7 +4,7 @@ use Rattle.bq_hub.specs.CoreWork.{IsCoreDone}
 use Rattle.bq_hub.specs.Worked.{hub_state}
 use Rattle.bq_hub.proofs.TurnLemmas.{on_both, on_still}
 use Rattle.bq_hub.proofs.WorkedLemmas.{worked_all}
-use Rattle.bq_hub.proofs.core_work.last_turns.run_out.Goals as goal
+use Rattle.bq_hub.proofs.core_work.run_out.Goals as goal
 
 pub loop-init : goal.loop-init
 loop-init g c = record {
