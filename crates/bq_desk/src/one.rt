@@ -1,7 +1,11 @@
 ghost use Rattle.std.specs.Prelude.{◌↔◌, ◌≡◌, List, Option, ℕ, IfOk, IsErrOf, IsTrue, not};
 ghost use Rattle.bq_job.specs.promise.Headline.{IsHistoryOfLine};
+ghost use Rattle.bq_seat.specs.Past.{Awaited};
+ghost use Rattle.bq_seat.specs.SeatStands.{awaited};
 ghost use Rattle.bq_line.specs.LineCalls.{new_line};
 ghost use Rattle.bq_line.specs.Streams.{StaysOver};
+ghost use Rattle.bq_desk.specs.DeskOf.{state_of};
+ghost use Rattle.bq_desk.specs.DeskState.{IsNewDesk};
 ghost use Rattle.bq_desk.specs.RunSettings.{is_lone};
 
 use crate::desk::Desk;
@@ -41,7 +45,7 @@ pub fn run_one<R: Wait, L: Line + Drop, C: Clock + Drop>(
     rt: &R,
     alloc: Global,
     config: Config,
-    mut line: L,
+    line: L,
     clock: C,
 ) -> Result<One<L, C>, RunFault>
     // Nothing was done on the line yet.
@@ -58,23 +62,46 @@ pub fn run_one<R: Wait, L: Line + Drop, C: Clock + Drop>(
     if config.seats != 1 {
         return Err(RunFault::BadConfiguration);
     }
-    let mut desk = Desk::new(alloc, config, clock)?;
-    let Ok(mut machine) = SeatMachine::new(alloc, config.max_job_size) else {
+    let desk = Desk::new(alloc, config, clock)?;
+    let Ok(machine) = SeatMachine::new(alloc, config.max_job_size) else {
         return Err(RunFault::NoMemory);
     };
     let Ok(room) = AnswerRoom::new(alloc) else {
         return Err(RunFault::NoMemory);
     };
+    Ok(serve_line(rt, line, desk, machine, room))
+}
+
+// Serves a line to its end at a new desk, by its only seat.
+fn serve_line<R: Wait, L: Line + Drop, C: Clock + Drop>(
+    rt: &R,
+    line: L,
+    desk: Desk<C>,
+    machine: SeatMachine,
+    room: AnswerRoom,
+) -> One<L, C>
+    requires new { L.seen line ≡ new_line }
+    requires desk { IsNewDesk desk.core.machine.settings (state_of desk) }
+    requires lone { desk.core.machine.settings.seats ≡ 1 }
+    requires awaits { awaited machine ≡ Awaited.ALine }
+    requires limit { machine.reader.max_job_size ≡ desk.core.machine.settings.max_job_size }
+    ensures served { (readings : List (Option ℕ)) × C.given desk.clock readings result.clock ×
+        IsHistoryOfLine desk.core.machine.settings 0 (record { seen = L.seen result.line; over = result.end }) readings }
+    ensures stays { StaysOver L.lies_over line result.line }
+{
+    let mut line = line;
+    let mut desk = desk;
+    let mut machine = machine;
     let mut room = Room::new(room);
     let bell = Parker::new();
-    let mut action = machine.on(alloc, Event::Opened);
+    let mut action = machine.on(desk.alloc, Event::Opened);
     for _ in rt.forever() {
         if let Action::LineOver(end) = action {
-            return Ok(One {
+            return One {
                 line,
                 end,
                 clock: desk.clock,
-            });
+            };
         }
         let looked = is_look(&action);
         let _moved = act(

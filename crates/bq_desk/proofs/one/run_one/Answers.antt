@@ -1,62 +1,28 @@
-use Rattle.std.proofs.Common.{[], ◌++◌, ◌≡◌, ◌<◌, ◌∙◌, ap, sym, subst, arith}
-use Rattle.bq_seat.specs.declared.machine.Action.TheVariants as actions
+use Rattle.std.proofs.Common.{◌≡◌, ◌∙◌, ap, subst, sym}
+use Rattle.bq_job.specs.declared.settings.Settings.{Settings}
+use Rattle.bq_job.specs.machine.Machine.{Machine}
+use Rattle.bq_job.specs.promise.Headline.{IsHistoryOfLine}
 use Rattle.bq_desk.specs.DeskOf.{state_of}
-use Rattle.bq_desk.proofs.AloneLemmas.{IsServingAlone, begins_alone, goes_on_alone, new_mails_are, over_alone}
-use Rattle.bq_attend.proofs.SeatLemmas.{opened_on}
-use Rattle.bq_job.proofs.JoinLemmas.{line_joined}
+use Rattle.bq_desk.specs.DeskState.{IsNewDesk}
 use Rattle.bq_desk.proofs.one.run_one.Goals as goal
 
-pub loop-init : goal.loop-init
-loop-init g c =
+pub serve_line-requires-clause-desk : goal.serve_line-requires-clause-desk
+serve_line-requires-clause-desk g c =
     let made = c.in_ok-desk.ensures.made in
-    let many = new_mails_are c.args.config (state_of c.in_ok-desk.desk) made in
-    let seats : c.args.config.seats ≡ 1 = c.if-config-ne1.false in
-    record {
-      iterator = (tt, tt);
-      serves = (
-        [],
-        subst (λ clock. g.C.Clock.given c.args.clock [] clock) (sym c.in_ok-desk.ensures.clock) (g.met.C.Clock.none_given c.args.clock),
-        begins_alone c.args.config 0 (state_of c.in_ok-desk.desk) c.on-action.new.self (g.L.Line.seen c.args.line) c.on-action.result made
-            (opened_on c.args.config.max_job_size _ c.on-action.new.self c.on-action.result (g.L.Line.seen c.args.line) c.in-Ok.ensures.awaits c.in-Ok.ensures.limit c.on-action.ensures c.requires.new),
-      );
-      stays = λ first over. over;
-      mails = record { many = many ∙ ap (λ m. m.settings.seats) (sym made.core); room = subst (λ m. m.settings.seats < (state_of c.in_ok-desk.desk).most) (sym made.core) made.room };
-      within = omega (arith, many, seats);
-    }
+    subst (λ (s : Settings). IsNewDesk s (state_of c.in_ok-desk.desk)) (sym (ap (λ (m : Machine). m.settings) made.core)) made
 
-pub act-moved-requires : goal.act-moved-requires
-act-moved-requires g c =
-    record {
-      mails = c.loop.invariant.mails;
-      within = c.loop.invariant.within;
-    }
+pub serve_line-requires-clause-lone : goal.serve_line-requires-clause-lone
+serve_line-requires-clause-lone g c =
+    let seats : c.args.config.seats ≡ 1 = c.if-config-ne1.false in ap (λ (m : Machine). m.settings.seats) c.in_ok-desk.ensures.made.core ∙ seats
 
-pub loop-preserved : goal.loop-preserved
-loop-preserved g c =
-    let i = c.loop.invariant.serves in
-    let h = c.act-moved.ensures.carried in
-    let w = h.2 in
-    let next = state_of c.act-moved.new.desk in
-    record {
-      iterator = (tt, tt);
-      serves = (
-        i.0 ++ w.0,
-        w.1 c.args.clock i.0 i.1,
-        goes_on_alone c.args.config 0 i.0 w.0 (state_of c.loop.desk) next c.loop.machine c.act-moved.new.machine (g.L.Line.seen c.loop.line) (g.L.Line.seen c.act-moved.new.line) c.loop.action c.act-moved.new.action h.0 h.1 i.2 w.2 h.3,
-      );
-      stays = λ first over. c.act-moved.ensures.stays first (c.loop.invariant.stays first over);
-      mails = c.act-moved.ensures.mails;
-      within = omega (arith, w.2.went.many, c.loop.invariant.within);
-    }
+pub serve_line-requires-clause-limit : goal.serve_line-requires-clause-limit
+serve_line-requires-clause-limit g c = c.in-Ok.ensures.limit ∙ sym (ap (λ (m : Machine). m.settings.max_job_size) c.in_ok-desk.ensures.made.core)
 
-pub returns-in-LineOver-clause-served : goal.returns-in-LineOver-clause-served
-returns-in-LineOver-clause-served g c =
-    let i = c.loop.invariant.serves in
-    let s : IsServingAlone c.args.config 0 i.0 (state_of c.loop.desk) c.loop.machine (g.L.Line.seen c.loop.line) (actions.LineOver c.in-LineOver.end) =
-    subst (IsServingAlone c.args.config 0 i.0 (state_of c.loop.desk) c.loop.machine (g.L.Line.seen c.loop.line)) c.in-LineOver.is i.2 in
-    let seats : c.args.config.seats ≡ 1 = c.if-config-ne1.false in (
-      i.0,
-      i.1,
-      line_joined c.args.config 0 (record { seen = g.L.Line.seen c.loop.line; over = c.in-LineOver.end }) i.0 s.went.history s.went.went.given c.loop.desk.core.machine
-          (over_alone c.args.config 0 i.0 (state_of c.loop.desk) c.loop.machine (g.L.Line.seen c.loop.line) c.in-LineOver.end s (omega (arith, seats)) (new_mails_are c.args.config s.first s.new)),
+pub returns-clause-served : goal.returns-clause-served
+returns-clause-served g c =
+    let s = c.serve_line.ensures.served in
+    let one = c.serve_line.result in (
+      s.0,
+      subst (λ clock. g.C.Clock.given clock s.0 one.clock) c.in_ok-desk.ensures.clock s.1,
+      subst (λ (n : Settings). IsHistoryOfLine n 0 (record { seen = g.L.Line.seen one.line; over = one.end }) s.0) (ap (λ (m : Machine). m.settings) c.in_ok-desk.ensures.made.core) s.2,
     )
