@@ -1,5 +1,6 @@
 //! A desk, at which seats are served: the core, its clock, and the mail of each seat.
-ghost use Rattle.std.specs.Prelude.{◌≡◌, ◌<◌, ◌≤◌, ◌+◌, ◌++◌, ◌∷◌, [], ℕ, Bool, List, Option, IfOk, IfErr, IsErrOf, IsNone, IsTrue, MatchResult, length, true, false, not, ◌↔◌, ◌&&◌, replicate, slice_index_or};
+ghost use Rattle.std.specs.Prelude.{◌≡◌, ◌<◌, ◌≤◌, ◌+◌, ◌++◌, ◌∷◌, ◌↔◌, ◌&&◌, [], ℕ, Bool, List, Option, true, false, not};
+ghost use Rattle.std.specs.Prelude.{IfOk, IfErr, IsErrOf, IsNone, IsTrue, MatchResult, length, replicate, slice_index_or};
 ghost use Rattle.std.specs.Option.{option_to_list};
 ghost use Rattle.bq_job.specs.declared.answer.Answer.{Answer};
 ghost use Rattle.bq_job.specs.promise.History.{moment_heard};
