@@ -2,9 +2,9 @@
 ghost use Rattle.std.specs.Prelude.{◌≡◌, ◌≤◌};
 
 use crate::bells::Rings;
-use crate::locked::Locked;
 use crate::shared_desk::{LONGEST_REST, Look, SharedDesk};
 use bq_job::{Answer, Moment, Seat, Step};
+use bq_journal::Locked;
 use bq_line::clock::{Clock, moment_heard};
 use std::sync::{Mutex, Wait};
 

@@ -3,11 +3,10 @@ ghost use Rattle.std.specs.Prelude.{◌≡◌, ◌↔◌, ◌≤◌, ◌&&◌, �
 ghost use Rattle.std.specs.List.{All};
 ghost use Rattle.bq_steps.specs.Limits.{are_in_range, is_body_size};
 ghost use Rattle.bq_lock.specs.LockedRuns.{IsServedToEnd};
-ghost use Rattle.bq_lock.specs.LockedState.{IsLawfulHold};
+ghost use Rattle.bq_journal.specs.LockedState.{IsLawfulHold};
 ghost use Rattle.bq_attend.specs.Tending.{AreSame, IsNewDoor, door_seen};
 
 use crate::bells::Bells;
-use crate::locked::Locked;
 use crate::locked_desk::LockedDesk;
 use crate::post::{Post, SeatPosts};
 use crate::shared_desk::{SharedDesk, SharedSeat};
@@ -16,6 +15,7 @@ use bq_attend::control_line::ControlLine;
 use bq_attend::control_reader::ControlReader;
 use bq_core::Config;
 use bq_job::{NoMemory, Seat};
+use bq_journal::Locked;
 use bq_line::Door;
 use bq_line::clock::Clock;
 use bq_line::line::Line;

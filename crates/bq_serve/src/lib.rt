@@ -11,8 +11,9 @@ pub use bq_attend::control_reader::{ControlReader, next_of};
 pub use bq_desk::{One, run_one};
 pub use bq_ends::{control_work, seat_work};
 pub use bq_hub::core_work;
+pub use bq_journal::Locked;
 pub use bq_line::{Door, DoorFault, Listen, ListenDoor, MemDoor, Refusals, TcpDoor, clock, line};
-pub use bq_lock::{Locked, LockedRun, run_locked};
+pub use bq_lock::{LockedRun, run_locked};
 pub use bq_start::RunFault;
 pub use sessions::{Run, run_sessions};
 

@@ -2,8 +2,8 @@
 ghost use Rattle.std.specs.Prelude.{◌≡◌, ◌≤◌, ◌<◌, ◌∷◌, [], IfOk, length, map, replicate};
 ghost use Rattle.std.specs.Vec.{vec_capacity};
 ghost use Rattle.bq_job.specs.machine.Dispatch.{GivenAnswer};
-ghost use Rattle.bq_lock.specs.LockedState.{AreFew, oldest_for, without_oldest};
-ghost use Rattle.bq_lock.specs.LockedSteps.{AreDelivered};
+ghost use Rattle.bq_journal.specs.LockedState.{AreFew, oldest_for, without_oldest};
+ghost use Rattle.bq_journal.specs.LockedSteps.{AreDelivered};
 
 use bq_core::Outs;
 use bq_desk::mail::{Mail, new_mails};

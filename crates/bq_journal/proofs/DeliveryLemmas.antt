@@ -8,9 +8,9 @@ use Rattle.bq_job.specs.machine.Dispatch.{GivenAnswer}
 use Rattle.bq_job.specs.promise.Runs.{answers_to}
 use Rattle.bq_job.proofs.OneClientLemmas.{answers_append}
 use Rattle.bq_desk.specs.LastParts.{last_part}
-use Rattle.bq_lock.specs.LockedState.{AreFew, outbox_at}
-use Rattle.bq_lock.specs.LockedSteps.{AreDelivered}
-use Rattle.bq_lock.proofs.LastPartLemmas.{all_of_few, last_are_few, last_then}
+use Rattle.bq_journal.specs.LockedState.{AreFew, outbox_at}
+use Rattle.bq_journal.specs.LockedSteps.{AreDelivered}
+use Rattle.bq_journal.proofs.LastPartLemmas.{all_of_few, last_are_few, last_then}
 
 pub items_of_ok : {X E : Type 0} (result : Result X E) (x : X) (items pushed kept : List ℕ) → items ≡ (if is_ok result then pushed else kept) → result ≡ Ok x → items ≡ pushed
 items_of_ok {X} {E} result x items pushed kept is ok = is ∙ ap (λ (r : Result X E). if is_ok r then pushed else kept) ok

@@ -1,7 +1,7 @@
 use Rattle.std.proofs.Common.{◌≡◌, ◌≤◌, length}
 use Rattle.std.specs.Vec.{vec_capacity}
-use Rattle.bq_lock.proofs.DeliveryLemmas.{IsDelivering}
-use Rattle.bq_lock.proofs.locked.outboxes.Outboxes.deliver.Given as goal
+use Rattle.bq_journal.proofs.DeliveryLemmas.{IsDelivering}
+use Rattle.bq_journal.proofs.locked.outboxes.Outboxes.deliver.Given as goal
 
 abbrev pub invariant-loop-seat : goal.invariant-loop-seat
 invariant-loop-seat l = record {

@@ -2,8 +2,8 @@
 ghost use Rattle.std.specs.Prelude.{◌≡◌, ◌↔◌, IfOk, IsErrOf, IsTrue, not};
 ghost use Rattle.bq_steps.specs.Limits.{are_in_range};
 ghost use Rattle.bq_job.specs.beside.NextDue.{next_due};
-ghost use Rattle.bq_lock.specs.LockedState.{IsLawfulHold, new_locked, oldest_for, without_oldest};
-ghost use Rattle.bq_lock.specs.LockedSteps.{TakesStep};
+ghost use Rattle.bq_journal.specs.LockedState.{IsLawfulHold, new_locked, oldest_for, without_oldest};
+ghost use Rattle.bq_journal.specs.LockedSteps.{TakesStep};
 
 mod journal;
 mod outboxes;
@@ -33,7 +33,7 @@ pub struct Locked {
 impl Model for Locked {
     ghost use Rattle.std.specs.Prelude.{◌<◌};
     ghost use Rattle.std.specs.Vec.{vec_capacity};
-    ghost use Rattle.bq_lock.specs.LockedState.{IsLawfulHold, LockedState, locked_of};
+    ghost use Rattle.bq_journal.specs.LockedState.{IsLawfulHold, LockedState, locked_of};
 
     ghost Value = { LockedState };
 

@@ -1,7 +1,7 @@
 use Rattle.std.proofs.Common.{◌≡◌, ◌∷◌, [], ℕ, List, ◌++◌, sym, ap, ◌∙◌, arith, subst}
 use Rattle.bq_steps.specs.Outbox.{Outbox}
-use Rattle.bq_lock.proofs.DeliveryLemmas.{IsDelivering, delivering_one, items_of_ok}
-use Rattle.bq_lock.proofs.locked.outboxes.Outboxes.deliver.Goals as goal
+use Rattle.bq_journal.proofs.DeliveryLemmas.{IsDelivering, delivering_one, items_of_ok}
+use Rattle.bq_journal.proofs.locked.outboxes.Outboxes.deliver.Goals as goal
 
 pub loop-seat-preserved : goal.loop-seat-preserved
 loop-seat-preserved c =

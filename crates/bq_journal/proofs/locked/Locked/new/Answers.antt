@@ -2,8 +2,8 @@ use Rattle.std.proofs.Common.{◌≡◌, ◌+◌, ap, arith}
 use Rattle.bq_core.specs.CoreState.{CoreState}
 use Rattle.bq_steps.specs.Outbox.{Outbox}
 use Rattle.bq_job.specs.machine.Machine.{Machine}
-use Rattle.bq_lock.proofs.LockedLemmas.{hold_first}
-use Rattle.bq_lock.proofs.locked.Locked.new.Goals as goal
+use Rattle.bq_journal.proofs.LockedLemmas.{hold_first}
+use Rattle.bq_journal.proofs.locked.Locked.new.Goals as goal
 
 pub invariant_of-result : goal.invariant_of-result
 invariant_of-result c =

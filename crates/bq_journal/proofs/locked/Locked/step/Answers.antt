@@ -2,10 +2,10 @@ use Rattle.std.proofs.Common.{◌≡◌, ap, ◌∙◌, arith, subst}
 use Rattle.bq_steps.specs.Outbox.{Outbox}
 use Rattle.bq_job.specs.declared.settings.Settings.{Settings}
 use Rattle.bq_job.proofs.LawfulLemmas.{few_answers}
-use Rattle.bq_lock.specs.LockedState.{IsLawfulHold, LockedState, locked_of}
-use Rattle.bq_lock.specs.LockedSteps.{TakesStep}
-use Rattle.bq_lock.proofs.LockedLemmas.{hold_step, noted_of}
-use Rattle.bq_lock.proofs.locked.Locked.step.Goals as goal
+use Rattle.bq_journal.specs.LockedState.{IsLawfulHold, LockedState, locked_of}
+use Rattle.bq_journal.specs.LockedSteps.{TakesStep}
+use Rattle.bq_journal.proofs.LockedLemmas.{hold_step, noted_of}
+use Rattle.bq_journal.proofs.locked.Locked.step.Goals as goal
 
 abbrev before : goal.After-note → LockedState
 before c = locked_of c.self.inside.core.machine c.self.inside.outboxes.mails.items c.self.inside.outboxes.answered.items c.self.inside.journal

@@ -1,8 +1,8 @@
 use Rattle.std.proofs.Common.{◌<◌, ap, subst, sym}
 use Rattle.std.specs.Vec.{vec_capacity}
-use Rattle.bq_lock.specs.LockedState.{IsLawfulHold, locked_of}
-use Rattle.bq_lock.proofs.LockedLemmas.{hold_fetched}
-use Rattle.bq_lock.proofs.locked.Locked.fetch.Goals as goal
+use Rattle.bq_journal.specs.LockedState.{IsLawfulHold, locked_of}
+use Rattle.bq_journal.proofs.LockedLemmas.{hold_fetched}
+use Rattle.bq_journal.proofs.locked.Locked.fetch.Goals as goal
 
 abbrev holds : (c : goal.After-fetch) → IsLawfulHold (locked_of c.self.inside.core.machine c.fetch.new.self.mails.items c.fetch.new.self.answered.items c.self.inside.journal)
 holds c =

@@ -1,7 +1,7 @@
 //! The journal behind the lock.
 ghost use Rattle.std.specs.Prelude.{◌≡◌, ◌<◌, [], IfOk, IfSome, IsNone, IsSome, IsTrue, length, true};
 ghost use Rattle.bq_job.specs.beside.StepBody.{has_body};
-ghost use Rattle.bq_lock.specs.LockedSteps.{with_entry, without_entry};
+ghost use Rattle.bq_journal.specs.LockedSteps.{with_entry, without_entry};
 
 use bq_job::{Entry, Moment, NoMemory, Seat, Step};
 use std::alloc::Global;
@@ -18,7 +18,7 @@ pub struct Journal {
 impl Model for Journal {
     ghost use Rattle.std.specs.Prelude.{◌≤◌};
     ghost use Rattle.std.specs.Vec.{vec_capacity};
-    ghost use Rattle.bq_lock.specs.LockedState.{JournalState};
+    ghost use Rattle.bq_journal.specs.LockedState.{JournalState};
 
     ghost Value = { JournalState };
 

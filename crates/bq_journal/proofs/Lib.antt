@@ -1,0 +1,4 @@
+pub mod DeliveryLemmas
+pub mod LastPartLemmas
+pub mod LockedLemmas
+pub mod SendLemmas

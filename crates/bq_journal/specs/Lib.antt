@@ -1,0 +1,2 @@
+pub mod LockedState
+pub mod LockedSteps
