@@ -5,6 +5,8 @@ use Rattle.std.proofs.lemmas.Bool.{cases_Bool, eqb-false, eqb-true, ltb-false, l
 use Rattle.std.proofs.lemmas.List.{get_or-set_other, get_or-set_same, length-set}
 use Rattle.bq_link.specs.EndStates.{CoreState, IsPair, IsSameCore, IsSameSeat, SeatState}
 use Rattle.bq_run.specs.Linked.{ArePaired, AreSettled, AreStill, IsCoreStill, IsEndStill, IsSettled}
+use Rattle.bq_run.specs.declared.sessions.Run.{Run}
+use Rattle.bq_run.specs.declared.sessions.posts.Ended.{Ended}
 
 pub core_still : (core : CoreState) → IsCoreStill core core
 core_still core = record { same = (refl, refl); taken = refl; sent = refl }
@@ -74,3 +76,12 @@ settled_more core later ends i new below c before here place d less = elim (case
   where
     earlier : place ≢ i → place < i
     earlier differs = elim (cases_Bool (nat_lt place i)) [ inl e ↦ ltb-true place i e | inr e ↦ absurd (differs (let h = ltb-false place i e in omega (arith, less))) ]
+
+-- What holds of a run with these parts of what its threads gave back holds of one that has them.
+pub same_run : {D C I K : Type 0} (P : Run D C I K → Type 0) (run : Run D C I K) (e : Ended D C I K) → run.doors ≡ e.ends.doors → run.clock ≡ e.clock → run.control ≡ e.ends.control → run.core ≡ e.core
+    → P (record run { doors = e.ends.doors; clock = e.clock; control = e.ends.control; core = e.core }) → P run
+same_run P run e doors clock control core p =
+    subst (λ x. P (record run { doors = x })) (sym doors)
+    (subst (λ x. P (record run { doors = e.ends.doors; clock = x })) (sym clock)
+    (subst (λ x. P (record run { doors = e.ends.doors; clock = e.clock; control = x })) (sym control)
+    (subst (λ x. P (record run { doors = e.ends.doors; clock = e.clock; control = e.ends.control; core = x })) (sym core) p)))

@@ -3,6 +3,7 @@ ghost use Rattle.std.specs.Prelude.{◌≡◌, ◌↔◌, ◌++◌, ◌∷◌, �
 ghost use Rattle.std.specs.List.{All};
 ghost use Rattle.bq_steps.specs.Limits.{are_in_range};
 ghost use Rattle.bq_attend.specs.Tending.{AreSame, IsNewDoor, door_seen};
+ghost use Rattle.bq_run.specs.Linked.{ArePaired, AreSettled, AreStill, IsCoreStill};
 ghost use Rattle.bq_run.specs.Sessions.{IsRunOf};
 
 use bq_attend::control_line::ControlLine;
@@ -98,6 +99,28 @@ pub fn run_sessions<
         Ok(ended) => ended,
         Err(fault) => return Err(fault),
     };
+    steps_keep_settings();
+    match settled_run(intake, ended) {
+        Ok(run) => Ok(run),
+        Err(fault) => Err(fault),
+    }
+}
+
+// The run that is over, once each of its ends was compared with the core's.
+fn settled_run<D: Drop, C: Drop, I: Drop, K: Drop>(
+    intake: Intake<NoTicks>,
+    ended: Ended<D, C, I, K>,
+) -> Result<Run<D, C, I, K>, RunFault>
+    requires of_intake { ended.core_end.intake ≡ intake.id }
+    requires pairs { ArePaired ended.core_end (ended.ends.ends.items ++ ended.ends.control_end ∷ []) }
+    ensures fault { IsErrOf result RunFault.BadConfiguration → ⊥ }
+    ensures core { IfOk result (λ run. IsCoreStill ended.core_end run.core_end) }
+    ensures ends { IfOk result (λ run. AreStill (ended.ends.ends.items ++ ended.ends.control_end ∷ []) run.ends.items) }
+    ensures settled { IfOk result (λ run. AreSettled run.core_end run.ends.items) }
+    ensures intake { IfOk result (λ run. run.intake ≡ intake) }
+    ensures rest { IfOk result (λ run. (run.doors ≡ ended.ends.doors) × (run.clock ≡ ended.clock)
+        × (run.control ≡ ended.ends.control) × (run.core ≡ ended.core)) }
+{
     let Ended {
         ends,
         mut core_end,
@@ -114,7 +137,6 @@ pub fn run_sessions<
         return Err(RunFault::NoMemory);
     };
     settle(&intake, &mut core_end, ends.as_mut_slice());
-    steps_keep_settings();
     Ok(Run {
         doors,
         clock,

@@ -1,7 +1,7 @@
 use Rattle.std.proofs.Common.{◌≡◌, ◌-◌, ◌∙◌, vec_len, arith}
 use Rattle.bq_attend.specs.Tending.{IsNewDoor, door_seen}
 use Rattle.bq_ends.specs.Ends.{IsNewEnd}
-use Rattle.bq_start.proofs.ListLemmas.{all_pushed, all_taken, put_behind}
+use Rattle.bq_start.proofs.ListLemmas.{all_pushed, all_taken, popped_passes, put_behind}
 use Rattle.bq_run.proofs.sessions.new_posts.new_seats.Goals as goal
 
 pub loop-door-preserved : goal.loop-door-preserved
@@ -17,3 +17,15 @@ loop-door-preserved g c =
       whole = put_behind (λ p. p.end) c.loop-door.ends.items _ c.in-Some-pop.end c.loop-door.posts.items _ c.in_ok-post.post c.in-Some-pop.ensures.items c.in-Ok-push.ensures.items c.in_ok-post.ensures.end ∙ i.whole;
       doors = put_behind (λ p. p.door) c.loop-door.doors.items _ c.in-Some.door c.loop-door.posts.items _ c.in_ok-post.post c.in-Some.ensures.items c.in-Ok-push.ensures.items c.in_ok-post.ensures.door ∙ i.doors;
     }
+
+pub new-requires-clause-of_intake : goal.new-requires-clause-of_intake
+new-requires-clause-of_intake g c κs within =
+    popped_passes c.loop-door.ends.items _ c.in-Some-pop.end (λ e. e.intake ≡ c.args.intake.now.id) c.in-Some-pop.ensures.items c.loop-door.invariant.of_intake
+
+pub new-requires-clause-new_end : goal.new-requires-clause-new_end
+new-requires-clause-new_end g c κs within = popped_passes c.loop-door.ends.items _ c.in-Some-pop.end (λ e. IsNewEnd e) c.in-Some-pop.ensures.items c.loop-door.invariant.new_ends
+
+pub new-requires-clause-new : goal.new-requires-clause-new
+new-requires-clause-new g c κs within =
+    let at = door_seen g.D.Door.is_out g.D.Door.is_at_end g.D.Door.lines_over in
+    popped_passes c.loop-door.doors.items _ c.in-Some.door (λ d. IsNewDoor (at d)) c.in-Some.ensures.items c.loop-door.invariant.new
