@@ -4,7 +4,6 @@ use bq_job::{Refusal, Request};
 use bq_seat::SeatMachine;
 use bq_wire::RequestReader;
 use std::alloc::{AllocError, Global};
-use std::process::Abort;
 use std::test::Fail;
 
 // A put of so many letters x, with its end.
@@ -40,18 +39,20 @@ fn is_put_of(request: &Option<Request>, size: usize) -> bool {
     }
 }
 
-// A body of so many bytes comes out whole, and one of a byte more is refused.
-fn expect_limit(rt: &impl Abort, alloc: Global, limit: u32) -> Result<(), Fail> {
-    let size = limit as usize;
-    let largest = only_request(alloc, limit, put_text(alloc, size)?.as_slice())?;
-    assert!(rt; is_put_of(&largest, size));
-    let larger = only_request(
-        alloc,
-        limit,
-        put_text(alloc, size.saturating_add(1))?.as_slice(),
-    )?;
-    assert!(rt; matches!(larger, Some(Request::Refused(Refusal::JobTooBig))));
-    Ok(())
+// A body of so many bytes comes out whole.
+fn is_whole(alloc: Global, limit: u32, size: usize) -> Result<bool, Fail> {
+    let text = put_text(alloc, size)?;
+    Ok(is_put_of(&only_request(alloc, limit, text.as_slice())?, size))
+}
+
+fn is_too_big(request: &Option<Request>) -> bool {
+    matches!(request, Some(Request::Refused(Refusal::JobTooBig)))
+}
+
+// One of a byte more is refused.
+fn is_refused(alloc: Global, limit: u32, size: usize) -> Result<bool, Fail> {
+    let text = put_text(alloc, size.saturating_add(1))?;
+    Ok(is_too_big(&only_request(alloc, limit, text.as_slice())?))
 }
 
 // The least, usual and largest sizes that can be chosen, and some between them.
@@ -63,10 +64,11 @@ const LIMITS: &[u32] = &[
 #[test]
 fn readers_of_all_sizes(rt: HostRuntime) -> Result<(), Fail> {
     for limit in LIMITS {
-        expect_limit(&rt, rt.alloc(), *limit)?;
+        let size = *limit as usize;
+        assert!(rt; is_whole(rt.alloc(), *limit, size)?);
+        assert!(rt; is_refused(rt.alloc(), *limit, size)?);
     }
-    let empty = only_request(rt.alloc(), 1, put_text(rt.alloc(), 0)?.as_slice())?;
-    assert!(rt; is_put_of(&empty, 0));
+    assert!(rt; is_whole(rt.alloc(), 1, 0)?);
     Ok(())
 }
 

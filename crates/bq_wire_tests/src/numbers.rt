@@ -14,9 +14,9 @@ const REFUSALS: &[(Refusal, u16)] = &[
 fn numbers_of_refusals(rt: HostRuntime) {
     for (refusal, code) in REFUSALS {
         let refusal = *refusal;
-        assert_eq!(rt; refusal.code(), *code);
+        assert!(rt; refusal.code() == *code);
     }
-    assert_eq!(rt; NoMemory.code(), 301);
+    assert!(rt; NoMemory.code() == 301);
 }
 
 #[test]

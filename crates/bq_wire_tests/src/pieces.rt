@@ -4,12 +4,13 @@ use crate::noted::noted;
 use bq_wire::requests_of;
 use std::alloc::{AllocError, Global};
 
-/// Puts the bytes of a text at the end: `~` is CR LF, and `^` is CR.
+/// Puts the bytes of a text at the end: `~` is CR LF, `^` is CR, and `%` is LF.
 pub fn push_text(bytes: &mut Vec<u8>, text: &str) -> Result<(), AllocError> {
     for byte in text.as_bytes() {
         match *byte {
             b'~' => bytes.extend_from_slice(b"\r\n")?,
             b'^' => bytes.push(b'\r')?,
+            b'%' => bytes.push(b'\n')?,
             other => bytes.push(other)?,
         }
     }

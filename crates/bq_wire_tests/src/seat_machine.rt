@@ -1,63 +1,45 @@
 //! What the machine does with whole lines, event by event. Between any two of them it is given every event
 //! that doesn't answer its last action: each is stray, and what follows is the same.
 
+ghost use Rattle.std.specs.Prelude.{IfSome};
 ghost use Rattle.bq_seat.specs.SeatMoves.{FitsPiece};
 
+use crate::pieces::push_text;
 use bq_job::{Answer, LineEnd, Request, Step};
 use bq_seat::{Action, Event, PIECE_ROOM, SeatMachine};
 use std::alloc::Global;
 use std::process::Abort;
 use std::test::Fail;
 
-// An event of a session.
-#[derive(Clone, Copy, PartialEq, Eq)]
-enum Cue {
-    Opened,
-    Submitted,
-    Bytes(&'static str),
-    NothingYet,
-    EndOfInput,
-    ReadFault,
-    NotFound,
-    Closed,
-    WriteDone,
-    WriteFault,
-}
+// All events, as the tables write them. Where bytes come, they stand behind the word, and `~` in them is CR LF, `^` CR
+// and `%` LF.
+const ALL_EVENTS: &str = "opened\n\
+    submitted\n\
+    bytes delete 1~\n\
+    nothing yet\n\
+    end of input\n\
+    read fault\n\
+    not found\n\
+    closed\n\
+    write done\n\
+    write fault";
 
-const ALL_CUES: &[Cue] = &[
-    Cue::Opened,
-    Cue::Submitted,
-    Cue::Bytes("delete 1\r\n"),
-    Cue::NothingYet,
-    Cue::EndOfInput,
-    Cue::ReadFault,
-    Cue::NotFound,
-    Cue::Closed,
-    Cue::WriteDone,
-    Cue::WriteFault,
-];
-
-fn event_of(cue: Cue) -> Event<'static>
-    ensures { FitsPiece result }
+// The event of a row, of which the bytes lie here.
+fn event_of<'b>(event: &str, bytes: &'b [u8]) -> Option<Event<'b>>
+    ensures { IfSome result (λ event. FitsPiece event) }
 {
-    match cue {
-        Cue::Opened => Event::Opened,
-        Cue::Submitted => Event::Submitted,
-        Cue::Bytes(text) => {
-            let bytes = text.as_bytes();
-            if bytes.len() <= PIECE_ROOM {
-                Event::Bytes(bytes)
-            } else {
-                Event::NothingYet
-            }
-        }
-        Cue::NothingYet => Event::NothingYet,
-        Cue::EndOfInput => Event::EndOfInput,
-        Cue::ReadFault => Event::ReadFault,
-        Cue::NotFound => Event::Mail(Answer::NotFound),
-        Cue::Closed => Event::Mail(Answer::Closed),
-        Cue::WriteDone => Event::WriteDone,
-        Cue::WriteFault => Event::WriteFault,
+    match event {
+        "opened" => Some(Event::Opened),
+        "submitted" => Some(Event::Submitted),
+        "nothing yet" => Some(Event::NothingYet),
+        "end of input" => Some(Event::EndOfInput),
+        "read fault" => Some(Event::ReadFault),
+        "not found" => Some(Event::Mail(Answer::NotFound)),
+        "closed" => Some(Event::Mail(Answer::Closed)),
+        "write done" => Some(Event::WriteDone),
+        "write fault" => Some(Event::WriteFault),
+        _ if bytes.len() <= PIECE_ROOM && !bytes.is_empty() => Some(Event::Bytes(bytes)),
+        _ => None,
     }
 }
 
@@ -86,137 +68,138 @@ fn name_of(action: &Action) -> &'static str {
 }
 
 // Whether the event answers an action of this name.
-fn answers(cue: Cue, last: &str) -> bool {
+fn answers(event: &str, last: &str) -> bool {
     match last {
-        "read" => matches!(
-            cue,
-            Cue::Bytes(_) | Cue::NothingYet | Cue::EndOfInput | Cue::ReadFault
-        ),
-        "poll" => matches!(cue, Cue::NothingYet | Cue::NotFound | Cue::Closed),
-        "write" => matches!(cue, Cue::WriteDone | Cue::WriteFault),
-        over if over.starts_with("over") => cue == Cue::Opened,
-        _ => cue == Cue::Submitted,
+        "read" => {
+            event.starts_with("bytes ")
+                || matches!(event, "nothing yet" | "end of input" | "read fault")
+        }
+        "poll" => matches!(event, "nothing yet" | "not found" | "closed"),
+        "write" => matches!(event, "write done" | "write fault"),
+        over if over.starts_with("over") => event == "opened",
+        _ => event == "submitted",
     }
 }
 
 // The name of the action that answers an event.
-fn told(alloc: Global, machine: &mut SeatMachine, cue: Cue) -> &'static str {
-    name_of(&machine.on(alloc, event_of(cue)))
+fn told(alloc: Global, machine: &mut SeatMachine, event: &str) -> Result<&'static str, Fail> {
+    let mut bytes = Vec::new(alloc);
+    push_text(&mut bytes, event.strip_prefix("bytes ").unwrap_or(""))?;
+    let Some(event) = event_of(event, bytes.as_slice()) else {
+        return Err(Fail::from("no event"));
+    };
+    Ok(name_of(&machine.on(alloc, event)))
 }
 
 // Tells the machine each event that doesn't answer an action of this name.
-fn stray(rt: &impl Abort, alloc: Global, machine: &mut SeatMachine, last: &str) {
-    for cue in ALL_CUES {
-        if !answers(*cue, last) {
-            assert_eq!(rt; told(alloc, machine, *cue), "stray");
-        }
-    }
-}
-
-// Lines, one behind another: each event, and the action that answers it.
-fn play(
+fn stray(
     rt: &impl Abort,
     alloc: Global,
-    session: &[(Cue, &'static str)],
-    strays: bool,
+    machine: &mut SeatMachine,
+    last: &str,
 ) -> Result<(), Fail> {
+    for event in ALL_EVENTS.split('\n') {
+        if !answers(event, last) {
+            assert!(rt; told(alloc, machine, event)? == "stray");
+        }
+    }
+    Ok(())
+}
+
+// Lines, one behind another: in each row an event, and the action that answers it.
+fn play(rt: &impl Abort, alloc: Global, session: &str, strays: bool) -> Result<(), Fail> {
     let mut machine = SeatMachine::new(alloc, 65535)?;
     let mut last = "over";
-    for (cue, want) in session {
+    for row in session.split('\n') {
+        let (event, wanted) = row.split_once('|').ok_or("no row")?;
         if strays {
-            stray(rt, alloc, &mut machine, last);
+            stray(rt, alloc, &mut machine, last)?;
         }
-        last = told(alloc, &mut machine, *cue);
-        assert_eq!(rt; last, *want);
+        last = told(alloc, &mut machine, event)?;
+        assert!(rt; last == wanted);
     }
     Ok(())
 }
 
 // A line with commands behind a wait, and then one that comes in pieces and quits inside a body first.
-const WAITS: &[(Cue, &str)] = &[
-    (Cue::Opened, "connect"),
-    (Cue::Submitted, "read"),
-    (Cue::NothingYet, "read"),
-    (Cue::Bytes("put 0 0 1 1\r"), "read"),
-    (Cue::Bytes("\na\r\nreserve\r\n"), "put"),
-    (Cue::Submitted, "poll"),
-    (Cue::NothingYet, "poll"),
-    (Cue::NotFound, "write"),
-    (Cue::WriteDone, "reserve"),
-    (Cue::Submitted, "poll"),
-    (Cue::NothingYet, "read"),
-    (Cue::NothingYet, "poll"),
-    (Cue::NothingYet, "read"),
-    (Cue::Bytes("delete 1\r\nquit\r\nreserve\r\n"), "poll"),
-    (Cue::NothingYet, "poll"),
-    (Cue::NotFound, "write"),
-    (Cue::WriteDone, "delete"),
-    (Cue::Submitted, "poll"),
-    (Cue::NotFound, "write"),
-    (Cue::WriteDone, "quit"),
-    (Cue::Submitted, "close"),
-    (Cue::Submitted, "poll"),
-    (Cue::NothingYet, "poll"),
-    (Cue::NotFound, "poll"),
-    (Cue::Closed, "over by quit"),
-    (Cue::Opened, "connect"),
-    (Cue::Submitted, "read"),
-    (Cue::Bytes("put 0 0 9 6\r\nquit\r\n"), "read"),
-    (Cue::Bytes("\r\nquit\r\n"), "put"),
-    (Cue::Submitted, "poll"),
-    (Cue::NotFound, "write"),
-    (Cue::WriteDone, "quit"),
-    (Cue::Submitted, "close"),
-];
+const WAITS: &str = "opened|connect\n\
+    submitted|read\n\
+    nothing yet|read\n\
+    bytes put 0 0 1 1^|read\n\
+    bytes %a~reserve~|put\n\
+    submitted|poll\n\
+    nothing yet|poll\n\
+    not found|write\n\
+    write done|reserve\n\
+    submitted|poll\n\
+    nothing yet|read\n\
+    nothing yet|poll\n\
+    nothing yet|read\n\
+    bytes delete 1~quit~reserve~|poll\n\
+    nothing yet|poll\n\
+    not found|write\n\
+    write done|delete\n\
+    submitted|poll\n\
+    not found|write\n\
+    write done|quit\n\
+    submitted|close\n\
+    submitted|poll\n\
+    nothing yet|poll\n\
+    not found|poll\n\
+    closed|over by quit\n\
+    opened|connect\n\
+    submitted|read\n\
+    bytes put 0 0 9 6~quit~|read\n\
+    bytes ~quit~|put\n\
+    submitted|poll\n\
+    not found|write\n\
+    write done|quit\n\
+    submitted|close";
 
 // Ends of the input: behind a wait it is told, and the line is closed after the answer.
-const ENDS: &[(Cue, &str)] = &[
-    (Cue::Opened, "connect"),
-    (Cue::Submitted, "read"),
-    (Cue::Bytes("reserve\r\n"), "reserve"),
-    (Cue::Submitted, "poll"),
-    (Cue::NothingYet, "read"),
-    (Cue::EndOfInput, "end"),
-    (Cue::Submitted, "poll"),
-    (Cue::NothingYet, "poll"),
-    (Cue::NotFound, "write"),
-    (Cue::WriteDone, "close"),
-    (Cue::Submitted, "poll"),
-    (Cue::Closed, "over by end of input"),
-    (Cue::Opened, "connect"),
-    (Cue::Submitted, "read"),
-    (Cue::EndOfInput, "close"),
-    (Cue::Submitted, "poll"),
-    (Cue::Closed, "over by end of input"),
-    (Cue::Opened, "connect"),
-];
+const ENDS: &str = "opened|connect\n\
+    submitted|read\n\
+    bytes reserve~|reserve\n\
+    submitted|poll\n\
+    nothing yet|read\n\
+    end of input|end\n\
+    submitted|poll\n\
+    nothing yet|poll\n\
+    not found|write\n\
+    write done|close\n\
+    submitted|poll\n\
+    closed|over by end of input\n\
+    opened|connect\n\
+    submitted|read\n\
+    end of input|close\n\
+    submitted|poll\n\
+    closed|over by end of input\n\
+    opened|connect";
 
 // Faults: a line is closed after one, and the next line begins anew.
-const FAULTS: &[(Cue, &str)] = &[
-    (Cue::Opened, "connect"),
-    (Cue::Submitted, "read"),
-    (Cue::Bytes("reserve\r\n"), "reserve"),
-    (Cue::Submitted, "poll"),
-    (Cue::NothingYet, "read"),
-    (Cue::ReadFault, "close"),
-    (Cue::Submitted, "poll"),
-    (Cue::NotFound, "poll"),
-    (Cue::Closed, "over by read fault"),
-    (Cue::Opened, "connect"),
-    (Cue::Submitted, "read"),
-    (Cue::Bytes("delete 7\r\ndelete 8\r\n"), "delete"),
-    (Cue::Submitted, "poll"),
-    (Cue::NotFound, "write"),
-    (Cue::WriteFault, "close"),
-    (Cue::Submitted, "poll"),
-    (Cue::NothingYet, "poll"),
-    (Cue::Closed, "over by write fault"),
-    (Cue::Opened, "connect"),
-    (Cue::Submitted, "read"),
-    (Cue::Bytes("PUT\r\n"), "refused"),
-    (Cue::Submitted, "poll"),
-    (Cue::NothingYet, "poll"),
-];
+const FAULTS: &str = "opened|connect\n\
+    submitted|read\n\
+    bytes reserve~|reserve\n\
+    submitted|poll\n\
+    nothing yet|read\n\
+    read fault|close\n\
+    submitted|poll\n\
+    not found|poll\n\
+    closed|over by read fault\n\
+    opened|connect\n\
+    submitted|read\n\
+    bytes delete 7~delete 8~|delete\n\
+    submitted|poll\n\
+    not found|write\n\
+    write fault|close\n\
+    submitted|poll\n\
+    nothing yet|poll\n\
+    closed|over by write fault\n\
+    opened|connect\n\
+    submitted|read\n\
+    bytes PUT~|refused\n\
+    submitted|poll\n\
+    nothing yet|poll";
 
 fn play_all(rt: &impl Abort, alloc: Global, strays: bool) -> Result<(), Fail> {
     play(rt, alloc, WAITS, strays)?;
