@@ -97,22 +97,8 @@ fn a_seat_is_woken(rt: HostRuntime) -> Result<(), Fail> {
         { send_late(&rt, shared, core) },
         move || wait_for_mail(&rt, shared, first),
     );
-    assert_eq!(rt; (sent, got), (true, true));
+    assert!(rt; sent && got);
     assert!(rt; was_woken(&rt, start));
-    Ok(())
-}
-
-#[test]
-fn a_wake_up_before_the_wait_is_kept(rt: HostRuntime) -> Result<(), Fail> {
-    let (intake, mut core, mut first, mut second) = last_ends(rt.alloc(), 1)?;
-    let start = Instant::now(&rt)?;
-    assert!(rt; second.submit(&rt, &intake, Step::Tick).is_ok());
-    core.wait(&rt, &intake, long());
-    intake.wake(0);
-    first.wait(&rt, &intake, long());
-    intake.wake(7);
-    assert!(rt; was_woken(&rt, start));
-    second.wait(&rt, &intake, Duration::from_millis(10));
     Ok(())
 }
 
@@ -154,6 +140,8 @@ fn each_end_hears_its_bell(rt: HostRuntime) -> Result<(), Fail> {
     hears_its_bell(&rt, &intake, &mut b);
     hears_its_bell(&rt, &intake, &mut c);
     hears_its_bell(&rt, &intake, &mut d);
+    // There is no such seat.
+    intake.wake(7);
     assert!(rt; was_woken(&rt, start));
     Ok(())
 }

@@ -11,5 +11,3 @@ mod ends;
 mod in_order;
 #[cfg(test)]
 mod many_ends;
-#[cfg(test)]
-mod there_and_back;
