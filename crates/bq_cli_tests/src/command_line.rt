@@ -1,200 +1,186 @@
-//! Words of a command line and the options in them.
+//! Words of a command line, and what is chosen or answered by them.
 
-use bq_cli::{OptionFault, Program, options};
+use bq_cli::{OptionFault, Options, Program, options};
+use std::alloc::{AllocError, Global};
 use std::test::Fail;
 
-/// The words of `bq`, whether the clock stands still, and the size of bodies.
-type OfBq = (&'static [&'static str], bool, u32);
+// A row of a table has the words, and what comes of them behind a bar.
+fn row_of(row: &str) -> Result<(&str, &str), Fail> {
+    Ok(row.split_once('|').ok_or("no row")?)
+}
 
-const OF_BQ: &[OfBq] = &[
-    (&["bq"], false, 65_535),
-    (&["bq", "--still"], true, 65_535),
-    (&["bq", "--max-job-size", "1"], false, 1),
-    (&["bq", "--max-job-size", "65536"], false, 65_536),
-    (
-        &["bq", "--still", "--max-job-size=1048576"],
-        true,
-        1_048_576,
-    ),
-];
+fn words_of(alloc: Global, line: &str) -> Result<Vec<&str>, AllocError> {
+    let mut words: Vec<&str> = Vec::new(alloc);
+    for word in line.split(' ') {
+        words.push(word)?;
+    }
+    Ok(words)
+}
 
-#[test]
-fn options_of_bq(rt: HostRuntime) -> Result<(), Fail> {
-    for (words, still, max_job_size) in OF_BQ {
-        match options(rt.alloc(), Program::Bq, *words) {
-            Ok(bq) => {
-                assert!(rt; bq.still == *still && bq.max_job_size == *max_job_size);
-                assert!(rt; bq.seats == 1 && bq.listen.is_none() && bq.sessions.is_none());
-            }
-            Err(_) => return Err(Fail::from("no options of bq")),
+// What the program that is named first answers to the words.
+fn chosen(alloc: Global, line: &str) -> Result<Result<Options, OptionFault>, AllocError> {
+    let words = words_of(alloc, line)?;
+    let program = if line.starts_with("bqd") {
+        Program::Bqd
+    } else {
+        Program::Bq
+    };
+    Ok(options(alloc, program, words.as_slice()))
+}
+
+// Words that choose something: the address, the seats, the size of bodies, the limit on jobs, the delay of a lost
+// connection's jobs, the connections of each seat, and whether the clock stands still. `-V` is there for beanstalkd's
+// users, and changes nothing.
+const CHOSEN: &str = "bq|- 1 65535 - 0 - -\n\
+    bq --still|- 1 65535 - 0 - still\n\
+    bq --max-job-size 1|- 1 1 - 0 - -\n\
+    bq --max-job-size 65536|- 1 65536 - 0 - -\n\
+    bq --still --max-job-size=1048576|- 1 1048576 - 0 - still\n\
+    bqd --listen 127.0.0.1:11300|127.0.0.1:11300 16 65535 - 0 - -\n\
+    bqd --listen=[::1]:11300 --seats 1|[::1]:11300 1 65535 - 0 - -\n\
+    bqd --listen a --seats 2 --sessions 1|a 2 65535 - 0 1 -\n\
+    bqd --listen a --max-job-size 1|a 16 1 - 0 - -\n\
+    bqd --listen a --seats 256|a 256 65535 - 0 - -\n\
+    bqd --listen a --sessions 4294967295|a 16 65535 - 0 4294967295 -\n\
+    bqd -l 127.0.0.1 -p 11300 -z 1048576|127.0.0.1:11300 16 1048576 - 0 - -\n\
+    bqd -p 0 -l ::1|[::1]:0 16 65535 - 0 - -\n\
+    bqd -l [::1] --port 65535 -z65536|[::1]:65535 16 65536 - 0 - -\n\
+    bq --max-jobs 1|- 1 65535 1 0 - -\n\
+    bqd --listen a|a 16 65535 - 0 - -\n\
+    bqd --listen a --max-jobs 4294967295|a 16 65535 4294967295 0 - -\n\
+    bqd --listen a --requeue-delay 5|a 16 65535 - 5 - -\n\
+    bqd --listen a --requeue-delay=4294967295|a 16 65535 - 4294967295 - -\n\
+    bqd -V -l a|a 16 65535 - 0 - -\n\
+    bqd -l a -VVV|a 16 65535 - 0 - -\n\
+    bqd -V -l a -V -z 65535 -V|a 16 65535 - 0 - -";
+
+fn number(word: Option<&str>) -> Option<u32> {
+    word?.parse::<u32>().ok()
+}
+
+fn address(word: Option<&str>) -> Option<&str> {
+    match word {
+        Some("-") => None,
+        other => other,
+    }
+}
+
+// Whether both are there with the same text, or neither is.
+fn are_same<'a, 'b>(one: Option<&'a str>, other: Option<&'b str>) -> bool {
+    match (one, other) {
+        (Some(one), Some(other)) => one.as_bytes() == other.as_bytes(),
+        (None, None) => true,
+        _ => false,
+    }
+}
+
+fn is_chosen(options: &Options, wanted: &str) -> bool {
+    let mut columns = wanted.split(' ');
+    let is_listen = are_same(options.listen.as_deref(), address(columns.next()));
+    let is_seats = Some(u32::from(options.seats)) == number(columns.next());
+    let is_size = Some(options.max_job_size) == number(columns.next());
+    let is_jobs = options.max_jobs == number(columns.next());
+    let is_delay = Some(options.requeue_delay) == number(columns.next());
+    let is_sessions = options.sessions == number(columns.next());
+    let is_still = options.still == are_same(columns.next(), Some("still"));
+    is_listen && is_seats && is_size && is_jobs && is_delay && is_sessions && is_still
+}
+
+/// Whether the words of each row choose what stands behind them.
+pub fn are_chosen(alloc: Global, rows: &str) -> Result<bool, Fail> {
+    for row in rows.split('\n') {
+        let (line, wanted) = row_of(row)?;
+        let Ok(options) = chosen(alloc, line)? else {
+            return Ok(false);
+        };
+        if !is_chosen(&options, wanted) {
+            return Ok(false);
         }
     }
+    Ok(true)
+}
+
+#[test]
+fn what_words_choose(rt: HostRuntime) -> Result<(), Fail> {
+    assert!(rt; are_chosen(rt.alloc(), CHOSEN)?);
     Ok(())
 }
 
-/// The words of `bqd`, and what they choose: the address, the seats, the size of bodies and the connections
-/// of each seat.
-type OfBqd = (&'static [&'static str], &'static str, u16, u32, Option<u32>);
+// Words that are refused, and a word that is told.
+const BAD: &str = "bq --max-job-size 0|\n\
+    bq --max-job-size 1048577|\n\
+    bq --max-job-size x|\n\
+    bq --still more|\n\
+    bq --listen a|\n\
+    bq -z 1|\n\
+    bq --max-jobs 0|\n\
+    bq --requeue-delay 1|\n\
+    bqd|\n\
+    bqd -p 11300|\n\
+    bqd --listen a --still|\n\
+    bqd --listen a --seats 0|\n\
+    bqd --listen a --seats 257|\n\
+    bqd --listen a --sessions 0|\n\
+    bqd --listen a -p 65536|\n\
+    bqd --listen a --sessions 4294967296|\n\
+    bqd --listen a --max-jobs 4294967296|\n\
+    bqd --listen a --requeue-delay 4294967296|\n\
+    bqd --listen|\n\
+    bq -V|'-V'";
 
-const OF_BQD: &[OfBqd] = &[
-    (
-        &["bqd", "--listen", "127.0.0.1:11300"],
-        "127.0.0.1:11300",
-        16,
-        65_535,
-        None,
-    ),
-    (
-        &["bqd", "--listen=[::1]:11300", "--seats", "1"],
-        "[::1]:11300",
-        1,
-        65_535,
-        None,
-    ),
-    (
-        &["bqd", "--listen", "a", "--seats", "2", "--sessions", "1"],
-        "a",
-        2,
-        65_535,
-        Some(1),
-    ),
-    (
-        &["bqd", "--listen", "a", "--max-job-size", "1"],
-        "a",
-        16,
-        1,
-        None,
-    ),
-    (
-        &["bqd", "--listen", "a", "--seats", "256"],
-        "a",
-        256,
-        65_535,
-        None,
-    ),
-    (
-        &["bqd", "--listen", "a", "--sessions", "4294967295"],
-        "a",
-        16,
-        65_535,
-        Some(4_294_967_295),
-    ),
-    (
-        &["bqd", "-l", "127.0.0.1", "-p", "11300", "-z", "1048576"],
-        "127.0.0.1:11300",
-        16,
-        1_048_576,
-        None,
-    ),
-    (
-        &["bqd", "-p", "0", "-l", "::1"],
-        "[::1]:0",
-        16,
-        65_535,
-        None,
-    ),
-    (
-        &["bqd", "-l", "[::1]", "--port", "65535", "-z65536"],
-        "[::1]:65535",
-        16,
-        65_536,
-        None,
-    ),
-];
-
-#[test]
-fn options_of_bqd(rt: HostRuntime) -> Result<(), Fail> {
-    for (words, listen, seats, max_job_size, sessions) in OF_BQD {
-        match options(rt.alloc(), Program::Bqd, *words) {
-            Ok(bqd) => {
-                assert!(rt; !bqd.still && bqd.listen.as_deref() == Some(*listen));
-                assert!(rt; bqd.seats == *seats && bqd.sessions == *sessions);
-                assert!(rt; bqd.max_job_size == *max_job_size);
-            }
-            Err(_) => return Err(Fail::from("no options of bqd")),
+/// Whether the words of each row are refused, and what stands behind them is told.
+pub fn are_refused(alloc: Global, rows: &str) -> Result<bool, Fail> {
+    for row in rows.split('\n') {
+        let (line, part) = row_of(row)?;
+        let Err(OptionFault::BadOptions(text)) = chosen(alloc, line)? else {
+            return Ok(false);
+        };
+        if text.is_empty() || !text.as_str().contains(part) {
+            return Ok(false);
         }
     }
-    Ok(())
+    Ok(true)
 }
-
-/// The words that choose a limit on jobs and the delay of a lost connection's jobs, and what they choose.
-type OfLimits = (Program, &'static [&'static str], Option<u32>, u32);
-
-const OF_LIMITS: &[OfLimits] = &[
-    (Program::Bq, &["bq"], None, 0),
-    (Program::Bq, &["bq", "--max-jobs", "1"], Some(1), 0),
-    (Program::Bqd, &["bqd", "--listen", "a"], None, 0),
-    (
-        Program::Bqd,
-        &["bqd", "--listen", "a", "--max-jobs", "4294967295"],
-        Some(4_294_967_295),
-        0,
-    ),
-    (
-        Program::Bqd,
-        &["bqd", "--listen", "a", "--requeue-delay", "5"],
-        None,
-        5,
-    ),
-    (
-        Program::Bqd,
-        &["bqd", "--listen", "a", "--requeue-delay=4294967295"],
-        None,
-        4_294_967_295,
-    ),
-];
-
-#[test]
-fn limits_that_are_chosen(rt: HostRuntime) -> Result<(), Fail> {
-    for (program, words, max_jobs, requeue_delay) in OF_LIMITS {
-        match options(rt.alloc(), *program, *words) {
-            Ok(chosen) => {
-                assert!(rt; chosen.max_jobs == *max_jobs && chosen.requeue_delay == *requeue_delay);
-            }
-            Err(_) => return Err(Fail::from("no limits")),
-        }
-    }
-    Ok(())
-}
-
-const BAD: &[(Program, &[&str])] = &[
-    (Program::Bq, &["bq", "--max-job-size", "0"]),
-    (Program::Bq, &["bq", "--max-job-size", "1048577"]),
-    (Program::Bq, &["bq", "--max-job-size", "x"]),
-    (Program::Bq, &["bq", "--still", "more"]),
-    (Program::Bq, &["bq", "--listen", "a"]),
-    (Program::Bq, &["bq", "-z", "1"]),
-    (Program::Bq, &["bq", "--max-jobs", "0"]),
-    (Program::Bq, &["bq", "--requeue-delay", "1"]),
-    (Program::Bqd, &["bqd"]),
-    (Program::Bqd, &["bqd", "-p", "11300"]),
-    (Program::Bqd, &["bqd", "--listen", "a", "--still"]),
-    (Program::Bqd, &["bqd", "--listen", "a", "--seats", "0"]),
-    (Program::Bqd, &["bqd", "--listen", "a", "--seats", "257"]),
-    (Program::Bqd, &["bqd", "--listen", "a", "--sessions", "0"]),
-    (Program::Bqd, &["bqd", "--listen", "a", "-p", "65536"]),
-    (
-        Program::Bqd,
-        &["bqd", "--listen", "a", "--sessions", "4294967296"],
-    ),
-    (
-        Program::Bqd,
-        &["bqd", "--listen", "a", "--max-jobs", "4294967296"],
-    ),
-    (
-        Program::Bqd,
-        &["bqd", "--listen", "a", "--requeue-delay", "4294967296"],
-    ),
-    (Program::Bqd, &["bqd", "--listen"]),
-];
 
 #[test]
 fn bad_options(rt: HostRuntime) -> Result<(), Fail> {
-    for (program, words) in BAD {
-        match options(rt.alloc(), *program, *words) {
-            Err(OptionFault::BadOptions(text)) => assert!(rt; !text.is_empty()),
-            _ => return Err(Fail::from("no bad options")),
+    assert!(rt; are_refused(rt.alloc(), BAD)?);
+    Ok(())
+}
+
+const VERSIONS: &str = "bq --version|bq 0.1.0\n\
+    bq -v|bq 0.1.0\n\
+    bqd --version|bqd 0.1.0\n\
+    bqd -v|bqd 0.1.0\n\
+    bqd -Vv|bqd 0.1.0";
+
+// What asks for help, and a word that stands there.
+const HELP: &str = "bq -h|--still\n\
+    bq --help|--max-job-size <BYTES>\n\
+    bqd -h|--requeue-delay <SECONDS>\n\
+    bqd --help|-z, --max-job-size <BYTES>\n\
+    bqd -h|-V\n\
+    bqd -h|-v, --version";
+
+// Whether each line asks for a text that is the wanted one with the end of a line, or that has the wanted part.
+fn are_told(alloc: Global, rows: &str, whole: bool) -> Result<bool, Fail> {
+    for row in rows.split('\n') {
+        let (line, wanted) = row_of(row)?;
+        let Err(OptionFault::AskedHelp(text)) = chosen(alloc, line)? else {
+            return Ok(false);
+        };
+        if whole && text.as_str().strip_suffix('\n') != Some(wanted)
+            || !text.as_str().contains(wanted)
+        {
+            return Ok(false);
         }
     }
+    Ok(true)
+}
+
+#[test]
+fn versions_and_help(rt: HostRuntime) -> Result<(), Fail> {
+    assert!(rt; are_told(rt.alloc(), VERSIONS, true)?);
+    assert!(rt; are_told(rt.alloc(), HELP, false)?);
     Ok(())
 }

@@ -75,7 +75,7 @@ struct Example {
     arrives: &'static str,
 }
 
-static EXAMPLES: [Example; 7] = [
+static EXAMPLES: &[Example] = &[
     Example {
         words: &[],
         sends: "put 5 0 10 3\r\nabc\r\nquit\r\n",
@@ -102,11 +102,13 @@ static EXAMPLES: [Example; 7] = [
     },
     Example {
         words: &["--still", "--max-jobs", "1"],
-        sends: "put 0 0 9 1\r\nx\r\nput 0 0 9 1\r\ny\r\nreserve\r\nput 0 0 9 1\r\nz\r\ndelete 1\r\nput 0 0 9 1\r\nw\r\n",
+        sends: "put 0 0 9 1\r\nx\r\nput 0 0 9 1\r\ny\r\nreserve\r\nput 0 0 9 1\r\nz\r\n\
+            delete 1\r\nput 0 0 9 1\r\nw\r\n",
         behind: Behind::SendsNoMore,
         room: 100,
         end: LineEnd::EndOfInput,
-        arrives: "INSERTED 1\r\nOUT_OF_MEMORY\r\nRESERVED 1 1\r\nx\r\nOUT_OF_MEMORY\r\nDELETED\r\nINSERTED 2\r\n",
+        arrives: "INSERTED 1\r\nOUT_OF_MEMORY\r\nRESERVED 1 1\r\nx\r\nOUT_OF_MEMORY\r\nDELETED\r\n\
+            INSERTED 2\r\n",
     },
     Example {
         words: &[],
@@ -180,7 +182,7 @@ fn is_met<R: Wait + Clock>(rt: &R, alloc: Global, words: &[String], example: &Ex
 #[test]
 fn sessions_of_words(rt: HostRuntime) -> Result<(), Fail> {
     let alloc = rt.alloc();
-    for example in &EXAMPLES {
+    for example in EXAMPLES {
         let words = words_of(alloc, example.words)?;
         assert!(rt; is_met(&rt, alloc, words.as_slice(), example));
     }

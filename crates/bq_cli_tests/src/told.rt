@@ -1,7 +1,7 @@
-//! What the server tells on its streams: where it listens, before it serves anybody, and its faults. What it
-//! answers over TCP, the programs' runs and the model show.
+//! What the programs tell on standard error where no run can have them tell it: seats that are taken once more after
+//! a minute, and each fault.
 
-use bq_cli::{Fault, Need, Options, Program, serve, tell_cannot_listen, tell_fault};
+use bq_cli::{Fault, Need, Options, Program, serve, tell_fault};
 use std::alloc::Global;
 use std::fmt::Display;
 use std::io::{Eprint, ErrorKind, Print, Read, Write};
@@ -15,7 +15,7 @@ use std::thread::Threads;
 use std::time::Duration;
 use std::{io, thread};
 
-/// How long a client waits at most for bytes or until it is told, in milliseconds.
+/// How long a client waits at most for bytes, in milliseconds.
 const PATIENCE: u64 = 10_000;
 
 /// A host whose standard output and standard error are kept.
@@ -25,8 +25,6 @@ struct Heard<R> {
     alloc: Global,
     output: Mutex<Vec<u8>>,
     errors: Mutex<Vec<u8>>,
-    /// 1 once something was told on standard output.
-    told: AtomicU64,
     /// How many seconds its clock is ahead.
     ahead: AtomicU64,
 }
@@ -38,7 +36,6 @@ impl<R: Wait> Heard<R> {
             alloc,
             output: Mutex::new(Vec::new(alloc)),
             errors: Mutex::new(Vec::new(alloc)),
-            told: AtomicU64::new(0),
             ahead: AtomicU64::new(0),
         }
     }
@@ -84,21 +81,15 @@ impl<R: Clock> Clock for Heard<R> {
 
 impl<R: Wait> Print for Heard<R> {
     fn print<D: Display + Drop>(&self, value: D) -> io::Result<()> {
-        self.keep_text(&self.output, value, "")?;
-        tells(&self.told, 1);
-        Ok(())
+        self.keep_text(&self.output, value, "")
     }
 
     fn println<D: Display + Drop>(&self, value: D) -> io::Result<()> {
-        self.keep_text(&self.output, value, "\n")?;
-        tells(&self.told, 1);
-        Ok(())
+        self.keep_text(&self.output, value, "\n")
     }
 
     fn write_all(&self, bytes: &[u8]) -> io::Result<()> {
-        self.keep(&self.output, bytes)?;
-        tells(&self.told, 1);
-        Ok(())
+        self.keep(&self.output, bytes)
     }
 }
 
@@ -110,20 +101,6 @@ impl<R: Wait> Eprint for Heard<R> {
     fn eprintln<D: Display + Drop>(&self, value: D) -> io::Result<()> {
         self.keep_text(&self.errors, value, "\n")
     }
-}
-
-fn tells(told: &AtomicU64, much: u64) {
-    told.store(much, Ordering::SeqCst);
-}
-
-fn is_told<R: Clock>(rt: &R, told: &AtomicU64) -> bool {
-    for _ in 0..PATIENCE {
-        if told.load(Ordering::SeqCst) == 1 {
-            return true;
-        }
-        thread::sleep(rt, Duration::from_millis(1));
-    }
-    false
 }
 
 // Whether a client that quits is served. Its connection is closed at the end.
@@ -138,17 +115,6 @@ fn is_served<R: Net<Stream = TcpStream>>(rt: &R, address: SocketAddr) -> bool {
         && matches!(stream.read(&mut room), Ok(0))
 }
 
-// Whether the server had told where it listens before a client came. The client comes in any case, or the
-// server would wait for it.
-fn comes_when_told<R: Clock + Net<Stream = TcpStream>>(
-    rt: &R,
-    address: SocketAddr,
-    told: &AtomicU64,
-) -> bool {
-    let is_told = is_told(rt, told);
-    is_served(rt, address) && is_told
-}
-
 fn options(sessions: u32) -> Options {
     Options {
         listen: None,
@@ -161,45 +127,6 @@ fn options(sessions: u32) -> Options {
     }
 }
 
-// The status of a server that one client comes to, and whether that one found it told.
-fn serve_told<R: Threads + Wait + Clock + Net<Listener = TcpListener, Stream = TcpStream> + Sync>(
-    heard: &Heard<R>,
-    alloc: Global,
-    listener: TcpListener,
-    address: SocketAddr,
-) -> Option<(u8, bool)> {
-    let (host, told) = (&heard.host, &heard.told);
-    let is_content = &AtomicU64::new(0);
-    let options = options(1);
-    let status = thread::scope(thread::scope_env(), host, |scope| {
-        let spawned = scope.spawn(move || if comes_when_told(host, address, told) {
-            tells(is_content, 1);
-        });
-        if spawned.is_err() {
-            return None;
-        }
-        let control: &'static [u8] = b"";
-        Some(serve(heard, alloc, &options, listener, control))
-    });
-    Some((status?, is_content.load(Ordering::SeqCst) == 1))
-}
-
-#[test]
-fn address_is_told_first(rt: HostRuntime) -> Result<(), Fail> {
-    let alloc = rt.alloc();
-    let listener = TcpListener::bind(&rt, "127.0.0.1:0")?;
-    let address = listener.local_addr()?;
-    let heard = Heard::new(rt, alloc);
-    let served = serve_told(&heard, alloc, listener, address);
-    assert!(rt; served == Some((0, true)));
-    let text = format!(in alloc; "listening {address}\n")?;
-    assert!(rt; heard.has(&heard.output, text.as_str()));
-    // Its client took the one seat.
-    let text = "bqd: all seats are taken: further connections wait\n";
-    assert!(rt; heard.has(&heard.errors, text));
-    Ok(())
-}
-
 // Three clients, one after another. Before the third one the seat is free for a minute by the server's clock.
 fn comes_a_minute_later<R: Clock + Net<Stream = TcpStream>>(
     rt: &R,
@@ -207,7 +134,7 @@ fn comes_a_minute_later<R: Clock + Net<Stream = TcpStream>>(
     ahead: &AtomicU64,
 ) -> bool {
     let are_served = is_served(rt, address) && is_served(rt, address);
-    tells(ahead, 60);
+    ahead.store(60, Ordering::SeqCst);
     is_served(rt, address) && are_served
 }
 
@@ -223,7 +150,7 @@ fn serve_later<R: Threads + Wait + Clock + Net<Listener = TcpListener, Stream = 
     let options = options(3);
     let status = thread::scope(thread::scope_env(), host, |scope| {
         let spawned = scope.spawn(move || if comes_a_minute_later(host, address, ahead) {
-            tells(are_content, 1);
+            are_content.store(1, Ordering::SeqCst);
         });
         if spawned.is_err() {
             return None;
@@ -242,9 +169,9 @@ fn seats_are_told_again_after_a_minute(rt: HostRuntime) -> Result<(), Fail> {
     let heard = Heard::new(rt, alloc);
     let served = serve_later(&heard, alloc, listener, address);
     assert!(rt; served == Some((0, true)));
-    let line = "bqd: all seats are taken: further connections wait\n";
-    let text = format!(in alloc; "{line}{line}")?;
-    assert!(rt; heard.has(&heard.errors, text.as_str()));
+    let twice = "bqd: all seats are taken: further connections wait\n\
+        bqd: all seats are taken: further connections wait\n";
+    assert!(rt; heard.has(&heard.errors, twice));
     Ok(())
 }
 
@@ -303,24 +230,5 @@ fn faults_are_told(rt: HostRuntime) -> Result<(), Fail> {
         assert!(rt; heard.has(&heard.errors, text));
         assert!(rt; heard.has(&heard.output, ""));
     }
-    Ok(())
-}
-
-// The address and the words of the system follow.
-#[test]
-fn address_that_cannot_be_had(rt: HostRuntime) -> Result<(), Fail> {
-    let alloc = rt.alloc();
-    let taken = TcpListener::bind(&rt, "127.0.0.1:0")?;
-    let address = format!(in alloc; "{}", taken.local_addr()?)?;
-    let Err(error) = TcpListener::bind(&rt, address.as_str()) else {
-        return Err(Fail::from("bound twice"));
-    };
-    let heard = Heard::new(rt, alloc);
-    let status = tell_cannot_listen(&heard, Program::Bqd, address.as_str(), &error);
-    assert!(rt; status == 1);
-    // What Linux calls its error 98.
-    let wanted = "Address already in use (os error 98)";
-    let text = format!(in alloc; "bqd: cannot listen: {address}: {wanted}\n")?;
-    assert!(rt; heard.has(&heard.errors, text.as_str()));
     Ok(())
 }
