@@ -3,7 +3,7 @@
 use bq_job::{LineEnd, Moment, NoMemory};
 use bq_serve::clock::ScriptClock;
 use bq_serve::line::Part;
-use std::alloc::Global;
+use std::alloc::{AllocError, Global};
 
 /// Room for what is written to a client, where it is ample.
 pub const ROOM: usize = 1000;
@@ -11,18 +11,9 @@ pub const ROOM: usize = 1000;
 /// A clock that stands still.
 pub const STILL: &[Option<Moment>] = &[Some(0)];
 
-/// A part of what a client does.
-#[derive(Clone, Copy)]
-pub enum Does<'t> {
-    Sends(&'t str),
-    /// It waits until so many bytes were written to it.
-    Awaits(usize),
-    /// Its line fails.
-    Fails,
-}
-
-/// What a client does, and the room for what is written to it.
-pub type Client<'t> = (&'t [Does<'t>], usize);
+/// What a client does, and the room for what is written to it. Between ` + ` stands a part: bytes, in which `~` is CR LF;
+/// `after`, with how many bytes it waits for that are written to it; or `fails`, where its line does.
+pub type Client<'t> = (&'t str, usize);
 
 /// What was written to a client, and how its line was over.
 pub type Outcome<'t> = (&'t str, LineEnd);
@@ -32,9 +23,9 @@ pub const RESERVED: &str = "RESERVED 1 3\r\nabc\r\n";
 pub const INSERTED: &str = "INSERTED 1\r\n";
 
 /// It reserves, and stays until it has the job.
-pub const WAITS: &[Does] = &[Does::Sends("reserve\r\n"), Does::Awaits(19)];
+pub const WAITS: &str = "reserve~ + after 19";
 
-pub const PUTS: &[Does] = &[Does::Sends("put 5 0 10 3\r\nabc\r\n")];
+pub const PUTS: &str = "put 5 0 10 3~abc~";
 
 fn bytes(alloc: Global, text: &[u8]) -> Result<Part, NoMemory> {
     match Vec::from_slice(alloc, text) {
@@ -50,14 +41,35 @@ fn push(parts: &mut Vec<Part, Global>, part: Part) -> Result<(), NoMemory> {
     }
 }
 
+// The bytes of a text, in which `~` is CR LF.
+fn bytes_of(alloc: Global, text: &str) -> Result<Vec<u8>, AllocError> {
+    let mut bytes = Vec::new(alloc);
+    for byte in text.as_bytes() {
+        if *byte == b'~' {
+            bytes.extend_from_slice(b"\r\n")?;
+        } else {
+            bytes.push(*byte)?;
+        }
+    }
+    Ok(bytes)
+}
+
+fn part_of(alloc: Global, text: &str) -> Result<Part, AllocError> {
+    if text == "fails" {
+        return Ok(Part::Fault);
+    }
+    if let Some(count) = text.strip_prefix("after ") {
+        return Ok(Part::AfterWritten(count.parse::<usize>().unwrap_or(0)));
+    }
+    Ok(Part::Bytes(bytes_of(alloc, text)?))
+}
+
 /// The parts of a line to a client that does this.
-pub fn parts_of(alloc: Global, does: &[Does]) -> Result<Vec<Part, Global>, NoMemory> {
+pub fn parts_of(alloc: Global, does: &str) -> Result<Vec<Part, Global>, NoMemory> {
     let mut parts: Vec<Part> = Vec::new(alloc);
-    for part in does {
-        let part = match part {
-            Does::Sends(text) => bytes(alloc, text.as_bytes())?,
-            Does::Awaits(count) => Part::AfterWritten(*count),
-            Does::Fails => Part::Fault,
+    for text in does.split(" + ") {
+        let Ok(part) = part_of(alloc, text) else {
+            return Err(NoMemory);
         };
         push(&mut parts, part)?;
     }

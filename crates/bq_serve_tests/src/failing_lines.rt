@@ -1,6 +1,6 @@
 //! Lines that fail beside others, which aren't hurt.
 
-use crate::clients::{Client, Does, INSERTED, PUTS, RESERVED, ROOM, WAITS};
+use crate::clients::{Client, INSERTED, PUTS, RESERVED, ROOM, WAITS};
 use crate::doors::{CountedDoor, is_left_so};
 use crate::runs::{WAYS, Way, served};
 use bq_job::LineEnd;
@@ -12,10 +12,7 @@ use std::test::Fail;
 use std::thread::Threads;
 
 /// One that waits, whose line fails, and one that puts.
-const BROKEN: &[&[Client]] = &[
-    &[(&[Does::Sends("reserve\r\n"), Does::Fails], ROOM)],
-    &[(PUTS, ROOM)],
-];
+const BROKEN: &[&[Client]] = &[&[("reserve~ + fails", ROOM)], &[(PUTS, ROOM)]];
 
 // A line that fails while it waits is written its answer whole, or nothing.
 fn is_broken_off(door: &CountedDoor) -> bool {

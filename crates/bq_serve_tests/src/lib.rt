@@ -16,8 +16,6 @@ mod failing_lines;
 #[cfg(test)]
 mod journal;
 #[cfg(test)]
-mod listener;
-#[cfg(test)]
 mod many_lines;
 #[cfg(test)]
 mod meeting;

@@ -1,6 +1,6 @@
 //! Worked runs over doors, by hand. Each is played by threads over links, and around a lock, many times.
 
-use crate::clients::{Client, Does, INSERTED, Outcome, PUTS, RESERVED, ROOM, WAITS};
+use crate::clients::{Client, INSERTED, Outcome, PUTS, RESERVED, ROOM, WAITS};
 use crate::doors::are_left_so;
 use crate::runs::{Way, served};
 use bq_job::LineEnd;
@@ -20,15 +20,12 @@ type Example = (
     &'static [&'static [Outcome<'static>]],
 );
 
-static EXAMPLES: [Example; 10] = [
+static EXAMPLES: &[Example] = &[
     // No client at all.
     (&[&[], &[]], &[&[], &[]]),
     // A job of a lost line.
     (
-        &[&[
-            (&[Does::Sends("put 0 0 9 1\r\nx\r\nreserve\r\n")], ROOM),
-            (&[Does::Sends("reserve\r\nquit\r\n")], ROOM),
-        ]],
+        &[&[("put 0 0 9 1~x~reserve~", ROOM), ("reserve~quit~", ROOM)]],
         &[&[
             ("INSERTED 1\r\nRESERVED 1 1\r\nx\r\n", LineEnd::EndOfInput),
             ("RESERVED 1 1\r\nx\r\n", LineEnd::Quit),
@@ -37,14 +34,8 @@ static EXAMPLES: [Example; 10] = [
     // A job of a lost line, for another door.
     (
         &[
-            &[(
-                &[
-                    Does::Sends("put 0 0 9 1\r\nx\r\nreserve\r\n"),
-                    Does::Awaits(29),
-                ],
-                ROOM,
-            )],
-            &[(&[Does::Sends("reserve\r\n"), Does::Awaits(17)], ROOM)],
+            &[("put 0 0 9 1~x~reserve~ + after 29", ROOM)],
+            &[("reserve~ + after 17", ROOM)],
         ],
         &[
             &[("INSERTED 1\r\nRESERVED 1 1\r\nx\r\n", LineEnd::EndOfInput)],
@@ -53,10 +44,7 @@ static EXAMPLES: [Example; 10] = [
     ),
     // A job of a broken line.
     (
-        &[&[
-            (&[Does::Sends("put 0 0 9 1\r\nx\r\nreserve\r\n")], 20),
-            (&[Does::Sends("reserve\r\nquit\r\n")], ROOM),
-        ]],
+        &[&[("put 0 0 9 1~x~reserve~", 20), ("reserve~quit~", ROOM)]],
         &[&[
             ("INSERTED 1\r\nRESERVED", LineEnd::WriteFault),
             ("RESERVED 1 1\r\nx\r\n", LineEnd::Quit),
@@ -77,23 +65,17 @@ static EXAMPLES: [Example; 10] = [
     ),
     // A fault after an answer.
     (
-        &[&[(&[Does::Sends("put 0 0 9 1\r\nx\r\nput"), Does::Fails], ROOM)]],
+        &[&[("put 0 0 9 1~x~put + fails", ROOM)]],
         &[&[(INSERTED, LineEnd::ReadFault)]],
     ),
     // A fault behind a wait.
     (
-        &[&[(&[Does::Sends("reserve\r\n"), Does::Fails], ROOM)]],
+        &[&[("reserve~ + fails", ROOM)]],
         &[&[("", LineEnd::ReadFault)]],
     ),
     // A fault behind a wait that was answered.
     (
-        &[
-            &[(
-                &[Does::Sends("reserve\r\n"), Does::Awaits(19), Does::Fails],
-                ROOM,
-            )],
-            &[(PUTS, ROOM)],
-        ],
+        &[&[("reserve~ + after 19 + fails", ROOM)], &[(PUTS, ROOM)]],
         &[
             &[(RESERVED, LineEnd::ReadFault)],
             &[(INSERTED, LineEnd::EndOfInput)],
@@ -101,10 +83,7 @@ static EXAMPLES: [Example; 10] = [
     ),
     // A fault behind a put.
     (
-        &[
-            &[(WAITS, ROOM)],
-            &[(&[Does::Sends("put 5 0 10 3\r\nabc\r\n"), Does::Fails], ROOM)],
-        ],
+        &[&[(WAITS, ROOM)], &[("put 5 0 10 3~abc~ + fails", ROOM)]],
         &[
             &[(RESERVED, LineEnd::EndOfInput)],
             &[(INSERTED, LineEnd::ReadFault)],
@@ -140,7 +119,7 @@ fn is_right<R: Threads + Wait + Abort + Sync>(
 #[test]
 fn worked_runs(rt: HostRuntime) -> Result<(), Fail> {
     let alloc = rt.alloc();
-    for example in &EXAMPLES {
+    for example in EXAMPLES {
         let mut right = true;
         for _ in 0..TIMES {
             right = is_right(&rt, alloc, Way::ByThreads, example)? && right;
