@@ -36,11 +36,11 @@ fn reserve_three(rt: &impl Abort, heap: Global, refused: usize, asked: usize, sp
         refused,
     };
     let made = shelf.reserve_from(&mut source, 3);
-    assert_eq!(rt; made.is_ok(), spare == 3);
-    assert_eq!(rt; (source.asked, shelf.spare()), (asked, spare));
+    assert!(rt; made.is_ok() == (spare == 3));
+    assert!(rt; (source.asked, shelf.spare()) == (asked, spare));
     // What is spare is not asked for again.
     assert!(rt; shelf.reserve_from(&mut source, spare).is_ok());
-    assert_eq!(rt; source.asked, asked);
+    assert!(rt; source.asked == asked);
 }
 
 #[test]
@@ -82,10 +82,10 @@ fn bytes_of_a_box(rt: HostRuntime) -> Result<(), Fail> {
     };
     let mut keys: Shelf<u64, ()> = Shelf::new();
     keys.reserve_from(&mut source, 1)?;
-    assert_eq!(rt; source.size, 40);
+    assert!(rt; source.size == 40);
     let mut entries: Shelf<u64, (u64, u64)> = Shelf::new();
     entries.reserve_from(&mut source, 1)?;
-    assert_eq!(rt; source.size, 56);
+    assert!(rt; source.size == 56);
     Ok(())
 }
 
@@ -96,14 +96,11 @@ fn one_box_given_back(rt: HostRuntime) -> Result<(), Fail> {
     shelf.reserve(rt.alloc(), 3)?;
     assert!(rt; put(&mut shelf, 7, 70));
     shelf.give_back();
-    assert_eq!(rt;
-        (shelf.spare(), shelf.len(), shelf.get(&7).copied()),
-        (1, 1, Some(70))
-    );
+    assert!(rt; (shelf.spare(), shelf.len(), shelf.get(&7).copied()) == (1, 1, Some(70)));
     assert!(rt; put(&mut shelf, 8, 80));
     assert!(rt; !put(&mut shelf, 9, 90));
     shelf.give_back();
-    assert_eq!(rt; (shelf.spare(), shelf.len()), (0, 2));
+    assert!(rt; (shelf.spare(), shelf.len()) == (0, 2));
     Ok(())
 }
 
@@ -112,7 +109,7 @@ fn one_box_given_back(rt: HostRuntime) -> Result<(), Fail> {
 fn a_million_spare_boxes(rt: HostRuntime) -> Result<(), Fail> {
     let mut shelf: Shelf<u64, u64> = Shelf::new();
     shelf.reserve(rt.alloc(), 1_000_000)?;
-    assert_eq!(rt; shelf.spare(), 1_000_000);
+    assert!(rt; shelf.spare() == 1_000_000);
     drop(shelf);
     Ok(())
 }

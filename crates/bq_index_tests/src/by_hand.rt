@@ -54,7 +54,7 @@ fn shelf_by_hand(rt: HostRuntime) -> Result<(), Fail> {
 
 #[test]
 fn number_of_the_fault(rt: HostRuntime) {
-    assert_eq!(rt; NoMemory.code(), 301);
+    assert!(rt; NoMemory.code() == 301);
 }
 
 /// A key of several fields, in whose order the first one counts most.
@@ -100,7 +100,7 @@ fn keys_of_several_fields(rt: HostRuntime) -> Result<(), Fail> {
     }
     for (moment, tube, id, wanted) in NEXT {
         let found = value_from(&mut shelf, due(*moment, *tube, *id));
-        assert_eq!(rt; found, *wanted);
+        assert!(rt; found == *wanted);
     }
     Ok(())
 }

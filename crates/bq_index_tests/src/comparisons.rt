@@ -83,13 +83,13 @@ fn comparisons_of_a_call(rt: HostRuntime) -> Result<(), Fail> {
     let mut one = Spread::none();
     look(&mut shelf, 7, &mut one);
     take(&mut shelf, 7, &mut one);
-    assert_eq!(rt; (one.fewest, one.most), (1, 1));
+    assert!(rt; (one.fewest, one.most) == (1, 1));
 
     let mut filling = Spread::none();
     for i in 0..1_023u64 {
         add(&mut shelf, i * 389 % 1_023 * 2, &mut filling);
     }
-    assert_eq!(rt; (shelf.len(), shelf.spare()), (1_023, 1));
+    assert!(rt; (shelf.len(), shelf.spare()) == (1_023, 1));
     let mut full = Spread::none();
     for key in 0..2_048u64 {
         look(&mut shelf, key, &mut full);

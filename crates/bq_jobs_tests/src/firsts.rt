@@ -75,10 +75,10 @@ fn first_of_each_kind(rt: HostRuntime) -> Result<(), Fail> {
             )
         );
     }
-    assert_eq!(rt; jobs.len(), 16);
+    assert!(rt; jobs.len() == 16);
     for (kind, wanted) in FIRSTS {
         let before = jobs.comparisons();
-        assert_eq!(rt; first_of(&rt, &mut jobs, *kind), *wanted);
+        assert!(rt; first_of(&rt, &mut jobs, *kind) == *wanted);
         // What a look compares is counted; a tube without jobs isn't looked for among them.
         assert!(rt; jobs.comparisons() > before || wanted.is_none());
     }
