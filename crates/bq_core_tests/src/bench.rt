@@ -1,18 +1,21 @@
-//! A core beside the room for its answers.
+//! A core beside the room for its answers, and a reader of what its clients ask.
 ghost use Rattle.std.specs.Prelude.{◌≡◌};
 
+use crate::texts::{plain_step, push_text};
 use bq_core::{Config, Core, Outs};
 use bq_job::{Answer, Moment, Request, Seat, Step};
+use bq_wire::RequestReader;
 use std::alloc::Global;
 use std::marker::Model;
 use std::test::Fail;
 
-/// A core and its answers.
+/// A core, its answers and the reader.
 #[derive(Drop)]
 pub(crate) struct Bench {
     alloc: Global,
     core: Core,
     outs: Outs,
+    reader: RequestReader,
 }
 
 impl Model for Bench {
@@ -48,11 +51,42 @@ impl Bench {
     pub(crate) fn of(alloc: Global, config: Config) -> Result<Bench, Fail> {
         let core = Core::new(alloc, config)?;
         let outs = Outs::new(alloc, config.seats)?;
-        Ok(Bench { alloc, core, outs })
+        let reader = RequestReader::new(alloc, 10)?;
+        Ok(Bench {
+            alloc,
+            core,
+            outs,
+            reader,
+        })
     }
 
     pub(crate) fn step(&mut self, at: Moment, seat: Seat, what: Step) {
         self.core.step(self.alloc, at, seat, what, &mut self.outs);
+    }
+
+    // What a client asks by this text of a script. Bodies may have 10 bytes.
+    fn asked(&mut self, words: &str) -> Result<Option<Request>, Fail> {
+        let mut line = Vec::new(self.alloc);
+        push_text(&mut line, words)?;
+        line.extend_from_slice(b"\r\n")?;
+        self.reader.restart();
+        let (_, request) = self.reader.feed(self.alloc, line.as_slice());
+        Ok(request)
+    }
+
+    /// Takes the step that a script writes so. Whether it is one.
+    pub(crate) fn take(&mut self, at: Moment, seat: Seat, words: &str) -> Result<bool, Fail> {
+        if let Some(step) = plain_step(words) {
+            self.step(at, seat, step);
+            return Ok(true);
+        }
+        match self.asked(words)? {
+            Some(request) => {
+                self.step(at, seat, Step::Ask(request));
+                Ok(true)
+            }
+            None => Ok(false),
+        }
     }
 
     /// The client at the seat asks, at the first moment.

@@ -1,8 +1,8 @@
 //! Tubes that come and go by the thousand, each with a job in one of the states.
 use crate::bench::Bench;
-use crate::event::tube;
 use crate::play::start;
 use crate::scale::long_name;
+use crate::texts::tube;
 use bq_job::{Answer, Body, JobId, Request, Seat};
 use std::alloc::Global;
 use std::test::Fail;

@@ -1,9 +1,8 @@
 //! How many comparisons a step makes.
 use crate::bench::Bench;
-use crate::event::{Do, tube};
-use crate::play::{Example, start, take_all};
+use crate::play::{Script, start, take_all};
 use crate::scale::put_jobs;
-use crate::want::Want;
+use crate::texts::tube;
 use bq_job::{Answer, Request, Seat, Step};
 use std::alloc::Global;
 use std::test::Fail;
@@ -11,38 +10,30 @@ use std::test::Fail;
 /// How many clients wait at seats from 1 on.
 const WAITERS: u16 = 250;
 
-static HAND_OUT: &[Example] = &[(0, 0, Do::Reserve, &[(0, Want::Reserved(1, b"x"))])];
+static HAND_OUT: Script = "0 0 reserve | 0 RESERVED 1 1~x";
 
-static NOTHING_DUE: &[Example] = &[(0, 0, Do::Tick, &[])];
+static NOTHING_DUE: Script = "0 0 tick";
 
-static PUT: &[Example] = &[(0, 0, Do::Put(0, 0, 9, b"x"), &[(0, Want::Inserted(1))])];
+static PUT: Script = "0 0 put 0 0 9 1~x | 0 INSERTED 1";
 
-static CALM: &[Example] = &[
-    (0, 0, Do::Put(0, 5, 9, b"x"), &[(0, Want::Inserted(1))]),
-    (0, 0, Do::Release(1, 0, 0), &[(0, Want::NotFound)]),
-    (0, 0, Do::Bury(1, 0), &[(0, Want::NotFound)]),
-    (0, 0, Do::KickJob(7), &[(0, Want::NotFound)]),
-    (0, 0, Do::PauseTube(b"default", 5), &[(0, Want::Paused)]),
-    (0, 0, Do::End, &[]),
-];
+static CALM: Script = "0 0 put 0 5 9 1~x | 0 INSERTED 1
+    0 0 release 1 0 0 | 0 NOT_FOUND
+    0 0 bury 1 0 | 0 NOT_FOUND
+    0 0 kick-job 7 | 0 NOT_FOUND
+    0 0 pause-tube default 5 | 0 PAUSED
+    0 0 end";
 
-static ONE_HELD: &[Example] = &[
-    (0, 0, Do::Put(0, 0, 99, b"x"), &[(0, Want::Inserted(1))]),
-    (0, 0, Do::Reserve, &[(0, Want::Reserved(1, b"x"))]),
-];
+static ONE_HELD: Script = "0 0 put 0 0 99 1~x | 0 INSERTED 1
+    0 0 reserve | 0 RESERVED 1 1~x";
 
 /// No job changes. Those who wait watch 250 tubes, and who asks one. There is one job: 2 * 1 + 2 has three
 /// binary digits.
 const MOST_AT_THE_END: u64 = (0 + 8) * (251 + 16) * 2 * 3;
 
-// How many comparisons the steps make, which are answered as the examples say.
-fn comparisons_of(
-    alloc: Global,
-    bench: &mut Bench,
-    examples: &'static [Example],
-) -> Result<u64, Fail> {
+// How many comparisons the steps make, which are answered as the script says.
+fn comparisons_of(alloc: Global, bench: &mut Bench, script: Script) -> Result<u64, Fail> {
     let before = bench.comparisons();
-    take_all(alloc, bench, ("comparisons", examples))?;
+    take_all(alloc, bench, script)?;
     Ok(bench.comparisons().saturating_sub(before))
 }
 
@@ -101,14 +92,10 @@ fn watch_all(bench: &mut Bench, do_wait: bool) -> Result<(), Fail> {
 }
 
 // How many comparisons these steps make beside those clients.
-fn comparisons_beside(
-    alloc: Global,
-    do_wait: bool,
-    examples: &'static [Example],
-) -> Result<u64, Fail> {
+fn comparisons_beside(alloc: Global, do_wait: bool, script: Script) -> Result<u64, Fail> {
     let mut bench = Bench::new(alloc, 256, 10)?;
     watch_all(&mut bench, do_wait)?;
-    comparisons_of(alloc, &mut bench, examples)
+    comparisons_of(alloc, &mut bench, script)
 }
 
 // A put into a tube at which nobody waits makes the comparisons of the insertion alone.
@@ -123,7 +110,7 @@ fn waiters_of_another_tube_cost_nothing(rt: HostRuntime) -> Result<(), Fail> {
 fn comparisons_of_a_look(alloc: Global, do_wait: bool) -> Result<u64, Fail> {
     let mut bench = Bench::new(alloc, 256, 10)?;
     watch_all(&mut bench, do_wait)?;
-    take_all(alloc, &mut bench, ("one_held", ONE_HELD))?;
+    take_all(alloc, &mut bench, ONE_HELD)?;
     let before = bench.comparisons();
     let _due = bench.next_due();
     Ok(bench.comparisons().saturating_sub(before))
@@ -173,7 +160,7 @@ fn comparisons_of_the_end(bench: &mut Bench) -> u64 {
 
 fn end_waits(alloc: Global, bench: &mut Bench) -> Result<(), Fail> {
     bench.step(0, 0, Step::Connect);
-    take_all(alloc, bench, ("one_held", ONE_HELD))?;
+    take_all(alloc, bench, ONE_HELD)?;
     let_wait(bench);
     at_most(comparisons_of_the_end(bench), MOST_AT_THE_END)?;
     if have_all_timed_out(bench) {

@@ -1,67 +1,48 @@
 //! Steps of clients that hold jobs while they wait: each is told when the time to run of its own ends soon.
-use crate::event::Do;
-use crate::play::{Scene, play};
-use crate::want::Want;
+use crate::play::{Script, play};
 use std::test::Fail;
 
-static TWO_HOLDERS: &[Scene] = &[
-    (
-        "each_by_its_own_lease",
-        &[
-            (0, 0, Do::Put(0, 0, 5, b"x"), &[(0, Want::Inserted(1))]),
-            (0, 0, Do::Put(0, 0, 3, b"y"), &[(0, Want::Inserted(2))]),
-            (0, 1, Do::Reserve, &[(1, Want::Reserved(1, b"x"))]),
-            (0, 2, Do::Reserve, &[(2, Want::Reserved(2, b"y"))]),
-            (0, 1, Do::Reserve, &[]),
-            (0, 0, Do::Reserve, &[]),
-            (0, 2, Do::Reserve, &[]),
-            (0, 0, Do::Due(Some(2000)), &[]),
-            (1999, 0, Do::Tick, &[]),
-            (2000, 0, Do::Tick, &[(2, Want::DeadlineSoon)]),
-            (2000, 2, Do::Delete(2), &[(2, Want::Deleted)]),
-            (2000, 0, Do::Due(Some(4000)), &[]),
-            (3999, 0, Do::Tick, &[]),
-            (4000, 0, Do::Tick, &[(1, Want::DeadlineSoon)]),
-            (4000, 0, Do::Due(Some(5000)), &[]),
-            (5000, 0, Do::Tick, &[(0, Want::Reserved(1, b"x"))]),
-        ],
-    ),
-    (
-        "both_at_once_by_ticket",
-        &[
-            (0, 0, Do::Put(0, 0, 3, b"x"), &[(0, Want::Inserted(1))]),
-            (0, 0, Do::Put(0, 0, 3, b"y"), &[(0, Want::Inserted(2))]),
-            (0, 1, Do::Reserve, &[(1, Want::Reserved(1, b"x"))]),
-            (0, 2, Do::Reserve, &[(2, Want::Reserved(2, b"y"))]),
-            (0, 2, Do::Reserve, &[]),
-            (0, 0, Do::Reserve, &[]),
-            (0, 1, Do::Reserve, &[]),
-            (0, 0, Do::Due(Some(2000)), &[]),
-            (
-                2000,
-                0,
-                Do::Tick,
-                &[(2, Want::DeadlineSoon), (1, Want::DeadlineSoon)],
-            ),
-            (2000, 0, Do::Due(Some(3000)), &[]),
-        ],
-    ),
-    (
-        "one_gives_up_before",
-        &[
-            (0, 0, Do::Put(0, 0, 3, b"x"), &[(0, Want::Inserted(1))]),
-            (0, 0, Do::Put(0, 0, 4, b"y"), &[(0, Want::Inserted(2))]),
-            (0, 1, Do::Reserve, &[(1, Want::Reserved(1, b"x"))]),
-            (0, 2, Do::Reserve, &[(2, Want::Reserved(2, b"y"))]),
-            (0, 1, Do::ReserveWithTimeout(1), &[]),
-            (0, 2, Do::Reserve, &[]),
-            (0, 0, Do::Due(Some(1000)), &[]),
-            (1000, 0, Do::Tick, &[(1, Want::TimedOut)]),
-            (1000, 1, Do::Delete(1), &[(1, Want::Deleted)]),
-            (1000, 0, Do::Due(Some(3000)), &[]),
-            (3000, 0, Do::Tick, &[(2, Want::DeadlineSoon)]),
-        ],
-    ),
+static TWO_HOLDERS: &[Script] = &[
+    "# each by its own lease
+    0 0 put 0 0 5 1~x | 0 INSERTED 1
+    0 0 put 0 0 3 1~y | 0 INSERTED 2
+    0 1 reserve | 1 RESERVED 1 1~x
+    0 2 reserve | 2 RESERVED 2 1~y
+    0 1 reserve
+    0 0 reserve
+    0 2 reserve
+    0 0 due 2000
+    1999 0 tick
+    2000 0 tick | 2 DEADLINE_SOON
+    2000 2 delete 2 | 2 DELETED
+    2000 0 due 4000
+    3999 0 tick
+    4000 0 tick | 1 DEADLINE_SOON
+    4000 0 due 5000
+    5000 0 tick | 0 RESERVED 1 1~x",
+    "# both at once by ticket
+    0 0 put 0 0 3 1~x | 0 INSERTED 1
+    0 0 put 0 0 3 1~y | 0 INSERTED 2
+    0 1 reserve | 1 RESERVED 1 1~x
+    0 2 reserve | 2 RESERVED 2 1~y
+    0 2 reserve
+    0 0 reserve
+    0 1 reserve
+    0 0 due 2000
+    2000 0 tick | 2 DEADLINE_SOON | 1 DEADLINE_SOON
+    2000 0 due 3000",
+    "# one gives up before
+    0 0 put 0 0 3 1~x | 0 INSERTED 1
+    0 0 put 0 0 4 1~y | 0 INSERTED 2
+    0 1 reserve | 1 RESERVED 1 1~x
+    0 2 reserve | 2 RESERVED 2 1~y
+    0 1 reserve-with-timeout 1
+    0 2 reserve
+    0 0 due 1000
+    1000 0 tick | 1 TIMED_OUT
+    1000 1 delete 1 | 1 DELETED
+    1000 0 due 3000
+    3000 0 tick | 2 DEADLINE_SOON",
 ];
 
 #[test]

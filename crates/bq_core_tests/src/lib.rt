@@ -11,8 +11,6 @@ mod comparisons;
 #[cfg(test)]
 mod each_answer;
 #[cfg(test)]
-mod event;
-#[cfg(test)]
 mod holders;
 #[cfg(test)]
 mod large_bodies;
@@ -33,4 +31,4 @@ mod scale;
 #[cfg(test)]
 mod statistics;
 #[cfg(test)]
-mod want;
+mod texts;

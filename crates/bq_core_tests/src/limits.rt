@@ -1,8 +1,6 @@
 //! A limit on jobs.
 use crate::bench::config;
-use crate::event::Do;
-use crate::play::{Scene, play_with};
-use crate::want::Want;
+use crate::play::{Script, play_with};
 use bq_core::Config;
 use std::test::Fail;
 
@@ -14,80 +12,51 @@ fn limited(most: u32) -> Config {
     }
 }
 
-static LIMIT_OF_ONE: &[Scene] = &[
-    (
-        "limit_of_one",
-        &[
-            (0, 0, Do::Put(0, 0, 9, b"x"), &[(0, Want::Inserted(1))]),
-            (0, 0, Do::Put(0, 0, 9, b"y"), &[(0, Want::OutOfMemory)]),
-            (0, 0, Do::Reserve, &[(0, Want::Reserved(1, b"x"))]),
-            (0, 0, Do::Put(0, 0, 9, b"z"), &[(0, Want::OutOfMemory)]),
-            (0, 0, Do::Delete(1), &[(0, Want::Deleted)]),
-            (0, 0, Do::Put(0, 0, 9, b"w"), &[(0, Want::Inserted(2))]),
-        ],
-    ),
-    (
-        "draining_before_the_limit",
-        &[
-            (0, 0, Do::Put(0, 0, 9, b"x"), &[(0, Want::Inserted(1))]),
-            (0, 0, Do::Drain, &[]),
-            (0, 0, Do::Put(0, 0, 9, b"y"), &[(0, Want::Draining)]),
-        ],
-    ),
-    (
-        "another_tube_and_another_client",
-        &[
-            (0, 0, Do::Put(0, 0, 9, b"x"), &[(0, Want::Inserted(1))]),
-            (0, 1, Do::Use(b"t"), &[(1, Want::Using(b"t"))]),
-            (0, 1, Do::Put(0, 0, 9, b"y"), &[(1, Want::OutOfMemory)]),
-            (
-                0,
-                1,
-                Do::Stats,
-                &[(1, Want::Tells(b"current-jobs-ready: 1\n"))],
-            ),
-            (0, 1, Do::Stats, &[(1, Want::Tells(b"\ntotal-jobs: 1\n"))]),
-        ],
-    ),
+static LIMIT_OF_ONE: &[Script] = &[
+    "# limit of one
+    0 0 put 0 0 9 1~x | 0 INSERTED 1
+    0 0 put 0 0 9 1~y | 0 OUT_OF_MEMORY
+    0 0 reserve | 0 RESERVED 1 1~x
+    0 0 put 0 0 9 1~z | 0 OUT_OF_MEMORY
+    0 0 delete 1 | 0 DELETED
+    0 0 put 0 0 9 1~w | 0 INSERTED 2",
+    "# draining before the limit
+    0 0 put 0 0 9 1~x | 0 INSERTED 1
+    0 0 drain
+    0 0 put 0 0 9 1~y | 0 DRAINING",
+    "# another tube and another client
+    0 0 put 0 0 9 1~x | 0 INSERTED 1
+    0 1 use t | 1 USING t
+    0 1 put 0 0 9 1~y | 1 OUT_OF_MEMORY
+    0 1 stats | 1 ..current-jobs-ready: 1/
+    0 1 stats | 1 ../total-jobs: 1/",
 ];
 
-static LIMIT_OF_THREE: &[Scene] = &[(
-    "jobs_of_every_state_count",
-    &[
-        (0, 0, Do::Put(0, 9, 9, b"x"), &[(0, Want::Inserted(1))]),
-        (0, 0, Do::Put(0, 0, 9, b"y"), &[(0, Want::Inserted(2))]),
-        (0, 1, Do::Reserve, &[(1, Want::Reserved(2, b"y"))]),
-        (0, 1, Do::Bury(2, 0), &[(1, Want::Buried)]),
-        (0, 0, Do::Put(0, 0, 9, b"z"), &[(0, Want::Inserted(3))]),
-        (0, 1, Do::Reserve, &[(1, Want::Reserved(3, b"z"))]),
-        (0, 0, Do::Put(0, 0, 9, b"u"), &[(0, Want::OutOfMemory)]),
-        (0, 2, Do::Delete(3), &[(2, Want::NotFound)]),
-        (0, 0, Do::Put(0, 0, 9, b"v"), &[(0, Want::OutOfMemory)]),
-        (0, 2, Do::Delete(2), &[(2, Want::Deleted)]),
-        (0, 0, Do::Put(0, 0, 9, b"w"), &[(0, Want::Inserted(4))]),
-        (0, 0, Do::Put(0, 0, 9, b"q"), &[(0, Want::OutOfMemory)]),
-    ],
-)];
+static LIMIT_OF_THREE: &[Script] = &[
+    "# jobs of every state count
+    0 0 put 0 9 9 1~x | 0 INSERTED 1
+    0 0 put 0 0 9 1~y | 0 INSERTED 2
+    0 1 reserve | 1 RESERVED 2 1~y
+    0 1 bury 2 0 | 1 BURIED
+    0 0 put 0 0 9 1~z | 0 INSERTED 3
+    0 1 reserve | 1 RESERVED 3 1~z
+    0 0 put 0 0 9 1~u | 0 OUT_OF_MEMORY
+    0 2 delete 3 | 2 NOT_FOUND
+    0 0 put 0 0 9 1~v | 0 OUT_OF_MEMORY
+    0 2 delete 2 | 2 DELETED
+    0 0 put 0 0 9 1~w | 0 INSERTED 4
+    0 0 put 0 0 9 1~q | 0 OUT_OF_MEMORY",
+];
 
-static GREATEST_LIMIT: &[Scene] = &[(
-    "greatest_limit",
-    &[
-        (0, 0, Do::Put(0, 0, 9, b"x"), &[(0, Want::Inserted(1))]),
-        (0, 0, Do::Put(0, 0, 9, b"y"), &[(0, Want::Inserted(2))]),
-    ],
-)];
+static GREATEST_LIMIT: &[Script] = &[
+    "# greatest limit
+    0 0 put 0 0 9 1~x | 0 INSERTED 1
+    0 0 put 0 0 9 1~y | 0 INSERTED 2",
+];
 
 #[test]
-fn limit_of_one(rt: HostRuntime) -> Result<(), Fail> {
-    play_with(rt.alloc(), limited(1), LIMIT_OF_ONE)
-}
-
-#[test]
-fn limit_of_three(rt: HostRuntime) -> Result<(), Fail> {
-    play_with(rt.alloc(), limited(3), LIMIT_OF_THREE)
-}
-
-#[test]
-fn greatest_limit(rt: HostRuntime) -> Result<(), Fail> {
+fn limits(rt: HostRuntime) -> Result<(), Fail> {
+    play_with(rt.alloc(), limited(1), LIMIT_OF_ONE)?;
+    play_with(rt.alloc(), limited(3), LIMIT_OF_THREE)?;
     play_with(rt.alloc(), limited(u32::MAX), GREATEST_LIMIT)
 }

@@ -1,295 +1,155 @@
 //! Steps of clients at several tubes, with delays, pauses and jobs that are chosen by their id.
-use crate::event::Do;
-use crate::play::{Scene, play};
-use crate::want::Want;
+use crate::play::{Script, play};
 use std::test::Fail;
 
-static WAITS_OF_TWO_TUBES: &[Scene] = &[
-    (
-        "waiters_of_two_tubes",
-        &[
-            (0, 1, Do::Watch(b"a"), &[(1, Want::Watching(2))]),
-            (0, 1, Do::Ignore(b"default"), &[(1, Want::Watching(1))]),
-            (0, 1, Do::Reserve, &[]),
-            (0, 2, Do::Watch(b"a"), &[(2, Want::Watching(2))]),
-            (0, 2, Do::Watch(b"b"), &[(2, Want::Watching(3))]),
-            (0, 2, Do::Ignore(b"default"), &[(2, Want::Watching(2))]),
-            (0, 2, Do::Reserve, &[]),
-            (0, 0, Do::Use(b"b"), &[(0, Want::Using(b"b"))]),
-            (
-                0,
-                0,
-                Do::Put(0, 0, 9, b"p"),
-                &[(0, Want::Inserted(1)), (2, Want::Reserved(1, b"p"))],
-            ),
-            (0, 0, Do::Use(b"a"), &[(0, Want::Using(b"a"))]),
-            (
-                0,
-                0,
-                Do::Put(0, 0, 9, b"q"),
-                &[(0, Want::Inserted(2)), (1, Want::Reserved(2, b"q"))],
-            ),
-        ],
-    ),
-    (
-        "timed_waits_by_ticket",
-        &[
-            (0, 2, Do::ReserveWithTimeout(1), &[]),
-            (0, 1, Do::ReserveWithTimeout(1), &[]),
-            (
-                1000,
-                0,
-                Do::Tick,
-                &[(2, Want::TimedOut), (1, Want::TimedOut)],
-            ),
-        ],
-    ),
-    (
-        "due_by_a_timeout",
-        &[
-            (1500, 0, Do::ReserveWithTimeout(1), &[]),
-            (1500, 0, Do::Due(Some(2500)), &[]),
-        ],
-    ),
-    (
-        "nothing_due",
-        &[
-            (0, 0, Do::Put(0, 0, 9, b"x"), &[(0, Want::Inserted(1))]),
-            (0, 1, Do::ReserveJob(1), &[(1, Want::Reserved(1, b"x"))]),
-            (0, 1, Do::Bury(1, 0), &[(1, Want::Buried)]),
-            (0, 1, Do::Reserve, &[]),
-            (0, 0, Do::Due(None), &[]),
-        ],
-    ),
+static MANY_TUBES: &[Script] = &[
+    "# waiters of two tubes
+    0 1 watch a | 1 WATCHING 2
+    0 1 ignore default | 1 WATCHING 1
+    0 1 reserve
+    0 2 watch a | 2 WATCHING 2
+    0 2 watch b | 2 WATCHING 3
+    0 2 ignore default | 2 WATCHING 2
+    0 2 reserve
+    0 0 use b | 0 USING b
+    0 0 put 0 0 9 1~p | 0 INSERTED 1 | 2 RESERVED 1 1~p
+    0 0 use a | 0 USING a
+    0 0 put 0 0 9 1~q | 0 INSERTED 2 | 1 RESERVED 2 1~q",
+    "# timed waits by ticket
+    0 2 reserve-with-timeout 1
+    0 1 reserve-with-timeout 1
+    1000 0 tick | 2 TIMED_OUT | 1 TIMED_OUT",
+    "# due by a timeout
+    1500 0 reserve-with-timeout 1
+    1500 0 due 2500",
+    "# nothing due
+    0 0 put 0 0 9 1~x | 0 INSERTED 1
+    0 1 reserve-job 1 | 1 RESERVED 1 1~x
+    0 1 bury 1 0 | 1 BURIED
+    0 1 reserve
+    0 0 due never",
+    "# pause and delay end together
+    0 0 put 0 5 9 1~x | 0 INSERTED 1
+    0 0 pause-tube default 5 | 0 PAUSED
+    0 1 reserve-with-timeout 5
+    4999 0 tick
+    5000 0 tick | 1 RESERVED 1 1~x",
+    "# pause lifted
+    0 0 put 0 0 9 1~x | 0 INSERTED 1
+    0 0 pause-tube default 5 | 0 PAUSED
+    0 1 reserve
+    0 0 due 5000
+    1000 0 pause-tube default 0 | 0 PAUSED | 1 RESERVED 1 1~x",
+    "# paused tube
+    0 0 put 2 0 9 1~x | 0 INSERTED 1
+    0 0 pause-tube default 60 | 0 PAUSED
+    0 0 reserve-with-timeout 0 | 0 TIMED_OUT
+    0 0 peek-ready | 0 FOUND 1 1~x
+    0 0 reserve-job 1 | 0 RESERVED 1 1~x
+    0 0 reserve-job 1 | 0 NOT_FOUND
+    0 0 pause-tube b 1 | 0 NOT_FOUND
+    0 0 peek-ready | 0 NOT_FOUND",
+    "# touch moves the lease
+    0 0 put 0 0 2 1~x | 0 INSERTED 1
+    0 0 reserve | 0 RESERVED 1 1~x
+    0 1 touch 1 | 1 NOT_FOUND
+    1500 0 touch 1 | 0 TOUCHED
+    1500 0 due 3500
+    2000 0 tick
+    3500 0 touch 1 | 0 NOT_FOUND",
+    "# release with delay
+    0 0 put 0 0 9 1~x | 0 INSERTED 1
+    0 0 reserve | 0 RESERVED 1 1~x
+    0 1 release 1 7 3 | 1 NOT_FOUND
+    0 0 release 1 7 3 | 0 RELEASED
+    2999 0 reserve
+    2999 0 due 3000
+    3000 0 tick | 0 RESERVED 1 1~x",
+    "# release keeps the id
+    0 0 put 4 0 9 1~x | 0 INSERTED 1
+    0 0 put 4 0 9 1~y | 0 INSERTED 2
+    0 0 reserve | 0 RESERVED 1 1~x
+    0 0 release 1 5 0 | 0 RELEASED
+    0 0 reserve | 0 RESERVED 2 1~y
+    0 0 release 1 0 0 | 0 NOT_FOUND
+    0 0 delete 1 | 0 DELETED",
+    "# least across tubes
+    0 0 watch a | 0 WATCHING 2
+    0 0 put 7 0 9 1~x | 0 INSERTED 1
+    0 0 use a | 0 USING a
+    0 0 put 3 0 9 1~y | 0 INSERTED 2
+    0 0 use default | 0 USING default
+    0 0 put 3 0 9 1~z | 0 INSERTED 3
+    0 0 reserve | 0 RESERVED 2 1~y
+    0 0 reserve | 0 RESERVED 3 1~z
+    0 0 reserve | 0 RESERVED 1 1~x",
+    "# watch lists
+    0 0 ignore default | 0 NOT_IGNORED
+    0 0 ignore b | 0 WATCHING 1
+    0 0 watch b | 0 WATCHING 2
+    0 0 watch b | 0 WATCHING 2
+    0 0 ignore default | 0 WATCHING 1
+    0 0 list-tubes-watched | 0 OK 8~---/- b/
+    0 0 list-tubes | 0 OK 18~---/- b/- default/
+    0 0 list-tube-used | 0 USING default
+    0 0 close | 0 closed
+    0 0 connect
+    0 0 ignore default | 0 NOT_IGNORED
+    0 0 list-tubes-watched | 0 OK 14~---/- default/",
+    "# single jobs
+    0 0 put 0 9 9 1~x | 0 INSERTED 1
+    0 0 put 0 5 9 1~y | 0 INSERTED 2
+    0 0 peek-delayed | 0 FOUND 2 1~y
+    0 0 peek-buried | 0 NOT_FOUND
+    0 0 kick-job 2 | 0 KICKED
+    0 0 kick-job 2 | 0 NOT_FOUND
+    0 0 reserve-job 1 | 0 RESERVED 1 1~x
+    0 1 bury 1 3 | 1 NOT_FOUND
+    0 0 bury 1 3 | 0 BURIED
+    0 1 peek-buried | 1 FOUND 1 1~x
+    0 1 peek 2 | 1 FOUND 2 1~y
+    0 1 peek 3 | 1 NOT_FOUND
+    0 1 reserve-job 3 | 1 NOT_FOUND
+    0 1 kick-job 1 | 1 KICKED
+    0 1 peek-delayed | 1 NOT_FOUND",
+    "# a tube is forgotten
+    0 0 use a | 0 USING a
+    0 0 pause-tube a 60 | 0 PAUSED
+    0 0 use default | 0 USING default
+    0 0 pause-tube a 60 | 0 NOT_FOUND
+    0 0 use a | 0 USING a
+    0 0 put 0 0 9 1~x | 0 INSERTED 1
+    0 1 watch a | 1 WATCHING 2
+    0 1 reserve | 1 RESERVED 1 1~x",
+    "# bury and kick order
+    0 0 put 0 0 9 1~x | 0 INSERTED 1
+    0 0 put 0 0 9 1~y | 0 INSERTED 2
+    0 0 put 0 100 9 1~z | 0 INSERTED 3
+    0 0 reserve | 0 RESERVED 1 1~x
+    0 0 reserve | 0 RESERVED 2 1~y
+    0 0 bury 2 0 | 0 BURIED
+    0 0 bury 1 0 | 0 BURIED
+    0 0 peek-buried | 0 FOUND 2 1~y
+    0 0 kick 5 | 0 KICKED 2
+    0 0 kick 5 | 0 KICKED 1",
+    "# kick in turns
+    0 0 put 0 0 9 1~x | 0 INSERTED 1
+    0 0 put 0 0 9 1~y | 0 INSERTED 2
+    0 0 put 0 100 9 1~z | 0 INSERTED 3
+    0 0 reserve | 0 RESERVED 1 1~x
+    0 0 reserve | 0 RESERVED 2 1~y
+    0 0 bury 2 0 | 0 BURIED
+    0 0 bury 1 0 | 0 BURIED
+    0 0 kick 5 | 0 KICKED 2
+    0 0 kick 5 | 0 KICKED 1
+    0 0 kick 5 | 0 KICKED 0",
+    "# peek delayed first due
+    0 0 put 0 9 9 1~x | 0 INSERTED 1
+    0 0 put 0 5 9 1~y | 0 INSERTED 2
+    0 0 peek-delayed | 0 FOUND 2 1~y",
 ];
 
 #[test]
-fn waits_of_two_tubes(rt: HostRuntime) -> Result<(), Fail> {
-    play(rt.alloc(), WAITS_OF_TWO_TUBES)
-}
-
-static PAUSES: &[Scene] = &[
-    (
-        "pause_and_delay_end_together",
-        &[
-            (0, 0, Do::Put(0, 5, 9, b"x"), &[(0, Want::Inserted(1))]),
-            (0, 0, Do::PauseTube(b"default", 5), &[(0, Want::Paused)]),
-            (0, 1, Do::ReserveWithTimeout(5), &[]),
-            (4999, 0, Do::Tick, &[]),
-            (5000, 0, Do::Tick, &[(1, Want::Reserved(1, b"x"))]),
-        ],
-    ),
-    (
-        "pause_lifted",
-        &[
-            (0, 0, Do::Put(0, 0, 9, b"x"), &[(0, Want::Inserted(1))]),
-            (0, 0, Do::PauseTube(b"default", 5), &[(0, Want::Paused)]),
-            (0, 1, Do::Reserve, &[]),
-            (0, 0, Do::Due(Some(5000)), &[]),
-            (
-                1000,
-                0,
-                Do::PauseTube(b"default", 0),
-                &[(0, Want::Paused), (1, Want::Reserved(1, b"x"))],
-            ),
-        ],
-    ),
-    (
-        "paused_tube",
-        &[
-            (0, 0, Do::Put(2, 0, 9, b"x"), &[(0, Want::Inserted(1))]),
-            (0, 0, Do::PauseTube(b"default", 60), &[(0, Want::Paused)]),
-            (0, 0, Do::ReserveWithTimeout(0), &[(0, Want::TimedOut)]),
-            (0, 0, Do::PeekReady, &[(0, Want::Found(1, b"x"))]),
-            (0, 0, Do::ReserveJob(1), &[(0, Want::Reserved(1, b"x"))]),
-            (0, 0, Do::ReserveJob(1), &[(0, Want::NotFound)]),
-            (0, 0, Do::PauseTube(b"b", 1), &[(0, Want::NotFound)]),
-            (0, 0, Do::PeekReady, &[(0, Want::NotFound)]),
-        ],
-    ),
-];
-
-#[test]
-fn pauses(rt: HostRuntime) -> Result<(), Fail> {
-    play(rt.alloc(), PAUSES)
-}
-
-static TOUCHES_AND_RELEASES: &[Scene] = &[
-    (
-        "touch_moves_the_lease",
-        &[
-            (0, 0, Do::Put(0, 0, 2, b"x"), &[(0, Want::Inserted(1))]),
-            (0, 0, Do::Reserve, &[(0, Want::Reserved(1, b"x"))]),
-            (0, 1, Do::Touch(1), &[(1, Want::NotFound)]),
-            (1500, 0, Do::Touch(1), &[(0, Want::Touched)]),
-            (1500, 0, Do::Due(Some(3500)), &[]),
-            (2000, 0, Do::Tick, &[]),
-            (3500, 0, Do::Touch(1), &[(0, Want::NotFound)]),
-        ],
-    ),
-    (
-        "release_with_delay",
-        &[
-            (0, 0, Do::Put(0, 0, 9, b"x"), &[(0, Want::Inserted(1))]),
-            (0, 0, Do::Reserve, &[(0, Want::Reserved(1, b"x"))]),
-            (0, 1, Do::Release(1, 7, 3), &[(1, Want::NotFound)]),
-            (0, 0, Do::Release(1, 7, 3), &[(0, Want::Released)]),
-            (2999, 0, Do::Reserve, &[]),
-            (2999, 0, Do::Due(Some(3000)), &[]),
-            (3000, 0, Do::Tick, &[(0, Want::Reserved(1, b"x"))]),
-        ],
-    ),
-    (
-        "release_keeps_the_id",
-        &[
-            (0, 0, Do::Put(4, 0, 9, b"x"), &[(0, Want::Inserted(1))]),
-            (0, 0, Do::Put(4, 0, 9, b"y"), &[(0, Want::Inserted(2))]),
-            (0, 0, Do::Reserve, &[(0, Want::Reserved(1, b"x"))]),
-            (0, 0, Do::Release(1, 5, 0), &[(0, Want::Released)]),
-            (0, 0, Do::Reserve, &[(0, Want::Reserved(2, b"y"))]),
-            (0, 0, Do::Release(1, 0, 0), &[(0, Want::NotFound)]),
-            (0, 0, Do::Delete(1), &[(0, Want::Deleted)]),
-        ],
-    ),
-];
-
-#[test]
-fn touches_and_releases(rt: HostRuntime) -> Result<(), Fail> {
-    play(rt.alloc(), TOUCHES_AND_RELEASES)
-}
-
-static LEAST_ACROSS_TUBES: &[Scene] = &[
-    (
-        "least_across_tubes",
-        &[
-            (0, 0, Do::Watch(b"a"), &[(0, Want::Watching(2))]),
-            (0, 0, Do::Put(7, 0, 9, b"x"), &[(0, Want::Inserted(1))]),
-            (0, 0, Do::Use(b"a"), &[(0, Want::Using(b"a"))]),
-            (0, 0, Do::Put(3, 0, 9, b"y"), &[(0, Want::Inserted(2))]),
-            (0, 0, Do::Use(b"default"), &[(0, Want::Using(b"default"))]),
-            (0, 0, Do::Put(3, 0, 9, b"z"), &[(0, Want::Inserted(3))]),
-            (0, 0, Do::Reserve, &[(0, Want::Reserved(2, b"y"))]),
-            (0, 0, Do::Reserve, &[(0, Want::Reserved(3, b"z"))]),
-            (0, 0, Do::Reserve, &[(0, Want::Reserved(1, b"x"))]),
-        ],
-    ),
-    (
-        "watch_lists",
-        &[
-            (0, 0, Do::Ignore(b"default"), &[(0, Want::NotIgnored)]),
-            (0, 0, Do::Ignore(b"b"), &[(0, Want::Watching(1))]),
-            (0, 0, Do::Watch(b"b"), &[(0, Want::Watching(2))]),
-            (0, 0, Do::Watch(b"b"), &[(0, Want::Watching(2))]),
-            (0, 0, Do::Ignore(b"default"), &[(0, Want::Watching(1))]),
-            (0, 0, Do::ListTubesWatched, &[(0, Want::Ok(b"---\n- b\n"))]),
-            (
-                0,
-                0,
-                Do::ListTubes,
-                &[(0, Want::Ok(b"---\n- b\n- default\n"))],
-            ),
-            (0, 0, Do::ListTubeUsed, &[(0, Want::Using(b"default"))]),
-            (0, 0, Do::Close, &[(0, Want::Closed)]),
-            (0, 0, Do::Connect, &[]),
-            (0, 0, Do::Ignore(b"default"), &[(0, Want::NotIgnored)]),
-            (
-                0,
-                0,
-                Do::ListTubesWatched,
-                &[(0, Want::Ok(b"---\n- default\n"))],
-            ),
-        ],
-    ),
-];
-
-#[test]
-fn least_across_tubes(rt: HostRuntime) -> Result<(), Fail> {
-    play(rt.alloc(), LEAST_ACROSS_TUBES)
-}
-
-static SINGLE_JOBS: &[Scene] = &[
-    (
-        "single_jobs",
-        &[
-            (0, 0, Do::Put(0, 9, 9, b"x"), &[(0, Want::Inserted(1))]),
-            (0, 0, Do::Put(0, 5, 9, b"y"), &[(0, Want::Inserted(2))]),
-            (0, 0, Do::PeekDelayed, &[(0, Want::Found(2, b"y"))]),
-            (0, 0, Do::PeekBuried, &[(0, Want::NotFound)]),
-            (0, 0, Do::KickJob(2), &[(0, Want::Kicked)]),
-            (0, 0, Do::KickJob(2), &[(0, Want::NotFound)]),
-            (0, 0, Do::ReserveJob(1), &[(0, Want::Reserved(1, b"x"))]),
-            (0, 1, Do::Bury(1, 3), &[(1, Want::NotFound)]),
-            (0, 0, Do::Bury(1, 3), &[(0, Want::Buried)]),
-            (0, 1, Do::PeekBuried, &[(1, Want::Found(1, b"x"))]),
-            (0, 1, Do::Peek(2), &[(1, Want::Found(2, b"y"))]),
-            (0, 1, Do::Peek(3), &[(1, Want::NotFound)]),
-            (0, 1, Do::ReserveJob(3), &[(1, Want::NotFound)]),
-            (0, 1, Do::KickJob(1), &[(1, Want::Kicked)]),
-            (0, 1, Do::PeekDelayed, &[(1, Want::NotFound)]),
-        ],
-    ),
-    (
-        "a_tube_is_forgotten",
-        &[
-            (0, 0, Do::Use(b"a"), &[(0, Want::Using(b"a"))]),
-            (0, 0, Do::PauseTube(b"a", 60), &[(0, Want::Paused)]),
-            (0, 0, Do::Use(b"default"), &[(0, Want::Using(b"default"))]),
-            (0, 0, Do::PauseTube(b"a", 60), &[(0, Want::NotFound)]),
-            (0, 0, Do::Use(b"a"), &[(0, Want::Using(b"a"))]),
-            (0, 0, Do::Put(0, 0, 9, b"x"), &[(0, Want::Inserted(1))]),
-            (0, 1, Do::Watch(b"a"), &[(1, Want::Watching(2))]),
-            (0, 1, Do::Reserve, &[(1, Want::Reserved(1, b"x"))]),
-        ],
-    ),
-];
-
-#[test]
-fn single_jobs(rt: HostRuntime) -> Result<(), Fail> {
-    play(rt.alloc(), SINGLE_JOBS)
-}
-
-static KICKS_BY_TURNS: &[Scene] = &[
-    (
-        "bury_and_kick_order",
-        &[
-            (0, 0, Do::Put(0, 0, 9, b"x"), &[(0, Want::Inserted(1))]),
-            (0, 0, Do::Put(0, 0, 9, b"y"), &[(0, Want::Inserted(2))]),
-            (0, 0, Do::Put(0, 100, 9, b"z"), &[(0, Want::Inserted(3))]),
-            (0, 0, Do::Reserve, &[(0, Want::Reserved(1, b"x"))]),
-            (0, 0, Do::Reserve, &[(0, Want::Reserved(2, b"y"))]),
-            (0, 0, Do::Bury(2, 0), &[(0, Want::Buried)]),
-            (0, 0, Do::Bury(1, 0), &[(0, Want::Buried)]),
-            (0, 0, Do::PeekBuried, &[(0, Want::Found(2, b"y"))]),
-            (0, 0, Do::Kick(5), &[(0, Want::KickedCount(2))]),
-            (0, 0, Do::Kick(5), &[(0, Want::KickedCount(1))]),
-        ],
-    ),
-    (
-        "kick_in_turns",
-        &[
-            (0, 0, Do::Put(0, 0, 9, b"x"), &[(0, Want::Inserted(1))]),
-            (0, 0, Do::Put(0, 0, 9, b"y"), &[(0, Want::Inserted(2))]),
-            (0, 0, Do::Put(0, 100, 9, b"z"), &[(0, Want::Inserted(3))]),
-            (0, 0, Do::Reserve, &[(0, Want::Reserved(1, b"x"))]),
-            (0, 0, Do::Reserve, &[(0, Want::Reserved(2, b"y"))]),
-            (0, 0, Do::Bury(2, 0), &[(0, Want::Buried)]),
-            (0, 0, Do::Bury(1, 0), &[(0, Want::Buried)]),
-            (0, 0, Do::Kick(5), &[(0, Want::KickedCount(2))]),
-            (0, 0, Do::Kick(5), &[(0, Want::KickedCount(1))]),
-            (0, 0, Do::Kick(5), &[(0, Want::KickedCount(0))]),
-        ],
-    ),
-    (
-        "peek_delayed_first_due",
-        &[
-            (0, 0, Do::Put(0, 9, 9, b"x"), &[(0, Want::Inserted(1))]),
-            (0, 0, Do::Put(0, 5, 9, b"y"), &[(0, Want::Inserted(2))]),
-            (0, 0, Do::PeekDelayed, &[(0, Want::Found(2, b"y"))]),
-        ],
-    ),
-];
-
-#[test]
-fn kicks_by_turns(rt: HostRuntime) -> Result<(), Fail> {
-    play(rt.alloc(), KICKS_BY_TURNS)
+fn many_tubes(rt: HostRuntime) -> Result<(), Fail> {
+    play(rt.alloc(), MANY_TUBES)
 }

@@ -4,41 +4,36 @@ use bq_core::{Config, Core, CoreFault};
 use std::alloc::Global;
 use std::test::Fail;
 
-fn code_of(alloc: Global, seats: u16, max_job_size: u32) -> u16 {
-    code_with(alloc, config(seats, max_job_size))
-}
-
-// The number of the fault, or 0 where a core was made.
-fn code_with(alloc: Global, config: Config) -> u16 {
-    match Core::new(alloc, config) {
+// The number of the fault of so many seats, bodies of so many bytes, and so many jobs at most, or 0 where a core was
+// made.
+fn code_of(alloc: Global, seats: u16, max_job_size: u32, max_jobs: Option<u32>) -> u16 {
+    let chosen = Config {
+        max_jobs,
+        ..config(seats, max_job_size)
+    };
+    match Core::new(alloc, chosen) {
         Ok(_) => 0,
         Err(fault) => fault.code(),
     }
 }
 
+const CODES: &[(u16, u32, Option<u32>, u16)] = &[
+    (0, 0, None, 302),
+    (257, 1, None, 302),
+    (1, 0, None, 303),
+    (256, 1_048_577, None, 303),
+    (256, 1_048_576, None, 0),
+    (1, 1, Some(0), 304),
+    (0, 1, Some(0), 302),
+    (1, 0, Some(0), 303),
+    (1, 1, Some(1), 0),
+    (1, 1, Some(u32::MAX), 0),
+];
+
 #[test]
 fn refuses_configurations(rt: HostRuntime) {
-    assert!(rt; code_of(rt.alloc(), 0, 0) == 302);
-    assert!(rt; code_of(rt.alloc(), 257, 1) == 302);
-    assert!(rt; code_of(rt.alloc(), 1, 0) == 303);
-    assert!(rt; code_of(rt.alloc(), 256, 1_048_577) == 303);
-    assert!(rt; code_of(rt.alloc(), 256, 1_048_576) == 0);
-    assert!(rt; CoreFault::NoMemory.code() == 301);
-}
-
-// A limit on jobs, beside a choice of seats and of the size of bodies.
-fn limited(seats: u16, max_job_size: u32, most: u32) -> Config {
-    Config {
-        max_jobs: Some(most),
-        ..config(seats, max_job_size)
+    for (seats, max_job_size, max_jobs, code) in CODES {
+        assert!(rt; code_of(rt.alloc(), *seats, *max_job_size, *max_jobs) == *code);
     }
-}
-
-#[test]
-fn refuses_a_limit_of_no_jobs(rt: HostRuntime) {
-    assert!(rt; code_with(rt.alloc(), limited(1, 1, 0)) == 304);
-    assert!(rt; code_with(rt.alloc(), limited(0, 1, 0)) == 302);
-    assert!(rt; code_with(rt.alloc(), limited(1, 0, 0)) == 303);
-    assert!(rt; code_with(rt.alloc(), limited(1, 1, 1)) == 0);
-    assert!(rt; code_with(rt.alloc(), limited(1, 1, u32::MAX)) == 0);
+    assert!(rt; CoreFault::NoMemory.code() == 301);
 }

@@ -1,195 +1,94 @@
 //! Steps of clients that all use and watch the default tube.
-use crate::event::Do;
-use crate::play::{Scene, play};
-use crate::want::Want;
-use bq_job::Refusal;
+use crate::play::{Script, play};
 use std::test::Fail;
 
-static LEASES: &[Scene] = &[
-    (
-        "first_cycle",
-        &[
-            (0, 0, Do::Put(5, 0, 10, b"abc"), &[(0, Want::Inserted(1))]),
-            (0, 0, Do::Reserve, &[(0, Want::Reserved(1, b"abc"))]),
-            (0, 0, Do::Delete(1), &[(0, Want::Deleted)]),
-            (0, 0, Do::Quit, &[]),
-            (0, 0, Do::Close, &[(0, Want::Closed)]),
-            (0, 0, Do::Gone, &[]),
-        ],
-    ),
-    (
-        "deadline_soon_behind_two_leases",
-        &[
-            (0, 0, Do::Put(0, 0, 1, b""), &[(0, Want::Inserted(1))]),
-            (0, 0, Do::Put(0, 0, 1, b"a"), &[(0, Want::Inserted(2))]),
-            (0, 0, Do::Reserve, &[(0, Want::Reserved(1, b""))]),
-            (0, 0, Do::Reserve, &[(0, Want::Reserved(2, b"a"))]),
-            (0, 0, Do::Reserve, &[(0, Want::DeadlineSoon)]),
-        ],
-    ),
-    (
-        "lease_expires_to_its_waiter",
-        &[
-            (0, 0, Do::Put(0, 0, 2, b"x"), &[(0, Want::Inserted(1))]),
-            (0, 0, Do::Reserve, &[(0, Want::Reserved(1, b"x"))]),
-            (500, 0, Do::Reserve, &[]),
-            (2000, 0, Do::Tick, &[(0, Want::Reserved(1, b"x"))]),
-            (
-                2500,
-                0,
-                Do::StatsJob(1),
-                &[(
-                    0,
-                    Want::Ok(
-                        b"---\nid: 1\ntube: default\nstate: reserved\npri: 0\nage: 2\ndelay: 0\nttr: 2\n\
-                          time-left: 1\nreserves: 2\ntimeouts: 1\nreleases: 0\nburies: 0\nkicks: 0\n",
-                    ),
-                )],
-            ),
-        ],
-    ),
-    (
-        "deadline_soon_at_one_second",
-        &[
-            (0, 0, Do::Put(0, 0, 2, b"x"), &[(0, Want::Inserted(1))]),
-            (0, 0, Do::Reserve, &[(0, Want::Reserved(1, b"x"))]),
-            (500, 0, Do::Reserve, &[]),
-            (500, 0, Do::Due(Some(1000)), &[]),
-            (999, 0, Do::Tick, &[]),
-            (1000, 0, Do::Tick, &[(0, Want::DeadlineSoon)]),
-        ],
-    ),
+static ONE_TUBE: &[Script] = &[
+    "# first cycle
+    0 0 put 5 0 10 3~abc | 0 INSERTED 1
+    0 0 reserve | 0 RESERVED 1 3~abc
+    0 0 delete 1 | 0 DELETED
+    0 0 quit
+    0 0 close | 0 closed
+    0 0 gone",
+    "# deadline soon behind two leases
+    0 0 put 0 0 1 0~ | 0 INSERTED 1
+    0 0 put 0 0 1 1~a | 0 INSERTED 2
+    0 0 reserve | 0 RESERVED 1 0~
+    0 0 reserve | 0 RESERVED 2 1~a
+    0 0 reserve | 0 DEADLINE_SOON",
+    "# lease expires to its waiter
+    0 0 put 0 0 2 1~x | 0 INSERTED 1
+    0 0 reserve | 0 RESERVED 1 1~x
+    500 0 reserve
+    2000 0 tick | 0 RESERVED 1 1~x
+    2500 0 stats-job 1 | 0 OK 138~---/id: 1/tube: default/state: reserved/pri: 0/age: 2/delay: 0/\
+    ttr: 2/time-left: 1/reserves: 2/timeouts: 1/releases: 0/buries: 0/kicks: 0/",
+    "# deadline soon at one second
+    0 0 put 0 0 2 1~x | 0 INSERTED 1
+    0 0 reserve | 0 RESERVED 1 1~x
+    500 0 reserve
+    500 0 due 1000
+    999 0 tick
+    1000 0 tick | 0 DEADLINE_SOON",
+    "# lease begins at the reserve
+    0 0 put 0 0 2 1~x | 0 INSERTED 1
+    1500 1 reserve | 1 RESERVED 1 1~x
+    1500 2 reserve
+    3499 0 tick
+    3500 0 tick | 2 RESERVED 1 1~x
+    3500 1 delete 1 | 1 NOT_FOUND
+    3500 2 delete 1 | 2 DELETED",
+    "# close hands on
+    0 0 put 0 0 9 1~x | 0 INSERTED 1
+    0 1 reserve | 1 RESERVED 1 1~x
+    0 2 reserve
+    0 0 delete 1 | 0 NOT_FOUND
+    0 0 peek 1 | 0 FOUND 1 1~x
+    0 1 close | 1 closed | 2 RESERVED 1 1~x",
+    "# waiters by ticket
+    0 2 reserve
+    0 1 reserve
+    0 0 put 7 0 9 1~p | 0 INSERTED 1 | 2 RESERVED 1 1~p
+    0 0 put 3 0 9 1~q | 0 INSERTED 2 | 1 RESERVED 2 1~q",
+    "# least by priority then id
+    0 0 put 7 0 9 1~x | 0 INSERTED 1
+    0 0 put 3 0 9 1~y | 0 INSERTED 2
+    0 0 put 3 0 9 1~z | 0 INSERTED 3
+    0 0 reserve | 0 RESERVED 2 1~y
+    0 0 reserve | 0 RESERVED 3 1~z
+    0 0 reserve | 0 RESERVED 1 1~x",
+    "# delayed put
+    0 0 put 0 5 9 1~x | 0 INSERTED 1
+    1000 0 reserve
+    4999 0 tick
+    5000 0 tick | 0 RESERVED 1 1~x",
+    "# draining
+    0 0 put 0 0 9 1~x | 0 INSERTED 1
+    0 60000 drain
+    0 0 put 0 0 9 1~y | 0 DRAINING
+    0 0 reserve | 0 RESERVED 1 1~x",
+    "# falling moment
+    5000 0 tick
+    3000 0 put 0 1 9 1~x | 0 INSERTED 1
+    0 0 reserve
+    5999 0 tick
+    6000 0 tick | 0 RESERVED 1 1~x",
+    "# no such seat
+    0 4 connect
+    0 4 reserve
+    0 65535 close
+    0 3 reserve
+    0 0 put 0 0 9 1~x | 0 INSERTED 1
+    0 0 connect
+    0 0 put | 0 BAD_FORMAT
+    0 0 reserve | 0 RESERVED 1 1~x",
+    "# end of a waiter
+    0 0 reserve
+    0 0 delete 1
+    0 0 end | 0 TIMED_OUT",
 ];
 
 #[test]
-fn leases(rt: HostRuntime) -> Result<(), Fail> {
-    play(rt.alloc(), LEASES)
-}
-
-static HAND_OUTS: &[Scene] = &[
-    (
-        "lease_begins_at_the_reserve",
-        &[
-            (0, 0, Do::Put(0, 0, 2, b"x"), &[(0, Want::Inserted(1))]),
-            (1500, 1, Do::Reserve, &[(1, Want::Reserved(1, b"x"))]),
-            (1500, 2, Do::Reserve, &[]),
-            (3499, 0, Do::Tick, &[]),
-            (3500, 0, Do::Tick, &[(2, Want::Reserved(1, b"x"))]),
-            (3500, 1, Do::Delete(1), &[(1, Want::NotFound)]),
-            (3500, 2, Do::Delete(1), &[(2, Want::Deleted)]),
-        ],
-    ),
-    (
-        "close_hands_on",
-        &[
-            (0, 0, Do::Put(0, 0, 9, b"x"), &[(0, Want::Inserted(1))]),
-            (0, 1, Do::Reserve, &[(1, Want::Reserved(1, b"x"))]),
-            (0, 2, Do::Reserve, &[]),
-            (0, 0, Do::Delete(1), &[(0, Want::NotFound)]),
-            (0, 0, Do::Peek(1), &[(0, Want::Found(1, b"x"))]),
-            (
-                0,
-                1,
-                Do::Close,
-                &[(1, Want::Closed), (2, Want::Reserved(1, b"x"))],
-            ),
-        ],
-    ),
-    (
-        "waiters_by_ticket",
-        &[
-            (0, 2, Do::Reserve, &[]),
-            (0, 1, Do::Reserve, &[]),
-            (
-                0,
-                0,
-                Do::Put(7, 0, 9, b"p"),
-                &[(0, Want::Inserted(1)), (2, Want::Reserved(1, b"p"))],
-            ),
-            (
-                0,
-                0,
-                Do::Put(3, 0, 9, b"q"),
-                &[(0, Want::Inserted(2)), (1, Want::Reserved(2, b"q"))],
-            ),
-        ],
-    ),
-    (
-        "least_by_priority_then_id",
-        &[
-            (0, 0, Do::Put(7, 0, 9, b"x"), &[(0, Want::Inserted(1))]),
-            (0, 0, Do::Put(3, 0, 9, b"y"), &[(0, Want::Inserted(2))]),
-            (0, 0, Do::Put(3, 0, 9, b"z"), &[(0, Want::Inserted(3))]),
-            (0, 0, Do::Reserve, &[(0, Want::Reserved(2, b"y"))]),
-            (0, 0, Do::Reserve, &[(0, Want::Reserved(3, b"z"))]),
-            (0, 0, Do::Reserve, &[(0, Want::Reserved(1, b"x"))]),
-        ],
-    ),
-];
-
-#[test]
-fn hand_outs(rt: HostRuntime) -> Result<(), Fail> {
-    play(rt.alloc(), HAND_OUTS)
-}
-
-static DELAYS_DRAINS_AND_SEATS: &[Scene] = &[
-    (
-        "delayed_put",
-        &[
-            (0, 0, Do::Put(0, 5, 9, b"x"), &[(0, Want::Inserted(1))]),
-            (1000, 0, Do::Reserve, &[]),
-            (4999, 0, Do::Tick, &[]),
-            (5000, 0, Do::Tick, &[(0, Want::Reserved(1, b"x"))]),
-        ],
-    ),
-    (
-        "draining",
-        &[
-            (0, 0, Do::Put(0, 0, 9, b"x"), &[(0, Want::Inserted(1))]),
-            (0, 60_000, Do::Drain, &[]),
-            (0, 0, Do::Put(0, 0, 9, b"y"), &[(0, Want::Draining)]),
-            (0, 0, Do::Reserve, &[(0, Want::Reserved(1, b"x"))]),
-        ],
-    ),
-    (
-        "falling_moment",
-        &[
-            (5000, 0, Do::Tick, &[]),
-            (3000, 0, Do::Put(0, 1, 9, b"x"), &[(0, Want::Inserted(1))]),
-            (0, 0, Do::Reserve, &[]),
-            (5999, 0, Do::Tick, &[]),
-            (6000, 0, Do::Tick, &[(0, Want::Reserved(1, b"x"))]),
-        ],
-    ),
-    (
-        "no_such_seat",
-        &[
-            (0, 4, Do::Connect, &[]),
-            (0, 4, Do::Reserve, &[]),
-            (0, 65_535, Do::Close, &[]),
-            (0, 3, Do::Reserve, &[]),
-            (0, 0, Do::Put(0, 0, 9, b"x"), &[(0, Want::Inserted(1))]),
-            (0, 0, Do::Connect, &[]),
-            (
-                0,
-                0,
-                Do::Refused(Refusal::BadFormat),
-                &[(0, Want::BadFormat)],
-            ),
-            (0, 0, Do::Reserve, &[(0, Want::Reserved(1, b"x"))]),
-        ],
-    ),
-    (
-        "end_of_a_waiter",
-        &[
-            (0, 0, Do::Reserve, &[]),
-            (0, 0, Do::Delete(1), &[]),
-            (0, 0, Do::End, &[(0, Want::TimedOut)]),
-        ],
-    ),
-];
-
-#[test]
-fn delays_drains_and_seats(rt: HostRuntime) -> Result<(), Fail> {
-    play(rt.alloc(), DELAYS_DRAINS_AND_SEATS)
+fn one_tube(rt: HostRuntime) -> Result<(), Fail> {
+    play(rt.alloc(), ONE_TUBE)
 }

@@ -1,51 +1,91 @@
-//! Tables of steps, taken and answered.
+//! Scripts of steps, taken and answered.
 use crate::bench::{Bench, config};
-use crate::event::{Do, step_of};
-use crate::want::{Want, is_wanted};
+use crate::texts::is_wanted;
 use bq_core::Config;
 use bq_job::{Moment, Seat, Step};
 use std::alloc::Global;
 use std::test::Fail;
 
-/// A moment, a seat, what happens there, and the answers that it gives.
-pub(crate) type Example = (Moment, Seat, Do, &'static [(Seat, Want)]);
+/// Steps and what they are answered, in a row each: the moment, the seat, what happens there, and behind each `|` an
+/// answer, with the seat that it goes to. It is answered that and nothing else. `~` is CR LF, and `/` is LF. Of an
+/// answer that begins with `..` only these lines are wanted. A row of `due` is no step: it tells the next due moment.
+/// A row that begins with `#` is a remark.
+pub(crate) type Script = &'static str;
 
-/// A name and the steps of a core of its own.
-pub(crate) type Scene = (&'static str, &'static [Example]);
-
-/// The answers of the last step are those wanted, in their order, and no others, and memory was ample.
-pub(crate) fn is_answered(bench: &mut Bench, wanted: &[(Seat, Want)]) -> bool {
-    for (seat, want) in wanted {
-        let Some((to, answer)) = bench.answer() else {
-            return false;
-        };
-        if to != *seat || !is_wanted(&answer, *want) {
-            return false;
-        }
-    }
-    bench.answer().is_none() && bench.was_ample()
+/// A row of a script.
+#[derive(Drop)]
+struct Row {
+    at: Moment,
+    seat: Seat,
+    words: &'static str,
+    answers: &'static str,
 }
 
-// The step is taken, and answered as the table says.
-fn is_right(alloc: Global, bench: &mut Bench, example: &Example) -> Result<bool, Fail> {
-    let (at, seat, what, wanted) = *example;
-    if let Do::Due(due) = what {
-        return Ok(bench.next_due() == due);
-    }
-    let step = step_of(alloc, what)?;
-    bench.step(at, seat, step);
-    Ok(is_answered(bench, wanted))
+// A number, and what stands behind it.
+fn numbered(text: &'static str) -> Option<(u64, &'static str)> {
+    let (number, rest) = text.split_once(' ')?;
+    Some((number.parse::<u64>().ok()?, rest))
 }
 
-/// The steps of the table are taken, and answered as it says. Else the failure tells the number of the row.
-pub(crate) fn take_all(alloc: Global, bench: &mut Bench, scene: Scene) -> Result<(), Fail> {
-    let (name, examples) = scene;
-    let mut row = 0_u64;
-    for example in examples {
-        if !is_right(alloc, bench, example)? {
-            return Err(Fail::from((name, row)));
+fn seated(text: &'static str) -> Option<(Seat, &'static str)> {
+    let (number, rest) = text.split_once(' ')?;
+    Some((number.parse::<u16>().ok()?, rest))
+}
+
+fn row_of(text: &'static str) -> Option<Row> {
+    let (step, answers) = text.split_once('|').unwrap_or((text, ""));
+    let (at, rest) = numbered(step)?;
+    let (seat, words) = seated(rest)?;
+    Some(Row {
+        at,
+        seat,
+        words: words.trim(),
+        answers,
+    })
+}
+
+// The oldest answer of the last step that is left is this one.
+fn is_next(alloc: Global, bench: &mut Bench, wanted: &'static str) -> Result<bool, Fail> {
+    let (Some((to, answer)), Some((seat, text))) = (bench.answer(), seated(wanted)) else {
+        return Ok(false);
+    };
+    Ok(to == seat && is_wanted(alloc, &answer, text)?)
+}
+
+// The answers of the last step are those wanted, in their order, and no others, and memory was ample.
+fn is_answered(alloc: Global, bench: &mut Bench, answers: &'static str) -> Result<bool, Fail> {
+    for wanted in answers.split('|') {
+        let wanted = wanted.trim();
+        if !wanted.is_empty() && !is_next(alloc, bench, wanted)? {
+            return Ok(false);
         }
-        row = row.saturating_add(1);
+    }
+    Ok(bench.answer().is_none() && bench.was_ample())
+}
+
+// The step of the row is taken, and answered as it says.
+fn is_right(alloc: Global, bench: &mut Bench, row: &Row) -> Result<bool, Fail> {
+    if let Some(due) = row.words.strip_prefix("due ") {
+        return Ok(bench.next_due() == due.parse::<u64>().ok());
+    }
+    Ok(bench.take(row.at, row.seat, row.words)? && is_answered(alloc, bench, row.answers)?)
+}
+
+// The same of a row's text.
+fn is_kept(alloc: Global, bench: &mut Bench, text: &'static str) -> Result<bool, Fail> {
+    match row_of(text) {
+        Some(row) => is_right(alloc, bench, &row),
+        None => Ok(text.starts_with('#')),
+    }
+}
+
+/// The steps of the script are taken, and answered as it says. Else the failure tells the row.
+pub(crate) fn take_all(alloc: Global, bench: &mut Bench, script: Script) -> Result<(), Fail> {
+    for text in script.split('\n') {
+        let text = text.trim();
+        if !is_kept(alloc, bench, text)? {
+            return Err(Fail::from(text));
+        }
     }
     Ok(())
 }
@@ -64,16 +104,16 @@ fn start_with(alloc: Global, config: Config) -> Result<Bench, Fail> {
     Ok(bench)
 }
 
-/// Each scene is played, from its start.
-pub(crate) fn play(alloc: Global, scenes: &[Scene]) -> Result<(), Fail> {
-    play_with(alloc, config(4, 10), scenes)
+/// Each script is played, from its start.
+pub(crate) fn play(alloc: Global, scripts: &[Script]) -> Result<(), Fail> {
+    play_with(alloc, config(4, 10), scripts)
 }
 
-/// Each scene is played, from the start of a core of this configuration.
-pub(crate) fn play_with(alloc: Global, config: Config, scenes: &[Scene]) -> Result<(), Fail> {
-    for scene in scenes {
+/// Each script is played, from the start of a core of this configuration.
+pub(crate) fn play_with(alloc: Global, config: Config, scripts: &[Script]) -> Result<(), Fail> {
+    for script in scripts {
         let mut bench = start_with(alloc, config)?;
-        take_all(alloc, &mut bench, *scene)?;
+        take_all(alloc, &mut bench, script)?;
     }
     Ok(())
 }

@@ -1,8 +1,7 @@
 //! Many jobs and many tubes: each is put, used, watched and listed.
 use crate::bench::Bench;
-use crate::event::{Do, tube};
-use crate::play::{Example, start, take_all};
-use crate::want::Want;
+use crate::play::{Script, start, take_all};
+use crate::texts::tube;
 use bq_job::{Answer, Body, Request, Seat};
 use std::alloc::Global;
 use std::test::Fail;
@@ -10,21 +9,9 @@ use std::test::Fail;
 /// How many tubes there are beside the default tube.
 const TUBES: u32 = 1200;
 
-static AMONG_MANY_TUBES: &[Example] = &[
-    (
-        0,
-        1,
-        Do::Stats,
-        &[(1, Want::Tells(b"current-jobs-ready: 1200\n"))],
-    ),
-    (
-        0,
-        1,
-        Do::Stats,
-        &[(1, Want::Tells(b"current-tubes: 1201\n"))],
-    ),
-    (0, 1, Do::Reserve, &[(1, Want::Reserved(1, b"x"))]),
-];
+static AMONG_MANY_TUBES: Script = "0 1 stats | 1 ..current-jobs-ready: 1200/
+    0 1 stats | 1 ..current-tubes: 1201/
+    0 1 reserve | 1 RESERVED 1 1~x";
 
 fn is_inserted(answer: &Option<(Seat, Answer)>, number: u32) -> bool {
     matches!(answer, Some((0, Answer::Inserted(id))) if *id == u64::from(number))
@@ -149,7 +136,7 @@ fn see_tubes(alloc: Global, bench: &mut Bench) -> Result<(), Fail> {
     use_tubes(alloc, bench)?;
     watch_tubes(bench)?;
     see_lists(alloc, bench)?;
-    take_all(alloc, bench, ("many_tubes", AMONG_MANY_TUBES))
+    take_all(alloc, bench, AMONG_MANY_TUBES)
 }
 
 #[test]
