@@ -1,5 +1,6 @@
 -- The clients that wait, in their turn.
-use Rattle.std.specs.Prelude.{ℕ, Bool, true, false, ◌≡◌, ◌==◌, ◌≤◌, if◌then◌else◌, List, [], ◌∷◌, Option, Some, None, fold, length, slice_get}
+use Rattle.std.specs.Prelude.{ℕ, Bool, true, false, ◌≡◌, ◌==◌, ◌≤◌, if◌then◌else◌, List}
+use Rattle.std.specs.Prelude.{[], ◌∷◌, Option, Some, None, fold, length, slice_get}
 use Rattle.std.specs.List.{AllByRecursion, sum_by}
 use Rattle.bq_job.specs.machine.Changes.{is_pair_before, is_waiting, seat_with}
 use Rattle.bq_job.specs.machine.Machine.{SeatRecord}

@@ -1,7 +1,8 @@
 //! What is known of the jobs, the seats and the tubes without a search.
 ghost use Rattle.std.specs.Prelude.{◌≡◌};
 ghost use Rattle.std.specs.Option.{option_copied};
-ghost use Rattle.bq_core.specs.Knowledge.{nothing_known, with_forgotten, with_job, with_joined, with_left, with_moved, with_tube_changed, without_job};
+ghost use Rattle.bq_core.specs.Knowledge.{nothing_known, with_forgotten, with_job, with_joined};
+ghost use Rattle.bq_core.specs.Knowledge.{with_left, with_moved, with_tube_changed, without_job};
 
 use crate::seat_list::SeatChange;
 use crate::seat_record::SeatRecord;

@@ -4,7 +4,8 @@ ghost use Rattle.std.specs.List.{position, prefix_len, slice_get};
 ghost use Rattle.std.specs.Option.{option_copied};
 ghost use Rattle.std.specs.Vec.{vec_capacity};
 ghost use Rattle.bq_core.specs.Places.{item_at};
-ghost use Rattle.bq_core.specs.WaitingTurns.{IsRising, is_none_or_before, is_turn_after, is_turn_before, placed, removed, with_turn, without_turn};
+ghost use Rattle.bq_core.specs.WaitingTurns.{IsRising, is_none_or_before, is_turn_after, is_turn_before};
+ghost use Rattle.bq_core.specs.WaitingTurns.{placed, removed, with_turn, without_turn};
 
 use crate::seat_record::{SeatRecord, Turn};
 use bq_job::{NoMemory, Seat};

@@ -1,4 +1,5 @@
-ghost use Rattle.std.specs.Prelude.{ℕ, ◌≡◌, ◌+◌, ◌<◌, ◌≤◌, ◌∷◌, ◌++◌, [], false, true, List, IfErr, IfNone, IfOk, IfSome, IsOk, OnErr, OnOk, length};
+ghost use Rattle.std.specs.Prelude.{ℕ, ◌≡◌, ◌+◌, ◌<◌, ◌≤◌, ◌∷◌, ◌++◌, [], false, true};
+ghost use Rattle.std.specs.Prelude.{List, IfErr, IfNone, IfOk, IfSome, IsOk, OnErr, OnOk, length};
 ghost use Rattle.bq_job.specs.declared.step.Step.{Step as AStep};
 ghost use Rattle.bq_link.specs.EndChanges.{with_room, with_sent, with_told};
 ghost use Rattle.bq_link.specs.EndStates.{IsPair, ring_places, room_for, sent_to};

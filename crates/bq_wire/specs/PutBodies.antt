@@ -1,5 +1,6 @@
 -- The body of a put, as far as it has come.
-use Rattle.std.specs.Prelude.{ℕ, ◌≡◌, ◌≤◌, ◌+◌, Bool, true, false, ◌&&◌, ◌==◌, List, [], ◌∷◌, ◌++◌, length, take, drop, Option, Some, None, IfSome, IsSomeAnd}
+use Rattle.std.specs.Prelude.{ℕ, ◌≡◌, ◌≤◌, ◌+◌, Bool, true, false, ◌&&◌, ◌==◌, List, []}
+use Rattle.std.specs.Prelude.{◌∷◌, ◌++◌, length, take, drop, Option, Some, None, IfSome, IsSomeAnd}
 use Rattle.bq_job.specs.beside.BodySoFar.{BodySoFar}
 use Rattle.bq_wire.specs.declared.put_body.PutBody.{PutBody}
 

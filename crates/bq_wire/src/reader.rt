@@ -5,7 +5,8 @@ ghost use Rattle.bq_job.specs.reading.Reading.{Reads, is_quit};
 ghost use Rattle.bq_wire.specs.Asked.{asked_by};
 ghost use Rattle.bq_wire.specs.HasRead.{HasRead, HasReadText, ReadsOn};
 ghost use Rattle.bq_wire.specs.PutBodies.{HasBodyRoom, IsBodySoFar};
-ghost use Rattle.bq_wire.specs.Standing.{IsOver, IsSoundPlace, IsSoundReader, Stands, StandsAt, Feeds, Keeps, EndsLineAsking, Waits, HandsRequest, but_last};
+ghost use Rattle.bq_wire.specs.Standing.{IsOver, IsSoundPlace, IsSoundReader, Stands, StandsAt, Feeds};
+ghost use Rattle.bq_wire.specs.Standing.{Keeps, EndsLineAsking, Waits, HandsRequest, but_last};
 ghost use Rattle.bq_wire.specs.declared.reader_state.ReaderPlace.TheVariants.{InLine, InLongLine, InBody, Over};
 
 use crate::line_end::{ends_in_cr, line_end_after};
