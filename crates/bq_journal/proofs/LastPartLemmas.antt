@@ -1,7 +1,7 @@
 -- The last parts of lists.
 use Rattle.std.proofs.Common.{◌≡◌, ℕ, ◌+◌, ◌-◌, ◌≤◌, List, [], ◌++◌, drop, take, length, sym, ap, ◌∙◌, arith, append_assoc, append-nil}
 use Rattle.std.proofs.lemmas.List.{drop-append-le, drop-drop, length-append, length-drop, take-append-drop}
-use Rattle.bq_desk.specs.LastParts.{EndsWith, last_part}
+use Rattle.bq_run_one.specs.LastParts.{EndsWith, last_part}
 
 pub all_of_few : {X : Type 0} (n : ℕ) (xs : List X) → length xs ≤ n → last_part n xs ≡ xs
 all_of_few n xs few = let none : length xs - n ≡ 0 = omega (arith, few) in ap (λ (k : ℕ). drop k xs) none

@@ -10,7 +10,7 @@ mod outboxes;
 
 use bq_core::{Config, Core, CoreFault, Outs};
 use bq_job::{Answer, Entry, Moment, Seat, Step};
-use bq_start::RunFault;
+use bq_run_start::RunFault;
 use journal::Journal;
 use outboxes::Outboxes;
 use std::alloc::Global;

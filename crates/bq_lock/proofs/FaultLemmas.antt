@@ -4,8 +4,8 @@ use Rattle.std.specs.Prelude.{◌↔◌, IsErrOf, IsTrue, Result, Ok, Err}
 use Rattle.std.proofs.lemmas.Bool.{cases_Bool, eq-eqb}
 use Rattle.bq_job.specs.declared.settings.Settings.{Settings}
 use Rattle.bq_steps.specs.Limits.{are_in_range}
-use Rattle.bq_start.specs.declared.fault.RunFault.{RunFault}
-use Rattle.bq_start.specs.declared.fault.RunFault.TheVariants.{BadConfiguration, NoMemory}
+use Rattle.bq_run_start.specs.declared.fault.RunFault.{RunFault}
+use Rattle.bq_run_start.specs.declared.fault.RunFault.TheVariants.{BadConfiguration, NoMemory}
 
 pub no_memory_is_another : {A : Type 0} (x y : Result A RunFault) → x ≡ Err NoMemory → y ≡ Err BadConfiguration → x ≡ y → ⊥
 no_memory_is_another x y a b e = cc

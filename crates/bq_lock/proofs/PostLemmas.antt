@@ -7,10 +7,10 @@ use Rattle.bq_job.specs.declared.step.Step.{Step}
 use Rattle.bq_seat.specs.Past.{Awaited}
 use Rattle.bq_seat.specs.SeatStands.{awaited}
 use Rattle.bq_lock.specs.LockedRuns.{IsServedToEnd}
-use Rattle.bq_attend.specs.Tending.{DoorSeen, IsTended, door_seen}
-use Rattle.bq_attend.specs.declared.attendant.Attendant.{Attendant}
-use Rattle.bq_attend.specs.declared.attendant.LinePlace.TheVariants as places
-use Rattle.bq_attend.proofs.TendingLemmas.{tended_done, tended_new}
+use Rattle.bq_driver.specs.Tending.{DoorSeen, IsTended, door_seen}
+use Rattle.bq_driver.specs.declared.attendant.Attendant.{Attendant}
+use Rattle.bq_driver.specs.declared.attendant.LinePlace.TheVariants as places
+use Rattle.bq_driver.proofs.TendingLemmas.{tended_done, tended_new}
 
 pub tended_first : {L D : Type 0} (seen : L → LineSeen) (is_out is_at_end : D → Bool) (lines_over : D → List LineOver) (a : Attendant L) (door : D)
     → a.place ≡ places.Between → awaited a.machine ≡ Awaited.ALine → is_out door ≡ false → is_at_end door ≡ false → lines_over door ≡ []

@@ -2,8 +2,8 @@
 ghost use Rattle.std.specs.Prelude.{◌≡◌, ◌≤◌};
 
 use crate::bells::{Bells, Rings};
-use bq_attend::control::ControlLink;
-use bq_attend::link::Link;
+use bq_driver::control::ControlLink;
+use bq_driver::link::Link;
 use bq_job::{Answer, Seat, Step};
 use bq_seat::Action;
 use std::mem;

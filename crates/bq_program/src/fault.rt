@@ -4,7 +4,7 @@ ghost use Rattle.bq_program.specs.Faults.{fault_of_end, fault_of_run, fault_text
 
 use crate::chosen::OptionFault;
 use bq_job::LineEnd;
-use bq_start::RunFault;
+use bq_run_start::RunFault;
 
 /// What a program needs memory for.
 #[derive(Clone, Copy, Debug, PartialEq, Eq)]

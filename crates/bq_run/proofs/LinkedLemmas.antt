@@ -18,11 +18,11 @@ use Rattle.bq_job.specs.machine.Steps.{IsStep, Outcome}
 use Rattle.bq_job.specs.beside.Ties.{AreTied}
 use Rattle.bq_link.specs.EndStates.{CoreState, SeatState, sent_to}
 use Rattle.bq_link.specs.Submissions.{AreBelow, steps_of}
-use Rattle.bq_attend.specs.Tending.{DoorSeen, IsDoorServed}
-use Rattle.bq_attend.specs.declared.control_line.ControlLine.{ControlLine}
+use Rattle.bq_driver.specs.Tending.{DoorSeen, IsDoorServed}
+use Rattle.bq_driver.specs.declared.control_line.ControlLine.{ControlLine}
 use Rattle.bq_job.proofs.JoinLemmas.{doors_owed}
-use Rattle.bq_hub.specs.Compared.{AreCompared}
-use Rattle.bq_hub.specs.CoreWork.{IsCoreDone}
+use Rattle.bq_core_work.specs.Compared.{AreCompared}
+use Rattle.bq_core_work.specs.CoreWork.{IsCoreDone}
 use Rattle.bq_link.specs.Ticks.{IsTickless}
 use Rattle.bq_run.specs.Linked.{AreSettled, AreStill, IsCoreStill, IsEndOf, IsLinked, IsSettled}
 use Rattle.bq_run.specs.Threads.{AreServed, IsControlOver, IsCoreOver}

@@ -3,10 +3,10 @@ use Rattle.std.proofs.Common.{ℕ, ◌≡◌, ◌∙◌, ◌+◌, List, Option, 
 use Rattle.bq_job.specs.declared.settings.Settings.{Settings}
 use Rattle.bq_job.specs.machine.Machine.{Machine}
 use Rattle.bq_link.specs.EndStates.{CoreState, IsSameCore}
-use Rattle.bq_hub.specs.CoreWork.{RanToEnd}
-use Rattle.bq_hub.specs.Shared.{HasBegun}
-use Rattle.bq_hub.specs.Worked.{IsAtWork}
-use Rattle.bq_hub.specs.declared.core_work.hub.Hub.{Hub}
+use Rattle.bq_core_work.specs.CoreWork.{RanToEnd}
+use Rattle.bq_core_work.specs.Shared.{HasBegun}
+use Rattle.bq_core_work.specs.Worked.{IsAtWork}
+use Rattle.bq_core_work.specs.declared.core_work.hub.Hub.{Hub}
 use Rattle.bq_run.specs.Threads.{IsCoreOver}
 
 abbrev some_or : {X : Type 0} → X → Option X → X

@@ -6,13 +6,13 @@ use Rattle.bq_job.specs.declared.settings.Settings.{Settings}
 use Rattle.bq_steps.specs.Limits.{are_in_range}
 use Rattle.std.specs.List.{All}
 use Rattle.std.proofs.lemmas.List.{length-append}
-use Rattle.bq_attend.specs.Tending.{DoorSeen, IsDoorServed}
-use Rattle.bq_start.specs.declared.fault.RunFault.{RunFault}
-use Rattle.bq_start.specs.declared.fault.RunFault.TheVariants.{BadConfiguration, NoMemory}
+use Rattle.bq_driver.specs.Tending.{DoorSeen, IsDoorServed}
+use Rattle.bq_run_start.specs.declared.fault.RunFault.{RunFault}
+use Rattle.bq_run_start.specs.declared.fault.RunFault.TheVariants.{BadConfiguration, NoMemory}
 use Rattle.bq_link.specs.EndStates.{CoreState, IsSameCore, IsSameSeat, SeatState}
 use Rattle.bq_link.specs.NewEnds.{AreNewSeats}
 use Rattle.atomic_table.specs.Seated.{TableId}
-use Rattle.bq_ends.specs.Ends.{IsNewEnd}
+use Rattle.bq_seat_work.specs.Ends.{IsNewEnd}
 use Rattle.bq_run.specs.Linked.{ArePaired}
 use Rattle.bq_run.specs.Threads.{AreServed}
 

@@ -3,11 +3,11 @@ use Rattle.std.specs.Prelude.{ℕ, ◌≡◌, ◌||◌, Bool, true, IsTrue, List
 use Rattle.bq_job.specs.declared.settings.Settings.{Settings}
 use Rattle.bq_job.specs.promise.ControlDid.{IsControlDone}
 use Rattle.bq_job.specs.machine.Machine.{Machine}
-use Rattle.bq_attend.specs.ControlRead.{IsReadToEnd}
-use Rattle.bq_attend.specs.Tending.{AreSame, DoorSeen, IsDoorServed}
-use Rattle.bq_attend.specs.declared.control_line.ControlLine.{ControlLine}
+use Rattle.bq_driver.specs.ControlRead.{IsReadToEnd}
+use Rattle.bq_driver.specs.Tending.{AreSame, DoorSeen, IsDoorServed}
+use Rattle.bq_driver.specs.declared.control_line.ControlLine.{ControlLine}
 use Rattle.bq_link.specs.EndStates.{CoreState, IsSameCore, IsSameSeat, SeatState}
-use Rattle.bq_hub.specs.CoreWork.{Gives, IsCoreDone}
+use Rattle.bq_core_work.specs.CoreWork.{Gives, IsCoreDone}
 use Rattle.bq_run.specs.declared.sessions.posts.EndedEnds.{EndedEnds}
 
 -- The seats' threads are over, in the order of their seats: each has the end that it began with, and served its

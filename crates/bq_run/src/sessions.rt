@@ -2,18 +2,18 @@
 ghost use Rattle.std.specs.Prelude.{◌≡◌, ◌↔◌, ◌++◌, ◌∷◌, ◌&&◌, ◌==◌, [], false, true, not, map, IfOk, IsErrOf, IsTrue, vec_len};
 ghost use Rattle.std.specs.List.{All};
 ghost use Rattle.bq_steps.specs.Limits.{are_in_range};
-ghost use Rattle.bq_attend.specs.Tending.{AreSame, IsNewDoor, door_seen};
+ghost use Rattle.bq_driver.specs.Tending.{AreSame, IsNewDoor, door_seen};
 ghost use Rattle.bq_run.specs.Linked.{ArePaired, AreSettled, AreStill, IsCoreStill};
 ghost use Rattle.bq_run.specs.Sessions.{IsRunOf};
 
-use bq_attend::control_line::ControlLine;
-use bq_attend::control_reader::ControlReader;
+use bq_driver::control_line::ControlLine;
+use bq_driver::control_reader::ControlReader;
 use bq_job::steps_keep_settings;
 use bq_line::Door;
 use bq_line::clock::Clock;
 use bq_line::line::Line;
 use bq_link::{CoreEnd, Intake, NoTicks, SeatEnd, links};
-use bq_start::{RunFault, Start};
+use bq_run_start::{RunFault, Start};
 use bq_steps::{Config, QueueCore};
 use core_post::NewCore;
 use new_posts::new_posts;

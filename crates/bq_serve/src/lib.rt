@@ -6,15 +6,15 @@
 //! here it has that of `bq_core`.
 #![tactic(auto)]
 
-pub use bq_attend::control_line::Heard;
-pub use bq_attend::control_reader::{ControlReader, next_of};
-pub use bq_desk::{One, run_one};
-pub use bq_ends::{control_work, seat_work};
-pub use bq_hub::core_work;
+pub use bq_core_work::core_work;
+pub use bq_driver::control_line::Heard;
+pub use bq_driver::control_reader::{ControlReader, next_of};
 pub use bq_journal::Locked;
 pub use bq_line::{Door, DoorFault, Listen, ListenDoor, MemDoor, Refusals, TcpDoor, clock, line};
 pub use bq_lock::{LockedRun, run_locked};
-pub use bq_start::RunFault;
+pub use bq_run_one::{One, run_one};
+pub use bq_run_start::RunFault;
+pub use bq_seat_work::{control_work, seat_work};
 pub use sessions::{Run, run_sessions};
 
 mod sessions;

@@ -2,8 +2,8 @@
 
 ghost use Rattle.std.specs.Prelude.{true};
 
-use bq_attend::control_line::Heard;
-use bq_attend::control_reader::{ControlReader, next_of};
+use bq_driver::control_line::Heard;
+use bq_driver::control_reader::{ControlReader, next_of};
 use std::io;
 use std::io::{BufRead, ErrorKind, Read};
 

@@ -3,7 +3,7 @@
 //! before it serves, lets one of them wait for good.
 ghost use Rattle.std.specs.Prelude.{◌≡◌, IfOk};
 ghost use Rattle.std.specs.List.{All};
-ghost use Rattle.bq_attend.specs.Tending.{IsNewDoor, door_seen};
+ghost use Rattle.bq_driver.specs.Tending.{IsNewDoor, door_seen};
 
 mod awaited;
 mod guest;

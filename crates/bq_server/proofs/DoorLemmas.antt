@@ -2,9 +2,9 @@
 use Rattle.std.proofs.Common.{◌≡◌, ◌∙◌, ℕ, ◌+◌, zero, suc, Bool, false, true, List, [], ◌∷◌, Option, Some, None, length, ap, sym, refl, arith}
 use Rattle.std.specs.List.{All}
 use Rattle.std.specs.declared.net.tcp.TcpListener.{TcpListener}
-use Rattle.bq_attend.specs.Tending.{AreSame}
+use Rattle.bq_driver.specs.Tending.{AreSame}
 use Rattle.bq_line.specs.InAll.{in_all}
-use Rattle.bq_start.proofs.ListLemmas.{first_passes, rest_passes}
+use Rattle.bq_run_start.proofs.ListLemmas.{first_passes, rest_passes}
 use Rattle.bq_job.specs.promise.History.{LineOver}
 use Rattle.bq_server.specs.Servers.{IsDoorAt, TcpDoor}
 

@@ -4,8 +4,8 @@ ghost use Rattle.bq_program.specs.Ranges.{IsForBqd};
 ghost use Rattle.bq_server.specs.Servers.{IsStatusOfProgram};
 
 use crate::server::listen_and_serve;
-use bq_attend::control_reader::ControlReader;
 use bq_core::Core;
+use bq_driver::control_reader::ControlReader;
 use bq_program::{BqdOptions, OptionFault, Program, Stop, bqd_options, tell_stop, words};
 use bq_steps::QueueCore;
 use std::io::{BufReader, Eprint, Print, Read};

@@ -1,7 +1,7 @@
 //! All that the server does, from its options to its status.
 ghost use Rattle.std.specs.Prelude.{◌≡◌, ◌≤◌, ◌↔◌, ◌&&◌, ◌==◌, IfErr, IfOk, IsErrOf, IsTrue, false, not, true, vec_len};
 ghost use Rattle.std.specs.List.{All, list_any};
-ghost use Rattle.bq_attend.specs.Tending.{AreSame, IsNewDoor, door_seen};
+ghost use Rattle.bq_driver.specs.Tending.{AreSame, IsNewDoor, door_seen};
 ghost use Rattle.bq_program.specs.Chosen.{of_bqd};
 ghost use Rattle.bq_server.specs.Servers.{IsDoorAt, IsServerRun, IsStatusOfListening, IsStatusOfServer, MayRefuse};
 ghost use Rattle.bq_server.specs.Servers.{came_of_run, settings_of};
@@ -9,8 +9,8 @@ ghost use Rattle.bq_run.specs.Sessions.{IsRunOf};
 ghost use Rattle.bq_steps.specs.Limits.{are_in_range};
 
 use crate::telling_clock::TellingClock;
-use bq_attend::control_reader::ControlReader;
 use bq_core::{Config, Core};
+use bq_driver::control_reader::ControlReader;
 use bq_job::NoMemory;
 use bq_line::line::ReadBuffer;
 use bq_line::{Door, FreeDoors, Refusals, TcpDoor, clock};
@@ -18,7 +18,7 @@ use bq_program::{
     BqdOptions, Fault, Need, Options, Program, tell_cannot_listen, tell_fault, tell_server,
 };
 use bq_run::{Run, run_sessions};
-use bq_start::RunFault;
+use bq_run_start::RunFault;
 use bq_steps::QueueCore;
 use std::alloc::Global;
 use std::io::{BufReader, Eprint, Print, Read};

@@ -5,11 +5,11 @@ ghost use Rattle.bq_session.specs.Sessions.{IsSession, IsSessionFor, settings_of
 ghost use Rattle.bq_program.specs.Ranges.{IsForBq};
 
 use bq_core::Config;
-use bq_desk::run_one;
 use bq_job::LineEnd;
 use bq_line::clock::{Clock, MachineClock, ScriptClock};
 use bq_line::line::{Duplex, IoLine, Line};
 use bq_program::{BqOptions, Fault, Need, Stop, bq_options};
+use bq_run_one::run_one;
 use std::alloc::{AllocError, Global};
 use std::convert::AsStr;
 use std::rt;

@@ -6,8 +6,8 @@ ghost use Rattle.bq_journal.specs.LockedState.{AreFew, oldest_for, without_oldes
 ghost use Rattle.bq_journal.specs.LockedSteps.{AreDelivered};
 
 use bq_core::Outs;
-use bq_desk::mail::{Mail, new_mails};
 use bq_job::{Answer, NoMemory, Seat};
+use bq_run_one::mail::{Mail, new_mails};
 use std::alloc::Global;
 
 /// An outbox for each seat, and whom the last step answered.

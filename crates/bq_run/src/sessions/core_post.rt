@@ -3,13 +3,13 @@ ghost use Rattle.std.specs.Prelude.{◌≡◌, ◌<◌, ◌+◌, ◌↔◌, [], 
 ghost use Rattle.bq_job.specs.machine.Machine.{new_machine};
 ghost use Rattle.bq_steps.specs.Limits.{are_in_range};
 ghost use Rattle.bq_link.specs.NewEnds.{IsNewCore};
-ghost use Rattle.bq_hub.specs.CoreWork.{IsNewRoom};
+ghost use Rattle.bq_core_work.specs.CoreWork.{IsNewRoom};
 
 use crate::sessions::locked_core::LockedCore;
-use bq_hub::core_work::{CoreRoom, Hub, Origin, SharedHub};
+use bq_core_work::core_work::{CoreRoom, Hub, Origin, SharedHub};
 use bq_line::clock::Clock;
 use bq_link::{CoreEnd, Intake, NoTicks};
-use bq_start::RunFault;
+use bq_run_start::RunFault;
 use bq_steps::{Config, CoreFault, Outs, QueueCore};
 use std::alloc::Global;
 

@@ -4,11 +4,11 @@ ghost use Rattle.bq_job.specs.declared.settings.Settings.{Settings};
 ghost use Rattle.bq_link.specs.EndStates.{CoreState};
 ghost use Rattle.bq_run.specs.Threads.{IsCoreOver};
 
-use bq_ends::end_seat::SharedCore;
-use bq_hub::core_work::{Answered, Origin, SharedHub, run_out};
+use bq_core_work::core_work::{Answered, Origin, SharedHub, run_out};
 use bq_job::Seat;
 use bq_line::clock::Clock;
 use bq_link::{CoreEnd, Intake, NoTicks};
+use bq_seat_work::end_seat::SharedCore;
 use bq_steps::QueueCore;
 use std::sync::atomic::{AtomicBool, Ordering};
 use std::sync::{Mutex, Wait};

@@ -1,11 +1,11 @@
 //! What the threads of a run begin with, and what they give back.
 ghost use Rattle.std.specs.Prelude.{◌≡◌};
 ghost use Rattle.std.specs.List.{All};
-ghost use Rattle.bq_ends.specs.Ends.{IsNewEnd};
+ghost use Rattle.bq_seat_work.specs.Ends.{IsNewEnd};
 
 use crate::sessions::core_post::CorePost;
 use crate::sessions::seat_post::SeatPost;
-use bq_attend::control_line::ControlLine;
+use bq_driver::control_line::ControlLine;
 use bq_line::Door;
 use bq_link::{CoreEnd, Intake, NoTicks, SeatEnd};
 use bq_steps::QueueCore;

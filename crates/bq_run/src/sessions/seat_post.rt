@@ -3,19 +3,19 @@ ghost use Rattle.std.specs.Prelude.{◌≡◌, IfOk, IfSome, IsTrue};
 ghost use Rattle.bq_steps.specs.Limits.{is_body_size};
 ghost use Rattle.bq_seat.specs.Past.{Awaited};
 ghost use Rattle.bq_seat.specs.SeatStands.{awaited};
-ghost use Rattle.bq_attend.specs.Tending.{IsDoorServed, IsNewDoor, door_seen};
+ghost use Rattle.bq_driver.specs.Tending.{IsDoorServed, IsNewDoor, door_seen};
 ghost use Rattle.bq_link.specs.EndStates.{IsSameSeat};
-ghost use Rattle.bq_ends.specs.Ends.{IsNewEnd};
+ghost use Rattle.bq_seat_work.specs.Ends.{IsNewEnd};
 
-use bq_attend::room::AnswerRoom;
-use bq_ends::end_seat::SharedCore;
-use bq_ends::seat_work::seat_work;
+use bq_driver::room::AnswerRoom;
 use bq_job::NoMemory;
 use bq_line::Door;
 use bq_line::line::Line;
 use bq_link::{Intake, NoTicks, SeatEnd};
+use bq_run_start::Start;
 use bq_seat::SeatMachine;
-use bq_start::Start;
+use bq_seat_work::end_seat::SharedCore;
+use bq_seat_work::seat_work::seat_work;
 use std::alloc::Global;
 use std::sync::Wait;
 

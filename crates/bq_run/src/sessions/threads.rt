@@ -1,23 +1,23 @@
 //! The threads of a run: they start together or not at all, and give back what they served.
 ghost use Rattle.std.specs.Prelude.{◌≡◌, [], Some, IfOk, IfSome, IsErrOf, IsTrue, map, reverse, vec_len};
 ghost use Rattle.std.specs.List.{All};
-ghost use Rattle.bq_attend.specs.Tending.{AreSame, IsDoorServed, door_seen};
+ghost use Rattle.bq_driver.specs.Tending.{AreSame, IsDoorServed, door_seen};
 ghost use Rattle.bq_link.specs.EndStates.{IsSameSeat};
 ghost use Rattle.bq_run.specs.Threads.{AreOver, AreServed, IsControlOver, IsCoreOver};
 
 use crate::sessions::locked_core::LockedCore;
 use crate::sessions::posts::{ControlPost, EndPosts, Ended, EndedEnds, Posts};
 use crate::sessions::seat_post::SeatPost;
-use bq_attend::control_line::ControlLine;
-use bq_attend::control_reader::ControlReader;
-use bq_ends::control_work::control_work;
-use bq_ends::end_seat::SharedCore;
-use bq_hub::core_work::Origin;
+use bq_core_work::core_work::Origin;
+use bq_driver::control_line::ControlLine;
+use bq_driver::control_reader::ControlReader;
 use bq_line::Door;
 use bq_line::clock::Clock;
 use bq_line::line::Line;
 use bq_link::SeatEnd;
-use bq_start::{RunFault, Start};
+use bq_run_start::{RunFault, Start};
+use bq_seat_work::control_work::control_work;
+use bq_seat_work::end_seat::SharedCore;
 use bq_steps::QueueCore;
 use std::alloc::Global;
 use std::snapshot::Snapshot;

@@ -4,8 +4,8 @@ ghost use Rattle.std.specs.Prelude.{true};
 
 use super::awaited::Meeting;
 use super::guest::GUESTS;
-use bq_attend::control_line::Heard;
-use bq_attend::control_reader::{ControlReader, next_of};
+use bq_driver::control_line::Heard;
+use bq_driver::control_reader::{ControlReader, next_of};
 use std::io;
 use std::io::{BufRead, ErrorKind, Read};
 

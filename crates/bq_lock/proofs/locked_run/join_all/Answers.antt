@@ -1,9 +1,9 @@
 use Rattle.std.proofs.Common.{◌≡◌, ℕ, arith, subst}
 use Rattle.std.specs.Prelude.{IfSome}
 use Rattle.bq_lock.specs.LockedRuns.{IsServedToEnd}
-use Rattle.bq_attend.specs.Tending.{door_seen}
-use Rattle.bq_start.proofs.ListLemmas.{all_pushed, first_passes, rest_passes}
-use Rattle.bq_attend.proofs.BackLemmas.{one_back}
+use Rattle.bq_driver.specs.Tending.{door_seen}
+use Rattle.bq_run_start.proofs.ListLemmas.{all_pushed, first_passes, rest_passes}
+use Rattle.bq_driver.proofs.BackLemmas.{one_back}
 use Rattle.bq_lock.proofs.locked_run.join_all.Goals as goal
 
 pub loop-thread-preserved : goal.loop-thread-preserved

@@ -1,8 +1,8 @@
 use Rattle.std.proofs.Common.{◌≡◌, ◌-◌, ◌∙◌, List, subst, sym, arith, vec_len}
 use Rattle.std.specs.List.{All}
 use Rattle.std.proofs.lemmas.List.Elements.{All-take}
-use Rattle.bq_attend.specs.Tending.{IsNewDoor, door_seen}
-use Rattle.bq_start.proofs.ListLemmas.{all_pushed, put_behind}
+use Rattle.bq_driver.specs.Tending.{IsNewDoor, door_seen}
+use Rattle.bq_run_start.proofs.ListLemmas.{all_pushed, put_behind}
 use Rattle.bq_lock.proofs.locked_run.new_posts.Goals as goal
 
 pub loop-door-preserved : goal.loop-door-preserved

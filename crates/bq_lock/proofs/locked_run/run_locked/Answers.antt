@@ -1,7 +1,7 @@
 use Rattle.std.proofs.Common.{◌≡◌, ◌∙◌, ap, vec_len, refl, arith, Err}
 use denote.Exit.{yes}
 use denote.Param.Send.{arg_sync, param_sync}
-use Rattle.bq_start.specs.declared.fault.RunFault.TheVariants.{BadConfiguration}
+use Rattle.bq_run_start.specs.declared.fault.RunFault.TheVariants.{BadConfiguration}
 use Rattle.bq_lock.proofs.FaultLemmas.{no_memory_is_another, well_configured}
 use Rattle.bq_lock.proofs.SendLemmas.{desk_sends}
 use Rattle.std.proofs.sync.Mutex.TheSendSync.{the_sync}

@@ -2,8 +2,8 @@ use Rattle.std.proofs.Common.{◌≡◌, ◌∙◌, List, ap, false, map, true, 
 use Rattle.std.specs.List.{All}
 use Rattle.std.specs.Prelude.{reverse}
 use Rattle.bq_job.specs.declared.settings.Settings.{Settings}
-use Rattle.bq_attend.specs.Tending.{AreSame, door_seen}
-use Rattle.bq_start.specs.declared.fault.RunFault.TheVariants.{BadConfiguration}
+use Rattle.bq_driver.specs.Tending.{AreSame, door_seen}
+use Rattle.bq_run_start.specs.declared.fault.RunFault.TheVariants.{BadConfiguration}
 use Rattle.bq_link.specs.EndStates.{SeatState}
 use Rattle.bq_run.specs.Sessions.{IsRunOf}
 use Rattle.bq_run.proofs.LinkedLemmas.{all_at_end, all_done, core_keeps, core_over_of, run_joined, served_of, still_doored}

@@ -1,6 +1,6 @@
 use Rattle.std.proofs.Common.{◌≡◌, List, subst, sym, arith}
-use Rattle.bq_attend.specs.Tending.{IsNewDoor}
-use Rattle.bq_start.proofs.ListLemmas.{all_pushed}
+use Rattle.bq_driver.specs.Tending.{IsNewDoor}
+use Rattle.bq_run_start.proofs.ListLemmas.{all_pushed}
 use Rattle.bq_server.specs.Servers.{IsDoorAt, TcpDoor}
 use Rattle.bq_server.proofs.server.new_doors.Goals as goal
 

@@ -1,5 +1,5 @@
 use Rattle.std.proofs.Common.{◌++◌, ℕ, [], subst}
-use Rattle.bq_attend.specs.Tending.{IsTended, door_seen}
+use Rattle.bq_driver.specs.Tending.{IsTended, door_seen}
 use Rattle.bq_lock.proofs.PostLemmas.{tended_first}
 use Rattle.bq_lock.proofs.post.Post.serve.Goals as goal
 

@@ -1,8 +1,8 @@
 use Rattle.std.proofs.Common.{◌≡◌, ◌++◌, List, map}
 use Rattle.std.specs.List.{All}
-use Rattle.bq_attend.specs.Tending.{door_seen}
+use Rattle.bq_driver.specs.Tending.{door_seen}
 use Rattle.bq_link.specs.EndStates.{SeatState}
-use Rattle.bq_attend.proofs.BackLemmas.{AreBack}
+use Rattle.bq_driver.proofs.BackLemmas.{AreBack}
 use Rattle.bq_run.specs.Threads.{AreServed}
 use Rattle.bq_run.proofs.sessions.threads.join_seats.Given as goal
 

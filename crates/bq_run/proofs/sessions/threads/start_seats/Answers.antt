@@ -1,5 +1,5 @@
 use Rattle.std.proofs.Common.{◌≡◌, ◌-◌, ◌∙◌, vec_len, ap}
-use Rattle.bq_start.proofs.ListLemmas.{all_pushed, all_taken, handed_on, popped_passes}
+use Rattle.bq_run_start.proofs.ListLemmas.{all_pushed, all_taken, handed_on, popped_passes}
 use Rattle.bq_run.proofs.sessions.threads.start_seats.Goals as goal
 
 pub loop-post-preserved : goal.loop-post-preserved

@@ -1,0 +1,183 @@
+-- How the control line is read, byte by byte.
+use Rattle.std.proofs.Common.{◌≡◌, ℕ, ◌+◌, zero, suc, Bool, true, false, ◌&&◌, ◌==◌, List, [], ◌∷◌, ◌++◌, refl, sym, ap, ◌∙◌, take, length, append_assoc, append-nil, arith, replicate, subst, inl, inr, Option, Some, None, IfSome, true≢false, if◌then◌else◌}
+use Rattle.std.proofs.lemmas.List.{replicate-append-replicate}
+use Rattle.std.proofs.lemmas.Bool.{cases_Bool}
+use Rattle.std.specs.Prelude.{nat_eq}
+use Rattle.std.specs.Cmp.Lexicographic.{pointwise}
+use Rattle.bq_job.specs.promise.ControlDid.{are_same, drain_word, drains, drains_from, one_if}
+use Rattle.bq_job.specs.declared.step.Step.{Step}
+use Rattle.bq_job.specs.declared.step.Step.TheVariants.{Drain}
+use Rattle.std.specs.Io.KnownBytes.{Consumes, IsAtEnd, Keeps}
+use Rattle.bq_driver.specs.ControlRead.{HasRead, IsReadToEnd}
+use Rattle.bq_driver.specs.ControlSeen.{ControlSeen, after_heard, new_control}
+use Rattle.bq_driver.specs.declared.control_line.Heard.TheVariants as hears
+
+and_if : (a b : Bool) → (a && b) ≡ (if a then b else false)
+and_if true b = refl
+and_if false b = refl
+
+pub same_bytes : (xs ys : List ℕ) → pointwise nat_eq xs ys ≡ are_same xs ys
+same_bytes [] [] = refl
+same_bytes [] (y ∷ ys) = refl
+same_bytes (x ∷ xs) [] = refl
+same_bytes (x ∷ xs) (y ∷ ys) = ap (λ b. (x == y) && b) (same_bytes xs ys) ∙ and_if (x == y) (are_same xs ys)
+
+-- the first six bytes tell whether a line is the word
+kept_tells : (line : List ℕ) → are_same (take 6 line) drain_word ≡ are_same line drain_word
+kept_tells [] = refl
+kept_tells (a ∷ []) = refl
+kept_tells (a ∷ b ∷ []) = refl
+kept_tells (a ∷ b ∷ c ∷ []) = refl
+kept_tells (a ∷ b ∷ c ∷ d ∷ []) = refl
+kept_tells (a ∷ b ∷ c ∷ d ∷ e ∷ []) = refl
+kept_tells (a ∷ b ∷ c ∷ d ∷ e ∷ f ∷ line) = refl
+
+take_front : (n : ℕ) (xs ys : List ℕ) → take n (take n xs ++ ys) ≡ take n (xs ++ ys)
+take_front zero xs ys = refl
+take_front (suc n) [] ys = refl
+take_front (suc n) (x ∷ xs) ys = ap (λ zs. x ∷ zs) (take_front n xs ys)
+
+-- what is kept of a line serves as well as the line
+kept_serves : (line bytes : List ℕ) (failed : Bool) → drains_from (take 6 line) bytes failed ≡ drains_from line bytes failed
+kept_serves line [] failed = ap (λ b. if failed then 0 else one_if b) (kept_tells line)
+kept_serves line (byte ∷ bytes) failed = elim (cases_Bool (byte == 10)) [
+  | inl e ↦ rw e (ap (λ b. one_if b + drains_from [] bytes failed) (kept_tells line))
+  | inr e ↦ rw e (
+      sym (kept_serves (take 6 line ++ byte ∷ []) bytes failed)
+      ∙ ap (λ xs. drains_from xs bytes failed) (take_front 6 line (byte ∷ []))
+      ∙ kept_serves (line ++ byte ∷ []) bytes failed)
+]
+
+-- one byte of a line, which is no LF
+pub byte_read : (kept later : List ℕ) (byte : ℕ) → (byte == 10) ≡ false → later ≡ take 6 (kept ++ byte ∷ []) → HasRead kept (byte ∷ []) false later
+byte_read kept later byte other is rest failed =
+    ap (λ b. if b then one_if (are_same kept drain_word) + drains_from [] rest failed else drains_from (kept ++ byte ∷ []) rest failed) other
+    ∙ sym (kept_serves (kept ++ byte ∷ []) rest failed)
+    ∙ ap (λ xs. drains_from xs rest failed) (sym is)
+
+-- and a LF
+pub line_read : (kept : List ℕ) (byte : ℕ) → (byte == 10) ≡ true → HasRead kept (byte ∷ []) true kept
+line_read kept byte feed rest failed =
+    ap (λ b. if b then one_if (are_same kept drain_word) + drains_from [] rest failed else drains_from (kept ++ byte ∷ []) rest failed) feed
+
+-- a reader that shows nothing is at its end
+pub shows_nothing : (before after : Option (List ℕ)) (shown : List ℕ) → Keeps before after → IfSome before (λ xs. length shown ≡ 0 → xs ≡ []) → length shown ≡ 0 → IfSome before (λ bytes. IsAtEnd after)
+shows_nothing None after shown kept end none = tt
+shows_nothing (Some x) None shown kept end none = absurd kept
+shows_nothing (Some x) (Some y) shown kept end none = kept ∙ end none
+
+-- nothing was read first
+pub read_none : (before : Option (List ℕ)) → Consumes before before []
+read_none None = tt
+read_none (Some xs) = refl
+
+-- bytes after bytes
+pub read_on : (before next after : Option (List ℕ)) (text bytes : List ℕ) → Consumes before next text → Consumes next after bytes → Consumes before after (text ++ bytes)
+read_on None next after text bytes h i = tt
+read_on (Some x) None after text bytes h i = absurd h
+read_on (Some x) (Some y) None text bytes h i = absurd i
+read_on (Some x) (Some y) (Some z) text bytes h i = h ∙ ap (λ xs. text ++ xs) i ∙ sym (append_assoc text bytes z)
+
+-- nothing more came
+pub read_same : (before next after : Option (List ℕ)) (text : List ℕ) → Consumes before next text → Consumes next after [] → Consumes before after text
+read_same None next after text h i = tt
+read_same (Some x) None after text h i = absurd h
+read_same (Some x) (Some y) None text h i = absurd i
+read_same (Some x) (Some y) (Some z) text h i = h ∙ ap (λ xs. text ++ xs) i
+
+-- the end was met, or a fault
+pub ends_read : (before next after : Option (List ℕ)) (text : List ℕ) (failed : Bool) → Consumes before next text → Consumes next after [] → IfSome next (λ bytes. IsAtEnd after) → IsReadToEnd before after text failed
+ends_read None next after text failed h i end = tt
+ends_read (Some x) None after text failed h i end = absurd h
+ends_read (Some x) (Some y) None text failed h i end = absurd i
+ends_read (Some x) (Some y) (Some z) text failed h i end = (h ∙ ap (λ xs. text ++ xs) i, λ f. end)
+
+pub fails_read : (before next after : Option (List ℕ)) (text : List ℕ) → Consumes before next text → Consumes next after [] → IsReadToEnd before after text true
+fails_read None next after text h i = tt
+fails_read (Some x) None after text h i = absurd h
+fails_read (Some x) (Some y) None text h i = absurd i
+fails_read (Some x) (Some y) (Some z) text h i = (h ∙ ap (λ xs. text ++ xs) i, λ f. absurd (true≢false f))
+
+-- so many drains, and then so many
+submits_both : {K : Type 0} (went : K → List Step → K → Type 0) (first last : K) (before : List Step) (n m total : ℕ) → total ≡ n + m
+    → went first ((before ++ replicate n Drain) ++ replicate m Drain) last → went first (before ++ replicate total Drain) last
+submits_both went first last before n m total is h =
+    subst (λ (xs : List Step). went first xs last)
+    (append_assoc before (replicate n Drain) (replicate m Drain) ∙ ap (λ xs. before ++ xs) (replicate-append-replicate n m Drain) ∙ ap (λ k. before ++ replicate k Drain) (sym is)) h
+
+-- From a link to another so many drains were submitted.
+abbrev pub Drained : {K : Type 0} → (K → List Step → K → Type 0) → K → ℕ → K → Type 0
+Drained went old count new = (first : _) (before : List Step) → went first before old → went first (before ++ replicate count Drain) new
+
+-- What was read of a control line up to some byte, and the drains for its lines that are over. This much is
+-- kept of the line that isn't.
+pub record HasDrained {K : Type 0} (went : K → List Step → K → Type 0) (at_first left : Option (List ℕ)) (old : K) (kept : List ℕ) (seen : ControlSeen) (new : K) : Type 0 where
+  pub count : ℕ
+  pub read : Consumes at_first left seen.text
+  pub well : seen.failed ≡ false
+  pub counted : (rest : List ℕ) (failed : Bool) → drains (seen.text ++ rest) failed ≡ count + drains_from kept rest failed
+  pub drained : Drained went old count new
+
+pub drained_none : {K : Type 0} (went : K → List Step → K → Type 0) (left : Option (List ℕ)) (link : K) → HasDrained went left left link [] new_control link
+drained_none went left link = record {
+  count = 0;
+  read = read_none left;
+  well = refl;
+  counted = λ rest failed. omega (arith);
+  drained = λ first before h. subst (λ (xs : List Step). went first xs link) (sym (append-nil before)) h;
+}
+
+-- a byte of a line
+pub drained_byte : {K : Type 0} (went : K → List Step → K → Type 0) (at_first left after : Option (List ℕ)) (old new : K) (kept later : List ℕ) (seen : ControlSeen) (byte : ℕ)
+    → HasDrained went at_first left old kept seen new → Consumes left after (byte ∷ []) → HasRead kept (byte ∷ []) false later
+    → HasDrained went at_first after old later (after_heard (hears.Byte byte) seen) new
+drained_byte went at_first left after old new kept later seen byte h read noted = record {
+  count = h.count;
+  read = read_on at_first left after seen.text (byte ∷ []) h.read read;
+  well = h.well;
+  counted = λ rest failed. ap (λ xs. drains xs failed) (append_assoc seen.text (byte ∷ []) rest) ∙ h.counted (byte ∷ rest) failed ∙ ap (λ n. h.count + n) (noted rest failed);
+  drained = h.drained;
+}
+
+-- the byte that ends a line
+pub drained_line : {K : Type 0} (went : K → List Step → K → Type 0) (at_first left after : Option (List ℕ)) (old new last : K) (kept later : List ℕ) (seen : ControlSeen) (byte : ℕ)
+    → HasDrained went at_first left old kept seen new → Consumes left after (byte ∷ []) → HasRead kept (byte ∷ []) true later → Drained went new (one_if (are_same later drain_word)) last
+    → HasDrained went at_first after old [] (after_heard (hears.Byte byte) seen) last
+drained_line went at_first left after old new last kept later seen byte h read noted drained = record {
+  count = h.count + one_if (are_same later drain_word);
+  read = read_on at_first left after seen.text (byte ∷ []) h.read read;
+  well = h.well;
+  counted = λ rest failed.
+      ap (λ xs. drains xs failed) (append_assoc seen.text (byte ∷ []) rest) ∙ h.counted (byte ∷ rest) failed ∙ ap (λ n. h.count + n) (noted rest failed)
+      ∙ omega (arith);
+  drained = λ first before w. submits_both went first last before h.count (one_if (are_same later drain_word)) _ refl (drained first _ (h.drained first before w));
+}
+
+-- no byte yet
+pub drained_still : {K : Type 0} (went : K → List Step → K → Type 0) (at_first left after : Option (List ℕ)) (old new : K) (kept : List ℕ) (seen : ControlSeen)
+    → HasDrained went at_first left old kept seen new → Consumes left after [] → HasDrained went at_first after old kept seen new
+drained_still went at_first left after old new kept seen h read = record {
+  count = h.count;
+  read = read_same at_first left after seen.text h.read read;
+  well = h.well;
+  counted = h.counted;
+  drained = h.drained;
+}
+
+-- the text that was read, behind which nothing comes
+counts_all : (kept text : List ℕ) (count : ℕ) (failed : Bool) → ((rest : List ℕ) (failed : Bool) → drains (text ++ rest) failed ≡ count + drains_from kept rest failed)
+    → drains text failed ≡ count + drains_from kept [] failed
+counts_all kept text count failed h = ap (λ xs. drains xs failed) (sym (append-nil text)) ∙ h [] failed
+
+-- the end of the input, where the last line is over too
+pub drained_all : {K : Type 0} (went : K → List Step → K → Type 0) (at_first left : Option (List ℕ)) (old new last : K) (kept : List ℕ) (seen : ControlSeen)
+    → HasDrained went at_first left old kept seen new → Drained went new (one_if (are_same kept drain_word)) last → Drained went old (drains seen.text seen.failed) last
+drained_all went at_first left old new last kept seen h drained first before w =
+    submits_both went first last before h.count (one_if (are_same kept drain_word)) _
+    (ap (λ b. drains seen.text b) h.well ∙ counts_all kept seen.text h.count false h.counted) (drained first _ (h.drained first before w))
+
+-- a fault, before which an unfinished line is none
+pub drained_before : {K : Type 0} (went : K → List Step → K → Type 0) (at_first left : Option (List ℕ)) (old new : K) (kept : List ℕ) (seen : ControlSeen)
+    → HasDrained went at_first left old kept seen new → Drained went old (drains seen.text true) new
+drained_before went at_first left old new kept seen h first before w =
+    subst (λ (n : ℕ). went first (before ++ replicate n Drain) new) (sym (counts_all kept seen.text h.count true h.counted ∙ omega (arith))) (h.drained first before w)

@@ -1,0 +1,75 @@
+-- Texts that are written part after part.
+use Rattle.std.proofs.Common.{◌≡◌, ℕ, ◌+◌, ◌-◌, Bool, true, false, List, [], ◌++◌, sym, ap, subst, ◌∙◌, arith, length, take, drop, take-add, append_assoc, append-nil}
+use Rattle.std.proofs.lemmas.Grind.{common_steps}
+use Rattle.std.proofs.lemmas.List.{take-append-drop}
+use Rattle.bq_job.specs.promise.LineSteps.{LineSeen, IsBeginning}
+use Rattle.bq_job.specs.declared.line_end.LineFault.TheVariants as faults
+use Rattle.bq_line.specs.LineCalls.{with_line_fault}
+use Rattle.bq_driver.specs.Writing.{BreaksOff, Writes, with_written}
+
+-- a further part is written
+pub written_joined : (old mid new : LineSeen) (first more : List ℕ) → mid ≡ with_written first old
+    → new ≡ with_written more mid → new ≡ with_written (first ++ more) old
+written_joined old mid new first more m n =
+    n ∙ ap (with_written more) m ∙ ap (λ w. record old { written = w }) (append_assoc old.written first more)
+
+-- bytes of the rest are written
+pub written_on : (old mid new : LineSeen) (bytes rest : List ℕ) (done n : ℕ) → mid ≡ with_written (take done bytes) old
+    → rest ≡ take (length bytes - done) (drop done bytes) → new ≡ with_written (take n rest) mid
+    → new ≡ with_written (take (done + n) bytes) old
+written_on old mid new bytes rest done n m rest_is h =
+    let whole : take (length bytes - done) (drop done bytes) ≡ drop done bytes = grind (arith, common_steps) in
+    rw (take-add done n bytes, ← whole, ← rest_is) (written_joined old mid new (take done bytes) (take n rest) m h)
+
+-- nothing more was written before the fault
+pub breaks_off : (old mid new : LineSeen) (text cut : List ℕ) → IsBeginning cut text → mid ≡ with_written cut old
+    → new ≡ with_line_fault faults.Write mid → BreaksOff text old new
+breaks_off old mid new text cut begins m n = record { cut = cut; is_beginning = begins; seen = n ∙ ap (with_line_fault faults.Write) m }
+
+pub written_nothing : (line : LineSeen) → line ≡ with_written [] line
+written_nothing line = ap (λ w. record line { written = w }) (sym (append-nil line.written))
+
+pub take_begins : (n : ℕ) (bytes : List ℕ) → IsBeginning (take n bytes) bytes
+take_begins n bytes = (drop n bytes, sym (take-append-drop n bytes))
+
+-- a beginning of a first part, or of a second one behind it, is one of the whole
+begins_first : (cut first more : List ℕ) → IsBeginning cut first → IsBeginning cut (first ++ more)
+begins_first cut first more b = (b.0 ++ more, ap (λ x. x ++ more) b.1 ∙ append_assoc cut b.0 more)
+
+begins_second : (cut first more : List ℕ) → IsBeginning cut more → IsBeginning (first ++ cut) (first ++ more)
+begins_second cut first more b = (b.0, ap (λ x. first ++ x) b.1 ∙ sym (append_assoc first cut b.0))
+
+-- the first part breaks off
+pub breaks_first : (old new : LineSeen) (first more : List ℕ) → BreaksOff first old new → BreaksOff (first ++ more) old new
+breaks_first old new first more b = record { cut = b.cut; is_beginning = begins_first b.cut first more b.is_beginning; seen = b.seen }
+
+-- the first part is written, and then another
+pub writes_more : (old mid new : LineSeen) (first more : List ℕ) (whole : Bool) → mid ≡ with_written first old
+    → Writes more mid new whole → Writes (first ++ more) old new whole
+writes_more old mid new first more true m w = written_joined old mid new first more m w
+writes_more old mid new first more false m w = record {
+  cut = first ++ w.cut;
+  is_beginning = begins_second w.cut first more w.is_beginning;
+  seen =
+      w.seen ∙ ap (λ l. with_line_fault faults.Write (with_written w.cut l)) m
+      ∙ ap (λ x. with_line_fault faults.Write (record old { written = x })) (append_assoc old.written first w.cut);
+}
+
+-- a part that comes in two
+halves : (part first rest : List ℕ) (n : ℕ) → first ≡ take n part → rest ≡ drop n part → first ++ rest ≡ part
+halves part first rest n f r = ap (λ x. x ++ rest) f ∙ ap (λ x. take n part ++ x) r ∙ take-append-drop n part
+
+parted : (head body tail first rest : List ℕ) → first ++ rest ≡ body → (head ++ first) ++ (rest ++ tail) ≡ (head ++ body) ++ tail
+parted head body tail first rest e =
+    sym (append_assoc (head ++ first) rest tail) ∙ ap (λ x. x ++ tail) (append_assoc head first rest) ∙ ap (λ x. (head ++ x) ++ tail) e
+
+-- the first half of a body is written behind the head, and then the rest
+pub writes_behind : (old mid new : LineSeen) (head body tail first rest : List ℕ) (n : ℕ) (whole : Bool) → first ≡ take n body → rest ≡ drop n body
+    → mid ≡ with_written (head ++ first) old → Writes (rest ++ tail) mid new whole → Writes (head ++ body ++ tail) old new whole
+writes_behind old mid new head body tail first rest n whole f r m w =
+    subst (λ text. Writes text old new whole) (parted head body tail first rest (halves body first rest n f r)) (writes_more old mid new (head ++ first) (rest ++ tail) whole m w)
+
+pub breaks_behind : (old new : LineSeen) (head body tail first rest : List ℕ) (n : ℕ) → first ≡ take n body → rest ≡ drop n body
+    → BreaksOff (head ++ first) old new → BreaksOff (head ++ body ++ tail) old new
+breaks_behind old new head body tail first rest n f r b =
+    subst (λ text. BreaksOff text old new) (parted head body tail first rest (halves body first rest n f r)) (breaks_first old new (head ++ first) (rest ++ tail) b)

@@ -1,0 +1,21 @@
+use Rattle.std.proofs.Common.{◌≡◌, ◌==◌, false, refl, rules, arith}
+use Rattle.std.proofs.lemmas.Bool.Decides.{nat_tests}
+use Rattle.bq_driver.proofs.WritingLemmas.{breaks_off, take_begins, written_on}
+use Rattle.bq_driver.proofs.room.write_all.Goals as goal
+
+pub returns-then-count-eq0-clause-text : goal.returns-then-count-eq0-clause-text
+returns-then-count-eq0-clause-text g c =
+    breaks_off _ _ _ _ _ (take_begins c.loop-done.done c.args.bytes.now) c.loop-done.invariant.seen (rw c.if-count-eq0.true at c.in-Ok.ensures.seen)
+
+pub loop-done-preserved : goal.loop-done-preserved
+loop-done-preserved g c =
+    let some : (c.in-Ok.count == 0) ≡ false = grind (arith, nat_tests, c.if-count-eq0.false) in
+    record {
+      within = search rules;
+      seen = written_on _ _ _ c.args.bytes.now _ c.loop-done.done c.in-Ok.count c.loop-done.invariant.seen refl (rw some at c.in-Ok.ensures.seen);
+      stays = λ first over. c.in-Ok.ensures.stays first (c.loop-done.invariant.stays first over);
+    }
+
+pub returns-in-Err-clause-text : goal.returns-in-Err-clause-text
+returns-in-Err-clause-text g c =
+    breaks_off _ _ _ _ _ (take_begins c.loop-done.done c.args.bytes.now) c.loop-done.invariant.seen c.in-Err.ensures.seen

@@ -1,0 +1,166 @@
+//! The control line, whose lines `drain` begin the drain.
+ghost use Rattle.std.specs.Prelude.{◌≡◌, ◌++◌, ◌∷◌, [], List, replicate, take, true, IfErr};
+ghost use Rattle.bq_job.specs.promise.ControlDid.{IsControlDone, are_same, drain_word, drains, one_if};
+ghost use Rattle.bq_job.specs.declared.step.Step.{Step};
+ghost use Rattle.bq_driver.specs.ControlRead.{HasRead, IsOver, IsReadToEnd, SubmitsOn};
+ghost use Rattle.bq_driver.specs.ControlSeen.{new_control};
+ghost use Rattle.bq_driver.specs.Links.{as_submitted};
+
+use crate::control_line::{ControlInput, Heard};
+use arrayvec::ArrayVec;
+use bq_job::Step;
+use std::marker::Model;
+use std::sync::Wait;
+use std::thread;
+
+/// What a line says that begins the drain.
+const DRAIN_WORD: &[u8] = b"drain";
+
+/// How many first bytes of a line are kept: one more than the word has, since a longer line says nothing.
+const BYTES_KEPT: usize = 6;
+
+/// Where a control line submits its steps.
+pub trait ControlLink {
+    /// The core and the link are ready for a call.
+    ghost is_ready: { Self → Type 0 };
+
+    /// From the first link on these steps were submitted, and the last link is what was left.
+    ghost went: { Self → List Step → Self → Type 0 };
+
+    /// Submits a step, or hands it back where there is no room for it now.
+    fn submit(&mut self, step: Step) -> Result<(), Step>
+        requires ready { is_ready self.old }
+        ensures ready { is_ready self.new }
+        ensures back { IfErr result (λ back. back ≡ step) }
+        ensures went { (first : Self) (before : List Step) → went first before self.old →
+            SubmitsOn went first before step result self.new };
+}
+
+/// The first bytes of the line that is being read: enough to tell whether it says `drain`.
+#[derive(Drop)]
+struct LineSoFar {
+    first: ArrayVec<u8, BYTES_KEPT>,
+}
+
+impl Model for LineSoFar {
+    ghost use Rattle.std.specs.Prelude.{List, ℕ};
+
+    ghost Value = { List ℕ };
+
+    ghost view = { λ l. l.first.items };
+}
+
+impl LineSoFar {
+    // A line of which nothing was read.
+    fn new() -> LineSoFar
+        ensures { result ≡ [] }
+    {
+        LineSoFar {
+            first: ArrayVec::new(),
+        }
+    }
+
+    fn note(&mut self, byte: u8)
+        ensures { self.new ≡ take 6 (self.old ++ byte ∷ []) }
+    {
+        // What comes behind the first bytes tells nothing more.
+        let _full = self.first.try_push(byte);
+    }
+
+    // Whether the line is over by this byte; else it is noted.
+    #[tactic(auto, using(crate::proofs::ControlLemmas::line_read, crate::proofs::ControlLemmas::byte_read))]
+    fn ends_by(&mut self, byte: u8) -> bool
+        ensures { HasRead self.old (byte ∷ []) result self.new }
+    {
+        if byte == b'\n' {
+            return true;
+        }
+        self.note(byte);
+        false
+    }
+
+    #[tactic(auto, using(crate::proofs::ControlLemmas::same_bytes))]
+    fn says_drain(&self) -> bool
+        ensures { result ≡ are_same self.now drain_word }
+    {
+        self.first.as_slice() == DRAIN_WORD
+    }
+}
+
+// Submits a step, which may have to be tried again.
+fn submit<R: Wait, K: ControlLink>(rt: &R, link: &mut K, step: Step)
+    requires ready { K.is_ready link.old }
+    ensures ready { K.is_ready link.new }
+    ensures went { (first : K) (before : List Step) → K.went first before link.old → K.went first (before ++ as_submitted step) link.new }
+{
+    let mut step = step;
+    for _ in rt.forever() {
+        match link.submit(step) {
+            Ok(()) => return,
+            Err(back) => step = back,
+        }
+        thread::yield_now();
+    }
+    unreachable!()
+}
+
+fn submit_drain_if<R: Wait, K: ControlLink>(rt: &R, link: &mut K, says_drain: bool)
+    requires ready { K.is_ready link.old }
+    ensures ready { K.is_ready link.new }
+    ensures went { (first : K) (before : List Step) → K.went first before link.old →
+        K.went first (before ++ replicate (one_if says_drain) Step.Drain) link.new }
+{
+    if says_drain {
+        submit(rt, link, Step::Drain);
+    }
+}
+
+// Submits a drain for each line that says so, up to the end of the input or a fault of it.
+fn submit_drains<R: Wait, I: ControlInput, K: ControlLink>(rt: &R, control: &mut I, link: &mut K)
+    requires new { I.seen control.old ≡ new_control }
+    requires ready { K.is_ready link.old }
+    ensures ready { K.is_ready link.new }
+    ensures over { IsOver (I.seen control.new) }
+    ensures read { IsReadToEnd (I.remaining control.old) (I.remaining control.new) (I.seen control.new).text (I.seen control.new).failed }
+    ensures fault { (I.seen control.new).failed ≡ true → I.may_fail control.old ≡ true }
+    ensures went { (first : K) (before : List Step) → K.went first before link.old →
+        K.went first (before ++ replicate (drains (I.seen control.new).text (I.seen control.new).failed) Step.Drain) link.new }
+{
+    let mut line = LineSoFar::new();
+    for _ in rt.forever() {
+        match control.next() {
+            Heard::Byte(byte) => {
+                if line.ends_by(byte) {
+                    submit_drain_if(rt, link, line.says_drain());
+                    line = LineSoFar::new();
+                }
+            }
+            Heard::NothingYet => {}
+            Heard::End => return submit_drain_if(rt, link, line.says_drain()),
+            Heard::Fault => return,
+        }
+    }
+    unreachable!()
+}
+
+/// Reads the control line to its end or its fault, and submits a drain for each of its lines that says so,
+/// and at last that it is gone. It takes no memory, however long a line is.
+pub fn submit_control<R: Wait, I: ControlInput, K: ControlLink>(
+    rt: &R,
+    control: &mut I,
+    link: &mut K,
+)
+    requires new { I.seen control.old ≡ new_control }
+    requires ready { K.is_ready link.old }
+    ensures ready { K.is_ready link.new }
+    // The end of the input was met, or it failed: which of them, and after which bytes, it tells itself.
+    ensures over { IsOver (I.seen control.new) }
+    ensures read { IsReadToEnd (I.remaining control.old) (I.remaining control.new) (I.seen control.new).text (I.seen control.new).failed }
+    // It failed only where a read of it may fail.
+    ensures fault { (I.seen control.new).failed ≡ true → I.may_fail control.old ≡ true }
+    ensures done { (submitted : List Step) × IsControlDone (I.seen control.new).text (I.seen control.new).failed submitted
+        × ((first : K) (before : List Step) → K.went first before link.old → K.went first (before ++ submitted) link.new) }
+{
+    submit_drains(rt, control, link);
+    submit(rt, link, Step::Gone);
+}

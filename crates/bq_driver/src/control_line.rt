@@ -1,0 +1,89 @@
+//! What is read of the control line.
+ghost use Rattle.std.specs.Prelude.{◌≡◌, ℕ, Bool, Option, List, [], false};
+ghost use Rattle.bq_driver.specs.ControlSeen.{ControlSeen, HasHeard, MayHear, after_heard};
+
+use crate::control_reader::ControlReader;
+use bq_line::line::ByteRecord;
+
+/// What one read of a control line came to.
+#[derive(Clone, Copy)]
+pub enum Heard {
+    /// Its next byte.
+    Byte(u8),
+    /// There is none yet.
+    NothingYet,
+    /// The input has ended.
+    End,
+    /// The read failed.
+    Fault,
+}
+
+/// The input of a control line. It tells of itself the bytes that its reads gave since it was new, and
+/// whether one of them met the end or failed.
+pub trait ControlInput {
+    /// What the input tells of itself.
+    ghost seen: { Self → ControlSeen };
+
+    /// The bytes that it has left, where they are known.
+    ghost remaining: { Self → Option (List ℕ) };
+
+    /// Whether a read of it may fail.
+    ghost may_fail: { Self → Bool };
+
+    /// Reads one byte. A fault is told only where a read may fail.
+    fn next(&mut self) -> Heard
+        ensures seen { seen self.new ≡ after_heard result (seen self.old) }
+        ensures left { HasHeard (remaining self.old) (remaining self.new) result }
+        ensures fault { MayHear (may_fail self.old) result }
+        ensures same { may_fail self.new ≡ may_fail self.old };
+}
+
+/// A control line over any reader. Beside the reader it keeps the two marks, and a record of the bytes that
+/// were read of it, which takes no memory.
+#[derive(Drop)]
+pub struct ControlLine<I> {
+    reader: I,
+    ended: bool,
+    failed: bool,
+    read: ByteRecord,
+}
+
+impl<I> ControlLine<I> {
+    /// A control line of which nothing was read.
+    pub fn new(reader: I) -> ControlLine<I>
+        ensures { result ≡ record { reader = reader; ended = false; failed = false; read = [] } }
+    {
+        ControlLine {
+            reader,
+            ended: false,
+            failed: false,
+            read: ByteRecord::new(),
+        }
+    }
+
+    /// The reader, whatever was read of it.
+    pub fn into_reader(self) -> I
+        ensures { result ≡ self.reader }
+    {
+        self.reader
+    }
+}
+
+impl<I: ControlReader> ControlInput for ControlLine<I> {
+    ghost seen = { λ c. record { text = c.read; ended = c.ended; failed = c.failed } };
+
+    ghost remaining = { λ c. I.remaining c.reader };
+
+    ghost may_fail = { λ c. I.may_fail c.reader };
+
+    fn next(&mut self) -> Heard {
+        let heard = self.reader.next_byte();
+        match heard {
+            Heard::Byte(byte) => self.read.note(&[byte]),
+            Heard::NothingYet => {}
+            Heard::End => self.ended = true,
+            Heard::Fault => self.failed = true,
+        }
+        heard
+    }
+}

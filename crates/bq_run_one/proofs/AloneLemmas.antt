@@ -1,0 +1,116 @@
+-- A lone line is served at a desk.
+use Rattle.std.proofs.Common.{◌≡◌, ◌≢◌, ℕ, zero, suc, ◌<◌, true, false, List, [], ◌∷◌, ◌++◌, Option, length, replicate, refl, sym, ap, ◌∙◌, arith, subst, inl, inr, append-nil, map}
+use Rattle.std.specs.Prelude.{◌==◌, slice_index_or}
+use Rattle.std.specs.List.{list_all}
+use Rattle.std.proofs.lemmas.Bool.{cases_Bool, eq-eqb, eqb-true, eqb-false}
+use Rattle.std.proofs.lemmas.List.{length-replicate}
+use Rattle.bq_job.specs.declared.answer.Answer.{Answer}
+use Rattle.bq_job.specs.declared.line_end.LineEnd.{LineEnd}
+use Rattle.bq_job.specs.declared.settings.Settings.{Settings}
+use Rattle.bq_job.specs.declared.step.Step.{Step}
+use Rattle.bq_job.specs.promise.History.{ArePickedFrom, is_tick, moments_heard, steps_at, without_ticks}
+use Rattle.bq_job.specs.promise.LineSteps.{LineSeen}
+use Rattle.bq_job.specs.machine.Machine.{Machine}
+use Rattle.bq_job.specs.promise.Runs.{Entry, Run, answers_to}
+use Rattle.bq_job.specs.beside.Ties.{IsLineJoined}
+use Rattle.bq_seat.specs.declared.machine.Action.{Action}
+use Rattle.bq_seat.specs.declared.machine.Action.TheVariants as actions
+use Rattle.bq_seat.specs.declared.machine.SeatMachine.{SeatMachine}
+use Rattle.bq_driver.specs.Attending.{IsOnLine}
+use Rattle.bq_driver.specs.Carried.{Carried}
+use Rattle.bq_run_one.specs.DeskState.{DeskState, IsNewDesk, waiting}
+use Rattle.bq_run_one.specs.DeskWent.{SeatWent}
+use Rattle.bq_run_one.proofs.DeskLemmas.{seat_none, seat_on}
+use Rattle.bq_driver.proofs.SeatLemmas.{carried_on, line_served}
+
+-- From a new desk on, the seat alone did what its line was served with.
+pub record IsServingAlone (settings : Settings) (seat : ℕ) (readings : List (Option ℕ)) (desk : DeskState) (machine : SeatMachine) (seen : LineSeen) (action : Action) : Type 0 where
+  pub first : DeskState
+  pub submitted : List Step
+  pub taken : List Answer
+  pub new : IsNewDesk settings first
+  pub went : SeatWent seat first readings submitted taken desk
+  pub on_line : IsOnLine settings.max_job_size machine seen action submitted taken
+
+pub begins_alone : (settings : Settings) (seat : ℕ) (desk : DeskState) (machine : SeatMachine) (seen : LineSeen) (action : Action) → IsNewDesk settings desk → IsOnLine settings.max_job_size machine seen action [] [] → IsServingAlone settings seat [] desk machine seen action
+begins_alone settings seat desk machine seen action new on = record { first = desk; submitted = []; taken = []; new = new; went = seat_none desk seat; on_line = on }
+
+pub goes_on_alone : (settings : Settings) (seat : ℕ) (readings reads : List (Option ℕ)) (desk next : DeskState) (old new : SeatMachine) (seen later : LineSeen) (action then_action : Action) (submitted : List Step) (taken : List Answer)
+    → IsServingAlone settings seat readings desk old seen action → SeatWent seat desk reads submitted taken next → Carried old seen action new later then_action submitted taken
+    → IsServingAlone settings seat (readings ++ reads) next new later then_action
+goes_on_alone settings seat readings reads desk next old new seen later action then_action submitted taken s w c = record {
+  first = s.first;
+  submitted = s.submitted ++ submitted;
+  taken = s.taken ++ taken;
+  new = s.new;
+  went = seat_on s.first desk next seat readings reads s.submitted submitted s.taken taken s.went w;
+  on_line = carried_on settings.max_job_size old new seen later action then_action s.submitted submitted s.taken taken c s.on_line;
+}
+
+-- no mail lies at a new desk
+abbrev the_empty : List Answer
+the_empty = []
+
+no_mail : (n t : ℕ) → slice_index_or (replicate n []) t [] ≡ the_empty
+no_mail zero t = refl
+no_mail (suc n) zero = refl
+no_mail (suc n) (suc t) = no_mail n t
+
+pub new_mails_are : (settings : Settings) (d : DeskState) → IsNewDesk settings d → length d.mails ≡ settings.seats
+new_mails_are settings d new = ap length new.mails ∙ length-replicate settings.seats the_empty
+
+-- Nothing waits at a new desk.
+pub none_waits : (settings : Settings) (d : DeskState) (seat : ℕ) → IsNewDesk settings d → waiting seat d ≡ []
+none_waits settings d seat new =
+    ap (λ (ms : List (List Answer)). slice_index_or ms seat [] ++ answers_to seat d.pending) new.mails
+    ∙ ap (λ (xs : List Answer). xs ++ answers_to seat d.pending) (no_mail settings.seats seat)
+    ∙ ap (answers_to seat) new.pending
+
+-- steps at one seat alone
+alone_there : (seat : ℕ) (history : List Entry) → ((other : ℕ) → other ≢ seat → steps_at other history ≡ []) → list_all (λ (e : Entry). e.seat == seat) (without_ticks history) ≡ true
+alone_there seat [] h = refl
+alone_there seat (e ∷ history) h =
+    elim (cases_Bool (is_tick e.what)) [
+      | inl x ↦ rw x (alone_there seat history (λ other differs. tick_none other x (h other differs)))
+      | inr x ↦ elim (cases_Bool (e.seat == seat)) [
+        | inl y ↦ rw (x, y) (alone_there seat history (λ other differs. own_none other x y differs (h other differs)))
+        | inr y ↦ absurd (some_there x (h e.seat (eqb-false e.seat seat y)))
+      ]
+    ]
+  where
+    tick_none : (other : ℕ) → is_tick e.what ≡ true → steps_at other (e ∷ history) ≡ [] → steps_at other history ≡ []
+    tick_none other x g = rw x at g
+
+    own_none : (other : ℕ) → is_tick e.what ≡ false → (e.seat == seat) ≡ true → other ≢ seat → steps_at other (e ∷ history) ≡ [] → steps_at other history ≡ []
+    own_none other x y differs g =
+        elim (cases_Bool (e.seat == other)) [
+          | inl z ↦ absurd (differs (sym (eqb-true e.seat other z) ∙ eqb-true e.seat seat y))
+          | inr z ↦ rw (x, z) at g
+        ]
+
+    some_there : is_tick e.what ≡ false → steps_at e.seat (e ∷ history) ≡ [] → ⊥
+    some_there x g =
+        let same : (e.seat == e.seat) ≡ true = eq-eqb e.seat e.seat refl in
+        let no : e.what ∷ steps_at e.seat history ≡ [] = rw (x, same) at g in cc
+
+-- A line that is over: what its seat and the core did, and the tie.
+pub over_alone : (settings : Settings) (seat : ℕ) (readings : List (Option ℕ)) (desk : DeskState) (machine : SeatMachine) (seen : LineSeen) (end : LineEnd) (s : IsServingAlone settings seat readings desk machine seen (actions.LineOver end))
+    → seat < settings.seats → length s.first.mails ≡ settings.seats → IsLineJoined settings seat (record { seen = seen; over = end }) readings s.went.history s.went.went.given desk.core
+over_alone settings seat readings desk machine seen end s within many =
+    let w = s.went in
+    let d = w.went in
+    let line = line_served settings.max_job_size machine seen end s.submitted s.taken s.on_line in
+    let none = none_waits settings s.first seat s.new in
+    record {
+      taken = s.taken;
+      waiting = waiting seat desk;
+      within = within;
+      run = record {
+        runs = subst (λ (m : Machine). Run m w.history d.given desk.core) s.new.core d.runs;
+        timed = subst (λ (n : ℕ). ArePickedFrom (map (λ (e : Entry). e.moment) w.history) (moments_heard n readings)) s.new.heard d.timed.picked;
+      };
+      served = (s.submitted, [], s.taken, [], line, w.submitted_is ∙ sym (append-nil s.submitted), sym (append-nil s.taken), (refl, refl));
+      answers_are =
+          ap (λ (xs : List Answer). xs ++ answers_to seat d.given) (sym none) ∙ d.tied seat (omega arith) ∙ ap (λ (xs : List Answer). xs ++ waiting seat desk) w.taken_is;
+      of_nobody_else = alone_there seat w.history w.others_still;
+    }

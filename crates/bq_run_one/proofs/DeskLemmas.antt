@@ -1,0 +1,287 @@
+-- What happens at a desk, step by step.
+use Rattle.std.proofs.Common.{◌≡◌, ◌≢◌, ℕ, ◌<◌, Bool, false, List, [], ◌∷◌, ◌++◌, Option, map, length, refl, sym, ap, ◌∙◌, arith, subst, inl, inr, append-nil, append_assoc}
+use Rattle.std.specs.Prelude.{◌==◌, if◌then◌else◌}
+use Rattle.std.specs.Option.{option_to_list}
+use Rattle.std.proofs.lemmas.Bool.{cases_Bool, eq-eqb, eqb-true}
+use Rattle.bq_job.specs.declared.answer.Answer.{Answer}
+use Rattle.bq_job.specs.declared.step.Step.{Step}
+use Rattle.bq_job.specs.machine.Dispatch.{GivenAnswer}
+use Rattle.bq_job.specs.promise.History.{ArePickedFrom, IsTimedFrom, is_tick, last_heard, moment_heard, moments_heard, steps_at}
+use Rattle.bq_job.specs.machine.Machine.{Machine}
+use Rattle.bq_job.specs.promise.Runs.{Entry, Run, answers_to}
+use Rattle.bq_job.specs.machine.Steps.{IsStep, Outcome}
+use Rattle.std.specs.Prelude.{slice_index_or}
+use Rattle.bq_job.proofs.OneClientLemmas.{answers_append}
+use Rattle.bq_job.proofs.RunLemmas.{run_append, run_from, run_none}
+use Rattle.bq_run_one.specs.DeskOf.{WentAt, state_of}
+use Rattle.bq_line.specs.GivenReadings.{GaveReadings}
+use Rattle.bq_run_one.specs.DeskState.{DeskState, IsSorted, waiting}
+use Rattle.bq_run_one.specs.DeskWent.{DeskWent, SeatWent}
+use Rattle.bq_run_one.specs.declared.desk.Desk.{Desk}
+
+pub steps_append : (t : ℕ) (xs ys : List Entry) → steps_at t (xs ++ ys) ≡ steps_at t xs ++ steps_at t ys
+steps_append t [] ys = refl
+steps_append t (x ∷ xs) ys =
+    elim (cases_Bool (is_tick x.what)) [
+      | inl e ↦ rw e (steps_append t xs ys)
+      | inr e ↦ elim (cases_Bool (x.seat == t)) [
+        | inl f ↦ rw (e, f) (ap (λ (more : List Step). x.what ∷ more) (steps_append t xs ys))
+        | inr f ↦ rw (e, f) (steps_append t xs ys)
+      ]
+    ]
+
+moments_append : (last : ℕ) (xs ys : List (Option ℕ)) → moments_heard last (xs ++ ys) ≡ moments_heard last xs ++ moments_heard (last_heard last xs) ys
+moments_append last [] ys = refl
+moments_append last (x ∷ xs) ys = ap (λ ms. moment_heard last x ∷ ms) (moments_append (moment_heard last x) xs ys)
+
+heard_append : (last : ℕ) (xs ys : List (Option ℕ)) → last_heard last (xs ++ ys) ≡ last_heard (last_heard last xs) ys
+heard_append last [] ys = refl
+heard_append last (x ∷ xs) ys = heard_append (moment_heard last x) xs ys
+
+picked_later : (xs ms ns : List ℕ) → ArePickedFrom xs ns → ArePickedFrom xs (ms ++ ns)
+picked_later xs [] ns h = h
+picked_later [] (m ∷ ms) ns h = tt
+picked_later (x ∷ xs) (m ∷ ms) ns h = inr (picked_later (x ∷ xs) ms ns h)
+
+picked_append : (xs ys ms ns : List ℕ) → ArePickedFrom xs ms → ArePickedFrom ys ns → ArePickedFrom (xs ++ ys) (ms ++ ns)
+picked_append [] ys ms ns h i = picked_later ys ms ns i
+picked_append (x ∷ xs) ys [] ns h i = absurd h
+picked_append (x ∷ xs) ys (m ∷ ms) ns (inl h) i = inl (h.0, picked_append xs ys ms ns h.1 i)
+picked_append (x ∷ xs) ys (m ∷ ms) ns (inr h) i = inr (picked_append (x ∷ xs) ys ms ns h i)
+
+map_append : (xs ys : List Entry) → map (λ (e : Entry). e.moment) (xs ++ ys) ≡ map (λ (e : Entry). e.moment) xs ++ map (λ (e : Entry). e.moment) ys
+map_append [] ys = refl
+map_append (x ∷ xs) ys = ap (λ ms. x.moment ∷ ms) (map_append xs ys)
+
+-- two stretches of a history are timed by the readings of both
+timed_on : (first next last : ℕ) (readings reads : List (Option ℕ)) (history more : List Entry) → IsTimedFrom first readings history next → IsTimedFrom next reads more last → IsTimedFrom first (readings ++ reads) (history ++ more) last
+timed_on first next last readings reads history more a b = record {
+  picked =
+      let later_timed : ArePickedFrom (map (λ (e : Entry). e.moment) more) (moments_heard (last_heard first readings) reads) =
+      subst (λ (n : ℕ). ArePickedFrom (map (λ (e : Entry). e.moment) more) (moments_heard n reads)) a.last_is b.picked in
+      subst (λ (ms : List ℕ). ArePickedFrom ms (moments_heard first (readings ++ reads))) (sym (map_append history more))
+      (subst (λ (ms : List ℕ). ArePickedFrom (map (λ (e : Entry). e.moment) history ++ map (λ (e : Entry). e.moment) more) ms) (sym (moments_append first readings reads))
+      (picked_append (map (λ (e : Entry). e.moment) history) (map (λ (e : Entry). e.moment) more) (moments_heard first readings) (moments_heard (last_heard first readings) reads) a.picked later_timed));
+  last_is = b.last_is ∙ ap (λ (n : ℕ). last_heard n reads) a.last_is ∙ sym (heard_append first readings reads);
+}
+
+-- what waited, was given and taken, twice
+tied_on : (t : ℕ) (first next last : DeskState) (given later : List GivenAnswer) (taken more : List Answer)
+    → waiting t first ++ answers_to t given ≡ taken ++ waiting t next → waiting t next ++ answers_to t later ≡ more ++ waiting t last
+    → waiting t first ++ answers_to t (given ++ later) ≡ (taken ++ more) ++ waiting t last
+tied_on t first next last given later taken more h i =
+    ap (λ (xs : List Answer). waiting t first ++ xs) (answers_append t given later)
+    ∙ sym (append_assoc (waiting t first) (answers_to t given) (answers_to t later))
+    ∙ ap (λ (xs : List Answer). xs ++ answers_to t later) h
+    ∙ append_assoc taken (waiting t next) (answers_to t later)
+    ∙ ap (λ (xs : List Answer). taken ++ xs) i
+    ∙ sym (append_assoc taken more (waiting t last))
+
+-- What happened at a desk, one after the other.
+pub desk_on : (first next last : DeskState) (readings reads : List (Option ℕ)) (history more : List Entry) (took later : ℕ → List Answer)
+    → DeskWent first readings history took next → DeskWent next reads more later last
+    → DeskWent first (readings ++ reads) (history ++ more) (λ t. took t ++ later t) last
+desk_on first next last readings reads history more took later a b = record {
+  given = a.given ++ b.given;
+  runs = run_append first.core next.core last.core history more a.given b.given a.runs b.runs;
+  timed = timed_on first.heard next.heard last.heard readings reads history more a.timed b.timed;
+  many = b.many ∙ a.many;
+  tied = λ t below. tied_on t first next last a.given b.given (took t) (later t) (a.tied t below) (b.tied t (let m = a.many in omega arith));
+}
+
+-- the steps of an entry at a seat
+entry_steps : (t at seat : ℕ) (what : Step) → steps_at t (record { moment = at; seat = seat; what = what } ∷ []) ≡ (if is_tick what then [] else (if seat == t then what ∷ [] else []))
+entry_steps t at seat what =
+    elim (cases_Bool (is_tick what)) [
+      | inl e ↦ rw e refl
+      | inr e ↦ elim (cases_Bool (seat == t)) [
+        | inl f ↦ rw (e, f) refl
+        | inr f ↦ rw (e, f) refl
+      ]
+    ]
+
+abbrev no_steps : List Step
+no_steps = []
+
+-- nothing is held where nothing is pending
+pub none_held : {X : Type 0} (xs ys : List X) → xs ++ ys ≡ [] → xs ≡ []
+none_held [] ys h = refl
+none_held (x ∷ xs) ys h = absurd cc
+
+-- The core took one step, at the moment of one reading.
+pub one_step : (d n : DeskState) (seat : ℕ) (what : Step) (reading : Option ℕ) (outcome : Outcome) (given : List GivenAnswer)
+    → IsStep d.core (moment_heard d.heard reading) seat what outcome given n.core → n.heard ≡ moment_heard d.heard reading → n.mails ≡ d.mails → d.pending ≡ [] → n.pending ≡ given
+    → SeatWent seat d (reading ∷ []) (if is_tick what then [] else what ∷ []) [] n
+one_step d n seat what reading outcome given step heard mails empty full =
+    let at = moment_heard d.heard reading in
+    let entry : Entry = record { moment = at; seat = seat; what = what } in
+    record {
+      history = entry ∷ [];
+      took = λ t. [];
+      went = record {
+        given = given;
+        runs = subst (λ (xs : List GivenAnswer). Run d.core (entry ∷ []) xs n.core) (append-nil given) (run_from d.core n.core n.core entry [] outcome given [] step (run_none n.core));
+        timed = record { picked = inl (refl, tt); last_is = heard };
+        many = ap length mails;
+        tied = λ t below. tied_at t;
+      };
+      submitted_is = entry_steps seat at seat what ∙ ap (λ (b : Bool). if is_tick what then [] else (if b then what ∷ [] else [])) (eq-eqb seat seat refl);
+      taken_is = refl;
+      others_still = λ t differs. entry_steps t at seat what ∙ ap (λ (b : Bool). if is_tick what then [] else (if b then what ∷ [] else [])) (not_equal seat t (λ e. differs (sym e))) ∙ neither;
+      others_took = λ t differs. refl;
+    }
+  where
+    tied_at : (t : ℕ) → waiting t d ++ answers_to t given ≡ [] ++ waiting t n
+    tied_at t =
+        ap (λ (xs : List GivenAnswer). (slice_index_or d.mails t [] ++ answers_to t xs) ++ answers_to t given) empty
+        ∙ ap (λ (xs : List Answer). xs ++ answers_to t given) (append-nil (slice_index_or d.mails t []))
+        ∙ ap (λ (ms : List (List Answer)). slice_index_or ms t [] ++ answers_to t given) (sym mails)
+        ∙ ap (λ (xs : List GivenAnswer). slice_index_or n.mails t [] ++ answers_to t xs) (sym full)
+
+    not_equal : (a b : ℕ) → a ≢ b → (a == b) ≡ false
+    not_equal a b h = elim (cases_Bool (a == b)) [ inl e ↦ absurd (h (eqb-true a b e)) | inr e ↦ e ]
+
+    neither : (if is_tick what then no_steps else no_steps) ≡ no_steps
+    neither = elim (cases_Bool (is_tick what)) [ inl e ↦ rw e refl | inr e ↦ rw e refl ]
+
+-- The clock was read, and no step was taken.
+pub seat_heard : (d n : DeskState) (seat : ℕ) (reading : Option ℕ) → n.core ≡ d.core → n.heard ≡ moment_heard d.heard reading → n.mails ≡ d.mails → n.pending ≡ d.pending
+    → SeatWent seat d (reading ∷ []) [] [] n
+seat_heard d n seat reading core heard mails pending = record {
+  history = [];
+  took = λ t. [];
+  went = record {
+    given = [];
+    runs = subst (λ (m : Machine). Run d.core [] [] m) (sym core) (run_none d.core);
+    timed = record { picked = tt; last_is = heard };
+    many = ap length mails;
+    tied = λ t below.
+        append-nil (waiting t d)
+        ∙ ap (λ (ms : List (List Answer)). slice_index_or ms t [] ++ answers_to t d.pending) (sym mails)
+        ∙ ap (λ (xs : List GivenAnswer). slice_index_or n.mails t [] ++ answers_to t xs) (sym pending);
+  };
+  submitted_is = refl;
+  taken_is = refl;
+  others_still = λ t differs. refl;
+  others_took = λ t differs. refl;
+}
+
+-- A seat did nothing, or one thing after the other.
+pub seat_none : (d : DeskState) (seat : ℕ) → SeatWent seat d [] [] [] d
+seat_none d seat = record {
+  history = [];
+  took = λ t. [];
+  went = record { given = []; runs = run_none d.core; timed = record { picked = tt; last_is = refl }; many = refl; tied = λ t below. append-nil (waiting t d) };
+  submitted_is = refl;
+  taken_is = refl;
+  others_still = λ t differs. refl;
+  others_took = λ t differs. refl;
+}
+
+pub seat_on : (first next last : DeskState) (seat : ℕ) (readings reads : List (Option ℕ)) (submitted more : List Step) (taken later : List Answer)
+    → SeatWent seat first readings submitted taken next → SeatWent seat next reads more later last → SeatWent seat first (readings ++ reads) (submitted ++ more) (taken ++ later) last
+seat_on first next last seat readings reads submitted more taken later a b = record {
+  history = a.history ++ b.history;
+  took = λ t. a.took t ++ b.took t;
+  went = desk_on first next last readings reads a.history b.history a.took b.took a.went b.went;
+  submitted_is = steps_append seat a.history b.history ∙ ap (λ (xs : List Step). xs ++ steps_at seat b.history) a.submitted_is ∙ ap (λ (xs : List Step). submitted ++ xs) b.submitted_is;
+  taken_is = ap (λ (xs : List Answer). xs ++ b.took seat) a.taken_is ∙ ap (λ (xs : List Answer). taken ++ xs) b.taken_is;
+  others_still = λ t differs. steps_append t a.history b.history ∙ ap (λ (xs : List Step). xs ++ steps_at t b.history) (a.others_still t differs) ∙ b.others_still t differs;
+  others_took = λ t differs. ap (λ (xs : List Answer). xs ++ b.took t) (a.others_took t differs) ∙ b.others_took t differs;
+}
+
+-- Answers were only put into the mail: the seat did nothing.
+pub seat_sorted : (d n : DeskState) (seat : ℕ) → IsSorted d n → SeatWent seat d [] [] [] n
+seat_sorted d n seat s = record {
+  history = [];
+  took = λ t. [];
+  went = record {
+    given = [];
+    runs = subst (λ (m : Machine). Run d.core [] [] m) (sym s.core) (run_none d.core);
+    timed = record { picked = tt; last_is = s.heard };
+    many = s.many;
+    tied = λ t below. append-nil (waiting t d) ∙ sym (s.waiting_is t below);
+  };
+  submitted_is = refl;
+  taken_is = refl;
+  others_still = λ t differs. refl;
+  others_took = λ t differs. refl;
+}
+
+pub sorted_none : (d : DeskState) → IsSorted d d
+sorted_none d = record { core = refl; heard = refl; most = refl; many = refl; waiting_is = λ t below. refl }
+
+-- the next of the pending answers was put into the mail
+pub sorted_one : (first d n : DeskState) (seat : ℕ) (answer : Answer) → IsSorted first d → d.pending ≡ (seat, answer) ∷ n.pending → n.core ≡ d.core → n.heard ≡ d.heard → n.most ≡ d.most → length n.mails ≡ length d.mails
+    → ((t : ℕ) → t < length d.mails → slice_index_or n.mails t [] ≡ slice_index_or d.mails t [] ++ answers_to t ((seat, answer) ∷ [])) → IsSorted first n
+sorted_one first d n seat answer s is core heard most many posted = record {
+  core = core ∙ s.core;
+  heard = heard ∙ s.heard;
+  most = most ∙ s.most;
+  many = many ∙ s.many;
+  waiting_is = λ t below.
+      let here : t < length d.mails = let m = s.many in omega arith in
+      ap (λ (xs : List Answer). xs ++ answers_to t n.pending) (posted t here)
+      ∙ append_assoc (slice_index_or d.mails t []) (answers_to t ((seat, answer) ∷ [])) (answers_to t n.pending)
+      ∙ ap (λ (xs : List Answer). slice_index_or d.mails t [] ++ xs) (sym (answers_append t ((seat, answer) ∷ []) n.pending))
+      ∙ ap (λ (xs : List GivenAnswer). slice_index_or d.mails t [] ++ answers_to t xs) (sym is)
+      ∙ s.waiting_is t below;
+}
+
+-- a clock that was left alone gave no reading
+pub gave_none : {C : Type 0} (given : C → List (Option ℕ) → C → Type 0) (clock : C) → GaveReadings given clock [] clock
+gave_none given clock first before h = subst (λ (rs : List (Option ℕ)). given first rs clock) (sym (append-nil before)) h
+
+pub gave_then : {C : Type 0} (given : C → List (Option ℕ) → C → Type 0) (a b c : C) (readings reads : List (Option ℕ)) → GaveReadings given a readings b → GaveReadings given b reads c → GaveReadings given a (readings ++ reads) c
+gave_then given a b c readings reads h i first before g =
+    subst (λ (rs : List (Option ℕ)). given first rs c) (append_assoc before readings reads) (i first (before ++ readings) (h first before g))
+
+pub went_none : {C : Type 0} (given : C → List (Option ℕ) → C → Type 0) (seat : ℕ) (desk : Desk C) → WentAt given seat desk [] [] desk
+went_none given seat desk = ([], gave_none given desk.clock, seat_none (state_of desk) seat)
+
+pub went_then : {C : Type 0} (given : C → List (Option ℕ) → C → Type 0) (seat other : ℕ) (first next last : Desk C) (submitted more : List Step) (taken later : List Answer)
+    → other ≡ seat → WentAt given seat first submitted taken next → WentAt given other next more later last → WentAt given seat first (submitted ++ more) (taken ++ later) last
+went_then given seat other first next last submitted more taken later same a b =
+    let b' = subst (λ (n : ℕ). WentAt given n next more later last) same b in (
+      a.0 ++ b'.0,
+      gave_then given first.clock next.clock last.clock a.0 b'.0 a.1 b'.1,
+      seat_on (state_of first) (state_of next) (state_of last) seat a.0 b'.0 submitted more taken later a.2 b'.2,
+    )
+
+pub went_sorted : {C : Type 0} (given : C → List (Option ℕ) → C → Type 0) (seat : ℕ) (first last : Desk C) → IsSorted (state_of first) (state_of last) → last.clock ≡ first.clock → WentAt given seat first [] [] last
+went_sorted given seat first last s same =
+    ([], subst (λ c. GaveReadings given first.clock [] c) (sym same) (gave_none given first.clock), seat_sorted (state_of first) (state_of last) seat s)
+
+-- The clock was read once, and the core took a step at the moment heard then.
+pub went_step : {C : Type 0} (given : C → List (Option ℕ) → C → Type 0) (seat : ℕ) (what : Step) (first heard last : Desk C) (reading : Option ℕ) (outcome : Outcome)
+    → GaveReadings given first.clock (reading ∷ []) last.clock → heard.heard ≡ moment_heard first.heard reading → heard.core.machine ≡ first.core.machine
+    → IsStep heard.core.machine heard.heard seat what outcome last.outs.given last.core.machine
+    → last.heard ≡ heard.heard → last.mails ≡ first.mails → last.held ≡ first.held → (state_of first).pending ≡ []
+    → WentAt given seat first (if is_tick what then [] else what ∷ []) [] last
+went_step given seat what first heard last reading outcome gave moment core step heard_is mails held empty =
+    let there = subst (λ (m : Machine). IsStep m heard.heard seat what outcome last.outs.given last.core.machine) core step in
+    let timed = subst (λ (n : ℕ). IsStep first.core.machine n seat what outcome last.outs.given last.core.machine) moment there in
+    let none : option_to_list last.held ≡ [] = ap (λ (xs : Option GivenAnswer). option_to_list xs) held ∙ none_held (option_to_list first.held) first.outs.given empty in (
+      reading ∷ [],
+      gave,
+      one_step (state_of first) (state_of last) seat what reading outcome last.outs.given timed (heard_is ∙ moment) (ap (λ ms. ms.items) mails) empty (ap (λ (xs : List GivenAnswer). xs ++ last.outs.given) none),
+    )
+
+-- The clock was read once, and no step was taken.
+pub went_heard : {C : Type 0} (given : C → List (Option ℕ) → C → Type 0) (seat : ℕ) (first last : Desk C) (reading : Option ℕ)
+    → GaveReadings given first.clock (reading ∷ []) last.clock → last.heard ≡ moment_heard first.heard reading → last.core.machine ≡ first.core.machine
+    → last.outs ≡ first.outs → last.mails ≡ first.mails → last.held ≡ first.held → WentAt given seat first [] [] last
+went_heard given seat first last reading gave moment core outs mails held = (
+  reading ∷ [],
+  gave,
+  seat_heard (state_of first) (state_of last) seat reading core moment (ap (λ ms. ms.items) mails)
+      (ap (λ (xs : Option GivenAnswer). option_to_list xs ++ last.outs.given) held ∙ ap (λ o. option_to_list first.held ++ o.given) outs),
+)
+
+-- No step was taken, and the clock was left alone.
+pub went_same : {C : Type 0} (given : C → List (Option ℕ) → C → Type 0) (seat : ℕ) (first last : Desk C) → state_of last ≡ state_of first → last.clock ≡ first.clock → WentAt given seat first [] [] last
+went_same given seat first last same clock = (
+  [],
+  subst (λ c. GaveReadings given first.clock [] c) (sym clock) (gave_none given first.clock),
+  subst (λ (d : DeskState). SeatWent seat (state_of first) [] [] [] d) (sym same) (seat_none (state_of first) seat),
+)

@@ -1,0 +1,75 @@
+//! The link of a seat to a desk in the same hand.
+ghost use Rattle.std.specs.Prelude.{◌≡◌, ◌<◌, ℕ, List, length};
+ghost use Rattle.bq_job.specs.declared.answer.Answer.{Answer};
+ghost use Rattle.bq_job.specs.declared.step.Step.{Step};
+ghost use Rattle.bq_line.specs.Streams.{StaysOver};
+ghost use Rattle.bq_driver.specs.Carried.{Carried};
+ghost use Rattle.bq_run_one.specs.DeskOf.{WentAt, state_of};
+ghost use Rattle.bq_run_one.specs.DeskState.{HasMails};
+
+use crate::desk::Desk;
+use bq_driver::carry_out::carry_out;
+use bq_driver::link::Link;
+use bq_driver::room::Room;
+use bq_job::{Seat, Step};
+use bq_line::clock::Clock;
+use bq_line::line::Line;
+use bq_seat::{Action, SeatMachine};
+use std::mem;
+
+/// A seat's link to the desk at which it is served.
+#[derive(Drop)]
+pub struct DeskSeat<'a, C> {
+    desk: &'a mut Desk<C>,
+    seat: Seat,
+}
+
+impl<'a, C: Clock + Drop> Link for DeskSeat<'a, C> {
+    ghost is_ready = { λ l. HasMails (state_of l.desk.now) × (l.seat < length (state_of l.desk.now).mails) };
+
+    // Who drops the link knows the desk by it.
+    ghost went = { λ first submitted taken last. (last.desk.ghost_name ≡ first.desk.ghost_name) × (last.seat ≡ first.seat) ×
+        WentAt C.given first.seat first.desk.now submitted taken last.desk.now };
+
+    fn submit(&mut self, step: &mut Step) -> bool {
+        match self.desk.submit(self.seat, mem::replace(step, Step::Tick)) {
+            Ok(()) => true,
+            Err(back) => {
+                *step = back;
+                false
+            }
+        }
+    }
+
+    fn mail(&mut self, place: &mut Action) -> bool {
+        match self.desk.mail(self.seat) {
+            Some(answer) => {
+                *place = Action::Write(answer);
+                true
+            }
+            None => false,
+        }
+    }
+}
+
+/// Carries out one action of a seat's machine at the desk, in whose place then lies what the machine does next.
+/// It says whether something moved.
+pub fn act<L: Line, C: Clock + Drop>(
+    machine: &mut SeatMachine,
+    action: &mut Action,
+    line: &mut L,
+    desk: &mut Desk<C>,
+    seat: Seat,
+    room: &mut Room,
+) -> bool
+    requires mails { HasMails (state_of desk.old) }
+    requires within { seat < length (state_of desk.old).mails }
+    ensures mails { HasMails (state_of desk.new) }
+    ensures carried { (submitted : List Step) × (taken : List Answer) × WentAt C.given seat desk.old submitted taken desk.new ×
+        Carried machine.old (L.seen line.old) action.old machine.new (L.seen line.new) action.new submitted taken }
+    ensures stays { StaysOver L.lies_over line.old line.new }
+{
+    let alloc = desk.alloc;
+    let mut link = DeskSeat { desk, seat };
+    carry_out(alloc, machine, action, line, &mut link, room)
+}

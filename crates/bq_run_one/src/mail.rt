@@ -1,0 +1,87 @@
+ghost use Rattle.std.specs.Prelude.{◌≡◌, ◌≤◌, ◌++◌, ◌∷◌, [], length, IfOk, IsErr, IsNone, MatchResult, ◌↔◌, replicate};
+ghost use Rattle.std.specs.Option.{option_to_list};
+ghost use Rattle.bq_run_one.specs.LastParts.{last_part};
+
+use bq_job::{Answer, NoMemory};
+use std::alloc::Global;
+use std::collections::VecDeque;
+use std::marker::Model;
+
+/// How many answers can lie in the mail of a seat.
+const MAIL_ROOM: usize = 4;
+
+/// Answers that were given to a seat, and that it hasn't taken yet, in their order.
+#[derive(Drop)]
+pub struct Mail {
+    answers: VecDeque<Answer, Global>,
+}
+
+impl Model for Mail {
+    ghost use Rattle.std.specs.Prelude.{List, ◌≤◌, length};
+    ghost use Rattle.std.specs.VecDeque.{deque_capacity};
+    ghost use Rattle.bq_job.specs.declared.answer.Answer.{Answer};
+
+    ghost Value = { List Answer };
+
+    ghost view = { λ m. m.answers.items };
+
+    ghost invariant = { λ m. (length m.answers.items ≤ 4) × (4 ≤ deque_capacity m.answers) };
+}
+
+impl Mail {
+    /// No mail. All memory is asked for here.
+    pub fn new(alloc: Global) -> Result<Mail, NoMemory>
+        ensures { IfOk result (λ mail. mail ≡ []) }
+    {
+        match VecDeque::with_capacity(alloc, MAIL_ROOM) {
+            Ok(answers) => Ok(Mail { answers }),
+            Err(_) => Err(NoMemory),
+        }
+    }
+
+    /// Takes out the oldest answer.
+    pub fn take_first(&mut self) -> Option<Answer>
+        ensures oldest { self.old ≡ option_to_list result ++ self.new }
+        ensures empty { IsNone result ↔ (self.old ≡ []) }
+    {
+        self.answers.pop_front()
+    }
+
+    /// Puts an answer behind the others, or hands it back where there is no room.
+    pub fn put(&mut self, answer: Answer) -> Result<(), Answer>
+        ensures put { MatchResult result (λ done. self.new ≡ self.old ++ answer ∷ []) (λ back. (back ≡ answer) × (self.new ≡ self.old)) }
+        ensures full { IsErr result ↔ (4 ≤ length self.old) }
+    {
+        if self.answers.len() >= MAIL_ROOM {
+            return Err(answer);
+        }
+        self.answers.push_back(answer).unwrap();
+        Ok(())
+    }
+
+    /// Puts an answer behind the others. Where there is no room, the oldest is pushed out.
+    pub fn put_newest(&mut self, answer: Answer)
+        ensures { self.new ≡ last_part 4 (self.old ++ answer ∷ []) }
+    {
+        if self.answers.len() == MAIL_ROOM {
+            let _oldest = self.take_first();
+        }
+        self.answers.push_back(answer).unwrap();
+    }
+}
+
+/// A mail for each seat. All memory is asked for here.
+pub fn new_mails(alloc: Global, seats: u16) -> Result<Vec<Mail, Global>, NoMemory>
+    ensures { IfOk result (λ mails. mails.items ≡ replicate seats []) }
+{
+    let Ok(mut mails) = Vec::with_capacity(alloc, usize::from(seats)) else {
+        return Err(NoMemory);
+    };
+    for _ in 0..seats {
+        let mail = Mail::new(alloc)?;
+        if mails.push(mail).is_err() {
+            return Err(NoMemory);
+        }
+    }
+    Ok(mails)
+}

@@ -1,0 +1,130 @@
+ghost use Rattle.std.specs.Prelude.{◌↔◌, ◌≡◌, List, Option, ℕ, IfOk, IsErrOf, IsTrue, not};
+ghost use Rattle.bq_job.specs.promise.Headline.{IsHistoryOfLine};
+ghost use Rattle.bq_seat.specs.Past.{Awaited};
+ghost use Rattle.bq_seat.specs.SeatStands.{awaited};
+ghost use Rattle.bq_line.specs.LineCalls.{new_line};
+ghost use Rattle.bq_line.specs.Streams.{StaysOver};
+ghost use Rattle.bq_run_one.specs.DeskOf.{state_of};
+ghost use Rattle.bq_run_one.specs.DeskState.{IsNewDesk};
+ghost use Rattle.bq_run_one.specs.RunSettings.{is_lone};
+
+use crate::desk::Desk;
+use crate::desk_seat::act;
+use bq_core::Config;
+use bq_driver::room::{AnswerRoom, Room};
+use bq_job::{LineEnd, Seat};
+use bq_line::clock::Clock;
+use bq_line::line::Line;
+use bq_run_start::RunFault;
+use bq_seat::{Action, Event, SeatMachine};
+use std::alloc::Global;
+use std::sync::Wait;
+use std::thread::Parker;
+use std::time::Duration;
+
+/// The seat of a lone client.
+const ONLY_SEAT: Seat = 0;
+
+/// How long a run rests between two looks at the mail, in milliseconds.
+const REST: u64 = 1;
+
+/// A line that is over: the line itself, how it was over, and the clock as it was left.
+#[derive(Drop)]
+pub struct One<L, C> {
+    pub line: L,
+    pub end: LineEnd,
+    pub clock: C,
+}
+
+/// Serves one line to its end on this thread. It may wait, where the line's read does, and it goes on as
+/// long as a reserve is answered by nothing.
+///
+/// The fault is `BadConfiguration` where the configuration is out of its ranges or the seats aren't 1,
+/// and else `NoMemory`. Either way the line was neither read nor written, and is given up.
+pub fn run_one<R: Wait, L: Line + Drop, C: Clock + Drop>(
+    rt: &R,
+    alloc: Global,
+    config: Config,
+    line: L,
+    clock: C,
+) -> Result<One<L, C>, RunFault>
+    // Nothing was done on the line yet.
+    requires new { L.seen line ≡ new_line }
+    // There is one history of the client's steps, each at the moment of a reading of the clock. The
+    // one-list machine takes it, and the line was written exactly what it is owed along it.
+    ensures served { IfOk result (λ one. (readings : List (Option ℕ)) × C.given clock readings one.clock ×
+        IsHistoryOfLine config 0 (record { seen = L.seen one.line; over = one.end }) readings) }
+    // It is the line that was handed in, over the same stream.
+    ensures stays { IfOk result (λ one. StaysOver L.lies_over line one.line) }
+    ensures bad_configuration { IsErrOf result RunFault.BadConfiguration ↔ IsTrue (not (is_lone config)) }
+    ensures no_thread { IsErrOf result RunFault.ThreadRefused ↔ ⊥ }
+{
+    if config.seats != 1 {
+        return Err(RunFault::BadConfiguration);
+    }
+    let desk = Desk::new(alloc, config, clock)?;
+    let Ok(machine) = SeatMachine::new(alloc, config.max_job_size) else {
+        return Err(RunFault::NoMemory);
+    };
+    let Ok(room) = AnswerRoom::new(alloc) else {
+        return Err(RunFault::NoMemory);
+    };
+    Ok(serve_line(rt, line, desk, machine, room))
+}
+
+// Serves a line to its end at a new desk, by its only seat.
+fn serve_line<R: Wait, L: Line + Drop, C: Clock + Drop>(
+    rt: &R,
+    line: L,
+    desk: Desk<C>,
+    machine: SeatMachine,
+    room: AnswerRoom,
+) -> One<L, C>
+    requires new { L.seen line ≡ new_line }
+    requires desk { IsNewDesk desk.core.machine.settings (state_of desk) }
+    requires lone { desk.core.machine.settings.seats ≡ 1 }
+    requires awaits { awaited machine ≡ Awaited.ALine }
+    requires limit { machine.reader.max_job_size ≡ desk.core.machine.settings.max_job_size }
+    ensures served { (readings : List (Option ℕ)) × C.given desk.clock readings result.clock ×
+        IsHistoryOfLine desk.core.machine.settings 0 (record { seen = L.seen result.line; over = result.end }) readings }
+    ensures stays { StaysOver L.lies_over line result.line }
+{
+    let mut line = line;
+    let mut desk = desk;
+    let mut machine = machine;
+    let mut room = Room::new(room);
+    let bell = Parker::new();
+    let mut action = machine.on(desk.alloc, Event::Opened);
+    for _ in rt.forever() {
+        if let Action::LineOver(end) = action {
+            return One {
+                line,
+                end,
+                clock: desk.clock,
+            };
+        }
+        let looked = is_look(&action);
+        let _moved = act(
+            &mut machine,
+            &mut action,
+            &mut line,
+            &mut desk,
+            ONLY_SEAT,
+            &mut room,
+        );
+        rest_between_looks(rt, &bell, looked, &action);
+    }
+    unreachable!()
+}
+
+fn is_look(action: &Action) -> bool {
+    matches!(action, Action::PollMail)
+}
+
+// A look at the mail that found nothing, where the line isn't to be read: nothing can come before time has
+// passed.
+fn rest_between_looks<R: Wait>(rt: &R, bell: &Parker, looked: bool, next: &Action) {
+    if looked && is_look(next) {
+        bell.park_timeout(rt, Duration::from_millis(REST));
+    }
+}
