@@ -24,7 +24,7 @@ use Rattle.bq_job.specs.machine.Machine.{Machine, SeatRecord}
 use Rattle.bq_job.specs.machine.Steps.{granted, share_refused, shares_body, step_takes_memory, takes_memory}
 use Rattle.bq_job.specs.reading.TubeName.{is_same_name}
 use Rattle.bq_core.specs.Acting.{Acts, Replies, is_asking, is_connected, is_free}
-use Rattle.bq_core.specs.declared.reply.Reply.{Reply}
+use Rattle.bq_core.specs.declared.acts.Reply.{Reply}
 use Rattle.bq_core.specs.JobChanges.{is_passed_by}
 use Rattle.bq_steps.specs.Outbox.{Outbox}
 use Rattle.bq_core.specs.SeatChanges.{AreNumbered}

@@ -10,8 +10,8 @@ use Rattle.bq_job.specs.machine.Limits.{greatest}
 use Rattle.bq_job.specs.machine.Machine.{SeatRecord, empty_seat, numbers}
 use Rattle.bq_job.specs.machine.TubeCommands.{watching}
 use Rattle.bq_job.proofs.ListLemmas.{count_cons}
-use Rattle.bq_core.specs.declared.known.clients.Clients.{Clients}
-use Rattle.bq_core.specs.declared.seat_list.SeatChange.{SeatChange}
+use Rattle.bq_core.specs.declared.known.Clients.{Clients}
+use Rattle.bq_core.specs.declared.seats.SeatChange.{SeatChange}
 use Rattle.bq_core.specs.Clients.{clients_of, clients_with, clients_without, seat_passes}
 use Rattle.bq_core.specs.SeatChanges.{AreNumbered, seat_changed, seat_changed_at}
 use Rattle.bq_core.specs.Tallies.{count_with, count_without}

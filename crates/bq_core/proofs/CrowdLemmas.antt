@@ -11,12 +11,12 @@ use Rattle.bq_job.specs.machine.Limits.{greatest}
 use Rattle.bq_job.specs.machine.Machine.{SeatRecord, TubeRecord}
 use Rattle.bq_job.specs.reading.TubeName.{is_same_name}
 use Rattle.bq_job.specs.machine.Tubes.{is_name_before, is_seated_at, watches}
-use Rattle.bq_core.specs.declared.tubes.crowd.Crowd.{Crowd}
-use Rattle.bq_core.specs.declared.tubes.crowd.Moving.{Moving}
-use Rattle.bq_core.specs.declared.tubes.crowd.Moving.TheVariants.{Comes, Goes}
-use Rattle.bq_core.specs.declared.tubes.crowd.Share.{Share}
-use Rattle.bq_core.specs.declared.seat_list.SeatChange.{SeatChange}
-use Rattle.bq_core.specs.declared.seat_list.SeatChange.TheVariants.{StopWaiting, Wait, Connect, Clear, End, Use}
+use Rattle.bq_core.specs.declared.tubes.entry.Crowd.{Crowd}
+use Rattle.bq_core.specs.declared.tubes.entry.Moving.{Moving}
+use Rattle.bq_core.specs.declared.tubes.entry.Moving.TheVariants.{Comes, Goes}
+use Rattle.bq_core.specs.declared.tubes.entry.Share.{Share}
+use Rattle.bq_core.specs.declared.seats.SeatChange.{SeatChange}
+use Rattle.bq_core.specs.declared.seats.SeatChange.TheVariants.{StopWaiting, Wait, Connect, Clear, End, Use}
 use Rattle.bq_core.specs.Acting.{is_asking, is_connected}
 use Rattle.bq_core.specs.Crowds.{AreCrowds, IsSeated, crowd_in, crowd_of, crowd_with, crowd_without, crowds_at, crowds_at_all, crowds_of, crowds_recounted, crowds_recounted_for, has_seats, is_none, is_user, is_waiter, is_watcher, may_wait, recounted, share_as_user, share_as_watcher, touched}
 use Rattle.bq_core.specs.SeatChanges.{AreNumbered, seat_changed, seat_changed_at}

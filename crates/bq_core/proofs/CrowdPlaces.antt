@@ -10,9 +10,9 @@ use Rattle.bq_job.specs.machine.Machine.{SeatRecord, TubeRecord, default_tube, e
 use Rattle.bq_job.specs.reading.TubeName.{is_same_name}
 use Rattle.bq_job.specs.machine.Tubes.{fresh_tube, is_name_before, is_seated_at, watches}
 use Rattle.bq_job.proofs.ListLemmas.{all_weaker, count_all_not, list_any_not, none_pass}
-use Rattle.bq_core.specs.declared.known.clients.Clients.{Clients}
-use Rattle.bq_core.specs.declared.tubes.crowd.Crowd.{Crowd}
-use Rattle.bq_core.specs.declared.known.tally.Tally.{Tally}
+use Rattle.bq_core.specs.declared.known.Clients.{Clients}
+use Rattle.bq_core.specs.declared.tubes.entry.Crowd.{Crowd}
+use Rattle.bq_core.specs.declared.known.Tally.{Tally}
 use Rattle.bq_core.specs.Clients.{clients_of}
 use Rattle.bq_core.specs.Crowds.{AreCrowds, IsSeated, crowd_at, crowd_in, crowd_of, crowds_of, crowds_provided, has_seats, is_user, is_waiter, is_watcher, no_crowd}
 use Rattle.bq_core.specs.Tallies.{has_jobs, tallies_of, tally_at}

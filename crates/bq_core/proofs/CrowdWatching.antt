@@ -11,7 +11,7 @@ use Rattle.bq_job.specs.machine.Machine.{SeatRecord, TubeRecord}
 use Rattle.bq_job.specs.machine.TubeCommands.{watching}
 use Rattle.bq_job.specs.reading.TubeName.{is_same_name}
 use Rattle.bq_job.specs.machine.Tubes.{watches}
-use Rattle.bq_core.specs.declared.tubes.crowd.Crowd.{Crowd}
+use Rattle.bq_core.specs.declared.tubes.entry.Crowd.{Crowd}
 use Rattle.bq_core.specs.Crowds.{AreCrowds, IsSeated, crowd_in, crowd_of, crowd_with, crowd_without, crowds_at, is_user, is_waiter, is_watcher, share_of_watcher, share_of_watching}
 use Rattle.bq_core.specs.SeatChanges.{AreNumbered}
 use Rattle.bq_core.specs.Tallies.{count_with, count_without}

@@ -9,10 +9,10 @@ use Rattle.bq_core.specs.KeptTubes.{KeptTube, KeptTubes, Named, crowd_kept, edit
 use Rattle.bq_core.specs.PauseEnds.{AreEnds}
 use Rattle.bq_core.specs.Tallies.{tallies_at}
 use Rattle.bq_core.specs.TubeEntries.{tube_changed, tube_changed_at}
-use Rattle.bq_core.specs.declared.known.tally.Tally.{Tally}
-use Rattle.bq_core.specs.declared.tubes.crowd.Crowd.{Crowd}
+use Rattle.bq_core.specs.declared.known.Tally.{Tally}
+use Rattle.bq_core.specs.declared.tubes.entry.Crowd.{Crowd}
 use Rattle.bq_core.specs.declared.tubes.entry.TubeChange.{TubeChange}
-use Rattle.bq_core.specs.declared.tubes.pause_ends.PauseEnd.{PauseEnd}
+use Rattle.bq_core.specs.declared.tubes.pauses.PauseEnd.{PauseEnd}
 use Rattle.bq_core.proofs.NamedLemmas.{change_kept, edit_change, edit_crowd, edit_same_crowds, edit_same_records, edit_same_tallies, edit_tally, in_order, kept_alike}
 
 -- Where the records stay, so do the ends of their pauses.

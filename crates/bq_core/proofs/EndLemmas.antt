@@ -23,7 +23,7 @@ use Rattle.bq_jobs.proofs.Choice.{equal_from, lookup_inserted, lookup_removed}
 use Rattle.bq_core.specs.Dues.{earlier_of_both, first_pause_end, is_end_over, with_tube_due}
 use Rattle.bq_core.specs.KeptTubes.{KeptTubes, Named, record_at, tubes_kept}
 use Rattle.bq_core.specs.PauseEnds.{AreEnds, Ends, end_cmp, end_total, ends_at, first_end, found_end, has_end, if_over, is_end_in, is_end_of, with_end, without_end}
-use Rattle.bq_core.specs.declared.tubes.pause_ends.PauseEnd.{PauseEnd}
+use Rattle.bq_core.specs.declared.tubes.pauses.PauseEnd.{PauseEnd}
 use Rattle.bq_core.proofs.NamedLemmas.{ties}
 use Rattle.bq_core.proofs.TubeLemmas.{head_differs, same_itself}
 

@@ -22,7 +22,7 @@ use Rattle.bq_core.specs.PauseEnds.{AreEnds, Ends, end_cmp, end_of, ends_at, fir
 use Rattle.bq_core.specs.TubeEntries.{AreInOrder, has_entry, tube_changed}
 use Rattle.bq_core.specs.declared.tubes.entry.TubeChange.{TubeChange}
 use Rattle.bq_core.specs.declared.tubes.entry.TubeChange.TheVariants.{CountPut, CountDelete, Pause}
-use Rattle.bq_core.specs.declared.tubes.pause_ends.PauseEnd.{PauseEnd}
+use Rattle.bq_core.specs.declared.tubes.pauses.PauseEnd.{PauseEnd}
 use Rattle.bq_core.proofs.EndLemmas.{ends_alike, ends_apart, has_entered, has_left, one_over}
 use Rattle.bq_core.proofs.NamedLemmas.{change_kept, edit_change, found_entry, ties}
 use Rattle.bq_core.proofs.TubeLemmas.{changed_one, head_differs, none_later, order_kept, same_itself, same_name}

@@ -15,11 +15,11 @@ use Rattle.bq_core.specs.Dues.{earlier_of_both, is_end_over, with_seat_due}
 use Rattle.bq_core.specs.EndingWaits.{has_waited}
 use Rattle.bq_core.specs.FirstEnds.{AreTimeouts, IsThere, end_after, gives_up_at, keeps_end}
 use Rattle.bq_core.specs.SeatChanges.{AreNumbered, seat_changed, seat_changed_at}
-use Rattle.bq_core.specs.declared.known.first_end.FirstEnd.{FirstEnd}
-use Rattle.bq_core.specs.declared.known.first_end.FirstEnd.TheVariants.{Known, Unknown}
-use Rattle.bq_core.specs.declared.seat_list.SeatChange.{SeatChange}
-use Rattle.bq_core.specs.declared.seat_list.SeatChange.TheVariants.{StopWaiting, Connect, Clear, End, Use}
-use Rattle.bq_core.specs.declared.seat_list.SeatChange.TheVariants.{Wait as WaitFrom}
+use Rattle.bq_core.specs.declared.known.hints.FirstEnd.{FirstEnd}
+use Rattle.bq_core.specs.declared.known.hints.FirstEnd.TheVariants.{Known, Unknown}
+use Rattle.bq_core.specs.declared.seats.SeatChange.{SeatChange}
+use Rattle.bq_core.specs.declared.seats.SeatChange.TheVariants.{StopWaiting, Connect, Clear, End, Use}
+use Rattle.bq_core.specs.declared.seats.SeatChange.TheVariants.{Wait as WaitFrom}
 use Rattle.bq_core.proofs.CrowdLemmas.{none_changed}
 use Rattle.bq_core.proofs.PartsLemmas.{all_read, all_set}
 

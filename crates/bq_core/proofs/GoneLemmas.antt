@@ -23,7 +23,7 @@ use Rattle.bq_core.specs.KeptTubes.{KeptTube, Named, crowd_kept, is_alive_at, is
 use Rattle.bq_core.specs.Losses.{AreAlive}
 use Rattle.bq_core.specs.Tallies.{has_jobs, tallies_of, tally_in}
 use Rattle.bq_core.specs.TubeEntries.{AreInOrder, is_tube_of, names_alive}
-use Rattle.bq_core.specs.declared.known.loss.Loss.TheVariants.{Of}
+use Rattle.bq_core.specs.declared.known.hints.Loss.TheVariants.{Of}
 use Rattle.bq_core.specs.declared.tubes.walks.HowMany.{HowMany}
 use Rattle.bq_core.proofs.CrowdLemmas.{has_seats_of}
 use Rattle.bq_core.proofs.CrowdPlaces.{exists_by_counts}

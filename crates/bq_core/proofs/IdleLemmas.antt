@@ -5,7 +5,7 @@ use Rattle.bq_core.specs.Soundness.{Soundness}
 use Rattle.bq_core.specs.CoreParts.{machine_of}
 use Rattle.bq_core.specs.Stirs.{is_nothing}
 use Rattle.bq_core.specs.declared.core_parts.CoreParts.{CoreParts}
-use Rattle.bq_core.specs.declared.known.stir.Stir.TheVariants.{Nothing}
+use Rattle.bq_core.specs.declared.known.hints.Stir.TheVariants.{Nothing}
 use Rattle.bq_core.proofs.KnowledgeLemmas.{so_with_nothing}
 use Rattle.bq_core.proofs.StirLemmas.{none_known}
 

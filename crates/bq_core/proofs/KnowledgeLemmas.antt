@@ -27,11 +27,11 @@ use Rattle.bq_core.specs.Stirs.{AreKnown, IsKnown, stirred_by_change, with_anyth
 use Rattle.bq_core.specs.Tallies.{tallies_with, tallies_without, tally_moved}
 use Rattle.bq_core.specs.TubeEntries.{counted, has_entry, is_counted, is_tube_of, tube_changed, tube_changed_at}
 use Rattle.bq_core.specs.Warnings.{IsWarned, has_waiting_holder, may_hold, warned_if_due}
-use Rattle.bq_core.specs.declared.tubes.crowd.Moving.TheVariants.{Comes, Goes}
+use Rattle.bq_core.specs.declared.tubes.entry.Moving.TheVariants.{Comes, Goes}
 use Rattle.bq_core.specs.declared.job_store.JobChange.{JobChange}
-use Rattle.bq_core.specs.declared.seat_list.SeatChange.{SeatChange}
+use Rattle.bq_core.specs.declared.seats.SeatChange.{SeatChange}
 use Rattle.bq_core.specs.declared.core_parts.CoreParts.{CoreParts}
-use Rattle.bq_core.specs.declared.known.stir.Stir.TheVariants as stirs
+use Rattle.bq_core.specs.declared.known.hints.Stir.TheVariants as stirs
 use Rattle.bq_core.specs.declared.tubes.entry.TubeChange.{TubeChange}
 use Rattle.bq_core.proofs.ClientLemmas.{clients_moved, clients_watching, first_clients}
 use Rattle.bq_core.proofs.CrowdLemmas.{crowds_moved}

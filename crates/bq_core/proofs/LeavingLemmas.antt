@@ -10,12 +10,12 @@ use Rattle.bq_job.specs.machine.Machine.{SeatRecord, TubeRecord, default_tube}
 use Rattle.bq_job.specs.reading.TubeName.{is_same_name}
 use Rattle.bq_job.specs.machine.Tubes.{is_seated_at, watches}
 use Rattle.bq_job.proofs.ListLemmas.{all_at, all_from_members, list_any_with}
-use Rattle.bq_core.specs.declared.tubes.crowd.Crowd.{Crowd}
-use Rattle.bq_core.specs.declared.tubes.crowd.Moving.TheVariants.{Goes}
-use Rattle.bq_core.specs.declared.tubes.crowd.Share.{Share}
-use Rattle.bq_core.specs.declared.known.loss.Loss.{Loss}
-use Rattle.bq_core.specs.declared.seat_list.SeatChange.{SeatChange}
-use Rattle.bq_core.specs.declared.seat_list.SeatChange.TheVariants.{StopWaiting, Wait, Connect, Clear, End, Use}
+use Rattle.bq_core.specs.declared.tubes.entry.Crowd.{Crowd}
+use Rattle.bq_core.specs.declared.tubes.entry.Moving.TheVariants.{Goes}
+use Rattle.bq_core.specs.declared.tubes.entry.Share.{Share}
+use Rattle.bq_core.specs.declared.known.hints.Loss.{Loss}
+use Rattle.bq_core.specs.declared.seats.SeatChange.{SeatChange}
+use Rattle.bq_core.specs.declared.seats.SeatChange.TheVariants.{StopWaiting, Wait, Connect, Clear, End, Use}
 use Rattle.bq_core.specs.Crowds.{IsSeated, crowd_at, crowd_in, crowd_of, crowd_with, crowd_without, crowds_of, crowds_recounted, crowds_recounted_for, has_seats, touched}
 use Rattle.bq_core.specs.KeptTubes.{KeptTubes}
 use Rattle.bq_core.specs.Leaving.{exists_in, loss_of, lost_all, lost_if, lost_unless}

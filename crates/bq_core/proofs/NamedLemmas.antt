@@ -20,8 +20,8 @@ use Rattle.bq_core.specs.KeptTubes.{KeptTube, KeptTubes, Named, crowd_by, crowd_
 use Rattle.bq_core.specs.Tallies.{tallies_at, tallies_provided, tally_at, tally_of}
 use Rattle.bq_core.specs.TubeEntries.{AreInOrder, has_entry, provided, tube_changed}
 use Rattle.bq_core.specs.Crowds.{crowd_at, crowds_at, crowds_provided, no_crowd}
-use Rattle.bq_core.specs.declared.tubes.crowd.Crowd.{Crowd}
-use Rattle.bq_core.specs.declared.known.tally.Tally.{Tally}
+use Rattle.bq_core.specs.declared.tubes.entry.Crowd.{Crowd}
+use Rattle.bq_core.specs.declared.known.Tally.{Tally}
 use Rattle.bq_core.specs.declared.tubes.entry.TubeChange.{TubeChange}
 use Rattle.bq_core.specs.declared.tubes.entry.TubeChange.TheVariants.{CountPut, CountDelete, Pause}
 use Rattle.bq_core.proofs.TubeLemmas.{changed_one, head_differs, none_later, same_name}

@@ -20,7 +20,7 @@ use Rattle.bq_core.specs.Crowds.{is_waiter}
 use Rattle.bq_core.specs.Offers.{next_rank, these}
 use Rattle.bq_core.specs.SeatChanges.{AreNumbered}
 use Rattle.bq_core.specs.Stirs.{AreKnown, IsKnown}
-use Rattle.bq_core.specs.declared.known.stir.Stir.TheVariants.{Tube, Client}
+use Rattle.bq_core.specs.declared.known.hints.Stir.TheVariants.{Tube, Client}
 use Rattle.bq_core.proofs.StirLemmas.{parts_of}
 use Rattle.bq_core.proofs.TubeLemmas.{same_name}
 use Rattle.bq_core.proofs.WarningLemmas.{none_found}

@@ -19,10 +19,10 @@ use Rattle.bq_core.specs.Crowds.{is_waiter}
 use Rattle.bq_core.specs.SeatChanges.{seat_changed, seat_changed_at}
 use Rattle.bq_core.specs.Stirs.{AreKnown, IsKnown, is_nothing, is_paused_by, is_wanted_by, may_get, stirred_by_change, stirred_by_seat, with_anything, with_asker, with_stirred}
 use Rattle.bq_core.specs.TubeEntries.{tube_changed}
-use Rattle.bq_core.specs.declared.seat_list.SeatChange.{SeatChange}
-use Rattle.bq_core.specs.declared.seat_list.SeatChange.TheVariants.{StopWaiting, Wait, Connect, Clear, End, Use}
-use Rattle.bq_core.specs.declared.known.stir.Stir.{Stir}
-use Rattle.bq_core.specs.declared.known.stir.Stir.TheVariants.{Nothing, Tube, Client, Any}
+use Rattle.bq_core.specs.declared.seats.SeatChange.{SeatChange}
+use Rattle.bq_core.specs.declared.seats.SeatChange.TheVariants.{StopWaiting, Wait, Connect, Clear, End, Use}
+use Rattle.bq_core.specs.declared.known.hints.Stir.{Stir}
+use Rattle.bq_core.specs.declared.known.hints.Stir.TheVariants.{Nothing, Tube, Client, Any}
 use Rattle.bq_core.specs.declared.tubes.entry.TubeChange.{TubeChange}
 use Rattle.bq_core.specs.declared.tubes.entry.TubeChange.TheVariants.{CountPut, CountDelete, Pause as PauseFor}
 use Rattle.bq_core.proofs.PartsLemmas.{all_added, all_read, all_set}

@@ -18,7 +18,7 @@ use Rattle.bq_job.specs.machine.Tubes.{fresh_tube, is_name_before}
 use Rattle.bq_job.proofs.ListLemmas.{count_cons}
 use Rattle.bq_job.proofs.NameOrderLemmas.{not_same}
 use Rattle.bq_jobs.specs.Kept.{with_added, without}
-use Rattle.bq_core.specs.declared.known.tally.Tally.{Tally}
+use Rattle.bq_core.specs.declared.known.Tally.{Tally}
 use Rattle.bq_core.specs.Tallies.{AreCounted, has_jobs, tallies_at, tallies_of, tallies_provided, tallies_with, tallies_without, tally_at, tally_in, tally_of, tally_with, tally_without}
 use Rattle.bq_core.specs.TubeEntries.{AreInOrder, has_entry, provided}
 use Rattle.bq_core.proofs.TubeLemmas.{provided_new}

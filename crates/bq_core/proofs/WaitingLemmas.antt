@@ -14,7 +14,7 @@ use Rattle.bq_job.proofs.ListLemmas.{all_weaker, count_cons, found_passes}
 use Rattle.bq_core.specs.EndingWaits.{turn_of}
 use Rattle.bq_core.specs.WaitingTurns.{AreInTurn, IsRising, WaitingTurns, is_none_or_before, is_turn_before, placed, removed, turns_of, with_turn, without_turn}
 use Rattle.bq_core.specs.SeatChanges.{AreNumbered, seat_changed, seat_changed_at}
-use Rattle.bq_core.specs.declared.seat_list.SeatChange.{SeatChange}
+use Rattle.bq_core.specs.declared.seats.SeatChange.{SeatChange}
 use Rattle.bq_core.proofs.ClientLemmas.{all_others, heads, others, others_left}
 use Rattle.bq_core.proofs.PartsLemmas.{all_read, changed_there, number_kept, numbered_after, numbers_length}
 use Rattle.bq_core.proofs.TurnLemmas.{some_at}

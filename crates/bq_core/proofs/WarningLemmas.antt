@@ -18,10 +18,10 @@ use Rattle.bq_jobs.specs.Leases.{deadline_of, is_lease_before}
 use Rattle.bq_core.specs.Dues.{earlier_of_both, warning_due, warning_due_at, with_warning_due}
 use Rattle.bq_core.specs.SeatChanges.{AreNumbered, seat_changed, seat_changed_at}
 use Rattle.bq_core.specs.Warnings.{AreWarned, IsWarned, has_waiting_holder, holds_in_wait, is_waiting_there, may_hold, may_warn, warned_by_seat, warned_if_due, with_holder, with_holder_of, without_holder}
-use Rattle.bq_core.specs.declared.seat_list.SeatChange.{SeatChange}
-use Rattle.bq_core.specs.declared.seat_list.SeatChange.TheVariants.{StopWaiting, Wait, Connect, Clear, End, Use}
-use Rattle.bq_core.specs.declared.known.warns.Warns.{Warns}
-use Rattle.bq_core.specs.declared.known.warns.Warns.TheVariants.{Nobody, Client, Any}
+use Rattle.bq_core.specs.declared.seats.SeatChange.{SeatChange}
+use Rattle.bq_core.specs.declared.seats.SeatChange.TheVariants.{StopWaiting, Wait, Connect, Clear, End, Use}
+use Rattle.bq_core.specs.declared.known.hints.Warns.{Warns}
+use Rattle.bq_core.specs.declared.known.hints.Warns.TheVariants.{Nobody, Client, Any}
 use Rattle.bq_core.proofs.PartsLemmas.{all_added, all_read, all_set}
 
 -- more may be known

@@ -7,8 +7,8 @@ use Rattle.bq_job.specs.machine.Changes.{is_waiting}
 use Rattle.bq_job.specs.machine.Machine.{Machine, SeatRecord}
 use Rattle.bq_job.specs.machine.Steps.{Memory, acted, addressed, is_possible, shares_body}
 use Rattle.bq_job.specs.machine.Steps.{is_growth_refused, is_share_refused, may_be_left_out}
-use Rattle.bq_core.specs.declared.reply.Reply.{Reply}
-use Rattle.bq_core.specs.declared.reply.Reply.TheVariants.{Silent, Told, LeftOut, Unshared}
+use Rattle.bq_core.specs.declared.acts.Reply.{Reply}
+use Rattle.bq_core.specs.declared.acts.Reply.TheVariants.{Silent, Told, LeftOut, Unshared}
 use Rattle.bq_steps.specs.Outbox.{Outbox}
 
 -- nobody is connected there

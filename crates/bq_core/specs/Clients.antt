@@ -3,7 +3,7 @@ use Rattle.std.specs.Prelude.{Bool, false, List, Option, Some, None, count_by}
 use Rattle.bq_job.specs.machine.Changes.{is_waiting}
 use Rattle.bq_job.specs.machine.Machine.{SeatRecord}
 use Rattle.bq_core.specs.Tallies.{count_with, count_without}
-use Rattle.bq_core.specs.declared.known.clients.Clients.{Clients}
+use Rattle.bq_core.specs.declared.known.Clients.{Clients}
 
 abbrev pub clients_of : List SeatRecord → Clients
 clients_of seats = record { connected = count_by (λ s. s.connected) seats; waiting = count_by is_waiting seats }

@@ -7,11 +7,11 @@ use Rattle.bq_core.specs.KeptTubes.{KeptTubes}
 use Rattle.bq_core.specs.Losses.{AreAlive}
 use Rattle.bq_core.specs.Tallies.{tallies_at, tallies_of, tallies_provided}
 use Rattle.bq_core.specs.TubeEntries.{AreInOrder, is_tube_of, provided}
-use Rattle.bq_core.specs.declared.tubes.crowd.Crowd.{Crowd}
-use Rattle.bq_core.specs.declared.tubes.crowd.Moving.{Moving}
-use Rattle.bq_core.specs.declared.tubes.crowd.Share.{Share}
-use Rattle.bq_core.specs.declared.known.loss.Loss.{Loss}
-use Rattle.bq_core.specs.declared.known.tally.Tally.{Tally}
+use Rattle.bq_core.specs.declared.tubes.entry.Crowd.{Crowd}
+use Rattle.bq_core.specs.declared.tubes.entry.Moving.{Moving}
+use Rattle.bq_core.specs.declared.tubes.entry.Share.{Share}
+use Rattle.bq_core.specs.declared.known.hints.Loss.{Loss}
+use Rattle.bq_core.specs.declared.known.Tally.{Tally}
 
 -- the counts are those of these jobs and seats
 abbrev pub AreCounts : KeptTubes → List Job → List SeatRecord → Type 0

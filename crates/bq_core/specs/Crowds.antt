@@ -10,12 +10,12 @@ use Rattle.bq_job.specs.machine.Tubes.{is_name_before, watches}
 use Rattle.bq_core.specs.Acting.{is_connected}
 use Rattle.bq_core.specs.Tallies.{count_with, count_without}
 use Rattle.bq_core.specs.TubeEntries.{has_entry}
-use Rattle.bq_core.specs.declared.tubes.crowd.Crowd.{Crowd}
-use Rattle.bq_core.specs.declared.tubes.crowd.Moving.{Moving}
-use Rattle.bq_core.specs.declared.tubes.crowd.Moving.TheVariants.{Comes, Goes}
-use Rattle.bq_core.specs.declared.tubes.crowd.Share.{Share}
-use Rattle.bq_core.specs.declared.seat_list.SeatChange.{SeatChange}
-use Rattle.bq_core.specs.declared.seat_list.SeatChange.TheVariants.{StopWaiting, Wait, Connect, Clear, End, Use}
+use Rattle.bq_core.specs.declared.tubes.entry.Crowd.{Crowd}
+use Rattle.bq_core.specs.declared.tubes.entry.Moving.{Moving}
+use Rattle.bq_core.specs.declared.tubes.entry.Moving.TheVariants.{Comes, Goes}
+use Rattle.bq_core.specs.declared.tubes.entry.Share.{Share}
+use Rattle.bq_core.specs.declared.seats.SeatChange.{SeatChange}
+use Rattle.bq_core.specs.declared.seats.SeatChange.TheVariants.{StopWaiting, Wait, Connect, Clear, End, Use}
 
 -- an open seat uses the tube, or watches it, or a client waits at it
 abbrev pub is_user : List ℕ → SeatRecord → Bool

@@ -5,10 +5,10 @@ use Rattle.bq_job.specs.machine.Changes.{is_waiting}
 use Rattle.bq_job.specs.machine.Machine.{SeatRecord}
 use Rattle.bq_job.specs.beside.NextDue.{dues_of_wait, earliest}
 use Rattle.bq_core.specs.Dues.{with_seat_due}
-use Rattle.bq_core.specs.declared.known.first_end.FirstEnd.{FirstEnd}
-use Rattle.bq_core.specs.declared.known.first_end.FirstEnd.TheVariants.{Known, Unknown}
-use Rattle.bq_core.specs.declared.seat_list.SeatChange.{SeatChange}
-use Rattle.bq_core.specs.declared.seat_list.SeatChange.TheVariants.{StopWaiting, Wait, Connect, Clear, End, Use}
+use Rattle.bq_core.specs.declared.known.hints.FirstEnd.{FirstEnd}
+use Rattle.bq_core.specs.declared.known.hints.FirstEnd.TheVariants.{Known, Unknown}
+use Rattle.bq_core.specs.declared.seats.SeatChange.{SeatChange}
+use Rattle.bq_core.specs.declared.seats.SeatChange.TheVariants.{StopWaiting, Wait, Connect, Clear, End, Use}
 
 -- when the client gives up, if it waits
 abbrev pub gives_up_at : SeatRecord → Option ℕ

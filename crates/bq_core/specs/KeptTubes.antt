@@ -14,10 +14,10 @@ use Rattle.bq_jobs.specs.declared.edit.Moved.{Moved}
 use Rattle.bq_core.specs.Crowds.{has_seats, no_crowd, recounted}
 use Rattle.bq_core.specs.Tallies.{has_jobs, tally_moved, tally_of, tally_with, tally_without}
 use Rattle.bq_core.specs.TubeEntries.{is_tube_by, tube_changed}
-use Rattle.bq_core.specs.declared.tubes.crowd.Crowd.{Crowd}
-use Rattle.bq_core.specs.declared.tubes.crowd.Moving.{Moving}
-use Rattle.bq_core.specs.declared.tubes.crowd.Share.{Share}
-use Rattle.bq_core.specs.declared.known.tally.Tally.{Tally}
+use Rattle.bq_core.specs.declared.tubes.entry.Crowd.{Crowd}
+use Rattle.bq_core.specs.declared.tubes.entry.Moving.{Moving}
+use Rattle.bq_core.specs.declared.tubes.entry.Share.{Share}
+use Rattle.bq_core.specs.declared.known.Tally.{Tally}
 use Rattle.bq_core.specs.declared.tubes.entry.TubeChange.{TubeChange}
 
 -- the entries, and at the same places the counts of the tubes' jobs and of their clients

@@ -14,14 +14,14 @@ use Rattle.bq_core.specs.Stirs.{AreKnown, stirred_by_change, stirred_by_seat, wi
 use Rattle.bq_core.specs.Tallies.{AreCounted, tally_moved, tally_of, tally_with, tally_without}
 use Rattle.bq_core.specs.TubeEntries.{counted}
 use Rattle.bq_core.specs.Warnings.{AreWarned, warned_by_seat, with_holder_of}
-use Rattle.bq_core.specs.declared.tubes.crowd.Share.{Share}
-use Rattle.bq_core.specs.declared.known.first_end.FirstEnd.TheVariants as ends
+use Rattle.bq_core.specs.declared.tubes.entry.Share.{Share}
+use Rattle.bq_core.specs.declared.known.hints.FirstEnd.TheVariants as ends
 use Rattle.bq_core.specs.declared.known.Known.{Known}
-use Rattle.bq_core.specs.declared.known.loss.Loss.TheVariants as losses
-use Rattle.bq_core.specs.declared.seat_list.SeatChange.{SeatChange}
-use Rattle.bq_core.specs.declared.known.stir.Stir.TheVariants as stirs
+use Rattle.bq_core.specs.declared.known.hints.Loss.TheVariants as losses
+use Rattle.bq_core.specs.declared.seats.SeatChange.{SeatChange}
+use Rattle.bq_core.specs.declared.known.hints.Stir.TheVariants as stirs
 use Rattle.bq_core.specs.declared.tubes.entry.TubeChange.{TubeChange}
-use Rattle.bq_core.specs.declared.known.warns.Warns.TheVariants as holders
+use Rattle.bq_core.specs.declared.known.hints.Warns.TheVariants as holders
 
 -- What is known is so of these jobs, seats and tubes, and what is counted at the tubes is what there is.
 pub record IsSo (k : Known) (jobs : List Job) (seats : List SeatRecord) (tubes : KeptTubes) : Type 0 where

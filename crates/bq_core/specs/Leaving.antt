@@ -6,8 +6,8 @@ use Rattle.bq_core.specs.KeptTubes.{KeptTubes}
 use Rattle.bq_core.specs.Losses.{with_lost}
 use Rattle.bq_core.specs.Tallies.{has_jobs, tally_at}
 use Rattle.bq_core.specs.TubeEntries.{is_tube_by}
-use Rattle.bq_core.specs.declared.tubes.crowd.Share.{Share}
-use Rattle.bq_core.specs.declared.known.loss.Loss.{Loss}
+use Rattle.bq_core.specs.declared.tubes.entry.Share.{Share}
+use Rattle.bq_core.specs.declared.known.hints.Loss.{Loss}
 
 -- the tube exists, by its counts
 abbrev pub exists_in : KeptTubes → List ℕ → Bool

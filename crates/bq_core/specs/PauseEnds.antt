@@ -12,7 +12,7 @@ use Rattle.bq_index.specs.Catalog.{CatalogSeen}
 use Rattle.bq_job.specs.machine.Machine.{Pause, TubeRecord}
 use Rattle.bq_job.specs.reading.TubeName.{is_same_name}
 use Rattle.bq_core.specs.KeptTubes.{Named, record_at}
-use Rattle.bq_core.specs.declared.tubes.pause_ends.PauseEnd.{PauseEnd}
+use Rattle.bq_core.specs.declared.tubes.pauses.PauseEnd.{PauseEnd}
 
 -- by moment, and at one moment by name
 abbrev pub end_cmp : PauseEnd → PauseEnd → Ordering

@@ -10,7 +10,7 @@ use Rattle.bq_core.specs.Acting.{Replies}
 use Rattle.bq_core.specs.JobKinds.{first_of_kind}
 use Rattle.bq_core.specs.CoreParts.{machine_of}
 use Rattle.bq_core.specs.declared.job_store.JobKind.{JobKind}
-use Rattle.bq_core.specs.declared.reply.Reply.{Reply}
+use Rattle.bq_core.specs.declared.acts.Reply.{Reply}
 use Rattle.bq_core.specs.declared.core_parts.CoreParts.{CoreParts}
 
 -- a request came to this reply

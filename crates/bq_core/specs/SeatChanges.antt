@@ -8,8 +8,8 @@ use Rattle.bq_job.specs.machine.Machine.{SeatRecord, TubeRecord, empty_seat, num
 use Rattle.bq_job.specs.machine.TubeCommands.{using}
 use Rattle.bq_job.specs.reading.TubeName.{is_same_name}
 use Rattle.bq_core.specs.TubeEntries.{has_entry}
-use Rattle.bq_core.specs.declared.seat_list.SeatChange.{SeatChange}
-use Rattle.bq_core.specs.declared.seat_list.SeatChange.TheVariants.{StopWaiting, Wait, Connect, Clear, End, Use}
+use Rattle.bq_core.specs.declared.seats.SeatChange.{SeatChange}
+use Rattle.bq_core.specs.declared.seats.SeatChange.TheVariants.{StopWaiting, Wait, Connect, Clear, End, Use}
 
 -- each seat stands at the place of its number
 abbrev pub AreNumbered : List SeatRecord → Type 0

@@ -1,6 +1,6 @@
 -- What a seat is seen as.
 use Rattle.bq_job.specs.machine.Machine.{SeatRecord}
-use Rattle.bq_core.specs.declared.seat_record.SeatRecord.TheInside.{Inside}
+use Rattle.bq_core.specs.declared.seats.SeatRecord.TheInside.{Inside}
 
 abbrev pub seat_of : Inside → SeatRecord
 seat_of p = record {

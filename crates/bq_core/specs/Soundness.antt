@@ -12,8 +12,8 @@ use Rattle.bq_core.specs.Knowledge.{IsSo}
 use Rattle.bq_core.specs.WaitingTurns.{AreInTurn, WaitingTurns}
 use Rattle.bq_core.specs.SeatChanges.{AreNumbered}
 use Rattle.bq_core.specs.TubeEntries.{AreEntries, AreInOrder}
-use Rattle.bq_core.specs.declared.known.first_end.FirstEnd.{FirstEnd}
-use Rattle.bq_core.specs.declared.known.first_end.FirstEnd.TheVariants as ends
+use Rattle.bq_core.specs.declared.known.hints.FirstEnd.{FirstEnd}
+use Rattle.bq_core.specs.declared.known.hints.FirstEnd.TheVariants as ends
 use Rattle.bq_core.specs.declared.known.Known.{Known}
 
 -- The fields of a state agree with one another: these jobs, seats and tubes with what is kept beside them.

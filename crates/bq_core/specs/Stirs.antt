@@ -6,10 +6,10 @@ use Rattle.bq_job.specs.machine.Changes.{is_ready, is_waiting}
 use Rattle.bq_job.specs.machine.Machine.{SeatRecord, TubeRecord}
 use Rattle.bq_job.specs.reading.TubeName.{is_same_name}
 use Rattle.bq_job.specs.machine.Tubes.{fresh_tube, watches}
-use Rattle.bq_core.specs.declared.seat_list.SeatChange.{SeatChange}
-use Rattle.bq_core.specs.declared.seat_list.SeatChange.TheVariants.{Wait}
-use Rattle.bq_core.specs.declared.known.stir.Stir.{Stir}
-use Rattle.bq_core.specs.declared.known.stir.Stir.TheVariants.{Nothing, Tube, Client, Any}
+use Rattle.bq_core.specs.declared.seats.SeatChange.{SeatChange}
+use Rattle.bq_core.specs.declared.seats.SeatChange.TheVariants.{Wait}
+use Rattle.bq_core.specs.declared.known.hints.Stir.{Stir}
+use Rattle.bq_core.specs.declared.known.hints.Stir.TheVariants.{Nothing, Tube, Client, Any}
 use Rattle.bq_core.specs.declared.tubes.entry.TubeChange.{TubeChange}
 use Rattle.bq_core.specs.declared.tubes.entry.TubeChange.TheVariants.{Pause}
 

@@ -12,7 +12,7 @@ use Rattle.bq_job.specs.machine.Tubes.{is_name_before}
 use Rattle.bq_jobs.specs.declared.edit.Moved.{Moved}
 use Rattle.bq_jobs.specs.declared.edit.Standing.{Standing}
 use Rattle.bq_core.specs.TubeEntries.{has_entry}
-use Rattle.bq_core.specs.declared.known.tally.Tally.{Tally}
+use Rattle.bq_core.specs.declared.known.Tally.{Tally}
 
 abbrev pub tally_of : List Job → Tally
 tally_of jobs = record {

@@ -6,10 +6,10 @@ use Rattle.bq_job.specs.declared.job.JobState.{JobState}
 use Rattle.bq_job.specs.declared.job.JobState.TheVariants as states
 use Rattle.bq_job.specs.machine.Changes.{is_held_by, is_waiting, seat_with}
 use Rattle.bq_job.specs.machine.Machine.{SeatRecord}
-use Rattle.bq_core.specs.declared.seat_list.SeatChange.{SeatChange}
-use Rattle.bq_core.specs.declared.seat_list.SeatChange.TheVariants.{Clear, StopWaiting, Wait}
-use Rattle.bq_core.specs.declared.known.warns.Warns.{Warns}
-use Rattle.bq_core.specs.declared.known.warns.Warns.TheVariants.{Nobody, Client, Any}
+use Rattle.bq_core.specs.declared.seats.SeatChange.{SeatChange}
+use Rattle.bq_core.specs.declared.seats.SeatChange.TheVariants.{Clear, StopWaiting, Wait}
+use Rattle.bq_core.specs.declared.known.hints.Warns.{Warns}
+use Rattle.bq_core.specs.declared.known.hints.Warns.TheVariants.{Nobody, Client, Any}
 
 -- the client at this seat may hold a job while it waits
 abbrev pub may_warn : Warns → ℕ → Bool

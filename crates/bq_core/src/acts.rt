@@ -1,6 +1,5 @@
 //! The command's own effect, by its kind, and its answer.
 ghost use Rattle.std.specs.Prelude.{◌≡◌, true};
-ghost use Rattle.bq_job.specs.declared.step.Step.TheVariants as steps;
 ghost use Rattle.bq_job.specs.machine.Asked.{asked, effect, refusal_answer as answer_of_refusal};
 ghost use Rattle.bq_job.specs.machine.Changes.{seat_with};
 ghost use Rattle.bq_job.specs.machine.Steps.{step_takes_memory, takes_memory};
@@ -9,13 +8,13 @@ ghost use Rattle.bq_core.specs.Acting.{Acts, is_asking};
 ghost use Rattle.bq_core.specs.Replying.{RepliesAt, RepliesBy};
 ghost use Rattle.bq_core.specs.CoreParts.{machine_of};
 ghost use Rattle.bq_core.specs.Turns.{HasRoom};
+ghost use Rattle.bq_job.specs.declared.step.Step.TheVariants as steps;
 
 use crate::core_parts::CoreParts;
 use crate::job_acts::{NewJob, NewTurn};
 use crate::job_store::JobKind;
-use crate::reply::Reply;
-use crate::seat_list::SeatChange;
-use crate::{changes, job_acts, kicks, leases, statistics_acts, tube_acts};
+use crate::seats::SeatChange;
+use crate::{changes, job_acts, kicks, statistics_acts, timers, tube_acts};
 use bq_job::{Answer, Refusal, Request, Seat, Step};
 use bq_steps::Outs;
 use std::alloc::Global;
@@ -47,8 +46,8 @@ fn close(state: &mut CoreParts, seat: Seat) -> Option<Answer>
     if !state.is_connected(seat) {
         return None;
     }
-    let becomes = leases::state_once_left(state);
-    leases::give_back_all(state, seat, becomes);
+    let becomes = timers::state_once_left(state);
+    timers::give_back_all(state, seat, becomes);
     changes::change_seat(state, seat, &SeatChange::Clear);
     Some(Answer::Closed)
 }
@@ -199,4 +198,16 @@ pub(crate) fn act(state: &mut CoreParts, alloc: Global, seat: Seat, what: &Step,
             outs.push(seat, Answer::OutOfMemory);
         }
     }
+}
+
+/// What a request comes to. An answer that is told lies in the place that went along: it can hold a
+/// tube's name, so it isn't moved on the way.
+#[derive(Clone, Copy)]
+pub(crate) enum Reply {
+    Silent,
+    Told,
+    /// A growth was refused, and nothing was changed.
+    LeftOut,
+    /// One more owner of a body was refused, and nothing was changed.
+    Unshared,
 }

@@ -27,11 +27,10 @@ use crate::core_parts::CoreParts;
 use crate::job_store::JobChange;
 use crate::known::{Clients, FirstEnd, Known, Loss};
 use crate::name_lists::Names;
-use crate::seat_list::SeatChange;
-use crate::seat_record::SeatRecord;
+use crate::seats::{SeatChange, SeatRecord};
 use crate::tubes::{Moving, TubeChange, Tubes};
 use crate::waiting::Waiting;
-use crate::{job_store, seat_list, shares};
+use crate::{job_store, seats, shares};
 use bq_job::{Job, JobId, JobState, Moment, NoMemory, Seat, TubeName};
 use bq_jobs::{Jobs, Moved};
 use bq_steps::Config;
@@ -119,7 +118,7 @@ pub(crate) fn change_job(state: &mut CoreParts, id: JobId, what: &JobChange)
         return;
     };
     let is_wanted = counts_waiter_of(&state.known.clients, &state.tubes, &moved);
-    let waits = seat_list::holder_waits(state.seats.as_slice(), moved.to.state);
+    let waits = seats::holder_waits(state.seats.as_slice(), moved.to.state);
     // So many jobs there can be, and no count comes to its end.
     let _jobs = state.jobs.len();
     state.known.move_job(&moved, is_wanted, waits);
@@ -135,12 +134,12 @@ pub(crate) fn change_seat(state: &mut CoreParts, seat: Seat, what: &SeatChange)
     ensures jobs { state.new.jobs ≡ state.old.jobs }
 {
     let touched = shares::touched(what);
-    let client = seat_list::find(state.seats.as_slice(), seat);
+    let client = seats::find(state.seats.as_slice(), seat);
     state.waiting.leave(client);
     shares::recount(&mut state.tubes, client, Moving::Goes, touched);
     state.known.leave(client, what, touched, &state.tubes);
-    seat_list::change_at(&mut state.seats, seat, what);
-    let client = seat_list::find(state.seats.as_slice(), seat);
+    seats::change_at(&mut state.seats, seat, what);
+    let client = seats::find(state.seats.as_slice(), seat);
     state.waiting.join(client);
     shares::recount(&mut state.tubes, client, Moving::Comes, touched);
     // So many seats there can be, and no count comes to its end.
@@ -220,7 +219,7 @@ pub(crate) fn watch_tube(
         return Ok(0);
     }
     let share = shares::of_watcher(&state.seats[usize::from(seat)]);
-    match seat_list::watch(&mut state.seats, alloc, seat, tube) {
+    match seats::watch(&mut state.seats, alloc, seat, tube) {
         Ok(count) => {
             state.tubes.recount(tube, Moving::Comes, share);
             state.known.stir.stir_all_if(share.waiting);
@@ -242,7 +241,7 @@ pub(crate) fn ignore_tube(state: &mut CoreParts, seat: Seat, tube: &TubeName) ->
         let share = shares::at(&state.seats[usize::from(seat)], tube);
         state.tubes.recount(tube, Moving::Goes, share);
         state.known.loss.lose(tube);
-        seat_list::ignore(&mut state.seats, seat, tube)
+        seats::ignore(&mut state.seats, seat, tube)
     } else {
         0
     }

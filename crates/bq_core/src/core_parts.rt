@@ -3,10 +3,10 @@ ghost use Rattle.bq_core.specs.Soundness.{Soundness, Soundness-prop};
 
 use crate::job_store::{JobKind, JobTest};
 use crate::known::{Known, Tally};
-use crate::seat_record::SeatRecord;
+use crate::seats::SeatRecord;
 use crate::tubes::{Crowd, Tubes};
 use crate::waiting::Waiting;
-use crate::{job_store, seat_list};
+use crate::{job_store, seats};
 use bq_job::{Body, Job, JobId, Moment, NoMemory, Seat, TubeName};
 use bq_jobs::Jobs;
 use bq_steps::Config;
@@ -57,7 +57,7 @@ impl CoreParts {
     pub(crate) fn is_free(&self, seat: Seat) -> bool
         ensures { result ≡ is_free (seat_with seat self.now.seats.items) }
     {
-        match seat_list::find(self.seats.as_slice(), seat) {
+        match seats::find(self.seats.as_slice(), seat) {
             None => false,
             Some(client) => !client.is_connected(),
         }
@@ -67,7 +67,7 @@ impl CoreParts {
     pub(crate) fn is_connected(&self, seat: Seat) -> bool
         ensures { result ≡ is_connected (seat_with seat self.now.seats.items) }
     {
-        match seat_list::find(self.seats.as_slice(), seat) {
+        match seats::find(self.seats.as_slice(), seat) {
             None => false,
             Some(client) => client.is_connected(),
         }
@@ -77,7 +77,7 @@ impl CoreParts {
     pub(crate) fn is_asking(&self, seat: Seat) -> bool
         ensures { result ≡ is_asking (seat_with seat self.now.seats.items) }
     {
-        match seat_list::find(self.seats.as_slice(), seat) {
+        match seats::find(self.seats.as_slice(), seat) {
             None => false,
             Some(client) => client.is_connected() && !client.is_waiting(),
         }
@@ -171,6 +171,6 @@ impl CoreParts {
     pub(crate) fn has_waiting_holder(&self, job: &Job) -> bool
         ensures { result ≡ has_waiting_holder job.now.state self.now.seats.items }
     {
-        seat_list::holder_waits(self.seats.as_slice(), job.state)
+        seats::holder_waits(self.seats.as_slice(), job.state)
     }
 }

@@ -24,10 +24,9 @@ ghost use Rattle.bq_core.specs.Serving.{IsLastTurn};
 use crate::core_parts::CoreParts;
 use crate::job_store::JobChange;
 use crate::known::Stir;
-use crate::seat_list::SeatChange;
-use crate::seat_record::{SeatRecord, Turn};
+use crate::seats::{SeatChange, SeatRecord, Turn};
 use crate::tubes::Tubes;
-use crate::{changes, seat_list};
+use crate::{changes, seats};
 use bq_job::{Answer, Body, JobId, NoMemory, Seat, TubeName};
 use bq_jobs::Jobs;
 use bq_steps::Outs;
@@ -128,7 +127,7 @@ fn best_of_client(
     ensures same { jobs.new ≡ record jobs.old { comparisons = jobs.new.comparisons } }
     ensures asks { Asks (sum_by waited_tubes (these (seat_with seat seats.now))) jobs.old jobs.new }
 {
-    match seat_list::find(seats, seat) {
+    match seats::find(seats, seat) {
         None => first,
         Some(client) => best_for(jobs, tubes, client, first),
     }
@@ -213,7 +212,7 @@ fn taker(stir: &Stir, seats: &[SeatRecord], turns: &[Turn], tube: &TubeName) -> 
 {
     match stir {
         Stir::Client(seat) => Some(*seat),
-        _ => seat_list::first_waiting(seats, turns, tube),
+        _ => seats::first_waiting(seats, turns, tube),
     }
 }
 

@@ -13,12 +13,12 @@ ghost use Rattle.bq_core.specs.Putting.{after_given};
 ghost use Rattle.bq_core.specs.Replying.{AnswersTo, RepliesAt, RepliesTo, Waits};
 ghost use Rattle.bq_core.specs.CoreParts.{held, machine_of};
 
+use crate::acts::Reply;
 use crate::core_parts::CoreParts;
 use crate::job_store::{JobChange, JobTest};
-use crate::reply::Reply;
-use crate::seat_list::SeatChange;
+use crate::seats::SeatChange;
 use crate::tubes::TubeChange;
-use crate::{changes, job_store, seat_list};
+use crate::{changes, job_store, seats};
 use bq_job::{Answer, Body, Counts, Job, JobId, Moment, Pri, Seat, TubeName};
 use bq_jobs::laws;
 use std::alloc::Global;
@@ -104,7 +104,7 @@ pub(crate) fn put(
         *told = Answer::OutOfMemory;
         return Reply::Told;
     }
-    let Some(client) = seat_list::find(state.seats.as_slice(), seat) else {
+    let Some(client) = seats::find(state.seats.as_slice(), seat) else {
         return Reply::Silent;
     };
     let Ok(shared) = body.share() else {

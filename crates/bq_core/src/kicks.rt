@@ -9,10 +9,10 @@ ghost use Rattle.bq_core.specs.Kicking.{KicksFirst, jobs_of};
 ghost use Rattle.bq_core.specs.Replying.{RepliesAt};
 ghost use Rattle.bq_core.specs.CoreParts.{machine_of, count_jobs};
 
+use crate::acts::Reply;
 use crate::core_parts::CoreParts;
 use crate::job_store::{JobChange, JobKind};
-use crate::reply::Reply;
-use crate::{changes, seat_list};
+use crate::{changes, seats};
 use bq_job::{Answer, Seat, TubeName};
 use bq_jobs::Jobs;
 
@@ -80,7 +80,7 @@ pub(crate) fn kick(state: &mut CoreParts, seat: Seat, bound: u32, told: &mut Ans
     ensures reply { RepliesAt seat false (kick_effect bound) state.old result told.new state.new }
     ensures asks { AsksAsChanged state.old.jobs state.new.jobs }
 {
-    let Some(client) = seat_list::find(state.seats.as_slice(), seat) else {
+    let Some(client) = seats::find(state.seats.as_slice(), seat) else {
         return Reply::Silent;
     };
     let tube = *client.used();

@@ -1,27 +1,19 @@
 //! What is known of the jobs, the seats and the tubes without a search.
-ghost use Rattle.std.specs.Prelude.{◌≡◌};
+ghost use Rattle.std.specs.Prelude.{◌≡◌, []};
 ghost use Rattle.std.specs.Option.{option_copied};
 ghost use Rattle.bq_core.specs.Knowledge.{nothing_known, with_forgotten, with_job, with_joined};
 ghost use Rattle.bq_core.specs.Knowledge.{with_left, with_moved, with_tube_changed, without_job};
+ghost use Rattle.bq_core.specs.Tallies.{has_jobs, tally_entered, tally_left, tally_of, tally_with};
+ghost use Rattle.bq_core.specs.Tallies.{tally_without};
+ghost use Rattle.bq_core.specs.Clients.{clients_with, clients_without};
 
-use crate::seat_list::SeatChange;
-use crate::seat_record::SeatRecord;
+use crate::seats::{SeatChange, SeatRecord};
 use crate::tubes::{Share, TubeChange, Tubes};
-use bq_job::{Job, Moment, Seat, TubeName};
-use bq_jobs::Moved;
-pub(crate) use clients::Clients;
-pub(crate) use first_end::FirstEnd;
-pub(crate) use loss::Loss;
-pub(crate) use stir::Stir;
-pub(crate) use tally::Tally;
-pub(crate) use warns::Warns;
+use bq_job::{Job, JobState, Moment, Pri, Seat, TubeName};
+use bq_jobs::{Moved, Standing};
+pub(crate) use hints::{FirstEnd, Loss, Stir, Warns};
 
-mod clients;
-mod first_end;
-mod loss;
-mod stir;
-mod tally;
-mod warns;
+mod hints;
 
 /// What is known without a search. Each field follows from the jobs, the seats and the tubes, and
 /// is kept where these change: what it says of them is a clause of `specs/Knowledge.antt`.
@@ -127,5 +119,129 @@ impl Known {
     {
         self.loss = Loss::Nothing;
         self.pause_end = tubes.pause_end_left(entries, self.pause_end);
+    }
+}
+
+/// Ready jobs with a priority below this are urgent.
+const URGENT_BELOW: Pri = 1024;
+
+/// How many jobs are in each state. Urgent ones count as ready too. A count stops at 2^64 - 1,
+/// which no number of jobs comes to.
+#[derive(Clone, Copy, PartialEq, Eq)]
+pub(crate) struct Tally {
+    pub(crate) urgent: u64,
+    pub(crate) ready: u64,
+    pub(crate) reserved: u64,
+    pub(crate) delayed: u64,
+    pub(crate) buried: u64,
+}
+
+impl Tally {
+    /// Nothing is counted.
+    pub(crate) fn none() -> Tally
+        ensures { result ≡ tally_of [] }
+    {
+        Tally {
+            urgent: 0,
+            ready: 0,
+            reserved: 0,
+            delayed: 0,
+            buried: 0,
+        }
+    }
+
+    /// Whether a job is counted.
+    pub(crate) fn has_jobs(&self) -> bool
+        ensures { result ≡ has_jobs self.now }
+    {
+        self.ready > 0 || self.reserved > 0 || self.delayed > 0 || self.buried > 0
+    }
+
+    /// Counts a job.
+    pub(crate) fn add(&mut self, job: &Job)
+        ensures { self.new ≡ tally_with job.now self.old }
+    {
+        self.enter(Standing::of(job));
+    }
+
+    /// Counts a job no longer.
+    pub(crate) fn remove(&mut self, job: &Job)
+        ensures { self.new ≡ tally_without job.now self.old }
+    {
+        self.leave(Standing::of(job));
+    }
+
+    /// A job stands so.
+    pub(crate) fn enter(&mut self, at: Standing)
+        ensures { self.new ≡ tally_entered at self.old }
+    {
+        match at.state {
+            JobState::Ready => {
+                self.ready = self.ready.saturating_add(1);
+                if at.pri < URGENT_BELOW {
+                    self.urgent = self.urgent.saturating_add(1);
+                }
+            }
+            JobState::Reserved(..) => self.reserved = self.reserved.saturating_add(1),
+            JobState::Delayed(_) => self.delayed = self.delayed.saturating_add(1),
+            JobState::Buried(_) => self.buried = self.buried.saturating_add(1),
+        }
+    }
+
+    /// A job stands so no longer.
+    pub(crate) fn leave(&mut self, at: Standing)
+        ensures { self.new ≡ tally_left at self.old }
+    {
+        match at.state {
+            JobState::Ready => {
+                self.ready = self.ready.saturating_sub(1);
+                if at.pri < URGENT_BELOW {
+                    self.urgent = self.urgent.saturating_sub(1);
+                }
+            }
+            JobState::Reserved(..) => self.reserved = self.reserved.saturating_sub(1),
+            JobState::Delayed(_) => self.delayed = self.delayed.saturating_sub(1),
+            JobState::Buried(_) => self.buried = self.buried.saturating_sub(1),
+        }
+    }
+}
+
+/// How many clients are connected, and how many wait. A count stops at 2^64 - 1, which no number of
+/// seats comes to.
+#[derive(Clone, Copy, Default, PartialEq, Eq)]
+pub(crate) struct Clients {
+    pub(crate) connected: u64,
+    pub(crate) waiting: u64,
+}
+
+impl Clients {
+    /// Counts what is at a seat, if there is this seat.
+    pub(crate) fn add(&mut self, client: Option<&SeatRecord>)
+        ensures { self.new ≡ clients_with (option_copied client.entry) self.old }
+    {
+        let Some(client) = client else {
+            return;
+        };
+        if client.is_connected() {
+            self.connected = self.connected.saturating_add(1);
+        }
+        if client.is_waiting() {
+            self.waiting = self.waiting.saturating_add(1);
+        }
+    }
+
+    /// Counts it no longer.
+    pub(crate) fn remove(&mut self, client: Option<&SeatRecord>)
+        ensures { self.new ≡ clients_without (option_copied client.entry) self.old }
+    {
+        let Some(client) = client else {
+            return;
+        };
+        if client.is_connected() {
+            self.connected = self.connected.saturating_sub(1);
+        }
+        if client.is_waiting() {
+            self.waiting = self.waiting.saturating_sub(1);
+        }
     }
 }

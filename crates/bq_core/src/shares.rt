@@ -5,8 +5,7 @@ ghost use Rattle.bq_core.specs.Counting.{recounted_for, with_crowds_at, with_cro
 ghost use Rattle.bq_core.specs.Crowds.{recounted, touched};
 ghost use Rattle.bq_core.specs.Crowds.{share_as_user, share_as_watcher, share_of_watcher, share_of_watching};
 
-use crate::seat_list::SeatChange;
-use crate::seat_record::SeatRecord;
+use crate::seats::{SeatChange, SeatRecord};
 use crate::tubes::{Moving, Share, Tubes};
 use bq_job::TubeName;
 

@@ -10,11 +10,11 @@ ghost use Rattle.bq_core.specs.Replying.{RepliesAt, RepliesBy};
 ghost use Rattle.bq_core.specs.CoreParts.{machine_of};
 ghost use Rattle.bq_core.specs.Texts.{TellsJob};
 
+use crate::acts::Reply;
 use crate::core_parts::CoreParts;
-use crate::reply::Reply;
 use crate::texts::{ServerNumbers, TubeNumbers, job_text, names_text, server_text, tube_text};
 use crate::tubes::TubeEntry;
-use crate::{changes, name_lists, seat_list};
+use crate::{changes, name_lists, seats};
 use bq_job::{Answer, JobId, Moment, NoMemory, Seat, Text, TubeName};
 use bq_jobs::Jobs;
 use std::alloc::Global;
@@ -156,7 +156,7 @@ pub(crate) fn list_tubes_watched(
 ) -> Reply
     ensures { RepliesAt seat true list_watched_effect state.now result told.new state.now }
 {
-    let Some(client) = seat_list::find(state.seats.as_slice(), seat) else {
+    let Some(client) = seats::find(state.seats.as_slice(), seat) else {
         return Reply::Silent;
     };
     let Ok(names) = name_lists::in_order(alloc, client.watched()) else {

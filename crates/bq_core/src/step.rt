@@ -14,9 +14,9 @@ ghost use Rattle.bq_core.specs.Turns.{HasRoom};
 use crate::core_parts::CoreParts;
 use crate::tubes::Tubes;
 use crate::waiting::Waiting;
-use crate::{acts, changes, dispatch, dues, seat_list, timers, waits};
+use crate::{acts, changes, dispatch, seats, timers, waiting};
 use bq_job::{LARGEST_BODY, MOST_SEATS, Moment, Seat, Step};
-use bq_steps::{Config, CoreFault, Outs};
+use bq_steps::{Config, CoreFault, Outs, QueueCore};
 use std::alloc::Global;
 use std::marker::Model;
 
@@ -45,7 +45,7 @@ fn serve(state: &mut CoreParts, outs: &mut Outs)
     ensures served { ServesAsking (machine_of state.old) outs.old outs.new (machine_of state.new) state.old.jobs state.new.jobs }
 {
     dispatch::dispatch(state, outs);
-    waits::end_waits(state, outs);
+    waiting::end_waits(state, outs);
 }
 
 // One step.
@@ -115,7 +115,7 @@ impl Core {
         if !is_job_limit(config.max_jobs) {
             return Err(CoreFault::BadMaxJobs);
         }
-        let Ok(seats) = seat_list::free_seats(alloc, config.seats) else {
+        let Ok(seats) = seats::free_seats(alloc, config.seats) else {
             return Err(CoreFault::NoMemory);
         };
         let Ok(waiting) = Waiting::new(alloc, config.seats) else {
@@ -183,6 +183,31 @@ impl Core {
         ensures same { self.new.machine ≡ self.old.machine }
         ensures comparisons { IsLookWithin self.old.machine self.old.comparisons self.new.comparisons }
     {
-        dues::next_due(&mut self.parts)
+        timers::next_due(&mut self.parts)
+    }
+}
+
+impl QueueCore for Core {
+    ghost machine = { λ core. core.machine };
+
+    ghost comparisons = { λ core. core.comparisons };
+
+    fn new(alloc: Global, config: Config) -> Result<Core, CoreFault> {
+        Core::new(alloc, config)
+    }
+
+    fn step_in_place(
+        &mut self,
+        alloc: Global,
+        at: Moment,
+        seat: Seat,
+        what: &Step,
+        outs: &mut Outs,
+    ) {
+        self.step_in_place(alloc, at, seat, what, outs);
+    }
+
+    fn next_due(&mut self) -> Option<Moment> {
+        self.next_due()
     }
 }

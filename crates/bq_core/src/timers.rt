@@ -1,17 +1,31 @@
-//! Timers that are due fire.
+//! Timers that are due fire, jobs are given back, and when something happens by itself next.
 ghost use Rattle.std.specs.Prelude.{◌≡◌, ◌<◌, ◌+◌, ◌*◌, true, false, IfSome, None, if◌then◌else◌};
+ghost use Rattle.std.specs.Prelude.{count_by, fold, length};
 ghost use Rattle.std.specs.List.{list_any};
 ghost use Rattle.bq_job.specs.machine.Timers.{after_timers, is_due, is_expired};
 ghost use Rattle.bq_jobs.specs.Kept.{ComparesAtMost};
 ghost use Rattle.bq_core.specs.Asking.{Asks};
-ghost use Rattle.bq_core.specs.Firing.{ExpiresOne, IsOne, after_job_timers, is_ripe, is_some_due, is_some_expired, with_pauses_ended};
+ghost use Rattle.bq_core.specs.Firing.{ExpiresOne, IsOne, after_job_timers, is_ripe, is_some_due};
+ghost use Rattle.bq_core.specs.Firing.{is_some_expired, with_pauses_ended, after_giving_back};
 ghost use Rattle.bq_core.specs.CoreParts.{machine_of, HaveFired, count_jobs};
+ghost use Rattle.bq_job.specs.machine.Asked.{state_once_left};
+ghost use Rattle.bq_job.specs.machine.Changes.{is_held_by, is_waiting};
+ghost use Rattle.bq_job.specs.machine.JobStates.{is_reserved};
+ghost use Rattle.std.specs.Option.{option_copied, option_map};
+ghost use Rattle.bq_job.specs.beside.NextDue.{next_due as next_due_of};
+ghost use Rattle.bq_core.specs.Dues.{earlier_of_both, is_end_over, timers_due, warning_due};
+ghost use Rattle.bq_core.specs.Dues.{warning_due_at, with_seat_due, with_warning_due};
+ghost use Rattle.bq_core.specs.FirstEnds.{AreTimeouts};
+ghost use Rattle.bq_core.specs.WaitingTurns.{at_turn, turns_of};
+ghost use Rattle.bq_core.specs.SeatChanges.{AreNumbered};
+ghost use Rattle.bq_core.specs.Warnings.{AreWarned, is_waiting_there};
 
 use crate::core_parts::CoreParts;
 use crate::job_store::JobChange;
-use crate::known::Stir;
-use crate::{changes, dues};
-use bq_job::{JobId, Moment};
+use crate::known::{FirstEnd, Stir, Warns};
+use crate::seats::{SeatRecord, Turn};
+use crate::{changes, job_store, seats};
+use bq_job::{JobId, JobState, Moment, Seat};
 use bq_jobs::Jobs;
 
 // The delayed job that is due first, if its moment has come.
@@ -112,7 +126,7 @@ fn end_pauses(state: &mut CoreParts)
     ensures after { machine_of state.new ≡ with_pauses_ended (machine_of state.old) }
     ensures jobs { state.new.jobs ≡ state.old.jobs }
 {
-    if !dues::is_over(state.known.pause_end, state.moment) {
+    if !is_over(state.known.pause_end, state.moment) {
         return;
     }
     state.tubes.fire_timers(state.moment);
@@ -127,4 +141,224 @@ pub(crate) fn fire(state: &mut CoreParts)
 {
     fire_jobs(state);
     end_pauses(state);
+}
+
+/// Where a job stands whose client is gone.
+pub(crate) fn state_once_left(state: &CoreParts) -> JobState
+    ensures { result ≡ state_once_left (machine_of state.now) }
+{
+    job_store::delayed_by(state.config.requeue_delay, state.moment)
+}
+
+// The client at the seat gives one job back, if it holds one. The job then stands so.
+fn give_back_one(state: &mut CoreParts, seat: Seat, becomes: JobState) -> bool
+    requires free { is_reserved becomes ≡ false }
+    ensures done { result ≡ false → machine_of state.new ≡ after_giving_back becomes seat (machine_of state.old) }
+    ensures given { after_giving_back becomes seat (machine_of state.new) ≡ after_giving_back becomes seat (machine_of state.old) }
+    ensures fewer { result ≡ true → count_jobs (is_held_by seat) state.new < count_jobs (is_held_by seat) state.old }
+    ensures asks { Asks (if result then 9 else 1) state.old.jobs state.new.jobs }
+{
+    let Some(id) = state.jobs.first_held(seat) else {
+        return false;
+    };
+    changes::change_job(state, id, &JobChange::GiveBack(becomes));
+    true
+}
+
+/// The client at the seat gives back the jobs that it holds. They then stand so.
+#[tactic(auto, using(crate::proofs::AskLemmas::asks_more, crate::proofs::AskLemmas::asks_none, crate::proofs::AskLemmas::asks_then))]
+pub(crate) fn give_back_all(state: &mut CoreParts, seat: Seat, becomes: JobState)
+    requires free { is_reserved becomes ≡ false }
+    ensures after { machine_of state.new ≡ after_giving_back becomes seat (machine_of state.old) }
+    ensures asks { Asks (9 * count_jobs (is_held_by seat) state.old + 1) state.old.jobs state.new.jobs }
+{
+    while give_back_one(state, seat, becomes) {}
+}
+
+/// The earlier of two moments, if there is one.
+pub(crate) fn earlier_of(a: Option<Moment>, b: Option<Moment>) -> Option<Moment>
+    ensures { result ≡ earlier_of_both a b }
+{
+    match (a, b) {
+        (None, other) => other,
+        (Some(due), None) => Some(due),
+        (Some(due), Some(other)) => Some(due.min(other)),
+    }
+}
+
+/// Whether this moment, if there is one, has come.
+pub(crate) fn is_over(end: Option<Moment>, moment: Moment) -> bool
+    ensures { result ≡ is_end_over moment end }
+{
+    match end {
+        None => false,
+        Some(end) => end <= moment,
+    }
+}
+
+fn moment_of(found: Option<(Moment, JobId)>) -> Option<Moment>
+    ensures { result ≡ option_map (λ p. p.0) found }
+{
+    match found {
+        None => None,
+        Some((moment, _)) => Some(moment),
+    }
+}
+
+// When the client, if it waits, is told that the time to run of a job that it holds ends soon.
+fn warning_due(jobs: &mut Jobs, client: &SeatRecord) -> Option<Moment>
+    ensures due { result ≡ warning_due jobs.old.jobs client.now }
+    ensures same { jobs.new ≡ record jobs.old { comparisons = jobs.new.comparisons } }
+    ensures asks { Asks (if is_waiting client.now then 1 else 0) jobs.old jobs.new }
+{
+    if !client.is_waiting() {
+        return None;
+    }
+    match jobs.next_deadline_of(client.number()) {
+        None => None,
+        Some((deadline, _)) => Some(deadline.saturating_sub(1000)),
+    }
+}
+
+// The same of the client at a seat, if there is one.
+fn warning_due_at(jobs: &mut Jobs, client: Option<&SeatRecord>) -> Option<Moment>
+    ensures due { result ≡ warning_due_at jobs.old.jobs (option_copied client.entry) }
+    ensures same { jobs.new ≡ record jobs.old { comparisons = jobs.new.comparisons } }
+    ensures asks { Asks (if is_waiting_there (option_copied client.entry) then 1 else 0) jobs.old jobs.new }
+{
+    match client {
+        None => None,
+        Some(client) => warning_due(jobs, client),
+    }
+}
+
+// The earlier of this moment and of when the client of this turn is told so.
+fn with_warning_of(
+    best: Option<Moment>,
+    jobs: &mut Jobs,
+    seats: &[SeatRecord],
+    turn: Turn,
+) -> Option<Moment>
+    ensures due { result ≡ at_turn (with_warning_due jobs.old.jobs) seats.now best turn }
+    ensures same { jobs.new ≡ record jobs.old { comparisons = jobs.new.comparisons } }
+    ensures asks { Asks 1 jobs.old jobs.new }
+{
+    match seats.get(usize::from(turn.1)) {
+        None => best,
+        Some(client) => earlier_of(best, warning_due(jobs, client)),
+    }
+}
+
+// When the first of the clients that have these turns is told so.
+#[tactic(auto, using(crate::proofs::AskLemmas::asks_then, crate::proofs::LoopLemmas::folded_beside))]
+fn first_warning(jobs: &mut Jobs, seats: &[SeatRecord], turns: &[Turn]) -> Option<Moment>
+    ensures due { result ≡ fold (at_turn (with_warning_due jobs.old.jobs) seats.now) None turns.now }
+    ensures same { jobs.new ≡ record jobs.old { comparisons = jobs.new.comparisons } }
+    ensures asks { Asks (length turns.now) jobs.old jobs.new }
+{
+    let mut best = None;
+    for i in 0..turns.len() {
+        best = with_warning_of(best, jobs, seats, turns[i]);
+    }
+    best
+}
+
+// When the first of the clients that wait is told so. Only who may hold a job is looked at, and
+// where that is more than one, who waits.
+fn warnings_due(
+    jobs: &mut Jobs,
+    seats: &[SeatRecord],
+    turns: &[Turn],
+    warns: &Warns,
+) -> Option<Moment>
+    requires warned { AreWarned warns.now jobs.old.jobs seats.now }
+    requires numbered { AreNumbered seats.now }
+    requires turns { turns.now ≡ turns_of seats.now }
+    ensures due { result ≡ fold (with_warning_due jobs.old.jobs) None seats.now }
+    ensures same { jobs.new ≡ record jobs.old { comparisons = jobs.new.comparisons } }
+    ensures asks { Asks (count_by is_waiting seats.now) jobs.old jobs.new }
+{
+    match warns {
+        Warns::Nobody => None,
+        Warns::Client(seat) => warning_due_at(jobs, seats::find(seats, *seat)),
+        Warns::Any => first_warning(jobs, seats, turns),
+    }
+}
+
+// When something is due of a job, but for the warnings.
+fn jobs_due(jobs: &mut Jobs) -> Option<Moment>
+    ensures due { result ≡ timers_due jobs.old.jobs }
+    ensures same { jobs.new ≡ record jobs.old { comparisons = jobs.new.comparisons } }
+    ensures asks { Asks 2 jobs.old jobs.new }
+{
+    let due = moment_of(jobs.next_due());
+    let deadline = moment_of(jobs.next_deadline());
+    earlier_of(due, deadline)
+}
+
+// The earlier of this moment and of when the client of this turn gives up.
+fn with_end_of(best: Option<Moment>, seats: &[SeatRecord], turn: Turn) -> Option<Moment>
+    ensures { result ≡ at_turn with_seat_due seats.now best turn }
+{
+    match seats.get(usize::from(turn.1)) {
+        None => best,
+        Some(client) => earlier_of(best, client.gives_up_at()),
+    }
+}
+
+// When the first of the clients that have these turns gives up.
+fn first_end_among(seats: &[SeatRecord], turns: &[Turn]) -> Option<Moment>
+    ensures { result ≡ fold (at_turn with_seat_due seats.now) None turns.now }
+{
+    turns
+        .iter()
+        .fold(None, |best, turn| with_end_of(best, seats, *turn))
+}
+
+/// When the first of the clients that wait gives up. Only who waits is looked at.
+#[tactic(auto, using(crate::proofs::DueLemmas::ends_walked))]
+pub(crate) fn first_to_give_up(seats: &[SeatRecord], turns: &[Turn]) -> Option<Moment>
+    requires numbered { AreNumbered seats.now }
+    requires turns { turns.now ≡ turns_of seats.now }
+    ensures { result ≡ fold with_seat_due None seats.now }
+{
+    first_end_among(seats, turns)
+}
+
+// The same. Where it is known, no seat is looked at.
+fn seats_due(first: &FirstEnd, seats: &[SeatRecord], turns: &[Turn]) -> Option<Moment>
+    requires known { AreTimeouts first.now seats.now }
+    requires numbered { AreNumbered seats.now }
+    requires turns { turns.now ≡ turns_of seats.now }
+    ensures { result ≡ fold with_seat_due None seats.now }
+{
+    match first {
+        FirstEnd::Known(first) => *first,
+        FirstEnd::Unknown => first_to_give_up(seats, turns),
+    }
+}
+
+/// The least moment at which something happens by itself, if there is any.
+pub(crate) fn next_due(state: &mut CoreParts) -> Option<Moment>
+    ensures due { result ≡ next_due_of (machine_of state.old) }
+    ensures same { machine_of state.new ≡ machine_of state.old }
+    ensures asks { Asks (count_by is_waiting state.old.seats.items + 2) state.old.jobs state.new.jobs }
+{
+    let jobs = jobs_due(&mut state.jobs);
+    let warning = warnings_due(
+        &mut state.jobs,
+        state.seats.as_slice(),
+        state.waiting.as_slice(),
+        &state.known.warns,
+    );
+    state.known.warns.settle(warning.is_some());
+    let seats = seats_due(
+        &state.known.first_end,
+        state.seats.as_slice(),
+        state.waiting.as_slice(),
+    );
+    earlier_of(
+        earlier_of(jobs, warning),
+        earlier_of(state.known.pause_end, seats),
+    )
 }

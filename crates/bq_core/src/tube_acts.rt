@@ -9,12 +9,12 @@ ghost use Rattle.bq_core.specs.Replying.{AtSeat, RepliesAt, RepliesBy, RepliesTo
 ghost use Rattle.bq_core.specs.Keeping.{Looks};
 ghost use Rattle.bq_core.specs.CoreParts.{machine_of};
 
+use crate::acts::Reply;
 use crate::core_parts::CoreParts;
 use crate::job_store::JobKind;
-use crate::reply::Reply;
-use crate::seat_list::SeatChange;
+use crate::seats::SeatChange;
 use crate::tubes::TubeChange;
-use crate::{changes, job_store, seat_list};
+use crate::{changes, job_store, seats};
 use bq_job::{Answer, JobId, Seat, TubeName};
 use std::alloc::Global;
 
@@ -42,7 +42,7 @@ pub(crate) fn use_tube(
 pub(crate) fn list_tube_used(state: &CoreParts, seat: Seat, told: &mut Answer) -> Reply
     ensures { RepliesAt seat false (λ m s. telling (answers.Using s.used) m) state.now result told.new state.now }
 {
-    match seat_list::find(state.seats.as_slice(), seat) {
+    match seats::find(state.seats.as_slice(), seat) {
         None => Reply::Silent,
         Some(client) => {
             *told = Answer::Using(*client.used());
@@ -62,7 +62,7 @@ pub(crate) fn watch(
     ensures reply { RepliesAt seat true (watch_effect tube.now) state.old result told.new state.new }
     ensures asks { AsksAsChanged state.old.jobs state.new.jobs }
 {
-    let Some(client) = seat_list::find(state.seats.as_slice(), seat) else {
+    let Some(client) = seats::find(state.seats.as_slice(), seat) else {
         return Reply::Silent;
     };
     if client.watches(tube) {
@@ -83,7 +83,7 @@ pub(crate) fn ignore(state: &mut CoreParts, seat: Seat, tube: &TubeName, told: &
     ensures reply { RepliesAt seat false (ignore_effect tube.now) state.old result told.new state.new }
     ensures asks { AsksAsChanged state.old.jobs state.new.jobs }
 {
-    let Some(client) = seat_list::find(state.seats.as_slice(), seat) else {
+    let Some(client) = seats::find(state.seats.as_slice(), seat) else {
         return Reply::Silent;
     };
     if !client.watches_other(tube) {
@@ -142,7 +142,7 @@ fn first_used(state: &mut CoreParts, seat: Seat, kind: JobKind) -> Option<JobId>
     ensures id { AtSeat seat state.old (λ s. result ≡ option_map (λ j. j.id) (first_of_kind kind s.used state.old.jobs.jobs)) }
     ensures kept { Looks 1 state.old state.new }
 {
-    let client = seat_list::find(state.seats.as_slice(), seat)?;
+    let client = seats::find(state.seats.as_slice(), seat)?;
     job_store::first(&mut state.jobs, kind, client.used())
 }
 

@@ -1,5 +1,5 @@
 //! The tubes: what is kept of each that exists.
-ghost use Rattle.std.specs.Prelude.{◌≡◌, ◌&&◌, [], IfOk, find, length, map, not, nat_lt, is_some, is_ok, if◌then◌else◌};
+ghost use Rattle.std.specs.Prelude.{◌≡◌, ◌&&◌, ◌<◌, [], IfOk, find, length, map, not, nat_lt, is_some, is_ok, if◌then◌else◌};
 ghost use Rattle.std.specs.List.{list_any};
 ghost use Rattle.std.specs.Option.{option_map};
 ghost use Rattle.bq_job.specs.reading.TubeName.{is_same_name};
@@ -7,31 +7,27 @@ ghost use Rattle.bq_job.specs.machine.Timers.{tube_after_timers};
 ghost use Rattle.bq_core.specs.Counting.{AreCounts, DropsGone, IfCounted, tubes_with, with_crowds_at, with_tallies_at};
 ghost use Rattle.bq_core.specs.Crowds.{crowd_at, recounted};
 ghost use Rattle.bq_core.specs.Dues.{first_pause_end, pause_end_after, pause_end_left};
+ghost use Rattle.bq_core.specs.KeptTubes.{edited_at, kept_changed, record_at};
 ghost use Rattle.bq_core.specs.Leaving.{exists_in};
 ghost use Rattle.bq_core.specs.Offers.{is_waited_at};
+ghost use Rattle.bq_core.specs.PauseEnds.{AreEnds};
 ghost use Rattle.bq_core.specs.Tallies.{has_jobs, tallies_with, tallies_without, tally_at, tally_moved};
 ghost use Rattle.bq_core.specs.Texts.{names_of};
 ghost use Rattle.bq_core.specs.TubeEntries.{has_entry, names_alive, tube_changed_at};
 
-use crate::growth;
 use crate::known::{Clients, Loss, Tally};
 use crate::name_lists::Names;
 use crate::watch_list::default_tube;
 use bq_index::Catalog;
 use bq_job::{Job, Moment, NoMemory, TubeName};
 use bq_jobs::Moved;
-pub(crate) use crowd::{Crowd, Moving, Share};
-pub(crate) use entry::{Pausing, TubeChange, TubeEntry};
-use pause_ends::PauseEnds;
+pub(crate) use entry::{Crowd, Moving, Pausing, Share, TubeChange, TubeEntry};
+use pauses::PauseEnds;
 use std::alloc::Global;
 use std::marker::Model;
 use walks::HowMany;
 
-mod crowd;
-mod edits;
 mod entry;
-mod forgetting;
-mod pause_ends;
 mod pauses;
 mod walks;
 
@@ -54,6 +50,40 @@ impl Model for Tubes {
     ghost view = { λ t. tubes_kept t.kept.entries };
 
     ghost invariant = { λ t. AreEnds (map record_at t.kept.entries) t.ends };
+}
+
+// Changes the tube of this name. Only where it is paused, ends are looked at.
+fn change(
+    kept: &mut Catalog<TubeName, TubeEntry>,
+    ends: &mut PauseEnds,
+    name: &TubeName,
+    what: TubeChange,
+)
+    requires { AreEnds (map record_at kept.old.entries) ends.old }
+    ensures kept { kept.new.entries ≡ edited_at name.now (kept_changed what) kept.old.entries }
+    ensures ends { AreEnds (map record_at kept.new.entries) ends.new }
+{
+    // The names are in order.
+    let _tubes = kept.len();
+    match what {
+        TubeChange::Pause(_, _) => pauses::pause(kept, ends, name, what),
+        TubeChange::CountPut => entry::change(kept, name, what),
+        TubeChange::CountDelete => entry::change(kept, name, what),
+    }
+}
+
+// Makes room for one more entry, where there is none.
+fn reserve_box<K: Ord + Drop, V: Drop>(
+    catalog: &mut Catalog<K, V>,
+    alloc: Global,
+) -> Result<(), NoMemory>
+    ensures entries { catalog.new.entries ≡ catalog.old.entries }
+    ensures room { IfOk result (λ _. 0 < catalog.new.spare) }
+{
+    match catalog.reserve(alloc, 1) {
+        Ok(()) => Ok(()),
+        Err(_) => Err(NoMemory),
+    }
 }
 
 impl Tubes {
@@ -94,8 +124,8 @@ impl Tubes {
         if self.kept.peek(name).is_some() {
             return Ok(false);
         }
-        pause_ends::make_room(&mut self.ends, alloc, self.kept.len())?;
-        growth::reserve_box(&mut self.kept, alloc)?;
+        pauses::make_room(&mut self.ends, alloc, self.kept.len())?;
+        reserve_box(&mut self.kept, alloc)?;
         self.kept.insert(*name, TubeEntry::new());
         Ok(true)
     }
@@ -107,7 +137,7 @@ impl Tubes {
     {
         // The names are in order.
         let _entries = self.kept.len();
-        pauses::change(&mut self.kept, &mut self.ends, name, what);
+        change(&mut self.kept, &mut self.ends, name, what);
     }
 
     /// Pauses that are over end.
@@ -147,7 +177,7 @@ impl Tubes {
     pub(crate) fn add_job(&mut self, job: &Job)
         ensures { self.new ≡ record self.old { tallies = tallies_with job.now self.old.entries self.old.tallies } }
     {
-        edits::add_job(&mut self.kept, job);
+        entry::add_job(&mut self.kept, job);
     }
 
     /// Counts a job in its tube no longer.
@@ -155,7 +185,7 @@ impl Tubes {
     pub(crate) fn remove_job(&mut self, job: &Job)
         ensures { self.new ≡ record self.old { tallies = tallies_without job.now self.old.entries self.old.tallies } }
     {
-        edits::remove_job(&mut self.kept, job);
+        entry::remove_job(&mut self.kept, job);
     }
 
     /// A job stands otherwise in its tube.
@@ -163,7 +193,7 @@ impl Tubes {
     pub(crate) fn move_job(&mut self, moved: &Moved)
         ensures { self.new ≡ with_tallies_at moved.now.tube (tally_moved moved.now) self.old }
     {
-        edits::move_job(&mut self.kept, moved);
+        entry::move_job(&mut self.kept, moved);
     }
 
     /// The counts of the tube of this name; none where it has no entry.
@@ -188,7 +218,7 @@ impl Tubes {
     pub(crate) fn recount(&mut self, name: &TubeName, moving: Moving, share: Share)
         ensures { self.new ≡ with_crowds_at name.now (recounted moving share) self.old }
     {
-        edits::recount(&mut self.kept, name, moving, share);
+        entry::recount(&mut self.kept, name, moving, share);
     }
 
     /// How many clients are at the tube of this name; none where it has no entry.
@@ -245,8 +275,8 @@ impl Tubes {
     {
         match loss {
             Loss::Nothing => {}
-            Loss::Of(name) => forgetting::forget_named(&mut self.kept, &mut self.ends, name),
-            Loss::Any => forgetting::forget_all(&mut self.kept, &mut self.ends),
+            Loss::Of(name) => walks::forget_named(&mut self.kept, &mut self.ends, name),
+            Loss::Any => walks::forget_all(&mut self.kept, &mut self.ends),
         }
     }
 
@@ -256,7 +286,7 @@ impl Tubes {
         ensures { result ≡ first_pause_end self.now.entries }
     {
         let _ends = self.ends.len();
-        pause_ends::first_until(&self.ends)
+        pauses::first_until(&self.ends)
     }
 
     /// When the first pause ends after a change of a tube, and when it did before.

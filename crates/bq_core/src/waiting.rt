@@ -1,14 +1,34 @@
-//! The clients that wait, in their turn.
+//! The clients that wait, in their turn, and how their waits end: by a timeout, or where a time to
+//! run ends soon.
 ghost use Rattle.std.specs.Prelude.{◌≡◌, ◌==◌, ◌-◌, ◌<◌, ◌≤◌, [], find, not, length, vec_len, IfOk};
-ghost use Rattle.std.specs.List.{position, prefix_len, slice_get};
+ghost use Rattle.std.specs.Prelude.{◌+◌, None, Some, true, false, IfSome, if◌then◌else◌};
+ghost use Rattle.std.specs.List.{position, prefix_len, slice_get, list_any};
 ghost use Rattle.std.specs.Option.{option_copied};
 ghost use Rattle.std.specs.Vec.{vec_capacity};
 ghost use Rattle.bq_core.specs.Places.{item_at};
-ghost use Rattle.bq_core.specs.WaitingTurns.{IsRising, is_none_or_before, is_turn_after, is_turn_before};
-ghost use Rattle.bq_core.specs.WaitingTurns.{placed, removed, with_turn, without_turn};
+ghost use Rattle.bq_core.specs.WaitingTurns.{IsRising, is_none_or_before, is_turn_after};
+ghost use Rattle.bq_core.specs.WaitingTurns.{is_turn_before, placed, removed, with_turn};
+ghost use Rattle.bq_core.specs.WaitingTurns.{without_turn};
+ghost use Rattle.bq_job.specs.beside.Computed.{waiting_count};
+ghost use Rattle.bq_job.specs.machine.Changes.{first_of};
+ghost use Rattle.bq_job.specs.machine.Dispatch.{is_wait_before};
+ghost use Rattle.bq_job.specs.machine.Waits.{WaitEndTurn, next_end};
+ghost use Rattle.bq_job.specs.machine.Machine.{SeatRecord};
+ghost use Rattle.bq_core.specs.Asking.{Asks};
+ghost use Rattle.bq_core.specs.EndingWaits.{AreLookedAt, has_waited, left_after, may_end};
+ghost use Rattle.bq_core.specs.EndingWaits.{told_at_end, waits_after};
+ghost use Rattle.bq_core.specs.Serving.{IsLastTurn};
+ghost use Rattle.bq_core.specs.Keeping.{Looks};
+ghost use Rattle.bq_core.specs.CoreParts.{held, machine_of};
+ghost use Rattle.bq_core.specs.Turns.{Gives, HasRoom, none_refused};
+ghost use Rattle.bq_core.specs.WaitEnds.{EndsWait, LooksAt};
 
-use crate::seat_record::{SeatRecord, Turn};
-use bq_job::{NoMemory, Seat};
+use crate::core_parts::CoreParts;
+use crate::known::FirstEnd;
+use crate::seats::{SeatChange, SeatRecord, Turn};
+use crate::{changes, job_store, seats, timers};
+use bq_job::{Answer, NoMemory, Seat};
+use bq_steps::Outs;
 use std::alloc::Global;
 use std::marker::Model;
 
@@ -173,5 +193,136 @@ impl Waiting {
         if client.is_waiting() {
             remove(&mut self.turns, client.number());
         }
+    }
+}
+
+// What the client at place k, which waits, is told if its wait ends now. Its first lease is asked
+// for once.
+fn told_at_end(state: &mut CoreParts, k: usize) -> Option<Answer>
+    requires seat { k < length state.old.seats.items }
+    ensures told { (s : SeatRecord) → slice_get (machine_of state.old).seats k ≡ Some s → result ≡ told_at_end (machine_of state.old) s }
+    ensures kept { Looks 1 state.old state.new }
+{
+    let number = state.seats[k].number();
+    let is_over = state.seats[k].is_timed_out(state.moment);
+    if job_store::is_deadline_soon(&mut state.jobs, number, state.moment) {
+        Some(Answer::DeadlineSoon)
+    } else if is_over {
+        Some(Answer::TimedOut)
+    } else {
+        None
+    }
+}
+
+// The wait of the client at place k ends with this answer.
+fn end_wait(state: &mut CoreParts, outs: &mut Outs, k: usize, answer: Answer)
+    requires seat { k < length state.old.seats.items }
+    requires room { length outs.old.given < outs.old.most }
+    ensures given { EndsWait (machine_of state.old) k answer outs.old outs.new (machine_of state.new) }
+    ensures jobs { state.new.jobs ≡ state.old.jobs }
+{
+    let number = state.seats[k].number();
+    changes::change_seat(state, number, &SeatChange::StopWaiting);
+    outs.push(number, answer);
+}
+
+// The wait of the client at place k, which waits, ends if it does now.
+fn look_at(state: &mut CoreParts, outs: &mut Outs, k: usize)
+    requires seat { k < length state.old.seats.items }
+    requires room { length outs.old.given < outs.old.most }
+    ensures looked { LooksAt (machine_of state.old) k outs.old outs.new (machine_of state.new) }
+    ensures asks { Asks 1 state.old.jobs state.new.jobs }
+{
+    match told_at_end(state, k) {
+        None => {}
+        Some(answer) => end_wait(state, outs, k, answer),
+    }
+}
+
+// The place of the client that has waited longest of those whose turn comes after the last one.
+fn next_waiting(state: &CoreParts, last: Option<Turn>) -> Option<usize>
+    ensures bound { IfSome result (λ k. k < length state.now.seats.items) }
+    ensures least { item_at state.now.seats.items result ≡ first_of (waits_after last) is_wait_before state.now.seats.items }
+{
+    match state.waiting.next_after(last) {
+        None => None,
+        Some(turn) => Some(usize::from(turn.1)),
+    }
+}
+
+// Looks at the next waiting client after the last one that was looked at, if there is one.
+fn turn(state: &mut CoreParts, outs: &mut Outs, last: &mut Option<Turn>) -> bool
+    requires looked { AreLookedAt (machine_of state.old) last.old }
+    requires room { HasRoom 0 (machine_of state.old) outs.old }
+    ensures done { result ≡ false → IsLastTurn (next_end (machine_of state.old)) state.old state.new outs.old outs.new }
+    ensures given { result ≡ true → Gives WaitEndTurn none_refused (machine_of state.old) (machine_of state.new) outs.old outs.new }
+    ensures looked { result ≡ true → AreLookedAt (machine_of state.new) last.new }
+    ensures fewer { result ≡ true → left_after last.new (machine_of state.new) < left_after last.old (machine_of state.old) }
+    ensures asks { Asks (if result then 1 else 0) state.old.jobs state.new.jobs }
+{
+    let Some(k) = next_waiting(state, *last) else {
+        return false;
+    };
+    *last = Some(state.seats[k].turn());
+    look_at(state, outs, k);
+    true
+}
+
+// The waits that end now end, where there may be some. Each waiting client is looked at once, in
+// the order of tickets.
+fn end_all(state: &mut CoreParts, outs: &mut Outs)
+    requires room { HasRoom 0 (machine_of state.old) outs.old }
+    ensures given { Gives WaitEndTurn none_refused (machine_of state.old) (machine_of state.new) outs.old outs.new }
+    ensures done { next_end (machine_of state.new) ≡ None }
+    ensures asks { Asks (waiting_count (machine_of state.old)) state.old.jobs state.new.jobs }
+{
+    let mut last = None;
+    while turn(state, outs, &mut last) {}
+}
+
+// Whether some wait is over by its timeout, or because its client sends no more.
+#[tactic(auto, using(crate::proofs::FirstEndLemmas::over_known))]
+fn is_some_wait_over(state: &mut CoreParts) -> bool
+    ensures over { result ≡ list_any (has_waited state.old.moment) state.old.seats.items }
+    ensures same { held state.new ≡ record (held state.old) { known = record state.old.known { first_end = state.new.known.first_end } } }
+{
+    changes::find_first_end(state);
+    match &state.known.first_end {
+        FirstEnd::Known(first) => timers::is_over(*first, state.moment),
+        FirstEnd::Unknown => seats::is_some_wait_over(
+            state.seats.as_slice(),
+            state.waiting.as_slice(),
+            state.moment,
+        ),
+    }
+}
+
+// Whether some wait may end now: a time to run ends within a second, or a timeout has come. Where
+// nobody waits, no shelf is asked.
+fn may_end(state: &mut CoreParts) -> bool
+    ensures none { result ≡ false → next_end (machine_of state.old) ≡ None }
+    ensures some { result ≡ may_end (machine_of state.old) }
+    ensures same { machine_of state.new ≡ machine_of state.old }
+    ensures asks { Asks 1 state.old.jobs state.new.jobs }
+{
+    if !state.has_waiter() {
+        return false;
+    }
+    if is_some_wait_over(state) {
+        return true;
+    }
+    job_store::is_some_deadline_soon(&mut state.jobs, state.moment)
+}
+
+/// The waits that end now end, the longest one first.
+#[tactic(auto, using(crate::proofs::TurnLemmas::gives_nothing))]
+pub(crate) fn end_waits(state: &mut CoreParts, outs: &mut Outs)
+    requires room { HasRoom 0 (machine_of state.old) outs.old }
+    ensures given { Gives WaitEndTurn none_refused (machine_of state.old) (machine_of state.new) outs.old outs.new }
+    ensures done { next_end (machine_of state.new) ≡ None }
+    ensures asks { Asks (waiting_count (machine_of state.old) + 1) state.old.jobs state.new.jobs }
+{
+    if may_end(state) {
+        end_all(state, outs);
     }
 }

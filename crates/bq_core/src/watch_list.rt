@@ -1,9 +1,9 @@
-ghost use Rattle.std.specs.Prelude.{◌≡◌, ◌<◌, ◌++◌, ◌∷◌, [], true, filter, not, length, IfOk, OnErr};
+ghost use Rattle.std.specs.Prelude.{◌≡◌, ◌<◌, ◌++◌, ◌∷◌, [], true, filter, not, length, vec_len, IfOk, OnErr};
 ghost use Rattle.std.specs.List.{list_any};
+ghost use Rattle.std.specs.Vec.{vec_capacity};
 ghost use Rattle.bq_job.specs.machine.Machine.{default_tube};
 ghost use Rattle.bq_job.specs.reading.TubeName.{is_same_name};
 
-use crate::growth;
 use bq_job::{NoMemory, TubeName};
 use std::alloc::Global;
 use std::marker::Model;
@@ -32,6 +32,29 @@ pub(crate) fn default_tube() -> TubeName
         unreachable!();
     };
     name
+}
+
+// Makes room for one more element, where there is none.
+fn reserve_one<T: Drop>(list: &mut Vec<T, Global>, alloc: Global) -> Result<(), NoMemory>
+    ensures items { list.new.items ≡ list.old.items }
+    ensures room { IfOk result (λ _. vec_len list.new < vec_capacity list.new) }
+{
+    let len = list.len();
+    if len < list.capacity() {
+        return Ok(());
+    }
+    let Some(more) = len.checked_add(4) else {
+        return Err(NoMemory);
+    };
+    let Ok(mut wider) = Vec::with_capacity(alloc, more.saturating_add(len)) else {
+        return Err(NoMemory);
+    };
+    // There is room enough, and it takes no more memory.
+    if wider.append(list).is_err() {
+        return Err(NoMemory);
+    }
+    *list = wider;
+    Ok(())
 }
 
 // Some other name is there, and so some are left.
@@ -85,7 +108,7 @@ impl WatchList {
         ensures pushed { IfOk result (λ _. self.new ≡ self.old ++ name ∷ []) }
         ensures same { OnErr result (self.new ≡ self.old) }
     {
-        growth::reserve_one(&mut self.names, alloc)?;
+        reserve_one(&mut self.names, alloc)?;
         self.names.push_reserved(name);
         Ok(())
     }

@@ -1,14 +1,18 @@
-//! What is kept of a tube.
+//! What is kept of a tube, and how the entry of a name is changed in its place.
 ghost use Rattle.std.specs.Prelude.{◌≡◌, [], is_some};
 ghost use Rattle.bq_job.specs.machine.TubeCommands.{with_pause};
-ghost use Rattle.bq_core.specs.KeptTubes.{ended, fresh_entry, kept_after, kept_changed, kept_moved, kept_recounted, record_of};
+ghost use Rattle.bq_core.specs.KeptTubes.{ended, fresh_entry, kept_after, kept_changed, kept_moved};
+ghost use Rattle.bq_core.specs.KeptTubes.{kept_recounted, record_of, edited_at, kept_with};
+ghost use Rattle.bq_core.specs.KeptTubes.{kept_without};
 ghost use Rattle.bq_core.specs.PauseEnds.{end_of};
 ghost use Rattle.bq_core.specs.Tallies.{tally_with, tally_without};
+ghost use Rattle.bq_core.specs.Crowds.{crowd_with, crowd_without, has_seats, is_none, no_crowd};
+ghost use Rattle.bq_core.specs.Crowds.{recounted};
 
-use super::crowd::{Crowd, Moving, Share};
-use super::pause_ends::PauseEnd;
+use super::pauses::PauseEnd;
 use crate::job_store::later;
 use crate::known::Tally;
+use bq_index::Catalog;
 use bq_job::{Job, Moment, TubeName};
 use bq_jobs::Moved;
 use std::marker::Model;
@@ -213,6 +217,156 @@ impl TubeEntry {
         };
         if pause.until <= moment {
             self.pause = None;
+        }
+    }
+}
+
+/// Changes the tube of this name.
+pub(crate) fn change(catalog: &mut Catalog<TubeName, TubeEntry>, name: &TubeName, what: TubeChange)
+    ensures { catalog.new.entries ≡ edited_at name.now (kept_changed what) catalog.old.entries }
+{
+    if let Some(entry) = catalog.get_mut(name) {
+        entry.change(what);
+    }
+}
+
+/// The pause of the tube of this name ends, if it is over.
+pub(crate) fn end_pause(catalog: &mut Catalog<TubeName, TubeEntry>, name: &TubeName, moment: Moment)
+    ensures { catalog.new.entries ≡ edited_at name.now (ended moment) catalog.old.entries }
+{
+    if let Some(entry) = catalog.get_mut(name) {
+        entry.fire_timer(moment);
+    }
+}
+
+/// Counts a job in its tube.
+pub(crate) fn add_job(catalog: &mut Catalog<TubeName, TubeEntry>, job: &Job)
+    ensures { catalog.new.entries ≡ edited_at job.now.tube (kept_with job.now) catalog.old.entries }
+{
+    if let Some(entry) = catalog.get_mut(&job.tube) {
+        entry.add_job(job);
+    }
+}
+
+/// Counts a job in its tube no longer.
+pub(crate) fn remove_job(catalog: &mut Catalog<TubeName, TubeEntry>, job: &Job)
+    ensures { catalog.new.entries ≡ edited_at job.now.tube (kept_without job.now) catalog.old.entries }
+{
+    if let Some(entry) = catalog.get_mut(&job.tube) {
+        entry.remove_job(job);
+    }
+}
+
+/// A job stands otherwise in its tube.
+pub(crate) fn move_job(catalog: &mut Catalog<TubeName, TubeEntry>, moved: &Moved)
+    ensures { catalog.new.entries ≡ edited_at moved.now.tube (kept_moved moved.now) catalog.old.entries }
+{
+    if let Some(entry) = catalog.get_mut(&moved.tube) {
+        entry.move_job(moved);
+    }
+}
+
+/// Counts a share of a seat at the tube of this name, or counts it no longer.
+pub(crate) fn recount(
+    catalog: &mut Catalog<TubeName, TubeEntry>,
+    name: &TubeName,
+    moving: Moving,
+    share: Share,
+)
+    ensures { catalog.new.entries ≡ edited_at name.now (kept_recounted moving share) catalog.old.entries }
+{
+    if let Some(entry) = catalog.get_mut(name) {
+        entry.recount(moving, share);
+    }
+}
+
+/// What a seat counts for at a tube: whether its client uses it, watches it, and waits at it.
+#[derive(Clone, Copy)]
+pub(crate) struct Share {
+    pub(crate) using: bool,
+    pub(crate) watching: bool,
+    pub(crate) waiting: bool,
+}
+
+/// How many clients use a tube, watch it, and wait at it. A count stops at 2^64 - 1, which no
+/// number of seats comes to.
+#[derive(Clone, Copy, PartialEq, Eq)]
+pub(crate) struct Crowd {
+    pub(crate) using: u64,
+    pub(crate) watching: u64,
+    pub(crate) waiting: u64,
+}
+
+/// Whether a share is counted from now on, or no longer.
+#[derive(Clone, Copy)]
+pub(crate) enum Moving {
+    Comes,
+    Goes,
+}
+
+impl Share {
+    /// Whether it counts for nothing.
+    pub(crate) fn is_none(self) -> bool
+        ensures { result ≡ is_none self }
+    {
+        !self.using && !self.watching && !self.waiting
+    }
+}
+
+impl Crowd {
+    /// Nobody is counted.
+    pub(crate) fn none() -> Crowd
+        ensures { result ≡ no_crowd }
+    {
+        Crowd {
+            using: 0,
+            watching: 0,
+            waiting: 0,
+        }
+    }
+
+    /// Whether a client uses or watches the tube.
+    pub(crate) fn has_seats(&self) -> bool
+        ensures { result ≡ has_seats self.now }
+    {
+        self.using > 0 || self.watching > 0
+    }
+
+    fn add(&mut self, share: Share)
+        ensures { self.new ≡ crowd_with share self.old }
+    {
+        if share.using {
+            self.using = self.using.saturating_add(1);
+        }
+        if share.watching {
+            self.watching = self.watching.saturating_add(1);
+        }
+        if share.waiting {
+            self.waiting = self.waiting.saturating_add(1);
+        }
+    }
+
+    fn remove(&mut self, share: Share)
+        ensures { self.new ≡ crowd_without share self.old }
+    {
+        if share.using {
+            self.using = self.using.saturating_sub(1);
+        }
+        if share.watching {
+            self.watching = self.watching.saturating_sub(1);
+        }
+        if share.waiting {
+            self.waiting = self.waiting.saturating_sub(1);
+        }
+    }
+
+    /// Counts a seat's share, or counts it no longer.
+    pub(crate) fn recount(&mut self, moving: Moving, share: Share)
+        ensures { self.new ≡ recounted moving share self.old }
+    {
+        match moving {
+            Moving::Comes => self.add(share),
+            Moving::Goes => self.remove(share),
         }
     }
 }

@@ -9,7 +9,7 @@ use Rattle.bq_job.proofs.BecomeLemmas.{free_by_delay}
 use Rattle.bq_jobs.specs.Kept.{Kept}
 use Rattle.bq_core.specs.Asking.{AsksAsChanged}
 use Rattle.bq_steps.specs.Cost.{changed_jobs}
-use Rattle.bq_core.specs.declared.seat_list.SeatChange.TheVariants.{Clear}
+use Rattle.bq_core.specs.declared.seats.SeatChange.TheVariants.{Clear}
 use Rattle.bq_core.specs.SeatChanges.{seat_changed}
 use Rattle.bq_core.specs.Firing.{after_giving_back}
 use Rattle.bq_core.specs.CoreParts.{machine_of}

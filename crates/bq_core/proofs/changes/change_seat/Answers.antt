@@ -7,7 +7,7 @@ use Rattle.bq_core.specs.Counting.{recounted_for}
 use Rattle.bq_core.specs.Knowledge.{with_joined, with_left}
 use Rattle.bq_core.specs.WaitingTurns.{IsRising, is_turn_before, turns_of, with_turn, without_turn}
 use Rattle.bq_core.specs.SeatChanges.{seat_changed_at}
-use Rattle.bq_core.specs.declared.tubes.crowd.Moving.TheVariants.{Comes, Goes}
+use Rattle.bq_core.specs.declared.tubes.entry.Moving.TheVariants.{Comes, Goes}
 use Rattle.bq_core.proofs.KnowledgeLemmas.{so_with_seat}
 use Rattle.bq_core.proofs.WaitingLemmas.{rising_left, turns_moved, turns_within}
 use Rattle.bq_core.proofs.PartsLemmas.{entries_of_seat, numbered_after}

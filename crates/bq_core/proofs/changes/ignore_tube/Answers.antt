@@ -8,7 +8,7 @@ use Rattle.bq_core.specs.Crowds.{recounted}
 use Rattle.bq_core.specs.KeptTubes.{KeptTubes}
 use Rattle.bq_core.specs.CoreParts.{machine_of}
 use Rattle.bq_core.specs.TubeEntries.{counted}
-use Rattle.bq_core.specs.declared.tubes.crowd.Moving.TheVariants.{Goes}
+use Rattle.bq_core.specs.declared.tubes.entry.Moving.TheVariants.{Goes}
 use Rattle.bq_core.proofs.KnowledgeLemmas.{so_ignoring}
 use Rattle.bq_core.proofs.WaitingLemmas.{in_turn_watching}
 use Rattle.bq_core.proofs.PartsLemmas.{changed_there, seat_read, seat_there, watching_fewer, watching_numbered}

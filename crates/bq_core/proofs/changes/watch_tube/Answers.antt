@@ -10,8 +10,8 @@ use Rattle.bq_core.specs.KeptTubes.{KeptTubes}
 use Rattle.bq_core.specs.CoreParts.{machine_of}
 use Rattle.bq_core.specs.Stirs.{with_anything}
 use Rattle.bq_core.specs.TubeEntries.{counted}
-use Rattle.bq_core.specs.declared.tubes.crowd.Moving.TheVariants.{Comes}
-use Rattle.bq_core.specs.declared.tubes.crowd.Share.{Share}
+use Rattle.bq_core.specs.declared.tubes.entry.Moving.TheVariants.{Comes}
+use Rattle.bq_core.specs.declared.tubes.entry.Share.{Share}
 use Rattle.bq_core.proofs.KnowledgeLemmas.{so_watching}
 use Rattle.bq_core.proofs.WaitingLemmas.{in_turn_watching}
 use Rattle.bq_core.proofs.PartsLemmas.{changed_there, seat_read, seat_there, watching_more, watching_numbered}

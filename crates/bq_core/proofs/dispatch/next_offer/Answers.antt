@@ -13,10 +13,10 @@ use Rattle.bq_core.specs.Crowds.{is_waiter}
 use Rattle.bq_core.specs.Offers.{is_waited_at, next_rank, offered, these, with_offers}
 use Rattle.bq_core.specs.CoreParts.{machine_of}
 use Rattle.bq_core.specs.Stirs.{AreKnown}
-use Rattle.bq_core.specs.declared.tubes.crowd.Crowd.{Crowd}
+use Rattle.bq_core.specs.declared.tubes.entry.Crowd.{Crowd}
 use Rattle.bq_core.specs.declared.core_parts.CoreParts.{CoreParts}
-use Rattle.bq_core.specs.declared.known.stir.Stir.{Stir}
-use Rattle.bq_core.specs.declared.known.stir.Stir.TheVariants.{Nothing}
+use Rattle.bq_core.specs.declared.known.hints.Stir.{Stir}
+use Rattle.bq_core.specs.declared.known.hints.Stir.TheVariants.{Nothing}
 use Rattle.bq_core.proofs.AskLemmas.{asks_more}
 use Rattle.bq_core.proofs.ClientLemmas.{some_pass}
 use Rattle.bq_core.proofs.CrowdPlaces.{crowd_there}

@@ -2,7 +2,7 @@ use Rattle.std.proofs.Common.{◌≡◌, ◌∙◌, Some, ap, arith, map, refl, 
 use Rattle.bq_core.specs.Dues.{is_end_over}
 use Rattle.bq_core.specs.KeptTubes.{crowd_kept, ended, record_at, tally_kept}
 use Rattle.bq_core.specs.PauseEnds.{end_of, first_end, has_end, pause_at, with_end, without_end}
-use Rattle.bq_core.specs.declared.tubes.pause_ends.PauseEnd.{PauseEnd}
+use Rattle.bq_core.specs.declared.tubes.pauses.PauseEnd.{PauseEnd}
 use Rattle.bq_core.proofs.EndLemmas.{first_is, none_over_yet, one_over}
 use Rattle.bq_core.proofs.EndMoves.{ends_moved, one_box, one_if, over_fewer, over_from, over_moves, over_records, over_to}
 use Rattle.bq_core.proofs.NamedLemmas.{edit_same_crowds, edit_same_tallies, in_order}

@@ -1,0 +1,14 @@
+-- the least moment so far
+use Rattle.std.proofs.Common.{◌≡◌, None, take}
+use Rattle.std.specs.Prelude.{fold}
+use Rattle.bq_core.specs.Asking.{Asks}
+use Rattle.bq_core.specs.Dues.{with_warning_due}
+use Rattle.bq_core.specs.WaitingTurns.{at_turn}
+use Rattle.bq_core.proofs.timers.first_warning.Given as goal
+
+abbrev pub invariant-loop-i : goal.invariant-loop-i
+invariant-loop-i l = record {
+  best : l.best ≡ fold (at_turn (with_warning_due l.fn.jobs.jobs) l.seats) None (take l.i l.turns);
+  asks : Asks l.i l.fn.jobs l.jobs;
+  same : l.jobs ≡ record l.fn.jobs { comparisons = l.jobs.comparisons };
+}

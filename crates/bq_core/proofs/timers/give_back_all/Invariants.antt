@@ -1,0 +1,18 @@
+-- what the turns so far left to give back, and how often they asked
+use Rattle.std.proofs.Common.{◌≡◌, ◌*◌, ◌-◌, ◌≤◌}
+use Rattle.std.specs.Prelude.{count_by}
+use Rattle.bq_job.specs.machine.Changes.{is_held_by}
+use Rattle.bq_core.specs.Asking.{Asks}
+use Rattle.bq_core.specs.Firing.{after_giving_back}
+use Rattle.bq_core.specs.CoreParts.{machine_of}
+use Rattle.bq_core.proofs.timers.give_back_all.Given as goal
+
+abbrev pub invariant-loop-becomes : goal.invariant-loop-becomes
+invariant-loop-becomes l = record {
+  left : after_giving_back l.becomes l.seat (machine_of l.state) ≡ after_giving_back l.becomes l.seat (machine_of l.fn.state);
+  asks : Asks (9 * (count_by (is_held_by l.seat) (machine_of l.fn.state).jobs - count_by (is_held_by l.seat) (machine_of l.state).jobs)) l.fn.state.jobs l.state.jobs;
+  fewer : count_by (is_held_by l.seat) (machine_of l.state).jobs ≤ count_by (is_held_by l.seat) (machine_of l.fn.state).jobs;
+}
+
+abbrev pub decreases-loop-becomes : goal.decreases-loop-becomes
+decreases-loop-becomes l = count_by (is_held_by l.seat) (machine_of l.state).jobs

@@ -1,0 +1,55 @@
+use Rattle.std.proofs.Common.{◌≡◌, ◌∙◌, None, ap, sym}
+use Rattle.std.specs.Prelude.{flat_map, fold, is_some}
+use Rattle.bq_job.specs.declared.job.Job.{Job}
+use Rattle.bq_job.specs.machine.Machine.{SeatRecord, TubeRecord}
+use Rattle.bq_job.specs.beside.NextDue.{dues_of_pause, dues_of_state, dues_of_wait, earliest}
+use Rattle.bq_jobs.specs.Kept.{Kept}
+use Rattle.bq_core.specs.Dues.{earlier_of_both, with_seat_due, with_warning_due}
+use Rattle.bq_core.specs.CoreParts.{held, machine_held, machine_of}
+use Rattle.bq_core.specs.TubeEntries.{counted}
+use Rattle.bq_core.proofs.DueLemmas.{all_due, earliest_of_all, jobs_due_is, pauses_counted}
+use Rattle.bq_core.proofs.KnowledgeLemmas.{so_settled}
+use Rattle.bq_core.proofs.timers.next_due.Goals as goal
+
+pub warnings_due-warning-requires-clause-warned : goal.warnings_due-warning-requires-clause-warned
+warnings_due-warning-requires-clause-warned c =
+    let same = ap (λ (k : Kept). k.jobs) c.jobs_due-jobs.ensures.same in
+    rw (same, c.as_slice.ensures.value) c.args.state.now.sound.known.warnings
+
+pub returns-clause-due : goal.returns-clause-due
+returns-clause-due c =
+    let st = c.args.state.now in
+    let m = machine_of st in
+    let of_job = λ (j : Job). dues_of_state m j.state in
+    let of_tube = λ (t : TubeRecord). dues_of_pause t.pause in
+    let of_seat = λ (s : SeatRecord). dues_of_wait s.wait in
+    let kept = ap (λ (k : Kept). k.jobs) c.jobs_due-jobs.ensures.same in
+    let warning : c.warnings_due-warning.result ≡ fold (with_warning_due st.jobs.jobs) None st.seats.items =
+    c.warnings_due-warning.ensures.due ∙ (λ i. fold (with_warning_due (kept i)) None (c.as_slice.ensures.value i)) in
+    let jobs : earlier_of_both c.jobs_due-jobs.result c.warnings_due-warning.result ≡ earliest (flat_map of_job st.jobs.jobs) =
+    (λ i. earlier_of_both (c.jobs_due-jobs.ensures.due i) (warning i)) ∙ jobs_due_is m in
+    let tubes : st.known.pause_end ≡ earliest (flat_map of_tube (counted st.tubes.entries)) =
+    c.args.state.now.sound.known.pauses ∙ earliest_of_all of_tube st.tubes.entries ∙ ap earliest (pauses_counted st.tubes.entries c.args.state.now.sound.entries.fresh) in
+    let seats : c.seats_due-seats.result ≡ earliest (flat_map of_seat st.seats.items) =
+    c.seats_due-seats.ensures ∙ ap (fold with_seat_due None) c.as_slice-3.ensures.value ∙ earliest_of_all of_seat st.seats.items in
+    c.earlier_of-3.ensures
+    ∙ (λ i. earlier_of_both ((c.earlier_of.ensures ∙ jobs) i) ((c.earlier_of-2.ensures ∙ (λ k. earlier_of_both (tubes k) (seats k))) i))
+    ∙ sym (all_due (flat_map of_job st.jobs.jobs) (flat_map of_tube (counted st.tubes.entries)) (flat_map of_seat st.seats.items))
+
+pub returns-clause-same : goal.returns-clause-same
+returns-clause-same c =
+    let st = c.args.state.now in
+    ap (λ (k : Kept). machine_held (record (held st) { jobs = k })) (c.warnings_due-warning.ensures.same ∙ ap (λ (k : Kept). record k { comparisons = c.warnings_due-warning.new.jobs.comparisons }) c.jobs_due-jobs.ensures.same)
+
+pub invariant_of-state : goal.invariant_of-state
+invariant_of-state c =
+    let st = c.args.state.now in
+    let was = c.args.state.now.sound in
+    let kept = ap (λ (k : Kept). k.jobs) c.jobs_due-jobs.ensures.same in
+    let jobs = ap (λ (k : Kept). k.jobs) c.warnings_due-warning.ensures.same ∙ kept in
+    let due = c.is_some.ensures ∙ ap is_some c.warnings_due-warning.ensures.due ∙ (λ i. is_some (fold (with_warning_due (kept i)) None (c.as_slice.ensures.value i))) in
+    record {
+      sound =
+          rw (c.settle.ensures, jobs)
+          (record { entries = was.entries; numbered = was.numbered; next = was.next; ids = was.ids; waiting = was.waiting; known = so_settled st c.is_some.result due });
+    }
