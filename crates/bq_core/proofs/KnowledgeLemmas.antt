@@ -12,7 +12,7 @@ use Rattle.bq_job.specs.machine.Tubes.{watches}
 use Rattle.bq_job.specs.reading.TubeName.{is_same_name}
 use Rattle.bq_jobs.specs.Changed.{moved_by, with_changed}
 use Rattle.bq_jobs.specs.Kept.{with_added, without}
-use Rattle.bq_jobs.specs.declared.edit.Moved.{Moved}
+use Rattle.bq_jobs.specs.declared.row.Moved.{Moved}
 use Rattle.bq_core.specs.Clients.{clients_of, clients_with, clients_without}
 use Rattle.bq_core.specs.Counting.{AreCounts, recounted_for, tubes_with, with_crowds_at, with_tallies_at}
 use Rattle.bq_core.specs.Crowds.{crowds_recounted_for, is_waiter, may_wait, recounted, share_of_watcher, share_of_watching, touched}

@@ -11,7 +11,7 @@ use Rattle.bq_job.specs.machine.Machine.{SeatRecord, TubeRecord, default_tube}
 use Rattle.bq_job.specs.machine.Timers.{is_due, is_expired}
 use Rattle.bq_job.specs.reading.TubeName.{is_same_name}
 use Rattle.bq_job.specs.machine.Tubes.{is_seated_at}
-use Rattle.bq_jobs.specs.declared.edit.Moved.{Moved}
+use Rattle.bq_jobs.specs.declared.row.Moved.{Moved}
 use Rattle.bq_jobs.specs.Changed.{IgnoresTube, KeepsId, KeepsTube, moved_by, with_changed}
 use Rattle.bq_jobs.specs.Kept.{with_added, without}
 use Rattle.bq_jobs.proofs.Changes.{changed as changed_by_id, found_id}

@@ -10,7 +10,7 @@ use Rattle.bq_job.specs.machine.Limits.{raised}
 use Rattle.bq_job.specs.machine.Machine.{Pause, TubeRecord, default_tube}
 use Rattle.bq_job.specs.machine.Timers.{pause_after_timers, tube_after_timers}
 use Rattle.bq_job.specs.machine.Tubes.{fresh_tube}
-use Rattle.bq_jobs.specs.declared.edit.Moved.{Moved}
+use Rattle.bq_jobs.specs.declared.row.Moved.{Moved}
 use Rattle.bq_core.specs.Crowds.{has_seats, no_crowd, recounted}
 use Rattle.bq_core.specs.Tallies.{has_jobs, tally_moved, tally_of, tally_with, tally_without}
 use Rattle.bq_core.specs.TubeEntries.{is_tube_by, tube_changed}

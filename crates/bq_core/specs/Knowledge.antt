@@ -2,7 +2,7 @@
 use Rattle.std.specs.Prelude.{ℕ, Bool, if◌then◌else◌, ◌≡◌, List, [], Option, None}
 use Rattle.bq_job.specs.declared.job.Job.{Job}
 use Rattle.bq_job.specs.machine.Machine.{SeatRecord, TubeRecord}
-use Rattle.bq_jobs.specs.declared.edit.Moved.{Moved}
+use Rattle.bq_jobs.specs.declared.row.Moved.{Moved}
 use Rattle.bq_core.specs.Clients.{clients_of, clients_with, clients_without}
 use Rattle.bq_core.specs.Crowds.{AreCrowds}
 use Rattle.bq_core.specs.Dues.{first_pause_end, pause_end_after, pause_end_left}

@@ -9,8 +9,8 @@ use Rattle.bq_job.specs.machine.Machine.{TubeRecord}
 use Rattle.bq_job.specs.machine.Statistics.{is_urgent}
 use Rattle.bq_job.specs.reading.TubeName.{is_same_name}
 use Rattle.bq_job.specs.machine.Tubes.{is_name_before}
-use Rattle.bq_jobs.specs.declared.edit.Moved.{Moved}
-use Rattle.bq_jobs.specs.declared.edit.Standing.{Standing}
+use Rattle.bq_jobs.specs.declared.row.Moved.{Moved}
+use Rattle.bq_jobs.specs.declared.row.Standing.{Standing}
 use Rattle.bq_core.specs.TubeEntries.{has_entry}
 use Rattle.bq_core.specs.declared.known.Tally.{Tally}
 

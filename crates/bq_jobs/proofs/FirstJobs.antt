@@ -2,15 +2,15 @@
 use Rattle.std.proofs.Common.{◌≡◌, ℕ, ◌^◌, true, List, Option, Some, None, refl}
 use Rattle.std.specs.Prelude.{option_map}
 use Rattle.bq_job.specs.declared.job.Job.{Job}
-use Rattle.bq_jobs.specs.contracts.group.GroupOrd.TheImpl.Laws as group_laws
-use Rattle.bq_jobs.specs.contracts.place.TimerOrd.TheImpl.Laws as timer_laws
-use Rattle.bq_jobs.specs.declared.holder.Holder.{Holder}
-use Rattle.bq_jobs.specs.declared.holder.Holder.TheVariants as holders
-use Rattle.bq_jobs.specs.declared.holder.JobList.{JobList}
-use Rattle.bq_jobs.specs.declared.holder.JobList.TheVariants as lists
-use Rattle.bq_jobs.specs.declared.place.ShelfPlace.{ShelfPlace}
-use Rattle.bq_jobs.specs.declared.place.Timer.{Timer}
-use Rattle.bq_jobs.specs.declared.place.Timer.TheVariants as timers
+use Rattle.bq_jobs.specs.contracts.places.GroupOrd.TheImpl.Laws as group_laws
+use Rattle.bq_jobs.specs.contracts.places.TimerOrd.TheImpl.Laws as timer_laws
+use Rattle.bq_jobs.specs.declared.places.Holder.{Holder}
+use Rattle.bq_jobs.specs.declared.places.Holder.TheVariants as holders
+use Rattle.bq_jobs.specs.declared.places.JobList.{JobList}
+use Rattle.bq_jobs.specs.declared.places.JobList.TheVariants as lists
+use Rattle.bq_jobs.specs.declared.places.ShelfPlace.{ShelfPlace}
+use Rattle.bq_jobs.specs.declared.places.Timer.{Timer}
+use Rattle.bq_jobs.specs.declared.places.Timer.TheVariants as timers
 use Rattle.bq_jobs.specs.declared.rows.Rows.TheInside.{Inside as Parts}
 use Rattle.bq_jobs.specs.Inside.{jobs_of}
 use Rattle.bq_jobs.specs.Kept.{ranked}

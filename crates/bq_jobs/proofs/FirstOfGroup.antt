@@ -15,7 +15,7 @@ use Rattle.bq_job.specs.machine.Changes.{first_of, is_pair_before, job_with}
 use Rattle.bq_job.specs.beside.Lawful.{AreIdsWithin}
 use Rattle.bq_job.proofs.ChoiceLemmas.{first_of_is, first_of_none_passes, pair_order}
 use Rattle.bq_job.proofs.ListLemmas.{all_from_members, found_passes, list_any_not}
-use Rattle.bq_jobs.specs.declared.place.ShelfPlace.{ShelfPlace}
+use Rattle.bq_jobs.specs.declared.places.ShelfPlace.{ShelfPlace}
 use Rattle.bq_jobs.specs.Inside.{IsOrderOf, Order, has_place, is_place}
 use Rattle.bq_jobs.specs.Kept.{ranked}
 use Rattle.bq_jobs.specs.PlaceOrder.{place_total, front, first_rank, holds_place, place_cmp, rank_in_group}

@@ -14,13 +14,13 @@ use Rattle.bq_job.specs.declared.job.JobState.TheVariants as states
 use Rattle.bq_job.specs.machine.Changes.{is_holder, is_ready_state}
 use Rattle.bq_job.specs.machine.JobStates.{burial_of, due_of, is_buried, is_delayed, is_reserved}
 use Rattle.bq_job.specs.reading.TubeName.{is_same_name}
-use Rattle.bq_jobs.specs.contracts.group.GroupOrd.TheImpl as group_ord
-use Rattle.bq_jobs.specs.contracts.place.TimerOrd.TheImpl as timer_ord
-use Rattle.bq_jobs.specs.declared.holder.Holder.{Holder}
-use Rattle.bq_jobs.specs.declared.holder.JobList.TheVariants as lists
-use Rattle.bq_jobs.specs.declared.place.ShelfPlace.{ShelfPlace}
-use Rattle.bq_jobs.specs.declared.place.Timer.{Timer}
-use Rattle.bq_jobs.specs.declared.place.Timer.TheVariants as timers
+use Rattle.bq_jobs.specs.contracts.places.GroupOrd.TheImpl as group_ord
+use Rattle.bq_jobs.specs.contracts.places.TimerOrd.TheImpl as timer_ord
+use Rattle.bq_jobs.specs.declared.places.Holder.{Holder}
+use Rattle.bq_jobs.specs.declared.places.JobList.TheVariants as lists
+use Rattle.bq_jobs.specs.declared.places.ShelfPlace.{ShelfPlace}
+use Rattle.bq_jobs.specs.declared.places.Timer.{Timer}
+use Rattle.bq_jobs.specs.declared.places.Timer.TheVariants as timers
 use Rattle.bq_jobs.specs.Leases.{deadline_of}
 use Rattle.bq_jobs.specs.Names.{name_cmp, number_in}
 use Rattle.bq_jobs.specs.Places.{held_by, in_timers, in_groups, list_of, timer_place, group_place}

@@ -6,9 +6,9 @@ use Rattle.std.specs.Option.{option_map}
 use Rattle.std.proofs.lemmas.Bool.{cases_Bool}
 use Rattle.bq_job.specs.declared.job.Job.{Job}
 use Rattle.bq_job.specs.machine.Changes.{better_of, first_of, is_held_by, is_pair_before}
-use Rattle.bq_jobs.specs.declared.holder.JobList.{JobList}
-use Rattle.bq_jobs.specs.declared.place.Timer.{Timer}
-use Rattle.bq_jobs.specs.declared.place.Timer.TheVariants as timers
+use Rattle.bq_jobs.specs.declared.places.JobList.{JobList}
+use Rattle.bq_jobs.specs.declared.places.Timer.{Timer}
+use Rattle.bq_jobs.specs.declared.places.Timer.TheVariants as timers
 use Rattle.bq_jobs.specs.Kept.{ranked}
 use Rattle.bq_jobs.specs.Leases.{deadline_of}
 use Rattle.bq_jobs.specs.Numbering.{AreNumbered, IsPaired, Numbering, named, number_of}

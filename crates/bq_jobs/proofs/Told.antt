@@ -4,12 +4,12 @@ use Rattle.std.specs.Prelude.{◌==◌, option_map}
 use Rattle.std.proofs.lemmas.Bool.{cases_Bool}
 use Rattle.bq_job.specs.declared.job.Job.{Job}
 use Rattle.bq_job.specs.machine.Changes.{job_with}
-use Rattle.bq_jobs.specs.contracts.group.GroupOrd.TheImpl.Laws as group_laws
-use Rattle.bq_jobs.specs.contracts.place.TimerOrd.TheImpl.Laws as timer_laws
-use Rattle.bq_jobs.specs.declared.edit.MovedRow.{MovedRow}
-use Rattle.bq_jobs.specs.declared.holder.Holder.{Holder}
-use Rattle.bq_jobs.specs.declared.place.ShelfPlace.{ShelfPlace}
-use Rattle.bq_jobs.specs.declared.place.Timer.{Timer}
+use Rattle.bq_jobs.specs.contracts.places.GroupOrd.TheImpl.Laws as group_laws
+use Rattle.bq_jobs.specs.contracts.places.TimerOrd.TheImpl.Laws as timer_laws
+use Rattle.bq_jobs.specs.declared.row.MovedRow.{MovedRow}
+use Rattle.bq_jobs.specs.declared.places.Holder.{Holder}
+use Rattle.bq_jobs.specs.declared.places.ShelfPlace.{ShelfPlace}
+use Rattle.bq_jobs.specs.declared.places.Timer.{Timer}
 use Rattle.bq_jobs.specs.declared.rows.Rows.TheInside.{Inside as Parts}
 use Rattle.bq_jobs.specs.Changed.{IgnoresTube, KeepsId, entry_at, row_moved_by, with_changed}
 use Rattle.bq_jobs.specs.Inside.{jobs_of}

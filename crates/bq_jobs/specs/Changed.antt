@@ -4,9 +4,9 @@ use Rattle.std.specs.Ordering.{nat_cmp}
 use Rattle.std.specs.Map.{lookup, set_value}
 use Rattle.std.specs.BTreeMap.{is_at}
 use Rattle.bq_job.specs.declared.job.Job.{Job}
-use Rattle.bq_jobs.specs.declared.edit.Moved.{Moved}
-use Rattle.bq_jobs.specs.declared.edit.MovedRow.{MovedRow}
-use Rattle.bq_jobs.specs.declared.edit.Standing.{Standing}
+use Rattle.bq_jobs.specs.declared.row.Moved.{Moved}
+use Rattle.bq_jobs.specs.declared.row.MovedRow.{MovedRow}
+use Rattle.bq_jobs.specs.declared.row.Standing.{Standing}
 
 abbrev pub standing : Job → Standing
 standing j = record { pri = j.pri; state = j.state }

@@ -3,10 +3,10 @@ use Rattle.std.specs.Prelude.{ℕ, ◌+◌, ◌*◌, ◌/◌, ◌%◌, ◌==◌,
 use Rattle.std.specs.declared.cmp.Ordering.{Ordering}
 use Rattle.std.specs.Cmp.{IsTotalOrder, nat_cmp_total, on_total, then_total}
 use Rattle.std.specs.Ordering.{nat_cmp, on, then_cmp}
-use Rattle.bq_jobs.specs.declared.holder.Holder.{Holder}
-use Rattle.bq_jobs.specs.declared.holder.Holder.TheVariants as holders
-use Rattle.bq_jobs.specs.declared.holder.JobList.{JobList}
-use Rattle.bq_jobs.specs.declared.holder.JobList.TheVariants as lists
+use Rattle.bq_jobs.specs.declared.places.Holder.{Holder}
+use Rattle.bq_jobs.specs.declared.places.Holder.TheVariants as holders
+use Rattle.bq_jobs.specs.declared.places.JobList.{JobList}
+use Rattle.bq_jobs.specs.declared.places.JobList.TheVariants as lists
 use Rattle.bq_jobs.specs.Names.{name_cmp, name_total, number_in}
 use Rattle.bq_jobs.specs.Places.{held_by, list_of}
 

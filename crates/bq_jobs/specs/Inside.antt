@@ -8,9 +8,9 @@ use Rattle.bq_job.specs.declared.job.Job.{Job}
 use Rattle.bq_job.specs.machine.Changes.{job_with}
 use Rattle.bq_job.specs.beside.Lawful.{AreIdsWithin}
 use Rattle.bq_job.specs.machine.Limits.{greatest}
-use Rattle.bq_jobs.specs.declared.holder.Holder.{Holder}
-use Rattle.bq_jobs.specs.declared.place.ShelfPlace.{ShelfPlace}
-use Rattle.bq_jobs.specs.declared.place.Timer.{Timer}
+use Rattle.bq_jobs.specs.declared.places.Holder.{Holder}
+use Rattle.bq_jobs.specs.declared.places.ShelfPlace.{ShelfPlace}
+use Rattle.bq_jobs.specs.declared.places.Timer.{Timer}
 use Rattle.bq_jobs.specs.Kept.{Kept}
 use Rattle.bq_jobs.specs.PlaceOrder.{place_cmp, holds_place}
 use Rattle.bq_jobs.specs.Places.{group_place, timer_place}

@@ -9,7 +9,7 @@ use Rattle.std.specs.BTreeMap.{is_at, insert_entry}
 use Rattle.bq_index.specs.Digits.{binary_digits}
 use Rattle.bq_index.specs.Order.{entry_from}
 use Rattle.bq_index.specs.Shelf.{Seen}
-use Rattle.bq_jobs.specs.declared.place.ShelfPlace.{ShelfPlace}
+use Rattle.bq_jobs.specs.declared.places.ShelfPlace.{ShelfPlace}
 
 -- by number, by id
 abbrev pub numbers_cmp : {G : Type 0} → ShelfPlace G → ShelfPlace G → Ordering

@@ -3,13 +3,13 @@ use Rattle.std.specs.Prelude.{ℕ, List, Option, Some, None}
 use Rattle.bq_job.specs.declared.job.Job.{Job}
 use Rattle.bq_job.specs.declared.job.JobState.{JobState}
 use Rattle.bq_job.specs.declared.job.JobState.TheVariants as states
-use Rattle.bq_jobs.specs.declared.holder.Holder.{Holder}
-use Rattle.bq_jobs.specs.declared.holder.Holder.TheVariants as holders
-use Rattle.bq_jobs.specs.declared.holder.JobList.{JobList}
-use Rattle.bq_jobs.specs.declared.holder.JobList.TheVariants as lists
-use Rattle.bq_jobs.specs.declared.place.ShelfPlace.{ShelfPlace}
-use Rattle.bq_jobs.specs.declared.place.Timer.{Timer}
-use Rattle.bq_jobs.specs.declared.place.Timer.TheVariants as timers
+use Rattle.bq_jobs.specs.declared.places.Holder.{Holder}
+use Rattle.bq_jobs.specs.declared.places.Holder.TheVariants as holders
+use Rattle.bq_jobs.specs.declared.places.JobList.{JobList}
+use Rattle.bq_jobs.specs.declared.places.JobList.TheVariants as lists
+use Rattle.bq_jobs.specs.declared.places.ShelfPlace.{ShelfPlace}
+use Rattle.bq_jobs.specs.declared.places.Timer.{Timer}
+use Rattle.bq_jobs.specs.declared.places.Timer.TheVariants as timers
 
 abbrev pub placed : {G : Type 0} → G → ℕ → ℕ → Option (ShelfPlace G)
 placed group at id = Some (record { at = at; id = id; group = group })

@@ -6,12 +6,12 @@ use Rattle.bq_job.specs.declared.job.JobState.{JobState}
 use Rattle.bq_job.specs.machine.Changes.{first_of, is_holder, is_pair_before, is_ready_state}
 use Rattle.bq_job.specs.machine.JobStates.{burial_of, due_of, is_buried, is_delayed, is_reserved}
 use Rattle.bq_job.specs.reading.TubeName.{is_same_name}
-use Rattle.bq_jobs.specs.declared.holder.Holder.{Holder}
-use Rattle.bq_jobs.specs.declared.holder.Holder.TheVariants as holders
-use Rattle.bq_jobs.specs.declared.holder.JobList.{JobList}
-use Rattle.bq_jobs.specs.declared.holder.JobList.TheVariants as lists
-use Rattle.bq_jobs.specs.declared.place.Timer.{Timer}
-use Rattle.bq_jobs.specs.declared.place.Timer.TheVariants as timers
+use Rattle.bq_jobs.specs.declared.places.Holder.{Holder}
+use Rattle.bq_jobs.specs.declared.places.Holder.TheVariants as holders
+use Rattle.bq_jobs.specs.declared.places.JobList.{JobList}
+use Rattle.bq_jobs.specs.declared.places.JobList.TheVariants as lists
+use Rattle.bq_jobs.specs.declared.places.Timer.{Timer}
+use Rattle.bq_jobs.specs.declared.places.Timer.TheVariants as timers
 use Rattle.bq_jobs.specs.Kept.{ranked}
 use Rattle.bq_jobs.specs.Leases.{deadline_of}
 

@@ -19,15 +19,10 @@ ghost use Rattle.bq_jobs.specs.Leases.{deadline_of, is_lease_before};
 ghost use Rattle.bq_jobs.specs.Places.{held_by, list_of};
 ghost use Rattle.bq_jobs.specs.Ranks.{first_held, first_timed, id_in};
 
-use super::edit::{JobEdit, Moved, MovedRow};
-use super::group::Group;
-use super::holder::JobList;
-use super::number::TubeNumber;
-use super::numbered_tubes::NumberedTubes;
-use super::place::Timer;
-use super::row;
-use super::row::Row;
+use super::places::{Group, JobList, Timer};
+use super::row::{self, JobEdit, Moved, MovedRow, Row};
 use super::rows::Rows;
+use super::tubes::{NumberedTubes, TubeNumber};
 use bq_index::BoxSource;
 use bq_job::{Body, Job, JobId, Moment, NoMemory, Seat, TubeName};
 use std::alloc::Global;

@@ -17,19 +17,13 @@
 //! | together | 440 at most |
 #![tactic(auto)]
 
-pub use edit::{JobEdit, Moved, Standing};
 pub use jobs::Jobs;
-pub use number::TubeNumber;
-pub use row::Row;
+pub use row::{JobEdit, Moved, Row, Standing};
+pub use tubes::TubeNumber;
 
-mod edit;
-mod group;
-mod holder;
 mod jobs;
 pub mod laws;
-mod number;
-mod numbered_tubes;
-mod order;
-mod place;
+mod places;
 mod row;
 mod rows;
+mod tubes;

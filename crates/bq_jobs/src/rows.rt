@@ -11,11 +11,8 @@ ghost use Rattle.bq_jobs.specs.Names.{number_in};
 ghost use Rattle.bq_jobs.specs.Ranks.{first_held, first_timed};
 ghost use Rattle.bq_jobs.specs.Seen.{IsBodyOf, IsNumberOf};
 
-use super::edit::{JobEdit, MovedRow, Standing};
-use super::group::Group;
-use super::order;
-use super::place::{self, ShelfPlace, Timer};
-use super::row::Row;
+use super::places::{self, Group, ShelfPlace, Timer};
+use super::row::{JobEdit, MovedRow, Row, Standing};
 use bq_index::{BoxSource, Shelf};
 use bq_job::{Body, JobId, Moment, NoMemory};
 use std::alloc::Global;
@@ -105,8 +102,8 @@ impl Rows {
         let Some(places) = self.by_id.len().checked_add(1) else {
             return Err(NoMemory);
         };
-        order::make_room(&mut self.groups, source, places)?;
-        order::make_room(&mut self.timers, source, places)?;
+        places::make_room(&mut self.groups, source, places)?;
+        places::make_room(&mut self.timers, source, places)?;
         match self.by_id.reserve_from(source, 1) {
             Ok(()) => Ok(()),
             Err(_) => Err(NoMemory),
@@ -137,8 +134,8 @@ impl Rows {
         ensures room { self.new.room + 1 ≡ self.old.room }
         ensures comparisons { ComparesAtMost 4 self.old self.new }
     {
-        order::enter(&mut self.groups, place::group_place(id, &job));
-        order::enter(&mut self.timers, place::timer_place(id, &job));
+        places::enter(&mut self.groups, places::group_place(id, &job));
+        places::enter(&mut self.timers, places::timer_place(id, &job));
         self.by_id.insert(id, job);
     }
 
@@ -153,8 +150,8 @@ impl Rows {
         ensures comparisons { ComparesAtMost 4 self.old self.new }
     {
         let job = self.by_id.remove(&id)?;
-        order::leave(&mut self.groups, place::group_place(id, &job));
-        order::leave(&mut self.timers, place::timer_place(id, &job));
+        places::leave(&mut self.groups, places::group_place(id, &job));
+        places::leave(&mut self.timers, places::timer_place(id, &job));
         Some(job)
     }
 
@@ -171,14 +168,14 @@ impl Rows {
         let moved = edit_at(&mut self.by_id, id, edit)?;
         let (from, to) = (moved.from, moved.to);
         let (left, entered) = (
-            place::place_in_groups(id, moved.tube, from),
-            place::place_in_groups(id, moved.tube, to),
+            places::place_in_groups(id, moved.tube, from),
+            places::place_in_groups(id, moved.tube, to),
         );
-        order::shift(&mut self.groups, left, entered);
-        order::shift(
+        places::shift(&mut self.groups, left, entered);
+        places::shift(
             &mut self.timers,
-            place::place_in_timers(id, from),
-            place::place_in_timers(id, to),
+            places::place_in_timers(id, from),
+            places::place_in_timers(id, to),
         );
         Some(moved)
     }
@@ -223,7 +220,7 @@ impl Rows {
         ensures same { self.new ≡ record self.old { comparisons = self.new.comparisons } }
         ensures comparisons { ComparesAtMost 1 self.old self.new }
     {
-        order::first_rank(&mut self.groups, group)
+        places::first_rank(&mut self.groups, group)
     }
 
     /// The moment and the id of the first delay or lease: by moment, then by id.
@@ -232,7 +229,7 @@ impl Rows {
         ensures same { self.new ≡ record self.old { comparisons = self.new.comparisons } }
         ensures comparisons { ComparesAtMost 1 self.old self.new }
     {
-        order::first_rank(&mut self.timers, timer)
+        places::first_rank(&mut self.timers, timer)
     }
 }
 

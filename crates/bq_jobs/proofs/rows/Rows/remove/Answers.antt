@@ -1,7 +1,7 @@
 use Rattle.std.proofs.Common.{arith, ◌+◌, cond, refl, sym, ap, ◌∙◌}
 use Rattle.std.specs.Prelude.{is_some}
-use Rattle.bq_jobs.specs.contracts.group.GroupOrd.TheImpl.Laws as group_laws
-use Rattle.bq_jobs.specs.contracts.place.TimerOrd.TheImpl.Laws as timer_laws
+use Rattle.bq_jobs.specs.contracts.places.GroupOrd.TheImpl.Laws as group_laws
+use Rattle.bq_jobs.specs.contracts.places.TimerOrd.TheImpl.Laws as timer_laws
 use Rattle.bq_jobs.specs.Inside.{jobs_of, kept_in}
 use Rattle.bq_jobs.specs.PlaceOrder.{without_place}
 use Rattle.bq_jobs.specs.Places.{timer_place, group_place}

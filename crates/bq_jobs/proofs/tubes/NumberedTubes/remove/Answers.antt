@@ -1,7 +1,7 @@
 use Rattle.std.proofs.Common.{◌∙◌, Some, None, refl, sym}
 use Rattle.bq_jobs.specs.Numbering.{Numbering}
 use Rattle.bq_jobs.proofs.NumberingLemmas.{removed_to}
-use Rattle.bq_jobs.proofs.numbered_tubes.NumberedTubes.remove.Goals as goal
+use Rattle.bq_jobs.proofs.tubes.NumberedTubes.remove.Goals as goal
 
 pub invariant_of-self : goal.invariant_of-self
 invariant_of-self c =

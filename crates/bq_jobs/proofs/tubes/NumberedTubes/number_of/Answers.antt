@@ -2,7 +2,7 @@ use Rattle.std.proofs.Common.{◌∙◌, Some, Bor, ℕ, ap, sym}
 use Rattle.std.specs.Prelude.{option_map}
 use Rattle.bq_jobs.specs.Numbering.{Numbering}
 use Rattle.bq_jobs.proofs.NumberingLemmas.{number_few}
-use Rattle.bq_jobs.proofs.numbered_tubes.NumberedTubes.number_of.Goals as goal
+use Rattle.bq_jobs.proofs.tubes.NumberedTubes.number_of.Goals as goal
 
 pub returns-in-Some-clause-few : goal.returns-in-Some-clause-few
 returns-in-Some-clause-few c =

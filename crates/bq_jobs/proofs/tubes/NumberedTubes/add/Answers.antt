@@ -4,7 +4,7 @@ use Rattle.std.specs.BTreeMap.{insert_entry}
 use Rattle.std.specs.Cmp.Lexicographic.{slice_cmp}
 use Rattle.bq_jobs.specs.Numbering.{Numbering, number_of}
 use Rattle.bq_jobs.proofs.NumberingLemmas.{paired_to}
-use Rattle.bq_jobs.proofs.numbered_tubes.NumberedTubes.add.Goals as goal
+use Rattle.bq_jobs.proofs.tubes.NumberedTubes.add.Goals as goal
 
 pub invariant_of-self-2 : goal.invariant_of-self-2
 invariant_of-self-2 c =

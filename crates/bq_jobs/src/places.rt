@@ -1,0 +1,351 @@
+//! Where jobs stand: places, and lists of them in their order.
+ghost use Rattle.std.specs.Cmp as Cmp;
+ghost use Rattle.bq_jobs.specs.Groups.{group_at, group_cmp, group_number, group_total, list_number};
+ghost use Rattle.bq_jobs.specs.Names.{number_in};
+ghost use Rattle.std.proofs.Common.{refl};
+ghost use Rattle.std.specs.Ordering.{as_partial_cmp, eq_by_cmp};
+ghost use Rattle.std.specs.Prelude.{◌≡◌, ◌+◌, ◌<◌, ◌≤◌, length, is_some, if◌then◌else◌, IsSome, OnOk, None};
+ghost use Rattle.bq_jobs.specs.Places.{group_place, in_groups_at, in_timers_at, timer_place};
+ghost use Rattle.bq_index.specs.Shelf.{ComparesFew};
+ghost use Rattle.bq_jobs.specs.PlaceOrder.{ComparesTwice, first_rank, holds_place, with_place, without_place};
+ghost use Rattle.std.specs.Option.{ForSome};
+
+use super::row::{Row, Standing};
+use super::tubes::TubeNumber;
+use bq_index::{BoxSource, Shelf};
+use bq_job::{JobId, JobState, NoMemory, Seat};
+use std::cmp::Ordering;
+use std::marker::Model;
+
+/// A state in which jobs stand in an order of their tube.
+#[derive(Clone, Copy)]
+pub enum JobList {
+    Ready,
+    Delayed,
+    Buried,
+}
+
+/// The jobs of a tube in one state.
+#[derive(Clone, Copy)]
+pub struct TubeList {
+    pub list: JobList,
+    pub tube: TubeNumber,
+}
+
+/// Who has a job: the client at a seat, or a list of the job's tube. It is never in both, and so one order
+/// serves for both.
+#[derive(Clone, Copy)]
+pub enum Holder {
+    Held(Seat),
+    Listed(TubeList),
+}
+
+/// The jobs that a holder has, named by one number, so that a place is small. A list of a tube has four times
+/// the number of the tube and 0, 1 or 2, and a client four times its seat and 3.
+#[derive(Clone, Copy)]
+pub struct Group(u64);
+
+impl Model for Group {
+    ghost use Rattle.bq_jobs.specs.declared.places.Holder.{Holder};
+    ghost use Rattle.bq_jobs.specs.Groups.{group_at, group_number};
+    ghost use Rattle.std.specs.Prelude.{◌≡◌};
+
+    ghost Value = { Holder };
+
+    ghost view = { λ g. group_at g.0 };
+
+    ghost invariant = { λ g. group_number (group_at g.0) ≡ g.0 };
+
+    ghost inverse = { λ h. record { 0 = group_number h } };
+
+    ghost inverse_ok = { λ g h. λ i. record { 0 = h i } };
+}
+
+impl Group {
+    ghost use Rattle.bq_jobs.specs.Places.{held_by, list_of};
+
+    /// The jobs of a tube in one state.
+    pub fn list(list: JobList, tube: TubeNumber) -> Group
+        ensures { result ≡ list_of tube list }
+    {
+        Group(tube.get() * 4 + number_of(list))
+    }
+
+    /// The jobs of the client at a seat.
+    pub fn held(seat: Seat) -> Group
+        ensures { result ≡ held_by seat }
+    {
+        Group(u64::from(seat) * 4 + 3)
+    }
+}
+
+// Which of the three lists of a tube it is.
+fn number_of(list: JobList) -> u64
+    ensures { result ≡ list_number list }
+{
+    match list {
+        JobList::Ready => 0,
+        JobList::Delayed => 1,
+        JobList::Buried => 2,
+    }
+}
+
+impl PartialEq for Group {
+    ghost eq = { eq_by_cmp group_cmp };
+
+    ghost laws = { Cmp.partial_equiv_from_equiv (Cmp.eq_by_cmp_equiv group_total) };
+
+    fn eq(&self, other: &Group) -> bool {
+        self.cmp(other).is_eq()
+    }
+}
+
+impl Eq for Group {
+    ghost laws = { Cmp.eq_by_cmp_equiv group_total };
+}
+
+impl PartialOrd for Group {
+    ghost partial_cmp = { as_partial_cmp group_cmp };
+
+    ghost laws = { Cmp.partial_order_from_agreeing_total group_cmp group_total (λ a b. refl) (λ a b. refl) };
+
+    fn partial_cmp(&self, other: &Group) -> Option<Ordering> {
+        Some(self.cmp(other))
+    }
+}
+
+impl Ord for Group {
+    ghost cmp = { group_cmp };
+
+    ghost total = { group_total };
+
+    ghost matches_partial_cmp = { λ a b. refl };
+
+    ghost matches_eq = { λ a b. refl };
+
+    fn cmp(&self, other: &Group) -> Ordering {
+        self.0.cmp(&other.0)
+    }
+}
+
+/// A place in an order: by group, then by a number, then by the id of the job.
+#[derive(Clone, Copy)]
+pub struct ShelfPlace<G> {
+    pub at: u64,
+    pub id: JobId,
+    pub group: G,
+}
+
+impl<G: Ord> PartialEq for ShelfPlace<G> {
+    ghost use Rattle.std.specs.Cmp as Cmp;
+    ghost use Rattle.std.specs.Ordering.{eq_by_cmp};
+    ghost use Rattle.bq_jobs.specs.PlaceOrder.{place_cmp, place_total};
+
+    ghost eq = { eq_by_cmp (place_cmp G.cmp) };
+
+    ghost laws = { Cmp.partial_equiv_from_equiv (Cmp.eq_by_cmp_equiv (place_total G.total)) };
+
+    fn eq(&self, other: &ShelfPlace<G>) -> bool {
+        self.cmp(other).is_eq()
+    }
+}
+
+impl<G: Ord> Eq for ShelfPlace<G> {
+    ghost use Rattle.std.specs.Cmp as Cmp;
+    ghost use Rattle.bq_jobs.specs.PlaceOrder.{place_total};
+
+    ghost laws = { Cmp.eq_by_cmp_equiv (place_total G.total) };
+}
+
+impl<G: Ord> PartialOrd for ShelfPlace<G> {
+    ghost use Rattle.std.proofs.Common.{refl};
+    ghost use Rattle.std.specs.Cmp as Cmp;
+    ghost use Rattle.std.specs.Ordering.{as_partial_cmp};
+    ghost use Rattle.bq_jobs.specs.PlaceOrder.{place_cmp, place_total};
+
+    ghost partial_cmp = { as_partial_cmp (place_cmp G.cmp) };
+
+    ghost laws = { Cmp.partial_order_from_agreeing_total (place_cmp G.cmp) (place_total G.total) (λ a b. refl) (λ a b. refl) };
+
+    fn partial_cmp(&self, other: &ShelfPlace<G>) -> Option<Ordering> {
+        Some(self.cmp(other))
+    }
+}
+
+impl<G: Ord> Ord for ShelfPlace<G> {
+    ghost use Rattle.std.proofs.Common.{refl};
+    ghost use Rattle.bq_jobs.specs.PlaceOrder.{place_cmp, place_total};
+
+    ghost cmp = { place_cmp G.cmp };
+
+    ghost total = { place_total G.total };
+
+    ghost matches_partial_cmp = { λ a b. refl };
+
+    ghost matches_eq = { λ a b. refl };
+
+    fn cmp(&self, other: &ShelfPlace<G>) -> Ordering {
+        self.group
+            .cmp(&other.group)
+            .then_with(|| self.cmp_numbers(other))
+    }
+}
+
+/// What ends at a moment: a delay or a lease.
+#[derive(Clone, Copy, PartialEq, Eq, PartialOrd, Ord)]
+pub enum Timer {
+    Due,
+    Lease,
+}
+
+impl<G> ShelfPlace<G> {
+    ghost use Rattle.bq_jobs.specs.PlaceOrder.{numbers_cmp};
+
+    /// The place of a job in a group.
+    fn of(group: G, at: u64, id: JobId) -> ShelfPlace<G>
+        ensures { result ≡ record { at = at; id = id; group = group } }
+    {
+        ShelfPlace { at, id, group }
+    }
+
+    // The order within a group.
+    fn cmp_numbers(&self, other: &ShelfPlace<G>) -> Ordering
+        ensures { result ≡ numbers_cmp self.now other.now }
+    {
+        self.at.cmp(&other.at).then_with(|| self.id.cmp(&other.id))
+    }
+}
+
+/// The place of the job of this id among those of its tube's list or of its holder.
+pub(crate) fn group_place(id: JobId, job: &Row) -> Option<ShelfPlace<Group>>
+    requires { job.now.id ≡ id }
+    ensures { result ≡ group_place job.now }
+{
+    place_in_groups(id, job.tube, Standing::of_row(job))
+}
+
+/// The place of the job of this id among all delays and leases.
+pub(crate) fn timer_place(id: JobId, job: &Row) -> Option<ShelfPlace<Timer>>
+    requires { job.now.id ≡ id }
+    ensures { result ≡ timer_place job.now }
+{
+    place_in_timers(id, Standing::of_row(job))
+}
+
+/// The place in its tube's list, or at its holder, of the job of this id that stands so. Each job has one.
+pub(crate) fn place_in_groups(
+    id: JobId,
+    tube: TubeNumber,
+    at: Standing,
+) -> Option<ShelfPlace<Group>>
+    ensures { result ≡ in_groups_at at.state at.pri tube id }
+{
+    let (group, number) = match at.state {
+        JobState::Ready => (Group::list(JobList::Ready, tube), u64::from(at.pri)),
+        JobState::Delayed(due) => (Group::list(JobList::Delayed, tube), due),
+        JobState::Reserved(seat, deadline) => (Group::held(seat), deadline),
+        JobState::Buried(number) => (Group::list(JobList::Buried, tube), number),
+    };
+    Some(ShelfPlace::of(group, number, id))
+}
+
+/// The place among all delays and leases of the job of this id that stands so.
+pub(crate) fn place_in_timers(id: JobId, at: Standing) -> Option<ShelfPlace<Timer>>
+    ensures { result ≡ in_timers_at at.state id }
+{
+    match at.state {
+        JobState::Delayed(due) => Some(ShelfPlace::of(Timer::Due, due, id)),
+        JobState::Reserved(_, deadline) => Some(ShelfPlace::of(Timer::Lease, deadline, id)),
+        JobState::Ready | JobState::Buried(_) => None,
+    }
+}
+
+/// Sets boxes aside for so many places, those that are taken included.
+pub(crate) fn make_room<G: Ord + Drop, S: BoxSource>(
+    order: &mut Shelf<ShelfPlace<G>, ()>,
+    source: &mut S,
+    places: usize,
+) -> Result<(), NoMemory>
+    ensures ok { OnOk result (places ≤ length order.new.entries + order.new.spare) }
+    ensures entries { order.new.entries ≡ order.old.entries }
+    ensures not_fewer { order.old.spare ≤ order.new.spare }
+    ensures comparisons { order.new.comparisons ≡ order.old.comparisons }
+{
+    let more = places.saturating_sub(order.len());
+    match order.reserve_from(source, more) {
+        Ok(()) => Ok(()),
+        Err(_) => Err(NoMemory),
+    }
+}
+
+/// Puts a place in, if there is one.
+pub(crate) fn enter<G: Ord + Drop>(
+    order: &mut Shelf<ShelfPlace<G>, ()>,
+    place: Option<ShelfPlace<G>>,
+)
+    requires spare { ForSome place (λ _. 0 < order.old.spare) }
+    requires absent { ForSome place (λ p. holds_place G.cmp p order.old.entries ≡ None) }
+    ensures entries { order.new.entries ≡ with_place G.cmp place order.old.entries }
+    ensures spare { order.new.spare + (if is_some place then 1 else 0) ≡ order.old.spare }
+    ensures comparisons { ComparesFew order.old order.new }
+{
+    if let Some(place) = place {
+        order.insert(place, ());
+    }
+}
+
+/// Takes a place out, if there is one.
+pub(crate) fn leave<G: Ord + Drop>(
+    order: &mut Shelf<ShelfPlace<G>, ()>,
+    place: Option<ShelfPlace<G>>,
+)
+    requires held { ForSome place (λ p. IsSome (holds_place G.cmp p order.old.entries)) }
+    ensures entries { order.new.entries ≡ without_place G.cmp place order.old.entries }
+    ensures spare { order.new.spare ≡ order.old.spare + (if is_some place then 1 else 0) }
+    ensures comparisons { ComparesFew order.old order.new }
+{
+    if let Some(place) = place {
+        let _held = order.remove(&place);
+    }
+}
+
+/// Takes a place out, if there is one, and puts another one in, if there is one.
+#[tactic(auto, using(crate::proofs::Counting::digits_grow, crate::proofs::Orders::fewer_places))]
+pub(crate) fn shift<G: Ord + Drop>(
+    order: &mut Shelf<ShelfPlace<G>, ()>,
+    from: Option<ShelfPlace<G>>,
+    to: Option<ShelfPlace<G>>,
+)
+    requires held { ForSome from (λ p. IsSome (holds_place G.cmp p order.old.entries)) }
+    requires spare { ForSome to (λ _. 0 < order.old.spare + (if is_some from then 1 else 0)) }
+    requires absent { ForSome to (λ p. holds_place G.cmp p (without_place G.cmp from order.old.entries) ≡ None) }
+    ensures entries { order.new.entries ≡ with_place G.cmp to (without_place G.cmp from order.old.entries) }
+    ensures spare { order.new.spare + (if is_some to then 1 else 0) ≡ order.old.spare + (if is_some from then 1 else 0) }
+    ensures comparisons { ComparesTwice order.old order.new }
+{
+    leave(order, from);
+    enter(order, to);
+}
+
+/// The number and the id at the first place of a group.
+pub(crate) fn first_rank<G: Ord + Drop + Copy>(
+    order: &mut Shelf<ShelfPlace<G>, ()>,
+    group: G,
+) -> Option<(u64, JobId)>
+    ensures rank { result ≡ first_rank G.cmp group order.old.entries }
+    ensures entries { order.new.entries ≡ order.old.entries }
+    ensures spare { order.new.spare ≡ order.old.spare }
+    ensures comparisons { ComparesFew order.old order.new }
+{
+    let front = ShelfPlace {
+        at: 0,
+        id: 0,
+        group,
+    };
+    let (place, ()) = order.next_from(&front)?;
+    if group.cmp(&place.group).is_eq() {
+        Some((place.at, place.id))
+    } else {
+        None
+    }
+}
