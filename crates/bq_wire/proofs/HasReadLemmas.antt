@@ -16,10 +16,6 @@ use Rattle.bq_wire.specs.declared.reader_state.ReaderState.{ReaderState}
 use Rattle.bq_wire.proofs.PutBodyLemmas.{take_two}
 use Rattle.bq_wire.proofs.ReaderLemmas.{Stands-no_unit}
 
--- a reader that stands for the empty text has read nothing
-pub HasRead-none : (s : ReaderState) → Stands s [] → HasRead s [] []
-HasRead-none s stands = record { units = []; rest = []; taken_is = refl; are_units = refl; last_quits = refl; goes_on = inr (refl, stands) }
-
 -- a call without a request
 HasRead-waits : (old new : ReaderState) (piece taken : List ℕ) (count : ℕ) (requests : List Request) → new.max_job_size ≡ old.max_job_size
     → (read : HasRead old taken requests) → ends_by_quit requests ≡ false → Waits new read.rest piece count → HasRead new (taken ++ take count piece) requests

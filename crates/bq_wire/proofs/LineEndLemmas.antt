@@ -47,21 +47,12 @@ pub first_feed : (c : Bool) (bytes : List ℕ) (r : Option ℕ) → IsFirstByte 
 first_feed c bytes None none = line_end_none c bytes (λ k low. none k (omega arith) low)
 first_feed c bytes (Some k) found = (found.0.high, rw add-one (line_end_at c bytes k found.0.high found.1 (λ j less. found.0.before j (omega arith) less)))
 
-pub last_is_cr_none : (c : Bool) (bytes : List ℕ) → length bytes ≡ 0 → last_is_cr c bytes ≡ c
-last_is_cr_none c [] e = refl
-last_is_cr_none c (b ∷ bytes) e = grind (arith, common_steps)
-
 pub last_is_cr_last : (c : Bool) (bytes : List ℕ) → 0 < length bytes → last_is_cr c bytes ≡ (get_or bytes (length bytes - 1) 0 == 13)
 last_is_cr_last c [] some = absurd (omega arith)
 last_is_cr_last c (b ∷ []) some = refl
 last_is_cr_last c (b ∷ d ∷ bytes) some =
     let last : length (b ∷ d ∷ bytes) - 1 ≡ suc (length (d ∷ bytes) - 1) = omega arith in
     rw last (last_is_cr_last (b == 13) (d ∷ bytes) (omega arith))
-
--- past two parts
-pub later_by_twice : (one two : ℕ) (o : Option ℕ) → later_by one (later_by two o) ≡ later_by (one + two) o
-later_by_twice one two None = refl
-later_by_twice one two (Some n) = ap Some (omega arith)
 
 -- a line ends at the first byte, or behind it
 pub end_cases : (t : Bool) (o : Option ℕ) (e : ℕ) → (if t then Some 1 else option_map suc o) ≡ Some e

@@ -1,5 +1,5 @@
 -- The number that a word is.
-use Rattle.std.proofs.Common.{◌≡◌, ◌<◌, ◌≤◌, ℕ, ◌^◌, suc, true, false, List, [], ◌∷◌, Some, None, refl, sym, arith, length, drop, drop-cons, get_or, fold}
+use Rattle.std.proofs.Common.{◌≡◌, ◌<◌, ◌≤◌, ℕ, ◌^◌, suc, true, List, [], ◌∷◌, Some, None, sym, arith, length, drop, drop-cons, get_or, fold}
 use Rattle.std.proofs.lemmas.Bool.Decides.{nat_tests}
 use Rattle.std.proofs.lemmas.Grind.{common_steps}
 use Rattle.std.specs.List.{list_all}
@@ -10,13 +10,6 @@ pub with_digits_le : (bytes : List ℕ) (n : ℕ) → n ≤ fold with_digit n by
 with_digits_le [] n = omega arith
 with_digits_le (b ∷ bytes) n = omega (arith, with_digits_le bytes (with_digit n b))
 
-pub job_id_empty : (word : List ℕ) → length word ≡ 0 → job_id word ≡ None
-job_id_empty [] e = refl
-job_id_empty (b ∷ word) e = grind (arith, common_steps)
-
-pub job_id_no_digits : (word : List ℕ) → list_all is_digit word ≡ false → job_id word ≡ None
-job_id_no_digits word e = grind (arith, nat_tests)
-
 pub job_id_great : (word : List ℕ) → 2 ^ 64 ≤ value_of_digits word → job_id word ≡ None
 job_id_great word e = grind (arith, nat_tests)
 
@@ -24,14 +17,8 @@ pub job_id_is : (word : List ℕ) → 0 < length word → list_all is_digit word
 job_id_is word some digits small = grind (arith, nat_tests)
 
 -- a number is a job's id that is small enough
-pub number_none : (word : List ℕ) → job_id word ≡ None → number word ≡ None
-number_none word e = grind (arith, nat_tests)
-
 pub number_is : (word : List ℕ) (n : ℕ) → job_id word ≡ Some n → n < 2 ^ 32 → number word ≡ Some n
 number_is word n e low = grind (arith, nat_tests)
-
-pub number_great : (word : List ℕ) (n : ℕ) → job_id word ≡ Some n → 2 ^ 32 ≤ n → number word ≡ None
-number_great word n e high = grind (arith, nat_tests)
 
 -- a word whose digits so far make too much
 pub too_great : (word : List ℕ) (i n : ℕ) → i < length word → fold with_digit n (drop i word) ≡ value_of_digits word
