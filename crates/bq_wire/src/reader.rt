@@ -9,8 +9,7 @@ ghost use Rattle.bq_wire.specs.Standing.{IsOver, IsSoundPlace, IsSoundReader, St
 ghost use Rattle.bq_wire.specs.Standing.{Keeps, EndsLineAsking, Waits, HandsRequest, but_last};
 ghost use Rattle.bq_wire.specs.declared.reader_state.ReaderPlace.TheVariants.{InLine, InLongLine, InBody, Over};
 
-use crate::line_end::{ends_in_cr, line_end_after};
-use crate::line_read::{LineRead, PutLine, read_line};
+use crate::line_read::{LineRead, PutLine, ends_in_cr, line_end_after, read_line};
 use crate::put_body::PutBody;
 use crate::reader_state::{KeptLine, ReaderPlace, ReaderState};
 use bq_job::{LARGEST_BODY, NoMemory, Refusal, Request};

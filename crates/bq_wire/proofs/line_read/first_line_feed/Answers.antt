@@ -1,6 +1,6 @@
 use Rattle.std.proofs.Common.{None, Some}
 use Rattle.bq_wire.proofs.LineEndLemmas.{first_feed}
-use Rattle.bq_wire.proofs.line_end.first_line_feed.Goals as goal
+use Rattle.bq_wire.proofs.line_read.first_line_feed.Goals as goal
 
 pub returns-in-None-clause-found : goal.returns-in-None-clause-found
 returns-in-None-clause-found c = first_feed c.args.after_cr c.args.bytes.now None c.in-None.ensures

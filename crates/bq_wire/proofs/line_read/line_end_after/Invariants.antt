@@ -1,6 +1,6 @@
 use Rattle.std.proofs.Common.{◌≡◌, ◌≤◌, ◌-◌, length, drop}
 use Rattle.bq_wire.specs.LineEnds as spec
-use Rattle.bq_wire.proofs.line_end.line_end_after.Given as goal
+use Rattle.bq_wire.proofs.line_read.line_end_after.Given as goal
 
 -- no line ends in what was passed
 abbrev pub invariant-loop-feed : goal.invariant-loop-feed
