@@ -4,8 +4,8 @@ use Rattle.bq_job.specs.declared.refusal.Refusal.TheVariants as refusals
 use Rattle.bq_job.specs.declared.request.Request.TheVariants as requests
 use Rattle.bq_job.specs.declared.step.Step.{Step}
 use Rattle.bq_job.specs.declared.step.Step.TheVariants as steps
-use Rattle.bq_line.specs.declared.clock.notice.Notice.{Notice}
-use Rattle.bq_line.specs.declared.clock.notice.Notice.TheVariants as notices
+use Rattle.bq_line.specs.declared.clock.Notice.{Notice}
+use Rattle.bq_line.specs.declared.clock.Notice.TheVariants as notices
 use Rattle.bq_core_work.specs.declared.core_work.notices.Concern.{Concern}
 use Rattle.bq_core_work.specs.declared.core_work.notices.Concern.TheVariants as concerns
 use Rattle.bq_core_work.specs.declared.core_work.notices.Notices.{Notices}

@@ -6,13 +6,11 @@ ghost use Rattle.bq_job.specs.promise.LineSteps.{LineSeen};
 ghost use Rattle.bq_line.specs.LineCalls.{after_fill, after_flush, after_read, after_take, after_write, first_fault, is_nothing_yet};
 ghost use Rattle.bq_line.specs.Streams.{StaysOver, StreamSeen};
 
-pub use byte_record::ByteRecord;
-pub use io_line::{BufferedLine, IoLine};
+pub use io_line::{BufferedLine, ByteRecord, IoLine};
 pub use mem_line::{MemLine, Part};
 pub use read_buffer::{READ_ROOM, ReadBuffer};
 pub use stream::{Connection, Duplex, Socket};
 
-mod byte_record;
 mod io_line;
 mod mem_line;
 mod read_buffer;

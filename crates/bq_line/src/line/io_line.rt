@@ -1,15 +1,17 @@
-ghost use Rattle.std.specs.Prelude.{◌≡◌, ◌<◌, [], Err, None, false, length};
+ghost use Rattle.std.specs.Prelude.{◌≡◌, ◌<◌, [], Err, None, false, length, ◌++◌};
 ghost use Rattle.std.specs.Io.{ReadsAtMost, WritesAtMost};
 ghost use Rattle.std.specs.Io.KnownBytes.{Keeps, ReadConsumes, WriteAppends};
 ghost use Rattle.bq_line.specs.LineCalls.{after_fill, after_flush, after_read, after_write};
 ghost use Rattle.bq_line.specs.Streams.{StaysOver};
 
-use super::byte_record::ByteRecord;
-use super::read_buffer::ReadBuffer;
-use super::stream::{Duplex, read_by};
-use super::{Line, is_nothing_yet, note_fault};
+use crate::line::read_buffer::ReadBuffer;
+use crate::line::stream::{Duplex, read_by};
+use crate::line::{Line, is_nothing_yet, note_fault};
+use boxcar::tag::{Names, Tag};
 use bq_job::LineFault;
-use std::io;
+use std::fmt::{Debug, Formatter, Write};
+use std::marker::Model;
+use std::{fmt, io};
 
 /// A line over any stream. Beside the stream it keeps the two marks, and records of the bytes that the
 /// stream's reads gave and its writes took, which take no memory.
@@ -265,5 +267,61 @@ impl<S: Duplex> Line for BufferedLine<S> {
 
     fn expect_more(&mut self, more: bool) {
         self.line.expect_more(more);
+    }
+}
+
+/// Bytes that went over a line. It takes no memory, and its methods do nothing at run time.
+#[derive(Drop)]
+pub struct ByteRecord {
+    tag: Tag,
+}
+
+impl Model for ByteRecord {
+    ghost use Rattle.std.specs.Prelude.{List, ℕ};
+
+    ghost Value = { List ℕ };
+
+    ghost view = { λ r. r.tag.numbers };
+}
+
+impl ByteRecord {
+    pub fn new() -> ByteRecord
+        ensures { result ≡ [] }
+    {
+        ByteRecord { tag: Tag::empty() }
+    }
+
+    /// These bytes went over the line too.
+    pub fn note(&mut self, bytes: &[u8])
+        ensures { self.new ≡ self.old ++ bytes.now }
+    {
+        self.tag = with_bytes(&self.tag, bytes);
+    }
+}
+
+// A tag and more numbers.
+#[derive(Clone, Copy)]
+struct Longer<'a> {
+    tag: &'a Tag,
+    bytes: &'a [u8],
+}
+
+struct Joined;
+
+impl<'a> Names<Longer<'a>> for Joined {
+    ghost use Rattle.std.specs.Prelude.{◌++◌};
+
+    ghost numbers = { λ l. l.tag.now.numbers ++ l.bytes.now };
+}
+
+fn with_bytes(tag: &Tag, bytes: &[u8]) -> Tag
+    ensures { result.numbers ≡ tag.now.numbers ++ bytes.now }
+{
+    Tag::of::<Longer<'_>, Joined>(&Longer { tag, bytes })
+}
+
+impl Debug for ByteRecord {
+    fn fmt<W: Write>(&self, f: &mut Formatter<W>) -> fmt::Result {
+        f.write_str("ByteRecord")
     }
 }
