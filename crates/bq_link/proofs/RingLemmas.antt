@@ -8,7 +8,7 @@ use Rattle.bq_job.specs.declared.answer.Answer.{Answer}
 use Rattle.rtrb.specs.Ring.{SameProducer, known_free, producer_capacity, sent}
 use Rattle.rtrb.specs.declared.AnyItems.{AnyItems}
 use Rattle.rtrb.specs.declared.producer.Producer.{Producer}
-use Rattle.bq_link.specs.declared.core_end.CoreEnd.TheInside.{Inside as CoreFields}
+use Rattle.bq_link.specs.declared.ends.CoreEnd.TheInside.{Inside as CoreFields}
 use Rattle.bq_link.specs.EndStates.{CoreState, ring_places, room_for, sent_to}
 use Rattle.bq_link.specs.Inside.{core_state, ring_of}
 

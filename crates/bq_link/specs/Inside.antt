@@ -5,8 +5,8 @@ use Rattle.std.specs.List.{AllByRecursion}
 use Rattle.rtrb.specs.Ring.{known_free, known_items, producer_capacity, received, sent}
 use Rattle.rtrb.specs.declared.producer.Producer.{Producer}
 use Rattle.bq_link.specs.EndStates.{CoreState, RingId, SeatState, ring_places}
-use Rattle.bq_link.specs.declared.core_end.CoreEnd.TheInside.{Inside as CoreFields}
-use Rattle.bq_link.specs.declared.seat_end.SeatEnd.TheInside.{Inside as SeatFields}
+use Rattle.bq_link.specs.declared.ends.CoreEnd.TheInside.{Inside as CoreFields}
+use Rattle.bq_link.specs.declared.ends.SeatEnd.TheInside.{Inside as SeatFields}
 
 abbrev pub ring_of : {T A P : Type 0} → Producer T A P → RingId
 ring_of r = record { words = r.end.words; slots = r.end.slots; names = r.end.names }

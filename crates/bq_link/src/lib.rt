@@ -4,18 +4,14 @@
 //! Each thread has an end of its own. What an end submitted, took or sent is seen by contracts as lists.
 #![tactic(auto)]
 
-pub use core_end::CoreEnd;
-pub use delivery::Record;
-pub use intake::Intake;
+pub use ends::{CoreEnd, SeatEnd};
+pub use intake::{Intake, Record};
 pub use laws::{empty_looks_are_of_empty_intakes, pairs_stay, refusals_are_of_full_intakes};
 pub use making::links;
 pub use no_ticks::NoTicks;
-pub use seat_end::SeatEnd;
 
-mod core_end;
-mod delivery;
+mod ends;
 mod intake;
 mod laws;
 mod making;
 mod no_ticks;
-mod seat_end;

@@ -1,10 +1,8 @@
 ghost use Rattle.std.specs.Prelude.{◌≡◌, ◌+◌, ◌*◌, ◌≤◌, [], IfOk, OnOk, length};
 ghost use Rattle.bq_link.specs.NewEnds.{AreNewSeats, IsNewCore};
 
-use crate::core_end::CoreEnd;
-use crate::delivery::Record;
-use crate::intake::Intake;
-use crate::seat_end::SeatEnd;
+use crate::ends::{CoreEnd, SeatEnd};
+use crate::intake::{Intake, Record};
 use bq_job::NoMemory;
 use crossbeam_queue::RuledArrayQueue;
 use std::alloc::{AllocError, Global};

@@ -1,8 +1,8 @@
 use Rattle.std.proofs.Common.{ℕ, ◌+◌, ◌<◌, ◌≤◌, ◌++◌, [], ◌∷◌, length, set, ap, subst, sym, ◌∙◌}
 use Rattle.bq_link.specs.EndStates.{sent_to}
 use Rattle.bq_link.proofs.RingLemmas.{changed, room_now, room_was, sent_now, sent_was, unsent, within_of}
-use Rattle.bq_link.proofs.core_end.CoreEnd.send.Goals as goal
-use Rattle.bq_link.proofs.core_end.CoreEnd.send.Goals.{in-Ok, in-Err-Full}
+use Rattle.bq_link.proofs.ends.CoreEnd.send.Goals as goal
+use Rattle.bq_link.proofs.ends.CoreEnd.send.Goals.{in-Ok, in-Err-Full}
 
 inside : (c : goal.Joined-push) → c.from.result < length c.self.inside.rings.items
 inside c = within_of c.self.inside _ _ _ c.self.view_is c.from.ensures c.requires

@@ -2,7 +2,7 @@ use Rattle.std.proofs.Common.{subst, sym}
 use Rattle.bq_link.specs.EndStates.{IntakeState, SeatState}
 use Rattle.bq_link.specs.Submissions.{MaySubmit}
 use Rattle.bq_link.proofs.DeliveryLemmas.{submits_as, waits}
-use Rattle.bq_link.proofs.seat_end.SeatEnd.submit.Goals as goal
+use Rattle.bq_link.proofs.ends.SeatEnd.submit.Goals as goal
 
 pub push_as-requires-clause-rule : goal.push_as-requires-clause-rule
 push_as-requires-clause-rule g c =

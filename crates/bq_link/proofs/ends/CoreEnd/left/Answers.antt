@@ -1,7 +1,7 @@
 use Rattle.std.proofs.Common.{ℕ, ◌+◌, ◌≤◌, length, ap, subst, sym, ◌∙◌}
 use Rattle.std.proofs.lemmas.List.{length-append}
 use Rattle.bq_link.proofs.RingLemmas.{found_within, free_or_waiting, looked_twice, places_of, room_now, sent_now, unsent, within_of}
-use Rattle.bq_link.proofs.core_end.CoreEnd.left.Goals as goal
+use Rattle.bq_link.proofs.ends.CoreEnd.left.Goals as goal
 
 pub returns-clause-whole : goal.returns-clause-whole
 returns-clause-whole c =

@@ -1,12 +1,12 @@
 use Rattle.std.proofs.Common.{ℕ, ◌++◌, ap, subst, sym, ◌∙◌, rules}
 use Rattle.crossbeam_queue.specs.Passes.{Pass, view}
 use Rattle.bq_job.specs.declared.step.Step.{Step}
-use Rattle.bq_link.specs.declared.delivery.View.{View}
+use Rattle.bq_link.specs.declared.intake.View.{View}
 use Rattle.bq_link.specs.Submissions.{steps_of}
 use Rattle.bq_link.proofs.DeliveryLemmas.{compares}
 use Rattle.bq_link.proofs.PassLemmas.{blanks, joins, parts}
 use Rattle.bq_link.proofs.SubmissionLemmas.{of_parts}
-use Rattle.bq_link.proofs.core_end.CoreEnd.compare.Goals as goal
+use Rattle.bq_link.proofs.ends.CoreEnd.compare.Goals as goal
 
 pub another-blank-requires-clause-rule : goal.another-blank-requires-clause-rule
 another-blank-requires-clause-rule g c = blanks _ _ _

@@ -1,6 +1,6 @@
 use Rattle.std.proofs.Common.{sym}
 use Rattle.bq_link.proofs.RingLemmas.{no_room, room_now, some_room, unsent, within_of}
-use Rattle.bq_link.proofs.core_end.CoreEnd.has_room.Goals as goal
+use Rattle.bq_link.proofs.ends.CoreEnd.has_room.Goals as goal
 
 pub returns-clause-room : goal.returns-clause-room
 returns-clause-room c e =
