@@ -24,7 +24,7 @@ use Rattle.bq_core_work.specs.CoreWork.{HasGone, IsCoreDone, no_ticks, steps_mad
 use Rattle.bq_core_work.specs.Flags.{AreAllSet}
 use Rattle.bq_core_work.specs.Sending.{AreSent}
 use Rattle.bq_core_work.specs.Worked.{HasWorked, HubState, KnowsAll, gone_after}
-use Rattle.bq_core_work.specs.declared.core_work.gone_ends.GoneEnds.{GoneEnds}
+use Rattle.bq_core_work.specs.declared.core_work.hub.GoneEnds.{GoneEnds}
 
 -- the core took these steps, and this is the moment heard last
 record Ran (settings : Settings) (readings : List (Option ℕ)) (history : List Entry) (given : List GivenAnswer) (core : Machine) (heard : ℕ) : Type 0 where

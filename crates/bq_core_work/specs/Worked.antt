@@ -18,7 +18,7 @@ use Rattle.bq_core_work.specs.Compared.{AreWithin, LooksOnce}
 use Rattle.bq_core_work.specs.CoreWork.{Gives, HasGone, no_ticks, steps_made}
 use Rattle.bq_core_work.specs.Flags.{AreAllSet}
 use Rattle.bq_core_work.specs.Sending.{IsAtRest}
-use Rattle.bq_core_work.specs.declared.core_work.gone_ends.GoneEnds.{GoneEnds}
+use Rattle.bq_core_work.specs.declared.core_work.hub.GoneEnds.{GoneEnds}
 use Rattle.bq_core_work.specs.declared.core_work.hub.Hub.{Hub}
 
 -- what lies in the core's thread beside its clock

@@ -1,11 +1,11 @@
-//! The core with all that it needs on a thread of its own.
-ghost use Rattle.std.specs.Prelude.{◌≡◌, ◌⊎◌, ◌↔◌, ◌<◌, ◌+◌, ◌∷◌, [], false, not, true, length};
+//! The core with all that it needs on a thread of its own, and which ends are gone.
+ghost use Rattle.std.specs.Prelude.{◌≡◌, ◌⊎◌, ◌↔◌, ◌<◌, ◌+◌, ◌∷◌, [], false, not, true, length, slice_set};
 ghost use Rattle.bq_job.specs.beside.NextDue.{is_before, next_due};
 ghost use Rattle.bq_job.specs.promise.History.{moment_heard};
 ghost use Rattle.bq_core_work.specs.Rests.{rest_until};
+ghost use Rattle.bq_core_work.specs.Flags.{AreAllSet};
 
 use crate::core_work::CoreRoom;
-use crate::core_work::gone_ends::GoneEnds;
 use crate::core_work::notices::{Concern, Notices, concern_of};
 use crate::core_work::sender::{Answered, Sender};
 use bq_job::{Moment, Seat, Step};
@@ -376,4 +376,43 @@ pub fn rest_until(most: u64, due: Option<Moment>, heard: Moment) -> u64
         None => most,
         Some(due) => due.saturating_sub(heard).min(most),
     }
+}
+
+/// Of each end whether it is gone, and whether all are.
+#[derive(Drop)]
+pub struct GoneEnds {
+    pub flags: Vec<bool, Global>,
+    pub all: bool,
+}
+
+impl GoneEnds {
+    /// None is gone.
+    pub fn none(flags: Vec<bool, Global>) -> GoneEnds
+        ensures flags { result.flags ≡ flags }
+        ensures all { result.all ≡ false }
+    {
+        GoneEnds { flags, all: false }
+    }
+
+    /// The end is gone.
+    pub fn mark(&mut self, seat: Seat)
+        ensures marked { self.new.flags.items ≡ slice_set self.old.flags.items seat true }
+        ensures all { self.new.all ≡ true ↔ AreAllSet self.new.flags.items }
+    {
+        if let Some(flag) = self.flags.get_mut(usize::from(seat)) {
+            *flag = true;
+        }
+        self.all = are_all_set(self.flags.as_slice());
+    }
+}
+
+fn are_all_set(flags: &[bool]) -> bool
+    ensures { result ≡ true ↔ AreAllSet flags.now }
+{
+    for place in 0..flags.len() {
+        if !flags[place] {
+            return false;
+        }
+    }
+    true
 }

@@ -1,7 +1,7 @@
 use Rattle.std.proofs.Common.{◌∙◌}
 use Rattle.std.proofs.Math.Logic.{∥∥₁_elim, ∥∥₁_prop}
 use Rattle.bq_core_work.proofs.SharedLemmas.{begun_on}
-use Rattle.bq_core_work.proofs.core_work.shared_hub.SharedHub.work_on.Goals as goal
+use Rattle.bq_core_work.proofs.core_work.SharedHub.work_on.Goals as goal
 
 pub invariant_of-self : goal.invariant_of-self
 invariant_of-self g c =

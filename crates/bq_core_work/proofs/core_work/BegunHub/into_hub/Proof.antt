@@ -7,10 +7,10 @@ use denote.Triple.Entry.{on_entry}
 use borrow.Fn.Kinds.{sig_of}
 use contract.Monad.{fact_mono}
 use Rattle.bq_core_work.specs.Shared.{HasBegun}
-use Rattle.bq_core_work.proofs.core_work.shared_hub.BegunHub.into_hub.Statement.{statement}
-use Rattle.bq_core_work.proofs.core_work.shared_hub.BegunHub.into_hub.Lts as lts
-use Rattle.bq_core_work.proofs.core_work.shared_hub.BegunHub.into_hub.Reads as reads
-use Rattle.bq_core_work.proofs.core_work.shared_hub.BegunHub.into_hub.Tie as tie
+use Rattle.bq_core_work.proofs.core_work.BegunHub.into_hub.Statement.{statement}
+use Rattle.bq_core_work.proofs.core_work.BegunHub.into_hub.Lts as lts
+use Rattle.bq_core_work.proofs.core_work.BegunHub.into_hub.Reads as reads
+use Rattle.bq_core_work.proofs.core_work.BegunHub.into_hub.Tie as tie
 
 pub into_hub_spec : {M : Type 1} → statement M
 into_hub_spec {M} =
