@@ -5,7 +5,6 @@
 #![tactic(auto)]
 
 pub mod attendant;
-pub mod carry_out;
 pub mod control;
 pub mod control_line;
 pub mod control_reader;

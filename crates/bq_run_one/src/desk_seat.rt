@@ -8,7 +8,7 @@ ghost use Rattle.bq_run_one.specs.DeskOf.{WentAt, state_of};
 ghost use Rattle.bq_run_one.specs.DeskState.{HasMails};
 
 use crate::desk::Desk;
-use bq_driver::carry_out::carry_out;
+use bq_driver::attendant::carry_out;
 use bq_driver::link::Link;
 use bq_driver::room::Room;
 use bq_job::{Seat, Step};

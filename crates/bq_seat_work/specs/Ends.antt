@@ -2,7 +2,7 @@
 use Rattle.std.specs.Prelude.{◌≡◌, List, [], ◌++◌}
 use Rattle.bq_job.specs.declared.answer.Answer.{Answer}
 use Rattle.bq_job.specs.declared.step.Step.{Step}
-use Rattle.bq_seat_work.specs.declared.end_seat.EndSeat.{EndSeat}
+use Rattle.bq_seat_work.specs.declared.seat_work.EndSeat.{EndSeat}
 use Rattle.bq_link.specs.EndStates.{IsSameSeat, SeatState}
 
 -- An end at which nothing was done.

@@ -5,7 +5,7 @@ ghost use Rattle.bq_driver.specs.ControlRead.{IsReadToEnd};
 ghost use Rattle.bq_link.specs.EndStates.{IsSameSeat};
 ghost use Rattle.bq_seat_work.specs.Ends.{IsNewEnd};
 
-use crate::end_seat::{SharedCore, control_at};
+use crate::seat_work::{SharedCore, control_at};
 use bq_driver::control_line::ControlLine;
 use bq_driver::control_reader::ControlReader;
 use bq_link::{Intake, NoTicks, SeatEnd};

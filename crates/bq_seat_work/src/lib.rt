@@ -3,5 +3,4 @@
 #![tactic(auto)]
 
 pub mod control_work;
-pub mod end_seat;
 pub mod seat_work;

@@ -8,7 +8,7 @@ use bq_core_work::core_work::{Answered, Origin, SharedHub, run_out};
 use bq_job::Seat;
 use bq_line::clock::Clock;
 use bq_link::{CoreEnd, Intake, NoTicks};
-use bq_seat_work::end_seat::SharedCore;
+use bq_seat_work::seat_work::SharedCore;
 use bq_steps::QueueCore;
 use std::sync::atomic::{AtomicBool, Ordering};
 use std::sync::{Mutex, Wait};

@@ -17,7 +17,7 @@ use bq_line::line::Line;
 use bq_link::SeatEnd;
 use bq_run_start::{RunFault, Start};
 use bq_seat_work::control_work::control_work;
-use bq_seat_work::end_seat::SharedCore;
+use bq_seat_work::seat_work::SharedCore;
 use bq_steps::QueueCore;
 use std::alloc::Global;
 use std::snapshot::Snapshot;

@@ -1,8 +1,8 @@
 use Rattle.std.proofs.Common.{refl, subst, sym, []}
 use Rattle.bq_seat_work.specs.Ends.{EndWent}
-use Rattle.bq_seat_work.specs.declared.end_seat.EndSeat.{EndSeat}
+use Rattle.bq_seat_work.specs.declared.seat_work.EndSeat.{EndSeat}
 use Rattle.bq_seat_work.proofs.EndLemmas.{end_still}
-use Rattle.bq_seat_work.proofs.end_seat.control_at.Goals as goal
+use Rattle.bq_seat_work.proofs.seat_work.control_at.Goals as goal
 
 pub returns-clause-done : goal.returns-clause-done
 returns-clause-done g c =

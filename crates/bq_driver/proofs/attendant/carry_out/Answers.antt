@@ -2,7 +2,7 @@ use Rattle.std.proofs.Common.{[], ◌∷◌, refl, ap, inl, inr}
 use Rattle.bq_seat.specs.declared.machine.Action.TheVariants as actions
 use Rattle.bq_driver.specs.Links.{as_submitted}
 use Rattle.bq_driver.proofs.CarriedLemmas.{comes_by}
-use Rattle.bq_driver.proofs.carry_out.carry_out.Goals as goal
+use Rattle.bq_driver.proofs.attendant.carry_out.Goals as goal
 
 pub returns-then-submit-clause-carried : goal.returns-then-submit-clause-carried
 returns-then-submit-clause-carried g c =

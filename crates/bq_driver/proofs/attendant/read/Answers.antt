@@ -1,4 +1,4 @@
-use Rattle.bq_driver.proofs.carry_out.read.Goals as goal
+use Rattle.bq_driver.proofs.attendant.read.Goals as goal
 
 pub returns-in-Err-clause-carried : goal.returns-in-Err-clause-carried
 returns-in-Err-clause-carried g c = rw c.in-Err.ensures.seen (c.tell_error.ensures (g.L.Line.seen c.args.line.now))
