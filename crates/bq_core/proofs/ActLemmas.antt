@@ -1,6 +1,6 @@
 -- What each event at a seat does, where its seat is known.
 use Rattle.std.proofs.Common.{◌≡◌, ℕ, suc, Bool, true, false, ◌+◌, ◌<◌, ◌&&◌, ◌||◌, ◌==◌, not, List, [], ◌∷◌, ◌++◌, Option, Some, None, is_some, map, filter, refl, sym, ap, ◌∙◌, if◌then◌else◌, nat_le, arith, inl, inr, append-nil, length, set, slice_get, zero}
-use Rattle.std.proofs.Math.Bool.{or-false, or-true}
+use Rattle.std.proofs.Math.Bool.{or-false}
 use Rattle.std.specs.List.{find, list_any}
 use Rattle.std.proofs.lemmas.Bool.{and_parts, cases_Bool, eqb-true}
 use Rattle.bq_job.specs.declared.answer.Answer.{Answer}
@@ -9,19 +9,17 @@ use Rattle.bq_job.specs.declared.job.Job.{Job}
 use Rattle.bq_job.specs.declared.step.Step.{Step}
 use Rattle.bq_job.specs.declared.step.Step.TheVariants as steps
 use Rattle.bq_job.specs.declared.request.Request.{Request}
-use Rattle.bq_job.specs.machine.Acts.{Effect, on_job, showing, telling}
+use Rattle.bq_job.specs.machine.Acts.{Effect, on_job, telling}
 use Rattle.bq_job.specs.machine.Asked.{after_close, after_connect, ask_effect, asked, at_found, close_effect, connect_effect, effect, end_effect, with_end}
-use Rattle.bq_job.specs.machine.Changes.{is_held_by, is_waiting, job_with, seat_with, with_job, with_seat}
-use Rattle.bq_job.specs.machine.JobCommands.{after_delete, delete_effect, is_free_for, is_full, last_id, new_job, put_effect, reserve_job_effect, with_delete, with_put}
+use Rattle.bq_job.specs.machine.Changes.{is_waiting, job_with, seat_with, with_job, with_seat}
+use Rattle.bq_job.specs.machine.JobCommands.{is_full, last_id, new_job, put_effect, reserve_job_effect, with_put}
 use Rattle.bq_job.specs.machine.Dispatch.{reserved_by}
 use Rattle.bq_job.specs.machine.JobStates.{is_reserved}
 use Rattle.bq_job.specs.machine.TubeCommands.{ignore_effect, watch_effect, watching, watching_or_refused}
-use Rattle.bq_job.specs.machine.Statistics.{tube_statistics}
-use Rattle.bq_job.specs.machine.StatisticsCommands.{job_statistics_or_not}
 use Rattle.bq_job.specs.machine.Tubes.{watches, with_tube}
 use Rattle.bq_job.specs.machine.Limits.{raised}
 use Rattle.bq_job.specs.machine.Machine.{Machine, SeatRecord}
-use Rattle.bq_job.specs.machine.Steps.{granted, share_refused, shares_body, step_takes_memory, takes_memory}
+use Rattle.bq_job.specs.machine.Steps.{granted, step_takes_memory, takes_memory}
 use Rattle.bq_job.specs.reading.TubeName.{is_same_name}
 use Rattle.bq_core.specs.Acting.{Acts, Replies, is_asking, is_connected, is_free}
 use Rattle.bq_core.specs.declared.acts.Reply.{Reply}
@@ -75,11 +73,6 @@ reserve_job_done m s seat id j at found free =
     on_job_found id (λ j. not (is_reserved j.state)) (λ j. telling (answers.Reserved j.id j.body) (with_job id (reserved_by m.moment s.number) m)) m j found (ap not free)
     ∙ ap (λ n. telling (answers.Reserved n j.body) (with_job id (reserved_by m.moment s.number) m)) (id_found id m.jobs j found)
     ∙ ap (λ n. telling (answers.Reserved id j.body) (with_job id (reserved_by m.moment n) m)) at
-
-pub delete_done : (m : Machine) (s : SeatRecord) (seat id : ℕ) (j : Job) → s.number ≡ seat → job_with id m.jobs ≡ Some j → (not (is_reserved j.state) || is_held_by seat j) ≡ true → delete_effect id m s ≡ telling answers.Deleted (record (with_tube j.tube with_delete m) { jobs = filter (λ k. not (k.id == id)) m.jobs })
-delete_done m s seat id j at found free =
-    on_job_found id (is_free_for s) (λ j. telling answers.Deleted (after_delete m j)) m j found (ap (λ n. not (is_reserved j.state) || is_held_by n j) at ∙ free)
-    ∙ ap (λ n. telling answers.Deleted (record (with_tube j.tube with_delete m) { jobs = filter (λ k. not (k.id == n)) m.jobs })) (id_found id m.jobs j found)
 
 -- what a put comes to that is accepted
 pub put_done : (m : Machine) (s : SeatRecord) (pri delay ttr : ℕ) (body tube : List ℕ) (j : Job) → s.used ≡ tube → m.draining ≡ false → is_full m.settings.max_jobs m.jobs ≡ false → j ≡ new_job m s pri delay ttr body → put_effect pri delay ttr body m s ≡ telling (answers.Inserted m.next_id) (record (with_tube tube with_put m) { jobs = m.jobs ++ j ∷ []; next_id = m.next_id + 1; puts = raised m.puts; draining = nat_le last_id m.next_id })
@@ -166,18 +159,6 @@ acts_told m seat what answer old new last is adds = record {
   unshared = ap (λ o. o.unshared) adds ∙ sym (or-false old.unshared);
 }
 
--- a share was refused
-pub acts_unshared : (m : Machine) (seat : ℕ) (what : Step) (old new : Outbox) (last : Machine) → (last ≡ m) × (shares_body (effect m seat what).answer ≡ true) → new ≡ record old { given = old.given ++ (seat, answers.OutOfMemory) ∷ []; unshared = true } → Acts m seat what old new last
-acts_unshared m seat what old new last is adds = record {
-  memory = share_refused;
-  possible = is.1;
-  after = is.0;
-  added = ap (λ o. o.given) adds;
-  most = ap (λ o. o.most) adds;
-  left_out = ap (λ o. o.left_out) adds ∙ sym (or-false old.left_out);
-  unshared = ap (λ o. o.unshared) adds ∙ sym (or-true old.unshared);
-}
-
 -- there is a job that passes
 pub passed_by : (p : Job → Bool) (o : Option Job) → is_passed_by p o ≡ true → (j : Job) × (o ≡ Some j) × (p j ≡ true)
 passed_by p None h = absurd cc
@@ -194,20 +175,6 @@ some_there (Some j) h = (j, refl)
 pub none_there : (o : Option Job) → false ≡ is_some o → o ≡ None
 none_there None h = refl
 none_there (Some j) h = absurd cc
-
--- what changes nothing by itself
-pub shown_same : (m : Machine) (o : Option Job) → (showing m o).machine ≡ m
-shown_same m None = refl
-shown_same m (Some j) = refl
-
-pub job_told_same : (m : Machine) (o : Option Job) → (job_statistics_or_not m o).machine ≡ m
-job_told_same m None = refl
-job_told_same m (Some j) = refl
-
-pub tube_told_same : (m : Machine) (tube : List ℕ) (exists : Bool)
-    → (if exists then telling (answers.Ok (tube_statistics tube m)) m else telling answers.NotFound m).machine ≡ m
-tube_told_same m tube true = refl
-tube_told_same m tube false = refl
 
 -- A request of a client that may ask comes to what it is answered.
 pub asked_so : (m next : Machine) (seat : ℕ) (what : Step) (request : Request) (reply : Reply) (told : Answer) → what ≡ steps.Ask request → true ≡ is_asking (seat_with seat m.seats)

@@ -1,6 +1,6 @@
 -- Searches add up.
-use Rattle.std.proofs.Common.{◌≡◌, ◌==◌, Bool, List, ℕ, zero, suc, ◌+◌, ◌*◌, ◌/◌, ◌<◌, ◌≤◌, true, false, cond, get_or, take, length, max, ap, refl, sym, ◌∙◌, arith, inl, inr, subst}
-use Rattle.std.specs.List.{count_by, sum_by}
+use Rattle.std.proofs.Common.{◌≡◌, ◌==◌, List, ℕ, zero, suc, ◌+◌, ◌*◌, ◌/◌, ◌<◌, ◌≤◌, true, false, get_or, take, length, max, ap, refl, sym, ◌∙◌, arith, inl, inr, subst}
+use Rattle.std.specs.List.{sum_by}
 use Rattle.std.proofs.Math.Nat.{add-mul}
 use Rattle.std.proofs.lemmas.Nat.{mul-le}
 use Rattle.std.proofs.lemmas.Bool.{cases_Bool}
@@ -33,10 +33,6 @@ search_grows i j l = omega (arith, digits_rise (2 * i + 2) (2 * j + 2) (2 * i + 
 pub asks_none : (k : Kept) → Asks 0 k k
 asks_none k = record { many = refl; stays = omega arith; rise = omega arith }
 
--- the same jobs are as they were
-pub asks_same : {old new : Kept} → new ≡ old → Asks 0 old new
-asks_same {old = old} e = subst (Asks 0 old) (sym e) (asks_none old)
-
 -- what the jobs are asked alone
 pub asked : (n : ℕ) {old new : Kept} → new ≡ record old { comparisons = new.comparisons } → ComparesAtMost n old new → Asks n old new
 asked n e h = record { many = ap (λ (k : Kept). length k.jobs) e; stays = h.0; rise = h.1 }
@@ -52,11 +48,6 @@ asks_then {n = n} {k = k} {first = first} {between = between} {last = last} a b 
 pub asks_summed : {A : Type 0} (f : A → ℕ) (xs : List A) (i : ℕ) (d : A) {first between last : Kept} → i < length xs → Asks (sum_by f (take i xs)) first between → Asks (f (get_or xs i d)) between last → Asks (sum_by f (take (i + 1) xs)) first last
 asks_summed f xs i d {first = first} {last = last} fits a b = subst (λ n. Asks n first last) (sym (sum_by_more f xs i d fits)) (asks_then a b)
 
-pub asks_counted : {A : Type 0} (p : A → Bool) (xs : List A) (i : ℕ) (x : A) {first between last : Kept} → i < length xs → x ≡ get_or xs i x → Asks (count_by p (take i xs)) first between → Asks (cond (p x) 1 0) between last → Asks (count_by p (take (i + 1) xs)) first last
-asks_counted p xs i x {first = first} {last = last} fits read a b =
-    let sum : count_by p (take (i + 1) xs) ≡ count_by p (take i xs) + cond (p x) 1 0 = sum_by_more (λ y. cond (p y) 1 0) xs i x fits ∙ ap (λ y. count_by p (take i xs) + cond (p y) 1 0) (sym read) in
-    subst (λ n. Asks n first last) (sym sum) (asks_then a b)
-
 -- so many searches are no more than more of them
 pub asks_more : {n : ℕ} (k : ℕ) {old new : Kept} → n ≤ k → Asks n old new → Asks k old new
 asks_more {n = n} k {old = old} l a =
@@ -68,13 +59,6 @@ within {n = n} k {old = old} {new = new} l a =
     let s = search_among (length old.jobs) in
     let t = search_among (max (length old.jobs) (length new.jobs)) in
     record { stays = a.stays; rise = omega (arith, a.rise, mul-le n s k t l (search_grows (length old.jobs) (max (length old.jobs) (length new.jobs)) (omega arith))) }
-
--- what is asked at most of few jobs
-pub few_asked : {n : ℕ} {old new : Kept} → n ≤ 10 → Asks n old new → AsksAsChanged old new
-few_asked {n = n} {old = old} {new = new} l a = within (9 * changed_jobs old.jobs new.jobs + 10) (omega arith) a
-
-pub nothing_asked : {old new : Kept} → new ≡ old → AsksAsChanged old new
-nothing_asked e = few_asked (omega arith) (asks_same e)
 
 -- what is asked before the one search that adds a job or takes one out
 pub asked_before : (n k : ℕ) {old between new : Kept} → n + k ≤ 10 → Asks n old between → ComparesAtMost k between new → AsksAsChanged old new

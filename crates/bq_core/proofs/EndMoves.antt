@@ -364,14 +364,6 @@ module _ (f : TubeRecord → TubeRecord) (named : (t : TubeRecord) → (f t).nam
     roomy = omega (arith, h.roomy, same_length ts);
   }
 
--- So they do with more boxes.
-pub ends_roomier : (ts : List TubeRecord) (ends last : CatalogSeen PauseEnd (Unit {0})) → AreEnds ts ends → last.entries ≡ ends.entries → ends.spare ≤ last.spare → AreEnds ts last
-ends_roomier ts ends last h same more = record {
-  known = λ e. ap (has_end e) same ∙ h.known e;
-  counted = ap length same ∙ h.counted;
-  roomy = let long = ap length same in omega (arith, h.roomy, long, more);
-}
-
 -- the end of the pause of an entry that is lent
 abbrev pub pause_lent : Option (Bor KeptTube) → Option PauseRecord
 pause_lent None = None

@@ -171,10 +171,6 @@ module _ (jobs : List Job) (seats : List SeatRecord) where
 abbrev pub AllLeftBefore : Option (List ℕ) → List Named → Type 0
 AllLeftBefore from es = All (λ e. is_from from e ≡ false → is_alive_at e ≡ true) es
 
-pub none_before : (es : List Named) → AllLeftBefore None es
-none_before [] = tt
-none_before (x ∷ es) = ((λ h. absurd cc), none_before es)
-
 gone_or : (a b : Bool) → (a && not b) ≡ false → (a ≡ false → b ≡ true) → b ≡ true
 gone_or true true h left = refl
 gone_or true false h left = absurd cc

@@ -1,5 +1,5 @@
 -- What loops over lists keep from turn to turn.
-use Rattle.std.proofs.Common.{◌≡◌, ℕ, zero, suc, ◌+◌, ◌<◌, List, [], ◌∷◌, ◌++◌, length, get_or, set, take, drop, map, refl, sym, ap, ◌∙◌, arith}
+use Rattle.std.proofs.Common.{◌≡◌, ℕ, zero, suc, ◌+◌, ◌<◌, List, [], ◌∷◌, ◌++◌, length, get_or, take, drop, map, refl, sym, ap, ◌∙◌, arith}
 use Rattle.std.specs.Prelude.{fold}
 use Rattle.std.proofs.lemmas.List.Sums.{fold_more}
 
@@ -11,11 +11,6 @@ read_next : {A : Type 0} (f : A → A) (xs : List A) (i : ℕ) (d : A) → i < l
 read_next f [] i d h = absurd (omega arith)
 read_next f (x ∷ xs) zero d h = refl
 read_next f (x ∷ xs) (suc i) d h = read_next f xs i d (omega arith)
-
-write_next : {A : Type 0} (f : A → A) (xs : List A) (i : ℕ) (d : A) → i < length xs → set (changed_before f i xs) i (f (get_or xs i d)) ≡ changed_before f (suc i) xs
-write_next f [] i d h = absurd (omega arith)
-write_next f (x ∷ xs) zero d h = refl
-write_next f (x ∷ xs) (suc i) d h = ap (λ ys. f x ∷ ys) (write_next f xs i d (omega arith))
 
 length_changed : {A : Type 0} (f : A → A) (xs : List A) (i : ℕ) → length (changed_before f i xs) ≡ length xs
 length_changed f [] zero = refl

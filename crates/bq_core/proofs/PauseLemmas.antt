@@ -79,22 +79,3 @@ all_to_come moment best (t ∷ entries) h =
 
 pub none_over : (moment : ℕ) (entries : List TubeRecord) → is_end_over moment (first_pause_end entries) ≡ false → list_any (is_pause_over moment) entries ≡ false
 none_over moment entries h = (all_to_come moment None entries h).1
-
--- Where no pause is over, the first end is yet to come.
-neither_over : (moment : ℕ) (a b : Option ℕ) → is_end_over moment a ≡ false → is_end_over moment b ≡ false → is_end_over moment (earlier_of_both a b) ≡ false
-neither_over moment None b ha hb = hb
-neither_over moment (Some a) None ha hb = ha
-neither_over moment (Some a) (Some b) ha hb = both moment a b ha hb
-  where
-    both : (moment a b : ℕ) → nat_le a moment ≡ false → nat_le b moment ≡ false → nat_le (min a b) moment ≡ false
-    both moment a b ha hb = grind (arith, nat_tests)
-
-end_to_come : (moment : ℕ) (best : Option ℕ) (entries : List TubeRecord) → is_end_over moment best ≡ false → list_any (is_pause_over moment) entries ≡ false → is_end_over moment (fold with_tube_due best entries) ≡ false
-end_to_come moment best [] hb none = hb
-end_to_come moment best (t ∷ entries) hb none =
-    let parts = head_differs (is_pause_over moment t) (list_any (is_pause_over moment) entries) none in
-    end_to_come moment (earlier_of_both best (earliest (dues_of_pause t.pause))) entries (neither_over moment best (earliest (dues_of_pause t.pause)) hb (over moment t.pause parts.0)) parts.1
-  where
-    over : (moment : ℕ) (p : Option PauseRecord) → is_over moment p ≡ false → is_end_over moment (earliest (dues_of_pause p)) ≡ false
-    over moment None h = refl
-    over moment (Some pause) h = h

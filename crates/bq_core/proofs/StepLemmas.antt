@@ -22,8 +22,7 @@ use Rattle.bq_job.specs.machine.Dispatch.{next_job}
 use Rattle.bq_job.specs.reading.TubeName.{is_same_name}
 use Rattle.bq_job.proofs.DispatchLemmas.{turn_of}
 use Rattle.bq_job.proofs.KeptLemmas.{Keeps, kept_of_lawful}
-use Rattle.bq_job.proofs.RecordLemmas.{Booked, booked_of_lawful, booked_timers}
-use Rattle.bq_job.proofs.LawfulLemmas.{end_of, lawful_when_served, kept_of_timers, only_tubes, leaves_acted, length_addressed, seats_many, served}
+use Rattle.bq_job.proofs.LawfulLemmas.{end_of, kept_of_timers, only_tubes, leaves_acted, length_addressed, seats_many, served}
 use Rattle.bq_core.specs.declared.core_parts.CoreParts.{CoreParts}
 use Rattle.bq_core.specs.Acting.{Acts}
 use Rattle.bq_steps.specs.Outbox.{Outbox}
@@ -245,11 +244,3 @@ whole_step first at seat what begun between asked new acted_state left last empt
     or_comm true false = refl
     or_comm false true = refl
     or_comm false false = refl
-
--- before the command's own effect the machine is lawful, as it is between steps
-lawful_before_act : (first fired served_state : CoreParts) (at : ℕ) (begun between : Outbox) → IsLawful (machine_of first) → machine_of fired ≡ after_timers (at_moment at (machine_of first)) → ServesInto (machine_of fired) begun between (machine_of served_state) → IsLawful (machine_of served_state)
-lawful_before_act first fired served_state at begun between lawful fires serves =
-    lawful_when_served (machine_of fired) serves.handed serves.ended (machine_of served_state)
-    (subst Keeps (begins first fired at lawful fires) (kept_of_timers at (machine_of first) (kept_of_lawful (machine_of first) lawful)))
-    (subst Booked (begins first fired at lawful fires) (booked_timers at (machine_of first) (booked_of_lawful (machine_of first) lawful)))
-    serves.serves

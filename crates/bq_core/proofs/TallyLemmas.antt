@@ -1,5 +1,5 @@
 -- Counts of jobs, once a job comes or goes.
-use Rattle.std.proofs.Common.{◌≡◌, ◌∙◌, ◌+◌, ◌≤◌, ℕ, suc, Bool, true, false, cond, List, [], ◌∷◌, Some, refl, sym, ap, arith, length, filter, inl, inr}
+use Rattle.std.proofs.Common.{◌≡◌, ◌∙◌, ◌+◌, ◌≤◌, ℕ, Bool, true, false, cond, List, [], ◌∷◌, Some, refl, sym, ap, arith, length, filter, inl, inr}
 use Rattle.std.specs.Prelude.{◌&&◌, count_by}
 use Rattle.std.proofs.lemmas.Bool.{cases_Bool}
 use Rattle.std.proofs.lemmas.List.Sums.{count_by-le-length}
@@ -136,8 +136,3 @@ pub whole_taken : (low next id : ℕ) (j : Job) (jobs : List Job) → AreIdsWith
 whole_taken low next id j jobs ids found =
     sym (ap tally_of (all_chosen (without id jobs))) ∙ tally_taken (λ k. true) low next id j jobs ids found refl
     ∙ ap (λ ks. tally_without j (tally_of ks)) (all_chosen jobs)
-
--- There are no more jobs than ids.
-pub few_jobs : (low next : ℕ) (jobs : List Job) → AreIdsWithin low jobs next → low + length jobs ≤ next
-few_jobs low next [] h = omega (arith, h)
-few_jobs low next (j ∷ jobs) h = let rest = few_jobs (suc j.id) next jobs h.1 in omega (arith, rest, h.0)

@@ -11,9 +11,6 @@ use Rattle.bq_link.specs.EndStates.{CoreState, room_for, sent_to}
 use Rattle.bq_link.specs.EndChanges.{with_room, with_sent}
 use Rattle.bq_core_work.specs.Sending.{AreSent}
 
-pub sent_none : (c : CoreState) (xs : List GivenAnswer) → AreSent c xs c xs
-sent_none c xs = record { intake = refl; rings = refl; taken = refl; each = λ seat within. refl }
-
 -- one after the other
 pub sent_on : (a b c : CoreState) (xs ys zs : List GivenAnswer) → AreSent a xs b ys → AreSent b ys c zs → AreSent a xs c zs
 sent_on a b c xs ys zs h i = record {
@@ -53,17 +50,6 @@ to_own seat answer = elim (cases_Bool (seat == seat)) [
   | inr e ↦ absurd (eqb-false seat seat e refl)
 ]
 
--- to nobody
-pub sent_nobody : (c : CoreState) (xs : List GivenAnswer) (seat : ℕ) (answer : Answer) → (seat < length c.rings → ⊥) → AreSent c (xs ++ (seat, answer) ∷ []) c xs
-sent_nobody c xs seat answer past = record {
-  intake = refl;
-  rings = refl;
-  taken = refl;
-  each = λ t within.
-      let other : answers_to t ((seat, answer) ∷ []) ≡ [] = to_other seat t answer (λ e. past (subst (λ (n : ℕ). n < length c.rings) (sym e) within)) in
-      ap (λ (all : List Answer). sent_to c t ++ all) (sym (answers_append t xs ((seat, answer) ∷ []) ∙ ap (λ (all : List Answer). answers_to t xs ++ all) other ∙ append-nil (answers_to t xs)));
-}
-
 -- what is sent to another end
 sent_else : (old new : CoreState) (seat t : ℕ) (answer : Answer) → new ≡ with_room (with_sent old seat answer) seat (room_for new seat) → t ≢ seat → sent_to new t ≡ sent_to old t
 sent_else old new seat t answer is other = ap (λ (c : CoreState). sent_to c t) is ∙ get_or-set_other old.sent seat t (sent_to old seat ++ answer ∷ []) [] other
@@ -90,12 +76,3 @@ sent_one old new kept seat answer is to none = record {
     elsewhere t other =
         ap (λ (all : List Answer). all ++ answers_to t kept) (sent_else old new seat t answer is (λ e. other (sym e)))
         ∙ ap (λ (all : List Answer). sent_to old t ++ all) (sym (answers_append t kept ((seat, answer) ∷ []) ∙ ap (λ (all : List Answer). answers_to t kept ++ all) (to_other seat t answer other) ∙ append-nil (answers_to t kept)))
-
--- Nothing was sent. Only what is known of a ring's room differs.
-pub sent_still : (old new : CoreState) (seat room : ℕ) → new ≡ with_room old seat room → (xs : List GivenAnswer) → AreSent old xs new xs
-sent_still old new seat room is xs = record {
-  intake = ap (λ (c : CoreState). c.intake) is;
-  rings = ap (λ (c : CoreState). c.rings) is;
-  taken = ap (λ (c : CoreState). c.taken) is;
-  each = λ t within. ap (λ (c : CoreState). sent_to c t ++ answers_to t xs) is;
-}

@@ -1,5 +1,5 @@
 -- The doors of a run come back in the order in which they were handed out.
-use Rattle.std.proofs.Common.{◌≡◌, ◌∙◌, List, [], ◌∷◌, ◌++◌, map, ap, refl, sym, subst, append-nil, append_assoc}
+use Rattle.std.proofs.Common.{◌≡◌, ◌∙◌, List, [], ◌∷◌, ◌++◌, map, ap, sym, subst, append-nil, append_assoc}
 use Rattle.bq_driver.specs.Tending.{AreSame}
 
 -- One door more comes back.
@@ -14,9 +14,6 @@ pub record AreBack {D T : Type 0} (same : D → D → Type 0) (door_of : T → D
   pub firsts : List D
   pub back : AreSame same firsts doors
   pub all_are : map door_of all ≡ firsts ++ map door_of rest
-
-pub none_back : {D T : Type 0} (same : D → D → Type 0) (door_of : T → D) (all : List T) (doors : List D) → doors ≡ [] → AreBack same door_of all all doors
-none_back same door_of all doors e = record { firsts = []; back = subst (AreSame same []) (sym e) tt; all_are = refl }
 
 pub one_back : {D T : Type 0} (same : D → D → Type 0) (door_of : T → D) (all rest more : List T) (t : T) (doors later : List D) (door : D)
     → rest ≡ t ∷ more → later ≡ doors ++ door ∷ [] → same (door_of t) door → AreBack same door_of all rest doors → AreBack same door_of all more later

@@ -1,5 +1,5 @@
 -- How the control line is read, byte by byte.
-use Rattle.std.proofs.Common.{◌≡◌, ℕ, ◌+◌, zero, suc, Bool, true, false, ◌&&◌, ◌==◌, List, [], ◌∷◌, ◌++◌, refl, sym, ap, ◌∙◌, take, length, append_assoc, append-nil, arith, replicate, subst, inl, inr, Option, Some, None, IfSome, true≢false, if◌then◌else◌}
+use Rattle.std.proofs.Common.{◌≡◌, ℕ, ◌+◌, zero, suc, Bool, true, false, ◌&&◌, ◌==◌, List, [], ◌∷◌, ◌++◌, refl, sym, ap, ◌∙◌, take, append_assoc, append-nil, arith, replicate, subst, inl, inr, Option, Some, None, IfSome, true≢false, if◌then◌else◌}
 use Rattle.std.proofs.lemmas.List.{replicate-append-replicate}
 use Rattle.std.proofs.lemmas.Bool.{cases_Bool}
 use Rattle.std.specs.Prelude.{nat_eq}
@@ -7,9 +7,9 @@ use Rattle.std.specs.Cmp.Lexicographic.{pointwise}
 use Rattle.bq_job.specs.promise.ControlDid.{are_same, drain_word, drains, drains_from, one_if}
 use Rattle.bq_job.specs.declared.step.Step.{Step}
 use Rattle.bq_job.specs.declared.step.Step.TheVariants.{Drain}
-use Rattle.std.specs.Io.KnownBytes.{Consumes, IsAtEnd, Keeps}
+use Rattle.std.specs.Io.KnownBytes.{Consumes, IsAtEnd}
 use Rattle.bq_driver.specs.ControlRead.{HasRead, IsReadToEnd}
-use Rattle.bq_driver.specs.ControlSeen.{ControlSeen, after_heard, new_control}
+use Rattle.bq_driver.specs.ControlSeen.{ControlSeen, after_heard}
 use Rattle.bq_driver.specs.declared.control_line.Heard.TheVariants as hears
 
 and_if : (a b : Bool) → (a && b) ≡ (if a then b else false)
@@ -59,12 +59,6 @@ byte_read kept later byte other is rest failed =
 pub line_read : (kept : List ℕ) (byte : ℕ) → (byte == 10) ≡ true → HasRead kept (byte ∷ []) true kept
 line_read kept byte feed rest failed =
     ap (λ b. if b then one_if (are_same kept drain_word) + drains_from [] rest failed else drains_from (kept ++ byte ∷ []) rest failed) feed
-
--- a reader that shows nothing is at its end
-pub shows_nothing : (before after : Option (List ℕ)) (shown : List ℕ) → Keeps before after → IfSome before (λ xs. length shown ≡ 0 → xs ≡ []) → length shown ≡ 0 → IfSome before (λ bytes. IsAtEnd after)
-shows_nothing None after shown kept end none = tt
-shows_nothing (Some x) None shown kept end none = absurd kept
-shows_nothing (Some x) (Some y) shown kept end none = kept ∙ end none
 
 -- nothing was read first
 pub read_none : (before : Option (List ℕ)) → Consumes before before []
@@ -117,15 +111,6 @@ pub record HasDrained {K : Type 0} (went : K → List Step → K → Type 0) (at
   pub well : seen.failed ≡ false
   pub counted : (rest : List ℕ) (failed : Bool) → drains (seen.text ++ rest) failed ≡ count + drains_from kept rest failed
   pub drained : Drained went old count new
-
-pub drained_none : {K : Type 0} (went : K → List Step → K → Type 0) (left : Option (List ℕ)) (link : K) → HasDrained went left left link [] new_control link
-drained_none went left link = record {
-  count = 0;
-  read = read_none left;
-  well = refl;
-  counted = λ rest failed. omega (arith);
-  drained = λ first before h. subst (λ (xs : List Step). went first xs link) (sym (append-nil before)) h;
-}
 
 -- a byte of a line
 pub drained_byte : {K : Type 0} (went : K → List Step → K → Type 0) (at_first left after : Option (List ℕ)) (old new : K) (kept later : List ℕ) (seen : ControlSeen) (byte : ℕ)

@@ -3,7 +3,6 @@ use Rattle.std.proofs.Common.{ℕ, ◌≡◌, true, false, List, [], ◌∷◌, 
 use Rattle.bq_job.specs.declared.answer.Answer.{Answer}
 use Rattle.bq_job.specs.declared.line_end.LineEnd.{LineEnd}
 use Rattle.bq_job.specs.declared.step.Step.{Step}
-use Rattle.bq_job.specs.declared.step.Step.TheVariants.{Gone}
 use Rattle.bq_job.specs.promise.History.{LineOver}
 use Rattle.bq_job.specs.promise.LineSteps.{LineSeen}
 use Rattle.bq_job.specs.beside.SeatDid.{AreLinesServed}
@@ -17,7 +16,7 @@ use Rattle.bq_seat.specs.declared.machine.SeatMachine.{SeatMachine}
 use Rattle.bq_driver.specs.Carried.{Carried, HasGone}
 use Rattle.bq_line.specs.LineCalls.{new_line}
 use Rattle.bq_driver.specs.Links.{Calls}
-use Rattle.bq_driver.specs.Tending.{DoorSeen, GoesOn, IsDoorServed, IsNewDoor, IsNewSeat, IsTended, Tends, attendant}
+use Rattle.bq_driver.specs.Tending.{DoorSeen, GoesOn, IsNewDoor, IsNewSeat, IsTended, Tends, attendant}
 use Rattle.bq_driver.specs.declared.attendant.Attendant.{Attendant}
 use Rattle.bq_driver.specs.declared.attendant.LinePlace.{LinePlace}
 use Rattle.bq_driver.specs.declared.attendant.LinePlace.TheVariants as places
@@ -128,26 +127,6 @@ tends_acted went first last seen old new line later action next submitted taken 
   λ door. tends_carried seen old new line later action next submitted taken door carried,
 )
 
--- It was submitted that no more lines come.
-pub tends_gone : {L : Type 0} (seen : L → LineSeen) (machine : SeatMachine) (door : DoorSeen)
-    → Tends seen (attendant machine places.Leaving) door (Gone ∷ []) [] (attendant machine places.Done) door
-tends_gone seen machine door size before got t =
-    let a = t.attends in
-    let at = a.at_place in
-    record {
-      attends = record {
-        before = a.before;
-        now = Gone ∷ [];
-        got = a.got;
-        getting = [];
-        of_lines = a.of_lines;
-        at_place = (refl, refl);
-        submitted_is = ap (λ (xs : List Step). xs ++ Gone ∷ []) (a.submitted_is ∙ ap (λ (xs : List Step). a.before ++ xs) at.0 ∙ append-nil a.before);
-        taken_is = append-nil got ∙ a.taken_is ∙ ap (λ (xs : List Answer). a.got ++ xs) at.1;
-      };
-      placed = t.placed;
-    }
-
 -- A seat that has done nothing, at a new door.
 pub tended_new : {L : Type 0} (seen : L → LineSeen) (size : ℕ) (a : Attendant L) (door : DoorSeen) → IsNewSeat size a → IsNewDoor door → IsTended seen size a door [] []
 tended_new {L} seen size a door seat new =
@@ -164,24 +143,6 @@ tended_new {L} seen size a door seat new =
       };
       placed = (new.inside, new.more);
     })
-
--- A seat that is done.
-pub tended_done : {L : Type 0} (seen : L → LineSeen) (size : ℕ) (a : Attendant L) (door : DoorSeen) (submitted : List Step) (taken : List Answer)
-    → a.place ≡ places.Done → IsTended seen size a door submitted taken → IsDoorServed size door submitted taken
-tended_done {L} seen size a door submitted taken e tended =
-    let t : IsTended seen size (attendant a.machine places.Done) door submitted taken = subst (λ (q : LinePlace L). IsTended seen size (attendant a.machine q) door submitted taken) e tended in
-    let did = t.attends in
-    let at = did.at_place in
-    let lines_served = subst (AreLinesServed size door.lines_over did.before) (sym (did.taken_is ∙ ap (λ (xs : List Answer). did.got ++ xs) at.1 ∙ append-nil did.got)) did.of_lines in
-    record {
-      done = record {
-        own = did.before;
-        of_lines = lines_served;
-        submitted_is = did.submitted_is ∙ ap (λ (xs : List Step). did.before ++ xs) at.0;
-      };
-      inside = t.placed.0;
-      at_end = t.placed.1;
-    }
 
 -- the place at which a seat begins, by an equation
 pub from_place : {K L : Type 0} (went : K → List Step → List Answer → K → Type 0) (first last : K) (seen : L → LineSeen) (machine new : SeatMachine) (place same later : LinePlace L) (door next : DoorSeen)

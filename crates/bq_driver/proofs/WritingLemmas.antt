@@ -1,5 +1,5 @@
 -- Texts that are written part after part.
-use Rattle.std.proofs.Common.{◌≡◌, ℕ, ◌+◌, ◌-◌, Bool, true, false, List, [], ◌++◌, sym, ap, subst, ◌∙◌, arith, length, take, drop, take-add, append_assoc, append-nil}
+use Rattle.std.proofs.Common.{◌≡◌, ℕ, ◌+◌, ◌-◌, Bool, true, false, List, ◌++◌, sym, ap, subst, ◌∙◌, arith, length, take, drop, take-add, append_assoc}
 use Rattle.std.proofs.lemmas.Grind.{common_steps}
 use Rattle.std.proofs.lemmas.List.{take-append-drop}
 use Rattle.bq_job.specs.promise.LineSteps.{LineSeen, IsBeginning}
@@ -25,9 +25,6 @@ written_on old mid new bytes rest done n m rest_is h =
 pub breaks_off : (old mid new : LineSeen) (text cut : List ℕ) → IsBeginning cut text → mid ≡ with_written cut old
     → new ≡ with_line_fault faults.Write mid → BreaksOff text old new
 breaks_off old mid new text cut begins m n = record { cut = cut; is_beginning = begins; seen = n ∙ ap (with_line_fault faults.Write) m }
-
-pub written_nothing : (line : LineSeen) → line ≡ with_written [] line
-written_nothing line = ap (λ w. record line { written = w }) (sym (append-nil line.written))
 
 pub take_begins : (n : ℕ) (bytes : List ℕ) → IsBeginning (take n bytes) bytes
 take_begins n bytes = (drop n bytes, sym (take-append-drop n bytes))

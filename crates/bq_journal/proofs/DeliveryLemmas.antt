@@ -1,8 +1,8 @@
 -- Answers are put into the outboxes one after another.
-use Rattle.std.proofs.Common.{◌≡◌, ℕ, ◌<◌, ◌≤◌, List, [], ◌∷◌, ◌++◌, length, map, refl, sym, ap, ◌∙◌, arith, subst, inl, inr, append-nil, append_assoc, Ok, Result}
+use Rattle.std.proofs.Common.{◌≡◌, ℕ, ◌≤◌, List, [], ◌∷◌, ◌++◌, length, map, sym, ap, ◌∙◌, arith, subst, inl, inr, append_assoc, Ok, Result}
 use Rattle.std.specs.Prelude.{if◌then◌else◌, is_ok}
 use Rattle.std.proofs.lemmas.Bool.{cases_lt}
-use Rattle.std.proofs.lemmas.List.{get_or_past, length-append, length-map, map-append}
+use Rattle.std.proofs.lemmas.List.{get_or_past, map-append}
 use Rattle.bq_job.specs.declared.answer.Answer.{Answer}
 use Rattle.bq_job.specs.machine.Dispatch.{GivenAnswer}
 use Rattle.bq_job.specs.promise.Runs.{answers_to}
@@ -10,7 +10,7 @@ use Rattle.bq_job.proofs.OneClientLemmas.{answers_append}
 use Rattle.bq_run_one.specs.LastParts.{last_part}
 use Rattle.bq_journal.specs.LockedState.{AreFew, outbox_at}
 use Rattle.bq_journal.specs.LockedSteps.{AreDelivered}
-use Rattle.bq_journal.proofs.LastPartLemmas.{all_of_few, last_are_few, last_then}
+use Rattle.bq_journal.proofs.LastPartLemmas.{last_are_few, last_then}
 
 pub items_of_ok : {X E : Type 0} (result : Result X E) (x : X) (items pushed kept : List ℕ) → items ≡ (if is_ok result then pushed else kept) → result ≡ Ok x → items ≡ pushed
 items_of_ok {X} {E} result x items pushed kept is ok = is ∙ ap (λ (r : Result X E). if is_ok r then pushed else kept) ok
@@ -33,17 +33,6 @@ few_delivered given old new d seat =
       | inr past ↦ subst (λ (xs : List Answer). length xs ≤ 4) (sym (outbox_past new seat (let m = d.many in omega (arith, m, past)))) (omega arith)
     ]
 
-pub delivering_none : (given : List GivenAnswer) (outboxes : List (List Answer)) → AreFew outboxes → IsDelivering given outboxes given [] outboxes
-delivering_none given outboxes few = record {
-  done = [];
-  given_is = refl;
-  delivered = record {
-    many = refl;
-    each = λ seat here. sym (ap (last_part 4) (append-nil (outbox_at seat outboxes)) ∙ all_of_few 4 (outbox_at seat outboxes) (few seat));
-  };
-  answered_is = refl;
-}
-
 delivered_then : (done more : List GivenAnswer) (old next new : List (List Answer)) → AreDelivered done old next → AreDelivered more next new → AreDelivered (done ++ more) old new
 delivered_then done more old next new a b = record {
   many = b.many ∙ a.many;
@@ -64,19 +53,3 @@ delivering_one given old g left rest answered next new d is one = record {
   delivered = delivered_then d.done (g ∷ []) old next new d.delivered one;
   answered_is = ap (λ (xs : List ℕ). xs ++ g.0 ∷ []) d.answered_is ∙ sym (map-append (λ (x : GivenAnswer). x.0) d.done (g ∷ []));
 }
-
--- none are left
-pub delivering_all : (given : List GivenAnswer) (old : List (List Answer)) (left : List GivenAnswer) (answered : List ℕ) (new : List (List Answer)) → IsDelivering given old left answered new → left ≡ []
-    → AreDelivered given old new × (answered ≡ map (λ g. g.0) given)
-delivering_all given old left answered new d none =
-    let all : given ≡ d.done = d.given_is ∙ ap (λ (xs : List GivenAnswer). d.done ++ xs) none ∙ append-nil d.done in
-    (subst (λ (xs : List GivenAnswer). AreDelivered xs old new) (sym all) d.delivered, d.answered_is ∙ ap (λ (xs : List GivenAnswer). map (λ (g : GivenAnswer). g.0) xs) (sym all))
-
--- As many seats were answered as answers are delivered, so there is room for the next.
-pub delivering_room : (given : List GivenAnswer) (old : List (List Answer)) (g : GivenAnswer) (left rest : List GivenAnswer) (answered : List ℕ) (next : List (List Answer)) (room : ℕ)
-    → IsDelivering given old left answered next → left ≡ g ∷ rest → length given ≤ room → length answered < room
-delivering_room given old g left rest answered next room d is fits =
-    let a = ap length d.answered_is ∙ length-map d.done (λ (x : GivenAnswer). x.0) in
-    let l = ap length d.given_is ∙ length-append d.done left in
-    let m = ap length is in
-    omega (arith, a, l, m, fits)

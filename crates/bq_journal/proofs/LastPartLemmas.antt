@@ -3,9 +3,6 @@ use Rattle.std.proofs.Common.{◌≡◌, ℕ, ◌+◌, ◌-◌, ◌≤◌, List,
 use Rattle.std.proofs.lemmas.List.{drop-append-le, drop-drop, length-append, length-drop, take-append-drop}
 use Rattle.bq_run_one.specs.LastParts.{EndsWith, last_part}
 
-pub all_of_few : {X : Type 0} (n : ℕ) (xs : List X) → length xs ≤ n → last_part n xs ≡ xs
-all_of_few n xs few = let none : length xs - n ≡ 0 = omega (arith, few) in ap (λ (k : ℕ). drop k xs) none
-
 pub last_are_few : {X : Type 0} (n : ℕ) (xs : List X) → length (last_part n xs) ≤ n
 last_are_few n xs = let l = length-drop (length xs - n) xs in omega (arith, l)
 

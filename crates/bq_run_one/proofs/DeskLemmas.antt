@@ -1,5 +1,5 @@
 -- What happens at a desk, step by step.
-use Rattle.std.proofs.Common.{◌≡◌, ◌≢◌, ℕ, ◌<◌, Bool, false, List, [], ◌∷◌, ◌++◌, Option, map, length, refl, sym, ap, ◌∙◌, arith, subst, inl, inr, append-nil, append_assoc}
+use Rattle.std.proofs.Common.{◌≡◌, ◌≢◌, ℕ, Bool, false, List, [], ◌∷◌, ◌++◌, Option, map, length, refl, sym, ap, ◌∙◌, arith, subst, inl, inr, append-nil, append_assoc}
 use Rattle.std.specs.Prelude.{◌==◌, if◌then◌else◌}
 use Rattle.std.specs.Option.{option_to_list}
 use Rattle.std.proofs.lemmas.Bool.{cases_Bool, eq-eqb, eqb-true}
@@ -206,26 +206,6 @@ seat_sorted d n seat s = record {
   taken_is = refl;
   others_still = λ t differs. refl;
   others_took = λ t differs. refl;
-}
-
-pub sorted_none : (d : DeskState) → IsSorted d d
-sorted_none d = record { core = refl; heard = refl; most = refl; many = refl; waiting_is = λ t below. refl }
-
--- the next of the pending answers was put into the mail
-pub sorted_one : (first d n : DeskState) (seat : ℕ) (answer : Answer) → IsSorted first d → d.pending ≡ (seat, answer) ∷ n.pending → n.core ≡ d.core → n.heard ≡ d.heard → n.most ≡ d.most → length n.mails ≡ length d.mails
-    → ((t : ℕ) → t < length d.mails → slice_index_or n.mails t [] ≡ slice_index_or d.mails t [] ++ answers_to t ((seat, answer) ∷ [])) → IsSorted first n
-sorted_one first d n seat answer s is core heard most many posted = record {
-  core = core ∙ s.core;
-  heard = heard ∙ s.heard;
-  most = most ∙ s.most;
-  many = many ∙ s.many;
-  waiting_is = λ t below.
-      let here : t < length d.mails = let m = s.many in omega arith in
-      ap (λ (xs : List Answer). xs ++ answers_to t n.pending) (posted t here)
-      ∙ append_assoc (slice_index_or d.mails t []) (answers_to t ((seat, answer) ∷ [])) (answers_to t n.pending)
-      ∙ ap (λ (xs : List Answer). slice_index_or d.mails t [] ++ xs) (sym (answers_append t ((seat, answer) ∷ []) n.pending))
-      ∙ ap (λ (xs : List GivenAnswer). slice_index_or d.mails t [] ++ answers_to t xs) (sym is)
-      ∙ s.waiting_is t below;
 }
 
 -- a clock that was left alone gave no reading
