@@ -20,7 +20,8 @@ use bq_steps::Outs;
 use std::alloc::Global;
 
 fn connect(state: &mut CoreParts, seat: Seat)
-    ensures after { machine_of state.new ≡ (effect (machine_of state.old) seat steps.Connect).machine }
+    ensures after { machine_of state.new
+        ≡ (effect (machine_of state.old) seat steps.Connect).machine }
     ensures jobs { state.new.jobs ≡ state.old.jobs }
 {
     if state.is_free(seat) {
@@ -40,7 +41,8 @@ fn end(state: &mut CoreParts, seat: Seat)
 
 // The jobs that the client holds become ready or delayed, and the seat is free.
 fn close(state: &mut CoreParts, seat: Seat) -> Option<Answer>
-    ensures reply { effect (machine_of state.old) seat steps.Close ≡ record { machine = machine_of state.new; answer = result } }
+    ensures reply { effect (machine_of state.old) seat steps.Close
+        ≡ record { machine = machine_of state.new; answer = result } }
     ensures asks { AsksAsChanged state.old.jobs state.new.jobs }
 {
     if !state.is_connected(seat) {
@@ -73,7 +75,8 @@ fn answer(
     told: &mut Answer,
 ) -> Reply
     requires asks { is_asking (seat_with seat state.old.seats.items) ≡ true }
-    ensures reply { RepliesAt seat (takes_memory request.now) (asked request.now) state.old result told.new state.new }
+    ensures reply { RepliesAt seat (takes_memory request.now)
+        (asked request.now) state.old result told.new state.new }
     ensures asks { AsksAsChanged state.old.jobs state.new.jobs }
 {
     match *request {
@@ -146,7 +149,8 @@ fn reply_to(
     what: &Step,
     told: &mut Answer,
 ) -> Reply
-    ensures reply { RepliesBy (step_takes_memory what.now) (λ m. effect m seat what.now) state.old result told.new state.new }
+    ensures reply { RepliesBy (step_takes_memory what.now)
+        (λ m. effect m seat what.now) state.old result told.new state.new }
     ensures asks { AsksAsChanged state.old.jobs state.new.jobs }
 {
     match *what {
@@ -182,7 +186,8 @@ fn reply_to(
 #[tactic(auto, using(crate::proofs::ActLemmas::acts_silent, crate::proofs::ActLemmas::acts_told))]
 pub(crate) fn act(state: &mut CoreParts, alloc: Global, seat: Seat, what: &Step, outs: &mut Outs)
     requires room { HasRoom 1 (machine_of state.old) outs.old }
-    ensures acts { Acts (machine_of state.old) seat what.now outs.old outs.new (machine_of state.new) }
+    ensures acts { Acts (machine_of state.old) seat what.now outs.old outs.new
+        (machine_of state.new) }
     ensures asks { AsksAsChanged state.old.jobs state.new.jobs }
 {
     let mut told = Answer::Closed;

@@ -61,7 +61,8 @@ pub(crate) fn add(state: &mut CoreParts, job: Job)
     requires free { job_with job.id (machine_of state.old).jobs ≡ None }
     requires known { is_known job.tube state.old.jobs ≡ true }
     requires entry { has_entry job.tube state.old.tubes.entries ≡ true }
-    ensures after { machine_of state.new ≡ record (machine_of state.old) { jobs = with_added job (machine_of state.old).jobs } }
+    ensures after { machine_of state.new
+        ≡ record (machine_of state.old) { jobs = with_added job (machine_of state.old).jobs } }
     ensures asks { ComparesAtMost 4 state.old.jobs state.new.jobs }
 {
     let is_wanted = state.is_wanted(&job);
@@ -76,7 +77,8 @@ pub(crate) fn add(state: &mut CoreParts, job: Job)
 /// Takes the job of this id out, if there is one. Its room is kept, but for what nobody needs.
 pub(crate) fn take(state: &mut CoreParts, id: JobId) -> Option<Job>
     ensures job { result ≡ job_with id (machine_of state.old).jobs }
-    ensures after { machine_of state.new ≡ record (machine_of state.old) { jobs = without id (machine_of state.old).jobs } }
+    ensures after { machine_of state.new
+        ≡ record (machine_of state.old) { jobs = without id (machine_of state.old).jobs } }
     ensures id { IfSome result (λ job. job.id ≡ id) }
     ensures gone { job_with id (machine_of state.new).jobs ≡ None }
     ensures given { IfSome result (λ job. (1 ≤ job.id) × (job.id < state.new.next_id)) }
@@ -93,7 +95,8 @@ pub(crate) fn take(state: &mut CoreParts, id: JobId) -> Option<Job>
 
 /// The jobs know a tube no longer where none is left in it.
 pub(crate) fn forget_last(state: &mut CoreParts, tube: &TubeName)
-    ensures gone { list_any (λ j. is_same_name tube.now j.tube) state.old.jobs.jobs ≡ false → is_known tube.now state.new.jobs ≡ false }
+    ensures gone { list_any (λ j. is_same_name tube.now j.tube) state.old.jobs.jobs ≡ false
+        → is_known tube.now state.new.jobs ≡ false }
     ensures jobs { state.new.jobs ≡ record state.old.jobs { tubes = state.new.jobs.tubes } }
     ensures after { machine_of state.new ≡ machine_of state.old }
 {
@@ -104,7 +107,9 @@ pub(crate) fn forget_last(state: &mut CoreParts, tube: &TubeName)
 
 // Whether the job is ready now, and somebody waits at its tube, by the counts that are kept.
 fn counts_waiter_of(clients: &Clients, tubes: &Tubes, moved: &Moved) -> bool
-    ensures { result ≡ (is_ready_state moved.now.to.state && (nat_lt 0 clients.now.waiting && is_waited_at moved.now.tube tubes.now)) }
+    ensures { result
+        ≡ (is_ready_state moved.now.to.state
+        && (nat_lt 0 clients.now.waiting && is_waited_at moved.now.tube tubes.now)) }
 {
     matches!(moved.to.state, JobState::Ready) && tubes.has_waiter_at(clients, &moved.tube)
 }
@@ -130,7 +135,8 @@ pub(crate) fn change_seat(state: &mut CoreParts, seat: Seat, what: &SeatChange)
     requires entry { has_tube_of what.now state.old.tubes.entries ≡ true }
     requires waits { may_wait what.now (seat_with seat state.old.seats.items) ≡ true }
     requires holds { may_hold what.now seat state.old.known.warns state.old.jobs.jobs ≡ true }
-    ensures after { machine_of state.new ≡ with_seat seat (seat_changed what.now) (machine_of state.old) }
+    ensures after { machine_of state.new
+        ≡ with_seat seat (seat_changed what.now) (machine_of state.old) }
     ensures jobs { state.new.jobs ≡ state.old.jobs }
 {
     let touched = shares::touched(what);
@@ -163,7 +169,8 @@ pub(crate) fn note_leases(state: &mut CoreParts, seat: Seat)
 
 /// Looks for when the first wait of a client is over by its timeout, where that isn't known.
 pub(crate) fn find_first_end(state: &mut CoreParts)
-    ensures { held state.new ≡ record (held state.old) { known = record state.old.known { first_end = state.new.known.first_end } } }
+    ensures { held state.new
+        ≡ record (held state.old) { known = record state.old.known { first_end = state.new.known.first_end } } }
 {
     if let FirstEnd::Unknown = &state.known.first_end {
         state.known.first_end = FirstEnd::find(state.seats.as_slice(), state.waiting.as_slice());
@@ -173,7 +180,8 @@ pub(crate) fn find_first_end(state: &mut CoreParts)
 /// Changes what is kept of a tube that has an entry.
 pub(crate) fn change_tube(state: &mut CoreParts, tube: &TubeName, what: TubeChange)
     requires entry { has_entry tube.now state.old.tubes.entries ≡ true }
-    ensures after { machine_of state.new ≡ with_tube tube.now (tube_changed what) (machine_of state.old) }
+    ensures after { machine_of state.new
+        ≡ with_tube tube.now (tube_changed what) (machine_of state.old) }
     ensures jobs { state.new.jobs ≡ state.old.jobs }
 {
     state.tubes.change(tube, what);
@@ -209,7 +217,8 @@ pub(crate) fn watch_tube(
     tube: &TubeName,
 ) -> Result<u64, NoMemory>
     requires fresh { AtSeat seat state.old (λ s. watches tube.now s ≡ false) }
-    ensures count { IfOk result (λ n. AtSeat seat state.old (λ s. n ≡ length (more_watched tube.now s))) }
+    ensures count { IfOk result
+        (λ n. AtSeat seat state.old (λ s. n ≡ length (more_watched tube.now s))) }
     ensures watched { IfOk result (λ _. Watches seat (more_watched tube.now) state.old state.new) }
     ensures same { OnErr result (machine_of state.new ≡ machine_of state.old) }
     ensures jobs { state.new.jobs ≡ state.old.jobs }
@@ -250,7 +259,8 @@ pub(crate) fn ignore_tube(state: &mut CoreParts, seat: Seat, tube: &TubeName) ->
 /// Whether the tube exists.
 #[tactic(auto, using(crate::proofs::CrowdPlaces::tube_there))]
 pub(crate) fn is_tube(state: &CoreParts, tube: &TubeName) -> bool
-    ensures { result ≡ is_tube_of (machine_of state.now).jobs (machine_of state.now).seats tube.now }
+    ensures { result
+        ≡ is_tube_of (machine_of state.now).jobs (machine_of state.now).seats tube.now }
 {
     state.tubes.is_tube(tube)
 }

@@ -106,7 +106,8 @@ impl CoreParts {
     #[tactic(auto, using(crate::proofs::PartsLemmas::compared_sound))]
     pub(crate) fn share(&mut self, id: JobId) -> Option<Result<Body, NoMemory>>
         ensures none { is_some result ≡ is_some (job_with id (machine_of self.old).jobs) }
-        ensures share { IfSome result (λ shared. IfOk shared (IsBodyOf (job_with id (machine_of self.old).jobs))) }
+        ensures share { IfSome result
+            (λ shared. IfOk shared (IsBodyOf (job_with id (machine_of self.old).jobs))) }
         ensures kept { Looks 1 self.old self.new }
     {
         job_store::share(&mut self.jobs, id)
@@ -115,7 +116,8 @@ impl CoreParts {
     /// The id of the first job of this kind in this tube.
     #[tactic(auto, using(crate::proofs::PartsLemmas::compared_sound))]
     pub(crate) fn first(&mut self, kind: JobKind, tube: &TubeName) -> Option<JobId>
-        ensures id { result ≡ option_map (λ j. j.id) (first_of_kind kind tube.now self.old.jobs.jobs) }
+        ensures id { result
+            ≡ option_map (λ j. j.id) (first_of_kind kind tube.now self.old.jobs.jobs) }
         ensures kept { Looks 1 self.old self.new }
     {
         job_store::first(&mut self.jobs, kind, tube)
@@ -140,7 +142,8 @@ impl CoreParts {
     /// How many jobs are in the tube.
     #[tactic(auto, using(crate::proofs::TallyPlaces::tally_there))]
     pub(crate) fn tally_in(&self, tube: &TubeName) -> Tally
-        ensures { result ≡ tally_of (filter (λ j. is_same_name tube.now j.tube) self.now.jobs.jobs) }
+        ensures { result
+            ≡ tally_of (filter (λ j. is_same_name tube.now j.tube) self.now.jobs.jobs) }
     {
         self.tubes.tally_of(tube)
     }
@@ -162,7 +165,8 @@ impl CoreParts {
 
     /// Whether the job is ready, and somebody waits at its tube.
     pub(crate) fn is_wanted(&self, job: &Job) -> bool
-        ensures { result ≡ (is_ready job.now && list_any (is_waiter job.now.tube) self.now.seats.items) }
+        ensures { result
+            ≡ (is_ready job.now && list_any (is_waiter job.now.tube) self.now.seats.items) }
     {
         job_store::is_ready(job) && self.has_waiter_at(&job.tube)
     }

@@ -102,7 +102,9 @@ fn best_for(
 
 // The most urgent ready job of the tube, unless it is paused or nobody waits at it.
 fn offer_to(jobs: &mut Jobs, tubes: &Tubes, tube: &TubeName) -> Option<Offer>
-    ensures offer { result ≡ (if is_waited_at tube.now tubes.now then offered jobs.old.jobs tubes.now.entries tube.now else None) }
+    ensures offer { result
+        ≡ (if is_waited_at tube.now tubes.now
+        then offered jobs.old.jobs tubes.now.entries tube.now else None) }
     ensures same { jobs.new ≡ record jobs.old { comparisons = jobs.new.comparisons } }
     ensures asks { Asks (if is_waited_at tube.now tubes.now then 1 else 0) jobs.old jobs.new }
 {
@@ -123,7 +125,9 @@ fn best_of_client(
     first: Option<Offer>,
 ) -> Option<Offer>
     requires { AreNumbered seats.now }
-    ensures best { result ≡ fold (with_offers jobs.old.jobs tubes.now.entries) first (these (seat_with seat seats.now)) }
+    ensures best { result
+        ≡ fold (with_offers jobs.old.jobs tubes.now.entries) first
+        (these (seat_with seat seats.now)) }
     ensures same { jobs.new ≡ record jobs.old { comparisons = jobs.new.comparisons } }
     ensures asks { Asks (sum_by waited_tubes (these (seat_with seat seats.now))) jobs.old jobs.new }
 {
@@ -142,7 +146,8 @@ fn best_of_turns(
     turns: &[Turn],
 ) -> Option<Offer>
     requires { AreNumbered seats.now }
-    ensures best { result ≡ fold (by_seat (with_offers jobs.old.jobs tubes.now.entries) seats.now) None turns.now }
+    ensures best { result
+        ≡ fold (by_seat (with_offers jobs.old.jobs tubes.now.entries) seats.now) None turns.now }
     ensures same { jobs.new ≡ record jobs.old { comparisons = jobs.new.comparisons } }
     ensures asks { Asks (sum_by (waited_at seats.now) turns.now) jobs.old jobs.new }
 {
@@ -207,8 +212,10 @@ fn taker(stir: &Stir, seats: &[SeatRecord], turns: &[Turn], tube: &TubeName) -> 
     requires numbered { AreNumbered seats.now }
     requires turns { turns.now ≡ turns_of seats.now }
     requires some { list_any (waits_at tube.now) seats.now ≡ true }
-    requires known { AllByRecursion (λ s. waits_at tube.now s ≡ true → may_get stir.now tube.now s.number ≡ true) seats.now }
-    ensures { result ≡ option_map (λ s. s.number) (first_of (waits_at tube.now) is_wait_before seats.now) }
+    requires known { AllByRecursion
+        (λ s. waits_at tube.now s ≡ true → may_get stir.now tube.now s.number ≡ true) seats.now }
+    ensures { result
+        ≡ option_map (λ s. s.number) (first_of (waits_at tube.now) is_wait_before seats.now) }
 {
     match stir {
         Stir::Client(seat) => Some(*seat),
@@ -238,7 +245,8 @@ fn pick(state: &mut CoreParts, id: JobId) -> Option<(Seat, Result<Body, NoMemory
 fn give(state: &mut CoreParts, outs: &mut Outs, number: Seat, id: JobId, body: Body)
     requires room { length outs.old.given < outs.old.most }
     ensures after { machine_of state.new ≡ handed_to number id (machine_of state.old) }
-    ensures told { outs.new ≡ record outs.old { given = outs.old.given ++ (number, answers.Reserved id body) ∷ [] } }
+    ensures told { outs.new
+        ≡ record outs.old { given = outs.old.given ++ (number, answers.Reserved id body) ∷ [] } }
     ensures asks { Asks 8 state.old.jobs state.new.jobs }
 {
     let change = JobChange::HandOut(number, state.moment);
@@ -252,7 +260,12 @@ fn give(state: &mut CoreParts, outs: &mut Outs, number: Seat, id: JobId, body: B
 fn refuse(state: &mut CoreParts, outs: &mut Outs, number: Seat)
     requires room { length outs.old.given < outs.old.most }
     ensures after { machine_of state.new ≡ with_seat number without_wait (machine_of state.old) }
-    ensures told { outs.new ≡ record outs.old { given = outs.old.given ++ (number, answers.OutOfMemory) ∷ []; unshared = true } }
+    ensures told { outs.new
+        ≡ record outs.old {
+          given = outs.old.given
+              ++ (number, answers.OutOfMemory) ∷ [];
+          unshared = true;
+        } }
     ensures jobs { state.new.jobs ≡ state.old.jobs }
 {
     changes::change_seat(state, number, &SeatChange::StopWaiting);
@@ -270,7 +283,8 @@ fn hand_out(
     shared: Result<Body, NoMemory>,
 )
     requires room { length outs.old.given < outs.old.most }
-    ensures given { HandsOut (machine_of state.old) id number shared outs.old outs.new (machine_of state.new) }
+    ensures given { HandsOut (machine_of state.old) id number shared outs.old outs.new
+        (machine_of state.new) }
     ensures asks { Asks 8 state.old.jobs state.new.jobs }
 {
     match shared {
@@ -282,9 +296,13 @@ fn hand_out(
 // Hands one job out, if there is one that a waiting client may have.
 fn turn(state: &mut CoreParts, outs: &mut Outs) -> bool
     requires room { HasRoom 0 (machine_of state.old) outs.old }
-    ensures done { result ≡ false → IsLastTurn (next_job (machine_of state.old)) state.old state.new outs.old outs.new }
-    ensures given { result ≡ true → Gives DispatchTurn has_refused_share (machine_of state.old) (machine_of state.new) outs.old outs.new }
-    ensures fewer { result ≡ true → waiting_count (machine_of state.new) < waiting_count (machine_of state.old) }
+    ensures done { result ≡ false
+        → IsLastTurn (next_job (machine_of state.old)) state.old state.new outs.old outs.new }
+    ensures given { result ≡ true
+        → Gives DispatchTurn has_refused_share (machine_of state.old)
+        (machine_of state.new) outs.old outs.new }
+    ensures fewer { result ≡ true
+        → waiting_count (machine_of state.new) < waiting_count (machine_of state.old) }
     ensures asks { Asks (if result then waited (machine_of state.old) + 9 else waited (machine_of state.old))
         state.old.jobs state.new.jobs }
 {
@@ -305,9 +323,11 @@ fn turn(state: &mut CoreParts, outs: &mut Outs) -> bool
 // waited longest.
 fn dispatch_all(state: &mut CoreParts, outs: &mut Outs)
     requires room { HasRoom 0 (machine_of state.old) outs.old }
-    ensures given { Gives DispatchTurn has_refused_share (machine_of state.old) (machine_of state.new) outs.old outs.new }
+    ensures given { Gives DispatchTurn has_refused_share
+        (machine_of state.old) (machine_of state.new) outs.old outs.new }
     ensures done { next_job (machine_of state.new) ≡ None }
-    ensures asks { AsksByTurn (waited (machine_of state.old)) outs.old outs.new state.old.jobs state.new.jobs }
+    ensures asks { AsksByTurn
+        (waited (machine_of state.old)) outs.old outs.new state.old.jobs state.new.jobs }
 {
     while turn(state, outs) {}
 }
@@ -317,10 +337,12 @@ fn dispatch_all(state: &mut CoreParts, outs: &mut Outs)
 #[tactic(auto, using(crate::proofs::IdleLemmas::is_sound, crate::proofs::IdleLemmas::none_next, crate::proofs::TurnLemmas::gives_nothing))]
 pub(crate) fn dispatch(state: &mut CoreParts, outs: &mut Outs)
     requires room { HasRoom 0 (machine_of state.old) outs.old }
-    ensures given { Gives DispatchTurn has_refused_share (machine_of state.old) (machine_of state.new) outs.old outs.new }
+    ensures given { Gives DispatchTurn has_refused_share
+        (machine_of state.old) (machine_of state.new) outs.old outs.new }
     ensures done { next_job (machine_of state.new) ≡ None }
     ensures idle { is_nothing state.old.known.stir ≡ true → state.new.jobs ≡ state.old.jobs }
-    ensures asks { AsksByTurn (waited (machine_of state.old)) outs.old outs.new state.old.jobs state.new.jobs }
+    ensures asks { AsksByTurn
+        (waited (machine_of state.old)) outs.old outs.new state.old.jobs state.new.jobs }
 {
     if !state.known.stir.is_nothing() {
         dispatch_all(state, outs);

@@ -43,7 +43,8 @@ pub(crate) struct NewTurn {
 
 // The job that a put makes; its time to run is at least a second.
 fn new_job(state: &CoreParts, tube: &TubeName, new: NewJob, body: Body) -> Job
-    ensures { (s : SeatRecord) → s.used ≡ tube.now → result ≡ job_of_put (machine_of state.now) s new.pri new.delay new.ttr body }
+    ensures { (s : SeatRecord) → s.used ≡ tube.now
+        → result ≡ job_of_put (machine_of state.now) s new.pri new.delay new.ttr body }
 {
     Job {
         id: state.next_id,
@@ -93,7 +94,8 @@ pub(crate) fn put(
     told: &mut Answer,
 ) -> Reply
     requires asks { is_asking (seat_with seat state.old.seats.items) ≡ true }
-    ensures reply { RepliesAt seat true (put_effect new.pri new.delay new.ttr body.now) state.old result told.new state.new }
+    ensures reply { RepliesAt seat true
+        (put_effect new.pri new.delay new.ttr body.now) state.old result told.new state.new }
     ensures asks { AsksAsChanged state.old.jobs state.new.jobs }
 {
     if state.draining {
@@ -149,7 +151,8 @@ pub(crate) fn reserve_until(state: &mut CoreParts, seat: Seat, seconds: u32)
 
 /// Reserves a job that nobody holds, in whatever tube.
 pub(crate) fn reserve_job(state: &mut CoreParts, seat: Seat, id: JobId, told: &mut Answer) -> Reply
-    ensures reply { RepliesTo seat false (reserve_job_effect id) state.old result told.new state.new }
+    ensures reply { RepliesTo seat false
+        (reserve_job_effect id) state.old result told.new state.new }
     ensures asks { AsksAsChanged state.old.jobs state.new.jobs }
 {
     if !state.has_job(id, JobTest::Free) {
@@ -195,7 +198,8 @@ pub(crate) fn release(
     with: NewTurn,
     told: &mut Answer,
 )
-    ensures reply { AnswersTo seat (release_effect id with.pri with.delay) state.old told.new state.new }
+    ensures reply { AnswersTo seat
+        (release_effect id with.pri with.delay) state.old told.new state.new }
     ensures asks { AsksAsChanged state.old.jobs state.new.jobs }
 {
     if !state.has_job(id, JobTest::HeldBy(seat)) {
@@ -238,7 +242,8 @@ pub(crate) fn touch(state: &mut CoreParts, seat: Seat, id: JobId, told: &mut Ans
 
 /// A buried or delayed job becomes ready.
 pub(crate) fn kick_job(state: &mut CoreParts, id: JobId, told: &mut Answer)
-    ensures reply { (s : SeatRecord) → kick_job_effect id (machine_of state.old) s ≡ telling told.new (machine_of state.new) }
+    ensures reply { (s : SeatRecord)
+        → kick_job_effect id (machine_of state.old) s ≡ telling told.new (machine_of state.new) }
     ensures asks { AsksAsChanged state.old.jobs state.new.jobs }
 {
     if !state.has_job(id, JobTest::Kickable) {

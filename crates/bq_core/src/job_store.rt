@@ -283,7 +283,8 @@ fn let_one_room_go(jobs: &mut Jobs)
 /// long.
 pub(crate) fn let_room_go(jobs: &mut Jobs)
     ensures same { jobs.new ≡ record jobs.old { room = jobs.new.room } }
-    ensures given { jobs.new.room ≡ room_left (length jobs.old.jobs) (room_left (length jobs.old.jobs) jobs.old.room) }
+    ensures given { jobs.new.room
+        ≡ room_left (length jobs.old.jobs) (room_left (length jobs.old.jobs) jobs.old.room) }
     ensures room { 0 < jobs.old.room → 0 < jobs.new.room }
 {
     let_one_room_go(jobs);

@@ -34,10 +34,14 @@ fn kind_to_kick(jobs: &mut Jobs, tube: &TubeName) -> JobKind
 // Kicks the first job of this kind, if there is one.
 fn kick_first(state: &mut CoreParts, kind: JobKind, tube: &TubeName) -> bool
     requires out { (k : Job) → is_of kind tube.now (kicked k) ≡ false }
-    ensures none { result ≡ false → (jobs_of kind tube.now state.old.jobs.jobs ≡ []) × (machine_of state.new ≡ machine_of state.old) }
-    ensures kicked { result ≡ true → KicksFirst kind tube.now (machine_of state.old).jobs (machine_of state.new).jobs }
-    ensures others { machine_of state.new ≡ record (machine_of state.old) { jobs = (machine_of state.new).jobs } }
-    ensures fewer { result ≡ true → count_jobs (is_of kind tube.now) state.new < count_jobs (is_of kind tube.now) state.old }
+    ensures none { result ≡ false → (jobs_of kind tube.now state.old.jobs.jobs ≡ [])
+        × (machine_of state.new ≡ machine_of state.old) }
+    ensures kicked { result ≡ true
+        → KicksFirst kind tube.now (machine_of state.old).jobs (machine_of state.new).jobs }
+    ensures others { machine_of state.new
+        ≡ record (machine_of state.old) { jobs = (machine_of state.new).jobs } }
+    ensures fewer { result ≡ true
+        → count_jobs (is_of kind tube.now) state.new < count_jobs (is_of kind tube.now) state.old }
     ensures asks { Asks (if result then 9 else 1) state.old.jobs state.new.jobs }
 {
     let Some(id) = state.first(kind, tube) else {
@@ -50,9 +54,13 @@ fn kick_first(state: &mut CoreParts, kind: JobKind, tube: &TubeName) -> bool
 // Kicks the first jobs of this kind, so many at most. Tells how many there were.
 fn kick_some(state: &mut CoreParts, kind: JobKind, tube: &TubeName, bound: u32) -> u64
     requires out { (k : Job) → is_of kind tube.now (kicked k) ≡ false }
-    ensures kicked { machine_of state.new ≡ after_kick (take bound (jobs_of kind tube.now state.old.jobs.jobs)) (machine_of state.old) }
-    ensures count { result ≡ length (take bound (jobs_of kind tube.now (machine_of state.old).jobs)) }
-    ensures fewer { count_jobs (is_of kind tube.now) state.new + result ≤ count_jobs (is_of kind tube.now) state.old }
+    ensures kicked { machine_of state.new
+        ≡ after_kick (take bound (jobs_of kind tube.now state.old.jobs.jobs))
+        (machine_of state.old) }
+    ensures count { result
+        ≡ length (take bound (jobs_of kind tube.now (machine_of state.old).jobs)) }
+    ensures fewer { count_jobs (is_of kind tube.now) state.new
+        + result ≤ count_jobs (is_of kind tube.now) state.old }
     ensures asks { Asks (9 * result + 1) state.old.jobs state.new.jobs }
 {
     for done in 0..bound {
@@ -65,9 +73,12 @@ fn kick_some(state: &mut CoreParts, kind: JobKind, tube: &TubeName, bound: u32) 
 
 // Kicks jobs of the tube, so many at most. Tells how many there were.
 fn kick_in(state: &mut CoreParts, tube: &TubeName, bound: u32) -> u64
-    ensures kicked { machine_of state.new ≡ after_kick (take bound (kickable tube.now (machine_of state.old).jobs)) (machine_of state.old) }
+    ensures kicked { machine_of state.new
+        ≡ after_kick (take bound (kickable tube.now (machine_of state.old).jobs))
+        (machine_of state.old) }
     ensures count { result ≡ length (take bound (kickable tube.now (machine_of state.old).jobs)) }
-    ensures changed { result ≤ changed_jobs (machine_of state.old).jobs (machine_of state.new).jobs }
+    ensures changed { result
+        ≤ changed_jobs (machine_of state.old).jobs (machine_of state.new).jobs }
     ensures asks { Asks (9 * result + 2) state.old.jobs state.new.jobs }
 {
     let kind = kind_to_kick(&mut state.jobs, tube);

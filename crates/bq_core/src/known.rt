@@ -89,7 +89,8 @@ impl Known {
         touched: Share,
         tubes: &Tubes,
     )
-        ensures { self.new ≡ with_left (option_copied client.entry) what.now touched tubes.now self.old }
+        ensures { self.new
+            ≡ with_left (option_copied client.entry) what.now touched tubes.now self.old }
     {
         self.clients.remove(client);
         self.first_end.change(client, what);

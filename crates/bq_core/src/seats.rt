@@ -74,8 +74,11 @@ pub(crate) fn watch(
     name: &TubeName,
 ) -> Result<u64, NoMemory>
     requires { number < length seats.old.items }
-    ensures count { IfOk result (λ n. AtPlace seats.old.items number (λ s. n ≡ length (more_watched name.now s))) }
-    ensures watched { IfOk result (λ _. IsSetAt seats.old.items number (λ s. watching (more_watched name.now s) s) seats.new.items) }
+    ensures count { IfOk result
+        (λ n. AtPlace seats.old.items number (λ s. n ≡ length (more_watched name.now s))) }
+    ensures watched { IfOk result
+        (λ _. IsSetAt seats.old.items number
+        (λ s. watching (more_watched name.now s) s) seats.new.items) }
     ensures same { OnErr result (seats.new.items ≡ seats.old.items) }
 {
     let client = &mut seats[usize::from(number)];
@@ -88,8 +91,10 @@ pub(crate) fn watch(
 pub(crate) fn ignore(seats: &mut Vec<SeatRecord, Global>, number: Seat, name: &TubeName) -> u64
     requires there { number < length seats.old.items }
     requires other { AtPlace seats.old.items number (λ s. watches_other name.now s ≡ true) }
-    ensures count { AtPlace seats.old.items number (λ s. result ≡ length (fewer_watched name.now s)) }
-    ensures ignored { IsSetAt seats.old.items number (λ s. watching (fewer_watched name.now s) s) seats.new.items }
+    ensures count { AtPlace seats.old.items number
+        (λ s. result ≡ length (fewer_watched name.now s)) }
+    ensures ignored { IsSetAt seats.old.items number
+        (λ s. watching (fewer_watched name.now s) s) seats.new.items }
 {
     let client = &mut seats[usize::from(number)];
     client.ignore(name);
@@ -158,7 +163,8 @@ fn place_waiting(seats: &[SeatRecord], turns: &[Turn], tube: &TubeName) -> Optio
 pub(crate) fn first_waiting(seats: &[SeatRecord], turns: &[Turn], tube: &TubeName) -> Option<Seat>
     requires numbered { AreNumbered seats.now }
     requires turns { turns.now ≡ turns_of seats.now }
-    ensures { result ≡ option_map (λ s. s.number) (first_of (waits_at tube.now) is_wait_before seats.now) }
+    ensures { result
+        ≡ option_map (λ s. s.number) (first_of (waits_at tube.now) is_wait_before seats.now) }
 {
     match waiting::turn_at(turns, place_waiting(seats, turns, tube)) {
         None => None,
@@ -434,7 +440,8 @@ impl SeatRecord {
 
     /// Watches one more tube.
     pub(crate) fn watch(&mut self, alloc: Global, name: &TubeName) -> Result<(), NoMemory>
-        ensures watched { IfOk result (λ _. self.new ≡ watching (more_watched name.now self.old) self.old) }
+        ensures watched { IfOk result
+            (λ _. self.new ≡ watching (more_watched name.now self.old) self.old) }
         ensures same { OnErr result (self.new ≡ self.old) }
     {
         self.watched.add(alloc, *name)

@@ -42,7 +42,8 @@ impl Model for Core {
 fn serve(state: &mut CoreParts, outs: &mut Outs)
     requires tubes { NoneIsGone (machine_of state.old) }
     requires room { HasRoom 0 (machine_of state.old) outs.old }
-    ensures served { ServesAsking (machine_of state.old) outs.old outs.new (machine_of state.new) state.old.jobs state.new.jobs }
+    ensures served { ServesAsking (machine_of state.old) outs.old outs.new
+        (machine_of state.new) state.old.jobs state.new.jobs }
 {
     dispatch::dispatch(state, outs);
     waiting::end_waits(state, outs);
@@ -59,7 +60,8 @@ fn take_step(
 )
     requires lawful { IsLawful (machine_of state.old) }
     requires room { state.old.config.seats < outs.old.most }
-    ensures step { IsStep (machine_of state.old) at seat what.now (outcome_of outs.new) outs.new.given (machine_of state.new) }
+    ensures step { IsStep (machine_of state.old) at seat what.now
+        (outcome_of outs.new) outs.new.given (machine_of state.new) }
     ensures comparisons { TakesStepWithin at seat what.now state.old state.new outs.new }
     ensures lawful { IsLawful (machine_of state.new) }
     ensures settings { state.new.config ≡ state.old.config }
@@ -99,8 +101,10 @@ impl Core {
     /// A core with no jobs and all seats free.
     #[tactic(auto, using(bq_job::proofs::LawfulLemmas::new_is_lawful))]
     pub fn new(alloc: Global, config: Config) -> Result<Core, CoreFault>
-        ensures made { IfOk result (λ core. core ≡ record { machine = new_machine config; comparisons = 0 }) }
-        ensures bad_seats { IsErrOf result CoreFault.BadSeats ↔ IsTrue (not (is_seat_count config.seats)) }
+        ensures made { IfOk result
+            (λ core. core ≡ record { machine = new_machine config; comparisons = 0 }) }
+        ensures bad_seats { IsErrOf result CoreFault.BadSeats ↔ IsTrue
+            (not (is_seat_count config.seats)) }
         ensures bad_max_job_size { IsErrOf result CoreFault.BadMaxJobSize ↔
             (IsTrue (is_seat_count config.seats) × IsTrue (not (is_body_size config.max_job_size))) }
         ensures bad_max_jobs { IsErrOf result CoreFault.BadMaxJobs ↔
@@ -133,7 +137,8 @@ impl Core {
     /// answers in their order. Any moment, seat and step is accepted.
     pub fn step(&mut self, alloc: Global, at: Moment, seat: Seat, what: Step, outs: &mut Outs)
         requires room { self.old.machine.settings.seats < outs.old.most }
-        ensures step { IsStep self.old.machine at seat what (record { left_out = outs.new.left_out; unshared = outs.new.unshared })
+        ensures step { IsStep self.old.machine at seat what
+            (record { left_out = outs.new.left_out; unshared = outs.new.unshared })
             outs.new.given self.new.machine }
         ensures comparisons { IsStepWithin self.old.machine at seat what
             (record { left_out = outs.new.left_out; unshared = outs.new.unshared }) outs.new.given self.new.machine self.old.comparisons
@@ -156,7 +161,8 @@ impl Core {
         outs: &mut Outs,
     )
         requires room { self.old.machine.settings.seats < outs.old.most }
-        ensures step { IsStep self.old.machine at seat what.now (record { left_out = outs.new.left_out; unshared = outs.new.unshared })
+        ensures step { IsStep self.old.machine at seat what.now
+            (record { left_out = outs.new.left_out; unshared = outs.new.unshared })
             outs.new.given self.new.machine }
         ensures comparisons { IsStepWithin self.old.machine at seat what.now
             (record { left_out = outs.new.left_out; unshared = outs.new.unshared }) outs.new.given self.new.machine self.old.comparisons

@@ -56,8 +56,10 @@ fn first_expired(jobs: &mut Jobs, moment: Moment) -> Option<JobId>
 fn ripen(state: &mut CoreParts) -> bool
     ensures done { result ≡ false → is_some_due (machine_of state.old) ≡ false }
     ensures same { result ≡ false → machine_of state.new ≡ machine_of state.old }
-    ensures fired { after_job_timers (machine_of state.new) ≡ after_job_timers (machine_of state.old) }
-    ensures fewer { result ≡ true → count_jobs (is_ripe state.old.moment) state.new < count_jobs (is_ripe state.old.moment) state.old }
+    ensures fired { after_job_timers (machine_of state.new)
+        ≡ after_job_timers (machine_of state.old) }
+    ensures fewer { result ≡ true → count_jobs (is_ripe state.old.moment) state.new
+        < count_jobs (is_ripe state.old.moment) state.old }
     ensures asks { Asks (if result then 9 else 1) state.old.jobs state.new.jobs }
 {
     let moment = state.moment;
@@ -70,7 +72,8 @@ fn ripen(state: &mut CoreParts) -> bool
 
 // One reservation ends, if its time to run is over.
 fn expire_first(state: &mut CoreParts) -> bool
-    ensures none { result ≡ false → (is_some_expired (machine_of state.old) ≡ false) × (machine_of state.new ≡ machine_of state.old) }
+    ensures none { result ≡ false → (is_some_expired (machine_of state.old) ≡ false)
+        × (machine_of state.new ≡ machine_of state.old) }
     ensures one { result ≡ true → ExpiresOne (machine_of state.old) (machine_of state.new) }
     ensures asks { Asks (if result then 9 else 1) state.old.jobs state.new.jobs }
 {
@@ -91,10 +94,13 @@ fn times(happened: bool) -> u64
 
 // One reservation ends, if its time to run is over, and is counted.
 fn expire(state: &mut CoreParts) -> bool
-    ensures done { result ≡ false → is_some_due (machine_of state.old) ≡ false → HaveFired state.old state.new }
+    ensures done { result ≡ false → is_some_due (machine_of state.old) ≡ false
+        → HaveFired state.old state.new }
     ensures same { result ≡ false → (machine_of state.new).jobs ≡ (machine_of state.old).jobs }
-    ensures fired { after_job_timers (machine_of state.new) ≡ after_job_timers (machine_of state.old) }
-    ensures fewer { result ≡ true → count_jobs (is_ripe state.old.moment) state.new < count_jobs (is_ripe state.old.moment) state.old }
+    ensures fired { after_job_timers (machine_of state.new)
+        ≡ after_job_timers (machine_of state.old) }
+    ensures fewer { result ≡ true → count_jobs (is_ripe state.old.moment) state.new
+        < count_jobs (is_ripe state.old.moment) state.old }
     ensures asks { Asks (if result then 9 else 1) state.old.jobs state.new.jobs }
 {
     let expired = expire_first(state);
@@ -106,8 +112,10 @@ fn expire(state: &mut CoreParts) -> bool
 fn fire_one(state: &mut CoreParts) -> bool
     ensures done { result ≡ false → HaveFired state.old state.new }
     ensures same { result ≡ false → (machine_of state.new).jobs ≡ (machine_of state.old).jobs }
-    ensures fired { after_job_timers (machine_of state.new) ≡ after_job_timers (machine_of state.old) }
-    ensures fewer { result ≡ true → count_jobs (is_ripe state.old.moment) state.new < count_jobs (is_ripe state.old.moment) state.old }
+    ensures fired { after_job_timers (machine_of state.new)
+        ≡ after_job_timers (machine_of state.old) }
+    ensures fewer { result ≡ true → count_jobs (is_ripe state.old.moment) state.new
+        < count_jobs (is_ripe state.old.moment) state.old }
     ensures asks { Asks (if result then 10 else 2) state.old.jobs state.new.jobs }
 {
     ripen(state) || expire(state)
@@ -116,7 +124,8 @@ fn fire_one(state: &mut CoreParts) -> bool
 // The timers of jobs fire.
 fn fire_jobs(state: &mut CoreParts)
     ensures after { HaveFired state.old state.new }
-    ensures asks { Asks (10 * count_jobs (is_ripe state.old.moment) state.old + 2) state.old.jobs state.new.jobs }
+    ensures asks { Asks
+        (10 * count_jobs (is_ripe state.old.moment) state.old + 2) state.old.jobs state.new.jobs }
 {
     while fire_one(state) {}
 }
@@ -137,7 +146,8 @@ fn end_pauses(state: &mut CoreParts)
 /// Timers that are due fire.
 pub(crate) fn fire(state: &mut CoreParts)
     ensures after { machine_of state.new ≡ after_timers (machine_of state.old) }
-    ensures asks { Asks (10 * count_jobs (is_ripe state.old.moment) state.old + 2) state.old.jobs state.new.jobs }
+    ensures asks { Asks
+        (10 * count_jobs (is_ripe state.old.moment) state.old + 2) state.old.jobs state.new.jobs }
 {
     fire_jobs(state);
     end_pauses(state);
@@ -153,9 +163,12 @@ pub(crate) fn state_once_left(state: &CoreParts) -> JobState
 // The client at the seat gives one job back, if it holds one. The job then stands so.
 fn give_back_one(state: &mut CoreParts, seat: Seat, becomes: JobState) -> bool
     requires free { is_reserved becomes ≡ false }
-    ensures done { result ≡ false → machine_of state.new ≡ after_giving_back becomes seat (machine_of state.old) }
-    ensures given { after_giving_back becomes seat (machine_of state.new) ≡ after_giving_back becomes seat (machine_of state.old) }
-    ensures fewer { result ≡ true → count_jobs (is_held_by seat) state.new < count_jobs (is_held_by seat) state.old }
+    ensures done { result ≡ false
+        → machine_of state.new ≡ after_giving_back becomes seat (machine_of state.old) }
+    ensures given { after_giving_back becomes seat (machine_of state.new)
+        ≡ after_giving_back becomes seat (machine_of state.old) }
+    ensures fewer { result ≡ true
+        → count_jobs (is_held_by seat) state.new < count_jobs (is_held_by seat) state.old }
     ensures asks { Asks (if result then 9 else 1) state.old.jobs state.new.jobs }
 {
     let Some(id) = state.jobs.first_held(seat) else {
@@ -170,7 +183,8 @@ fn give_back_one(state: &mut CoreParts, seat: Seat, becomes: JobState) -> bool
 pub(crate) fn give_back_all(state: &mut CoreParts, seat: Seat, becomes: JobState)
     requires free { is_reserved becomes ≡ false }
     ensures after { machine_of state.new ≡ after_giving_back becomes seat (machine_of state.old) }
-    ensures asks { Asks (9 * count_jobs (is_held_by seat) state.old + 1) state.old.jobs state.new.jobs }
+    ensures asks { Asks
+        (9 * count_jobs (is_held_by seat) state.old + 1) state.old.jobs state.new.jobs }
 {
     while give_back_one(state, seat, becomes) {}
 }
@@ -224,7 +238,8 @@ fn warning_due(jobs: &mut Jobs, client: &SeatRecord) -> Option<Moment>
 fn warning_due_at(jobs: &mut Jobs, client: Option<&SeatRecord>) -> Option<Moment>
     ensures due { result ≡ warning_due_at jobs.old.jobs (option_copied client.entry) }
     ensures same { jobs.new ≡ record jobs.old { comparisons = jobs.new.comparisons } }
-    ensures asks { Asks (if is_waiting_there (option_copied client.entry) then 1 else 0) jobs.old jobs.new }
+    ensures asks { Asks
+        (if is_waiting_there (option_copied client.entry) then 1 else 0) jobs.old jobs.new }
 {
     match client {
         None => None,
@@ -252,7 +267,8 @@ fn with_warning_of(
 // When the first of the clients that have these turns is told so.
 #[tactic(auto, using(crate::proofs::AskLemmas::asks_then, crate::proofs::LoopLemmas::folded_beside))]
 fn first_warning(jobs: &mut Jobs, seats: &[SeatRecord], turns: &[Turn]) -> Option<Moment>
-    ensures due { result ≡ fold (at_turn (with_warning_due jobs.old.jobs) seats.now) None turns.now }
+    ensures due { result
+        ≡ fold (at_turn (with_warning_due jobs.old.jobs) seats.now) None turns.now }
     ensures same { jobs.new ≡ record jobs.old { comparisons = jobs.new.comparisons } }
     ensures asks { Asks (length turns.now) jobs.old jobs.new }
 {
@@ -342,7 +358,8 @@ fn seats_due(first: &FirstEnd, seats: &[SeatRecord], turns: &[Turn]) -> Option<M
 pub(crate) fn next_due(state: &mut CoreParts) -> Option<Moment>
     ensures due { result ≡ next_due_of (machine_of state.old) }
     ensures same { machine_of state.new ≡ machine_of state.old }
-    ensures asks { Asks (count_by is_waiting state.old.seats.items + 2) state.old.jobs state.new.jobs }
+    ensures asks { Asks
+        (count_by is_waiting state.old.seats.items + 2) state.old.jobs state.new.jobs }
 {
     let jobs = jobs_due(&mut state.jobs);
     let warning = warnings_due(

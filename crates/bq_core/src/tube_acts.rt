@@ -40,7 +40,8 @@ pub(crate) fn use_tube(
 
 /// Tells which tube the client's jobs go into.
 pub(crate) fn list_tube_used(state: &CoreParts, seat: Seat, told: &mut Answer) -> Reply
-    ensures { RepliesAt seat false (λ m s. telling (answers.Using s.used) m) state.now result told.new state.now }
+    ensures { RepliesAt seat false
+        (λ m s. telling (answers.Using s.used) m) state.now result told.new state.now }
 {
     match seats::find(state.seats.as_slice(), seat) {
         None => Reply::Silent,
@@ -59,7 +60,8 @@ pub(crate) fn watch(
     tube: &TubeName,
     told: &mut Answer,
 ) -> Reply
-    ensures reply { RepliesAt seat true (watch_effect tube.now) state.old result told.new state.new }
+    ensures reply { RepliesAt seat true
+        (watch_effect tube.now) state.old result told.new state.new }
     ensures asks { AsksAsChanged state.old.jobs state.new.jobs }
 {
     let Some(client) = seats::find(state.seats.as_slice(), seat) else {
@@ -80,7 +82,8 @@ pub(crate) fn watch(
 
 /// The client watches this tube no longer, unless it watches no other.
 pub(crate) fn ignore(state: &mut CoreParts, seat: Seat, tube: &TubeName, told: &mut Answer) -> Reply
-    ensures reply { RepliesAt seat false (ignore_effect tube.now) state.old result told.new state.new }
+    ensures reply { RepliesAt seat false
+        (ignore_effect tube.now) state.old result told.new state.new }
     ensures asks { AsksAsChanged state.old.jobs state.new.jobs }
 {
     let Some(client) = seats::find(state.seats.as_slice(), seat) else {
@@ -98,7 +101,8 @@ pub(crate) fn ignore(state: &mut CoreParts, seat: Seat, tube: &TubeName, told: &
 /// Pauses a tube that exists.
 #[tactic(auto, using(crate::proofs::PartsLemmas::tube_has_entry))]
 pub(crate) fn pause(state: &mut CoreParts, tube: &TubeName, seconds: u32, told: &mut Answer)
-    ensures reply { pause_effect tube.now seconds (machine_of state.old) ≡ telling told.new (machine_of state.new) }
+    ensures reply { pause_effect tube.now seconds (machine_of state.old)
+        ≡ telling told.new (machine_of state.new) }
     ensures asks { AsksAsChanged state.old.jobs state.new.jobs }
 {
     if !changes::is_tube(state, tube) {
@@ -139,7 +143,8 @@ pub(crate) fn peek(state: &mut CoreParts, id: JobId, told: &mut Answer) -> Reply
 
 // The id of the first job of this kind in the tube that the client uses.
 fn first_used(state: &mut CoreParts, seat: Seat, kind: JobKind) -> Option<JobId>
-    ensures id { AtSeat seat state.old (λ s. result ≡ option_map (λ j. j.id) (first_of_kind kind s.used state.old.jobs.jobs)) }
+    ensures id { AtSeat seat state.old
+        (λ s. result ≡ option_map (λ j. j.id) (first_of_kind kind s.used state.old.jobs.jobs)) }
     ensures kept { Looks 1 state.old state.new }
 {
     let client = seats::find(state.seats.as_slice(), seat)?;
@@ -153,7 +158,8 @@ pub(crate) fn peek_first(
     kind: JobKind,
     told: &mut Answer,
 ) -> Reply
-    ensures reply { RepliesAt seat false (peek_first_effect kind) state.old result told.new state.new }
+    ensures reply { RepliesAt seat false
+        (peek_first_effect kind) state.old result told.new state.new }
     ensures asks { AsksAsChanged state.old.jobs state.new.jobs }
 {
     match first_used(state, seat, kind) {

@@ -119,7 +119,8 @@ impl Tubes {
     /// comes before any change.
     pub(crate) fn provide(&mut self, alloc: Global, name: &TubeName) -> Result<bool, NoMemory>
         ensures told { IfOk result (λ is_new. is_new ≡ not (has_entry name.now self.old.entries)) }
-        ensures after { self.new ≡ (if is_ok result then tubes_with name.now self.old else self.old) }
+        ensures after { self.new
+            ≡ (if is_ok result then tubes_with name.now self.old else self.old) }
     {
         if self.kept.peek(name).is_some() {
             return Ok(false);
@@ -133,7 +134,8 @@ impl Tubes {
     /// Changes the tube of this name.
     #[tactic(auto, using(crate::proofs::EditLemmas::records_change))]
     pub(crate) fn change(&mut self, name: &TubeName, what: TubeChange)
-        ensures { self.new ≡ record self.old { entries = map (tube_changed_at name.now what) self.old.entries } }
+        ensures { self.new
+            ≡ record self.old { entries = map (tube_changed_at name.now what) self.old.entries } }
     {
         // The names are in order.
         let _entries = self.kept.len();
@@ -143,7 +145,8 @@ impl Tubes {
     /// Pauses that are over end.
     #[tactic(auto, using(crate::proofs::NamedLemmas::kept_alike))]
     pub(crate) fn fire_timers(&mut self, moment: Moment)
-        ensures { self.new ≡ record self.old { entries = map (tube_after_timers moment) self.old.entries } }
+        ensures { self.new
+            ≡ record self.old { entries = map (tube_after_timers moment) self.old.entries } }
     {
         pauses::end_all(&mut self.kept, &mut self.ends, moment);
     }
@@ -151,9 +154,12 @@ impl Tubes {
     /// The entry of this name, which tells how many jobs and clients are there, and whether the
     /// tube is paused.
     pub(crate) fn entry_of(&self, name: &TubeName) -> Option<&TubeEntry>
-        ensures entry { option_map (λ t. record_of name.now t.now) result ≡ find (λ t. is_same_name name.now t.name) self.now.entries }
-        ensures tally { tally_by (option_map (λ t. t.now) result) ≡ tally_at name.now self.now.entries self.now.tallies }
-        ensures crowd { crowd_by (option_map (λ t. t.now) result) ≡ crowd_at name.now self.now.entries self.now.crowds }
+        ensures entry { option_map (λ t. record_of name.now t.now) result
+            ≡ find (λ t. is_same_name name.now t.name) self.now.entries }
+        ensures tally { tally_by (option_map (λ t. t.now) result)
+            ≡ tally_at name.now self.now.entries self.now.tallies }
+        ensures crowd { crowd_by (option_map (λ t. t.now) result)
+            ≡ crowd_at name.now self.now.entries self.now.crowds }
         ensures pause { is_paused_by (option_map (λ t. t.now) result)
             ≡ list_any (λ t. is_same_name name.now t.name && is_some t.pause) self.now.entries }
     {
@@ -164,7 +170,8 @@ impl Tubes {
 
     /// Whether the tube of this name is paused.
     pub(crate) fn is_paused(&self, name: &TubeName) -> bool
-        ensures { result ≡ list_any (λ t. is_same_name name.now t.name && is_some t.pause) self.now.entries }
+        ensures { result
+            ≡ list_any (λ t. is_same_name name.now t.name && is_some t.pause) self.now.entries }
     {
         match self.entry_of(name) {
             None => false,
@@ -175,7 +182,8 @@ impl Tubes {
     /// Counts a job in its tube.
     #[tactic(auto, using(crate::proofs::EditLemmas::tallies_change))]
     pub(crate) fn add_job(&mut self, job: &Job)
-        ensures { self.new ≡ record self.old { tallies = tallies_with job.now self.old.entries self.old.tallies } }
+        ensures { self.new
+            ≡ record self.old { tallies = tallies_with job.now self.old.entries self.old.tallies } }
     {
         entry::add_job(&mut self.kept, job);
     }
@@ -183,7 +191,8 @@ impl Tubes {
     /// Counts a job in its tube no longer.
     #[tactic(auto, using(crate::proofs::EditLemmas::tallies_change))]
     pub(crate) fn remove_job(&mut self, job: &Job)
-        ensures { self.new ≡ record self.old { tallies = tallies_without job.now self.old.entries self.old.tallies } }
+        ensures { self.new
+            ≡ record self.old { tallies = tallies_without job.now self.old.entries self.old.tallies } }
     {
         entry::remove_job(&mut self.kept, job);
     }
@@ -249,7 +258,8 @@ impl Tubes {
     /// How many tubes exist.
     #[tactic(auto, using(crate::proofs::GoneLemmas::counted_names))]
     pub(crate) fn count_alive(&self) -> u64
-        ensures { IfCounted self.now (λ jobs seats. result ≡ length (names_alive jobs seats self.now.entries)) }
+        ensures { IfCounted self.now
+            (λ jobs seats. result ≡ length (names_alive jobs seats self.now.entries)) }
     {
         // So many there can be, and the count doesn't come to its end.
         let _entries = self.kept.len();
@@ -260,7 +270,9 @@ impl Tubes {
 
     /// The names of the tubes that exist, in byte order. Their memory is asked for before.
     pub(crate) fn names_alive<'a>(&'a self, alloc: Global) -> Result<Names<'a>, NoMemory>
-        ensures { IfCounted self.now (λ jobs seats. IfOk result (λ names. names_of names.items ≡ names_alive jobs seats self.now.entries)) }
+        ensures { IfCounted self.now
+            (λ jobs seats. IfOk result
+            (λ names. names_of names.items ≡ names_alive jobs seats self.now.entries)) }
     {
         match self.kept.list(alloc) {
             Ok(listed) => walks::names_alive(alloc, listed.as_slice()),

@@ -200,7 +200,8 @@ impl Waiting {
 // for once.
 fn told_at_end(state: &mut CoreParts, k: usize) -> Option<Answer>
     requires seat { k < length state.old.seats.items }
-    ensures told { (s : SeatRecord) → slice_get (machine_of state.old).seats k ≡ Some s → result ≡ told_at_end (machine_of state.old) s }
+    ensures told { (s : SeatRecord) → slice_get (machine_of state.old).seats k ≡ Some s
+        → result ≡ told_at_end (machine_of state.old) s }
     ensures kept { Looks 1 state.old state.new }
 {
     let number = state.seats[k].number();
@@ -218,7 +219,8 @@ fn told_at_end(state: &mut CoreParts, k: usize) -> Option<Answer>
 fn end_wait(state: &mut CoreParts, outs: &mut Outs, k: usize, answer: Answer)
     requires seat { k < length state.old.seats.items }
     requires room { length outs.old.given < outs.old.most }
-    ensures given { EndsWait (machine_of state.old) k answer outs.old outs.new (machine_of state.new) }
+    ensures given { EndsWait (machine_of state.old) k answer outs.old outs.new
+        (machine_of state.new) }
     ensures jobs { state.new.jobs ≡ state.old.jobs }
 {
     let number = state.seats[k].number();
@@ -242,7 +244,8 @@ fn look_at(state: &mut CoreParts, outs: &mut Outs, k: usize)
 // The place of the client that has waited longest of those whose turn comes after the last one.
 fn next_waiting(state: &CoreParts, last: Option<Turn>) -> Option<usize>
     ensures bound { IfSome result (λ k. k < length state.now.seats.items) }
-    ensures least { item_at state.now.seats.items result ≡ first_of (waits_after last) is_wait_before state.now.seats.items }
+    ensures least { item_at state.now.seats.items result
+        ≡ first_of (waits_after last) is_wait_before state.now.seats.items }
 {
     match state.waiting.next_after(last) {
         None => None,
@@ -254,10 +257,14 @@ fn next_waiting(state: &CoreParts, last: Option<Turn>) -> Option<usize>
 fn turn(state: &mut CoreParts, outs: &mut Outs, last: &mut Option<Turn>) -> bool
     requires looked { AreLookedAt (machine_of state.old) last.old }
     requires room { HasRoom 0 (machine_of state.old) outs.old }
-    ensures done { result ≡ false → IsLastTurn (next_end (machine_of state.old)) state.old state.new outs.old outs.new }
-    ensures given { result ≡ true → Gives WaitEndTurn none_refused (machine_of state.old) (machine_of state.new) outs.old outs.new }
+    ensures done { result ≡ false
+        → IsLastTurn (next_end (machine_of state.old)) state.old state.new outs.old outs.new }
+    ensures given { result ≡ true
+        → Gives WaitEndTurn none_refused (machine_of state.old)
+        (machine_of state.new) outs.old outs.new }
     ensures looked { result ≡ true → AreLookedAt (machine_of state.new) last.new }
-    ensures fewer { result ≡ true → left_after last.new (machine_of state.new) < left_after last.old (machine_of state.old) }
+    ensures fewer { result ≡ true
+        → left_after last.new (machine_of state.new) < left_after last.old (machine_of state.old) }
     ensures asks { Asks (if result then 1 else 0) state.old.jobs state.new.jobs }
 {
     let Some(k) = next_waiting(state, *last) else {
@@ -272,7 +279,8 @@ fn turn(state: &mut CoreParts, outs: &mut Outs, last: &mut Option<Turn>) -> bool
 // the order of tickets.
 fn end_all(state: &mut CoreParts, outs: &mut Outs)
     requires room { HasRoom 0 (machine_of state.old) outs.old }
-    ensures given { Gives WaitEndTurn none_refused (machine_of state.old) (machine_of state.new) outs.old outs.new }
+    ensures given { Gives WaitEndTurn none_refused
+        (machine_of state.old) (machine_of state.new) outs.old outs.new }
     ensures done { next_end (machine_of state.new) ≡ None }
     ensures asks { Asks (waiting_count (machine_of state.old)) state.old.jobs state.new.jobs }
 {
@@ -284,7 +292,8 @@ fn end_all(state: &mut CoreParts, outs: &mut Outs)
 #[tactic(auto, using(crate::proofs::FirstEndLemmas::over_known))]
 fn is_some_wait_over(state: &mut CoreParts) -> bool
     ensures over { result ≡ list_any (has_waited state.old.moment) state.old.seats.items }
-    ensures same { held state.new ≡ record (held state.old) { known = record state.old.known { first_end = state.new.known.first_end } } }
+    ensures same { held state.new
+        ≡ record (held state.old) { known = record state.old.known { first_end = state.new.known.first_end } } }
 {
     changes::find_first_end(state);
     match &state.known.first_end {
@@ -318,7 +327,8 @@ fn may_end(state: &mut CoreParts) -> bool
 #[tactic(auto, using(crate::proofs::TurnLemmas::gives_nothing))]
 pub(crate) fn end_waits(state: &mut CoreParts, outs: &mut Outs)
     requires room { HasRoom 0 (machine_of state.old) outs.old }
-    ensures given { Gives WaitEndTurn none_refused (machine_of state.old) (machine_of state.new) outs.old outs.new }
+    ensures given { Gives WaitEndTurn none_refused
+        (machine_of state.old) (machine_of state.new) outs.old outs.new }
     ensures done { next_end (machine_of state.new) ≡ None }
     ensures asks { Asks (waiting_count (machine_of state.old) + 1) state.old.jobs state.new.jobs }
 {

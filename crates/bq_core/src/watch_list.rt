@@ -60,7 +60,8 @@ fn reserve_one<T: Drop>(list: &mut Vec<T, Global>, alloc: Global) -> Result<(), 
 // Some other name is there, and so some are left.
 fn keep_others(names: &mut Vec<TubeName, Global>, name: &TubeName)
     requires other { list_any (λ other. not (is_same_name name.now other)) names.old.items ≡ true }
-    ensures kept { names.new.items ≡ filter (λ other. not (is_same_name name.now other)) names.old.items }
+    ensures kept { names.new.items
+        ≡ filter (λ other. not (is_same_name name.now other)) names.old.items }
     ensures some { 0 < length names.new.items }
 {
     names.retain(|other| name != other);

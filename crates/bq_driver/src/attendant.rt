@@ -67,7 +67,8 @@ impl<L: Line + Drop> Attendant<L> {
 
     /// Whether nothing but its line can move it: the line is to be read, and no answer is outstanding.
     pub fn awaits_line(&self) -> bool
-        ensures reads { IsTrue result → (line : L) × (self.now.place ≡ LinePlace.On line Action.Read) }
+        ensures reads { IsTrue result
+            → (line : L) × (self.now.place ≡ LinePlace.On line Action.Read) }
         ensures outstanding { (line : L) → self.now.place ≡ LinePlace.On line Action.Read
             → ReadsWith (not result) self.now.machine }
     {
@@ -83,7 +84,8 @@ impl<L: Line + Drop> Attendant<L> {
         link: &mut K,
         room: &mut Room,
     ) -> bool
-        requires placed { IsPlaced self.old.place (door_seen D.is_out D.is_at_end D.lines_over door.old) }
+        requires placed { IsPlaced self.old.place
+            (door_seen D.is_out D.is_at_end D.lines_over door.old) }
         requires ready { K.is_ready link.old }
         ensures ready { K.is_ready link.new }
         // Whatever it did before, it went on by the steps that it submitted and the answers that it took.
@@ -217,7 +219,8 @@ fn read<L: Line>(
     room: &mut [u8],
 ) -> bool
     requires { length room.old ≡ PIECE_ROOM }
-    ensures carried { Carried machine.old (L.seen line.old) Action.Read machine.new (L.seen line.new) next.new [] [] }
+    ensures carried { Carried machine.old (L.seen line.old) Action.Read machine.new
+        (L.seen line.new) next.new [] [] }
     ensures stays { StaysOver L.lies_over line.old line.new }
 {
     match fill_line(machine, line) {
@@ -235,7 +238,8 @@ fn hand_on<L: Line>(
     room: &mut [u8],
 ) -> bool
     requires { length room.old ≡ PIECE_ROOM }
-    ensures carried { Carried machine.old (L.seen line.old) Action.Read machine.new (L.seen line.new) next.new [] [] }
+    ensures carried { Carried machine.old (L.seen line.old) Action.Read machine.new
+        (L.seen line.new) next.new [] [] }
     ensures stays { StaysOver L.lies_over line.old line.new }
 {
     let count = line.unread().len().min(PIECE_ROOM);
@@ -255,7 +259,8 @@ fn read_piece<L: Line>(
     room: &mut [u8],
 ) -> bool
     requires { length room.old ≡ PIECE_ROOM }
-    ensures carried { Carried machine.old (L.seen line.old) Action.Read machine.new (L.seen line.new) next.new [] [] }
+    ensures carried { Carried machine.old (L.seen line.old) Action.Read machine.new
+        (L.seen line.new) next.new [] [] }
     ensures stays { StaysOver L.lies_over line.old line.new }
 {
     match read_line(machine, line, room) {
@@ -273,7 +278,9 @@ fn read_piece<L: Line>(
 
 // There are no bytes yet, or the read failed.
 fn tell_error(alloc: Global, machine: &mut SeatMachine, next: &mut Action, e: &io::Error) -> bool
-    ensures { (seen : LineSeen) → Carried machine.old seen Action.Read machine.new (after_fill (Err e.now) seen) next.new [] [] }
+    ensures { (seen : LineSeen)
+        → Carried machine.old seen Action.Read machine.new
+        (after_fill (Err e.now) seen) next.new [] [] }
 {
     if is_nothing_yet(e) {
         machine.on_in_place(alloc, Event::NothingYet, next);

@@ -91,7 +91,8 @@ impl LineSoFar {
 fn submit<R: Wait, K: ControlLink>(rt: &R, link: &mut K, step: Step)
     requires ready { K.is_ready link.old }
     ensures ready { K.is_ready link.new }
-    ensures went { (first : K) (before : List Step) → K.went first before link.old → K.went first (before ++ as_submitted step) link.new }
+    ensures went { (first : K) (before : List Step) → K.went first before link.old
+        → K.went first (before ++ as_submitted step) link.new }
 {
     let mut step = step;
     for _ in rt.forever() {
@@ -121,7 +122,8 @@ fn submit_drains<R: Wait, I: ControlInput, K: ControlLink>(rt: &R, control: &mut
     requires ready { K.is_ready link.old }
     ensures ready { K.is_ready link.new }
     ensures over { IsOver (I.seen control.new) }
-    ensures read { IsReadToEnd (I.remaining control.old) (I.remaining control.new) (I.seen control.new).text (I.seen control.new).failed }
+    ensures read { IsReadToEnd (I.remaining control.old) (I.remaining control.new)
+        (I.seen control.new).text (I.seen control.new).failed }
     ensures fault { (I.seen control.new).failed ≡ true → I.may_fail control.old ≡ true }
     ensures went { (first : K) (before : List Step) → K.went first before link.old →
         K.went first (before ++ replicate (drains (I.seen control.new).text (I.seen control.new).failed) Step.Drain) link.new }
@@ -155,7 +157,8 @@ pub fn submit_control<R: Wait, I: ControlInput, K: ControlLink>(
     ensures ready { K.is_ready link.new }
     // The end of the input was met, or it failed: which of them, and after which bytes, it tells itself.
     ensures over { IsOver (I.seen control.new) }
-    ensures read { IsReadToEnd (I.remaining control.old) (I.remaining control.new) (I.seen control.new).text (I.seen control.new).failed }
+    ensures read { IsReadToEnd (I.remaining control.old) (I.remaining control.new)
+        (I.seen control.new).text (I.seen control.new).failed }
     // It failed only where a read of it may fail.
     ensures fault { (I.seen control.new).failed ≡ true → I.may_fail control.old ≡ true }
     ensures done { (submitted : List Step) × IsControlDone (I.seen control.new).text (I.seen control.new).failed submitted

@@ -134,7 +134,8 @@ fn have_room(head: &HeadBuf, body: &[u8], tail: &[u8]) -> bool
 // Puts the other parts behind the head, and writes them together.
 fn write_behind<L: Line>(line: &mut L, head: &mut HeadBuf, body: &[u8], tail: &[u8]) -> bool
     requires { length head.old.items + length body.now + length tail.now ≤ 256 }
-    ensures text { Writes (head.old.items ++ body.now ++ tail.now) (L.seen line.old) (L.seen line.new) result }
+    ensures text { Writes (head.old.items ++ body.now ++ tail.now)
+        (L.seen line.old) (L.seen line.new) result }
     ensures stays { StaysOver L.lies_over line.old line.new }
 {
     push_bytes(head, body);
@@ -144,7 +145,8 @@ fn write_behind<L: Line>(line: &mut L, head: &mut HeadBuf, body: &[u8], tail: &[
 
 // Of the others most are joined in a piece. The room for answers isn't touched for these.
 fn write_long<L: Line>(line: &mut L, room: &mut Room, head: &[u8], body: &[u8], tail: &[u8]) -> bool
-    ensures text { Writes (head.now ++ body.now ++ tail.now) (L.seen line.old) (L.seen line.new) result }
+    ensures text { Writes (head.now ++ body.now ++ tail.now)
+        (L.seen line.old) (L.seen line.new) result }
     ensures stays { StaysOver L.lies_over line.old line.new }
 {
     if room.answer.is_none() || fits(PIECE_ROOM, head, body, tail) {
@@ -162,7 +164,8 @@ fn write_joined<L: Line>(
     body: &[u8],
     tail: &[u8],
 ) -> bool
-    ensures text { Writes (head.now ++ body.now ++ tail.now) (L.seen line.old) (L.seen line.new) result }
+    ensures text { Writes (head.now ++ body.now ++ tail.now)
+        (L.seen line.old) (L.seen line.new) result }
     ensures stays { StaysOver L.lies_over line.old line.new }
 {
     if fits(room.len(), head, body, tail) {
@@ -197,7 +200,8 @@ fn put(room: &mut [u8], at: usize, bytes: &[u8]) -> usize
 // Writes what lies in the room up to this place, and these bytes, together.
 fn write_with<L: Line>(line: &mut L, room: &mut [u8], at: usize, bytes: &[u8]) -> bool
     requires { at + length bytes.now ≤ length room.old }
-    ensures text { Writes (take at room.old ++ bytes.now) (L.seen line.old) (L.seen line.new) result }
+    ensures text { Writes (take at room.old ++ bytes.now)
+        (L.seen line.old) (L.seen line.new) result }
     ensures stays { StaysOver L.lies_over line.old line.new }
 {
     let end = put(room, at, bytes);
@@ -213,7 +217,8 @@ fn write_parts<L: Line>(
     body: &[u8],
     tail: &[u8],
 ) -> bool
-    ensures text { Writes (head.now ++ body.now ++ tail.now) (L.seen line.old) (L.seen line.new) result }
+    ensures text { Writes (head.now ++ body.now ++ tail.now)
+        (L.seen line.old) (L.seen line.new) result }
     ensures stays { StaysOver L.lies_over line.old line.new }
 {
     let beside_head = room.len().saturating_sub(head.len());

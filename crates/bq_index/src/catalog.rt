@@ -96,7 +96,8 @@ impl<K: Ord + Drop, V: Drop> Catalog<K, V> {
 
     /// The value at a key, to be changed in its place.
     pub fn get_mut(&mut self, key: &K) -> Option<&mut V>
-        ensures* writes_back { sem 𝓛 (LendsEntry K.row V.row K.Ord self.entry (K.cmp key.now) result) }
+        ensures* writes_back { sem 𝓛
+            (LendsEntry K.row V.row K.Ord self.entry (K.cmp key.now) result) }
         ensures value { option_copied_mut result ≡ lookup (is_at (K.cmp key.now)) self.old.entries }
     {
         self.shelf.get_mut(key)
@@ -111,14 +112,16 @@ impl<K: Ord + Drop, V: Drop> Catalog<K, V> {
 
     /// The first entry that passes a test.
     pub fn first<T: Test<K, V>>(&self, test: &T) -> Option<(&K, &V)>
-        ensures { option_map entry_of result ≡ find (passes_by (T.passed test.now)) self.now.entries }
+        ensures { option_map entry_of result
+            ≡ find (passes_by (T.passed test.now)) self.now.entries }
     {
         self.shelf.first(test)
     }
 
     /// The first entry that passes a test among those whose key is not below `from`.
     pub fn first_from<T: Test<K, V>>(&self, from: &K, test: &T) -> Option<(&K, &V)>
-        ensures { option_map entry_of result ≡ find (passes_from (K.cmp from.now) (T.passed test.now)) self.now.entries }
+        ensures { option_map entry_of result
+            ≡ find (passes_from (K.cmp from.now) (T.passed test.now)) self.now.entries }
     {
         self.shelf.first_from(from, test)
     }

@@ -106,7 +106,8 @@ where
     requires fits { height tree < 200 }
     ensures is { entries result.0 ≡ remove_entry (is_at (K.cmp key.now)) (entries tree) }
     ensures balanced { IsBalanced result.0 }
-    ensures found { option_and_then (λ b. option_map (λ e. e.1) b.value.entry) result.1 ≡ lookup (is_at (K.cmp key.now)) (entries tree) }
+    ensures found { option_and_then (λ b. option_map (λ e. e.1) b.value.entry) result.1
+        ≡ lookup (is_at (K.cmp key.now)) (entries tree) }
     ensures filled { IfSome result.1 (λ b. IsSome b.value.entry) }
     ensures not_higher { height result.0 ≤ height tree }
     ensures not_lower { height tree ≤ height result.0 + 1 }

@@ -23,7 +23,9 @@ pub(crate) fn value_mut<'a, K: Ord, V>(
 ) -> Option<&'a mut V>
     requires balanced { IsBalanced tree.old }
     requires reached { height tree.old ≤ 136 }
-    ensures* writes_back { sem 𝓛 (LendsIf (tree_row K.row V.row) V.row tree.entry result (put_value (K.cmp key.now) tree.old) tree.old) }
+    ensures* writes_back { sem 𝓛
+        (LendsIf (tree_row K.row V.row) V.row tree.entry result
+        (put_value (K.cmp key.now) tree.old) tree.old) }
     ensures value { option_copied_mut result ≡ value_at (K.cmp key.now) tree.old }
     ensures counted { RaisedByAtMost (height tree.old) count.old count.new }
 {
@@ -94,7 +96,9 @@ fn left_of<'a, D: Descent, K: Ord, V>(
 ) -> Option<&'a mut V>
     requires balanced { AreBalanced sides.old }
     requires reached { (heights sides.old).0 ≤ D.depth }
-    ensures* writes_back { sem 𝓛 (LendsIf (sides_row K.row V.row) V.row sides.entry result (put_left (K.cmp key.now) sides.old) sides.old) }
+    ensures* writes_back { sem 𝓛
+        (LendsIf (sides_row K.row V.row) V.row sides.entry result
+        (put_left (K.cmp key.now) sides.old) sides.old) }
     ensures value { option_copied_mut result ≡ value_left (K.cmp key.now) sides.old }
     ensures counted { RaisedByAtMost (heights sides.old).0 count.old count.new }
 {
@@ -125,7 +129,8 @@ fn right_of<'a, D: Descent, K: Ord, V>(
 }
 
 fn here<'a, K, V>(node: &'a mut Node<K, V>) -> Option<&'a mut V>
-    ensures* writes_back { sem 𝓛 (LendsIf (node_row K.row V.row) V.row node.entry result (with_value node.old) node.old) }
+    ensures* writes_back { sem 𝓛
+        (LendsIf (node_row K.row V.row) V.row node.entry result (with_value node.old) node.old) }
     ensures value { option_copied_mut result ≡ value_of node.old }
 {
     if let Some(pair) = &mut node.entry {

@@ -58,7 +58,8 @@ pub(crate) fn get<'a, K: Ord, V>(
 ) -> Option<&'a V>
     requires balanced { IsBalancedFrom (lent tree) }
     requires in_order { InOrder K.cmp (entries_of (lent tree)) }
-    ensures value { option_map (λ v. v.now) result ≡ lookup (is_at (K.cmp key.now)) (entries_of (lent tree.entry)) }
+    ensures value { option_map (λ v. v.now) result
+        ≡ lookup (is_at (K.cmp key.now)) (entries_of (lent tree.entry)) }
     ensures counted { RaisedByAtMost (height_of (lent tree.entry)) count.old count.new }
 {
     let (left, other, value, right) = parts(tree)?;
@@ -77,7 +78,8 @@ pub(crate) fn next_from<'a, K: Ord, V>(
 ) -> Option<(&'a K, &'a V)>
     requires balanced { IsBalancedFrom (lent tree) }
     requires in_order { InOrder K.cmp (entries_of (lent tree)) }
-    ensures entry { option_map (λ p. (p.0.now, p.1.now)) result ≡ entry_from (K.cmp key.now) (entries_of (lent tree.entry)) }
+    ensures entry { option_map (λ p. (p.0.now, p.1.now)) result
+        ≡ entry_from (K.cmp key.now) (entries_of (lent tree.entry)) }
     ensures counted { RaisedByAtMost (height_of (lent tree.entry)) count.old count.new }
 {
     let (left, other, value, right) = parts(tree)?;

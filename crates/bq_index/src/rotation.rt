@@ -24,7 +24,8 @@ where
     requires near { DifferByAtMost 1 before (height right) }
     requires changed { DifferByAtMost 1 before (height left) }
     requires fits { high < 200 }
-    ensures is { entries result ≡ entries left ++ (option_to_list node.value.entry ++ entries right) }
+    ensures is { entries result
+        ≡ entries left ++ (option_to_list node.value.entry ++ entries right) }
     ensures balanced { IsBalanced result }
     ensures not_higher { height result ≤ high + (height left - before) }
     ensures not_lower { high ≤ height result + (before - height left) }
@@ -52,7 +53,8 @@ where
     requires near { DifferByAtMost 1 before (height left) }
     requires changed { DifferByAtMost 1 before (height right) }
     requires fits { high < 200 }
-    ensures is { entries result ≡ entries left ++ (option_to_list node.value.entry ++ entries right) }
+    ensures is { entries result
+        ≡ entries left ++ (option_to_list node.value.entry ++ entries right) }
     ensures balanced { IsBalanced result }
     ensures not_higher { height result ≤ high + (height right - before) }
     ensures not_lower { high ≤ height result + (before - height right) }

@@ -200,7 +200,8 @@ impl<K: Ord + Drop, V: Drop> Shelf<K, V> {
     #[tactic(auto, using(crate::proofs::Bound::height_bound))]
     pub fn get(&mut self, key: &K) -> Option<&V>
         ensures* after { sem 𝓛 (LeavesEntries K.row V.row K.Ord self.entry) }
-        ensures value { option_map (λ v. v.now) result ≡ lookup (is_at (K.cmp key.now)) self.old.entries }
+        ensures value { option_map (λ v. v.now) result
+            ≡ lookup (is_at (K.cmp key.now)) self.old.entries }
     {
         find::get(self.tree.top(), key, &mut self.comparisons)
     }
@@ -209,7 +210,8 @@ impl<K: Ord + Drop, V: Drop> Shelf<K, V> {
     #[tactic(auto, using(crate::proofs::Bound::height_bound))]
     pub fn next_from(&mut self, key: &K) -> Option<(&K, &V)>
         ensures* after { sem 𝓛 (LeavesEntries K.row V.row K.Ord self.entry) }
-        ensures entry { option_map (λ p. (p.0.now, p.1.now)) result ≡ entry_from (K.cmp key.now) self.old.entries }
+        ensures entry { option_map (λ p. (p.0.now, p.1.now)) result
+            ≡ entry_from (K.cmp key.now) self.old.entries }
     {
         find::next_from(self.tree.top(), key, &mut self.comparisons)
     }
@@ -231,14 +233,16 @@ impl<K: Ord + Drop, V: Drop> Shelf<K, V> {
 
     // The first entry that passes a test.
     pub(crate) fn first<T: Test<K, V>>(&self, test: &T) -> Option<(&K, &V)>
-        ensures { option_map entry_of result ≡ find (passes_by (T.passed test.now)) self.now.entries }
+        ensures { option_map entry_of result
+            ≡ find (passes_by (T.passed test.now)) self.now.entries }
     {
         walk::first(self.tree.top(), test)
     }
 
     // The first entry that passes a test among those whose key is not below `from`.
     pub(crate) fn first_from<T: Test<K, V>>(&self, from: &K, test: &T) -> Option<(&K, &V)>
-        ensures { option_map entry_of result ≡ find (passes_from (K.cmp from.now) (T.passed test.now)) self.now.entries }
+        ensures { option_map entry_of result
+            ≡ find (passes_from (K.cmp from.now) (T.passed test.now)) self.now.entries }
     {
         walk::first_from(self.tree.top(), from, test)
     }
@@ -257,7 +261,8 @@ impl<K: Ord + Drop, V: Drop> Shelf<K, V> {
 
     /// The value at a key, to be changed in its place.
     pub fn get_mut(&mut self, key: &K) -> Option<&mut V>
-        ensures* writes_back { sem 𝓛 (LendsValue K.row V.row K.Ord self.entry (K.cmp key.now) result) }
+        ensures* writes_back { sem 𝓛
+            (LendsValue K.row V.row K.Ord self.entry (K.cmp key.now) result) }
         ensures value { option_copied_mut result ≡ lookup (is_at (K.cmp key.now)) self.old.entries }
     {
         descent::value_mut(&mut self.tree, key, &mut self.comparisons)

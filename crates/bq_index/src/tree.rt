@@ -177,7 +177,8 @@ pub(crate) fn parts<K, V>(
     top: Option<&Node<K, V>>,
 ) -> Option<(Option<&Node<K, V>>, &K, &V, Option<&Node<K, V>>)>
     requires { IsBalancedFrom (lent top) }
-    ensures parts { IfSome result (λ p. HasParts (lent top.entry) (lent p.0) (Some (p.1.now, p.2.now)) (lent p.3)) }
+    ensures parts { IfSome result
+        (λ p. HasParts (lent top.entry) (lent p.0) (Some (p.1.now, p.2.now)) (lent p.3)) }
     ensures empty { IfNone result (entries_of (lent top.entry) ≡ []) }
 {
     let node = top?;

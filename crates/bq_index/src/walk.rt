@@ -48,7 +48,8 @@ pub(crate) fn first<'a, K, V, T: Test<K, V>>(
     test: &T,
 ) -> Option<(&'a K, &'a V)>
     requires { IsBalancedFrom (lent tree) }
-    ensures { option_map entry_of result ≡ find (passes_by (T.passed test.now)) (entries_of (lent tree.entry)) }
+    ensures { option_map entry_of result
+        ≡ find (passes_by (T.passed test.now)) (entries_of (lent tree.entry)) }
 {
     let (left, key, value, right) = parts(tree)?;
     match first(left, test) {
@@ -69,7 +70,8 @@ pub(crate) fn first_from<'a, K: Ord, V, T: Test<K, V>>(
 ) -> Option<(&'a K, &'a V)>
     requires balanced { IsBalancedFrom (lent tree) }
     requires in_order { InOrder K.cmp (entries_of (lent tree)) }
-    ensures { option_map entry_of result ≡ find (passes_from (K.cmp from.now) (T.passed test.now)) (entries_of (lent tree.entry)) }
+    ensures { option_map entry_of result
+        ≡ find (passes_from (K.cmp from.now) (T.passed test.now)) (entries_of (lent tree.entry)) }
 {
     let (left, key, value, right) = parts(tree)?;
     if from.cmp(key).is_gt() {
@@ -89,7 +91,8 @@ pub(crate) fn first_from<'a, K: Ord, V, T: Test<K, V>>(
 pub(crate) fn list<'a, K, V>(tree: Option<&'a Node<K, V>>, listed: &mut Vec<(&'a K, &'a V), Global>)
     requires balanced { IsBalancedFrom (lent tree) }
     requires room { vec_len listed.old + length (entries_of (lent tree)) ≤ vec_capacity listed.old }
-    ensures items { map entry_of listed.new.items ≡ map entry_of listed.old.items ++ entries_of (lent tree.entry) }
+    ensures items { map entry_of listed.new.items
+        ≡ map entry_of listed.old.items ++ entries_of (lent tree.entry) }
     ensures len { vec_len listed.new ≡ vec_len listed.old + length (entries_of (lent tree.entry)) }
     ensures capacity { vec_capacity listed.new ≡ vec_capacity listed.old }
 {

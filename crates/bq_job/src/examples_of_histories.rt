@@ -70,7 +70,8 @@ fn command_missing()
 
 /// A line of which no end was read is not over by the end of its input.
 fn unread_line_shut_as_ended()
-    ensures { (taken : List Step) (given : List Answer) → IsLineOwed usual (shut_line [] []) taken given → ⊥ }
+    ensures { (taken : List Step) (given : List Answer)
+        → IsLineOwed usual (shut_line [] []) taken given → ⊥ }
 {}
 
 /// Whoever is owed INSERTED is not written what another is owed.

@@ -123,7 +123,9 @@ fn inserted_before_the_drain()
 
 /// The client that reserved a job holds it.
 fn holder_of_a_job()
-    ensures { Holds (machine_after (server 1 65535) (connect 0 ∷ ask 0 (Put 0 0 9 (codes "x")) ∷ ask 0 Reserve ∷ [])) 0 1 }
+    ensures { Holds
+        (machine_after (server 1 65535)
+        (connect 0 ∷ ask 0 (Put 0 0 9 (codes "x")) ∷ ask 0 Reserve ∷ [])) 0 1 }
 {}
 
 /// A put that gets the last id is accepted, and none after it.

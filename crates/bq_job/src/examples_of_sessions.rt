@@ -32,23 +32,28 @@ fn deadline_soon_behind_two_leases()
 
 /// A body that isn't followed by CR LF is refused, and what comes after it is read as ever.
 fn bad_body_end_then_wait()
-    ensures { replies (codes "put 0 0 1 2\r\nabXYreserve-with-timeout 0\r\n") ≡ codes "EXPECTED_CRLF\r\nTIMED_OUT\r\n" }
+    ensures { replies (codes "put 0 0 1 2\r\nabXYreserve-with-timeout 0\r\n")
+        ≡ codes "EXPECTED_CRLF\r\nTIMED_OUT\r\n" }
 {}
 
 /// The two bytes after a body are taken with it, whatever they are.
 fn bad_end_swallowed()
-    ensures { replies (codes "put 0 0 1 2\r\nabXYreserve\r\n") ≡ codes "EXPECTED_CRLF\r\nTIMED_OUT\r\n" }
+    ensures { replies (codes "put 0 0 1 2\r\nabXYreserve\r\n")
+        ≡ codes "EXPECTED_CRLF\r\nTIMED_OUT\r\n" }
 {}
 
 /// A body that is too big is taken and refused; one of just the size is accepted.
 fn body_too_big()
-    ensures above { replies_within 5 (codes "put 0 0 1 6\r\nxxxxxx\r\nlist-tube-used\r\n") ≡ codes "JOB_TOO_BIG\r\nUSING default\r\n" }
-    ensures exact { replies_within 5 (codes "put 0 0 1 5\r\nxxxxx\r\nlist-tube-used\r\n") ≡ codes "INSERTED 1\r\nUSING default\r\n" }
+    ensures above { replies_within 5 (codes "put 0 0 1 6\r\nxxxxxx\r\nlist-tube-used\r\n")
+        ≡ codes "JOB_TOO_BIG\r\nUSING default\r\n" }
+    ensures exact { replies_within 5 (codes "put 0 0 1 5\r\nxxxxx\r\nlist-tube-used\r\n")
+        ≡ codes "INSERTED 1\r\nUSING default\r\n" }
 {}
 
 /// After a put that is too big the next one is the first that is accepted.
 fn small_limit()
-    ensures { replies_within 2 (codes "put 0 0 1 3\r\nabc\r\nput 0 0 1 2\r\nab\r\n") ≡ codes "JOB_TOO_BIG\r\nINSERTED 1\r\n" }
+    ensures { replies_within 2 (codes "put 0 0 1 3\r\nabc\r\nput 0 0 1 2\r\nab\r\n")
+        ≡ codes "JOB_TOO_BIG\r\nINSERTED 1\r\n" }
 {}
 
 /// Where there may be one job, a put is refused until that job is deleted, in whatever state it is; and
@@ -127,14 +132,18 @@ fn release_keeps_the_id()
 
 /// A line of 224 bytes with its CR LF is read, and a longer one is refused.
 fn longest_line()
-    ensures fits { replies (codes "peek " ++ replicate 216 48 ++ codes "1\r\n") ≡ codes "NOT_FOUND\r\n" }
-    ensures longer { replies (codes "peek " ++ replicate 217 48 ++ codes "1\r\n") ≡ codes "BAD_FORMAT\r\n" }
+    ensures fits { replies (codes "peek " ++ replicate 216 48 ++ codes "1\r\n")
+        ≡ codes "NOT_FOUND\r\n" }
+    ensures longer { replies (codes "peek " ++ replicate 217 48 ++ codes "1\r\n")
+        ≡ codes "BAD_FORMAT\r\n" }
 {}
 
 /// A tube's name has 200 bytes at most.
 fn longest_tube_name()
-    ensures fits { replies (codes "use " ++ replicate 200 97 ++ codes "\r\n") ≡ codes "USING " ++ replicate 200 97 ++ codes "\r\n" }
-    ensures longer { replies (codes "use " ++ replicate 201 97 ++ codes "\r\n") ≡ codes "BAD_FORMAT\r\n" }
+    ensures fits { replies (codes "use " ++ replicate 200 97 ++ codes "\r\n")
+        ≡ codes "USING " ++ replicate 200 97 ++ codes "\r\n" }
+    ensures longer { replies (codes "use " ++ replicate 201 97 ++ codes "\r\n")
+        ≡ codes "BAD_FORMAT\r\n" }
 {}
 
 /// What breaks off is no request, and after a quit nothing more is read.

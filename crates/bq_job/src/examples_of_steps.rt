@@ -239,17 +239,23 @@ fn pause_lifted()
 /// of a pause and of a wait.
 fn due_moments()
     ensures nothing { due_after [] ≡ None }
-    ensures ready { due_after (ask 0 (Put 0 0 2 (codes "x")) ∷ ask 1 Reserve ∷ close 1 ∷ []) ≡ None }
+    ensures ready { due_after (ask 0 (Put 0 0 2 (codes "x")) ∷ ask 1 Reserve ∷ close 1 ∷ [])
+        ≡ None }
     ensures lease { due_after (ask 0 (Put 0 0 2 (codes "x")) ∷ ask 0 Reserve ∷ []) ≡ Some 2000 }
-    ensures soon { due_after (ask 0 (Put 0 0 2 (codes "x")) ∷ ask 0 Reserve ∷ at 500 (ask 0 Reserve) ∷ []) ≡ Some 1000 }
-    ensures touched { due_after (ask 0 (Put 0 0 2 (codes "x")) ∷ ask 0 Reserve ∷ at 1500 (ask 0 (Touch 1)) ∷ []) ≡ Some 3500 }
+    ensures soon { due_after
+        (ask 0 (Put 0 0 2 (codes "x")) ∷ ask 0 Reserve ∷ at 500 (ask 0 Reserve) ∷ []) ≡ Some 1000 }
+    ensures touched { due_after
+        (ask 0 (Put 0 0 2 (codes "x")) ∷ ask 0 Reserve ∷ at 1500 (ask 0 (Touch 1)) ∷ [])
+        ≡ Some 3500 }
     ensures released { due_after
         (ask 0 (Put 0 0 9 (codes "x"))
         ∷ ask 0 Reserve
         ∷ ask 0 (Release 1 7 3)
         ∷ at 2999 (ask 0 Reserve)
         ∷ []) ≡ Some 3000 }
-    ensures paused { due_after (ask 0 (Put 0 0 9 (codes "x")) ∷ ask 0 (PauseTube (codes "default") 5) ∷ ask 1 Reserve ∷ []) ≡ Some 5000 }
+    ensures paused { due_after
+        (ask 0 (Put 0 0 9 (codes "x")) ∷ ask 0 (PauseTube (codes "default") 5) ∷ ask 1 Reserve ∷ [])
+        ≡ Some 5000 }
     ensures waits { due_after (ask 2 Reserve ∷ ask 1 (ReserveWithTimeout 1) ∷ []) ≡ Some 1000 }
 {}
 

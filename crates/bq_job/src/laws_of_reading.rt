@@ -11,7 +11,8 @@ mod examples;
 /// Every text has a reading: the computed one, which meets no want of memory.
 #[tactic(auto, using(crate::proofs::ReadsLemmas::computed_readings))]
 pub fn every_text_is_read()
-    ensures { (max_job_size : ℕ) (text : List ℕ) → Reads max_job_size text (reading max_job_size text).0 (reading max_job_size text).1 }
+    ensures { (max_job_size : ℕ) (text : List ℕ)
+        → Reads max_job_size text (reading max_job_size text).0 (reading max_job_size text).1 }
 {}
 
 /// A text has one reading: two have the same rest and as many requests, each the same but for the

@@ -13,7 +13,8 @@ mod examples;
 /// A tube is listed exactly where it exists.
 #[tactic(auto, using(crate::proofs::NameOrderLemmas::listed))]
 pub fn existing_tubes_are_listed()
-    ensures { (name : List ℕ) (m : Machine) → list_any (is_same_name name) (tubes m) ≡ is_tube name m }
+    ensures { (name : List ℕ) (m : Machine)
+        → list_any (is_same_name name) (tubes m) ≡ is_tube name m }
 {}
 
 /// Names are listed in byte order, each once.

@@ -155,7 +155,8 @@ impl Jobs {
     pub fn change<E: JobEdit>(&mut self, id: JobId, edit: &E) -> Option<Moved>
         requires id { KeepsId (E.edited edit.now) }
         requires tube { IgnoresTube (E.edited edit.now) }
-        ensures moved { result ≡ option_map (moved_by (E.edited edit.now)) (job_with id self.old.jobs) }
+        ensures moved { result
+            ≡ option_map (moved_by (E.edited edit.now)) (job_with id self.old.jobs) }
         ensures jobs { self.new.jobs ≡ with_changed id (E.edited edit.now) self.old.jobs }
         ensures tubes { self.new.tubes ≡ self.old.tubes }
         ensures room { self.new.room ≡ self.old.room }
@@ -168,7 +169,8 @@ impl Jobs {
     /// The record of the job of this id, which tells all of it but the name of its tube.
     pub fn get(&mut self, id: JobId) -> Option<&Row>
         ensures* after { sem 𝓛 (LeavesJobs self.entry) }
-        ensures job { option_map (λ row. but_for_tube row.now) result ≡ option_map but_for_tube (job_with id self.old.jobs) }
+        ensures job { option_map (λ row. but_for_tube row.now) result
+            ≡ option_map but_for_tube (job_with id self.old.jobs) }
     {
         self.rows.get(id)
     }
@@ -201,7 +203,8 @@ impl Jobs {
     /// The id of the most urgent ready job of a tube: by priority, then by id.
     #[tactic(auto, using(crate::proofs::FirstJobs::held_id))]
     pub fn first_ready(&mut self, tube: &TubeName) -> Option<JobId>
-        ensures id { result ≡ option_map (λ j. j.id) (first_of (is_ready_in tube.now) is_job_before self.old.jobs) }
+        ensures id { result
+            ≡ option_map (λ j. j.id) (first_of (is_ready_in tube.now) is_job_before self.old.jobs) }
         ensures same { self.new ≡ record self.old { comparisons = self.new.comparisons } }
         ensures comparisons { ComparesAtMost 1 self.old self.new }
     {
@@ -211,7 +214,9 @@ impl Jobs {
     /// The id of the delayed job of a tube that is due first: by due moment, then by id.
     #[tactic(auto, using(crate::proofs::FirstJobs::held_id))]
     pub fn first_delayed(&mut self, tube: &TubeName) -> Option<JobId>
-        ensures id { result ≡ option_map (λ j. j.id) (first_of (is_delayed_in tube.now) is_due_before self.old.jobs) }
+        ensures id { result
+            ≡ option_map (λ j. j.id)
+            (first_of (is_delayed_in tube.now) is_due_before self.old.jobs) }
         ensures same { self.new ≡ record self.old { comparisons = self.new.comparisons } }
         ensures comparisons { ComparesAtMost 1 self.old self.new }
     {
@@ -221,7 +226,9 @@ impl Jobs {
     /// The id of the job of a tube that was buried first: by burial number, then by id.
     #[tactic(auto, using(crate::proofs::FirstJobs::held_id))]
     pub fn first_buried(&mut self, tube: &TubeName) -> Option<JobId>
-        ensures id { result ≡ option_map (λ j. j.id) (first_of (is_buried_in tube.now) is_buried_before self.old.jobs) }
+        ensures id { result
+            ≡ option_map (λ j. j.id)
+            (first_of (is_buried_in tube.now) is_buried_before self.old.jobs) }
         ensures same { self.new ≡ record self.old { comparisons = self.new.comparisons } }
         ensures comparisons { ComparesAtMost 1 self.old self.new }
     {
@@ -231,7 +238,9 @@ impl Jobs {
     /// The id of the delayed job that is due first, in whatever tube: by due moment, then by id.
     #[tactic(auto, using(crate::proofs::FirstJobs::timed_id))]
     pub fn first_due(&mut self) -> Option<JobId>
-        ensures id { result ≡ option_map (λ j. j.id) (first_of (λ j. is_delayed j.state) is_due_before self.old.jobs) }
+        ensures id { result
+            ≡ option_map (λ j. j.id)
+            (first_of (λ j. is_delayed j.state) is_due_before self.old.jobs) }
         ensures same { self.new ≡ record self.old { comparisons = self.new.comparisons } }
         ensures comparisons { ComparesAtMost 1 self.old self.new }
     {
@@ -241,7 +250,9 @@ impl Jobs {
     /// The id of the reserved job whose time to run ends first, whoever holds it: by deadline, then by id.
     #[tactic(auto, using(crate::proofs::FirstJobs::timed_id))]
     pub fn first_lease(&mut self) -> Option<JobId>
-        ensures id { result ≡ option_map (λ j. j.id) (first_of (λ j. is_reserved j.state) is_lease_before self.old.jobs) }
+        ensures id { result
+            ≡ option_map (λ j. j.id)
+            (first_of (λ j. is_reserved j.state) is_lease_before self.old.jobs) }
         ensures same { self.new ≡ record self.old { comparisons = self.new.comparisons } }
         ensures comparisons { ComparesAtMost 1 self.old self.new }
     {
@@ -251,7 +262,8 @@ impl Jobs {
     /// The id of the job of the client at a seat whose time to run ends first: by deadline, then by id.
     #[tactic(auto, using(crate::proofs::FirstJobs::held_id))]
     pub fn first_held(&mut self, seat: Seat) -> Option<JobId>
-        ensures id { result ≡ option_map (λ j. j.id) (first_of (is_held_by seat) is_lease_before self.old.jobs) }
+        ensures id { result
+            ≡ option_map (λ j. j.id) (first_of (is_held_by seat) is_lease_before self.old.jobs) }
         ensures same { self.new ≡ record self.old { comparisons = self.new.comparisons } }
         ensures comparisons { ComparesAtMost 1 self.old self.new }
     {
@@ -261,7 +273,9 @@ impl Jobs {
     /// The priority and the id of the most urgent ready job of a tube: by priority, then by id.
     #[tactic(auto, unfolding(crate::specs::Ranks::first_held))]
     pub fn most_urgent(&mut self, tube: &TubeName) -> Option<(u64, JobId)>
-        ensures rank { result ≡ option_map (ranked (λ j. j.pri)) (first_of (is_ready_in tube.now) is_job_before self.old.jobs) }
+        ensures rank { result
+            ≡ option_map (ranked (λ j. j.pri))
+            (first_of (is_ready_in tube.now) is_job_before self.old.jobs) }
         ensures same { self.new ≡ record self.old { comparisons = self.new.comparisons } }
         ensures comparisons { ComparesAtMost 1 self.old self.new }
     {
@@ -271,7 +285,9 @@ impl Jobs {
     /// The due moment and the id of the delayed job that is due first, in whatever tube.
     #[tactic(auto, unfolding(crate::specs::Ranks::first_timed))]
     pub fn next_due(&mut self) -> Option<(Moment, JobId)>
-        ensures rank { result ≡ option_map (ranked (λ j. due_of j.state)) (first_of (λ j. is_delayed j.state) is_due_before self.old.jobs) }
+        ensures rank { result
+            ≡ option_map (ranked (λ j. due_of j.state))
+            (first_of (λ j. is_delayed j.state) is_due_before self.old.jobs) }
         ensures same { self.new ≡ record self.old { comparisons = self.new.comparisons } }
         ensures comparisons { ComparesAtMost 1 self.old self.new }
     {
@@ -292,7 +308,9 @@ impl Jobs {
     /// The deadline and the id of the job of the client at a seat whose time to run ends first.
     #[tactic(auto, unfolding(crate::specs::Ranks::first_held))]
     pub fn next_deadline_of(&mut self, seat: Seat) -> Option<(Moment, JobId)>
-        ensures rank { result ≡ option_map (ranked (λ j. deadline_of j.state)) (first_of (is_held_by seat) is_lease_before self.old.jobs) }
+        ensures rank { result
+            ≡ option_map (ranked (λ j. deadline_of j.state))
+            (first_of (is_held_by seat) is_lease_before self.old.jobs) }
         ensures same { self.new ≡ record self.old { comparisons = self.new.comparisons } }
         ensures comparisons { ComparesAtMost 1 self.old self.new }
     {
@@ -338,8 +356,10 @@ impl Jobs {
     #[tactic(auto, using(crate::proofs::NamedJobs::kept_if, crate::proofs::NamedJobs::others_if, crate::proofs::NamedJobs::known_of))]
     pub fn know(&mut self, alloc: Global, tube: &TubeName) -> Result<(), NoMemory>
         ensures known { IfOk result (λ _. is_known tube.now self.new ≡ true) }
-        ensures others { (other : List ℕ) → is_known other self.old ≡ true → is_known other self.new ≡ true }
-        ensures only { (other : List ℕ) → is_same_name tube.now other ≡ false → is_known other self.new ≡ is_known other self.old }
+        ensures others { (other : List ℕ) → is_known other self.old ≡ true
+            → is_known other self.new ≡ true }
+        ensures only { (other : List ℕ) → is_same_name tube.now other ≡ false
+            → is_known other self.new ≡ is_known other self.old }
         ensures refused { OnErr result (self.new ≡ self.old) }
         ensures same { self.new ≡ record self.old { tubes = self.new.tubes } }
     {
@@ -351,7 +371,8 @@ impl Jobs {
     pub fn forget(&mut self, tube: &TubeName)
         requires none { list_any (λ j. is_same_name tube.now j.tube) self.old.jobs ≡ false }
         ensures gone { is_known tube.now self.new ≡ false }
-        ensures others { (other : List ℕ) → is_same_name tube.now other ≡ false → is_known other self.new ≡ is_known other self.old }
+        ensures others { (other : List ℕ) → is_same_name tube.now other ≡ false
+            → is_known other self.new ≡ is_known other self.old }
         ensures same { self.new ≡ record self.old { tubes = self.new.tubes } }
     {
         self.tubes.remove(tube);

@@ -318,9 +318,12 @@ pub(crate) fn shift<G: Ord + Drop>(
 )
     requires held { ForSome from (λ p. IsSome (holds_place G.cmp p order.old.entries)) }
     requires spare { ForSome to (λ _. 0 < order.old.spare + (if is_some from then 1 else 0)) }
-    requires absent { ForSome to (λ p. holds_place G.cmp p (without_place G.cmp from order.old.entries) ≡ None) }
-    ensures entries { order.new.entries ≡ with_place G.cmp to (without_place G.cmp from order.old.entries) }
-    ensures spare { order.new.spare + (if is_some to then 1 else 0) ≡ order.old.spare + (if is_some from then 1 else 0) }
+    requires absent { ForSome to
+        (λ p. holds_place G.cmp p (without_place G.cmp from order.old.entries) ≡ None) }
+    ensures entries { order.new.entries
+        ≡ with_place G.cmp to (without_place G.cmp from order.old.entries) }
+    ensures spare { order.new.spare + (if is_some to then 1 else 0)
+        ≡ order.old.spare + (if is_some from then 1 else 0) }
     ensures comparisons { ComparesTwice order.old order.new }
 {
     leave(order, from);

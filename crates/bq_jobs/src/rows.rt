@@ -160,7 +160,8 @@ impl Rows {
     pub(crate) fn change<E: JobEdit>(&mut self, id: JobId, edit: &E) -> Option<MovedRow>
         requires id { KeepsId (E.edited edit.now) }
         requires tube { IgnoresTube (E.edited edit.now) }
-        ensures moved { result ≡ option_map (row_moved_by (E.edited edit.now)) (job_with id self.old.jobs) }
+        ensures moved { result
+            ≡ option_map (row_moved_by (E.edited edit.now)) (job_with id self.old.jobs) }
         ensures jobs { self.new.jobs ≡ with_changed id (E.edited edit.now) self.old.jobs }
         ensures room { self.new.room ≡ self.old.room }
         ensures comparisons { ComparesAtMost 7 self.old self.new }
@@ -249,8 +250,10 @@ fn apply<E: JobEdit>(edit: &E, job: &mut Row) -> MovedRow
 
 // Changes the job of this id where it lies, if there is one.
 fn edit_at<E: JobEdit>(by_id: &mut Shelf<JobId, Row>, id: JobId, edit: &E) -> Option<MovedRow>
-    ensures moved { result ≡ option_map (row_moved_by (E.edited edit.now)) (entry_at id by_id.old.entries) }
-    ensures entries { by_id.new.entries ≡ with_edited id (E.edited edit.now) (entry_at id by_id.old.entries) by_id.old.entries }
+    ensures moved { result
+        ≡ option_map (row_moved_by (E.edited edit.now)) (entry_at id by_id.old.entries) }
+    ensures entries { by_id.new.entries
+        ≡ with_edited id (E.edited edit.now) (entry_at id by_id.old.entries) by_id.old.entries }
     ensures spare { by_id.new.spare ≡ by_id.old.spare }
     ensures comparisons { ComparesFew by_id.old by_id.new }
 {

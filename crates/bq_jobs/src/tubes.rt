@@ -149,7 +149,8 @@ impl NumberedTubes {
 
     /// Sees to it that a tube is known. The growth that this needs comes before any change.
     pub(crate) fn add(&mut self, alloc: Global, name: &TubeName) -> Result<(), NoMemory>
-        ensures after { self.new ≡ (if is_ok result then with_known name.now self.old else self.old) }
+        ensures after { self.new
+            ≡ (if is_ok result then with_known name.now self.old else self.old) }
         ensures paired { IsPaired self.old }
     {
         if self.numbers.peek(name).is_some() {

@@ -51,7 +51,8 @@ impl Locked {
     /// The fault is `BadConfiguration` where the configuration is out of its ranges, and else `NoMemory`.
     pub fn new(alloc: Global, config: Config, room: usize) -> Result<Locked, RunFault>
         ensures made { IfOk result (λ locked. locked ≡ new_locked config room) }
-        ensures bad_configuration { IsErrOf result RunFault.BadConfiguration ↔ IsTrue (not (are_in_range config)) }
+        ensures bad_configuration { IsErrOf result RunFault.BadConfiguration ↔ IsTrue
+            (not (are_in_range config)) }
         ensures no_thread { IsErrOf result RunFault.ThreadRefused ↔ ⊥ }
     {
         let core = match Core::new(alloc, config) {
@@ -97,7 +98,8 @@ impl Locked {
     /// there is no such seat.
     pub fn fetch(&mut self, seat: Seat) -> Option<Answer>
         ensures oldest { result ≡ oldest_for seat self.old.outboxes }
-        ensures rest { self.new ≡ record self.old { outboxes = without_oldest seat self.old.outboxes } }
+        ensures rest { self.new
+            ≡ record self.old { outboxes = without_oldest seat self.old.outboxes } }
         ensures holds { IsLawfulHold self.new }
     {
         self.outboxes.fetch(seat)

@@ -68,7 +68,8 @@ pub trait Door {
         requires { is_out self.old ≡ true }
         ensures inside { is_out self.new ≡ false }
         ensures at_end { is_at_end self.new ≡ is_at_end self.old }
-        ensures over { lines_over self.new ≡ lines_over self.old ++ record { seen = Self.Line.seen line; over = end } ∷ [] }
+        ensures over { lines_over self.new
+            ≡ lines_over self.old ++ record { seen = Self.Line.seen line; over = end } ∷ [] }
         ensures same { (first : Self) → same first self.old → same first self.new };
 
     /// An unchanged door is the same.

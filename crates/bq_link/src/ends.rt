@@ -67,10 +67,12 @@ impl CoreEnd {
     pub fn take<J: Record, R: Wait>(&mut self, rt: &R, intake: &Intake<J>) -> Option<(Seat, Step)>
         requires intake { self.old.intake ≡ intake.now.id }
         requires may { MayTake J.was }
-        ensures taken { IfSome result (λ t. self.new ≡ record self.old { taken = self.old.taken ++ t ∷ [] }) }
+        ensures taken { IfSome result
+            (λ t. self.new ≡ record self.old { taken = self.old.taken ++ t ∷ [] }) }
         ensures number { IfSome result (λ t. t.0 < length self.old.rings) }
         ensures none { IfNone result (self.new ≡ self.old) }
-        ensures empty { IfNone result (J.was self.old.taken [] × Covers self.old.taken self.old.told) }
+        ensures empty { IfNone result
+            (J.was self.old.taken [] × Covers self.old.taken self.old.told) }
     {
         intake.queue.pop_as::<Takes<J>, R>(rt, &mut self.pass)
     }
@@ -82,7 +84,8 @@ impl CoreEnd {
     pub fn is_empty<J: Record>(&mut self, intake: &Intake<J>) -> bool
         requires intake { self.old.intake ≡ intake.now.id }
         ensures same { self.new ≡ self.old }
-        ensures empty { result ≡ true → J.was self.old.taken [] × Covers self.old.taken self.old.told }
+        ensures empty { result ≡ true
+            → J.was self.old.taken [] × Covers self.old.taken self.old.told }
     {
         intake.queue.is_empty_as::<Takes<J>>(&mut self.pass)
     }
@@ -90,7 +93,8 @@ impl CoreEnd {
     /// Sends an answer to the end with this number, or hands it back where its ring is full (refusal 402).
     pub fn send(&mut self, seat: Seat, answer: Answer) -> Result<(), Answer>
         requires { seat < length self.old.rings }
-        ensures sent { OnOk result (self.new ≡ with_room (with_sent self.old seat answer) seat (room_for self.new seat)) }
+        ensures sent { OnOk result
+            (self.new ≡ with_room (with_sent self.old seat answer) seat (room_for self.new seat)) }
         ensures to { OnOk result (sent_to self.new seat ≡ sent_to self.old seat ++ answer ∷ []) }
         ensures handed_back { IfErr result (λ back. back ≡ answer) }
         ensures unchanged { OnErr result (self.new ≡ with_room self.old seat 0) }
@@ -119,7 +123,8 @@ impl CoreEnd {
     pub fn send_reserved(&mut self, seat: Seat, answer: Answer)
         requires within { seat < length self.old.rings }
         requires room { 0 < room_for self.old seat }
-        ensures sent { self.new ≡ with_room (with_sent self.old seat answer) seat (room_for self.new seat) }
+        ensures sent { self.new
+            ≡ with_room (with_sent self.old seat answer) seat (room_for self.new seat) }
         ensures to { sent_to self.new seat ≡ sent_to self.old seat ++ answer ∷ [] }
         ensures less { room_for self.old seat ≡ room_for self.new seat + 1 }
     {
@@ -134,7 +139,8 @@ impl CoreEnd {
         ensures whole { seat.new.taken ++ seat.new.waiting ≡ sent_to self.new seat.old.number }
         ensures room { ring_places ≤ room_for self.new seat.old.number + result }
         ensures seat { seat.new ≡ record seat.old { waiting = seat.new.waiting } }
-        ensures core { self.new ≡ with_room self.old seat.old.number (room_for self.new seat.old.number) }
+        ensures core { self.new
+            ≡ with_room self.old seat.old.number (room_for self.new seat.old.number) }
     {
         let ring = &mut self.rings[usize::from(seat.number)];
         ring.slots_beside(&mut seat.mail);
@@ -209,7 +215,8 @@ impl SeatEnd {
     ) -> Result<(), Step>
         requires intake { self.old.intake ≡ intake.now.id }
         requires may { MaySubmit J.was intake.now.places self.old.number step }
-        ensures submitted { OnOk result (self.new ≡ record self.old { submitted = self.old.submitted ++ step ∷ [] }) }
+        ensures submitted { OnOk result
+            (self.new ≡ record self.old { submitted = self.old.submitted ++ step ∷ [] }) }
         ensures handed_back { IfErr result (λ back. back ≡ step) }
         ensures unchanged { OnErr result (self.new ≡ self.old) }
         ensures full { OnErr result (WasFull J.was intake.now.places self.old) }
@@ -228,7 +235,8 @@ impl SeatEnd {
     pub fn mail(&mut self) -> Option<Answer>
         ensures taken { IfSome result (λ answer.
             self.new ≡ record self.old { taken = self.old.taken ++ answer ∷ []; waiting = self.new.waiting }) }
-        ensures next { IfSome result (λ answer. IsPrefix self.old.waiting (answer ∷ self.new.waiting)) }
+        ensures next { IfSome result
+            (λ answer. IsPrefix self.old.waiting (answer ∷ self.new.waiting)) }
         ensures none { IfNone result ((self.old.waiting ≡ []) × (self.new ≡ self.old)) }
     {
         self.mail.pop().ok()

@@ -53,7 +53,8 @@ fn seat_ends<J: Record>(
     requires few { ends ≤ 257 }
     requires new { IsNewCore 0 core.old }
     ensures core { OnOk result ((core.new.intake ≡ core.old.intake) × IsNewCore ends core.new) }
-    ensures seats { IfOk result (λ seats. (length seats.items ≡ ends) × AreNewSeats core.new seats.items) }
+    ensures seats { IfOk result
+        (λ seats. (length seats.items ≡ ends) × AreNewSeats core.new seats.items) }
 {
     let mut seats = Vec::with_capacity(alloc, ends)?;
     for _number in 0..ends {

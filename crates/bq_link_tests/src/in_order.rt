@@ -81,7 +81,8 @@ fn four_seats_in_order(rt: HostRuntime) -> Result<(), Fail> {
     let (_, (in_order, next)) = thread::join(
         &rt,
         move ||
-            requires { (a.intake ≡ shared.now.id) × (b.intake ≡ shared.now.id) × (c.intake ≡ shared.now.id) × (d.intake ≡ shared.now.id) }
+            requires { (a.intake ≡ shared.now.id) × (b.intake ≡ shared.now.id)
+                × (c.intake ≡ shared.now.id) × (d.intake ≡ shared.now.id) }
         {
             thread::join(
                 &rt,

@@ -60,7 +60,8 @@ impl<C: Clock + Drop> LockedDesk<C> {
     // A look at the mail of a seat, before which a tick is made where the core is due.
     fn look(&mut self, seat: Seat) -> (Look, Rings)
         ensures looked { HasLooked C.given seat self.old result.0 self.new }
-        ensures rings { AreRungByTick (next_due self.old.locked.machine) self.new.heard (others seat self.new.locked.answered) result.1 }
+        ensures rings { AreRungByTick (next_due self.old.locked.machine) self.new.heard
+            (others seat self.new.locked.answered) result.1 }
     {
         let (rest, rings) = self.tick_if_due(seat);
         match self.locked.fetch(seat) {
@@ -72,10 +73,12 @@ impl<C: Clock + Drop> LockedDesk<C> {
     // The clock is read where the core is ever due. The reading that finds it due is the tick's. How long
     // the seat may rest at most, in milliseconds, and whose bells are to be rung.
     fn tick_if_due(&mut self, seat: Seat) -> (u64, Rings)
-        ensures passed { HasPassed C.given seat (next_due self.old.locked.machine) self.old self.new }
+        ensures passed { HasPassed C.given seat
+            (next_due self.old.locked.machine) self.old self.new }
         ensures rest { EndsInTime (next_due self.old.locked.machine) self.new.heard result.0 }
         ensures most { result.0 ≤ 100 }
-        ensures rings { AreRungByTick (next_due self.old.locked.machine) self.new.heard (others seat self.new.locked.answered) result.1 }
+        ensures rings { AreRungByTick (next_due self.old.locked.machine) self.new.heard
+            (others seat self.new.locked.answered) result.1 }
     {
         let Some(due) = self.locked.next_due() else {
             return (LONGEST_REST, Rings::none());

@@ -57,7 +57,8 @@ pub fn run_locked<
     room: usize,
 ) -> Result<LockedRun<D, C>, RunFault>
     // No line is out or over at any door, and none is at its end.
-    requires new { All (λ door. IsNewDoor (door_seen D.is_out D.is_at_end D.lines_over door)) doors.items }
+    requires new { All
+        (λ door. IsNewDoor (door_seen D.is_out D.is_at_end D.lines_over door)) doors.items }
     // Each door was served to its end: its lines' steps were submitted, and each line was written the answers
     // that were taken for it. What ties them to the steps of the core no clause tells.
     ensures served { IfOk result (λ run. All (λ door. IsServedToEnd config.max_job_size (door_seen D.is_out D.is_at_end D.lines_over door))
@@ -129,7 +130,8 @@ fn serve_in_scope<
     ensures many { IfOk result (λ doors. vec_len doors ≡ vec_len posts.all) }
     ensures served { IfOk result (λ doors. All
         (λ door. IsServedToEnd posts.max_job_size (door_seen D.is_out D.is_at_end D.lines_over door)) doors.items) }
-    ensures same { IfOk result (λ doors. AreSame D.same (reverse (map (λ post. post.door) posts.all.items)) doors.items) }
+    ensures same { IfOk result
+        (λ doors. AreSame D.same (reverse (map (λ post. post.door) posts.all.items)) doors.items) }
 {
     thread::scope(
         thread::scope_env(),
@@ -139,7 +141,9 @@ fn serve_in_scope<
             ensures many { IfOk result (λ doors. vec_len doors ≡ vec_len posts.all) }
             ensures served { IfOk result (λ doors. All
                 (λ door. IsServedToEnd posts.max_job_size (door_seen D.is_out D.is_at_end D.lines_over door)) doors.items) }
-            ensures same { IfOk result (λ doors. AreSame D.same (reverse (map (λ post. post.door) posts.all.items)) doors.items) }
+            ensures same { IfOk result
+                (λ doors. AreSame D.same
+                (reverse (map (λ post. post.door) posts.all.items)) doors.items) }
         {
             serve_all(
                 scope,
@@ -164,10 +168,13 @@ fn new_posts<L: Line + Drop, D: Door<Line = L> + Drop>(
 ) -> Result<Vec<Post<L, D>, Global>, NoMemory>
     requires size { IsTrue (is_body_size max_job_size) }
     requires few { vec_len doors ≤ 65535 }
-    requires new { All (λ door. IsNewDoor (door_seen D.is_out D.is_at_end D.lines_over door)) doors.items }
+    requires new { All
+        (λ door. IsNewDoor (door_seen D.is_out D.is_at_end D.lines_over door)) doors.items }
     ensures many { IfOk result (λ posts. vec_len posts ≡ vec_len doors) }
-    ensures limits { IfOk result (λ posts. All (λ post. post.max_job_size ≡ max_job_size) posts.items) }
-    ensures doors { IfOk result (λ posts. reverse (map (λ post. post.door) posts.items) ≡ doors.items) }
+    ensures limits { IfOk result
+        (λ posts. All (λ post. post.max_job_size ≡ max_job_size) posts.items) }
+    ensures doors { IfOk result
+        (λ posts. reverse (map (λ post. post.door) posts.items) ≡ doors.items) }
 {
     let Ok(mut posts) = Vec::with_capacity(alloc, doors.len()) else {
         return Err(NoMemory);
@@ -219,7 +226,8 @@ fn serve_all<
     ensures many { IfOk result (λ doors. vec_len doors ≡ vec_len posts.all) }
     ensures served { IfOk result (λ doors. All
         (λ door. IsServedToEnd posts.max_job_size (door_seen D.is_out D.is_at_end D.lines_over door)) doors.items) }
-    ensures same { IfOk result (λ doors. AreSame D.same (reverse (map (λ post. post.door) posts.all.items)) doors.items) }
+    ensures same { IfOk result
+        (λ doors. AreSame D.same (reverse (map (λ post. post.door) posts.all.items)) doors.items) }
 {
     let SeatPosts { all, max_job_size } = posts;
     let seats = all.len();
@@ -277,7 +285,8 @@ fn start_threads<
     requires none { vec_len threads.old ≡ 0 }
     requires limits { All (λ post. post.max_job_size ≡ max_job_size) posts.items }
     ensures many { IsTrue result → vec_len threads.new ≡ vec_len posts }
-    ensures limits { IsTrue result → All (λ thread. thread.promise.max_job_size ≡ max_job_size) threads.new.items }
+    ensures limits { IsTrue result
+        → All (λ thread. thread.promise.max_job_size ≡ max_job_size) threads.new.items }
     // The last post's thread comes first.
     ensures doors { IsTrue result
         → map (λ thread. thread.promise.door.value) threads.new.items ≡ reverse (map (λ post. post.door) posts.items) }
@@ -311,7 +320,9 @@ fn join_all<R: Threads, D: Door + Drop + Send>(
     ensures many { IfOk result (λ all. vec_len all ≡ vec_len threads) }
     ensures served { IfOk result (λ all. All (λ door. IsServedToEnd max_job_size (door_seen D.is_out D.is_at_end D.lines_over door))
         all.items) }
-    ensures same { IfOk result (λ all. AreSame D.same (map (λ thread. thread.promise.door.value) threads.items) all.items) }
+    ensures same { IfOk result
+        (λ all. AreSame D.same
+        (map (λ thread. thread.promise.door.value) threads.items) all.items) }
 {
     for thread in threads {
         let Some(door) = thread.join(rt) else {

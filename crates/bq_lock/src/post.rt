@@ -69,7 +69,9 @@ impl<L: Line + Drop, D: Door<Line = L> + Drop> Post<L, D> {
         bells: &Bells,
         start: &Start,
     ) -> Option<D>
-        ensures served { IfSome result (λ door. IsServedToEnd self.max_job_size (door_seen D.is_out D.is_at_end D.lines_over door)) }
+        ensures served { IfSome result
+            (λ door. IsServedToEnd self.max_job_size
+            (door_seen D.is_out D.is_at_end D.lines_over door)) }
         ensures same { IfSome result (D.same self.door) }
     {
         let Post {

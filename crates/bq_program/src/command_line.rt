@@ -98,7 +98,8 @@ fn max_job_size(asked: Option<u32>) -> u32
     ensures least { 1 ≤ result }
     ensures most { result ≤ LARGEST_BODY }
     ensures usual { asked ≡ None → result ≡ USUAL_BODY }
-    ensures chosen { (bytes : ℕ) → asked ≡ Some bytes → 1 ≤ bytes → bytes ≤ LARGEST_BODY → result ≡ bytes }
+    ensures chosen { (bytes : ℕ) → asked ≡ Some bytes
+        → 1 ≤ bytes → bytes ≤ LARGEST_BODY → result ≡ bytes }
 {
     asked.unwrap_or(USUAL_BODY).clamp(1, LARGEST_BODY)
 }

@@ -71,12 +71,15 @@ pub fn run_sessions<
     control: I,
 ) -> Result<Run<D, C, I, K>, RunFault>
     // No line is out or over at any door, and none is at its end.
-    requires new { All (λ door. IsNewDoor (door_seen D.is_out D.is_at_end D.lines_over door)) doors.items }
+    requires new { All
+        (λ door. IsNewDoor (door_seen D.is_out D.is_at_end D.lines_over door)) doors.items }
     // There is one history of all clients' steps and those of the control line, each at the moment of a
     // reading of the clock. The one-list machine takes it, the core stands for the machine after it, and each
     // line was written exactly what it is owed along it. It is what the ends of the links submitted and took.
-    ensures served { IfOk result (IsRunOf C.given D.lines_over I.remaining I.may_fail K.machine K.comparisons config clock control) }
-    ensures at_end { IfOk result (λ run. All (λ door. (D.is_out door ≡ false) × (D.is_at_end door ≡ true)) run.doors.items) }
+    ensures served { IfOk result
+        (IsRunOf C.given D.lines_over I.remaining I.may_fail K.machine K.comparisons config clock control) }
+    ensures at_end { IfOk result
+        (λ run. All (λ door. (D.is_out door ≡ false) × (D.is_at_end door ≡ true)) run.doors.items) }
     // They are the doors that were handed in, in their order.
     ensures same { IfOk result (λ run. AreSame D.same doors.items run.doors.items) }
     // The core can go on.
@@ -112,10 +115,12 @@ fn settled_run<D: Drop, C: Drop, I: Drop, K: Drop>(
     ended: Ended<D, C, I, K>,
 ) -> Result<Run<D, C, I, K>, RunFault>
     requires of_intake { ended.core_end.intake ≡ intake.id }
-    requires pairs { ArePaired ended.core_end (ended.ends.ends.items ++ ended.ends.control_end ∷ []) }
+    requires pairs { ArePaired ended.core_end
+        (ended.ends.ends.items ++ ended.ends.control_end ∷ []) }
     ensures fault { IsErrOf result RunFault.BadConfiguration → ⊥ }
     ensures core { IfOk result (λ run. IsCoreStill ended.core_end run.core_end) }
-    ensures ends { IfOk result (λ run. AreStill (ended.ends.ends.items ++ ended.ends.control_end ∷ []) run.ends.items) }
+    ensures ends { IfOk result
+        (λ run. AreStill (ended.ends.ends.items ++ ended.ends.control_end ∷ []) run.ends.items) }
     ensures settled { IfOk result (λ run. AreSettled run.core_end run.ends.items) }
     ensures intake { IfOk result (λ run. run.intake ≡ intake) }
     ensures rest { IfOk result (λ run. (run.doors ≡ ended.ends.doors) × (run.clock ≡ ended.clock)

@@ -44,7 +44,8 @@ impl<C: Clock + Drop> Desk<C> {
     pub fn new(alloc: Global, config: Config, clock: C) -> Result<Desk<C>, RunFault>
         ensures made { IfOk result (λ desk. IsNewDesk config (state_of desk)) }
         ensures clock { IfOk result (λ desk. desk.clock ≡ clock) }
-        ensures bad_configuration { IsErrOf result RunFault.BadConfiguration ↔ IsTrue (not (are_in_range config)) }
+        ensures bad_configuration { IsErrOf result RunFault.BadConfiguration ↔ IsTrue
+            (not (are_in_range config)) }
         ensures no_thread { IsErrOf result RunFault.ThreadRefused ↔ ⊥ }
     {
         let core = match Core::new(alloc, config) {
@@ -114,7 +115,8 @@ impl<C: Clock + Drop> Desk<C> {
         requires empty { (state_of self.old).pending ≡ [] }
         ensures mails { HasMails (state_of self.new) }
         ensures many { length (state_of self.new).mails ≡ length (state_of self.old).mails }
-        ensures passes { PassesTime C.given seat (next_due (state_of self.old).core) self.old self.new }
+        ensures passes { PassesTime C.given seat
+            (next_due (state_of self.old).core) self.old self.new }
         ensures went { WentAt C.given seat self.old [] [] self.new }
     {
         let Some(due) = self.core.next_due() else {
@@ -153,7 +155,8 @@ impl<C: Clock + Drop> Desk<C> {
     }
 
     fn next_pending(&mut self) -> Option<(Seat, Answer)>
-        ensures pending { (state_of self.old).pending ≡ option_to_list result ++ (state_of self.new).pending }
+        ensures pending { (state_of self.old).pending
+            ≡ option_to_list result ++ (state_of self.new).pending }
         ensures none { IsNone result → (state_of self.new).pending ≡ [] }
         ensures held { option_to_list self.new.held ≡ [] }
         ensures most { self.new.outs.most ≡ self.old.outs.most }

@@ -49,7 +49,8 @@ impl Mail {
 
     /// Puts an answer behind the others, or hands it back where there is no room.
     pub fn put(&mut self, answer: Answer) -> Result<(), Answer>
-        ensures put { MatchResult result (λ done. self.new ≡ self.old ++ answer ∷ []) (λ back. (back ≡ answer) × (self.new ≡ self.old)) }
+        ensures put { MatchResult result (λ done. self.new ≡ self.old ++ answer ∷ [])
+            (λ back. (back ≡ answer) × (self.new ≡ self.old)) }
         ensures full { IsErr result ↔ (4 ≤ length self.old) }
     {
         if self.answers.len() >= MAIL_ROOM {

@@ -56,7 +56,8 @@ pub fn run_one<R: Wait, L: Line + Drop, C: Clock + Drop>(
         IsHistoryOfLine config 0 (record { seen = L.seen one.line; over = one.end }) readings) }
     // It is the line that was handed in, over the same stream.
     ensures stays { IfOk result (λ one. StaysOver L.lies_over line one.line) }
-    ensures bad_configuration { IsErrOf result RunFault.BadConfiguration ↔ IsTrue (not (is_lone config)) }
+    ensures bad_configuration { IsErrOf result RunFault.BadConfiguration ↔ IsTrue
+        (not (is_lone config)) }
     ensures no_thread { IsErrOf result RunFault.ThreadRefused ↔ ⊥ }
 {
     if config.seats != 1 {

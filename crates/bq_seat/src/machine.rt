@@ -151,7 +151,8 @@ impl SeatMachine {
     /// The same as `on_in_place` by mail whose answer lies in the place already, to be written: where that is done
     /// next, it stays where it lies.
     pub fn mail_in_place(&mut self, next: &mut Action)
-        ensures { (answer : Answer) → next.old ≡ Action.Write answer → IsMove self.old (Event.Mail answer) next.new self.new }
+        ensures { (answer : Answer) → next.old ≡ Action.Write answer
+            → IsMove self.old (Event.Mail answer) next.new self.new }
     {
         self.mail(next)
     }
@@ -254,7 +255,8 @@ impl SeatMachine {
     }
 
     fn mail(&mut self, next: &mut Action)
-        ensures { (answer : Answer) → next.old ≡ Action.Write answer → IsStagedMove self.old (Event.Mail answer) next.new self.new }
+        ensures { (answer : Answer) → next.old ≡ Action.Write answer
+            → IsStagedMove self.old (Event.Mail answer) next.new self.new }
     {
         match self.stage {
             Stage::Polling { .. } => self.stage = Stage::Writing,
@@ -344,8 +346,10 @@ impl SeatMachine {
 
     // No answer has come yet: while a reserve waits, the line is read if no bytes are kept.
     fn no_mail_yet(&mut self, waits: bool, next: &mut Action)
-        ensures action { next.new ≡ (if reads_on waits self.old then Action.Read else Action.PollMail) }
-        ensures after { self.new ≡ (if reads_on waits self.old then in_stage Stage.ReadingOn self.old else self.old) }
+        ensures action { next.new
+            ≡ (if reads_on waits self.old then Action.Read else Action.PollMail) }
+        ensures after { self.new
+            ≡ (if reads_on waits self.old then in_stage Stage.ReadingOn self.old else self.old) }
     {
         if waits && !self.end_told && self.kept.is_empty() {
             self.stage = Stage::ReadingOn;

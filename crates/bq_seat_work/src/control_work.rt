@@ -24,7 +24,8 @@ pub fn control_work<R: Wait, S: SharedCore, I: ControlReader + Drop>(
     requires end { IsNewEnd end }
     ensures end { IsSameSeat end result.0 }
     ensures over { IsTrue (result.1.ended || result.1.failed) }
-    ensures read { IsReadToEnd (I.remaining control) (I.remaining result.1.reader) result.1.read result.1.failed }
+    ensures read { IsReadToEnd (I.remaining control)
+        (I.remaining result.1.reader) result.1.read result.1.failed }
     // It failed only where a read of the reader may fail.
     ensures fault { result.1.failed ≡ true → I.may_fail control ≡ true }
     ensures done { IsControlDone result.1.read result.1.failed result.0.submitted }

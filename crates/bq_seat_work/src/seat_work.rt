@@ -233,7 +233,8 @@ fn submit_at<R: Wait, J: Record>(
     step: &mut Step,
 ) -> bool
     requires intake { end.old.intake ≡ intake.now.id }
-    requires may { is_tick step.old ≡ false → MaySubmit J.was intake.now.places end.old.number step.old }
+    requires may { is_tick step.old ≡ false
+        → MaySubmit J.was intake.now.places end.old.number step.old }
     ensures intake { end.new.intake ≡ intake.now.id }
     ensures went { SubmitsInPlace EndWent end.old step.old result step.new end.new }
     ensures full { result ≡ false → WasFull J.was intake.now.places end.old }
@@ -271,7 +272,8 @@ fn mail_at<R: Wait>(
 // Looks so often at what came to an end, and once at least.
 fn look_often(end: &mut SeatEnd, looks: u32, place: &mut Action) -> bool
     ensures went { TakesInPlace EndWent end.old place.old result place.new end.new }
-    ensures none { result ≡ false → (end.old.waiting ≡ []) × (end.new ≡ end.old) × (place.new ≡ place.old) }
+    ensures none { result ≡ false
+        → (end.old.waiting ≡ []) × (end.new ≡ end.old) × (place.new ≡ place.old) }
 {
     for _ in 1..looks {
         if look(end, place) {
@@ -285,7 +287,8 @@ fn look_often(end: &mut SeatEnd, looks: u32, place: &mut Action) -> bool
 // One look at what came to an end.
 fn look(end: &mut SeatEnd, place: &mut Action) -> bool
     ensures went { TakesInPlace EndWent end.old place.old result place.new end.new }
-    ensures none { result ≡ false → (end.old.waiting ≡ []) × (end.new ≡ end.old) × (place.new ≡ place.old) }
+    ensures none { result ≡ false
+        → (end.old.waiting ≡ []) × (end.new ≡ end.old) × (place.new ≡ place.old) }
 {
     match end.mail() {
         Some(answer) => {
@@ -310,7 +313,8 @@ pub fn attend_at<R: Wait, S: SharedCore, L: Line + Drop, D: Door<Line = L>>(
     pace: &mut Pace,
 ) -> bool
     requires intake { end.old.intake ≡ intake.now.id }
-    requires placed { IsPlaced attendant.old.place (door_seen D.is_out D.is_at_end D.lines_over door.old) }
+    requires placed { IsPlaced attendant.old.place
+        (door_seen D.is_out D.is_at_end D.lines_over door.old) }
     ensures same { IsSameSeat end.old end.new }
     ensures went { let at = door_seen D.is_out D.is_at_end D.lines_over in
         GoesOn EndWent end.old end.new L.seen attendant.old (at door.old) attendant.new (at door.new) }
@@ -339,7 +343,8 @@ pub fn control_at<R: Wait, S: SharedCore, I: ControlInput>(
     requires new { I.seen control.old ≡ new_control }
     requires intake { end.old.intake ≡ intake.now.id }
     ensures over { IsOver (I.seen control.new) }
-    ensures read { IsReadToEnd (I.remaining control.old) (I.remaining control.new) (I.seen control.new).text (I.seen control.new).failed }
+    ensures read { IsReadToEnd (I.remaining control.old) (I.remaining control.new)
+        (I.seen control.new).text (I.seen control.new).failed }
     ensures fault { (I.seen control.new).failed ≡ true → I.may_fail control.old ≡ true }
     ensures done { (submitted : List Step) × IsControlDone (I.seen control.new).text (I.seen control.new).failed submitted
         × EndWent end.old submitted [] end.new }

@@ -42,13 +42,15 @@ pub fn run_sessions<
     control: I,
 ) -> Result<Run<D, C, I>, RunFault>
     // No line is out or over at any door, and none is at its end.
-    requires new { All (λ door. IsNewDoor (door_seen D.is_out D.is_at_end D.lines_over door)) doors.items }
+    requires new { All
+        (λ door. IsNewDoor (door_seen D.is_out D.is_at_end D.lines_over door)) doors.items }
     // There is one history of all clients' steps and those of the control line, each at the moment of a
     // reading of the clock. The one-list machine takes it, the core stands for the machine after it, and each
     // line was written exactly what it is owed along it. It is what the ends of the links submitted and took.
     ensures served { IfOk result (IsRunOf C.given D.lines_over I.remaining I.may_fail ⟦<Core as QueueCore>⟧.machine
         ⟦<Core as QueueCore>⟧.comparisons config clock control) }
-    ensures at_end { IfOk result (λ run. All (λ door. (D.is_out door ≡ false) × (D.is_at_end door ≡ true)) run.doors.items) }
+    ensures at_end { IfOk result
+        (λ run. All (λ door. (D.is_out door ≡ false) × (D.is_at_end door ≡ true)) run.doors.items) }
     // They are the doors that were handed in, in their order.
     ensures same { IfOk result (λ run. AreSame D.same doors.items run.doors.items) }
     // The core can go on.

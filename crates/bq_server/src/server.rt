@@ -169,7 +169,8 @@ pub fn serve_doors<
     ensures at_end { IfOk result (λ run. All (λ door. (⟦<TcpDoor<'l, R> as Door>⟧.is_out door ≡ false)
         × (⟦<TcpDoor<'l, R> as Door>⟧.is_at_end door ≡ true)) run.doors.items) }
     // They are the doors that were handed in, in their order.
-    ensures same { IfOk result (λ run. AreSame ⟦<TcpDoor<'l, R> as Door>⟧.same doors.entry.items run.doors.items) }
+    ensures same { IfOk result
+        (λ run. AreSame ⟦<TcpDoor<'l, R> as Door>⟧.same doors.entry.items run.doors.items) }
     ensures bad_configuration { IsErrOf result RunFault.BadConfiguration
         ↔ IsTrue (not (are_in_range (settings_of options.now) && vec_len doors.entry == options.now.seats)) }
 {
@@ -239,7 +240,8 @@ fn new_doors<'l, R: Wait + Clock + Eprint>(
 ) -> Result<Vec<TcpDoor<'l, R>, Global>, NoMemory>
     ensures new { IfOk result (λ all. All (λ door. IsNewDoor (door_seen ⟦<TcpDoor<'l, R> as Door>⟧.is_out
         ⟦<TcpDoor<'l, R> as Door>⟧.is_at_end ⟦<TcpDoor<'l, R> as Door>⟧.lines_over door)) all.items) }
-    ensures at { IfOk result (λ all. All (λ door. IsDoorAt listener.now options.now.sessions door) all.items) }
+    ensures at { IfOk result
+        (λ all. All (λ door. IsDoorAt listener.now options.now.sessions door) all.items) }
     ensures many { IfOk result (λ all. vec_len all ≡ options.now.seats) }
 {
     let Ok(mut doors) = Vec::with_capacity(alloc, usize::from(options.seats)) else {

@@ -36,8 +36,11 @@ fn came_of_client<R: AllocGlobal + Env + Wait + Clock, S: Duplex + Drop>(
     rt: &R,
     stream: S,
 ) -> Result<Served<S>, Stop>
-    ensures served { IfOk result (λ served. IsSessionFor (⟦<IoLine<S> as Line>⟧.seen served.line) served.end) }
-    ensures over { IfOk result (λ served. ⟦<IoLine<S> as Line>⟧.lies_over (record { left = S.remaining stream; held = S.contents stream })
+    ensures served { IfOk result
+        (λ served. IsSessionFor (⟦<IoLine<S> as Line>⟧.seen served.line) served.end) }
+    ensures over { IfOk result
+        (λ served. ⟦<IoLine<S> as Line>⟧.lies_over
+        (record { left = S.remaining stream; held = S.contents stream })
         served.line) }
 {
     let words = words(rt)?;

@@ -33,9 +33,12 @@ pub fn serve_client<'a, R: Wait, W: AsStr, S: Duplex + Drop, K: rt::Clock + Drop
 ) -> Result<Served<S>, Stop>
     // There are options in their ranges, and one history of the client's steps, which the one-list machine
     // takes by these options. The line was written exactly what it is owed along it.
-    ensures served { IfOk result (λ served. IsSessionFor (⟦<IoLine<S> as Line>⟧.seen served.line) served.end) }
+    ensures served { IfOk result
+        (λ served. IsSessionFor (⟦<IoLine<S> as Line>⟧.seen served.line) served.end) }
     // The line lies over the stream that was handed in.
-    ensures over { IfOk result (λ served. ⟦<IoLine<S> as Line>⟧.lies_over (record { left = S.remaining stream; held = S.contents stream })
+    ensures over { IfOk result
+        (λ served. ⟦<IoLine<S> as Line>⟧.lies_over
+        (record { left = S.remaining stream; held = S.contents stream })
         served.line) }
 {
     let options = bq_options(alloc, words)?;
@@ -52,8 +55,11 @@ fn serve_chosen<R: Wait, S: Duplex + Drop, K: rt::Clock + Drop>(
     clock: MachineClock<K>,
 ) -> Result<Served<S>, Fault>
     requires { IsForBq options.now }
-    ensures served { IfOk result (λ served. IsSession options.now (⟦<IoLine<S> as Line>⟧.seen served.line) served.end) }
-    ensures over { IfOk result (λ served. ⟦<IoLine<S> as Line>⟧.lies_over (record { left = S.remaining stream; held = S.contents stream })
+    ensures served { IfOk result
+        (λ served. IsSession options.now (⟦<IoLine<S> as Line>⟧.seen served.line) served.end) }
+    ensures over { IfOk result
+        (λ served. ⟦<IoLine<S> as Line>⟧.lies_over
+        (record { left = S.remaining stream; held = S.contents stream })
         served.line) }
     ensures fault { IfErr result IsMemoryRefused }
 {
@@ -76,8 +82,11 @@ fn serve_by<R: Wait, S: Duplex + Drop, C: Clock + Drop>(
     clock: C,
 ) -> Result<Served<S>, Fault>
     requires { IsForBq options.now }
-    ensures served { IfOk result (λ served. IsSession options.now (⟦<IoLine<S> as Line>⟧.seen served.line) served.end) }
-    ensures over { IfOk result (λ served. ⟦<IoLine<S> as Line>⟧.lies_over (record { left = S.remaining stream; held = S.contents stream })
+    ensures served { IfOk result
+        (λ served. IsSession options.now (⟦<IoLine<S> as Line>⟧.seen served.line) served.end) }
+    ensures over { IfOk result
+        (λ served. ⟦<IoLine<S> as Line>⟧.lies_over
+        (record { left = S.remaining stream; held = S.contents stream })
         served.line) }
     ensures fault { IfErr result (λ fault. fault ≡ Fault.NoMemory Need.Queue) }
 {

@@ -30,7 +30,9 @@ impl Model for Outs {
 impl Outs {
     /// Room for the answers of a step of a core with at most so many seats.
     pub fn new(alloc: Global, seats: u16) -> Result<Outs, NoMemory>
-        ensures { IfOk result (λ outs. outs ≡ record { given = []; most = seats + 1; left_out = false; unshared = false }) }
+        ensures { IfOk result
+            (λ outs. outs
+            ≡ record { given = []; most = seats + 1; left_out = false; unshared = false }) }
     {
         let most = usize::from(seats) + 1;
         match VecDeque::with_capacity(alloc, most) {
@@ -69,7 +71,8 @@ impl Outs {
 
     /// A new step begins: what is left of the last one is dropped.
     pub fn begin(&mut self)
-        ensures { self.new ≡ record { given = []; most = self.old.most; left_out = false; unshared = false } }
+        ensures { self.new
+            ≡ record { given = []; most = self.old.most; left_out = false; unshared = false } }
     {
         self.answers.clear();
         self.left_out = false;

@@ -24,7 +24,8 @@ pub trait QueueCore: Sized {
     fn new(alloc: Global, config: Config) -> Result<Self, CoreFault>
         ensures made { IfOk result (λ core. machine core ≡ new_machine config) }
         ensures none_compared { IfOk result (λ core. comparisons core ≡ 0) }
-        ensures bad_seats { IsErrOf result CoreFault.BadSeats ↔ IsTrue (not (is_seat_count config.seats)) }
+        ensures bad_seats { IsErrOf result CoreFault.BadSeats ↔ IsTrue
+            (not (is_seat_count config.seats)) }
         ensures bad_max_job_size { IsErrOf result CoreFault.BadMaxJobSize ↔
             (IsTrue (is_seat_count config.seats) × IsTrue (not (is_body_size config.max_job_size))) }
         ensures bad_max_jobs { IsErrOf result CoreFault.BadMaxJobs ↔
@@ -35,7 +36,8 @@ pub trait QueueCore: Sized {
     /// and isn't moved on the way.
     fn step_in_place(&mut self, alloc: Global, at: Moment, seat: Seat, what: &Step, outs: &mut Outs)
         requires room { (machine self.old).settings.seats < outs.old.most }
-        ensures step { IsStep (machine self.old) at seat what.now (record { left_out = outs.new.left_out; unshared = outs.new.unshared })
+        ensures step { IsStep (machine self.old) at seat what.now
+            (record { left_out = outs.new.left_out; unshared = outs.new.unshared })
             outs.new.given (machine self.new) }
         ensures comparisons { IsStepWithin (machine self.old) at seat what.now
             (record { left_out = outs.new.left_out; unshared = outs.new.unshared }) outs.new.given (machine self.new) (comparisons self.old)
@@ -49,5 +51,6 @@ pub trait QueueCore: Sized {
     fn next_due(&mut self) -> Option<Moment>
         ensures due { result ≡ next_due (machine self.old) }
         ensures same { machine self.new ≡ machine self.old }
-        ensures comparisons { IsLookWithin (machine self.old) (comparisons self.old) (comparisons self.new) };
+        ensures comparisons { IsLookWithin (machine self.old)
+            (comparisons self.old) (comparisons self.new) };
 }

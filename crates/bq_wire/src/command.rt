@@ -55,7 +55,8 @@ fn up_to_4(word: &[u8], words: &mut Words, place: &mut Option<Request>) -> Optio
 
 // Where the first word has 5 or 6 letters.
 fn up_to_6(word: &[u8], words: &mut Words, place: &mut Option<Request>) -> Option<LineRead>
-    ensures { AsksFor (named_where (λ n. nat_le 5 n && nat_le n 6) word.now) words.old result place.new }
+    ensures { AsksFor
+        (named_where (λ n. nat_le 5 n && nat_le n 6) word.now) words.old result place.new }
 {
     if is(word, b"touch") {
         let id = id_word(words)?;
@@ -78,7 +79,8 @@ fn up_to_6(word: &[u8], words: &mut Words, place: &mut Option<Request>) -> Optio
 
 // Where the first word has 7 to 9 letters.
 fn up_to_9(word: &[u8], words: &mut Words, place: &mut Option<Request>) -> Option<LineRead>
-    ensures { AsksFor (named_where (λ n. nat_le 7 n && nat_le n 9) word.now) words.old result place.new }
+    ensures { AsksFor
+        (named_where (λ n. nat_le 7 n && nat_le n 9) word.now) words.old result place.new }
 {
     if is(word, b"reserve") {
         no_words(words, place, Request::Reserve)
@@ -115,7 +117,8 @@ fn of_10(word: &[u8], words: &mut Words, place: &mut Option<Request>) -> Option<
 
 // Where the first word has 11 or 12 letters.
 fn up_to_12(word: &[u8], words: &mut Words, place: &mut Option<Request>) -> Option<LineRead>
-    ensures { AsksFor (named_where (λ n. nat_le 11 n && nat_le n 12) word.now) words.old result place.new }
+    ensures { AsksFor
+        (named_where (λ n. nat_le 11 n && nat_le n 12) word.now) words.old result place.new }
 {
     if is(word, b"reserve-job") {
         let id = id_word(words)?;

@@ -51,7 +51,8 @@ pub fn read_line(line: &[u8], place: &mut Option<Request>) -> LineRead
 
 // What the first word and those behind it ask for.
 fn read_named(first: &[u8], words: &mut Words, place: &mut Option<Request>) -> LineRead
-    ensures { asked_by result place.new ≡ Some (spec.read_command (command_named first.now) words.old) }
+    ensures { asked_by result place.new
+        ≡ Some (spec.read_command (command_named first.now) words.old) }
 {
     match read_command(first, words, place) {
         Some(read) => read,

@@ -77,7 +77,8 @@ impl PutBody {
         ensures within { result ≤ length bytes.now }
         ensures taken { self.new.taken ≡ self.old.taken + result }
         ensures takes { TakesBytes self.old self.new (take result bytes.now) }
-        ensures one { 0 < length bytes.now → self.old.put.bytes ≤ self.old.taken → self.old.taken < self.old.put.bytes + 2 → result ≡ 1 }
+        ensures one { 0 < length bytes.now → self.old.put.bytes ≤ self.old.taken
+            → self.old.taken < self.old.put.bytes + 2 → result ≡ 1 }
     {
         let size = self.put.bytes as usize;
         let Some(byte) = bytes.first() else {
@@ -120,8 +121,10 @@ impl PutBody {
     pub fn into_request(self, max_job_size: u32) -> Request
         requires { self.taken ≡ self.put.bytes + 2 }
         // Where its memory was refused, that is the answer, whatever the bytes are.
-        ensures refused { self.store ≡ None → self.put.bytes ≤ max_job_size → result ≡ Request.Refused Refusal.OutOfMemory }
-        ensures request { (after : List ℕ) → IsBodySoFar self after → IsPutRequest max_job_size (put_line_of self.put) after result }
+        ensures refused { self.store ≡ None → self.put.bytes ≤ max_job_size
+            → result ≡ Request.Refused Refusal.OutOfMemory }
+        ensures request { (after : List ℕ) → IsBodySoFar self after
+            → IsPutRequest max_job_size (put_line_of self.put) after result }
     {
         if self.put.bytes > max_job_size {
             return refused(Refusal::JobTooBig);

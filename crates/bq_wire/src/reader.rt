@@ -72,7 +72,8 @@ impl RequestReader {
         ensures progress { IfSome result.1 (λ _. 0 < result.0) }
         // Whatever text it stood for, no beginning of that text and the piece is a request, all of the
         // piece was taken, and that is what it stands for now.
-        ensures waits { result.1 ≡ None → (text : List ℕ) → Stands self.old text → Waits self.new text piece.now result.0 }
+        ensures waits { result.1 ≡ None → (text : List ℕ)
+            → Stands self.old text → Waits self.new text piece.now result.0 }
         // Whatever text it stood for, that text and the bytes taken are this one request, and it stands
         // for the empty text now, or after a quit for none.
         ensures hands_out { IfSome result.1
@@ -80,7 +81,8 @@ impl RequestReader {
         // So of all bytes taken since the reader was new or restarted it hands out the requests, however
         // they were cut.
         ensures reads { ReadsOn self.old self.new piece.now result.0 result.1 }
-        ensures over { IsOver self.old → (result.0 ≡ 0) × (result.1 ≡ None) × (self.new ≡ self.old) }
+        ensures over { IsOver self.old
+            → (result.0 ≡ 0) × (result.1 ≡ None) × (self.new ≡ self.old) }
         ensures limit { self.new.max_job_size ≡ self.old.max_job_size }
     {
         let mut request = None;
@@ -98,11 +100,13 @@ impl RequestReader {
     ) -> usize
         ensures within { result ≤ length piece.now }
         ensures progress { IfSome request.new (λ _. 0 < result) }
-        ensures waits { request.new ≡ None → (text : List ℕ) → Stands self.old text → Waits self.new text piece.now result }
+        ensures waits { request.new ≡ None → (text : List ℕ)
+            → Stands self.old text → Waits self.new text piece.now result }
         ensures hands_out { IfSome request.new
             (λ asked. (text : List ℕ) → Stands self.old text → HandsRequest self.new text piece.now result asked) }
         ensures reads { ReadsOn self.old self.new piece.now result request.new }
-        ensures over { IsOver self.old → (result ≡ 0) × (request.new ≡ None) × (self.new ≡ self.old) }
+        ensures over { IsOver self.old
+            → (result ≡ 0) × (request.new ≡ None) × (self.new ≡ self.old) }
         ensures limit { self.new.max_job_size ≡ self.old.max_job_size }
     {
         feed_state(alloc, &mut self.state, piece, request)
@@ -120,7 +124,8 @@ fn feed_state(
     ensures within { result ≤ length piece.now }
     ensures progress { IfSome request.new (λ _. 0 < result) }
     ensures feeds { Feeds (Stands state.old) state.new piece.now result request.new }
-    ensures over { IsOver state.old → (result ≡ 0) × (request.new ≡ None) × (state.new ≡ state.old) }
+    ensures over { IsOver state.old
+        → (result ≡ 0) × (request.new ≡ None) × (state.new ≡ state.old) }
     ensures limit { state.new.max_job_size ≡ state.old.max_job_size }
 {
     match mem::replace(&mut state.place, ReaderPlace::Over) {
@@ -180,7 +185,8 @@ fn keep(kept: &mut KeptLine, piece: &[u8]) -> ReaderPlace
 fn whole_line(kept: &mut KeptLine, last: &[u8], place: &mut Option<Request>) -> LineRead
     requires { 0 < length kept.old + length last.now }
     ensures cleared { kept.new ≡ [] }
-    ensures read { asked_by result place.new ≡ Some (line_read.read_line (but_last (kept.old ++ last.now))) }
+    ensures read { asked_by result place.new
+        ≡ Some (line_read.read_line (but_last (kept.old ++ last.now))) }
 {
     if kept.as_slice().is_empty() {
         return read_line(&last[..last.len() - 1], place);
@@ -246,7 +252,8 @@ fn begun_body(alloc: Global, put: PutLine, max_job_size: u32) -> PutBody
 // Where a reader is behind a request of one line.
 fn place_behind(request: &Option<Request>) -> ReaderPlace
     ensures sound { IsSoundPlace result }
-    ensures behind { IfSome request.now (λ asked. result ≡ (if is_quit asked then Over else InLine)) }
+    ensures behind { IfSome request.now
+        (λ asked. result ≡ (if is_quit asked then Over else InLine)) }
 {
     match request {
         Some(Request::Quit) => ReaderPlace::Over,
@@ -264,7 +271,8 @@ fn feed_long_line(
     ensures sound { IsSoundReader state.new }
     ensures within { result ≤ length piece.now }
     ensures progress { IfSome request.new (λ _. 0 < result) }
-    ensures feeds { Feeds (StandsAt state.old (InLongLine after_cr)) state.new piece.now result request.new }
+    ensures feeds { Feeds
+        (StandsAt state.old (InLongLine after_cr)) state.new piece.now result request.new }
     ensures limit { state.new.max_job_size ≡ state.old.max_job_size }
 {
     match line_end_after(after_cr, piece) {
@@ -293,7 +301,8 @@ fn feed_body(
     ensures sound { IsSoundReader state.new }
     ensures within { result ≤ length piece.now }
     ensures progress { IfSome request.new (λ _. 0 < result) }
-    ensures feeds { Feeds (StandsAt state.old (InBody body)) state.new piece.now result request.new }
+    ensures feeds { Feeds
+        (StandsAt state.old (InBody body)) state.new piece.now result request.new }
     ensures limit { state.new.max_job_size ≡ state.old.max_job_size }
 {
     let mut body = body;
@@ -342,7 +351,9 @@ fn feed_all(
 ) -> Result<(), NoMemory>
     ensures reads { OnOk result ((taken : List ℕ) → HasRead reader.old taken requests.old.items →
         HasReadText reader.new (taken ++ piece.now) requests.new.items) }
-    ensures over { OnOk result (IsOver reader.old → (reader.new ≡ reader.old) × (requests.new.items ≡ requests.old.items)) }
+    ensures over { OnOk result
+        (IsOver reader.old
+        → (reader.new ≡ reader.old) × (requests.new.items ≡ requests.old.items)) }
     ensures limit { reader.new.max_job_size ≡ reader.old.max_job_size }
 {
     let mut from = 0;

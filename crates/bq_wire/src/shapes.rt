@@ -53,7 +53,8 @@ pub fn tube_word(words: &mut Words) -> Option<TubeName>
 /// Made where it lies, and so inlined: a request of a few bytes has as much room as the longest name.
 #[inline(always)]
 pub fn whole(place: &mut Option<Request>, request: Request) -> Option<LineRead>
-    ensures { option_map (λ read. asked_by read place.new) result ≡ Some (Some (spec.Whole request)) }
+    ensures { option_map (λ read. asked_by read place.new) result
+        ≡ Some (Some (spec.Whole request)) }
 {
     *place = Some(request);
     Some(LineRead::Whole)
@@ -77,7 +78,8 @@ pub fn no_words(
     place: &mut Option<Request>,
     request: Request,
 ) -> Option<LineRead>
-    ensures { option_map (λ read. asked_by read place.new) result ≡ option_map Some (spec.no_words request words.old) }
+    ensures { option_map (λ read. asked_by read place.new) result
+        ≡ option_map Some (spec.no_words request words.old) }
 {
     no_more(words)?;
     whole(place, request)
@@ -85,7 +87,8 @@ pub fn no_words(
 
 /// What the words of a put ask for.
 pub fn put_words(words: &mut Words) -> Option<LineRead>
-    ensures { (place : Option Request) → option_map (λ read. asked_by read place) result ≡ option_map Some (spec.put_words words.old) }
+    ensures { (place : Option Request) → option_map (λ read. asked_by read place) result
+        ≡ option_map Some (spec.put_words words.old) }
 {
     let pri = next_number(words)?;
     let delay = next_number(words)?;
@@ -104,7 +107,8 @@ pub fn put_words(words: &mut Words) -> Option<LineRead>
 
 /// What the words of a release ask for.
 pub fn release_words(words: &mut Words, place: &mut Option<Request>) -> Option<LineRead>
-    ensures { option_map (λ read. asked_by read place.new) result ≡ option_map Some (spec.release_words words.old) }
+    ensures { option_map (λ read. asked_by read place.new) result
+        ≡ option_map Some (spec.release_words words.old) }
 {
     let id = job_id(words.next()?)?;
     let pri = next_number(words)?;
@@ -114,7 +118,8 @@ pub fn release_words(words: &mut Words, place: &mut Option<Request>) -> Option<L
 
 /// What the words of a bury ask for.
 pub fn bury_words(words: &mut Words, place: &mut Option<Request>) -> Option<LineRead>
-    ensures { option_map (λ read. asked_by read place.new) result ≡ option_map Some (spec.read_words spec_words.Command.Bury words.old) }
+    ensures { option_map (λ read. asked_by read place.new) result
+        ≡ option_map Some (spec.read_words spec_words.Command.Bury words.old) }
 {
     let id = job_id(words.next()?)?;
     let pri = next_number(words)?;

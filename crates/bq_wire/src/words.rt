@@ -35,7 +35,8 @@ impl<'a> Words<'a> {
 
     /// Takes the first word that is left.
     pub fn next(&mut self) -> Option<&'a [u8]>
-        ensures { MatchOption result ((self.old ≡ []) × (self.new ≡ [])) (λ word. self.old ≡ word.now ∷ self.new) }
+        ensures { MatchOption result ((self.old ≡ []) × (self.new ≡ []))
+            (λ word. self.old ≡ word.now ∷ self.new) }
     {
         let (word, more) = first_word(self.rest?);
         self.rest = more;

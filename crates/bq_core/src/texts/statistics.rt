@@ -106,7 +106,9 @@ pub(crate) fn job_text(
     moment: Moment,
 ) -> Result<Text, NoMemory>
     requires id { id ≡ job.now.id }
-    ensures { IfOk result (λ text. (m : Machine) → m.moment ≡ moment → text ≡ job_statistics m (in_tube job.now tube.now)) }
+    ensures { IfOk result
+        (λ text. (m : Machine) → m.moment ≡ moment
+        → text ≡ job_statistics m (in_tube job.now tube.now)) }
 {
     let lines = [
         number(b"id", id),
@@ -132,7 +134,9 @@ pub(crate) fn tube_text(
     name: &TubeName,
     numbers: &TubeNumbers,
 ) -> Result<Text, NoMemory>
-    ensures { IfOk result (λ text. (m : Machine) → AreOfTube numbers.now name.now m → text ≡ tube_statistics name.now m) }
+    ensures { IfOk result
+        (λ text. (m : Machine) → AreOfTube numbers.now name.now m
+        → text ≡ tube_statistics name.now m) }
 {
     let lines = [
         word(b"name", name.as_slice()),
@@ -158,7 +162,8 @@ pub(crate) fn tube_text(
 
 /// The statistics of the server.
 pub(crate) fn server_text(alloc: Global, numbers: &ServerNumbers) -> Result<Text, NoMemory>
-    ensures { IfOk result (λ text. (m : Machine) → AreOfServer numbers.now m → text ≡ server_statistics m) }
+    ensures { IfOk result
+        (λ text. (m : Machine) → AreOfServer numbers.now m → text ≡ server_statistics m) }
 {
     let lines = [
         number(b"current-jobs-urgent", numbers.jobs.urgent),

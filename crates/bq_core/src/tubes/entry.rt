@@ -157,7 +157,8 @@ impl TubeEntry {
     }
 
     fn set_pause(&mut self, seconds: u32, moment: Moment)
-        ensures { self.new ≡ kept_after (with_pause seconds moment (record_of [] self.old)) self.old }
+        ensures { self.new
+            ≡ kept_after (with_pause seconds moment (record_of [] self.old)) self.old }
     {
         self.pauses = self.pauses.saturating_add(1);
         self.pause = if seconds == 0 {
@@ -250,7 +251,8 @@ pub(crate) fn add_job(catalog: &mut Catalog<TubeName, TubeEntry>, job: &Job)
 
 /// Counts a job in its tube no longer.
 pub(crate) fn remove_job(catalog: &mut Catalog<TubeName, TubeEntry>, job: &Job)
-    ensures { catalog.new.entries ≡ edited_at job.now.tube (kept_without job.now) catalog.old.entries }
+    ensures { catalog.new.entries
+        ≡ edited_at job.now.tube (kept_without job.now) catalog.old.entries }
 {
     if let Some(entry) = catalog.get_mut(&job.tube) {
         entry.remove_job(job);
@@ -259,7 +261,8 @@ pub(crate) fn remove_job(catalog: &mut Catalog<TubeName, TubeEntry>, job: &Job)
 
 /// A job stands otherwise in its tube.
 pub(crate) fn move_job(catalog: &mut Catalog<TubeName, TubeEntry>, moved: &Moved)
-    ensures { catalog.new.entries ≡ edited_at moved.now.tube (kept_moved moved.now) catalog.old.entries }
+    ensures { catalog.new.entries
+        ≡ edited_at moved.now.tube (kept_moved moved.now) catalog.old.entries }
 {
     if let Some(entry) = catalog.get_mut(&moved.tube) {
         entry.move_job(moved);
@@ -273,7 +276,8 @@ pub(crate) fn recount(
     moving: Moving,
     share: Share,
 )
-    ensures { catalog.new.entries ≡ edited_at name.now (kept_recounted moving share) catalog.old.entries }
+    ensures { catalog.new.entries
+        ≡ edited_at name.now (kept_recounted moving share) catalog.old.entries }
 {
     if let Some(entry) = catalog.get_mut(name) {
         entry.recount(moving, share);

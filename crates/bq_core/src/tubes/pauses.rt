@@ -73,8 +73,10 @@ pub(crate) fn drop_entry(
 // The first pause ends, if it is over.
 fn end_first(kept: &mut Catalog<TubeName, TubeEntry>, ends: &mut PauseEnds, moment: Moment) -> bool
     requires { AreEnds (map record_at kept.old.entries) ends.old }
-    ensures done { result ≡ false → is_end_over moment (first_pause_end (map record_at kept.new.entries)) ≡ false }
-    ensures records { records_ended moment kept.new.entries ≡ records_ended moment kept.old.entries }
+    ensures done { result ≡ false
+        → is_end_over moment (first_pause_end (map record_at kept.new.entries)) ≡ false }
+    ensures records { records_ended moment kept.new.entries
+        ≡ records_ended moment kept.old.entries }
     ensures tallies { map tally_kept kept.new.entries ≡ map tally_kept kept.old.entries }
     ensures crowds { map crowd_kept kept.new.entries ≡ map crowd_kept kept.old.entries }
     ensures fewer { result ≡ true → paused_count kept.new.entries < paused_count kept.old.entries }

@@ -59,7 +59,8 @@ pub(crate) fn is_alive(name: &TubeName, entry: &TubeEntry) -> bool
 // Adds the name of an entry, if its tube exists. It takes no memory.
 fn add_alive<'a>(names: &mut Names<'a>, name: &'a TubeName, entry: &TubeEntry)
     requires { vec_len names.old < vec_capacity names.old }
-    ensures names { names_of names.new.items ≡ names_of names.old.items ++ name_if_alive name.now entry.now }
+    ensures names { names_of names.new.items
+        ≡ names_of names.old.items ++ name_if_alive name.now entry.now }
     ensures len { vec_len names.new ≤ vec_len names.old + 1 }
     ensures capacity { vec_capacity names.new ≡ vec_capacity names.old }
 {

@@ -80,7 +80,8 @@ impl<C: Clock + Drop, K: QueueCore + Drop> Hub<C, K> {
         ensures order { IsInOrder K.machine result }
         ensures end { result.sender.end ≡ end }
         ensures settings { (K.machine result.core).settings ≡ (K.machine core).settings }
-        ensures work { IsAtWork C.given K.machine K.comparisons (K.machine core).settings (K.comparisons core) clock result }
+        ensures work { IsAtWork C.given K.machine K.comparisons
+            (K.machine core).settings (K.comparisons core) clock result }
     {
         let CoreRoom { kept, aside, gone } = room;
         let ends = gone.len();
@@ -198,7 +199,8 @@ impl<C: Clock + Drop, K: QueueCore + Drop> Hub<C, K> {
         ensures none { result ≡ true → self.new.outs.given ≡ [] }
         ensures full { result ≡ false → length self.new.sender.kept.items ≡ self.new.sender.ends }
         ensures taken { self.new.sender.end.taken ≡ self.old.sender.end.taken }
-        ensures rest { self.new ≡ record self.old { sender = self.new.sender; outs = self.new.outs } }
+        ensures rest { self.new
+            ≡ record self.old { sender = self.new.sender; outs = self.new.outs } }
     {
         self.sender.send_all(intake, &mut self.outs, answered)
     }
@@ -225,8 +227,10 @@ impl<C: Clock + Drop, K: QueueCore + Drop> Hub<C, K> {
         ensures stuck { AreStuck self.old.sender.end self.old.sender.kept.items
             → AreStuck self.new.sender.end self.new.sender.kept.items }
         ensures empty { result ≡ false → J.was self.old.sender.end.taken [] }
-        ensures idle { result ≡ false → is_before self.new.heard (next_due (K.machine self.old.core)) ≡ true }
-        ensures busy { result ≡ true → TookOne self.old.sender.end self.new.sender.end ⊎ HasTicked K.machine self.old self.new }
+        ensures idle { result ≡ false
+            → is_before self.new.heard (next_due (K.machine self.old.core)) ≡ true }
+        ensures busy { result ≡ true → TookOne self.old.sender.end self.new.sender.end
+            ⊎ HasTicked K.machine self.old self.new }
     {
         match self.sender.next_step(rt, intake) {
             Some((seat, what)) => {
@@ -280,7 +284,8 @@ impl<C: Clock + Drop, K: QueueCore + Drop> Hub<C, K> {
         ensures sender { self.new.sender ≡ self.old.sender }
         ensures on { WorksOn C.given K.machine K.comparisons self.old self.new }
         ensures due { self.new.due ≡ next_due (K.machine self.old.core) }
-        ensures ticks { result ≡ not (is_before self.new.heard (next_due (K.machine self.old.core))) }
+        ensures ticks { result
+            ≡ not (is_before self.new.heard (next_due (K.machine self.old.core))) }
         ensures still { result ≡ false → K.machine self.new.core ≡ K.machine self.old.core }
         ensures ticked { result ≡ true → HasTicked K.machine self.old self.new }
     {
@@ -306,7 +311,8 @@ impl<C: Clock + Drop, K: QueueCore + Drop> Hub<C, K> {
         ensures same { K.machine self.new.core ≡ K.machine self.old.core }
         ensures once { (count : ℕ) → LooksOnce self.old.is_due_known (K.machine self.old.core) count (K.comparisons self.old.core)
             → IsLookWithin (K.machine self.old.core) count (K.comparisons self.new.core) }
-        ensures rest { self.new ≡ record self.old { core = self.new.core; due = self.new.due; is_due_known = true } }
+        ensures rest { self.new
+            ≡ record self.old { core = self.new.core; due = self.new.due; is_due_known = true } }
     {
         if !self.is_due_known {
             self.due = self.core.next_due();
@@ -319,7 +325,8 @@ impl<C: Clock + Drop, K: QueueCore + Drop> Hub<C, K> {
     fn mark(&mut self, seat: Seat, what: &Step)
         requires order { IsInOrder K.machine self.old }
         ensures order { IsInOrder K.machine self.new }
-        ensures marked { self.new.gone.flags.items ≡ gone_after seat what.now self.old.gone.flags.items }
+        ensures marked { self.new.gone.flags.items
+            ≡ gone_after seat what.now self.old.gone.flags.items }
         ensures rest { self.new ≡ record self.old { gone = self.new.gone } }
     {
         if let Step::Gone = what {
@@ -331,7 +338,8 @@ impl<C: Clock + Drop, K: QueueCore + Drop> Hub<C, K> {
     fn hear(&mut self) -> Option<Moment>
         ensures read { GaveReadings C.given self.old.clock (result ∷ []) self.new.clock }
         ensures heard { self.new.heard ≡ moment_heard self.old.heard result }
-        ensures rest { self.new ≡ record self.old { clock = self.new.clock; heard = self.new.heard } }
+        ensures rest { self.new
+            ≡ record self.old { clock = self.new.clock; heard = self.new.heard } }
     {
         let reading = self.clock.now();
         self.heard = moment_heard(self.heard, reading);

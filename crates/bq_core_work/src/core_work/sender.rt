@@ -39,7 +39,8 @@ impl Sender {
         requires rest { IsAtRest self.old }
         ensures rest { IsAtRest self.new }
         ensures ends { self.new.ends ≡ self.old.ends }
-        ensures sent { AreSent self.old.end (self.old.kept.items ++ outs.old.given) self.new.end (self.new.kept.items ++ outs.new.given) }
+        ensures sent { AreSent self.old.end (self.old.kept.items ++ outs.old.given) self.new.end
+            (self.new.kept.items ++ outs.new.given) }
         ensures most { outs.new.most ≡ outs.old.most }
         ensures stuck { AreStuck self.new.end self.new.kept.items }
         ensures none { result ≡ true → outs.new.given ≡ [] }
@@ -114,7 +115,8 @@ impl Sender {
         requires room { length self.old.kept.items < self.old.ends }
         requires stuck { AreStuck self.old.end self.old.kept.items }
         ensures places { HasPlaces self.new }
-        ensures sent { AreSent self.old.end (self.old.kept.items ++ (seat, answer) ∷ []) self.new.end self.new.kept.items }
+        ensures sent { AreSent self.old.end
+            (self.old.kept.items ++ (seat, answer) ∷ []) self.new.end self.new.kept.items }
         ensures stuck { AreStuck self.new.end self.new.kept.items }
         ensures few { length self.new.kept.items ≤ length self.old.kept.items + 1 }
         ensures ends { self.new.ends ≡ self.old.ends }
@@ -141,7 +143,8 @@ impl Sender {
         ensures room { result ≡ true → 0 < room_for self.new.end seat }
         ensures full { result ≡ false → room_for self.new.end seat ≡ 0 }
         ensures stuck { AreStuck self.new.end self.old.kept.items }
-        ensures succeeds { answers_to seat self.old.kept.items ≡ [] → 0 < room_for self.old.end seat → result ≡ true }
+        ensures succeeds { answers_to seat self.old.kept.items ≡ []
+            → 0 < room_for self.old.end seat → result ≡ true }
         ensures rest { self.new ≡ record self.old { end = self.new.end } }
     {
         if self.has_kept(seat) {

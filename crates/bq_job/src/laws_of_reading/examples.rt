@@ -60,7 +60,8 @@ fn longest_tube_name()
 fn truncated_and_after_quit()
     ensures body { reading 65535 (codes "put 0 0 1 5\r\nab") ≡ ([], codes "put 0 0 1 5\r\nab") }
     ensures line { reading 65535 (codes "list-tube-used") ≡ ([], codes "list-tube-used") }
-    ensures quit { reading 65535 (codes "quit\r\nstats\r\n") ≡ (requests.Quit ∷ [], codes "stats\r\n") }
+    ensures quit { reading 65535 (codes "quit\r\nstats\r\n")
+        ≡ (requests.Quit ∷ [], codes "stats\r\n") }
 {}
 
 // An empty line, a space at an end, a space at a beginning, and a number that is too great.

@@ -30,7 +30,8 @@ impl Model for Journal {
 impl Journal {
     /// An empty journal with room for so many entries, which is asked for here.
     pub fn new(alloc: Global, room: usize) -> Result<Journal, NoMemory>
-        ensures { IfOk result (λ journal. journal ≡ record { entries = []; room = room; whole = true }) }
+        ensures { IfOk result
+            (λ journal. journal ≡ record { entries = []; room = room; whole = true }) }
     {
         let Ok(entries) = Vec::with_capacity(alloc, room) else {
             return Err(NoMemory);
@@ -46,7 +47,8 @@ impl Journal {
     pub fn copy(&self, what: &Step) -> Option<Step>
         ensures same { IfSome result (λ step. step ≡ what.now) }
         ensures room { IsSome result → length self.now.entries < self.now.room }
-        ensures refused { IsNone result → length self.now.entries < self.now.room → IsTrue (has_body what.now) }
+        ensures refused { IsNone result → length self.now.entries < self.now.room
+            → IsTrue (has_body what.now) }
     {
         if self.entries.len() >= self.room {
             return None;

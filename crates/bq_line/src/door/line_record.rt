@@ -59,7 +59,8 @@ impl<'a, L: Line> Names<Further<'a, L>> for Noted {
 }
 
 fn with_line<L: Line>(tag: &Tag, line: &L, end: LineEnd) -> Tag
-    ensures { result.numbers ≡ numbers_with_line (record { seen = L.seen line.now; over = end }) tag.now.numbers }
+    ensures { result.numbers
+        ≡ numbers_with_line (record { seen = L.seen line.now; over = end }) tag.now.numbers }
 {
     Tag::of::<Further<'_, L>, Noted>(&Further { tag, line, end })
 }

@@ -136,7 +136,8 @@ impl<'l, R: Clock + Eprint, T> ListenDoor<'l, R, T> {
         requires more { self.old.left ≡ Some 0 → ⊥ }
         requires inside { self.old.is_out ≡ false }
         ensures out { self.new.is_out ≡ true }
-        ensures counted { in_all self.new.left true self.new.over ≡ in_all self.old.left false self.old.over }
+        ensures counted { in_all self.new.left true self.new.over
+            ≡ in_all self.old.left false self.old.over }
         ensures listener { self.new.listener ≡ self.old.listener }
         ensures at_end { self.new.is_at_end ≡ self.old.is_at_end }
         ensures fault { self.new.met_fault ≡ self.old.met_fault }

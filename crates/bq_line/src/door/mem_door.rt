@@ -109,7 +109,8 @@ impl Door for MemDoor {
         ensures over { self.new.over ≡ self.old.over }
         ensures put_in { self.new.put_in ≡ self.old.put_in }
         // The next line comes out, and none only where none is left.
-        ensures next { IfOk result (λ line. self.old.coming.items ≡ option_to_list line ++ self.new.coming.items) }
+        ensures next { IfOk result
+            (λ line. self.old.coming.items ≡ option_to_list line ++ self.new.coming.items) }
         ensures last { IfOk result (λ line. IsNone line ↔ (self.old.coming.items ≡ [])) }
         ensures no_fault { IfErr result (λ e. ⊥) }
     {

@@ -27,8 +27,10 @@ pub struct IoLine<S> {
 impl<S: Duplex> IoLine<S> {
     /// A line on which nothing was done, over this stream.
     pub fn new(stream: S) -> IoLine<S>
-        ensures new { result ≡ record { stream = stream; ended = false; fault = None; read = []; written = [] } }
-        ensures over { ⟦<IoLine<S> as Line>⟧.lies_over (record { left = S.remaining stream; held = S.contents stream }) result }
+        ensures new { result
+            ≡ record { stream = stream; ended = false; fault = None; read = []; written = [] } }
+        ensures over { ⟦<IoLine<S> as Line>⟧.lies_over
+            (record { left = S.remaining stream; held = S.contents stream }) result }
     {
         IoLine {
             stream,
@@ -42,7 +44,8 @@ impl<S: Duplex> IoLine<S> {
     // Keeps what came of a read.
     fn note_read(&mut self, came: &io::Result<usize>, buf: &[u8])
         requires { ReadsAtMost came.now buf.now }
-        ensures seen { ⟦<IoLine<S> as Line>⟧.seen self.new ≡ after_read came.now buf.now (⟦<IoLine<S> as Line>⟧.seen self.old) }
+        ensures seen { ⟦<IoLine<S> as Line>⟧.seen self.new
+            ≡ after_read came.now buf.now (⟦<IoLine<S> as Line>⟧.seen self.old) }
         ensures stream { self.new.stream ≡ self.old.stream }
     {
         match came {
@@ -54,7 +57,8 @@ impl<S: Duplex> IoLine<S> {
 
     // Keeps that a read failed, unless there were only no bytes yet.
     fn note_error(&mut self, e: &io::Error)
-        ensures seen { ⟦<IoLine<S> as Line>⟧.seen self.new ≡ after_fill (Err e.now) (⟦<IoLine<S> as Line>⟧.seen self.old) }
+        ensures seen { ⟦<IoLine<S> as Line>⟧.seen self.new
+            ≡ after_fill (Err e.now) (⟦<IoLine<S> as Line>⟧.seen self.old) }
         ensures stream { self.new.stream ≡ self.old.stream }
     {
         if !is_nothing_yet(e) {
@@ -66,8 +70,10 @@ impl<S: Duplex> IoLine<S> {
     fn read_by(&mut self, buf: &mut [u8], waits: bool) -> io::Result<usize>
         requires { 0 < length buf.old }
         ensures bound { ReadsAtMost result buf.new }
-        ensures seen { ⟦<IoLine<S> as Line>⟧.seen self.new ≡ after_read result buf.new (⟦<IoLine<S> as Line>⟧.seen self.old) }
-        ensures stream { ReadConsumes (S.remaining self.old.stream) (S.remaining self.new.stream) result buf.new }
+        ensures seen { ⟦<IoLine<S> as Line>⟧.seen self.new
+            ≡ after_read result buf.new (⟦<IoLine<S> as Line>⟧.seen self.old) }
+        ensures stream { ReadConsumes (S.remaining self.old.stream)
+            (S.remaining self.new.stream) result buf.new }
         ensures stays { StaysOver ⟦<IoLine<S> as Line>⟧.lies_over self.old self.new }
     {
         let result = read_by(&mut self.stream, buf, waits);
@@ -104,8 +110,10 @@ impl<S: Duplex> Line for IoLine<S> {
     fn read(&mut self, buf: &mut [u8]) -> io::Result<usize>
         requires { 0 < length buf.old }
         ensures bound { ReadsAtMost result buf.new }
-        ensures seen { ⟦<IoLine<S> as Line>⟧.seen self.new ≡ after_read result buf.new (⟦<IoLine<S> as Line>⟧.seen self.old) }
-        ensures stream { ReadConsumes (S.remaining self.old.stream) (S.remaining self.new.stream) result buf.new }
+        ensures seen { ⟦<IoLine<S> as Line>⟧.seen self.new
+            ≡ after_read result buf.new (⟦<IoLine<S> as Line>⟧.seen self.old) }
+        ensures stream { ReadConsumes (S.remaining self.old.stream)
+            (S.remaining self.new.stream) result buf.new }
         ensures stays { StaysOver ⟦<IoLine<S> as Line>⟧.lies_over self.old self.new }
     {
         self.read_by(buf, true)
@@ -114,8 +122,10 @@ impl<S: Duplex> Line for IoLine<S> {
     fn read_now(&mut self, buf: &mut [u8]) -> io::Result<usize>
         requires { 0 < length buf.old }
         ensures bound { ReadsAtMost result buf.new }
-        ensures seen { ⟦<IoLine<S> as Line>⟧.seen self.new ≡ after_read result buf.new (⟦<IoLine<S> as Line>⟧.seen self.old) }
-        ensures stream { ReadConsumes (S.remaining self.old.stream) (S.remaining self.new.stream) result buf.new }
+        ensures seen { ⟦<IoLine<S> as Line>⟧.seen self.new
+            ≡ after_read result buf.new (⟦<IoLine<S> as Line>⟧.seen self.old) }
+        ensures stream { ReadConsumes (S.remaining self.old.stream)
+            (S.remaining self.new.stream) result buf.new }
         ensures stays { StaysOver ⟦<IoLine<S> as Line>⟧.lies_over self.old self.new }
     {
         self.read_by(buf, false)
@@ -130,8 +140,10 @@ impl<S: Duplex> Line for IoLine<S> {
     fn write(&mut self, buf: &[u8]) -> io::Result<usize>
         requires { 0 < length buf.now }
         ensures bound { WritesAtMost result buf.now }
-        ensures seen { ⟦<IoLine<S> as Line>⟧.seen self.new ≡ after_write result buf.now (⟦<IoLine<S> as Line>⟧.seen self.old) }
-        ensures stream { WriteAppends (S.contents self.old.stream) (S.contents self.new.stream) result buf.now }
+        ensures seen { ⟦<IoLine<S> as Line>⟧.seen self.new
+            ≡ after_write result buf.now (⟦<IoLine<S> as Line>⟧.seen self.old) }
+        ensures stream { WriteAppends (S.contents self.old.stream)
+            (S.contents self.new.stream) result buf.now }
         ensures apart { Keeps (S.remaining self.old.stream) (S.remaining self.new.stream) }
         ensures stays { StaysOver ⟦<IoLine<S> as Line>⟧.lies_over self.old self.new }
     {
@@ -144,7 +156,8 @@ impl<S: Duplex> Line for IoLine<S> {
     }
 
     fn flush(&mut self) -> io::Result<()>
-        ensures seen { ⟦<IoLine<S> as Line>⟧.seen self.new ≡ after_flush result (⟦<IoLine<S> as Line>⟧.seen self.old) }
+        ensures seen { ⟦<IoLine<S> as Line>⟧.seen self.new
+            ≡ after_flush result (⟦<IoLine<S> as Line>⟧.seen self.old) }
         ensures stream { Keeps (S.contents self.old.stream) (S.contents self.new.stream) }
         ensures apart { Keeps (S.remaining self.old.stream) (S.remaining self.new.stream) }
         ensures stays { StaysOver ⟦<IoLine<S> as Line>⟧.lies_over self.old self.new }

@@ -75,7 +75,9 @@ impl MemLine {
         ensures seen { ⟦<MemLine as Line>⟧.seen self.new ≡ ⟦<MemLine as Line>⟧.seen self.old }
         ensures open { IfSome (slice_get self.new.parts.items self.new.place)
             (λ part. is_over self.new.offset (vec_len self.new.written) part ≡ false) }
-        ensures place { self.new.place ≡ open_place self.old.parts.items self.old.place self.old.offset (vec_len self.old.written) }
+        ensures place { self.new.place
+            ≡ open_place self.old.parts.items self.old.place self.old.offset
+            (vec_len self.old.written) }
         ensures parts { self.new.parts ≡ self.old.parts }
         ensures room { self.new.room ≡ self.old.room }
     {
@@ -90,9 +92,11 @@ impl MemLine {
         requires open { IfSome (slice_get self.old.parts.items self.old.place)
             (λ part. is_over self.old.offset (vec_len self.old.written) part ≡ false) }
         ensures bound { ReadsAtMost result buf.new }
-        ensures seen { ⟦<MemLine as Line>⟧.seen self.new ≡ after_read result buf.new (⟦<MemLine as Line>⟧.seen self.old) }
+        ensures seen { ⟦<MemLine as Line>⟧.seen self.new
+            ≡ after_read result buf.new (⟦<MemLine as Line>⟧.seen self.old) }
         ensures answered { IsAnsweredBy (slice_get self.old.parts.items self.old.place) result }
-        ensures place { self.new.place ≡ place_after (slice_get self.old.parts.items self.old.place) self.old.place }
+        ensures place { self.new.place
+            ≡ place_after (slice_get self.old.parts.items self.old.place) self.old.place }
         ensures parts { self.new.parts ≡ self.old.parts }
         ensures room { self.new.room ≡ self.old.room }
     {
@@ -137,7 +141,8 @@ impl Line for MemLine {
     fn read(&mut self, buf: &mut [u8]) -> io::Result<usize>
         requires { 0 < length buf.old }
         ensures bound { ReadsAtMost result buf.new }
-        ensures seen { ⟦<MemLine as Line>⟧.seen self.new ≡ after_read result buf.new (⟦<MemLine as Line>⟧.seen self.old) }
+        ensures seen { ⟦<MemLine as Line>⟧.seen self.new
+            ≡ after_read result buf.new (⟦<MemLine as Line>⟧.seen self.old) }
         ensures stays { StaysOver ⟦<MemLine as Line>⟧.lies_over self.old self.new }
         // The first part that isn't over answers, and no other is passed.
         ensures answered { IsAnsweredBy
@@ -158,7 +163,8 @@ impl Line for MemLine {
     fn read_now(&mut self, buf: &mut [u8]) -> io::Result<usize>
         requires { 0 < length buf.old }
         ensures bound { ReadsAtMost result buf.new }
-        ensures seen { ⟦<MemLine as Line>⟧.seen self.new ≡ after_read result buf.new (⟦<MemLine as Line>⟧.seen self.old) }
+        ensures seen { ⟦<MemLine as Line>⟧.seen self.new
+            ≡ after_read result buf.new (⟦<MemLine as Line>⟧.seen self.old) }
         ensures stays { StaysOver ⟦<MemLine as Line>⟧.lies_over self.old self.new }
         // The first part that isn't over answers, and no other is passed.
         ensures answered { IsAnsweredBy
@@ -183,12 +189,16 @@ impl Line for MemLine {
     fn write(&mut self, buf: &[u8]) -> io::Result<usize>
         requires { 0 < length buf.now }
         ensures bound { WritesAtMost result buf.now }
-        ensures seen { ⟦<MemLine as Line>⟧.seen self.new ≡ after_write result buf.now (⟦<MemLine as Line>⟧.seen self.old) }
+        ensures seen { ⟦<MemLine as Line>⟧.seen self.new
+            ≡ after_write result buf.now (⟦<MemLine as Line>⟧.seen self.old) }
         ensures stays { StaysOver ⟦<MemLine as Line>⟧.lies_over self.old self.new }
         // As many bytes as fit are taken. Only where none does is there a fault.
-        ensures taken { IfOk result (λ count. (count ≡ min (length buf.now) self.old.room) × (self.new.room + count ≡ self.old.room)) }
+        ensures taken { IfOk result
+            (λ count. (count ≡ min (length buf.now) self.old.room)
+            × (self.new.room + count ≡ self.old.room)) }
         ensures full { IsErr result → (self.old.room ≡ 0) × (self.new.room ≡ 0) }
-        ensures parts { (self.new.parts ≡ self.old.parts) × (self.new.place ≡ self.old.place) × (self.new.offset ≡ self.old.offset) }
+        ensures parts { (self.new.parts ≡ self.old.parts)
+            × (self.new.place ≡ self.old.place) × (self.new.offset ≡ self.old.offset) }
     {
         let count = buf.len().min(self.room);
         if count == 0 {
@@ -201,7 +211,8 @@ impl Line for MemLine {
     }
 
     fn flush(&mut self) -> io::Result<()>
-        ensures seen { ⟦<MemLine as Line>⟧.seen self.new ≡ after_flush result (⟦<MemLine as Line>⟧.seen self.old) }
+        ensures seen { ⟦<MemLine as Line>⟧.seen self.new
+            ≡ after_flush result (⟦<MemLine as Line>⟧.seen self.old) }
         ensures stays { StaysOver ⟦<MemLine as Line>⟧.lies_over self.old self.new }
         ensures nothing { IsOk result × (self.new ≡ self.old) }
     {
@@ -223,7 +234,8 @@ fn is_over(part: &Part, offset: usize, written: usize) -> bool
 // The place and the offset from which the line goes on: parts that are over are passed.
 fn next_open(parts: &[Part], place: usize, offset: usize, written: usize) -> (usize, usize)
     ensures same { bytes_up_to parts.now result.0 result.1 ≡ bytes_up_to parts.now place offset }
-    ensures open { IfSome (slice_get parts.now result.0) (λ part. is_over result.1 written part ≡ false) }
+    ensures open { IfSome (slice_get parts.now result.0)
+        (λ part. is_over result.1 written part ≡ false) }
     ensures place { result.0 ≡ open_place parts.now place offset written }
 {
     let mut at = place;

@@ -80,7 +80,8 @@ impl ReadBuffer {
 
     /// Reads the stream once, where nothing lies in the buffer. `waits` says whether it may wait for bytes.
     pub fn fill<S: Duplex>(&mut self, stream: &mut S, waits: bool) -> io::Result<()>
-        ensures bytes { Keeps (prepend_known self.old (S.remaining stream.old)) (prepend_known self.new (S.remaining stream.new)) }
+        ensures bytes { Keeps (prepend_known self.old (S.remaining stream.old))
+            (prepend_known self.new (S.remaining stream.new)) }
         ensures end { OnOk result (self.new ≡ [] → IsAtEnd (S.remaining stream.new)) }
         ensures apart { Keeps (S.contents stream.old) (S.contents stream.new) }
     {
@@ -120,7 +121,8 @@ impl ReadBuffer {
 
     fn refill<S: Duplex>(&mut self, stream: &mut S, waits: bool) -> io::Result<()>
         requires { self.old ≡ [] }
-        ensures bytes { Keeps (S.remaining stream.old) (prepend_known self.new (S.remaining stream.new)) }
+        ensures bytes { Keeps (S.remaining stream.old)
+            (prepend_known self.new (S.remaining stream.new)) }
         ensures end { OnOk result (self.new ≡ [] → IsAtEnd (S.remaining stream.new)) }
         ensures apart { Keeps (S.contents stream.old) (S.contents stream.new) }
     {
@@ -153,8 +155,10 @@ fn read_once<S: Duplex>(
 ) -> io::Result<usize>
     ensures capacity { vec_capacity room.new ≡ vec_capacity room.old }
     ensures bound { IfOk result (λ n. n ≤ vec_len room.new) }
-    ensures bytes { IfOk result (λ n. Consumes (S.remaining stream.old) (S.remaining stream.new) (take n room.new.items)) }
-    ensures end { IfOk result (λ n. n ≡ 0 → 0 < vec_len room.old → IsAtEnd (S.remaining stream.new)) }
+    ensures bytes { IfOk result
+        (λ n. Consumes (S.remaining stream.old) (S.remaining stream.new) (take n room.new.items)) }
+    ensures end { IfOk result
+        (λ n. n ≡ 0 → 0 < vec_len room.old → IsAtEnd (S.remaining stream.new)) }
     ensures err { OnErr result (Keeps (S.remaining stream.old) (S.remaining stream.new)) }
     ensures apart { Keeps (S.contents stream.old) (S.contents stream.new) }
 {

@@ -32,7 +32,8 @@ impl<K: QueueCore + Drop> NewCore<K> {
     /// All memory but that for jobs is asked for here.
     pub fn new(alloc: Global, config: Config) -> Result<NewCore<K>, RunFault>
         ensures config { IfOk result (λ new. new.config ≡ config) }
-        ensures bad_configuration { IsErrOf result RunFault.BadConfiguration ↔ IsTrue (not (are_in_range config)) }
+        ensures bad_configuration { IsErrOf result RunFault.BadConfiguration ↔ IsTrue
+            (not (are_in_range config)) }
     {
         let core = match K::new(alloc, config) {
             Ok(core) => core,

@@ -37,13 +37,17 @@ pub fn new_posts<
     requires core_end { IsNewCore (new_core.config.seats + 1) core_end }
     requires ends { AreNewSeats core_end ends.items }
     requires many { vec_len ends ≡ vec_len doors + 1 }
-    requires new { All (λ door. IsNewDoor (door_seen D.is_out D.is_at_end D.lines_over door)) doors.items }
+    requires new { All
+        (λ door. IsNewDoor (door_seen D.is_out D.is_at_end D.lines_over door)) doors.items }
     ensures config { IfOk result (λ posts. posts.core.new_core.config ≡ new_core.config) }
     ensures core { IfOk result (λ posts. posts.core.end ≡ core_end) }
     ensures clock { IfOk result (λ posts. posts.core.clock ≡ clock) }
     ensures limit { IfOk result (λ posts. posts.ends.max_job_size ≡ new_core.config.max_job_size) }
-    ensures ends { IfOk result (λ posts. reverse (map (λ p. p.end) posts.ends.seats.items) ++ posts.ends.control.end ∷ [] ≡ ends.items) }
-    ensures doors { IfOk result (λ posts. reverse (map (λ p. p.door) posts.ends.seats.items) ≡ doors.items) }
+    ensures ends { IfOk result
+        (λ posts. reverse (map (λ p. p.end) posts.ends.seats.items) ++ posts.ends.control.end ∷ []
+        ≡ ends.items) }
+    ensures doors { IfOk result
+        (λ posts. reverse (map (λ p. p.door) posts.ends.seats.items) ≡ doors.items) }
 {
     let Some(end) = ends.pop() else {
         unreachable!()
@@ -78,8 +82,10 @@ fn new_seats<'a, L: Line + Drop, D: Door<Line = L> + Drop>(
     requires many { vec_len ends ≡ vec_len doors }
     requires of_intake { All (λ end. end.intake ≡ intake.now.id) ends.items }
     requires new_ends { All (λ end. IsNewEnd end) ends.items }
-    requires new { All (λ door. IsNewDoor (door_seen D.is_out D.is_at_end D.lines_over door)) doors.items }
-    ensures limits { IfOk result (λ posts. All (λ post. post.max_job_size ≡ max_job_size) posts.items) }
+    requires new { All
+        (λ door. IsNewDoor (door_seen D.is_out D.is_at_end D.lines_over door)) doors.items }
+    ensures limits { IfOk result
+        (λ posts. All (λ post. post.max_job_size ≡ max_job_size) posts.items) }
     ensures ends { IfOk result (λ posts. reverse (map (λ p. p.end) posts.items) ≡ ends.items) }
     ensures doors { IfOk result (λ posts. reverse (map (λ p. p.door) posts.items) ≡ doors.items) }
 {

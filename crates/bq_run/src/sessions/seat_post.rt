@@ -14,8 +14,7 @@ use bq_line::line::Line;
 use bq_link::{Intake, NoTicks, SeatEnd};
 use bq_run_start::Start;
 use bq_seat::SeatMachine;
-use bq_seat_work::seat_work::SharedCore;
-use bq_seat_work::seat_work::seat_work;
+use bq_seat_work::seat_work::{SharedCore, seat_work};
 use std::alloc::Global;
 use std::sync::Wait;
 

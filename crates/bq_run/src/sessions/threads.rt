@@ -57,7 +57,8 @@ pub fn serve_in_scope<
     start: &Start,
     control: I,
 ) -> Result<Ended<D, C, I, K>, RunFault>
-    requires start { O.start ≡ Some (posts.core.clock, (posts.core.new_core.config, posts.core.end)) }
+    requires start { O.start
+        ≡ Some (posts.core.clock, (posts.core.new_core.config, posts.core.end)) }
     ensures fault { IsErrOf result RunFault.BadConfiguration → ⊥ }
     ensures over { let at = door_seen D.is_out D.is_at_end D.lines_over in
         let ends = posts.entry.ends in
@@ -216,7 +217,8 @@ fn start_seats<
         → map (λ t. t.promise.end.value) threads.new.items ≡ reverse (map (λ p. p.end) posts.entry.items) }
     ensures doors { IsTrue result
         → map (λ t. t.promise.door.value) threads.new.items ≡ reverse (map (λ p. p.door) posts.entry.items) }
-    ensures limits { IsTrue result → All (λ t. t.promise.max_job_size ≡ max_job_size) threads.new.items }
+    ensures limits { IsTrue result
+        → All (λ t. t.promise.max_job_size ≡ max_job_size) threads.new.items }
 {
     while let Some(post) = posts.pop() {
         let promise = SeatPromise {
@@ -248,7 +250,8 @@ fn join_seats<R: Threads, D: Door + Drop + Send>(
     ensures fault { IsErrOf result RunFault.BadConfiguration → ⊥ }
     ensures served { let at = door_seen D.is_out D.is_at_end D.lines_over in
         IfOk result (λ r. AreServed at max_job_size (map (λ t. t.promise.end.value) threads.items) r.0.items r.1.items) }
-    ensures same { IfOk result (λ r. AreSame D.same (map (λ t. t.promise.door.value) threads.items) r.1.items) }
+    ensures same { IfOk result
+        (λ r. AreSame D.same (map (λ t. t.promise.door.value) threads.items) r.1.items) }
 {
     for thread in threads {
         let Some((end, door)) = thread.join(rt) else {
