@@ -4,21 +4,12 @@ use Rattle.std.proofs.Common.{◌⊎◌, ℕ, zero, suc, ◌≡◌, ◌≤◌, �
 use Rattle.std.specs.Prelude.{count_by, ◌==◌}
 use Rattle.std.specs.List.{AllByRecursion as All, Contains, list_any}
 use Rattle.std.proofs.lemmas.Bool.{cases_Bool, and_from, or_right, cond_both, eqb-true}
-use Rattle.bq_job.specs.declared.answer.Answer.{Answer}
+use Rattle.bq_job.specs.Types.{Answer, Job, Request, Step}
 use Rattle.bq_job.specs.declared.answer.Answer.TheVariants as answers
-use Rattle.bq_job.specs.declared.job.Job.{Job}
-use Rattle.bq_job.specs.declared.request.Request.{Request}
-use Rattle.bq_job.specs.declared.step.Step.{Step}
-use Rattle.bq_job.specs.machine.Acts.{Effect, silent, telling}
-use Rattle.bq_job.specs.machine.Asked.{after_close, after_connect, effect, state_once_left, with_end}
-use Rattle.bq_job.specs.machine.Changes.{is_held_by, is_waiting, with_seat}
-use Rattle.bq_job.specs.beside.Computed.{waiting_count}
-use Rattle.bq_job.specs.machine.JobCommands.{after_delete, after_put, new_job, reserve_effect, waiting_from}
-use Rattle.bq_job.specs.machine.JobStates.{is_reserved}
-use Rattle.bq_job.specs.machine.Limits.{raised}
-use Rattle.bq_job.specs.machine.Machine.{Machine, SeatRecord, empty_seat, numbers}
-use Rattle.bq_job.specs.machine.TubeCommands.{with_pause}
-use Rattle.bq_job.specs.machine.Tubes.{with_tube}
+use Rattle.bq_job.specs.machine.{Effect, Machine.Machine, SeatRecord, after_close, after_connect, after_delete, after_put, effect}
+use Rattle.bq_job.specs.machine.{empty_seat, is_held_by, is_reserved, is_waiting, new_job, numbers, raised, reserve_effect, silent}
+use Rattle.bq_job.specs.machine.{state_once_left, telling, waiting_from, with_end, with_pause, with_seat, with_tube}
+use Rattle.bq_job.specs.beside.{waiting_count}
 use Rattle.bq_job.proofs.KeptLemmas.{IsMild, Keeps, has_holder, kept_of_close, kept_of_drain, kept_of_filter, kept_of_jobs, kept_of_push, kept_of_seat, numbers_above, only_seat}
 use Rattle.bq_job.proofs.ListLemmas.{all_always, all_weaker, count_cons, count_of_map, list_any_with}
 use Rattle.bq_job.proofs.BecomeLemmas.{free_by_delay}

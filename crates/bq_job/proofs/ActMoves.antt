@@ -1,17 +1,12 @@
 -- The command's own effect, as a move: what each request and each other event does to jobs.
 use Rattle.std.proofs.Common.{ℕ, ◌≡◌, true, arith, refl, sym, ap, ◌∙◌, subst, inr}
 use Rattle.std.proofs.lemmas.Bool.{cond_both, eq-eqb}
-use Rattle.bq_job.specs.declared.request.Request.{Request}
-use Rattle.bq_job.specs.declared.step.Step.{Step}
+use Rattle.bq_job.specs.Types.{Request, Step}
 use Rattle.bq_job.specs.declared.step.Step.TheVariants as steps
-use Rattle.bq_job.specs.machine.Acts.{Effect}
-use Rattle.bq_job.specs.machine.Asked.{after_close, state_once_left}
-use Rattle.bq_job.specs.machine.Changes.{given_back, in_state, is_held_by, is_ready_state}
-use Rattle.bq_job.specs.machine.JobCommands.{delayed_by, new_job}
-use Rattle.bq_job.specs.beside.Lawful.{AreIdsWithin}
-use Rattle.bq_job.specs.machine.Machine.{Machine, SeatRecord}
-use Rattle.bq_job.specs.machine.Steps.{Memory, acted}
-use Rattle.bq_job.specs.laws.Happenings.{removed}
+use Rattle.bq_job.specs.machine.{Effect, Machine.Machine, Memory, SeatRecord, acted, after_close, delayed_by, given_back, in_state}
+use Rattle.bq_job.specs.machine.{is_held_by, is_ready_state, new_job, state_once_left}
+use Rattle.bq_job.specs.beside.{AreIdsWithin}
+use Rattle.bq_job.specs.laws.{removed}
 use Rattle.bq_job.proofs.ChangeLemmas.{Becomes, JobsAfter, becomes_itself, changed, removed_one, added, unchanged}
 use Rattle.bq_job.proofs.LookupLemmas.{found_job}
 use Rattle.bq_job.proofs.BecomeLemmas.{free_by_delay, held_not_ready, itself_told, told_if_given_up}

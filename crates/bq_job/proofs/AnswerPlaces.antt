@@ -6,24 +6,16 @@ use Rattle.std.proofs.lemmas.Bool.{or_from, both_ways, cond_both}
 use Rattle.std.proofs.lemmas.Bool.Decides.{nat_tests}
 use Rattle.std.proofs.lemmas.List.Elements.{Contains-append_cases}
 use Rattle.std.proofs.lemmas.List.Folds.{list_any-append}
-use Rattle.bq_job.specs.declared.answer.Answer.{Answer}
+use Rattle.bq_job.specs.Types.{Answer, Job, Step}
 use Rattle.bq_job.specs.declared.answer.Answer.TheVariants as answers
-use Rattle.bq_job.specs.declared.job.Job.{Job}
 use Rattle.bq_job.specs.declared.request.Request.TheVariants as requests
-use Rattle.bq_job.specs.declared.step.Step.{Step}
 use Rattle.bq_job.specs.declared.step.Step.TheVariants as steps
-use Rattle.bq_job.specs.machine.Acts.{Effect}
-use Rattle.bq_job.specs.machine.Changes.{is_held_by, job_with}
-use Rattle.bq_job.specs.machine.Dispatch.{DispatchTurn, GivenAnswer, IsHandOut}
-use Rattle.bq_job.specs.machine.JobCommands.{last_id}
-use Rattle.bq_job.specs.machine.JobStates.{is_reserved}
-use Rattle.bq_job.specs.laws.LawsOfRuns.{GivesLeast, IsDeletion, IsDispatchedLeast, IsReservedById, has_inserted, is_inserted}
-use Rattle.bq_job.specs.machine.Machine.{Machine, SeatRecord}
-use Rattle.bq_job.specs.promise.Runs.{GoesBy, IsTransition, Parts, Transition, parts_of}
-use Rattle.bq_job.specs.machine.Steps.{Dispatches, IsStep, Memory, Outcome, Serves, acted, addressed, granted, growth_refused, share_refused, is_possible}
-use Rattle.bq_job.specs.machine.Timers.{after_timers, at_moment}
-use Rattle.bq_job.specs.machine.Tubes.{forgetting}
-use Rattle.bq_job.specs.machine.Waits.{Chain, WaitEndTurn, end_of_wait, is_deadline_soon}
+use Rattle.bq_job.specs.machine.{Chain, DispatchTurn, Dispatches, Effect, GivenAnswer, IsHandOut, IsStep, Machine.Machine, Memory, Outcome}
+use Rattle.bq_job.specs.machine.{SeatRecord, Serves, WaitEndTurn, acted, addressed, after_timers, at_moment, end_of_wait, forgetting}
+use Rattle.bq_job.specs.machine.{granted, growth_refused, is_deadline_soon, is_held_by, is_possible, is_reserved, job_with, last_id}
+use Rattle.bq_job.specs.machine.{share_refused}
+use Rattle.bq_job.specs.laws.{GivesLeast, IsDeletion, IsDispatchedLeast, IsReservedById, has_inserted, is_inserted}
+use Rattle.bq_job.specs.promise.{GoesBy, IsTransition, Parts, Transition, parts_of}
 use Rattle.bq_job.proofs.DispatchLemmas.{reserved_is_least, turn_of}
 use Rattle.bq_job.proofs.LawfulLemmas.{end_of}
 use Rattle.bq_job.proofs.ListLemmas.{all_always, all_at, all_of_filter}

@@ -3,18 +3,14 @@ use Rattle.std.proofs.Common.{ℕ, zero, suc, ◌≡◌, Bool, true, false, ◌|
 use Rattle.std.specs.Prelude.{filter, take, ◌==◌}
 use Rattle.std.specs.List.{AllByRecursion as All, Contains, list_any}
 use Rattle.std.proofs.lemmas.Bool.{and_parts, or_cases, or_left, or_right, cond_both, eqb-true, eq-eqb}
-use Rattle.bq_job.specs.declared.job.Job.{Job}
-use Rattle.bq_job.specs.declared.job.JobState.{JobState}
+use Rattle.bq_job.specs.Types.{Job, JobState, Step}
 use Rattle.bq_job.specs.declared.job.JobState.TheVariants as states
-use Rattle.bq_job.specs.declared.step.Step.{Step}
-use Rattle.bq_job.specs.machine.Changes.{is_held_by, is_holder, is_ready, is_ready_state, job_with}
-use Rattle.bq_job.specs.machine.JobCommands.{delayed_by, in_order, is_buried_in, is_delayed_in, kickable, kicked_first, put_in_order}
-use Rattle.bq_job.specs.machine.JobStates.{is_buried, is_buried_before, is_delayed, is_due_before, is_reserved}
-use Rattle.bq_job.specs.beside.Lawful.{AreIdsWithin}
-use Rattle.bq_job.specs.machine.Limits.{later}
-use Rattle.bq_job.specs.laws.Happenings.{Happening, change, given_up, named, taken_up}
+use Rattle.bq_job.specs.machine.{delayed_by, in_order, is_buried, is_buried_before, is_buried_in, is_delayed, is_delayed_in, is_due_before}
+use Rattle.bq_job.specs.machine.{is_held_by, is_holder, is_ready, is_ready_state, is_reserved, job_with, kickable, kicked_first, later}
+use Rattle.bq_job.specs.machine.{put_in_order}
+use Rattle.bq_job.specs.beside.{AreIdsWithin}
+use Rattle.bq_job.specs.laws.{Happening, change, disturbs, given_up, named, taken_up}
 use Rattle.bq_job.specs.reading.TubeName.{is_same_name}
-use Rattle.bq_job.specs.laws.Undisturbed.{disturbs}
 use Rattle.bq_job.proofs.ChangeLemmas.{Becomes, becomes_itself}
 use Rattle.bq_job.proofs.ListLemmas.{all_from_members, all_of_filter, all_weaker}
 use Rattle.bq_job.proofs.LookupLemmas.{job_found}

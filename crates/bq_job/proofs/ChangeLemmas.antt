@@ -3,19 +3,14 @@ use Rattle.std.proofs.Common.{ℕ, suc, ◌≡◌, Bool, true, false, not, cond,
 use Rattle.std.specs.Prelude.{filter, flat_map, is_none, option_map, ◌==◌}
 use Rattle.std.specs.List.{AllByRecursion as All, Contains, list_any}
 use Rattle.std.proofs.lemmas.Bool.{or_left, or_right, or_cases, both_ways, cond_both, eqb-true, eq-eqb, false_from_ne_true}
-use Rattle.bq_job.specs.declared.job.Job.{Job}
-use Rattle.bq_job.specs.declared.job.JobState.{JobState}
+use Rattle.bq_job.specs.Types.{Job, JobState, Step}
 use Rattle.bq_job.specs.declared.job.JobState.TheVariants as states
 use Rattle.bq_job.specs.declared.request.Request.TheVariants as requests
-use Rattle.bq_job.specs.declared.step.Step.{Step}
 use Rattle.bq_job.specs.declared.step.Step.TheVariants as steps
-use Rattle.bq_job.specs.machine.Changes.{is_ready, job_with}
-use Rattle.bq_job.specs.laws.Happenings.{Happening, buried, change, change_or_removal, changes, deleted, given_up, named, put, released, removed, reserved_by_id, taken_up}
-use Rattle.bq_job.specs.machine.JobCommands.{is_full}
-use Rattle.bq_job.specs.machine.JobStates.{is_reserved}
-use Rattle.bq_job.specs.beside.Lawful.{AreIdsWithin}
-use Rattle.bq_job.specs.machine.Machine.{Machine}
-use Rattle.bq_job.specs.laws.Undisturbed.{disturbs, is_deletion}
+use Rattle.bq_job.specs.machine.{Machine.Machine, is_full, is_ready, is_reserved, job_with}
+use Rattle.bq_job.specs.laws.{Happening, buried, change, change_or_removal, changes, deleted, disturbs, given_up, is_deletion, named, put}
+use Rattle.bq_job.specs.laws.{released, removed, reserved_by_id, taken_up}
+use Rattle.bq_job.specs.beside.{AreIdsWithin}
 use Rattle.bq_job.proofs.JobMoves.{Fate, GoesOnAs, Move, quiet, putting, is_plain}
 use Rattle.bq_job.proofs.ListLemmas.{all_from_members, all_of_append, all_of_filter, all_of_map, all_weaker, list_any_with}
 use Rattle.bq_job.proofs.LookupLemmas.{found_job, job_found, job_in_map, job_in_more, job_in_rest}

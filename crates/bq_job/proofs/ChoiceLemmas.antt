@@ -7,7 +7,7 @@ use Rattle.std.proofs.lemmas.Bool.{cases_Bool, and_parts, and_cases, both_ways}
 use Rattle.std.proofs.lemmas.Bool.Decides.{nat_tests}
 use Rattle.std.proofs.lemmas.List.Elements.{All-from_recursion, All-contains}
 use Rattle.std.proofs.lemmas.List.Folds.{list_any-from_Any}
-use Rattle.bq_job.specs.machine.Changes.{better_of, first_of, is_pair_before}
+use Rattle.bq_job.specs.machine.{better_of, first_of, is_pair_before}
 use Rattle.bq_job.proofs.ListLemmas.{contains_head, contains_tail}
 
 -- pairs of numbers, by the first and then by the second

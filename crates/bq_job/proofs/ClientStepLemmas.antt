@@ -3,25 +3,17 @@ use Rattle.std.proofs.Common.{ℕ, ◌≡◌, ◌<◌, ◌+◌, Bool, true, fals
 use Rattle.std.specs.List.{AllByRecursion as All}
 use Rattle.std.specs.Prelude.{◌==◌, IsTrue}
 use Rattle.std.proofs.lemmas.Bool.{cases_Bool, and_parts, and_right, both_ways, cond_both, eq-eqb}
-use Rattle.bq_job.specs.declared.answer.Answer.{Answer}
+use Rattle.bq_job.specs.Types.{Answer, Job, Request, Step}
 use Rattle.bq_job.specs.declared.answer.Answer.TheVariants as answers
-use Rattle.bq_job.specs.declared.job.Job.{Job}
-use Rattle.bq_job.specs.declared.request.Request.{Request}
-use Rattle.bq_job.specs.declared.step.Step.{Step}
 use Rattle.bq_job.specs.declared.step.Step.TheVariants as steps
-use Rattle.bq_job.specs.machine.Acts.{Effect, silent, telling}
-use Rattle.bq_job.specs.machine.Asked.{after_close, after_connect, ask_effect, asked, at_found, close_effect, connect_effect, effect, end_effect, with_end}
-use Rattle.bq_job.specs.machine.Changes.{is_waiting, seat_with, with_seat}
-use Rattle.bq_job.specs.machine.Dispatch.{DispatchTurn, GivenAnswer, IsHandOut, is_wait_before}
-use Rattle.bq_job.specs.beside.Lawful.{IsLawful}
-use Rattle.bq_job.specs.machine.Machine.{Machine, SeatRecord, empty_seat}
-use Rattle.bq_job.specs.beside.ClientGets.{GetsAnswer, GetsAtMost, GetsClosed, GetsWhatWaits, GivesClient, owing}
-use Rattle.bq_job.specs.machine.OneClient.{has_closed, is_connected_at}
-use Rattle.bq_job.specs.promise.Runs.{answers_to}
-use Rattle.bq_job.specs.machine.Steps.{IsStep, Memory, Outcome, Serves, acted, addressed, granted, growth_refused, is_possible, share_refused, shares_body, step_takes_memory, may_be_left_out}
-use Rattle.bq_job.specs.machine.Timers.{after_timers, at_moment}
-use Rattle.bq_job.specs.machine.Tubes.{forgetting}
-use Rattle.bq_job.specs.machine.Waits.{Chain, WaitEndTurn, ends_waiting, is_deadline_soon, is_until_over}
+use Rattle.bq_job.specs.machine.{Chain, DispatchTurn, Effect, GivenAnswer, IsHandOut, IsStep, Machine.Machine, Memory, Outcome, SeatRecord}
+use Rattle.bq_job.specs.machine.{Serves, WaitEndTurn, acted, addressed, after_close, after_connect, after_timers, ask_effect, asked}
+use Rattle.bq_job.specs.machine.{at_found, at_moment, close_effect, connect_effect, effect, empty_seat, end_effect, ends_waiting}
+use Rattle.bq_job.specs.machine.{forgetting, granted, growth_refused, has_closed, is_connected_at, is_deadline_soon, is_possible}
+use Rattle.bq_job.specs.machine.{is_until_over, is_wait_before, is_waiting, may_be_left_out, seat_with, share_refused, shares_body, silent}
+use Rattle.bq_job.specs.machine.{step_takes_memory, telling, with_end, with_seat}
+use Rattle.bq_job.specs.beside.{GetsAnswer, GetsAtMost, GetsClosed, GetsWhatWaits, GivesClient, IsLawful, owing}
+use Rattle.bq_job.specs.promise.{answers_to}
 use Rattle.bq_job.proofs.ChoiceLemmas.{first_of_none}
 use Rattle.bq_job.proofs.DispatchLemmas.{turn_of}
 use Rattle.bq_job.proofs.KeptLemmas.{is_open_wait}

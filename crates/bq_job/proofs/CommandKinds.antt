@@ -4,32 +4,21 @@ use Rattle.std.specs.Prelude.{filter, length, take, ◌==◌}
 use Rattle.std.specs.List.{list_any}
 use Rattle.std.proofs.Math.Nat.{min-le_right}
 use Rattle.std.proofs.lemmas.Bool.{and_parts, cond_both, eq-eqb}
-use Rattle.bq_job.specs.declared.answer.Answer.{Answer}
+use Rattle.bq_job.specs.Types.{Answer, Job, Refusal, Request}
 use Rattle.bq_job.specs.declared.answer.Answer.TheVariants as answers
-use Rattle.bq_job.specs.declared.job.Job.{Job}
 use Rattle.bq_job.specs.declared.job.JobState.TheVariants as states
-use Rattle.bq_job.specs.declared.refusal.Refusal.{Refusal}
 use Rattle.bq_job.specs.declared.refusal.Refusal.TheVariants as refusals
-use Rattle.bq_job.specs.declared.request.Request.{Request}
 use Rattle.bq_job.specs.declared.request.Request.TheVariants as requests
 use Rattle.bq_job.specs.declared.step.Step.TheVariants as steps
-use Rattle.bq_job.specs.machine.Acts.{Effect, on_found, on_job, showing, telling}
-use Rattle.bq_job.specs.machine.Asked.{asked, refusal_answer}
-use Rattle.bq_job.specs.machine.Changes.{first_of, in_state, is_held_by, job_with, with_job}
-use Rattle.bq_job.specs.machine.Dispatch.{is_job_before, reserved_by}
-use Rattle.bq_job.specs.machine.JobCommands.{after_delete, buried, delayed_by, is_buried_in, is_delayed_in, is_free_for, kickable, kicked, released}
-use Rattle.bq_job.specs.machine.JobStates.{is_buried, is_buried_before, is_delayed, is_due_before, is_reserved}
-use Rattle.bq_job.specs.machine.Limits.{greatest, later, raised}
-use Rattle.bq_job.specs.machine.Machine.{Machine, SeatRecord}
-use Rattle.bq_job.specs.machine.OneClient.{is_closed_answer}
-use Rattle.bq_job.specs.machine.Statistics.{job_statistics, name_list, server_statistics, tube_statistics, tubes}
-use Rattle.bq_job.specs.machine.StatisticsCommands.{job_statistics_or_not}
-use Rattle.bq_job.specs.machine.TubeCommands.{is_ready_in, using, watched_with, watching, watching_or_refused, with_pause}
-use Rattle.bq_job.specs.machine.Tubes.{is_tube, with_tube}
-use Rattle.bq_job.specs.promise.LineSteps.{answers_wanted}
-use Rattle.bq_job.specs.beside.Lawful.{has_one, none_twice, watches_once}
-use Rattle.bq_job.specs.beside.Refusals.{is_refusal}
-use Rattle.bq_job.specs.laws.Happenings.{buried as happens_buried, released as happens_released, reserved_by_id}
+use Rattle.bq_job.specs.machine.{Effect, Machine.Machine, SeatRecord, after_delete, asked, buried, delayed_by, first_of, greatest, in_state}
+use Rattle.bq_job.specs.machine.{is_buried, is_buried_before, is_buried_in, is_closed_answer, is_delayed, is_delayed_in, is_due_before}
+use Rattle.bq_job.specs.machine.{is_free_for, is_held_by, is_job_before, is_ready_in, is_reserved, is_tube, job_statistics}
+use Rattle.bq_job.specs.machine.{job_statistics_or_not, job_with, kickable, kicked, later, name_list, on_found, on_job, raised}
+use Rattle.bq_job.specs.machine.{refusal_answer, released, reserved_by, server_statistics, showing, telling, tube_statistics, tubes, using}
+use Rattle.bq_job.specs.machine.{watched_with, watching, watching_or_refused, with_job, with_pause, with_tube}
+use Rattle.bq_job.specs.promise.{answers_wanted}
+use Rattle.bq_job.specs.beside.{has_one, is_refusal, none_twice, watches_once}
+use Rattle.bq_job.specs.laws.{buried as happens_buried, released as happens_released, reserved_by_id}
 use Rattle.bq_job.specs.reading.TubeName.{is_same_name}
 use Rattle.bq_job.proofs.BecomeLemmas.{IsAside, all_of_take, chosen_not_held, free_by_delay, held_not_ready, kickable_aside, one_becomes, put_aside_not_held, told_by_name, told_if_given_up, told_if_taken}
 use Rattle.bq_job.proofs.ChangeLemmas.{Becomes, becomes_itself}

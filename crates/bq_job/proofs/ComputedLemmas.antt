@@ -4,17 +4,12 @@ use Rattle.std.specs.Prelude.{◌==◌}
 use Rattle.std.specs.List.{AllByRecursion as All, Contains, list_any}
 use Rattle.std.proofs.lemmas.Bool.{cases_Bool, and_parts, and_left, eq-eqb}
 use Rattle.bq_job.specs.declared.answer.Answer.TheVariants as answers
-use Rattle.bq_job.specs.declared.job.Job.{Job}
-use Rattle.bq_job.specs.declared.step.Step.{Step}
-use Rattle.bq_job.specs.machine.Asked.{effect}
-use Rattle.bq_job.specs.machine.Changes.{is_waiting, with_seat, without_wait}
+use Rattle.bq_job.specs.Types.{Job, Step}
+use Rattle.bq_job.specs.machine.{Chain, DispatchTurn, Dispatches, EndsWaits, IsStep, Machine.Machine, SeatRecord, Serves, WaitEndTurn}
+use Rattle.bq_job.specs.machine.{after_hand_out, after_timers, at_moment, effect, end_of_wait, ends_waiting, forgetting, granted}
+use Rattle.bq_job.specs.machine.{has_refused_share, is_deadline_soon, is_job_before, is_timed_out, is_wait_before, is_waiting}
+use Rattle.bq_job.specs.machine.{is_waiting_for, may_have, next_end, next_job, next_seat, with_seat, without_wait}
 use Rattle.bq_job.specs.beside.Computed.{Served, ample, after_dispatch, after_serving, after_wait_ends, dispatched, ended_at, handed_out, handed_to, stepped, wait_ended, waiting_count}
-use Rattle.bq_job.specs.machine.Dispatch.{DispatchTurn, after_hand_out, is_job_before, is_wait_before, is_waiting_for, may_have, next_job, next_seat}
-use Rattle.bq_job.specs.machine.Machine.{Machine, SeatRecord}
-use Rattle.bq_job.specs.machine.Steps.{Dispatches, EndsWaits, IsStep, Serves, granted, has_refused_share}
-use Rattle.bq_job.specs.machine.Timers.{after_timers, at_moment}
-use Rattle.bq_job.specs.machine.Tubes.{forgetting}
-use Rattle.bq_job.specs.machine.Waits.{Chain, WaitEndTurn, end_of_wait, ends_waiting, is_deadline_soon, is_timed_out, next_end}
 use Rattle.bq_job.proofs.ChoiceLemmas.{first_of_contains, first_of_none_passes, first_of_passes, first_of_some}
 use Rattle.bq_job.proofs.ListLemmas.{all_always, all_weaker, count_falls, count_none, list_any_not, list_any_with}
 

@@ -1,13 +1,8 @@
 -- What is computed over a history is a run.
 use Rattle.std.proofs.Common.{List, [], ◌∷◌, refl}
-use Rattle.bq_job.specs.machine.Asked.{effect}
-use Rattle.bq_job.specs.beside.Computed.{after_dispatch, after_wait_ends, waiting_count}
-use Rattle.bq_job.specs.beside.ComputedRuns.{machine_after, transition, transitions}
-use Rattle.bq_job.specs.machine.Machine.{Machine}
-use Rattle.bq_job.specs.promise.Runs.{Entry, GoesBy, IsTransition}
-use Rattle.bq_job.specs.machine.Steps.{Serves, granted}
-use Rattle.bq_job.specs.machine.Timers.{after_timers, at_moment}
-use Rattle.bq_job.specs.machine.Tubes.{forgetting}
+use Rattle.bq_job.specs.machine.{Machine.Machine, Serves, after_timers, at_moment, effect, forgetting, granted}
+use Rattle.bq_job.specs.beside.{after_dispatch, after_wait_ends, machine_after, transition, transitions, waiting_count}
+use Rattle.bq_job.specs.promise.{Entry, GoesBy, IsTransition}
 use Rattle.bq_job.proofs.ComputedLemmas.{computed_dispatches, computed_ends_waits, dispatched_shared}
 
 serves_so : (m : Machine) → Serves m (after_dispatch m).given (after_wait_ends (after_dispatch m).machine).given (after_wait_ends (after_dispatch m).machine).machine

@@ -1,12 +1,11 @@
 -- Answers line by line: where a list of them is cut.
 use Rattle.std.proofs.Common.{◌≡◌, ℕ, suc, ◌+◌, ◌≤◌, true, false, List, [], ◌∷◌, ◌++◌, length, refl, sym, ap, ◌∙◌, subst, arith}
 use Rattle.std.proofs.lemmas.Bool.{or_parts}
-use Rattle.bq_job.specs.declared.answer.Answer.{Answer}
+use Rattle.bq_job.specs.Types.{Answer, Step}
 use Rattle.bq_job.specs.declared.answer.Answer.TheVariants as answers
-use Rattle.bq_job.specs.declared.step.Step.{Step}
-use Rattle.bq_job.specs.promise.History.{LineOver}
-use Rattle.bq_job.specs.machine.OneClient.{has_closed, is_closed_answer}
-use Rattle.bq_job.specs.beside.SeatDid.{AreLinesServed}
+use Rattle.bq_job.specs.promise.{LineOver}
+use Rattle.bq_job.specs.machine.{has_closed, is_closed_answer}
+use Rattle.bq_job.specs.beside.{AreLinesServed}
 use Rattle.bq_job.proofs.GivenLemmas.{AreParts, most_of_lines}
 
 -- how many `Closed` there are

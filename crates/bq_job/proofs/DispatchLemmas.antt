@@ -5,10 +5,9 @@ use Rattle.std.specs.List.{list_any}
 use Rattle.std.proofs.lemmas.Bool.{and_from}
 use Rattle.bq_job.specs.declared.answer.Answer.TheVariants as answers
 use Rattle.bq_job.specs.declared.job.Job.{Job}
-use Rattle.bq_job.specs.machine.Changes.{is_waiting}
-use Rattle.bq_job.specs.machine.Dispatch.{DispatchTurn, GivenAnswer, IsHandOut, is_job_before, is_waiting_for, may_have, next_job, next_seat}
-use Rattle.bq_job.specs.laws.LeastJob.{IsLeastFor, GetsLeast}
-use Rattle.bq_job.specs.machine.Machine.{Machine, SeatRecord}
+use Rattle.bq_job.specs.machine.{DispatchTurn, GivenAnswer, IsHandOut, Machine.Machine, SeatRecord, is_job_before, is_waiting}
+use Rattle.bq_job.specs.machine.{is_waiting_for, may_have, next_job, next_seat}
+use Rattle.bq_job.specs.laws.{GetsLeast, IsLeastFor}
 use Rattle.bq_job.proofs.ChoiceLemmas.{first_of_contains, first_of_is_least, pair_order}
 use Rattle.bq_job.proofs.ComputedLemmas.{next_seat_waits}
 use Rattle.bq_job.proofs.ListLemmas.{list_any_with}

@@ -4,14 +4,11 @@ use Rattle.std.specs.Prelude.{◌==◌, if◌then◌else◌}
 use Rattle.std.specs.List.{Contains}
 use Rattle.std.proofs.lemmas.Bool.{cond_both, eqb-true}
 use Rattle.bq_job.specs.declared.answer.Answer.TheVariants as answers
-use Rattle.bq_job.specs.declared.request.Request.{Request}
-use Rattle.bq_job.specs.declared.step.Step.{Step}
+use Rattle.bq_job.specs.Types.{Request, Step}
 use Rattle.bq_job.specs.declared.step.Step.TheVariants as steps
-use Rattle.bq_job.specs.machine.Acts.{Effect, silent, telling}
-use Rattle.bq_job.specs.machine.Asked.{after_close, after_connect, ask_effect, asked, at_found, close_effect, connect_effect, effect, end_effect, with_end}
-use Rattle.bq_job.specs.machine.Changes.{is_waiting, seat_with, with_seat}
-use Rattle.bq_job.specs.machine.Machine.{Machine, SeatRecord}
-use Rattle.bq_job.specs.machine.Steps.{Memory, acted, granted, growth_refused, share_refused}
+use Rattle.bq_job.specs.machine.{Effect, Machine.Machine, Memory, SeatRecord, acted, after_close, after_connect, ask_effect, asked}
+use Rattle.bq_job.specs.machine.{at_found, close_effect, connect_effect, effect, end_effect, granted, growth_refused, is_waiting, seat_with}
+use Rattle.bq_job.specs.machine.{share_refused, silent, telling, with_end, with_seat}
 use Rattle.bq_job.proofs.ListLemmas.{found_passes}
 
 -- the seat of the number

@@ -1,24 +1,15 @@
 -- What a command can do: eight kinds of effect. A fact that goes over all commands is proved for each kind.
 use Rattle.std.proofs.Common.{ℕ, ◌≡◌, ◌≤◌, Bool, true, false, List, map, ◌⊎◌, Option, Some}
 use Rattle.std.specs.List.{Contains}
-use Rattle.bq_job.specs.declared.answer.Answer.{Answer}
+use Rattle.bq_job.specs.Types.{Answer, Job, Request}
 use Rattle.bq_job.specs.declared.answer.Answer.TheVariants as answers
-use Rattle.bq_job.specs.declared.job.Job.{Job}
-use Rattle.bq_job.specs.declared.request.Request.{Request}
 use Rattle.bq_job.specs.declared.request.Request.TheVariants as requests
 use Rattle.bq_job.specs.declared.step.Step.TheVariants as steps
-use Rattle.bq_job.specs.machine.Acts.{Effect, silent, telling}
-use Rattle.bq_job.specs.machine.Changes.{is_held_by, job_with, with_seat}
-use Rattle.bq_job.specs.machine.JobCommands.{after_delete, after_put, is_free_for, is_full, new_job, reserve_effect}
-use Rattle.bq_job.specs.machine.JobStates.{is_reserved}
-use Rattle.bq_job.specs.machine.Limits.{greatest}
-use Rattle.bq_job.specs.machine.Machine.{Machine, SeatRecord}
-use Rattle.bq_job.specs.machine.OneClient.{is_closed_answer}
-use Rattle.bq_job.specs.machine.TubeCommands.{with_pause}
-use Rattle.bq_job.specs.machine.Tubes.{with_tube}
-use Rattle.bq_job.specs.promise.LineSteps.{answers_wanted, is_waiting_request}
-use Rattle.bq_job.specs.beside.Lawful.{AreIdsWithin, watches_once}
-use Rattle.bq_job.specs.beside.Refusals.{is_refusal}
+use Rattle.bq_job.specs.machine.{Effect, Machine.Machine, SeatRecord, after_delete, after_put, greatest, is_closed_answer, is_free_for}
+use Rattle.bq_job.specs.machine.{is_full, is_held_by, is_reserved, job_with, new_job, reserve_effect, silent, telling, with_pause}
+use Rattle.bq_job.specs.machine.{with_seat, with_tube}
+use Rattle.bq_job.specs.promise.{answers_wanted, is_waiting_request}
+use Rattle.bq_job.specs.beside.{AreIdsWithin, is_refusal, watches_once}
 use Rattle.bq_job.proofs.ChangeLemmas.{Becomes}
 
 -- none of RESERVED, INSERTED and DELETED

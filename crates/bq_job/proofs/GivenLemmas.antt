@@ -5,25 +5,16 @@ use Rattle.std.specs.Prelude.{◌==◌}
 use Rattle.std.proofs.lemmas.Bool.{cases_Bool, and_parts, or_from, eqb-true}
 use Rattle.std.proofs.lemmas.List.{length-append}
 use Rattle.std.proofs.lemmas.List.Folds.{list_any-append}
-use Rattle.bq_job.specs.declared.answer.Answer.{Answer}
+use Rattle.bq_job.specs.Types.{Answer, Request, Step}
 use Rattle.bq_job.specs.declared.answer.Answer.TheVariants as answers
-use Rattle.bq_job.specs.declared.request.Request.{Request}
-use Rattle.bq_job.specs.declared.step.Step.{Step}
 use Rattle.bq_job.specs.declared.step.Step.TheVariants as steps
-use Rattle.bq_job.specs.machine.Dispatch.{GivenAnswer}
-use Rattle.bq_job.specs.promise.History.{LineOver, is_tick, steps_at}
-use Rattle.bq_job.specs.beside.Lawful.{IsLawful}
-use Rattle.bq_job.specs.promise.LineSteps.{LineHeard, heard, MayTellEnd, answered_count, wanted}
-use Rattle.bq_job.specs.machine.Machine.{Machine, Settings}
-use Rattle.bq_job.specs.beside.ClientGets.{GetsAtMost, GetsClosed, GetsWhatWaits, owing}
-use Rattle.bq_job.specs.machine.OneClient.{has_closed, is_closed_answer, is_connected_at}
-use Rattle.bq_job.specs.promise.Runs.{Entry, Run, answers_to}
-use Rattle.bq_job.specs.machine.Steps.{IsStep, Outcome}
+use Rattle.bq_job.specs.machine.{GivenAnswer, IsStep, Machine.Machine, Outcome, Settings, has_closed, is_closed_answer, is_connected_at}
+use Rattle.bq_job.specs.promise.{Entry, LineHeard, LineOver, MayTellEnd, Run, answered_count, answers_to, heard, is_tick, steps_at, wanted}
+use Rattle.bq_job.specs.beside.{AreLinesServed, GetsAtMost, GetsClosed, GetsWhatWaits, IsLawful, owing}
 use Rattle.bq_job.proofs.LawfulLemmas.{step_is_lawful}
 use Rattle.bq_job.proofs.OneClientLemmas.{answers_append}
 use Rattle.bq_job.proofs.ClientStepLemmas.{asks_at_most, others_give, step_gives_client, step_settings, tick_gives_client}
 use Rattle.bq_job.proofs.RunLemmas.{run_first, run_of_none}
-use Rattle.bq_job.specs.beside.SeatDid.{AreLinesServed}
 
 -- the entry is a step of this seat
 abbrev pub is_here : ℕ → Entry → Bool

@@ -1,11 +1,8 @@
 -- The headline whole, from a history and the laws of runs.
 use Rattle.std.proofs.Common.{ℕ, Bool, List, Option, subst}
-use Rattle.bq_job.specs.laws.Happenings.{happenings, parts_of_run}
-use Rattle.bq_job.specs.promise.Headline.{IsHistoryOf, IsHistoryOfLine}
-use Rattle.bq_job.specs.promise.History.{LineOver}
-use Rattle.bq_job.specs.machine.Machine.{Machine, Settings, new_machine}
-use Rattle.bq_job.specs.promise.Runs.{GoesBy, Transition}
-use Rattle.bq_job.specs.laws.TheHeadline.{AreJobsServed, HeadlineHolds, LineHeadlineHolds}
+use Rattle.bq_job.specs.laws.{AreJobsServed, HeadlineHolds, LineHeadlineHolds, happenings, parts_of_run}
+use Rattle.bq_job.specs.promise.{GoesBy, IsHistoryOf, IsHistoryOfLine, LineOver, Transition}
+use Rattle.bq_job.specs.machine.{Machine.Machine, Settings, new_machine}
 use Rattle.bq_job.proofs.AnswerPlaces.{none_after_drain, none_after_last_id, run_deletes, run_gives_least}
 use Rattle.bq_job.proofs.KeptJobLemmas.{accepted_is_kept, held_by_one_always}
 use Rattle.bq_job.proofs.RunLawLemmas.{at_most_once, in_order}

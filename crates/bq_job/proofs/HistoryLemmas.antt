@@ -2,20 +2,13 @@
 use Rattle.std.proofs.Common.{◌≡◌, ℕ, suc, Bool, true, false, List, [], ◌∷◌, ◌++◌, map, length, Option, ◌⊎◌, refl, ap, ◌∙◌, inl, inr}
 use Rattle.std.specs.List.{list_any}
 use Rattle.std.proofs.lemmas.Bool.{or_right}
-use Rattle.bq_job.specs.declared.answer.Answer.{Answer}
-use Rattle.bq_job.specs.declared.request.Request.{Request}
+use Rattle.bq_job.specs.Types.{Answer, Request, Step}
 use Rattle.bq_job.specs.declared.request.Request.TheVariants.{Reserve}
-use Rattle.bq_job.specs.declared.step.Step.{Step}
 use Rattle.bq_job.specs.declared.step.Step.TheVariants as steps
-use Rattle.bq_job.specs.beside.ComputedRuns.{machine_after, transition, transitions}
-use Rattle.bq_job.specs.promise.CoreDid.{IsRun}
-use Rattle.bq_job.specs.promise.Headline.{IsDoorOwed}
-use Rattle.bq_job.specs.promise.History.{ArePickedFrom, IsTimedBy, LineOver}
+use Rattle.bq_job.specs.beside.{AreSameRequests, machine_after, transition, transitions}
+use Rattle.bq_job.specs.promise.{AreLinesOwed, ArePickedFrom, Entry, IsDoorOwed, IsRun, IsTimedBy, LineOver}
 use Rattle.bq_job.specs.examples.HistoryExamples.{given_over, usual}
-use Rattle.bq_job.specs.promise.LineOwed.{AreLinesOwed}
-use Rattle.bq_job.specs.machine.Machine.{Machine, Settings, new_machine}
-use Rattle.bq_job.specs.promise.Runs.{Entry}
-use Rattle.bq_job.specs.beside.SameRequests.{AreSameRequests}
+use Rattle.bq_job.specs.machine.{Machine.Machine, Settings, new_machine}
 use Rattle.bq_job.proofs.ComputedRunLemmas.{computed_goes}
 
 -- all of the moments are some of them

@@ -3,13 +3,9 @@ use Rattle.std.proofs.Common.{ℕ, suc, ◌≡◌, ◌<◌, Bool, true, false, c
 use Rattle.std.specs.Prelude.{◌==◌}
 use Rattle.std.specs.List.{AllByRecursion as All, Contains, list_any}
 use Rattle.bq_job.specs.declared.job.Job.{Job}
-use Rattle.bq_job.specs.machine.Changes.{is_ready, job_with}
-use Rattle.bq_job.specs.machine.Dispatch.{is_job_before, reserved_by}
-use Rattle.bq_job.specs.laws.Happenings.{Happening, Part, put, handed_out, happenings}
-use Rattle.bq_job.specs.machine.JobStates.{is_reserved}
-use Rattle.bq_job.specs.beside.Lawful.{AreIdsWithin}
-use Rattle.bq_job.specs.machine.Machine.{Machine}
-use Rattle.bq_job.specs.laws.Undisturbed.{disturbs, is_deletion}
+use Rattle.bq_job.specs.machine.{Machine.Machine, is_job_before, is_ready, is_reserved, job_with, reserved_by}
+use Rattle.bq_job.specs.laws.{Happening, Part, disturbs, handed_out, happenings, is_deletion, put}
+use Rattle.bq_job.specs.beside.{AreIdsWithin}
 
 -- neither a put nor a hand-out
 abbrev pub is_plain : Happening → Bool

@@ -4,25 +4,15 @@ use Rattle.std.specs.Prelude.{IsTrue, ◌==◌}
 use Rattle.std.specs.List.{list_any}
 use Rattle.std.proofs.lemmas.Bool.{and_right}
 use Rattle.std.proofs.lemmas.List.{length-append}
-use Rattle.bq_job.specs.declared.answer.Answer.{Answer}
+use Rattle.bq_job.specs.Types.{Answer, LineEnd, Request, Step}
 use Rattle.bq_job.specs.declared.answer.Answer.TheVariants as answers
-use Rattle.bq_job.specs.declared.line_end.LineEnd.{LineEnd}
 use Rattle.bq_job.specs.declared.line_end.LineEnd.TheVariants as ends
-use Rattle.bq_job.specs.declared.request.Request.{Request}
-use Rattle.bq_job.specs.declared.step.Step.{Step}
 use Rattle.bq_job.specs.declared.step.Step.TheVariants as steps
-use Rattle.bq_job.specs.machine.Changes.{is_waiting}
-use Rattle.bq_job.specs.machine.Dispatch.{GivenAnswer}
-use Rattle.bq_job.specs.promise.Headline.{AreDoorsOwed, IsHistoryOf, IsHistoryOfLine}
-use Rattle.bq_job.specs.promise.History.{LineOver, steps_at}
-use Rattle.bq_job.specs.promise.LineOwed.{AreLinesOwed, IsLineOwed}
-use Rattle.bq_job.specs.promise.LineSteps.{AreAllAnswered, IsWritten, answered_count, answers_text, ends_by_wait}
-use Rattle.bq_job.specs.machine.Machine.{Machine, SeatRecord, Settings, empty_seat, new_machine, numbers}
-use Rattle.bq_job.specs.beside.ClientGets.{owing}
-use Rattle.bq_job.specs.machine.OneClient.{has_closed, is_connected_at}
-use Rattle.bq_job.specs.promise.Runs.{Entry, Run, answers_to}
-use Rattle.bq_job.specs.beside.SeatDid.{AreLinesServed, IsLineServed, IsNoneUnwritten}
-use Rattle.bq_job.specs.beside.Ties.{AreTied, IsJoined, IsLineJoined}
+use Rattle.bq_job.specs.machine.{GivenAnswer, Machine.Machine, SeatRecord, Settings, empty_seat, has_closed, is_connected_at, is_waiting}
+use Rattle.bq_job.specs.machine.{new_machine, numbers}
+use Rattle.bq_job.specs.promise.{AreAllAnswered, AreDoorsOwed, AreLinesOwed, Entry, IsHistoryOf, IsHistoryOfLine, IsLineOwed, IsWritten}
+use Rattle.bq_job.specs.promise.{LineOver, Run, answered_count, answers_text, answers_to, ends_by_wait, steps_at}
+use Rattle.bq_job.specs.beside.{AreLinesServed, AreTied, IsJoined, IsLineJoined, IsLineServed, IsNoneUnwritten, owing}
 use Rattle.bq_job.proofs.CutLemmas.{closes, closes_append, closes_unclosed, lines_close, parts_close, same_cut}
 use Rattle.bq_job.proofs.GivenLemmas.{AreParts, Serves, are_gone, gives_parts, most_of_lines, none_in, unclosed_both}
 use Rattle.bq_job.proofs.LawfulLemmas.{new_is_lawful}

@@ -4,18 +4,12 @@ use Rattle.std.specs.Prelude.{option_map, ◌==◌}
 use Rattle.std.specs.List.{AllByRecursion as All, Contains, list_any}
 use Rattle.std.proofs.lemmas.Bool.{and_parts, and_from, or_parts, both_ways, cond_both, eqb-true, eq-eqb}
 use Rattle.std.proofs.lemmas.List.Folds.{list_any-append}
-use Rattle.bq_job.specs.declared.job.Job.{Job}
-use Rattle.bq_job.specs.declared.job.JobState.{JobState}
+use Rattle.bq_job.specs.Types.{Job, JobState}
 use Rattle.bq_job.specs.declared.job.JobState.TheVariants as states
-use Rattle.bq_job.specs.machine.Changes.{is_held_by, is_holder, job_with}
-use Rattle.bq_job.specs.machine.Dispatch.{reserved_by}
-use Rattle.bq_job.specs.laws.Happenings.{Happening, Part, happenings, parts_of_run, put}
-use Rattle.bq_job.specs.machine.JobStates.{is_reserved}
-use Rattle.bq_job.specs.laws.LawsOfRuns.{IsHeldByOne, IsKept}
-use Rattle.bq_job.specs.machine.Machine.{Machine, SeatRecord, Settings, new_machine}
-use Rattle.bq_job.specs.machine.OneClient.{is_connected_at}
-use Rattle.bq_job.specs.promise.Runs.{GoesBy, Transition}
-use Rattle.bq_job.specs.laws.Undisturbed.{is_deletion}
+use Rattle.bq_job.specs.machine.{Machine.Machine, SeatRecord, Settings, is_connected_at, is_held_by, is_holder, is_reserved, job_with}
+use Rattle.bq_job.specs.machine.{new_machine, reserved_by}
+use Rattle.bq_job.specs.laws.{Happening, IsHeldByOne, IsKept, Part, happenings, is_deletion, parts_of_run, put}
+use Rattle.bq_job.specs.promise.{GoesBy, Transition}
 use Rattle.bq_job.proofs.JobMoves.{Fate, Move, Moves, quiet, putting, handing}
 use Rattle.bq_job.proofs.KeptLemmas.{Keeps}
 use Rattle.bq_job.proofs.LawfulLemmas.{new_is_lawful}

@@ -3,13 +3,10 @@ use Rattle.std.proofs.Common.{ℕ, zero, suc, ◌≡◌, ◌≤◌, ◌+◌, Boo
 use Rattle.std.specs.Prelude.{nat_le, filter, find, ◌==◌}
 use Rattle.std.specs.List.{AllByRecursion as All, list_any}
 use Rattle.std.proofs.lemmas.Bool.{cases_Bool, and_parts, and_from, or_parts, or_left, or_right, or_cases, both_ways, cond_both, eqb-true, eqb-false, leb-false}
-use Rattle.bq_job.specs.declared.job.Job.{Job}
-use Rattle.bq_job.specs.declared.job.JobState.{JobState}
-use Rattle.bq_job.specs.machine.Changes.{given_back, in_state, is_held_by, is_waiting}
-use Rattle.bq_job.specs.machine.JobCommands.{last_id}
-use Rattle.bq_job.specs.machine.JobStates.{is_reserved}
-use Rattle.bq_job.specs.beside.Lawful.{AreIdsWithin, IsLawful}
-use Rattle.bq_job.specs.machine.Machine.{Machine, SeatRecord, empty_seat, numbers}
+use Rattle.bq_job.specs.Types.{Job, JobState}
+use Rattle.bq_job.specs.machine.{Machine.Machine, SeatRecord, empty_seat, given_back, in_state, is_held_by, is_reserved, is_waiting}
+use Rattle.bq_job.specs.machine.{last_id, numbers}
+use Rattle.bq_job.specs.beside.{AreIdsWithin, IsLawful}
 use Rattle.bq_job.proofs.ListLemmas.{all_always, all_both, all_of_append, all_of_filter, all_of_map, all_pass, all_weaker, keys_of_map, list_any_of_map}
 
 -- Whoever holds the job is connected.

@@ -6,21 +6,16 @@ use Rattle.std.specs.List.{Contains, list_any, list_all}
 use Rattle.std.proofs.lemmas.Bool.{eq-eqb, or_left, or_right, cond_both, le-leb}
 use Rattle.std.proofs.lemmas.List.{length-map}
 use Rattle.std.proofs.lemmas.List.Sums.{count_by-le-length}
-use Rattle.bq_job.specs.declared.answer.Answer.{Answer}
-use Rattle.bq_job.specs.declared.job.Job.{Job}
+use Rattle.bq_job.specs.Types.{Answer, Job, Step}
 use Rattle.bq_job.specs.declared.job.JobState.TheVariants as states
-use Rattle.bq_job.specs.declared.step.Step.{Step}
-use Rattle.bq_job.specs.machine.Changes.{in_state, is_ready, is_waiting, with_job, with_seat, without_wait}
-use Rattle.bq_job.specs.beside.Computed.{waiting_count}
-use Rattle.bq_job.specs.machine.Dispatch.{DispatchTurn, GivenAnswer, IsHandOut, is_job_before, is_wait_before, is_waiting_for, next_job, next_seat, reserved_by}
-use Rattle.bq_job.specs.beside.Lawful.{IsLawful, has_open_holder, watches_once}
-use Rattle.bq_job.specs.machine.Limits.{greatest}
-use Rattle.bq_job.specs.machine.Machine.{Machine, SeatRecord, Settings, TubeRecord, default_tube, empty_seat, new_machine, numbers}
-use Rattle.bq_job.specs.machine.Steps.{Dispatches, EndsWaits, IsStep, Memory, Outcome, Serves, acted, addressed, granted, growth_refused, share_refused}
-use Rattle.bq_job.specs.machine.Timers.{after_timers, at_moment, is_due, is_expired, job_after_timers, with_timeout}
-use Rattle.bq_job.specs.machine.Tubes.{forgetting, fresh_tube, is_tube, is_seated_at, is_paused, watches}
+use Rattle.bq_job.specs.machine.{Chain, DispatchTurn, Dispatches, EndsWaits, GivenAnswer, IsHandOut, IsStep, Machine.Machine, Memory}
+use Rattle.bq_job.specs.machine.{Outcome, SeatRecord, Serves, Settings, TubeRecord, WaitEndTurn, acted, addressed, after_timers, at_moment}
+use Rattle.bq_job.specs.machine.{default_tube, empty_seat, end_of_wait, ends_waiting, forgetting, fresh_tube, granted, greatest}
+use Rattle.bq_job.specs.machine.{growth_refused, in_state, is_due, is_expired, is_job_before, is_paused, is_ready, is_seated_at, is_tube}
+use Rattle.bq_job.specs.machine.{is_wait_before, is_waiting, is_waiting_for, job_after_timers, new_machine, next_end, next_job, next_seat}
+use Rattle.bq_job.specs.machine.{numbers, reserved_by, share_refused, watches, with_job, with_seat, with_timeout, without_wait}
+use Rattle.bq_job.specs.beside.{IsLawful, has_open_holder, waiting_count, watches_once}
 use Rattle.bq_job.specs.reading.TubeName.{is_same_name}
-use Rattle.bq_job.specs.machine.Waits.{Chain, WaitEndTurn, end_of_wait, ends_waiting, next_end}
 use Rattle.bq_job.proofs.ActLemmas.{Leaves, answer_count, held_here, leaves_effect}
 use Rattle.bq_job.proofs.ChoiceLemmas.{first_of_agrees, first_of_none, first_of_none_passes}
 use Rattle.bq_job.proofs.ComputedLemmas.{next_end_waits, next_seat_waits, waiting_falls}

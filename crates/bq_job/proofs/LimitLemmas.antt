@@ -4,19 +4,13 @@ use Rattle.std.specs.Prelude.{filter, ◌==◌}
 use Rattle.std.specs.List.{AllByRecursion as All, Contains}
 use Rattle.std.proofs.lemmas.Bool.{cases_Bool, leb-false}
 use Rattle.std.proofs.lemmas.List.{length-map}
-use Rattle.bq_job.specs.declared.job.Job.{Job}
-use Rattle.bq_job.specs.declared.settings.Settings.{Settings}
-use Rattle.bq_job.specs.declared.step.Step.{Step}
-use Rattle.bq_job.specs.machine.Dispatch.{DispatchTurn, GivenAnswer, IsHandOut, after_hand_out, reserved_by}
-use Rattle.bq_job.specs.laws.Happenings.{Part, parts_in, parts_of_run}
-use Rattle.bq_job.specs.machine.JobCommands.{is_full}
-use Rattle.bq_job.specs.beside.Lawful.{IsLawful}
-use Rattle.bq_job.specs.machine.Machine.{Machine, SeatRecord, new_machine}
-use Rattle.bq_job.specs.promise.Runs.{GoesBy, IsTransition, Parts, Transition}
-use Rattle.bq_job.specs.machine.Steps.{Dispatches, EndsWaits, acted}
-use Rattle.bq_job.specs.machine.Timers.{after_timers, at_moment, job_after_timers}
-use Rattle.bq_job.specs.machine.Tubes.{forgetting}
-use Rattle.bq_job.specs.machine.Waits.{Chain, WaitEndTurn}
+use Rattle.bq_job.specs.Types.{Job, Settings, Step}
+use Rattle.bq_job.specs.machine.{Chain, DispatchTurn, Dispatches, EndsWaits, GivenAnswer, IsHandOut, Machine.Machine, SeatRecord}
+use Rattle.bq_job.specs.machine.{WaitEndTurn, acted, after_hand_out, after_timers, at_moment, forgetting, is_full, job_after_timers}
+use Rattle.bq_job.specs.machine.{new_machine, reserved_by}
+use Rattle.bq_job.specs.laws.{Part, parts_in, parts_of_run}
+use Rattle.bq_job.specs.beside.{IsLawful}
+use Rattle.bq_job.specs.promise.{GoesBy, IsTransition, Parts, Transition}
 use Rattle.bq_job.proofs.ActMoves.{After, after_acted}
 use Rattle.bq_job.proofs.ChangeLemmas.{changed, removed_one, added}
 use Rattle.bq_job.proofs.DispatchLemmas.{turn_of}

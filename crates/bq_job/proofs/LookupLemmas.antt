@@ -4,8 +4,8 @@ use Rattle.std.specs.Prelude.{filter, option_map, ◌==◌}
 use Rattle.std.specs.List.{AllByRecursion as All, Contains}
 use Rattle.std.proofs.lemmas.Bool.{cases_Bool, eq-eqb, eqb-true, false_from_ne_true, both_ways}
 use Rattle.bq_job.specs.declared.job.Job.{Job}
-use Rattle.bq_job.specs.machine.Changes.{job_with}
-use Rattle.bq_job.specs.beside.Lawful.{AreIdsWithin}
+use Rattle.bq_job.specs.machine.{job_with}
+use Rattle.bq_job.specs.beside.{AreIdsWithin}
 use Rattle.bq_job.proofs.ListLemmas.{all_at, found_passes, contains_head}
 
 -- what is found is in the list, with the id

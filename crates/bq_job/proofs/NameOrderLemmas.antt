@@ -10,11 +10,10 @@ use Rattle.std.specs.declared.cmp.Ordering.TheVariants.{Less, Equal, Greater}
 use Rattle.std.proofs.lemmas.Cmp.{nat_list_cmp_total}
 use Rattle.std.proofs.lemmas.Map.Lookups.{exact_bytes}
 use Rattle.bq_job.specs.declared.job.Job.{Job}
-use Rattle.bq_job.specs.machine.Machine.{Machine, SeatRecord, default_tube}
-use Rattle.bq_job.specs.beside.NameOrder.{is_in_order}
+use Rattle.bq_job.specs.machine.{Machine.Machine, SeatRecord, default_tube, is_name_before, is_seated_at, is_tube, seated_tubes, tubes}
+use Rattle.bq_job.specs.machine.{with_name}
+use Rattle.bq_job.specs.beside.{is_in_order}
 use Rattle.bq_job.specs.reading.TubeName.{is_same_name}
-use Rattle.bq_job.specs.machine.TubeOrder.{with_name, seated_tubes, tubes}
-use Rattle.bq_job.specs.machine.Tubes.{is_name_before, is_tube, is_seated_at}
 use Rattle.bq_job.proofs.ListLemmas.{all_weaker}
 
 both : (a b : Bool) → (a && b) ≡ true → (a ≡ true) × (b ≡ true)

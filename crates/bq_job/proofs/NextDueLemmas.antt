@@ -5,21 +5,16 @@ use Rattle.std.specs.List.{AllByRecursion as All, Contains}
 use Rattle.std.proofs.Math.Nat.{min-eq_left, min-le_left, min-le_right}
 use Rattle.std.proofs.lemmas.Bool.{cases_Bool, and_from, or_parts, eq-eqb, eqb-true, le-leb, leb-true}
 use Rattle.std.proofs.lemmas.Bool.Decides.{leb_tells}
-use Rattle.bq_job.specs.declared.job.Job.{Job}
-use Rattle.bq_job.specs.declared.job.JobState.{JobState}
+use Rattle.bq_job.specs.Types.{Job, JobState}
 use Rattle.bq_job.specs.declared.job.JobState.TheVariants as states
 use Rattle.bq_job.specs.declared.step.Step.TheVariants as steps
-use Rattle.bq_job.specs.machine.Changes.{is_waiting}
-use Rattle.bq_job.specs.machine.Dispatch.{GivenAnswer, is_wait_before, next_job}
-use Rattle.bq_job.specs.beside.Lawful.{IsLawful}
-use Rattle.bq_job.specs.machine.Limits.{grown}
-use Rattle.bq_job.specs.machine.Machine.{Machine, Pause, SeatRecord, TubeRecord, Wait}
-use Rattle.bq_job.specs.beside.NextDue.{dues, dues_of_pause, dues_of_state, dues_of_until, dues_of_wait, earlier, earliest, is_before, next_due}
-use Rattle.bq_job.specs.machine.OneClient.{is_waiting_at}
-use Rattle.bq_job.specs.machine.Steps.{IsStep, Memory, Outcome, Serves, acted, addressed, granted, growth_refused, is_possible, share_refused}
-use Rattle.bq_job.specs.machine.Timers.{after_timers, at_moment, is_due, is_expired, job_after_timers, pause_after_timers, tube_after_timers}
-use Rattle.bq_job.specs.machine.Tubes.{forgetting}
-use Rattle.bq_job.specs.machine.Waits.{ends_waiting, is_deadline_soon, is_ending_lease, is_past, is_timed_out, is_until_over, next_end}
+use Rattle.bq_job.specs.machine.{GivenAnswer, IsStep, Machine.Machine, Memory, Outcome, Pause, SeatRecord, Serves, TubeRecord, Wait, acted}
+use Rattle.bq_job.specs.machine.{addressed, after_timers, at_moment, ends_waiting, forgetting, granted, grown, growth_refused}
+use Rattle.bq_job.specs.machine.{is_deadline_soon, is_due, is_ending_lease, is_expired, is_past, is_possible, is_timed_out, is_until_over}
+use Rattle.bq_job.specs.machine.{is_wait_before, is_waiting, is_waiting_at, job_after_timers, next_end, next_job, pause_after_timers}
+use Rattle.bq_job.specs.machine.{share_refused, tube_after_timers}
+use Rattle.bq_job.specs.beside.{IsLawful, dues, dues_of_pause, dues_of_state, dues_of_until, dues_of_wait, earlier, earliest, is_before}
+use Rattle.bq_job.specs.beside.{next_due}
 use Rattle.bq_job.proofs.ChoiceLemmas.{first_of_none, first_of_none_passes}
 use Rattle.bq_job.proofs.ListLemmas.{all_at, all_from_members, all_of_flat_map, all_parts, all_weaker, count_all_not, list_any_not, list_any_with, map_all_same, none_pass}
 use Rattle.bq_job.proofs.QuietLemmas.{forgets_nothing, serves_nobody}

@@ -5,16 +5,11 @@ use Rattle.std.specs.Prelude.{◌==◌}
 use Rattle.std.specs.List.{AllByRecursion as All, Contains, list_any}
 use Rattle.std.proofs.lemmas.Bool.{cases_Bool, and_from, and_right, or_from, cond_both, eq-eqb, eqb-true, eqb-false}
 use Rattle.std.proofs.lemmas.List.Folds.{list_any-append}
-use Rattle.bq_job.specs.declared.answer.Answer.{Answer}
+use Rattle.bq_job.specs.Types.{Answer, Job}
 use Rattle.bq_job.specs.declared.answer.Answer.TheVariants as answers
-use Rattle.bq_job.specs.declared.job.Job.{Job}
-use Rattle.bq_job.specs.machine.Changes.{is_waiting, seat_with, without_wait}
-use Rattle.bq_job.specs.machine.Dispatch.{DispatchTurn, GivenAnswer, IsHandOut, next_seat}
-use Rattle.bq_job.specs.machine.Machine.{Machine, SeatRecord, numbers}
-use Rattle.bq_job.specs.machine.OneClient.{has_closed, is_closed_answer}
-use Rattle.bq_job.specs.promise.Runs.{answers_to}
-use Rattle.bq_job.specs.machine.Steps.{Serves}
-use Rattle.bq_job.specs.machine.Waits.{Chain, WaitEndTurn, end_of_wait, is_deadline_soon}
+use Rattle.bq_job.specs.machine.{Chain, DispatchTurn, GivenAnswer, IsHandOut, Machine.Machine, SeatRecord, Serves, WaitEndTurn, end_of_wait}
+use Rattle.bq_job.specs.machine.{has_closed, is_closed_answer, is_deadline_soon, is_waiting, next_seat, numbers, seat_with, without_wait}
+use Rattle.bq_job.specs.promise.{answers_to}
 use Rattle.bq_job.proofs.ComputedLemmas.{next_end_waits, next_seat_waits}
 use Rattle.bq_job.proofs.DispatchLemmas.{turn_of}
 use Rattle.bq_job.proofs.KeptLemmas.{only_seat}

@@ -7,11 +7,9 @@ use Rattle.std.proofs.lemmas.Bool.Decides.{nat_tests}
 use Rattle.std.proofs.lemmas.List.Elements.{Contains-append_cases}
 use Rattle.std.proofs.lemmas.List.Folds.{list_any-append}
 use Rattle.bq_job.specs.declared.job.Job.{Job}
-use Rattle.bq_job.specs.machine.Changes.{is_pair_before, is_ready, job_with}
-use Rattle.bq_job.specs.machine.Dispatch.{is_job_before, reserved_by}
-use Rattle.bq_job.specs.laws.Happenings.{Happening, Part, put, handed_out, reserved_by_id, expired, released, buried, given_back, deleted, happenings}
-use Rattle.bq_job.specs.machine.Machine.{Machine}
-use Rattle.bq_job.specs.laws.Undisturbed.{comes_first, disturbs, is_hand_out, is_put}
+use Rattle.bq_job.specs.machine.{Machine.Machine, is_job_before, is_pair_before, is_ready, job_with, reserved_by}
+use Rattle.bq_job.specs.laws.{Happening, Part, buried, comes_first, deleted, disturbs, expired, given_back, handed_out, happenings}
+use Rattle.bq_job.specs.laws.{is_hand_out, is_put, put, released, reserved_by_id}
 use Rattle.bq_job.proofs.JobMoves.{Fate, IsHandOutMove, IsPutMove, IsQuiet, Move, Moves, quiet, putting, handing, is_plain}
 use Rattle.bq_job.proofs.ListLemmas.{all_at}
 use Rattle.bq_job.proofs.LookupLemmas.{found_job, job_at_end}

@@ -3,17 +3,12 @@ use Rattle.std.proofs.Common.{ℕ, ◌≡◌, Bool, true, false, ◌||◌, List,
 use Rattle.std.specs.List.{list_any}
 use Rattle.std.proofs.lemmas.Bool.{or_parts}
 use Rattle.bq_job.specs.declared.answer.Answer.TheVariants as answers
-use Rattle.bq_job.specs.declared.job.Job.{Job}
-use Rattle.bq_job.specs.declared.step.Step.{Step}
-use Rattle.bq_job.specs.machine.Acts.{Effect}
-use Rattle.bq_job.specs.machine.Changes.{with_seat, without_wait}
-use Rattle.bq_job.specs.beside.Computed.{ample, stepped}
-use Rattle.bq_job.specs.machine.Dispatch.{DispatchTurn, GivenAnswer, IsHandOut, after_hand_out, next_job, next_seat}
-use Rattle.bq_job.specs.machine.Machine.{Machine, SeatRecord}
-use Rattle.bq_job.specs.machine.Steps.{IsStep, Memory, Outcome, Serves, acted, granted, growth_refused, has_refused_share, is_growth_refused, is_out_of_memory, is_share_refused, share_refused}
-use Rattle.bq_job.specs.machine.Timers.{after_timers, at_moment}
-use Rattle.bq_job.specs.machine.Tubes.{forgetting}
-use Rattle.bq_job.specs.machine.Waits.{Chain, WaitEndTurn, end_of_wait, next_end}
+use Rattle.bq_job.specs.Types.{Job, Step}
+use Rattle.bq_job.specs.machine.{Chain, DispatchTurn, Effect, GivenAnswer, IsHandOut, IsStep, Machine.Machine, Memory, Outcome, SeatRecord}
+use Rattle.bq_job.specs.machine.{Serves, WaitEndTurn, acted, after_hand_out, after_timers, at_moment, end_of_wait, forgetting, granted}
+use Rattle.bq_job.specs.machine.{growth_refused, has_refused_share, is_growth_refused, is_out_of_memory, is_share_refused, next_end}
+use Rattle.bq_job.specs.machine.{next_job, next_seat, share_refused, with_seat, without_wait}
+use Rattle.bq_job.specs.beside.{ample, stepped}
 use Rattle.bq_job.proofs.ComputedLemmas.{stepped_is_step}
 use Rattle.bq_job.proofs.DispatchLemmas.{turn_of}
 use Rattle.bq_job.proofs.LawfulLemmas.{end_of}

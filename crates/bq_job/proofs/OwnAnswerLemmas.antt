@@ -2,19 +2,11 @@
 use Rattle.std.proofs.Common.{ℕ, ◌≡◌, Bool, true, false, ◌||◌, not, List, refl, ap, subst, inl, inr, ◌⊎◌, Some}
 use Rattle.std.specs.Prelude.{filter, nat_le, ◌==◌}
 use Rattle.std.proofs.lemmas.Bool.{or_left, or_right}
-use Rattle.bq_job.specs.declared.answer.Answer.{Answer}
+use Rattle.bq_job.specs.Types.{Answer, Job, Request, Step}
 use Rattle.bq_job.specs.declared.answer.Answer.TheVariants as answers
-use Rattle.bq_job.specs.declared.job.Job.{Job}
-use Rattle.bq_job.specs.declared.request.Request.{Request}
 use Rattle.bq_job.specs.declared.request.Request.TheVariants as requests
-use Rattle.bq_job.specs.declared.step.Step.{Step}
 use Rattle.bq_job.specs.declared.step.Step.TheVariants as steps
-use Rattle.bq_job.specs.machine.Acts.{Effect, telling}
-use Rattle.bq_job.specs.machine.Changes.{is_held_by, job_with}
-use Rattle.bq_job.specs.machine.JobCommands.{last_id}
-use Rattle.bq_job.specs.machine.JobStates.{is_reserved}
-use Rattle.bq_job.specs.machine.Machine.{Machine, SeatRecord}
-use Rattle.bq_job.specs.machine.Steps.{Memory, acted}
+use Rattle.bq_job.specs.machine.{Effect, Machine.Machine, Memory, SeatRecord, acted, is_held_by, is_reserved, job_with, last_id, telling}
 use Rattle.bq_job.proofs.CommandKinds.{kind_of}
 use Rattle.bq_job.proofs.EachEvent.{each_acted}
 use Rattle.bq_job.proofs.EffectKinds.{SaysDone, is_common, Kind, adds, changes_jobs, changes_seat, changes_tube, deletes, passes, tells, waits}

@@ -2,9 +2,7 @@
 use Rattle.std.proofs.Common.{ℕ, ◌≡◌, true, false, List, cond}
 use Rattle.std.proofs.lemmas.Bool.{cond_both}
 use Rattle.bq_job.specs.declared.answer.Answer.TheVariants as answers
-use Rattle.bq_job.specs.machine.Acts.{Effect, telling}
-use Rattle.bq_job.specs.machine.JobCommands.{after_put, is_full, new_job, put_effect}
-use Rattle.bq_job.specs.machine.Machine.{Machine, SeatRecord}
+use Rattle.bq_job.specs.machine.{Effect, Machine.Machine, SeatRecord, after_put, is_full, new_job, put_effect, telling}
 
 -- What holds where it finds the machine draining, where it finds no place for a job, and where its job
 -- comes in, holds of every put.

@@ -2,11 +2,8 @@
 use Rattle.std.proofs.Common.{◌≡◌, true, List, [], ◌∷◌, refl, ap, ◌∙◌, subst, Option, None}
 use Rattle.std.specs.Prelude.{MatchOption}
 use Rattle.std.specs.List.{list_all}
-use Rattle.bq_job.specs.machine.Dispatch.{DispatchTurn, GivenAnswer, next_job}
-use Rattle.bq_job.specs.machine.Machine.{Machine, TubeRecord}
-use Rattle.bq_job.specs.machine.Steps.{Serves}
-use Rattle.bq_job.specs.machine.Tubes.{forgetting, is_tube}
-use Rattle.bq_job.specs.machine.Waits.{Chain, WaitEndTurn, next_end}
+use Rattle.bq_job.specs.machine.{Chain, DispatchTurn, GivenAnswer, Machine.Machine, Serves, TubeRecord, WaitEndTurn, forgetting, is_tube}
+use Rattle.bq_job.specs.machine.{next_end, next_job}
 use Rattle.bq_job.proofs.ListLemmas.{all_pass, filter_all}
 
 -- Where nothing is kept of tubes that are gone, nothing is forgotten.

@@ -2,8 +2,7 @@
 use Rattle.std.proofs.Common.{◌≡◌, ℕ, zero, suc, ◌≤◌, Bool, true, false, List, [], ◌∷◌, ◌++◌, Option, Some, None, ◌⊎◌, inl, inr, refl, sym, ap, ◌∙◌, arith, length, length-append, append_assoc, append-nil, IsTrue, not, ◌&&◌}
 use Rattle.std.proofs.lemmas.Grind.{common_steps}
 use Rattle.bq_job.specs.reading.Reading.{Reads, AreUnits, IsUnit, BeginsNoUnit, is_quit, quits_last, ends_by_quit}
-use Rattle.bq_job.specs.beside.ComputedReading.{reading, reading_within, first_unit, onto_reading}
-use Rattle.bq_job.specs.beside.SameRequests.{AreSameRequests, IsSameRequest, had_memory}
+use Rattle.bq_job.specs.beside.{AreSameRequests, IsSameRequest, first_unit, had_memory, onto_reading, reading, reading_within}
 use Rattle.bq_job.specs.declared.request.Request.{Request}
 use Rattle.bq_job.specs.declared.request.Request.TheVariants as requests
 use Rattle.bq_job.proofs.UnitLemmas.{first_unit-append, first_unit-unit, no_first_unit, some_pair, IsComputed}

@@ -6,24 +6,14 @@ use Rattle.std.specs.Cmp.Lexicographic.{bytes_decides}
 use Rattle.std.specs.List.{AllByRecursion as All}
 use Rattle.std.proofs.Math.Nat.{min-le_right}
 use Rattle.std.proofs.lemmas.Bool.{cases_Bool, cond_both, leb-true}
-use Rattle.bq_job.specs.declared.job.Job.{Job}
-use Rattle.bq_job.specs.declared.request.Request.{Request}
-use Rattle.bq_job.specs.declared.step.Step.{Step}
-use Rattle.bq_job.specs.machine.Acts.{Effect}
-use Rattle.bq_job.specs.machine.Asked.{after_close, after_connect, with_end}
-use Rattle.bq_job.specs.machine.Changes.{with_seat, without_wait}
-use Rattle.bq_job.specs.machine.Dispatch.{DispatchTurn, GivenAnswer, IsHandOut}
-use Rattle.bq_job.specs.machine.JobCommands.{reserve_effect, waiting_from, with_delete, with_put}
-use Rattle.bq_job.specs.beside.Lawful.{IsLawful, watches_once}
-use Rattle.bq_job.specs.machine.Limits.{greatest, grown, raised}
-use Rattle.bq_job.specs.machine.Machine.{Machine, SeatRecord, TubeRecord, empty_seat}
-use Rattle.bq_job.specs.beside.NameOrder.{is_in_order}
-use Rattle.bq_job.specs.machine.Steps.{Memory, Serves, acted}
-use Rattle.bq_job.specs.machine.Timers.{after_timers, at_moment, tube_after_timers}
-use Rattle.bq_job.specs.machine.TubeCommands.{with_pause}
+use Rattle.bq_job.specs.Types.{Job, Request, Step}
+use Rattle.bq_job.specs.machine.{Chain, DispatchTurn, Effect, GivenAnswer, IsHandOut, Machine.Machine, Memory, SeatRecord, Serves}
+use Rattle.bq_job.specs.machine.{TubeRecord, WaitEndTurn, acted, after_close, after_connect, after_timers, at_moment, empty_seat}
+use Rattle.bq_job.specs.machine.{end_of_wait, forgetting, greatest, grown, is_name_before, is_tube, next_end, raised, reserve_effect}
+use Rattle.bq_job.specs.machine.{tube_after_timers, tube_record, waiting_from, with_delete, with_end, with_pause, with_put, with_record}
+use Rattle.bq_job.specs.machine.{with_seat, without_wait}
+use Rattle.bq_job.specs.beside.{IsLawful, is_in_order, watches_once}
 use Rattle.bq_job.specs.reading.TubeName.{is_same_name}
-use Rattle.bq_job.specs.machine.Tubes.{forgetting, is_name_before, is_tube, tube_record, with_record}
-use Rattle.bq_job.specs.machine.Waits.{Chain, WaitEndTurn, end_of_wait, next_end}
 use Rattle.bq_job.proofs.DispatchLemmas.{turn_of}
 use Rattle.bq_job.proofs.ListLemmas.{all_at, all_always, all_before_map, all_of_filter, all_of_map, all_pass, all_weaker, keys_of_map}
 use Rattle.bq_job.proofs.NameOrderLemmas.{after, first_of_order, in_order_from, rest_in_order}

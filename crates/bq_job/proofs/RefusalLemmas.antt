@@ -2,19 +2,12 @@
 use Rattle.std.proofs.Common.{ℕ, ◌≡◌, true, false, List, [], ◌∷◌, ◌++◌, append-nil, refl, ap, ◌∙◌, subst, Some}
 use Rattle.std.specs.Prelude.{IsTrue}
 use Rattle.std.proofs.lemmas.Bool.{both_ways}
-use Rattle.bq_job.specs.declared.answer.Answer.{Answer}
+use Rattle.bq_job.specs.Types.{Answer, Request, Step}
 use Rattle.bq_job.specs.declared.answer.Answer.TheVariants as answers
-use Rattle.bq_job.specs.declared.request.Request.{Request}
-use Rattle.bq_job.specs.declared.step.Step.{Step}
-use Rattle.bq_job.specs.machine.Acts.{Effect, silent, telling}
-use Rattle.bq_job.specs.machine.Dispatch.{GivenAnswer}
-use Rattle.bq_job.specs.beside.Lawful.{IsLawful}
-use Rattle.bq_job.specs.machine.Machine.{Machine, SeatRecord}
-use Rattle.bq_job.specs.beside.Refusals.{ChangesNothing, is_refusal}
-use Rattle.bq_job.specs.promise.Runs.{parts_of}
-use Rattle.bq_job.specs.machine.Steps.{IsStep, Memory, Outcome, Serves, acted}
-use Rattle.bq_job.specs.machine.Timers.{after_timers, at_moment}
-use Rattle.bq_job.specs.machine.Tubes.{forgetting}
+use Rattle.bq_job.specs.machine.{Effect, GivenAnswer, IsStep, Machine.Machine, Memory, Outcome, SeatRecord, Serves, acted, after_timers}
+use Rattle.bq_job.specs.machine.{at_moment, forgetting, silent, telling}
+use Rattle.bq_job.specs.beside.{ChangesNothing, IsLawful, is_refusal}
+use Rattle.bq_job.specs.promise.{parts_of}
 use Rattle.bq_job.proofs.KeptLemmas.{kept_of_lawful}
 use Rattle.bq_job.proofs.LawfulLemmas.{kept_of_timers, lawful_when_served}
 use Rattle.bq_job.proofs.QuietLemmas.{forgets_nothing, serves_nobody}

@@ -4,11 +4,9 @@ use Rattle.std.specs.Prelude.{flat_map}
 use Rattle.std.proofs.lemmas.Grind.{flat_map-append}
 use Rattle.std.proofs.lemmas.List.{map-append}
 use Rattle.bq_job.specs.declared.journal.Entry.{Entry as JournalEntry}
-use Rattle.bq_job.specs.machine.Dispatch.{GivenAnswer}
-use Rattle.bq_job.specs.machine.Machine.{Machine, Settings, new_machine}
-use Rattle.bq_job.specs.beside.Replay.{Replay, entry_of, outcome_of}
-use Rattle.bq_job.specs.promise.Runs.{Entry, GoesBy, IsTransition, Transition}
-use Rattle.bq_job.specs.machine.Steps.{IsStep, Outcome}
+use Rattle.bq_job.specs.machine.{GivenAnswer, IsStep, Machine.Machine, Outcome, Settings, new_machine}
+use Rattle.bq_job.specs.beside.{Replay.Replay, entry_of, outcome_of}
+use Rattle.bq_job.specs.promise.{Entry, GoesBy, IsTransition, Transition}
 use Rattle.bq_job.proofs.OutcomeLemmas.{one_result}
 use Rattle.bq_job.proofs.RunLemmas.{taken_as}
 

@@ -4,24 +4,15 @@ use Rattle.std.proofs.Common.{ℕ, ◌≡◌, ◌+◌, Bool, true, false, not, c
 use Rattle.std.specs.Prelude.{◌==◌, IsTrue, is_some}
 use Rattle.std.specs.List.{Contains}
 use Rattle.std.proofs.lemmas.Bool.{and_from, and_parts}
-use Rattle.bq_job.specs.declared.answer.Answer.{Answer}
+use Rattle.bq_job.specs.Types.{Answer, Request, Step}
 use Rattle.bq_job.specs.declared.answer.Answer.TheVariants as answers
-use Rattle.bq_job.specs.declared.request.Request.{Request}
 use Rattle.bq_job.specs.declared.request.Request.TheVariants as requests
-use Rattle.bq_job.specs.declared.step.Step.{Step}
 use Rattle.bq_job.specs.declared.step.Step.TheVariants as steps
-use Rattle.bq_job.specs.machine.Acts.{Effect, silent, telling}
-use Rattle.bq_job.specs.machine.Asked.{after_close, after_connect, ask_effect, asked, at_found, effect, with_end}
-use Rattle.bq_job.specs.machine.Changes.{is_waiting, with_seat}
-use Rattle.bq_job.specs.machine.JobCommands.{after_delete, after_put, new_job, reserve_effect, waiting_from}
-use Rattle.bq_job.specs.promise.LineSteps.{answers_wanted, is_waiting_request}
-use Rattle.bq_job.specs.machine.Limits.{raised}
-use Rattle.bq_job.specs.machine.Machine.{Machine, SeatRecord, empty_seat}
-use Rattle.bq_job.specs.machine.OneClient.{has_closed, is_closed_answer}
-use Rattle.bq_job.specs.promise.Runs.{answers_to}
-use Rattle.bq_job.specs.machine.Steps.{Memory, acted, addressed, granted, growth_refused, is_possible, share_refused, shares_body, step_takes_memory}
-use Rattle.bq_job.specs.machine.TubeCommands.{with_pause}
-use Rattle.bq_job.specs.machine.Tubes.{with_tube}
+use Rattle.bq_job.specs.machine.{Effect, Machine.Machine, Memory, SeatRecord, acted, addressed, after_close, after_connect, after_delete}
+use Rattle.bq_job.specs.machine.{after_put, ask_effect, asked, at_found, effect, empty_seat, granted, growth_refused, has_closed}
+use Rattle.bq_job.specs.machine.{is_closed_answer, is_possible, is_waiting, new_job, raised, reserve_effect, share_refused, shares_body}
+use Rattle.bq_job.specs.machine.{silent, step_takes_memory, telling, waiting_from, with_end, with_pause, with_seat, with_tube}
+use Rattle.bq_job.specs.promise.{answers_to, answers_wanted, is_waiting_request}
 use Rattle.bq_job.proofs.CommandKinds.{kind_of}
 use Rattle.bq_job.proofs.EachEvent.{IsSeat, each_acted}
 use Rattle.bq_job.proofs.EffectKinds.{Kind, adds, changes_jobs, changes_seat, changes_tube, deletes, passes, tells, waits}

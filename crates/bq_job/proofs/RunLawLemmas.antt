@@ -4,10 +4,10 @@ use Rattle.std.specs.Prelude.{count_by, ◌==◌}
 use Rattle.std.specs.List.{Contains, list_any}
 use Rattle.std.proofs.lemmas.Bool.{cases_Bool, both_ways, eqb-true, eq-eqb}
 use Rattle.bq_job.specs.declared.job.Job.{Job}
-use Rattle.bq_job.specs.laws.Happenings.{Happening, happenings, parts_of_run, put}
-use Rattle.bq_job.specs.machine.Machine.{Machine, Settings, new_machine}
-use Rattle.bq_job.specs.promise.Runs.{GoesBy, Transition}
-use Rattle.bq_job.specs.laws.Undisturbed.{IsHandedOut, IsHandedOutBefore, IsPutBefore, IsUndisturbed, comes_first, disturbs, is_hand_out, is_put}
+use Rattle.bq_job.specs.laws.{Happening, IsHandedOut, IsHandedOutBefore, IsPutBefore, IsUndisturbed, comes_first, disturbs, happenings}
+use Rattle.bq_job.specs.laws.{is_hand_out, is_put, parts_of_run, put}
+use Rattle.bq_job.specs.machine.{Machine.Machine, Settings, new_machine}
+use Rattle.bq_job.specs.promise.{GoesBy, Transition}
 use Rattle.bq_job.proofs.LawfulLemmas.{new_is_lawful}
 use Rattle.bq_job.proofs.OrderLemmas.{handed_in_order, ids_in_order, put_above, unborn}
 use Rattle.bq_job.proofs.SpentLemmas.{handed_once}

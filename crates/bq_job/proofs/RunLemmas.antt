@@ -1,10 +1,8 @@
 -- Runs, one step at a time: what a run of no step, of a first step and of a last step is, and how two join.
 use Rattle.std.proofs.Common.{◌≡◌, List, [], ◌∷◌, ◌++◌, map, refl, sym, ap, ◌∙◌, subst, append_assoc}
 use Rattle.std.specs.Prelude.{flat_map}
-use Rattle.bq_job.specs.machine.Dispatch.{GivenAnswer}
-use Rattle.bq_job.specs.machine.Machine.{Machine}
-use Rattle.bq_job.specs.promise.Runs.{Entry, GoesBy, IsTransition, Run, Transition, parts_of}
-use Rattle.bq_job.specs.machine.Steps.{IsStep, Outcome}
+use Rattle.bq_job.specs.machine.{GivenAnswer, IsStep, Machine.Machine, Outcome}
+use Rattle.bq_job.specs.promise.{Entry, GoesBy, IsTransition, Run, Transition, parts_of}
 
 -- A run begins with this step, and the rest is a run.
 pub record Begins (first : Machine) (e : Entry) (history : List Entry) (given : List GivenAnswer) (last : Machine) : Type 0 where

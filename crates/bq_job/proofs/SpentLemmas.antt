@@ -5,15 +5,11 @@ use Rattle.std.specs.List.{AllByRecursion as All, list_any}
 use Rattle.std.proofs.lemmas.Bool.{cases_Bool, or_parts, or_from, both_ways, cond_both, eqb-true, eq-eqb, false_from_ne_true}
 use Rattle.std.proofs.lemmas.List.Folds.{list_any-append}
 use Rattle.std.proofs.lemmas.List.Sums.{sum_by-append}
-use Rattle.bq_job.specs.declared.job.Job.{Job}
-use Rattle.bq_job.specs.declared.job.JobState.{JobState}
+use Rattle.bq_job.specs.Types.{Job, JobState}
 use Rattle.bq_job.specs.declared.job.JobState.TheVariants as states
-use Rattle.bq_job.specs.machine.Changes.{is_ready, is_ready_state, job_with}
-use Rattle.bq_job.specs.machine.Dispatch.{reserved_by}
-use Rattle.bq_job.specs.laws.Happenings.{Happening, Part, put, handed_out, reserved_by_id, expired, released, buried, given_back, deleted, happenings}
-use Rattle.bq_job.specs.machine.JobStates.{is_reserved}
-use Rattle.bq_job.specs.machine.Machine.{Machine}
-use Rattle.bq_job.specs.laws.Undisturbed.{disturbs, is_hand_out}
+use Rattle.bq_job.specs.machine.{Machine.Machine, is_ready, is_ready_state, is_reserved, job_with, reserved_by}
+use Rattle.bq_job.specs.laws.{Happening, Part, buried, deleted, disturbs, expired, given_back, handed_out, happenings, is_hand_out, put}
+use Rattle.bq_job.specs.laws.{released, reserved_by_id}
 use Rattle.bq_job.proofs.JobMoves.{Fate, IsHandOutMove, IsPutMove, Move, Moves, quiet, putting, handing, is_plain}
 use Rattle.bq_job.proofs.ListLemmas.{count_cons}
 use Rattle.bq_job.proofs.LookupLemmas.{job_in_map, job_in_more}

@@ -3,21 +3,15 @@ use Rattle.std.proofs.Common.{ℕ, ◌≡◌, true, false, ◌&&◌, not, cond, 
 use Rattle.std.specs.Prelude.{filter, option_map, ◌==◌}
 use Rattle.std.specs.List.{AllByRecursion as All, list_any}
 use Rattle.std.proofs.lemmas.Bool.{cases_Bool, and_parts, and_from, or_left, or_right, both_ways, cond_both, eq-eqb}
-use Rattle.bq_job.specs.declared.job.Job.{Job}
-use Rattle.bq_job.specs.declared.job.JobState.{JobState}
+use Rattle.bq_job.specs.Types.{Job, JobState}
 use Rattle.bq_job.specs.declared.job.JobState.TheVariants as states
-use Rattle.bq_job.specs.machine.Changes.{is_ready, job_with}
-use Rattle.bq_job.specs.machine.Dispatch.{DispatchTurn, GivenAnswer, IsHandOut, may_have, next_job, next_seat, reserved_by}
-use Rattle.bq_job.specs.laws.Happenings.{Happening, Part, changes, expirations, expired, hand_out, hand_outs, happenings, parts_in, parts_of_run}
-use Rattle.bq_job.specs.machine.JobStates.{is_reserved}
-use Rattle.bq_job.specs.beside.Lawful.{AreIdsWithin, IsLawful}
-use Rattle.bq_job.specs.machine.Machine.{Machine, SeatRecord}
-use Rattle.bq_job.specs.promise.Runs.{GoesBy, IsTransition, Parts, Transition, parts_of}
-use Rattle.bq_job.specs.machine.Steps.{Dispatches, EndsWaits, acted}
-use Rattle.bq_job.specs.machine.Timers.{after_timers, at_moment, is_due, is_expired, job_after_timers}
-use Rattle.bq_job.specs.machine.Tubes.{forgetting, is_paused, watches}
-use Rattle.bq_job.specs.laws.Undisturbed.{disturbs}
-use Rattle.bq_job.specs.machine.Waits.{Chain, WaitEndTurn}
+use Rattle.bq_job.specs.machine.{Chain, DispatchTurn, Dispatches, EndsWaits, GivenAnswer, IsHandOut, Machine.Machine, SeatRecord}
+use Rattle.bq_job.specs.machine.{WaitEndTurn, acted, after_timers, at_moment, forgetting, is_due, is_expired, is_paused, is_ready}
+use Rattle.bq_job.specs.machine.{is_reserved, job_after_timers, job_with, may_have, next_job, next_seat, reserved_by, watches}
+use Rattle.bq_job.specs.laws.{Happening, Part, changes, disturbs, expirations, expired, hand_out, hand_outs, happenings, parts_in}
+use Rattle.bq_job.specs.laws.{parts_of_run}
+use Rattle.bq_job.specs.beside.{AreIdsWithin, IsLawful}
+use Rattle.bq_job.specs.promise.{GoesBy, IsTransition, Parts, Transition, parts_of}
 use Rattle.bq_job.proofs.ActMoves.{Ids, after_acted}
 use Rattle.bq_job.proofs.ChangeLemmas.{move_of_jobs}
 use Rattle.bq_job.proofs.DispatchLemmas.{next_is_least, turn_of}

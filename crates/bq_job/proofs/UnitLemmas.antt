@@ -6,8 +6,7 @@ use Rattle.bq_job.specs.reading.TubeName.{is_same_name}
 use Rattle.bq_job.specs.reading.Line.{first_line, line_end}
 use Rattle.bq_job.specs.reading.LineRead.{LineRead, Whole, PutWaits, PutLine, read_line}
 use Rattle.bq_job.specs.reading.Reading.{IsUnit, IsUnitAfter, IsPutRequest, put_with_body, BeginsNoUnit}
-use Rattle.bq_job.specs.beside.ComputedReading.{first_unit, unit_after, unit_of_line, put_request}
-use Rattle.bq_job.specs.beside.SameRequests.{IsRefusedMemory, had_memory}
+use Rattle.bq_job.specs.beside.{IsRefusedMemory, first_unit, had_memory, put_request, unit_after, unit_of_line}
 use Rattle.bq_job.specs.declared.request.Request.{Request}
 use Rattle.bq_job.specs.declared.request.Request.TheVariants as requests
 use Rattle.bq_job.specs.declared.refusal.Refusal.TheVariants as refusals

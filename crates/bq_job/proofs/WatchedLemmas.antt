@@ -5,10 +5,8 @@ use Rattle.std.specs.Cmp.Lexicographic.{bytes_decides}
 use Rattle.std.specs.List.{list_any}
 use Rattle.std.proofs.lemmas.List.Folds.{list_any-append}
 use Rattle.std.proofs.lemmas.Bool.{cases_Bool, and_parts, and_from, both_ways, cond_both, false_from_ne_true, or_from, or_parts}
-use Rattle.bq_job.specs.beside.Lawful.{has_one, none_twice, watches_once}
-use Rattle.bq_job.specs.machine.Machine.{SeatRecord}
-use Rattle.bq_job.specs.machine.TubeCommands.{watched_with, watching}
-use Rattle.bq_job.specs.machine.Tubes.{watches}
+use Rattle.bq_job.specs.beside.{has_one, none_twice, watches_once}
+use Rattle.bq_job.specs.machine.{SeatRecord, watched_with, watches, watching}
 use Rattle.bq_job.specs.reading.TubeName.{is_same_name}
 use Rattle.bq_job.proofs.ListLemmas.{all_of_filter, all_weaker, list_any_not, none_pass}
 

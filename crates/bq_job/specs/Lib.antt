@@ -5,3 +5,4 @@ pub mod machine
 pub mod promise
 pub mod reading
 pub mod texts
+pub mod Types

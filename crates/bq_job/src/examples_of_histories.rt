@@ -1,18 +1,14 @@
 //! Worked examples of whole histories: what was read and written at each door, and whether one history of
 //! everybody's steps explains it. Each is a clause on the definitions, and none runs our code.
-ghost use Rattle.bq_job.specs.declared.answer.Answer.{Answer};
+ghost use Rattle.bq_job.specs.Types.{Answer, Step};
 ghost use Rattle.bq_job.specs.declared.answer.Answer.TheVariants.{Closed, Deleted, Inserted, Kicked};
 ghost use Rattle.bq_job.specs.declared.request.Request.TheVariants.{Put, Quit, Reserve};
-ghost use Rattle.bq_job.specs.declared.step.Step.{Step};
 ghost use Rattle.bq_job.specs.declared.step.Step.TheVariants.{Ask, Close, Connect, Drain, Gone};
-ghost use Rattle.bq_job.specs.promise.ControlDid.{IsControlDone};
+ghost use Rattle.bq_job.specs.promise.{IsControlDone, IsDoorOwed, IsHistoryOf, IsLineOwed, IsTimedBy, LineOver};
 ghost use Rattle.bq_job.specs.examples.Examples.{ask, at, close, connect};
-ghost use Rattle.bq_job.specs.promise.Headline.{IsDoorOwed, IsHistoryOf};
-ghost use Rattle.bq_job.specs.promise.History.{IsTimedBy, LineOver};
 ghost use Rattle.bq_job.specs.examples.HistoryExamples.{AreServedOver, drain_at, ended_line, gone, quit_line, seated};
 ghost use Rattle.bq_job.specs.examples.HistoryExamples.{shut_line, unread_line, unwritten_line, usual};
-ghost use Rattle.bq_job.specs.promise.LineOwed.{IsLineOwed};
-ghost use Rattle.bq_job.specs.machine.Machine.{Machine};
+ghost use Rattle.bq_job.specs.machine.{Machine.Machine};
 ghost use Rattle.std.specs.Prelude.{ℕ, Bool, false, ◌≡◌, List, [], ◌∷◌, Option, Some, codes};
 
 /// Two doors with one line each: a put answers the reserve of the other's client.

@@ -1,21 +1,11 @@
 //! Laws of clients: what a step gives to each of them, and what a whole run does.
 ghost use Rattle.std.specs.Prelude.{ℕ, Bool, List, Option, [], ◌∷◌, ◌++◌, ◌≡◌, ◌≢◌, ◌<◌, true};
-ghost use Rattle.bq_job.specs.declared.answer.Answer.{Answer};
-ghost use Rattle.bq_job.specs.declared.request.Request.{Request};
-ghost use Rattle.bq_job.specs.declared.step.Step.{Step};
+ghost use Rattle.bq_job.specs.Types.{Answer, Request, Step};
 ghost use Rattle.bq_job.specs.declared.step.Step.TheVariants.{Ask};
-ghost use Rattle.bq_job.specs.machine.Dispatch.{GivenAnswer};
-ghost use Rattle.bq_job.specs.promise.Headline.{IsHistoryOf, IsHistoryOfLine};
-ghost use Rattle.bq_job.specs.promise.History.{LineOver};
-ghost use Rattle.bq_job.specs.beside.Lawful.{IsLawful};
-ghost use Rattle.bq_job.specs.machine.Machine.{Machine, Settings};
-ghost use Rattle.bq_job.specs.beside.ClientGets.{GetsAtMost, GetsWhatWaits};
-ghost use Rattle.bq_job.specs.machine.OneClient.{is_connected_at};
-ghost use Rattle.bq_job.specs.promise.Runs.{Entry, answers_to};
-ghost use Rattle.bq_job.specs.beside.SeatDid.{AreLinesServed, IsLineServed};
-ghost use Rattle.bq_job.specs.machine.Steps.{IsStep, Outcome};
-ghost use Rattle.bq_job.specs.laws.TheHeadline.{HeadlineHolds, LineHeadlineHolds};
-ghost use Rattle.bq_job.specs.beside.Ties.{IsJoined, IsLineJoined};
+ghost use Rattle.bq_job.specs.machine.{GivenAnswer, IsStep, Machine.Machine, Outcome, Settings, is_connected_at};
+ghost use Rattle.bq_job.specs.promise.{Entry, IsHistoryOf, IsHistoryOfLine, LineOver, answers_to};
+ghost use Rattle.bq_job.specs.beside.{AreLinesServed, GetsAtMost, GetsWhatWaits, IsJoined, IsLawful, IsLineJoined, IsLineServed};
+ghost use Rattle.bq_job.specs.laws.{HeadlineHolds, LineHeadlineHolds};
 
 /// A step of another seat gives a client at most the answer that it waits for, and nothing else.
 pub fn others_give_what_waits()

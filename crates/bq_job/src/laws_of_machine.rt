@@ -1,19 +1,12 @@
 //! Laws of the machine: what holds of every step, whoever takes it.
-ghost use Rattle.bq_job.specs.declared.step.Step.{Step};
+ghost use Rattle.bq_job.specs.Types.{Answer, Step};
 ghost use Rattle.bq_job.specs.declared.step.Step.TheVariants.{Tick};
-ghost use Rattle.bq_job.specs.declared.answer.Answer.{Answer};
 ghost use Rattle.bq_job.specs.declared.answer.Answer.TheVariants.{Reserved};
-ghost use Rattle.bq_job.specs.beside.Computed.{ample, stepped};
-ghost use Rattle.bq_job.specs.machine.Dispatch.{DispatchTurn, GivenAnswer};
-ghost use Rattle.bq_job.specs.beside.Lawful.{IsLawful};
-ghost use Rattle.bq_job.specs.laws.LeastJob.{GetsLeast};
-ghost use Rattle.bq_job.specs.machine.Machine.{Machine, Settings, new_machine};
-ghost use Rattle.bq_job.specs.beside.NextDue.{is_before, next_due};
-ghost use Rattle.bq_job.specs.beside.ClientGets.{GivesClient};
-ghost use Rattle.bq_job.specs.beside.Refusals.{ChangesNothing, is_refusal};
-ghost use Rattle.bq_job.specs.promise.Runs.{parts_of};
-ghost use Rattle.bq_job.specs.machine.Steps.{IsStep, Outcome, acted};
-ghost use Rattle.bq_job.specs.machine.Timers.{at_moment};
+ghost use Rattle.bq_job.specs.beside.{ChangesNothing, GivesClient, IsLawful, ample, is_before, is_refusal, next_due, stepped};
+ghost use Rattle.bq_job.specs.machine.{DispatchTurn, GivenAnswer, IsStep, Machine.Machine, Outcome, Settings, acted, at_moment};
+ghost use Rattle.bq_job.specs.machine.{new_machine};
+ghost use Rattle.bq_job.specs.laws.{GetsLeast};
+ghost use Rattle.bq_job.specs.promise.{parts_of};
 ghost use Rattle.std.specs.Prelude.{ℕ, ◌≡◌, ◌+◌, ◌<◌, ◌≤◌, IsTrue, false, List, [], Some, length};
 
 /// From every machine there is a step with enough memory, and it can be computed.

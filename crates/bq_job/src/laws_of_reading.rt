@@ -1,8 +1,7 @@
 //! What holds of every reading of a text into requests.
 ghost use Rattle.std.specs.Prelude.{◌≡◌, ◌++◌, ℕ, List, IsTrue};
-ghost use Rattle.bq_job.specs.beside.ComputedReading.{reading};
+ghost use Rattle.bq_job.specs.beside.{AreSameRequests, reading};
 ghost use Rattle.bq_job.specs.reading.Reading.{Reads, ends_by_quit};
-ghost use Rattle.bq_job.specs.beside.SameRequests.{AreSameRequests};
 ghost use Rattle.bq_job.specs.declared.request.Request.{Request};
 
 #[cfg(test)]

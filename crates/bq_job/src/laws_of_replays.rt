@@ -1,9 +1,7 @@
 //! Laws of replays: a journal has one replay at most, and how it goes on with the next entry.
 ghost use Rattle.bq_job.specs.declared.journal.Entry.{Entry};
-ghost use Rattle.bq_job.specs.machine.Dispatch.{GivenAnswer};
-ghost use Rattle.bq_job.specs.machine.Machine.{Machine, Settings, new_machine};
-ghost use Rattle.bq_job.specs.beside.Replay.{Replay, outcome_of};
-ghost use Rattle.bq_job.specs.machine.Steps.{IsStep};
+ghost use Rattle.bq_job.specs.machine.{GivenAnswer, IsStep, Machine.Machine, Settings, new_machine};
+ghost use Rattle.bq_job.specs.beside.{Replay.Replay, outcome_of};
 ghost use Rattle.std.specs.Prelude.{◌≡◌, List, [], ◌∷◌, ◌++◌};
 
 /// The replay of an empty journal gives no answer, and leads to the machine as it is at the start.

@@ -3,14 +3,11 @@
 ghost use Rattle.bq_job.specs.declared.answer.Answer.TheVariants.{Deleted, Inserted};
 ghost use Rattle.bq_job.specs.declared.job.Job.{Job};
 ghost use Rattle.bq_job.specs.declared.step.Step.TheVariants.{Drain};
-ghost use Rattle.bq_job.specs.beside.ComputedRuns.{machine_after, transitions};
-ghost use Rattle.bq_job.specs.machine.Dispatch.{GivenAnswer};
-ghost use Rattle.bq_job.specs.laws.Happenings.{Part, happenings, parts_of_run, put};
-ghost use Rattle.bq_job.specs.machine.JobCommands.{last_id};
-ghost use Rattle.bq_job.specs.laws.LawsOfRuns.{GivesLeast, IsDeletion, IsHeldByOne, IsKept, has_inserted};
-ghost use Rattle.bq_job.specs.machine.Machine.{Machine, Settings, new_machine};
-ghost use Rattle.bq_job.specs.promise.Runs.{Entry, GoesBy, Transition};
-ghost use Rattle.bq_job.specs.laws.Undisturbed.{IsHandedOut, IsHandedOutBefore, IsPutBefore, IsUndisturbed, is_deletion, is_hand_out};
+ghost use Rattle.bq_job.specs.beside.{machine_after, transitions};
+ghost use Rattle.bq_job.specs.machine.{GivenAnswer, Machine.Machine, Settings, last_id, new_machine};
+ghost use Rattle.bq_job.specs.laws.{GivesLeast, IsDeletion, IsHandedOut, IsHandedOutBefore, IsHeldByOne, IsKept, IsPutBefore};
+ghost use Rattle.bq_job.specs.laws.{IsUndisturbed, Part, happenings, has_inserted, is_deletion, is_hand_out, parts_of_run, put};
+ghost use Rattle.bq_job.specs.promise.{Entry, GoesBy, Transition};
 ghost use Rattle.std.specs.Prelude.{ℕ, ◌≡◌, ◌≤◌, false, List, [], ◌∷◌, ◌++◌, Contains, Some, count_by, flat_map, length};
 ghost use Rattle.std.specs.List.{list_any};
 

@@ -1,11 +1,9 @@
 //! What holds of every text of statistics and every list.
 ghost use Rattle.std.specs.Prelude.{◌≡◌, ℕ, List, IsTrue};
 ghost use Rattle.std.specs.List.{list_any};
-ghost use Rattle.bq_job.specs.machine.Machine.{Machine};
-ghost use Rattle.bq_job.specs.beside.NameOrder.{is_in_order};
+ghost use Rattle.bq_job.specs.machine.{Machine.Machine, in_name_order, is_tube, tubes};
+ghost use Rattle.bq_job.specs.beside.{is_in_order};
 ghost use Rattle.bq_job.specs.reading.TubeName.{is_same_name};
-ghost use Rattle.bq_job.specs.machine.TubeOrder.{in_name_order, tubes};
-ghost use Rattle.bq_job.specs.machine.Tubes.{is_tube};
 
 #[cfg(test)]
 mod examples;

@@ -1,15 +1,10 @@
 -- What a step gives to one client.
 use Rattle.std.specs.Prelude.{ℕ, true, false, ◌≡◌, ◌+◌, ◌≤◌, if◌then◌else◌, List, [], ◌∷◌, ◌++◌, length}
-use Rattle.bq_job.specs.declared.answer.Answer.{Answer}
+use Rattle.bq_job.specs.Types.{Answer, Request, Step}
 use Rattle.bq_job.specs.declared.answer.Answer.TheVariants as answers
-use Rattle.bq_job.specs.declared.request.Request.{Request}
-use Rattle.bq_job.specs.declared.step.Step.{Step}
 use Rattle.bq_job.specs.declared.step.Step.TheVariants as steps
-use Rattle.bq_job.specs.machine.Dispatch.{GivenAnswer}
-use Rattle.bq_job.specs.machine.Machine.{Machine}
-use Rattle.bq_job.specs.machine.OneClient.{has_closed, is_connected_at, is_waiting_at}
-use Rattle.bq_job.specs.promise.LineSteps.{answers_wanted, is_waiting_request}
-use Rattle.bq_job.specs.promise.Runs.{answers_to}
+use Rattle.bq_job.specs.machine.{GivenAnswer, Machine.Machine, has_closed, is_connected_at, is_waiting_at}
+use Rattle.bq_job.specs.promise.{answers_to, answers_wanted, is_waiting_request}
 
 -- how many answers the client waits for: one, or none
 abbrev pub owing : ℕ → Machine → ℕ

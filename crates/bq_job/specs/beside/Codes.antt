@@ -1,8 +1,7 @@
 -- The numbers of refusals.
 use Rattle.std.specs.Prelude.{ℕ, Option, Some, None}
-use Rattle.bq_job.specs.declared.refusal.Refusal.{Refusal}
+use Rattle.bq_job.specs.Types.{Answer, Refusal}
 use Rattle.bq_job.specs.declared.refusal.Refusal.TheVariants as refusals
-use Rattle.bq_job.specs.declared.answer.Answer.{Answer}
 use Rattle.bq_job.specs.declared.answer.Answer.TheVariants as answers
 
 abbrev pub refusal_code : Refusal → ℕ

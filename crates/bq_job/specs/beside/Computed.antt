@@ -2,16 +2,9 @@
 -- examples are checked by evaluation; that it is a step of the machine is a law.
 use Rattle.std.specs.Prelude.{false, ℕ, zero, suc, Option, Some, None, List, [], ◌∷◌, ◌++◌, count_by}
 use Rattle.bq_job.specs.declared.answer.Answer.TheVariants as answers
-use Rattle.bq_job.specs.declared.job.Job.{Job}
-use Rattle.bq_job.specs.declared.step.Step.{Step}
-use Rattle.bq_job.specs.machine.Asked.{effect}
-use Rattle.bq_job.specs.machine.Changes.{is_waiting, with_seat, without_wait}
-use Rattle.bq_job.specs.machine.Dispatch.{GivenAnswer, after_hand_out, next_job, next_seat}
-use Rattle.bq_job.specs.machine.Machine.{Machine, SeatRecord}
-use Rattle.bq_job.specs.machine.Steps.{Outcome, addressed}
-use Rattle.bq_job.specs.machine.Timers.{after_timers, at_moment}
-use Rattle.bq_job.specs.machine.Tubes.{forgetting}
-use Rattle.bq_job.specs.machine.Waits.{end_of_wait, next_end}
+use Rattle.bq_job.specs.Types.{Job, Step}
+use Rattle.bq_job.specs.machine.{GivenAnswer, Machine.Machine, Outcome, SeatRecord, addressed, after_hand_out, after_timers, at_moment}
+use Rattle.bq_job.specs.machine.{effect, end_of_wait, forgetting, is_waiting, next_end, next_job, next_seat, with_seat, without_wait}
 
 -- a machine, and the answers that were given on the way to it
 pub record Served : Type 0 where

@@ -2,11 +2,8 @@
 -- computes, so that worked examples are checked by evaluation; that it is a run is a law.
 use Rattle.std.specs.Prelude.{List, [], ◌∷◌, ◌++◌}
 use Rattle.bq_job.specs.beside.Computed.{after_act, after_dispatch, after_wait_ends, ample}
-use Rattle.bq_job.specs.machine.Machine.{Machine}
-use Rattle.bq_job.specs.promise.Runs.{Entry, Transition}
-use Rattle.bq_job.specs.machine.Steps.{granted}
-use Rattle.bq_job.specs.machine.Timers.{after_timers, at_moment}
-use Rattle.bq_job.specs.machine.Tubes.{forgetting}
+use Rattle.bq_job.specs.machine.{Machine.Machine, after_timers, at_moment, forgetting, granted}
+use Rattle.bq_job.specs.promise.{Entry, Transition}
 
 abbrev pub transition : Machine → Entry → Transition
 transition m e =

@@ -2,16 +2,10 @@
 use Rattle.std.specs.Prelude.{ℕ, suc, Bool, true, false, ◌≡◌, ◌≤◌, ◌&&◌, ◌||◌, not, nat_le, None, List, [], ◌∷◌, map, IsTrue}
 use Rattle.std.specs.List.{list_all, list_any}
 use Rattle.bq_job.specs.declared.job.Job.{Job}
-use Rattle.bq_job.specs.machine.Changes.{is_held_by, is_waiting}
-use Rattle.bq_job.specs.machine.Dispatch.{next_job}
-use Rattle.bq_job.specs.machine.JobCommands.{last_id}
-use Rattle.bq_job.specs.machine.JobStates.{is_reserved}
-use Rattle.bq_job.specs.machine.Limits.{greatest}
-use Rattle.bq_job.specs.machine.Machine.{Machine, SeatRecord, numbers}
+use Rattle.bq_job.specs.machine.{Machine.Machine, SeatRecord, greatest, is_held_by, is_reserved, is_tube, is_waiting, last_id, next_end}
+use Rattle.bq_job.specs.machine.{next_job, numbers}
 use Rattle.bq_job.specs.beside.NameOrder.{is_in_order}
 use Rattle.bq_job.specs.reading.TubeName.{is_same_name}
-use Rattle.bq_job.specs.machine.Tubes.{is_tube}
-use Rattle.bq_job.specs.machine.Waits.{next_end}
 
 -- The ids grow strictly along the list, are at least low and below next.
 abbrev pub AreIdsWithin : ℕ → List Job → ℕ → Type 0

@@ -1,6 +1,6 @@
 -- When names stand in byte order.
 use Rattle.std.specs.Prelude.{ℕ, Bool, true, ◌&&◌, List, [], ◌∷◌}
-use Rattle.bq_job.specs.machine.Tubes.{is_name_before}
+use Rattle.bq_job.specs.machine.{is_name_before}
 
 -- Each name comes before the next one, so none stands twice.
 abbrev pub is_in_order : List (List ℕ) → Bool

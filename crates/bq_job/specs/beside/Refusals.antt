@@ -1,12 +1,9 @@
 -- Answers that say that a command was not carried out.
 use Rattle.std.specs.Prelude.{ℕ, Bool, true, false, ◌≡◌, List, [], ◌∷◌, ◌++◌}
-use Rattle.bq_job.specs.declared.answer.Answer.{Answer}
+use Rattle.bq_job.specs.Types.{Answer, Step}
 use Rattle.bq_job.specs.declared.answer.Answer.TheVariants as answers
-use Rattle.bq_job.specs.declared.step.Step.{Step}
-use Rattle.bq_job.specs.machine.Dispatch.{GivenAnswer}
-use Rattle.bq_job.specs.machine.Machine.{Machine}
-use Rattle.bq_job.specs.promise.Runs.{Parts}
-use Rattle.bq_job.specs.machine.Steps.{acted}
+use Rattle.bq_job.specs.machine.{GivenAnswer, Machine.Machine, acted}
+use Rattle.bq_job.specs.promise.{Parts}
 
 abbrev pub is_refusal : Answer → Bool
 is_refusal answers.UnknownCommand = true

@@ -1,10 +1,8 @@
 -- The replay of a journal.
 use Rattle.std.specs.Prelude.{false, List, map}
 use Rattle.bq_job.specs.declared.journal.Entry.{Entry as JournalEntry}
-use Rattle.bq_job.specs.machine.Dispatch.{GivenAnswer}
-use Rattle.bq_job.specs.machine.Machine.{Machine, Settings, new_machine}
-use Rattle.bq_job.specs.promise.Runs.{Entry, RunBy}
-use Rattle.bq_job.specs.machine.Steps.{Outcome}
+use Rattle.bq_job.specs.machine.{GivenAnswer, Machine.Machine, Outcome, Settings, new_machine}
+use Rattle.bq_job.specs.promise.{Entry, RunBy}
 
 -- the step of a history that an entry of a journal tells
 abbrev pub entry_of : JournalEntry → Entry

@@ -1,8 +1,7 @@
 -- Which steps hand in a body.
 use Rattle.std.specs.Prelude.{Bool, true, false}
-use Rattle.bq_job.specs.declared.request.Request.{Request}
+use Rattle.bq_job.specs.Types.{Request, Step}
 use Rattle.bq_job.specs.declared.request.Request.TheVariants as requests
-use Rattle.bq_job.specs.declared.step.Step.{Step}
 use Rattle.bq_job.specs.declared.step.Step.TheVariants as steps
 
 abbrev pub request_has_body : Request → Bool

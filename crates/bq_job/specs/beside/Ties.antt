@@ -1,15 +1,9 @@
 -- What ties the parts of a run: what each of them did, to one history of all.
 use Rattle.std.specs.Prelude.{ℕ, suc, Bool, ◌≡◌, ◌<◌, ◌==◌, IsTrue, List, [], ◌∷◌, ◌++◌, length, Option}
 use Rattle.std.specs.List.{list_all}
-use Rattle.bq_job.specs.declared.answer.Answer.{Answer}
-use Rattle.bq_job.specs.declared.step.Step.{Step}
-use Rattle.bq_job.specs.promise.ControlDid.{IsControlDone}
-use Rattle.bq_job.specs.promise.CoreDid.{IsRun}
-use Rattle.bq_job.specs.machine.Dispatch.{GivenAnswer}
-use Rattle.bq_job.specs.promise.Headline.{AreSeatsUpTo}
-use Rattle.bq_job.specs.promise.History.{LineOver, steps_at, without_ticks}
-use Rattle.bq_job.specs.machine.Machine.{Machine, Settings}
-use Rattle.bq_job.specs.promise.Runs.{Entry, answers_to}
+use Rattle.bq_job.specs.Types.{Answer, Step}
+use Rattle.bq_job.specs.promise.{AreSeatsUpTo, Entry, IsControlDone, IsRun, LineOver, answers_to, steps_at, without_ticks}
+use Rattle.bq_job.specs.machine.{GivenAnswer, Machine.Machine, Settings}
 use Rattle.bq_job.specs.beside.SeatDid.{AreLinesServed, IsSeatDone}
 
 -- At each seat the history has what the seat submitted, and what the run gives it is what it took

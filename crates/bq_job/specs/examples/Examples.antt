@@ -1,17 +1,10 @@
 -- Short words for worked examples: what the machine answers to a list of steps, by evaluation.
 use Rattle.std.specs.Prelude.{ℕ, ◌≡◌, if◌then◌else◌, List, [], ◌∷◌, ◌++◌, map, flat_map, Option, None, Some}
-use Rattle.bq_job.specs.declared.answer.Answer.{Answer}
-use Rattle.bq_job.specs.declared.request.Request.{Request}
-use Rattle.bq_job.specs.declared.settings.Settings.{Settings}
-use Rattle.bq_job.specs.declared.step.Step.{Step}
+use Rattle.bq_job.specs.Types.{Answer, Request, Settings, Step}
 use Rattle.bq_job.specs.declared.step.Step.TheVariants as steps
-use Rattle.bq_job.specs.beside.Computed.{stepped}
-use Rattle.bq_job.specs.beside.ComputedReading.{reading}
-use Rattle.bq_job.specs.machine.Dispatch.{GivenAnswer}
-use Rattle.bq_job.specs.promise.LineSteps.{answers_text, ends_by_wait}
-use Rattle.bq_job.specs.machine.Machine.{Machine, new_machine}
-use Rattle.bq_job.specs.beside.NextDue.{next_due}
-use Rattle.bq_job.specs.promise.Runs.{Entry}
+use Rattle.bq_job.specs.beside.{next_due, reading, stepped}
+use Rattle.bq_job.specs.machine.{GivenAnswer, Machine.Machine, new_machine}
+use Rattle.bq_job.specs.promise.{Entry, answers_text, ends_by_wait}
 
 -- what the machine answers to each step
 abbrev pub ran : Machine → List Entry → List (List GivenAnswer)

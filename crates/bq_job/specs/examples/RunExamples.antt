@@ -2,11 +2,10 @@
 use Rattle.std.specs.Prelude.{ℕ, ◌≡◌, List, [], ◌∷◌, flat_map}
 use Rattle.std.specs.List.{AllByRecursion}
 use Rattle.bq_job.specs.declared.job.Job.{Job}
-use Rattle.bq_job.specs.beside.ComputedRuns.{transitions}
+use Rattle.bq_job.specs.beside.{transitions}
 use Rattle.bq_job.specs.examples.Examples.{connect, server}
-use Rattle.bq_job.specs.laws.Happenings.{Happening, happenings, handed_out, parts_of_run, put}
-use Rattle.bq_job.specs.promise.Runs.{Entry, Transition}
-use Rattle.bq_job.specs.laws.Undisturbed.{IsUndisturbed}
+use Rattle.bq_job.specs.laws.{Happening, IsUndisturbed, handed_out, happenings, parts_of_run, put}
+use Rattle.bq_job.specs.promise.{Entry, Transition}
 
 -- the steps of a server with three seats, once a client has come to each of them at the moment 0
 abbrev pub taken : List Entry → List Transition

@@ -1,22 +1,14 @@
 -- What holds of whole runs.
 use Rattle.std.specs.Prelude.{ℕ, Bool, true, false, ◌≡◌, ◌==◌, ◌⊎◌, IsTrue, not, List, [], ◌∷◌, ◌++◌, Contains}
 use Rattle.std.specs.List.{list_any}
-use Rattle.bq_job.specs.declared.answer.Answer.{Answer}
+use Rattle.bq_job.specs.Types.{Answer, Job}
 use Rattle.bq_job.specs.declared.answer.Answer.TheVariants as answers
-use Rattle.bq_job.specs.declared.job.Job.{Job}
 use Rattle.bq_job.specs.declared.request.Request.TheVariants as requests
 use Rattle.bq_job.specs.declared.step.Step.TheVariants as steps
-use Rattle.bq_job.specs.machine.Changes.{is_held_by}
-use Rattle.bq_job.specs.machine.Dispatch.{DispatchTurn, GivenAnswer}
-use Rattle.bq_job.specs.machine.JobStates.{is_reserved}
+use Rattle.bq_job.specs.machine.{Chain, DispatchTurn, GivenAnswer, Machine.Machine, acted, addressed, after_timers, at_moment, forgetting}
+use Rattle.bq_job.specs.machine.{is_connected_at, is_held_by, is_reserved}
 use Rattle.bq_job.specs.laws.LeastJob.{GetsLeast}
-use Rattle.bq_job.specs.machine.Machine.{Machine}
-use Rattle.bq_job.specs.machine.OneClient.{is_connected_at}
-use Rattle.bq_job.specs.promise.Runs.{Transition}
-use Rattle.bq_job.specs.machine.Steps.{acted, addressed}
-use Rattle.bq_job.specs.machine.Timers.{after_timers, at_moment}
-use Rattle.bq_job.specs.machine.Tubes.{forgetting}
-use Rattle.bq_job.specs.machine.Waits.{Chain}
+use Rattle.bq_job.specs.promise.{Transition}
 
 -- The client gets the job as the command's own answer to its reserve-job.
 pub record IsReservedById (t : Transition) (early : List GivenAnswer) (seat id : ℕ) : Type 0 where

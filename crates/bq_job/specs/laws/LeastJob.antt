@@ -2,9 +2,7 @@
 use Rattle.std.specs.Prelude.{ℕ, ◌≡◌, List, Contains, IsTrue}
 use Rattle.std.specs.Bool.{IsFalse}
 use Rattle.bq_job.specs.declared.job.Job.{Job}
-use Rattle.bq_job.specs.machine.Changes.{is_waiting}
-use Rattle.bq_job.specs.machine.Dispatch.{is_job_before, may_have}
-use Rattle.bq_job.specs.machine.Machine.{Machine, SeatRecord}
+use Rattle.bq_job.specs.machine.{Machine.Machine, SeatRecord, is_job_before, is_waiting, may_have}
 
 -- The client may have this job, and no job that it may have comes before this one.
 pub record IsLeastFor (m : Machine) (s : SeatRecord) (j : Job) : Type 0 where

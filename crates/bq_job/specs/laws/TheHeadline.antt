@@ -6,16 +6,11 @@ use Rattle.std.specs.List.{list_all, list_any}
 use Rattle.bq_job.specs.declared.answer.Answer.TheVariants.{Deleted, Inserted}
 use Rattle.bq_job.specs.declared.job.Job.{Job}
 use Rattle.bq_job.specs.declared.step.Step.TheVariants.{Drain}
-use Rattle.bq_job.specs.promise.ControlDid.{IsControlDone}
-use Rattle.bq_job.specs.machine.Dispatch.{GivenAnswer}
+use Rattle.bq_job.specs.promise.{AreDoorsOwed, AreLinesOwed, AreSeatsUpTo, Entry, GoesBy, IsControlDone, IsTimedBy, LineOver, Transition}
+use Rattle.bq_job.specs.promise.{answers_to, steps_at, without_ticks}
+use Rattle.bq_job.specs.machine.{GivenAnswer, Machine.Machine, Settings, last_id, new_machine}
 use Rattle.bq_job.specs.laws.Happenings.{Happening, Part, happenings, parts_of_run, put}
-use Rattle.bq_job.specs.promise.Headline.{AreDoorsOwed, AreSeatsUpTo}
-use Rattle.bq_job.specs.promise.History.{IsTimedBy, LineOver, steps_at, without_ticks}
-use Rattle.bq_job.specs.machine.JobCommands.{last_id}
 use Rattle.bq_job.specs.laws.LawsOfRuns.{GivesLeast, IsDeletion, IsHeldByOne, IsKept, has_inserted}
-use Rattle.bq_job.specs.promise.LineOwed.{AreLinesOwed}
-use Rattle.bq_job.specs.machine.Machine.{Machine, Settings, new_machine}
-use Rattle.bq_job.specs.promise.Runs.{Entry, GoesBy, Transition, answers_to}
 use Rattle.bq_job.specs.laws.Undisturbed.{IsHandedOut, IsHandedOutBefore, IsPutBefore, IsUndisturbed, is_deletion, is_hand_out}
 
 -- What becomes of jobs as these steps are taken, and these things happen to jobs.

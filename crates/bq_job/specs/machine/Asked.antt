@@ -1,13 +1,9 @@
 -- The command's own effect: what each request and each other event does by itself.
 use Rattle.std.specs.Prelude.{ℕ, true, ◌&&◌, not, if◌then◌else◌, Option, Some, None, map}
-use Rattle.bq_job.specs.declared.answer.Answer.{Answer}
+use Rattle.bq_job.specs.Types.{Answer, JobState, Refusal, Request, Step}
 use Rattle.bq_job.specs.declared.answer.Answer.TheVariants as answers
-use Rattle.bq_job.specs.declared.job.JobState.{JobState}
-use Rattle.bq_job.specs.declared.refusal.Refusal.{Refusal}
 use Rattle.bq_job.specs.declared.refusal.Refusal.TheVariants as refusals
-use Rattle.bq_job.specs.declared.request.Request.{Request}
 use Rattle.bq_job.specs.declared.request.Request.TheVariants as requests
-use Rattle.bq_job.specs.declared.step.Step.{Step}
 use Rattle.bq_job.specs.declared.step.Step.TheVariants as steps
 use Rattle.bq_job.specs.machine.Acts.{Effect, telling, silent}
 use Rattle.bq_job.specs.machine.Changes.{given_back, is_waiting, seat_with, with_seat}

@@ -2,10 +2,8 @@
 -- client that has waited longest of those that may have it.
 use Rattle.std.specs.Prelude.{ℕ, Bool, ◌≡◌, ◌&&◌, ◌⊎◌, not, Option, Some, None, MatchOption}
 use Rattle.std.specs.List.{list_any}
-use Rattle.bq_job.specs.declared.answer.Answer.{Answer}
+use Rattle.bq_job.specs.Types.{Answer, Counts, Job}
 use Rattle.bq_job.specs.declared.answer.Answer.TheVariants as answers
-use Rattle.bq_job.specs.declared.job.Counts.{Counts}
-use Rattle.bq_job.specs.declared.job.Job.{Job}
 use Rattle.bq_job.specs.declared.job.JobState.TheVariants as states
 use Rattle.bq_job.specs.machine.Changes.{first_of, is_pair_before, is_waiting, is_ready, with_job, with_seat, without_wait}
 use Rattle.bq_job.specs.machine.Limits.{raised, later}

@@ -2,9 +2,8 @@
 use Rattle.std.specs.Prelude.{ℕ, Bool, false, ◌≡◌, ◌==◌, ◌&&◌, ◌||◌, ◌+◌, nat_le, if◌then◌else◌}
 use Rattle.std.specs.Prelude.{Option, Some, None, MatchOption, List, [], ◌∷◌}
 use Rattle.std.specs.List.{list_any}
-use Rattle.bq_job.specs.declared.answer.Answer.{Answer}
+use Rattle.bq_job.specs.Types.{Answer, JobState}
 use Rattle.bq_job.specs.declared.answer.Answer.TheVariants as answers
-use Rattle.bq_job.specs.declared.job.JobState.{JobState}
 use Rattle.bq_job.specs.declared.job.JobState.TheVariants as states
 use Rattle.bq_job.specs.machine.Changes.{first_of, is_waiting, with_seat, without_wait}
 use Rattle.bq_job.specs.machine.Dispatch.{GivenAnswer, is_wait_before}

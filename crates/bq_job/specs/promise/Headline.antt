@@ -1,15 +1,13 @@
 -- One history of everybody's steps, and what each client is written along it.
 use Rattle.std.specs.Prelude.{ℕ, suc, Bool, ◌≡◌, ◌==◌, IsTrue, nat_le, List, [], ◌∷◌, ◌++◌, length, Option}
 use Rattle.std.specs.List.{list_all}
-use Rattle.bq_job.specs.declared.answer.Answer.{Answer}
-use Rattle.bq_job.specs.declared.step.Step.{Step}
+use Rattle.bq_job.specs.Types.{Answer, Step}
 use Rattle.bq_job.specs.declared.step.Step.TheVariants.{Gone}
 use Rattle.bq_job.specs.promise.ControlDid.{IsControlDone}
 use Rattle.bq_job.specs.promise.CoreDid.{IsRun}
-use Rattle.bq_job.specs.machine.Dispatch.{GivenAnswer}
+use Rattle.bq_job.specs.machine.{GivenAnswer, Machine.Machine, Settings}
 use Rattle.bq_job.specs.promise.History.{LineOver, steps_at, without_ticks}
 use Rattle.bq_job.specs.promise.LineOwed.{AreLinesOwed}
-use Rattle.bq_job.specs.machine.Machine.{Machine, Settings}
 use Rattle.bq_job.specs.promise.Runs.{Entry, answers_to}
 
 -- A door that is done. At its seat are the steps of its lines, in the order in which they were over, and

@@ -1,7 +1,6 @@
 -- One history of everybody's steps.
 use Rattle.std.specs.Prelude.{ℕ, Bool, true, false, ◌≡◌, ◌⊎◌, ◌==◌, not, max, List, [], ◌∷◌, map, filter, Option, Some, None}
-use Rattle.bq_job.specs.declared.line_end.LineEnd.{LineEnd}
-use Rattle.bq_job.specs.declared.step.Step.{Step}
+use Rattle.bq_job.specs.Types.{LineEnd, Step}
 use Rattle.bq_job.specs.declared.step.Step.TheVariants as steps
 use Rattle.bq_job.specs.promise.LineSteps.{LineSeen}
 use Rattle.bq_job.specs.promise.Runs.{Entry}

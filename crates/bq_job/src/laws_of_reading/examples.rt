@@ -1,6 +1,6 @@
 //! Worked readings. The check evaluates each; nothing is run.
 ghost use Rattle.std.specs.Prelude.{◌≡◌, ◌++◌, codes, List, ℕ, [], ◌∷◌, replicate};
-ghost use Rattle.bq_job.specs.beside.ComputedReading.{reading};
+ghost use Rattle.bq_job.specs.beside.{reading};
 ghost use Rattle.bq_job.specs.declared.refusal.Refusal.TheVariants as refusals;
 ghost use Rattle.bq_job.specs.declared.request.Request.TheVariants as requests;
 

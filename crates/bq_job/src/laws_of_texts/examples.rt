@@ -5,10 +5,8 @@
 ghost use Rattle.std.specs.Prelude.{◌≡◌, codes, length, [], ◌∷◌, ◌++◌, map};
 ghost use Rattle.bq_job.specs.examples.AnswerExamples.{sample_answers, sample_texts};
 ghost use Rattle.bq_job.specs.texts.AnswerText.{answer_text};
-ghost use Rattle.bq_job.specs.machine.Machine.{default_tube};
-ghost use Rattle.bq_job.specs.machine.Statistics.{job_statistics, tube_statistics, server_statistics};
+ghost use Rattle.bq_job.specs.machine.{default_tube, job_statistics, name_list, server_statistics, tube_statistics, tubes};
 ghost use Rattle.bq_job.specs.examples.TextExamples.{first_client, plain_job, job_reserved_again, after_one_deletion, after_coming_back};
-ghost use Rattle.bq_job.specs.machine.TubeOrder.{name_list, tubes};
 
 // An answer of each kind.
 fn every_answer()

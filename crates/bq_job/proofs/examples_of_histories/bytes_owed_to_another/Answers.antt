@@ -2,7 +2,7 @@ use Rattle.std.proofs.Common.{◌≡◌, [], ◌∷◌, ap, ◌∙◌, refl, sym
 use Rattle.std.specs.Fmt.{digits}
 use Rattle.std.specs.Prelude.{codes}
 use Rattle.bq_job.specs.declared.answer.Answer.TheVariants.{Inserted}
-use Rattle.bq_job.specs.promise.LineSteps.{answers_text}
+use Rattle.bq_job.specs.promise.{answers_text}
 use Rattle.bq_job.proofs.CutLemmas.{same_cut}
 use Rattle.bq_job.proofs.examples_of_histories.bytes_owed_to_another.Goals as goal
 

@@ -6,7 +6,7 @@ use Rattle.bq_job.specs.declared.request.Request.TheVariants.{Put, Reserve}
 use Rattle.bq_job.specs.declared.step.Step.TheVariants as steps
 use Rattle.bq_job.specs.examples.Examples.{ask, close, connect}
 use Rattle.bq_job.specs.examples.HistoryExamples.{drain_at, given_over, gone, readings_of, seated, usual}
-use Rattle.bq_job.specs.promise.Runs.{Entry}
+use Rattle.bq_job.specs.promise.{Entry}
 use Rattle.bq_job.proofs.HistoryLemmas.{computed_IsRun, picked_all}
 use Rattle.bq_job.proofs.ReadsLemmas.{reading-Reads}
 use Rattle.bq_job.proofs.examples_of_histories.put_answers_a_reserve.Goals as goal

@@ -7,7 +7,7 @@ use Rattle.bq_job.specs.declared.request.Request.TheVariants.{Put, Quit, Reserve
 use Rattle.bq_job.specs.declared.step.Step.TheVariants as steps
 use Rattle.bq_job.specs.examples.Examples.{ask, close, connect}
 use Rattle.bq_job.specs.examples.HistoryExamples.{given_over, gone, readings_of, seated, usual}
-use Rattle.bq_job.specs.promise.Runs.{Entry}
+use Rattle.bq_job.specs.promise.{Entry}
 use Rattle.bq_job.proofs.HistoryLemmas.{computed_IsRun, picked_all}
 use Rattle.bq_job.proofs.ReadsLemmas.{reading-Reads}
 use Rattle.bq_job.proofs.examples_of_histories.second_line_is_over_by_quit.Goals as goal
