@@ -11,20 +11,18 @@ ghost use Rattle.bq_job.specs.examples.HistoryExamples.{shut_line, unread_line, 
 ghost use Rattle.bq_job.specs.machine.{Machine.Machine};
 ghost use Rattle.std.specs.Prelude.{ℕ, Bool, false, ◌≡◌, List, [], ◌∷◌, Option, Some, codes};
 
-/// Two doors with one line each: a put answers the reserve of the other's client.
-fn put_answers_a_reserve()
-    ensures { AreServedOver
+/// Histories of doors that were served: where a put answers the reserve of the other door's client; where what
+/// the first client of a door held goes to the second, whose line is over by a quit; and where a write breaks off
+/// within INSERTED, and then a read fails behind a reserve that waits, since the job is delayed.
+fn doors_are_served()
+    ensures a_put_answers_a_reserve { AreServedOver
         (connect 0 ∷ connect 1 ∷ ask 0 Reserve ∷ ask 1 (Put 5 0 10 (codes "abc")) ∷ drain_at 2
         ∷ close 0 ∷ close 1 ∷ gone 0 ∷ gone 1 ∷ gone 2 ∷ [])
         ((ended_line (codes "reserve\r\n") (codes "RESERVED 1 3\r\nabc\r\n") ∷ [])
         ∷ (ended_line (codes "put 5 0 10 3\r\nabc\r\n") (codes "INSERTED 1\r\n") ∷ [])
         ∷ [])
         (codes "drain\n") }
-{}
-
-/// One door with two lines: what the first client held goes to the second, whose line is over by a quit.
-fn second_line_is_over_by_quit()
-    ensures { AreServedOver
+    ensures a_quit_ends_the_second_line { AreServedOver
         (connect 0 ∷ ask 0 (Put 0 0 9 (codes "x")) ∷ ask 0 Reserve ∷ close 0
         ∷ connect 0 ∷ ask 0 Reserve ∷ ask 0 Quit ∷ close 0 ∷ gone 0 ∷ gone 1 ∷ [])
         ((ended_line (codes "put 0 0 9 1\r\nx\r\nreserve\r\n") (codes "INSERTED 1\r\nRESERVED 1 1\r\nx\r\n")
@@ -32,12 +30,7 @@ fn second_line_is_over_by_quit()
         ∷ [])
         ∷ [])
         [] }
-{}
-
-/// One door with two lines: a write breaks off within INSERTED, and then a read fails behind a reserve that
-/// waits, since the job is delayed.
-fn faults_of_a_write_and_of_a_read()
-    ensures { AreServedOver
+    ensures faults_end_both_lines { AreServedOver
         (connect 0 ∷ ask 0 (Put 0 100 9 (codes "x")) ∷ close 0
         ∷ connect 0 ∷ ask 0 Reserve ∷ close 0 ∷ gone 0 ∷ gone 1 ∷ [])
         ((unwritten_line (codes "put 0 100 9 1\r\nx\r\nreserve\r\n") (codes "INSE")
@@ -47,38 +40,25 @@ fn faults_of_a_write_and_of_a_read()
         [] }
 {}
 
-/// A reading that falls counts as the last one, so a step at the smaller moment is refused.
+/// A reading that falls counts as the last one, so a step at the smaller moment is refused; and no reading of the
+/// clock makes two steps.
 fn moments_never_fall()
     ensures kept { IsTimedBy (Some 5 ∷ Some 3 ∷ []) (at 5 (connect 0) ∷ at 5 (close 0) ∷ []) }
     ensures fallen { IsTimedBy (Some 5 ∷ Some 3 ∷ []) (at 5 (connect 0) ∷ at 3 (close 0) ∷ []) → ⊥ }
+    ensures used_twice { IsTimedBy (Some 5 ∷ []) (at 5 (connect 0) ∷ at 5 (close 0) ∷ []) → ⊥ }
 {}
 
-/// No reading of the clock makes two steps.
-fn reading_used_twice()
-    ensures { IsTimedBy (Some 5 ∷ []) (at 5 (connect 0) ∷ at 5 (close 0) ∷ []) → ⊥ }
-{}
-
-/// Steps without a command that the client sent are none of its line, whatever was answered and written.
-fn command_missing()
-    ensures { (written : List ℕ) (given : List Answer)
+/// What no line is owed. Steps without a command that the client sent are none of its line, whatever was answered
+/// and written. A line of which no end was read is not over by the end of its input. Whoever is owed INSERTED is
+/// not written what another is owed. A door at which a line was opened and never shut is not done.
+fn no_line_is_owed_so()
+    ensures command_missing { (written : List ℕ) (given : List Answer)
         → IsLineOwed usual (ended_line (codes "delete 1\r\nreserve\r\n") written) (Connect ∷ Ask Reserve ∷ Close ∷ []) given → ⊥ }
-{}
-
-/// A line of which no end was read is not over by the end of its input.
-fn unread_line_shut_as_ended()
-    ensures { (taken : List Step) (given : List Answer)
+    ensures end_unread { (taken : List Step) (given : List Answer)
         → IsLineOwed usual (shut_line [] []) taken given → ⊥ }
-{}
-
-/// Whoever is owed INSERTED is not written what another is owed.
-fn bytes_owed_to_another()
-    ensures { IsDoorOwed usual (ended_line (codes "put 5 0 10 3\r\nabc\r\n") (codes "RESERVED 1 3\r\nabc\r\n") ∷ [])
+    ensures bytes_of_another { IsDoorOwed usual (ended_line (codes "put 5 0 10 3\r\nabc\r\n") (codes "RESERVED 1 3\r\nabc\r\n") ∷ [])
         (Connect ∷ Ask (Put 5 0 10 (codes "abc")) ∷ Close ∷ Gone ∷ []) (Inserted 1 ∷ Closed ∷ []) → ⊥ }
-{}
-
-/// A door at which a line was opened and never shut is not done, whatever its lines are said to be.
-fn line_dropped()
-    ensures { (lines : List LineOver) (given : List Answer)
+    ensures dropped { (lines : List LineOver) (given : List Answer)
         → IsDoorOwed usual lines (Connect ∷ Ask Reserve ∷ Gone ∷ []) given → ⊥ }
 {}
 
@@ -97,14 +77,8 @@ fn door_never_opened()
 
 #[test]
 fn examples_of_histories() {
-    put_answers_a_reserve();
-    second_line_is_over_by_quit();
-    faults_of_a_write_and_of_a_read();
+    doors_are_served();
     moments_never_fall();
-    reading_used_twice();
-    command_missing();
-    unread_line_shut_as_ended();
-    bytes_owed_to_another();
-    line_dropped();
+    no_line_is_owed_so();
     door_never_opened();
 }

@@ -9,3 +9,6 @@ returns-clause-fallen c = λ h. elim h [
   | inl a ↦ elim a.1 [ inl b ↦ absurd (let e = b.0 in cc) | inr b ↦ b ]
   | inr a ↦ elim a [ inl b ↦ b.1 | inr b ↦ b ]
 ]
+
+pub returns-clause-used_twice : goal.returns-clause-used_twice
+returns-clause-used_twice c = λ h. elim h [ inl a ↦ a.1 | inr a ↦ a ]
