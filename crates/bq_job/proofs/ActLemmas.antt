@@ -1,13 +1,14 @@
 -- What a command leaves: all that every part of a step keeps, and at most one client more that waits or
 -- is answered.
-use Rattle.std.proofs.Common.{◌⊎◌, ℕ, zero, suc, ◌≡◌, ◌≤◌, ◌+◌, Bool, true, false, ◌&&◌, not, cond, List, [], ◌∷◌, map, arith, refl, ap, ◌∙◌, inl, inr, Option, Some, None}
+use Rattle.std.proofs.Common.{◌⊎◌, ℕ, zero, suc, ◌≡◌, ◌≤◌, ◌+◌, Bool, true, false, not, cond, List, [], ◌∷◌, map, arith, refl, ap, ◌∙◌, inl, inr, Option, Some, None}
 use Rattle.std.specs.Prelude.{count_by, ◌==◌}
-use Rattle.std.specs.List.{AllByRecursion as All, Contains, list_any}
+use Rattle.std.specs.List.{AllByRecursion as All, Contains}
 use Rattle.std.proofs.lemmas.Bool.{cases_Bool, and_from, or_right, cond_both, eqb-true}
+use Rattle.std.proofs.lemmas.Grind.{common_steps}
 use Rattle.bq_job.specs.Types.{Answer, Job, Request, Step}
 use Rattle.bq_job.specs.declared.answer.Answer.TheVariants as answers
 use Rattle.bq_job.specs.machine.{Effect, Machine.Machine, SeatRecord, after_close, after_connect, after_delete, after_put, effect}
-use Rattle.bq_job.specs.machine.{empty_seat, is_held_by, is_reserved, is_waiting, new_job, numbers, raised, reserve_effect, silent}
+use Rattle.bq_job.specs.machine.{empty_seat, is_held_by, is_waiting, new_job, numbers, raised, reserve_effect, silent}
 use Rattle.bq_job.specs.machine.{state_once_left, telling, waiting_from, with_end, with_pause, with_seat, with_tube}
 use Rattle.bq_job.specs.beside.{waiting_count}
 use Rattle.bq_job.proofs.KeptLemmas.{IsMild, Keeps, has_holder, kept_of_close, kept_of_drain, kept_of_filter, kept_of_jobs, kept_of_push, kept_of_seat, numbers_above, only_seat}
@@ -45,17 +46,11 @@ leaves_jobs m n answer h same = leaves_telling m n answer h (let e : waiting_cou
 
 -- a job that the client holds
 pub held_here : (m : Machine) (s : SeatRecord) (j : Job) → Contains m.seats s → s.connected ≡ true → is_held_by s.number j ≡ true → has_holder m.seats j ≡ true
-held_here m s j there c held =
-    or_right (not (is_reserved j.state)) (list_any (λ t. t.connected && is_held_by t.number j) m.seats)
-    (list_any_with (λ t. t.connected && is_held_by t.number j) m.seats s there (and_from s.connected (is_held_by s.number j) c held))
+held_here m s j there c held = grind (arith, common_steps, or_right, list_any_with, and_from)
 
 -- a job that is changed for who asks
 holder_stays : (m : Machine) (s : SeatRecord) (j k : Job) → Contains m.seats s → s.connected ≡ true → (k ≡ j) ⊎ IsFreeOrOwn s k → has_holder m.seats j ≡ true → has_holder m.seats k ≡ true
-holder_stays m s j k there c h held = elim h [
-  | inl same ↦ ap (has_holder m.seats) same ∙ held
-  | inr (inl free) ↦ rw free refl
-  | inr (inr own) ↦ held_here m s k there c own
-]
+holder_stays m s j k there c h held = grind (arith, common_steps, held_here)
 
 -- A seat changes, and its client waits as before.
 pub kept_of_quiet_seat : (number : ℕ) (f : SeatRecord → SeatRecord) (m : Machine) → Keeps m → ((s : SeatRecord) → (f s).number ≡ s.number) → ((s : SeatRecord) → (f s).connected ≡ s.connected) → ((s : SeatRecord) → (f s).wait ≡ s.wait) → Keeps (with_seat number f m)
@@ -66,10 +61,7 @@ kept_of_quiet_seat number f m h same stays waits_as =
 
 -- A change of one seat that makes nobody wait makes no more wait.
 no_more_wait : (number : ℕ) (f : SeatRecord → SeatRecord) (m : Machine) → ((s : SeatRecord) → is_waiting (f s) ≡ true → is_waiting s ≡ true) → waiting_count (with_seat number f m) ≤ waiting_count m
-no_more_wait number f m less =
-    count_of_map is_waiting (λ s. cond (s.number == number) (f s) s) m.seats
-    (all_always (λ s. is_waiting (cond (s.number == number) (f s) s) ≡ true → is_waiting s ≡ true) m.seats
-    (λ s. cond_both (s.number == number) (f s) s (λ t. is_waiting t ≡ true → is_waiting s ≡ true) (λ e. less s) (λ e w. w)))
+no_more_wait number f m less = grind (arith, common_steps, count_of_map, all_always, cond_both)
 
 leaves_seat : (number : ℕ) (f : SeatRecord → SeatRecord) (m : Machine) (answer : Answer) → Keeps m → ((s : SeatRecord) → (f s).number ≡ s.number) → ((s : SeatRecord) → (f s).connected ≡ s.connected) → ((s : SeatRecord) → (f s).wait ≡ s.wait) → Leaves m (telling answer (with_seat number f m))
 leaves_seat number f m answer h same stays waits_as =

@@ -1,11 +1,12 @@
 -- Where in a step's answers each RESERVED, INSERTED and DELETED stands, and what is so then.
 use Rattle.std.proofs.Common.{ℕ, ◌≡◌, Bool, true, false, not, List, [], ◌∷◌, ◌++◌, arith, refl, sym, ap, ◌∙◌, subst, inl, inr, ◌⊎◌, Option, Some, None, append-nil}
-use Rattle.std.specs.Prelude.{IsTrue, filter, flat_map, nat_le, ◌==◌}
+use Rattle.std.specs.Prelude.{IsTrue, filter, flat_map, ◌==◌}
 use Rattle.std.specs.List.{AllByRecursion as All, Contains}
 use Rattle.std.proofs.lemmas.Bool.{or_from, both_ways, cond_both}
 use Rattle.std.proofs.lemmas.Bool.Decides.{nat_tests}
 use Rattle.std.proofs.lemmas.List.Elements.{Contains-append_cases}
 use Rattle.std.proofs.lemmas.List.Folds.{list_any-append}
+use Rattle.std.proofs.lemmas.Grind.{common_steps}
 use Rattle.bq_job.specs.Types.{Answer, Job, Step}
 use Rattle.bq_job.specs.declared.answer.Answer.TheVariants as answers
 use Rattle.bq_job.specs.declared.request.Request.TheVariants as requests
@@ -99,13 +100,7 @@ record AnswersSo (first : Machine) (handed ended : List GivenAnswer) (last : Mac
   draining : last.draining ≡ first.draining
 
 serves_answers : (first : Machine) (handed ended : List GivenAnswer) (last : Machine) → Serves first handed ended last → AnswersSo first handed ended last
-serves_answers first handed ended last s =
-    let d = turns_answer first handed s.dispatches.end s.dispatches.turns in
-    record {
-      by_dispatch = d.0;
-      by_ends = ends_are_common s.between ended s.ends_waits.end s.ends_waits.turns;
-      draining = ap (λ (l : Machine). l.draining) s.ends_waits.forgets ∙ ends_keep_draining s.between ended s.ends_waits.end s.ends_waits.turns ∙ ap (λ (l : Machine). l.draining) s.dispatches.forgets ∙ d.1;
-    }
+serves_answers first handed ended last s = grind (arith, common_steps, turns_answer, ends_are_common, ends_keep_draining)
 
 turn_in_chain : (m : Machine) (given : List GivenAnswer) (g : GivenAnswer) (more : List GivenAnswer) (n : Machine) → Chain DispatchTurn m (given ++ g ∷ more) n → (at : Machine) × (next : Machine) × Chain DispatchTurn m given at × DispatchTurn at g next
 turn_in_chain m [] g more n chain = (m, chain.0, refl, chain.1)
@@ -122,10 +117,7 @@ dispatched_least first before handed given more early seat id body last d is pla
 own_place : (seat : ℕ) (o : Option Answer) (early : List GivenAnswer) (g : GivenAnswer) (more : List GivenAnswer) → addressed seat o ≡ early ++ g ∷ more → (early ≡ []) × (more ≡ []) × (g.0 ≡ seat) × (o ≡ Some g.1)
 own_place seat None [] g more e = absurd cc
 own_place seat None (x ∷ early) g more e = absurd cc
-own_place seat (Some answer) [] g more e =
-    let same : (seat, answer) ≡ g = (cc) in
-    let rest : [] ≡ more = (cc) in
-    (refl, sym rest, ap (λ (h : GivenAnswer). h.0) (sym same), ap (λ (h : GivenAnswer). Some h.1) same)
+own_place seat (Some answer) [] g more e = grind (arith, common_steps)
 own_place seat (Some answer) (x ∷ []) g more e = absurd cc
 own_place seat (Some answer) (x ∷ y ∷ early) g more e = absurd cc
 
@@ -134,10 +126,7 @@ common_not answer h i = both_ways (is_common (Some answer)) h i
 
 reserves_by_id : (m : Machine) (seat : ℕ) (what : Step) (e : Effect) (id : ℕ) (body : List ℕ) → Tells m seat what e → e.answer ≡ Some (answers.Reserved id body) → what ≡ steps.Ask (requests.ReserveJob id)
 reserves_by_id m seat what e id body (commonly c) is = absurd (common_not (answers.Reserved id body) refl (ap is_common (sym is) ∙ c))
-reserves_by_id m seat what e id body (reserving other text asks told) is =
-    let same : Some (answers.Reserved other text) ≡ Some (answers.Reserved id body) = sym told ∙ is in
-    let ids : other ≡ id = (cc) in
-    asks ∙ ap (λ n. steps.Ask (requests.ReserveJob n)) ids
+reserves_by_id m seat what e id body (reserving other text asks told) is = grind (arith, common_steps)
 reserves_by_id m seat what e id body (inserting told d last) is = absurd (let same : Some (answers.Inserted m.next_id) ≡ Some (answers.Reserved id body) = sym told ∙ is in cc)
 reserves_by_id m seat what e id body (deleting other j asks found free told jobs) is = absurd (let same : Some answers.Deleted ≡ Some (answers.Reserved id body) = sym told ∙ is in cc)
 
@@ -276,16 +265,7 @@ none_joined : (xs ys : List GivenAnswer) → has_inserted xs ≡ false → has_i
 none_joined xs ys h i = list_any-append (λ (g : GivenAnswer). is_inserted g.1) xs ys ∙ or_from (has_inserted xs) (has_inserted ys) h i
 
 own_none : (m : Machine) (seat : ℕ) (what : Step) (e : Effect) → Tells m seat what e → m.draining ≡ true → has_inserted (addressed seat e.answer) ≡ false
-own_none m seat what e tells d = of_answer e.answer refl tells
-  where
-    of_answer : (o : Option Answer) → e.answer ≡ o → Tells m seat what e → has_inserted (addressed seat o) ≡ false
-    of_answer None is t = refl
-    of_answer (Some a) is (commonly c) = or_from (is_inserted a) false (common_not_inserted a (ap is_common (sym is) ∙ c)) refl
-    of_answer (Some a) is (reserving id body asks told) =
-        or_from (is_inserted a) false (let same : Some (answers.Reserved id body) ≡ Some a = sym told ∙ is in let it : answers.Reserved id body ≡ a = (cc) in ap is_inserted (sym it)) refl
-    of_answer (Some a) is (inserting told free last) = absurd (both_ways m.draining free d)
-    of_answer (Some a) is (deleting id j asks found free told jobs) =
-        or_from (is_inserted a) false (let same : Some answers.Deleted ≡ Some a = sym told ∙ is in let it : answers.Deleted ≡ a = (cc) in ap is_inserted (sym it)) refl
+own_none m seat what e tells d = grind (arith, common_steps, or_from, common_not_inserted, both_ways)
 
 -- what is so of a step that begins while draining, and of one whose command begins it
 pub record StaysDraining (given : List GivenAnswer) (last : Machine) : Type 0 where
@@ -337,13 +317,7 @@ none_after_drain first (u ∷ early) t more last goes drains = none_after_drain 
 last_id_drains : (m : Machine) (seat : ℕ) (what : Step) (e : Effect) → Tells m seat what e → e.answer ≡ Some (answers.Inserted last_id) → e.machine.draining ≡ true
 last_id_drains m seat what e (commonly c) is = absurd (common_not (answers.Inserted last_id) refl (ap is_common (sym is) ∙ c))
 last_id_drains m seat what e (reserving id body asks told) is = absurd (let same : Some (answers.Reserved id body) ≡ Some (answers.Inserted last_id) = sym told ∙ is in cc)
-last_id_drains m seat what e (inserting told free last) is =
-    let same : Some (answers.Inserted m.next_id) ≡ Some (answers.Inserted last_id) = sym told ∙ is in
-    let ids : m.next_id ≡ last_id = (cc) in
-    last (reached m.next_id ids)
-  where
-    reached : (n : ℕ) → n ≡ last_id → nat_le last_id n ≡ true
-    reached n e = grind (arith, nat_tests)
+last_id_drains m seat what e (inserting told free last) is = grind (arith, common_steps, nat_tests)
 last_id_drains m seat what e (deleting id j asks found free told jobs) is = absurd (let same : Some answers.Deleted ≡ Some (answers.Inserted last_id) = sym told ∙ is in cc)
 
 dispatch_not_inserted : (id : ℕ) → is_of_dispatch (answers.Inserted id) ≡ true → ⊥
@@ -403,9 +377,7 @@ of_dispatch_not_deleted e = cc
 
 own_contains : (seat by : ℕ) (answer : Answer) (o : Option Answer) → Contains (addressed seat o) (by, answer) → (seat ≡ by) × (o ≡ Some answer)
 own_contains seat by answer None i = absurd (let less = i.1 in omega arith)
-own_contains seat by answer (Some given) i =
-    let same : (seat, given) ≡ (by, answer) = all_at (λ g. (seat, given) ≡ g) ((seat, given) ∷ []) (by, answer) (refl, tt) i in
-    (ap (λ (g : GivenAnswer). g.0) same, ap (λ (g : GivenAnswer). Some g.1) same)
+own_contains seat by answer (Some given) i = grind (arith, common_steps, all_at)
 
 deletion_at : (t : Transition) (s : IsStep t.first t.entry.moment t.entry.seat t.entry.what t.outcome t.given t.last) (seat : ℕ)
     → Contains (own_answers t s.memory s.before) (seat, answers.Deleted) → IsDeletion (record t { parts = parts_of s }) seat

@@ -1,12 +1,13 @@
 -- What becomes of a job that a command changes: who held it, and what is told of it.
-use Rattle.std.proofs.Common.{ℕ, zero, suc, ◌≡◌, Bool, true, false, ◌||◌, cond, List, [], ◌∷◌, sym, ap, ◌∙◌, refl, subst, inl, inr, Some}
+use Rattle.std.proofs.Common.{ℕ, zero, suc, ◌≡◌, Bool, true, false, ◌||◌, cond, List, [], ◌∷◌, sym, ap, ◌∙◌, refl, subst, inl, inr, Some, arith}
 use Rattle.std.specs.Prelude.{filter, take, ◌==◌}
 use Rattle.std.specs.List.{AllByRecursion as All, Contains, list_any}
 use Rattle.std.proofs.lemmas.Bool.{and_parts, or_cases, or_left, or_right, cond_both, eqb-true, eq-eqb}
+use Rattle.std.proofs.lemmas.Grind.{common_steps}
 use Rattle.bq_job.specs.Types.{Job, JobState, Step}
 use Rattle.bq_job.specs.declared.job.JobState.TheVariants as states
 use Rattle.bq_job.specs.machine.{delayed_by, in_order, is_buried, is_buried_before, is_buried_in, is_delayed, is_delayed_in, is_due_before}
-use Rattle.bq_job.specs.machine.{is_held_by, is_holder, is_ready, is_ready_state, is_reserved, job_with, kickable, kicked_first, later}
+use Rattle.bq_job.specs.machine.{is_held_by, is_ready, is_ready_state, is_reserved, job_with, kickable, kicked_first, later}
 use Rattle.bq_job.specs.machine.{put_in_order}
 use Rattle.bq_job.specs.beside.{AreIdsWithin}
 use Rattle.bq_job.specs.laws.{Happening, change, disturbs, given_up, named, taken_up}
@@ -20,11 +21,7 @@ pub free_by_delay : (delay moment : ℕ) → is_reserved (delayed_by delay momen
 free_by_delay delay moment = cond_both (delay == 0) states.Ready (states.Delayed (later moment delay)) (λ s. is_reserved s ≡ false) (λ e. refl) (λ e. refl)
 
 pub held_not_ready : (seat : ℕ) (j : Job) → is_held_by seat j ≡ true → is_ready j ≡ true → ⊥
-held_not_ready seat j h i = of_state j.state h i
-  where
-    of_state : (s : JobState) → is_holder seat s ≡ true → is_ready_state s ≡ true → ⊥
-    of_state states.Ready h i = absurd cc
-    of_state _ h i = absurd cc
+held_not_ready seat j h i = grind (arith, common_steps)
 
 pub put_aside_not_held : (s : JobState) → (is_buried s || is_delayed s) ≡ true → is_reserved s ≡ true → ⊥
 put_aside_not_held (states.Reserved holder deadline) h i = absurd cc
@@ -95,10 +92,4 @@ chosen_not_held jobs (k ∷ chosen) j found h any held =
 
 -- Where the job of one id changes, each job of the list becomes what it may.
 pub one_becomes : (what : Step) (id : ℕ) (f : Job → Job) (jobs : List Job) (next : ℕ) (j : Job) → AreIdsWithin 1 jobs next → job_with id jobs ≡ Some j → Becomes what j (f j) → (k : Job) → Contains jobs k → Becomes what k (cond (k.id == id) (f k) k)
-one_becomes what id f jobs next j ids found becomes k i =
-    cond_both (k.id == id) (f k) k (λ l. Becomes what k l)
-    (λ e.
-    let both : Some j ≡ Some k = sym found ∙ subst (λ n. job_with n jobs ≡ Some k) (eqb-true k.id id e) (job_found 1 next jobs k ids i).0 in
-    let is : j ≡ k = (cc) in
-    subst (λ l. Becomes what l (f l)) is becomes)
-    (λ e. becomes_itself what k)
+one_becomes what id f jobs next j ids found becomes k i = grind (arith, common_steps, cond_both, eqb-true, job_found, becomes_itself)

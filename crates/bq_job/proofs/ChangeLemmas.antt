@@ -8,13 +8,14 @@ use Rattle.bq_job.specs.declared.job.JobState.TheVariants as states
 use Rattle.bq_job.specs.declared.request.Request.TheVariants as requests
 use Rattle.bq_job.specs.declared.step.Step.TheVariants as steps
 use Rattle.bq_job.specs.machine.{Machine.Machine, is_full, is_ready, is_reserved, job_with}
-use Rattle.bq_job.specs.laws.{Happening, buried, change, change_or_removal, changes, deleted, disturbs, given_up, is_deletion, named, put}
+use Rattle.bq_job.specs.laws.{Happening, buried, change, change_or_removal, changes, deleted, disturbs, given_up, named, put}
 use Rattle.bq_job.specs.laws.{released, removed, reserved_by_id, taken_up}
 use Rattle.bq_job.specs.beside.{AreIdsWithin}
 use Rattle.bq_job.proofs.JobMoves.{Fate, GoesOnAs, Move, quiet, putting, is_plain}
 use Rattle.bq_job.proofs.ListLemmas.{all_from_members, all_of_append, all_of_filter, all_of_map, all_weaker, list_any_with}
 use Rattle.bq_job.proofs.LookupLemmas.{found_job, job_found, job_in_map, job_in_more, job_in_rest}
 use Rattle.std.proofs.lemmas.List.Folds.{list_any-append}
+use Rattle.std.proofs.lemmas.Grind.{common_steps}
 
 -- By the command a job becomes this one: of the same id, tube and body. If it was ready, it is ready as
 -- before, and if it was held, it is held, or else what happened to it is told.
@@ -53,10 +54,7 @@ any_in_parts p g (x ∷ xs) h =
 
 -- what became of one job is told
 told_of_job : (p : Happening → Bool) (what : Step) (before after : List Job) (j : Job) → Contains before j → list_any p (change_or_removal what j (job_with j.id after)) ≡ true → list_any p (changes what before after) ≡ true
-told_of_job p what before after j i h =
-    list_any-append p (flat_map (λ k. change_or_removal what k (job_with k.id after)) before) (map put (filter (λ k. is_none (job_with k.id before)) after))
-    ∙ or_left (list_any p (flat_map (λ k. change_or_removal what k (job_with k.id after)) before)) (list_any p (map put (filter (λ k. is_none (job_with k.id before)) after)))
-    (any_in_parts p (λ k. change_or_removal what k (job_with k.id after)) before (list_any_with (λ k. list_any p (change_or_removal what k (job_with k.id after))) before j i h))
+told_of_job p what before after j i h = grind (arith, common_steps, list_any-append, or_left, any_in_parts, list_any_with)
 
 plain_named : (other id : ℕ) (h : Happening) → is_plain h ≡ true → All (λ h. is_plain h ≡ true) (named other id h)
 plain_named other id h p = cond_both (other == id) (h ∷ []) [] (All (λ h. is_plain h ≡ true)) (λ e. (p, tt)) (λ e. tt)
@@ -152,12 +150,7 @@ goes_on_as_itself id j happened = record { same = refl; tube = refl; body = refl
 removed_fate : (what : Step) (before after : List Job) (gone id : ℕ) (o : Option Job) → removed what gone ≡ deleted gone ∷ [] → job_with id before ≡ o → job_with id after ≡ cond (id == gone) None o → Fate id (changes what before after) o (cond (id == gone) None o)
 removed_fate what before after gone id None told e g = cond_both (id == gone) None None (λ o. o ≡ None) (λ h. refl) (λ h. refl)
 removed_fate what before after gone id (Some j) told e g =
-    let found = found_job id before j e in
-    cond_both (id == gone) None (Some j) (Fate id (changes what before after) (Some j))
-    (λ h.
-    let none : job_with j.id after ≡ None = subst (λ n. job_with n after ≡ None) (sym found.0) (rw h at g) in
-    told_of_job (is_deletion id) what before after j found.1 (ap (λ o. list_any (is_deletion id) (change_or_removal what j o)) none ∙ ap (list_any (is_deletion id)) (subst (λ n. removed what n ≡ deleted n ∷ []) (sym (found.0 ∙ eqb-true id gone h)) told) ∙ or_left (j.id == id) false (eq-eqb j.id id found.0)))
-    (λ h. goes_on_as_itself id j (changes what before after))
+    grind (arith, common_steps, found_job, cond_both, told_of_job, eqb-true, or_left, eq-eqb, goes_on_as_itself)
 
 -- A command is a move: quiet, or a put.
 pub move_of_jobs : (what : Step) (m n : Machine) → AreIdsWithin 1 m.jobs m.next_id → JobsAfter what m.settings.max_jobs m.jobs m.next_id n.jobs n.next_id → Move m (changes what m.jobs n.jobs) n

@@ -7,6 +7,7 @@ use Rattle.std.proofs.lemmas.Bool.{cases_Bool, and_parts, and_cases, both_ways}
 use Rattle.std.proofs.lemmas.Bool.Decides.{nat_tests}
 use Rattle.std.proofs.lemmas.List.Elements.{All-from_recursion, All-contains}
 use Rattle.std.proofs.lemmas.List.Folds.{list_any-from_Any}
+use Rattle.std.proofs.lemmas.Grind.{common_steps}
 use Rattle.bq_job.specs.machine.{better_of, first_of, is_pair_before}
 use Rattle.bq_job.proofs.ListLemmas.{contains_head, contains_tail}
 
@@ -56,11 +57,7 @@ first_of_is_least passes {before = before} order xs z y h i p =
 -- The chosen one passes, as the best one so far did.
 better_passes : {X : Type 0} (passes : X → Bool) (before : X → X → Bool) (best : Option X) (x : X) → IfSome best (λ b. passes b ≡ true) → IfSome (better_of passes before best x) (λ b. passes b ≡ true)
 better_passes passes before None x h = elim (cases_Bool (passes x)) [ inl e ↦ rw (e, e) refl | inr e ↦ rw e tt ]
-better_passes passes before (Some b) x h =
-    elim (cases_Bool (passes x && before x b)) [
-      | inl e ↦ rw e ((and_parts (passes x) (before x b) e).0)
-      | inr e ↦ rw e h
-    ]
+better_passes passes before (Some b) x h = grind (arith, common_steps, cases_Bool, and_parts)
 
 fold_passes : {X : Type 0} (passes : X → Bool) (before : X → X → Bool) (best : Option X) (xs : List X) → IfSome best (λ b. passes b ≡ true) → IfSome (fold (better_of passes before) best xs) (λ b. passes b ≡ true)
 fold_passes passes before best [] h = h

@@ -3,11 +3,12 @@ use Rattle.std.proofs.Common.{ℕ, ◌≡◌, ◌<◌, ◌+◌, Bool, true, fals
 use Rattle.std.specs.List.{AllByRecursion as All}
 use Rattle.std.specs.Prelude.{◌==◌, IsTrue}
 use Rattle.std.proofs.lemmas.Bool.{cases_Bool, and_parts, and_right, both_ways, cond_both, eq-eqb}
+use Rattle.std.proofs.lemmas.Grind.{common_steps}
 use Rattle.bq_job.specs.Types.{Answer, Job, Request, Step}
 use Rattle.bq_job.specs.declared.answer.Answer.TheVariants as answers
 use Rattle.bq_job.specs.declared.step.Step.TheVariants as steps
-use Rattle.bq_job.specs.machine.{Chain, DispatchTurn, Effect, GivenAnswer, IsHandOut, IsStep, Machine.Machine, Memory, Outcome, SeatRecord}
-use Rattle.bq_job.specs.machine.{Serves, WaitEndTurn, acted, addressed, after_close, after_connect, after_timers, ask_effect, asked}
+use Rattle.bq_job.specs.machine.{Chain, Effect, GivenAnswer, IsHandOut, IsStep, Machine.Machine, Memory, Outcome, SeatRecord}
+use Rattle.bq_job.specs.machine.{Serves, acted, addressed, after_close, after_connect, after_timers}
 use Rattle.bq_job.specs.machine.{at_found, at_moment, close_effect, connect_effect, effect, empty_seat, end_effect, ends_waiting}
 use Rattle.bq_job.specs.machine.{forgetting, granted, growth_refused, has_closed, is_connected_at, is_deadline_soon, is_possible}
 use Rattle.bq_job.specs.machine.{is_until_over, is_wait_before, is_waiting, may_be_left_out, seat_with, share_refused, shares_body, silent}
@@ -57,19 +58,7 @@ acted_fully share_refused m seat what h i p = absurd (both_ways (shares_body (ef
 -- A command tells nobody anything, and the client waits and is connected as before.
 gets_quiet : (client : ℕ) (first last : Machine) (seat : ℕ) (what : Step) (given : List GivenAnswer) → Parts client first last seat what given → step_takes_memory what ≡ false → ((m : Machine) → (effect m seat what).answer ≡ None) → ((m : Machine) → waits_in client ((effect m seat what).machine).seats ≡ waits_in client m.seats) → ((m : Machine) → connected_in client ((effect m seat what).machine).seats ≡ connected_in client m.seats) → GetsWhatWaits first last client (answers_to client given)
 gets_quiet client first last seat what given p takes untold waits connects =
-    let m = p.before in
-    let e : acted p.memory m seat what ≡ effect m seat what = acted_fully p.memory m seat what takes (ap shares_body (untold m)) p.possible in
-    let goes : Passes client ((effect m seat what).machine).seats last.seats p.late = subst (λ (x : Effect). Passes client (x.machine).seats last.seats p.late) e p.goes in
-    let all : answers_to client given ≡ answers_to client p.early ++ answers_to client p.late =
-    ap (answers_to client) (p.given_is ∙ ap (λ (x : Effect). p.early ++ (addressed seat x.answer ++ p.late)) e ∙ ap (λ o. p.early ++ (addressed seat o ++ p.late)) (untold m))
-    ∙ answers_append client p.early p.late in
-    let same : one_for (waits_in client ((effect m seat what).machine).seats) ≡ one_for (waits_in client m.seats) = ap one_for (waits m) in
-    record {
-      count = let long : length (answers_to client given) ≡ length (answers_to client p.early) + length (answers_to client p.late) = ap length all ∙ simp length-append in
-          let a = p.comes.count in let b = goes.count in omega arith;
-      unclosed = ap has_closed all ∙ unclosed_append (answers_to client p.early) (answers_to client p.late) p.comes.unclosed goes.unclosed;
-      connected = goes.connected ∙ connects m ∙ p.comes.connected;
-    }
+    grind (arith, common_steps, acted_fully, answers_append, unclosed_append)
 
 end_untold : (m : Machine) (o : Option SeatRecord) → (at_found end_effect m o).answer ≡ None
 end_untold m None = refl
@@ -101,11 +90,7 @@ addressed_told seat (Some answer) = rw (eq-eqb seat seat refl) refl
 
 -- the answers to the client that takes the step
 answers_of_parts : (seat : ℕ) (o : Option Answer) (early late given : List GivenAnswer) → given ≡ early ++ (addressed seat o ++ late) → answers_to seat given ≡ answers_to seat early ++ (told o ++ answers_to seat late)
-answers_of_parts seat o early late given e =
-    ap (answers_to seat) e
-    ∙ answers_append seat early (addressed seat o ++ late)
-    ∙ ap (λ more. answers_to seat early ++ more) (answers_append seat (addressed seat o) late)
-    ∙ ap (λ now. answers_to seat early ++ (now ++ answers_to seat late)) (addressed_told seat o)
+answers_of_parts seat o early late given e = grind (arith, common_steps, answers_append, addressed_told)
 
 no_wait : (here connected waits : Bool) → (not waits || connected) ≡ true → (here && connected) ≡ false → (here && waits) ≡ false
 no_wait false connected waits h i = refl
@@ -260,10 +245,7 @@ silent_asked growth_refused m seat request e p =
 silent_asked share_refused m seat request e p = absurd (both_ways (shares_body (effect m seat (steps.Ask request)).answer) (ap (λ (x : Effect). shares_body x.answer) e) p)
 
 asks_in_vain : (m : Machine) (seat : ℕ) (request : Request) (f : Found seat m.seats) → waits_in seat m.seats ≡ true → effect m seat (steps.Ask request) ≡ silent m
-asks_in_vain m seat request f w =
-    let s = f.client in
-    let waits : is_waiting s ≡ true = sym f.waits ∙ w in
-    ap (λ o. at_found (ask_effect request) m o) f.found ∙ ap (λ b. cond b (asked request m s) (silent m)) (and_right s.connected (not (is_waiting s)) (ap not waits))
+asks_in_vain m seat request f w = grind (arith, common_steps, and_right)
 
 -- A connected client that asks, whether it waits or not.
 pub asks_at_most : (first last : Machine) (at seat : ℕ) (request : Request) (outcome : Outcome) (given : List GivenAnswer) → IsLawful first → seat < first.settings.seats → is_connected_at seat first ≡ true → IsStep first at seat (steps.Ask request) outcome given last → GetsAtMost first last seat request (answers_to seat given)
@@ -324,11 +306,7 @@ hand_out_settings m j s given next (inl h) = ap (λ (n : Machine). n.settings) h
 hand_out_settings m j s given next (inr h) = ap (λ (n : Machine). n.settings) h.1
 
 serves_settings : (first : Machine) (handed ended : List GivenAnswer) (last : Machine) → Serves first handed ended last → last.settings ≡ first.settings
-serves_settings first handed ended last s =
-    let d = s.dispatches in
-    let e = s.ends_waits in
-    ap (λ (n : Machine). n.settings) e.forgets ∙ chain_settings WaitEndTurn s.between ended e.end (λ m g n turn. ap (λ (x : Machine). x.settings) (end_of m g n turn).next_is) e.turns
-    ∙ ap (λ (n : Machine). n.settings) d.forgets ∙ chain_settings DispatchTurn first handed d.end (λ m g n turn. let t = turn_of m g n turn in hand_out_settings m t.job t.client g n t.hands) d.turns
+serves_settings first handed ended last s = grind (arith, common_steps, chain_settings, end_of, turn_of, hand_out_settings)
 
 pub step_settings : (first last : Machine) (at seat : ℕ) (what : Step) (outcome : Outcome) (given : List GivenAnswer) → IsStep first at seat what outcome given last → last.settings ≡ first.settings
 step_settings first last at seat what outcome given s =

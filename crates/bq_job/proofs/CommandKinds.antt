@@ -1,24 +1,23 @@
 -- Of which kind each command is: the one list of cases over all requests.
-use Rattle.std.proofs.Common.{ℕ, ◌≡◌, ◌≤◌, Bool, true, false, ◌||◌, not, cond, List, [], ◌∷◌, refl, sym, ap, inl, inr, ◌⊎◌, Option, Some, None}
+use Rattle.std.proofs.Common.{ℕ, ◌≡◌, ◌≤◌, Bool, true, false, ◌||◌, not, cond, List, [], ◌∷◌, refl, sym, ap, inl, inr, ◌⊎◌, Option, Some, None, arith}
 use Rattle.std.specs.Prelude.{filter, length, take, ◌==◌}
 use Rattle.std.specs.List.{list_any}
-use Rattle.std.proofs.Math.Nat.{min-le_right}
 use Rattle.std.proofs.lemmas.Bool.{and_parts, cond_both, eq-eqb}
+use Rattle.std.proofs.lemmas.Grind.{common_steps}
 use Rattle.bq_job.specs.Types.{Answer, Job, Refusal, Request}
 use Rattle.bq_job.specs.declared.answer.Answer.TheVariants as answers
-use Rattle.bq_job.specs.declared.job.JobState.TheVariants as states
 use Rattle.bq_job.specs.declared.refusal.Refusal.TheVariants as refusals
 use Rattle.bq_job.specs.declared.request.Request.TheVariants as requests
 use Rattle.bq_job.specs.declared.step.Step.TheVariants as steps
-use Rattle.bq_job.specs.machine.{Effect, Machine.Machine, SeatRecord, after_delete, asked, buried, delayed_by, first_of, greatest, in_state}
+use Rattle.bq_job.specs.machine.{Effect, Machine.Machine, SeatRecord, after_delete, asked, first_of, greatest}
 use Rattle.bq_job.specs.machine.{is_buried, is_buried_before, is_buried_in, is_closed_answer, is_delayed, is_delayed_in, is_due_before}
-use Rattle.bq_job.specs.machine.{is_free_for, is_held_by, is_job_before, is_ready_in, is_reserved, is_tube, job_statistics}
-use Rattle.bq_job.specs.machine.{job_statistics_or_not, job_with, kickable, kicked, later, name_list, on_found, on_job, raised}
-use Rattle.bq_job.specs.machine.{refusal_answer, released, reserved_by, server_statistics, showing, telling, tube_statistics, tubes, using}
+use Rattle.bq_job.specs.machine.{is_free_for, is_job_before, is_ready_in, is_reserved, is_tube, job_statistics}
+use Rattle.bq_job.specs.machine.{job_statistics_or_not, job_with, kickable, kicked, later, name_list, on_found, on_job}
+use Rattle.bq_job.specs.machine.{refusal_answer, reserved_by, server_statistics, showing, telling, tube_statistics, tubes, using}
 use Rattle.bq_job.specs.machine.{watched_with, watching, watching_or_refused, with_job, with_pause, with_tube}
 use Rattle.bq_job.specs.promise.{answers_wanted}
 use Rattle.bq_job.specs.beside.{has_one, is_refusal, none_twice, watches_once}
-use Rattle.bq_job.specs.laws.{buried as happens_buried, released as happens_released, reserved_by_id}
+use Rattle.bq_job.specs.laws.{reserved_by_id}
 use Rattle.bq_job.specs.reading.TubeName.{is_same_name}
 use Rattle.bq_job.proofs.BecomeLemmas.{IsAside, all_of_take, chosen_not_held, free_by_delay, held_not_ready, kickable_aside, one_becomes, put_aside_not_held, told_by_name, told_if_given_up, told_if_taken}
 use Rattle.bq_job.proofs.ChangeLemmas.{Becomes, becomes_itself}
@@ -70,39 +69,14 @@ delete_kind id m s = on_one (requests.Delete id) id (is_free_for s) (λ j. telli
 
 release_kind : (id pri delay : ℕ) (m : Machine) (s : SeatRecord) → Kind m s (requests.Release id pri delay) (asked (requests.Release id pri delay) m s)
 release_kind id pri delay m s =
-    on_one (requests.Release id pri delay) id (is_held_by s.number) (λ j. telling answers.Released (with_job id (released m.moment pri delay) m)) m s refl
-    (λ j e p.
-    one_changes (requests.Release id pri delay) m s answers.Released id (released m.moment pri delay) m.burials j e (says answers.Released refl refl refl refl)
-    (λ h. h) (λ k. refl) (λ k. inl (free_by_delay delay m.moment))
-    (record {
-      id = refl;
-      tube = refl;
-      body = refl;
-      ready = λ h. absurd (held_not_ready s.number j p h);
-      held = λ h. inr (told_if_given_up (steps.Ask (requests.Release id pri delay)) j.id j.state (delayed_by delay m.moment) h (free_by_delay delay m.moment) (told_by_name id j.id (happens_released j.id) (sym (found_job id m.jobs j e).0) (eq-eqb j.id j.id refl)));
-    }))
+    grind (arith, common_steps, on_one, one_changes, says, free_by_delay, held_not_ready, told_if_given_up, told_by_name, found_job, eq-eqb)
 
 bury_kind : (id pri : ℕ) (m : Machine) (s : SeatRecord) → Kind m s (requests.Bury id pri) (asked (requests.Bury id pri) m s)
 bury_kind id pri m s =
-    on_one (requests.Bury id pri) id (is_held_by s.number) (λ j. telling answers.Buried (record (with_job id (buried (raised m.burials) pri) m) { burials = raised m.burials })) m s refl
-    (λ j e p.
-    one_changes (requests.Bury id pri) m s answers.Buried id (buried (raised m.burials) pri) (raised m.burials) j e (says answers.Buried refl refl refl refl)
-    (λ h. min-le_right _ greatest) (λ k. refl) (λ k. inl refl)
-    (record {
-      id = refl;
-      tube = refl;
-      body = refl;
-      ready = λ h. absurd (held_not_ready s.number j p h);
-      held = λ h. inr (told_if_given_up (steps.Ask (requests.Bury id pri)) j.id j.state (states.Buried (raised m.burials)) h refl (told_by_name id j.id (happens_buried j.id) (sym (found_job id m.jobs j e).0) (eq-eqb j.id j.id refl)));
-    }))
+    grind (arith, common_steps, on_one, one_changes, says, held_not_ready, told_if_given_up, told_by_name, found_job, eq-eqb)
 
 touch_kind : (id : ℕ) (m : Machine) (s : SeatRecord) → Kind m s (requests.Touch id) (asked (requests.Touch id) m s)
-touch_kind id m s =
-    on_one (requests.Touch id) id (is_held_by s.number) (λ j. telling answers.Touched (with_job id (in_state (states.Reserved s.number (later m.moment j.ttr))) m)) m s refl
-    (λ j e p.
-    one_changes (requests.Touch id) m s answers.Touched id (in_state (states.Reserved s.number (later m.moment j.ttr))) m.burials j e (says answers.Touched refl refl refl refl)
-    (λ h. h) (λ k. refl) (λ k. inr (eq-eqb s.number s.number refl))
-    (record { id = refl; tube = refl; body = refl; ready = λ h. absurd (held_not_ready s.number j p h); held = λ h. inl refl }))
+touch_kind id m s = grind (arith, common_steps, on_one, one_changes, says, eq-eqb, held_not_ready)
 
 kick_kind : (bound : ℕ) (m : Machine) (s : SeatRecord) → Kind m s (requests.Kick bound) (asked (requests.Kick bound) m s)
 kick_kind bound m s =

@@ -3,6 +3,7 @@ use Rattle.std.proofs.Common.{ℕ, zero, suc, ◌≡◌, ◌≤◌, ◌<◌, tru
 use Rattle.std.specs.Prelude.{◌==◌}
 use Rattle.std.specs.List.{AllByRecursion as All, Contains, list_any}
 use Rattle.std.proofs.lemmas.Bool.{cases_Bool, and_parts, and_left, eq-eqb}
+use Rattle.std.proofs.lemmas.Grind.{common_steps}
 use Rattle.bq_job.specs.declared.answer.Answer.TheVariants as answers
 use Rattle.bq_job.specs.Types.{Job, Step}
 use Rattle.bq_job.specs.machine.{Chain, DispatchTurn, Dispatches, EndsWaits, IsStep, Machine.Machine, SeatRecord, Serves, WaitEndTurn}
@@ -23,9 +24,7 @@ waits_no_more number s e w = rw (w, eq-eqb s.number number e) refl
 
 -- One client fewer waits once this one's wait is over.
 pub waiting_falls : (m : Machine) (s : SeatRecord) → Contains m.seats s → is_waiting s ≡ true → waiting_count (with_seat s.number without_wait m) < waiting_count m
-waiting_falls m s i w =
-    count_falls is_waiting (λ t. cond (t.number == s.number) (without_wait t) t) m.seats (all_always (λ t. is_waiting (cond (t.number == s.number) (without_wait t) t) ≡ true → is_waiting t ≡ true) m.seats (unwait_waits_less s.number))
-    (list_any_with (λ t. is_waiting t && not (is_waiting (cond (t.number == s.number) (without_wait t) t))) m.seats s i (waits_no_more s.number s refl w))
+waiting_falls m s i w = grind (arith, common_steps, count_falls, all_always, unwait_waits_less, list_any_with, waits_no_more)
 
 -- a turn of dispatch that gives the job
 pub hand_out_turn : (m : Machine) (j : Job) (s : SeatRecord) → next_job m ≡ Some j → next_seat m j ≡ Some s → DispatchTurn m (s.number, answers.Reserved j.id j.body) (after_hand_out m j s)
@@ -134,20 +133,10 @@ wait_ended_all zero m w = none_ends m w
 wait_ended_all (suc turns) m w = ended_at_all (λ next. wait_ended turns next) turns m (next_end m) (λ n. wait_ended_all turns n) w refl
 
 pub computed_dispatches : (m : Machine) → Dispatches m (after_dispatch m).given (after_dispatch m).machine
-computed_dispatches m = record {
-  end = (dispatched (waiting_count m) m).machine;
-  turns = dispatched_turns (waiting_count m) m;
-  done = dispatched_all (waiting_count m) m (omega arith);
-  forgets = refl;
-}
+computed_dispatches m = grind (arith, common_steps, dispatched_turns, dispatched_all)
 
 pub computed_ends_waits : (m : Machine) → EndsWaits m (after_wait_ends m).given (after_wait_ends m).machine
-computed_ends_waits m = record {
-  end = (wait_ended (waiting_count m) m).machine;
-  turns = wait_ended_turns (waiting_count m) m;
-  done = wait_ended_all (waiting_count m) m (omega arith);
-  forgets = refl;
-}
+computed_ends_waits m = grind (arith, common_steps, wait_ended_turns, wait_ended_all)
 
 pub computed_serves : (m : Machine) → Serves m (after_dispatch m).given (after_wait_ends (after_dispatch m).machine).given (after_serving m).machine
 computed_serves m = record {

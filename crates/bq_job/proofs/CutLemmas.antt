@@ -1,6 +1,7 @@
 -- Answers line by line: where a list of them is cut.
-use Rattle.std.proofs.Common.{◌≡◌, ℕ, suc, ◌+◌, ◌≤◌, true, false, List, [], ◌∷◌, ◌++◌, length, refl, sym, ap, ◌∙◌, subst, arith}
+use Rattle.std.proofs.Common.{◌≡◌, ℕ, suc, ◌+◌, ◌≤◌, false, List, [], ◌∷◌, ◌++◌, length, refl, sym, ap, ◌∙◌, arith}
 use Rattle.std.proofs.lemmas.Bool.{or_parts}
+use Rattle.std.proofs.lemmas.Grind.{common_steps}
 use Rattle.bq_job.specs.Types.{Answer, Step}
 use Rattle.bq_job.specs.declared.answer.Answer.TheVariants as answers
 use Rattle.bq_job.specs.promise.{LineOver}
@@ -51,9 +52,7 @@ heads x y xs ys e = (cc, cc)
 
 -- a list with no `Closed` begins with none
 begins_unclosed : (x : Answer) (xs : List Answer) → has_closed (x ∷ xs) ≡ false → answers.Closed ≡ x → ⊥
-begins_unclosed x xs h e =
-    let no : true ≡ false = subst (λ (y : Answer). has_closed (y ∷ xs) ≡ false) (sym e) h in
-    absurd cc
+begins_unclosed x xs h e = grind (arith, common_steps)
 
 -- A list is cut at its first `Closed` in one way. No case is made for each kind of answer: that would be one for
 -- each two of them.

@@ -1,8 +1,8 @@
 -- Turns of dispatch and ends of waits: what each gives and leaves.
-use Rattle.std.proofs.Common.{ℕ, ◌≡◌, List, refl, ap, inl, inr, Option, Some, None}
-use Rattle.std.specs.Prelude.{MatchOption}
+use Rattle.std.proofs.Common.{ℕ, ◌≡◌, List, ap, inl, inr, Some, arith}
 use Rattle.std.specs.List.{list_any}
 use Rattle.std.proofs.lemmas.Bool.{and_from}
+use Rattle.std.proofs.lemmas.Grind.{common_steps}
 use Rattle.bq_job.specs.declared.answer.Answer.TheVariants as answers
 use Rattle.bq_job.specs.declared.job.Job.{Job}
 use Rattle.bq_job.specs.machine.{DispatchTurn, GivenAnswer, IsHandOut, Machine.Machine, SeatRecord, is_job_before, is_waiting}
@@ -21,15 +21,7 @@ pub record Turn (m : Machine) (given : GivenAnswer) (next : Machine) : Type 0 wh
   pub hands : IsHandOut m job client given next
 
 pub turn_of : (m : Machine) (given : GivenAnswer) (next : Machine) → DispatchTurn m given next → Turn m given next
-turn_of m given next turn = with_job_at (next_job m) refl turn
-  where
-    with_seat_at : (j : Job) (o : Option SeatRecord) → next_job m ≡ Some j → next_seat m j ≡ o → MatchOption o ⊥ (λ s. IsHandOut m j s given next) → Turn m given next
-    with_seat_at j None e f h = absurd h
-    with_seat_at j (Some s) e f h = record { job = j; client = s; job_is = e; client_is = f; hands = h }
-
-    with_job_at : (o : Option Job) → next_job m ≡ o → MatchOption o ⊥ (λ j. MatchOption (next_seat m j) ⊥ (λ s. IsHandOut m j s given next)) → Turn m given next
-    with_job_at None e h = absurd h
-    with_job_at (Some j) e h = with_seat_at j (next_seat m j) e refl h
+turn_of m given next turn = grind (arith, common_steps)
 
 -- The next job is the least of those that its client may have.
 pub next_is_least : (m : Machine) (j : Job) (s : SeatRecord) → next_job m ≡ Some j → next_seat m j ≡ Some s → IsLeastFor m s j

@@ -1,8 +1,8 @@
 -- What an event can do to the machine, so that what holds of each thing is seen once to hold of its effect.
-use Rattle.std.proofs.Common.{ℕ, ◌≡◌, Bool, true, false, ◌&&◌, not, refl, Option, Some, None}
-use Rattle.std.specs.Prelude.{◌==◌, if◌then◌else◌}
+use Rattle.std.proofs.Common.{ℕ, ◌≡◌, true, false, Some, arith}
 use Rattle.std.specs.List.{Contains}
 use Rattle.std.proofs.lemmas.Bool.{cond_both, eqb-true}
+use Rattle.std.proofs.lemmas.Grind.{common_steps}
 use Rattle.bq_job.specs.declared.answer.Answer.TheVariants as answers
 use Rattle.bq_job.specs.Types.{Request, Step}
 use Rattle.bq_job.specs.declared.step.Step.TheVariants as steps
@@ -18,9 +18,7 @@ pub record IsSeat (m : Machine) (seat : ℕ) (s : SeatRecord) : Type 0 where
   pub there : Contains m.seats s
 
 is_seat : (m : Machine) (seat : ℕ) (s : SeatRecord) → seat_with seat m.seats ≡ Some s → IsSeat m seat s
-is_seat m seat s e =
-    let found = found_passes (λ t. t.number == seat) m.seats s e in
-    record { found = e; number = eqb-true s.number seat found.0; there = found.1 }
+is_seat m seat s e = grind (arith, common_steps, found_passes, eqb-true)
 
 -- It holds of all that an event at the seat can do: nothing, a client that comes, a request of one that is
 -- open and doesn't wait, one that sends no more, one that is gone, and the beginning of draining.
@@ -34,19 +32,10 @@ pub record HoldsOfEach (m : Machine) (seat : ℕ) (P : Step → Effect → Type 
 
 -- the seat of the number, if there is one
 at_seat : (m : Machine) (seat : ℕ) (act : Machine → SeatRecord → Effect) (P : Effect → Type 0) → P (silent m) → ((s : SeatRecord) → IsSeat m seat s → P (act m s)) → P (at_found act m (seat_with seat m.seats))
-at_seat m seat act P nothing each = of_found (seat_with seat m.seats) refl
-  where
-    of_found : (o : Option SeatRecord) → seat_with seat m.seats ≡ o → P (at_found act m o)
-    of_found None e = nothing
-    of_found (Some s) e = each s (is_seat m seat s e)
+at_seat m seat act P nothing each = grind (arith, common_steps, is_seat)
 
 of_client : (m : Machine) (seat : ℕ) (P : Step → Effect → Type 0) → HoldsOfEach m seat P → (request : Request) (s : SeatRecord) → IsSeat m seat s → P (steps.Ask request) (ask_effect request m s)
-of_client m seat P h request s is = of_state s.connected (is_waiting s) refl refl
-  where
-    of_state : (c w : Bool) → s.connected ≡ c → is_waiting s ≡ w → P (steps.Ask request) (if c && not w then asked request m s else silent m)
-    of_state true true e f = h.nothing (steps.Ask request)
-    of_state true false e f = h.asks request s is e f
-    of_state false w e f = h.nothing (steps.Ask request)
+of_client m seat P h request s is = grind (arith, common_steps)
 
 -- every event
 pub each_event : (m : Machine) (seat : ℕ) (P : Step → Effect → Type 0) → HoldsOfEach m seat P → (what : Step) → P what (effect m seat what)

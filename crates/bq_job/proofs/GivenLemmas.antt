@@ -5,6 +5,7 @@ use Rattle.std.specs.Prelude.{◌==◌}
 use Rattle.std.proofs.lemmas.Bool.{cases_Bool, and_parts, or_from, eqb-true}
 use Rattle.std.proofs.lemmas.List.{length-append}
 use Rattle.std.proofs.lemmas.List.Folds.{list_any-append}
+use Rattle.std.proofs.lemmas.Grind.{common_steps}
 use Rattle.bq_job.specs.Types.{Answer, Request, Step}
 use Rattle.bq_job.specs.declared.answer.Answer.TheVariants as answers
 use Rattle.bq_job.specs.declared.step.Step.TheVariants as steps
@@ -21,22 +22,10 @@ abbrev pub is_here : ℕ → Entry → Bool
 is_here t e = not (is_tick e.what) && e.seat == t
 
 first_here : (t : ℕ) (e : Entry) (history : List Entry) → is_here t e ≡ true → steps_at t (e ∷ history) ≡ e.what ∷ steps_at t history
-first_here t e history h =
-    let both = and_parts (not (is_tick e.what)) (e.seat == t) h in
-    elim (cases_Bool (is_tick e.what)) [
-      | inl x ↦ absurd (let no : false ≡ true = ap not (sym x) ∙ both.0 in cc)
-      | inr x ↦ let y = both.1 in rw (x, y) refl
-    ]
+first_here t e history h = grind (arith, common_steps, and_parts, cases_Bool)
 
 first_elsewhere : (t : ℕ) (e : Entry) (history : List Entry) → is_here t e ≡ false → steps_at t (e ∷ history) ≡ steps_at t history
-first_elsewhere t e history h =
-    elim (cases_Bool (is_tick e.what)) [
-      | inl x ↦ rw x refl
-      | inr x ↦ elim (cases_Bool (e.seat == t)) [
-        | inl y ↦ absurd (let a : is_here t e ≡ true = rw (x, y) refl in let no : true ≡ false = sym a ∙ h in cc)
-        | inr y ↦ rw (x, y) refl
-      ]
-    ]
+first_elsewhere t e history h = grind (arith, common_steps, cases_Bool)
 
 -- the machine serves this seat
 pub record Serves (t : ℕ) (m : Machine) : Type 0 where

@@ -1,5 +1,6 @@
 -- The headline whole, from a history and the laws of runs.
-use Rattle.std.proofs.Common.{ℕ, Bool, List, Option, subst}
+use Rattle.std.proofs.Common.{ℕ, Bool, List, Option, subst, arith}
+use Rattle.std.proofs.lemmas.Grind.{common_steps}
 use Rattle.bq_job.specs.laws.{AreJobsServed, HeadlineHolds, LineHeadlineHolds, happenings, parts_of_run}
 use Rattle.bq_job.specs.promise.{GoesBy, IsHistoryOf, IsHistoryOfLine, LineOver, Transition}
 use Rattle.bq_job.specs.machine.{Machine.Machine, Settings, new_machine}
@@ -39,17 +40,4 @@ headline_holds settings doors control failed readings last h = let run = h.run.r
     }
 
 pub line_headline_holds : (settings : Settings) (seat : ℕ) (line : LineOver) (readings : List (Option ℕ)) → IsHistoryOfLine settings seat line readings → LineHeadlineHolds settings seat line readings
-line_headline_holds settings seat line readings h = let run = h.run.runs.1 in
-    record {
-      history = h.history;
-      given = h.given;
-      taken = run.taken;
-      last = h.last;
-      goes = run.goes;
-      history_is = run.history_is;
-      given_is = run.given_is;
-      timed = h.run.timed;
-      of_line = h.of_line;
-      of_nobody_else = h.of_nobody_else;
-      jobs = jobs_served settings run.taken h.last run.goes;
-    }
+line_headline_holds settings seat line readings h = grind (arith, common_steps, jobs_served)

@@ -1,7 +1,8 @@
 -- A run that is computed, as part of a history; and the lines of a door, each with its steps.
-use Rattle.std.proofs.Common.{◌≡◌, ℕ, suc, Bool, true, false, List, [], ◌∷◌, ◌++◌, map, length, Option, ◌⊎◌, refl, ap, ◌∙◌, inl, inr}
+use Rattle.std.proofs.Common.{◌≡◌, ℕ, suc, Bool, true, false, List, [], ◌∷◌, ◌++◌, map, length, Option, ◌⊎◌, refl, ap, inl, arith}
 use Rattle.std.specs.List.{list_any}
 use Rattle.std.proofs.lemmas.Bool.{or_right}
+use Rattle.std.proofs.lemmas.Grind.{common_steps}
 use Rattle.bq_job.specs.Types.{Answer, Request, Step}
 use Rattle.bq_job.specs.declared.request.Request.TheVariants.{Reserve}
 use Rattle.bq_job.specs.declared.step.Step.TheVariants as steps
@@ -94,18 +95,9 @@ close_before (x ∷ xs) ys h = close_before xs ys h
 lines_are_shut : (size : ℕ) (lines : List LineOver) (own : List Step) (given : List Answer) → AreLinesOwed size lines own given
     → (own ≡ []) ⊎ (list_any is_close own ≡ true)
 lines_are_shut size [] own given h = inl h.0
-lines_are_shut size (line ∷ lines) own given h =
-    let s = h.4.steps in
-    let first : list_any is_close h.0 ≡ true =
-    ap (list_any is_close) s.steps_are ∙ close_behind (steps.Connect ∷ [] ++ map steps.Ask s.asked ++ s.end_steps) (steps.Close ∷ []) refl in
-    inr (ap (list_any is_close) h.6 ∙ close_before h.0 h.1 first)
+lines_are_shut size (line ∷ lines) own given h = grind (arith, common_steps, close_behind, close_before)
 
 -- no lines have these steps
 pub dropped_none : (lines : List LineOver) (given : List Answer)
     → IsDoorOwed usual lines (steps.Connect ∷ steps.Ask Reserve ∷ steps.Gone ∷ []) given → ⊥
-dropped_none lines given h =
-    let is : steps.Connect ∷ steps.Ask Reserve ∷ steps.Gone ∷ [] ≡ h.own ++ steps.Gone ∷ [] = h.taken_is in
-    elim (lines_are_shut usual lines h.own given h.of_lines) [
-      | inl e ↦ let none : steps.Connect ∷ steps.Ask Reserve ∷ steps.Gone ∷ [] ≡ steps.Gone ∷ [] = is ∙ ap (λ xs. xs ++ steps.Gone ∷ []) e in absurd cc
-      | inr e ↦ let none : false ≡ true = ap (list_any is_close) is ∙ close_before h.own (steps.Gone ∷ []) e in absurd cc
-    ]
+dropped_none lines given h = grind (arith, common_steps, lines_are_shut, close_before)

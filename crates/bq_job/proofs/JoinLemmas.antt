@@ -4,6 +4,7 @@ use Rattle.std.specs.Prelude.{IsTrue, ◌==◌}
 use Rattle.std.specs.List.{list_any}
 use Rattle.std.proofs.lemmas.Bool.{and_right}
 use Rattle.std.proofs.lemmas.List.{length-append}
+use Rattle.std.proofs.lemmas.Grind.{common_steps}
 use Rattle.bq_job.specs.Types.{Answer, LineEnd, Request, Step}
 use Rattle.bq_job.specs.declared.answer.Answer.TheVariants as answers
 use Rattle.bq_job.specs.declared.line_end.LineEnd.TheVariants as ends
@@ -19,9 +20,7 @@ use Rattle.bq_job.proofs.LawfulLemmas.{new_is_lawful}
 
 -- where all is answered, nothing comes after it
 nothing_after : (own others : List Answer) (n : ℕ) → length own ≡ n → length (own ++ others) ≤ n → own ≡ own ++ others
-nothing_after own others n h i =
-    let none : others ≡ [] = none_in others (omega (arith, length-append own others)) in
-    subst (λ (xs : List Answer). own ≡ own ++ xs) (sym none) (sym (append-nil own))
+nothing_after own others n h i = grind (arith, common_steps, none_in, length-append)
 
 -- what came and what was written agree with what was asked
 pub record IsDone (over : LineEnd) (asked : List Request) (given : List Answer) (written : List ℕ) : Type 0 where
@@ -32,9 +31,7 @@ pub record IsDone (over : LineEnd) (asked : List Request) (given : List Answer) 
 late_one : (asked : List Request) (own others : List Answer) (written : List ℕ) → IsTrue (ends_by_wait asked) → length own + 1 ≡ answered_count asked → length (own ++ others) ≤ answered_count asked → written ≡ answers_text own → IsDone ends.ReadFault asked (own ++ others) written
 late_one asked own [] written waits h i w =
     subst (λ (xs : List Answer). IsDone ends.ReadFault asked xs written) (sym (append-nil own)) (record { answered = inr (waits, h); written_is = inl w })
-late_one asked own (a ∷ []) written waits h i w =
-    let all : length (own ++ a ∷ []) ≡ answered_count asked = omega (arith, length-append own (a ∷ [])) in
-    record { answered = inl all; written_is = inr (record { first = own; last = a; waits = waits; all = all; answers_are = refl; written_is = w }) }
+late_one asked own (a ∷ []) written waits h i w = grind (arith, common_steps, length-append)
 late_one asked own (a ∷ b ∷ others) written waits h i w = absurd (omega (arith, length-append own (a ∷ b ∷ others)))
 
 is_done : (over : LineEnd) (asked : List Request) (own others : List Answer) (written : List ℕ) → AreAllAnswered over asked own → length (own ++ others) ≤ answered_count asked → IsWritten over asked own written → IsNoneUnwritten over own written → IsDone over asked (own ++ others) written
@@ -58,9 +55,7 @@ line_owed size line own got part l is few =
 -- Lines that took a beginning of what was given them took all of it, and each is owed just that.
 pub lines_owed : (size : ℕ) (lines : List LineOver) (own : List Step) (taken waiting given : List Answer) (h : AreLinesServed size lines own taken)
     → AreParts (most_of_lines size lines own taken h) given → given ≡ taken ++ waiting → AreLinesOwed size lines own given × (waiting ≡ [])
-lines_owed size [] own taken waiting given h parts is =
-    let none : waiting ≡ [] = sym (is ∙ ap (λ (xs : List Answer). xs ++ waiting) h.1) ∙ parts in
-    ((h.0, parts), none)
+lines_owed size [] own taken waiting given h parts is = grind (arith, common_steps)
 lines_owed size (line ∷ lines) own taken waiting given h parts is =
     let l = h.4 in
     let count = parts_close (most_of_lines size (line ∷ lines) own taken h) given parts in

@@ -1,9 +1,10 @@
 -- A job that was put is there until it is deleted, and one client at most holds it.
-use Rattle.std.proofs.Common.{ℕ, ◌≡◌, ◌<◌, true, false, ◌&&◌, ◌||◌, not, cond, List, [], ◌∷◌, ◌++◌, map, arith, refl, sym, ap, ◌∙◌, subst, inl, inr, ◌⊎◌, Option, Some, None}
+use Rattle.std.proofs.Common.{ℕ, ◌≡◌, ◌<◌, true, false, cond, List, [], ◌∷◌, ◌++◌, map, arith, refl, sym, ap, ◌∙◌, subst, inl, inr, ◌⊎◌, Option, Some, None}
 use Rattle.std.specs.Prelude.{option_map, ◌==◌}
 use Rattle.std.specs.List.{AllByRecursion as All, Contains, list_any}
 use Rattle.std.proofs.lemmas.Bool.{and_parts, and_from, or_parts, both_ways, cond_both, eqb-true, eq-eqb}
 use Rattle.std.proofs.lemmas.List.Folds.{list_any-append}
+use Rattle.std.proofs.lemmas.Grind.{common_steps}
 use Rattle.bq_job.specs.Types.{Job, JobState}
 use Rattle.bq_job.specs.declared.job.JobState.TheVariants as states
 use Rattle.bq_job.specs.machine.{Machine.Machine, SeatRecord, Settings, is_connected_at, is_held_by, is_holder, is_reserved, job_with}
@@ -53,18 +54,7 @@ there_or_to_come : (j : Job) (m n : Machine) (happened more : List Happening) �
 there_or_to_come j m n happened more move none (inl h) = inl (there_after j m n happened move none h)
 there_or_to_come j m n happened more (quiet q) none (inr i) = inr (put_behind j m n happened more (inl q) i)
 there_or_to_come j m n happened more (handing h) none (inr i) = inr (put_behind j m n happened more (inr h) i)
-there_or_to_come j m n happened more (putting p) none (inr i) =
-    elim (put_now_or_behind j m n happened more p i) [
-      | inl e ↦ let next = p.next in let is = p.id in let same : p.job.id ≡ j.id = ap (λ (k : Job). k.id) e in
-          inl (record {
-            job = p.job;
-            found = subst (λ id. job_with id n.jobs ≡ Some p.job) same (ap (job_with p.job.id) p.jobs ∙ job_at_end 1 m.jobs p.job p.ids);
-            below = omega arith;
-            tube = ap (λ (k : Job). k.tube) e;
-            body = ap (λ (k : Job). k.body) e;
-          })
-      | inr e ↦ inr e
-    ]
+there_or_to_come j m n happened more (putting p) none (inr i) = grind (arith, common_steps, put_now_or_behind, job_at_end)
 
 there_at_end : (j : Job) (m n : Machine) (parts : List Part) → Moves m parts n → list_any (is_deletion j.id) (happenings parts) ≡ false → IsThere j m ⊎ Contains (happenings parts) (put j) → IsThere j n
 there_at_end j m n [] moves none (inl h) = subst (IsThere j) (sym moves) h
@@ -119,19 +109,7 @@ map_same (s ∷ seats) = ap (λ ss. s ∷ ss) (map_same seats)
 
 holder_connected : (seat : ℕ) (m : Machine) (j : Job) → Keeps m → Contains m.jobs j → is_held_by seat j ≡ true → is_connected_at seat m ≡ true
 holder_connected seat m j keeps i h =
-    let open_one : (not (is_reserved j.state) || list_any (λ s. s.connected && is_held_by s.number j) m.seats) ≡ true = all_at (λ k. (not (is_reserved k.state) || list_any (λ s. s.connected && is_held_by s.number k) m.seats) ≡ true) m.jobs j keeps.holders i in
-    let reserved = held_is_reserved seat j.state h in
-    let one : list_any (λ s. s.connected && is_held_by s.number j) m.seats ≡ true = (rw reserved at open_one) in
-    subst (λ seats. list_any (λ s. s.number == seat && s.connected) seats ≡ true) (map_same m.seats)
-    (list_any_of_map (λ s. s.connected && is_held_by s.number j) (λ s. s.number == seat && s.connected) (λ (s : SeatRecord). s) m.seats (each m.seats) one)
-  where
-    each : (seats : List SeatRecord) → All (λ s. (s.connected && is_held_by s.number j) ≡ true → (s.number == seat && s.connected) ≡ true) seats
-    each [] = tt
-    each (s ∷ seats) = (
-      λ p. let parts = and_parts s.connected (is_held_by s.number j) p in
-          and_from (s.number == seat) s.connected (eq-eqb s.number seat (one_holder s.number seat j.state parts.1 h)) parts.0,
-      each seats,
-    )
+    grind (arith, common_steps, all_at, held_is_reserved, map_same, list_any_of_map, and_parts, and_from, eq-eqb, one_holder)
 
 held_by_one : (m : Machine) → Keeps m → IsHeldByOne m
 held_by_one m keeps seat other id h i =

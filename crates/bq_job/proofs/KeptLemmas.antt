@@ -3,6 +3,7 @@ use Rattle.std.proofs.Common.{ℕ, zero, suc, ◌≡◌, ◌≤◌, ◌+◌, Boo
 use Rattle.std.specs.Prelude.{nat_le, filter, find, ◌==◌}
 use Rattle.std.specs.List.{AllByRecursion as All, list_any}
 use Rattle.std.proofs.lemmas.Bool.{cases_Bool, and_parts, and_from, or_parts, or_left, or_right, or_cases, both_ways, cond_both, eqb-true, eqb-false, leb-false}
+use Rattle.std.proofs.lemmas.Grind.{common_steps}
 use Rattle.bq_job.specs.Types.{Job, JobState}
 use Rattle.bq_job.specs.machine.{Machine.Machine, SeatRecord, empty_seat, given_back, in_state, is_held_by, is_reserved, is_waiting}
 use Rattle.bq_job.specs.machine.{last_id, numbers}
@@ -147,12 +148,7 @@ emptied seat s = cond (s.number == seat) (empty_seat s.number) s
 
 -- Who holds a job that isn't given back stays.
 holder_stays : (seat : ℕ) (j : Job) (s : SeatRecord) → is_held_by seat j ≡ false → (s.connected && is_held_by s.number j) ≡ true → ((emptied seat s).connected && is_held_by (emptied seat s).number j) ≡ true
-holder_stays seat j s e h =
-    cond_both (s.number == seat) (empty_seat s.number) s (λ t. (t.connected && is_held_by t.number j) ≡ true)
-    (λ b.
-    let held : is_held_by s.number j ≡ true = (and_parts s.connected (is_held_by s.number j) h).1 in
-    absurd (both_ways (is_held_by seat j) e (subst (λ n. is_held_by n j ≡ true) (eqb-true s.number seat b) held)))
-    (λ b. h)
+holder_stays seat j s e h = grind (arith, common_steps, cond_both, and_parts, both_ways, eqb-true)
 
 held_elsewhere : (seat : ℕ) (seats : List SeatRecord) (j : Job) → is_held_by seat j ≡ false → has_holder seats j ≡ true → has_holder (map (emptied seat) seats) j ≡ true
 held_elsewhere seat seats j e h =

@@ -1,17 +1,18 @@
 -- The machine is lawful at the start and after every step, and a step gives few answers.
 use Rattle.std.proofs.Common.{ℕ, zero, suc, ◌≡◌, ◌≤◌, ◌<◌, ◌+◌, true, false, ◌&&◌, ◌||◌, not, cond, List, [], ◌∷◌, map, length, length-append, arith, refl, sym, ap, ◌∙◌, subst, inl, inr, Option, Some, None}
-use Rattle.std.specs.Prelude.{is_some, nat_le, unwrap_or, MatchOption, ◌==◌}
+use Rattle.std.specs.Prelude.{nat_le, ◌==◌}
 use Rattle.std.specs.Cmp.Lexicographic.{bytes_decides}
 use Rattle.std.specs.List.{Contains, list_any, list_all}
 use Rattle.std.proofs.lemmas.Bool.{eq-eqb, or_left, or_right, cond_both, le-leb}
 use Rattle.std.proofs.lemmas.List.{length-map}
 use Rattle.std.proofs.lemmas.List.Sums.{count_by-le-length}
+use Rattle.std.proofs.lemmas.Grind.{common_steps}
 use Rattle.bq_job.specs.Types.{Answer, Job, Step}
 use Rattle.bq_job.specs.declared.job.JobState.TheVariants as states
 use Rattle.bq_job.specs.machine.{Chain, DispatchTurn, Dispatches, EndsWaits, GivenAnswer, IsHandOut, IsStep, Machine.Machine, Memory}
 use Rattle.bq_job.specs.machine.{Outcome, SeatRecord, Serves, Settings, TubeRecord, WaitEndTurn, acted, addressed, after_timers, at_moment}
-use Rattle.bq_job.specs.machine.{default_tube, empty_seat, end_of_wait, ends_waiting, forgetting, fresh_tube, granted, greatest}
-use Rattle.bq_job.specs.machine.{growth_refused, in_state, is_due, is_expired, is_job_before, is_paused, is_ready, is_seated_at, is_tube}
+use Rattle.bq_job.specs.machine.{default_tube, empty_seat, end_of_wait, ends_waiting, forgetting, granted, greatest}
+use Rattle.bq_job.specs.machine.{growth_refused, in_state, is_job_before, is_paused, is_ready, is_seated_at, is_tube}
 use Rattle.bq_job.specs.machine.{is_wait_before, is_waiting, is_waiting_for, job_after_timers, new_machine, next_end, next_job, next_seat}
 use Rattle.bq_job.specs.machine.{numbers, reserved_by, share_refused, watches, with_job, with_seat, with_timeout, without_wait}
 use Rattle.bq_job.specs.beside.{IsLawful, has_open_holder, waiting_count, watches_once}
@@ -26,9 +27,7 @@ use Rattle.bq_job.proofs.RecordLemmas.{Booked, booked_acted, booked_forgetting, 
 
 -- what timers make of a job: ready, ready with one timeout more, or the same
 pub after_timers_is : (moment : ℕ) (j : Job) (P : Job → Type 0) → P (in_state states.Ready j) → P (record j { state = states.Ready; counts = with_timeout j.counts }) → P j → P (job_after_timers moment j)
-after_timers_is moment j P due expired same =
-    cond_both (is_due moment j.state) (in_state states.Ready j) (cond (is_expired moment j.state) (record j { state = states.Ready; counts = with_timeout j.counts }) j) P (λ e. due)
-    (λ e. cond_both (is_expired moment j.state) (record j { state = states.Ready; counts = with_timeout j.counts }) j P (λ f. expired) (λ f. same))
+after_timers_is moment j P due expired same = grind (arith, common_steps, cond_both)
 
 -- Timers keep it.
 pub kept_of_timers : (at : ℕ) (m : Machine) → Keeps m → Keeps (forgetting (after_timers (at_moment at m)))
@@ -78,11 +77,7 @@ pub record End (m : Machine) (given : GivenAnswer) (next : Machine) : Type 0 whe
   pub next_is : next ≡ with_seat client.number without_wait m
 
 pub end_of : (m : Machine) (given : GivenAnswer) (next : Machine) → WaitEndTurn m given next → End m given next
-end_of m given next turn = with_client (next_end m) refl turn
-  where
-    with_client : (o : Option SeatRecord) → next_end m ≡ o → MatchOption o ⊥ (λ s. (given ≡ (s.number, end_of_wait m s)) × (next ≡ with_seat s.number without_wait m)) → End m given next
-    with_client None e h = absurd h
-    with_client (Some s) e h = record { client = s; client_is = e; given_is = h.0; next_is = h.1 }
+end_of m given next turn = grind (arith, common_steps)
 
 turn_of_wait_end : (m : Machine) (given : GivenAnswer) (next : Machine) → Keeps m → WaitEndTurn m given next → IsTurn m next
 turn_of_wait_end m given next h turn =
@@ -134,10 +129,7 @@ record_kept m j t i e =
     (or_right (is_same_name t.name default_tube) (list_any (λ k. is_same_name t.name k.tube) m.jobs) here)
 
 paused_as_before : (m : Machine) (j : Job) → Contains m.jobs j → is_paused j.tube (forgetting m) ≡ is_paused j.tube m
-paused_as_before m j i =
-    ap (λ o. is_some (unwrap_or o (fresh_tube j.tube)).pause)
-    (find_in_filter (λ t. is_same_name j.tube t.name) (λ t. is_tube t.name m) m.tubes
-    (all_always (λ t. is_same_name j.tube t.name ≡ true → is_tube t.name m ≡ true) m.tubes (λ t e. record_kept m j t i e)))
+paused_as_before m j i = grind (arith, common_steps, find_in_filter, all_always, record_kept)
 
 wanted_as_before : (m : Machine) (j : Job) → Contains m.jobs j → list_any (is_waiting_for (forgetting m) j) m.seats ≡ list_any (is_waiting_for m j) m.seats
 wanted_as_before m j i = ap (λ b. list_any (λ s. is_waiting s && (is_ready j && watches j.tube s && not b)) m.seats) (paused_as_before m j i)
@@ -178,9 +170,7 @@ only_tubes m =
     (all_of_filter (λ t. Unit {0}) (λ t. is_tube t.name m) m.tubes (all_always (λ t. Unit {0}) m.tubes (λ t. tt))))
 
 counts_fit : (m : Machine) → Booked m → list_all (λ n. nat_le n greatest) (m.timeouts ∷ m.puts ∷ m.connections ∷ m.burials ∷ m.tickets ∷ []) ≡ true
-counts_fit m b =
-    list_all_from (λ n. nat_le n greatest) (m.timeouts ∷ m.puts ∷ m.connections ∷ m.burials ∷ m.tickets ∷ [])
-    (le-leb m.timeouts greatest b.timeouts_fit, (le-leb m.puts greatest b.puts_fit, (le-leb m.connections greatest b.connections_fit, (le-leb m.burials greatest b.burials_fit, (le-leb m.tickets greatest b.tickets_fit, tt)))))
+counts_fit m b = grind (arith, common_steps, list_all_from, le-leb)
 
 -- Where no job and no wait is next, the machine is lawful once tubes that are gone are forgotten.
 pub lawful_when_done : (m : Machine) → Keeps m → Booked m → next_job m ≡ None → next_end m ≡ None → IsLawful (forgetting m)

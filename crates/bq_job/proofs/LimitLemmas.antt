@@ -1,12 +1,13 @@
 -- There are never more jobs than there may be.
-use Rattle.std.proofs.Common.{ℕ, suc, ◌≡◌, ◌≤◌, Bool, false, not, cond, List, [], ◌∷◌, ◌++◌, length, length-append, arith, refl, sym, ap, ◌∙◌, subst, inl, inr, Option, Some, None}
+use Rattle.std.proofs.Common.{ℕ, suc, ◌≡◌, ◌≤◌, Bool, false, not, cond, List, [], ◌∷◌, length, arith, refl, sym, ap, ◌∙◌, subst, inl, inr, Option, Some, None}
 use Rattle.std.specs.Prelude.{filter, ◌==◌}
 use Rattle.std.specs.List.{AllByRecursion as All, Contains}
 use Rattle.std.proofs.lemmas.Bool.{cases_Bool, leb-false}
 use Rattle.std.proofs.lemmas.List.{length-map}
+use Rattle.std.proofs.lemmas.Grind.{common_steps}
 use Rattle.bq_job.specs.Types.{Job, Settings, Step}
-use Rattle.bq_job.specs.machine.{Chain, DispatchTurn, Dispatches, EndsWaits, GivenAnswer, IsHandOut, Machine.Machine, SeatRecord}
-use Rattle.bq_job.specs.machine.{WaitEndTurn, acted, after_hand_out, after_timers, at_moment, forgetting, is_full, job_after_timers}
+use Rattle.bq_job.specs.machine.{Chain, Dispatches, EndsWaits, GivenAnswer, IsHandOut, Machine.Machine, SeatRecord}
+use Rattle.bq_job.specs.machine.{acted, after_hand_out, after_timers, at_moment, forgetting, is_full, job_after_timers}
 use Rattle.bq_job.specs.machine.{new_machine, reserved_by}
 use Rattle.bq_job.specs.laws.{Part, parts_in, parts_of_run}
 use Rattle.bq_job.specs.beside.{IsLawful}
@@ -49,14 +50,10 @@ by_hand_out m j s given next (inl h) =
 by_hand_out m j s given next (inr h) = adds_none m next _ h.1 refl refl
 
 by_dispatch : (m : Machine) (given : List GivenAnswer) (n : Machine) → Dispatches m given n → AddsNone m n
-by_dispatch m given n d =
-    then_adds_none m d.end n (by_turns DispatchTurn m given d.end (λ k g l turn. let t = turn_of k g l turn in by_hand_out k t.job t.client g l t.hands) d.turns)
-    (adds_none d.end n (forgetting d.end) d.forgets refl refl)
+by_dispatch m given n d = grind (arith, common_steps, then_adds_none, by_turns, turn_of, by_hand_out, adds_none)
 
 by_ends : (m : Machine) (given : List GivenAnswer) (n : Machine) → EndsWaits m given n → AddsNone m n
-by_ends m given n w =
-    then_adds_none m w.end n (by_turns WaitEndTurn m given w.end (λ k g l turn. adds_none k l _ (end_of k g l turn).next_is refl refl) w.turns)
-    (adds_none w.end n (forgetting w.end) w.forgets refl refl)
+by_ends m given n w = grind (arith, common_steps, then_adds_none, by_turns, adds_none, end_of)
 
 by_timers : (at : ℕ) (m : Machine) → AddsNone m (forgetting (after_timers (at_moment at m)))
 by_timers at m =
@@ -64,10 +61,7 @@ by_timers at m =
 
 rest_no_longer : (p : Job → Bool) (jobs : List Job) → length (filter p jobs) ≤ length jobs
 rest_no_longer p [] = omega arith
-rest_no_longer p (j ∷ jobs) = elim (cases_Bool (p j)) [
-  | inl e ↦ rw e (omega (arith, rest_no_longer p jobs))
-  | inr e ↦ rw e (omega (arith, rest_no_longer p jobs))
-]
+rest_no_longer p (j ∷ jobs) = grind (arith, common_steps, cases_Bool, rest_no_longer p jobs)
 
 -- Where there is a place for a job, there may be one job more.
 one_more_fits : (limit : Option ℕ) (jobs : List Job) (most : ℕ) → is_full limit jobs ≡ false → limit ≡ Some most → suc (length jobs) ≤ most
@@ -80,14 +74,7 @@ by_command settings what m n same (changed f after next ids becomes) w =
     within_then settings m n w (record { same = same; fewer = let many : length n.jobs ≡ length m.jobs = ap length after ∙ length-map m.jobs f in omega arith })
 by_command settings what m n same (removed_one id told after next) w =
     within_then settings m n w (record { same = same; fewer = let many = ap length after in let less = rest_no_longer (λ k. not (k.id == id)) m.jobs in omega arith })
-by_command settings what m n same (added j after next is at_once free) w = record {
-  chosen = same ∙ w.chosen;
-  few = λ most e.
-      let fits = one_more_fits m.settings.max_jobs m.jobs most free (ap (λ (s : Settings). s.max_jobs) w.chosen ∙ e) in
-      let many : length n.jobs ≡ length (m.jobs ++ j ∷ []) = ap length after in
-      let one = length-append m.jobs (j ∷ []) in
-      omega arith;
-}
+by_command settings what m n same (added j after next is at_once free) w = grind (arith, common_steps, one_more_fits)
 
 -- the parts of a step
 within_parts : (settings : Settings) (t : Transition) → Keeps t.first → IsTransition t → IsWithin settings t.first → All (λ p. IsWithin settings p.machine) (parts_in t) × IsWithin settings t.last

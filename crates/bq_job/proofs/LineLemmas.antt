@@ -1,6 +1,7 @@
 -- The first line of a text, and of a text that goes on.
 use Rattle.std.proofs.Common.{◌≡◌, ℕ, Bool, true, false, ◌==◌, ◌&&◌, List, [], ◌∷◌, ◌++◌, Option, Some, None, ◌⊎◌, inl, inr, refl, ap, arith, option_map, if◌then◌else◌}
 use Rattle.std.proofs.lemmas.Bool.Decides.{nat_tests}
+use Rattle.std.proofs.lemmas.Grind.{common_steps}
 use Rattle.bq_job.specs.reading.Line.{first_line, onto_line, are_line_end}
 
 -- a first line ends at the first two bytes, or behind the first byte
@@ -42,10 +43,7 @@ no_end-cr a = elim (a == 13) as (λ t. (t && false) ≡ false) [ true ↦ refl |
 first_line-onto : (a b : ℕ) (bytes after other line : List ℕ) → are_line_end a b ≡ false → b ∷ bytes ≡ line ++ 13 ∷ 10 ∷ after
     → first_line (line ++ 13 ∷ 10 ∷ other) ≡ Some (line, other) → first_line (a ∷ (line ++ 13 ∷ 10 ∷ other)) ≡ Some (a ∷ line, other)
 first_line-onto a b bytes after other [] f e ih = rw (no_end-cr a)
-first_line-onto a b bytes after other (c ∷ line) f e ih =
-    let same : b ≡ c = cc in
-    let f' : are_line_end a c ≡ false = rw (← same) f in
-    rw (f', ih)
+first_line-onto a b bytes after other (c ∷ line) f e ih = grind (arith, common_steps)
 
 -- the first line is the same, whatever comes after its CR LF
 pub first_line_again : (text other : List ℕ) (l : List ℕ × List ℕ) → first_line text ≡ Some l → first_line (l.0 ++ 13 ∷ 10 ∷ other) ≡ Some (l.0, other)

@@ -1,8 +1,9 @@
 -- Jobs looked up by id in a list whose ids grow: after a change of each job, a removal and an addition.
-use Rattle.std.proofs.Common.{ℕ, suc, ◌≡◌, ◌≤◌, ◌<◌, true, false, not, cond, List, [], ◌∷◌, ◌++◌, map, arith, refl, sym, ◌∙◌, subst, inl, inr, Some, None}
+use Rattle.std.proofs.Common.{ℕ, suc, ◌≡◌, ◌≤◌, ◌<◌, false, not, cond, List, [], ◌∷◌, ◌++◌, map, arith, refl, sym, ◌∙◌, subst, inl, inr, Some, None}
 use Rattle.std.specs.Prelude.{filter, option_map, ◌==◌}
 use Rattle.std.specs.List.{AllByRecursion as All, Contains}
 use Rattle.std.proofs.lemmas.Bool.{cases_Bool, eq-eqb, eqb-true, false_from_ne_true, both_ways}
+use Rattle.std.proofs.lemmas.Grind.{common_steps}
 use Rattle.bq_job.specs.declared.job.Job.{Job}
 use Rattle.bq_job.specs.machine.{job_with}
 use Rattle.bq_job.specs.beside.{AreIdsWithin}
@@ -14,11 +15,7 @@ found_job id jobs j e = let f = found_passes (λ k. k.id == id) jobs j e in (eqb
 
 pub job_in_map : (f : Job → Job) (id : ℕ) (jobs : List Job) → ((j : Job) → (f j).id ≡ j.id) → job_with id (map f jobs) ≡ option_map f (job_with id jobs)
 job_in_map f id [] same = refl
-job_in_map f id (j ∷ jobs) same =
-    elim (cases_Bool (j.id == id)) [
-      | inl e ↦ let b : ((f j).id == id) ≡ true = subst (λ n. (n == id) ≡ true) (sym (same j)) e in rw (b, e) refl
-      | inr e ↦ let b : ((f j).id == id) ≡ false = subst (λ n. (n == id) ≡ false) (sym (same j)) e in rw (b, e) (job_in_map f id jobs same)
-    ]
+job_in_map f id (j ∷ jobs) same = grind (arith, common_steps, cases_Bool, job_in_map f id jobs same)
 
 -- a job that isn't below the first id isn't found below it
 pub none_below : (id low next : ℕ) (jobs : List Job) → id < low → AreIdsWithin low jobs next → job_with id jobs ≡ None

@@ -1,5 +1,5 @@
 -- Names in byte order, and the tubes that are listed.
-use Rattle.std.proofs.Common.{◌≡◌, ℕ, Bool, true, false, ◌&&◌, ◌||◌, if◌then◌else◌, List, [], ◌∷◌, ◌++◌, refl, sym, ap, ◌∙◌, map, append_assoc, append-nil}
+use Rattle.std.proofs.Common.{◌≡◌, ℕ, Bool, true, false, ◌&&◌, ◌||◌, if◌then◌else◌, List, [], ◌∷◌, ◌++◌, refl, sym, ap, ◌∙◌, map, append_assoc, append-nil, arith}
 use Rattle.std.proofs.Math.Bool.{or-false}
 use Rattle.std.specs.Prelude.{fold, flat_map}
 use Rattle.std.specs.List.{AllByRecursion as All, list_any}
@@ -9,8 +9,9 @@ use Rattle.std.specs.declared.cmp.Ordering.{Ordering}
 use Rattle.std.specs.declared.cmp.Ordering.TheVariants.{Less, Equal, Greater}
 use Rattle.std.proofs.lemmas.Cmp.{nat_list_cmp_total}
 use Rattle.std.proofs.lemmas.Map.Lookups.{exact_bytes}
+use Rattle.std.proofs.lemmas.Grind.{common_steps}
 use Rattle.bq_job.specs.declared.job.Job.{Job}
-use Rattle.bq_job.specs.machine.{Machine.Machine, SeatRecord, default_tube, is_name_before, is_seated_at, is_tube, seated_tubes, tubes}
+use Rattle.bq_job.specs.machine.{Machine.Machine, SeatRecord, is_name_before, is_seated_at, is_tube, seated_tubes, tubes}
 use Rattle.bq_job.specs.machine.{with_name}
 use Rattle.bq_job.specs.beside.{is_in_order}
 use Rattle.bq_job.specs.reading.TubeName.{is_same_name}
@@ -51,24 +52,11 @@ not_same a b true e h =
 -- a name that is put behind one before it
 in_order_behind : (p n : List ℕ) (names : List (List ℕ)) → is_name_before p n ≡ true → is_in_order (p ∷ names) ≡ true → is_in_order (p ∷ with_name names n) ≡ true
 in_order_behind p n [] b h = rw b refl
-in_order_behind p n (o ∷ names) b h = go (in_order_behind o n names) (is_same_name n o) (is_name_before n o) refl refl
-  where
-    go : (is_name_before o n ≡ true → is_in_order (o ∷ names) ≡ true → is_in_order (o ∷ with_name names n) ≡ true)
-        → (same before : Bool) → is_same_name n o ≡ same → is_name_before n o ≡ before
-        → is_in_order (p ∷ (if same then o ∷ names else (if before then n ∷ o ∷ names else o ∷ with_name names n))) ≡ true
-    go more true before e f = h
-    go more false true e f = let k = both (is_name_before p o) (is_in_order (o ∷ names)) h in rw (b, f) k.1
-    go more false false e f = let k = both (is_name_before p o) (is_in_order (o ∷ names)) h in rw k.0 (more (after n o e f) k.1)
+in_order_behind p n (o ∷ names) b h = grind (arith, common_steps, both, after, in_order_behind o n names)
 
 in_order_with : (n : List ℕ) (names : List (List ℕ)) → is_in_order names ≡ true → is_in_order (with_name names n) ≡ true
 in_order_with n [] h = refl
-in_order_with n (o ∷ names) h = go (is_same_name n o) (is_name_before n o) refl refl
-  where
-    go : (same before : Bool) → is_same_name n o ≡ same → is_name_before n o ≡ before
-        → is_in_order (if same then o ∷ names else (if before then n ∷ o ∷ names else o ∷ with_name names n)) ≡ true
-    go true before e f = h
-    go false true e f = rw f h
-    go false false e f = in_order_behind o n names (after n o e f) h
+in_order_with n (o ∷ names) h = grind (arith, common_steps, in_order_behind, after)
 
 pub in_order_fold : (names so_far : List (List ℕ)) → is_in_order so_far ≡ true → is_in_order (fold with_name so_far names) ≡ true
 in_order_fold [] so_far h = h
@@ -153,25 +141,12 @@ any-jobs p [] = refl
 any-jobs p (j ∷ jobs) = ap (λ b. p j.tube || b) (any-jobs p jobs)
 
 seated : (name : List ℕ) (s : SeatRecord) → list_any (is_same_name name) (seated_tubes s) ≡ is_seated_at name s
-seated name s = go s.connected
-  where
-    go : (connected : Bool) → list_any (is_same_name name) (if connected then s.used ∷ s.watched else []) ≡ (connected && (is_same_name name s.used || list_any (is_same_name name) s.watched))
-    go true = refl
-    go false = refl
+seated name s = grind (arith, common_steps)
 
 any-seats : (name : List ℕ) (seats : List SeatRecord) → list_any (is_same_name name) (flat_map seated_tubes seats) ≡ list_any (is_seated_at name) seats
 any-seats name [] = refl
-any-seats name (s ∷ seats) =
-    any-append (is_same_name name) (seated_tubes s) (flat_map seated_tubes seats)
-    ∙ ap (λ b. b || list_any (is_same_name name) (flat_map seated_tubes seats)) (seated name s)
-    ∙ ap (λ b. is_seated_at name s || b) (any-seats name seats)
+any-seats name (s ∷ seats) = grind (arith, common_steps, any-append, seated, any-seats name seats)
 
 -- a tube is listed if it exists
 pub listed : (name : List ℕ) (m : Machine) → list_any (is_same_name name) (tubes m) ≡ is_tube name m
-listed name m =
-    let p : List ℕ → Bool = is_same_name name in
-    let first : List (List ℕ) = default_tube ∷ map (λ j. j.tube) m.jobs in
-    any_fold p (first ++ flat_map seated_tubes m.seats) []
-    ∙ any-append p first (flat_map seated_tubes m.seats)
-    ∙ ap (λ b. (p default_tube || b) || list_any p (flat_map seated_tubes m.seats)) (any-jobs p m.jobs)
-    ∙ ap (λ b. (p default_tube || list_any (λ j. p j.tube) m.jobs) || b) (any-seats name m.seats)
+listed name m = grind (arith, common_steps, any_fold, any-append, any-jobs, any-seats)

@@ -1,10 +1,11 @@
 -- Before the next due moment a tick changes nothing but the moment.
 use Rattle.std.proofs.Common.{ℕ, suc, ◌≡◌, ◌<◌, ◌+◌, Bool, true, false, ◌&&◌, ◌||◌, cond, List, [], ◌∷◌, ◌++◌, map, arith, refl, sym, ap, ◌∙◌, subst, inl, inr, Option, Some, None}
-use Rattle.std.specs.Prelude.{◌-◌, ◌==◌, IsTrue, count_by, flat_map, min, nat_le, nat_lt}
+use Rattle.std.specs.Prelude.{◌-◌, ◌==◌, IsTrue, count_by, flat_map, nat_le, nat_lt}
 use Rattle.std.specs.List.{AllByRecursion as All, Contains}
-use Rattle.std.proofs.Math.Nat.{min-eq_left, min-le_left, min-le_right}
+use Rattle.std.proofs.Math.Nat.{min-eq_left}
 use Rattle.std.proofs.lemmas.Bool.{cases_Bool, and_from, or_parts, eq-eqb, eqb-true, le-leb, leb-true}
 use Rattle.std.proofs.lemmas.Bool.Decides.{leb_tells}
+use Rattle.std.proofs.lemmas.Grind.{common_steps}
 use Rattle.bq_job.specs.Types.{Job, JobState}
 use Rattle.bq_job.specs.declared.job.JobState.TheVariants as states
 use Rattle.bq_job.specs.declared.step.Step.TheVariants as steps
@@ -26,10 +27,7 @@ not_le a b h = elim (leb_tells a b) [ inl e ↦ absurd (let k = e.1 in omega ari
 -- what is before the least is before all
 before_both : (moment due : ℕ) (o : Option ℕ) → nat_lt moment (earlier due o) ≡ true → (moment < due) × (is_before moment o ≡ true)
 before_both moment due None h = let k = leb-true (suc moment) due h in (omega arith, refl)
-before_both moment due (Some other) h =
-    let k = leb-true (suc moment) (min due other) h in
-    let a = min-le_left due other in let b = min-le_right due other in
-    (omega arith, le-leb (suc moment) other (omega arith))
+before_both moment due (Some other) h = grind (arith, common_steps, leb-true, le-leb)
 
 abbrev IsLater : ℕ → ℕ → Type 0
 IsLater moment due = moment < due

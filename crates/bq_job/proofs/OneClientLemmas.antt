@@ -1,10 +1,11 @@
 -- What the parts of a step give to one client: turns of dispatch and ends of waits give it what it waits
 -- for, and the command's own effect gives it the answer, or makes it wait.
-use Rattle.std.proofs.Common.{ℕ, zero, suc, ◌≡◌, ◌≤◌, ◌<◌, ◌+◌, Bool, true, false, ◌&&◌, cond, List, [], ◌∷◌, ◌++◌, map, length, length-append, arith, refl, sym, ap, ◌∙◌, subst, inl, inr, Some}
+use Rattle.std.proofs.Common.{ℕ, zero, suc, ◌≡◌, ◌≤◌, ◌<◌, ◌+◌, Bool, true, false, ◌&&◌, cond, List, [], ◌∷◌, ◌++◌, map, length, arith, refl, sym, ap, ◌∙◌, subst, inl, inr, Some}
 use Rattle.std.specs.Prelude.{◌==◌}
 use Rattle.std.specs.List.{AllByRecursion as All, Contains, list_any}
 use Rattle.std.proofs.lemmas.Bool.{cases_Bool, and_from, and_right, or_from, cond_both, eq-eqb, eqb-true, eqb-false}
 use Rattle.std.proofs.lemmas.List.Folds.{list_any-append}
+use Rattle.std.proofs.lemmas.Grind.{common_steps}
 use Rattle.bq_job.specs.Types.{Answer, Job}
 use Rattle.bq_job.specs.declared.answer.Answer.TheVariants as answers
 use Rattle.bq_job.specs.machine.{Chain, DispatchTurn, GivenAnswer, IsHandOut, Machine.Machine, SeatRecord, Serves, WaitEndTurn, end_of_wait}
@@ -43,24 +44,13 @@ passes_itself seat seats = record { count = omega arith; unclosed = refl; connec
 
 pub answers_append : (seat : ℕ) (xs ys : List GivenAnswer) → answers_to seat (xs ++ ys) ≡ answers_to seat xs ++ answers_to seat ys
 answers_append seat [] ys = refl
-answers_append seat (g ∷ xs) ys =
-    elim (cases_Bool (g.0 == seat)) [
-      | inl e ↦ rw e (ap (λ more. g.1 ∷ more) (answers_append seat xs ys))
-      | inr e ↦ rw e (answers_append seat xs ys)
-    ]
+answers_append seat (g ∷ xs) ys = grind (arith, common_steps, cases_Bool, answers_append seat xs ys)
 
 pub unclosed_append : (xs ys : List Answer) → has_closed xs ≡ false → has_closed ys ≡ false → has_closed (xs ++ ys) ≡ false
 unclosed_append xs ys h i = list_any-append is_closed_answer xs ys ∙ or_from (has_closed xs) (has_closed ys) h i
 
 passes_then : (seat : ℕ) (first next last : List SeatRecord) (xs ys : List GivenAnswer) → Passes seat first next xs → Passes seat next last ys → Passes seat first last (xs ++ ys)
-passes_then seat first next last xs ys h i = record {
-  count = let long : length (answers_to seat (xs ++ ys)) ≡ length (answers_to seat xs) + length (answers_to seat ys) = ap length (answers_append seat xs ys) ∙ simp length-append in
-      let a = h.count in let b = i.count in omega arith;
-  unclosed = ap has_closed (answers_append seat xs ys) ∙ unclosed_append (answers_to seat xs) (answers_to seat ys) h.unclosed i.unclosed;
-  connected = i.connected ∙ h.connected;
-  ended = i.ended ∙ h.ended;
-  numbers = i.numbers ∙ h.numbers;
-}
+passes_then seat first next last xs ys h i = grind (arith, common_steps, answers_append, unclosed_append)
 
 -- tests that agree on each element and its change
 any_of_map : {X : Type 0} (p q : X → Bool) (f : X → X) (xs : List X) → ((x : X) → q (f x) ≡ p x) → list_any q (map f xs) ≡ list_any p xs
@@ -83,30 +73,17 @@ unwaited_itself seat seats =
 
 -- another's wait is over
 unwaited_another : (seat number : ℕ) (seats : List SeatRecord) → (number == seat) ≡ false → waits_in seat (map (unwaited number) seats) ≡ waits_in seat seats
-unwaited_another seat number seats other =
-    any_of_map (λ s. s.number == seat && is_waiting s) (λ s. s.number == seat && is_waiting s) (unwaited number) seats
-    (λ s. cond_both (s.number == number) (without_wait s) s (λ t. (t.number == seat && is_waiting t) ≡ (s.number == seat && is_waiting s))
-    (λ e.
-    let elsewhere : (s.number == seat) ≡ false = subst (λ n. (n == seat) ≡ false) (sym (eqb-true s.number number e)) other in
-    rw elsewhere refl)
-    (λ e. refl))
+unwaited_another seat number seats other = grind (arith, common_steps, any_of_map, cond_both, eqb-true)
 
 -- a wait that is over changes nothing else
 unwaited_connected : (seat number : ℕ) (seats : List SeatRecord) → connected_in seat (map (unwaited number) seats) ≡ connected_in seat seats
-unwaited_connected seat number seats =
-    any_of_map (λ s. s.number == seat && s.connected) (λ s. s.number == seat && s.connected) (unwaited number) seats
-    (λ s. cond_both (s.number == number) (without_wait s) s (λ t. (t.number == seat && t.connected) ≡ (s.number == seat && s.connected)) (λ e. refl) (λ e. refl))
+unwaited_connected seat number seats = grind (arith, common_steps, any_of_map, cond_both)
 
 unwaited_ended : (seat number : ℕ) (seats : List SeatRecord) → ended_in seat (map (unwaited number) seats) ≡ ended_in seat seats
-unwaited_ended seat number seats =
-    any_of_map (λ s. s.number == seat && s.ended) (λ s. s.number == seat && s.ended) (unwaited number) seats
-    (λ s. cond_both (s.number == number) (without_wait s) s (λ t. (t.number == seat && t.ended) ≡ (s.number == seat && s.ended)) (λ e. refl) (λ e. refl))
+unwaited_ended seat number seats = grind (arith, common_steps, any_of_map, cond_both)
 
 unwaited_numbers : (number : ℕ) (seats : List SeatRecord) → map (λ s. s.number) (map (unwaited number) seats) ≡ map (λ s. s.number) seats
-unwaited_numbers number seats =
-    keys_of_map (λ s. s.number) (unwaited number) seats
-    (all_always (λ s. (unwaited number s).number ≡ s.number) seats
-    (λ s. cond_both (s.number == number) (without_wait s) s (λ t. t.number ≡ s.number) (λ e. refl) (λ e. refl)))
+unwaited_numbers number seats = grind (arith, common_steps, keys_of_map, all_always, cond_both)
 
 -- One who waits is answered, and waits no longer.
 passes_turn : (seat : ℕ) (seats : List SeatRecord) (s : SeatRecord) (answer : Answer) → Contains seats s → is_waiting s ≡ true → is_closed_answer answer ≡ false → Passes seat seats (map (unwaited s.number) seats) ((s.number, answer) ∷ [])
@@ -191,16 +168,7 @@ pub record Found (seat : ℕ) (seats : List SeatRecord) : Type 0 where
 -- A test of the client at the seat is a test of its record.
 found_any : (seat : ℕ) (seats : List SeatRecord) (s : SeatRecord) (p : SeatRecord → Bool) → s.number ≡ seat → Contains seats s → All (λ t. t.number ≡ seat → t ≡ s) seats → list_any (λ t. t.number == seat && p t) seats ≡ p s
 found_any seat seats s p is there alone =
-    elim (cases_Bool (p s)) [
-      | inl e ↦ list_any_with (λ t. t.number == seat && p t) seats s there (and_from (s.number == seat) (p s) (eq-eqb s.number seat is) e) ∙ sym e
-      | inr e ↦
-          list_any_not (λ t. t.number == seat && p t) seats
-          (all_weaker (λ t. t.number ≡ seat → t ≡ s) (λ t. (t.number == seat && p t) ≡ false) seats
-          (λ t only. elim (cases_Bool (t.number == seat)) [
-            | inl b ↦ and_right (t.number == seat) (p t) (ap p (only (eqb-true t.number seat b)) ∙ e)
-            | inr b ↦ rw b refl
-          ]) alone) ∙ sym e
-    ]
+    grind (arith, common_steps, cases_Bool, list_any_with, and_from, eq-eqb, list_any_not, all_weaker, and_right, eqb-true)
 
 -- Where there are enough seats one is found.
 finds_seat : (low n seat : ℕ) (seats : List SeatRecord) → map (λ s. s.number) seats ≡ numbers low n → low ≤ seat → seat < low + n → (s : SeatRecord) × (seat_with seat seats ≡ Some s)
@@ -257,17 +225,8 @@ changed_some f q seats s there same passes =
 
 -- A change that leaves the number and the answer to a test leaves the test of every seat.
 pub changed_quiet : (seat number : ℕ) (f : SeatRecord → SeatRecord) (q : SeatRecord → Bool) (seats : List SeatRecord) → ((s : SeatRecord) → (f s).number ≡ s.number) → ((s : SeatRecord) → q (f s) ≡ q s) → list_any (λ s. s.number == seat && q s) (changed number f seats) ≡ list_any (λ s. s.number == seat && q s) seats
-changed_quiet seat number f q seats same as_before =
-    any_of_map (λ s. s.number == seat && q s) (λ s. s.number == seat && q s) (λ s. cond (s.number == number) (f s) s) seats
-    (λ s. cond_both (s.number == number) (f s) s (λ t. (t.number == seat && q t) ≡ (s.number == seat && q s)) (λ e. ap (λ n. n == seat && q (f s)) (same s) ∙ ap (λ b. s.number == seat && b) (as_before s)) (λ e. refl))
+changed_quiet seat number f q seats same as_before = grind (arith, common_steps, any_of_map, cond_both)
 
 -- A change of another seat leaves the test of this one.
 pub changed_elsewhere : (client number : ℕ) (f : SeatRecord → SeatRecord) (q : SeatRecord → Bool) (seats : List SeatRecord) → (number == client) ≡ false → ((s : SeatRecord) → (f s).number ≡ s.number) → list_any (λ s. s.number == client && q s) (changed number f seats) ≡ list_any (λ s. s.number == client && q s) seats
-changed_elsewhere client number f q seats other same =
-    any_of_map (λ s. s.number == client && q s) (λ s. s.number == client && q s) (λ s. cond (s.number == number) (f s) s) seats
-    (λ s. cond_both (s.number == number) (f s) s (λ t. (t.number == client && q t) ≡ (s.number == client && q s))
-    (λ e.
-    let elsewhere : (s.number == client) ≡ false = subst (λ n. (n == client) ≡ false) (sym (eqb-true s.number number e)) other in
-    let there : ((f s).number == client) ≡ false = subst (λ n. (n == client) ≡ false) (sym (same s)) elsewhere in
-    rw (elsewhere, there) refl)
-    (λ e. refl))
+changed_elsewhere client number f q seats other same = grind (arith, common_steps, any_of_map, cond_both, eqb-true)

@@ -6,8 +6,9 @@ use Rattle.std.proofs.lemmas.Bool.{cases_Bool, or_parts, or_from, both_ways, eqb
 use Rattle.std.proofs.lemmas.Bool.Decides.{nat_tests}
 use Rattle.std.proofs.lemmas.List.Elements.{Contains-append_cases}
 use Rattle.std.proofs.lemmas.List.Folds.{list_any-append}
+use Rattle.std.proofs.lemmas.Grind.{common_steps}
 use Rattle.bq_job.specs.declared.job.Job.{Job}
-use Rattle.bq_job.specs.machine.{Machine.Machine, is_job_before, is_pair_before, is_ready, job_with, reserved_by}
+use Rattle.bq_job.specs.machine.{Machine.Machine, is_job_before, is_ready, job_with, reserved_by}
 use Rattle.bq_job.specs.laws.{Happening, Part, buried, comes_first, deleted, disturbs, expired, given_back, handed_out, happenings}
 use Rattle.bq_job.specs.laws.{is_hand_out, is_put, put, released, reserved_by_id}
 use Rattle.bq_job.proofs.JobMoves.{Fate, IsHandOutMove, IsPutMove, IsQuiet, Move, Moves, quiet, putting, handing, is_plain}
@@ -24,10 +25,7 @@ comes_behind one other (x ∷ happened) more h i =
     rw (a.0, b.0) (comes_behind one other happened more a.1 b.1)
 
 contained_put : (j : Job) (x : Happening) (more : List Happening) → Contains (x ∷ more) (put j) → (x ≡ put j) ⊎ Contains more (put j)
-contained_put j x more h = elim (Contains-append_cases (x ∷ []) more (put j) h) [ inl e ↦ inl (only e) | inr e ↦ inr e ]
-  where
-    only : Contains (x ∷ []) (put j) → x ≡ put j
-    only i = all_at (λ y. x ≡ y) (x ∷ []) (put j) (refl, tt) i
+contained_put j x more h = grind (arith, common_steps, Contains-append_cases, all_at)
 
 plain_has_no_put : (j : Job) (happened : List Happening) → All (λ h. is_plain h ≡ true) happened → Contains happened (put j) → ⊥
 plain_has_no_put j happened plain i = let e : is_plain (put j) ≡ true = all_at (λ h. is_plain h ≡ true) happened (put j) plain i in absurd cc
@@ -58,14 +56,7 @@ put_behind j m n happened more move h = elim (Contains-append_cases happened mor
 
 -- a put that comes with a put, or later
 pub put_now_or_behind : (j : Job) (m n : Machine) (happened more : List Happening) (p : IsPutMove m happened n) → Contains (happened ++ more) (put j) → (p.job ≡ j) ⊎ Contains more (put j)
-put_now_or_behind j m n happened more p h =
-    elim (contained_put j (put p.job) more (subst (λ hs. Contains (hs ++ more) (put j)) p.happened_is h)) [
-      | inl e ↦ inl (same_job p.job j e)
-      | inr e ↦ inr e
-    ]
-  where
-    same_job : (a b : Job) → put a ≡ put b → a ≡ b
-    same_job a b e = (cc)
+put_now_or_behind j m n happened more p h = grind (arith, common_steps, contained_put)
 
 -- A job that is put later gets an id that isn't given yet.
 pub put_above : (j : Job) (m n : Machine) (parts : List Part) → Moves m parts n → Contains (happenings parts) (put j) → m.next_id ≤ j.id
@@ -127,24 +118,10 @@ pub data Stands (j : Job) (m : Machine) (more : List Happening) : Type 0 where
 
 ready_after_fate : (j : Job) (m n : Machine) (happened more : List Happening) (r : IsReadyAs j m) (o : Option Job) → job_with j.id n.jobs ≡ o → n.next_id ≡ m.next_id → Fate j.id happened (Some r.job) o → list_any (disturbs j.id) happened ≡ false → Stands j n more
 ready_after_fate j m n happened more r None e next fate still = spent (let less = r.below in omega arith, subst IsNotFree (sym e) tt)
-ready_after_fate j m n happened more r (Some k) e next fate still =
-    let on = fate.ready r.ready still in
-    waits (record {
-      job = k;
-      there = e;
-      below = let less = r.below in omega arith;
-      ready = on.0;
-      pri = on.1 ∙ r.pri;
-      tube = fate.tube ∙ r.tube;
-    })
+ready_after_fate j m n happened more r (Some k) e next fate still = grind (arith, common_steps)
 
 ready_mapped : (j : Job) (m n : Machine) (more : List Happening) (r : IsReadyAs j m) (id moment seat : ℕ) → n.next_id ≡ m.next_id → job_with j.id n.jobs ≡ Some (cond (r.job.id == id) (reserved_by moment seat r.job) r.job) → Stands j n more
-ready_mapped j m n more r id moment seat next e =
-    let less = r.below in
-    elim (cases_Bool (r.job.id == id)) [
-      | inl f ↦ spent (omega arith, subst IsNotFree (sym (rw f at e)) refl)
-      | inr f ↦ waits (record { job = r.job; there = rw f at e; below = omega arith; ready = r.ready; pri = r.pri; tube = r.tube })
-    ]
+ready_mapped j m n more r id moment seat next e = grind (arith, common_steps, cases_Bool)
 
 -- where it stands after a move
 stands_after : (j : Job) (m n k : Machine) (happened : List Happening) (parts : List Part) → Move m happened n → Moves n parts k → j.delay ≡ 0 → list_any (disturbs j.id) happened ≡ false → Stands j m (happened ++ happenings parts) → Stands j n (happenings parts)
@@ -178,27 +155,12 @@ stands_after j m n k happened parts (putting p) moves now still (unborn above i)
 
 -- The least job of one tube and priority has the least id.
 least_by_id : (a b k job : Job) → k.pri ≡ a.pri → k.id ≡ a.id → job.pri ≡ b.pri → job.id ≡ b.id → a.pri ≡ b.pri → a.id < b.id → is_job_before k job ≡ true
-least_by_id a b k job p q r s same less =
-    let pri : k.pri ≡ job.pri = p ∙ same ∙ sym r in
-    let ids : k.id < job.id = (omega arith) in
-    before k.pri job.pri k.id job.id pri ids
-  where
-    before : (x y i j : ℕ) → x ≡ y → i < j → is_pair_before x i y j ≡ true
-    before x y i j e l = grind (arith, nat_tests)
+least_by_id a b k job p q r s same less = grind (arith, common_steps, nat_tests)
 
 -- While one job waits, no other of its tube and priority with a greater id is handed out.
 not_before_its_turn : (a b : Job) (m n : Machine) (happened more : List Happening) (h : IsHandOutMove m happened n) → a.pri ≡ b.pri → a.tube ≡ b.tube → a.id < b.id → h.job.id ≡ b.id → Stands b m more → IsReadyAs a m → ⊥
-not_before_its_turn a b m n happened more h pri tube less is (spent s) r =
-    let there : job_with b.id m.jobs ≡ Some h.job = subst (λ id. job_with id m.jobs ≡ Some h.job) is h.there in
-    held_is_not_ready h.job h.ready (subst IsNotFree there s.1)
-not_before_its_turn a b m n happened more h pri tube less is (waits s) r =
-    let there : job_with b.id m.jobs ≡ Some h.job = subst (λ id. job_with id m.jobs ≡ Some h.job) is h.there in
-    let both : Some s.job ≡ Some h.job = sym s.there ∙ there in
-    let same : s.job ≡ h.job = (cc) in
-    let found = found_job a.id m.jobs r.job r.there in
-    let tubes : r.job.tube ≡ h.job.tube = r.tube ∙ tube ∙ sym s.tube ∙ ap (λ (k : Job). k.tube) same in
-    let pris : h.job.pri ≡ b.pri = ap (λ (k : Job). k.pri) (sym same) ∙ s.pri in
-    both_ways (is_job_before r.job h.job) (h.least r.job found.1 r.ready tubes) (least_by_id a b r.job h.job r.pri found.0 pris is pri less)
+not_before_its_turn a b m n happened more h pri tube less is (spent s) r = grind (arith, common_steps, held_is_not_ready)
+not_before_its_turn a b m n happened more h pri tube less is (waits s) r = grind (arith, common_steps, found_job, both_ways, least_by_id)
 not_before_its_turn a b m n happened more h pri tube less is (unborn above i) r = let below = h.below in omega arith
 
 -- of two jobs that stand so, the first is handed out first

@@ -1,13 +1,14 @@
 -- Where no share of a body is refused, a step has one result.
-use Rattle.std.proofs.Common.{ℕ, ◌≡◌, Bool, true, false, ◌||◌, List, [], ◌∷◌, refl, sym, ap, ◌∙◌, subst, inl, inr, Option, Some, None}
+use Rattle.std.proofs.Common.{ℕ, ◌≡◌, Bool, true, false, ◌||◌, List, [], ◌∷◌, refl, sym, ap, ◌∙◌, subst, inl, inr, Option, Some, None, arith}
 use Rattle.std.specs.List.{list_any}
 use Rattle.std.proofs.lemmas.Bool.{or_parts}
+use Rattle.std.proofs.lemmas.Grind.{common_steps}
 use Rattle.bq_job.specs.declared.answer.Answer.TheVariants as answers
 use Rattle.bq_job.specs.Types.{Job, Step}
 use Rattle.bq_job.specs.machine.{Chain, DispatchTurn, Effect, GivenAnswer, IsHandOut, IsStep, Machine.Machine, Memory, Outcome, SeatRecord}
-use Rattle.bq_job.specs.machine.{Serves, WaitEndTurn, acted, after_hand_out, after_timers, at_moment, end_of_wait, forgetting, granted}
+use Rattle.bq_job.specs.machine.{Serves, WaitEndTurn, acted, after_hand_out, after_timers, at_moment, forgetting, granted}
 use Rattle.bq_job.specs.machine.{growth_refused, has_refused_share, is_growth_refused, is_out_of_memory, is_share_refused, next_end}
-use Rattle.bq_job.specs.machine.{next_job, next_seat, share_refused, with_seat, without_wait}
+use Rattle.bq_job.specs.machine.{next_job, share_refused}
 use Rattle.bq_job.specs.beside.{ample, stepped}
 use Rattle.bq_job.proofs.ComputedLemmas.{stepped_is_step}
 use Rattle.bq_job.proofs.DispatchLemmas.{turn_of}
@@ -26,26 +27,10 @@ same_some : {A : Type 0} (o : Option A) (x y : A) → o ≡ Some x → o ≡ Som
 same_some o x y e f = let k : Some x ≡ Some y = sym e ∙ f in cc
 
 dispatch_one : (m : Machine) (g h : GivenAnswer) (n o : Machine) → is_out_of_memory g.1 ≡ false → is_out_of_memory h.1 ≡ false → DispatchTurn m g n → DispatchTurn m h o → IsSame g h n o
-dispatch_one m g h n o e f a b =
-    let t = turn_of m g n a in
-    let u = turn_of m h o b in
-    let job : t.job ≡ u.job = same_some (next_job m) t.job u.job t.job_is u.job_is in
-    let other : next_seat m t.job ≡ Some u.client = ap (next_seat m) job ∙ u.client_is in
-    let client : t.client ≡ u.client = same_some (next_seat m t.job) t.client u.client t.client_is other in
-    let x = hand_out_is m t.job t.client g n e t.hands in
-    let y = hand_out_is m u.job u.client h o f u.hands in (
-      x.0 ∙ ap (λ (j : Job). (t.client.number, answers.Reserved j.id j.body)) job ∙ ap (λ (s : SeatRecord). (s.number, answers.Reserved u.job.id u.job.body)) client ∙ sym y.0,
-      x.1 ∙ ap (λ (j : Job). after_hand_out m j t.client) job ∙ ap (after_hand_out m u.job) client ∙ sym y.1,
-    )
+dispatch_one m g h n o e f a b = grind (arith, common_steps, turn_of, same_some, hand_out_is)
 
 wait_end_one : (m : Machine) (g h : GivenAnswer) (n o : Machine) → WaitEndTurn m g n → WaitEndTurn m h o → IsSame g h n o
-wait_end_one m g h n o a b =
-    let t = end_of m g n a in
-    let u = end_of m h o b in
-    let client : t.client ≡ u.client = same_some (next_end m) t.client u.client t.client_is u.client_is in (
-      t.given_is ∙ ap (λ (s : SeatRecord). (s.number, end_of_wait m s)) client ∙ sym u.given_is,
-      t.next_is ∙ ap (λ (s : SeatRecord). with_seat s.number without_wait m) client ∙ sym u.next_is,
-    )
+wait_end_one m g h n o a b = grind (arith, common_steps, end_of, same_some)
 
 no_dispatch : (m : Machine) (g : GivenAnswer) (n : Machine) → next_job m ≡ None → DispatchTurn m g n → ⊥
 no_dispatch m g n e turn = let t = turn_of m g n turn in let k = t.job_is in absurd (let both : None ≡ Some t.job = sym e ∙ k in cc)

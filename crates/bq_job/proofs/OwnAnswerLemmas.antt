@@ -1,7 +1,8 @@
 -- The answers of a step: which part gives RESERVED, INSERTED and DELETED, and that draining never ends.
-use Rattle.std.proofs.Common.{ℕ, ◌≡◌, Bool, true, false, ◌||◌, not, List, refl, ap, subst, inl, inr, ◌⊎◌, Some}
+use Rattle.std.proofs.Common.{ℕ, ◌≡◌, true, false, ◌||◌, not, List, refl, ap, subst, inl, inr, ◌⊎◌, Some, arith}
 use Rattle.std.specs.Prelude.{filter, nat_le, ◌==◌}
 use Rattle.std.proofs.lemmas.Bool.{or_left, or_right}
+use Rattle.std.proofs.lemmas.Grind.{common_steps}
 use Rattle.bq_job.specs.Types.{Answer, Job, Request, Step}
 use Rattle.bq_job.specs.declared.answer.Answer.TheVariants as answers
 use Rattle.bq_job.specs.declared.request.Request.TheVariants as requests
@@ -19,11 +20,7 @@ pub data Tells (m : Machine) (seat : ℕ) (what : Step) (e : Effect) : Type 0 wh
   deleting : (id : ℕ) (j : Job) → what ≡ steps.Ask (requests.Delete id) → job_with id m.jobs ≡ Some j → (is_reserved j.state ≡ false) ⊎ (is_held_by seat j ≡ true) → e.answer ≡ Some answers.Deleted → e.machine.jobs ≡ filter (λ k. not (k.id == j.id)) m.jobs → Tells m seat what e
 
 free_or_held : (seat : ℕ) (j : Job) → (not (is_reserved j.state) || is_held_by seat j) ≡ true → (is_reserved j.state ≡ false) ⊎ (is_held_by seat j ≡ true)
-free_or_held seat j h = of_bool (is_reserved j.state) h
-  where
-    of_bool : (b : Bool) → (not b || is_held_by seat j) ≡ true → (b ≡ false) ⊎ (is_held_by seat j ≡ true)
-    of_bool false h = inl refl
-    of_bool true h = inr h
+free_or_held seat j h = grind (arith, common_steps)
 
 tells_done : (m : Machine) (seat : ℕ) (request : Request) (answer : Answer) (n : Machine) → SaysDone request answer → Tells m seat (steps.Ask request) (telling answer n)
 tells_done m seat request answer n says = elim says.own [
@@ -69,11 +66,4 @@ drains_kind request m s (changes_seat answer f says changes) d = d
 drains_kind request m s (changes_tube tube seconds one) d = d
 
 pub drains_acted : (memory : Memory) (m : Machine) (seat : ℕ) (what : Step) → m.draining ≡ true → (acted memory m seat what).machine.draining ≡ true
-drains_acted memory m seat what d = each_acted m seat (λ what e. Drains e) (record {
-  nothing = λ what. d;
-  connects = λ s is. d;
-  asks = λ request s is c w. drains_kind request m s (kind_of request m s) d;
-  ends = λ s is. d;
-  closes = λ s is. d;
-  drains = refl;
-}) (λ what. d) memory what
+drains_acted memory m seat what d = grind (arith, common_steps, each_acted, drains_kind, kind_of)

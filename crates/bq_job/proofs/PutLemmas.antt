@@ -1,6 +1,7 @@
 -- What a put does: one of three things.
-use Rattle.std.proofs.Common.{ℕ, ◌≡◌, true, false, List, cond}
+use Rattle.std.proofs.Common.{ℕ, ◌≡◌, true, false, List, arith}
 use Rattle.std.proofs.lemmas.Bool.{cond_both}
+use Rattle.std.proofs.lemmas.Grind.{common_steps}
 use Rattle.bq_job.specs.declared.answer.Answer.TheVariants as answers
 use Rattle.bq_job.specs.machine.{Effect, Machine.Machine, SeatRecord, after_put, is_full, new_job, put_effect, telling}
 
@@ -11,7 +12,4 @@ pub each_put : (pri delay ttr : ℕ) (body : List ℕ) (m : Machine) (s : SeatRe
     → (m.draining ≡ false → is_full m.settings.max_jobs m.jobs ≡ true → P (telling answers.OutOfMemory m))
     → (m.draining ≡ false → is_full m.settings.max_jobs m.jobs ≡ false → P (telling (answers.Inserted m.next_id) (after_put m (new_job m s pri delay ttr body))))
     → P (put_effect pri delay ttr body m s)
-each_put pri delay ttr body m s P drains full accepted =
-    let done = telling (answers.Inserted m.next_id) (after_put m (new_job m s pri delay ttr body)) in
-    cond_both m.draining (telling answers.Draining m) (cond (is_full m.settings.max_jobs m.jobs) (telling answers.OutOfMemory m) done) P drains
-    (λ d. cond_both (is_full m.settings.max_jobs m.jobs) (telling answers.OutOfMemory m) done P (full d) (accepted d))
+each_put pri delay ttr body m s P drains full accepted = grind (arith, common_steps, cond_both)

@@ -1,8 +1,9 @@
 -- Parts of a step in which nothing happens.
-use Rattle.std.proofs.Common.{◌≡◌, true, List, [], ◌∷◌, refl, ap, ◌∙◌, subst, Option, None}
+use Rattle.std.proofs.Common.{◌≡◌, true, List, [], ◌∷◌, refl, ap, subst, Option, None, arith}
 use Rattle.std.specs.Prelude.{MatchOption}
 use Rattle.std.specs.List.{list_all}
-use Rattle.bq_job.specs.machine.{Chain, DispatchTurn, GivenAnswer, Machine.Machine, Serves, TubeRecord, WaitEndTurn, forgetting, is_tube}
+use Rattle.std.proofs.lemmas.Grind.{common_steps}
+use Rattle.bq_job.specs.machine.{Chain, GivenAnswer, Machine.Machine, Serves, TubeRecord, forgetting, is_tube}
 use Rattle.bq_job.specs.machine.{next_end, next_job}
 use Rattle.bq_job.proofs.ListLemmas.{all_pass, filter_all}
 
@@ -25,11 +26,4 @@ pub record IsQuiet (first : Machine) (handed ended : List GivenAnswer) (last : M
 
 -- Where no job and no wait is next, nobody is served.
 pub serves_nobody : (first : Machine) (handed ended : List GivenAnswer) (last : Machine) → next_job first ≡ None → next_end first ≡ None → forgetting first ≡ first → Serves first handed ended last → IsQuiet first handed ended last
-serves_nobody first handed ended last jobs ends kept s =
-    let d = s.dispatches in
-    let e = s.ends_waits in
-    let a = none_in_chain DispatchTurn first handed d.end (λ g n. no_turn_of (next_job first) _ jobs) d.turns in
-    let between : s.between ≡ first = d.forgets ∙ ap forgetting a.1 ∙ kept in
-    let turns : Chain WaitEndTurn first ended e.end = subst (λ (m : Machine). Chain WaitEndTurn m ended e.end) between e.turns in
-    let b = none_in_chain WaitEndTurn first ended e.end (λ g n. no_turn_of (next_end first) _ ends) turns in
-    record { none_handed = a.0; none_ended = b.0; same = e.forgets ∙ ap forgetting b.1 ∙ kept }
+serves_nobody first handed ended last jobs ends kept s = grind (arith, common_steps, none_in_chain, no_turn_of)

@@ -1,5 +1,5 @@
 -- Every text has one reading.
-use Rattle.std.proofs.Common.{◌≡◌, ℕ, zero, suc, ◌≤◌, Bool, true, false, List, [], ◌∷◌, ◌++◌, Option, Some, None, ◌⊎◌, inl, inr, refl, sym, ap, ◌∙◌, arith, length, length-append, append_assoc, append-nil, IsTrue, not, ◌&&◌}
+use Rattle.std.proofs.Common.{◌≡◌, ℕ, zero, suc, ◌≤◌, Bool, true, false, List, [], ◌∷◌, ◌++◌, Option, Some, None, ◌⊎◌, inl, inr, refl, sym, ap, ◌∙◌, arith, length, length-append, append_assoc, IsTrue, not, ◌&&◌}
 use Rattle.std.proofs.lemmas.Grind.{common_steps}
 use Rattle.bq_job.specs.reading.Reading.{Reads, AreUnits, IsUnit, BeginsNoUnit, is_quit, quits_last, ends_by_quit}
 use Rattle.bq_job.specs.beside.{AreSameRequests, IsSameRequest, first_unit, had_memory, onto_reading, reading, reading_within}
@@ -23,13 +23,7 @@ Reads-none size text none = record { units = []; text_is = refl; are_units = ref
 
 -- a reading of a quit
 pub Reads-quit : (size : ℕ) (text unit after : List ℕ) (r : Request) → text ≡ unit ++ after → IsUnit size unit r → is_quit r ≡ true → Reads size text (r ∷ []) after
-Reads-quit size text unit after r is u q = record {
-  units = unit;
-  text_is = is;
-  are_units = (unit, [], sym (append-nil unit), u, refl);
-  last_quits = refl;
-  ended = inl q;
-}
+Reads-quit size text unit after r is u q = grind (arith, common_steps)
 
 -- a unit in front of a text that is read
 pub Reads-onto : (size : ℕ) (text unit after rest : List ℕ) (r : Request) (requests : List Request)
@@ -177,10 +171,4 @@ Reads-unique size text firsts seconds rest other a b =
 -- behind a quit nothing more is read
 pub Reads-more : (size : ℕ) (text more : List ℕ) (requests : List Request) (rest : List ℕ) → Reads size text requests rest → IsTrue (ends_by_quit requests)
     → Reads size (text ++ more) requests (rest ++ more)
-Reads-more size text more requests rest read quit = record {
-  units = read.units;
-  text_is = rw read.text_is (append_assoc read.units rest more);
-  are_units = read.are_units;
-  last_quits = read.last_quits;
-  ended = inl quit;
-}
+Reads-more size text more requests rest read quit = grind (arith, common_steps)

@@ -1,16 +1,17 @@
 -- What is kept beside jobs through a step: counts stay within their end, what is kept of tubes stays in
 -- order, and each seat watches at least one tube and none twice.
-use Rattle.std.proofs.Common.{ℕ, ◌≡◌, ◌≤◌, ◌+◌, Bool, true, cond, List, [], ◌∷◌, map, refl, sym, ap, ◌∙◌, subst, inl, inr, Option, Some, None}
-use Rattle.std.specs.Prelude.{MatchOption, nat_le, filter, ◌==◌}
+use Rattle.std.proofs.Common.{ℕ, ◌≡◌, ◌≤◌, ◌+◌, Bool, true, cond, List, [], ◌∷◌, map, refl, sym, ap, ◌∙◌, subst, inl, inr, Option, arith}
+use Rattle.std.specs.Prelude.{nat_le, filter}
 use Rattle.std.specs.Cmp.Lexicographic.{bytes_decides}
 use Rattle.std.specs.List.{AllByRecursion as All}
 use Rattle.std.proofs.Math.Nat.{min-le_right}
 use Rattle.std.proofs.lemmas.Bool.{cases_Bool, cond_both, leb-true}
+use Rattle.std.proofs.lemmas.Grind.{common_steps}
 use Rattle.bq_job.specs.Types.{Job, Request, Step}
 use Rattle.bq_job.specs.machine.{Chain, DispatchTurn, Effect, GivenAnswer, IsHandOut, Machine.Machine, Memory, SeatRecord, Serves}
 use Rattle.bq_job.specs.machine.{TubeRecord, WaitEndTurn, acted, after_close, after_connect, after_timers, at_moment, empty_seat}
-use Rattle.bq_job.specs.machine.{end_of_wait, forgetting, greatest, grown, is_name_before, is_tube, next_end, raised, reserve_effect}
-use Rattle.bq_job.specs.machine.{tube_after_timers, tube_record, waiting_from, with_delete, with_end, with_pause, with_put, with_record}
+use Rattle.bq_job.specs.machine.{forgetting, greatest, grown, is_name_before, is_tube, raised, reserve_effect}
+use Rattle.bq_job.specs.machine.{tube_after_timers, tube_record, with_delete, with_end, with_pause, with_put, with_record}
 use Rattle.bq_job.specs.machine.{with_seat, without_wait}
 use Rattle.bq_job.specs.beside.{IsLawful, is_in_order, watches_once}
 use Rattle.bq_job.specs.reading.TubeName.{is_same_name}
@@ -117,17 +118,7 @@ booked_tube t m puts fit h = let order = ordered_with t m.tubes h.order in assum
 
 -- the seat of one number changes
 booked_seat : (number : ℕ) (f : SeatRecord → SeatRecord) (m : Machine) → Booked m → ((s : SeatRecord) → watches_once s ≡ true → watches_once (f s) ≡ true) → Booked (with_seat number f m)
-booked_seat number f m h well = record {
-  timeouts_fit = h.timeouts_fit;
-  puts_fit = h.puts_fit;
-  connections_fit = h.connections_fit;
-  burials_fit = h.burials_fit;
-  tickets_fit = h.tickets_fit;
-  order = h.order;
-  watched = all_of_map (λ s. watches_once s ≡ true) (λ s. cond (s.number == number) (f s) s) m.seats
-      (all_weaker (λ s. watches_once s ≡ true) (λ s. watches_once (cond (s.number == number) (f s) s) ≡ true) m.seats
-      (λ s w. cond_both (s.number == number) (f s) s (λ t. watches_once t ≡ true) (λ e. well s w) (λ e. w)) h.watched);
-}
+booked_seat number f m h well = grind (arith, common_steps, all_of_map, all_weaker, cond_both)
 
 booked_hand_out : (m : Machine) (j : Job) (s : SeatRecord) (given : GivenAnswer) (next : Machine) → Booked m → IsHandOut m j s given next → Booked next
 booked_hand_out m j s given next h (inl i) = subst Booked (sym i.1) (booked_seat s.number without_wait m h (λ t w. w))
@@ -137,11 +128,7 @@ booked_dispatch : (m : Machine) (given : GivenAnswer) (next : Machine) → Booke
 booked_dispatch m given next h turn = let t = turn_of m given next turn in booked_hand_out m t.job t.client given next h t.hands
 
 booked_wait_end : (m : Machine) (given : GivenAnswer) (next : Machine) → Booked m → WaitEndTurn m given next → Booked next
-booked_wait_end m given next h turn = with_client (next_end m) turn
-  where
-    with_client : (o : Option SeatRecord) → MatchOption o ⊥ (λ s. (given ≡ (s.number, end_of_wait m s)) × (next ≡ with_seat s.number without_wait m)) → Booked next
-    with_client None c = absurd c
-    with_client (Some s) c = subst Booked (sym c.1) (booked_seat s.number without_wait m h (λ t w. w))
+booked_wait_end m given next h turn = grind (arith, common_steps, booked_seat)
 
 booked_chain : (Turns : Machine → GivenAnswer → Machine → Type 0) (first : Machine) (given : List GivenAnswer) (last : Machine) → ((m : Machine) (g : GivenAnswer) (n : Machine) → Booked m → Turns m g n → Booked n) → Booked first → Chain Turns first given last → Booked last
 booked_chain Turns first [] last each h chain = subst Booked (sym chain) h
@@ -160,9 +147,7 @@ booked_through first handed ended last h s = subst Booked (sym s.ends_waits.forg
 
 -- the client begins to wait
 booked_reserve : (until : Option ℕ) (m : Machine) (s : SeatRecord) → Booked m → Booked (reserve_effect until m s).machine
-booked_reserve until m s h =
-    let k = booked_seat s.number (waiting_from (raised m.tickets) until) m h (λ t w. w) in
-    let tickets = grown_fits 1 m.tickets in assumption
+booked_reserve until m s h = grind (arith, common_steps, booked_seat, grown_fits)
 
 -- jobs change, and burials are counted on
 booked_burials : (m : Machine) (jobs : List Job) (burials : ℕ) → burials ≤ greatest → Booked m → Booked (record m { jobs = jobs; burials = burials })
@@ -180,9 +165,7 @@ booked_kind request m s (changes_seat answer f says changes) h w = booked_seat s
 booked_kind request m s (changes_tube tube seconds one) h w = booked_tube (with_pause seconds m.moment (tube_record tube m)) m m.puts h.puts_fit h
 
 booked_connect : (m : Machine) (seat : ℕ) → Booked m → Booked (after_connect m seat)
-booked_connect m seat h =
-    let k = booked_seat seat (λ s. record (empty_seat s.number) { connected = true }) m h (λ s w. refl) in
-    let connections = grown_fits 1 m.connections in assumption
+booked_connect m seat h = grind (arith, common_steps, booked_seat, grown_fits)
 
 booked_close : (m : Machine) (seat : ℕ) → Booked m → Booked (after_close m seat)
 booked_close m seat h = booked_seat seat (λ s. empty_seat s.number) m h (λ s w. refl)

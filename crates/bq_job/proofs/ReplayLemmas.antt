@@ -1,8 +1,9 @@
 -- Replays: how one begins and goes on, and that a journal has one at most.
-use Rattle.std.proofs.Common.{◌≡◌, List, [], ◌∷◌, ◌++◌, map, refl, sym, ap, ◌∙◌, subst, append-nil}
+use Rattle.std.proofs.Common.{◌≡◌, List, [], ◌∷◌, ◌++◌, map, refl, sym, ap, ◌∙◌, subst, append-nil, arith}
 use Rattle.std.specs.Prelude.{flat_map}
 use Rattle.std.proofs.lemmas.Grind.{flat_map-append}
 use Rattle.std.proofs.lemmas.List.{map-append}
+use Rattle.std.proofs.lemmas.Grind.{common_steps}
 use Rattle.bq_job.specs.declared.journal.Entry.{Entry as JournalEntry}
 use Rattle.bq_job.specs.machine.{GivenAnswer, IsStep, Machine.Machine, Outcome, Settings, new_machine}
 use Rattle.bq_job.specs.beside.{Replay.Replay, entry_of, outcome_of}
@@ -43,10 +44,7 @@ replay_more settings journal entry given more next last r step =
 -- a step that was taken, at the entry and the outcome that a journal names
 step_at : (first : Machine) (entry : JournalEntry) (t : Transition) → t.first ≡ first → t.entry ≡ entry_of entry → t.outcome ≡ outcome_of entry → IsTransition t
     → IsStep first entry.moment entry.seat entry.step (outcome_of entry) t.given t.last
-step_at first entry t starts is came_out taken =
-    subst (λ (m : Machine). IsStep m entry.moment entry.seat entry.step (outcome_of entry) t.given t.last) starts
-    (subst (λ (e : Entry). IsStep t.first e.moment e.seat e.what (outcome_of entry) t.given t.last) is
-    (subst (λ (o : Outcome). IsStep t.first t.entry.moment t.entry.seat t.entry.what o t.given t.last) came_out taken.step))
+step_at first entry t starts is came_out taken = grind (arith, common_steps)
 
 -- Two runs from one machine over one journal give the same answers and end alike.
 one_run : (first last other : Machine) (journal : List JournalEntry) (taken others : List Transition)
@@ -67,6 +65,4 @@ one_run first last other (entry ∷ journal) (t ∷ taken) (u ∷ others) g h o 
 
 pub one_replay : (settings : Settings) (journal : List JournalEntry) (given others : List GivenAnswer) (last other : Machine)
     → Replay settings journal given last → Replay settings journal others other → (given ≡ others) × (last ≡ other)
-one_replay settings journal given others last other r s =
-    let one = one_run (new_machine settings) last other journal r.taken s.taken r.goes r.history_is r.outcomes_are s.goes s.history_is s.outcomes_are in
-    (sym r.given_is ∙ one.0 ∙ s.given_is, one.1)
+one_replay settings journal given others last other r s = grind (arith, common_steps, one_run)

@@ -4,6 +4,7 @@ use Rattle.std.proofs.Common.{ℕ, ◌≡◌, ◌+◌, Bool, true, false, not, c
 use Rattle.std.specs.Prelude.{◌==◌, IsTrue, is_some}
 use Rattle.std.specs.List.{Contains}
 use Rattle.std.proofs.lemmas.Bool.{and_from, and_parts}
+use Rattle.std.proofs.lemmas.Grind.{common_steps}
 use Rattle.bq_job.specs.Types.{Answer, Request, Step}
 use Rattle.bq_job.specs.declared.answer.Answer.TheVariants as answers
 use Rattle.bq_job.specs.declared.request.Request.TheVariants as requests
@@ -95,12 +96,8 @@ shares_one _ o n h e = refl
 -- the same whatever became of the memory that it wanted
 pub replies_acted : (memory : Memory) (m : Machine) (seat : ℕ) (request : Request) → waits_in seat m.seats ≡ false → IsTrue (is_possible memory m seat (steps.Ask request)) → Replies seat (answers_wanted request) (is_waiting_request request) m.seats (effect m seat (steps.Ask request)) → Replies seat (answers_wanted request) (is_waiting_request request) m.seats (acted memory m seat (steps.Ask request))
 replies_acted granted m seat request w p h = h
-replies_acted growth_refused m seat request w p h =
-    let one = wants_one request ((and_parts _ _ p).0) in
-    subst (λ n. Replies seat n (is_waiting_request request) m.seats (telling answers.OutOfMemory m)) (sym one) (replies_jobs seat m m answers.OutOfMemory w refl refl)
-replies_acted share_refused m seat request w p h =
-    let one = shares_one request (effect m seat (steps.Ask request)).answer _ p h.count in
-    subst (λ n. Replies seat n (is_waiting_request request) m.seats (telling answers.OutOfMemory m)) (sym one) (replies_jobs seat m m answers.OutOfMemory w refl refl)
+replies_acted growth_refused m seat request w p h = grind (arith, common_steps, wants_one, and_parts, replies_jobs)
+replies_acted share_refused m seat request w p h = grind (arith, common_steps, shares_one, replies_jobs)
 
 -- What a command at a seat leaves to the client of another.
 pub record Stays (client number : ℕ) (m : Machine) (e : Effect) : Type 0 where

@@ -1,8 +1,9 @@
 -- The laws of whole runs.
-use Rattle.std.proofs.Common.{ℕ, ◌≡◌, ◌≤◌, ◌<◌, Bool, true, false, not, List, [], ◌∷◌, arith, refl, sym, subst, inl, inr}
+use Rattle.std.proofs.Common.{ℕ, ◌≡◌, ◌≤◌, ◌<◌, Bool, true, false, List, [], ◌∷◌, arith, refl, sym, subst, inl, inr}
 use Rattle.std.specs.Prelude.{count_by, ◌==◌}
 use Rattle.std.specs.List.{Contains, list_any}
 use Rattle.std.proofs.lemmas.Bool.{cases_Bool, both_ways, eqb-true, eq-eqb}
+use Rattle.std.proofs.lemmas.Grind.{common_steps}
 use Rattle.bq_job.specs.declared.job.Job.{Job}
 use Rattle.bq_job.specs.laws.{Happening, IsHandedOut, IsHandedOutBefore, IsPutBefore, IsUndisturbed, comes_first, disturbs, happenings}
 use Rattle.bq_job.specs.laws.{is_hand_out, is_put, parts_of_run, put}
@@ -18,11 +19,7 @@ run_goes : (settings : Settings) (taken : List Transition) (last : Machine) → 
 run_goes settings taken last goes = parts_go (new_machine settings) (parts_of_run taken) last (run_gone (new_machine settings) taken last (new_is_lawful settings) goes)
 
 still : (j : Job) (happened : List Happening) → IsUndisturbed j happened → list_any (disturbs j.id) happened ≡ false
-still j happened u = of_not (list_any (disturbs j.id) happened) u.undisturbed
-  where
-    of_not : (b : Bool) → not b ≡ true → b ≡ false
-    of_not true h = absurd cc
-    of_not false h = refl
+still j happened u = grind (arith, common_steps)
 
 pub at_most_once : (settings : Settings) (taken : List Transition) (last : Machine) (j : Job) → GoesBy (new_machine settings) taken last → IsUndisturbed j (happenings (parts_of_run taken)) → count_by (is_hand_out j.id) (happenings (parts_of_run taken)) ≤ 1
 at_most_once settings taken last j goes u =

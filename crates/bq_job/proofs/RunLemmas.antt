@@ -1,6 +1,7 @@
 -- Runs, one step at a time: what a run of no step, of a first step and of a last step is, and how two join.
-use Rattle.std.proofs.Common.{◌≡◌, List, [], ◌∷◌, ◌++◌, map, refl, sym, ap, ◌∙◌, subst, append_assoc}
+use Rattle.std.proofs.Common.{◌≡◌, List, [], ◌∷◌, ◌++◌, map, refl, sym, ap, ◌∙◌, subst, append_assoc, arith}
 use Rattle.std.specs.Prelude.{flat_map}
+use Rattle.std.proofs.lemmas.Grind.{common_steps}
 use Rattle.bq_job.specs.machine.{GivenAnswer, IsStep, Machine.Machine, Outcome}
 use Rattle.bq_job.specs.promise.{Entry, GoesBy, IsTransition, Run, Transition, parts_of}
 
@@ -45,15 +46,7 @@ run_of_none first last given (outcomes, r) = of_taken r.taken r.goes r.history_i
     of_taken (t ∷ taken) goes e g = absurd cc
 
 begins_with : (first last : Machine) (e : Entry) (history : List Entry) (given : List GivenAnswer) (t : Transition) (taken : List Transition) → t.first ≡ first → IsTransition t → GoesBy t.last taken last → t.entry ≡ e → map (λ t. t.entry) taken ≡ history → t.given ++ flat_map (λ t. t.given) taken ≡ given → Begins first e history given last
-begins_with first last e history given t taken starts is goes same rest g = record {
-  outcome = t.outcome;
-  now = t.given;
-  more = flat_map (λ t. t.given) taken;
-  next = t.last;
-  step = subst (λ (f : Entry). IsStep first f.moment f.seat f.what t.outcome t.given t.last) same (subst (λ (m : Machine). IsStep m t.entry.moment t.entry.seat t.entry.what t.outcome t.given t.last) starts is.step);
-  given_is = sym g;
-  rest = subst (λ (h : List Entry). Run t.last h (flat_map (λ t. t.given) taken) last) rest (run_of t.last last taken goes);
-}
+begins_with first last e history given t taken starts is goes same rest g = grind (arith, common_steps, run_of)
 
 pub run_first : (first last : Machine) (e : Entry) (history : List Entry) (given : List GivenAnswer) → Run first (e ∷ history) given last → Begins first e history given last
 run_first first last e history given (outcomes, r) = of_taken r.taken r.goes r.history_is r.given_is

@@ -5,9 +5,9 @@ use Rattle.std.specs.List.{AllByRecursion as All, list_any}
 use Rattle.std.proofs.lemmas.Bool.{cases_Bool, or_parts, or_from, both_ways, cond_both, eqb-true, eq-eqb, false_from_ne_true}
 use Rattle.std.proofs.lemmas.List.Folds.{list_any-append}
 use Rattle.std.proofs.lemmas.List.Sums.{sum_by-append}
-use Rattle.bq_job.specs.Types.{Job, JobState}
-use Rattle.bq_job.specs.declared.job.JobState.TheVariants as states
-use Rattle.bq_job.specs.machine.{Machine.Machine, is_ready, is_ready_state, is_reserved, job_with, reserved_by}
+use Rattle.std.proofs.lemmas.Grind.{common_steps}
+use Rattle.bq_job.specs.Types.{Job}
+use Rattle.bq_job.specs.machine.{Machine.Machine, is_ready, is_reserved, job_with, reserved_by}
 use Rattle.bq_job.specs.laws.{Happening, Part, buried, deleted, disturbs, expired, given_back, handed_out, happenings, is_hand_out, put}
 use Rattle.bq_job.specs.laws.{released, reserved_by_id}
 use Rattle.bq_job.proofs.JobMoves.{Fate, IsHandOutMove, IsPutMove, Move, Moves, quiet, putting, handing, is_plain}
@@ -24,13 +24,7 @@ abbrev pub IsSpent : ℕ → Machine → Type 0
 IsSpent id m = (id < m.next_id) × IsNotFree (job_with id m.jobs)
 
 pub held_is_not_ready : (j : Job) → is_ready j ≡ true → is_reserved j.state ≡ true → ⊥
-held_is_not_ready j h i = of_state j.state h i
-  where
-    of_state : (s : JobState) → is_ready_state s ≡ true → is_reserved s ≡ true → ⊥
-    of_state states.Ready h i = absurd cc
-    of_state (states.Delayed due) h i = absurd cc
-    of_state (states.Reserved seat deadline) h i = absurd cc
-    of_state (states.Buried number) h i = absurd cc
+held_is_not_ready j h i = grind (arith, common_steps)
 
 plain_hands_none : (id : ℕ) (h : Happening) → is_plain h ≡ true → is_hand_out id h ≡ false
 plain_hands_none id (put j) e = absurd cc
@@ -57,17 +51,11 @@ not_free_mapped job moment seat (Some j) h = cond_both (j.id == job.id) (reserve
 
 -- the jobs after a hand-out, looked up
 pub handed_lookup : (id : ℕ) (m n : Machine) (happened : List Happening) (h : IsHandOutMove m happened n) → job_with id n.jobs ≡ option_map (λ j. cond (j.id == h.job.id) (reserved_by m.moment h.seat j) j) (job_with id m.jobs)
-handed_lookup id m n happened h =
-    ap (job_with id) h.jobs
-    ∙ job_in_map (λ j. cond (j.id == h.job.id) (reserved_by m.moment h.seat j) j) id m.jobs
-    (λ j. cond_both (j.id == h.job.id) (reserved_by m.moment h.seat j) j (λ k. k.id ≡ j.id) (λ e. refl) (λ e. refl))
+handed_lookup id m n happened h = grind (arith, common_steps, job_in_map, cond_both)
 
 -- the jobs after a put, looked up by another id
 pub put_lookup : (id : ℕ) (m n : Machine) (happened : List Happening) (h : IsPutMove m happened n) → id < m.next_id → job_with id n.jobs ≡ job_with id m.jobs
-put_lookup id m n happened h less =
-    let is = h.id in
-    ap (job_with id) h.jobs
-    ∙ job_in_more id m.jobs h.job (false_from_ne_true (h.job.id == id) (λ t. let at = eqb-true h.job.id id t in absurd (omega arith)))
+put_lookup id m n happened h less = grind (arith, common_steps, job_in_more, false_from_ne_true, eqb-true)
 
 pub spent_after : (id : ℕ) (m n : Machine) (happened : List Happening) → Move m happened n → list_any (disturbs id) happened ≡ false → IsSpent id m → IsSpent id n
 spent_after id m n happened (quiet q) still spent =
@@ -83,14 +71,7 @@ spent_after id m n happened (handing h) still spent =
 pub spent_not_handed : (id : ℕ) (m n : Machine) (happened : List Happening) → Move m happened n → IsSpent id m → list_any (is_hand_out id) happened ≡ false
 spent_not_handed id m n happened (quiet q) spent = none_handed id happened q.plain
 spent_not_handed id m n happened (putting p) spent = ap (list_any (is_hand_out id)) p.happened_is
-spent_not_handed id m n happened (handing h) spent =
-    ap (list_any (is_hand_out id)) h.happened_is
-    ∙ or_from (h.job.id == id) false
-    (false_from_ne_true (h.job.id == id) (λ t.
-    let at = eqb-true h.job.id id t in
-    let there : job_with id m.jobs ≡ Some h.job = subst (λ i. job_with i m.jobs ≡ Some h.job) at h.there in
-    held_is_not_ready h.job h.ready (subst IsNotFree there spent.1)))
-    refl
+spent_not_handed id m n happened (handing h) spent = grind (arith, common_steps, or_from, false_from_ne_true, eqb-true, held_is_not_ready)
 
 -- Its job is spent once it is handed out.
 pub spent_by_hand_out : (m n : Machine) (happened : List Happening) (h : IsHandOutMove m happened n) → IsSpent h.job.id n

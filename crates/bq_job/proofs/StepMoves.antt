@@ -1,8 +1,9 @@
 -- Each part of a step, as moves: timers, turns of dispatch, ends of waits, and the command's own effect.
-use Rattle.std.proofs.Common.{ℕ, ◌≡◌, true, false, ◌&&◌, not, cond, List, [], ◌∷◌, ◌++◌, map, refl, sym, ap, ◌∙◌, subst, inl, inr, Option, Some, None, append-nil}
+use Rattle.std.proofs.Common.{ℕ, ◌≡◌, true, false, ◌&&◌, not, cond, List, [], ◌∷◌, ◌++◌, map, refl, sym, ap, ◌∙◌, subst, inl, inr, Option, Some, None, append-nil, arith}
 use Rattle.std.specs.Prelude.{filter, option_map, ◌==◌}
 use Rattle.std.specs.List.{AllByRecursion as All, list_any}
 use Rattle.std.proofs.lemmas.Bool.{cases_Bool, and_parts, and_from, or_left, or_right, both_ways, cond_both, eq-eqb}
+use Rattle.std.proofs.lemmas.Grind.{common_steps}
 use Rattle.bq_job.specs.Types.{Job, JobState}
 use Rattle.bq_job.specs.declared.job.JobState.TheVariants as states
 use Rattle.bq_job.specs.machine.{Chain, DispatchTurn, Dispatches, EndsWaits, GivenAnswer, IsHandOut, Machine.Machine, SeatRecord}
@@ -34,11 +35,7 @@ pub goes_one : (m : Machine) (happened : List Happening) (n : Machine) → Move 
 goes_one m happened n move = record { parts = record { happened = happened; machine = n } ∷ []; moves = (move, refl); told = append-nil happened }
 
 pub goes_then : (m k n : Machine) (xs ys : List Happening) → Goes m xs k → Goes k ys n → Goes m (xs ++ ys) n
-goes_then m k n xs ys h i = record {
-  parts = h.parts ++ i.parts;
-  moves = moves_append m k n h.parts i.parts h.moves i.moves;
-  told = happenings_append h.parts i.parts ∙ ap (λ hs. hs ++ happenings i.parts) h.told ∙ ap (λ hs. xs ++ hs) i.told;
-}
+goes_then m k n xs ys h i = grind (arith, common_steps, moves_append, happenings_append)
 
 fate_of_itself : (id : ℕ) (happened : List Happening) (o : Option Job) → Fate id happened o o
 fate_of_itself id happened None = refl
@@ -55,14 +52,7 @@ plain_expirations moment jobs = all_of_map (λ h. is_plain h ≡ true) (λ (j : 
 
 told_to_expire : (moment id : ℕ) (jobs : List Job) → list_any (λ j. is_expired moment j.state && j.id == id) jobs ≡ true → list_any (disturbs id) (expirations moment jobs) ≡ true
 told_to_expire moment id [] h = absurd cc
-told_to_expire moment id (j ∷ jobs) h =
-    elim (cases_Bool (is_expired moment j.state)) [
-      | inl e ↦ rw e (elim (cases_Bool (j.id == id)) [
-        | inl f ↦ or_left (j.id == id) (list_any (disturbs id) (expirations moment jobs)) f
-        | inr f ↦ or_right (j.id == id) (list_any (disturbs id) (expirations moment jobs)) (told_to_expire moment id jobs (rw (e, f) at h))
-      ])
-      | inr e ↦ rw e (told_to_expire moment id jobs (rw e at h))
-    ]
+told_to_expire moment id (j ∷ jobs) h = grind (arith, common_steps, cases_Bool, or_left, or_right, told_to_expire moment id jobs)
 
 not_due_when_ready : (moment : ℕ) (s : JobState) → is_reserved s ≡ true → is_due moment s ≡ false
 not_due_when_ready moment states.Ready h = refl
@@ -89,24 +79,11 @@ timed_fate moment id jobs (Some j) e = record {
 }
 
 goes_by_timers : (at : ℕ) (m : Machine) → Goes m (expirations (at_moment at m).moment m.jobs) (forgetting (after_timers (at_moment at m)))
-goes_by_timers at m =
-    let moment = (at_moment at m).moment in
-    let n = forgetting (after_timers (at_moment at m)) in
-    let lookup : (id : ℕ) → job_with id n.jobs ≡ option_map (job_after_timers moment) (job_with id m.jobs) =
-    λ id. job_in_map (job_after_timers moment) id m.jobs (λ j. after_timers_is moment j (λ k. k.id ≡ j.id) refl refl refl) in
-    goes_one m (expirations moment m.jobs) n (quiet (record {
-      next = refl;
-      plain = plain_expirations moment m.jobs;
-      fates = λ id. subst (Fate id (expirations moment m.jobs) (job_with id m.jobs)) (sym (lookup id)) (timed_fate moment id m.jobs (job_with id m.jobs) refl);
-    }))
+goes_by_timers at m = grind (arith, common_steps, job_in_map, after_timers_is, goes_one, plain_expirations, timed_fate)
 
 -- Who may have a job may have each ready one of its tube.
 may_have_too : (m : Machine) (s : SeatRecord) (j k : Job) → may_have m s j ≡ true → is_ready k ≡ true → k.tube ≡ j.tube → may_have m s k ≡ true
-may_have_too m s j k h ready tube =
-    let parts = and_parts (is_ready j && watches j.tube s) (not (is_paused j.tube m)) h in
-    let first = and_parts (is_ready j) (watches j.tube s) parts.0 in
-    subst (λ t. (is_ready k && watches t s && not (is_paused t m)) ≡ true) (sym tube)
-    (and_from (is_ready k && watches j.tube s) (not (is_paused j.tube m)) (and_from (is_ready k) (watches j.tube s) ready first.1) parts.1)
+may_have_too m s j k h ready tube = grind (arith, common_steps, and_parts, and_from)
 
 -- one turn of dispatch
 hand_out_move : (m n : Machine) (j : Job) (s : SeatRecord) (given : GivenAnswer) → Ids m → next_job m ≡ Some j → next_seat m j ≡ Some s → IsHandOut m j s given n → Move m (hand_out given.1) n × Ids n
@@ -129,11 +106,7 @@ hand_out_move m n j s given ids e f (inl h) =
       subst (λ l. AreIdsWithin 1 l n.next_id) (sym jobs) (subst (AreIdsWithin 1 (map (λ k. cond (k.id == j.id) (reserved_by m.moment s.number k) k) m.jobs)) (sym next)
           (ids_of_map (λ k. cond (k.id == j.id) (reserved_by m.moment s.number k) k) 1 m.next_id m.jobs (λ k. cond_both (k.id == j.id) (reserved_by m.moment s.number k) k (λ l. l.id ≡ k.id) (λ e. refl) (λ e. refl)) ids)),
     )
-hand_out_move m n j s given ids e f (inr h) =
-    let told : hand_out given.1 ≡ [] = ap (λ (g : GivenAnswer). hand_out g.1) h.0 in (
-      subst (λ hs. Move m hs n) (sym told) (still_move m n (ap (λ (l : Machine). l.jobs) h.1) (ap (λ (l : Machine). l.next_id) h.1)),
-      subst Ids (sym h.1) ids,
-    )
+hand_out_move m n j s given ids e f (inr h) = grind (arith, common_steps, still_move)
 
 pub goes_by_turns : (m : Machine) (given : List GivenAnswer) (n : Machine) → Ids m → Chain DispatchTurn m given n → Goes m (hand_outs given) n
 goes_by_turns m [] n ids chain = subst (λ l. Goes m [] l) (sym chain) (goes_nowhere m)
@@ -157,9 +130,7 @@ same_jobs m (g ∷ given) n chain =
     (rest.0 ∙ ap (λ (l : Machine). l.jobs) e.next_is, rest.1 ∙ ap (λ (l : Machine). l.next_id) e.next_is)
 
 goes_by_ends : (m : Machine) (given : List GivenAnswer) (n : Machine) → EndsWaits m given n → Goes m [] n
-goes_by_ends m given n w =
-    let same = same_jobs m given w.end w.turns in
-    goes_one m [] n (still_move m n (ap (λ (l : Machine). l.jobs) w.forgets ∙ same.0) (ap (λ (l : Machine). l.next_id) w.forgets ∙ same.1))
+goes_by_ends m given n w = grind (arith, common_steps, same_jobs, goes_one, still_move)
 
 -- A part goes by moves, and keeps what every part keeps.
 pub record PartGoes (m : Machine) (p : Part) : Type 0 where

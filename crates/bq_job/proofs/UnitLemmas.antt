@@ -1,15 +1,12 @@
 -- The first unit of a text, and units that begin texts.
-use Rattle.std.proofs.Common.{◌≡◌, ℕ, ◌+◌, ◌<◌, Bool, true, false, List, [], ◌∷◌, ◌++◌, Option, Some, None, ◌⊎◌, inl, inr, refl, sym, ap, arith, length, take, drop, nat_lt, nat_le, MatchBool, MatchOption, if◌then◌else◌, length-append, append_assoc, take-append-drop, IsTrue}
+use Rattle.std.proofs.Common.{◌≡◌, ℕ, ◌<◌, List, [], ◌∷◌, ◌++◌, Option, Some, None, ◌⊎◌, inl, refl, sym, ap, arith, length, take, drop, MatchOption, length-append, append_assoc, IsTrue}
 use Rattle.std.proofs.lemmas.Bool.Decides.{nat_tests}
 use Rattle.std.proofs.lemmas.Grind.{common_steps}
-use Rattle.bq_job.specs.reading.TubeName.{is_same_name}
-use Rattle.bq_job.specs.reading.Line.{first_line, line_end}
+use Rattle.bq_job.specs.reading.Line.{first_line}
 use Rattle.bq_job.specs.reading.LineRead.{LineRead, Whole, PutWaits, PutLine, read_line}
 use Rattle.bq_job.specs.reading.Reading.{IsUnit, IsUnitAfter, IsPutRequest, put_with_body, BeginsNoUnit}
 use Rattle.bq_job.specs.beside.{IsRefusedMemory, first_unit, had_memory, put_request, unit_after, unit_of_line}
 use Rattle.bq_job.specs.declared.request.Request.{Request}
-use Rattle.bq_job.specs.declared.request.Request.TheVariants as requests
-use Rattle.bq_job.specs.declared.refusal.Refusal.TheVariants as refusals
 use Rattle.bq_job.proofs.LineLemmas.{first_line-append, first_line_is, first_line_again}
 
 -- the request of a unit is the computed one, or its memory was refused
@@ -28,50 +25,24 @@ drop-all : (after more : List ℕ) (n : ℕ) → length after ≡ n → drop n (
 drop-all after more n e = rw (← e) (grind (arith, common_steps))
 
 had_memory-put : (put : PutLine) (bytes : List ℕ) → IsTrue (had_memory (put_with_body put bytes))
-had_memory-put put bytes =
-    elim (is_same_name (drop put.bytes bytes) line_end)
-    as (λ t. IsTrue (had_memory (if t then requests.Put put.pri put.delay put.ttr (take put.bytes bytes) else requests.Refused refusals.ExpectedCrlf)))
-    [ true ↦ refl | false ↦ refl ]
+had_memory-put put bytes = grind (arith, common_steps)
 
 put_request-computed : (size : ℕ) (put : PutLine) (bytes : List ℕ) (r : Request) → IsPutRequest size put bytes r → IsComputed r (put_request size put bytes)
-put_request-computed size put bytes r h = go (nat_lt size put.bytes) h
-  where
-    go : (t : Bool) → MatchBool t (r ≡ requests.Refused refusals.JobTooBig) ((r ≡ requests.Refused refusals.OutOfMemory) ⊎ (r ≡ put_with_body put bytes))
-        → IsComputed r (if t then requests.Refused refusals.JobTooBig else put_with_body put bytes)
-    go true h = inl h
-    go false (inl e) = inr (e, had_memory-put put bytes)
-    go false (inr e) = inl e
+put_request-computed size put bytes r h = grind (arith, common_steps, had_memory-put)
 
 -- the computed request of a put is one
 put_request-is : (size : ℕ) (put : PutLine) (bytes : List ℕ) → IsPutRequest size put bytes (put_request size put bytes)
-put_request-is size put bytes = go (nat_lt size put.bytes)
-  where
-    go : (t : Bool) → let r = (if t then requests.Refused refusals.JobTooBig else put_with_body put bytes) in
-        MatchBool t (r ≡ requests.Refused refusals.JobTooBig) ((r ≡ requests.Refused refusals.OutOfMemory) ⊎ (r ≡ put_with_body put bytes))
-    go true = refl
-    go false = inr refl
+put_request-is size put bytes = grind (arith, common_steps)
 
 pub unit_after-append : (size : ℕ) (read : LineRead) (after more : List ℕ) (r : Request) → IsUnitAfter size read after r
     → (q : Request) × (unit_after size read (after ++ more) ≡ Some (q, more)) × IsComputed r q
 unit_after-append size (Whole request) after more r h = (request, (rw h.0 refl), inl h.1)
-unit_after-append size (PutWaits put) after more r h =
-    let fits : nat_le (put.bytes + 2) (length (after ++ more)) ≡ true = grind (arith, nat_tests, length-append after more, h.0) in
-    (put_request size put after, rw (fits, take-all after more (put.bytes + 2) h.0, drop-all after more (put.bytes + 2) h.0), put_request-computed size put after r h.1)
+unit_after-append size (PutWaits put) after more r h = grind (arith, common_steps, nat_tests, take-all, drop-all, put_request-computed)
 
 pub unit_after-unit : (size : ℕ) (read : LineRead) (after rest : List ℕ) (r : Request) → unit_after size read after ≡ Some (r, rest)
     → (taken : List ℕ) × (after ≡ taken ++ rest) × IsUnitAfter size read taken r
 unit_after-unit size (Whole request) after rest r e = let same = some_pair (request, after) (r, rest) e in ([], same.1, (refl, sym same.0))
-unit_after-unit size (PutWaits put) after rest r e = go (nat_le (put.bytes + 2) (length after)) refl e
-  where
-    go : (t : Bool) → nat_le (put.bytes + 2) (length after) ≡ t
-        → (let found : Option (Request × List ℕ) = Some (put_request size put (take (put.bytes + 2) after), drop (put.bytes + 2) after) in
-        (if t then found else None) ≡ Some (r, rest))
-        → (taken : List ℕ) × (after ≡ taken ++ rest) × IsUnitAfter size (PutWaits put) taken r
-    go true fits e =
-        let same = some_pair (put_request size put (take (put.bytes + 2) after), drop (put.bytes + 2) after) (r, rest) e in
-        let long : length (take (put.bytes + 2) after) ≡ put.bytes + 2 = grind (arith, nat_tests, common_steps) in
-        (take (put.bytes + 2) after, rw (← same.1) (sym (take-append-drop (put.bytes + 2) after)), (long, rw (← same.0) (put_request-is size put (take (put.bytes + 2) after))))
-    go false fits e = cc
+unit_after-unit size (PutWaits put) after rest r e = grind (arith, common_steps, some_pair, nat_tests, common_steps, put_request-is)
 
 -- a text that begins with a unit has it as its first
 pub first_unit-append : (size : ℕ) (first more : List ℕ) (r : Request) → IsUnit size first r

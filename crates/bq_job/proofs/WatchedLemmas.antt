@@ -1,12 +1,13 @@
 -- The tubes that a seat watches: at least one and none twice, through a watch and an ignore.
-use Rattle.std.proofs.Common.{◌≡◌, Bool, true, false, ◌&&◌, ◌||◌, not, List, [], ◌∷◌, ◌++◌, ℕ, sym, ◌∙◌, refl, inl, inr}
+use Rattle.std.proofs.Common.{◌≡◌, Bool, true, false, ◌||◌, not, List, [], ◌∷◌, ◌++◌, ℕ, sym, ◌∙◌, refl, inl, inr, arith}
 use Rattle.std.specs.Prelude.{filter}
 use Rattle.std.specs.Cmp.Lexicographic.{bytes_decides}
 use Rattle.std.specs.List.{list_any}
 use Rattle.std.proofs.lemmas.List.Folds.{list_any-append}
 use Rattle.std.proofs.lemmas.Bool.{cases_Bool, and_parts, and_from, both_ways, cond_both, false_from_ne_true, or_from, or_parts}
+use Rattle.std.proofs.lemmas.Grind.{common_steps}
 use Rattle.bq_job.specs.beside.{has_one, none_twice, watches_once}
-use Rattle.bq_job.specs.machine.{SeatRecord, watched_with, watches, watching}
+use Rattle.bq_job.specs.machine.{SeatRecord, watched_with, watching}
 use Rattle.bq_job.specs.reading.TubeName.{is_same_name}
 use Rattle.bq_job.proofs.ListLemmas.{all_of_filter, all_weaker, list_any_not, none_pass}
 
@@ -31,10 +32,7 @@ one_behind tube [] = refl
 one_behind tube (name ∷ names) = refl
 
 pub watched_still : (tube : List ℕ) (s : SeatRecord) → watches_once s ≡ true → watches_once (watching (watched_with tube s) s) ≡ true
-watched_still tube s h =
-    let parts = and_parts (has_one s.watched) (none_twice s.watched) h in
-    cond_both (watches tube s) s.watched (s.watched ++ tube ∷ []) (λ names. (has_one names && none_twice names) ≡ true) (λ e. h)
-    (λ e. and_from (has_one (s.watched ++ tube ∷ [])) (none_twice (s.watched ++ tube ∷ [])) (one_behind tube s.watched) (none_twice_behind tube s.watched e parts.1))
+watched_still tube s h = grind (arith, common_steps, and_parts, cond_both, and_from, one_behind, none_twice_behind)
 
 pub none_twice_filter : (p : List ℕ → Bool) (names : List (List ℕ)) → none_twice names ≡ true → none_twice (filter p names) ≡ true
 none_twice_filter p [] h = refl
