@@ -1,5 +1,5 @@
 -- What a command does to the list of jobs, and the happenings that are told of it.
-use Rattle.std.proofs.Common.{ℕ, suc, ◌≡◌, Bool, true, false, not, cond, List, [], ◌∷◌, ◌++◌, map, arith, refl, sym, ap, ◌∙◌, subst, inl, inr, ◌⊎◌, Option, Some, None}
+use Rattle.std.proofs.Common.{ℕ, suc, ◌≡◌, Bool, true, false, not, cond, List, [], ◌∷◌, ◌++◌, map, arith, refl, sym, ap, ◌∙◌, subst, inl, inr, ◌⊎◌, Option, Some, None, rules}
 use Rattle.std.specs.Prelude.{filter, flat_map, is_none, option_map, ◌==◌}
 use Rattle.std.specs.List.{AllByRecursion as All, Contains, list_any}
 use Rattle.std.proofs.lemmas.Bool.{or_left, or_right, or_cases, both_ways, cond_both, eqb-true, eq-eqb, false_from_ne_true}
@@ -109,10 +109,7 @@ were_there jobs next ids = all_from_members (λ j. is_none (job_with j.id jobs) 
 
 -- Where no job is new, what is told is plain.
 plain_changes : (what : Step) (before after : List Job) → All (λ j. is_none (job_with j.id before) ≡ false) after → All (λ h. is_plain h ≡ true) (changes what before after)
-plain_changes what before after old =
-    all_of_append (λ h. is_plain h ≡ true) (flat_map (λ j. change_or_removal what j (job_with j.id after)) before) (map put (filter (λ j. is_none (job_with j.id before)) after))
-    (all_of_parts (λ h. is_plain h ≡ true) (λ j. change_or_removal what j (job_with j.id after)) before (λ j. plain_change_or_removal what j (job_with j.id after)))
-    (subst (λ ks. All (λ h. is_plain h ≡ true) (map put ks)) (sym (none_kept (λ j. is_none (job_with j.id before)) after old)) tt)
+plain_changes what before after old = search (rules, all_of_append, all_of_parts, plain_change_or_removal, none_kept)
 
 none_at : (low next : ℕ) (jobs : List Job) → AreIdsWithin low jobs next → job_with next jobs ≡ None
 none_at low next [] h = refl

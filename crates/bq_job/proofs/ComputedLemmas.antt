@@ -1,5 +1,5 @@
 -- What is computed is a step of the machine.
-use Rattle.std.proofs.Common.{ℕ, zero, suc, ◌≡◌, ◌≤◌, ◌<◌, true, false, ◌&&◌, ◌||◌, not, cond, arith, refl, inl, inr, Option, Some, None, append_assoc}
+use Rattle.std.proofs.Common.{ℕ, zero, suc, ◌≡◌, ◌≤◌, ◌<◌, true, false, ◌&&◌, ◌||◌, not, cond, arith, refl, inl, inr, Option, Some, None, append_assoc, rules}
 use Rattle.std.specs.Prelude.{◌==◌}
 use Rattle.std.specs.List.{AllByRecursion as All, Contains, list_any}
 use Rattle.std.proofs.lemmas.Bool.{cases_Bool, and_parts, and_left, eq-eqb}
@@ -62,11 +62,7 @@ nobody_for m j h =
     list_any_not (is_waiting_for m j) m.seats (all_weaker (λ s. is_waiting s ≡ false) (λ s. is_waiting_for m j s ≡ false) m.seats (λ s. and_left (is_waiting s) (may_have m s j)) h)
 
 none_waits : (m : Machine) → waiting_count m ≤ 0 → next_job m ≡ None
-none_waits m w =
-    let nobody = count_none is_waiting m.seats w in
-    first_of_none_passes (λ j. list_any (is_waiting_for m j) m.seats) is_job_before m.jobs
-    (list_any_not (λ j. list_any (is_waiting_for m j) m.seats) m.jobs
-    (all_always (λ j. list_any (is_waiting_for m j) m.seats ≡ false) m.jobs (λ j. nobody_for m j nobody)))
+none_waits m w = search (rules, count_none, first_of_none_passes, list_any_not, all_always, nobody_for)
 
 -- The next job has a next client,
 pub next_has_seat : (m : Machine) (j : Job) → next_job m ≡ Some j → (s : SeatRecord) × (next_seat m j ≡ Some s)
@@ -109,10 +105,7 @@ wait_ended_turns zero m = refl
 wait_ended_turns (suc turns) m = ended_at_turns (λ next. wait_ended turns next) m (next_end m) (λ n. wait_ended_turns turns n) refl
 
 none_ends : (m : Machine) → waiting_count m ≤ 0 → next_end m ≡ None
-none_ends m w =
-    first_of_none_passes (ends_waiting m) is_wait_before m.seats
-    (list_any_not (ends_waiting m) m.seats
-    (all_weaker (λ s. is_waiting s ≡ false) (λ s. ends_waiting m s ≡ false) m.seats (λ s. and_left (is_waiting s) (is_deadline_soon m s || is_timed_out m s)) (count_none is_waiting m.seats w)))
+none_ends m w = search (rules, first_of_none_passes, list_any_not, all_weaker, and_left, count_none)
 
 -- who is next to stop waiting is at a seat and waits
 pub next_end_waits : (m : Machine) (s : SeatRecord) → next_end m ≡ Some s → Contains m.seats s × (is_waiting s ≡ true)

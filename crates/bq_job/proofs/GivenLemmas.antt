@@ -1,6 +1,6 @@
 -- What the seats and the core did joins: what a run gives a seat, line by line, and that this is what the
 -- seat took.
-use Rattle.std.proofs.Common.{◌≡◌, ℕ, ◌+◌, ◌≤◌, ◌<◌, Bool, true, false, ◌&&◌, not, List, [], ◌∷◌, ◌++◌, map, length, refl, sym, ap, ◌∙◌, arith, subst, inl, inr, append_assoc}
+use Rattle.std.proofs.Common.{◌≡◌, ℕ, ◌+◌, ◌≤◌, ◌<◌, Bool, true, false, ◌&&◌, not, List, [], ◌∷◌, ◌++◌, map, length, refl, sym, ap, ◌∙◌, arith, subst, inl, inr, append_assoc, rules}
 use Rattle.std.specs.Prelude.{◌==◌}
 use Rattle.std.proofs.lemmas.Bool.{cases_Bool, and_parts, or_from, eqb-true}
 use Rattle.std.proofs.lemmas.List.{length-append}
@@ -40,11 +40,7 @@ serves_on t m next at seat what outcome given s step = record {
 
 elsewhere : (t : ℕ) (m next : Machine) (at seat : ℕ) (what : Step) (outcome : Outcome) (given : List GivenAnswer) → Serves t m → (not (is_tick what) && seat == t) ≡ false → IsStep m at seat what outcome given next → GetsWhatWaits m next t (answers_to t given)
 elsewhere t m next at seat steps.Tick outcome given s h step = tick_gives_client m next at seat t outcome given step
-elsewhere t m next at seat what outcome given s h step =
-    elim (cases_Bool (seat == t)) [
-      | inl y ↦ absurd cc
-      | inr y ↦ others_give m next at seat t what outcome given y step
-    ]
+elsewhere t m next at seat what outcome given s h step = search (rules, cases_Bool, others_give)
 
 -- a request, or that the client sends no more
 abbrev pub is_within : Step → Bool

@@ -1,5 +1,5 @@
 -- The headline whole, from a history and the laws of runs.
-use Rattle.std.proofs.Common.{ℕ, Bool, List, Option, subst, arith}
+use Rattle.std.proofs.Common.{ℕ, Bool, List, Option, subst, arith, rules}
 use Rattle.std.proofs.lemmas.Grind.{common_steps}
 use Rattle.bq_job.specs.laws.{AreJobsServed, HeadlineHolds, LineHeadlineHolds, happenings, parts_of_run}
 use Rattle.bq_job.specs.promise.{GoesBy, IsHistoryOf, IsHistoryOfLine, LineOver, Transition}
@@ -23,21 +23,7 @@ jobs_served settings taken last goes = let first : Machine = new_machine setting
 
 pub headline_holds : (settings : Settings) (doors : List (List LineOver)) (control : List ℕ) (failed : Bool) (readings : List (Option ℕ)) (last : Machine)
     → IsHistoryOf settings doors control failed readings last → HeadlineHolds settings doors control failed readings last
-headline_holds settings doors control failed readings last h = let run = h.run.runs.1 in
-    record {
-      history = h.history;
-      given = h.given;
-      taken = run.taken;
-      goes = run.goes;
-      history_is = run.history_is;
-      given_is = run.given_is;
-      timed = h.run.timed;
-      many = h.many;
-      of_doors = h.of_doors;
-      of_control = h.of_control;
-      of_nobody_else = h.of_nobody_else;
-      jobs = jobs_served settings run.taken last run.goes;
-    }
+headline_holds settings doors control failed readings last h = search (rules, jobs_served)
 
 pub line_headline_holds : (settings : Settings) (seat : ℕ) (line : LineOver) (readings : List (Option ℕ)) → IsHistoryOfLine settings seat line readings → LineHeadlineHolds settings seat line readings
 line_headline_holds settings seat line readings h = grind (arith, common_steps, jobs_served)

@@ -1,5 +1,5 @@
 -- A run that is computed, as part of a history; and the lines of a door, each with its steps.
-use Rattle.std.proofs.Common.{◌≡◌, ℕ, suc, Bool, true, false, List, [], ◌∷◌, ◌++◌, map, length, Option, ◌⊎◌, refl, ap, inl, arith}
+use Rattle.std.proofs.Common.{◌≡◌, ℕ, suc, Bool, true, false, List, [], ◌∷◌, ◌++◌, map, length, Option, ◌⊎◌, refl, ap, inl, arith, rules}
 use Rattle.std.specs.List.{list_any}
 use Rattle.std.proofs.lemmas.Bool.{or_right}
 use Rattle.std.proofs.lemmas.Grind.{common_steps}
@@ -47,10 +47,7 @@ computed_IsRun settings readings history timed =
 pub served_so : (history : List Entry) (doors : List (List LineOver)) (control : List ℕ) → IsTimedBy (readings_of history) history
     → AreDoorsOwed usual 0 doors history (given_over (seated (length doors)) history) → IsControlDone control false (steps_at (length doors) history)
     → AreSeatsUpTo (length doors) history → AreServedOver history doors control
-served_so history doors control timed owed done nobody =
-    let settings = seated (length doors) in
-    let run = computed_IsRun settings (readings_of history) history timed in
-    record { history = history; given = given_over settings history; run = run; many = refl; of_doors = owed; of_control = done; of_nobody_else = nobody }
+served_so history doors control timed owed done nobody = search (rules, computed_IsRun)
 
 -- A line all of whose text was read as these requests, of which these were asked.
 pub line_so : (line : LineOver) (read asked : List Request) (given : List Answer) → Reads usual line.seen.read read [] → IsOverBy (heard line.seen) line.over read asked

@@ -1,5 +1,5 @@
 -- What every part of a step keeps, and the changes of jobs and of seats that keep it.
-use Rattle.std.proofs.Common.{ℕ, zero, suc, ◌≡◌, ◌≤◌, ◌+◌, Bool, true, false, ◌&&◌, ◌||◌, not, cond, List, [], ◌∷◌, ◌++◌, map, arith, refl, sym, ◌∙◌, subst, inl, inr, Some}
+use Rattle.std.proofs.Common.{ℕ, zero, suc, ◌≡◌, ◌≤◌, ◌+◌, Bool, true, false, ◌&&◌, ◌||◌, not, cond, List, [], ◌∷◌, ◌++◌, map, arith, refl, sym, ◌∙◌, subst, inl, inr, Some, rules}
 use Rattle.std.specs.Prelude.{nat_le, filter, find, ◌==◌}
 use Rattle.std.specs.List.{AllByRecursion as All, list_any}
 use Rattle.std.proofs.lemmas.Bool.{cases_Bool, and_parts, and_from, or_parts, or_left, or_right, or_cases, both_ways, cond_both, eqb-true, eqb-false, leb-false}
@@ -31,14 +31,7 @@ abbrev pub Keeps : Machine → Type 0
 Keeps m = Kept m.settings.seats m.jobs m.seats m.next_id m.draining
 
 pub kept_of_lawful : (m : Machine) → IsLawful m → Keeps m
-kept_of_lawful m h = record {
-  ids = h.ids;
-  accepts = h.next;
-  fits = h.next_fits;
-  holders = all_pass (has_holder m.seats) m.jobs h.holders;
-  seated = h.seats;
-  waits = all_pass is_open_wait m.seats h.waits;
-}
+kept_of_lawful m h = search (rules, all_pass)
 
 -- ids through changes of the list
 pub ids_of_map : (f : Job → Job) (low next : ℕ) (jobs : List Job) → ((j : Job) → (f j).id ≡ j.id) → AreIdsWithin low jobs next → AreIdsWithin low (map f jobs) next

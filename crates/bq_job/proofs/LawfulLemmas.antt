@@ -1,5 +1,5 @@
 -- The machine is lawful at the start and after every step, and a step gives few answers.
-use Rattle.std.proofs.Common.{ℕ, zero, suc, ◌≡◌, ◌≤◌, ◌<◌, ◌+◌, true, false, ◌&&◌, ◌||◌, not, cond, List, [], ◌∷◌, map, length, length-append, arith, refl, sym, ap, ◌∙◌, subst, inl, inr, Option, Some, None}
+use Rattle.std.proofs.Common.{ℕ, zero, suc, ◌≡◌, ◌≤◌, ◌<◌, ◌+◌, true, false, ◌&&◌, ◌||◌, not, cond, List, [], ◌∷◌, map, length, length-append, arith, refl, sym, ap, ◌∙◌, subst, inl, inr, Option, Some, None, rules}
 use Rattle.std.specs.Prelude.{nat_le, ◌==◌}
 use Rattle.std.specs.Cmp.Lexicographic.{bytes_decides}
 use Rattle.std.specs.List.{Contains, list_any, list_all}
@@ -135,9 +135,7 @@ wanted_as_before : (m : Machine) (j : Job) → Contains m.jobs j → list_any (i
 wanted_as_before m j i = ap (λ b. list_any (λ s. is_waiting s && (is_ready j && watches j.tube s && not b)) m.seats) (paused_as_before m j i)
 
 next_job_as_before : (m : Machine) → next_job (forgetting m) ≡ next_job m
-next_job_as_before m =
-    first_of_agrees (λ j. list_any (is_waiting_for (forgetting m) j) m.seats) (λ j. list_any (is_waiting_for m j) m.seats) is_job_before m.jobs
-    (all_from_members (λ j. list_any (is_waiting_for (forgetting m) j) m.seats ≡ list_any (is_waiting_for m j) m.seats) m.jobs (wanted_as_before m))
+next_job_as_before m = search (rules, first_of_agrees, all_from_members, wanted_as_before)
 
 -- The end of a wait makes no job one that a waiting client may have.
 still_unwanted : (number : ℕ) (m : Machine) (j : Job) → list_any (is_waiting_for m j) m.seats ≡ false → list_any (is_waiting_for (with_seat number without_wait m) j) (with_seat number without_wait m).seats ≡ false
@@ -150,11 +148,7 @@ still_unwanted number m j h =
 
 still_dispatched : (number : ℕ) (m : Machine) → next_job m ≡ None → next_job (with_seat number without_wait m) ≡ None
 still_dispatched number m h =
-    first_of_none_passes (λ j. list_any (is_waiting_for (with_seat number without_wait m) j) (with_seat number without_wait m).seats) is_job_before m.jobs
-    (list_any_not (λ j. list_any (is_waiting_for (with_seat number without_wait m) j) (with_seat number without_wait m).seats) m.jobs
-    (all_weaker (λ j. list_any (is_waiting_for m j) m.seats ≡ false) (λ j. list_any (is_waiting_for (with_seat number without_wait m) j) (with_seat number without_wait m).seats ≡ false) m.jobs
-    (still_unwanted number m)
-    (none_pass (λ j. list_any (is_waiting_for m j) m.seats) m.jobs (first_of_none (λ j. list_any (is_waiting_for m j) m.seats) is_job_before m.jobs h))))
+    search (rules, first_of_none_passes, list_any_not, all_weaker, still_unwanted, none_pass, first_of_none)
 
 dispatched_through_ends : (first : Machine) (given : List GivenAnswer) (last : Machine) → next_job first ≡ None → Chain WaitEndTurn first given last → next_job last ≡ None
 dispatched_through_ends first [] last h chain = ap next_job chain ∙ h
@@ -220,25 +214,8 @@ numbered low (suc n) = ap (λ ns. low ∷ ns) (numbered (suc low) n)
 
 -- The machine is lawful at the start.
 pub new_is_lawful : (settings : Settings) → IsLawful (new_machine settings)
-new_is_lawful settings = record {
-  ids = omega arith;
-  next = λ e. omega arith;
-  next_fits = omega arith;
-  holders = refl;
-  seats = numbered 0 settings.seats;
-  waits = list_all_from is_open_wait (map empty_seat (numbers 0 settings.seats))
-      (all_of_map (λ s. is_open_wait s ≡ true) empty_seat (numbers 0 settings.seats) (all_always (λ n. is_open_wait (empty_seat n) ≡ true) (numbers 0 settings.seats) (λ n. refl)));
-  dispatched = refl;
-  wait_ends = first_of_none_passes (ends_waiting (new_machine settings)) is_wait_before (map empty_seat (numbers 0 settings.seats))
-      (list_any_not (ends_waiting (new_machine settings)) (map empty_seat (numbers 0 settings.seats))
-      (all_of_map (λ s. ends_waiting (new_machine settings) s ≡ false) empty_seat (numbers 0 settings.seats)
-      (all_always (λ n. ends_waiting (new_machine settings) (empty_seat n) ≡ false) (numbers 0 settings.seats) (λ n. refl))));
-  tubes = refl;
-  tube_order = refl;
-  watched = list_all_from watches_once (map empty_seat (numbers 0 settings.seats))
-      (all_of_map (λ s. watches_once s ≡ true) empty_seat (numbers 0 settings.seats) (all_always (λ n. watches_once (empty_seat n) ≡ true) (numbers 0 settings.seats) (λ n. refl)));
-  counts = refl;
-}
+new_is_lawful settings =
+    search (rules, numbered, list_all_from, all_of_map, all_always, first_of_none_passes, list_any_not)
 
 -- as many answers as the act gives
 pub length_addressed : (seat : ℕ) (o : Option Answer) → length (addressed seat o) ≡ answer_count o

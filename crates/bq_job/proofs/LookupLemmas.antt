@@ -1,5 +1,5 @@
 -- Jobs looked up by id in a list whose ids grow: after a change of each job, a removal and an addition.
-use Rattle.std.proofs.Common.{ℕ, suc, ◌≡◌, ◌≤◌, ◌<◌, false, not, cond, List, [], ◌∷◌, ◌++◌, map, arith, refl, sym, ◌∙◌, subst, inl, inr, Some, None}
+use Rattle.std.proofs.Common.{ℕ, suc, ◌≡◌, ◌≤◌, ◌<◌, false, not, cond, List, [], ◌∷◌, ◌++◌, map, arith, refl, sym, ◌∙◌, subst, inl, inr, Some, None, rules}
 use Rattle.std.specs.Prelude.{filter, option_map, ◌==◌}
 use Rattle.std.specs.List.{AllByRecursion as All, Contains}
 use Rattle.std.proofs.lemmas.Bool.{cases_Bool, eq-eqb, eqb-true, false_from_ne_true, both_ways}
@@ -59,20 +59,7 @@ job_found low next jobs j h i = all_at (λ k. (job_with k.id jobs ≡ Some k) ×
 pub job_in_rest : (removed id : ℕ) (jobs : List Job) → job_with id (filter (λ k. not (k.id == removed)) jobs) ≡ cond (id == removed) None (job_with id jobs)
 job_in_rest removed id [] = elim (cases_Bool (id == removed)) [ inl e ↦ rw e refl | inr e ↦ rw e refl ]
 job_in_rest removed id (j ∷ jobs) =
-    elim (cases_Bool (j.id == removed)) [
-      | inl e ↦ rw e (elim (cases_Bool (id == removed)) [
-        | inl f ↦ job_in_rest removed id jobs ∙ rw f refl
-        | inr f ↦
-            let other : (j.id == id) ≡ false = false_from_ne_true (j.id == id) (λ t. let a = eqb-true j.id id t in let b = eqb-true j.id removed e in both_ways (id == removed) f (eq-eqb id removed (sym a ∙ b))) in
-            job_in_rest removed id jobs ∙ rw (f, other) refl
-      ])
-      | inr e ↦ rw e (elim (cases_Bool (j.id == id)) [
-        | inl f ↦
-            let other : (id == removed) ≡ false = subst (λ n. (n == removed) ≡ false) (eqb-true j.id id f) e in
-            rw (f, other) refl
-        | inr f ↦ rw f (job_in_rest removed id jobs)
-      ])
-    ]
+    search (rules, cases_Bool, false_from_ne_true, eqb-true, both_ways, eq-eqb, job_in_rest removed id jobs)
 
 -- with one job more at the end
 pub job_in_more : (id : ℕ) (jobs : List Job) (j : Job) → (j.id == id) ≡ false → job_with id (jobs ++ j ∷ []) ≡ job_with id jobs

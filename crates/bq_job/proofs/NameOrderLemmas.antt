@@ -1,5 +1,5 @@
 -- Names in byte order, and the tubes that are listed.
-use Rattle.std.proofs.Common.{◌≡◌, ℕ, Bool, true, false, ◌&&◌, ◌||◌, if◌then◌else◌, List, [], ◌∷◌, ◌++◌, refl, sym, ap, ◌∙◌, map, append_assoc, append-nil, arith}
+use Rattle.std.proofs.Common.{◌≡◌, ℕ, Bool, true, false, ◌&&◌, ◌||◌, if◌then◌else◌, List, [], ◌∷◌, ◌++◌, refl, sym, ap, ◌∙◌, map, append_assoc, append-nil, arith, rules}
 use Rattle.std.proofs.Math.Bool.{or-false}
 use Rattle.std.specs.Prelude.{fold, flat_map}
 use Rattle.std.specs.List.{AllByRecursion as All, list_any}
@@ -43,11 +43,7 @@ not_before a b h = ap is_lt (nat_list_cmp_total.antisymm b a ∙ ap ordering_rev
 
 pub not_same : (a b : List ℕ) (same : Bool) → is_same_name b a ≡ same → is_name_before a b ≡ true → same ≡ false
 not_same a b false e h = refl
-not_same a b true e h =
-    let is : b ≡ a = (bytes_decides b a).0 e in
-    let one : is_name_before a a ≡ true = ap (λ x. is_name_before a x) (sym is) ∙ h in
-    let other = not_before a a one in
-    cc
+not_same a b true e h = search (rules, not_before)
 
 -- a name that is put behind one before it
 in_order_behind : (p n : List ℕ) (names : List (List ℕ)) → is_name_before p n ≡ true → is_in_order (p ∷ names) ≡ true → is_in_order (p ∷ with_name names n) ≡ true
@@ -86,8 +82,7 @@ in_order_from o (x ∷ names) first h = rw first.0 h
 put_last : (n : List ℕ) (names more : List (List ℕ)) → is_in_order (names ++ n ∷ more) ≡ true → with_name names n ≡ names ++ n ∷ []
 put_last n [] more h = refl
 put_last n (o ∷ names) more h =
-    let b = first_before o n names more h in
-    rw (not_same o n (is_same_name n o) refl b, not_before o n b) (ap (λ x. o ∷ x) (put_last n names more (rest_in_order o (names ++ n ∷ more) h)))
+    search (rules, first_before, not_same, not_before, rest_in_order, put_last n names more)
 
 pub stays_fold : (names so_far : List (List ℕ)) → is_in_order (so_far ++ names) ≡ true → fold with_name so_far names ≡ so_far ++ names
 stays_fold [] so_far h = sym (append-nil so_far)
@@ -119,13 +114,7 @@ or_assoc false b c = refl
 -- a name is among names to which one was added, if it is that one or was among them
 any_with : (p : List ℕ → Bool) (n : List ℕ) (names : List (List ℕ)) → list_any p (with_name names n) ≡ (p n || list_any p names)
 any_with p n [] = refl
-any_with p n (o ∷ names) = go (any_with p n names) (is_same_name n o) (is_name_before n o) refl
-  where
-    go : list_any p (with_name names n) ≡ (p n || list_any p names) → (same before : Bool) → is_same_name n o ≡ same
-        → list_any p (if same then o ∷ names else (if before then n ∷ o ∷ names else o ∷ with_name names n)) ≡ (p n || (p o || list_any p names))
-    go more true before e = or_twice (p o) (list_any p names) ∙ ap (λ x. p x || (p o || list_any p names)) (sym ((bytes_decides n o).0 e))
-    go more false true e = refl
-    go more false false e = ap (λ b. p o || b) more ∙ or_swap (p o) (p n) (list_any p names)
+any_with p n (o ∷ names) = search (rules, or_twice, or_swap, any_with p n names)
 
 any_fold : (p : List ℕ → Bool) (names so_far : List (List ℕ)) → list_any p (fold with_name so_far names) ≡ (list_any p so_far || list_any p names)
 any_fold p [] so_far = sym (or-false (list_any p so_far))

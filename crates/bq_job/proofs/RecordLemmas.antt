@@ -1,6 +1,6 @@
 -- What is kept beside jobs through a step: counts stay within their end, what is kept of tubes stays in
 -- order, and each seat watches at least one tube and none twice.
-use Rattle.std.proofs.Common.{ℕ, ◌≡◌, ◌≤◌, ◌+◌, Bool, true, cond, List, [], ◌∷◌, map, refl, sym, ap, ◌∙◌, subst, inl, inr, Option, arith}
+use Rattle.std.proofs.Common.{ℕ, ◌≡◌, ◌≤◌, ◌+◌, Bool, true, cond, List, [], ◌∷◌, map, refl, sym, ap, ◌∙◌, subst, inl, inr, Option, arith, rules}
 use Rattle.std.specs.Prelude.{nat_le, filter}
 use Rattle.std.specs.Cmp.Lexicographic.{bytes_decides}
 use Rattle.std.specs.List.{AllByRecursion as All}
@@ -100,17 +100,7 @@ pub booked_forgetting : (m : Machine) → Booked m → Booked (forgetting m)
 booked_forgetting m h = let order = ordered_filter (λ t. is_tube t.name m) m.tubes h.order in assumption
 
 pub booked_timers : (at : ℕ) (m : Machine) → Booked m → Booked (forgetting (after_timers (at_moment at m)))
-booked_timers at m h =
-    let now = (at_moment at m).moment in
-    booked_forgetting (after_timers (at_moment at m)) (record {
-      timeouts_fit = grown_fits _ m.timeouts;
-      puts_fit = h.puts_fit;
-      connections_fit = h.connections_fit;
-      burials_fit = h.burials_fit;
-      tickets_fit = h.tickets_fit;
-      order = ap is_in_order (keys_of_map (λ t. t.name) (tube_after_timers now) m.tubes (all_always (λ t. (tube_after_timers now t).name ≡ t.name) m.tubes (λ t. refl))) ∙ h.order;
-      watched = h.watched;
-    })
+booked_timers at m h = search (rules, booked_forgetting, grown_fits, keys_of_map, all_always)
 
 -- a tube's record is put in its place, and puts are counted
 booked_tube : (t : TubeRecord) (m : Machine) (puts : ℕ) → puts ≤ greatest → Booked m → Booked (record m { tubes = with_record t m.tubes; puts = puts })
