@@ -1,6 +1,6 @@
 -- What a command leaves: all that every part of a step keeps, and at most one client more that waits or
 -- is answered.
-use Rattle.std.proofs.Common.{◌⊎◌, ℕ, zero, suc, ◌≡◌, ◌≤◌, ◌+◌, Bool, true, false, not, cond, List, [], ◌∷◌, map, arith, refl, ap, ◌∙◌, inl, inr, Option, Some, None}
+use Rattle.std.proofs.Common.{◌⊎◌, ℕ, zero, suc, ◌≡◌, ◌≤◌, ◌+◌, Bool, true, not, cond, List, [], ◌∷◌, map, arith, refl, ap, ◌∙◌, inl, inr, Option, Some, None}
 use Rattle.std.specs.Prelude.{count_by, ◌==◌}
 use Rattle.std.specs.List.{AllByRecursion as All, Contains}
 use Rattle.std.proofs.lemmas.Bool.{cases_Bool, and_from, or_right, cond_both, eqb-true}
@@ -69,8 +69,7 @@ leaves_seat number f m answer h same stays waits_as =
     (no_more_wait number f m (λ s w. rw (waits_as s) at w))
 
 at_most_one : (b : Bool) → cond b 1 0 ≤ 1
-at_most_one true = omega arith
-at_most_one false = omega arith
+at_most_one b = grind (arith, common_steps, cases_Bool)
 
 -- A change of one seat makes at most one client more wait.
 one_more_waits : (f : SeatRecord → SeatRecord) (low n number : ℕ) (seats : List SeatRecord) → map (λ s. s.number) seats ≡ numbers low n → count_by is_waiting (map (λ s. cond (s.number == number) (f s) s) seats) ≤ count_by is_waiting seats + 1

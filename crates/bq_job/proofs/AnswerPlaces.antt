@@ -2,7 +2,7 @@
 use Rattle.std.proofs.Common.{ℕ, ◌≡◌, Bool, true, false, not, List, [], ◌∷◌, ◌++◌, arith, refl, sym, ap, ◌∙◌, subst, inl, inr, ◌⊎◌, Option, Some, None, append-nil}
 use Rattle.std.specs.Prelude.{IsTrue, filter, flat_map, ◌==◌}
 use Rattle.std.specs.List.{AllByRecursion as All, Contains}
-use Rattle.std.proofs.lemmas.Bool.{or_from, both_ways, cond_both}
+use Rattle.std.proofs.lemmas.Bool.{or_from, both_ways, cond_both, cases_Bool}
 use Rattle.std.proofs.lemmas.Bool.Decides.{nat_tests}
 use Rattle.std.proofs.lemmas.List.Elements.{Contains-append_cases}
 use Rattle.std.proofs.lemmas.List.Folds.{list_any-append}
@@ -21,7 +21,7 @@ use Rattle.bq_job.proofs.DispatchLemmas.{reserved_is_least, turn_of}
 use Rattle.bq_job.proofs.LawfulLemmas.{end_of}
 use Rattle.bq_job.proofs.ListLemmas.{all_always, all_at, all_of_filter}
 use Rattle.bq_job.proofs.LookupLemmas.{found_job}
-use Rattle.bq_job.proofs.OwnAnswerLemmas.{Tells, commonly, deleting, drains_acted, inserting, reserving, tells_acted}
+use Rattle.bq_job.proofs.OwnAnswerLemmas.{Tells, drains_acted, tells_acted}
 use Rattle.bq_job.proofs.EffectKinds.{is_common}
 
 -- an element of two lists that are joined: in the first, or in the second
@@ -76,8 +76,7 @@ abbrev AreOfDispatch : List GivenAnswer → Type 0
 AreOfDispatch given = All (λ g. is_of_dispatch g.1 ≡ true) given
 
 hand_out_answers : (m : Machine) (j : Job) (s : SeatRecord) (g : GivenAnswer) (n : Machine) → IsHandOut m j s g n → (is_of_dispatch g.1 ≡ true) × (n.draining ≡ m.draining)
-hand_out_answers m j s g n (inl h) = (ap (λ (g : GivenAnswer). is_of_dispatch g.1) h.0, ap (λ (l : Machine). l.draining) h.1)
-hand_out_answers m j s g n (inr h) = (ap (λ (g : GivenAnswer). is_of_dispatch g.1) h.0, ap (λ (l : Machine). l.draining) h.1)
+hand_out_answers m j s g n h = grind (arith, common_steps, cases_Bool)
 
 turns_answer : (m : Machine) (given : List GivenAnswer) (n : Machine) → Chain DispatchTurn m given n → AreOfDispatch given × (n.draining ≡ m.draining)
 turns_answer m [] n chain = (tt, ap (λ (l : Machine). l.draining) chain)
@@ -125,10 +124,7 @@ common_not : (answer : Answer) → is_common (Some answer) ≡ false → is_comm
 common_not answer h i = both_ways (is_common (Some answer)) h i
 
 reserves_by_id : (m : Machine) (seat : ℕ) (what : Step) (e : Effect) (id : ℕ) (body : List ℕ) → Tells m seat what e → e.answer ≡ Some (answers.Reserved id body) → what ≡ steps.Ask (requests.ReserveJob id)
-reserves_by_id m seat what e id body (commonly c) is = absurd (common_not (answers.Reserved id body) refl (ap is_common (sym is) ∙ c))
-reserves_by_id m seat what e id body (reserving other text asks told) is = grind (arith, common_steps)
-reserves_by_id m seat what e id body (inserting told d last) is = absurd (let same : Some (answers.Inserted m.next_id) ≡ Some (answers.Reserved id body) = sym told ∙ is in cc)
-reserves_by_id m seat what e id body (deleting other j asks found free told jobs) is = absurd (let same : Some answers.Deleted ≡ Some (answers.Reserved id body) = sym told ∙ is in cc)
+reserves_by_id m seat what e id body h is = grind (arith, common_steps, cases_Bool, common_not)
 
 -- the part of a step in which an answer stands
 data Place (handed ended own handed_then ended_then early : List GivenAnswer) (x : GivenAnswer) (more : List GivenAnswer) : Type 0 where
@@ -232,30 +228,7 @@ none_in_dispatch (g ∷ given) h = or_from (is_inserted g.1) (has_inserted given
     here answers.Closed e = refl
 
 common_not_inserted : (a : Answer) → is_common (Some a) ≡ true → is_inserted a ≡ false
-common_not_inserted (answers.Reserved id body) e = refl
-common_not_inserted answers.OutOfMemory e = refl
-common_not_inserted (answers.Inserted id) e = absurd cc
-common_not_inserted (answers.Found id body) e = refl
-common_not_inserted (answers.Ok text) e = refl
-common_not_inserted (answers.Using tube) e = refl
-common_not_inserted (answers.Watching count) e = refl
-common_not_inserted (answers.KickedCount count) e = refl
-common_not_inserted answers.Kicked e = refl
-common_not_inserted answers.Deleted e = refl
-common_not_inserted answers.Released e = refl
-common_not_inserted answers.Buried e = refl
-common_not_inserted answers.Touched e = refl
-common_not_inserted answers.Paused e = refl
-common_not_inserted answers.NotFound e = refl
-common_not_inserted answers.NotIgnored e = refl
-common_not_inserted answers.Draining e = refl
-common_not_inserted answers.TimedOut e = refl
-common_not_inserted answers.DeadlineSoon e = refl
-common_not_inserted answers.UnknownCommand e = refl
-common_not_inserted answers.BadFormat e = refl
-common_not_inserted answers.JobTooBig e = refl
-common_not_inserted answers.ExpectedCrlf e = refl
-common_not_inserted answers.Closed e = refl
+common_not_inserted a e = grind (arith, common_steps, cases_Bool)
 
 none_in_ends : (given : List GivenAnswer) → AreCommon given → has_inserted given ≡ false
 none_in_ends [] h = refl
@@ -315,10 +288,7 @@ none_after_drain first (u ∷ early) t more last goes drains = none_after_drain 
 
 -- the answers of a step after the last id
 last_id_drains : (m : Machine) (seat : ℕ) (what : Step) (e : Effect) → Tells m seat what e → e.answer ≡ Some (answers.Inserted last_id) → e.machine.draining ≡ true
-last_id_drains m seat what e (commonly c) is = absurd (common_not (answers.Inserted last_id) refl (ap is_common (sym is) ∙ c))
-last_id_drains m seat what e (reserving id body asks told) is = absurd (let same : Some (answers.Reserved id body) ≡ Some (answers.Inserted last_id) = sym told ∙ is in cc)
-last_id_drains m seat what e (inserting told free last) is = grind (arith, common_steps, nat_tests)
-last_id_drains m seat what e (deleting id j asks found free told jobs) is = absurd (let same : Some answers.Deleted ≡ Some (answers.Inserted last_id) = sym told ∙ is in cc)
+last_id_drains m seat what e h is = grind (arith, common_steps, cases_Bool, common_not, nat_tests)
 
 dispatch_not_inserted : (id : ℕ) → is_of_dispatch (answers.Inserted id) ≡ true → ⊥
 dispatch_not_inserted id e = cc
@@ -367,17 +337,13 @@ record Deletes (m : Machine) (seat : ℕ) (what : Step) (e : Effect) : Type 0 wh
 
 -- DELETED answers a delete.
 deletes : (m : Machine) (seat : ℕ) (what : Step) (e : Effect) → Tells m seat what e → e.answer ≡ Some answers.Deleted → Deletes m seat what e
-deletes m seat what e (commonly c) is = absurd (common_not answers.Deleted refl (ap is_common (sym is) ∙ c))
-deletes m seat what e (reserving id body asks told) is = absurd (let same : Some (answers.Reserved id body) ≡ Some answers.Deleted = sym told ∙ is in cc)
-deletes m seat what e (inserting told free last) is = absurd (let same : Some (answers.Inserted m.next_id) ≡ Some answers.Deleted = sym told ∙ is in cc)
-deletes m seat what e (deleting id j asks found free told jobs) is = record { id = id; job = j; asks = asks; found = found; free = free; jobs = jobs }
+deletes m seat what e h is = grind (arith, common_steps, cases_Bool, common_not)
 
 of_dispatch_not_deleted : is_of_dispatch answers.Deleted ≡ true → ⊥
 of_dispatch_not_deleted e = cc
 
 own_contains : (seat by : ℕ) (answer : Answer) (o : Option Answer) → Contains (addressed seat o) (by, answer) → (seat ≡ by) × (o ≡ Some answer)
-own_contains seat by answer None i = absurd (let less = i.1 in omega arith)
-own_contains seat by answer (Some given) i = grind (arith, common_steps, all_at)
+own_contains seat by answer o i = grind (arith, common_steps, cases_Bool, all_at)
 
 deletion_at : (t : Transition) (s : IsStep t.first t.entry.moment t.entry.seat t.entry.what t.outcome t.given t.last) (seat : ℕ)
     → Contains (own_answers t s.memory s.before) (seat, answers.Deleted) → IsDeletion (record t { parts = parts_of s }) seat

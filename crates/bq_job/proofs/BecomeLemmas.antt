@@ -2,7 +2,7 @@
 use Rattle.std.proofs.Common.{ℕ, zero, suc, ◌≡◌, Bool, true, false, ◌||◌, cond, List, [], ◌∷◌, sym, ap, ◌∙◌, refl, subst, inl, inr, Some, arith}
 use Rattle.std.specs.Prelude.{filter, take, ◌==◌}
 use Rattle.std.specs.List.{AllByRecursion as All, Contains, list_any}
-use Rattle.std.proofs.lemmas.Bool.{and_parts, or_cases, or_left, or_right, cond_both, eqb-true, eq-eqb}
+use Rattle.std.proofs.lemmas.Bool.{and_parts, or_cases, or_left, or_right, cond_both, eqb-true, eq-eqb, cases_Bool}
 use Rattle.std.proofs.lemmas.Grind.{common_steps}
 use Rattle.bq_job.specs.Types.{Job, JobState, Step}
 use Rattle.bq_job.specs.declared.job.JobState.TheVariants as states
@@ -24,19 +24,15 @@ pub held_not_ready : (seat : ℕ) (j : Job) → is_held_by seat j ≡ true → i
 held_not_ready seat j h i = grind (arith, common_steps)
 
 pub put_aside_not_held : (s : JobState) → (is_buried s || is_delayed s) ≡ true → is_reserved s ≡ true → ⊥
-put_aside_not_held (states.Reserved holder deadline) h i = absurd cc
-put_aside_not_held _ h i = absurd cc
+put_aside_not_held s h i = grind (arith, common_steps, cases_Bool)
 
 -- A held job that its holder gives up is told of,
 pub told_if_given_up : (what : Step) (id : ℕ) (before after : JobState) → is_reserved before ≡ true → is_reserved after ≡ false → list_any (disturbs id) (given_up what id) ≡ true → list_any (disturbs id) (change what id before after) ≡ true
-told_if_given_up what id (states.Reserved seat deadline) (states.Reserved holder until) held free told = absurd cc
-told_if_given_up what id (states.Reserved seat deadline) _ held free told = told
-told_if_given_up what id _ after held free told = absurd cc
+told_if_given_up what id before after held free told = grind (arith, common_steps, cases_Bool)
 
 -- and so is a ready one that somebody takes.
 pub told_if_taken : (what : Step) (id : ℕ) (before : JobState) (seat deadline : ℕ) → is_ready_state before ≡ true → list_any (disturbs id) (taken_up what id) ≡ true → list_any (disturbs id) (change what id before (states.Reserved seat deadline)) ≡ true
-told_if_taken what id states.Ready seat deadline ready told = told
-told_if_taken what id _ seat deadline ready told = absurd cc
+told_if_taken what id before seat deadline ready told = grind (arith, common_steps, cases_Bool)
 
 pub itself_told : (id : ℕ) → ((id == id) || false) ≡ true
 itself_told id = or_left (id == id) false (eq-eqb id id refl)

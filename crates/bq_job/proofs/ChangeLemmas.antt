@@ -2,14 +2,11 @@
 use Rattle.std.proofs.Common.{ℕ, suc, ◌≡◌, Bool, true, false, not, cond, List, [], ◌∷◌, ◌++◌, map, arith, refl, sym, ap, ◌∙◌, subst, inl, inr, ◌⊎◌, Option, Some, None, rules}
 use Rattle.std.specs.Prelude.{filter, flat_map, is_none, option_map, ◌==◌}
 use Rattle.std.specs.List.{AllByRecursion as All, Contains, list_any}
-use Rattle.std.proofs.lemmas.Bool.{or_left, or_right, or_cases, both_ways, cond_both, eqb-true, eq-eqb, false_from_ne_true}
+use Rattle.std.proofs.lemmas.Bool.{or_left, or_right, or_cases, both_ways, cond_both, eqb-true, eq-eqb, false_from_ne_true, cases_Bool}
 use Rattle.bq_job.specs.Types.{Job, JobState, Step}
-use Rattle.bq_job.specs.declared.job.JobState.TheVariants as states
-use Rattle.bq_job.specs.declared.request.Request.TheVariants as requests
-use Rattle.bq_job.specs.declared.step.Step.TheVariants as steps
 use Rattle.bq_job.specs.machine.{Machine.Machine, is_full, is_ready, is_reserved, job_with}
-use Rattle.bq_job.specs.laws.{Happening, buried, change, change_or_removal, changes, deleted, disturbs, given_up, named, put}
-use Rattle.bq_job.specs.laws.{released, removed, reserved_by_id, taken_up}
+use Rattle.bq_job.specs.laws.{Happening, change, change_or_removal, changes, deleted, disturbs, given_up, named, put}
+use Rattle.bq_job.specs.laws.{removed, taken_up}
 use Rattle.bq_job.specs.beside.{AreIdsWithin}
 use Rattle.bq_job.proofs.JobMoves.{Fate, GoesOnAs, Move, quiet, putting, is_plain}
 use Rattle.bq_job.proofs.ListLemmas.{all_from_members, all_of_append, all_of_filter, all_of_map, all_weaker, list_any_with}
@@ -60,32 +57,22 @@ plain_named : (other id : ℕ) (h : Happening) → is_plain h ≡ true → All (
 plain_named other id h p = cond_both (other == id) (h ∷ []) [] (All (λ h. is_plain h ≡ true)) (λ e. (p, tt)) (λ e. tt)
 
 plain_given_up : (what : Step) (id : ℕ) → All (λ h. is_plain h ≡ true) (given_up what id)
-plain_given_up (steps.Ask (requests.Release other pri delay)) id = plain_named other id (released id) refl
-plain_given_up (steps.Ask (requests.Bury other pri)) id = plain_named other id (buried id) refl
-plain_given_up steps.Close id = (refl, tt)
-plain_given_up _ id = tt
+plain_given_up what id = grind (arith, common_steps, cases_Bool, plain_named)
 
 plain_taken_up : (what : Step) (id : ℕ) → All (λ h. is_plain h ≡ true) (taken_up what id)
-plain_taken_up (steps.Ask (requests.ReserveJob other)) id = plain_named other id (reserved_by_id id) refl
-plain_taken_up _ id = tt
+plain_taken_up what id = grind (arith, common_steps, cases_Bool, plain_named)
 
 plain_removed : (what : Step) (id : ℕ) → All (λ h. is_plain h ≡ true) (removed what id)
-plain_removed (steps.Ask (requests.Delete other)) id = plain_named other id (deleted id) refl
-plain_removed _ id = tt
+plain_removed what id = grind (arith, common_steps, cases_Bool, plain_named)
 
 plain_change : (what : Step) (id : ℕ) (before after : JobState) → All (λ h. is_plain h ≡ true) (change what id before after)
-plain_change what id (states.Reserved seat deadline) (states.Reserved holder until) = tt
-plain_change what id (states.Reserved seat deadline) _ = plain_given_up what id
-plain_change what id _ (states.Reserved holder until) = plain_taken_up what id
-plain_change what id _ _ = tt
+plain_change what id before after = grind (arith, common_steps, cases_Bool, plain_given_up, plain_taken_up)
 
 no_change : (what : Step) (id : ℕ) (state : JobState) → change what id state state ≡ []
-no_change what id states.Ready = refl
-no_change what id _ = refl
+no_change what id state = grind (arith, common_steps, cases_Bool)
 
 plain_change_or_removal : (what : Step) (j : Job) (o : Option Job) → All (λ h. is_plain h ≡ true) (change_or_removal what j o)
-plain_change_or_removal what j None = plain_removed what j.id
-plain_change_or_removal what j (Some k) = plain_change what j.id j.state k.state
+plain_change_or_removal what j o = grind (arith, common_steps, cases_Bool, plain_removed, plain_change)
 
 all_of_parts : {X Y : Type 0} (P : Y → Type 0) (g : X → List Y) (xs : List X) → ((x : X) → All P (g x)) → All P (flat_map g xs)
 all_of_parts P g [] h = tt

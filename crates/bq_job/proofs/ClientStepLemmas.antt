@@ -61,8 +61,7 @@ gets_quiet client first last seat what given p takes untold waits connects =
     grind (arith, common_steps, acted_fully, answers_append, unclosed_append)
 
 end_untold : (m : Machine) (o : Option SeatRecord) → (at_found end_effect m o).answer ≡ None
-end_untold m None = refl
-end_untold m (Some s) = cond_both s.connected (silent (with_seat s.number with_end m)) (silent m) (λ e. e.answer ≡ None) (λ e. refl) (λ e. refl)
+end_untold m o = grind (arith, common_steps, cases_Bool, cond_both)
 
 end_waits : (client : ℕ) (m : Machine) (o : Option SeatRecord) → waits_in client ((at_found end_effect m o).machine).seats ≡ waits_in client m.seats
 end_waits client m None = refl
@@ -77,26 +76,20 @@ end_connects client m (Some s) =
     (λ e. changed_quiet client s.number with_end (λ t. t.connected) m.seats (λ t. refl) (λ t. refl)) (λ e. refl)
 
 none_waited : (n : ℕ) (b : Bool) → n + one_for b ≡ 0 → (n ≡ 0) × (b ≡ false)
-none_waited n true h = absurd (omega arith)
-none_waited n false h = (omega arith, refl)
+none_waited n b h = grind (arith, common_steps, cases_Bool)
 
 no_length : (xs : List Answer) → length xs ≡ 0 → xs ≡ []
-no_length [] h = refl
-no_length (x ∷ xs) h = absurd (omega arith)
+no_length xs h = grind (arith, common_steps, cases_Bool)
 
 addressed_told : (seat : ℕ) (o : Option Answer) → answers_to seat (addressed seat o) ≡ told o
-addressed_told seat None = refl
-addressed_told seat (Some answer) = rw (eq-eqb seat seat refl) refl
+addressed_told seat o = grind (arith, common_steps, cases_Bool, eq-eqb)
 
 -- the answers to the client that takes the step
 answers_of_parts : (seat : ℕ) (o : Option Answer) (early late given : List GivenAnswer) → given ≡ early ++ (addressed seat o ++ late) → answers_to seat given ≡ answers_to seat early ++ (told o ++ answers_to seat late)
 answers_of_parts seat o early late given e = grind (arith, common_steps, answers_append, addressed_told)
 
 no_wait : (here connected waits : Bool) → (not waits || connected) ≡ true → (here && connected) ≡ false → (here && waits) ≡ false
-no_wait false connected waits h i = refl
-no_wait true true waits h i = absurd cc
-no_wait true false true h i = absurd cc
-no_wait true false false h i = refl
+no_wait here connected waits h i = grind (arith, common_steps, cases_Bool)
 
 -- Where nobody is connected nobody waits.
 unconnected_waits_not : (seat : ℕ) (seats : List SeatRecord) → All (λ s. is_open_wait s ≡ true) seats → connected_in seat seats ≡ false → waits_in seat seats ≡ false
@@ -189,10 +182,7 @@ tick_gives_client first last at seat client outcome given s =
     gets_quiet client first last seat steps.Tick given (parts_of client first last at seat steps.Tick outcome given s) refl (λ m. refl) (λ m. refl) (λ m. refl)
 
 over_by_end : (waits soon past ended : Bool) → ended ≡ true → (waits && (soon || (past || ended))) ≡ false → waits ≡ false
-over_by_end false soon past ended e h = refl
-over_by_end true true past ended e h = absurd cc
-over_by_end true false true ended e h = absurd cc
-over_by_end true false false ended e h = absurd cc
+over_by_end waits soon past ended e h = grind (arith, common_steps, cases_Bool)
 
 -- Who sends no more waits no more: no wait would end after the step.
 gives_end : (first last : Machine) (seat : ℕ) (given : List GivenAnswer) → IsLawful first → IsLawful last → seat < first.settings.seats → Parts seat first last seat steps.End given → connected_in seat first.seats ≡ true → owing seat last ≡ 0
@@ -302,8 +292,7 @@ chain_settings Turns first [] last each chain = ap (λ (n : Machine). n.settings
 chain_settings Turns first (g ∷ given) last each chain = chain_settings Turns chain.0 given last each chain.2 ∙ each first g chain.0 chain.1
 
 hand_out_settings : (m : Machine) (j : Job) (s : SeatRecord) (given : GivenAnswer) (next : Machine) → IsHandOut m j s given next → next.settings ≡ m.settings
-hand_out_settings m j s given next (inl h) = ap (λ (n : Machine). n.settings) h.1
-hand_out_settings m j s given next (inr h) = ap (λ (n : Machine). n.settings) h.1
+hand_out_settings m j s given next h = grind (arith, common_steps, cases_Bool)
 
 serves_settings : (first : Machine) (handed ended : List GivenAnswer) (last : Machine) → Serves first handed ended last → last.settings ≡ first.settings
 serves_settings first handed ended last s = grind (arith, common_steps, chain_settings, end_of, turn_of, hand_out_settings)

@@ -35,8 +35,7 @@ handed_to_turns rest m j None goes e f = refl
 handed_to_turns rest m j (Some s) goes e f = (after_hand_out m j s, hand_out_turn m j s e f, goes (after_hand_out m j s))
 
 handed_out_turns : (rest : Machine → Served) (m : Machine) (o : Option Job) → ((n : Machine) → Chain DispatchTurn n (rest n).given (rest n).machine) → next_job m ≡ o → Chain DispatchTurn m (handed_out rest m o).given (handed_out rest m o).machine
-handed_out_turns rest m None goes e = refl
-handed_out_turns rest m (Some j) goes e = handed_to_turns rest m j (next_seat m j) goes e refl
+handed_out_turns rest m o goes e = grind (arith, common_steps, cases_Bool, handed_to_turns)
 
 -- Every turn of dispatch that is computed is a turn,
 pub dispatched_turns : (turns : ℕ) (m : Machine) → Chain DispatchTurn m (dispatched turns m).given (dispatched turns m).machine
@@ -45,12 +44,10 @@ dispatched_turns (suc turns) m = handed_out_turns (λ next. dispatched turns nex
 
 -- no share is refused in them,
 handed_to_shared : (rest : Machine → Served) (m : Machine) (j : Job) (o : Option SeatRecord) → ((n : Machine) → has_refused_share (rest n).given ≡ false) → has_refused_share (handed_to rest m j o).given ≡ false
-handed_to_shared rest m j None goes = refl
-handed_to_shared rest m j (Some s) goes = goes (after_hand_out m j s)
+handed_to_shared rest m j o goes = grind (arith, common_steps, cases_Bool)
 
 handed_out_shared : (rest : Machine → Served) (m : Machine) (o : Option Job) → ((n : Machine) → has_refused_share (rest n).given ≡ false) → has_refused_share (handed_out rest m o).given ≡ false
-handed_out_shared rest m None goes = refl
-handed_out_shared rest m (Some j) goes = handed_to_shared rest m j (next_seat m j) goes
+handed_out_shared rest m o goes = grind (arith, common_steps, cases_Bool, handed_to_shared)
 
 pub dispatched_shared : (turns : ℕ) (m : Machine) → has_refused_share (dispatched turns m).given ≡ false
 dispatched_shared zero m = refl

@@ -172,8 +172,7 @@ pub record Connects (t : ℕ) (more : List Step) (given : List Answer) (last : M
   pub answers_are : given ≡ answers_to t rest
 
 pub none_in : {X : Type 0} (xs : List X) → length xs ≤ 0 → xs ≡ []
-none_in [] h = refl
-none_in (x ∷ xs) h = absurd (omega arith)
+none_in xs h = grind (arith, common_steps, cases_Bool)
 
 -- who waits for nothing gets nothing
 gets_nothing : (m next : Machine) (t : ℕ) (given : List Answer) → owing t m ≡ 0 → GetsWhatWaits m next t given → (given ≡ []) × (owing t next ≡ 0)
@@ -295,12 +294,10 @@ within_asked [] told h = h
 within_asked (r ∷ asked) told h = within_asked asked told h
 
 within_line : (seen : LineHeard) (asked : List Request) (told : List Step) → MayTellEnd seen asked told → are_within (map steps.Ask asked ++ told) ≡ true
-within_line seen asked told (inl e) = within_asked asked told (ap are_within e)
-within_line seen asked told (inr e) = within_asked asked told (ap are_within e.0)
+within_line seen asked told h = grind (arith, common_steps, cases_Bool, within_asked)
 
 told_wants : (seen : LineHeard) (asked : List Request) (told : List Step) → MayTellEnd seen asked told → wanted told ≡ 0
-told_wants seen asked told (inl e) = ap wanted e
-told_wants seen asked told (inr e) = ap wanted e.0
+told_wants seen asked told h = grind (arith, common_steps, cases_Bool)
 
 line_wants : (seen : LineHeard) (asked : List Request) (told : List Step) → MayTellEnd seen asked told → wanted (map steps.Ask asked ++ told) ≡ answered_count asked
 line_wants seen asked told e = omega (arith, wanted_append (map steps.Ask asked) told, told_wants seen asked told e)

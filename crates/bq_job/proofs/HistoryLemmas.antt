@@ -1,7 +1,7 @@
 -- A run that is computed, as part of a history; and the lines of a door, each with its steps.
 use Rattle.std.proofs.Common.{◌≡◌, ℕ, suc, Bool, true, false, List, [], ◌∷◌, ◌++◌, map, length, Option, ◌⊎◌, refl, ap, inl, arith, rules}
 use Rattle.std.specs.List.{list_any}
-use Rattle.std.proofs.lemmas.Bool.{or_right}
+use Rattle.std.proofs.lemmas.Bool.{or_right, cases_Bool}
 use Rattle.std.proofs.lemmas.Grind.{common_steps}
 use Rattle.bq_job.specs.Types.{Answer, Request, Step}
 use Rattle.bq_job.specs.declared.request.Request.TheVariants.{Reserve}
@@ -72,8 +72,7 @@ same_many (first ∷ firsts) (second ∷ seconds) h = ap suc (same_many firsts s
 
 -- nothing ends by a step
 pub none_behind : (xs : List Step) → [] ≡ xs ++ steps.Gone ∷ [] → ⊥
-none_behind [] e = absurd cc
-none_behind (x ∷ xs) e = absurd cc
+none_behind xs e = grind (arith, common_steps, cases_Bool)
 
 abbrev is_close : Step → Bool
 is_close steps.Close = true

@@ -1,12 +1,11 @@
 -- A job that was put is there until it is deleted, and one client at most holds it.
-use Rattle.std.proofs.Common.{ℕ, ◌≡◌, ◌<◌, true, false, cond, List, [], ◌∷◌, ◌++◌, map, arith, refl, sym, ap, ◌∙◌, subst, inl, inr, ◌⊎◌, Option, Some, None}
+use Rattle.std.proofs.Common.{ℕ, ◌≡◌, ◌<◌, true, false, cond, List, [], ◌∷◌, ◌++◌, map, arith, refl, sym, ap, ◌∙◌, subst, inl, inr, ◌⊎◌, Option, Some}
 use Rattle.std.specs.Prelude.{option_map, ◌==◌}
 use Rattle.std.specs.List.{AllByRecursion as All, Contains, list_any}
-use Rattle.std.proofs.lemmas.Bool.{and_parts, and_from, or_parts, both_ways, cond_both, eqb-true, eq-eqb}
+use Rattle.std.proofs.lemmas.Bool.{and_parts, and_from, or_parts, both_ways, cond_both, eqb-true, eq-eqb, cases_Bool}
 use Rattle.std.proofs.lemmas.List.Folds.{list_any-append}
 use Rattle.std.proofs.lemmas.Grind.{common_steps}
 use Rattle.bq_job.specs.Types.{Job, JobState}
-use Rattle.bq_job.specs.declared.job.JobState.TheVariants as states
 use Rattle.bq_job.specs.machine.{Machine.Machine, SeatRecord, Settings, is_connected_at, is_held_by, is_holder, is_reserved, job_with}
 use Rattle.bq_job.specs.machine.{new_machine, reserved_by}
 use Rattle.bq_job.specs.laws.{Happening, IsHeldByOne, IsKept, Part, happenings, is_deletion, parts_of_run, put}
@@ -29,8 +28,7 @@ pub record IsThere (j : Job) (m : Machine) : Type 0 where
   pub body : job.body ≡ j.body
 
 there_by_fate : (j : Job) (m n : Machine) (happened : List Happening) (h : IsThere j m) (o : Option Job) → job_with j.id n.jobs ≡ o → n.next_id ≡ m.next_id → Fate j.id happened (Some h.job) o → list_any (is_deletion j.id) happened ≡ false → IsThere j n
-there_by_fate j m n happened h None e next fate none = absurd (both_ways (list_any (is_deletion j.id) happened) none fate)
-there_by_fate j m n happened h (Some k) e next fate none = record { job = k; found = e; below = let less = h.below in omega arith; tube = fate.tube ∙ h.tube; body = fate.body ∙ h.body }
+there_by_fate j m n happened h o e next fate none = grind (arith, common_steps, cases_Bool, both_ways)
 
 there_after : (j : Job) (m n : Machine) (happened : List Happening) → Move m happened n → list_any (is_deletion j.id) happened ≡ false → IsThere j m → IsThere j n
 there_after j m n happened (quiet q) none h =
@@ -92,16 +90,10 @@ accepted_is_kept settings taken last early late p j goes split accepted none =
     }
 
 one_holder : (seat other : ℕ) (s : JobState) → is_holder seat s ≡ true → is_holder other s ≡ true → seat ≡ other
-one_holder seat other states.Ready h i = absurd cc
-one_holder seat other (states.Delayed due) h i = absurd cc
-one_holder seat other (states.Reserved holder deadline) h i = sym (eqb-true holder seat h) ∙ eqb-true holder other i
-one_holder seat other (states.Buried number) h i = absurd cc
+one_holder seat other s h i = grind (arith, common_steps, cases_Bool, eqb-true)
 
 held_is_reserved : (seat : ℕ) (s : JobState) → is_holder seat s ≡ true → is_reserved s ≡ true
-held_is_reserved seat states.Ready h = absurd cc
-held_is_reserved seat (states.Delayed due) h = absurd cc
-held_is_reserved seat (states.Reserved holder deadline) h = refl
-held_is_reserved seat (states.Buried number) h = absurd cc
+held_is_reserved seat s h = grind (arith, common_steps, cases_Bool)
 
 map_same : (seats : List SeatRecord) → map (λ (s : SeatRecord). s) seats ≡ seats
 map_same [] = refl

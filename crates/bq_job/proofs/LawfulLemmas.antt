@@ -3,7 +3,7 @@ use Rattle.std.proofs.Common.{ℕ, zero, suc, ◌≡◌, ◌≤◌, ◌<◌, ◌
 use Rattle.std.specs.Prelude.{nat_le, ◌==◌}
 use Rattle.std.specs.Cmp.Lexicographic.{bytes_decides}
 use Rattle.std.specs.List.{Contains, list_any, list_all}
-use Rattle.std.proofs.lemmas.Bool.{eq-eqb, or_left, or_right, cond_both, le-leb}
+use Rattle.std.proofs.lemmas.Bool.{eq-eqb, or_left, or_right, cond_both, le-leb, cases_Bool}
 use Rattle.std.proofs.lemmas.List.{length-map}
 use Rattle.std.proofs.lemmas.List.Sums.{count_by-le-length}
 use Rattle.std.proofs.lemmas.Grind.{common_steps}
@@ -11,9 +11,9 @@ use Rattle.bq_job.specs.Types.{Answer, Job, Step}
 use Rattle.bq_job.specs.declared.job.JobState.TheVariants as states
 use Rattle.bq_job.specs.machine.{Chain, DispatchTurn, Dispatches, EndsWaits, GivenAnswer, IsHandOut, IsStep, Machine.Machine, Memory}
 use Rattle.bq_job.specs.machine.{Outcome, SeatRecord, Serves, Settings, TubeRecord, WaitEndTurn, acted, addressed, after_timers, at_moment}
-use Rattle.bq_job.specs.machine.{default_tube, empty_seat, end_of_wait, ends_waiting, forgetting, granted, greatest}
-use Rattle.bq_job.specs.machine.{growth_refused, in_state, is_job_before, is_paused, is_ready, is_seated_at, is_tube}
-use Rattle.bq_job.specs.machine.{is_wait_before, is_waiting, is_waiting_for, job_after_timers, new_machine, next_end, next_job, next_seat}
+use Rattle.bq_job.specs.machine.{default_tube, empty_seat, end_of_wait, forgetting, granted, greatest}
+use Rattle.bq_job.specs.machine.{growth_refused, in_state, is_paused, is_ready, is_seated_at, is_tube}
+use Rattle.bq_job.specs.machine.{is_waiting, is_waiting_for, job_after_timers, new_machine, next_end, next_job, next_seat}
 use Rattle.bq_job.specs.machine.{numbers, reserved_by, share_refused, watches, with_job, with_seat, with_timeout, without_wait}
 use Rattle.bq_job.specs.beside.{IsLawful, has_open_holder, waiting_count, watches_once}
 use Rattle.bq_job.specs.reading.TubeName.{is_same_name}
@@ -219,8 +219,7 @@ new_is_lawful settings =
 
 -- as many answers as the act gives
 pub length_addressed : (seat : ℕ) (o : Option Answer) → length (addressed seat o) ≡ answer_count o
-length_addressed seat None = refl
-length_addressed seat (Some answer) = refl
+length_addressed seat o = grind (arith, common_steps, cases_Bool)
 
 -- as many seats as the machine was made with
 length_numbers : (low n : ℕ) → length (numbers low n) ≡ n

@@ -1,5 +1,5 @@
 -- There are never more jobs than there may be.
-use Rattle.std.proofs.Common.{ℕ, suc, ◌≡◌, ◌≤◌, Bool, false, not, cond, List, [], ◌∷◌, length, arith, refl, sym, ap, ◌∙◌, subst, inl, inr, Option, Some, None}
+use Rattle.std.proofs.Common.{ℕ, suc, ◌≡◌, ◌≤◌, Bool, false, not, cond, List, [], ◌∷◌, length, arith, refl, sym, ap, ◌∙◌, subst, inl, inr, Option, Some}
 use Rattle.std.specs.Prelude.{filter, ◌==◌}
 use Rattle.std.specs.List.{AllByRecursion as All, Contains}
 use Rattle.std.proofs.lemmas.Bool.{cases_Bool, leb-false}
@@ -65,8 +65,7 @@ rest_no_longer p (j ∷ jobs) = grind (arith, common_steps, cases_Bool, rest_no_
 
 -- Where there is a place for a job, there may be one job more.
 one_more_fits : (limit : Option ℕ) (jobs : List Job) (most : ℕ) → is_full limit jobs ≡ false → limit ≡ Some most → suc (length jobs) ≤ most
-one_more_fits None jobs most free e = absurd cc
-one_more_fits (Some limit) jobs most free e = let same : limit ≡ most = (cc) in let above = leb-false limit (length jobs) free in omega arith
+one_more_fits limit jobs most free e = grind (arith, common_steps, cases_Bool, leb-false)
 
 -- A command adds a job only where there is a place for it.
 by_command : (settings : Settings) (what : Step) (m n : Machine) → n.settings ≡ m.settings → After what m n → IsWithin settings m → IsWithin settings n

@@ -1,16 +1,15 @@
 -- The first line of a text, and of a text that goes on.
-use Rattle.std.proofs.Common.{◌≡◌, ℕ, Bool, true, false, ◌==◌, ◌&&◌, List, [], ◌∷◌, ◌++◌, Option, Some, None, ◌⊎◌, inl, inr, refl, ap, arith, option_map, if◌then◌else◌}
+use Rattle.std.proofs.Common.{◌≡◌, ℕ, Bool, true, false, ◌==◌, ◌&&◌, List, [], ◌∷◌, ◌++◌, Option, Some, ◌⊎◌, inl, inr, refl, ap, arith, option_map, if◌then◌else◌, rules}
 use Rattle.std.proofs.lemmas.Bool.Decides.{nat_tests}
 use Rattle.std.proofs.lemmas.Grind.{common_steps}
+use Rattle.std.proofs.lemmas.Bool.{cases_Bool}
 use Rattle.bq_job.specs.reading.Line.{first_line, onto_line, are_line_end}
 
 -- a first line ends at the first two bytes, or behind the first byte
 pub first_line_cases : (t : Bool) (a : ℕ) (bytes : List ℕ) (later : Option (List ℕ × List ℕ)) (l : List ℕ × List ℕ)
     → (if t then Some ([], bytes) else option_map (onto_line a) later) ≡ Some l
     → ((t ≡ true) × (([], bytes) ≡ l)) ⊎ ((m : List ℕ × List ℕ) × (t ≡ false) × (later ≡ Some m) × (onto_line a m ≡ l))
-first_line_cases true a bytes later l e = inl (refl, cc)
-first_line_cases false a bytes None l e = cc
-first_line_cases false a bytes (Some m) l e = inr (m, refl, refl, cc)
+first_line_cases t a bytes later l e = grind (arith, common_steps, cases_Bool)
 
 -- a text that goes on has the same first line
 pub first_line-append : (text more : List ℕ) (l : List ℕ × List ℕ) → first_line text ≡ Some l → first_line (text ++ more) ≡ Some (l.0, l.1 ++ more)
@@ -42,8 +41,7 @@ no_end-cr a = elim (a == 13) as (λ t. (t && false) ≡ false) [ true ↦ refl |
 -- a byte in front of a line, and of what follows the line
 first_line-onto : (a b : ℕ) (bytes after other line : List ℕ) → are_line_end a b ≡ false → b ∷ bytes ≡ line ++ 13 ∷ 10 ∷ after
     → first_line (line ++ 13 ∷ 10 ∷ other) ≡ Some (line, other) → first_line (a ∷ (line ++ 13 ∷ 10 ∷ other)) ≡ Some (a ∷ line, other)
-first_line-onto a b bytes after other [] f e ih = rw (no_end-cr a)
-first_line-onto a b bytes after other (c ∷ line) f e ih = grind (arith, common_steps)
+first_line-onto a b bytes after other line f e ih = search (rules, cases_Bool, no_end-cr, common_steps)
 
 -- the first line is the same, whatever comes after its CR LF
 pub first_line_again : (text other : List ℕ) (l : List ℕ × List ℕ) → first_line text ≡ Some l → first_line (l.0 ++ 13 ∷ 10 ∷ other) ≡ Some (l.0, other)

@@ -7,6 +7,7 @@ use Rattle.std.proofs.lemmas.List.Concat.{flat_map-cons}
 use Rattle.std.proofs.lemmas.List.Elements.{All-from_recursion, recursion_from_All, All-contains, All-contains_itself, Contains-append_right}
 use Rattle.std.proofs.lemmas.List.Folds.{list_any-from_Any}
 use Rattle.std.proofs.lemmas.List.Sums.{sum_by-cons}
+use Rattle.std.proofs.lemmas.Grind.{common_steps}
 
 -- what is the head of a list, or in its rest
 pub contains_head : {X : Type 0} (x : X) (xs : List X) → Contains (x ∷ xs) x
@@ -94,15 +95,10 @@ pub count_cons : {X : Type 0} (p : X → Bool) (x : X) (xs : List X) → count_b
 count_cons p x xs = sum_by-cons (λ x. cond (p x) 1 0) x xs
 
 one_or_none : (b c : Bool) → (c ≡ true → b ≡ true) → cond c 1 0 ≤ cond b 1 0
-one_or_none true true w = omega arith
-one_or_none true false w = omega arith
-one_or_none false true w = absurd (let e = w refl in cc)
-one_or_none false false w = omega arith
+one_or_none b c w = grind (arith, common_steps, cases_Bool)
 
 none_after_one : (b c : Bool) → (b && not c) ≡ true → cond c 1 0 < cond b 1 0
-none_after_one true true h = absurd cc
-none_after_one true false h = omega arith
-none_after_one false c h = absurd cc
+none_after_one b c h = grind (arith, common_steps, cases_Bool)
 
 -- Where the change makes nobody pass, no more pass,
 pub count_of_map : {X : Type 0} (p : X → Bool) (f : X → X) (xs : List X) → All (λ x. p (f x) ≡ true → p x ≡ true) xs → count_by p (map f xs) ≤ count_by p xs

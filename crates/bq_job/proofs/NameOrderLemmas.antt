@@ -1,15 +1,16 @@
 -- Names in byte order, and the tubes that are listed.
-use Rattle.std.proofs.Common.{◌≡◌, ℕ, Bool, true, false, ◌&&◌, ◌||◌, if◌then◌else◌, List, [], ◌∷◌, ◌++◌, refl, sym, ap, ◌∙◌, map, append_assoc, append-nil, arith, rules}
+use Rattle.std.proofs.Common.{◌≡◌, ℕ, Bool, true, false, ◌&&◌, ◌||◌, List, [], ◌∷◌, ◌++◌, refl, sym, ap, ◌∙◌, map, append_assoc, append-nil, arith, rules}
 use Rattle.std.proofs.Math.Bool.{or-false}
 use Rattle.std.specs.Prelude.{fold, flat_map}
 use Rattle.std.specs.List.{AllByRecursion as All, list_any}
-use Rattle.std.specs.Cmp.Lexicographic.{slice_cmp, bytes_decides}
+use Rattle.std.specs.Cmp.Lexicographic.{slice_cmp}
 use Rattle.std.specs.Ordering.{nat_cmp, is_lt, ordering_reverse}
 use Rattle.std.specs.declared.cmp.Ordering.{Ordering}
-use Rattle.std.specs.declared.cmp.Ordering.TheVariants.{Less, Equal, Greater}
+use Rattle.std.specs.declared.cmp.Ordering.TheVariants.{Less}
 use Rattle.std.proofs.lemmas.Cmp.{nat_list_cmp_total}
 use Rattle.std.proofs.lemmas.Map.Lookups.{exact_bytes}
 use Rattle.std.proofs.lemmas.Grind.{common_steps}
+use Rattle.std.proofs.lemmas.Bool.{cases_Bool}
 use Rattle.bq_job.specs.declared.job.Job.{Job}
 use Rattle.bq_job.specs.machine.{Machine.Machine, SeatRecord, is_name_before, is_seated_at, is_tube, seated_tubes, tubes}
 use Rattle.bq_job.specs.machine.{with_name}
@@ -18,19 +19,14 @@ use Rattle.bq_job.specs.reading.TubeName.{is_same_name}
 use Rattle.bq_job.proofs.ListLemmas.{all_weaker}
 
 both : (a b : Bool) → (a && b) ≡ true → (a ≡ true) × (b ≡ true)
-both true b e = (refl, e)
-both false b e = cc
+both a b e = grind (arith, common_steps, cases_Bool)
 
 is_Less : (r : Ordering) → is_lt r ≡ true → r ≡ Less
-is_Less Less e = refl
-is_Less Equal e = cc
-is_Less Greater e = cc
+is_Less r e = grind (arith, common_steps, cases_Bool)
 
 -- a name that is another one, or comes before it, or else comes after it
 comes_after : (a b : List ℕ) (r : Ordering) → slice_cmp nat_cmp a b ≡ r → is_same_name a b ≡ false → is_name_before a b ≡ false → is_name_before b a ≡ true
-comes_after a b Less e same before = let h : is_name_before a b ≡ true = ap is_lt e in cc
-comes_after a b Equal e same before = let h : is_same_name a b ≡ true = (bytes_decides a b).1 (exact_bytes a b e) in cc
-comes_after a b Greater e same before = ap is_lt (nat_list_cmp_total.antisymm b a ∙ ap ordering_reverse e)
+comes_after a b r e same before = search (rules, cases_Bool, exact_bytes, nat_list_cmp_total)
 
 pub after : (a b : List ℕ) → is_same_name a b ≡ false → is_name_before a b ≡ false → is_name_before b a ≡ true
 after a b = comes_after a b (slice_cmp nat_cmp a b) refl
@@ -42,8 +38,7 @@ pub not_before : (a b : List ℕ) → is_name_before a b ≡ true → is_name_be
 not_before a b h = ap is_lt (nat_list_cmp_total.antisymm b a ∙ ap ordering_reverse (is_Less _ h))
 
 pub not_same : (a b : List ℕ) (same : Bool) → is_same_name b a ≡ same → is_name_before a b ≡ true → same ≡ false
-not_same a b false e h = refl
-not_same a b true e h = search (rules, not_before)
+not_same a b same e h = search (rules, cases_Bool, not_before)
 
 -- a name that is put behind one before it
 in_order_behind : (p n : List ℕ) (names : List (List ℕ)) → is_name_before p n ≡ true → is_in_order (p ∷ names) ≡ true → is_in_order (p ∷ with_name names n) ≡ true
@@ -64,8 +59,7 @@ first_before o n [] more h = (both _ _ h).0
 first_before o n (x ∷ names) more h = let k = both _ _ h in before_trans o x n k.0 (first_before x n names more k.1)
 
 pub rest_in_order : (o : List ℕ) (names : List (List ℕ)) → is_in_order (o ∷ names) ≡ true → is_in_order names ≡ true
-rest_in_order o [] h = refl
-rest_in_order o (x ∷ names) h = (both _ _ h).1
+rest_in_order o names h = grind (arith, common_steps, cases_Bool, both)
 
 -- the first of names in order comes before all others, and a name that does may stand first
 pub first_of_order : (o : List ℕ) (names : List (List ℕ)) → is_in_order (o ∷ names) ≡ true → All (λ n. is_name_before o n ≡ true) names
@@ -75,8 +69,7 @@ first_of_order o (x ∷ names) h =
     (k.0, all_weaker (λ n. is_name_before x n ≡ true) (λ n. is_name_before o n ≡ true) names (λ n. before_trans o x n k.0) (first_of_order x names k.1))
 
 pub in_order_from : (o : List ℕ) (names : List (List ℕ)) → All (λ n. is_name_before o n ≡ true) names → is_in_order names ≡ true → is_in_order (o ∷ names) ≡ true
-in_order_from o [] first h = refl
-in_order_from o (x ∷ names) first h = rw first.0 h
+in_order_from o names first h = grind (arith, common_steps, cases_Bool)
 
 -- a name that comes after all others is put behind them
 put_last : (n : List ℕ) (names more : List (List ℕ)) → is_in_order (names ++ n ∷ more) ≡ true → with_name names n ≡ names ++ n ∷ []
@@ -92,24 +85,16 @@ stays_fold (n ∷ names) so_far h =
     rw one (stays_fold names (so_far ++ n ∷ []) (rw (← moved) h) ∙ sym moved)
 
 or_swap : (a b c : Bool) → (a || (b || c)) ≡ (b || (a || c))
-or_swap true true c = refl
-or_swap true false c = refl
-or_swap false true c = refl
-or_swap false false c = refl
+or_swap a b c = grind (arith, common_steps, cases_Bool)
 
 or_twice : (a c : Bool) → (a || c) ≡ (a || (a || c))
-or_twice true c = refl
-or_twice false c = refl
+or_twice a c = grind (arith, common_steps, cases_Bool)
 
 or_middle : (a b c : Bool) → ((a || b) || c) ≡ (b || (a || c))
-or_middle true true c = refl
-or_middle true false c = refl
-or_middle false true c = refl
-or_middle false false c = refl
+or_middle a b c = grind (arith, common_steps, cases_Bool)
 
 or_assoc : (a b c : Bool) → ((a || b) || c) ≡ (a || (b || c))
-or_assoc true b c = refl
-or_assoc false b c = refl
+or_assoc a b c = grind (arith, common_steps, cases_Bool)
 
 -- a name is among names to which one was added, if it is that one or was among them
 any_with : (p : List ℕ → Bool) (n : List ℕ) (names : List (List ℕ)) → list_any p (with_name names n) ≡ (p n || list_any p names)

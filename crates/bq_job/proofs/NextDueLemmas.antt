@@ -1,5 +1,5 @@
 -- Before the next due moment a tick changes nothing but the moment.
-use Rattle.std.proofs.Common.{ℕ, suc, ◌≡◌, ◌<◌, ◌+◌, Bool, true, false, ◌&&◌, ◌||◌, cond, List, [], ◌∷◌, ◌++◌, map, arith, refl, sym, ap, ◌∙◌, subst, inl, inr, Option, Some, None}
+use Rattle.std.proofs.Common.{ℕ, ◌≡◌, ◌<◌, ◌+◌, Bool, true, false, ◌&&◌, ◌||◌, cond, List, [], ◌∷◌, ◌++◌, map, arith, refl, sym, ap, ◌∙◌, subst, inl, inr, Option, Some, None}
 use Rattle.std.specs.Prelude.{◌-◌, ◌==◌, IsTrue, count_by, flat_map, nat_le, nat_lt}
 use Rattle.std.specs.List.{AllByRecursion as All, Contains}
 use Rattle.std.proofs.Math.Nat.{min-eq_left}
@@ -26,8 +26,7 @@ not_le a b h = elim (leb_tells a b) [ inl e ↦ absurd (let k = e.1 in omega ari
 
 -- what is before the least is before all
 before_both : (moment due : ℕ) (o : Option ℕ) → nat_lt moment (earlier due o) ≡ true → (moment < due) × (is_before moment o ≡ true)
-before_both moment due None h = let k = leb-true (suc moment) due h in (omega arith, refl)
-before_both moment due (Some other) h = grind (arith, common_steps, leb-true, le-leb)
+before_both moment due o h = grind (arith, common_steps, cases_Bool, leb-true, le-leb)
 
 abbrev IsLater : ℕ → ℕ → Type 0
 IsLater moment due = moment < due

@@ -1,5 +1,5 @@
 -- Undisturbed jobs of one tube and priority are handed out in the order of their puts.
-use Rattle.std.proofs.Common.{ℕ, ◌≡◌, ◌≤◌, ◌<◌, Bool, true, false, ◌||◌, cond, List, [], ◌∷◌, ◌++◌, arith, refl, sym, ap, ◌∙◌, subst, inl, inr, ◌⊎◌, Option, Some, None}
+use Rattle.std.proofs.Common.{ℕ, ◌≡◌, ◌≤◌, ◌<◌, Bool, true, false, ◌||◌, cond, List, [], ◌∷◌, ◌++◌, arith, refl, sym, ap, ◌∙◌, subst, inl, inr, ◌⊎◌, Option, Some}
 use Rattle.std.specs.Prelude.{option_map, ◌==◌}
 use Rattle.std.specs.List.{AllByRecursion as All, Contains, list_any}
 use Rattle.std.proofs.lemmas.Bool.{cases_Bool, or_parts, or_from, both_ways, eqb-true, eq-eqb}
@@ -14,7 +14,7 @@ use Rattle.bq_job.specs.laws.{is_hand_out, is_put, put, released, reserved_by_id
 use Rattle.bq_job.proofs.JobMoves.{Fate, IsHandOutMove, IsPutMove, IsQuiet, Move, Moves, quiet, putting, handing, is_plain}
 use Rattle.bq_job.proofs.ListLemmas.{all_at}
 use Rattle.bq_job.proofs.LookupLemmas.{found_job, job_at_end}
-use Rattle.bq_job.proofs.SpentLemmas.{IsSpent, IsNotFree, handed_lookup, held_is_not_ready, none_handed, none_more, put_lookup, spent_after, still_parts}
+use Rattle.bq_job.proofs.SpentLemmas.{IsSpent, handed_lookup, held_is_not_ready, none_handed, none_more, put_lookup, spent_after, still_parts}
 
 -- What happens in a part that has neither of two things leaves their order.
 comes_behind : (one other : Happening → Bool) (happened more : List Happening) → list_any one happened ≡ false → list_any other happened ≡ false → comes_first one other (happened ++ more) ≡ comes_first one other more
@@ -117,8 +117,7 @@ pub data Stands (j : Job) (m : Machine) (more : List Happening) : Type 0 where
   unborn : m.next_id ≤ j.id → Contains more (put j) → Stands j m more
 
 ready_after_fate : (j : Job) (m n : Machine) (happened more : List Happening) (r : IsReadyAs j m) (o : Option Job) → job_with j.id n.jobs ≡ o → n.next_id ≡ m.next_id → Fate j.id happened (Some r.job) o → list_any (disturbs j.id) happened ≡ false → Stands j n more
-ready_after_fate j m n happened more r None e next fate still = spent (let less = r.below in omega arith, subst IsNotFree (sym e) tt)
-ready_after_fate j m n happened more r (Some k) e next fate still = grind (arith, common_steps)
+ready_after_fate j m n happened more r o e next fate still = grind (arith, common_steps, cases_Bool)
 
 ready_mapped : (j : Job) (m n : Machine) (more : List Happening) (r : IsReadyAs j m) (id moment seat : ℕ) → n.next_id ≡ m.next_id → job_with j.id n.jobs ≡ Some (cond (r.job.id == id) (reserved_by moment seat r.job) r.job) → Stands j n more
 ready_mapped j m n more r id moment seat next e = grind (arith, common_steps, cases_Bool)
@@ -159,9 +158,8 @@ least_by_id a b k job p q r s same less = grind (arith, common_steps, nat_tests)
 
 -- While one job waits, no other of its tube and priority with a greater id is handed out.
 not_before_its_turn : (a b : Job) (m n : Machine) (happened more : List Happening) (h : IsHandOutMove m happened n) → a.pri ≡ b.pri → a.tube ≡ b.tube → a.id < b.id → h.job.id ≡ b.id → Stands b m more → IsReadyAs a m → ⊥
-not_before_its_turn a b m n happened more h pri tube less is (spent s) r = grind (arith, common_steps, held_is_not_ready)
-not_before_its_turn a b m n happened more h pri tube less is (waits s) r = grind (arith, common_steps, found_job, both_ways, least_by_id)
-not_before_its_turn a b m n happened more h pri tube less is (unborn above i) r = let below = h.below in omega arith
+not_before_its_turn a b m n happened more h pri tube less is x11 r =
+    grind (arith, common_steps, cases_Bool, held_is_not_ready, found_job, both_ways, least_by_id)
 
 -- of two jobs that stand so, the first is handed out first
 pub handed_in_order : (a b : Job) (m n : Machine) (parts : List Part) → Moves m parts n → a.delay ≡ 0 → b.delay ≡ 0 → a.pri ≡ b.pri → a.tube ≡ b.tube → a.id < b.id

@@ -1,7 +1,7 @@
 -- Where no share of a body is refused, a step has one result.
-use Rattle.std.proofs.Common.{ℕ, ◌≡◌, Bool, true, false, ◌||◌, List, [], ◌∷◌, refl, sym, ap, ◌∙◌, subst, inl, inr, Option, Some, None, arith}
+use Rattle.std.proofs.Common.{ℕ, ◌≡◌, Bool, false, ◌||◌, List, [], ◌∷◌, refl, sym, ap, ◌∙◌, subst, Option, Some, None, arith}
 use Rattle.std.specs.List.{list_any}
-use Rattle.std.proofs.lemmas.Bool.{or_parts}
+use Rattle.std.proofs.lemmas.Bool.{or_parts, cases_Bool}
 use Rattle.std.proofs.lemmas.Grind.{common_steps}
 use Rattle.bq_job.specs.declared.answer.Answer.TheVariants as answers
 use Rattle.bq_job.specs.Types.{Job, Step}
@@ -20,8 +20,7 @@ IsSame g h n o = (g ≡ h) × (n ≡ o)
 
 -- a turn of dispatch that gives its job
 hand_out_is : (m : Machine) (j : Job) (s : SeatRecord) (g : GivenAnswer) (n : Machine) → is_out_of_memory g.1 ≡ false → IsHandOut m j s g n → IsSame g (s.number, answers.Reserved j.id j.body) n (after_hand_out m j s)
-hand_out_is m j s g n e (inl h) = h
-hand_out_is m j s g n e (inr h) = absurd (let k : is_out_of_memory g.1 ≡ true = ap (λ (a : GivenAnswer). is_out_of_memory a.1) h.0 in cc)
+hand_out_is m j s g n e h = grind (arith, common_steps, cases_Bool)
 
 same_some : {A : Type 0} (o : Option A) (x y : A) → o ≡ Some x → o ≡ Some y → x ≡ y
 same_some o x y e f = let k : Some x ≡ Some y = sym e ∙ f in cc

@@ -1,7 +1,7 @@
 -- The answers of a step: which part gives RESERVED, INSERTED and DELETED, and that draining never ends.
 use Rattle.std.proofs.Common.{ℕ, ◌≡◌, true, false, ◌||◌, not, List, refl, ap, subst, inl, inr, ◌⊎◌, Some, arith}
 use Rattle.std.specs.Prelude.{filter, nat_le, ◌==◌}
-use Rattle.std.proofs.lemmas.Bool.{or_left, or_right}
+use Rattle.std.proofs.lemmas.Bool.{or_left, or_right, cases_Bool}
 use Rattle.std.proofs.lemmas.Grind.{common_steps}
 use Rattle.bq_job.specs.Types.{Answer, Job, Request, Step}
 use Rattle.bq_job.specs.declared.answer.Answer.TheVariants as answers
@@ -56,14 +56,7 @@ abbrev Drains : Effect → Type 0
 Drains e = e.machine.draining ≡ true
 
 drains_kind : (request : Request) (m : Machine) (s : SeatRecord) {e : Effect} → Kind m s request e → m.draining ≡ true → Drains e
-drains_kind request m s (passes none) d = d
-drains_kind request m s (tells answer one common unclosed) d = d
-drains_kind request m s (waits until one waiting) d = d
-drains_kind request m s (adds pri delay ttr body one accepts free) d = or_left m.draining (nat_le last_id m.next_id) d
-drains_kind request m s (deletes id j asks found free) d = d
-drains_kind request m s (changes_jobs answer f burials says changes) d = d
-drains_kind request m s (changes_seat answer f says changes) d = d
-drains_kind request m s (changes_tube tube seconds one) d = d
+drains_kind request m s h d = grind (arith, common_steps, cases_Bool, or_left)
 
 pub drains_acted : (memory : Memory) (m : Machine) (seat : ℕ) (what : Step) → m.draining ≡ true → (acted memory m seat what).machine.draining ≡ true
 drains_acted memory m seat what d = grind (arith, common_steps, each_acted, drains_kind, kind_of)

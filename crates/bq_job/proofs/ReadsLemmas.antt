@@ -1,10 +1,10 @@
 -- Every text has one reading.
 use Rattle.std.proofs.Common.{◌≡◌, ℕ, zero, suc, ◌≤◌, Bool, true, false, List, [], ◌∷◌, ◌++◌, Option, Some, None, ◌⊎◌, inl, inr, refl, sym, ap, ◌∙◌, arith, length, length-append, append_assoc, IsTrue, not, ◌&&◌}
 use Rattle.std.proofs.lemmas.Grind.{common_steps}
+use Rattle.std.proofs.lemmas.Bool.{cases_Bool}
 use Rattle.bq_job.specs.reading.Reading.{Reads, AreUnits, IsUnit, BeginsNoUnit, is_quit, quits_last, ends_by_quit}
 use Rattle.bq_job.specs.beside.{AreSameRequests, IsSameRequest, first_unit, had_memory, onto_reading, reading, reading_within}
 use Rattle.bq_job.specs.declared.request.Request.{Request}
-use Rattle.bq_job.specs.declared.request.Request.TheVariants as requests
 use Rattle.bq_job.proofs.UnitLemmas.{first_unit-append, first_unit-unit, no_first_unit, some_pair, IsComputed}
 
 none_read : (n : ℕ) (size : ℕ) (text : List ℕ) → first_unit size text ≡ None → reading_within (suc n) size text ≡ ([], text)
@@ -75,19 +75,13 @@ pub ruleset computed_readings = (reading-Reads)
 
 -- a put that had its memory is no quit
 had_memory-quit : (r : Request) → IsTrue (had_memory r) → is_quit r ≡ false
-had_memory-quit requests.Quit h = cc
-had_memory-quit _ h = refl
+had_memory-quit r h = grind (arith, common_steps, cases_Bool)
 
 IsSameRequest-quit : (r s : Request) → IsSameRequest r s → is_quit r ≡ is_quit s
-IsSameRequest-quit r s (inl e) = ap is_quit e
-IsSameRequest-quit r s (inr (inl h)) = rw (h.0, had_memory-quit s h.1)
-IsSameRequest-quit r s (inr (inr h)) = rw (h.0, had_memory-quit r h.1)
+IsSameRequest-quit r s h = grind (arith, common_steps, cases_Bool, had_memory-quit)
 
 IsComputed-same : (r s q : Request) → IsComputed r q → IsComputed s q → IsSameRequest r s
-IsComputed-same r s q (inl a) (inl b) = inl (a ∙ sym b)
-IsComputed-same r s q (inl a) (inr b) = inr (inr (b.0, rw a b.1))
-IsComputed-same r s q (inr a) (inl b) = inr (inl (a.0, rw b a.1))
-IsComputed-same r s q (inr a) (inr b) = inl (a.0 ∙ sym b.0)
+IsComputed-same r s q h k = grind (arith, common_steps, cases_Bool)
 
 -- two units that begin one text end at one place
 units_end : (size : ℕ) (first second after other : List ℕ) (r s : Request) → first ++ after ≡ second ++ other → IsUnit size first r → IsUnit size second s

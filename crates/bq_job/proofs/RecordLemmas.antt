@@ -1,6 +1,6 @@
 -- What is kept beside jobs through a step: counts stay within their end, what is kept of tubes stays in
 -- order, and each seat watches at least one tube and none twice.
-use Rattle.std.proofs.Common.{ℕ, ◌≡◌, ◌≤◌, ◌+◌, Bool, true, cond, List, [], ◌∷◌, map, refl, sym, ap, ◌∙◌, subst, inl, inr, Option, arith, rules}
+use Rattle.std.proofs.Common.{ℕ, ◌≡◌, ◌≤◌, ◌+◌, Bool, true, cond, List, [], ◌∷◌, map, refl, sym, subst, inl, inr, Option, arith, rules}
 use Rattle.std.specs.Prelude.{nat_le, filter}
 use Rattle.std.specs.Cmp.Lexicographic.{bytes_decides}
 use Rattle.std.specs.List.{AllByRecursion as All}
@@ -10,9 +10,9 @@ use Rattle.std.proofs.lemmas.Grind.{common_steps}
 use Rattle.bq_job.specs.Types.{Job, Request, Step}
 use Rattle.bq_job.specs.machine.{Chain, DispatchTurn, Effect, GivenAnswer, IsHandOut, Machine.Machine, Memory, SeatRecord, Serves}
 use Rattle.bq_job.specs.machine.{TubeRecord, WaitEndTurn, acted, after_close, after_connect, after_timers, at_moment, empty_seat}
-use Rattle.bq_job.specs.machine.{forgetting, greatest, grown, is_name_before, is_tube, raised, reserve_effect}
-use Rattle.bq_job.specs.machine.{tube_after_timers, tube_record, with_delete, with_end, with_pause, with_put, with_record}
-use Rattle.bq_job.specs.machine.{with_seat, without_wait}
+use Rattle.bq_job.specs.machine.{forgetting, greatest, grown, is_name_before, is_tube, reserve_effect}
+use Rattle.bq_job.specs.machine.{with_end, with_record}
+use Rattle.bq_job.specs.machine.{with_seat}
 use Rattle.bq_job.specs.beside.{IsLawful, is_in_order, watches_once}
 use Rattle.bq_job.specs.reading.TubeName.{is_same_name}
 use Rattle.bq_job.proofs.DispatchLemmas.{turn_of}
@@ -20,7 +20,7 @@ use Rattle.bq_job.proofs.ListLemmas.{all_at, all_always, all_before_map, all_of_
 use Rattle.bq_job.proofs.NameOrderLemmas.{after, first_of_order, in_order_from, rest_in_order}
 use Rattle.bq_job.proofs.CommandKinds.{kind_of}
 use Rattle.bq_job.proofs.EachEvent.{each_acted}
-use Rattle.bq_job.proofs.EffectKinds.{Kind, adds, changes_jobs, changes_seat, changes_tube, deletes, passes, tells, waits}
+use Rattle.bq_job.proofs.EffectKinds.{Kind}
 
 -- all that is kept beside the jobs
 pub record Books (timeouts puts connections burials tickets : ℕ) (tubes : List TubeRecord) (seats : List SeatRecord) : Type 0 where
@@ -111,8 +111,7 @@ booked_seat : (number : ℕ) (f : SeatRecord → SeatRecord) (m : Machine) → B
 booked_seat number f m h well = grind (arith, common_steps, all_of_map, all_weaker, cond_both)
 
 booked_hand_out : (m : Machine) (j : Job) (s : SeatRecord) (given : GivenAnswer) (next : Machine) → Booked m → IsHandOut m j s given next → Booked next
-booked_hand_out m j s given next h (inl i) = subst Booked (sym i.1) (booked_seat s.number without_wait m h (λ t w. w))
-booked_hand_out m j s given next h (inr i) = subst Booked (sym i.1) (booked_seat s.number without_wait m h (λ t w. w))
+booked_hand_out m j s given next h k = grind (arith, common_steps, cases_Bool, booked_seat)
 
 booked_dispatch : (m : Machine) (given : GivenAnswer) (next : Machine) → Booked m → DispatchTurn m given next → Booked next
 booked_dispatch m given next h turn = let t = turn_of m given next turn in booked_hand_out m t.job t.client given next h t.hands
@@ -145,14 +144,8 @@ booked_burials m jobs burials fit h = assumption
 
 -- every kind of command
 booked_kind : (request : Request) (m : Machine) (s : SeatRecord) {e : Effect} → Kind m s request e → Booked m → watches_once s ≡ true → Booked e.machine
-booked_kind request m s (passes none) h w = h
-booked_kind request m s (tells answer one common unclosed) h w = h
-booked_kind request m s (waits until one waiting) h w = booked_reserve until m s h
-booked_kind request m s (adds pri delay ttr body one accepts free) h w = booked_tube (with_put (tube_record s.used m)) m (raised m.puts) (grown_fits 1 m.puts) h
-booked_kind request m s (deletes id j asks found free) h w = booked_tube (with_delete (tube_record j.tube m)) m m.puts h.puts_fit h
-booked_kind request m s (changes_jobs answer f burials says changes) h w = booked_burials m (map f m.jobs) burials (changes.counts h.burials_fit) h
-booked_kind request m s (changes_seat answer f says changes) h w = booked_seat s.number f m h (changes.watched w)
-booked_kind request m s (changes_tube tube seconds one) h w = booked_tube (with_pause seconds m.moment (tube_record tube m)) m m.puts h.puts_fit h
+booked_kind request m s k h w =
+    grind (arith, common_steps, cases_Bool, booked_reserve, booked_tube, grown_fits, booked_burials, booked_seat)
 
 booked_connect : (m : Machine) (seat : ℕ) → Booked m → Booked (after_connect m seat)
 booked_connect m seat h = grind (arith, common_steps, booked_seat, grown_fits)

@@ -1,7 +1,8 @@
 -- A command that is refused changes nothing.
-use Rattle.std.proofs.Common.{ℕ, ◌≡◌, true, false, List, [], ◌∷◌, ◌++◌, append-nil, refl, ap, ◌∙◌, subst, Some}
+use Rattle.std.proofs.Common.{ℕ, ◌≡◌, true, false, List, [], ◌∷◌, ◌++◌, append-nil, refl, ap, ◌∙◌, subst, Some, arith}
 use Rattle.std.specs.Prelude.{IsTrue}
-use Rattle.std.proofs.lemmas.Bool.{both_ways}
+use Rattle.std.proofs.lemmas.Bool.{both_ways, cases_Bool}
+use Rattle.std.proofs.lemmas.Grind.{common_steps}
 use Rattle.bq_job.specs.Types.{Answer, Request, Step}
 use Rattle.bq_job.specs.declared.answer.Answer.TheVariants as answers
 use Rattle.bq_job.specs.machine.{Effect, GivenAnswer, IsStep, Machine.Machine, Memory, Outcome, SeatRecord, Serves, acted, after_timers}
@@ -14,7 +15,7 @@ use Rattle.bq_job.proofs.QuietLemmas.{forgets_nothing, serves_nobody}
 use Rattle.bq_job.proofs.RecordLemmas.{booked_of_lawful, booked_timers}
 use Rattle.bq_job.proofs.CommandKinds.{kind_of}
 use Rattle.bq_job.proofs.EachEvent.{each_acted}
-use Rattle.bq_job.proofs.EffectKinds.{Kind, adds, changes_jobs, changes_seat, changes_tube, deletes, passes, tells, waits}
+use Rattle.bq_job.proofs.EffectKinds.{Kind}
 
 -- an effect whose answer is a refusal only where nothing was changed
 abbrev Honest : Machine → Effect → Type 0
@@ -31,14 +32,7 @@ unanswered m n = λ a e r. absurd cc
 
 -- every kind of command
 honest_kind : (request : Request) (m : Machine) (s : SeatRecord) {e : Effect} → Kind m s request e → Honest m e
-honest_kind request m s (passes none) = unanswered m m
-honest_kind request m s (tells answer one common unclosed) = unchanged m answer
-honest_kind request m s (waits until one waiting) = unanswered m _
-honest_kind request m s (adds pri delay ttr body one accepts free) = carried_out m _ (answers.Inserted m.next_id) refl
-honest_kind request m s (deletes id j asks found free) = carried_out m _ answers.Deleted refl
-honest_kind request m s (changes_jobs answer f burials says changes) = carried_out m _ answer says.done
-honest_kind request m s (changes_seat answer f says changes) = carried_out m _ answer says.done
-honest_kind request m s (changes_tube tube seconds one) = carried_out m _ answers.Paused refl
+honest_kind request m s h = grind (arith, common_steps, cases_Bool, unanswered, unchanged, carried_out)
 
 -- every event
 honest_acted : (memory : Memory) (m : Machine) (seat : ℕ) (what : Step) → Honest m (acted memory m seat what)

@@ -3,11 +3,10 @@
 use Rattle.std.proofs.Common.{ℕ, ◌≡◌, ◌+◌, Bool, true, false, not, cond, List, [], ◌∷◌, map, length, arith, refl, sym, ap, ◌∙◌, subst, Option, Some, None}
 use Rattle.std.specs.Prelude.{◌==◌, IsTrue, is_some}
 use Rattle.std.specs.List.{Contains}
-use Rattle.std.proofs.lemmas.Bool.{and_from, and_parts}
+use Rattle.std.proofs.lemmas.Bool.{and_from, and_parts, cases_Bool}
 use Rattle.std.proofs.lemmas.Grind.{common_steps}
 use Rattle.bq_job.specs.Types.{Answer, Request, Step}
 use Rattle.bq_job.specs.declared.answer.Answer.TheVariants as answers
-use Rattle.bq_job.specs.declared.request.Request.TheVariants as requests
 use Rattle.bq_job.specs.declared.step.Step.TheVariants as steps
 use Rattle.bq_job.specs.machine.{Effect, Machine.Machine, Memory, SeatRecord, acted, addressed, after_close, after_connect, after_delete}
 use Rattle.bq_job.specs.machine.{after_put, ask_effect, asked, at_found, effect, empty_seat, granted, growth_refused, has_closed}
@@ -84,14 +83,11 @@ replies_effect m seat request f c w =
     (replies_kind request m s (kind_of request m s) f.there (subst (λ n. waits_in n m.seats ≡ false) (sym f.number) w))))
 
 wants_one : (request : Request) → step_takes_memory (steps.Ask request) ≡ true → answers_wanted request ≡ 1
-wants_one requests.Quit h = absurd cc
-wants_one _ h = refl
+wants_one request h = grind (arith, common_steps, cases_Bool)
 
 -- What shares a body is an answer to a request that wants one.
 shares_one : (request : Request) (o : Option Answer) (n : ℕ) → shares_body o ≡ true → length (told o) + n ≡ answers_wanted request → answers_wanted request ≡ 1
-shares_one requests.Quit None n h e = absurd cc
-shares_one requests.Quit (Some answer) n h e = let one : 1 + n ≡ 0 = e in absurd (omega arith)
-shares_one _ o n h e = refl
+shares_one request o n h e = grind (arith, common_steps, cases_Bool)
 
 -- the same whatever became of the memory that it wanted
 pub replies_acted : (memory : Memory) (m : Machine) (seat : ℕ) (request : Request) → waits_in seat m.seats ≡ false → IsTrue (is_possible memory m seat (steps.Ask request)) → Replies seat (answers_wanted request) (is_waiting_request request) m.seats (effect m seat (steps.Ask request)) → Replies seat (answers_wanted request) (is_waiting_request request) m.seats (acted memory m seat (steps.Ask request))
@@ -141,5 +137,4 @@ stays_acted client memory m seat what = each_acted m seat (λ what e. Stays clie
     at_seat {s} {e} is h = subst (λ n. Stays client n m e) is.number h
 
 pub told_elsewhere : (client seat : ℕ) (o : Option Answer) → (seat == client) ≡ false → answers_to client (addressed seat o) ≡ []
-told_elsewhere client seat None d = refl
-told_elsewhere client seat (Some answer) d = rw d refl
+told_elsewhere client seat o d = grind (arith, common_steps, cases_Bool)

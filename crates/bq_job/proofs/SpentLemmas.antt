@@ -8,8 +8,7 @@ use Rattle.std.proofs.lemmas.List.Sums.{sum_by-append}
 use Rattle.std.proofs.lemmas.Grind.{common_steps}
 use Rattle.bq_job.specs.Types.{Job}
 use Rattle.bq_job.specs.machine.{Machine.Machine, is_ready, is_reserved, job_with, reserved_by}
-use Rattle.bq_job.specs.laws.{Happening, Part, buried, deleted, disturbs, expired, given_back, handed_out, happenings, is_hand_out, put}
-use Rattle.bq_job.specs.laws.{released, reserved_by_id}
+use Rattle.bq_job.specs.laws.{Happening, Part, disturbs, handed_out, happenings, is_hand_out}
 use Rattle.bq_job.proofs.JobMoves.{Fate, IsHandOutMove, IsPutMove, Move, Moves, quiet, putting, handing, is_plain}
 use Rattle.bq_job.proofs.ListLemmas.{count_cons}
 use Rattle.bq_job.proofs.LookupLemmas.{job_in_map, job_in_more}
@@ -27,27 +26,17 @@ pub held_is_not_ready : (j : Job) → is_ready j ≡ true → is_reserved j.stat
 held_is_not_ready j h i = grind (arith, common_steps)
 
 plain_hands_none : (id : ℕ) (h : Happening) → is_plain h ≡ true → is_hand_out id h ≡ false
-plain_hands_none id (put j) e = absurd cc
-plain_hands_none id (handed_out other) e = absurd cc
-plain_hands_none id (reserved_by_id other) e = refl
-plain_hands_none id (expired other) e = refl
-plain_hands_none id (released other) e = refl
-plain_hands_none id (buried other) e = refl
-plain_hands_none id (given_back other) e = refl
-plain_hands_none id (deleted other) e = refl
+plain_hands_none id h e = grind (arith, common_steps, cases_Bool)
 
 pub none_handed : (id : ℕ) (happened : List Happening) → All (λ h. is_plain h ≡ true) happened → list_any (is_hand_out id) happened ≡ false
 none_handed id [] plain = refl
 none_handed id (h ∷ happened) plain = or_from (is_hand_out id h) (list_any (is_hand_out id) happened) (plain_hands_none id h plain.0) (none_handed id happened plain.1)
 
 not_free_after : (id : ℕ) (happened : List Happening) (before after : Option Job) → Fate id happened before after → list_any (disturbs id) happened ≡ false → IsNotFree before → IsNotFree after
-not_free_after id happened None after fate still held = subst IsNotFree (sym fate) tt
-not_free_after id happened (Some j) None fate still held = tt
-not_free_after id happened (Some j) (Some k) fate still held = fate.held held still
+not_free_after id happened before after fate still held = grind (arith, common_steps, cases_Bool)
 
 not_free_mapped : (job : Job) (moment seat : ℕ) (o : Option Job) → IsNotFree o → IsNotFree (option_map (λ j. cond (j.id == job.id) (reserved_by moment seat j) j) o)
-not_free_mapped job moment seat None h = tt
-not_free_mapped job moment seat (Some j) h = cond_both (j.id == job.id) (reserved_by moment seat j) j (λ k. is_reserved k.state ≡ true) (λ e. refl) (λ e. h)
+not_free_mapped job moment seat o h = grind (arith, common_steps, cases_Bool, cond_both)
 
 -- the jobs after a hand-out, looked up
 pub handed_lookup : (id : ℕ) (m n : Machine) (happened : List Happening) (h : IsHandOutMove m happened n) → job_with id n.jobs ≡ option_map (λ j. cond (j.id == h.job.id) (reserved_by m.moment h.seat j) j) (job_with id m.jobs)

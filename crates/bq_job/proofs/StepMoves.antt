@@ -5,7 +5,6 @@ use Rattle.std.specs.List.{AllByRecursion as All, list_any}
 use Rattle.std.proofs.lemmas.Bool.{cases_Bool, and_parts, and_from, or_left, or_right, both_ways, cond_both, eq-eqb}
 use Rattle.std.proofs.lemmas.Grind.{common_steps}
 use Rattle.bq_job.specs.Types.{Job, JobState}
-use Rattle.bq_job.specs.declared.job.JobState.TheVariants as states
 use Rattle.bq_job.specs.machine.{Chain, DispatchTurn, Dispatches, EndsWaits, GivenAnswer, IsHandOut, Machine.Machine, SeatRecord}
 use Rattle.bq_job.specs.machine.{WaitEndTurn, acted, after_timers, at_moment, forgetting, is_due, is_expired, is_paused, is_ready}
 use Rattle.bq_job.specs.machine.{is_reserved, job_after_timers, job_with, may_have, next_job, next_seat, reserved_by, watches}
@@ -38,8 +37,7 @@ pub goes_then : (m k n : Machine) (xs ys : List Happening) → Goes m xs k → G
 goes_then m k n xs ys h i = grind (arith, common_steps, moves_append, happenings_append)
 
 fate_of_itself : (id : ℕ) (happened : List Happening) (o : Option Job) → Fate id happened o o
-fate_of_itself id happened None = refl
-fate_of_itself id happened (Some j) = record { same = refl; tube = refl; body = refl; ready = λ h still. (h, refl); held = λ h still. h }
+fate_of_itself id happened o = grind (arith, common_steps, cases_Bool)
 
 -- Nothing happens to jobs.
 still_move : (m n : Machine) → n.jobs ≡ m.jobs → n.next_id ≡ m.next_id → Move m [] n
@@ -55,10 +53,7 @@ told_to_expire moment id [] h = absurd cc
 told_to_expire moment id (j ∷ jobs) h = grind (arith, common_steps, cases_Bool, or_left, or_right, told_to_expire moment id jobs)
 
 not_due_when_ready : (moment : ℕ) (s : JobState) → is_reserved s ≡ true → is_due moment s ≡ false
-not_due_when_ready moment states.Ready h = refl
-not_due_when_ready moment (states.Delayed due) h = absurd cc
-not_due_when_ready moment (states.Reserved seat deadline) h = refl
-not_due_when_ready moment (states.Buried number) h = refl
+not_due_when_ready moment s h = grind (arith, common_steps, cases_Bool)
 
 timed_fate : (moment id : ℕ) (jobs : List Job) (o : Option Job) → job_with id jobs ≡ o → Fate id (expirations moment jobs) o (option_map (job_after_timers moment) o)
 timed_fate moment id jobs None e = refl

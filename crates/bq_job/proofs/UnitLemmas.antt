@@ -42,7 +42,7 @@ unit_after-append size (PutWaits put) after more r h = grind (arith, common_step
 pub unit_after-unit : (size : ℕ) (read : LineRead) (after rest : List ℕ) (r : Request) → unit_after size read after ≡ Some (r, rest)
     → (taken : List ℕ) × (after ≡ taken ++ rest) × IsUnitAfter size read taken r
 unit_after-unit size (Whole request) after rest r e = let same = some_pair (request, after) (r, rest) e in ([], same.1, (refl, sym same.0))
-unit_after-unit size (PutWaits put) after rest r e = grind (arith, common_steps, some_pair, nat_tests, common_steps, put_request-is)
+unit_after-unit size (PutWaits put) after rest r e = grind (arith, common_steps, some_pair, nat_tests, put_request-is)
 
 -- a text that begins with a unit has it as its first
 pub first_unit-append : (size : ℕ) (first more : List ℕ) (r : Request) → IsUnit size first r

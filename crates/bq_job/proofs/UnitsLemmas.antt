@@ -1,5 +1,7 @@
 -- One more request behind others.
-use Rattle.std.proofs.Common.{◌≡◌, ℕ, Bool, true, false, not, ◌&&◌, List, [], ◌∷◌, ◌++◌, refl, sym, append_assoc, append-nil, IsTrue}
+use Rattle.std.proofs.Common.{◌≡◌, ℕ, Bool, true, false, not, ◌&&◌, List, [], ◌∷◌, ◌++◌, refl, sym, append_assoc, append-nil, IsTrue, arith}
+use Rattle.std.proofs.lemmas.Grind.{common_steps}
+use Rattle.std.proofs.lemmas.Bool.{cases_Bool}
 use Rattle.bq_job.specs.reading.Reading.{AreUnits, IsUnit, is_quit, quits_last, ends_by_quit}
 use Rattle.bq_job.specs.declared.request.Request.{Request}
 
@@ -16,8 +18,7 @@ ends_by_quit-append (q ∷ []) r = refl
 ends_by_quit-append (q ∷ next ∷ requests) r = ends_by_quit-append (next ∷ requests) r
 
 both_true : (a b : Bool) → (a && b) ≡ true → (a ≡ true) × (b ≡ true)
-both_true true b e = (refl, e)
-both_true false b e = cc
+both_true a b e = grind (arith, common_steps, cases_Bool)
 
 -- where none is quit, one more may be
 pub quits_last-append : (requests : List Request) (r : Request) → IsTrue (quits_last requests) → ends_by_quit requests ≡ false → IsTrue (quits_last (requests ++ r ∷ []))

@@ -12,8 +12,7 @@ use Rattle.bq_job.specs.reading.TubeName.{is_same_name}
 use Rattle.bq_job.proofs.ListLemmas.{all_of_filter, all_weaker, list_any_not, none_pass}
 
 not_true : (b : Bool) → not b ≡ true → b ≡ false
-not_true true h = absurd cc
-not_true false h = refl
+not_true b h = grind (arith, common_steps, cases_Bool)
 
 same_other : (a b : List ℕ) → is_same_name a b ≡ false → is_same_name b a ≡ false
 same_other a b e = false_from_ne_true (is_same_name b a) (λ t. both_ways (is_same_name a b) e ((bytes_decides a b).1 (sym ((bytes_decides b a).0 t))))
@@ -28,8 +27,7 @@ none_twice_behind tube (name ∷ names) e h =
     rw fresh (none_twice_behind tube names other.1 parts.1)
 
 one_behind : (tube : List ℕ) (names : List (List ℕ)) → has_one (names ++ tube ∷ []) ≡ true
-one_behind tube [] = refl
-one_behind tube (name ∷ names) = refl
+one_behind tube names = grind (arith, common_steps, cases_Bool)
 
 pub watched_still : (tube : List ℕ) (s : SeatRecord) → watches_once s ≡ true → watches_once (watching (watched_with tube s) s) ≡ true
 watched_still tube s h = grind (arith, common_steps, and_parts, cond_both, and_from, one_behind, none_twice_behind)
