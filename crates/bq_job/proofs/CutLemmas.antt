@@ -7,6 +7,7 @@ use Rattle.bq_job.specs.declared.answer.Answer.TheVariants as answers
 use Rattle.bq_job.specs.promise.{LineOver}
 use Rattle.bq_job.specs.machine.{has_closed, is_closed_answer}
 use Rattle.bq_job.specs.beside.{AreLinesServed}
+use Rattle.bq_job.proofs.ListLemmas.{heads}
 use Rattle.bq_job.proofs.GivenLemmas.{AreParts, most_of_lines}
 
 -- how many `Closed` there are
@@ -45,10 +46,6 @@ lines_close size (line ∷ lines) own taken h =
     let c = closes_append l.others (answers.Closed ∷ []) in
     let d = lines_close size lines h.1 h.3 h.7 in
     omega arith
-
--- the first of a list and the others
-heads : {A : Type 0} (x y : A) (xs ys : List A) → (x ∷ xs) ≡ (y ∷ ys) → (x ≡ y) × (xs ≡ ys)
-heads x y xs ys e = (cc, cc)
 
 -- a list with no `Closed` begins with none
 begins_unclosed : (x : Answer) (xs : List Answer) → has_closed (x ∷ xs) ≡ false → answers.Closed ≡ x → ⊥

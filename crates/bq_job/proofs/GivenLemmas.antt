@@ -1,8 +1,8 @@
 -- What the seats and the core did joins: what a run gives a seat, line by line, and that this is what the
 -- seat took.
-use Rattle.std.proofs.Common.{◌≡◌, ℕ, ◌+◌, ◌≤◌, ◌<◌, Bool, true, false, ◌&&◌, not, List, [], ◌∷◌, ◌++◌, map, length, refl, sym, ap, ◌∙◌, arith, subst, inl, inr, append_assoc, rules}
+use Rattle.std.proofs.Common.{◌≡◌, ℕ, ◌+◌, ◌≤◌, ◌<◌, Bool, true, false, ◌&&◌, not, List, [], ◌∷◌, ◌++◌, map, length, refl, sym, ap, ◌∙◌, arith, subst, inl, inr, ◌⊎◌, append_assoc, rules}
 use Rattle.std.specs.Prelude.{◌==◌}
-use Rattle.std.proofs.lemmas.Bool.{cases_Bool, and_parts, or_from, eqb-true}
+use Rattle.std.proofs.lemmas.Bool.{cases_Bool, and_parts, both_ways, eqb-true}
 use Rattle.std.proofs.lemmas.List.{length-append}
 use Rattle.std.proofs.lemmas.List.Folds.{list_any-append}
 use Rattle.std.proofs.lemmas.Grind.{common_steps}
@@ -10,10 +10,11 @@ use Rattle.bq_job.specs.Types.{Answer, Request, Step}
 use Rattle.bq_job.specs.declared.answer.Answer.TheVariants as answers
 use Rattle.bq_job.specs.declared.step.Step.TheVariants as steps
 use Rattle.bq_job.specs.machine.{GivenAnswer, IsStep, Machine.Machine, Outcome, Settings, has_closed, is_closed_answer, is_connected_at}
-use Rattle.bq_job.specs.promise.{Entry, LineHeard, LineOver, MayTellEnd, Run, answered_count, answers_to, heard, is_tick, steps_at, wanted}
+use Rattle.bq_job.specs.promise.{Entry, LineHeard, LineOver, MayTellEnd, Run, answered_count, answers_to, answers_wanted, heard, is_tick, steps_at, wanted}
 use Rattle.bq_job.specs.beside.{AreLinesServed, GetsAtMost, GetsClosed, GetsWhatWaits, IsLawful, owing}
 use Rattle.bq_job.proofs.LawfulLemmas.{step_is_lawful}
-use Rattle.bq_job.proofs.OneClientLemmas.{answers_append}
+use Rattle.bq_job.proofs.OneClientLemmas.{answers_append, unclosed_append}
+use Rattle.bq_job.proofs.ListLemmas.{heads}
 use Rattle.bq_job.proofs.ClientStepLemmas.{asks_at_most, others_give, step_gives_client, step_settings, tick_gives_client}
 use Rattle.bq_job.proofs.RunLemmas.{run_first, run_of_none}
 
@@ -73,16 +74,14 @@ pub record LineEnds (t : ℕ) (most : ℕ) (more : List Step) (given : List Answ
   pub few : length part ≤ most
   pub goes : GoesOn t more later last
 
-pub unclosed_both : (xs ys : List Answer) → has_closed xs ≡ false → has_closed ys ≡ false → has_closed (xs ++ ys) ≡ false
-unclosed_both xs ys h i = list_any-append is_closed_answer xs ys ∙ or_from (has_closed xs) (has_closed ys) h i
-
 -- answers before the rest of a line
-ends_after : (t most less : ℕ) (more : List Step) (now given all : List Answer) (last : Machine) → has_closed now ≡ false → length now + less ≤ most → all ≡ now ++ given → LineEnds t less more given last → LineEnds t most more all last
-ends_after t most less more now given all last unclosed few is r = record {
+ends_after : {t less : ℕ} {more : List Step} {given : List Answer} {last : Machine} (most : ℕ) (now all : List Answer) → has_closed now ≡ false
+    → length now + less ≤ most → all ≡ now ++ given → LineEnds t less more given last → LineEnds t most more all last
+ends_after most now all unclosed few is r = record {
   part = now ++ r.part;
   later = r.later;
   given_is = is ∙ ap (λ (xs : List Answer). now ++ xs) r.given_is ∙ sym (append_assoc now r.part (answers.Closed ∷ r.later));
-  unclosed = unclosed_both now r.part unclosed r.unclosed;
+  unclosed = unclosed_append now r.part unclosed r.unclosed;
   few = let a = r.few in omega (arith, length-append now r.part);
   goes = r.goes;
 }
@@ -91,73 +90,100 @@ ends_after t most less more now given all last unclosed few is r = record {
 own_step : (t : ℕ) (e : Entry) → is_here t e ≡ true → e.seat ≡ t
 own_step t e h = eqb-true e.seat t ((and_parts (not (is_tick e.what)) (e.seat == t) h).1)
 
--- the step of the entry is taken at the seat
-step_here : (t : ℕ) (e : Entry) (m next : Machine) (what : Step) (outcome : Outcome) (given : List GivenAnswer) → e.seat ≡ t → e.what ≡ what → IsStep m e.moment e.seat e.what outcome given next → IsStep m e.moment t what outcome given next
-step_here t e m next what outcome given is same s =
-    subst (λ (x : Step). IsStep m e.moment t x outcome given next) same (subst (λ (n : ℕ). IsStep m e.moment n e.what outcome given next) is s)
+still_few : (now owed before more : ℕ) → now + owed ≤ before → now + (owed + more) ≤ before + more
+still_few now owed before more few = omega arith
+
+still_fewer : (now owed before one more : ℕ) → now + owed ≤ before + one → now + (owed + more) ≤ before + (one + more)
+still_fewer now owed before one more few = omega arith
+
+at_most : {a b : ℕ} → a ≡ b → a ≤ b
+at_most e = omega arith
+
+at_least : {a : ℕ} (b : ℕ) → a ≤ b → a ≤ b + 0
+at_least b e = omega arith
+
+-- The first entry of a history: it is a step of this seat, or gives it at most what it waits for. A run goes on behind it.
+record OneEntry (t : ℕ) (m last : Machine) (e : Entry) (history : List Entry) (given : List Answer) : Type 0 where
+  outcome : Outcome
+  now : List GivenAnswer
+  rest : List GivenAnswer
+  next : Machine
+  all : given ≡ answers_to t now ++ answers_to t rest
+  serves : Serves t next
+  runs : Run next history rest last
+  whose : ((steps_at t (e ∷ history) ≡ e.what ∷ steps_at t history) × IsStep m e.moment t e.what outcome now next)
+      ⊎ ((steps_at t (e ∷ history) ≡ steps_at t history) × GetsWhatWaits m next t (answers_to t now))
+
+one_entry : (t : ℕ) (m last : Machine) (e : Entry) (history : List Entry) (given : List GivenAnswer) → Serves t m → Run m (e ∷ history) given last
+    → OneEntry t m last e history (answers_to t given)
+one_entry t m last e history given s r =
+    let b = run_first m last e history given r in
+    record {
+      outcome = b.outcome;
+      now = b.now;
+      rest = b.more;
+      next = b.next;
+      all = ap (answers_to t) b.given_is ∙ answers_append t b.now b.more;
+      serves = serves_on t m b.next e.moment e.seat e.what b.outcome b.now s b.step;
+      runs = b.rest;
+      whose = elim (cases_Bool (is_here t e)) [
+        | inl h ↦ inl (first_here t e history h, subst (λ (n : ℕ). IsStep m e.moment n e.what b.outcome b.now b.next) (own_step t e h) b.step)
+        | inr h ↦ inr (first_elsewhere t e history h, elsewhere t m b.next e.moment e.seat e.what b.outcome b.now s h b.step)
+      ];
+    }
+
+-- the entry is a step of its seat
+own_entry : {t : ℕ} {m last : Machine} {e : Entry} {history : List Entry} {given : List Answer} (o : OneEntry t m last e history given) (what : Step) → e.what ≡ what
+    → IsStep m e.moment t e.what o.outcome o.now o.next → IsStep m e.moment t what o.outcome o.now o.next
+own_entry {t = t} {m = m} {e = e} o what is step = subst (λ (x : Step). IsStep m e.moment t x o.outcome o.now o.next) is step
 
 -- A connected line goes on to its end.
 pub line_ends : (t : ℕ) (m last : Machine) (history : List Entry) (given : List GivenAnswer) (ss more : List Step)
     → Serves t m → is_connected_at t m ≡ true → are_within ss ≡ true → Run m history given last → steps_at t history ≡ ss ++ steps.Close ∷ more
     → LineEnds t (owing t m + wanted ss) more (answers_to t given) last
-line_ends t m last [] given ss more s c w r is = nothing ss is
-  where
-    nothing : (ss : List Step) → [] ≡ ss ++ steps.Close ∷ more → LineEnds t (owing t m + wanted ss) more (answers_to t given) last
-    nothing [] e = absurd cc
-    nothing (x ∷ ss) e = absurd cc
+line_ends t m last [] given [] more s c w r is = absurd cc
+line_ends t m last [] given (x ∷ ss) more s c w r is = absurd cc
 line_ends t m last (e ∷ history) given ss more s c w r is =
-    let b = run_first m last e history given r in
-    let outcome = b.outcome in
-    let now = b.now in
-    let rest = b.more in
-    let next = b.next in
-    let step = b.step in
-    let all : answers_to t given ≡ answers_to t now ++ answers_to t rest = ap (answers_to t) b.given_is ∙ answers_append t now rest in
-    let s' = serves_on t m next e.moment e.seat e.what outcome now s step in
-    elim (cases_Bool (is_here t e)) [
-      | inl h ↦
-          let at = own_step t e h in
-          let both : e.what ∷ steps_at t history ≡ ss ++ steps.Close ∷ more = sym (first_here t e history h) ∙ is in
-          own outcome now rest next all s' step at b.rest (λ ss' c' w' tail. line_ends t next last history rest ss' more s' c' w' b.rest tail) ss w both
+    let o = one_entry t m last e history given s r in
+    let behind = λ (ss' : List Step) (c' : is_connected_at t o.next ≡ true) (w' : are_within ss' ≡ true) (tail : steps_at t history ≡ ss' ++ steps.Close ∷ more).
+    line_ends t o.next last history o.rest ss' more o.serves c' w' o.runs tail in
+    elim o.whose [
+      | inl h ↦ own o behind ss w (sym h.0 ∙ is) h.1
       | inr h ↦
-          let g = elsewhere t m next e.moment e.seat e.what outcome now s h step in
-          let more_is : steps_at t history ≡ ss ++ steps.Close ∷ more = sym (first_elsewhere t e history h) ∙ is in
-          let r' = line_ends t next last history rest ss more s' (g.connected ∙ c) w b.rest more_is in
-          ends_after t (owing t m + wanted ss) (owing t next + wanted ss) more (answers_to t now) (answers_to t rest) (answers_to t given) last g.unclosed (let a = g.count in omega arith) all r'
+          let few = still_few (length (answers_to t o.now)) (owing t o.next) (owing t m) (wanted ss) (at_most h.1.count) in
+          ends_after (owing t m + wanted ss) (answers_to t o.now) (answers_to t given) h.1.unclosed few o.all (behind ss (h.1.connected ∙ c) w (sym h.0 ∙ is))
     ]
   where
-    own : (outcome : Outcome) (now rest : List GivenAnswer) (next : Machine) → answers_to t given ≡ answers_to t now ++ answers_to t rest → Serves t next
-        → IsStep m e.moment e.seat e.what outcome now next → e.seat ≡ t → Run next history rest last
-        → ((ss' : List Step) → is_connected_at t next ≡ true → are_within ss' ≡ true → steps_at t history ≡ ss' ++ steps.Close ∷ more → LineEnds t (owing t next + wanted ss') more (answers_to t rest) last)
-        → (ss : List Step) → are_within ss ≡ true → e.what ∷ steps_at t history ≡ ss ++ steps.Close ∷ more → LineEnds t (owing t m + wanted ss) more (answers_to t given) last
-    own outcome now rest next all s' step at run again [] w both =
-        let same : e.what ≡ steps.Close = cc in
-        let tail : steps_at t history ≡ more = cc in
-        let here = step_here t e m next steps.Close outcome now at same step in
-        let g : GetsClosed m next t (answers_to t now) = step_gives_client m next e.moment t steps.Close outcome now s.lawful s.within here c in
+    own : (o : OneEntry t m last e history (answers_to t given))
+        → ((ss' : List Step) → is_connected_at t o.next ≡ true → are_within ss' ≡ true → steps_at t history ≡ ss' ++ steps.Close ∷ more → LineEnds t (owing t o.next + wanted ss') more (answers_to t o.rest) last)
+        → (ss : List Step) → are_within ss ≡ true → e.what ∷ steps_at t history ≡ ss ++ steps.Close ∷ more → IsStep m e.moment t e.what o.outcome o.now o.next
+        → LineEnds t (owing t m + wanted ss) more (answers_to t given) last
+    own o behind [] w both step =
+        let is = heads e.what steps.Close (steps_at t history) more both in
+        let g : GetsClosed m o.next t (answers_to t o.now) =
+        step_gives_client m o.next e.moment t steps.Close o.outcome o.now s.lawful s.within (own_entry o steps.Close is.0 step) c in
+        let later = answers_to t o.rest in
         record {
           part = g.early;
-          later = answers_to t rest;
-          given_is = all ∙ ap (λ (xs : List Answer). xs ++ answers_to t rest) g.given_is ∙ append_assoc g.early (answers.Closed ∷ []) (answers_to t rest);
+          later = later;
+          given_is = o.all ∙ ap (λ (xs : List Answer). xs ++ later) g.given_is ∙ append_assoc g.early (answers.Closed ∷ []) later;
           unclosed = g.unclosed;
-          few = let a = g.count in omega arith;
-          goes = record { first = next; history = history; given = rest; serves = s'; free = g.gone; owes = g.none; runs = run; steps_are = tail; answers_are = refl };
+          few = at_least (owing t m) g.count;
+          goes = record { first = o.next; history = history; given = o.rest; serves = o.serves; free = g.gone; owes = g.none; runs = o.runs; steps_are = is.1; answers_are = refl };
         }
-    own outcome now rest next all s' step at run again (steps.Ask request ∷ ss) w both =
-        let same : e.what ≡ steps.Ask request = cc in
-        let tail : steps_at t history ≡ ss ++ steps.Close ∷ more = cc in
-        let here = step_here t e m next (steps.Ask request) outcome now at same step in
-        let g : GetsAtMost m next t request (answers_to t now) = asks_at_most m next e.moment t request outcome now s.lawful s.within c here in
-        let r' = again ss g.connected w tail in
-        ends_after t (owing t m + wanted (steps.Ask request ∷ ss)) (owing t next + wanted ss) more (answers_to t now) (answers_to t rest) (answers_to t given) last g.unclosed (let a = g.count in omega arith) all r'
-    own outcome now rest next all s' step at run again (steps.End ∷ ss) w both =
-        let same : e.what ≡ steps.End = cc in
-        let tail : steps_at t history ≡ ss ++ steps.Close ∷ more = cc in
-        let here = step_here t e m next steps.End outcome now at same step in
-        let g : GetsWhatWaits m next t (answers_to t now) = (step_gives_client m next e.moment t steps.End outcome now s.lawful s.within here).0 in
-        let r' = again ss (g.connected ∙ c) w tail in
-        ends_after t (owing t m + wanted ss) (owing t next + wanted ss) more (answers_to t now) (answers_to t rest) (answers_to t given) last g.unclosed (let a = g.count in omega arith) all r'
-    own outcome now rest next all s' step at run again (x ∷ ss) w both = absurd cc
+    own o behind (steps.Ask request ∷ ss) w both step =
+        let is = heads e.what (steps.Ask request) (steps_at t history) (ss ++ steps.Close ∷ more) both in
+        let g : GetsAtMost m o.next t request (answers_to t o.now) =
+        asks_at_most m o.next e.moment t request o.outcome o.now s.lawful s.within c (own_entry o (steps.Ask request) is.0 step) in
+        let few = still_fewer (length (answers_to t o.now)) (owing t o.next) (owing t m) (answers_wanted request) (wanted ss) g.count in
+        ends_after (owing t m + wanted (steps.Ask request ∷ ss)) (answers_to t o.now) (answers_to t given) g.unclosed few o.all (behind ss g.connected w is.1)
+    own o behind (steps.End ∷ ss) w both step =
+        let is = heads e.what steps.End (steps_at t history) (ss ++ steps.Close ∷ more) both in
+        let g : GetsWhatWaits m o.next t (answers_to t o.now) =
+        (step_gives_client m o.next e.moment t steps.End o.outcome o.now s.lawful s.within (own_entry o steps.End is.0 step)).0 in
+        let few = still_few (length (answers_to t o.now)) (owing t o.next) (owing t m) (wanted ss) (at_most g.count) in
+        ends_after (owing t m + wanted ss) (answers_to t o.now) (answers_to t given) g.unclosed few o.all (behind ss (g.connected ∙ c) w is.1)
+    own o behind (x ∷ ss) w both step = absurd (both_ways false refl w)
 
 -- A client connects, and is given nothing before that or by it.
 pub record Connects (t : ℕ) (more : List Step) (given : List Answer) (last : Machine) : Type 0 where
@@ -188,49 +214,19 @@ pub connects : (t : ℕ) (m last : Machine) (history : List Entry) (given : List
     → Connects t more (answers_to t given) last
 connects t m last [] given more s free none r is = absurd cc
 connects t m last (e ∷ history) given more s free none r is =
-    let b = run_first m last e history given r in
-    let outcome = b.outcome in
-    let now = b.now in
-    let rest = b.more in
-    let next = b.next in
-    let step = b.step in
-    let all : answers_to t given ≡ answers_to t now ++ answers_to t rest = ap (answers_to t) b.given_is ∙ answers_append t now rest in
-    let s' = serves_on t m next e.moment e.seat e.what outcome now s step in
-    elim (cases_Bool (is_here t e)) [
+    let o = one_entry t m last e history given s r in
+    let now = answers_to t o.now in
+    let rest = answers_to t o.rest in
+    elim o.whose [
       | inl h ↦
-          let at = own_step t e h in
-          let both : e.what ∷ steps_at t history ≡ steps.Connect ∷ more = sym (first_here t e history h) ∙ is in
-          let same : e.what ≡ steps.Connect = cc in
-          let tail : steps_at t history ≡ more = cc in
-          let here = step_here t e m next steps.Connect outcome now at same step in
-          let g = step_gives_client m next e.moment t steps.Connect outcome now s.lawful s.within here free in
-          record {
-            first = next;
-            history = history;
-            rest = rest;
-            serves = s';
-            connected = g.2;
-            owes = g.1;
-            runs = b.rest;
-            steps_are = tail;
-            answers_are = nothing_first (answers_to t now) (answers_to t rest) (answers_to t given) all g.0;
-          }
+          let both = heads e.what steps.Connect (steps_at t history) more (sym h.0 ∙ is) in
+          let g = step_gives_client m o.next e.moment t steps.Connect o.outcome o.now s.lawful s.within (own_entry o steps.Connect both.0 h.1) free in
+          let quiet = nothing_first now rest (answers_to t given) o.all g.0 in
+          record { first = o.next; history = history; rest = o.rest; serves = o.serves; connected = g.2; owes = g.1; runs = o.runs; steps_are = both.1; answers_are = quiet }
       | inr h ↦
-          let g = elsewhere t m next e.moment e.seat e.what outcome now s h step in
-          let more_is : steps_at t history ≡ steps.Connect ∷ more = sym (first_elsewhere t e history h) ∙ is in
-          let quiet = gets_nothing m next t (answers_to t now) none g in
-          let r' = connects t next last history rest more s' (g.connected ∙ free) quiet.1 b.rest more_is in
-          record {
-            first = r'.first;
-            history = r'.history;
-            rest = r'.rest;
-            serves = r'.serves;
-            connected = r'.connected;
-            owes = r'.owes;
-            runs = r'.runs;
-            steps_are = r'.steps_are;
-            answers_are = nothing_first (answers_to t now) (answers_to t rest) (answers_to t given) all quiet.0 ∙ r'.answers_are;
-          }
+          let quiet = gets_nothing m o.next t now none h.1 in
+          let c = connects t o.next last history o.rest more o.serves (h.1.connected ∙ free) quiet.1 o.runs (sym h.0 ∙ is) in
+          subst (λ (xs : List Answer). Connects t more xs last) (sym (nothing_first now rest (answers_to t given) o.all quiet.0)) c
     ]
 
 -- the steps say only that no more come
@@ -247,31 +243,20 @@ pub nothing_behind : (t : ℕ) (m last : Machine) (history : List Entry) (given 
     → Serves t m → owing t m ≡ 0 → Run m history given last → are_gone (steps_at t history) ≡ true → answers_to t given ≡ []
 nothing_behind t m last [] given s none r gone = ap (answers_to t) ((run_of_none m last given r).0)
 nothing_behind t m last (e ∷ history) given s none r gone =
-    let b = run_first m last e history given r in
-    let outcome = b.outcome in
-    let now = b.now in
-    let rest = b.more in
-    let next = b.next in
-    let step = b.step in
-    let all : answers_to t given ≡ answers_to t now ++ answers_to t rest = ap (answers_to t) b.given_is ∙ answers_append t now rest in
-    let s' = serves_on t m next e.moment e.seat e.what outcome now s step in
-    let finish : GetsWhatWaits m next t (answers_to t now) → are_gone (steps_at t history) ≡ true → answers_to t given ≡ [] = λ g gone'.
-    let quiet = gets_nothing m next t (answers_to t now) none g in
-    nothing_first (answers_to t now) (answers_to t rest) (answers_to t given) all quiet.0 ∙ nothing_behind t next last history rest s' quiet.1 b.rest gone' in
-    elim (cases_Bool (is_here t e)) [
+    let o = one_entry t m last e history given s r in
+    let finish : GetsWhatWaits m o.next t (answers_to t o.now) → are_gone (steps_at t history) ≡ true → answers_to t given ≡ [] = λ g gone'.
+    let quiet = gets_nothing m o.next t (answers_to t o.now) none g in
+    nothing_first (answers_to t o.now) (answers_to t o.rest) (answers_to t given) o.all quiet.0 ∙ nothing_behind t o.next last history o.rest o.serves quiet.1 o.runs gone' in
+    elim o.whose [
       | inl h ↦
-          let at = own_step t e h in
-          let both : (is_gone e.what && are_gone (steps_at t history)) ≡ true = ap are_gone (sym (first_here t e history h)) ∙ gone in
-          let parts = and_parts (is_gone e.what) (are_gone (steps_at t history)) both in
-          finish (gone_gives e.what outcome now next at step parts.0) parts.1
-      | inr h ↦
-          finish (elsewhere t m next e.moment e.seat e.what outcome now s h step) (ap are_gone (sym (first_elsewhere t e history h)) ∙ gone)
+          let parts = and_parts (is_gone e.what) (are_gone (steps_at t history)) (ap are_gone (sym h.0) ∙ gone) in
+          finish (gone_gives e.what o.outcome o.now o.next h.1 parts.0) parts.1
+      | inr h ↦ finish h.1 (ap are_gone (sym h.0) ∙ gone)
     ]
   where
-    gone_gives : (what : Step) (outcome : Outcome) (now : List GivenAnswer) (next : Machine) → e.seat ≡ t → IsStep m e.moment e.seat what outcome now next → is_gone what ≡ true → GetsWhatWaits m next t (answers_to t now)
-    gone_gives steps.Gone outcome now next at step h =
-        step_gives_client m next e.moment t steps.Gone outcome now s.lawful s.within (subst (λ (n : ℕ). IsStep m e.moment n steps.Gone outcome now next) at step)
-    gone_gives what outcome now next at step h = absurd cc
+    gone_gives : (what : Step) (outcome : Outcome) (now : List GivenAnswer) (next : Machine) → IsStep m e.moment t what outcome now next → is_gone what ≡ true → GetsWhatWaits m next t (answers_to t now)
+    gone_gives steps.Gone outcome now next step h = step_gives_client m next e.moment t steps.Gone outcome now s.lawful s.within step
+    gone_gives what outcome now next step h = absurd (both_ways false refl h)
 
 -- So much was given, line by line: each part is no longer than this, and ends by `Closed`.
 abbrev pub AreParts : List ℕ → List Answer → Type 0

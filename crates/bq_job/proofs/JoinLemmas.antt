@@ -15,7 +15,8 @@ use Rattle.bq_job.specs.promise.{AreAllAnswered, AreDoorsOwed, AreLinesOwed, Ent
 use Rattle.bq_job.specs.promise.{LineOver, Run, answered_count, answers_text, answers_to, ends_by_wait, steps_at}
 use Rattle.bq_job.specs.beside.{AreLinesServed, AreTied, IsJoined, IsLineJoined, IsLineServed, IsNoneUnwritten, owing}
 use Rattle.bq_job.proofs.CutLemmas.{closes, closes_append, closes_unclosed, lines_close, parts_close, same_cut}
-use Rattle.bq_job.proofs.GivenLemmas.{AreParts, Serves, are_gone, gives_parts, most_of_lines, none_in, unclosed_both}
+use Rattle.bq_job.proofs.GivenLemmas.{AreParts, Serves, are_gone, gives_parts, most_of_lines, none_in}
+use Rattle.bq_job.proofs.OneClientLemmas.{unclosed_append}
 use Rattle.bq_job.proofs.LawfulLemmas.{new_is_lawful}
 
 -- where all is answered, nothing comes after it
@@ -65,7 +66,7 @@ lines_owed size (line ∷ lines) own taken waiting given h parts is =
     let c = closes_append l.others (answers.Closed ∷ []) in
     let d = lines_close size lines h.1 h.3 h.7 in
     let none : closes l.own ≡ 0 = omega arith in
-    let unclosed : has_closed (l.own ++ l.others) ≡ false = unclosed_both l.own l.others (closes_unclosed l.own none) l.none_closed in
+    let unclosed : has_closed (l.own ++ l.others) ≡ false = unclosed_append l.own l.others (closes_unclosed l.own none) l.none_closed in
     let whole : given ≡ (l.own ++ l.others) ++ answers.Closed ∷ (h.3 ++ waiting) =
     is ∙ ap (λ (xs : List Answer). xs ++ waiting) h.6 ∙ append_assoc h.2 h.3 waiting ∙ ap (λ (xs : List Answer). xs ++ (h.3 ++ waiting)) l.taken_is
     ∙ shift l.own l.others (h.3 ++ waiting) in
