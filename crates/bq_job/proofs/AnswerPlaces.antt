@@ -197,35 +197,12 @@ pub run_gives_least : (first : Machine) (taken : List Transition) (last : Machin
 run_gives_least first taken last t goes i = transition_gives_least t (all_at IsTransition taken t (step_of_run first taken last goes) i)
 
 -- Once draining no answer is INSERTED.
+of_dispatch_not_inserted : (a : Answer) → is_of_dispatch a ≡ true → is_inserted a ≡ false
+of_dispatch_not_inserted a e = grind (arith, common_steps, cases_Bool)
+
 none_in_dispatch : (given : List GivenAnswer) → AreOfDispatch given → has_inserted given ≡ false
 none_in_dispatch [] h = refl
-none_in_dispatch (g ∷ given) h = or_from (is_inserted g.1) (has_inserted given) (here g.1 h.0) (none_in_dispatch given h.1)
-  where
-    here : (a : Answer) → is_of_dispatch a ≡ true → is_inserted a ≡ false
-    here (answers.Reserved id body) e = refl
-    here answers.OutOfMemory e = refl
-    here (answers.Inserted id) e = absurd cc
-    here (answers.Found id body) e = refl
-    here (answers.Ok text) e = refl
-    here (answers.Using tube) e = refl
-    here (answers.Watching count) e = refl
-    here (answers.KickedCount count) e = refl
-    here answers.Kicked e = refl
-    here answers.Deleted e = refl
-    here answers.Released e = refl
-    here answers.Buried e = refl
-    here answers.Touched e = refl
-    here answers.Paused e = refl
-    here answers.NotFound e = refl
-    here answers.NotIgnored e = refl
-    here answers.Draining e = refl
-    here answers.TimedOut e = refl
-    here answers.DeadlineSoon e = refl
-    here answers.UnknownCommand e = refl
-    here answers.BadFormat e = refl
-    here answers.JobTooBig e = refl
-    here answers.ExpectedCrlf e = refl
-    here answers.Closed e = refl
+none_in_dispatch (g ∷ given) h = or_from (is_inserted g.1) (has_inserted given) (of_dispatch_not_inserted g.1 h.0) (none_in_dispatch given h.1)
 
 common_not_inserted : (a : Answer) → is_common (Some a) ≡ true → is_inserted a ≡ false
 common_not_inserted a e = grind (arith, common_steps, cases_Bool)
@@ -250,13 +227,7 @@ drained_step : (first last : Machine) (at seat : ℕ) (what : Step) (outcome : O
 drained_step first last at seat what outcome given s drains own =
     let a = serves_answers (forgetting (after_timers (at_moment at first))) s.handed s.ended s.before s.serves in
     let b = serves_answers s.after s.handed_then s.ended_then last s.serves_then in
-    let none : has_inserted (s.handed ++ s.ended ++ addressed seat (acted s.memory s.before seat what).answer ++ s.handed_then ++ s.ended_then) ≡ false =
-    none_joined (s.handed ++ s.ended ++ addressed seat (acted s.memory s.before seat what).answer ++ s.handed_then) s.ended_then
-    (none_joined (s.handed ++ s.ended ++ addressed seat (acted s.memory s.before seat what).answer) s.handed_then
-    (none_joined (s.handed ++ s.ended) (addressed seat (acted s.memory s.before seat what).answer)
-    (none_joined s.handed s.ended (none_in_dispatch s.handed a.by_dispatch) (none_in_ends s.ended a.by_ends)) own)
-    (none_in_dispatch s.handed_then b.by_dispatch)) (none_in_ends s.ended_then b.by_ends) in
-    record { draining = b.draining ∙ ap (λ (l : Machine). l.draining) s.acts ∙ drains; none = ap has_inserted s.answers_are ∙ none }
+    grind (arith, common_steps, none_joined, none_in_dispatch, none_in_ends)
 
 stays_draining : (first last : Machine) (at seat : ℕ) (what : Step) (outcome : Outcome) (given : List GivenAnswer) → IsStep first at seat what outcome given last → first.draining ≡ true → StaysDraining given last
 stays_draining first last at seat what outcome given s d =
@@ -302,12 +273,7 @@ after_last_at first last at seat what outcome given s early by more (in_ended be
 after_last_at first last at seat what outcome given s early by more (in_own begin rest place e more_is) =
     let o = own_place seat (acted s.memory s.before seat what).answer begin (by, answers.Inserted last_id) rest e in
     let b = serves_answers s.after s.handed_then s.ended_then last s.serves_then in
-    let drains = last_id_drains s.before seat what (acted s.memory s.before seat what) (tells_acted s.memory s.before seat what) o.3 in
-    record {
-      draining = b.draining ∙ ap (λ (l : Machine). l.draining) s.acts ∙ drains;
-      none = ap has_inserted more_is
-          ∙ none_joined (rest ++ s.handed_then) s.ended_then (none_joined rest s.handed_then (ap has_inserted o.1) (none_in_dispatch s.handed_then b.by_dispatch)) (none_in_ends s.ended_then b.by_ends);
-    }
+    grind (arith, common_steps, last_id_drains, tells_acted, none_joined, none_in_dispatch, none_in_ends)
 after_last_at first last at seat what outcome given s early by more (in_handed_then begin rest place e) =
     absurd (dispatch_not_inserted last_id (all_in_place (λ g. is_of_dispatch g.1 ≡ true) s.handed_then begin (by, answers.Inserted last_id) rest e (serves_answers s.after s.handed_then s.ended_then last s.serves_then).by_dispatch))
 after_last_at first last at seat what outcome given s early by more (in_ended_then begin rest e) =

@@ -137,17 +137,7 @@ gives_answer first last seat request given h there p c none =
     let f = found_before first last seat (steps.Ask request) given h there p in
     let begin = none_waited (length (answers_to seat p.early)) (waits_in seat m.seats) (p.comes.count ∙ none) in
     let reply = replies_acted p.memory m seat request begin.1 p.possible (replies_effect m seat request f (p.comes.connected ∙ c) begin.1) in
-    let o = (acted p.memory m seat (steps.Ask request)).answer in
-    let all : answers_to seat given ≡ told o ++ answers_to seat p.late =
-    answers_of_parts seat o p.early p.late given p.given_is
-    ∙ ap (λ xs. xs ++ (told o ++ answers_to seat p.late)) (no_length (answers_to seat p.early) begin.0) in
-    record {
-      count = let long : length (answers_to seat given) ≡ length (told o) + length (answers_to seat p.late) = ap length all ∙ simp length-append in
-          let a = reply.count in let b = p.goes.count in omega arith;
-      at_once = λ e. ap one_for ((none_waited (length (answers_to seat p.late)) (waits_in seat last.seats) (p.goes.count ∙ ap one_for (reply.at_once e))).1);
-      unclosed = ap has_closed all ∙ unclosed_append (told o) (answers_to seat p.late) reply.unclosed p.goes.unclosed;
-      connected = p.goes.connected ∙ reply.connected ∙ p.comes.connected ∙ c;
-    }
+    grind (arith, common_steps, answers_of_parts, no_length, none_waited, unclosed_append)
 
 gives_closed : (first last : Machine) (seat : ℕ) (given : List GivenAnswer) → IsLawful first → seat < first.settings.seats → Parts seat first last seat steps.Close given → connected_in seat first.seats ≡ true → GetsClosed first last seat (answers_to seat given)
 gives_closed first last seat given h there p c =
@@ -273,18 +263,7 @@ pub others_give : (first last : Machine) (at seat client : ℕ) (what : Step) (o
 others_give first last at seat client what outcome given other step =
     let p : Parts client first last seat what given = parts_of client first last at seat what outcome given step in
     let m = p.before in
-    let s = stays_acted client p.memory m seat what in
-    let o = (acted p.memory m seat what).answer in
-    let all : answers_to client given ≡ answers_to client p.early ++ answers_to client p.late =
-    ap (answers_to client) p.given_is ∙ answers_append client p.early (addressed seat o ++ p.late)
-    ∙ ap (λ xs. answers_to client p.early ++ xs) (answers_append client (addressed seat o) p.late ∙ ap (λ xs. xs ++ answers_to client p.late) (told_elsewhere client seat o other)) in
-    let same : one_for (waits_in client ((acted p.memory m seat what).machine).seats) ≡ one_for (waits_in client m.seats) = ap one_for (s.waits other) in
-    record {
-      count = let long : length (answers_to client given) ≡ length (answers_to client p.early) + length (answers_to client p.late) = ap length all ∙ simp length-append in
-          let a = p.comes.count in let b = p.goes.count in omega arith;
-      unclosed = ap has_closed all ∙ unclosed_append (answers_to client p.early) (answers_to client p.late) p.comes.unclosed p.goes.unclosed;
-      connected = p.goes.connected ∙ s.connected other ∙ p.comes.connected;
-    }
+    grind (arith, common_steps, stays_acted, answers_append, told_elsewhere, unclosed_append)
 
 -- settings stay in turns
 chain_settings : (Turns : Machine → GivenAnswer → Machine → Type 0) (first : Machine) (given : List GivenAnswer) (last : Machine) → ((m : Machine) (g : GivenAnswer) (n : Machine) → Turns m g n → n.settings ≡ m.settings) → Chain Turns first given last → last.settings ≡ first.settings

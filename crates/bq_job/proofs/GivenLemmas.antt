@@ -4,12 +4,11 @@ use Rattle.std.proofs.Common.{◌≡◌, ℕ, ◌+◌, ◌≤◌, ◌<◌, Bool,
 use Rattle.std.specs.Prelude.{◌==◌}
 use Rattle.std.proofs.lemmas.Bool.{cases_Bool, and_parts, both_ways, eqb-true}
 use Rattle.std.proofs.lemmas.List.{length-append}
-use Rattle.std.proofs.lemmas.List.Folds.{list_any-append}
 use Rattle.std.proofs.lemmas.Grind.{common_steps}
 use Rattle.bq_job.specs.Types.{Answer, Request, Step}
 use Rattle.bq_job.specs.declared.answer.Answer.TheVariants as answers
 use Rattle.bq_job.specs.declared.step.Step.TheVariants as steps
-use Rattle.bq_job.specs.machine.{GivenAnswer, IsStep, Machine.Machine, Outcome, Settings, has_closed, is_closed_answer, is_connected_at}
+use Rattle.bq_job.specs.machine.{GivenAnswer, IsStep, Machine.Machine, Outcome, Settings, has_closed, is_connected_at}
 use Rattle.bq_job.specs.promise.{Entry, LineHeard, LineOver, MayTellEnd, Run, answered_count, answers_to, answers_wanted, heard, is_tick, steps_at, wanted}
 use Rattle.bq_job.specs.beside.{AreLinesServed, GetsAtMost, GetsClosed, GetsWhatWaits, IsLawful, owing}
 use Rattle.bq_job.proofs.LawfulLemmas.{step_is_lawful}

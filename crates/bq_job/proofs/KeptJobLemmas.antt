@@ -107,10 +107,7 @@ held_by_one : (m : Machine) → Keeps m → IsHeldByOne m
 held_by_one m keeps seat other id h i =
     let a = job_found 1 m.next_id m.jobs h.0 keeps.ids h.1 in
     let b = job_found 1 m.next_id m.jobs i.0 keeps.ids i.1 in
-    let ids : h.0.id ≡ i.0.id = h.2 ∙ sym i.2 in
-    let both : Some i.0 ≡ Some h.0 = sym b.0 ∙ ap (λ n. job_with n m.jobs) (sym ids) ∙ a.0 in
-    let same : i.0 ≡ h.0 = (cc) in
-    (one_holder seat other h.0.state h.3 (subst (λ (k : Job). is_held_by other k ≡ true) same i.3), holder_connected seat m h.0 keeps h.1 h.3)
+    grind (arith, common_steps, one_holder, holder_connected)
 
 part_keeps : (m n : Machine) (parts : List Part) → ArePartsGone m parts n → All (λ p. Keeps p.machine) parts
 part_keeps m n [] h = tt

@@ -1,5 +1,5 @@
 -- The machine is lawful at the start and after every step, and a step gives few answers.
-use Rattle.std.proofs.Common.{ℕ, zero, suc, ◌≡◌, ◌≤◌, ◌<◌, ◌+◌, true, false, ◌&&◌, ◌||◌, not, cond, List, [], ◌∷◌, map, length, length-append, arith, refl, sym, ap, ◌∙◌, subst, inl, inr, Option, Some, None, rules}
+use Rattle.std.proofs.Common.{ℕ, zero, suc, ◌≡◌, ◌≤◌, ◌<◌, ◌+◌, true, false, ◌&&◌, not, cond, List, [], ◌∷◌, map, length, arith, refl, sym, ap, ◌∙◌, subst, inl, inr, Option, Some, None, rules}
 use Rattle.std.specs.Prelude.{nat_le, ◌==◌}
 use Rattle.std.specs.Cmp.Lexicographic.{bytes_decides}
 use Rattle.std.specs.List.{Contains, list_any, list_all}
@@ -11,8 +11,8 @@ use Rattle.bq_job.specs.Types.{Answer, Job, Step}
 use Rattle.bq_job.specs.declared.job.JobState.TheVariants as states
 use Rattle.bq_job.specs.machine.{Chain, DispatchTurn, Dispatches, EndsWaits, GivenAnswer, IsHandOut, IsStep, Machine.Machine, Memory}
 use Rattle.bq_job.specs.machine.{Outcome, SeatRecord, Serves, Settings, TubeRecord, WaitEndTurn, acted, addressed, after_timers, at_moment}
-use Rattle.bq_job.specs.machine.{default_tube, empty_seat, end_of_wait, forgetting, granted, greatest}
-use Rattle.bq_job.specs.machine.{growth_refused, in_state, is_paused, is_ready, is_seated_at, is_tube}
+use Rattle.bq_job.specs.machine.{empty_seat, end_of_wait, forgetting, granted, greatest}
+use Rattle.bq_job.specs.machine.{growth_refused, in_state, is_paused, is_ready, is_tube}
 use Rattle.bq_job.specs.machine.{is_waiting, is_waiting_for, job_after_timers, new_machine, next_end, next_job, next_seat}
 use Rattle.bq_job.specs.machine.{numbers, reserved_by, share_refused, watches, with_job, with_seat, with_timeout, without_wait}
 use Rattle.bq_job.specs.beside.{IsLawful, has_open_holder, waiting_count, watches_once}
@@ -123,10 +123,7 @@ served first handed ended last h s =
 record_kept : (m : Machine) (j : Job) (t : TubeRecord) → Contains m.jobs j → is_same_name j.tube t.name ≡ true → is_tube t.name m ≡ true
 record_kept m j t i e =
     let same : j.tube ≡ t.name = (bytes_decides j.tube t.name).0 e in
-    let here : list_any (λ k. is_same_name t.name k.tube) m.jobs ≡ true =
-    list_any_with (λ k. is_same_name t.name k.tube) m.jobs j i ((bytes_decides t.name j.tube).1 (sym same)) in
-    or_left (is_same_name t.name default_tube || list_any (λ k. is_same_name t.name k.tube) m.jobs) (list_any (is_seated_at t.name) m.seats)
-    (or_right (is_same_name t.name default_tube) (list_any (λ k. is_same_name t.name k.tube) m.jobs) here)
+    grind (arith, common_steps, list_any_with, or_left, or_right)
 
 paused_as_before : (m : Machine) (j : Job) → Contains m.jobs j → is_paused j.tube (forgetting m) ≡ is_paused j.tube m
 paused_as_before m j i = grind (arith, common_steps, find_in_filter, all_always, record_kept)
@@ -239,9 +236,4 @@ few_answers first last at seat what outcome given h s =
     let then = served s.after s.handed_then s.ended_then last (subst Keeps (sym s.acts) act.keeps) s.serves_then in
     let answered = length_addressed seat (acted s.memory s.before seat what).answer in
     let same : waiting_count s.after ≡ waiting_count (acted s.memory s.before seat what).machine = ap waiting_count s.acts in
-    let all = seats_many first k in
-    let few : waiting_count first ≤ length first.seats = count_by-le-length is_waiting first.seats in
-    let long : length given ≡ length s.handed + length s.ended + length (addressed seat (acted s.memory s.before seat what).answer) + length s.handed_then + length s.ended_then =
-    ap length s.answers_are ∙ simp length-append in
-    let a = before.waiting in let b = act.waiting in let c = then.waiting in
-    omega arith
+    grind (arith, common_steps, seats_many, count_by-le-length)

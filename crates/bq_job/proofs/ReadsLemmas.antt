@@ -89,10 +89,7 @@ units_end : (size : ℕ) (first second after other : List ℕ) (r s : Request) �
 units_end size first second after other r s e a b =
     let one = first_unit-append size first after r a in
     let two = first_unit-append size second other s b in
-    let both : Some (one.0, after) ≡ Some (two.0, other) = sym one.1 ∙ ap (first_unit size) e ∙ two.1 in
-    let same = some_pair (one.0, after) (two.0, other) both in
-    let same_q : IsComputed s one.0 = rw same.0 two.2 in
-    (same.1, IsComputed-same r s one.0 one.2 same_q)
+    grind (arith, common_steps, some_pair, IsComputed-same)
 
 quits_later : (r s : Request) (rs : List Request) → IsTrue (quits_last (r ∷ s ∷ rs)) → IsTrue (quits_last (s ∷ rs))
 quits_later r s rs h = (elim (is_quit r) as (λ t. (not t && quits_last (s ∷ rs)) ≡ true → quits_last (s ∷ rs) ≡ true) [ true ↦ λ e. cc | false ↦ λ e. e ]) h

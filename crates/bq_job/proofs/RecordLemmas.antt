@@ -1,6 +1,6 @@
 -- What is kept beside jobs through a step: counts stay within their end, what is kept of tubes stays in
 -- order, and each seat watches at least one tube and none twice.
-use Rattle.std.proofs.Common.{ℕ, ◌≡◌, ◌≤◌, ◌+◌, Bool, true, cond, List, [], ◌∷◌, map, refl, sym, subst, inl, inr, Option, arith, rules}
+use Rattle.std.proofs.Common.{ℕ, ◌≡◌, ◌≤◌, ◌+◌, Bool, true, cond, List, [], ◌∷◌, map, refl, sym, subst, Option, arith, rules}
 use Rattle.std.specs.Prelude.{nat_le, filter}
 use Rattle.std.specs.Cmp.Lexicographic.{bytes_decides}
 use Rattle.std.specs.List.{AllByRecursion as All}
@@ -41,15 +41,7 @@ grown_fits n count = min-le_right (count + n) greatest
 pub booked_of_lawful : (m : Machine) → IsLawful m → Booked m
 booked_of_lawful m h =
     let all = all_pass (λ n. nat_le n greatest) (m.timeouts ∷ m.puts ∷ m.connections ∷ m.burials ∷ m.tickets ∷ []) h.counts in
-    record {
-      timeouts_fit = leb-true m.timeouts greatest all.0;
-      puts_fit = leb-true m.puts greatest all.1.0;
-      connections_fit = leb-true m.connections greatest all.1.1.0;
-      burials_fit = leb-true m.burials greatest all.1.1.1.0;
-      tickets_fit = leb-true m.tickets greatest all.1.1.1.1.0;
-      order = h.tube_order;
-      watched = all_pass watches_once m.seats h.watched;
-    }
+    search (rules, leb-true, all_pass)
 
 -- the record's name comes before all of these
 abbrev IsFirst : List ℕ → List TubeRecord → Type 0
@@ -72,13 +64,7 @@ ordered_filter : (p : TubeRecord → Bool) (tubes : List TubeRecord) → in_orde
 ordered_filter p [] h = refl
 ordered_filter p (t ∷ tubes) h =
     let rest = ordered_filter p tubes (rest_records t tubes h) in
-    elim (cases_Bool (p t)) [
-      | inl e ↦
-          rw e (with_first t (filter p tubes)
-          (all_weaker (λ u. (is_name_before t.name u.name ≡ true) × (p u ≡ true)) (λ u. is_name_before t.name u.name ≡ true) (filter p tubes) (λ u c. c.0)
-          (all_of_filter (λ u. is_name_before t.name u.name ≡ true) p tubes (first_record t tubes h))) rest)
-      | inr e ↦ rw e rest
-    ]
+    grind (arith, common_steps, cases_Bool, with_first, all_weaker, all_of_filter, first_record)
 
 -- a record is put in its place
 first_with : (name : List ℕ) (t : TubeRecord) (tubes : List TubeRecord) → is_name_before name t.name ≡ true → IsFirst name tubes → IsFirst name (with_record t tubes)

@@ -76,5 +76,4 @@ first_unit-unit size text rest r e = go (first_line text) refl e
 pub no_first_unit : (size : ℕ) (text : List ℕ) → first_unit size text ≡ None → BeginsNoUnit size text
 no_first_unit size text e first more r is unit =
     let found = first_unit-append size first more r unit in
-    let same : first_unit size text ≡ Some (found.0, more) = rw is found.1 in
-    cc
+    grind (arith, common_steps)

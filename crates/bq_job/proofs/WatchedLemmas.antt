@@ -1,5 +1,5 @@
 -- The tubes that a seat watches: at least one and none twice, through a watch and an ignore.
-use Rattle.std.proofs.Common.{◌≡◌, Bool, true, false, ◌||◌, not, List, [], ◌∷◌, ◌++◌, ℕ, sym, ◌∙◌, refl, inl, inr, arith}
+use Rattle.std.proofs.Common.{◌≡◌, Bool, true, false, ◌||◌, not, List, [], ◌∷◌, ◌++◌, ℕ, sym, ◌∙◌, refl, arith}
 use Rattle.std.specs.Prelude.{filter}
 use Rattle.std.specs.Cmp.Lexicographic.{bytes_decides}
 use Rattle.std.specs.List.{list_any}
@@ -37,8 +37,4 @@ none_twice_filter p [] h = refl
 none_twice_filter p (name ∷ names) h =
     let parts = and_parts (not (list_any (is_same_name name) names)) (none_twice names) h in
     let rest = none_twice_filter p names parts.1 in
-    let fresh : list_any (is_same_name name) (filter p names) ≡ false =
-    list_any_not (is_same_name name) (filter p names)
-    (all_weaker (λ n. (is_same_name name n ≡ false) × (p n ≡ true)) (λ n. is_same_name name n ≡ false) (filter p names) (λ n c. c.0)
-    (all_of_filter (λ n. is_same_name name n ≡ false) p names (none_pass (is_same_name name) names (not_true (list_any (is_same_name name) names) parts.0)))) in
-    elim (cases_Bool (p name)) [ inl e ↦ rw (e, fresh) rest | inr e ↦ rw e rest ]
+    grind (arith, common_steps, list_any_not, all_weaker, all_of_filter, none_pass, not_true, cases_Bool)
