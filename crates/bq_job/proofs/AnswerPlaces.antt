@@ -202,7 +202,8 @@ of_dispatch_not_inserted a e = grind (arith, common_steps, cases_Bool)
 
 none_in_dispatch : (given : List GivenAnswer) → AreOfDispatch given → has_inserted given ≡ false
 none_in_dispatch [] h = refl
-none_in_dispatch (g ∷ given) h = or_from (is_inserted g.1) (has_inserted given) (of_dispatch_not_inserted g.1 h.0) (none_in_dispatch given h.1)
+none_in_dispatch (g ∷ given) h =
+    or_from (is_inserted g.1) (has_inserted given) (of_dispatch_not_inserted g.1 h.0) (none_in_dispatch given h.1)
 
 common_not_inserted : (a : Answer) → is_common (Some a) ≡ true → is_inserted a ≡ false
 common_not_inserted a e = grind (arith, common_steps, cases_Bool)

@@ -9,7 +9,8 @@ use Rattle.bq_job.specs.Types.{Answer, Request, Step}
 use Rattle.bq_job.specs.declared.answer.Answer.TheVariants as answers
 use Rattle.bq_job.specs.declared.step.Step.TheVariants as steps
 use Rattle.bq_job.specs.machine.{GivenAnswer, IsStep, Machine.Machine, Outcome, Settings, has_closed, is_connected_at}
-use Rattle.bq_job.specs.promise.{Entry, LineHeard, LineOver, MayTellEnd, Run, answered_count, answers_to, answers_wanted, heard, is_tick, steps_at, wanted}
+use Rattle.bq_job.specs.promise.{Entry, LineHeard, LineOver, MayTellEnd, Run, answered_count, answers_to, answers_wanted}
+use Rattle.bq_job.specs.promise.{heard, is_tick, steps_at, wanted}
 use Rattle.bq_job.specs.beside.{AreLinesServed, GetsAtMost, GetsClosed, GetsWhatWaits, IsLawful, owing}
 use Rattle.bq_job.proofs.LawfulLemmas.{step_is_lawful}
 use Rattle.bq_job.proofs.OneClientLemmas.{answers_append, unclosed_append}
@@ -74,8 +75,9 @@ pub record LineEnds (t : ℕ) (most : ℕ) (more : List Step) (given : List Answ
   pub goes : GoesOn t more later last
 
 -- answers before the rest of a line
-ends_after : {t less : ℕ} {more : List Step} {given : List Answer} {last : Machine} (most : ℕ) (now all : List Answer) → has_closed now ≡ false
-    → length now + less ≤ most → all ≡ now ++ given → LineEnds t less more given last → LineEnds t most more all last
+ends_after : {t less : ℕ} {more : List Step} {given : List Answer} {last : Machine} (most : ℕ) (now all : List Answer)
+    → has_closed now ≡ false → length now + less ≤ most → all ≡ now ++ given → LineEnds t less more given last
+    → LineEnds t most more all last
 ends_after most now all unclosed few is r = record {
   part = now ++ r.part;
   later = r.later;
@@ -113,8 +115,8 @@ record OneEntry (t : ℕ) (m last : Machine) (e : Entry) (history : List Entry) 
   whose : ((steps_at t (e ∷ history) ≡ e.what ∷ steps_at t history) × IsStep m e.moment t e.what outcome now next)
       ⊎ ((steps_at t (e ∷ history) ≡ steps_at t history) × GetsWhatWaits m next t (answers_to t now))
 
-one_entry : (t : ℕ) (m last : Machine) (e : Entry) (history : List Entry) (given : List GivenAnswer) → Serves t m → Run m (e ∷ history) given last
-    → OneEntry t m last e history (answers_to t given)
+one_entry : (t : ℕ) (m last : Machine) (e : Entry) (history : List Entry) (given : List GivenAnswer)
+    → Serves t m → Run m (e ∷ history) given last → OneEntry t m last e history (answers_to t given)
 one_entry t m last e history given s r =
     let b = run_first m last e history given r in
     record {
@@ -126,14 +128,16 @@ one_entry t m last e history given s r =
       serves = serves_on t m b.next e.moment e.seat e.what b.outcome b.now s b.step;
       runs = b.rest;
       whose = elim (cases_Bool (is_here t e)) [
-        | inl h ↦ inl (first_here t e history h, subst (λ (n : ℕ). IsStep m e.moment n e.what b.outcome b.now b.next) (own_step t e h) b.step)
+        | inl h ↦
+            let at = own_step t e h in
+            inl (first_here t e history h, subst (λ (n : ℕ). IsStep m e.moment n e.what b.outcome b.now b.next) at b.step)
         | inr h ↦ inr (first_elsewhere t e history h, elsewhere t m b.next e.moment e.seat e.what b.outcome b.now s h b.step)
       ];
     }
 
 -- the entry is a step of its seat
-own_entry : {t : ℕ} {m last : Machine} {e : Entry} {history : List Entry} {given : List Answer} (o : OneEntry t m last e history given) (what : Step) → e.what ≡ what
-    → IsStep m e.moment t e.what o.outcome o.now o.next → IsStep m e.moment t what o.outcome o.now o.next
+own_entry : {t : ℕ} {m last : Machine} {e : Entry} {history : List Entry} {given : List Answer} (o : OneEntry t m last e history given)
+    (what : Step) → e.what ≡ what → IsStep m e.moment t e.what o.outcome o.now o.next → IsStep m e.moment t what o.outcome o.now o.next
 own_entry {t = t} {m = m} {e = e} o what is step = subst (λ (x : Step). IsStep m e.moment t x o.outcome o.now o.next) is step
 
 -- A connected line goes on to its end.
@@ -144,19 +148,22 @@ line_ends t m last [] given [] more s c w r is = absurd cc
 line_ends t m last [] given (x ∷ ss) more s c w r is = absurd cc
 line_ends t m last (e ∷ history) given ss more s c w r is =
     let o = one_entry t m last e history given s r in
-    let behind = λ (ss' : List Step) (c' : is_connected_at t o.next ≡ true) (w' : are_within ss' ≡ true) (tail : steps_at t history ≡ ss' ++ steps.Close ∷ more).
+    let behind = λ (ss' : List Step) (c' : is_connected_at t o.next ≡ true) (w' : are_within ss' ≡ true)
+    (tail : steps_at t history ≡ ss' ++ steps.Close ∷ more).
     line_ends t o.next last history o.rest ss' more o.serves c' w' o.runs tail in
     elim o.whose [
       | inl h ↦ own o behind ss w (sym h.0 ∙ is) h.1
       | inr h ↦
           let few = still_few (length (answers_to t o.now)) (owing t o.next) (owing t m) (wanted ss) (at_most h.1.count) in
-          ends_after (owing t m + wanted ss) (answers_to t o.now) (answers_to t given) h.1.unclosed few o.all (behind ss (h.1.connected ∙ c) w (sym h.0 ∙ is))
+          let r' = behind ss (h.1.connected ∙ c) w (sym h.0 ∙ is) in
+          ends_after (owing t m + wanted ss) (answers_to t o.now) (answers_to t given) h.1.unclosed few o.all r'
     ]
   where
     own : (o : OneEntry t m last e history (answers_to t given))
-        → ((ss' : List Step) → is_connected_at t o.next ≡ true → are_within ss' ≡ true → steps_at t history ≡ ss' ++ steps.Close ∷ more → LineEnds t (owing t o.next + wanted ss') more (answers_to t o.rest) last)
-        → (ss : List Step) → are_within ss ≡ true → e.what ∷ steps_at t history ≡ ss ++ steps.Close ∷ more → IsStep m e.moment t e.what o.outcome o.now o.next
-        → LineEnds t (owing t m + wanted ss) more (answers_to t given) last
+        → ((ss' : List Step) → is_connected_at t o.next ≡ true → are_within ss' ≡ true
+        → steps_at t history ≡ ss' ++ steps.Close ∷ more → LineEnds t (owing t o.next + wanted ss') more (answers_to t o.rest) last)
+        → (ss : List Step) → are_within ss ≡ true → e.what ∷ steps_at t history ≡ ss ++ steps.Close ∷ more
+        → IsStep m e.moment t e.what o.outcome o.now o.next → LineEnds t (owing t m + wanted ss) more (answers_to t given) last
     own o behind [] w both step =
         let is = heads e.what steps.Close (steps_at t history) more both in
         let g : GetsClosed m o.next t (answers_to t o.now) =
@@ -168,20 +175,32 @@ line_ends t m last (e ∷ history) given ss more s c w r is =
           given_is = o.all ∙ ap (λ (xs : List Answer). xs ++ later) g.given_is ∙ append_assoc g.early (answers.Closed ∷ []) later;
           unclosed = g.unclosed;
           few = at_least (owing t m) g.count;
-          goes = record { first = o.next; history = history; given = o.rest; serves = o.serves; free = g.gone; owes = g.none; runs = o.runs; steps_are = is.1; answers_are = refl };
+          goes = record {
+            first = o.next;
+            history = history;
+            given = o.rest;
+            serves = o.serves;
+            free = g.gone;
+            owes = g.none;
+            runs = o.runs;
+            steps_are = is.1;
+            answers_are = refl;
+          };
         }
     own o behind (steps.Ask request ∷ ss) w both step =
         let is = heads e.what (steps.Ask request) (steps_at t history) (ss ++ steps.Close ∷ more) both in
         let g : GetsAtMost m o.next t request (answers_to t o.now) =
         asks_at_most m o.next e.moment t request o.outcome o.now s.lawful s.within c (own_entry o (steps.Ask request) is.0 step) in
         let few = still_fewer (length (answers_to t o.now)) (owing t o.next) (owing t m) (answers_wanted request) (wanted ss) g.count in
-        ends_after (owing t m + wanted (steps.Ask request ∷ ss)) (answers_to t o.now) (answers_to t given) g.unclosed few o.all (behind ss g.connected w is.1)
+        let r' = behind ss g.connected w is.1 in
+        ends_after (owing t m + wanted (steps.Ask request ∷ ss)) (answers_to t o.now) (answers_to t given) g.unclosed few o.all r'
     own o behind (steps.End ∷ ss) w both step =
         let is = heads e.what steps.End (steps_at t history) (ss ++ steps.Close ∷ more) both in
         let g : GetsWhatWaits m o.next t (answers_to t o.now) =
         (step_gives_client m o.next e.moment t steps.End o.outcome o.now s.lawful s.within (own_entry o steps.End is.0 step)).0 in
         let few = still_few (length (answers_to t o.now)) (owing t o.next) (owing t m) (wanted ss) (at_most g.count) in
-        ends_after (owing t m + wanted ss) (answers_to t o.now) (answers_to t given) g.unclosed few o.all (behind ss (g.connected ∙ c) w is.1)
+        let r' = behind ss (g.connected ∙ c) w is.1 in
+        ends_after (owing t m + wanted ss) (answers_to t o.now) (answers_to t given) g.unclosed few o.all r'
     own o behind (x ∷ ss) w both step = absurd (both_ways false refl w)
 
 -- A client connects, and is given nothing before that or by it.
@@ -219,9 +238,20 @@ connects t m last (e ∷ history) given more s free none r is =
     elim o.whose [
       | inl h ↦
           let both = heads e.what steps.Connect (steps_at t history) more (sym h.0 ∙ is) in
-          let g = step_gives_client m o.next e.moment t steps.Connect o.outcome o.now s.lawful s.within (own_entry o steps.Connect both.0 h.1) free in
+          let step = own_entry o steps.Connect both.0 h.1 in
+          let g = step_gives_client m o.next e.moment t steps.Connect o.outcome o.now s.lawful s.within step free in
           let quiet = nothing_first now rest (answers_to t given) o.all g.0 in
-          record { first = o.next; history = history; rest = o.rest; serves = o.serves; connected = g.2; owes = g.1; runs = o.runs; steps_are = both.1; answers_are = quiet }
+          record {
+            first = o.next;
+            history = history;
+            rest = o.rest;
+            serves = o.serves;
+            connected = g.2;
+            owes = g.1;
+            runs = o.runs;
+            steps_are = both.1;
+            answers_are = quiet;
+          }
       | inr h ↦
           let quiet = gets_nothing m o.next t now none h.1 in
           let c = connects t o.next last history o.rest more o.serves (h.1.connected ∙ free) quiet.1 o.runs (sym h.0 ∙ is) in
@@ -245,7 +275,8 @@ nothing_behind t m last (e ∷ history) given s none r gone =
     let o = one_entry t m last e history given s r in
     let finish : GetsWhatWaits m o.next t (answers_to t o.now) → are_gone (steps_at t history) ≡ true → answers_to t given ≡ [] = λ g gone'.
     let quiet = gets_nothing m o.next t (answers_to t o.now) none g in
-    nothing_first (answers_to t o.now) (answers_to t o.rest) (answers_to t given) o.all quiet.0 ∙ nothing_behind t o.next last history o.rest o.serves quiet.1 o.runs gone' in
+    nothing_first (answers_to t o.now) (answers_to t o.rest) (answers_to t given) o.all quiet.0
+    ∙ nothing_behind t o.next last history o.rest o.serves quiet.1 o.runs gone' in
     elim o.whose [
       | inl h ↦
           let parts = and_parts (is_gone e.what) (are_gone (steps_at t history)) (ap are_gone (sym h.0) ∙ gone) in
@@ -253,7 +284,8 @@ nothing_behind t m last (e ∷ history) given s none r gone =
       | inr h ↦ finish h.1 (ap are_gone (sym h.0) ∙ gone)
     ]
   where
-    gone_gives : (what : Step) (outcome : Outcome) (now : List GivenAnswer) (next : Machine) → IsStep m e.moment t what outcome now next → is_gone what ≡ true → GetsWhatWaits m next t (answers_to t now)
+    gone_gives : (what : Step) (outcome : Outcome) (now : List GivenAnswer) (next : Machine)
+        → IsStep m e.moment t what outcome now next → is_gone what ≡ true → GetsWhatWaits m next t (answers_to t now)
     gone_gives steps.Gone outcome now next step h = step_gives_client m next e.moment t steps.Gone outcome now s.lawful s.within step
     gone_gives what outcome now next step h = absurd (both_ways false refl h)
 

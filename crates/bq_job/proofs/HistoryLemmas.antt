@@ -1,19 +1,20 @@
 -- A run that is computed, as part of a history; and the lines of a door, each with its steps.
-use Rattle.std.proofs.Common.{◌≡◌, ℕ, suc, Bool, true, false, List, [], ◌∷◌, ◌++◌, map, length, Option, ◌⊎◌, refl, ap, inl, arith, rules}
+use Rattle.std.proofs.Common.{◌≡◌, ℕ, suc, Bool, true, false, List, [], ◌∷◌, ◌++◌, map, length, Option, ◌⊎◌, refl, ap, inl, arith, rules, subst}
 use Rattle.std.specs.List.{list_any}
 use Rattle.std.proofs.lemmas.Bool.{or_right, cases_Bool}
 use Rattle.std.proofs.lemmas.Grind.{common_steps}
 use Rattle.bq_job.specs.Types.{Answer, Request, Step}
 use Rattle.bq_job.specs.declared.request.Request.TheVariants.{Reserve}
 use Rattle.bq_job.specs.declared.step.Step.TheVariants as steps
-use Rattle.bq_job.specs.beside.{AreSameRequests, machine_after, transition, transitions}
+use Rattle.bq_job.specs.beside.{AreSameRequests, machine_after, reading, transition, transitions}
 use Rattle.bq_job.specs.declared.answer.Answer.TheVariants as answers
-use Rattle.bq_job.specs.promise.{AreAllAnswered, AreDoorsOwed, AreLinesOwed, ArePickedFrom, AreSeatsUpTo, Entry, IsControlDone, IsDoorOwed, IsLineOwed}
-use Rattle.bq_job.specs.promise.{IsOverBy, IsRun, IsStepsOfLine, IsTimedBy, IsWritten, LineOver, heard, steps_at}
+use Rattle.bq_job.specs.promise.{AreAllAnswered, AreDoorsOwed, AreLinesOwed, ArePickedFrom, AreSeatsUpTo, Entry, IsControlDone}
+use Rattle.bq_job.specs.promise.{IsDoorOwed, IsLineOwed, IsOverBy, IsRun, IsStepsOfLine, IsTimedBy, IsWritten, LineOver, heard, steps_at}
 use Rattle.bq_job.specs.reading.Reading.{Reads}
 use Rattle.bq_job.specs.examples.HistoryExamples.{AreServedOver, given_over, readings_of, seated, usual}
 use Rattle.bq_job.specs.machine.{Machine.Machine, Settings, has_closed, new_machine}
 use Rattle.bq_job.proofs.ComputedRunLemmas.{computed_goes}
+use Rattle.bq_job.proofs.ReadsLemmas.{reading-Reads}
 
 -- all of the moments are some of them
 pub picked_all : (moments : List ℕ) → ArePickedFrom moments moments
@@ -44,23 +45,27 @@ computed_IsRun settings readings history timed =
     }
 
 -- What is computed over a history serves these doors, where it gives each line what it is owed.
-pub served_so : (history : List Entry) (doors : List (List LineOver)) (control : List ℕ) → IsTimedBy (readings_of history) history
-    → AreDoorsOwed usual 0 doors history (given_over (seated (length doors)) history) → IsControlDone control false (steps_at (length doors) history)
-    → AreSeatsUpTo (length doors) history → AreServedOver history doors control
+pub served_so : (history : List Entry) (doors : List (List LineOver)) (control : List ℕ)
+    → IsTimedBy (readings_of history) history → AreDoorsOwed usual 0 doors history (given_over (seated (length doors)) history)
+    → IsControlDone control false (steps_at (length doors) history) → AreSeatsUpTo (length doors) history
+    → AreServedOver history doors control
 served_so history doors control timed owed done nobody = search (rules, computed_IsRun)
 
 -- A line all of whose text was read as these requests, of which these were asked.
-pub line_so : (line : LineOver) (read asked : List Request) (given : List Answer) → Reads usual line.seen.read read [] → IsOverBy (heard line.seen) line.over read asked
-    → AreAllAnswered line.over asked given → IsWritten line.over asked given line.seen.written
+pub line_so : (line : LineOver) (read asked : List Request) (given : List Answer)
+    → reading usual line.seen.read ≡ (read, []) → IsOverBy (heard line.seen) line.over read asked → AreAllAnswered line.over asked given
+    → IsWritten line.over asked given line.seen.written
     → IsLineOwed usual line (steps.Connect ∷ [] ++ map steps.Ask asked ++ [] ++ steps.Close ∷ []) given
-line_so line read asked given reads over answered written =
+line_so line read asked given is_read over answered written =
+    let reads = subst (λ (r : List Request × List ℕ). Reads usual line.seen.read r.0 r.1) is_read (reading-Reads usual line.seen.read) in
     let s : IsStepsOfLine usual (heard line.seen) line.over (steps.Connect ∷ [] ++ map steps.Ask asked ++ [] ++ steps.Close ∷ []) =
     record { requests = read; rest = []; asked = asked; end_steps = []; reads = reads; is_over = over; ends = inl refl; steps_are = refl } in
     record { steps = s; answered = answered; written = written }
 
 -- one line more, before others
-pub lines_so : (line : LineOver) (lines : List LineOver) (own more : List Step) (given later : List Answer) → IsLineOwed usual line own given → has_closed given ≡ false
-    → AreLinesOwed usual lines more later → AreLinesOwed usual (line ∷ lines) (own ++ more) (given ++ answers.Closed ∷ later)
+pub lines_so : (line : LineOver) (lines : List LineOver) (own more : List Step) (given later : List Answer)
+    → IsLineOwed usual line own given → has_closed given ≡ false → AreLinesOwed usual lines more later
+    → AreLinesOwed usual (line ∷ lines) (own ++ more) (given ++ answers.Closed ∷ later)
 lines_so line lines own more given later owed unclosed rest = (own, more, given, later, owed, unclosed, refl, refl, rest)
 
 -- two readings of a text have as many requests

@@ -14,7 +14,8 @@ use Rattle.bq_job.specs.laws.{is_hand_out, is_put, put, released, reserved_by_id
 use Rattle.bq_job.proofs.JobMoves.{Fate, IsHandOutMove, IsPutMove, IsQuiet, Move, Moves, quiet, putting, handing, is_plain}
 use Rattle.bq_job.proofs.ListLemmas.{all_at}
 use Rattle.bq_job.proofs.LookupLemmas.{found_job, job_at_end}
-use Rattle.bq_job.proofs.SpentLemmas.{IsSpent, handed_lookup, held_is_not_ready, none_handed, none_more, put_lookup, spent_after, still_parts}
+use Rattle.bq_job.proofs.SpentLemmas.{IsSpent, handed_lookup, held_is_not_ready, none_handed, none_more, put_lookup}
+use Rattle.bq_job.proofs.SpentLemmas.{spent_after, still_parts}
 
 -- What happens in a part that has neither of two things leaves their order.
 comes_behind : (one other : Happening → Bool) (happened more : List Happening) → list_any one happened ≡ false → list_any other happened ≡ false → comes_first one other (happened ++ more) ≡ comes_first one other more
