@@ -8,6 +8,7 @@ use Rattle.bq_job.specs.declared.journal.Entry.{Entry as JournalEntry}
 use Rattle.bq_job.specs.machine.{GivenAnswer, IsStep, Machine.Machine, Outcome, Settings, new_machine}
 use Rattle.bq_job.specs.beside.{Replay.Replay, entry_of, outcome_of}
 use Rattle.bq_job.specs.promise.{Entry, GoesBy, IsTransition, Transition}
+use Rattle.bq_job.proofs.ListLemmas.{heads}
 use Rattle.bq_job.proofs.OutcomeLemmas.{one_result}
 use Rattle.bq_job.proofs.RunLemmas.{taken_as}
 
@@ -57,10 +58,16 @@ one_run first last other [] (t ∷ taken) others g h o g' h' o' = absurd cc
 one_run first last other (entry ∷ journal) [] others g h o g' h' o' = absurd cc
 one_run first last other (entry ∷ journal) (t ∷ taken) [] g h o g' h' o' = absurd cc
 one_run first last other (entry ∷ journal) (t ∷ taken) (u ∷ others) g h o g' h' o' =
-    let step : IsStep first entry.moment entry.seat entry.step (outcome_of entry) t.given t.last = step_at first entry t g.0 (cc) (cc) g.1 in
-    let step' : IsStep first entry.moment entry.seat entry.step (outcome_of entry) u.given u.last = step_at first entry u g'.0 (cc) (cc) g'.1 in
+    let entries = map entry_of journal in
+    let outcomes = map outcome_of journal in
+    let a = heads t.entry (entry_of entry) (map (λ t. t.entry) taken) entries h in
+    let b = heads t.outcome (outcome_of entry) (map (λ t. t.outcome) taken) outcomes o in
+    let a' = heads u.entry (entry_of entry) (map (λ t. t.entry) others) entries h' in
+    let b' = heads u.outcome (outcome_of entry) (map (λ t. t.outcome) others) outcomes o' in
+    let step = step_at first entry t g.0 a.0 b.0 g.1 in
+    let step' = step_at first entry u g'.0 a'.0 b'.0 g'.1 in
     let one = one_result first t.last u.last entry.moment entry.seat entry.step (outcome_of entry) t.given u.given refl step step' in
-    let rest = one_run t.last last other journal taken others g.2 (cc) (cc) (subst (λ (m : Machine). GoesBy m others other) (sym one.1) g'.2) (cc) (cc) in
+    let rest = one_run t.last last other journal taken others g.2 a.1 b.1 (subst (λ (m : Machine). GoesBy m others other) (sym one.1) g'.2) a'.1 b'.1 in
     (ap (λ (xs : List GivenAnswer). xs ++ flat_map (λ (v : Transition). v.given) taken) one.0 ∙ ap (λ (xs : List GivenAnswer). u.given ++ xs) rest.0, rest.1)
 
 pub one_replay : (settings : Settings) (journal : List JournalEntry) (given others : List GivenAnswer) (last other : Machine)
