@@ -1,5 +1,5 @@
 -- The height of a box that is made anew after one of its sides changed by a level at most.
-use Rattle.std.proofs.Common.{◌≡◌, ℕ, ◌+◌, ◌-◌, ◌<◌, ◌≤◌, max, Option, inl, inr, arith}
+use Rattle.std.proofs.Common.{◌≡◌, ℕ, ◌+◌, ◌-◌, ◌≤◌, max, Option, inl, inr, arith}
 use Rattle.std.proofs.lemmas.Bool.{cases_order}
 use Rattle.bq_index.specs.Tree.{height, DifferByAtMost, IsRebalanced}
 use Rattle.bq_index.specs.declared.tree.Tree.{Tree}

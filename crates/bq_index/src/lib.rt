@@ -9,15 +9,13 @@
 #![tactic(auto)]
 
 pub use catalog::Catalog;
-pub use chain::BoxSource;
 pub use fault::NoMemory;
 pub use shelf::Shelf;
+pub use tree::BoxSource;
 pub use walk::{Test, Visitor};
 
 mod catalog;
-mod chain;
 mod change;
-mod descent;
 mod fault;
 mod find;
 mod rotation;

@@ -6,10 +6,9 @@ ghost use Rattle.bq_index.specs.Order.{InOrder, entry_from};
 ghost use Rattle.std.specs.Map.{lookup, remove_entry};
 ghost use Rattle.std.specs.BTreeMap.{is_at, insert_entry};
 
-use super::chain::BoxSource;
-use super::tree::Tree;
+use super::tree::{self, BoxSource, Tree};
 use super::walk::{Test, Visitor};
-use super::{NoMemory, chain, change, descent, find, walk};
+use super::{NoMemory, change, find, walk};
 use std::alloc::Global;
 use std::marker::Model;
 use std::mem;
@@ -50,7 +49,7 @@ impl<K: Ord + Drop, V: Drop> Drop for Shelf<K, V> {
             comparisons: _,
         } = self;
         drop(tree);
-        chain::drop_chain(spares);
+        tree::drop_chain(spares);
     }
 }
 
@@ -135,8 +134,8 @@ impl<K: Ord + Drop, V: Drop> Shelf<K, V> {
         if self.len >= usize::MAX - self.spare {
             return Err(NoMemory);
         }
-        let node = chain::spare_box(source)?;
-        self.spares = chain::link(node, mem::replace(&mut self.spares, Tree::Leaf));
+        let node = tree::spare_box(source)?;
+        self.spares = tree::link(node, mem::replace(&mut self.spares, Tree::Leaf));
         self.spare += 1;
         Ok(())
     }
@@ -151,7 +150,7 @@ impl<K: Ord + Drop, V: Drop> Shelf<K, V> {
         if self.spare == 0 {
             return;
         }
-        let (node, spares) = chain::unlink(mem::replace(&mut self.spares, Tree::Leaf));
+        let (node, spares) = tree::unlink(mem::replace(&mut self.spares, Tree::Leaf));
         drop(node);
         self.spares = spares;
         self.spare -= 1;
@@ -165,7 +164,7 @@ impl<K: Ord + Drop, V: Drop> Shelf<K, V> {
         ensures spare { self.new.spare + 1 ≡ self.old.spare }
         ensures comparisons { ComparesFew self.old self.new }
     {
-        let (mut node, spares) = chain::unlink(mem::replace(&mut self.spares, Tree::Leaf));
+        let (mut node, spares) = tree::unlink(mem::replace(&mut self.spares, Tree::Leaf));
         self.spares = spares;
         self.spare -= 1; // the box of the entry to come
         node.entry = Some((key, value));
@@ -188,7 +187,7 @@ impl<K: Ord + Drop, V: Drop> Shelf<K, V> {
         let entry = mem::replace(&mut node.entry, None);
         self.len -= 1;
         let spares = mem::replace(&mut self.spares, Tree::Leaf);
-        self.spares = chain::link(node, spares);
+        self.spares = tree::link(node, spares);
         self.spare += 1; // the box of the entry
         match entry {
             Some((_, value)) => Some(value),
@@ -265,6 +264,6 @@ impl<K: Ord + Drop, V: Drop> Shelf<K, V> {
             (LendsValue K.row V.row K.Ord self.entry (K.cmp key.now) result) }
         ensures value { option_copied_mut result ≡ lookup (is_at (K.cmp key.now)) self.old.entries }
     {
-        descent::value_mut(&mut self.tree, key, &mut self.comparisons)
+        find::value_mut(&mut self.tree, key, &mut self.comparisons)
     }
 }

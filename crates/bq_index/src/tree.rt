@@ -1,8 +1,11 @@
-// A balanced tree of boxes, seen by its entries in order and its height.
-ghost use Rattle.std.specs.Prelude.{◌≡◌, ◌+◌, ◌<◌, max, [], IsSome, IfSome, IfNone, Some};
-ghost use Rattle.bq_index.specs.Tree.{entries, entries_of, height, height_over, held, lent};
+// A balanced tree of boxes, seen by its entries in order and its height; and the chain of the spare boxes, which
+// leads from each to its right.
+ghost use Rattle.std.specs.Prelude.{◌≡◌, ◌+◌, ◌<◌, max, [], IsSome, IfSome, IfNone, IfOk, Some};
+ghost use Rattle.bq_index.specs.Tree.{chain_length, entries, entries_of, height, height_over, held, length_behind, lent};
 ghost use Rattle.bq_index.specs.Tree.{IsBalanced, IsBalancedFrom, AreSides, HasParts, ComesApart, DifferByAtMost, IsRebalanced};
 
+use super::NoMemory;
+use std::alloc::Global;
 use std::mem;
 
 #[derive(Drop)]
@@ -186,5 +189,89 @@ pub(crate) fn parts<K, V>(
     match &node.entry {
         Some((key, value)) => Some((left, key, value, right)),
         None => unreachable!(),
+    }
+}
+
+/// Who gives boxes, one at a time: the heap, or in a test somebody who refuses some of them.
+pub trait BoxSource {
+    fn box_of<T: Drop>(&mut self, value: T) -> Result<Box<T>, NoMemory>
+        ensures { IfOk result (λ b. b.value ≡ value) };
+}
+
+/// The heap. It is asked once for each box.
+impl BoxSource for Global {
+    fn box_of<T: Drop>(&mut self, value: T) -> Result<Box<T>, NoMemory> {
+        match Box::new(*self, value) {
+            Ok(filled) => Ok(filled),
+            Err(_) => Err(NoMemory),
+        }
+    }
+}
+
+// A box with nothing in it.
+pub(crate) fn spare_box<K, V, S: BoxSource>(source: &mut S) -> Result<Box<Node<K, V>>, NoMemory>
+where
+    K: Drop,
+    V: Drop,
+{
+    source.box_of(Node {
+        sides: Sides::Neither,
+        entry: None,
+    })
+}
+
+// Puts a box before a chain.
+pub(crate) fn link<K, V>(mut node: Box<Node<K, V>>, chain: Tree<K, V>) -> Tree<K, V>
+where
+    K: Drop,
+    V: Drop,
+    ensures { chain_length result ≡ chain_length chain + 1 }
+{
+    node.sides = match chain {
+        Tree::Leaf => Sides::Neither,
+        Tree::Fork(next) => Sides::Right(next),
+    };
+    Tree::Fork(node)
+}
+
+// The first box of a chain, and the others.
+pub(crate) fn unlink<K, V>(chain: Tree<K, V>) -> (Box<Node<K, V>>, Tree<K, V>)
+where
+    K: Drop,
+    V: Drop,
+    requires { 0 < chain_length chain }
+    ensures { chain_length chain ≡ chain_length result.1 + 1 }
+{
+    match chain {
+        Tree::Leaf => unreachable!(),
+        Tree::Fork(mut node) => {
+            let rest = behind(mem::replace(&mut node.sides, Sides::Neither));
+            (node, rest)
+        }
+    }
+}
+
+// The chain behind a box that has these sides.
+fn behind<K, V>(sides: Sides<K, V>) -> Tree<K, V>
+where
+    K: Drop,
+    V: Drop,
+    ensures { chain_length result ≡ length_behind sides }
+{
+    match sides {
+        Sides::Right(next) => Tree::Fork(next),
+        _ => Tree::Leaf,
+    }
+}
+
+// In a loop, since a chain may be long.
+pub(crate) fn drop_chain<K, V>(chain: Tree<K, V>)
+where
+    K: Drop,
+    V: Drop,
+{
+    let mut chain = chain;
+    while let Tree::Fork(mut node) = chain {
+        chain = behind(mem::replace(&mut node.sides, Sides::Neither));
     }
 }

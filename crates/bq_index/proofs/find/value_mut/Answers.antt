@@ -1,5 +1,5 @@
 use Rattle.std.proofs.Common.{rules, refl, ◌≡◌}
-use Rattle.bq_index.proofs.descent.value_mut.Goals as goal
+use Rattle.bq_index.proofs.find.value_mut.Goals as goal
 
 pub returns-in-Fork : goal.returns-in-Fork
 returns-in-Fork g c =
