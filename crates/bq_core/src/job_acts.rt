@@ -20,7 +20,7 @@ use crate::seats::SeatChange;
 use crate::tubes::TubeChange;
 use crate::{changes, job_store, seats};
 use bq_job::{Answer, Body, Counts, Job, JobId, Moment, Pri, Seat, TubeName};
-use bq_jobs::laws;
+use bq_jobs::{adds_at_the_end, next_is_free};
 use std::alloc::Global;
 
 // The last id that is given: with it the core begins to drain, so that the next id always fits.
@@ -118,8 +118,8 @@ pub(crate) fn put(
     };
     let id = job.id;
     changes::change_tube(state, &job.tube, TubeChange::CountPut);
-    laws::next_is_free();
-    laws::adds_at_the_end();
+    next_is_free();
+    adds_at_the_end();
     count_put(state);
     changes::add(state, job);
     *told = Answer::Inserted(id);

@@ -15,6 +15,7 @@ ghost use Rattle.bq_jobs.specs.Numbering.{is_known};
 ghost use Rattle.bq_jobs.specs.Seen.{IsBodyOf, IsTubeOf, but_for_tube};
 ghost use Rattle.bq_jobs.specs.Told.{job_told, moved_told};
 ghost use Rattle.bq_jobs.specs.Kept.{ComparesAtMost, ranked, with_added, without};
+ghost use Rattle.bq_jobs.specs.Laws.{AddsAtTheEnd, ChosenHasItsId, NextIsFree};
 ghost use Rattle.bq_jobs.specs.Leases.{deadline_of, is_lease_before};
 ghost use Rattle.bq_jobs.specs.Places.{held_by, list_of};
 ghost use Rattle.bq_jobs.specs.Ranks.{first_held, first_timed, id_in};
@@ -414,3 +415,22 @@ fn told_of(tubes: &NumberedTubes, moved: Option<MovedRow>) -> Option<Moved>
         }),
     }
 }
+
+// What the machine's definitions say of additions, and of jobs that are found by their ids.
+
+/// A job with an id above all others comes last.
+#[tactic(auto, using(crate::proofs::Changes::adds_at_the_end))]
+pub fn adds_at_the_end()
+    ensures { AddsAtTheEnd }
+{}
+
+/// No job has the next id.
+#[tactic(auto, using(crate::proofs::Changes::next_is_free))]
+pub fn next_is_free()
+    ensures { NextIsFree }
+{}
+
+/// A job that was chosen by a test and an order is the one that is found by its id.
+pub fn chosen_has_its_id()
+    ensures { ChosenHasItsId }
+{}

@@ -17,12 +17,11 @@
 //! | together | 440 at most |
 #![tactic(auto)]
 
-pub use jobs::Jobs;
+pub use jobs::{Jobs, adds_at_the_end, chosen_has_its_id, next_is_free};
 pub use row::{JobEdit, Moved, Row, Standing};
 pub use tubes::TubeNumber;
 
 mod jobs;
-pub mod laws;
 mod places;
 mod row;
 mod rows;
