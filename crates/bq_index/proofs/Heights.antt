@@ -1,8 +1,8 @@
 -- The height of a box that is made anew after one of its sides changed by a level at most.
 use Rattle.std.proofs.Common.{◌≡◌, ℕ, ◌+◌, ◌-◌, ◌≤◌, max, Option, inl, inr, arith}
 use Rattle.std.proofs.lemmas.Bool.{cases_order}
-use Rattle.bq_index.specs.Tree.{height, DifferByAtMost, IsRebalanced}
-use Rattle.bq_index.specs.declared.tree.Tree.{Tree}
+use Rattle.bq_index.specs.Tree.{height_of, DifferByAtMost, IsRebalanced}
+use Rattle.bq_index.specs.declared.tree.Node.{Node}
 
 -- A box was `high`, with sides of the heights `before` and r. The first side is l high now, and the box t, which is
 -- known to the level where the sides are near.
@@ -19,16 +19,16 @@ levels high before l r t known near changed low top exact =
       | inr (inr more) ↦ absurd (omega arith)
     ]
 
-module _ {K V : Type 0} {l r t : Tree K V} {e : Option (K × V)} (b : IsRebalanced l e r t) (high before : ℕ) where
+module _ {K V : Type 0} {l r t : Option (Node K V)} {e : Option (K × V)} (b : IsRebalanced l e r t) (high before : ℕ) where
   -- where the left side has changed
-  pub left_levels : high ≡ max before (height r) + 1 → DifferByAtMost 1 before (height r) → DifferByAtMost 1 before (height l)
-      → (height t ≤ high + (height l - before)) × (high ≤ height t + (before - height l))
-  left_levels known near changed = levels high before (height l) (height r) (height t) known near changed b.not_lower b.not_higher b.near
+  pub left_levels : high ≡ max before (height_of r) + 1 → DifferByAtMost 1 before (height_of r) → DifferByAtMost 1 before (height_of l)
+      → (height_of t ≤ high + (height_of l - before)) × (high ≤ height_of t + (before - height_of l))
+  left_levels known near changed = levels high before (height_of l) (height_of r) (height_of t) known near changed b.not_lower b.not_higher b.near
 
   -- or the right one
-  pub right_levels : high ≡ max before (height l) + 1 → DifferByAtMost 1 before (height l) → DifferByAtMost 1 before (height r)
-      → (height t ≤ high + (height r - before)) × (high ≤ height t + (before - height r))
+  pub right_levels : high ≡ max before (height_of l) + 1 → DifferByAtMost 1 before (height_of l) → DifferByAtMost 1 before (height_of r)
+      → (height_of t ≤ high + (height_of r - before)) × (high ≤ height_of t + (before - height_of r))
   right_levels known near changed =
-      let low : max (height r) (height l) ≤ height t = omega (arith, b.not_lower) in
-      let top : height t ≤ max (height r) (height l) + 1 = omega (arith, b.not_higher) in
-      levels high before (height r) (height l) (height t) known near changed low top (λ d. let is = b.near (d.1, d.0) in omega (arith, is))
+      let low : max (height_of r) (height_of l) ≤ height_of t = omega (arith, b.not_lower) in
+      let top : height_of t ≤ max (height_of r) (height_of l) + 1 = omega (arith, b.not_higher) in
+      levels high before (height_of r) (height_of l) (height_of t) known near changed low top (λ d. let is = b.near (d.1, d.0) in omega (arith, is))

@@ -5,15 +5,14 @@ ghost use Rattle.std.specs.Option.{option_copied_mut, option_map};
 ghost use Rattle.std.specs.Map.{lookup};
 ghost use Rattle.std.specs.BTreeMap.{is_at};
 ghost use Rattle.bq_index.specs.Order.{InOrder, entry_from};
-ghost use Rattle.bq_index.specs.Tree.{entries_of, height, height_of, height_over, heights, lent};
-ghost use Rattle.bq_index.specs.Tree.{AreBalanced, IsBalanced, IsBalancedFrom, IsLevel, RaisedByAtMost, Comparison, ComparisonOfEntries};
+ghost use Rattle.bq_index.specs.Tree.{entries_of, entry_in, height, height_in, height_of, left_in, lent, right_in};
+ghost use Rattle.bq_index.specs.Tree.{IsBalanced, IsBalancedFrom, IsLevel, RaisedByAtMost, Comparison};
 ghost use Rattle.bq_index.specs.Lent.{put_left, put_right, put_value, put_value_in, with_value};
 ghost use Rattle.bq_index.specs.Lent.{value_at, value_in, value_left, value_of, value_right};
 ghost use Rattle.bq_index.specs.contracts.tree.Tree.{the_row as tree_row};
 ghost use Rattle.bq_index.specs.contracts.tree.Node.{the_row as node_row};
-ghost use Rattle.bq_index.specs.contracts.tree.Sides.{the_row as sides_row};
 
-use super::tree::{Node, Sides, Tree, parts};
+use super::tree::{Node, Tree, parts};
 use std::cmp::Ordering;
 use std::marker::PhantomData;
 
@@ -30,32 +29,12 @@ pub(crate) fn compare<K: Ord>(key: &K, other: &K, count: &mut u64) -> Ordering
 }
 
 // A comparison with the key of a box.
-pub(crate) fn compare_to<K: Ord, V>(key: &K, node: &Node<K, V>, count: &mut u64) -> Ordering
-    requires { IsSome node.now.entry }
-    ensures answer { Comparison K.cmp key.now node.now.entry result }
+fn compare_to<K: Ord, V>(key: &K, node: &Node<K, V>, count: &mut u64) -> Ordering
+    requires { IsSome (entry_in node.now) }
+    ensures answer { Comparison K.cmp key.now (entry_in node.now) result }
     ensures counted { RaisedByAtMost 1 count.old count.new }
 {
-    match &node.entry {
-        Some((other, _)) => compare(key, other, count),
-        None => unreachable!(),
-    }
-}
-
-// A comparison of the keys of two boxes.
-pub(crate) fn compare_entries<K: Ord, V>(
-    added: &Node<K, V>,
-    node: &Node<K, V>,
-    count: &mut u64,
-) -> Ordering
-    requires added_filled { IsSome added.now.entry }
-    requires filled { IsSome node.now.entry }
-    ensures answer { ComparisonOfEntries K.cmp added.now.entry node.now.entry result }
-    ensures counted { RaisedByAtMost 1 count.old count.new }
-{
-    match &added.entry {
-        Some((key, _)) => compare_to(key, node, count),
-        None => unreachable!(),
-    }
+    compare(key, node.key(), count)
 }
 
 // The value at a key.
@@ -131,13 +110,12 @@ trait Descent {
         key: &K,
         count: &mut u64,
     ) -> Option<&'a mut V>
-        requires level { IsLevel node.old.sides node.old.entry }
-        requires balanced { AreBalanced node.old.sides }
-        requires reached { height_over node.old.sides ≤ depth }
+        requires balanced { IsLevel node.old }
+        requires reached { height_in node.old ≤ depth }
         ensures* writes_back { sem 𝓛 (LendsIf (node_row K.row V.row) V.row node.entry result (put_value_in (K.cmp key.now) node.old)
             node.old) }
         ensures value { option_copied_mut result ≡ value_in (K.cmp key.now) node.old }
-        ensures counted { RaisedByAtMost (height_over node.old.sides) count.old count.new };
+        ensures counted { RaisedByAtMost (height_in node.old) count.old count.new };
 }
 
 // A box with nothing below it.
@@ -169,48 +147,49 @@ impl<D: Descent> Descent for Deeper<D> {
         count: &mut u64,
     ) -> Option<&'a mut V> {
         match compare_to(key, node, count) {
-            Ordering::Less => left_of::<D, K, V>(&mut node.sides, key, count),
-            Ordering::Greater => right_of::<D, K, V>(&mut node.sides, key, count),
+            Ordering::Less => left_of::<D, K, V>(node, key, count),
+            Ordering::Greater => right_of::<D, K, V>(node, key, count),
             Ordering::Equal => here(node),
         }
     }
 }
 
 fn left_of<'a, D: Descent, K: Ord, V>(
-    sides: &'a mut Sides<K, V>,
+    node: &'a mut Node<K, V>,
     key: &K,
     count: &mut u64,
 ) -> Option<&'a mut V>
-    requires balanced { AreBalanced sides.old }
-    requires reached { (heights sides.old).0 ≤ D.depth }
+    requires balanced { IsBalancedFrom (left_in node.old) }
+    requires reached { height_of (left_in node.old) ≤ D.depth }
     ensures* writes_back { sem 𝓛
-        (LendsIf (sides_row K.row V.row) V.row sides.entry result
-        (put_left (K.cmp key.now) sides.old) sides.old) }
-    ensures value { option_copied_mut result ≡ value_left (K.cmp key.now) sides.old }
-    ensures counted { RaisedByAtMost (heights sides.old).0 count.old count.new }
+        (LendsIf (node_row K.row V.row) V.row node.entry result
+        (put_left (K.cmp key.now) node.old) node.old) }
+    ensures value { option_copied_mut result ≡ value_left (K.cmp key.now) node.old }
+    ensures counted { RaisedByAtMost (height_of (left_in node.old)) count.old count.new }
 {
-    match sides {
-        Sides::Left(left) => D::value_in(left, key, count),
-        Sides::Both { left, .. } => D::value_in(left, key, count),
+    match node {
+        Node::OnLeft { left, .. } => D::value_in(left, key, count),
+        Node::Both { left, .. } => D::value_in(left, key, count),
         _ => None,
     }
 }
 
 fn right_of<'a, D: Descent, K: Ord, V>(
-    sides: &'a mut Sides<K, V>,
+    node: &'a mut Node<K, V>,
     key: &K,
     count: &mut u64,
 ) -> Option<&'a mut V>
-    requires balanced { AreBalanced sides.old }
-    requires reached { (heights sides.old).1 ≤ D.depth }
-    ensures* writes_back { sem 𝓛 (LendsIf (sides_row K.row V.row) V.row sides.entry result (put_right (K.cmp key.now) sides.old)
-        sides.old) }
-    ensures value { option_copied_mut result ≡ value_right (K.cmp key.now) sides.old }
-    ensures counted { RaisedByAtMost (heights sides.old).1 count.old count.new }
+    requires balanced { IsBalancedFrom (right_in node.old) }
+    requires reached { height_of (right_in node.old) ≤ D.depth }
+    ensures* writes_back { sem 𝓛
+        (LendsIf (node_row K.row V.row) V.row node.entry result
+        (put_right (K.cmp key.now) node.old) node.old) }
+    ensures value { option_copied_mut result ≡ value_right (K.cmp key.now) node.old }
+    ensures counted { RaisedByAtMost (height_of (right_in node.old)) count.old count.new }
 {
-    match sides {
-        Sides::Right(right) => D::value_in(right, key, count),
-        Sides::Both { right, .. } => D::value_in(right, key, count),
+    match node {
+        Node::OnRight { right, .. } => D::value_in(right, key, count),
+        Node::Both { right, .. } => D::value_in(right, key, count),
         _ => None,
     }
 }
@@ -220,10 +199,13 @@ fn here<'a, K, V>(node: &'a mut Node<K, V>) -> Option<&'a mut V>
         (LendsIf (node_row K.row V.row) V.row node.entry result (with_value node.old) node.old) }
     ensures value { option_copied_mut result ≡ value_of node.old }
 {
-    if let Some(pair) = &mut node.entry {
-        return Some(&mut pair.1);
+    match node {
+        Node::Alone { value, .. } => Some(value),
+        Node::OnLeft { value, .. } => Some(value),
+        Node::OnRight { value, .. } => Some(value),
+        Node::Both { value, .. } => Some(value),
+        Node::Spare | Node::SpareBefore(_) => None,
     }
-    None
 }
 
 struct Eight<D>(PhantomData<D>);

@@ -6,7 +6,7 @@ ghost use Rattle.bq_index.specs.Order.{InOrder, entry_from};
 ghost use Rattle.std.specs.Map.{lookup, remove_entry};
 ghost use Rattle.std.specs.BTreeMap.{is_at, insert_entry};
 
-use super::tree::{self, BoxSource, Tree};
+use super::tree::{self, BoxSource, Node, Tree};
 use super::walk::{Test, Visitor};
 use super::{NoMemory, change, find, walk};
 use std::alloc::Global;
@@ -167,7 +167,7 @@ impl<K: Ord + Drop, V: Drop> Shelf<K, V> {
         let (mut node, spares) = tree::unlink(mem::replace(&mut self.spares, Tree::Leaf));
         self.spares = spares;
         self.spare -= 1; // the box of the entry to come
-        node.entry = Some((key, value));
+        *node = Node::Alone { key, value };
         let tree = mem::replace(&mut self.tree, Tree::Leaf);
         self.tree = change::insert(tree, node, &mut self.comparisons);
         self.len += 1;
@@ -183,16 +183,12 @@ impl<K: Ord + Drop, V: Drop> Shelf<K, V> {
         let tree = mem::replace(&mut self.tree, Tree::Leaf);
         let (tree, found) = change::remove(tree, key, &mut self.comparisons);
         self.tree = tree;
-        let mut node = found?;
-        let entry = mem::replace(&mut node.entry, None);
+        let (node, value) = found?;
         self.len -= 1;
         let spares = mem::replace(&mut self.spares, Tree::Leaf);
         self.spares = tree::link(node, spares);
         self.spare += 1; // the box of the entry
-        match entry {
-            Some((_, value)) => Some(value),
-            None => unreachable!(),
-        }
+        Some(value)
     }
 
     /// The value at a key. Nothing changes but the count of comparisons.

@@ -1,97 +1,144 @@
-// A balanced tree of boxes, seen by its entries in order and its height; and the chain of the spare boxes, which
-// leads from each to its right.
+// A balanced tree of boxes, seen by its entries in order and its height; and the chain of the spare boxes.
 ghost use Rattle.std.specs.Prelude.{◌≡◌, ◌+◌, ◌<◌, max, [], IsSome, IfSome, IfNone, IfOk, Some};
-ghost use Rattle.bq_index.specs.Tree.{chain_length, entries, entries_of, height, height_over, held, length_behind, lent};
-ghost use Rattle.bq_index.specs.Tree.{IsBalanced, IsBalancedFrom, AreSides, HasParts, ComesApart, DifferByAtMost, IsRebalanced};
+ghost use Rattle.bq_index.specs.Tree.{chain_length, entries, entries_of, entry_in, height, height_in, held, left_in, length_behind, lent, right_in};
+ghost use Rattle.bq_index.specs.Tree.{IsBalanced, IsBalancedFrom, IsKeyOf, IsLevel, HasParts, DifferByAtMost};
 
 use super::NoMemory;
 use std::alloc::Global;
 use std::mem;
 
+// A tree, or a chain of spare boxes.
 #[derive(Drop)]
 pub(crate) enum Tree<K, V> {
     Leaf,
     Fork(Box<Node<K, V>>),
 }
 
-// Fields lie in memory as they stand here, each enum behind a word with its tag. A search reads a box's sides and
-// the front of its key, and they lie side by side, before the value, which may be long.
-#[cycle(tree)]
+// What a box holds. It has one byte that tells which of these it is, the height in the next one, and the fields as they
+// stand here: so a box has 24 bytes beside its key and its value, and a search, which reads a key and a side, finds them
+// side by side, before the value, which may be long. A height is stored where there are two sides, since in a balanced
+// tree a single side is one box.
 #[derive(Drop)]
-pub(crate) struct Node<K, V> {
-    pub(crate) sides: Sides<K, V>,
-    // `None` in a spare box.
-    pub(crate) entry: Option<(K, V)>,
-}
-
-// What a box has below it, in 24 bytes: the height lies beside the tag. It is stored where there are two sides,
-// since in a balanced tree a single side is one box.
-#[cycle(tree)]
-#[derive(Drop)]
-pub(crate) enum Sides<K, V> {
-    Neither,
-    Left(Box<Node<K, V>>),
-    Right(Box<Node<K, V>>),
+pub(crate) enum Node<K, V> {
+    // A spare box, the last of its chain, and one before another.
+    Spare,
+    SpareBefore(Box<Node<K, V>>),
+    // An entry with nothing below it, and with a side or two.
+    Alone {
+        key: K,
+        value: V,
+    },
+    OnLeft {
+        key: K,
+        left: Box<Node<K, V>>,
+        value: V,
+    },
+    OnRight {
+        key: K,
+        right: Box<Node<K, V>>,
+        value: V,
+    },
     Both {
         height: u8,
+        key: K,
         left: Box<Node<K, V>>,
         right: Box<Node<K, V>>,
+        value: V,
     },
 }
 
-impl<K, V> Sides<K, V> {
-    // The height of the box that has these sides.
-    fn height_over(&self) -> u8
-        ensures { result ≡ height_over self.now }
+impl<K, V> Node<K, V> {
+    pub(crate) fn height(&self) -> u8
+        ensures { result ≡ height_in self.now }
     {
         match self {
-            Sides::Neither => 1,
-            Sides::Left(_) | Sides::Right(_) => 2,
-            Sides::Both { height, .. } => *height,
+            Node::Spare | Node::SpareBefore(_) => 0,
+            Node::Alone { .. } => 1,
+            Node::OnLeft { .. } | Node::OnRight { .. } => 2,
+            Node::Both { height, .. } => *height,
         }
     }
 
-    fn lent(&self) -> (Option<&Node<K, V>>, Option<&Node<K, V>>)
-        ensures { AreSides self.now (lent result.0) (lent result.1) }
+    pub(crate) fn key(&self) -> &K
+        requires { IsSome (entry_in self.now) }
+        ensures { IsKeyOf (entry_in self.now) result.now }
     {
         match self {
-            Sides::Neither => (None, None),
-            Sides::Left(left) => (Some(left), None),
-            Sides::Right(right) => (None, Some(right)),
-            Sides::Both { left, right, .. } => (Some(left), Some(right)),
+            Node::Alone { key, .. } => key,
+            Node::OnLeft { key, .. } => key,
+            Node::OnRight { key, .. } => key,
+            Node::Both { key, .. } => key,
+            Node::Spare | Node::SpareBefore(_) => unreachable!(),
         }
     }
 
-    fn apart(self) -> (Tree<K, V>, Tree<K, V>)
-        ensures { AreSides self (held result.0) (held result.1) }
-    {
-        match self {
-            Sides::Neither => (Tree::Leaf, Tree::Leaf),
-            Sides::Left(left) => (Tree::Fork(left), Tree::Leaf),
-            Sides::Right(right) => (Tree::Leaf, Tree::Fork(right)),
-            Sides::Both { left, right, .. } => (Tree::Fork(left), Tree::Fork(right)),
-        }
-    }
-
-    // Two trees as the sides of a box that is so high.
-    fn of(high: u8, left: Tree<K, V>, right: Tree<K, V>) -> Self
+    // The box of two trees with an entry between them, which is so high.
+    pub(crate) fn of(high: u8, left: Tree<K, V>, entry: (K, V), right: Tree<K, V>) -> Self
         requires left_balanced { IsBalanced left }
         requires right_balanced { IsBalanced right }
         requires near { DifferByAtMost 1 (height left) (height right) }
         requires known { high ≡ max (height left) (height right) + 1 }
-        ensures sides { AreSides result (held left) (held right) }
-        ensures high { height_over result ≡ high }
+        ensures parts { HasParts (Some result) (held left) (Some entry) (held right) }
+        ensures balanced { IsLevel result }
     {
+        let (key, value) = entry;
         match (left, right) {
-            (Tree::Leaf, Tree::Leaf) => Sides::Neither,
-            (Tree::Fork(left), Tree::Leaf) => Sides::Left(left),
-            (Tree::Leaf, Tree::Fork(right)) => Sides::Right(right),
-            (Tree::Fork(left), Tree::Fork(right)) => Sides::Both {
+            (Tree::Leaf, Tree::Leaf) => Node::Alone { key, value },
+            (Tree::Fork(left), Tree::Leaf) => Node::OnLeft { key, left, value },
+            (Tree::Leaf, Tree::Fork(right)) => Node::OnRight { key, right, value },
+            (Tree::Fork(left), Tree::Fork(right)) => Node::Both {
                 height: high,
+                key,
                 left,
                 right,
+                value,
             },
         }
+    }
+
+    // The same, where both sides are asked how high they are.
+    pub(crate) fn over(left: Tree<K, V>, entry: (K, V), right: Tree<K, V>) -> Self
+        requires left_balanced { IsBalanced left }
+        requires right_balanced { IsBalanced right }
+        requires near { DifferByAtMost 1 (height left) (height right) }
+        requires fits { max (height left) (height right) < 255 }
+        ensures parts { HasParts (Some result) (held left) (Some entry) (held right) }
+        ensures balanced { IsLevel result }
+    {
+        let high = left.height().max(right.height()) + 1;
+        Node::of(high, left, entry, right)
+    }
+
+    // The sides and the entry of a filled box.
+    fn into_parts(self) -> (Tree<K, V>, (K, V), Tree<K, V>)
+        requires { IsSome (entry_in self) }
+        ensures left { held result.0 ≡ left_in self }
+        ensures entry { Some result.1 ≡ entry_in self }
+        ensures right { held result.2 ≡ right_in self }
+    {
+        match self {
+            Node::Alone { key, value } => (Tree::Leaf, (key, value), Tree::Leaf),
+            Node::OnLeft { key, left, value } => (Tree::Fork(left), (key, value), Tree::Leaf),
+            Node::OnRight { key, right, value } => (Tree::Leaf, (key, value), Tree::Fork(right)),
+            Node::Both {
+                key,
+                left,
+                right,
+                value,
+                ..
+            } => (Tree::Fork(left), (key, value), Tree::Fork(right)),
+            Node::Spare | Node::SpareBefore(_) => unreachable!(),
+        }
+    }
+
+    // The same, out of a box, which stays behind.
+    pub(crate) fn take_parts(&mut self) -> (Tree<K, V>, (K, V), Tree<K, V>)
+        requires { IsSome (entry_in self.old) }
+        ensures left { held result.0 ≡ left_in self.old }
+        ensures entry { Some result.1 ≡ entry_in self.old }
+        ensures right { held result.2 ≡ right_in self.old }
+    {
+        mem::replace(self, Node::Spare).into_parts()
     }
 }
 
@@ -101,7 +148,7 @@ impl<K, V> Tree<K, V> {
     {
         match self {
             Tree::Leaf => 0,
-            Tree::Fork(node) => node.sides.height_over(),
+            Tree::Fork(node) => node.height(),
         }
     }
 
@@ -116,63 +163,22 @@ impl<K, V> Tree<K, V> {
     }
 }
 
-// The two sides of a tree, and the box between them.
-pub(crate) fn open<K, V>(tree: Tree<K, V>) -> Option<(Tree<K, V>, Box<Node<K, V>>, Tree<K, V>)>
+// The two sides of a tree, and between them its box, which is spare now, and its entry.
+pub(crate) fn open<K, V>(
+    tree: Tree<K, V>,
+) -> Option<(Tree<K, V>, Box<Node<K, V>>, (K, V), Tree<K, V>)>
     requires { IsBalanced tree }
-    ensures parts { IfSome result (λ p. ComesApart tree p.0 p.1.value.entry p.2) }
+    ensures parts { IfSome result (λ p. HasParts (held tree) (held p.0) (Some p.2) (held p.3)) }
     ensures empty { IfNone result (entries tree ≡ []) }
     ensures low { IfNone result (height tree ≡ 0) }
 {
     match tree {
         Tree::Leaf => None,
         Tree::Fork(mut node) => {
-            let (left, right) = mem::replace(&mut node.sides, Sides::Neither).apart();
-            Some((left, node, right))
+            let (left, entry, right) = node.take_parts();
+            Some((left, node, entry, right))
         }
     }
-}
-
-// The tree of two sides and a box between them.
-pub(crate) fn join<K, V>(
-    mut node: Box<Node<K, V>>,
-    left: Tree<K, V>,
-    right: Tree<K, V>,
-) -> Tree<K, V>
-where
-    K: Drop,
-    V: Drop,
-    requires filled { IsSome node.value.entry }
-    requires left_balanced { IsBalanced left }
-    requires right_balanced { IsBalanced right }
-    requires near { DifferByAtMost 1 (height left) (height right) }
-    requires fits { max (height left) (height right) < 255 }
-    ensures parts { ComesApart result left node.value.entry right }
-    ensures balanced { IsBalanced result }
-{
-    let high = left.height().max(right.height()) + 1;
-    node.sides = Sides::of(high, left, right);
-    Tree::Fork(node)
-}
-
-// The same, where the height is known: neither side is looked at.
-pub(crate) fn rejoin<K, V>(
-    mut node: Box<Node<K, V>>,
-    left: Tree<K, V>,
-    right: Tree<K, V>,
-    high: u8,
-) -> Tree<K, V>
-where
-    K: Drop,
-    V: Drop,
-    requires filled { IsSome node.value.entry }
-    requires left_balanced { IsBalanced left }
-    requires right_balanced { IsBalanced right }
-    requires near { DifferByAtMost 1 (height left) (height right) }
-    requires known { high ≡ max (height left) (height right) + 1 }
-    ensures { IsRebalanced left node.value.entry right result }
-{
-    node.sides = Sides::of(high, left, right);
-    Tree::Fork(node)
 }
 
 // The two sides of a tree, and the entry between them.
@@ -184,11 +190,18 @@ pub(crate) fn parts<K, V>(
         (λ p. HasParts (lent top.entry) (lent p.0) (Some (p.1.now, p.2.now)) (lent p.3)) }
     ensures empty { IfNone result (entries_of (lent top.entry) ≡ []) }
 {
-    let node = top?;
-    let (left, right) = node.sides.lent();
-    match &node.entry {
-        Some((key, value)) => Some((left, key, value, right)),
-        None => unreachable!(),
+    match top? {
+        Node::Alone { key, value } => Some((None, key, value, None)),
+        Node::OnLeft { key, left, value } => Some((Some(left), key, value, None)),
+        Node::OnRight { key, right, value } => Some((None, key, value, Some(right))),
+        Node::Both {
+            key,
+            left,
+            right,
+            value,
+            ..
+        } => Some((Some(left), key, value, Some(right))),
+        Node::Spare | Node::SpareBefore(_) => unreachable!(),
     }
 }
 
@@ -214,10 +227,7 @@ where
     K: Drop,
     V: Drop,
 {
-    source.box_of(Node {
-        sides: Sides::Neither,
-        entry: None,
-    })
+    source.box_of(Node::Spare)
 }
 
 // Puts a box before a chain.
@@ -227,9 +237,9 @@ where
     V: Drop,
     ensures { chain_length result ≡ chain_length chain + 1 }
 {
-    node.sides = match chain {
-        Tree::Leaf => Sides::Neither,
-        Tree::Fork(next) => Sides::Right(next),
+    *node = match chain {
+        Tree::Leaf => Node::Spare,
+        Tree::Fork(next) => Node::SpareBefore(next),
     };
     Tree::Fork(node)
 }
@@ -245,21 +255,21 @@ where
     match chain {
         Tree::Leaf => unreachable!(),
         Tree::Fork(mut node) => {
-            let rest = behind(mem::replace(&mut node.sides, Sides::Neither));
+            let rest = behind(mem::replace(&mut *node, Node::Spare));
             (node, rest)
         }
     }
 }
 
-// The chain behind a box that has these sides.
-fn behind<K, V>(sides: Sides<K, V>) -> Tree<K, V>
+// The chain behind a box.
+fn behind<K, V>(node: Node<K, V>) -> Tree<K, V>
 where
     K: Drop,
     V: Drop,
-    ensures { chain_length result ≡ length_behind sides }
+    ensures { chain_length result ≡ length_behind node }
 {
-    match sides {
-        Sides::Right(next) => Tree::Fork(next),
+    match node {
+        Node::SpareBefore(next) => Tree::Fork(next),
         _ => Tree::Leaf,
     }
 }
@@ -272,6 +282,6 @@ where
 {
     let mut chain = chain;
     while let Tree::Fork(mut node) = chain {
-        chain = behind(mem::replace(&mut node.sides, Sides::Neither));
+        chain = behind(mem::replace(&mut *node, Node::Spare));
     }
 }

@@ -73,7 +73,7 @@ impl BoxSource for Weighing {
     }
 }
 
-/// A box has 32 bytes beside its key and its value.
+/// A box has 24 bytes beside its key and its value.
 #[test]
 fn bytes_of_a_box(rt: HostRuntime) -> Result<(), Fail> {
     let mut source = Weighing {
@@ -82,10 +82,10 @@ fn bytes_of_a_box(rt: HostRuntime) -> Result<(), Fail> {
     };
     let mut keys: Shelf<u64, ()> = Shelf::new();
     keys.reserve_from(&mut source, 1)?;
-    assert!(rt; source.size == 40);
+    assert!(rt; source.size == 32);
     let mut entries: Shelf<u64, (u64, u64)> = Shelf::new();
     entries.reserve_from(&mut source, 1)?;
-    assert!(rt; source.size == 56);
+    assert!(rt; source.size == 48);
     Ok(())
 }
 
