@@ -60,15 +60,15 @@ pub(crate) fn later(moment: Moment, seconds: u32) -> Moment
 fn fire_timers(job: &mut Row, moment: Moment)
     ensures { job.new ≡ job_after_timers moment job.old }
 {
-    match job.state {
+    match job.state() {
         JobState::Delayed(due) => {
             if due <= moment {
-                job.state = JobState::Ready;
+                job.set_state(JobState::Ready);
             }
         }
         JobState::Reserved(_, deadline) => {
             if deadline <= moment {
-                job.state = JobState::Ready;
+                job.set_state(JobState::Ready);
                 job.counts.timeouts = job.counts.timeouts.saturating_add(1);
             }
         }
@@ -79,7 +79,7 @@ fn fire_timers(job: &mut Row, moment: Moment)
 fn hand_out(job: &mut Row, seat: Seat, moment: Moment)
     ensures { job.new ≡ reserved_by moment seat job.old }
 {
-    job.state = JobState::Reserved(seat, later(moment, job.ttr));
+    job.set_state(JobState::Reserved(seat, later(moment, job.ttr)));
     job.counts.reserves = job.counts.reserves.saturating_add(1);
 }
 
@@ -87,7 +87,7 @@ fn hand_out(job: &mut Row, seat: Seat, moment: Moment)
 pub(crate) fn is_held_by(job: &Row, seat: Seat) -> bool
     ensures { result ≡ held_by seat job.now }
 {
-    match job.state {
+    match job.state() {
         JobState::Reserved(holder, _) => holder == seat,
         _ => false,
     }
@@ -114,7 +114,7 @@ pub(crate) fn holds_some(jobs: &mut Jobs, seat: Seat) -> bool
 pub(crate) fn is_reserved(job: &Row) -> bool
     ensures { result ≡ is_reserved job.now.state }
 {
-    matches!(job.state, JobState::Reserved(_, _))
+    matches!(job.state(), JobState::Reserved(_, _))
 }
 
 /// Whether nobody holds the job, or the client at the seat does.
@@ -128,7 +128,7 @@ pub(crate) fn is_free_for(job: &Row, seat: Seat) -> bool
 pub(crate) fn is_kickable(job: &Row) -> bool
     ensures { result ≡ (is_buried job.now.state || is_delayed job.now.state) }
 {
-    matches!(job.state, JobState::Buried(_) | JobState::Delayed(_))
+    matches!(job.state(), JobState::Buried(_) | JobState::Delayed(_))
 }
 
 /// Ready, or delayed so many seconds from this moment on.
@@ -147,7 +147,7 @@ fn release(job: &mut Row, pri: Pri, delay: u32, moment: Moment)
 {
     job.pri = pri;
     job.delay = delay;
-    job.state = delayed_by(delay, moment);
+    job.set_state(delayed_by(delay, moment));
     job.counts.releases = job.counts.releases.saturating_add(1);
 }
 
@@ -155,14 +155,14 @@ fn bury(job: &mut Row, number: u64, pri: Pri)
     ensures { job.new ≡ buried number pri job.old }
 {
     job.pri = pri;
-    job.state = JobState::Buried(number);
+    job.set_state(JobState::Buried(number));
     job.counts.buries = job.counts.buries.saturating_add(1);
 }
 
 fn kick(job: &mut Row)
     ensures { job.new ≡ kicked job.old }
 {
-    job.state = JobState::Ready;
+    job.set_state(JobState::Ready);
     job.counts.kicks = job.counts.kicks.saturating_add(1);
 }
 
@@ -173,10 +173,10 @@ pub(crate) fn change(job: &mut Row, change: &JobChange)
     match *change {
         JobChange::FireTimers(moment) => fire_timers(job, moment),
         JobChange::HandOut(seat, moment) => hand_out(job, seat, moment),
-        JobChange::GiveBack(becomes) => job.state = becomes,
+        JobChange::GiveBack(becomes) => job.set_state(becomes),
         JobChange::Release(pri, delay, moment) => release(job, pri, delay, moment),
         JobChange::Bury(number, pri) => bury(job, number, pri),
-        JobChange::Touch(seat, deadline) => job.state = JobState::Reserved(seat, deadline),
+        JobChange::Touch(seat, deadline) => job.set_state(JobState::Reserved(seat, deadline)),
         JobChange::Kick => kick(job),
     }
 }

@@ -11,4 +11,5 @@ pub mod PlaceOrder
 pub mod Places
 pub mod Ranks
 pub mod Seen
+pub mod Stages
 pub mod Told

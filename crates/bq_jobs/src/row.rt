@@ -1,24 +1,39 @@
 //! The record of a job, inside, and its changes.
 ghost use Rattle.std.specs.Prelude.{◌≡◌, ◌<◌, ◌^◌, [], ◌∷◌};
 ghost use Rattle.bq_jobs.specs.Changed.{standing};
+ghost use Rattle.bq_jobs.specs.Stages.{state_of};
 
 use super::tubes::TubeNumber;
-use bq_job::{Body, Counts, Job, JobId, JobState, Moment, Pri, TubeName};
+use bq_job::{Body, Counts, Job, JobId, JobState, Moment, Pri, Seat, TubeName};
 use std::marker::Model;
 use std::snapshot::Snapshot;
 
+/// Which state a job is in, without what is told beside it.
+#[derive(Clone, Copy)]
+pub enum Stage {
+    Ready,
+    Delayed,
+    Reserved,
+    Buried,
+}
+
 /// The record of a job, in which its tube is a number. To a contract it is a job in the tube of that number.
-// Fields lie in memory as they stand here: what tells the places of a job comes first, beside its key.
+// Fields lie in memory as they stand here: what tells the places of a job comes first, beside its key. Its state is in
+// three of them, since an enum would take a word for its tag and its seat, and here they lie behind three short numbers.
 #[derive(Drop)]
 pub struct Row {
     /// The tube that it was put into, for life.
     pub tube: TubeNumber,
-    pub state: JobState,
+    /// The moment or the number of its state, if that has one.
+    at: u64,
     pub pri: Pri,
     /// The delay of its put or of its last release, in seconds.
     pub delay: u32,
     /// How long a client may hold it, in seconds, at least 1.
     pub ttr: u32,
+    /// Who holds it, if anybody does.
+    seat: Seat,
+    stage: Stage,
     pub body: Body,
     /// When its put was accepted.
     pub put_at: Moment,
@@ -29,6 +44,7 @@ pub struct Row {
 
 impl Model for Row {
     ghost use Rattle.bq_job.specs.declared.job.Job.{Job};
+    ghost use Rattle.bq_jobs.specs.Stages.{state_of};
 
     ghost Value = { Job };
 
@@ -41,8 +57,44 @@ impl Model for Row {
       body = r.body;
       put_at = r.put_at;
       counts = r.counts;
-      state = r.state;
+      state = state_of r.stage r.seat r.at;
     } };
+}
+
+impl Row {
+    /// Its state.
+    pub fn state(&self) -> JobState
+        ensures { result ≡ self.now.state }
+    {
+        match self.stage {
+            Stage::Ready => JobState::Ready,
+            Stage::Delayed => JobState::Delayed(self.at),
+            Stage::Reserved => JobState::Reserved(self.seat, self.at),
+            Stage::Buried => JobState::Buried(self.at),
+        }
+    }
+
+    /// Puts it into a state.
+    pub fn set_state(&mut self, state: JobState)
+        ensures { self.new ≡ record self.old { state = state } }
+    {
+        let (stage, seat, at) = parts_of(state);
+        self.stage = stage;
+        self.seat = seat;
+        self.at = at;
+    }
+}
+
+// What is kept of a state.
+fn parts_of(state: JobState) -> (Stage, Seat, u64)
+    ensures { state_of result.0 result.1 result.2 ≡ state }
+{
+    match state {
+        JobState::Ready => (Stage::Ready, 0, 0),
+        JobState::Delayed(due) => (Stage::Delayed, 0, due),
+        JobState::Reserved(seat, deadline) => (Stage::Reserved, seat, deadline),
+        JobState::Buried(number) => (Stage::Buried, 0, number),
+    }
 }
 
 /// The record of a job in the tube of this number.
@@ -50,12 +102,15 @@ pub(crate) fn row_of(job: Job, number: u64) -> Row
     requires { number < 2 ^ 62 }
     ensures { result ≡ record job { tube = number ∷ [] } }
 {
+    let (stage, seat, at) = parts_of(job.state);
     Row {
         tube: TubeNumber::of(number),
-        state: job.state,
+        at,
         pri: job.pri,
         delay: job.delay,
         ttr: job.ttr,
+        seat,
+        stage,
         body: job.body,
         put_at: job.put_at,
         counts: job.counts,
@@ -68,6 +123,7 @@ pub(crate) fn job_of(id: JobId, row: Row, tube: TubeName) -> Job
     requires { row.id ≡ id }
     ensures { result ≡ record row { tube = tube } }
 {
+    let state = row.state();
     Job {
         id,
         tube,
@@ -77,7 +133,7 @@ pub(crate) fn job_of(id: JobId, row: Row, tube: TubeName) -> Job
         body: row.body,
         put_at: row.put_at,
         counts: row.counts,
-        state: row.state,
+        state,
     }
 }
 
@@ -105,7 +161,7 @@ impl Standing {
     {
         Standing {
             pri: row.pri,
-            state: row.state,
+            state: row.state(),
         }
     }
 }

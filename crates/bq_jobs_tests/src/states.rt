@@ -54,7 +54,7 @@ fn all_states_in_one_room(rt: HostRuntime) -> Result<(), Fail> {
         assert!(rt; change(rt.alloc(), &mut jobs, 1, *state));
         assert!(rt; jobs.comparisons() > before);
         assert!(rt; (jobs.len(), jobs.room()) == (1, 0));
-        assert!(rt; jobs.get(1).map(|job| job.state) == Some(*state));
+        assert!(rt; jobs.get(1).map(|job| job.state()) == Some(*state));
         assert!(rt; kinds_with_jobs(&mut jobs, &name) == *kinds);
     }
     assert!(rt; jobs.remove(1).is_some());

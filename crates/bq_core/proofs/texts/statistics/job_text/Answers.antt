@@ -2,22 +2,24 @@
 use Rattle.std.proofs.Common.{◌≡◌, ◌∙◌, [], ◌∷◌, ap, sym}
 use Rattle.bq_job.specs.declared.job.Job.{Job}
 use Rattle.bq_job.specs.machine.Machine.{Machine}
-use Rattle.bq_job.specs.machine.Statistics.{job_statistics, seconds_between, time_left}
+use Rattle.bq_job.specs.machine.Statistics.{job_statistics, seconds_between, state_word, time_left}
 use Rattle.bq_job.specs.texts.Yaml.{statistics_text}
 use Rattle.bq_jobs.specs.Seen.{in_tube}
+use Rattle.bq_jobs.specs.Stages.{state_of}
 use Rattle.bq_core.proofs.TextLemmas.{told_of, with_number, with_word}
 use Rattle.bq_core.proofs.texts.statistics.job_text.Goals as goal
 
 pub returns : goal.returns
 returns c =
     let row = c.job.inside in
+    let same = sym (ap (λ (j : Job). j.state) c.job.view_is) in
     let lines = λ (m : Machine) (j : Job). job_statistics m (in_tube j c.args.tube.now) in
     told_of _ _ (λ m. m.moment ≡ c.args.moment) (λ m. lines m c.args.job.now) c.statistics_text.ensures (λ m at.
     let age = c.seconds_between.ensures ∙ sym (ap (seconds_between row.put_at) at) in
-    let left = c.time_left.ensures ∙ sym (ap (λ moment. time_left moment row.state) at) in
+    let left = c.time_left.ensures ∙ ap (time_left c.args.moment) (c.state-2.ensures ∙ same) ∙ sym (ap (λ moment. time_left moment (state_of row.stage row.seat row.at)) at) in
     let id = with_number _ _ _ _ c.number.ensures (c.requires.id ∙ sym (ap (λ (j : Job). j.id) c.job.view_is)) in
     let tube = with_word _ _ _ _ c.word.ensures c.as_slice.ensures.bytes in
-    let state = with_word _ _ _ _ c.word-2.ensures c.state_word.ensures in
+    let state = with_word _ _ _ _ c.word-2.ensures (c.state_word.ensures ∙ ap state_word (c.state.ensures ∙ same)) in
     let pri = with_number _ _ _ _ c.number-2.ensures c.from.ensures in
     let aged = with_number _ _ _ _ c.number-3.ensures age in
     let delay = with_number _ _ _ _ c.number-4.ensures c.from-2.ensures in

@@ -1,0 +1,13 @@
+-- The state of a job out of what is kept of it.
+use Rattle.std.specs.Prelude.{ℕ}
+use Rattle.bq_job.specs.declared.job.JobState.{JobState}
+use Rattle.bq_job.specs.declared.job.JobState.TheVariants as states
+use Rattle.bq_jobs.specs.declared.row.Stage.{Stage}
+use Rattle.bq_jobs.specs.declared.row.Stage.TheVariants as stages
+
+-- which state it is, the seat of who holds the job, and the moment or the number that the state has
+abbrev pub state_of : Stage → ℕ → ℕ → JobState
+state_of stages.Ready seat at = states.Ready
+state_of stages.Delayed seat at = states.Delayed at
+state_of stages.Reserved seat at = states.Reserved seat at
+state_of stages.Buried seat at = states.Buried at
