@@ -1,5 +1,6 @@
 pub mod Changed
 pub mod Groups
+pub mod Halves
 pub mod Inside
 pub mod Kept
 pub mod Laws

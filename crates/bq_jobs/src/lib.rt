@@ -10,11 +10,11 @@
 //! |---|---|
 //! | its box by id | 120 |
 //! | its place in its tube or at its holder | 48 |
-//! | its place among delays and leases | 48 |
+//! | its place among delays and leases | 40 |
 //! | the vector of its body and the count of its owners | 48 at most |
 //! | the bytes of its body | 64 |
 //! | what a heap keeps beside each of these five pieces | 80 at most |
-//! | together | 408 at most |
+//! | together | 400 at most |
 #![tactic(auto)]
 
 pub use jobs::{Jobs, adds_at_the_end, chosen_has_its_id, next_is_free};

@@ -128,11 +128,55 @@ impl Ord for Group {
     }
 }
 
+/// A number in two halves, which lies at any multiple of four bytes: so a place with a group of one byte has 20, and
+/// fills in its box what is left beside the tag.
+#[derive(Clone, Copy)]
+pub struct Halves {
+    low: u32,
+    high: u32,
+}
+
+impl Model for Halves {
+    ghost use Rattle.std.specs.Prelude.{◌≡◌, ℕ};
+    ghost use Rattle.bq_jobs.specs.Halves.{high_half, low_half, of_halves};
+
+    ghost Value = { ℕ };
+
+    ghost view = { λ n. of_halves n.high n.low };
+
+    ghost invariant = { λ n. (low_half (of_halves n.high n.low) ≡ n.low) × (high_half (of_halves n.high n.low) ≡ n.high) };
+
+    ghost inverse = { λ n. record { low = low_half n; high = high_half n } };
+
+    ghost inverse_ok = { λ n h. λ i. record { low = h.0 i; high = h.1 i } };
+}
+
+impl Halves {
+    ghost use Rattle.std.specs.Prelude.{◌≡◌};
+
+    /// A number.
+    fn of(number: u64) -> Halves
+        ensures { result ≡ number }
+    {
+        Halves {
+            low: (number % 0x1_0000_0000) as u32,
+            high: (number / 0x1_0000_0000) as u32,
+        }
+    }
+
+    /// The number.
+    fn get(self) -> u64
+        ensures { result ≡ self }
+    {
+        u64::from(self.high) * 0x1_0000_0000 + u64::from(self.low)
+    }
+}
+
 /// A place in an order: by group, then by a number, then by the id of the job.
 #[derive(Clone, Copy)]
 pub struct ShelfPlace<G> {
-    pub at: u64,
-    pub id: JobId,
+    pub at: Halves,
+    pub id: Halves,
     pub group: G,
 }
 
@@ -205,14 +249,21 @@ impl<G> ShelfPlace<G> {
     fn of(group: G, at: u64, id: JobId) -> ShelfPlace<G>
         ensures { result ≡ record { at = at; id = id; group = group } }
     {
-        ShelfPlace { at, id, group }
+        ShelfPlace {
+            at: Halves::of(at),
+            id: Halves::of(id),
+            group,
+        }
     }
 
     // The order within a group.
     fn cmp_numbers(&self, other: &ShelfPlace<G>) -> Ordering
         ensures { result ≡ numbers_cmp self.now other.now }
     {
-        self.at.cmp(&other.at).then_with(|| self.id.cmp(&other.id))
+        self.at
+            .get()
+            .cmp(&other.at.get())
+            .then_with(|| self.id.get().cmp(&other.id.get()))
     }
 }
 
@@ -340,14 +391,10 @@ pub(crate) fn first_rank<G: Ord + Drop + Copy>(
     ensures spare { order.new.spare ≡ order.old.spare }
     ensures comparisons { ComparesFew order.old order.new }
 {
-    let front = ShelfPlace {
-        at: 0,
-        id: 0,
-        group,
-    };
+    let front = ShelfPlace::of(group, 0, 0);
     let (place, ()) = order.next_from(&front)?;
     if group.cmp(&place.group).is_eq() {
-        Some((place.at, place.id))
+        Some((place.at.get(), place.id.get()))
     } else {
         None
     }

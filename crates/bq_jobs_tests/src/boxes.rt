@@ -138,7 +138,7 @@ fn bytes_of_a_job(rt: HostRuntime) -> Result<(), Fail> {
     Jobs::new().reserve_one_from(&mut source)?;
     let [place, timer, record] = source.sizes;
     assert!(rt; 0 < place && place <= 48);
-    assert!(rt; 0 < timer && timer <= 48);
+    assert!(rt; 0 < timer && timer <= 40);
     assert!(rt; 0 < record && record <= 120);
     Ok(())
 }
