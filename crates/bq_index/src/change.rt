@@ -1,15 +1,107 @@
-// A tree with one entry more or less.
+// A tree with one entry more or less. Boxes are changed where they lie: only where one gets or loses a side, or sides are
+// turned, does an entry move.
 ghost use Rattle.std.specs.Prelude.{◌≡◌, ◌+◌, ◌<◌, ◌≤◌, max, [], ◌++◌, Some, None, IsSome, IfSome, IfNone};
-ghost use Rattle.std.specs.Option.{option_map};
+ghost use Rattle.std.specs.Option.{option_map, option_to_list};
 ghost use Rattle.std.specs.Map.{lookup, remove_entry};
 ghost use Rattle.std.specs.BTreeMap.{is_at};
 ghost use Rattle.bq_index.specs.Order.{InOrder, LacksKeyOf, with_entry};
-ghost use Rattle.bq_index.specs.Tree.{entries, entry_in, height, held, HasParts, IsBalanced, IsLevel, DifferByAtMost, RaisedByAtMost, IsFirstTaken};
+ghost use Rattle.bq_index.specs.Tree.{entries, entries_in, entries_of, entry_in, height, height_in, height_of, held, left_in, right_in};
+ghost use Rattle.bq_index.specs.Tree.{HasParts, IsBalanced, IsLevel, DifferByAtMost, RaisedByAtMost, IsFirstTaken};
 
-use super::find::compare;
-use super::rotation::{balance, with_left, with_right};
+use super::find::{compare, compare_to};
+use super::rotation::{balance, mend_left, mend_right, with_left, with_right};
 use super::tree::{Node, Tree, open};
 use std::cmp::Ordering;
+
+// Hangs a box with an entry alone on the left of one that has nothing there.
+#[tactic(auto, using(crate::proofs::Parts::come_apart))]
+fn hang_left<K, V>(here: &mut Node<K, V>, node: Box<Node<K, V>>)
+where
+    K: Drop,
+    V: Drop,
+    requires here_level { IsLevel here.old }
+    requires none { left_in here.old ≡ None }
+    requires level { IsLevel node.value }
+    requires low { height_in node.value ≡ 1 }
+    ensures is { entries_in here.new ≡ entries_in node.value
+        ++ (option_to_list (entry_in here.old) ++ entries_of (right_in here.old)) }
+    ensures balanced { IsLevel here.new }
+    ensures not_lower { height_in here.old ≤ height_in here.new }
+    ensures not_higher { height_in here.new ≤ height_in here.old + 1 }
+{
+    let (_none, entry, right) = here.take_parts();
+    *here = Node::over(Tree::Fork(node), entry, right);
+}
+
+// Hangs a box with an entry alone on the right of one that has nothing there.
+#[tactic(auto, using(crate::proofs::Parts::come_apart))]
+fn hang_right<K, V>(here: &mut Node<K, V>, node: Box<Node<K, V>>)
+where
+    K: Drop,
+    V: Drop,
+    requires here_level { IsLevel here.old }
+    requires none { right_in here.old ≡ None }
+    requires level { IsLevel node.value }
+    requires low { height_in node.value ≡ 1 }
+    ensures is { entries_in here.new ≡ entries_of (left_in here.old)
+        ++ (option_to_list (entry_in here.old) ++ entries_in node.value) }
+    ensures balanced { IsLevel here.new }
+    ensures not_lower { height_in here.old ≤ height_in here.new }
+    ensures not_higher { height_in here.new ≤ height_in here.old + 1 }
+{
+    let (left, entry, _none) = here.take_parts();
+    *here = Node::over(left, entry, Tree::Fork(node));
+}
+
+// Puts a box with an entry alone below another one.
+fn insert_below<K: Ord, V>(here: &mut Node<K, V>, node: Box<Node<K, V>>, count: &mut u64)
+where
+    K: Drop,
+    V: Drop,
+    requires here_level { IsLevel here.old }
+    requires in_order { InOrder K.cmp (entries_in here.old) }
+    requires alone { HasParts (Some node.value) None (entry_in node.value) None }
+    requires level { IsLevel node.value }
+    requires absent { LacksKeyOf K.cmp (entry_in node.value) (entries_in here.old) }
+    requires fits { height_in here.old < 200 }
+    ensures is { entries_in here.new ≡ with_entry K.cmp (entry_in node.value) (entries_in here.old) }
+    ensures balanced { IsLevel here.new }
+    ensures not_lower { height_in here.old ≤ height_in here.new }
+    ensures not_higher { height_in here.new ≤ height_in here.old + 1 }
+    ensures counted { RaisedByAtMost (height_in here.old) count.old count.new }
+{
+    match compare_to(node.key(), here, count) {
+        Ordering::Less => {
+            let before = here.left_height();
+            match here {
+                Node::OnLeft { left, .. } => {
+                    insert_below(left, node, count);
+                    mend_left(here, before);
+                }
+                Node::Both { left, .. } => {
+                    insert_below(left, node, count);
+                    mend_left(here, before);
+                }
+                _ => hang_left(here, node),
+            }
+        }
+        Ordering::Greater => {
+            let before = here.right_height();
+            match here {
+                Node::OnRight { right, .. } => {
+                    insert_below(right, node, count);
+                    mend_right(here, before);
+                }
+                Node::Both { right, .. } => {
+                    insert_below(right, node, count);
+                    mend_right(here, before);
+                }
+                _ => hang_right(here, node),
+            }
+        }
+        Ordering::Equal => unreachable!(),
+    }
+}
 
 // Puts a box with an entry alone into its place.
 pub(crate) fn insert<K: Ord, V>(
@@ -32,24 +124,12 @@ where
     ensures not_higher { height result ≤ height tree + 1 }
     ensures counted { RaisedByAtMost (height tree) count.old count.new }
 {
-    let high = tree.height();
-    let Some((left, mut here, entry, right)) = open(tree) else {
-        return Tree::Fork(node);
-    };
-    match compare(node.key(), &entry.0, count) {
-        Ordering::Less => {
-            let before = left.height();
-            let left = insert(left, node, count);
-            with_left(&mut here, left, entry, right, high, before);
-            Tree::Fork(here)
+    match tree {
+        Tree::Leaf => Tree::Fork(node),
+        Tree::Fork(mut top) => {
+            insert_below(&mut top, node, count);
+            Tree::Fork(top)
         }
-        Ordering::Greater => {
-            let before = right.height();
-            let right = insert(right, node, count);
-            with_right(&mut here, left, entry, right, high, before);
-            Tree::Fork(here)
-        }
-        Ordering::Equal => unreachable!(),
     }
 }
 

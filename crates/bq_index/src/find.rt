@@ -29,7 +29,7 @@ pub(crate) fn compare<K: Ord>(key: &K, other: &K, count: &mut u64) -> Ordering
 }
 
 // A comparison with the key of a box.
-fn compare_to<K: Ord, V>(key: &K, node: &Node<K, V>, count: &mut u64) -> Ordering
+pub(crate) fn compare_to<K: Ord, V>(key: &K, node: &Node<K, V>, count: &mut u64) -> Ordering
     requires { IsSome (entry_in node.now) }
     ensures answer { Comparison K.cmp key.now (entry_in node.now) result }
     ensures counted { RaisedByAtMost 1 count.old count.new }

@@ -1,7 +1,8 @@
 // What keeps a tree balanced.
-ghost use Rattle.std.specs.Prelude.{◌≡◌, ◌+◌, ◌-◌, ◌<◌, ◌≤◌, ◌++◌, max, Some, IsTrue};
+ghost use Rattle.std.specs.Prelude.{◌≡◌, ◌+◌, ◌-◌, ◌<◌, ◌≤◌, ◌++◌, max, Some, IsSome, IsTrue};
 ghost use Rattle.std.specs.Option.{option_to_list};
-ghost use Rattle.bq_index.specs.Tree.{entries, entries_in, height, height_in, held, IsBalanced, IsLevel, DifferByAtMost, IsRebalanced};
+ghost use Rattle.bq_index.specs.Tree.{entries, entries_in, entries_of, entry_in, height, height_in, height_of, held, left_in, right_in};
+ghost use Rattle.bq_index.specs.Tree.{IsBalanced, IsBalancedFrom, IsLevel, DifferByAtMost, IsRebalanced};
 
 use super::tree::{Node, Tree, open};
 
@@ -58,6 +59,58 @@ where
 {
     let same = right.height() == before;
     balance(node, left, entry, right, high, same);
+}
+
+// Mends a box whose left side has changed in its place, by a level at most: it was `before` high. The whole rises or falls
+// no more than that side.
+#[tactic(auto, using(crate::proofs::Parts::by_sides, crate::proofs::Parts::still_level))]
+pub(crate) fn mend_left<K, V>(node: &mut Node<K, V>, before: u8)
+where
+    K: Drop,
+    V: Drop,
+    requires filled { IsSome (entry_in node.old) }
+    requires left_balanced { IsBalancedFrom (left_in node.old) }
+    requires right_balanced { IsBalancedFrom (right_in node.old) }
+    requires known { height_in node.old ≡ max before (height_of (right_in node.old)) + 1 }
+    requires near { DifferByAtMost 1 before (height_of (right_in node.old)) }
+    requires changed { DifferByAtMost 1 before (height_of (left_in node.old)) }
+    requires fits { height_in node.old < 200 }
+    ensures is { entries_in node.new ≡ entries_of (left_in node.old) ++ (option_to_list (entry_in node.old) ++ entries_of (right_in node.old)) }
+    ensures balanced { IsLevel node.new }
+    ensures not_higher { height_in node.new ≤ height_in node.old + (height_of (left_in node.old) - before) }
+    ensures not_lower { height_in node.old ≤ height_in node.new + (before - height_of (left_in node.old)) }
+{
+    if node.left_height() != before {
+        let high = node.height();
+        let (left, entry, right) = node.take_parts();
+        with_left(node, left, entry, right, high, before);
+    }
+}
+
+// Mends a box whose right side has changed in its place, by a level at most: it was `before` high. The whole rises or falls
+// no more than that side.
+#[tactic(auto, using(crate::proofs::Parts::by_sides, crate::proofs::Parts::still_level))]
+pub(crate) fn mend_right<K, V>(node: &mut Node<K, V>, before: u8)
+where
+    K: Drop,
+    V: Drop,
+    requires filled { IsSome (entry_in node.old) }
+    requires left_balanced { IsBalancedFrom (left_in node.old) }
+    requires right_balanced { IsBalancedFrom (right_in node.old) }
+    requires known { height_in node.old ≡ max before (height_of (left_in node.old)) + 1 }
+    requires near { DifferByAtMost 1 before (height_of (left_in node.old)) }
+    requires changed { DifferByAtMost 1 before (height_of (right_in node.old)) }
+    requires fits { height_in node.old < 200 }
+    ensures is { entries_in node.new ≡ entries_of (left_in node.old) ++ (option_to_list (entry_in node.old) ++ entries_of (right_in node.old)) }
+    ensures balanced { IsLevel node.new }
+    ensures not_higher { height_in node.new ≤ height_in node.old + (height_of (right_in node.old) - before) }
+    ensures not_lower { height_in node.old ≤ height_in node.new + (before - height_of (right_in node.old)) }
+{
+    if node.right_height() != before {
+        let high = node.height();
+        let (left, entry, right) = node.take_parts();
+        with_right(node, left, entry, right, high, before);
+    }
 }
 
 // Fills a box with an entry and two sides, whose heights differ by up to two. Where neither changed, the box is as high

@@ -1,6 +1,6 @@
 // A balanced tree of boxes, seen by its entries in order and its height; and the chain of the spare boxes.
 ghost use Rattle.std.specs.Prelude.{◌≡◌, ◌+◌, ◌<◌, max, [], IsSome, IfSome, IfNone, IfOk, Some};
-ghost use Rattle.bq_index.specs.Tree.{chain_length, entries, entries_of, entry_in, height, height_in, held, left_in, length_behind, lent, right_in};
+ghost use Rattle.bq_index.specs.Tree.{chain_length, entries, entries_of, entry_in, height, height_in, height_of, held, left_in, length_behind, lent, right_in};
 ghost use Rattle.bq_index.specs.Tree.{IsBalanced, IsBalancedFrom, IsKeyOf, IsLevel, HasParts, DifferByAtMost};
 
 use super::NoMemory;
@@ -56,6 +56,26 @@ impl<K, V> Node<K, V> {
             Node::Alone { .. } => 1,
             Node::OnLeft { .. } | Node::OnRight { .. } => 2,
             Node::Both { height, .. } => *height,
+        }
+    }
+
+    pub(crate) fn left_height(&self) -> u8
+        ensures { result ≡ height_of (left_in self.now) }
+    {
+        match self {
+            Node::OnLeft { left, .. } => left.height(),
+            Node::Both { left, .. } => left.height(),
+            _ => 0,
+        }
+    }
+
+    pub(crate) fn right_height(&self) -> u8
+        ensures { result ≡ height_of (right_in self.now) }
+    {
+        match self {
+            Node::OnRight { right, .. } => right.height(),
+            Node::Both { right, .. } => right.height(),
+            _ => 0,
         }
     }
 
