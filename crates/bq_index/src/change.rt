@@ -12,6 +12,7 @@ use super::find::{compare, compare_to};
 use super::rotation::{balance, mend_left, mend_right, with_left, with_right};
 use super::tree::{Node, Tree, open};
 use std::cmp::Ordering;
+use std::mem;
 
 // Hangs a box with an entry alone on the left of one that has nothing there.
 #[tactic(auto, using(crate::proofs::Parts::come_apart))]
@@ -185,8 +186,9 @@ where
     }
 }
 
-// The tree without the key, and what was there, with a box that is spare now.
-pub(crate) fn remove<K: Ord, V>(
+// The tree without the key, and what was there, with a box that is spare now. It takes the boxes on its way apart, and is
+// for a tree of one.
+fn remove_apart<K: Ord, V>(
     tree: Tree<K, V>,
     key: &K,
     count: &mut u64,
@@ -212,13 +214,13 @@ where
     match compare(key, &entry.0, count) {
         Ordering::Less => {
             let before = left.height();
-            let (left, found) = remove(left, key, count);
+            let (left, found) = remove_apart(left, key, count);
             with_left(&mut here, left, entry, right, high, before);
             (Tree::Fork(here), found)
         }
         Ordering::Greater => {
             let before = right.height();
-            let (right, found) = remove(right, key, count);
+            let (right, found) = remove_apart(right, key, count);
             with_right(&mut here, left, entry, right, high, before);
             (Tree::Fork(here), found)
         }
@@ -226,5 +228,193 @@ where
             let (rest, spare) = close(here, left, right);
             (rest, Some((spare, entry.1)))
         }
+    }
+}
+
+// Takes the entry out of a box that has a side, and gives the box that is spare then.
+#[tactic(auto, using(crate::proofs::Parts::come_apart))]
+fn take_out<K, V>(here: &mut Node<K, V>) -> (Box<Node<K, V>>, V)
+where
+    K: Drop,
+    V: Drop,
+    requires here_level { IsLevel here.old }
+    requires high { 1 < height_in here.old }
+    requires fits { height_in here.old < 200 }
+    ensures is { entries_in here.new ≡ entries_of (left_in here.old) ++ entries_of (right_in here.old) }
+    ensures value { Some result.1 ≡ option_map (λ e. e.1) (entry_in here.old) }
+    ensures balanced { IsLevel here.new }
+    ensures not_higher { height_in here.new ≤ height_in here.old }
+    ensures not_lower { height_in here.old ≤ height_in here.new + 1 }
+{
+    let (left, entry, right) = here.take_parts();
+    match take_first(right) {
+        None => {
+            let spare = move_up(here, left);
+            (spare, entry.1)
+        }
+        Some((spare, first, rest)) => {
+            balance(here, left, first, rest, 0, false);
+            (spare, entry.1)
+        }
+    }
+}
+
+// Fills a box with what the box of a tree has, which is spare then.
+fn move_up<K, V>(here: &mut Node<K, V>, tree: Tree<K, V>) -> Box<Node<K, V>>
+where
+    K: Drop,
+    V: Drop,
+    requires some { 0 < height tree }
+    ensures { Some here.new ≡ held tree }
+{
+    match tree {
+        Tree::Leaf => unreachable!(),
+        Tree::Fork(mut low) => {
+            *here = mem::replace(&mut *low, Node::Spare);
+            low
+        }
+    }
+}
+
+// Removes the key on the left of a box, and takes that apart.
+#[tactic(auto, using(crate::proofs::Parts::come_apart))]
+fn cut_left<K: Ord, V>(
+    here: &mut Node<K, V>,
+    key: &K,
+    count: &mut u64,
+) -> Option<(Box<Node<K, V>>, V)>
+where
+    K: Drop,
+    V: Drop,
+    requires here_level { IsLevel here.old }
+    requires in_order { InOrder K.cmp (entries_of (left_in here.old)) }
+    requires fits { height_in here.old < 200 }
+    ensures is { entries_in here.new ≡ remove_entry (is_at (K.cmp key.now)) (entries_of (left_in here.old))
+        ++ (option_to_list (entry_in here.old) ++ entries_of (right_in here.old)) }
+    ensures balanced { IsLevel here.new }
+    ensures found { option_map (λ p. p.1) result
+        ≡ lookup (is_at (K.cmp key.now)) (entries_of (left_in here.old)) }
+    ensures not_higher { height_in here.new ≤ height_in here.old }
+    ensures not_lower { height_in here.old ≤ height_in here.new + 1 }
+    ensures counted { RaisedByAtMost (height_of (left_in here.old)) count.old count.new }
+{
+    let (high, before) = (here.height(), here.left_height());
+    let (left, entry, right) = here.take_parts();
+    let (left, found) = remove_apart(left, key, count);
+    with_left(here, left, entry, right, high, before);
+    found
+}
+
+// Removes the key on the right of a box, and takes that apart.
+#[tactic(auto, using(crate::proofs::Parts::come_apart))]
+fn cut_right<K: Ord, V>(
+    here: &mut Node<K, V>,
+    key: &K,
+    count: &mut u64,
+) -> Option<(Box<Node<K, V>>, V)>
+where
+    K: Drop,
+    V: Drop,
+    requires here_level { IsLevel here.old }
+    requires in_order { InOrder K.cmp (entries_of (right_in here.old)) }
+    requires fits { height_in here.old < 200 }
+    ensures is { entries_in here.new ≡ entries_of (left_in here.old)
+        ++ (option_to_list (entry_in here.old) ++ remove_entry (is_at (K.cmp key.now)) (entries_of (right_in here.old))) }
+    ensures balanced { IsLevel here.new }
+    ensures found { option_map (λ p. p.1) result
+        ≡ lookup (is_at (K.cmp key.now)) (entries_of (right_in here.old)) }
+    ensures not_higher { height_in here.new ≤ height_in here.old }
+    ensures not_lower { height_in here.old ≤ height_in here.new + 1 }
+    ensures counted { RaisedByAtMost (height_of (right_in here.old)) count.old count.new }
+{
+    let (high, before) = (here.height(), here.right_height());
+    let (left, entry, right) = here.take_parts();
+    let (right, found) = remove_apart(right, key, count);
+    with_right(here, left, entry, right, high, before);
+    found
+}
+
+// Removes the key from a box that has a side, or from below it.
+fn remove_below<K: Ord, V>(
+    here: &mut Node<K, V>,
+    key: &K,
+    count: &mut u64,
+) -> Option<(Box<Node<K, V>>, V)>
+where
+    K: Drop,
+    V: Drop,
+    requires here_level { IsLevel here.old }
+    requires high { 1 < height_in here.old }
+    requires in_order { InOrder K.cmp (entries_in here.old) }
+    requires fits { height_in here.old < 200 }
+    ensures is { entries_in here.new ≡ remove_entry (is_at (K.cmp key.now)) (entries_in here.old) }
+    ensures balanced { IsLevel here.new }
+    ensures found { option_map (λ p. p.1) result
+        ≡ lookup (is_at (K.cmp key.now)) (entries_in here.old) }
+    ensures not_higher { height_in here.new ≤ height_in here.old }
+    ensures not_lower { height_in here.old ≤ height_in here.new + 1 }
+    ensures counted { RaisedByAtMost (height_in here.old) count.old count.new }
+{
+    match compare_to(key, here, count) {
+        Ordering::Less => {
+            let before = here.left_height();
+            if before <= 1 {
+                return cut_left(here, key, count);
+            }
+            match here {
+                Node::Both { left, .. } => {
+                    let found = remove_below(left, key, count);
+                    mend_left(here, before);
+                    found
+                }
+                _ => unreachable!(),
+            }
+        }
+        Ordering::Greater => {
+            let before = here.right_height();
+            if before <= 1 {
+                return cut_right(here, key, count);
+            }
+            match here {
+                Node::Both { right, .. } => {
+                    let found = remove_below(right, key, count);
+                    mend_right(here, before);
+                    found
+                }
+                _ => unreachable!(),
+            }
+        }
+        Ordering::Equal => Some(take_out(here)),
+    }
+}
+
+// The tree without the key, and what was there, with a box that is spare now.
+pub(crate) fn remove<K: Ord, V>(
+    tree: Tree<K, V>,
+    key: &K,
+    count: &mut u64,
+) -> (Tree<K, V>, Option<(Box<Node<K, V>>, V)>)
+where
+    K: Drop,
+    V: Drop,
+    requires balanced { IsBalanced tree }
+    requires in_order { InOrder K.cmp (entries tree) }
+    requires fits { height tree < 200 }
+    ensures is { entries result.0 ≡ remove_entry (is_at (K.cmp key.now)) (entries tree) }
+    ensures balanced { IsBalanced result.0 }
+    ensures found { option_map (λ p. p.1) result.1
+        ≡ lookup (is_at (K.cmp key.now)) (entries tree) }
+    ensures not_higher { height result.0 ≤ height tree }
+    ensures not_lower { height tree ≤ height result.0 + 1 }
+    ensures counted { RaisedByAtMost (height tree) count.old count.new }
+{
+    match tree {
+        Tree::Leaf => (Tree::Leaf, None),
+        Tree::Fork(mut top) => if top.height() > 1 {
+            let found = remove_below(&mut top, key, count);
+            (Tree::Fork(top), found)
+        } else {
+            remove_apart(Tree::Fork(top), key, count)
+        },
     }
 }

@@ -1,5 +1,5 @@
-use Rattle.bq_index.proofs.Parts.{by_key, come_apart, goes_left, goes_nowhere, goes_right, grown_left, grown_right, hung_left, hung_right, left_in_order, right_in_order}
-use Rattle.std.proofs.Common.{◌≡◌, ◌+◌, ◌<◌, None, Some, ap, arith, rules, subst, sym, ◌∙◌}
+use Rattle.bq_index.proofs.Parts.{by_key, changed_left, changed_right, come_apart, goes_left, goes_nowhere, goes_right, hung_left, hung_right, left_in_order, right_in_order}
+use Rattle.std.proofs.Common.{◌≡◌, ◌<◌, None, Some, ap, arith, rules, subst, ◌∙◌}
 use Rattle.bq_index.specs.Order.{InOrder, LacksKeyOf, with_entry}
 use Rattle.bq_index.specs.Tree.{entries_in, entries_of, entry_in, height_in, height_of, left_in, right_in, IsBalancedFrom, IsLevel}
 use Rattle.bq_index.proofs.change.+insert_below.Goals as goal
@@ -69,7 +69,7 @@ returns-in-OnLeft-clause-is g t c =
     let w = goes_left g.met.K.Ord.total _ c.requires.alone.filled p c.requires.in_order c.requires.absent h c.in-Less.is in
     let e : c.deref_mut.result.now ≡ c.in-OnLeft.left.value = search rules in
     let low = c.insert_below.ensures.is ∙ ap (λ n. with_entry g.K.Ord.cmp (entry_in c.args.node.value) (entries_in n)) e in
-    grown_left g.K.Ord.cmp _ c.args.here.now w c.mend_left.new.node c.in-OnLeft.left.value c.insert_below.new.here (Some (c.in-OnLeft.key, c.in-OnLeft.value)) None (ap left_in c.in-OnLeft.is) (ap entry_in c.in-OnLeft.is) (ap right_in c.in-OnLeft.is) low c.mend_left.ensures.is
+    changed_left (with_entry g.K.Ord.cmp (entry_in c.args.node.value)) c.args.here.now w.is c.mend_left.new.node c.in-OnLeft.left.value c.insert_below.new.here (Some (c.in-OnLeft.key, c.in-OnLeft.value)) None (ap left_in c.in-OnLeft.is) (ap entry_in c.in-OnLeft.is) (ap right_in c.in-OnLeft.is) low c.mend_left.ensures.is
 
 pub returns-in-Both-clause-is : goal.returns-in-Both-clause-is
 returns-in-Both-clause-is g t c =
@@ -78,7 +78,7 @@ returns-in-Both-clause-is g t c =
     let w = goes_left g.met.K.Ord.total _ c.requires.alone.filled p c.requires.in_order c.requires.absent h c.in-Less.is in
     let e : c.deref_mut-in-Both.result.now ≡ c.in-Both.left.value = search rules in
     let low = c.insert_below-in-Both.ensures.is ∙ ap (λ n. with_entry g.K.Ord.cmp (entry_in c.args.node.value) (entries_in n)) e in
-    grown_left g.K.Ord.cmp _ c.args.here.now w c.mend_left-in-Both.new.node c.in-Both.left.value c.insert_below-in-Both.new.here (Some (c.in-Both.key, c.in-Both.value)) (Some c.in-Both.right.value) (ap left_in c.in-Both.is) (ap entry_in c.in-Both.is) (ap right_in c.in-Both.is) low c.mend_left-in-Both.ensures.is
+    changed_left (with_entry g.K.Ord.cmp (entry_in c.args.node.value)) c.args.here.now w.is c.mend_left-in-Both.new.node c.in-Both.left.value c.insert_below-in-Both.new.here (Some (c.in-Both.key, c.in-Both.value)) (Some c.in-Both.right.value) (ap left_in c.in-Both.is) (ap entry_in c.in-Both.is) (ap right_in c.in-Both.is) low c.mend_left-in-Both.ensures.is
 
 pub returns-in-OnRight-clause-is : goal.returns-in-OnRight-clause-is
 returns-in-OnRight-clause-is g t c =
@@ -87,7 +87,7 @@ returns-in-OnRight-clause-is g t c =
     let w = goes_right g.met.K.Ord.total _ c.requires.alone.filled p c.requires.in_order c.requires.absent h c.in-Greater.is in
     let e : c.deref_mut-in-OnRight.result.now ≡ c.in-OnRight.right.value = search rules in
     let low = c.insert_below-in-OnRight.ensures.is ∙ ap (λ n. with_entry g.K.Ord.cmp (entry_in c.args.node.value) (entries_in n)) e in
-    grown_right g.K.Ord.cmp _ c.args.here.now w c.mend_right.new.node None (Some (c.in-OnRight.key, c.in-OnRight.value)) c.in-OnRight.right.value c.insert_below-in-OnRight.new.here (ap left_in c.in-OnRight.is) (ap entry_in c.in-OnRight.is) (ap right_in c.in-OnRight.is) low c.mend_right.ensures.is
+    changed_right (with_entry g.K.Ord.cmp (entry_in c.args.node.value)) c.args.here.now w.is c.mend_right.new.node None (Some (c.in-OnRight.key, c.in-OnRight.value)) c.in-OnRight.right.value c.insert_below-in-OnRight.new.here (ap left_in c.in-OnRight.is) (ap entry_in c.in-OnRight.is) (ap right_in c.in-OnRight.is) low c.mend_right.ensures.is
 
 pub returns-in-Both-here-clause-is : goal.returns-in-Both-here-clause-is
 returns-in-Both-here-clause-is g t c =
@@ -96,7 +96,7 @@ returns-in-Both-here-clause-is g t c =
     let w = goes_right g.met.K.Ord.total _ c.requires.alone.filled p c.requires.in_order c.requires.absent h c.in-Greater.is in
     let e : c.deref_mut-in-Both-here.result.now ≡ c.in-Both-here.right.value = search rules in
     let low = c.insert_below-in-Both-here.ensures.is ∙ ap (λ n. with_entry g.K.Ord.cmp (entry_in c.args.node.value) (entries_in n)) e in
-    grown_right g.K.Ord.cmp _ c.args.here.now w c.mend_right-in-Both-here.new.node (Some c.in-Both-here.left.value) (Some (c.in-Both-here.key, c.in-Both-here.value)) c.in-Both-here.right.value c.insert_below-in-Both-here.new.here (ap left_in c.in-Both-here.is) (ap entry_in c.in-Both-here.is) (ap right_in c.in-Both-here.is) low c.mend_right-in-Both-here.ensures.is
+    changed_right (with_entry g.K.Ord.cmp (entry_in c.args.node.value)) c.args.here.now w.is c.mend_right-in-Both-here.new.node (Some c.in-Both-here.left.value) (Some (c.in-Both-here.key, c.in-Both-here.value)) c.in-Both-here.right.value c.insert_below-in-Both-here.new.here (ap left_in c.in-Both-here.is) (ap entry_in c.in-Both-here.is) (ap right_in c.in-Both-here.is) low c.mend_right-in-Both-here.ensures.is
 
 pub returns-in_default : goal.returns-in_default
 returns-in_default g t c =
