@@ -11,5 +11,3 @@ mod many_jobs;
 mod putting;
 #[cfg(test)]
 mod states;
-#[cfg(test)]
-mod tubes;

@@ -56,6 +56,7 @@ fn all_states_in_one_room(rt: HostRuntime) -> Result<(), Fail> {
         assert!(rt; (jobs.len(), jobs.room()) == (1, 0));
         assert!(rt; jobs.get(1).map(|job| job.state()) == Some(*state));
         assert!(rt; kinds_with_jobs(&mut jobs, &name) == *kinds);
+        assert!(rt; jobs.tube_of(1) == Some(name));
     }
     assert!(rt; jobs.remove(1).is_some());
     assert!(rt; jobs.remove(1).is_none());
