@@ -75,7 +75,8 @@ where
     requires near { DifferByAtMost 1 before (height_of (right_in node.old)) }
     requires changed { DifferByAtMost 1 before (height_of (left_in node.old)) }
     requires fits { height_in node.old < 200 }
-    ensures is { entries_in node.new ≡ entries_of (left_in node.old) ++ (option_to_list (entry_in node.old) ++ entries_of (right_in node.old)) }
+    ensures is { entries_in node.new
+        ≡ entries_of (left_in node.old) ++ (option_to_list (entry_in node.old) ++ entries_of (right_in node.old)) }
     ensures balanced { IsLevel node.new }
     ensures not_higher { height_in node.new ≤ height_in node.old + (height_of (left_in node.old) - before) }
     ensures not_lower { height_in node.old ≤ height_in node.new + (before - height_of (left_in node.old)) }
@@ -101,7 +102,8 @@ where
     requires near { DifferByAtMost 1 before (height_of (left_in node.old)) }
     requires changed { DifferByAtMost 1 before (height_of (right_in node.old)) }
     requires fits { height_in node.old < 200 }
-    ensures is { entries_in node.new ≡ entries_of (left_in node.old) ++ (option_to_list (entry_in node.old) ++ entries_of (right_in node.old)) }
+    ensures is { entries_in node.new
+        ≡ entries_of (left_in node.old) ++ (option_to_list (entry_in node.old) ++ entries_of (right_in node.old)) }
     ensures balanced { IsLevel node.new }
     ensures not_higher { height_in node.new ≤ height_in node.old + (height_of (right_in node.old) - before) }
     ensures not_lower { height_in node.old ≤ height_in node.new + (before - height_of (right_in node.old)) }

@@ -1,6 +1,7 @@
 // A balanced tree of boxes, seen by its entries in order and its height; and the chain of the spare boxes.
 ghost use Rattle.std.specs.Prelude.{◌≡◌, ◌+◌, ◌<◌, max, [], IsSome, IfSome, IfNone, IfOk, Some};
-ghost use Rattle.bq_index.specs.Tree.{chain_length, entries, entries_of, entry_in, height, height_in, height_of, held, left_in, length_behind, lent, right_in};
+ghost use Rattle.bq_index.specs.Tree.{chain_length, entries, entries_of, entry_in, height, height_in};
+ghost use Rattle.bq_index.specs.Tree.{height_of, held, left_in, length_behind, lent, right_in};
 ghost use Rattle.bq_index.specs.Tree.{IsBalanced, IsBalancedFrom, IsKeyOf, IsLevel, HasParts, DifferByAtMost};
 
 use super::NoMemory;
