@@ -21,13 +21,14 @@ use Rattle.bq_job.specs.machine.Limits.{raised}
 use Rattle.bq_job.specs.machine.Machine.{Machine, SeatRecord}
 use Rattle.bq_job.specs.machine.Steps.{granted, step_takes_memory, takes_memory}
 use Rattle.bq_job.specs.reading.TubeName.{is_same_name}
-use Rattle.bq_core.specs.Acting.{Acts, Replies, is_asking, is_connected, is_free}
+use Rattle.bq_core.specs.Acting.{Acts, Replies}
+use Rattle.bq_state.specs.SeatStates.{is_asking, is_connected, is_free}
 use Rattle.bq_core.specs.declared.acts.Reply.{Reply}
-use Rattle.bq_core.specs.JobChanges.{is_passed_by}
+use Rattle.bq_state.specs.JobChanges.{is_passed_by}
 use Rattle.bq_steps.specs.Outbox.{Outbox}
-use Rattle.bq_core.specs.SeatChanges.{AreNumbered}
-use Rattle.bq_core.proofs.PartsLemmas.{changed_there, seat_there}
-use Rattle.bq_core.proofs.TubeLemmas.{some_left}
+use Rattle.bq_state.specs.SeatChanges.{AreNumbered}
+use Rattle.bq_state.proofs.PartsLemmas.{changed_there, seat_there}
+use Rattle.bq_state.proofs.TubeLemmas.{some_left}
 
 -- what is found passes
 found_passes : {A : Type 0} (p : A → Bool) (xs : List A) (x : A) → find p xs ≡ Some x → p x ≡ true

@@ -8,7 +8,7 @@ use Rattle.std.proofs.lemmas.Bool.Decides.{nat_tests}
 use Rattle.bq_index.specs.Digits.{binary_digits, digits_up_to}
 use Rattle.std.proofs.lemmas.List.Sums.{sum_by_more}
 use Rattle.bq_jobs.specs.Kept.{ComparesAtMost, Kept}
-use Rattle.bq_core.specs.Asking.{Asks, AsksAsChanged, AsksWithin, search_among}
+use Rattle.bq_state.specs.Asking.{Asks, AsksAsChanged, AsksWithin, search_among}
 use Rattle.bq_steps.specs.Cost.{changed_jobs}
 
 -- a smaller number has no more digits

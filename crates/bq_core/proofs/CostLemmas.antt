@@ -21,11 +21,11 @@ use Rattle.bq_job.specs.machine.Waits.{Chain, WaitEndTurn}
 use Rattle.bq_job.proofs.DispatchLemmas.{turn_of}
 use Rattle.bq_job.proofs.LawfulLemmas.{end_of}
 use Rattle.bq_job.proofs.ListLemmas.{count_cons}
-use Rattle.bq_core.specs.declared.job_store.JobKind.{JobKind}
-use Rattle.bq_core.specs.declared.job_store.JobKind.TheVariants.{Ready, Delayed, Buried}
-use Rattle.bq_core.specs.Cost.{waited_tubes}
+use Rattle.bq_state.specs.declared.job_store.JobKind.{JobKind}
+use Rattle.bq_state.specs.declared.job_store.JobKind.TheVariants.{Ready, Delayed, Buried}
+use Rattle.bq_state.specs.Cost.{waited_tubes}
 use Rattle.bq_steps.specs.Cost.{changed_jobs, tubes_watched, is_gone_or_changed, is_same_job, is_same_state}
-use Rattle.bq_core.specs.JobKinds.{is_of}
+use Rattle.bq_state.specs.JobKinds.{is_of}
 use Rattle.bq_core.specs.Kicking.{all_kicked}
 use Rattle.bq_steps.specs.Outbox.{Outbox}
 use Rattle.bq_core.specs.Turns.{Gives}

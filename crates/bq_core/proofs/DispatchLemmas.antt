@@ -16,13 +16,13 @@ use Rattle.bq_job.proofs.ChoiceLemmas.{first_of_agrees, first_of_contains, first
 use Rattle.bq_job.proofs.ComputedLemmas.{next_has_seat}
 use Rattle.bq_job.proofs.ListLemmas.{all_always, all_at, all_weaker, list_any_not, none_pass}
 use Rattle.bq_jobs.specs.Kept.{ranked}
-use Rattle.bq_core.specs.Offers.{better_rank, is_paused_among, offered, waits_at, with_offer, with_offers}
-use Rattle.bq_core.specs.Stirs.{AreKnown, IsKnown, may_get}
-use Rattle.bq_core.specs.declared.known.hints.Stir.{Stir}
-use Rattle.bq_core.specs.declared.known.hints.Stir.TheVariants.{Client}
+use Rattle.bq_state.specs.Offers.{better_rank, is_paused_among, offered, waits_at, with_offer, with_offers}
+use Rattle.bq_state.specs.Stirs.{AreKnown, IsKnown, may_get}
+use Rattle.bq_state.specs.declared.known.hints.Stir.{Stir}
+use Rattle.bq_state.specs.declared.known.hints.Stir.TheVariants.{Client}
 use Rattle.bq_core.proofs.FiringLemmas.{chosen}
 use Rattle.bq_core.proofs.KickLemmas.{finds_each}
-use Rattle.bq_core.proofs.TubeLemmas.{same_itself, same_name}
+use Rattle.bq_state.proofs.TubeLemmas.{same_itself, same_name}
 
 module _ (next : ℕ) (jobs : List Job) (ids : AreIdsWithin 1 jobs next) where
   -- the best of the jobs that pass, by its priority and its id

@@ -11,18 +11,18 @@ use Rattle.bq_job.specs.machine.Changes.{first_of, given_back, in_state, is_held
 use Rattle.bq_job.specs.machine.JobStates.{due_of, is_delayed, is_reserved}
 use Rattle.bq_job.specs.beside.Lawful.{AreIdsWithin}
 use Rattle.bq_job.specs.machine.Limits.{greatest, grown, raised}
-use Rattle.bq_job.specs.machine.Machine.{Machine, Pause, SeatRecord, TubeRecord}
-use Rattle.bq_job.specs.machine.Timers.{is_due, is_expired, job_after_timers, pause_after_timers, tube_after_timers, with_timeout}
+use Rattle.bq_job.specs.machine.Machine.{Machine, SeatRecord}
+use Rattle.bq_job.specs.machine.Timers.{is_due, is_expired, job_after_timers, with_timeout}
 use Rattle.bq_job.specs.machine.Dispatch.{is_wait_before}
-use Rattle.bq_core.specs.TubeEntries.{counted, is_counted, is_over, is_pause_over}
 use Rattle.bq_job.specs.machine.Waits.{ends_waiting, is_deadline_soon, is_ending_lease, is_timed_out, is_timed_out_at, next_end}
-use Rattle.bq_core.specs.EndingWaits.{has_waited, is_lease_short}
+use Rattle.bq_state.specs.EndingWaits.{has_waited, is_lease_short}
 use Rattle.bq_job.proofs.ChoiceLemmas.{first_of_contains, first_of_is_least, first_of_none, first_of_none_passes, first_of_passes, pair_order}
-use Rattle.bq_job.proofs.ListLemmas.{all_always, all_at, all_from_members, all_of_filter, all_weaker, count_all_not, count_cons, list_any_not, list_any_with, map_all_same, none_pass}
+use Rattle.bq_job.proofs.ListLemmas.{all_always, all_at, all_from_members, all_weaker, count_all_not, count_cons, list_any_not, list_any_with, map_all_same, none_pass}
 use Rattle.bq_jobs.specs.Kept.{ranked}
 use Rattle.bq_jobs.specs.Leases.{deadline_of, is_lease_before}
 use Rattle.bq_core.specs.Firing.{ExpiresOne, IsOne, after_giving_back, after_job_timers, is_ripe}
-use Rattle.bq_core.proofs.KickLemmas.{finds_each, none_with, one_of_id}
+use Rattle.bq_core.proofs.KickLemmas.{finds_each, one_of_id}
+use Rattle.bq_state.proofs.LossLemmas.{none_with}
 
 -- changing one job and then all is changing all, where the second change makes up for the first
 absorbed : (f g : Job → Job) (id : ℕ) (jobs : List Job) → All (λ k. (k.id == id) ≡ true → f (g k) ≡ f k) jobs → map f (map (λ k. if k.id == id then g k else k) jobs) ≡ map f jobs
@@ -342,18 +342,3 @@ none_ends m waited short =
     go : (s : SeatRecord) (w : Bool) → (w && is_timed_out_at m.moment s) ≡ false → (w && (is_deadline_soon m s || is_timed_out m s)) ≡ false
     go s true h = rw (soon_none s.number) h
     go s false h = refl
-
--- no pause is over
-pub none_counted : (moment : ℕ) (entries : List TubeRecord) → list_any (is_pause_over moment) entries ≡ false → list_any (is_pause_over moment) (counted entries) ≡ false
-none_counted moment entries h =
-    list_any_not (is_pause_over moment) (counted entries)
-    (all_weaker (λ t. (is_pause_over moment t ≡ false) × (is_counted t ≡ true)) (λ t. is_pause_over moment t ≡ false) (counted entries) (λ t k. k.0) (all_of_filter (λ t. is_pause_over moment t ≡ false) is_counted entries (none_pass (is_pause_over moment) entries h)))
-
-pub no_pause_ends : (moment : ℕ) (tubes : List TubeRecord) → list_any (is_pause_over moment) tubes ≡ false → map (tube_after_timers moment) tubes ≡ tubes
-no_pause_ends moment tubes h = map_all_same (tube_after_timers moment) tubes (all_weaker (λ t. is_pause_over moment t ≡ false) (λ t. tube_after_timers moment t ≡ t) tubes (λ t none. stays t t.pause refl none) (none_pass (is_pause_over moment) tubes h))
-  where
-    stays : (t : TubeRecord) (p : Option Pause) → t.pause ≡ p → is_over moment p ≡ false → tube_after_timers moment t ≡ t
-    stays t None e h = ap (λ q. record t { pause = pause_after_timers moment q }) e ∙ ap (λ q. record t { pause = q }) (sym e)
-    stays t (Some p) e h =
-        let same : pause_after_timers moment (Some p) ≡ Some p = rw h refl in
-        ap (λ q. record t { pause = pause_after_timers moment q }) e ∙ ap (λ q. record t { pause = q }) (same ∙ sym e)

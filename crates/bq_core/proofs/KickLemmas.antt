@@ -1,4 +1,5 @@
 -- Kicking the first job of a kind again and again kicks the first ones in their order.
+use Rattle.bq_state.proofs.LossLemmas.{none_with}
 use Rattle.std.proofs.Common.{◌≡◌, ℕ, zero, suc, Bool, true, false, ◌&&◌, ◌==◌, ◌+◌, ◌≤◌, ◌<◌, not, List, [], ◌∷◌, Option, Some, None, map, filter, refl, sym, ap, ◌∙◌, if◌then◌else◌, inl, inr, arith, eq-eqb, length, take, is_some}
 use Rattle.std.specs.Prelude.{option_map}
 use Rattle.std.specs.List.{AllByRecursion as All, Contains, list_any}
@@ -12,22 +13,17 @@ use Rattle.bq_job.specs.beside.Lawful.{AreIdsWithin}
 use Rattle.bq_job.proofs.ChoiceLemmas.{first_of_contains, first_of_is_least, first_of_is_some, first_of_none, first_of_passes, pair_order}
 use Rattle.bq_job.proofs.KeptLemmas.{ids_from_below, ids_of_filter}
 use Rattle.bq_job.proofs.ListLemmas.{all_at, all_from_members, list_any_with}
-use Rattle.bq_core.specs.declared.job_store.JobKind.{JobKind}
-use Rattle.bq_core.specs.declared.job_store.JobKind.TheVariants.{Delayed, Buried}
-use Rattle.bq_core.specs.JobKinds.{is_before_of, is_of, rank_of}
+use Rattle.bq_state.specs.declared.job_store.JobKind.{JobKind}
+use Rattle.bq_state.specs.declared.job_store.JobKind.TheVariants.{Delayed, Buried}
+use Rattle.bq_state.specs.JobKinds.{is_before_of, is_of, rank_of}
 use Rattle.bq_core.specs.Kicking.{KicksFirst, all_kicked, jobs_of}
 use Rattle.bq_core.proofs.ActLemmas.{none_left}
-use Rattle.bq_core.proofs.TubeLemmas.{some_left}
+use Rattle.bq_state.proofs.TubeLemmas.{some_left}
 
 -- later ids are above
 ids_above : (low next : ℕ) (jobs : List Job) → AreIdsWithin low jobs next → All (λ j. low ≤ j.id) jobs
 ids_above low next [] h = tt
 ids_above low next (j ∷ jobs) h = (h.0, ids_above low next jobs (ids_from_below low (suc j.id) next jobs (let a = h.0 in omega arith) h.1))
-
-pub none_with : (low id next : ℕ) (jobs : List Job) → id < low → AreIdsWithin low jobs next → All (λ j. (j.id == id) ≡ false) jobs
-none_with low id next [] less h = tt
-none_with low id next (j ∷ jobs) less h =
-    (ne_eqb j.id id (λ e. absurd (let a = h.0 in omega arith)), none_with (suc j.id) id next jobs (let a = h.0 in omega arith) h.1)
 
 -- a job is the only one of its id
 pub one_of_id : (id low next : ℕ) (jobs : List Job) (j : Job) → AreIdsWithin low jobs next → job_with id jobs ≡ Some j → All (λ x. (x.id == id) ≡ true → x ≡ j) jobs

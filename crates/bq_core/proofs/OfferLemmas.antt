@@ -8,13 +8,13 @@ use Rattle.bq_job.specs.machine.Changes.{is_pair_before, is_waiting, seat_with}
 use Rattle.bq_job.specs.machine.Machine.{SeatRecord, TubeRecord}
 use Rattle.bq_job.proofs.ChoiceLemmas.{pair_order}
 use Rattle.bq_jobs.specs.Kept.{Kept}
-use Rattle.bq_core.specs.Asking.{Asks}
-use Rattle.bq_core.specs.Cost.{waited_tubes}
-use Rattle.bq_core.specs.Offers.{better_rank, offered, these, with_offer, with_offers}
-use Rattle.bq_core.specs.WaitingTurns.{at_turn, by_seat, is_turn_before, turns_of, waited_at}
-use Rattle.bq_core.specs.SeatChanges.{AreNumbered}
-use Rattle.bq_core.proofs.SeatPlaces.{place_is_seat}
-use Rattle.bq_core.proofs.WalkLemmas.{chosen, chosen_twice, walked}
+use Rattle.bq_state.specs.Asking.{Asks}
+use Rattle.bq_state.specs.Cost.{waited_tubes}
+use Rattle.bq_state.specs.Offers.{better_rank, offered, these, with_offer, with_offers}
+use Rattle.bq_state.specs.WaitingTurns.{at_turn, by_seat, is_turn_before, turns_of, waited_at}
+use Rattle.bq_state.specs.SeatChanges.{AreNumbered}
+use Rattle.bq_state.proofs.SeatPlaces.{place_is_seat}
+use Rattle.bq_state.proofs.WalkLemmas.{chosen, chosen_twice, walked}
 
 -- Of two jobs it is the same which is looked at first.
 rank_chosen : (a b : Option (ℕ × ℕ)) → better_rank a b ≡ chosen is_turn_before a b

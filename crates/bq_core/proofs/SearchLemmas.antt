@@ -15,15 +15,15 @@ use Rattle.bq_job.proofs.ChoiceLemmas.{first_of_agrees}
 use Rattle.bq_job.proofs.KeptLemmas.{only_seat}
 use Rattle.bq_job.proofs.ListLemmas.{all_at, all_from_members, all_weaker, contains_head, contains_tail, found_passes, list_any_not, list_any_with}
 use Rattle.bq_jobs.specs.Kept.{ranked}
-use Rattle.bq_core.specs.Cost.{waited_tubes}
-use Rattle.bq_core.specs.Crowds.{is_waiter}
-use Rattle.bq_core.specs.Offers.{next_rank, these}
-use Rattle.bq_core.specs.SeatChanges.{AreNumbered}
-use Rattle.bq_core.specs.Stirs.{AreKnown, IsKnown}
-use Rattle.bq_core.specs.declared.known.hints.Stir.TheVariants.{Tube, Client}
-use Rattle.bq_core.proofs.StirLemmas.{parts_of}
-use Rattle.bq_core.proofs.TubeLemmas.{same_name}
-use Rattle.bq_core.proofs.WarningLemmas.{none_found}
+use Rattle.bq_state.specs.Cost.{waited_tubes}
+use Rattle.bq_state.specs.Crowds.{is_waiter}
+use Rattle.bq_state.specs.Offers.{next_rank, these}
+use Rattle.bq_state.specs.SeatChanges.{AreNumbered}
+use Rattle.bq_state.specs.Stirs.{AreKnown, IsKnown}
+use Rattle.bq_state.specs.declared.known.hints.Stir.TheVariants.{Tube, Client}
+use Rattle.bq_state.proofs.StirLemmas.{parts_of}
+use Rattle.bq_state.proofs.TubeLemmas.{same_name}
+use Rattle.bq_state.proofs.WarningLemmas.{none_found}
 
 -- the next one is the first of those that pass, where these are the ones that are waited for
 pub rank_agrees : (m : Machine) (p : Job → Bool) → All (λ j. list_any (is_waiting_for m j) m.seats ≡ p j) m.jobs → next_rank m ≡ option_map (ranked (λ j. j.pri)) (first_of p is_job_before m.jobs)

@@ -2,7 +2,7 @@
 -- shelves would be too long.
 use denote.Param.Send.{IsSend, sendable}
 use Rattle.bq_core.specs.contracts.step.Core as Core
-use Rattle.bq_core.specs.contracts.tubes.Tubes as Tubes
+use Rattle.bq_state.specs.contracts.tubes.Tubes as Tubes
 use Rattle.bq_index.proofs.tree.Node.TheLaws.TheKnot as TheKnot
 use Rattle.bq_jobs.specs.contracts.jobs.Jobs as Jobs
 use Rattle.bq_jobs.specs.contracts.tubes.NumberedTubes as NumberedTubes

@@ -13,13 +13,13 @@ use Rattle.bq_job.specs.machine.Waits.{WaitEndTurn, next_end}
 use Rattle.bq_job.specs.machine.Dispatch.{next_job}
 use Rattle.bq_job.proofs.LawfulLemmas.{leaves_acted}
 use Rattle.bq_jobs.specs.Kept.{Kept}
-use Rattle.bq_core.specs.declared.core_parts.CoreParts.{CoreParts}
-use Rattle.bq_core.specs.Asking.{Asks, AsksAsChanged, AsksByTurn, search_among}
-use Rattle.bq_core.specs.Cost.{waited}
+use Rattle.bq_state.specs.declared.core_parts.CoreParts.{CoreParts}
+use Rattle.bq_state.specs.Asking.{Asks, AsksAsChanged, AsksByTurn, search_among}
+use Rattle.bq_state.specs.Cost.{waited}
 use Rattle.bq_steps.specs.Cost.{IsStepWithin, changed_jobs, watched_tubes, tubes_watched, ripening}
 use Rattle.bq_steps.specs.Outbox.{Outbox}
 use Rattle.bq_core.specs.Serving.{NoneIsGone, ServesAsking, ServesInto}
-use Rattle.bq_core.specs.CoreParts.{machine_of}
+use Rattle.bq_state.specs.CoreParts.{machine_of}
 use Rattle.bq_core.specs.Turns.{Gives, none_refused}
 use Rattle.bq_core.proofs.AskLemmas.{asks_more, asks_then, search_grows}
 use Rattle.bq_core.proofs.CostLemmas.{ended_stop, entries_less, given_length, handed_stop}

@@ -1,8 +1,8 @@
 -- A whole step out of its parts.
-use Rattle.std.proofs.Common.{◌≡◌, ℕ, zero, suc, Bool, true, false, ◌+◌, ◌≤◌, ◌<◌, ◌||◌, ◌==◌, List, [], ◌∷◌, ◌++◌, map, length, refl, sym, ap, ◌∙◌, subst, if◌then◌else◌, arith, add-one, None, inl, inr}
+use Rattle.std.proofs.Common.{◌≡◌, ℕ, Bool, true, false, ◌+◌, ◌≤◌, ◌<◌, ◌||◌, ◌==◌, List, [], ◌∷◌, ◌++◌, map, length, refl, sym, ap, ◌∙◌, subst, if◌then◌else◌, arith, None, inl, inr}
 use Rattle.std.proofs.Math.Bool.{or-false}
 use Rattle.std.specs.Prelude.{filter}
-use Rattle.std.proofs.lemmas.List.{length-append, map-append}
+use Rattle.std.proofs.lemmas.List.{length-append}
 use Rattle.std.proofs.lemmas.List.Sums.{count_by-le-length}
 use Rattle.std.specs.List.{list_all, list_any}
 use Rattle.std.proofs.lemmas.Bool.{and_parts}
@@ -13,7 +13,7 @@ use Rattle.bq_job.specs.machine.Changes.{in_state, is_waiting, with_seat, withou
 use Rattle.bq_job.specs.beside.Computed.{waiting_count}
 use Rattle.bq_job.specs.machine.Dispatch.{DispatchTurn, GivenAnswer, IsHandOut, after_hand_out, reserved_by}
 use Rattle.bq_job.specs.beside.Lawful.{IsLawful}
-use Rattle.bq_job.specs.machine.Machine.{Machine, SeatRecord, TubeRecord, default_tube, empty_seat, numbers}
+use Rattle.bq_job.specs.machine.Machine.{Machine, SeatRecord, TubeRecord, default_tube}
 use Rattle.bq_job.specs.machine.Steps.{IsStep, acted, addressed, has_refused_share, is_growth_refused, is_share_refused}
 use Rattle.bq_job.specs.machine.Timers.{after_timers, at_moment, is_due, is_expired, job_after_timers, tube_after_timers, with_timeout}
 use Rattle.bq_job.specs.machine.Tubes.{forgetting, is_seated_at, is_tube}
@@ -23,11 +23,11 @@ use Rattle.bq_job.specs.reading.TubeName.{is_same_name}
 use Rattle.bq_job.proofs.DispatchLemmas.{turn_of}
 use Rattle.bq_job.proofs.KeptLemmas.{Keeps, kept_of_lawful}
 use Rattle.bq_job.proofs.LawfulLemmas.{end_of, kept_of_timers, only_tubes, leaves_acted, length_addressed, seats_many, served}
-use Rattle.bq_core.specs.declared.core_parts.CoreParts.{CoreParts}
+use Rattle.bq_state.specs.declared.core_parts.CoreParts.{CoreParts}
 use Rattle.bq_core.specs.Acting.{Acts}
 use Rattle.bq_steps.specs.Outbox.{Outbox}
 use Rattle.bq_core.specs.Serving.{NoneIsGone, ServesInto}
-use Rattle.bq_core.specs.CoreParts.{machine_of}
+use Rattle.bq_state.specs.CoreParts.{machine_of}
 use Rattle.bq_core.specs.Turns.{Gives, HasRoom, none_refused}
 use Rattle.bq_core.proofs.TurnLemmas.{room_kept}
 
@@ -133,17 +133,6 @@ timers_alike at m none =
 
 pub forgotten_none : (m : Machine) → NoneIsGone (forgetting m)
 forgotten_none m = only_tubes m
-
-pub numbers_more : (low n : ℕ) → numbers low (suc n) ≡ numbers low n ++ (low + n) ∷ []
-numbers_more low zero = ap (λ k. k ∷ []) (omega arith)
-numbers_more low (suc n) = ap (λ ns. low ∷ ns) (numbers_more (suc low) n ∙ ap (λ k. numbers (suc low) n ++ k ∷ []) (omega arith))
-
-pub places_more : (n : ℕ) → map empty_seat (numbers 0 (n + 1)) ≡ map empty_seat (numbers 0 n) ++ empty_seat n ∷ []
-places_more n =
-    ap (λ k. map empty_seat (numbers 0 k)) (add-one n)
-    ∙ ap (map empty_seat) (numbers_more 0 n)
-    ∙ map-append empty_seat (numbers 0 n) ((0 + n) ∷ [])
-    ∙ ap (λ k. map empty_seat (numbers 0 n) ++ empty_seat k ∷ []) (omega arith)
 
 -- dispatch and the ends of waits, one after the other
 unfoldable pub serves_into : (first between last : CoreParts) (old middle new : Outbox) → Gives DispatchTurn has_refused_share (machine_of first) (machine_of between) old middle → next_job (machine_of between) ≡ None → Gives WaitEndTurn none_refused (machine_of between) (machine_of last) middle new → next_end (machine_of last) ≡ None → NoneIsGone (machine_of first) → ServesInto (machine_of first) old new (machine_of last)

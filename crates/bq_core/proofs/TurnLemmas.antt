@@ -1,9 +1,10 @@
 -- A turn of dispatch or of the ends of waits, and chains of them.
+use Rattle.bq_state.proofs.PartsLemmas.{ok_weaker}
 use Rattle.std.proofs.Common.{◌≡◌, ℕ, Bool, true, false, ◌<◌, ◌||◌, List, [], ◌∷◌, ◌++◌, Option, Some, None, length, refl, sym, ap, ◌∙◌, arith, slice_get, append_assoc, append-nil, get_or, inl, inr, subst}
 use Rattle.std.proofs.Math.Bool.{or-false, or-true}
-use Rattle.std.proofs.lemmas.Option.{slice_get-get_or, slice_get_read}
+use Rattle.std.proofs.lemmas.Option.{slice_get_read}
 use Rattle.std.proofs.lemmas.List.{length-append}
-use Rattle.std.specs.Prelude.{Result, Ok, Err, IfOk, option_map}
+use Rattle.std.specs.Prelude.{Result, Ok, IfOk, option_map}
 use Rattle.std.specs.List.{Contains, list_any}
 use Rattle.bq_job.specs.declared.fault.NoMemory.{NoMemory}
 use Rattle.bq_job.specs.declared.answer.Answer.{Answer}
@@ -17,10 +18,10 @@ use Rattle.bq_job.specs.machine.Steps.{has_refused_share, is_out_of_memory}
 use Rattle.bq_job.specs.machine.Waits.{Chain, WaitEndTurn, end_of_wait, next_end}
 use Rattle.bq_job.proofs.ChoiceLemmas.{first_of_none_passes}
 use Rattle.bq_job.proofs.ComputedLemmas.{next_seat_waits, waiting_falls}
-use Rattle.bq_core.specs.declared.core_parts.CoreParts.{CoreParts}
+use Rattle.bq_state.specs.declared.core_parts.CoreParts.{CoreParts}
 use Rattle.bq_core.specs.HandOuts.{AddsHandOut, HandsOut}
 use Rattle.bq_steps.specs.Outbox.{Outbox}
-use Rattle.bq_core.specs.CoreParts.{machine_of}
+use Rattle.bq_state.specs.CoreParts.{machine_of}
 use Rattle.bq_core.specs.Turns.{Gives, HasRoom, none_refused}
 use Rattle.bq_core.specs.WaitEnds.{AddsWaitEnd}
 
@@ -31,10 +32,6 @@ hand_out_falls m j s g next here waits h =
       | inl given ↦ rw given.1 (waiting_falls m s here waits)
       | inr refused ↦ rw refused.1 (waiting_falls m s here waits)
     ]
-
-pub some_at : {A : Type 0} (xs : List A) (i : ℕ) → i < length xs → (x : A) × (slice_get xs i ≡ Some x)
-some_at [] i h = absurd (omega arith)
-some_at (x ∷ xs) i h = (get_or (x ∷ xs) i x, slice_get-get_or (x ∷ xs) i x h)
 
 -- one turn is a chain of turns
 one_turn : (m next : Machine) (old new : Outbox) (j : Job) (s : SeatRecord) → next_job m ≡ Some j → next_seat m j ≡ Some s → Contains m.seats s → is_waiting s ≡ true → AddsHandOut m j s old new next → Gives DispatchTurn has_refused_share m next old new
@@ -68,10 +65,6 @@ pub no_next_job : (m : Machine) → list_any is_waiting m.seats ≡ false → ne
 no_next_job m h = first_of_none_passes (λ j. list_any (is_waiting_for m j) m.seats) is_job_before m.jobs (none_wanted m m.jobs h)
 
 -- what is told of a value that was had
-pub ok_weaker : {A E : Type 0} (r : Result A E) (P Q : A → Type 0) → ((x : A) → P x → Q x) → IfOk r P → IfOk r Q
-ok_weaker (Ok x) P Q h p = h x p
-ok_weaker (Err e) P Q h p = tt
-
 pub if_ok : (r : Result (List ℕ) NoMemory) (x : List ℕ) (P : List ℕ → Type 0) → r ≡ Ok x → IfOk r P → P x
 if_ok r x P e p = subst (λ z. IfOk z P) e p
 

@@ -15,14 +15,15 @@ use Rattle.bq_job.proofs.ChoiceLemmas.{first_of_contains, first_of_is, first_of_
 use Rattle.bq_job.proofs.ComputedLemmas.{waiting_falls}
 use Rattle.bq_job.proofs.KeptLemmas.{only_seat}
 use Rattle.bq_job.proofs.ListLemmas.{all_always, all_at, all_from_members, all_of_map, count_cons, found_passes, list_any_not, list_any_with, none_pass}
-use Rattle.bq_core.specs.declared.core_parts.CoreParts.{CoreParts}
-use Rattle.bq_core.specs.EndingWaits.{AreLookedAt, is_after, left_after, told_at_end, turn_of, waits_after}
+use Rattle.bq_state.specs.declared.core_parts.CoreParts.{CoreParts}
+use Rattle.bq_state.specs.EndingWaits.{AreLookedAt, is_after, left_after, told_at_end, turn_of, waits_after}
 use Rattle.bq_steps.specs.Outbox.{Outbox}
-use Rattle.bq_core.specs.CoreParts.{machine_of}
+use Rattle.bq_state.specs.CoreParts.{machine_of}
 use Rattle.bq_core.specs.Turns.{Gives, none_refused}
 use Rattle.bq_core.specs.WaitEnds.{LooksAt}
-use Rattle.bq_core.proofs.PartsLemmas.{seat_read}
-use Rattle.bq_core.proofs.TurnLemmas.{gives_nothing, one_end, some_at}
+use Rattle.bq_state.proofs.PartsLemmas.{seat_read}
+use Rattle.bq_core.proofs.TurnLemmas.{gives_nothing, one_end}
+use Rattle.bq_state.proofs.PartsLemmas.{some_at}
 
 -- what a waiting client is told, by its first lease and its timeout
 pub told_soon : (m : Machine) (s : SeatRecord) → is_deadline_soon m s ≡ true → Some answers.DeadlineSoon ≡ told_at_end m s

@@ -17,7 +17,7 @@ use Rattle.bq_job.specs.machine.Machine.{Machine, SeatRecord, empty_seat, number
 use Rattle.bq_job.specs.machine.Steps.{Memory, acted}
 use Rattle.bq_job.proofs.KeptLemmas.{only_seat}
 use Rattle.bq_job.proofs.ListLemmas.{all_always, all_pass, all_weaker, count_cons}
-use Rattle.bq_core.specs.Cost.{waited, waited_tubes}
+use Rattle.bq_state.specs.Cost.{waited, waited_tubes}
 use Rattle.bq_steps.specs.Cost.{watched_tubes, tubes_watched}
 use Rattle.bq_job.proofs.CommandKinds.{kind_of}
 use Rattle.bq_job.proofs.EachEvent.{IsSeat, each_acted}

@@ -1,29 +1,14 @@
 -- The command's own effect, as the core carries it out.
-use Rattle.std.specs.Prelude.{ℕ, Bool, false, ◌≡◌, ◌&&◌, ◌||◌, ◌++◌, not, IsTrue, Option, Some, None}
+use Rattle.std.specs.Prelude.{ℕ, Bool, ◌≡◌, ◌&&◌, ◌||◌, ◌++◌, IsTrue, Some, None}
 use Rattle.bq_job.specs.declared.answer.Answer.{Answer}
 use Rattle.bq_job.specs.declared.step.Step.{Step}
 use Rattle.bq_job.specs.machine.Acts.{Effect}
-use Rattle.bq_job.specs.machine.Changes.{is_waiting}
-use Rattle.bq_job.specs.machine.Machine.{Machine, SeatRecord}
+use Rattle.bq_job.specs.machine.Machine.{Machine}
 use Rattle.bq_job.specs.machine.Steps.{Memory, acted, addressed, is_possible, shares_body}
 use Rattle.bq_job.specs.machine.Steps.{is_growth_refused, is_share_refused, may_be_left_out}
 use Rattle.bq_core.specs.declared.acts.Reply.{Reply}
 use Rattle.bq_core.specs.declared.acts.Reply.TheVariants.{Silent, Told, LeftOut, Unshared}
 use Rattle.bq_steps.specs.Outbox.{Outbox}
-
--- nobody is connected there
-abbrev pub is_free : Option SeatRecord → Bool
-is_free None = false
-is_free (Some s) = not s.connected
-
-abbrev pub is_connected : Option SeatRecord → Bool
-is_connected None = false
-is_connected (Some s) = s.connected
-
--- the client there can ask
-abbrev pub is_asking : Option SeatRecord → Bool
-is_asking None = false
-is_asking (Some s) = s.connected && not (is_waiting s)
 
 -- What a request came to: it had this effect, with the answer that was told, or it takes memory and was left out because a growth was
 -- refused, or it would show a body, of which one more owner was refused.

@@ -7,6 +7,8 @@ use Rattle.bq_job.specs.machine.Changes.{given_back, job_with, with_job}
 use Rattle.bq_job.specs.machine.Limits.{grown}
 use Rattle.bq_job.specs.machine.Machine.{Machine}
 use Rattle.bq_job.specs.machine.Timers.{is_due, is_expired, job_after_timers, tube_after_timers}
+use Rattle.bq_state.specs.CoreParts.{machine_of}
+use Rattle.bq_state.specs.declared.core_parts.CoreParts.{CoreParts}
 
 -- the machine once all timers of jobs have fired
 abbrev pub after_job_timers : Machine → Machine
@@ -14,6 +16,10 @@ after_job_timers m = record m {
   jobs = map (job_after_timers m.moment) m.jobs;
   timeouts = grown (count_by (λ j. is_expired m.moment j.state) m.jobs) m.timeouts;
 }
+
+-- all timers of jobs have fired
+abbrev pub HaveFired : CoreParts → CoreParts → Type 0
+HaveFired old new = machine_of new ≡ after_job_timers (machine_of old)
 
 -- a timer of the job has come
 abbrev pub is_ripe : ℕ → Job → Bool

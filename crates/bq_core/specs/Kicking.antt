@@ -3,8 +3,8 @@ use Rattle.std.specs.Prelude.{ℕ, suc, ◌≡◌, ◌==◌, if◌then◌else◌
 use Rattle.std.specs.List.{list_any}
 use Rattle.bq_job.specs.declared.job.Job.{Job}
 use Rattle.bq_job.specs.machine.JobCommands.{in_order, kicked}
-use Rattle.bq_core.specs.declared.job_store.JobKind.{JobKind}
-use Rattle.bq_core.specs.JobKinds.{is_before_of, is_of}
+use Rattle.bq_state.specs.declared.job_store.JobKind.{JobKind}
+use Rattle.bq_state.specs.JobKinds.{is_before_of, is_of}
 
 -- the jobs of this kind in this tube, in their order
 abbrev pub jobs_of : JobKind → List ℕ → List Job → List Job

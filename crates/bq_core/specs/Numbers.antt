@@ -5,7 +5,7 @@ use Rattle.bq_job.specs.machine.Machine.{Machine}
 use Rattle.bq_job.specs.machine.Statistics.{jobs_in, using_count, waiting_clients_of, watching_count}
 use Rattle.bq_job.specs.machine.TubeOrder.{tubes}
 use Rattle.bq_job.specs.machine.Tubes.{tube_record}
-use Rattle.bq_core.specs.Tallies.{tally_of}
+use Rattle.bq_state.specs.Tallies.{tally_of}
 use Rattle.bq_core.specs.declared.texts.statistics.ServerNumbers.{ServerNumbers}
 use Rattle.bq_core.specs.declared.texts.statistics.TubeNumbers.{TubeNumbers}
 

@@ -1,26 +1,22 @@
 -- What commands come to, between the states before and after.
-use Rattle.std.specs.Prelude.{ℕ, Bool, ◌≡◌, List, Option, Some}
+use Rattle.std.specs.Prelude.{ℕ, Bool, ◌≡◌, Option}
 use Rattle.bq_job.specs.declared.answer.Answer.{Answer}
 use Rattle.bq_job.specs.machine.Acts.{Effect, showing, silent, telling}
-use Rattle.bq_job.specs.machine.Changes.{seat_with, with_seat}
 use Rattle.bq_job.specs.machine.JobCommands.{reserve_effect}
 use Rattle.bq_job.specs.machine.Machine.{Machine, SeatRecord}
-use Rattle.bq_job.specs.machine.TubeCommands.{watching}
 use Rattle.bq_core.specs.Acting.{Replies}
-use Rattle.bq_core.specs.JobKinds.{first_of_kind}
-use Rattle.bq_core.specs.CoreParts.{machine_of}
-use Rattle.bq_core.specs.declared.job_store.JobKind.{JobKind}
+use Rattle.bq_state.specs.JobKinds.{first_of_kind}
+use Rattle.bq_state.specs.CoreParts.{machine_of}
+use Rattle.bq_state.specs.CoreParts.{AtSeat}
+use Rattle.bq_state.specs.declared.job_store.JobKind.{JobKind}
 use Rattle.bq_core.specs.declared.acts.Reply.{Reply}
-use Rattle.bq_core.specs.declared.core_parts.CoreParts.{CoreParts}
+use Rattle.bq_state.specs.declared.core_parts.CoreParts.{CoreParts}
 
 -- a request came to this reply
 abbrev pub RepliesBy : Bool → (Machine → Effect) → CoreParts → Reply → Answer → CoreParts → Type 0
 RepliesBy takes effect old reply told new = Replies takes (machine_of old) (effect (machine_of old)) reply told (machine_of new)
 
 -- a request of the client at this seat, of whose record this is so
-abbrev pub AtSeat : ℕ → CoreParts → (SeatRecord → Type 0) → Type 0
-AtSeat seat state P = (s : SeatRecord) → seat_with seat (machine_of state).seats ≡ Some s → P s
-
 abbrev pub RepliesAt : ℕ → Bool → (Machine → SeatRecord → Effect) → CoreParts → Reply → Answer → CoreParts → Type 0
 RepliesAt seat takes effect old reply told new = AtSeat seat old (λ s. RepliesBy takes (λ m. effect m s) old reply told new)
 
@@ -37,10 +33,6 @@ AnswersTo seat effect old answer new =
 abbrev pub Waits : ℕ → Option ℕ → CoreParts → CoreParts → Type 0
 Waits seat until old new =
     (s : SeatRecord) → s.number ≡ seat → reserve_effect until (machine_of old) s ≡ silent (machine_of new)
-
--- the client at this seat watches these tubes, out of those that it watched
-abbrev pub Watches : ℕ → (SeatRecord → List (List ℕ)) → CoreParts → CoreParts → Type 0
-Watches seat names old new = AtSeat seat old (λ s. machine_of new ≡ with_seat seat (watching (names s)) (machine_of old))
 
 -- the first job of this kind in the tube that the client uses is shown
 abbrev pub peek_first_effect : JobKind → Machine → SeatRecord → Effect

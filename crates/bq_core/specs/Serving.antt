@@ -8,13 +8,13 @@ use Rattle.bq_job.specs.machine.Machine.{Machine}
 use Rattle.bq_job.specs.machine.Steps.{Serves, has_refused_share}
 use Rattle.bq_job.specs.machine.Tubes.{is_tube}
 use Rattle.bq_jobs.specs.Kept.{Kept}
-use Rattle.bq_core.specs.Asking.{Asks}
-use Rattle.bq_core.specs.Cost.{waited}
+use Rattle.bq_state.specs.Asking.{Asks}
+use Rattle.bq_state.specs.Cost.{waited}
 use Rattle.bq_steps.specs.Cost.{IsStepWithin}
 use Rattle.bq_steps.specs.Outbox.{Outbox, outcome_of}
-use Rattle.bq_core.specs.CoreParts.{machine_of}
+use Rattle.bq_state.specs.CoreParts.{machine_of}
 use Rattle.bq_core.specs.Turns.{HasRoom}
-use Rattle.bq_core.specs.declared.core_parts.CoreParts.{CoreParts}
+use Rattle.bq_state.specs.declared.core_parts.CoreParts.{CoreParts}
 
 -- there was no next one, and nothing happened
 abbrev pub IsLastTurn : {A : Type 0} → Option A → CoreParts → CoreParts → Outbox → Outbox → Type 0

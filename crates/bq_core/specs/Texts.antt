@@ -1,10 +1,8 @@
 -- Texts of statistics and lists.
-use Rattle.std.specs.Prelude.{ℕ, Bool, false, ◌≡◌, ◌≤◌, ◌^◌, List, Option, Some, None, decimal, length, map}
-use Rattle.std.specs.Borrow.{Bor}
+use Rattle.std.specs.Prelude.{ℕ, ◌≡◌, ◌≤◌, ◌^◌, List, Option, Some, None, decimal, length}
 use Rattle.bq_job.specs.declared.job.Job.{Job}
 use Rattle.bq_job.specs.machine.Machine.{Machine}
 use Rattle.bq_job.specs.machine.Statistics.{job_statistics}
-use Rattle.bq_job.specs.reading.TubeName.{is_same_name}
 use Rattle.bq_core.specs.declared.texts.key_value.Value.{Value}
 use Rattle.bq_core.specs.declared.texts.key_value.Value.TheVariants.{Number, Word}
 
@@ -21,15 +19,6 @@ value_text (Word word) = word.now
 abbrev pub IsSizeOf : List ℕ → Option ℕ → Type 0
 IsSizeOf bytes None = 2 ^ 64 ≤ length bytes
 IsSizeOf bytes (Some size) = size ≡ length bytes
-
--- the names that are pointed at
-abbrev pub names_of : List (Bor (List ℕ)) → List (List ℕ)
-names_of names = map (λ name. name.now) names
-
--- a name is pointed at, and it is this one
-abbrev pub is_named : List ℕ → Option (Bor (List ℕ)) → Bool
-is_named name None = false
-is_named name (Some other) = is_same_name name other.now
 
 -- the text is the statistics of the job, if there is one, at this moment
 abbrev pub TellsJob : ℕ → Option Job → List ℕ → Type 0

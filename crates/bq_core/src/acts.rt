@@ -3,19 +3,21 @@ ghost use Rattle.std.specs.Prelude.{◌≡◌, true};
 ghost use Rattle.bq_job.specs.machine.Asked.{asked, effect, refusal_answer as answer_of_refusal};
 ghost use Rattle.bq_job.specs.machine.Changes.{seat_with};
 ghost use Rattle.bq_job.specs.machine.Steps.{step_takes_memory, takes_memory};
-ghost use Rattle.bq_core.specs.Asking.{AsksAsChanged};
-ghost use Rattle.bq_core.specs.Acting.{Acts, is_asking};
+ghost use Rattle.bq_state.specs.Asking.{AsksAsChanged};
+ghost use Rattle.bq_core.specs.Acting.{Acts};
+ghost use Rattle.bq_state.specs.SeatStates.{is_asking};
 ghost use Rattle.bq_core.specs.Replying.{RepliesAt, RepliesBy};
-ghost use Rattle.bq_core.specs.CoreParts.{machine_of};
+ghost use Rattle.bq_state.specs.CoreParts.{machine_of};
 ghost use Rattle.bq_core.specs.Turns.{HasRoom};
 ghost use Rattle.bq_job.specs.declared.step.Step.TheVariants as steps;
 
-use crate::core_parts::CoreParts;
 use crate::job_acts::{NewJob, NewTurn};
-use crate::job_store::JobKind;
-use crate::seats::SeatChange;
-use crate::{changes, job_acts, kicks, statistics_acts, timers, tube_acts};
+use crate::{job_acts, kicks, statistics_acts, timers, tube_acts};
 use bq_job::{Answer, Refusal, Request, Seat, Step};
+use bq_state::changes;
+use bq_state::core_parts::CoreParts;
+use bq_state::job_store::JobKind;
+use bq_state::seats::SeatChange;
 use bq_steps::Outs;
 use std::alloc::Global;
 

@@ -9,26 +9,26 @@ ghost use Rattle.bq_job.specs.beside.Computed.{waiting_count};
 ghost use Rattle.bq_job.specs.machine.Dispatch.{DispatchTurn, is_wait_before, next_job};
 ghost use Rattle.bq_job.specs.machine.Steps.{has_refused_share};
 ghost use Rattle.bq_jobs.specs.Seen.{IsBodyOf};
-ghost use Rattle.bq_core.specs.Asking.{Asks, AsksByTurn};
-ghost use Rattle.bq_core.specs.Cost.{waited, waited_tubes};
+ghost use Rattle.bq_state.specs.Asking.{Asks, AsksByTurn};
+ghost use Rattle.bq_state.specs.Cost.{waited, waited_tubes};
 ghost use Rattle.bq_core.specs.HandOuts.{HandsOut, IsPicked, handed_to};
-ghost use Rattle.bq_core.specs.Offers.{better_rank, is_waited_at, next_rank, offered, these, waits_at, with_offer, with_offers};
-ghost use Rattle.bq_core.specs.WaitingTurns.{by_seat, turns_of, waited_at};
-ghost use Rattle.bq_core.specs.SeatChanges.{AreNumbered};
-ghost use Rattle.bq_core.specs.Keeping.{Looks};
-ghost use Rattle.bq_core.specs.CoreParts.{machine_of};
-ghost use Rattle.bq_core.specs.Stirs.{is_nothing, may_get};
+ghost use Rattle.bq_state.specs.Offers.{better_rank, is_waited_at, next_rank, offered, these, waits_at, with_offer, with_offers};
+ghost use Rattle.bq_state.specs.WaitingTurns.{by_seat, turns_of, waited_at};
+ghost use Rattle.bq_state.specs.SeatChanges.{AreNumbered};
+ghost use Rattle.bq_state.specs.Keeping.{Looks};
+ghost use Rattle.bq_state.specs.CoreParts.{machine_of};
+ghost use Rattle.bq_state.specs.Stirs.{is_nothing, may_get};
 ghost use Rattle.bq_core.specs.Turns.{Gives, HasRoom};
 ghost use Rattle.bq_core.specs.Serving.{IsLastTurn};
 
-use crate::core_parts::CoreParts;
-use crate::job_store::JobChange;
-use crate::known::Stir;
-use crate::seats::{SeatChange, SeatRecord, Turn};
-use crate::tubes::Tubes;
-use crate::{changes, seats};
 use bq_job::{Answer, Body, JobId, NoMemory, Seat, TubeName};
 use bq_jobs::Jobs;
+use bq_state::core_parts::CoreParts;
+use bq_state::job_store::JobChange;
+use bq_state::known::Stir;
+use bq_state::seats::{SeatChange, SeatRecord, Turn};
+use bq_state::tubes::Tubes;
+use bq_state::{changes, seats};
 use bq_steps::Outs;
 
 /// A ready job, by its priority and its id.
@@ -138,7 +138,7 @@ fn best_of_client(
 }
 
 // The best of the jobs that the clients of these turns wait for.
-#[tactic(auto, using(crate::proofs::AskLemmas::asks_summed, crate::proofs::LoopLemmas::folded_beside))]
+#[tactic(auto, using(crate::proofs::AskLemmas::asks_summed, bq_state::proofs::LoopLemmas::folded_beside))]
 fn best_of_turns(
     jobs: &mut Jobs,
     tubes: &Tubes,

@@ -7,20 +7,20 @@ ghost use Rattle.bq_job.specs.machine.JobCommands.{bury_effect, delete_effect, k
 ghost use Rattle.bq_job.specs.machine.JobCommands.{reserve_job_effect, touch_effect};
 ghost use Rattle.bq_job.specs.machine.Limits.{later as later_by};
 ghost use Rattle.bq_job.specs.machine.Machine.{SeatRecord};
-ghost use Rattle.bq_core.specs.Asking.{AsksAsChanged};
-ghost use Rattle.bq_core.specs.Acting.{is_asking};
+ghost use Rattle.bq_state.specs.Asking.{AsksAsChanged};
+ghost use Rattle.bq_state.specs.SeatStates.{is_asking};
 ghost use Rattle.bq_core.specs.Putting.{after_given};
 ghost use Rattle.bq_core.specs.Replying.{AnswersTo, RepliesAt, RepliesTo, Waits};
-ghost use Rattle.bq_core.specs.CoreParts.{held, machine_of};
+ghost use Rattle.bq_state.specs.CoreParts.{held, machine_of};
 
 use crate::acts::Reply;
-use crate::core_parts::CoreParts;
-use crate::job_store::{JobChange, JobTest};
-use crate::seats::SeatChange;
-use crate::tubes::TubeChange;
-use crate::{changes, job_store, seats};
 use bq_job::{Answer, Body, Counts, Job, JobId, Moment, Pri, Seat, TubeName};
 use bq_jobs::{adds_at_the_end, next_is_free};
+use bq_state::core_parts::CoreParts;
+use bq_state::job_store::{JobChange, JobTest};
+use bq_state::seats::SeatChange;
+use bq_state::tubes::TubeChange;
+use bq_state::{changes, job_store, seats};
 use std::alloc::Global;
 
 // The last id that is given: with it the core begins to drain, so that the next id always fits.
@@ -60,7 +60,7 @@ fn new_job(state: &CoreParts, tube: &TubeName, new: NewJob, body: Body) -> Job
 }
 
 // An id is given.
-#[tactic(auto, using(crate::proofs::PartsLemmas::sound_given))]
+#[tactic(auto, using(bq_state::proofs::PartsLemmas::sound_given))]
 fn count_put(state: &mut CoreParts)
     requires accepts { state.old.draining ≡ false }
     ensures after { machine_of state.new ≡ after_given (machine_of state.old) }
@@ -127,7 +127,7 @@ pub(crate) fn put(
 }
 
 /// The client waits, until this moment if there is one.
-#[tactic(auto, using(crate::proofs::CrowdLemmas::asking_is_connected, crate::proofs::WarningLemmas::known_holds))]
+#[tactic(auto, using(bq_state::proofs::CrowdLemmas::asking_is_connected, bq_state::proofs::WarningLemmas::known_holds))]
 pub(crate) fn reserve(state: &mut CoreParts, seat: Seat, until: Option<Moment>)
     requires asks { is_asking (seat_with seat state.old.seats.items) ≡ true }
     ensures reply { Waits seat until state.old state.new }

@@ -2,19 +2,19 @@ ghost use Rattle.std.specs.Prelude.{◌≡◌, ◌<◌, ◌≤◌, ◌+◌, ◌*
 ghost use Rattle.bq_job.specs.declared.job.Job.{Job};
 ghost use Rattle.bq_job.specs.machine.JobCommands.{after_kick, kick_effect, kickable, kicked};
 ghost use Rattle.bq_jobs.specs.Kept.{ComparesAtMost};
-ghost use Rattle.bq_core.specs.Asking.{Asks, AsksAsChanged};
+ghost use Rattle.bq_state.specs.Asking.{Asks, AsksAsChanged};
 ghost use Rattle.bq_steps.specs.Cost.{changed_jobs};
-ghost use Rattle.bq_core.specs.JobKinds.{is_of};
+ghost use Rattle.bq_state.specs.JobKinds.{is_of};
 ghost use Rattle.bq_core.specs.Kicking.{KicksFirst, jobs_of};
 ghost use Rattle.bq_core.specs.Replying.{RepliesAt};
-ghost use Rattle.bq_core.specs.CoreParts.{machine_of, count_jobs};
+ghost use Rattle.bq_state.specs.CoreParts.{machine_of, count_jobs};
 
 use crate::acts::Reply;
-use crate::core_parts::CoreParts;
-use crate::job_store::{JobChange, JobKind};
-use crate::{changes, seats};
 use bq_job::{Answer, Seat, TubeName};
 use bq_jobs::Jobs;
+use bq_state::core_parts::CoreParts;
+use bq_state::job_store::{JobChange, JobKind};
+use bq_state::{changes, seats};
 
 // Which jobs of a tube a kick makes ready: the buried ones, or where there are none, the delayed
 // ones.

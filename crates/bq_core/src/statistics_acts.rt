@@ -4,19 +4,19 @@ ghost use Rattle.bq_job.specs.machine.Changes.{job_with};
 ghost use Rattle.bq_job.specs.machine.StatisticsCommands.{list_tubes_effect, list_watched_effect};
 ghost use Rattle.bq_job.specs.machine.StatisticsCommands.{stats_effect, stats_job_effect, stats_tube_effect};
 ghost use Rattle.bq_jobs.specs.Kept.{ComparesAtMost};
-ghost use Rattle.bq_core.specs.Asking.{AsksAsChanged};
+ghost use Rattle.bq_state.specs.Asking.{AsksAsChanged};
 ghost use Rattle.bq_core.specs.Numbers.{AreOfServer, AreOfTube};
 ghost use Rattle.bq_core.specs.Replying.{RepliesAt, RepliesBy};
-ghost use Rattle.bq_core.specs.CoreParts.{machine_of};
+ghost use Rattle.bq_state.specs.CoreParts.{machine_of};
 ghost use Rattle.bq_core.specs.Texts.{TellsJob};
 
 use crate::acts::Reply;
-use crate::core_parts::CoreParts;
 use crate::texts::{ServerNumbers, TubeNumbers, job_text, names_text, server_text, tube_text};
-use crate::tubes::TubeEntry;
-use crate::{changes, name_lists, seats};
 use bq_job::{Answer, JobId, Moment, NoMemory, Seat, Text, TubeName};
 use bq_jobs::Jobs;
+use bq_state::core_parts::CoreParts;
+use bq_state::tubes::TubeEntry;
+use bq_state::{changes, name_lists, seats};
 use std::alloc::Global;
 
 // The text of the job of this id, unless its memory is refused; None where there is no job.
@@ -58,7 +58,7 @@ pub(crate) fn stats_job(state: &mut CoreParts, alloc: Global, id: JobId, told: &
 }
 
 // What is told of the tube of this name.
-#[tactic(auto, using(crate::proofs::NameLemmas::lent_or, crate::proofs::NameLemmas::record_of_entry))]
+#[tactic(auto, using(bq_state::proofs::NameLemmas::lent_or, bq_state::proofs::NameLemmas::record_of_entry))]
 fn tube_numbers(state: &CoreParts, tube: &TubeName) -> TubeNumbers
     ensures { AreOfTube result tube.now (machine_of state.now) }
 {
@@ -147,7 +147,7 @@ pub(crate) fn list_tubes(state: &CoreParts, alloc: Global, told: &mut Answer) ->
 }
 
 /// Lists the tubes that the client watches.
-#[tactic(auto, using(bq_job::proofs::NameOrderLemmas::in_order_fold, crate::proofs::NameLemmas::list_of_order))]
+#[tactic(auto, using(bq_job::proofs::NameOrderLemmas::in_order_fold, bq_state::proofs::NameLemmas::list_of_order))]
 pub(crate) fn list_tubes_watched(
     state: &CoreParts,
     alloc: Global,

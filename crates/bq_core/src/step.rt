@@ -6,16 +6,17 @@ ghost use Rattle.bq_job.specs.beside.NextDue.{next_due};
 ghost use Rattle.bq_job.specs.machine.Steps.{IsStep};
 ghost use Rattle.bq_steps.specs.Cost.{IsLookWithin, IsStepWithin};
 ghost use Rattle.bq_steps.specs.Limits.{is_body_size, is_job_limit, is_seat_count};
-ghost use Rattle.bq_core.specs.CoreParts.{machine_of};
+ghost use Rattle.bq_state.specs.CoreParts.{machine_of};
 ghost use Rattle.bq_steps.specs.Outbox.{outcome_of};
 ghost use Rattle.bq_core.specs.Serving.{NoneIsGone, ServesAsking, TakesStepWithin};
 ghost use Rattle.bq_core.specs.Turns.{HasRoom};
 
-use crate::core_parts::CoreParts;
-use crate::tubes::Tubes;
-use crate::waiting::Waiting;
-use crate::{acts, changes, dispatch, seats, timers, waiting};
+use crate::{acts, dispatch, timers, waits};
 use bq_job::{LARGEST_BODY, MOST_SEATS, Moment, Seat, Step};
+use bq_state::core_parts::CoreParts;
+use bq_state::tubes::Tubes;
+use bq_state::waiting::Waiting;
+use bq_state::{changes, seats};
 use bq_steps::{Config, CoreFault, Outs, QueueCore};
 use std::alloc::Global;
 use std::marker::Model;
@@ -29,7 +30,7 @@ pub struct Core {
 impl Model for Core {
     ghost use Rattle.bq_job.specs.beside.Lawful.{IsLawful};
     ghost use Rattle.bq_core.specs.CoreState.{CoreState};
-    ghost use Rattle.bq_core.specs.CoreParts.{machine_of};
+    ghost use Rattle.bq_state.specs.CoreParts.{machine_of};
 
     ghost Value = { CoreState };
 
@@ -46,7 +47,7 @@ fn serve(state: &mut CoreParts, outs: &mut Outs)
         (machine_of state.new) state.old.jobs state.new.jobs }
 {
     dispatch::dispatch(state, outs);
-    waiting::end_waits(state, outs);
+    waits::end_waits(state, outs);
 }
 
 // One step.

@@ -4,29 +4,30 @@ ghost use Rattle.std.specs.Prelude.{count_by, fold, length};
 ghost use Rattle.std.specs.List.{list_any};
 ghost use Rattle.bq_job.specs.machine.Timers.{after_timers, is_due, is_expired};
 ghost use Rattle.bq_jobs.specs.Kept.{ComparesAtMost};
-ghost use Rattle.bq_core.specs.Asking.{Asks};
+ghost use Rattle.bq_state.specs.Asking.{Asks};
 ghost use Rattle.bq_core.specs.Firing.{ExpiresOne, IsOne, after_job_timers, is_ripe, is_some_due};
 ghost use Rattle.bq_core.specs.Firing.{is_some_expired, with_pauses_ended, after_giving_back};
-ghost use Rattle.bq_core.specs.CoreParts.{machine_of, HaveFired, count_jobs};
+ghost use Rattle.bq_state.specs.CoreParts.{machine_of, count_jobs};
+ghost use Rattle.bq_core.specs.Firing.{HaveFired};
 ghost use Rattle.bq_job.specs.machine.Asked.{state_once_left};
 ghost use Rattle.bq_job.specs.machine.Changes.{is_held_by, is_waiting};
 ghost use Rattle.bq_job.specs.machine.JobStates.{is_reserved};
 ghost use Rattle.std.specs.Option.{option_copied, option_map};
 ghost use Rattle.bq_job.specs.beside.NextDue.{next_due as next_due_of};
-ghost use Rattle.bq_core.specs.Dues.{earlier_of_both, is_end_over, timers_due, warning_due};
-ghost use Rattle.bq_core.specs.Dues.{warning_due_at, with_seat_due, with_warning_due};
-ghost use Rattle.bq_core.specs.FirstEnds.{AreTimeouts};
-ghost use Rattle.bq_core.specs.WaitingTurns.{at_turn, turns_of};
-ghost use Rattle.bq_core.specs.SeatChanges.{AreNumbered};
-ghost use Rattle.bq_core.specs.Warnings.{AreWarned, is_waiting_there};
+ghost use Rattle.bq_state.specs.Dues.{earlier_of_both, is_end_over, timers_due, warning_due};
+ghost use Rattle.bq_state.specs.Dues.{warning_due_at, with_seat_due, with_warning_due};
+ghost use Rattle.bq_state.specs.FirstEnds.{AreTimeouts};
+ghost use Rattle.bq_state.specs.WaitingTurns.{at_turn, turns_of};
+ghost use Rattle.bq_state.specs.SeatChanges.{AreNumbered};
+ghost use Rattle.bq_state.specs.Warnings.{AreWarned, is_waiting_there};
 
-use crate::core_parts::CoreParts;
-use crate::job_store::JobChange;
-use crate::known::{FirstEnd, Stir, Warns};
-use crate::seats::{SeatRecord, Turn};
-use crate::{changes, job_store, seats};
 use bq_job::{JobId, JobState, Moment, Seat};
 use bq_jobs::Jobs;
+use bq_state::core_parts::CoreParts;
+use bq_state::job_store::JobChange;
+use bq_state::known::{FirstEnd, Stir, Warns, earlier_of, first_to_give_up, is_over};
+use bq_state::seats::{SeatRecord, Turn};
+use bq_state::{changes, job_store, seats};
 
 // The delayed job that is due first, if its moment has come.
 fn first_ripe(jobs: &mut Jobs, moment: Moment) -> Option<JobId>
@@ -189,27 +190,6 @@ pub(crate) fn give_back_all(state: &mut CoreParts, seat: Seat, becomes: JobState
     while give_back_one(state, seat, becomes) {}
 }
 
-/// The earlier of two moments, if there is one.
-pub(crate) fn earlier_of(a: Option<Moment>, b: Option<Moment>) -> Option<Moment>
-    ensures { result ≡ earlier_of_both a b }
-{
-    match (a, b) {
-        (None, other) => other,
-        (Some(due), None) => Some(due),
-        (Some(due), Some(other)) => Some(due.min(other)),
-    }
-}
-
-/// Whether this moment, if there is one, has come.
-pub(crate) fn is_over(end: Option<Moment>, moment: Moment) -> bool
-    ensures { result ≡ is_end_over moment end }
-{
-    match end {
-        None => false,
-        Some(end) => end <= moment,
-    }
-}
-
 fn moment_of(found: Option<(Moment, JobId)>) -> Option<Moment>
     ensures { result ≡ option_map (λ p. p.0) found }
 {
@@ -265,7 +245,7 @@ fn with_warning_of(
 }
 
 // When the first of the clients that have these turns is told so.
-#[tactic(auto, using(crate::proofs::AskLemmas::asks_then, crate::proofs::LoopLemmas::folded_beside))]
+#[tactic(auto, using(crate::proofs::AskLemmas::asks_then, bq_state::proofs::LoopLemmas::folded_beside))]
 fn first_warning(jobs: &mut Jobs, seats: &[SeatRecord], turns: &[Turn]) -> Option<Moment>
     ensures due { result
         ≡ fold (at_turn (with_warning_due jobs.old.jobs) seats.now) None turns.now }
@@ -312,36 +292,7 @@ fn jobs_due(jobs: &mut Jobs) -> Option<Moment>
     earlier_of(due, deadline)
 }
 
-// The earlier of this moment and of when the client of this turn gives up.
-fn with_end_of(best: Option<Moment>, seats: &[SeatRecord], turn: Turn) -> Option<Moment>
-    ensures { result ≡ at_turn with_seat_due seats.now best turn }
-{
-    match seats.get(usize::from(turn.1)) {
-        None => best,
-        Some(client) => earlier_of(best, client.gives_up_at()),
-    }
-}
-
-// When the first of the clients that have these turns gives up.
-fn first_end_among(seats: &[SeatRecord], turns: &[Turn]) -> Option<Moment>
-    ensures { result ≡ fold (at_turn with_seat_due seats.now) None turns.now }
-{
-    turns
-        .iter()
-        .fold(None, |best, turn| with_end_of(best, seats, *turn))
-}
-
-/// When the first of the clients that wait gives up. Only who waits is looked at.
-#[tactic(auto, using(crate::proofs::DueLemmas::ends_walked))]
-pub(crate) fn first_to_give_up(seats: &[SeatRecord], turns: &[Turn]) -> Option<Moment>
-    requires numbered { AreNumbered seats.now }
-    requires turns { turns.now ≡ turns_of seats.now }
-    ensures { result ≡ fold with_seat_due None seats.now }
-{
-    first_end_among(seats, turns)
-}
-
-// The same. Where it is known, no seat is looked at.
+// When the first of the clients that wait gives up. Where it is known, no seat is looked at.
 fn seats_due(first: &FirstEnd, seats: &[SeatRecord], turns: &[Turn]) -> Option<Moment>
     requires known { AreTimeouts first.now seats.now }
     requires numbered { AreNumbered seats.now }

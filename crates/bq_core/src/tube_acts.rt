@@ -3,19 +3,20 @@ ghost use Rattle.std.specs.Option.{option_map};
 ghost use Rattle.bq_job.specs.machine.Acts.{telling};
 ghost use Rattle.bq_job.specs.declared.answer.Answer.TheVariants as answers;
 ghost use Rattle.bq_job.specs.machine.TubeCommands.{ignore_effect, pause_effect, peek_effect, use_effect, watch_effect};
-ghost use Rattle.bq_core.specs.Asking.{Asks, AsksAsChanged};
-ghost use Rattle.bq_core.specs.JobKinds.{first_of_kind};
-ghost use Rattle.bq_core.specs.Replying.{AtSeat, RepliesAt, RepliesBy, RepliesTo, peek_first_effect};
-ghost use Rattle.bq_core.specs.Keeping.{Looks};
-ghost use Rattle.bq_core.specs.CoreParts.{machine_of};
+ghost use Rattle.bq_state.specs.Asking.{Asks, AsksAsChanged};
+ghost use Rattle.bq_state.specs.JobKinds.{first_of_kind};
+ghost use Rattle.bq_state.specs.CoreParts.{AtSeat};
+ghost use Rattle.bq_core.specs.Replying.{RepliesAt, RepliesBy, RepliesTo, peek_first_effect};
+ghost use Rattle.bq_state.specs.Keeping.{Looks};
+ghost use Rattle.bq_state.specs.CoreParts.{machine_of};
 
 use crate::acts::Reply;
-use crate::core_parts::CoreParts;
-use crate::job_store::JobKind;
-use crate::seats::SeatChange;
-use crate::tubes::TubeChange;
-use crate::{changes, job_store, seats};
 use bq_job::{Answer, JobId, Seat, TubeName};
+use bq_state::core_parts::CoreParts;
+use bq_state::job_store::JobKind;
+use bq_state::seats::SeatChange;
+use bq_state::tubes::TubeChange;
+use bq_state::{changes, job_store, seats};
 use std::alloc::Global;
 
 /// The client's jobs go into this tube from now on. The growth that a new tube needs comes before
@@ -99,7 +100,7 @@ pub(crate) fn ignore(state: &mut CoreParts, seat: Seat, tube: &TubeName, told: &
 }
 
 /// Pauses a tube that exists.
-#[tactic(auto, using(crate::proofs::PartsLemmas::tube_has_entry))]
+#[tactic(auto, using(bq_state::proofs::PartsLemmas::tube_has_entry))]
 pub(crate) fn pause(state: &mut CoreParts, tube: &TubeName, seconds: u32, told: &mut Answer)
     ensures reply { pause_effect tube.now seconds (machine_of state.old)
         ≡ telling told.new (machine_of state.new) }

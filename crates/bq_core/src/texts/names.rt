@@ -1,7 +1,7 @@
 ghost use Rattle.std.specs.Prelude.{◌≡◌, IfOk, IsTrue};
 ghost use Rattle.bq_job.specs.beside.NameOrder.{is_in_order};
 ghost use Rattle.bq_job.specs.machine.TubeOrder.{name_list};
-ghost use Rattle.bq_core.specs.Texts.{names_of};
+ghost use Rattle.bq_state.specs.Names.{names_of};
 
 use super::builder::TextBuilder;
 use super::lines::{Line, text_of};

@@ -6,10 +6,10 @@ ghost use Rattle.bq_jobs.specs.Seen.{in_tube};
 ghost use Rattle.bq_core.specs.Numbers.{AreOfServer, AreOfTube};
 
 use super::key_value::{number, statistics_text, word};
-use crate::known::Tally;
-use crate::tubes::Pausing;
 use bq_job::{JobId, JobState, Moment, NoMemory, Text, TubeName};
 use bq_jobs::Row;
+use bq_state::known::Tally;
+use bq_state::tubes::Pausing;
 use std::alloc::Global;
 
 /// What is told of a tube.

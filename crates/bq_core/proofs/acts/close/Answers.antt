@@ -7,12 +7,12 @@ use Rattle.bq_job.specs.machine.JobStates.{is_reserved}
 use Rattle.bq_job.specs.machine.Machine.{Machine}
 use Rattle.bq_job.proofs.BecomeLemmas.{free_by_delay}
 use Rattle.bq_jobs.specs.Kept.{Kept}
-use Rattle.bq_core.specs.Asking.{AsksAsChanged}
+use Rattle.bq_state.specs.Asking.{AsksAsChanged}
 use Rattle.bq_steps.specs.Cost.{changed_jobs}
-use Rattle.bq_core.specs.declared.seats.SeatChange.TheVariants.{Clear}
-use Rattle.bq_core.specs.SeatChanges.{seat_changed}
+use Rattle.bq_state.specs.declared.seats.SeatChange.TheVariants.{Clear}
+use Rattle.bq_state.specs.SeatChanges.{seat_changed}
 use Rattle.bq_core.specs.Firing.{after_giving_back}
-use Rattle.bq_core.specs.CoreParts.{machine_of}
+use Rattle.bq_state.specs.CoreParts.{machine_of}
 use Rattle.bq_core.proofs.ActLemmas.{closed_connected}
 use Rattle.bq_core.proofs.AskLemmas.{within}
 use Rattle.bq_core.proofs.CostLemmas.{given_back_changed}

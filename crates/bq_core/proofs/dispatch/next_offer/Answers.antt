@@ -8,22 +8,22 @@ use Rattle.bq_job.specs.machine.Tubes.{is_paused}
 use Rattle.bq_job.proofs.ChoiceLemmas.{first_of_none_passes}
 use Rattle.bq_job.proofs.ListLemmas.{all_always, list_any_not}
 use Rattle.bq_jobs.specs.Kept.{ranked}
-use Rattle.bq_core.specs.Cost.{waited_tubes}
-use Rattle.bq_core.specs.Crowds.{is_waiter}
-use Rattle.bq_core.specs.Offers.{is_waited_at, next_rank, offered, these, with_offers}
-use Rattle.bq_core.specs.CoreParts.{machine_of}
-use Rattle.bq_core.specs.Stirs.{AreKnown}
-use Rattle.bq_core.specs.declared.tubes.entry.Crowd.{Crowd}
-use Rattle.bq_core.specs.declared.core_parts.CoreParts.{CoreParts}
-use Rattle.bq_core.specs.declared.known.hints.Stir.{Stir}
-use Rattle.bq_core.specs.declared.known.hints.Stir.TheVariants.{Nothing}
+use Rattle.bq_state.specs.Cost.{waited_tubes}
+use Rattle.bq_state.specs.Crowds.{is_waiter}
+use Rattle.bq_state.specs.Offers.{is_waited_at, next_rank, offered, these, with_offers}
+use Rattle.bq_state.specs.CoreParts.{machine_of}
+use Rattle.bq_state.specs.Stirs.{AreKnown}
+use Rattle.bq_state.specs.declared.tubes.entry.Crowd.{Crowd}
+use Rattle.bq_state.specs.declared.core_parts.CoreParts.{CoreParts}
+use Rattle.bq_state.specs.declared.known.hints.Stir.{Stir}
+use Rattle.bq_state.specs.declared.known.hints.Stir.TheVariants.{Nothing}
 use Rattle.bq_core.proofs.AskLemmas.{asks_more}
-use Rattle.bq_core.proofs.ClientLemmas.{some_pass}
-use Rattle.bq_core.proofs.CrowdPlaces.{crowd_there}
+use Rattle.bq_state.proofs.ClientLemmas.{some_pass}
+use Rattle.bq_state.proofs.CrowdPlaces.{crowd_there}
 use Rattle.bq_core.proofs.DispatchLemmas.{next_offer, offered_is}
 use Rattle.bq_core.proofs.SearchLemmas.{client_entries, client_waits, rank_agrees, tube_entries, tube_waits}
-use Rattle.bq_core.proofs.StirLemmas.{none_known}
-use Rattle.bq_core.proofs.TubeLemmas.{paused_is}
+use Rattle.bq_state.proofs.StirLemmas.{none_known}
+use Rattle.bq_state.proofs.TubeLemmas.{paused_is}
 use Rattle.bq_core.proofs.dispatch.next_offer.Goals as goal
 
 -- the tube's count tells whether somebody waits at it

@@ -6,12 +6,12 @@ use Rattle.bq_job.specs.machine.Changes.{first_of, job_with}
 use Rattle.bq_job.specs.machine.Dispatch.{is_wait_before, next_seat}
 use Rattle.bq_job.specs.machine.Machine.{SeatRecord}
 use Rattle.bq_job.proofs.ComputedLemmas.{next_has_seat}
-use Rattle.bq_core.specs.Offers.{waits_at}
-use Rattle.bq_core.specs.CoreParts.{machine_of}
-use Rattle.bq_core.specs.Stirs.{may_get}
+use Rattle.bq_state.specs.Offers.{waits_at}
+use Rattle.bq_state.specs.CoreParts.{machine_of}
+use Rattle.bq_state.specs.Stirs.{may_get}
 use Rattle.bq_core.proofs.ActLemmas.{none_there, some_there}
 use Rattle.bq_core.proofs.DispatchLemmas.{next_is, next_there, seat_at_tube, some_at_tube, takers_known}
-use Rattle.bq_core.proofs.TurnLemmas.{ok_weaker}
+use Rattle.bq_state.proofs.PartsLemmas.{ok_weaker}
 use Rattle.bq_core.proofs.dispatch.pick.Goals as goal
 
 pub returns-in_err-tube-clause-some : goal.returns-in_err-tube-clause-some

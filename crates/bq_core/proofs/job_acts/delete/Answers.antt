@@ -1,6 +1,6 @@
-use Rattle.std.proofs.Common.{◌∙◌, arith, subst, sym}
+use Rattle.std.proofs.Common.{arith, subst, sym}
 use Rattle.bq_jobs.specs.Kept.{Kept}
-use Rattle.bq_core.specs.Asking.{AsksAsChanged}
+use Rattle.bq_state.specs.Asking.{AsksAsChanged}
 use Rattle.bq_core.proofs.AskLemmas.{asked_before}
 use Rattle.bq_core.proofs.job_acts.delete.Goals as goal
 

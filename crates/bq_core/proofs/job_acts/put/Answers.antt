@@ -10,11 +10,11 @@ use Rattle.bq_job.specs.machine.Tubes.{with_tube}
 use Rattle.bq_job.proofs.ListLemmas.{all_at, found_passes}
 use Rattle.bq_jobs.specs.Kept.{Kept, with_added}
 use Rattle.bq_core.specs.Putting.{after_given}
-use Rattle.bq_core.specs.CoreParts.{Held, machine_of}
-use Rattle.bq_core.specs.TubeEntries.{HasTubes, has_entry}
+use Rattle.bq_state.specs.CoreParts.{Held, machine_of}
+use Rattle.bq_state.specs.TubeEntries.{HasTubes, has_entry}
 use Rattle.bq_core.proofs.ActLemmas.{asker_connected, put_done}
-use Rattle.bq_core.proofs.PartsLemmas.{some_next}
-use Rattle.bq_core.specs.Asking.{Asks}
+use Rattle.bq_state.proofs.PartsLemmas.{some_next}
+use Rattle.bq_state.specs.Asking.{Asks}
 use Rattle.bq_core.proofs.AskLemmas.{asked_before}
 use Rattle.bq_core.proofs.job_acts.put.Goals as goal
 

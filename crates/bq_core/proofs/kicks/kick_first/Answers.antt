@@ -4,9 +4,9 @@ use Rattle.bq_job.specs.declared.job.Job.{Job}
 use Rattle.bq_job.specs.machine.Changes.{first_of}
 use Rattle.bq_job.specs.machine.JobCommands.{kicked}
 use Rattle.bq_job.specs.machine.Machine.{Machine}
-use Rattle.bq_core.specs.JobKinds.{is_before_of, is_of}
+use Rattle.bq_state.specs.JobKinds.{is_before_of, is_of}
 use Rattle.bq_core.specs.Kicking.{KicksFirst}
-use Rattle.bq_core.specs.CoreParts.{machine_held, machine_of}
+use Rattle.bq_state.specs.CoreParts.{machine_held, machine_of}
 use Rattle.bq_core.proofs.FiringLemmas.{chosen, one_fewer}
 use Rattle.bq_core.proofs.KickLemmas.{kicks_first, no_id, none_of_kind}
 use Rattle.bq_core.proofs.kicks.kick_first.Goals as goal

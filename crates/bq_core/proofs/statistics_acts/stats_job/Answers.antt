@@ -5,7 +5,7 @@ use Rattle.bq_job.specs.machine.Changes.{job_with}
 use Rattle.bq_job.specs.machine.Statistics.{job_statistics}
 use Rattle.bq_job.specs.machine.StatisticsCommands.{job_statistics_or_not}
 use Rattle.bq_jobs.specs.Kept.{Kept}
-use Rattle.bq_core.specs.CoreParts.{held, machine_held, machine_of}
+use Rattle.bq_state.specs.CoreParts.{held, machine_held, machine_of}
 use Rattle.bq_core.proofs.ActLemmas.{some_there}
 use Rattle.bq_core.proofs.TurnLemmas.{if_ok}
 use Rattle.bq_core.proofs.statistics_acts.stats_job.Goals as goal

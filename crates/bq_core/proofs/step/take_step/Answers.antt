@@ -2,11 +2,11 @@ use Rattle.std.proofs.Common.{◌∙◌, ◌+◌, ◌*◌, ap, arith, sym, subst
 use Rattle.std.specs.Prelude.{count_by}
 use Rattle.bq_job.specs.machine.Machine.{Machine}
 use Rattle.bq_jobs.specs.Kept.{Kept}
-use Rattle.bq_core.specs.Asking.{Asks, AsksAsChanged}
+use Rattle.bq_state.specs.Asking.{Asks, AsksAsChanged}
 use Rattle.bq_core.specs.Firing.{is_ripe}
 use Rattle.bq_job.specs.machine.Timers.{after_timers}
 use Rattle.bq_core.specs.Serving.{NoneIsGone}
-use Rattle.bq_core.specs.CoreParts.{machine_of}
+use Rattle.bq_state.specs.CoreParts.{machine_of}
 use Rattle.bq_job.proofs.LawfulLemmas.{step_is_lawful}
 use Rattle.bq_core.proofs.AskLemmas.{asks_more}
 use Rattle.bq_core.proofs.SettingLemmas.{settings_stay}

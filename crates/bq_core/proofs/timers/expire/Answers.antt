@@ -3,7 +3,7 @@ use Rattle.std.specs.Prelude.{count_by}
 use Rattle.bq_job.specs.machine.Limits.{grown}
 use Rattle.bq_job.specs.machine.Machine.{Machine}
 use Rattle.bq_core.specs.Firing.{is_ripe}
-use Rattle.bq_core.specs.CoreParts.{machine_of}
+use Rattle.bq_state.specs.CoreParts.{machine_of}
 use Rattle.bq_core.proofs.FiringLemmas.{counted_fired, fewer_expired, none_fires}
 use Rattle.bq_core.proofs.timers.expire.Goals as goal
 

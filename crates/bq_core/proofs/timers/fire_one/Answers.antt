@@ -2,7 +2,7 @@ use Rattle.std.proofs.Common.{◌≡◌, ◌∙◌, ◌+◌, ◌≤◌, Bool, ap
 use Rattle.std.specs.List.{list_any}
 use Rattle.bq_job.specs.machine.Machine.{Machine}
 use Rattle.bq_job.specs.machine.Timers.{is_due}
-use Rattle.bq_core.specs.Asking.{Asks}
+use Rattle.bq_state.specs.Asking.{Asks}
 use Rattle.bq_core.specs.Firing.{after_job_timers}
 use Rattle.bq_core.proofs.AskLemmas.{asks_more, asks_then}
 use Rattle.bq_core.proofs.timers.fire_one.Goals as goal

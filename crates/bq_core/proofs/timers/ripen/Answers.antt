@@ -5,7 +5,7 @@ use Rattle.bq_job.specs.machine.Machine.{Machine}
 use Rattle.bq_job.specs.machine.Timers.{job_after_timers}
 use Rattle.bq_jobs.specs.Kept.{Kept}
 use Rattle.bq_core.specs.Firing.{after_job_timers, is_ripe}
-use Rattle.bq_core.specs.CoreParts.{machine_of}
+use Rattle.bq_state.specs.CoreParts.{machine_of}
 use Rattle.bq_core.proofs.FiringLemmas.{fewer_due, fired_due}
 use Rattle.bq_core.proofs.timers.ripen.Goals as goal
 

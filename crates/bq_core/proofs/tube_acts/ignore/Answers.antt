@@ -4,7 +4,7 @@ use Rattle.bq_job.specs.declared.answer.Answer.TheVariants as answers
 use Rattle.bq_job.specs.machine.Acts.{telling}
 use Rattle.bq_job.specs.machine.Machine.{SeatRecord}
 use Rattle.bq_job.specs.reading.TubeName.{is_same_name}
-use Rattle.bq_core.specs.CoreParts.{machine_of}
+use Rattle.bq_state.specs.CoreParts.{machine_of}
 use Rattle.bq_core.proofs.ActLemmas.{ignored_now, not_ignored}
 use Rattle.bq_core.proofs.tube_acts.ignore.Goals as goal
 

@@ -1,10 +1,9 @@
 -- Names in order are listed as they are.
 use Rattle.std.proofs.Common.{◌≡◌, ◌∙◌, ◌++◌, List, ℕ, [], ◌∷◌, Bor, ap, sym, codes, flat_map, refl}
-use Rattle.std.specs.Prelude.{IfOk, Result, Ok, Err}
 use Rattle.bq_job.specs.texts.Yaml.{name_line}
 use Rattle.bq_job.proofs.NameOrderLemmas.{stays_fold}
-use Rattle.bq_core.specs.Texts.{names_of}
-use Rattle.bq_core.proofs.TurnLemmas.{ok_weaker}
+use Rattle.bq_state.specs.Names.{names_of}
+use Rattle.bq_state.proofs.PartsLemmas.{ok_weaker}
 use Rattle.bq_core.proofs.texts.names.names_text.Goals as goal
 
 lines_of : (names : List (Bor (List ℕ))) → flat_map (λ (name : Bor (List ℕ)). name_line name.now) names ≡ flat_map name_line (names_of names)

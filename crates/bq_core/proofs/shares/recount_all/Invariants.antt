@@ -1,8 +1,0 @@
--- the tubes of the names so far
-use Rattle.std.proofs.Common.{◌≡◌, take}
-use Rattle.bq_core.specs.Counting.{with_crowds_at_all}
-use Rattle.bq_core.specs.Crowds.{recounted}
-use Rattle.bq_core.proofs.shares.recount_all.Given as goal
-
-abbrev pub invariant-loop-i : goal.invariant-loop-i
-invariant-loop-i l = l.tubes ≡ with_crowds_at_all (take l.i l.names) (recounted l.moving l.share) l.fn.tubes

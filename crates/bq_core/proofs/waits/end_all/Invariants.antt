@@ -1,0 +1,21 @@
+-- what the looks so far gave, and how often they asked
+use Rattle.std.proofs.Common.{◌≤◌, ◌-◌}
+use Rattle.bq_job.specs.beside.Computed.{waiting_count}
+use Rattle.bq_job.specs.machine.Waits.{WaitEndTurn}
+use Rattle.bq_state.specs.Asking.{Asks}
+use Rattle.bq_state.specs.EndingWaits.{AreLookedAt, left_after}
+use Rattle.bq_state.specs.CoreParts.{machine_of}
+use Rattle.bq_core.specs.Turns.{Gives, HasRoom, none_refused}
+use Rattle.bq_core.proofs.waits.end_all.Given as goal
+
+abbrev pub invariant-loop-last : goal.invariant-loop-last
+invariant-loop-last l = record {
+  given : Gives WaitEndTurn none_refused (machine_of l.fn.state) (machine_of l.state) l.fn.outs l.outs;
+  looked : AreLookedAt (machine_of l.state) l.last;
+  fewer : left_after l.last (machine_of l.state) ≤ waiting_count (machine_of l.fn.state);
+  asks : Asks (waiting_count (machine_of l.fn.state) - left_after l.last (machine_of l.state)) l.fn.state.jobs l.state.jobs;
+  room : HasRoom 0 (machine_of l.state) l.outs;
+}
+
+abbrev pub decreases-loop-last : goal.decreases-loop-last
+decreases-loop-last l = left_after l.last (machine_of l.state)

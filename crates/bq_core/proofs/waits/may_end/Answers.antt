@@ -1,0 +1,25 @@
+use Rattle.std.proofs.Common.{◌≡◌, ◌∙◌, ap, false, sym}
+use Rattle.std.specs.List.{list_any}
+use Rattle.bq_jobs.specs.Kept.{Kept}
+use Rattle.bq_state.specs.EndingWaits.{is_lease_short}
+use Rattle.bq_state.specs.CoreParts.{Held, held, machine_held, machine_of}
+use Rattle.bq_core.proofs.FiringLemmas.{nobody_ends, none_ends}
+use Rattle.bq_state.proofs.PartsLemmas.{compared_sound}
+use Rattle.bq_core.proofs.waits.may_end.Goals as goal
+
+pub returns-then-not-has_waiter-clause-none : goal.returns-then-not-has_waiter-clause-none
+returns-then-not-has_waiter-clause-none c _ = nobody_ends (machine_of c.args.state.now) (sym c.if-not-has_waiter.ensures)
+
+pub returns-clause-none : goal.returns-clause-none
+returns-clause-none c none =
+    let m = machine_of c.args.state.now in
+    let soon : list_any (is_lease_short m.moment) m.jobs ≡ false =
+    ap (λ (h : Held). list_any (is_lease_short h.moment) h.jobs.jobs) (sym c.if-is_some_wait_over.ensures.same) ∙ sym c.is_some_deadline_soon.ensures.soon ∙ none in
+    none_ends m (sym c.if-is_some_wait_over.ensures.over) soon
+
+pub returns-clause-same : goal.returns-clause-same
+returns-clause-same c =
+    ap (λ (k : Kept). machine_held (record (held c.is_some_wait_over.new.state) { jobs = k })) c.is_some_deadline_soon.ensures.same ∙ ap machine_held c.if-is_some_wait_over.ensures.same
+
+pub invariant_of-state : goal.invariant_of-state
+invariant_of-state c = record { sound = compared_sound c.is_some_wait_over.new.state _ c.is_some_deadline_soon.ensures.same }

@@ -1,0 +1,26 @@
+use Rattle.std.proofs.Common.{◌∙◌, ap, slice_get, sym, subst, ◌<◌, length}
+use Rattle.std.specs.Prelude.{find}
+use Rattle.bq_job.specs.machine.Changes.{first_of}
+use Rattle.bq_job.specs.machine.Dispatch.{is_wait_before}
+use Rattle.bq_state.specs.EndingWaits.{waits_after}
+use Rattle.bq_state.specs.WaitingTurns.{is_turn_after}
+use Rattle.bq_state.proofs.WalkLemmas.{first_read, next_turn, none_first}
+use Rattle.bq_core.proofs.waits.next_waiting.Goals as goal
+
+pub returns-in-None-clause-least : goal.returns-in-None-clause-least
+returns-in-None-clause-least c =
+    let st = c.args.state.now in
+    none_first (first_of (waits_after c.args.last) is_wait_before st.seats.items)
+    (c.in-None.ensures ∙ ap (find (is_turn_after c.args.last)) c.args.state.now.sound.waiting.turns ∙ next_turn c.args.last st.seats.items c.args.state.now.sound.numbered)
+
+pub returns-in-Some-clause-bound : goal.returns-in-Some-clause-bound
+returns-in-Some-clause-bound c =
+    let st = c.args.state.now in
+    let found = c.in-Some.ensures ∙ ap (find (is_turn_after c.args.last)) c.args.state.now.sound.waiting.turns ∙ next_turn c.args.last st.seats.items c.args.state.now.sound.numbered in
+    subst (λ k. k < length st.seats.items) (sym c.from.ensures) (first_read (waits_after c.args.last) st.seats.items c.args.state.now.sound.numbered c.in-Some.turn found).1
+
+pub returns-in-Some-clause-least : goal.returns-in-Some-clause-least
+returns-in-Some-clause-least c =
+    let st = c.args.state.now in
+    let found = c.in-Some.ensures ∙ ap (find (is_turn_after c.args.last)) c.args.state.now.sound.waiting.turns ∙ next_turn c.args.last st.seats.items c.args.state.now.sound.numbered in
+    ap (slice_get st.seats.items) c.from.ensures ∙ (first_read (waits_after c.args.last) st.seats.items c.args.state.now.sound.numbered c.in-Some.turn found).0

@@ -1,0 +1,193 @@
+//! How waits end: by a timeout, or where a time to run ends soon.
+ghost use Rattle.std.specs.Prelude.{◌≡◌, ◌<◌, ◌+◌, None, Some, true, false, length, slice_get, IfSome, if◌then◌else◌};
+ghost use Rattle.std.specs.List.{list_any};
+ghost use Rattle.bq_job.specs.beside.Computed.{waiting_count};
+ghost use Rattle.bq_job.specs.machine.Changes.{first_of};
+ghost use Rattle.bq_job.specs.machine.Dispatch.{is_wait_before};
+ghost use Rattle.bq_job.specs.machine.Machine.{SeatRecord};
+ghost use Rattle.bq_job.specs.machine.Waits.{WaitEndTurn, is_ending_lease, next_end};
+ghost use Rattle.bq_jobs.specs.Kept.{ComparesAtMost};
+ghost use Rattle.bq_state.specs.Asking.{Asks};
+ghost use Rattle.bq_state.specs.CoreParts.{held, machine_of};
+ghost use Rattle.bq_state.specs.EndingWaits.{AreLookedAt, has_waited, is_lease_short, left_after, may_end};
+ghost use Rattle.bq_state.specs.EndingWaits.{told_at_end, waits_after};
+ghost use Rattle.bq_state.specs.Keeping.{Looks};
+ghost use Rattle.bq_state.specs.Places.{item_at};
+ghost use Rattle.bq_core.specs.Serving.{IsLastTurn};
+ghost use Rattle.bq_core.specs.Turns.{Gives, HasRoom, none_refused};
+ghost use Rattle.bq_core.specs.WaitEnds.{EndsWait, LooksAt};
+
+use bq_job::{Answer, Moment, Seat};
+use bq_jobs::Jobs;
+use bq_state::core_parts::CoreParts;
+use bq_state::known::{self, FirstEnd};
+use bq_state::seats::{SeatChange, Turn};
+use bq_state::{changes, seats};
+use bq_steps::Outs;
+
+// Whether the client at the seat holds a job whose time to run ends within a second.
+fn is_deadline_soon(jobs: &mut Jobs, seat: Seat, moment: Moment) -> bool
+    ensures soon { result ≡ list_any (λ j. is_ending_lease moment seat j.state) jobs.old.jobs }
+    ensures same { jobs.new ≡ record jobs.old { comparisons = jobs.new.comparisons } }
+    ensures comparisons { ComparesAtMost 1 jobs.old jobs.new }
+{
+    let _jobs = jobs.len();
+    match jobs.next_deadline_of(seat) {
+        None => false,
+        Some((deadline, _)) => deadline.saturating_sub(1000) <= moment,
+    }
+}
+
+// Whether the time to run of some reserved job ends within a second.
+fn is_some_deadline_soon(jobs: &mut Jobs, moment: Moment) -> bool
+    ensures soon { result ≡ list_any (is_lease_short moment) jobs.old.jobs }
+    ensures same { jobs.new ≡ record jobs.old { comparisons = jobs.new.comparisons } }
+    ensures comparisons { ComparesAtMost 1 jobs.old jobs.new }
+{
+    let _jobs = jobs.len();
+    match jobs.next_deadline() {
+        None => false,
+        Some((first, _)) => first.saturating_sub(1000) <= moment,
+    }
+}
+
+// What the client at place k, which waits, is told if its wait ends now. Its first lease is asked
+// for once.
+fn told_at_end(state: &mut CoreParts, k: usize) -> Option<Answer>
+    requires seat { k < length state.old.seats.items }
+    ensures told { (s : SeatRecord) → slice_get (machine_of state.old).seats k ≡ Some s
+        → result ≡ told_at_end (machine_of state.old) s }
+    ensures kept { Looks 1 state.old state.new }
+{
+    let number = state.seats[k].number();
+    let is_over = state.seats[k].is_timed_out(state.moment);
+    if is_deadline_soon(&mut state.jobs, number, state.moment) {
+        Some(Answer::DeadlineSoon)
+    } else if is_over {
+        Some(Answer::TimedOut)
+    } else {
+        None
+    }
+}
+
+// The wait of the client at place k ends with this answer.
+fn end_wait(state: &mut CoreParts, outs: &mut Outs, k: usize, answer: Answer)
+    requires seat { k < length state.old.seats.items }
+    requires room { length outs.old.given < outs.old.most }
+    ensures given { EndsWait (machine_of state.old) k answer outs.old outs.new
+        (machine_of state.new) }
+    ensures jobs { state.new.jobs ≡ state.old.jobs }
+{
+    let number = state.seats[k].number();
+    changes::change_seat(state, number, &SeatChange::StopWaiting);
+    outs.push(number, answer);
+}
+
+// The wait of the client at place k, which waits, ends if it does now.
+fn look_at(state: &mut CoreParts, outs: &mut Outs, k: usize)
+    requires seat { k < length state.old.seats.items }
+    requires room { length outs.old.given < outs.old.most }
+    ensures looked { LooksAt (machine_of state.old) k outs.old outs.new (machine_of state.new) }
+    ensures asks { Asks 1 state.old.jobs state.new.jobs }
+{
+    match told_at_end(state, k) {
+        None => {}
+        Some(answer) => end_wait(state, outs, k, answer),
+    }
+}
+
+// The place of the client that has waited longest of those whose turn comes after the last one.
+fn next_waiting(state: &CoreParts, last: Option<Turn>) -> Option<usize>
+    ensures bound { IfSome result (λ k. k < length state.now.seats.items) }
+    ensures least { item_at state.now.seats.items result
+        ≡ first_of (waits_after last) is_wait_before state.now.seats.items }
+{
+    match state.waiting.next_after(last) {
+        None => None,
+        Some(turn) => Some(usize::from(turn.1)),
+    }
+}
+
+// Looks at the next waiting client after the last one that was looked at, if there is one.
+fn turn(state: &mut CoreParts, outs: &mut Outs, last: &mut Option<Turn>) -> bool
+    requires looked { AreLookedAt (machine_of state.old) last.old }
+    requires room { HasRoom 0 (machine_of state.old) outs.old }
+    ensures done { result ≡ false
+        → IsLastTurn (next_end (machine_of state.old)) state.old state.new outs.old outs.new }
+    ensures given { result ≡ true
+        → Gives WaitEndTurn none_refused (machine_of state.old)
+        (machine_of state.new) outs.old outs.new }
+    ensures looked { result ≡ true → AreLookedAt (machine_of state.new) last.new }
+    ensures fewer { result ≡ true
+        → left_after last.new (machine_of state.new) < left_after last.old (machine_of state.old) }
+    ensures asks { Asks (if result then 1 else 0) state.old.jobs state.new.jobs }
+{
+    let Some(k) = next_waiting(state, *last) else {
+        return false;
+    };
+    *last = Some(state.seats[k].turn());
+    look_at(state, outs, k);
+    true
+}
+
+// The waits that end now end, where there may be some. Each waiting client is looked at once, in
+// the order of tickets.
+fn end_all(state: &mut CoreParts, outs: &mut Outs)
+    requires room { HasRoom 0 (machine_of state.old) outs.old }
+    ensures given { Gives WaitEndTurn none_refused
+        (machine_of state.old) (machine_of state.new) outs.old outs.new }
+    ensures done { next_end (machine_of state.new) ≡ None }
+    ensures asks { Asks (waiting_count (machine_of state.old)) state.old.jobs state.new.jobs }
+{
+    let mut last = None;
+    while turn(state, outs, &mut last) {}
+}
+
+// Whether some wait is over by its timeout, or because its client sends no more.
+#[tactic(auto, using(bq_state::proofs::FirstEndLemmas::over_known))]
+fn is_some_wait_over(state: &mut CoreParts) -> bool
+    ensures over { result ≡ list_any (has_waited state.old.moment) state.old.seats.items }
+    ensures same { held state.new
+        ≡ record (held state.old) { known = record state.old.known { first_end = state.new.known.first_end } } }
+{
+    changes::find_first_end(state);
+    match &state.known.first_end {
+        FirstEnd::Known(first) => known::is_over(*first, state.moment),
+        FirstEnd::Unknown => seats::is_some_wait_over(
+            state.seats.as_slice(),
+            state.waiting.as_slice(),
+            state.moment,
+        ),
+    }
+}
+
+// Whether some wait may end now: a time to run ends within a second, or a timeout has come. Where
+// nobody waits, no shelf is asked.
+fn may_end(state: &mut CoreParts) -> bool
+    ensures none { result ≡ false → next_end (machine_of state.old) ≡ None }
+    ensures some { result ≡ may_end (machine_of state.old) }
+    ensures same { machine_of state.new ≡ machine_of state.old }
+    ensures asks { Asks 1 state.old.jobs state.new.jobs }
+{
+    if !state.has_waiter() {
+        return false;
+    }
+    if is_some_wait_over(state) {
+        return true;
+    }
+    is_some_deadline_soon(&mut state.jobs, state.moment)
+}
+
+/// The waits that end now end, the longest one first.
+#[tactic(auto, using(crate::proofs::TurnLemmas::gives_nothing))]
+pub(crate) fn end_waits(state: &mut CoreParts, outs: &mut Outs)
+    requires room { HasRoom 0 (machine_of state.old) outs.old }
+    ensures given { Gives WaitEndTurn none_refused
+        (machine_of state.old) (machine_of state.new) outs.old outs.new }
+    ensures done { next_end (machine_of state.new) ≡ None }
+    ensures asks { Asks (waiting_count (machine_of state.old) + 1) state.old.jobs state.new.jobs }
+{
+    if may_end(state) {
+        end_all(state, outs);
+    }
+}

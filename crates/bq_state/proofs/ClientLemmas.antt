@@ -1,0 +1,173 @@
+-- Counts of seats, once one seat changes.
+use Rattle.std.proofs.Common.{◌≡◌, ◌∙◌, ◌+◌, ◌≤◌, ◌<◌, ◌==◌, ℕ, suc, Bool, true, false, cond, not, List, [], ◌∷◌, Some, if◌then◌else◌, refl, sym, ap, arith, length, map, filter, set, slice_get, inl, inr}
+use Rattle.std.specs.Prelude.{count_by, nat_lt}
+use Rattle.std.specs.List.{list_any}
+use Rattle.std.proofs.lemmas.Bool.{cases_Bool, eqb-true, lt-ltb, ne_eqb}
+use Rattle.std.proofs.lemmas.List.{length-map}
+use Rattle.std.proofs.lemmas.List.Sums.{count_by-le-length}
+use Rattle.bq_job.specs.machine.Changes.{is_waiting, seat_with}
+use Rattle.bq_job.specs.machine.Limits.{greatest}
+use Rattle.bq_job.specs.machine.Machine.{SeatRecord, empty_seat, numbers}
+use Rattle.bq_job.specs.machine.TubeCommands.{watching}
+use Rattle.bq_job.proofs.ListLemmas.{count_cons}
+use Rattle.bq_state.specs.declared.known.Clients.{Clients}
+use Rattle.bq_state.specs.declared.seats.SeatChange.{SeatChange}
+use Rattle.bq_state.specs.Clients.{clients_of, clients_with, clients_without, seat_passes}
+use Rattle.bq_state.specs.SeatChanges.{AreNumbered, seat_changed, seat_changed_at}
+use Rattle.bq_state.specs.Tallies.{count_with, count_without}
+use Rattle.bq_state.proofs.PartsLemmas.{changed_there, number_kept}
+use Rattle.bq_state.proofs.TallyLemmas.{with_is, without_is}
+
+-- all seats but that of the number
+abbrev pub others : ℕ → List SeatRecord → List SeatRecord
+others n seats = filter (λ s. not (s.number == n)) seats
+
+-- the first seat's number, and those of the others
+pub heads : (low : ℕ) (s : SeatRecord) (seats : List SeatRecord) → map (λ s. s.number) (s ∷ seats) ≡ numbers low (length (s ∷ seats))
+    → (s.number ≡ low) × (map (λ s. s.number) seats ≡ numbers (suc low) (length seats))
+heads low s seats h = (cc, cc)
+
+pub all_others : (n high : ℕ) (seats : List SeatRecord) → n < high → map (λ s. s.number) seats ≡ numbers high (length seats) → others n seats ≡ seats
+all_others n high [] less h = refl
+all_others n high (s ∷ seats) less h =
+    let parts = heads high s seats h in
+    let other : (s.number == n) ≡ false = ne_eqb s.number n (λ e. absurd (let a = parts.0 in omega arith)) in
+    rw other (ap (λ ts. s ∷ ts) (all_others n (suc high) seats (omega arith) parts.1))
+
+-- a change of the seat of a number leaves the others
+pub others_left : (n : ℕ) (f : SeatRecord → SeatRecord) → ((s : SeatRecord) → (f s).number ≡ s.number) → (seats : List SeatRecord)
+    → others n (map (λ s. if s.number == n then f s else s) seats) ≡ others n seats
+others_left n f keeps [] = refl
+others_left n f keeps (s ∷ seats) =
+    elim (cases_Bool (s.number == n)) [
+      | inl e ↦
+          let same : ((f s).number == n) ≡ true = ap (λ k. k == n) (keeps s) ∙ e in
+          rw (e, same) (others_left n f keeps seats)
+      | inr e ↦ rw (e, e) (ap (λ ts. s ∷ ts) (others_left n f keeps seats))
+    ]
+
+no_more : (n : ℕ) → 0 + n ≡ n
+no_more n = omega arith
+
+module _ (p : SeatRecord → Bool) where
+  -- those that pass are the seat of a number, if it does, and others
+  parted : (n low : ℕ) (seats : List SeatRecord) → map (λ s. s.number) seats ≡ numbers low (length seats)
+      → cond (seat_passes p (seat_with n seats)) 1 0 + count_by p (others n seats) ≡ count_by p seats
+  parted n low [] h = refl
+  parted n low (s ∷ seats) h =
+      let parts = heads low s seats h in
+      elim (cases_Bool (s.number == n)) [
+        | inl e ↦
+            let at : s.number ≡ n = eqb-true s.number n e in
+            let rest = all_others n (suc low) seats (let a = parts.0 in omega arith) parts.1 in
+            rw e (ap (λ ts. cond (p s) 1 0 + count_by p ts) rest ∙ sym (count_cons p s seats))
+        | inr e ↦
+            let rest = parted n (suc low) seats parts.1 in
+            let one = count_cons p s (others n seats) in
+            let all = count_cons p s seats in
+            rw e (omega (arith, rest, one, all))
+      ]
+
+  -- the count of those that pass, once the seat of a number is changed
+  count_moved : (n : ℕ) (f : SeatRecord → SeatRecord) → ((s : SeatRecord) → (f s).number ≡ s.number) → (seats : List SeatRecord)
+      → AreNumbered seats → AreNumbered (map (λ s. if s.number == n then f s else s) seats) → length seats ≤ greatest
+      → count_with (seat_passes p (seat_with n (map (λ s. if s.number == n then f s else s) seats))) (count_without (seat_passes p (seat_with n seats)) (count_by p seats))
+      ≡ count_by p (map (λ s. if s.number == n then f s else s) seats)
+  count_moved n f keeps seats h h' fits =
+      let g = λ (s : SeatRecord). if s.number == n then f s else s in
+      let new = map g seats in
+      let rest = count_by p (others n seats) in
+      let was = without_is (seat_passes p (seat_with n seats)) (count_by p seats) rest (parted n 0 seats h) in
+      let is : cond (seat_passes p (seat_with n new)) 1 0 + rest ≡ count_by p new =
+      ap (λ ts. cond (seat_passes p (seat_with n new)) 1 0 + count_by p ts) (sym (others_left n f keeps seats)) ∙ parted n 0 new h' in
+      let few = count_by-le-length p new in
+      let many = length-map seats g in
+      ap (count_with (seat_passes p (seat_with n new))) was ∙ with_is (seat_passes p (seat_with n new)) rest (omega (arith, is, few, many, fits)) ∙ is
+
+  -- where a change makes no difference, the count stays
+  pub count_stays : (f : SeatRecord → SeatRecord) → ((s : SeatRecord) → p (f s) ≡ p s) → (seats : List SeatRecord) → count_by p (map f seats) ≡ count_by p seats
+  count_stays f same [] = refl
+  count_stays f same (s ∷ seats) =
+      count_cons p (f s) (map f seats)
+      ∙ (λ i. cond (same s i) 1 0 + count_stays f same seats i)
+      ∙ sym (count_cons p s seats)
+
+  -- one is counted where there is one
+  pub some_pass : (seats : List SeatRecord) → nat_lt 0 (count_by p seats) ≡ list_any p seats
+  some_pass [] = refl
+  some_pass (s ∷ seats) =
+      ap (nat_lt 0) (count_cons p s seats)
+      ∙ elim (cases_Bool (p s)) [
+        | inl e ↦ rw e (lt-ltb 0 (1 + count_by p seats) (omega arith))
+        | inr e ↦ rw e (ap (nat_lt 0) (no_more (count_by p seats)) ∙ some_pass seats)
+      ]
+
+-- the seat of a number, once it is changed
+pub found_changed : (n : ℕ) (f : SeatRecord → SeatRecord) → ((s : SeatRecord) → (f s).number ≡ s.number) → (s : SeatRecord) (seats : List SeatRecord)
+    → seat_with n seats ≡ Some s → seat_with n (map (λ t. if t.number == n then f t else t) seats) ≡ Some (f s)
+found_changed n f keeps s [] found = absurd cc
+found_changed n f keeps s (t ∷ seats) found =
+    elim (cases_Bool (t.number == n)) [
+      | inl e ↦
+          let here : Some t ≡ Some s = rw e at found in
+          let one : t ≡ s = cc in
+          let same : ((f t).number == n) ≡ true = ap (λ k. k == n) (keeps t) ∙ e in
+          rw (e, same) (ap (λ u. Some (f u)) one)
+      | inr e ↦ let rest : seat_with n seats ≡ Some s = rw e at found in rw (e, e) (found_changed n f keeps s seats rest)
+    ]
+
+-- the count of seats that pass, once the seat of a number is changed that is known
+pub count_changed : (p : SeatRecord → Bool) (n : ℕ) (f : SeatRecord → SeatRecord) → ((s : SeatRecord) → (f s).number ≡ s.number) → (s : SeatRecord) (seats : List SeatRecord)
+    → AreNumbered seats → AreNumbered (map (λ s. if s.number == n then f s else s) seats) → length seats ≤ greatest → seat_with n seats ≡ Some s
+    → count_with (p (f s)) (count_without (p s) (count_by p seats)) ≡ count_by p (map (λ s. if s.number == n then f s else s) seats)
+count_changed p n f keeps s seats h h' fits found =
+    (λ i. count_with (seat_passes p (sym (found_changed n f keeps s seats found) i)) (count_without (seat_passes p (sym found i)) (count_by p seats)))
+    ∙ count_moved p n f keeps seats h h' fits
+
+-- and where that seat passes as before
+pub count_unchanged : (p : SeatRecord → Bool) (n : ℕ) (f : SeatRecord → SeatRecord) → ((s : SeatRecord) → (f s).number ≡ s.number) → (s : SeatRecord) (seats : List SeatRecord)
+    → AreNumbered seats → AreNumbered (map (λ s. if s.number == n then f s else s) seats) → seat_with n seats ≡ Some s → p (f s) ≡ p s
+    → count_by p (map (λ s. if s.number == n then f s else s) seats) ≡ count_by p seats
+count_unchanged p n f keeps s seats h h' found same =
+    let new = map (λ t. if t.number == n then f t else t) seats in
+    let there : seat_passes p (seat_with n new) ≡ p (f s) = ap (seat_passes p) (found_changed n f keeps s seats found) in
+    let was : seat_passes p (seat_with n seats) ≡ p s = ap (seat_passes p) found in
+    sym (parted p n 0 new h')
+    ∙ (λ i. cond ((there ∙ same ∙ sym was) i) 1 0 + count_by p (others_left n f keeps seats i))
+    ∙ parted p n 0 seats h
+
+-- How many clients there are, once the seat of a number is changed,
+pub clients_moved : (n : ℕ) (what : SeatChange) (seats : List SeatRecord) → AreNumbered seats → AreNumbered (map (seat_changed_at n what) seats) → length seats ≤ greatest
+    → clients_with (seat_with n (map (seat_changed_at n what) seats)) (clients_without (seat_with n seats) (clients_of seats)) ≡ clients_of (map (seat_changed_at n what) seats)
+clients_moved n what seats h h' fits = λ i. record {
+  connected = count_moved (λ s. s.connected) n (seat_changed what) (number_kept what) seats h h' fits i;
+  waiting = count_moved is_waiting n (seat_changed what) (number_kept what) seats h h' fits i;
+}
+
+same_passes : (p : SeatRecord → Bool) (b : Bool) (x s : SeatRecord) → p x ≡ p s → p (if b then x else s) ≡ p s
+same_passes p true x s h = h
+same_passes p false x s h = refl
+
+-- and once it watches other tubes
+pub clients_watching : (names : List (List ℕ)) (i : ℕ) (s : SeatRecord) (seats : List SeatRecord) → slice_get seats i ≡ Some s → AreNumbered seats
+    → clients_of (set seats i (watching names s)) ≡ clients_of seats
+clients_watching names i s seats found h =
+    ap clients_of (sym (changed_there seats i s (watching names) h found))
+    ∙ λ k. record {
+      connected = count_stays (λ s. s.connected) f (λ t. same_passes (λ s. s.connected) (t.number == i) (watching names t) t refl) seats k;
+      waiting = count_stays is_waiting f (λ t. same_passes is_waiting (t.number == i) (watching names t) t refl) seats k;
+    }
+  where
+    f : SeatRecord → SeatRecord
+    f t = if t.number == i then watching names t else t
+
+-- at the start there is none
+nobody : (p : SeatRecord → Bool) → ((n : ℕ) → p (empty_seat n) ≡ false) → (ns : List ℕ) → count_by p (map empty_seat ns) ≡ 0
+nobody p none [] = refl
+nobody p none (n ∷ ns) = count_cons p (empty_seat n) (map empty_seat ns) ∙ (λ i. cond (none n i) 1 0 + nobody p none ns i)
+
+pub first_clients : (c : Clients) → (c.connected ≡ 0) × (c.waiting ≡ 0) → (ns : List ℕ) → c ≡ clients_of (map empty_seat ns)
+first_clients c zero ns = λ i. record {
+  connected = (zero.0 ∙ sym (nobody (λ s. s.connected) (λ n. refl) ns)) i;
+  waiting = (zero.1 ∙ sym (nobody is_waiting (λ n. refl) ns)) i;
+}

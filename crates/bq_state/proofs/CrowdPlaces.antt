@@ -1,0 +1,177 @@
+-- The counts of the clients at tubes stand at the places of their entries.
+use Rattle.std.proofs.Common.{◌≡◌, ◌∙◌, ◌||◌, ◌++◌, ℕ, Bool, true, false, ◌&&◌, List, [], ◌∷◌, refl, sym, ap, map, inl, inr}
+use Rattle.std.specs.Prelude.{count_by, drop, nat_lt, take}
+use Rattle.std.proofs.lemmas.List.{drop-map, map-append, take-map}
+use Rattle.std.specs.List.{AllByRecursion as All, insert, list_any, prefix_len}
+use Rattle.std.proofs.lemmas.Bool.{cases_Bool}
+use Rattle.bq_job.specs.declared.job.Job.{Job}
+use Rattle.bq_job.specs.machine.Changes.{is_waiting}
+use Rattle.bq_job.specs.machine.Machine.{SeatRecord, TubeRecord, default_tube, empty_seat}
+use Rattle.bq_job.specs.reading.TubeName.{is_same_name}
+use Rattle.bq_job.specs.machine.Tubes.{fresh_tube, is_name_before, is_seated_at, watches}
+use Rattle.bq_job.proofs.ListLemmas.{all_weaker, count_all_not, list_any_not, none_pass}
+use Rattle.bq_state.specs.declared.known.Clients.{Clients}
+use Rattle.bq_state.specs.declared.tubes.entry.Crowd.{Crowd}
+use Rattle.bq_state.specs.declared.known.Tally.{Tally}
+use Rattle.bq_state.specs.Clients.{clients_of}
+use Rattle.bq_state.specs.Crowds.{AreCrowds, IsSeated, crowd_at, crowd_in, crowd_of, crowds_of, crowds_provided, has_seats, is_user, is_waiter, is_watcher, no_crowd}
+use Rattle.bq_state.specs.Tallies.{has_jobs, tallies_of, tally_at}
+use Rattle.bq_state.specs.TubeEntries.{AreEntries, HasTubes, has_entry, is_tube_by, is_tube_of, provided}
+use Rattle.bq_state.proofs.ClientLemmas.{some_pass}
+use Rattle.bq_state.proofs.CrowdLemmas.{has_seats_of}
+use Rattle.bq_state.proofs.TallyPlaces.{has_jobs_in, tally_there}
+use Rattle.bq_state.proofs.TubeLemmas.{provided_new, same_name}
+
+-- counts of 0
+pub nobody_counted : (c : Crowd) → (c.using ≡ 0) × ((c.watching ≡ 0) × (c.waiting ≡ 0)) → c ≡ no_crowd
+nobody_counted c e = λ i. record { using = e.0 i; watching = e.1.0 i; waiting = e.1.1 i }
+
+-- no client is at a tube without an entry
+module _ (name : List ℕ) (es : List TubeRecord) (missing : has_entry name es ≡ false) where
+  at_none : (names : List (List ℕ)) → All (λ n. has_entry n es ≡ true) names → list_any (is_same_name name) names ≡ false
+  at_none [] all = refl
+  at_none (n ∷ names) all = go (is_same_name name n) refl (at_none names all.1)
+    where
+      go : (b : Bool) → is_same_name name n ≡ b → list_any (is_same_name name) names ≡ false → b || list_any (is_same_name name) names ≡ false
+      go true e rest = absurd (let there : has_entry name es ≡ true = ap (λ m. has_entry m es) (same_name name n e) ∙ all.0 in cc)
+      go false e rest = rest
+
+  not_using : (s : SeatRecord) → HasTubes es s → is_user name s ≡ false
+  not_using s has = go s.connected refl (is_same_name name s.used) refl
+    where
+      go : (c : Bool) → s.connected ≡ c → (b : Bool) → is_same_name name s.used ≡ b → c && b ≡ false
+      go true is true e = absurd (let there : has_entry name es ≡ true = ap (λ m. has_entry m es) (same_name name s.used e) ∙ has.used is in cc)
+      go true is false e = refl
+      go false is b e = refl
+
+  not_watching : (s : SeatRecord) → HasTubes es s → is_watcher name s ≡ false
+  not_watching s has = go s.connected refl
+    where
+      go : (c : Bool) → s.connected ≡ c → c && watches name s ≡ false
+      go true is = at_none s.watched (has.watched is)
+      go false is = refl
+
+  not_waiting : (s : SeatRecord) → HasTubes es s → IsSeated s → is_waiter name s ≡ false
+  not_waiting s has is = go (is_waiting s) refl
+    where
+      go : (w : Bool) → is_waiting s ≡ w → w && watches name s ≡ false
+      go true waits = at_none s.watched (has.watched (is.waits waits))
+      go false waits = refl
+
+  none_of : (seats : List SeatRecord) → All (HasTubes es) seats → All IsSeated seats
+      → All (λ s. is_user name s ≡ false) seats × (All (λ s. is_watcher name s ≡ false) seats × All (λ s. is_waiter name s ≡ false) seats)
+  none_of [] has is = (tt, (tt, tt))
+  none_of (s ∷ seats) has is =
+      let rest = none_of seats has.1 is.1 in
+      ((not_using s has.0, rest.0), ((not_watching s has.0, rest.1.0), (not_waiting s has.0 is.0, rest.1.1)))
+
+  pub nobody_there : (seats : List SeatRecord) → All (HasTubes es) seats → All IsSeated seats → crowd_of seats name ≡ no_crowd
+  nobody_there seats has is =
+      let none = none_of seats has is in
+      nobody_counted (crowd_of seats name)
+      (count_all_not (is_user name) seats none.0, (count_all_not (is_watcher name) seats none.1.0, count_all_not (is_waiter name) seats none.1.1))
+
+-- what stands beside the entries, once one comes
+inserted_beside : {A : Type 0} (f : TubeRecord → A) (es : List TubeRecord) (n : ℕ) (x : TubeRecord) → insert (map f es) n (f x) ≡ map f (insert es n x)
+inserted_beside f es n x =
+    ap (λ ts. ts ++ f x ∷ drop n (map f es)) (take-map f n es) ∙ ap (λ ts. map f (take n es) ++ f x ∷ ts) (drop-map f n es) ∙ sym (map-append f (take n es) (x ∷ drop n es))
+
+-- a tube gets an entry
+pub crowds_of_provided : (name : List ℕ) (crowds : List Crowd) (seats : List SeatRecord) (es : List TubeRecord) → All (HasTubes es) seats
+    → AreCrowds crowds seats es → AreCrowds (crowds_provided name es crowds) seats (provided name es)
+crowds_of_provided name crowds seats es has was = record { each = ap (crowds_provided name es) was.each ∙ go (has_entry name es) refl; seated = was.seated }
+  where
+    go : (b : Bool) → has_entry name es ≡ b → crowds_provided name es (crowds_of seats es) ≡ crowds_of seats (provided name es)
+    go true e = rw e refl
+    go false e =
+        let n = prefix_len (λ t. is_name_before t.name name) es in
+        let put : crowds_provided name es (crowds_of seats es) ≡ insert (crowds_of seats es) n no_crowd = rw e refl in
+        put
+        ∙ ap (insert (crowds_of seats es) n) (sym (nobody_there name es e seats has was.seated))
+        ∙ inserted_beside (crowd_in seats) es n (fresh_tube name)
+        ∙ ap (crowds_of seats) (provided_new name es e)
+
+-- an entry changes but for its name
+pub crowds_kept : (f : TubeRecord → TubeRecord) → ((t : TubeRecord) → (f t).name ≡ t.name) → (crowds : List Crowd) (seats : List SeatRecord) (es : List TubeRecord)
+    → AreCrowds crowds seats es → AreCrowds crowds seats (map f es)
+crowds_kept f same crowds seats es was = record { each = was.each ∙ stay es; seated = was.seated }
+  where
+    stay : (es : List TubeRecord) → crowds_of seats es ≡ crowds_of seats (map f es)
+    stay [] = refl
+    stay (t ∷ es) = λ i. crowd_of seats (sym (same t) i) ∷ stay es i
+
+-- The counts that stand at a name are those of its clients.
+pub named_crowd : (name : List ℕ) (g : List ℕ → Crowd) (es : List TubeRecord) → has_entry name es ≡ true → crowd_at name es (map (λ t. g t.name) es) ≡ g name
+named_crowd name g [] h = absurd cc
+named_crowd name g (t ∷ es) h =
+    elim (cases_Bool (is_same_name name t.name)) [
+      | inl e ↦ rw e (ap g (sym (same_name name t.name e)))
+      | inr e ↦ rw e (named_crowd name g es (rw e at h))
+    ]
+
+crowd_missing : (name : List ℕ) (seats : List SeatRecord) (es : List TubeRecord) → has_entry name es ≡ false → crowd_at name es (crowds_of seats es) ≡ no_crowd
+crowd_missing name seats [] h = refl
+crowd_missing name seats (t ∷ es) h =
+    elim (cases_Bool (is_same_name name t.name)) [
+      | inl e ↦ absurd (let g = rw e at h in cc)
+      | inr e ↦ rw e (crowd_missing name seats es (rw e at h))
+    ]
+
+pub crowd_there : (name : List ℕ) (crowds : List Crowd) (seats : List SeatRecord) (es : List TubeRecord) → All (HasTubes es) seats → AreCrowds crowds seats es
+    → crowd_at name es crowds ≡ crowd_of seats name
+crowd_there name crowds seats es has was = ap (crowd_at name es) was.each ∙ go (has_entry name es) refl
+  where
+    go : (b : Bool) → has_entry name es ≡ b → crowd_at name es (crowds_of seats es) ≡ crowd_of seats name
+    go true e = named_crowd name (crowd_of seats) es e
+    go false e = crowd_missing name seats es e ∙ sym (nobody_there name es e seats has was.seated)
+
+-- Who waits at a tube is counted.
+pub waiters_counted : (name : List ℕ) (clients : Clients) (crowds : List Crowd) (seats : List SeatRecord) (entries : List TubeRecord) → All (HasTubes entries) seats → AreCrowds crowds seats entries → clients ≡ clients_of seats
+    → (nat_lt 0 clients.waiting && nat_lt 0 (crowd_at name entries crowds).waiting) ≡ list_any (is_waiter name) seats
+waiters_counted name clients crowds seats entries of_seats are is =
+    let at : nat_lt 0 (crowd_at name entries crowds).waiting ≡ list_any (is_waiter name) seats =
+    ap (λ (k : Crowd). nat_lt 0 k.waiting) (crowd_there name crowds seats entries of_seats are) ∙ some_pass (is_waiter name) seats in
+    let any : nat_lt 0 clients.waiting ≡ list_any is_waiting seats = ap (λ (n : Clients). nat_lt 0 n.waiting) is ∙ some_pass is_waiting seats in
+    elim (cases_Bool (list_any is_waiting seats)) [
+      | inl e ↦ ap (λ b. b && nat_lt 0 (crowd_at name entries crowds).waiting) (any ∙ e) ∙ at
+      | inr e ↦
+          ap (λ b. b && nat_lt 0 (crowd_at name entries crowds).waiting) (any ∙ e)
+          ∙ sym (list_any_not (is_waiter name) seats (all_weaker (λ s. is_waiting s ≡ false) (λ s. is_waiter name s ≡ false) seats (λ s h. nor (is_waiting s) (watches name s) h) (none_pass is_waiting seats e)))
+    ]
+  where
+    nor : (w n : Bool) → w ≡ false → (w && n) ≡ false
+    nor true n h = absurd cc
+    nor false n h = h
+
+-- Whether a tube has jobs is told by the count of them.
+pub jobs_there : (name : List ℕ) (tallies : List Tally) (jobs : List Job) (es : List TubeRecord) → All (λ j. has_entry j.tube es ≡ true) jobs
+    → tallies ≡ tallies_of jobs es → has_jobs (tally_at name es tallies) ≡ list_any (λ j. is_same_name name j.tube) jobs
+jobs_there name tallies jobs es of_jobs counted = ap has_jobs (ap (tally_at name es) counted ∙ tally_there name jobs es of_jobs) ∙ has_jobs_in name jobs
+
+-- Whether a tube exists is told by its counts.
+pub exists_by_counts : (jobs : List Job) (seats : List SeatRecord) (name : List ℕ) (some seated : Bool) → some ≡ list_any (λ j. is_same_name name j.tube) jobs → seated ≡ list_any (is_seated_at name) seats
+    → is_tube_by some seated name ≡ is_tube_of jobs seats name
+exists_by_counts jobs seats name some seated e f = λ i. is_tube_by (e i) (f i) name
+
+pub tube_there : (name : List ℕ) (tallies : List Tally) (crowds : List Crowd) (jobs : List Job) (seats : List SeatRecord) (es : List TubeRecord) → AreEntries jobs seats es
+    → tallies ≡ tallies_of jobs es → AreCrowds crowds seats es
+    → is_tube_by (has_jobs (tally_at name es tallies)) (has_seats (crowd_at name es crowds)) name ≡ is_tube_of jobs seats name
+tube_there name tallies crowds jobs seats es entries counted was =
+    exists_by_counts jobs seats name _ _
+    (jobs_there name tallies jobs es entries.of_jobs counted)
+    (ap has_seats (crowd_there name crowds seats es entries.of_seats was) ∙ has_seats_of seats name)
+
+-- at the start nobody is there
+pub first_crowds : (ns : List ℕ) → AreCrowds (no_crowd ∷ []) (map empty_seat ns) (fresh_tube default_tube ∷ [])
+first_crowds ns = record { each = (λ i. sym (nobody_counted (crowd_of (map empty_seat ns) default_tube) (none (is_user default_tube) (λ n. refl) ns, (none (is_watcher default_tube) (λ n. refl) ns, none (is_waiter default_tube) (λ n. refl) ns))) i ∷ []); seated = all_seated ns }
+  where
+    passes : (p : SeatRecord → Bool) → ((n : ℕ) → p (empty_seat n) ≡ false) → (ns : List ℕ) → All (λ s. p s ≡ false) (map empty_seat ns)
+    passes p fails [] = tt
+    passes p fails (n ∷ ns) = (fails n, passes p fails ns)
+
+    none : (p : SeatRecord → Bool) → ((n : ℕ) → p (empty_seat n) ≡ false) → (ns : List ℕ) → count_by p (map empty_seat ns) ≡ 0
+    none p fails ns = count_all_not p (map empty_seat ns) (passes p fails ns)
+
+    all_seated : (ns : List ℕ) → All IsSeated (map empty_seat ns)
+    all_seated [] = tt
+    all_seated (n ∷ ns) = (record { waits = λ e. absurd cc; once = refl }, all_seated ns)

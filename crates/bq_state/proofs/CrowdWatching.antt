@@ -1,0 +1,200 @@
+-- Counts of the clients at tubes, once a client watches a tube more, or one fewer.
+use Rattle.std.proofs.Common.{◌≡◌, ◌∙◌, ◌≤◌, ◌==◌, ℕ, Bool, true, false, not, ◌&&◌, ◌||◌, List, [], ◌∷◌, ◌++◌, Some, if◌then◌else◌, refl, sym, ap, length, map, filter, set, slice_get}
+use Rattle.std.proofs.Math.Bool.{and-false, or-false}
+use Rattle.std.specs.Prelude.{count_by}
+use Rattle.std.specs.List.{list_any}
+use Rattle.std.proofs.lemmas.Bool.{and_from, and_parts}
+use Rattle.bq_job.specs.machine.Changes.{is_waiting}
+use Rattle.bq_job.specs.beside.Lawful.{none_twice}
+use Rattle.bq_job.specs.machine.Limits.{greatest}
+use Rattle.bq_job.specs.machine.Machine.{SeatRecord, TubeRecord}
+use Rattle.bq_job.specs.machine.TubeCommands.{watching}
+use Rattle.bq_job.specs.reading.TubeName.{is_same_name}
+use Rattle.bq_job.specs.machine.Tubes.{watches}
+use Rattle.bq_state.specs.declared.tubes.entry.Crowd.{Crowd}
+use Rattle.bq_state.specs.Crowds.{AreCrowds, IsSeated, crowd_in, crowd_of, crowd_with, crowd_without, crowds_at, is_user, is_waiter, is_watcher, share_of_watcher, share_of_watching}
+use Rattle.bq_state.specs.SeatChanges.{AreNumbered}
+use Rattle.bq_state.specs.Tallies.{count_with, count_without}
+use Rattle.bq_state.specs.TubeEntries.{AreInOrder}
+use Rattle.bq_state.proofs.ClientLemmas.{count_changed, count_unchanged}
+use Rattle.bq_state.proofs.CrowdLemmas.{at_named, map_same, same_turned}
+use Rattle.bq_state.proofs.PartsLemmas.{all_read, all_set, changed_there, seat_read, watching_numbered}
+use Rattle.bq_state.proofs.TubeLemmas.{same_name}
+
+-- Names of which none stands twice: one more that isn't there,
+any_with : (name more : List ℕ) (names : List (List ℕ)) → list_any (is_same_name name) (names ++ more ∷ []) ≡ list_any (is_same_name name) names || is_same_name name more
+any_with name more [] = or-false (is_same_name name more)
+any_with name more (n ∷ names) = go (is_same_name name n) (any_with name more names)
+  where
+    go : (b : Bool) → list_any (is_same_name name) (names ++ more ∷ []) ≡ list_any (is_same_name name) names || is_same_name name more
+        → (b || list_any (is_same_name name) (names ++ more ∷ [])) ≡ (b || list_any (is_same_name name) names) || is_same_name name more
+    go true rest = refl
+    go false rest = rest
+
+not_false : (b : Bool) → b ≡ false → not b ≡ true
+not_false true h = absurd cc
+not_false false h = refl
+
+not_true : (b : Bool) → not b ≡ true → b ≡ false
+not_true true h = absurd cc
+not_true false h = refl
+
+neither : (a b : Bool) → a || b ≡ false → (a ≡ false) × (b ≡ false)
+neither true b h = absurd cc
+neither false b h = (refl, h)
+
+once_more : (more : List ℕ) (names : List (List ℕ)) → list_any (is_same_name more) names ≡ false → none_twice names ≡ true → none_twice (names ++ more ∷ []) ≡ true
+once_more more [] none once = refl
+once_more more (n ∷ names) none once =
+    let apart = neither (is_same_name more n) (list_any (is_same_name more) names) none in
+    let parts = and_parts (not (list_any (is_same_name n) names)) (none_twice names) once in
+    let first = not_true (list_any (is_same_name n) names) parts.0 in
+    let other : is_same_name n more ≡ false = same_turned n more ∙ apart.0 in
+    let fresh : list_any (is_same_name n) (names ++ more ∷ []) ≡ false = any_with n more names ∙ ap (λ b. b || is_same_name n more) first ∙ other in
+    and_from (not (list_any (is_same_name n) (names ++ more ∷ []))) (none_twice (names ++ more ∷ [])) (not_false _ fresh) (once_more more names apart.1 parts.1)
+
+-- or one fewer.
+any_fewer : (q : List ℕ → Bool) (name : List ℕ) (names : List (List ℕ)) → list_any (is_same_name name) names ≡ false → list_any (is_same_name name) (filter q names) ≡ false
+any_fewer q name [] none = refl
+any_fewer q name (n ∷ names) none =
+    let apart = neither (is_same_name name n) (list_any (is_same_name name) names) none in
+    go (q n) apart.0 (any_fewer q name names apart.1)
+  where
+    go : (b : Bool) → is_same_name name n ≡ false → list_any (is_same_name name) (filter q names) ≡ false → list_any (is_same_name name) (if b then n ∷ filter q names else filter q names) ≡ false
+    go true e rest = (λ i. e i || list_any (is_same_name name) (filter q names)) ∙ rest
+    go false e rest = rest
+
+once_fewer : (q : List ℕ → Bool) (names : List (List ℕ)) → none_twice names ≡ true → none_twice (filter q names) ≡ true
+once_fewer q [] once = refl
+once_fewer q (n ∷ names) once =
+    let parts = and_parts (not (list_any (is_same_name n) names)) (none_twice names) once in
+    go (q n) (not_true (list_any (is_same_name n) names) parts.0) (once_fewer q names parts.1)
+  where
+    go : (b : Bool) → list_any (is_same_name n) names ≡ false → none_twice (filter q names) ≡ true → none_twice (if b then n ∷ filter q names else filter q names) ≡ true
+    go true e rest = and_from (not (list_any (is_same_name n) (filter q names))) (none_twice (filter q names)) (not_false _ (any_fewer q n names e)) rest
+    go false e rest = rest
+
+-- which names are left
+left_without : (lost name : List ℕ) (names : List (List ℕ)) → is_same_name lost name ≡ false
+    → list_any (is_same_name name) (filter (λ other. not (is_same_name lost other)) names) ≡ list_any (is_same_name name) names
+left_without lost name [] apart = refl
+left_without lost name (n ∷ names) apart = go (is_same_name lost n) refl (left_without lost name names apart)
+  where
+    left : List (List ℕ)
+    left = filter (λ other. not (is_same_name lost other)) names
+
+    go : (b : Bool) → is_same_name lost n ≡ b → list_any (is_same_name name) left ≡ list_any (is_same_name name) names → list_any (is_same_name name) (if not b then n ∷ left else left) ≡ is_same_name name n || list_any (is_same_name name) names
+    go true e rest =
+        let other : is_same_name name n ≡ false = ap (is_same_name name) (sym (same_name lost n e)) ∙ same_turned name lost ∙ apart in
+        rest ∙ ap (λ b. b || list_any (is_same_name name) names) (sym other)
+    go false e rest = ap (λ b. is_same_name name n || b) rest
+
+gone_without : (lost : List ℕ) (names : List (List ℕ)) → list_any (is_same_name lost) (filter (λ other. not (is_same_name lost other)) names) ≡ false
+gone_without lost [] = refl
+gone_without lost (n ∷ names) = go (is_same_name lost n) refl (gone_without lost names)
+  where
+    left : List (List ℕ)
+    left = filter (λ other. not (is_same_name lost other)) names
+
+    go : (b : Bool) → is_same_name lost n ≡ b → list_any (is_same_name lost) left ≡ false → list_any (is_same_name lost) (if not b then n ∷ left else left) ≡ false
+    go true e rest = rest
+    go false e rest = (λ i. e i || list_any (is_same_name lost) left) ∙ rest
+
+module _ (names : List (List ℕ)) (i : ℕ) (s : SeatRecord) (seats : List SeatRecord) (found : slice_get seats i ≡ Some s) (h : AreNumbered seats) (fits : length seats ≤ greatest) where
+  abbrev new : List SeatRecord
+  new = set seats i (watching names s)
+
+  changed : map (λ t. if t.number == i then watching names t else t) seats ≡ new
+  changed = changed_there seats i s (watching names) h found
+
+  numbered : AreNumbered (map (λ t. if t.number == i then watching names t else t) seats)
+  numbered = rw changed (watching_numbered names i s seats found h)
+
+  moved : (p : SeatRecord → Bool) → count_with (p (watching names s)) (count_without (p s) (count_by p seats)) ≡ count_by p new
+  moved p = count_changed p i (watching names) (λ t. refl) s seats h numbered fits (seat_read seats i s h found) ∙ ap (count_by p) changed
+
+  same : (p : SeatRecord → Bool) → p (watching names s) ≡ p s → count_by p seats ≡ count_by p new
+  same p e = sym (count_unchanged p i (watching names) (λ t. refl) s seats h numbered (seat_read seats i s h found) e) ∙ ap (count_by p) changed
+
+  -- the counts of a tube that is watched as before
+  crowd_same : (name : List ℕ) → list_any (is_same_name name) names ≡ watches name s → crowd_of seats name ≡ crowd_of new name
+  crowd_same name e = λ k. record {
+    using = same (is_user name) refl k;
+    watching = same (is_watcher name) (ap (λ b. s.connected && b) e) k;
+    waiting = same (is_waiter name) (ap (λ b. is_waiting s && b) e) k;
+  }
+
+  -- or now is
+  and_true : (b : Bool) → b && true ≡ b
+  and_true true = refl
+  and_true false = refl
+
+  crowd_more : (name : List ℕ) → watches name s ≡ false → list_any (is_same_name name) names ≡ true → crowd_with (share_of_watcher s) (crowd_of seats name) ≡ crowd_of new name
+  crowd_more name none some = λ k. record {
+    using = same (is_user name) refl k;
+    watching = (one s.connected (count_by (is_watcher name) seats) ∙ moved (is_watcher name)) k;
+    waiting = (one (is_waiting s) (count_by (is_waiter name) seats) ∙ moved (is_waiter name)) k;
+  }
+    where
+      one : (b : Bool) (n : ℕ) → count_with b n ≡ count_with (b && list_any (is_same_name name) names) (count_without (b && watches name s) n)
+      one b n = λ k. count_with ((sym (and_true b) ∙ ap (λ c. b && c) (sym some)) k) (count_without ((sym (and-false b) ∙ ap (λ c. b && c) (sym none)) k) n)
+
+  -- or no longer
+  crowd_fewer : (name : List ℕ) → list_any (is_same_name name) names ≡ false → crowd_without (share_of_watching name s) (crowd_of seats name) ≡ crowd_of new name
+  crowd_fewer name none = λ k. record {
+    using = same (is_user name) refl k;
+    watching = (one s.connected (count_without (is_watcher name s) (count_by (is_watcher name) seats)) ∙ moved (is_watcher name)) k;
+    waiting = (one (is_waiting s) (count_without (is_waiter name s) (count_by (is_waiter name) seats)) ∙ moved (is_waiter name)) k;
+  }
+    where
+      one : (b : Bool) (n : ℕ) → n ≡ count_with (b && list_any (is_same_name name) names) n
+      one b n = λ k. count_with ((sym (and-false b) ∙ ap (λ c. b && c) (sym none)) k) n
+
+-- A client watches a tube more,
+pub crowds_watching : (more : List ℕ) (i : ℕ) (s : SeatRecord) (crowds : List Crowd) (seats : List SeatRecord) (es : List TubeRecord) → slice_get seats i ≡ Some s → AreNumbered seats → length seats ≤ greatest
+    → AreInOrder es → watches more s ≡ false → AreCrowds crowds seats es → AreCrowds (crowds_at more (crowd_with (share_of_watcher s)) es crowds) (set seats i (watching (s.watched ++ more ∷ []) s)) es
+crowds_watching more i s crowds seats es found h fits order none was =
+    let is = all_read IsSeated seats i s was.seated found in
+    record {
+      each =
+          ap (crowds_at more (crowd_with (share_of_watcher s)) es) was.each
+          ∙ at_named (crowd_with (share_of_watcher s)) more (crowd_in seats) es order
+          ∙ map_same _ _ es (λ t. at t.name (is_same_name more t.name) refl);
+      seated = all_set IsSeated seats i (watching (s.watched ++ more ∷ []) s) was.seated (record { waits = is.waits; once = once_more more s.watched none is.once });
+    }
+  where
+    names : List (List ℕ)
+    names = s.watched ++ more ∷ []
+
+    at : (name : List ℕ) (b : Bool) → is_same_name more name ≡ b → (if b then crowd_with (share_of_watcher s) (crowd_of seats name) else crowd_of seats name) ≡ crowd_of (set seats i (watching names s)) name
+    at name true e =
+        let not_yet : watches name s ≡ false = ap (λ n. watches n s) (sym (same_name more name e)) ∙ none in
+        let last : is_same_name name more ≡ true = same_turned name more ∙ e in
+        crowd_more names i s seats found h fits name not_yet (any_with name more s.watched ∙ (λ k. not_yet k || last k))
+    at name false e =
+        let apart : is_same_name name more ≡ false = same_turned name more ∙ e in
+        crowd_same names i s seats found h fits name (any_with name more s.watched ∙ ap (λ b. watches name s || b) apart ∙ or-false (watches name s))
+
+-- or one fewer.
+pub crowds_ignoring : (lost : List ℕ) (i : ℕ) (s : SeatRecord) (crowds : List Crowd) (seats : List SeatRecord) (es : List TubeRecord) → slice_get seats i ≡ Some s → AreNumbered seats → length seats ≤ greatest
+    → AreInOrder es → AreCrowds crowds seats es
+    → AreCrowds (crowds_at lost (crowd_without (share_of_watching lost s)) es crowds) (set seats i (watching (filter (λ other. not (is_same_name lost other)) s.watched) s)) es
+crowds_ignoring lost i s crowds seats es found h fits order was =
+    let is = all_read IsSeated seats i s was.seated found in
+    record {
+      each =
+          ap (crowds_at lost (crowd_without (share_of_watching lost s)) es) was.each
+          ∙ at_named (crowd_without (share_of_watching lost s)) lost (crowd_in seats) es order
+          ∙ map_same _ _ es (λ t. at t.name (is_same_name lost t.name) refl);
+      seated = all_set IsSeated seats i (watching names s) was.seated (record { waits = is.waits; once = once_fewer (λ other. not (is_same_name lost other)) s.watched is.once });
+    }
+  where
+    names : List (List ℕ)
+    names = filter (λ other. not (is_same_name lost other)) s.watched
+
+    at : (name : List ℕ) (b : Bool) → is_same_name lost name ≡ b → (if b then crowd_without (share_of_watching lost s) (crowd_of seats name) else crowd_of seats name) ≡ crowd_of (set seats i (watching names s)) name
+    at name true e =
+        let is = same_name lost name e in
+        ap (λ n. crowd_without (share_of_watching n s) (crowd_of seats name)) is
+        ∙ crowd_fewer names i s seats found h fits name (ap (λ n. list_any (is_same_name n) names) (sym is) ∙ gone_without lost s.watched)
+    at name false e = crowd_same names i s seats found h fits name (left_without lost name s.watched e)

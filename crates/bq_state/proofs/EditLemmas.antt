@@ -1,0 +1,50 @@
+-- All that is kept of the tubes, once the entry of one is changed in its place.
+use Rattle.std.proofs.Common.{◌≡◌, ◌∙◌, ℕ, List, ap, map, refl, subst, sym}
+use Rattle.std.specs.Cmp.Lexicographic.{slice_cmp}
+use Rattle.std.specs.Ordering.{nat_cmp}
+use Rattle.bq_index.specs.Catalog.{CatalogSeen}
+use Rattle.bq_index.specs.Order.{InOrder}
+use Rattle.bq_state.specs.Crowds.{crowds_at}
+use Rattle.bq_state.specs.KeptTubes.{KeptTube, KeptTubes, Named, crowd_kept, edited_at, kept_changed, record_at, record_of, tally_kept, tubes_kept}
+use Rattle.bq_state.specs.PauseEnds.{AreEnds}
+use Rattle.bq_state.specs.Tallies.{tallies_at}
+use Rattle.bq_state.specs.TubeEntries.{tube_changed, tube_changed_at}
+use Rattle.bq_state.specs.declared.known.Tally.{Tally}
+use Rattle.bq_state.specs.declared.tubes.entry.Crowd.{Crowd}
+use Rattle.bq_state.specs.declared.tubes.entry.TubeChange.{TubeChange}
+use Rattle.bq_state.specs.declared.tubes.pauses.PauseEnd.{PauseEnd}
+use Rattle.bq_state.proofs.NamedLemmas.{change_kept, edit_change, edit_crowd, edit_same_crowds, edit_same_records, edit_same_tallies, edit_tally, in_order, kept_alike}
+
+-- Where the records stay, so do the ends of their pauses.
+pub ends_stay : (name : List ℕ) (f : KeptTube → KeptTube) (es last : List Named) (ends : CatalogSeen PauseEnd (Unit {0})) → last ≡ edited_at name f es
+    → ((n : List ℕ) (t : KeptTube) → record_of n (f t) ≡ record_of n t) → AreEnds (map record_at es) ends → AreEnds (map record_at last) ends
+ends_stay name f es last ends is same h = subst (λ ts. AreEnds ts ends) (sym (ap (map record_at) is ∙ edit_same_records name f same es)) h
+
+-- The counts of jobs alone change,
+pub tallies_change : (name : List ℕ) (f : KeptTube → KeptTube) (g : Tally → Tally) (es last : List Named) (k : KeptTubes) → last ≡ edited_at name f es → tubes_kept es ≡ k
+    → ((n : List ℕ) (t : KeptTube) → record_of n (f t) ≡ record_of n t) → ((t : KeptTube) → (f t).tally ≡ g t.tally) → ((t : KeptTube) → (f t).crowd ≡ t.crowd)
+    → tubes_kept last ≡ record k { tallies = tallies_at name g k.entries k.tallies }
+tallies_change name f g es last k is seen same made crowds =
+    kept_alike
+    (ap (map record_at) is ∙ edit_same_records name f same es ∙ ap (λ (k : KeptTubes). k.entries) seen)
+    (ap (map tally_kept) is ∙ edit_tally name f g made es ∙ ap (λ (k : KeptTubes). tallies_at name g k.entries k.tallies) seen)
+    (ap (map crowd_kept) is ∙ edit_same_crowds name f crowds es ∙ ap (λ (k : KeptTubes). k.crowds) seen)
+
+-- or those of clients,
+pub crowds_change : (name : List ℕ) (f : KeptTube → KeptTube) (g : Crowd → Crowd) (es last : List Named) (k : KeptTubes) → last ≡ edited_at name f es → tubes_kept es ≡ k
+    → ((n : List ℕ) (t : KeptTube) → record_of n (f t) ≡ record_of n t) → ((t : KeptTube) → (f t).tally ≡ t.tally) → ((t : KeptTube) → (f t).crowd ≡ g t.crowd)
+    → tubes_kept last ≡ record k { crowds = crowds_at name g k.entries k.crowds }
+crowds_change name f g es last k is seen same tallies made =
+    kept_alike
+    (ap (map record_at) is ∙ edit_same_records name f same es ∙ ap (λ (k : KeptTubes). k.entries) seen)
+    (ap (map tally_kept) is ∙ edit_same_tallies name f tallies es ∙ ap (λ (k : KeptTubes). k.tallies) seen)
+    (ap (map crowd_kept) is ∙ edit_crowd name f g made es ∙ ap (λ (k : KeptTubes). crowds_at name g k.entries k.crowds) seen)
+
+-- or its record.
+pub records_change : (name : List ℕ) (what : TubeChange) (es last : List Named) (k : KeptTubes) → last ≡ edited_at name (kept_changed what) es → tubes_kept es ≡ k → InOrder (slice_cmp nat_cmp) es
+    → tubes_kept last ≡ record k { entries = map (tube_changed_at name what) k.entries }
+records_change name what es last k is seen order =
+    kept_alike
+    (ap (map record_at) is ∙ edit_change name (kept_changed what) (tube_changed what) (change_kept what) es (in_order es order) ∙ ap (λ (k : KeptTubes). map (tube_changed_at name what) k.entries) seen)
+    (ap (map tally_kept) is ∙ edit_same_tallies name (kept_changed what) (λ t. refl) es ∙ ap (λ (k : KeptTubes). k.tallies) seen)
+    (ap (map crowd_kept) is ∙ edit_same_crowds name (kept_changed what) (λ t. refl) es ∙ ap (λ (k : KeptTubes). k.crowds) seen)

@@ -1,0 +1,227 @@
+-- The ends of pauses: what is found among them after a change, and the first of them.
+use Rattle.std.proofs.Common.{◌≡◌, ◌∙◌, ◌≤◌, ℕ, Bool, true, false, cond, ◌&&◌, ◌||◌, if◌then◌else◌, List, [], ◌∷◌, Option, Some, None, min, map, refl, sym, ap, arith, subst, inl, inr, is_some}
+use Rattle.std.specs.Prelude.{◌==◌, fold, nat_le, nat_lt}
+use Rattle.std.specs.declared.cmp.Ordering.{Ordering}
+use Rattle.std.specs.declared.cmp.Ordering.TheVariants.{Less, Equal, Greater}
+use Rattle.std.specs.Ordering.{is_eq, nat_cmp, ordering_then}
+use Rattle.std.specs.Cmp.Lexicographic.{slice_cmp}
+use Rattle.std.specs.List.{AllByRecursion as All, list_any}
+use Rattle.std.specs.List.Sorted.{IsStrictlySortedBy}
+use Rattle.std.specs.Map.{keys_of}
+use Rattle.std.specs.Option.{option_map}
+use Rattle.std.proofs.lemmas.Bool.{cases_Bool}
+use Rattle.std.proofs.lemmas.Bool.Decides.{nat_tests}
+use Rattle.std.proofs.lemmas.Cmp.{alike_right}
+use Rattle.std.proofs.Math.Bool.{or-true}
+use Rattle.bq_index.specs.Catalog.{CatalogSeen}
+use Rattle.bq_index.specs.Order.{InOrder}
+use Rattle.bq_job.specs.machine.Machine.{TubeRecord}
+use Rattle.bq_job.specs.machine.Machine.{Pause as PauseRecord}
+use Rattle.bq_job.specs.beside.NextDue.{dues_of_pause, earliest}
+use Rattle.bq_job.specs.reading.TubeName.{is_same_name}
+use Rattle.bq_jobs.proofs.Choice.{equal_from, lookup_inserted, lookup_removed}
+use Rattle.bq_state.specs.Dues.{earlier_of_both, first_pause_end, is_end_over, with_tube_due}
+use Rattle.bq_state.specs.KeptTubes.{KeptTubes, Named, record_at, tubes_kept}
+use Rattle.bq_state.specs.PauseEnds.{AreEnds, Ends, end_cmp, end_total, ends_at, first_end, found_end, has_end, if_over, is_end_in, is_end_of, with_end, without_end}
+use Rattle.bq_state.specs.declared.tubes.pauses.PauseEnd.{PauseEnd}
+use Rattle.bq_state.proofs.NamedLemmas.{ties}
+use Rattle.bq_state.proofs.TubeLemmas.{head_differs, same_itself}
+
+-- Two ends tie where they are of one moment and of one tube.
+both_equal : (a b : Ordering) → is_eq (ordering_then a b) ≡ (is_eq a && is_eq b)
+both_equal Less b = refl
+both_equal Equal b = refl
+both_equal Greater b = refl
+
+numbers_equal : (a b : ℕ) → is_eq (nat_cmp a b) ≡ (a == b)
+numbers_equal a b = elim (cases_Bool (nat_lt a b)) [
+  | inl less ↦ let other : (a == b) ≡ false = grind (arith, nat_tests) in rw (less, other) refl
+  | inr e ↦ elim (cases_Bool (a == b)) [
+    | inl same ↦ rw (e, same) refl
+    | inr other ↦ rw (e, other) refl
+  ]
+]
+
+pub ends_tie : (e f : PauseEnd) → is_eq (end_cmp e f) ≡ (e.until == f.until && is_same_name e.name f.name)
+ends_tie e f =
+    both_equal (nat_cmp e.until f.until) (slice_cmp nat_cmp e.name f.name)
+    ∙ (λ i. numbers_equal e.until f.until i && ties e.name f.name i)
+
+-- an end of another tube
+pub ends_apart : (e f : PauseEnd) → is_same_name e.name f.name ≡ false → is_eq (end_cmp e f) ≡ false
+ends_apart e f h = ends_tie e f ∙ ap (λ b. e.until == f.until && b) h ∙ no_more (e.until == f.until)
+  where
+    no_more : (b : Bool) → (b && false) ≡ false
+    no_more true = refl
+    no_more false = refl
+
+-- an end of the same tube
+pub ends_alike : (e f : PauseEnd) → is_same_name e.name f.name ≡ true → is_eq (end_cmp e f) ≡ (e.until == f.until)
+ends_alike e f h = ends_tie e f ∙ ap (λ b. e.until == f.until && b) h ∙ that_alone (e.until == f.until)
+  where
+    that_alone : (b : Bool) → (b && true) ≡ b
+    that_alone true = refl
+    that_alone false = refl
+
+-- what is found after an end was put in, and after one was taken out
+if_there : (b : Bool) (o : Option (Unit {0})) → is_some (cond b (Some tt) o) ≡ (b || is_some o)
+if_there true o = refl
+if_there false o = refl
+
+if_gone : (b : Bool) (o : Option (Unit {0})) → is_some (cond b None o) ≡ cond b false (is_some o)
+if_gone true o = refl
+if_gone false o = refl
+
+pub has_entered : (q e : PauseEnd) (ends : Ends) → found_end e ends ≡ None → has_end q (with_end (Some e) ends) ≡ (is_eq (end_cmp q e) || has_end q ends)
+has_entered q e ends absent = ap is_some (lookup_inserted end_total q e tt ends absent) ∙ if_there (is_eq (end_cmp q e)) (found_end q ends)
+
+pub has_left : (q e : PauseEnd) (ends : Ends) → InOrder end_cmp ends → has_end q (without_end (Some e) ends) ≡ cond (is_eq (end_cmp e q)) false (has_end q ends)
+has_left q e ends s = ap is_some (lookup_removed end_total q e ends s) ∙ if_gone (is_eq (end_cmp e q)) (found_end q ends)
+
+-- The first end is the least.
+not_later : (a b : ℕ) (o : Ordering) → ordering_then (nat_cmp a b) o ≡ Less → a ≤ b
+not_later a b o h = elim (cases_Bool (nat_lt a b)) [
+  | inl less ↦ grind (arith, nat_tests)
+  | inr e ↦ elim (cases_Bool (a == b)) [
+    | inl same ↦ grind (arith, nat_tests)
+    | inr other ↦ absurd (let g = rw (e, other) at h in cc)
+  ]
+]
+
+above : (x q : PauseEnd) (ends : Ends) → All (λ k. end_cmp x k ≡ Less) (keys_of ends) → has_end q ends ≡ true → end_cmp x q ≡ Less
+above x q [] a h = absurd cc
+above x q (e ∷ ends) a h = elim (cases_Bool (is_eq (end_cmp q e.0))) [
+  | inl t ↦ alike_right end_total q e.0 x (equal_from (end_cmp q e.0) t) ∙ a.0
+  | inr t ↦ above x q ends a.1 (rw t at h)
+]
+
+least_end : (x : PauseEnd × Unit {0}) (ends : Ends) → InOrder end_cmp (x ∷ ends) → (q : PauseEnd) → has_end q (x ∷ ends) ≡ true → x.0.until ≤ q.until
+unfolding IsStrictlySortedBy
+least_end x ends s q h = elim (cases_Bool (is_eq (end_cmp q x.0))) [
+  | inl t ↦ let same = first_of_both (q.until == x.0.until) (is_same_name q.name x.0.name) (sym (ends_tie q x.0) ∙ t) in grind (arith, nat_tests)
+  | inr t ↦ not_later x.0.until q.until (slice_cmp nat_cmp x.0.name q.name) (above x.0 q ends s.0 (rw t at h))
+]
+  where
+    first_of_both : (a b : Bool) → (a && b) ≡ true → a ≡ true
+    first_of_both true b h = refl
+    first_of_both false b h = absurd cc
+
+-- None is kept, where no tube is paused.
+same_moment : (n : ℕ) → (n == n) ≡ true
+same_moment n = grind (arith, nat_tests)
+
+own_end : (t : TubeRecord) (p : PauseRecord) → t.pause ≡ Some p → is_end_of (record { until = p.until; name = t.name }) t ≡ true
+own_end t p e = rw (same_itself t.name, e) (same_moment p.until)
+
+no_pause : (t : TubeRecord) (p : Option PauseRecord) → t.pause ≡ p → ((e : PauseEnd) → is_end_of e t ≡ false) → t.pause ≡ None
+no_pause t None e none = e
+no_pause t (Some p) e none =
+    absurd (let end : PauseEnd = record { until = p.until; name = t.name } in let g : is_end_of end t ≡ true = own_end t p e in let h : is_end_of end t ≡ false = none end in cc)
+
+none_stays : (ts : List TubeRecord) (best : Option ℕ) → ((e : PauseEnd) → is_end_in e ts ≡ false) → fold with_tube_due best ts ≡ best
+none_stays [] best none = refl
+none_stays (t ∷ ts) best none =
+    let here : t.pause ≡ None = no_pause t t.pause refl (λ e. (head_differs (is_end_of e t) (is_end_in e ts) (none e)).0) in
+    ap (λ p. fold with_tube_due (earlier_of_both best (earliest (dues_of_pause p))) ts) here
+    ∙ ap (λ o. fold with_tube_due o ts) (no_other best)
+    ∙ none_stays ts best (λ e. (head_differs (is_end_of e t) (is_end_in e ts) (none e)).1)
+  where
+    no_other : (a : Option ℕ) → earlier_of_both a None ≡ a
+    no_other None = refl
+    no_other (Some a) = refl
+
+-- The pauses of these tubes end at this moment or later.
+abbrev AreFrom : ℕ → List TubeRecord → Type 0
+AreFrom m ts = (e : PauseEnd) → is_end_in e ts ≡ true → m ≤ e.until
+
+abbrev IsFrom : ℕ → Option ℕ → Type 0
+IsFrom m None = Unit {0}
+IsFrom m (Some b) = m ≤ b
+
+due_from : (m : ℕ) (t : TubeRecord) (ts : List TubeRecord) → AreFrom m (t ∷ ts) → (p : Option PauseRecord) → t.pause ≡ p → IsFrom m (earliest (dues_of_pause p))
+due_from m t ts all None e = tt
+due_from m t ts all (Some p) e =
+    let end : PauseEnd = record { until = p.until; name = t.name } in
+    all end (ap (λ b. b || is_end_in end ts) (own_end t p e))
+
+rest_from : (m : ℕ) (t : TubeRecord) (ts : List TubeRecord) → AreFrom m (t ∷ ts) → AreFrom m ts
+rest_from m t ts all e h = all e (ap (λ b. is_end_of e t || b) h ∙ or-true (is_end_of e t))
+
+both_from : (m : ℕ) (a b : Option ℕ) → IsFrom m a → IsFrom m b → IsFrom m (earlier_of_both a b)
+both_from m None b ha hb = hb
+both_from m (Some a) None ha hb = ha
+both_from m (Some a) (Some b) ha hb = omega (arith, ha, hb)
+
+stays_least : (m : ℕ) (b : Option ℕ) → IsFrom m b → earlier_of_both (Some m) b ≡ Some m
+stays_least m None h = refl
+stays_least m (Some b) h = ap (λ n. Some n) (let g : min m b ≡ m = omega (arith, h) in g)
+
+least_stays : (m : ℕ) (ts : List TubeRecord) → AreFrom m ts → fold with_tube_due (Some m) ts ≡ Some m
+least_stays m [] all = refl
+least_stays m (t ∷ ts) all =
+    ap (λ o. fold with_tube_due o ts) (stays_least m (earliest (dues_of_pause t.pause)) (due_from m t ts all t.pause refl))
+    ∙ least_stays m ts (rest_from m t ts all)
+
+becomes_least : (m : ℕ) (best : Option ℕ) (p : Option PauseRecord) → IsFrom m best → ends_at m p ≡ true → earlier_of_both best (earliest (dues_of_pause p)) ≡ Some m
+becomes_least m best None h at = absurd cc
+becomes_least m None (Some p) h at = ap (λ n. Some n) (let g : p.until ≡ m = grind (arith, nat_tests) in g)
+becomes_least m (Some b) (Some p) h at = ap (λ n. Some n) (let e : p.until ≡ m = grind (arith, nat_tests) in let g : min b p.until ≡ m = omega (arith, h, e) in g)
+
+least_found : (m : ℕ) (ts : List TubeRecord) (best : Option ℕ) → IsFrom m best → AreFrom m ts → list_any (λ t. ends_at m t.pause) ts ≡ true → fold with_tube_due best ts ≡ Some m
+least_found m [] best h all hit = absurd cc
+least_found m (t ∷ ts) best h all hit = elim (cases_Bool (ends_at m t.pause)) [
+  | inl at ↦ ap (λ o. fold with_tube_due o ts) (becomes_least m best t.pause h at) ∙ least_stays m ts (rest_from m t ts all)
+  | inr other ↦
+      least_found m ts (earlier_of_both best (earliest (dues_of_pause t.pause))) (both_from m best (earliest (dues_of_pause t.pause)) h (due_from m t ts all t.pause refl)) (rest_from m t ts all) (rw other at hit)
+]
+
+hit_of : (e : PauseEnd) (ts : List TubeRecord) → is_end_in e ts ≡ true → list_any (λ t. ends_at e.until t.pause) ts ≡ true
+hit_of e [] h = absurd cc
+hit_of e (t ∷ ts) h = elim (cases_Bool (is_end_of e t)) [
+  | inl here ↦ ap (λ b. b || list_any (λ t. ends_at e.until t.pause) ts) (second_of_both (is_same_name e.name t.name) (ends_at e.until t.pause) here)
+  | inr other ↦ ap (λ b. ends_at e.until t.pause || b) (hit_of e ts (rw other at h)) ∙ or-true (ends_at e.until t.pause)
+]
+  where
+    second_of_both : (a b : Bool) → (a && b) ≡ true → b ≡ true
+    second_of_both true b h = h
+    second_of_both false b h = absurd cc
+
+first_there : (x : PauseEnd × Unit {0}) (ends : Ends) → has_end x.0 (x ∷ ends) ≡ true
+first_there x ends = ap (λ b. is_some (cond b (Some x.1) (found_end x.0 ends))) (ends_tie x.0 x.0 ∙ (λ i. (same_moment x.0.until i) && (same_itself x.0.name i)))
+
+-- The first end that has come is one of them, and has come.
+pub one_over : (moment : ℕ) (e : PauseEnd) (ends : Ends) → Some e ≡ if_over moment (first_end ends) → (has_end e ends ≡ true) × (nat_le e.until moment ≡ true)
+one_over moment e [] h = absurd (let g : Some e ≡ None = h in cc)
+one_over moment e (x ∷ ends) h = go (nat_le x.0.until moment) refl h
+  where
+    same : (a b : PauseEnd) → Some a ≡ Some b → b ≡ a
+    same a b h = cc
+
+    go : (b : Bool) → nat_le x.0.until moment ≡ b → Some e ≡ (if b then Some x.0 else None) → (has_end e (x ∷ ends) ≡ true) × (nat_le e.until moment ≡ true)
+    go true come h =
+        let is : x.0 ≡ e = same e x.0 h in
+        subst (λ (y : PauseEnd). (has_end y (x ∷ ends) ≡ true) × (nat_le y.until moment ≡ true)) is (first_there x ends, come)
+    go false come h = absurd (let g : Some e ≡ None = h in cc)
+
+-- Where none has come, no pause is over.
+pub none_over_yet : (moment : ℕ) (o : Option PauseEnd) → None ≡ if_over moment o → is_end_over moment (option_map (λ e. e.until) o) ≡ false
+none_over_yet moment None h = refl
+none_over_yet moment (Some e) h = go (nat_le e.until moment) h
+  where
+    go : (b : Bool) → None ≡ (if b then Some e else None) → b ≡ false
+    go true h = absurd (let g : None ≡ Some e = h in cc)
+    go false h = refl
+
+-- The first pause ends at the first of the ends.
+pub first_is : (entries : List TubeRecord) (ends : CatalogSeen PauseEnd (Unit {0})) → AreEnds entries ends → InOrder end_cmp ends.entries → option_map (λ e. e.until) (first_end ends.entries) ≡ first_pause_end entries
+first_is entries ends h s = go ends.entries h.known s
+  where
+    go : (es : Ends) → ((e : PauseEnd) → has_end e es ≡ is_end_in e entries) → InOrder end_cmp es → option_map (λ e. e.until) (first_end es) ≡ first_pause_end entries
+    go [] known s = sym (none_stays entries None (λ e. sym (known e)))
+    go (x ∷ es) known s =
+        sym (least_found x.0.until entries None tt (λ e g. least_end x es s e (known e ∙ g)) (hit_of x.0 entries (sym (known x.0) ∙ first_there x es)))
+
+-- The first of the ends is the first end of a pause, as the tubes are seen.
+pub first_seen : (es : List Named) (ends : CatalogSeen PauseEnd (Unit {0})) (k : KeptTubes) (r : Option ℕ) → r ≡ option_map (λ e. e.until) (first_end ends.entries)
+    → AreEnds (map record_at es) ends → InOrder end_cmp ends.entries → tubes_kept es ≡ k → r ≡ first_pause_end k.entries
+first_seen es ends k r is h s seen = is ∙ first_is (map record_at es) ends h s ∙ ap (λ (k : KeptTubes). first_pause_end k.entries) seen

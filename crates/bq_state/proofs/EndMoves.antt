@@ -1,0 +1,493 @@
+-- What a change of a pause, and the coming and going of a tube, do to the ends of pauses.
+use Rattle.std.proofs.Common.{◌≡◌, ◌∙◌, ◌+◌, ◌≤◌, ◌<◌, ℕ, suc, Bool, true, false, cond, ◌&&◌, ◌||◌, if◌then◌else◌, List, [], ◌∷◌, Option, Some, None, map, length, refl, subst, sym, ap, arith, inl, inr, is_some}
+use Rattle.std.proofs.Math.Bool.{or-false}
+use Rattle.std.specs.Prelude.{◌==◌, count_by, nat_le}
+use Rattle.std.specs.Ordering.{is_eq}
+use Rattle.std.specs.Borrow.{Bor}
+use Rattle.std.specs.Map.{lookup, remove_entry}
+use Rattle.std.specs.Option.{option_map}
+use Rattle.std.proofs.lemmas.Bool.{cases_Bool, eqb-true}
+use Rattle.std.proofs.lemmas.Bool.Decides.{nat_tests}
+use Rattle.bq_index.proofs.Order.{length_inserted, length_removed}
+use Rattle.bq_index.specs.Catalog.{CatalogSeen}
+use Rattle.bq_index.specs.Order.{InOrder}
+use Rattle.bq_job.specs.machine.Machine.{TubeRecord}
+use Rattle.bq_job.specs.machine.Machine.{Pause as PauseRecord}
+use Rattle.bq_job.specs.machine.Timers.{pause_after_timers, tube_after_timers}
+use Rattle.bq_job.specs.machine.Tubes.{fresh_tube, is_name_before, with_record}
+use Rattle.bq_job.specs.reading.TubeName.{is_same_name}
+use Rattle.bq_job.proofs.ListLemmas.{count_cons}
+use Rattle.bq_state.specs.KeptTubes.{KeptTube, Named, edited, ended, is_named_at, kept_changed, record_at, record_of}
+use Rattle.bq_state.specs.PauseEnds.{AreEnds, Ends, end_cmp, end_of, ends_at, first_end, found_end, has_end, if_over, is_end_in, is_end_of, is_paused, pause_at, pause_in, with_end, without_end}
+use Rattle.bq_state.specs.TubeEntries.{AreInOrder, has_entry, tube_changed}
+use Rattle.bq_state.specs.declared.tubes.entry.TubeChange.{TubeChange}
+use Rattle.bq_state.specs.declared.tubes.entry.TubeChange.TheVariants.{CountPut, CountDelete, Pause}
+use Rattle.bq_state.specs.declared.tubes.pauses.PauseEnd.{PauseEnd}
+use Rattle.bq_state.proofs.EndLemmas.{ends_alike, ends_apart, has_entered, has_left, one_over}
+use Rattle.bq_state.proofs.NamedLemmas.{change_kept, edit_change, found_entry, ties}
+use Rattle.bq_state.proofs.TubeLemmas.{changed_one, head_differs, none_later, order_kept, same_itself, same_name}
+
+abbrev pub one_if : Option PauseRecord → ℕ
+one_if p = cond (is_some p) 1 0
+
+-- The tube of one name had a pause and has another one, if any; those of other names stay.
+pub record Moves (name : List ℕ) (from to : Option PauseRecord) (old new : List TubeRecord) : Type 0 where
+  pub others : (e : PauseEnd) → is_same_name name e.name ≡ false → is_end_in e new ≡ is_end_in e old
+  pub was : (m : ℕ) → is_end_in (record { until = m; name = name }) old ≡ ends_at m from
+  pub is : (m : ℕ) → is_end_in (record { until = m; name = name }) new ≡ ends_at m to
+  pub count : count_by is_paused new + one_if from ≡ count_by is_paused old + one_if to
+  pub fewer : length new ≤ length old
+
+some_unit : (o : Option (Unit {0})) → is_some o ≡ true → o ≡ Some tt
+some_unit None h = absurd cc
+some_unit (Some tt) h = refl
+
+none_from : (o : Option (Unit {0})) → is_some o ≡ false → o ≡ None
+none_from None h = refl
+none_from (Some x) h = absurd cc
+
+same_moment : (n : ℕ) → (n == n) ≡ true
+same_moment n = grind (arith, nat_tests)
+
+turned : (a b : ℕ) → (a == b) ≡ (b == a)
+turned a b = elim (cases_Bool (a == b)) [
+  | inl same ↦ let e : (b == a) ≡ true = grind (arith, nat_tests) in same ∙ sym e
+  | inr other ↦ let e : (b == a) ≡ false = grind (arith, nat_tests) in other ∙ sym e
+]
+
+-- no more are paused than there are
+count_few : (ts : List TubeRecord) → count_by is_paused ts ≤ length ts
+count_few [] = omega arith
+count_few (t ∷ ts) = rw (count_cons is_paused t ts) (elim (cases_Bool (is_paused t)) [
+  | inl e ↦ rw e (omega (arith, count_few ts))
+  | inr e ↦ rw e (omega (arith, count_few ts))
+])
+
+module _ (name : List ℕ) (from to : Option PauseRecord) (old new : List TubeRecord) (ends : CatalogSeen PauseEnd (Unit {0})) (h : AreEnds old ends) (s : InOrder end_cmp ends.entries) (m : Moves name from to old new) where
+  -- the end of the pause that it had is there,
+  pub end_held : (e : PauseEnd) → end_of name from ≡ Some e → has_end e ends.entries ≡ true
+  end_held e is = go from refl is
+    where
+      go : (p : Option PauseRecord) → from ≡ p → end_of name p ≡ Some e → has_end e ends.entries ≡ true
+      go None f is = absurd (let g : None ≡ Some e = is in cc)
+      go (Some p) f is =
+          let same : record { until = p.until; name = name } ≡ e = some_is (record { until = p.until; name = name }) e is in
+          ap (λ x. has_end x ends.entries) (sym same) ∙ h.known (record { until = p.until; name = name }) ∙ m.was p.until ∙ ap (ends_at p.until) f ∙ same_moment p.until
+        where
+          some_is : (a b : PauseEnd) → Some a ≡ Some b → a ≡ b
+          some_is a b e = cc
+
+  abbrev left : Ends
+  left = without_end (end_of name from) ends.entries
+
+  -- and is none of the tube once it has left,
+  none_left : (u : ℕ) → has_end (record { until = u; name = name }) left ≡ false
+  none_left u = go from refl
+    where
+      q : PauseEnd
+      q = record { until = u; name = name }
+
+      gone : (b : Bool) → cond b false b ≡ false
+      gone true = refl
+      gone false = refl
+
+      go : (p : Option PauseRecord) → from ≡ p → has_end q (without_end (end_of name p) ends.entries) ≡ false
+      go None f = h.known q ∙ m.was u ∙ ap (ends_at u) f
+      go (Some p) f =
+          let there : has_end q ends.entries ≡ (p.until == u) = h.known q ∙ m.was u ∙ ap (ends_at u) f in
+          has_left q (record { until = p.until; name = name }) ends.entries s
+          ∙ (λ i. cond (ends_alike (record { until = p.until; name = name }) q (same_itself name) i) false (there i))
+          ∙ gone (p.until == u)
+
+  others_left : (q : PauseEnd) → is_same_name name q.name ≡ false → has_end q left ≡ has_end q ends.entries
+  others_left q other = go from
+    where
+      go : (p : Option PauseRecord) → has_end q (without_end (end_of name p) ends.entries) ≡ has_end q ends.entries
+      go None = refl
+      go (Some p) =
+          has_left q (record { until = p.until; name = name }) ends.entries s
+          ∙ ap (λ b. cond b false (has_end q ends.entries)) (ends_apart (record { until = p.until; name = name }) q other)
+
+  left_length : length left + one_if from ≡ length ends.entries
+  left_length = go from refl
+    where
+      go : (p : Option PauseRecord) → from ≡ p → length (without_end (end_of name p) ends.entries) + one_if p ≡ length ends.entries
+      go None f = omega arith
+      go (Some p) f =
+          let e : PauseEnd = record { until = p.until; name = name } in
+          let held = some_unit (found_end e ends.entries) (end_held e (ap (end_of name) f)) in
+          length_removed (λ k. is_eq (end_cmp e k)) ends.entries (Some (e, tt)) refl (sym held)
+
+  -- the end of the one that it gets is new,
+  pub end_absent : (e : PauseEnd) → end_of name to ≡ Some e → found_end e left ≡ None
+  end_absent e is = none_from (found_end e left) (go to is)
+    where
+      go : (p : Option PauseRecord) → end_of name p ≡ Some e → has_end e left ≡ false
+      go None is = absurd (let g : None ≡ Some e = is in cc)
+      go (Some p) is =
+          let same : record { until = p.until; name = name } ≡ e = some_is (record { until = p.until; name = name }) e is in
+          ap (λ x. has_end x left) (sym same) ∙ none_left p.until
+        where
+          some_is : (a b : PauseEnd) → Some a ≡ Some b → a ≡ b
+          some_is a b e = cc
+
+  -- and has a box.
+  pub end_fits : (spare : ℕ) → spare ≡ ends.spare + one_if from → (e : PauseEnd) → end_of name to ≡ Some e → 0 < spare
+  end_fits spare boxes e is = go to refl is
+    where
+      go : (p : Option PauseRecord) → to ≡ p → end_of name p ≡ Some e → 0 < spare
+      go None f is = absurd (let g : None ≡ Some e = is in cc)
+      go (Some p) f is =
+          let more : one_if to ≡ 1 = ap one_if f in
+          omega (arith, more, m.count, m.fewer, count_few new, h.roomy, h.counted, boxes)
+
+  -- Then the ends are those of the pauses again.
+  pub ends_moved : (last : CatalogSeen PauseEnd (Unit {0})) → last.entries ≡ with_end (end_of name to) left → last.spare + one_if to ≡ ends.spare + one_if from → AreEnds new last
+  ends_moved last entries spare = record {
+    known = λ q. ap (has_end q) entries ∙ elim (cases_Bool (is_same_name name q.name)) [
+      | inl here ↦ let same : name ≡ q.name = same_name name q.name here in own q same
+      | inr other ↦ added q other to refl ∙ others_left q other ∙ h.known q ∙ sym (m.others q other)
+    ];
+    counted = let long = ap length entries ∙ grown to refl in omega (arith, long, left_length, h.counted, m.count);
+    roomy = let long = ap length entries ∙ grown to refl in omega (arith, long, left_length, spare, h.roomy, m.fewer);
+  }
+    where
+      grown : (p : Option PauseRecord) → to ≡ p → length (with_end (end_of name p) left) ≡ length left + one_if p
+      grown None f = omega arith
+      grown (Some p) f = length_inserted end_cmp (record { until = p.until; name = name }) tt left (end_absent (record { until = p.until; name = name }) (ap (end_of name) f))
+
+      added : (q : PauseEnd) → is_same_name name q.name ≡ false → (p : Option PauseRecord) → to ≡ p → has_end q (with_end (end_of name p) left) ≡ has_end q left
+      added q other None f = refl
+      added q other (Some p) f =
+          let e : PauseEnd = record { until = p.until; name = name } in
+          has_entered q e left (end_absent e (ap (end_of name) f)) ∙ ap (λ b. b || has_end q left) (ends_apart q e (named_apart q.name other))
+        where
+          named_apart : (n : List ℕ) → is_same_name name n ≡ false → is_same_name n name ≡ false
+          named_apart n other = elim (cases_Bool (is_same_name n name)) [
+            | inl same ↦ absurd (let e : n ≡ name = same_name n name same in let g : is_same_name name n ≡ true = ap (is_same_name name) e ∙ same_itself name in cc)
+            | inr apart ↦ apart
+          ]
+
+      own_at : (u : ℕ) (p : Option PauseRecord) → to ≡ p → has_end (record { until = u; name = name }) (with_end (end_of name p) left) ≡ ends_at u p
+      own_at u None f = none_left u
+      own_at u (Some p) f =
+          let e : PauseEnd = record { until = p.until; name = name } in
+          let q : PauseEnd = record { until = u; name = name } in
+          has_entered q e left (end_absent e (ap (end_of name) f))
+          ∙ (λ i. ends_alike q e (same_itself name) i || none_left u i)
+          ∙ or-false (u == p.until)
+          ∙ turned u p.until
+
+      own : (q : PauseEnd) → name ≡ q.name → has_end q (with_end (end_of name to) left) ≡ is_end_in q new
+      own q same =
+          let e : record { until = q.until; name = name } ≡ q = ap (λ n. record { until = q.until; name = n }) same in
+          ap (λ x. has_end x (with_end (end_of name to) left)) (sym e) ∙ own_at q.until to refl ∙ sym (m.is q.until) ∙ ap (λ x. is_end_in x new) e
+
+-- The tube of one name alone is looked at.
+not_both : (b : Bool) → (b && false) ≡ false
+not_both true = refl
+not_both false = refl
+
+none_named : (e : PauseEnd) (ts : List TubeRecord) → has_entry e.name ts ≡ false → is_end_in e ts ≡ false
+none_named e [] h = refl
+none_named e (t ∷ ts) h =
+    let parts = head_differs (is_same_name e.name t.name) (has_entry e.name ts) h in
+    rw parts.0 (none_named e ts parts.1)
+
+none_behind : (name : List ℕ) (t : TubeRecord) (ts : List TubeRecord) → is_same_name name t.name ≡ true → AreInOrder (t ∷ ts) → has_entry name ts ≡ false
+none_behind name t ts same order = ap (λ n. has_entry n ts) (same_name name t.name same) ∙ none_later t.name ts order.0
+
+pub named_ends : (name : List ℕ) (m : ℕ) (ts : List TubeRecord) → AreInOrder ts → is_end_in (record { until = m; name = name }) ts ≡ ends_at m (pause_at name ts)
+named_ends name m [] order = refl
+named_ends name m (t ∷ ts) order = elim (cases_Bool (is_same_name name t.name)) [
+  | inl same ↦
+      let rest = none_named (record { until = m; name = name }) ts (none_behind name t ts same order) in
+      rw (same, rest) (or-false (ends_at m t.pause))
+  | inr other ↦ rw other (named_ends name m ts order.1)
+]
+
+apart_from : (name n k : List ℕ) → is_same_name name n ≡ false → name ≡ k → is_same_name n k ≡ false
+apart_from name n k other is = elim (cases_Bool (is_same_name n k)) [
+  | inr apart ↦ apart
+  | inl same ↦ absurd (let g : n ≡ name = same_name n k same ∙ sym is in let h : is_same_name name n ≡ true = ap (is_same_name name) g ∙ same_itself name in cc)
+]
+
+-- its pause changes
+module _ (name : List ℕ) (f : TubeRecord → TubeRecord) (keeps : (t : TubeRecord) → (f t).name ≡ t.name) where
+  stay : (ts : List TubeRecord) → has_entry name ts ≡ false → map (changed_one name f) ts ≡ ts
+  stay [] h = refl
+  stay (t ∷ ts) h =
+      let parts = head_differs (is_same_name name t.name) (has_entry name ts) h in
+      rw parts.0 (ap (λ us. t ∷ us) (stay ts parts.1))
+
+  others_changed : (e : PauseEnd) → is_same_name name e.name ≡ false → (ts : List TubeRecord) → is_end_in e (map (changed_one name f) ts) ≡ is_end_in e ts
+  others_changed e other [] = refl
+  others_changed e other (t ∷ ts) = elim (cases_Bool (is_same_name name t.name)) [
+    | inr apart ↦ rw apart (ap (λ b. is_end_of e t || b) (others_changed e other ts))
+    | inl same ↦
+        let is : name ≡ t.name = same_name name t.name same in
+        let away : is_same_name e.name t.name ≡ false = apart_from name e.name t.name other is in
+        let away_then : is_same_name e.name (f t).name ≡ false = ap (is_same_name e.name) (keeps t) ∙ away in
+        rw (same, away, away_then) (others_changed e other ts)
+  ]
+
+  count_changed : (ts : List TubeRecord) → AreInOrder ts → count_by is_paused (map (changed_one name f) ts) + one_if (pause_at name ts) ≡ count_by is_paused ts + one_if (pause_at name (map (changed_one name f) ts))
+  count_changed [] order = refl
+  count_changed (t ∷ ts) order = elim (cases_Bool (is_same_name name t.name)) [
+    | inl same ↦
+        let rest = stay ts (none_behind name t ts same order) in
+        let same_then : is_same_name name (f t).name ≡ true = ap (is_same_name name) (keeps t) ∙ same in
+        rw (count_cons is_paused t ts, same, rest, same_then, count_cons is_paused (f t) ts) (omega arith)
+    | inr other ↦
+        rw (other, other, count_cons is_paused t ts, count_cons is_paused t (map (changed_one name f) ts)) (omega (arith, count_changed ts order.1))
+  ]
+
+  length_changed : (ts : List TubeRecord) → length (map (changed_one name f) ts) ≡ length ts
+  length_changed [] = refl
+  length_changed (t ∷ ts) = ap suc (length_changed ts)
+
+  named_kept : (b : Bool) (t : TubeRecord) → (if b then f t else t).name ≡ t.name
+  named_kept true t = keeps t
+  named_kept false t = refl
+
+  pub order_changed : (ts : List TubeRecord) → AreInOrder ts → AreInOrder (map (changed_one name f) ts)
+  order_changed ts order = order_kept (changed_one name f) (λ t. named_kept (is_same_name name t.name) t) ts order
+
+  pub moves_changed : (ts : List TubeRecord) → AreInOrder ts → Moves name (pause_at name ts) (pause_at name (map (changed_one name f) ts)) ts (map (changed_one name f) ts)
+  moves_changed ts order = record {
+    others = λ e other. others_changed e other ts;
+    was = λ m. named_ends name m ts order;
+    is = λ m. named_ends name m (map (changed_one name f) ts) (order_changed ts order);
+    count = count_changed ts order;
+    fewer = omega (arith, length_changed ts);
+  }
+
+-- it goes
+module _ (name : List ℕ) where
+  abbrev rest : List Named → List TubeRecord
+  rest es = map record_at (remove_entry (is_named_at name) es)
+
+  at : (x : List ℕ) (b : Bool) → is_same_name name x ≡ b → is_named_at name x ≡ b
+  at x b e = ties name x ∙ e
+
+  others_stay : (e : PauseEnd) → is_same_name name e.name ≡ false → (es : List Named) → is_end_in e (rest es) ≡ is_end_in e (map record_at es)
+  others_stay e other [] = refl
+  others_stay e other (x ∷ es) = elim (cases_Bool (is_same_name name x.0)) [
+    | inr apart ↦ rw (at x.0 false apart) (ap (λ b. is_end_of e (record_at x) || b) (others_stay e other es))
+    | inl same ↦
+        let away : is_same_name e.name x.0 ≡ false = apart_from name e.name x.0 other (same_name name x.0 same) in
+        rw (at x.0 true same, away) refl
+  ]
+
+  none_stay : (m : ℕ) (es : List Named) → AreInOrder (map record_at es) → is_end_in (record { until = m; name = name }) (rest es) ≡ false
+  none_stay m [] order = refl
+  none_stay m (x ∷ es) order = elim (cases_Bool (is_same_name name x.0)) [
+    | inl same ↦ rw (at x.0 true same) (none_named (record { until = m; name = name }) (map record_at es) (none_behind name (record_at x) (map record_at es) same order))
+    | inr other ↦ rw (at x.0 false other, other) (none_stay m es order.1)
+  ]
+
+  count_rest : (es : List Named) → count_by is_paused (rest es) + one_if (pause_at name (map record_at es)) ≡ count_by is_paused (map record_at es)
+  count_rest [] = refl
+  count_rest (x ∷ es) = elim (cases_Bool (is_same_name name x.0)) [
+    | inl same ↦ rw (at x.0 true same, same, count_cons is_paused (record_at x) (map record_at es)) (omega arith)
+    | inr other ↦
+        rw (at x.0 false other, other, count_cons is_paused (record_at x) (map record_at es), count_cons is_paused (record_at x) (rest es)) (omega (arith, count_rest es))
+  ]
+
+  length_rest : (es : List Named) → length (rest es) ≤ length (map record_at es)
+  length_rest [] = omega arith
+  length_rest (x ∷ es) = elim (cases_Bool (is_named_at name x.0)) [
+    | inl same ↦ rw same (omega arith)
+    | inr other ↦ rw other (omega (arith, length_rest es))
+  ]
+
+  pub moves_out : (es : List Named) → AreInOrder (map record_at es) → Moves name (pause_at name (map record_at es)) None (map record_at es) (map record_at (remove_entry (is_named_at name) es))
+  moves_out es order = record {
+    others = λ e other. others_stay e other es;
+    was = λ m. named_ends name m (map record_at es) order;
+    is = λ m. none_stay m es order;
+    count = omega (arith, count_rest es);
+    fewer = length_rest es;
+  }
+
+  -- it comes
+  from_zero : (n : ℕ) → 0 + n ≡ n
+  from_zero n = omega arith
+
+  fresh_ends : (e : PauseEnd) (ts : List TubeRecord) → has_entry name ts ≡ false → is_end_in e (with_record (fresh_tube name) ts) ≡ is_end_in e ts
+  fresh_ends e [] h = ap (λ b. b || false) (not_both (is_same_name e.name name))
+  fresh_ends e (t ∷ ts) h =
+      let parts = head_differs (is_same_name name t.name) (has_entry name ts) h in
+      rw parts.0 (go (is_name_before name t.name) (fresh_ends e ts parts.1))
+    where
+      go : (b : Bool) → is_end_in e (with_record (fresh_tube name) ts) ≡ is_end_in e ts → is_end_in e (if b then fresh_tube name ∷ t ∷ ts else t ∷ with_record (fresh_tube name) ts) ≡ is_end_in e (t ∷ ts)
+      go true more = ap (λ b. b || is_end_in e (t ∷ ts)) (not_both (is_same_name e.name name))
+      go false more = ap (λ b. is_end_of e t || b) more
+
+  fresh_count : (ts : List TubeRecord) → has_entry name ts ≡ false → (count_by is_paused (with_record (fresh_tube name) ts) ≡ count_by is_paused ts) × (length (with_record (fresh_tube name) ts) ≡ length ts + 1)
+  fresh_count [] h = (refl, refl)
+  fresh_count (t ∷ ts) h =
+      let parts = head_differs (is_same_name name t.name) (has_entry name ts) h in
+      rw parts.0 (go (is_name_before name t.name) (fresh_count ts parts.1))
+    where
+      go : (b : Bool) → (count_by is_paused (with_record (fresh_tube name) ts) ≡ count_by is_paused ts) × (length (with_record (fresh_tube name) ts) ≡ length ts + 1)
+          → (count_by is_paused (if b then fresh_tube name ∷ t ∷ ts else t ∷ with_record (fresh_tube name) ts) ≡ count_by is_paused (t ∷ ts)) × (length (if b then fresh_tube name ∷ t ∷ ts else t ∷ with_record (fresh_tube name) ts) ≡ length (t ∷ ts) + 1)
+      go true more = (count_cons is_paused (fresh_tube name) (t ∷ ts) ∙ from_zero (count_by is_paused (t ∷ ts)), omega arith)
+      go false more = (count_cons is_paused t (with_record (fresh_tube name) ts) ∙ ap (λ n. cond (is_paused t) 1 0 + n) more.0 ∙ sym (count_cons is_paused t ts), omega (arith, more.1))
+
+  pub ends_provided : (ts : List TubeRecord) (ends last : CatalogSeen PauseEnd (Unit {0})) → AreEnds ts ends → has_entry name ts ≡ false → last.entries ≡ ends.entries → length ts + 1 ≤ length last.entries + last.spare → AreEnds (with_record (fresh_tube name) ts) last
+  ends_provided ts ends last h none same room = record {
+    known = λ e. ap (has_end e) same ∙ h.known e ∙ sym (fresh_ends e ts none);
+    counted = ap length same ∙ h.counted ∙ sym (fresh_count ts none).0;
+    roomy = omega (arith, room, (fresh_count ts none).1);
+  }
+
+-- Where no pause changes, the ends stay.
+module _ (f : TubeRecord → TubeRecord) (named : (t : TubeRecord) → (f t).name ≡ t.name) (paused : (t : TubeRecord) → (f t).pause ≡ t.pause) where
+  same_ends : (e : PauseEnd) (ts : List TubeRecord) → is_end_in e (map f ts) ≡ is_end_in e ts
+  same_ends e [] = refl
+  same_ends e (t ∷ ts) = λ i. (is_same_name e.name (named t i) && ends_at e.until (paused t i)) || same_ends e ts i
+
+  same_count : (ts : List TubeRecord) → count_by is_paused (map f ts) ≡ count_by is_paused ts
+  same_count [] = refl
+  same_count (t ∷ ts) =
+      count_cons is_paused (f t) (map f ts) ∙ (λ i. one_if (paused t i) + same_count ts i) ∙ sym (count_cons is_paused t ts)
+
+  same_length : (ts : List TubeRecord) → length (map f ts) ≡ length ts
+  same_length [] = refl
+  same_length (t ∷ ts) = ap suc (same_length ts)
+
+  pub ends_stay : (ts : List TubeRecord) (ends : CatalogSeen PauseEnd (Unit {0})) → AreEnds ts ends → AreEnds (map f ts) ends
+  ends_stay ts ends h = record {
+    known = λ e. h.known e ∙ sym (same_ends e ts);
+    counted = h.counted ∙ sym (same_count ts);
+    roomy = omega (arith, h.roomy, same_length ts);
+  }
+
+-- the end of the pause of an entry that is lent
+abbrev pub pause_lent : Option (Bor KeptTube) → Option PauseRecord
+pause_lent None = None
+pause_lent (Some t) = t.now.pause
+
+pub lent_end : (name : List ℕ) (es : List Named) (o x : Option (Bor KeptTube)) → o ≡ x → option_map (λ (t : Bor KeptTube). t.now) o ≡ lookup (is_named_at name) es → end_of name (pause_lent x) ≡ end_of name (pause_at name (map record_at es))
+lent_end name es o x is e = ap (end_of name) (read x ∙ ap (λ y. pause_in (option_map (record_of name) (option_map (λ (t : Bor KeptTube). t.now) y))) (sym is) ∙ ap (λ y. pause_in (option_map (record_of name) y)) e ∙ ap pause_in (found_entry name es))
+  where
+    read : (x : Option (Bor KeptTube)) → pause_lent x ≡ pause_in (option_map (record_of name) (option_map (λ (t : Bor KeptTube). t.now) x))
+    read None = refl
+    read (Some t) = refl
+
+-- A change of what is kept of one tube, as an entry and as a record.
+module _ (name : List ℕ) (f : KeptTube → KeptTube) (g : TubeRecord → TubeRecord) (made : (n : List ℕ) (t : KeptTube) → record_of n (f t) ≡ g (record_of n t)) (keeps : (t : TubeRecord) → (g t).name ≡ t.name)
+    (es last : List Named) (order : AreInOrder (map record_at es)) (e : last ≡ edited name f (lookup (is_named_at name) es) es) where
+  edit_is : map record_at last ≡ map (changed_one name g) (map record_at es)
+  edit_is = ap (map record_at) e ∙ edit_change name f g made es order
+
+  pub edit_moves : Moves name (pause_at name (map record_at es)) (pause_at name (map record_at last)) (map record_at es) (map record_at last)
+  edit_moves = subst (λ us. Moves name (pause_at name (map record_at es)) (pause_at name us) (map record_at es) us) (sym edit_is) (moves_changed name g keeps (map record_at es) order)
+
+  pub edit_stays : ((t : TubeRecord) → (g t).pause ≡ t.pause) → (ends : CatalogSeen PauseEnd (Unit {0})) → AreEnds (map record_at es) ends → AreEnds (map record_at last) ends
+  edit_stays paused ends h =
+      subst (λ us. AreEnds us ends) (sym edit_is) (ends_stay (changed_one name g) (λ t. named_kept name g keeps (is_same_name name t.name) t) (λ t. pause_kept (is_same_name name t.name) t) (map record_at es) ends h)
+    where
+      pause_kept : (b : Bool) (t : TubeRecord) → (if b then g t else t).pause ≡ t.pause
+      pause_kept true t = paused t
+      pause_kept false t = refl
+
+-- What a pause, and a count, change.
+pub names_kept : (what : TubeChange) (t : TubeRecord) → (tube_changed what t).name ≡ t.name
+names_kept CountPut t = refl
+names_kept CountDelete t = refl
+names_kept (Pause seconds moment) t = refl
+
+pub change_moves : (name : List ℕ) (what : TubeChange) (es last : List Named) → AreInOrder (map record_at es) → last ≡ edited name (kept_changed what) (lookup (is_named_at name) es) es
+    → Moves name (pause_at name (map record_at es)) (pause_at name (map record_at last)) (map record_at es) (map record_at last)
+change_moves name what es last order e = edit_moves name (kept_changed what) (tube_changed what) (change_kept what) (names_kept what) es last order e
+
+pub count_stays : (name : List ℕ) (what : TubeChange) (es last : List Named) (ends : CatalogSeen PauseEnd (Unit {0})) → ((t : TubeRecord) → (tube_changed what t).pause ≡ t.pause) → AreInOrder (map record_at es) → last ≡ edited name (kept_changed what) (lookup (is_named_at name) es) es
+    → AreEnds (map record_at es) ends → AreEnds (map record_at last) ends
+count_stays name what es last ends paused order e h = edit_stays name (kept_changed what) (tube_changed what) (change_kept what) (names_kept what) es last order e paused ends h
+
+-- how many boxes an end takes
+pub one_box : (name : List ℕ) (p : Option PauseRecord) (e : Option PauseEnd) → e ≡ end_of name p → cond (is_some e) 1 0 ≡ one_if p
+one_box name p e is = ap (λ o. cond (is_some o) 1 0) is ∙ as_many p
+  where
+    as_many : (p : Option PauseRecord) → cond (is_some (end_of name p)) 1 0 ≡ one_if p
+    as_many None = refl
+    as_many (Some p) = refl
+
+-- A pause that is over ends.
+twice_over : (moment : ℕ) (p : Option PauseRecord) → pause_after_timers moment (pause_after_timers moment p) ≡ pause_after_timers moment p
+twice_over moment None = refl
+twice_over moment (Some p) = elim (cases_Bool (nat_le p.until moment)) [
+  | inl over ↦ rw over refl
+  | inr other ↦ rw (other, other) refl
+]
+
+module _ (moment : ℕ) (name : List ℕ) where
+  abbrev after : TubeRecord → TubeRecord
+  after = tube_after_timers moment
+
+  once : (t : TubeRecord) (b : Bool) → after (if b then after t else t) ≡ after t
+  once t true = λ i. record t { pause = twice_over moment t.pause i }
+  once t false = refl
+
+  one_after : (ts : List TubeRecord) → map after (map (changed_one name after) ts) ≡ map after ts
+  one_after [] = refl
+  one_after (t ∷ ts) = λ i. once t (is_same_name name t.name) i ∷ one_after ts i
+
+  pause_then : (ts : List TubeRecord) → pause_at name (map (changed_one name after) ts) ≡ pause_after_timers moment (pause_at name ts)
+  pause_then [] = refl
+  pause_then (t ∷ ts) = elim (cases_Bool (is_same_name name t.name)) [
+    | inl same ↦ rw (same, same) refl
+    | inr other ↦ rw (other, other) (pause_then ts)
+  ]
+
+own_end : (name : List ℕ) (u : ℕ) (p : Option PauseRecord) → ends_at u p ≡ true → end_of name p ≡ Some (record { until = u; name = name })
+own_end name u None h = absurd cc
+own_end name u (Some p) h = let same : p.until ≡ u = eqb-true p.until u h in ap (λ n. Some (record { until = n; name = name })) same
+
+over_ends : (moment u : ℕ) (p : Option PauseRecord) → ends_at u p ≡ true → nat_le u moment ≡ true → pause_after_timers moment p ≡ None
+over_ends moment u None h come = absurd cc
+over_ends moment u (Some p) h come =
+    let same : p.until ≡ u = eqb-true p.until u h in
+    let over : nat_le p.until moment ≡ true = ap (λ n. nat_le n moment) same ∙ come in
+    rw over refl
+
+-- the first one, which has come
+module _ (moment : ℕ) (e : PauseEnd) (es last : List Named) (ends : CatalogSeen PauseEnd (Unit {0})) (h : AreEnds (map record_at es) ends) (order : AreInOrder (map record_at es))
+    (come : Some e ≡ if_over moment (first_end ends.entries)) (edit : last ≡ edited e.name (ended moment) (lookup (is_named_at e.name) es) es) where
+  ends_then : ends_at e.until (pause_at e.name (map record_at es)) ≡ true
+  ends_then = sym (named_ends e.name e.until (map record_at es) order) ∙ sym (h.known e) ∙ (one_over moment e ends.entries come).0
+
+  last_is : map record_at last ≡ map (changed_one e.name (tube_after_timers moment)) (map record_at es)
+  last_is = edit_is e.name (ended moment) (tube_after_timers moment) (λ n t. refl) (λ t. refl) es last order edit
+
+  pub over_moves : Moves e.name (pause_at e.name (map record_at es)) (pause_at e.name (map record_at last)) (map record_at es) (map record_at last)
+  over_moves = edit_moves e.name (ended moment) (tube_after_timers moment) (λ n t. refl) (λ t. refl) es last order edit
+
+  pub over_from : end_of e.name (pause_at e.name (map record_at es)) ≡ Some e
+  over_from = own_end e.name e.until (pause_at e.name (map record_at es)) ends_then
+
+  pub over_to : pause_at e.name (map record_at last) ≡ None
+  over_to = ap (pause_at e.name) last_is ∙ pause_then moment e.name (map record_at es) ∙ over_ends moment e.until (pause_at e.name (map record_at es)) ends_then (one_over moment e ends.entries come).1
+
+  pub over_records : map (tube_after_timers moment) (map record_at last) ≡ map (tube_after_timers moment) (map record_at es)
+  over_records = ap (map (tube_after_timers moment)) last_is ∙ one_after moment e.name (map record_at es)
+
+  one_from : one_if (pause_at e.name (map record_at es)) ≡ 1
+  one_from = go (pause_at e.name (map record_at es)) over_from
+    where
+      go : (p : Option PauseRecord) → end_of e.name p ≡ Some e → one_if p ≡ 1
+      go None is = absurd (let g : None ≡ Some e = is in cc)
+      go (Some p) is = refl
+
+  pub over_fewer : count_by is_paused (map record_at last) < count_by is_paused (map record_at es)
+  over_fewer = let none = ap one_if over_to in omega (arith, over_moves.count, one_from, none)
+
+-- The end of the pause of a tube whose entry is lent,
+pub none_lent : (name : List ℕ) (es : List Named) (o : Option (Bor KeptTube)) → o ≡ None → option_map (λ (t : Bor KeptTube). t.now) o ≡ lookup (is_named_at name) es → None ≡ end_of name (pause_at name (map record_at es))
+none_lent name es o is e = lent_end name es o None is e
+
+pub some_lent : (name : List ℕ) (es : List Named) (o : Option (Bor KeptTube)) (t : Bor KeptTube) (r : Option PauseEnd) → o ≡ Some t → option_map (λ (t : Bor KeptTube). t.now) o ≡ lookup (is_named_at name) es
+    → r ≡ end_of name t.now.pause → r ≡ end_of name (pause_at name (map record_at es))
+some_lent name es o t r is e told = told ∙ lent_end name es o (Some t) is e

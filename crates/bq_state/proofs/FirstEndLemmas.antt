@@ -1,0 +1,167 @@
+-- When the first wait of a client is over by its timeout, as seats change.
+use Rattle.std.proofs.Common.{◌≡◌, ◌==◌, ◌&&◌, ◌||◌, ℕ, zero, suc, Bool, true, false, not, List, Option, Some, None, [], ◌∷◌, map, length, refl, sym, ap, ◌∙◌, inl, inr, set, slice_get, arith, if◌then◌else◌}
+use Rattle.std.specs.Prelude.{fold, is_some, min, nat_le}
+use Rattle.std.specs.List.{AllByRecursion as All, list_any}
+use Rattle.std.proofs.lemmas.Bool.{cases_Bool, eqb-true}
+use Rattle.std.proofs.lemmas.Bool.Decides.{nat_tests}
+use Rattle.bq_job.specs.machine.Changes.{is_waiting, seat_with}
+use Rattle.bq_job.specs.machine.Machine.{SeatRecord, Wait, empty_seat}
+use Rattle.bq_job.specs.beside.NextDue.{dues_of_until, dues_of_wait, earliest}
+use Rattle.bq_job.specs.machine.TubeCommands.{watching}
+use Rattle.bq_job.specs.machine.Waits.{is_past, is_until_over}
+use Rattle.bq_job.proofs.KeptLemmas.{only_seat}
+use Rattle.bq_job.proofs.ListLemmas.{all_both, all_of_map, all_weaker}
+use Rattle.bq_state.specs.Dues.{earlier_of_both, is_end_over, with_seat_due}
+use Rattle.bq_state.specs.EndingWaits.{has_waited}
+use Rattle.bq_state.specs.FirstEnds.{AreTimeouts, IsThere, end_after, gives_up_at, keeps_end}
+use Rattle.bq_state.specs.SeatChanges.{AreNumbered, seat_changed, seat_changed_at}
+use Rattle.bq_state.specs.declared.known.hints.FirstEnd.{FirstEnd}
+use Rattle.bq_state.specs.declared.known.hints.FirstEnd.TheVariants.{Known, Unknown}
+use Rattle.bq_state.specs.declared.seats.SeatChange.{SeatChange}
+use Rattle.bq_state.specs.declared.seats.SeatChange.TheVariants.{StopWaiting, Connect, Clear, End, Use}
+use Rattle.bq_state.specs.declared.seats.SeatChange.TheVariants.{Wait as WaitFrom}
+use Rattle.bq_state.proofs.CrowdLemmas.{none_changed}
+use Rattle.bq_state.proofs.PartsLemmas.{all_read, all_set}
+
+-- the same moments, and so the same first one
+fold_kept : (g : SeatRecord → SeatRecord) (best : Option ℕ) (seats : List SeatRecord) → All (λ s. gives_up_at (g s) ≡ gives_up_at s) seats → fold with_seat_due best (map g seats) ≡ fold with_seat_due best seats
+fold_kept g best [] same = refl
+fold_kept g best (s ∷ seats) same = fold_kept g (earlier_of_both best (gives_up_at (g s))) seats same.1 ∙ ap (λ due. fold with_seat_due (earlier_of_both best due) seats) same.0
+
+fold_set : (best : Option ℕ) (seats : List SeatRecord) (i : ℕ) (s new : SeatRecord) → gives_up_at new ≡ gives_up_at s → slice_get seats i ≡ Some s → fold with_seat_due best (set seats i new) ≡ fold with_seat_due best seats
+fold_set best [] i s new same here = refl
+fold_set best (t ∷ seats) zero s new same here = let is : t ≡ s = cc in ap (λ due. fold with_seat_due (earlier_of_both best due) seats) (same ∙ ap gives_up_at (sym is))
+fold_set best (t ∷ seats) (suc i) s new same here = fold_set (earlier_of_both best (gives_up_at t)) seats i s new same here
+
+no_moment : (o : Option ℕ) → not (is_some o) ≡ true → None ≡ o
+no_moment None h = refl
+no_moment (Some due) h = absurd cc
+
+both_so : (a b : Bool) → (a && b) ≡ true → (a ≡ true) × (b ≡ true)
+both_so true true h = (refl, refl)
+both_so true false h = absurd cc
+both_so false b h = absurd cc
+
+not_so : (b : Bool) → not b ≡ true → b ≡ false
+not_so true h = absurd cc
+not_so false h = refl
+
+-- a change that keeps it
+same_end : (what : SeatChange) (s : SeatRecord) → keeps_end what s ≡ true → gives_up_at (seat_changed what s) ≡ gives_up_at s
+same_end StopWaiting s h = no_moment (gives_up_at s) h
+same_end (WaitFrom ticket until) s h =
+    let parts = both_so (not (is_some until) && not (is_some (gives_up_at s))) (not s.ended) h in
+    let none = both_so (not (is_some until)) (not (is_some (gives_up_at s))) parts.0 in
+    ap (λ o. earliest (dues_of_until o)) (sym (no_moment until none.0)) ∙ no_moment (gives_up_at s) none.1
+same_end Connect s h = no_moment (gives_up_at s) h
+same_end Clear s h = no_moment (gives_up_at s) h
+same_end End s h = refl
+same_end (Use tube) s h = refl
+
+still_there : (what : SeatChange) (s : SeatRecord) → keeps_end what s ≡ true → IsThere s → IsThere (seat_changed what s)
+still_there StopWaiting s h there = refl
+still_there (WaitFrom ticket until) s h there = not_so s.ended (both_so (not (is_some until) && not (is_some (gives_up_at s))) (not s.ended) h).1
+still_there Connect s h there = refl
+still_there Clear s h there = refl
+still_there End s h there = go (is_waiting s) (not_so (is_waiting s) h)
+  where
+    go : (w : Bool) → w ≡ false → (w && true) ≡ false
+    go true e = absurd cc
+    go false e = refl
+still_there (Use tube) s h there = there
+
+pub timeouts_of_seat : (number : ℕ) (what : SeatChange) (first : FirstEnd) (seats : List SeatRecord) → AreNumbered seats → AreTimeouts first seats
+    → AreTimeouts (end_after what (seat_with number seats) first) (map (seat_changed_at number what) seats)
+timeouts_of_seat number what first seats numbered known = go (seat_with number seats) refl
+  where
+    kept : (s : SeatRecord) → seat_with number seats ≡ Some s → keeps_end what s ≡ true → All (λ t. t.number ≡ number → keeps_end what t ≡ true) seats
+    kept s found h =
+        all_weaker (λ t. t.number ≡ number → t ≡ s) (λ t. t.number ≡ number → keeps_end what t ≡ true) seats (λ t only e. ap (keeps_end what) (only e) ∙ h)
+        (only_seat 0 (length seats) number seats s numbered found)
+
+    due : (t : SeatRecord) → (t.number ≡ number → keeps_end what t ≡ true) → (b : Bool) → (t.number == number) ≡ b → gives_up_at (if b then seat_changed what t else t) ≡ gives_up_at t
+    due t keeps true e = same_end what t (keeps (eqb-true t.number number e))
+    due t keeps false e = refl
+
+    there : (t : SeatRecord) → (t.number ≡ number → keeps_end what t ≡ true) → IsThere t → (b : Bool) → (t.number == number) ≡ b → IsThere (if b then seat_changed what t else t)
+    there t keeps is true e = still_there what t (keeps (eqb-true t.number number e)) is
+    there t keeps is false e = is
+
+    all_kept : (f : FirstEnd) → AreTimeouts f seats → All (λ t. t.number ≡ number → keeps_end what t ≡ true) seats → AreTimeouts f (map (seat_changed_at number what) seats)
+    all_kept Unknown known keeps = tt
+    all_kept (Known at) known keeps = (
+      fold_kept (seat_changed_at number what) None seats
+          (all_weaker (λ t. t.number ≡ number → keeps_end what t ≡ true) (λ t. gives_up_at (seat_changed_at number what t) ≡ gives_up_at t) seats (λ t k. due t k (t.number == number) refl) keeps)
+          ∙ known.0,
+      all_of_map IsThere (seat_changed_at number what) seats
+          (all_weaker (λ t. (t.number ≡ number → keeps_end what t ≡ true) × IsThere t) (λ t. IsThere (seat_changed_at number what t)) seats (λ t k. there t k.0 k.1 (t.number == number) refl)
+          (all_both (λ t. t.number ≡ number → keeps_end what t ≡ true) IsThere seats keeps known.1)),
+    )
+
+    at_seat : (s : SeatRecord) → seat_with number seats ≡ Some s → (b : Bool) → keeps_end what s ≡ b → AreTimeouts (if b then first else Unknown) (map (seat_changed_at number what) seats)
+    at_seat s found true e = all_kept first known (kept s found e)
+    at_seat s found false e = tt
+
+    go : (o : Option SeatRecord) → seat_with number seats ≡ o → AreTimeouts (end_after what o first) (map (seat_changed_at number what) seats)
+    go None e = rw (none_changed number (seat_changed what) seats e) known
+    go (Some s) e = at_seat s e (keeps_end what s) refl
+
+-- a client watches other tubes
+pub timeouts_watching : (names : List (List ℕ)) (i : ℕ) (s : SeatRecord) (first : FirstEnd) (seats : List SeatRecord) → slice_get seats i ≡ Some s → AreTimeouts first seats → AreTimeouts first (set seats i (watching names s))
+timeouts_watching names i s Unknown seats here known = tt
+timeouts_watching names i s (Known at) seats here known =
+    (fold_set None seats i s (watching names s) refl here ∙ known.0, all_set IsThere seats i (watching names s) known.1 (all_read IsThere seats i s known.1 here))
+
+-- whether a moment has come that is the first of some
+over_min : (moment a b : ℕ) → nat_le (min a b) moment ≡ (nat_le a moment || nat_le b moment)
+over_min moment a b = elim (cases_Bool (nat_le a moment)) [
+  | inl x ↦ let z : nat_le (min a b) moment ≡ true = grind (arith, nat_tests) in rw x z
+  | inr x ↦ elim (cases_Bool (nat_le b moment)) [
+    | inl y ↦ let z : nat_le (min a b) moment ≡ true = grind (arith, nat_tests) in rw (x, y) z
+    | inr y ↦ let z : nat_le (min a b) moment ≡ false = grind (arith, nat_tests) in rw (x, y) z
+  ]
+]
+
+over_both : (moment : ℕ) (o u : Option ℕ) → is_end_over moment (earlier_of_both o u) ≡ (is_end_over moment o || is_end_over moment u)
+over_both moment None u = refl
+over_both moment (Some a) None = sym (or_none (nat_le a moment))
+  where
+    or_none : (b : Bool) → (b || false) ≡ b
+    or_none true = refl
+    or_none false = refl
+over_both moment (Some a) (Some b) = over_min moment a b
+
+over_all : (moment : ℕ) (best : Option ℕ) (seats : List SeatRecord) → All IsThere seats → is_end_over moment (fold with_seat_due best seats) ≡ (is_end_over moment best || list_any (has_waited moment) seats)
+over_all moment best [] there = sym (or_none (is_end_over moment best))
+  where
+    or_none : (b : Bool) → (b || false) ≡ b
+    or_none true = refl
+    or_none false = refl
+over_all moment best (s ∷ seats) there =
+    over_all moment (earlier_of_both best (gives_up_at s)) seats there.1
+    ∙ ap (λ b. b || list_any (has_waited moment) seats) (over_both moment best (gives_up_at s) ∙ ap (λ b. is_end_over moment best || b) (one s.wait s.ended there.0))
+    ∙ or_thrice (is_end_over moment best) (has_waited moment s) (list_any (has_waited moment) seats)
+  where
+    or_thrice : (a b c : Bool) → ((a || b) || c) ≡ (a || (b || c))
+    or_thrice true b c = refl
+    or_thrice false b c = refl
+
+    timed : (a b : Bool) → b ≡ false → a ≡ (a || b)
+    timed true b h = refl
+    timed false b h = sym h
+
+    one : (w : Option Wait) (ended : Bool) → (is_some w && ended) ≡ false → is_end_over moment (earliest (dues_of_wait w)) ≡ (is_some w && (is_until_over moment w || ended))
+    one None ended h = refl
+    one (Some wait) ended h = until wait.until h
+      where
+        until : (o : Option ℕ) → ended ≡ false → is_end_over moment (earliest (dues_of_until o)) ≡ (is_past moment o || ended)
+        until None e = sym e
+        until (Some at) e = timed (nat_le at moment) ended e
+
+pub over_known : (moment : ℕ) (first : Option ℕ) (seats : List SeatRecord) → AreTimeouts (Known first) seats → is_end_over moment first ≡ list_any (has_waited moment) seats
+over_known moment first seats known = ap (is_end_over moment) (sym known.0) ∙ over_all moment None seats known.1
+
+-- at the start nobody waits
+pub first_timeouts : (ns : List ℕ) → AreTimeouts (Known None) (map empty_seat ns)
+first_timeouts [] = (refl, tt)
+first_timeouts (n ∷ ns) = let rest = first_timeouts ns in (rest.0, (refl, rest.1))

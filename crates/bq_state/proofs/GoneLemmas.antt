@@ -1,0 +1,273 @@
+-- Entries whose tubes are gone are dropped from the catalog of the tubes; the others are counted and listed.
+use Rattle.std.proofs.Common.{◌≡◌, ◌∙◌, ◌+◌, ◌≤◌, ℕ, Bool, true, false, cond, ◌&&◌, not, if◌then◌else◌, List, [], ◌∷◌, ◌++◌, Option, Some, None, map, length, refl, subst, sym, ap, arith, inl, inr, append_assoc}
+use Rattle.std.specs.Prelude.{filter, find, fold}
+use Rattle.std.specs.Borrow.{Bor}
+use Rattle.std.specs.declared.cmp.Ordering.{Ordering}
+use Rattle.std.specs.declared.cmp.Ordering.TheVariants.{Less, Equal, Greater}
+use Rattle.std.specs.Ordering.{is_eq, is_gt, nat_cmp, ordering_reverse}
+use Rattle.std.specs.Cmp.Lexicographic.{nat_list_cmp_total, slice_cmp}
+use Rattle.std.specs.List.{AllByRecursion as All}
+use Rattle.std.specs.List.Sorted.{IsStrictlySortedBy}
+use Rattle.std.specs.Map.{keys_of, lookup, remove_entry}
+use Rattle.std.specs.Option.{option_map}
+use Rattle.std.proofs.lemmas.Bool.{cases_Bool}
+use Rattle.std.proofs.lemmas.List.{append-nil}
+use Rattle.bq_index.specs.Order.{InOrder}
+use Rattle.bq_index.specs.Walk.{entry_of, seen_by}
+use Rattle.bq_job.specs.declared.job.Job.{Job}
+use Rattle.bq_job.specs.machine.Limits.{greatest}
+use Rattle.bq_job.specs.machine.Machine.{SeatRecord}
+use Rattle.bq_job.specs.reading.TubeName.{is_same_name}
+use Rattle.bq_state.specs.Crowds.{crowd_in, crowds_of, has_seats}
+use Rattle.bq_state.specs.KeptTubes.{KeptTube, Named, crowd_kept, is_alive_at, is_alive_with, is_from, is_gone_by, is_gone_from, is_named_at, record_at, tally_kept, with_alive, with_name_of}
+use Rattle.bq_state.specs.Losses.{AreAlive}
+use Rattle.bq_state.specs.Tallies.{has_jobs, tallies_of, tally_in}
+use Rattle.bq_state.specs.TubeEntries.{AreInOrder, is_tube_of, names_alive}
+use Rattle.bq_state.specs.declared.known.hints.Loss.TheVariants.{Of}
+use Rattle.bq_state.specs.declared.tubes.walks.HowMany.{HowMany}
+use Rattle.bq_state.proofs.CrowdLemmas.{has_seats_of}
+use Rattle.bq_state.proofs.CrowdPlaces.{exists_by_counts}
+use Rattle.bq_state.proofs.LossLemmas.{all_kept_alive, alive_but, alive_or, others_alive}
+use Rattle.bq_state.proofs.NamedLemmas.{ties}
+use Rattle.bq_state.proofs.TallyPlaces.{has_jobs_in}
+use Rattle.bq_state.proofs.TubeLemmas.{same_name}
+
+-- The counts are those of these jobs and of these seats.
+abbrev pub AreTallied : List Job → List SeatRecord → List Named → Type 0
+AreTallied jobs seats es = (map tally_kept es ≡ tallies_of jobs (map record_at es)) × (map crowd_kept es ≡ crowds_of seats (map record_at es))
+
+-- An entry has the counts of its jobs and clients.
+abbrev IsTallied : List Job → List SeatRecord → Named → Type 0
+IsTallied jobs seats x = (x.1.tally ≡ tally_in jobs (record_at x)) × (x.1.crowd ≡ crowd_in seats (record_at x))
+
+module _ (jobs : List Job) (seats : List SeatRecord) where
+  first_tallied : (x : Named) (es : List Named) → AreTallied jobs seats (x ∷ es) → IsTallied jobs seats x
+  first_tallied x es h = (let a = h.0 in cc, let b = h.1 in cc)
+
+  rest_tallied : (x : Named) (es : List Named) → AreTallied jobs seats (x ∷ es) → AreTallied jobs seats es
+  rest_tallied x es h = (let a = h.0 in cc, let b = h.1 in cc)
+
+  tallied_more : (x : Named) (es : List Named) → IsTallied jobs seats x → AreTallied jobs seats es → AreTallied jobs seats (x ∷ es)
+  tallied_more x es h rest = ((λ i. h.0 i ∷ rest.0 i), (λ i. h.1 i ∷ rest.1 i))
+
+  pub filter_tallied : (p : Named → Bool) (es : List Named) → AreTallied jobs seats es → AreTallied jobs seats (filter p es)
+  filter_tallied p [] h = (refl, refl)
+  filter_tallied p (x ∷ es) h = go (p x) (filter_tallied p es (rest_tallied x es h))
+    where
+      go : (b : Bool) → AreTallied jobs seats (filter p es) → AreTallied jobs seats (if b then x ∷ filter p es else filter p es)
+      go true rest = tallied_more x (filter p es) (first_tallied x es h) rest
+      go false rest = rest
+
+  pub remove_tallied : (test : List ℕ → Bool) (es : List Named) → AreTallied jobs seats es → AreTallied jobs seats (remove_entry test es)
+  remove_tallied test [] h = (refl, refl)
+  remove_tallied test (x ∷ es) h = go (test x.0) (remove_tallied test es (rest_tallied x es h))
+    where
+      go : (b : Bool) → AreTallied jobs seats (remove_entry test es) → AreTallied jobs seats (cond b es (x ∷ remove_entry test es))
+      go true rest = rest_tallied x es h
+      go false rest = tallied_more x (remove_entry test es) (first_tallied x es h) rest
+
+  pub if_tallied : (b : Bool) (test : List ℕ → Bool) (es : List Named) → AreTallied jobs seats es → AreTallied jobs seats (if b then remove_entry test es else es)
+  if_tallied true test es h = remove_tallied test es h
+  if_tallied false test es h = h
+
+  -- A tube exists by its counts where it does by the jobs.
+  alive_is : (x : Named) → IsTallied jobs seats x → is_alive_at x ≡ is_tube_of jobs seats x.0
+  alive_is x h = exists_by_counts jobs seats x.0 _ _ (ap has_jobs h.0 ∙ has_jobs_in x.0 jobs) (ap has_seats h.1 ∙ has_seats_of seats x.0)
+
+  pub filter_records : (es : List Named) → AreTallied jobs seats es → map record_at (filter (is_alive_at) es) ≡ filter (λ t. is_tube_of jobs seats t.name) (map record_at es)
+  filter_records [] h = refl
+  filter_records (x ∷ es) h =
+      go (is_alive_at x) (filter_records es (rest_tallied x es h))
+      ∙ ap (λ b. if b then record_at x ∷ filter (λ t. is_tube_of jobs seats t.name) (map record_at es) else filter (λ t. is_tube_of jobs seats t.name) (map record_at es)) (alive_is x (first_tallied x es h))
+    where
+      go : (b : Bool) → map record_at (filter (is_alive_at) es) ≡ filter (λ t. is_tube_of jobs seats t.name) (map record_at es)
+          → map record_at (if b then x ∷ filter (is_alive_at) es else filter (is_alive_at) es) ≡ (if b then record_at x ∷ filter (λ t. is_tube_of jobs seats t.name) (map record_at es) else filter (λ t. is_tube_of jobs seats t.name) (map record_at es))
+      go true rest = ap (λ ts. record_at x ∷ ts) rest
+      go false rest = rest
+
+  abbrev names : List Named → List (List ℕ)
+  names es = names_alive jobs seats (map record_at es)
+
+  one_name : (x : Named) (es : List Named) (b : Bool) → is_tube_of jobs seats x.0 ≡ b → names_alive jobs seats (map record_at (x ∷ es)) ≡ (if b then x.0 ∷ [] else []) ++ names_alive jobs seats (map record_at es)
+  one_name x es true e = rw e refl
+  one_name x es false e = rw e refl
+
+  -- They are listed
+  pub listed_names : (listed : List (Bor (List ℕ) × Bor KeptTube)) (so_far : List (List ℕ)) → AreTallied jobs seats (map entry_of listed)
+      → fold (with_name_of) so_far listed ≡ so_far ++ names_alive jobs seats (map record_at (map entry_of listed))
+  listed_names [] so_far h = sym (append-nil so_far)
+  listed_names (e ∷ listed) so_far h =
+      let x : Named = entry_of e in
+      let es = map entry_of listed in
+      let alive = alive_is x (first_tallied x es h) in
+      listed_names listed (with_name_of so_far e) (rest_tallied x es h)
+      ∙ append_assoc so_far (if is_alive_at x then x.0 ∷ [] else []) (names es)
+      ∙ ap (λ ns. so_far ++ ns) (sym (one_name x es (is_alive_at x) (sym alive)))
+
+  -- and counted.
+  pub counted_names : (es : List Named) (n : ℕ) → AreTallied jobs seats es → n + length es ≤ greatest
+      → (fold (seen_by (λ (s : HowMany) (name : List ℕ) (t : KeptTube). record { count = with_alive s.count name t })) (record { count = n }) es).count ≡ n + length (names_alive jobs seats (map record_at es))
+  counted_names [] n h few = omega arith
+  counted_names (x ∷ es) n h few =
+      go (is_alive_at x) refl (λ k few. counted_names es k (rest_tallied x es h) few)
+    where
+      go : (b : Bool) → is_alive_at x ≡ b
+          → ((k : ℕ) → k + length es ≤ greatest
+          → (fold (seen_by (λ (s : HowMany) (name : List ℕ) (t : KeptTube). record { count = with_alive s.count name t })) (record { count = k }) es).count ≡ k + length (names_alive jobs seats (map record_at es)))
+          → (fold (seen_by (λ (s : HowMany) (name : List ℕ) (t : KeptTube). record { count = with_alive s.count name t })) (record { count = with_alive n x.0 x.1 }) es).count ≡ n + length (names_alive jobs seats (map record_at (x ∷ es)))
+      go true e more =
+          let here = alive_is x (first_tallied x es h) in
+          let there : is_tube_of jobs seats x.0 ≡ true = sym here ∙ e in
+          let one : with_alive n x.0 x.1 ≡ n + 1 = rw e (omega arith) in
+          rw (one, there) (let rest = more (n + 1) (omega arith) in rest ∙ omega arith)
+      go false e more =
+          let here = alive_is x (first_tallied x es h) in
+          let there : is_tube_of jobs seats x.0 ≡ false = sym here ∙ e in
+          rw (e, there) (more n (omega arith))
+
+  -- The entry of one name is dropped, where its tube is gone.
+  module _ (name : List ℕ) where
+    abbrev left : Bool → List Named → List Named
+    left b es = if b then remove_entry (is_named_at name) es else es
+
+    past : (x : Named) (es : List Named) (b : Bool) → is_named_at name x.0 ≡ false → map record_at (left b (x ∷ es)) ≡ record_at x ∷ map record_at (left b es)
+    past x es true e = rw e refl
+    past x es false e = refl
+
+    pub one_left : (es : List Named) → AreInOrder (map record_at es) → AreAlive (Of name) jobs seats (map record_at es) → AreTallied jobs seats es
+        → map record_at (if is_gone_by name (lookup (is_named_at name) es) then remove_entry (is_named_at name) es else es) ≡ filter (λ t. is_tube_of jobs seats t.name) (map record_at es)
+    one_left [] order all h = refl
+    one_left (x ∷ es) order all h = elim (cases_Bool (is_same_name name x.0)) [
+      | inl e ↦
+          let is : name ≡ x.0 = same_name name x.0 e in
+          let others = all_kept_alive jobs seats (map record_at es) (others_alive x.0 jobs seats (map record_at es) order.0 (renamed is all.1)) in
+          rw (ties name x.0 ∙ e) (here is (is_alive_at x) refl others)
+      | inr e ↦
+          let kept : is_tube_of jobs seats x.0 ≡ true = alive_or (is_tube_of jobs seats x.0) (alive_but (is_tube_of jobs seats x.0) (is_same_name name x.0) all.0 e) in
+          let rest = one_left es order.1 all.1 (rest_tallied x es h) in
+          let away : is_named_at name x.0 ≡ false = ties name x.0 ∙ e in
+          let same : lookup (is_named_at name) (x ∷ es) ≡ lookup (is_named_at name) es = rw away refl in
+          ap (λ o. map record_at (left (is_gone_by name o) (x ∷ es))) same
+          ∙ past x es (is_gone_by name (lookup (is_named_at name) es)) away
+          ∙ ap (λ ts. record_at x ∷ ts) rest
+          ∙ sym (rw kept refl)
+    ]
+      where
+        renamed : name ≡ x.0 → AreAlive (Of name) jobs seats (map record_at es) → AreAlive (Of x.0) jobs seats (map record_at es)
+        renamed is all = rw (sym is) all
+
+        here : name ≡ x.0 → (b : Bool) → is_alive_at x ≡ b → filter (λ t. is_tube_of jobs seats t.name) (map record_at es) ≡ map record_at es
+            → map record_at (if not (is_alive_with name x.1) then es else x ∷ es) ≡ filter (λ t. is_tube_of jobs seats t.name) (map record_at (x ∷ es))
+        here is b e others =
+            let exists : is_tube_of jobs seats x.0 ≡ b = sym (alive_is x (first_tallied x es h)) ∙ e in
+            let alive : is_alive_with name x.1 ≡ b = ap (λ n. is_alive_with n x.1) is ∙ e in
+            rw (alive, exists) (go b)
+          where
+            go : (b : Bool) → map record_at (if not b then es else x ∷ es) ≡ (if b then record_at x ∷ filter (λ t. is_tube_of jobs seats t.name) (map record_at es) else filter (λ t. is_tube_of jobs seats t.name) (map record_at es))
+            go true = ap (λ ts. record_at x ∷ ts) (sym others)
+            go false = sym others
+
+-- All are dropped one after another.
+abbrev pub AllLeftBefore : Option (List ℕ) → List Named → Type 0
+AllLeftBefore from es = All (λ e. is_from from e ≡ false → is_alive_at e ≡ true) es
+
+gone_or : (a b : Bool) → (a && not b) ≡ false → (a ≡ false → b ≡ true) → b ≡ true
+gone_or true true h left = refl
+gone_or true false h left = absurd cc
+gone_or false b h left = left refl
+
+-- Where none is found any more, none is left.
+pub none_gone : (from : Option (List ℕ)) (es : List Named) → find (is_gone_from from) es ≡ None → AllLeftBefore from es → filter (is_alive_at) es ≡ es
+none_gone from [] h all = refl
+none_gone from (x ∷ es) h all = go (is_gone_from from x) refl h (λ g. none_gone from es g all.1)
+  where
+    go : (b : Bool) → is_gone_from from x ≡ b → (if b then Some x else find (is_gone_from from) es) ≡ None → (find (is_gone_from from) es ≡ None → filter (is_alive_at) es ≡ es)
+        → filter (is_alive_at) (x ∷ es) ≡ x ∷ es
+    go true e h rest = absurd (let g : Some x ≡ None = h in cc)
+    go false e h rest =
+        let alive : is_alive_at x ≡ true = gone_or (is_from from x) (is_alive_at x) e all.0 in
+        rw alive (ap (λ ts. x ∷ ts) (rest h))
+
+abbrev order : List ℕ → List ℕ → Ordering
+order = slice_cmp nat_cmp
+
+found_key : (P : List ℕ → Type 0) (q : Named → Bool) (e : Named) (es : List Named) → All P (keys_of es) → find q es ≡ Some e → P e.0
+found_key P q e [] all h = absurd (let g : None ≡ Some e = h in cc)
+found_key P q e (x ∷ es) all h = go (q x) h (λ g. found_key P q e es all.1 g)
+  where
+    some_is : (x e : Named) → Some x ≡ Some e → x ≡ e
+    some_is x e h = cc
+
+    moved : x ≡ e → P x.0 → P e.0
+    moved is p = rw (sym is) p
+
+    go : (b : Bool) → (if b then Some x else find q es) ≡ Some e → (find q es ≡ Some e → P e.0) → P e.0
+    go true h rest = moved (some_is x e h) all.0
+    go false h rest = rest h
+
+itself : (a : List ℕ) → order a a ≡ Equal
+itself a = go (order a a) refl
+  where
+    go : (o : Ordering) → order a a ≡ o → o ≡ Equal
+    go Less e = absurd (let back : order a a ≡ Greater = nat_list_cmp_total.antisymm a a ∙ ap ordering_reverse e in let g : Less ≡ Greater = sym e ∙ back in cc)
+    go Equal e = refl
+    go Greater e = absurd (let back : order a a ≡ Less = nat_list_cmp_total.antisymm a a ∙ ap ordering_reverse e in let g : Less ≡ Greater = sym back ∙ e in cc)
+
+behind : (k : List ℕ) (es : List Named) → All (λ y. order k y ≡ Less) (keys_of es) → AllLeftBefore (Some k) es
+behind k [] all = tt
+behind k (y ∷ es) all = ((λ h. absurd (let g : is_from (Some k) y ≡ true = ap (λ o. not (is_gt o)) all.0 in cc)), behind k es all.1)
+
+-- what one removal leaves
+pub record Removed (name : List ℕ) (es : List Named) : Type 0 where
+  pub before : AllLeftBefore (Some name) (remove_entry (is_named_at name) es)
+  pub left : filter (is_alive_at) (remove_entry (is_named_at name) es) ≡ filter (is_alive_at) es
+  pub fewer : length (remove_entry (is_named_at name) es) + 1 ≡ length es
+
+one_removed : (from : Option (List ℕ)) (e : Named) (es : List Named) → InOrder (slice_cmp nat_cmp) es → find (is_gone_from from) es ≡ Some e → AllLeftBefore from es → Removed e.0 es
+unfolding IsStrictlySortedBy
+one_removed from e [] s h all = absurd (let g : None ≡ Some e = h in cc)
+one_removed from e (x ∷ es) s h all = go (is_gone_from from x) refl h (λ g. one_removed from e es s.1 g all.1)
+  where
+    gone : (a b : Bool) → (a && not b) ≡ true → b ≡ false
+    gone true true h = absurd cc
+    gone true false h = refl
+    gone false b h = absurd cc
+
+    some_is : (x e : Named) → Some x ≡ Some e → x ≡ e
+    some_is x e h = cc
+
+    go : (b : Bool) → is_gone_from from x ≡ b → (if b then Some x else find (is_gone_from from) es) ≡ Some e → (find (is_gone_from from) es ≡ Some e → Removed e.0 es) → Removed e.0 (x ∷ es)
+    go true g h more =
+        let is : x ≡ e = some_is x e h in
+        let dead : is_alive_at x ≡ false = gone (is_from from x) (is_alive_at x) g in
+        let here : is_named_at x.0 x.0 ≡ true = ap is_eq (itself x.0) in
+        rw (sym is) (record {
+          before = rw here (behind x.0 es s.0);
+          left = rw (here, dead) refl;
+          fewer = rw here (omega arith);
+        })
+    go false g h more =
+        let rest = more h in
+        let less : order x.0 e.0 ≡ Less = found_key (λ y. order x.0 y ≡ Less) (is_gone_from from) e es s.0 h in
+        let more : order e.0 x.0 ≡ Greater = nat_list_cmp_total.antisymm e.0 x.0 ∙ ap ordering_reverse less in
+        let away : is_named_at e.0 x.0 ≡ false = ap is_eq more in
+        let alive : is_alive_at x ≡ true = gone_or (is_from from x) (is_alive_at x) g all.0 in
+        record {
+          before = rw away ((λ _. alive), rest.before);
+          left = rw (away, alive) (ap (λ ts. x ∷ ts) rest.left);
+          fewer = rw away (let f = rest.fewer in omega arith);
+        }
+
+pub name_removed : (from : Option (List ℕ)) (name : List ℕ) (es : List Named) → InOrder (slice_cmp nat_cmp) es → option_map (λ (e : Named). e.0) (find (is_gone_from from) es) ≡ Some name → AllLeftBefore from es → Removed name es
+name_removed from name es s h all = go (find (is_gone_from from) es) refl h
+  where
+    same : (a b : List ℕ) → Some a ≡ Some b → a ≡ b
+    same a b e = cc
+
+    go : (o : Option Named) → find (is_gone_from from) es ≡ o → option_map (λ (e : Named). e.0) o ≡ Some name → Removed name es
+    go None e h = absurd (let g : None ≡ Some name = h in cc)
+    go (Some e) f h = subst (λ n. Removed n es) (same e.0 name h) (one_removed from e es s f all)
+
+pub no_name : (o : Option Named) → option_map (λ (e : Named). e.0) o ≡ None → o ≡ None
+no_name None h = refl
+no_name (Some e) h = absurd (let g : Some e.0 ≡ None = h in cc)

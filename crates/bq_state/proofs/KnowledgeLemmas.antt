@@ -1,0 +1,259 @@
+-- What is known without a search follows each change of the jobs, the seats and the tubes.
+use Rattle.std.proofs.Common.{◌≡◌, ◌∙◌, ◌&&◌, ◌==◌, ◌≤◌, ◌++◌, ◌∷◌, ℕ, List, [], Bool, true, false, None, Some, ap, filter, fold, is_some, refl, if◌then◌else◌, length, map, not, set, slice_get, subst, sym}
+use Rattle.std.specs.List.{AllByRecursion as All, list_any}
+use Rattle.bq_job.specs.declared.job.Job.{Job}
+use Rattle.bq_job.specs.machine.Changes.{is_ready, is_ready_state, is_waiting, job_with, seat_with}
+use Rattle.bq_job.specs.machine.Dispatch.{next_job}
+use Rattle.bq_job.specs.machine.Limits.{greatest}
+use Rattle.bq_job.specs.machine.Machine.{SeatRecord, TubeRecord, empty_seat, numbers}
+use Rattle.bq_job.specs.machine.Timers.{tube_after_timers}
+use Rattle.bq_job.specs.machine.TubeCommands.{watching}
+use Rattle.bq_job.specs.machine.Tubes.{watches}
+use Rattle.bq_job.specs.reading.TubeName.{is_same_name}
+use Rattle.bq_jobs.specs.Changed.{moved_by, with_changed}
+use Rattle.bq_jobs.specs.Kept.{with_added, without}
+use Rattle.bq_jobs.specs.declared.row.Moved.{Moved}
+use Rattle.bq_state.specs.Clients.{clients_of, clients_with, clients_without}
+use Rattle.bq_state.specs.Counting.{AreCounts, recounted_for, tubes_with, with_crowds_at, with_tallies_at}
+use Rattle.bq_state.specs.Crowds.{crowds_recounted_for, is_waiter, may_wait, recounted, share_of_watcher, share_of_watching, touched}
+use Rattle.bq_state.specs.Dues.{first_pause_end, with_warning_due}
+use Rattle.bq_state.specs.JobChanges.{changed}
+use Rattle.bq_state.specs.KeptTubes.{KeptTubes, first_tubes}
+use Rattle.bq_state.specs.Knowledge.{IsSo, nothing_known, with_forgotten, with_job, with_joined, with_left, with_moved, with_tube_changed, without_job}
+use Rattle.bq_state.specs.Losses.{with_lost}
+use Rattle.bq_state.specs.SeatChanges.{seat_changed_at}
+use Rattle.bq_state.specs.CoreParts.{machine_of}
+use Rattle.bq_state.specs.Stirs.{AreKnown, IsKnown, stirred_by_change, with_anything}
+use Rattle.bq_state.specs.Tallies.{tallies_with, tallies_without, tally_moved}
+use Rattle.bq_state.specs.TubeEntries.{counted, has_entry, is_counted, is_tube_of, tube_changed, tube_changed_at}
+use Rattle.bq_state.specs.Warnings.{IsWarned, has_waiting_holder, may_hold, warned_if_due}
+use Rattle.bq_state.specs.declared.tubes.entry.Moving.TheVariants.{Comes, Goes}
+use Rattle.bq_state.specs.declared.job_store.JobChange.{JobChange}
+use Rattle.bq_state.specs.declared.seats.SeatChange.{SeatChange}
+use Rattle.bq_state.specs.declared.core_parts.CoreParts.{CoreParts}
+use Rattle.bq_state.specs.declared.known.hints.Stir.TheVariants as stirs
+use Rattle.bq_state.specs.declared.tubes.entry.TubeChange.{TubeChange}
+use Rattle.bq_state.proofs.ClientLemmas.{clients_moved, clients_watching, first_clients}
+use Rattle.bq_state.proofs.CrowdLemmas.{crowds_moved}
+use Rattle.bq_state.proofs.CrowdPlaces.{crowds_kept, crowds_of_provided, first_crowds}
+use Rattle.bq_state.proofs.CrowdWatching.{crowds_ignoring, crowds_watching}
+use Rattle.bq_state.proofs.FirstEndLemmas.{first_timeouts, timeouts_of_seat, timeouts_watching}
+use Rattle.bq_state.proofs.LeavingLemmas.{alive_left}
+use Rattle.bq_state.proofs.LossLemmas.{alive_added, alive_forgotten, alive_ignoring, alive_provided, alive_renamed, alive_taken, alive_watching, end_of_those_left}
+use Rattle.bq_state.proofs.MovedLemmas.{alive_changed, counted_moved, known_moved, one_tube, tube_kept, warned_moved}
+use Rattle.bq_state.proofs.PauseLemmas.{end_after_change, end_provided}
+use Rattle.bq_state.proofs.PartsLemmas.{all_filtered, counted_provided, id_kept, name_kept_at, numbered_after, tube_counts, tube_name_kept}
+use Rattle.bq_state.proofs.StirLemmas.{known_added, known_any, known_forgotten, known_ignoring, known_nothing, known_of_change, known_of_seat, known_watching}
+use Rattle.bq_state.proofs.TallyPlaces.{counted_added, counted_kept, counted_taken, counted_provided as tallies_of_provided}
+use Rattle.bq_state.proofs.TubeLemmas.{filters_swap, record_changed}
+use Rattle.bq_state.proofs.WarningLemmas.{warned_added, warned_by_due, warned_of_seat, warned_watching}
+
+module _ (st : CoreParts) where
+  -- A job comes,
+  pub so_with_job : (j : Job) → length (with_added j st.jobs.jobs) ≤ greatest
+      → IsSo (with_job j (is_ready j && list_any (is_waiter j.tube) st.seats.items) (has_waiting_holder j.state st.seats.items) st.known)
+      (with_added j st.jobs.jobs) st.seats.items (record st.tubes { tallies = tallies_with j st.tubes.entries st.tubes.tallies })
+  so_with_job j fits =
+      let so = st.sound.known in
+      record {
+        counts = counted_added j st.known.tally st.tubes.tallies st.jobs.jobs st.tubes.entries fits st.sound.entries.order so.counts;
+        clients = so.clients;
+        crowds = so.crowds;
+        alive = alive_added j st.known.loss st.jobs.jobs st.seats.items st.tubes.entries so.alive;
+        stirs = known_added j st.known.stir st.jobs.jobs st.seats.items (counted st.tubes.entries) so.stirs;
+        warnings = warned_added j st.known.warns st.jobs.jobs st.seats.items st.sound.numbered so.warnings;
+        timeouts = so.timeouts;
+        pauses = so.pauses;
+      }
+
+  -- is gone,
+  pub so_without_job : (id : ℕ) (j : Job) → job_with id st.jobs.jobs ≡ Some j
+      → IsSo (without_job j st.known) (without id st.jobs.jobs) st.seats.items (record st.tubes { tallies = tallies_without j st.tubes.entries st.tubes.tallies })
+  so_without_job id j found =
+      let so = st.sound.known in
+      record {
+        counts = counted_taken 1 st.next_id id j st.known.tally st.tubes.tallies st.jobs.jobs st.tubes.entries st.sound.ids found st.sound.entries.order so.counts;
+        clients = so.clients;
+        crowds = so.crowds;
+        alive = alive_taken 1 st.next_id id j st.known.loss st.jobs.jobs st.seats.items st.tubes.entries st.sound.ids found so.alive;
+        stirs = all_filtered (λ k. All (IsKnown st.known.stir (counted st.tubes.entries) k) st.seats.items) (λ k. not (k.id == id)) st.jobs.jobs so.stirs;
+        warnings = all_filtered (λ k. All (IsWarned st.known.warns k) st.seats.items) (λ k. not (k.id == id)) st.jobs.jobs so.warnings;
+        timeouts = so.timeouts;
+        pauses = so.pauses;
+      }
+
+  -- or is changed.
+  pub so_with_moved : (id : ℕ) (what : JobChange) (j : Job) (m : Moved) (wanted waits : Bool) → job_with id st.jobs.jobs ≡ Some j → m ≡ moved_by (changed what) j
+      → length st.jobs.jobs ≤ greatest → wanted ≡ (is_ready_state m.to.state && list_any (is_waiter m.tube) st.seats.items) → waits ≡ has_waiting_holder m.to.state st.seats.items
+      → IsSo (with_moved m wanted waits st.known) (with_changed id (changed what) st.jobs.jobs) st.seats.items (with_tallies_at m.tube (tally_moved m) st.tubes)
+  so_with_moved id what j m wanted waits found is fits wants holds =
+      let so = st.sound.known in
+      let f = changed what in
+      record {
+        counts = counted_moved 1 st.next_id id f (id_kept what) (tube_kept what) j m is st.known.tally st.tubes.tallies st.jobs.jobs st.tubes.entries st.sound.ids found st.sound.entries.order fits so.counts;
+        clients = so.clients;
+        crowds = so.crowds;
+        alive = alive_changed (λ k. if k.id == id then f k else k) (one_tube id f (tube_kept what)) st.known.loss st.jobs.jobs st.seats.items st.tubes.entries so.alive;
+        stirs = known_moved 1 st.next_id id f (id_kept what) (tube_kept what) j m is st.jobs.jobs st.sound.ids found st.known.stir st.seats.items (counted st.tubes.entries) wanted wants so.stirs;
+        warnings = warned_moved 1 st.next_id id f (id_kept what) (tube_kept what) j m is st.jobs.jobs st.sound.ids found st.known.warns st.seats.items waits st.sound.numbered holds so.warnings;
+        timeouts = so.timeouts;
+        pauses = so.pauses;
+      }
+
+  -- A seat is changed, and what it counts for at its tubes,
+  pub so_with_seat : (n : ℕ) (what : SeatChange) → length st.seats.items ≤ greatest → may_wait what (seat_with n st.seats.items) ≡ true → may_hold what n st.known.warns st.jobs.jobs ≡ true
+      → IsSo (with_joined (seat_with n (map (seat_changed_at n what) st.seats.items)) n what
+      (with_left (seat_with n st.seats.items) what (touched what) (recounted_for Goes (touched what) (seat_with n st.seats.items) st.tubes) st.known))
+      st.jobs.jobs (map (seat_changed_at n what) st.seats.items)
+      (recounted_for Comes (touched what) (seat_with n (map (seat_changed_at n what) st.seats.items)) (recounted_for Goes (touched what) (seat_with n st.seats.items) st.tubes))
+  so_with_seat n what few waits holds =
+      let so = st.sound.known in
+      let seats = st.seats.items in
+      let old = seat_with n seats in
+      let numbered = st.sound.numbered in
+      record {
+        counts = so.counts;
+        clients = ap (λ k. clients_with (seat_with n (map (seat_changed_at n what) seats)) (clients_without old k)) so.clients ∙ clients_moved n what seats numbered (numbered_after n what seats numbered) few;
+        crowds = crowds_moved n what st.tubes.crowds seats st.tubes.entries numbered few st.sound.entries.order waits so.crowds;
+        alive =
+            alive_left n what st.known.loss st.jobs.jobs seats st.tubes.entries (recounted_for Goes (touched what) old st.tubes) numbered few st.sound.entries.order st.sound.entries.of_jobs so.crowds.seated refl so.counts.each
+            (ap (crowds_recounted_for Goes (touched what) old st.tubes.entries) so.crowds.each) so.alive;
+        stirs = known_of_seat n what st.known.stir st.jobs.jobs seats (counted st.tubes.entries) so.stirs;
+        warnings = warned_of_seat n what st.known.warns st.jobs.jobs seats holds so.warnings;
+        timeouts = timeouts_of_seat n what st.known.first_end seats numbered so.timeouts;
+        pauses = so.pauses;
+      }
+
+  -- a client watches a tube more,
+  pub so_watching : (name : List ℕ) (n : ℕ) (s : SeatRecord) → slice_get st.seats.items n ≡ Some s → length st.seats.items ≤ greatest → watches name s ≡ false
+      → IsSo (record st.known { stir = if is_waiting s then with_anything st.known.stir else st.known.stir })
+      st.jobs.jobs (set st.seats.items n (watching (s.watched ++ name ∷ []) s)) (with_crowds_at name (recounted Comes (share_of_watcher s)) st.tubes)
+  so_watching name n s here few fresh =
+      let so = st.sound.known in
+      let seats = st.seats.items in
+      let numbered = st.sound.numbered in
+      record {
+        counts = so.counts;
+        clients = so.clients ∙ sym (clients_watching (s.watched ++ name ∷ []) n s seats here numbered);
+        crowds = crowds_watching name n s st.tubes.crowds seats st.tubes.entries here numbered few st.sound.entries.order fresh so.crowds;
+        alive = alive_watching name n s st.known.loss st.jobs.jobs seats st.tubes.entries here so.alive;
+        stirs = known_watching (s.watched ++ name ∷ []) n s st.known.stir st.jobs.jobs seats (counted st.tubes.entries) so.stirs;
+        warnings = warned_watching (s.watched ++ name ∷ []) n s st.known.warns st.jobs.jobs seats here so.warnings;
+        timeouts = timeouts_watching (s.watched ++ name ∷ []) n s st.known.first_end seats here so.timeouts;
+        pauses = so.pauses;
+      }
+
+  -- or one less.
+  pub so_ignoring : (name : List ℕ) (n : ℕ) (s : SeatRecord) → slice_get st.seats.items n ≡ Some s → length st.seats.items ≤ greatest
+      → IsSo (record st.known { loss = with_lost name st.known.loss })
+      st.jobs.jobs (set st.seats.items n (watching (filter (λ other. not (is_same_name name other)) s.watched) s)) (with_crowds_at name (recounted Goes (share_of_watching name s)) st.tubes)
+  so_ignoring name n s here few =
+      let so = st.sound.known in
+      let seats = st.seats.items in
+      let numbered = st.sound.numbered in
+      let left = λ (other : List ℕ). not (is_same_name name other) in
+      record {
+        counts = so.counts;
+        clients = so.clients ∙ sym (clients_watching (filter left s.watched) n s seats here numbered);
+        crowds = crowds_ignoring name n s st.tubes.crowds seats st.tubes.entries here numbered few st.sound.entries.order so.crowds;
+        alive = alive_ignoring name n s st.known.loss st.jobs.jobs seats st.tubes.entries here so.alive;
+        stirs = known_ignoring left n s st.known.stir st.jobs.jobs seats (counted st.tubes.entries) here so.stirs;
+        warnings = warned_watching (filter left s.watched) n s st.known.warns st.jobs.jobs seats here so.warnings;
+        timeouts = timeouts_watching (filter left s.watched) n s st.known.first_end seats here so.timeouts;
+        pauses = so.pauses;
+      }
+
+  -- A tube gets an entry,
+  pub so_provided : (name : List ℕ)
+      → IsSo (record st.known { loss = if not (has_entry name st.tubes.entries) then with_lost name st.known.loss else st.known.loss }) st.jobs.jobs st.seats.items (tubes_with name st.tubes)
+  so_provided name =
+      let so = st.sound.known in
+      record {
+        counts = tallies_of_provided name st.known.tally st.tubes.tallies st.jobs.jobs st.tubes.entries st.sound.entries.of_jobs so.counts;
+        clients = so.clients;
+        crowds = crowds_of_provided name st.tubes.crowds st.seats.items st.tubes.entries st.sound.entries.of_seats so.crowds;
+        alive = alive_provided name st.known.loss st.jobs.jobs st.seats.items st.tubes.entries so.alive;
+        stirs = subst (AreKnown st.known.stir st.jobs.jobs st.seats.items) (sym (counted_provided name st.tubes.entries)) so.stirs;
+        warnings = so.warnings;
+        timeouts = so.timeouts;
+        pauses = so.pauses ∙ sym (end_provided name st.tubes.entries);
+      }
+
+  -- its entry is changed,
+  pub so_with_tube : (name : List ℕ) (what : TubeChange) → has_entry name st.tubes.entries ≡ true
+      → IsSo (with_tube_changed name what (map (tube_changed_at name what) st.tubes.entries) st.known) st.jobs.jobs st.seats.items (record st.tubes { entries = map (tube_changed_at name what) st.tubes.entries })
+  so_with_tube name what there =
+      let so = st.sound.known in
+      let f = tube_changed_at name what in
+      let named = name_kept_at name what in
+      let e = st.sound.entries in
+      record {
+        counts = counted_kept f named st.known.tally st.tubes.tallies st.jobs.jobs st.tubes.entries so.counts;
+        clients = so.clients;
+        crowds = crowds_kept f named st.tubes.crowds st.seats.items st.tubes.entries so.crowds;
+        alive = alive_renamed f named st.known.loss st.jobs.jobs st.seats.items st.tubes.entries so.alive;
+        stirs = subst (AreKnown (stirred_by_change name what st.known.stir) st.jobs.jobs st.seats.items) (record_changed name (tube_changed what) (tube_counts what) (tube_name_kept what) st.tubes.entries e.order e.fresh there)
+            (known_of_change name what (machine_of st) st.known.stir so.stirs);
+        warnings = so.warnings;
+        timeouts = so.timeouts;
+        pauses = end_after_change name what st.tubes.entries st.known.pause_end so.pauses;
+      }
+
+  -- or pauses end, of which the first one that is left is known.
+  pub so_with_pauses : IsSo (record st.known { pause_end = first_pause_end (map (tube_after_timers st.moment) st.tubes.entries); stir = stirs.Any })
+      st.jobs.jobs st.seats.items (record st.tubes { entries = map (tube_after_timers st.moment) st.tubes.entries })
+  so_with_pauses =
+      let so = st.sound.known in
+      let f = tube_after_timers st.moment in
+      record {
+        counts = counted_kept f (λ t. refl) st.known.tally st.tubes.tallies st.jobs.jobs st.tubes.entries so.counts;
+        clients = so.clients;
+        crowds = crowds_kept f (λ t. refl) st.tubes.crowds st.seats.items st.tubes.entries so.crowds;
+        alive = alive_renamed f (λ t. refl) st.known.loss st.jobs.jobs st.seats.items st.tubes.entries so.alive;
+        stirs = known_any st.jobs.jobs st.seats.items (counted (map f st.tubes.entries));
+        warnings = so.warnings;
+        timeouts = so.timeouts;
+        pauses = refl;
+      }
+
+  -- Entries of tubes that are gone are dropped.
+  pub so_forgotten : (new : KeptTubes) (were : ℕ) → were ≡ length st.tubes.entries → new.entries ≡ filter (λ t. is_tube_of st.jobs.jobs st.seats.items t.name) st.tubes.entries → AreCounts new st.jobs.jobs st.seats.items
+      → IsSo (with_forgotten were new.entries st.known) st.jobs.jobs st.seats.items new
+  so_forgotten new were is left counts =
+      let so = st.sound.known in
+      let p = λ (t : TubeRecord). is_tube_of st.jobs.jobs st.seats.items t.name in
+      record {
+        counts = record { whole = so.counts.whole; each = counts.0 };
+        clients = so.clients;
+        crowds = record { each = counts.1; seated = so.crowds.seated };
+        alive = rw left (alive_forgotten st.jobs.jobs st.seats.items st.tubes.entries);
+        stirs = subst (AreKnown st.known.stir st.jobs.jobs st.seats.items) (sym (ap counted left ∙ filters_swap is_counted p st.tubes.entries)) (known_forgotten (machine_of st) st.known.stir so.stirs);
+        warnings = so.warnings;
+        timeouts = so.timeouts;
+        pauses = rw left (end_of_those_left p st.tubes.entries were st.known.pause_end is so.pauses);
+      }
+
+  -- No client may have a job.
+  pub so_with_nothing : next_job (machine_of st) ≡ None → IsSo (record st.known { stir = stirs.Nothing }) st.jobs.jobs st.seats.items st.tubes
+  so_with_nothing none =
+      let so = st.sound.known in
+      record { counts = so.counts; clients = so.clients; crowds = so.crowds; alive = so.alive; stirs = known_nothing (machine_of st) none; warnings = so.warnings; timeouts = so.timeouts; pauses = so.pauses }
+
+  -- Whom a warning is due, if anyone, was asked.
+  pub so_settled : (due : Bool) → due ≡ is_some (fold (with_warning_due st.jobs.jobs) None st.seats.items) → IsSo (record st.known { warns = warned_if_due due st.known.warns }) st.jobs.jobs st.seats.items st.tubes
+  so_settled due is =
+      let so = st.sound.known in
+      record { counts = so.counts; clients = so.clients; crowds = so.crowds; alive = so.alive; stirs = so.stirs; warnings = rw is (warned_by_due st.known.warns st.jobs.jobs st.seats.items so.warnings); timeouts = so.timeouts; pauses = so.pauses }
+
+-- At the start there is nothing to know.
+pub so_at_first : (n : ℕ) → IsSo nothing_known [] (map empty_seat (numbers 0 n)) first_tubes
+so_at_first n = record {
+  counts = record { whole = refl; each = refl };
+  clients = first_clients (clients_of []) (refl, refl) (numbers 0 n);
+  crowds = first_crowds (numbers 0 n);
+  alive = (refl, tt);
+  stirs = tt;
+  warnings = tt;
+  timeouts = first_timeouts (numbers 0 n);
+  pauses = refl;
+}

@@ -1,0 +1,160 @@
+-- Which tubes may be gone once a seat changes: those that its client left, but for those whose counts tell that they exist.
+use Rattle.std.proofs.Common.{◌≡◌, ◌∙◌, ◌≤◌, ℕ, Bool, true, false, ◌||◌, ◌⊎◌, List, [], ◌∷◌, Option, Some, None, refl, sym, ap, length, map, inl, inr}
+use Rattle.std.specs.Prelude.{nat_lt}
+use Rattle.std.specs.List.{AllByRecursion as All, list_any}
+use Rattle.std.proofs.lemmas.Bool.{and_from, and_parts, lt-ltb, or_cases, or_left, or_right}
+use Rattle.bq_job.specs.declared.job.Job.{Job}
+use Rattle.bq_job.specs.machine.Changes.{seat_with}
+use Rattle.bq_job.specs.machine.Limits.{greatest}
+use Rattle.bq_job.specs.machine.Machine.{SeatRecord, TubeRecord, default_tube}
+use Rattle.bq_job.specs.reading.TubeName.{is_same_name}
+use Rattle.bq_job.specs.machine.Tubes.{is_seated_at, watches}
+use Rattle.bq_job.proofs.ListLemmas.{all_at, all_from_members, list_any_with}
+use Rattle.bq_state.specs.declared.tubes.entry.Crowd.{Crowd}
+use Rattle.bq_state.specs.declared.tubes.entry.Moving.TheVariants.{Goes}
+use Rattle.bq_state.specs.declared.tubes.entry.Share.{Share}
+use Rattle.bq_state.specs.declared.known.hints.Loss.{Loss}
+use Rattle.bq_state.specs.declared.seats.SeatChange.{SeatChange}
+use Rattle.bq_state.specs.declared.seats.SeatChange.TheVariants.{StopWaiting, Wait, Connect, Clear, End, Use}
+use Rattle.bq_state.specs.Crowds.{IsSeated, crowd_at, crowd_in, crowd_of, crowd_with, crowd_without, crowds_of, crowds_recounted, crowds_recounted_for, has_seats, touched}
+use Rattle.bq_state.specs.KeptTubes.{KeptTubes}
+use Rattle.bq_state.specs.Leaving.{exists_in, loss_of, lost_all, lost_if, lost_unless}
+use Rattle.bq_state.specs.Losses.{AreAlive, is_accounted, may_be_gone}
+use Rattle.bq_state.specs.SeatChanges.{AreNumbered, seat_changed, seat_changed_at}
+use Rattle.bq_state.specs.Tallies.{count_with, has_jobs, tallies_of, tally_at}
+use Rattle.bq_state.specs.TubeEntries.{AreInOrder, has_entry, is_tube_of}
+use Rattle.bq_state.proofs.CrowdLemmas.{all_recounted, crowd_moved, has_seats_of, none_changed, share_at}
+use Rattle.bq_state.proofs.CrowdPlaces.{named_crowd}
+use Rattle.bq_state.proofs.LossLemmas.{any_set, by_job, by_loss, by_seat, now_lost, still_accounted, still_lost}
+use Rattle.bq_state.proofs.PartsLemmas.{all_read, changed_there, raised_some, seat_there}
+use Rattle.bq_state.proofs.TallyPlaces.{has_jobs_in, tally_there}
+use Rattle.bq_state.proofs.TubeLemmas.{same_itself, same_name}
+
+module _ (k : KeptTubes) where
+  -- What may be gone still may,
+  one_keeps : (b : Bool) (more name : List ℕ) (loss : Loss) → may_be_gone loss name ≡ true → may_be_gone (lost_unless b more loss) name ≡ true
+  one_keeps true more name loss h = h
+  one_keeps false more name loss h = still_lost more loss name h
+
+  all_keeps : (names : List (List ℕ)) (name : List ℕ) (loss : Loss) → may_be_gone loss name ≡ true → may_be_gone (lost_all k names loss) name ≡ true
+  all_keeps [] name loss h = h
+  all_keeps (n ∷ ns) name loss h = all_keeps ns name (lost_unless (exists_in k n) n loss) (one_keeps (exists_in k n) n name loss h)
+
+  if_keeps : (b : Bool) (names : List (List ℕ)) (name : List ℕ) (loss : Loss) → may_be_gone loss name ≡ true → may_be_gone (lost_if b k names loss) name ≡ true
+  if_keeps true names name loss h = all_keeps names name loss h
+  if_keeps false names name loss h = h
+
+  -- and what is left may be gone, unless it exists.
+  one_lost : (b : Bool) (name : List ℕ) (loss : Loss) → b ≡ false → may_be_gone (lost_unless b name loss) name ≡ true
+  one_lost true name loss e = absurd cc
+  one_lost false name loss e = now_lost name loss
+
+  all_lost : (names : List (List ℕ)) (name : List ℕ) (loss : Loss) → list_any (is_same_name name) names ≡ true → exists_in k name ≡ false → may_be_gone (lost_all k names loss) name ≡ true
+  all_lost [] name loss there gone = absurd cc
+  all_lost (n ∷ ns) name loss there gone =
+      elim (or_cases (is_same_name name n) (list_any (is_same_name name) ns) there) [
+        | inl same ↦
+            let is = same_name name n same in
+            let here : may_be_gone (lost_unless (exists_in k n) n loss) name ≡ true = rw (sym is) (one_lost (exists_in k name) name loss gone) in
+            all_keeps ns name (lost_unless (exists_in k n) n loss) here
+        | inr more ↦ all_lost ns name (lost_unless (exists_in k n) n loss) more gone
+      ]
+
+-- more clients leave one there
+some_more : (b : Bool) (n : ℕ) → nat_lt 0 n ≡ true → nat_lt 0 (count_with b n) ≡ true
+some_more true n h = lt-ltb 0 _ (raised_some n)
+some_more false n h = h
+
+still_seats : (share : Share) (c : Crowd) → has_seats c ≡ true → has_seats (crowd_with share c) ≡ true
+still_seats share c h = elim (or_cases (nat_lt 0 c.using) (nat_lt 0 c.watching) h) [
+  | inl user ↦ or_left _ (nat_lt 0 (count_with share.watching c.watching)) (some_more share.using c.using user)
+  | inr watcher ↦ or_right (nat_lt 0 (count_with share.using c.using)) _ (some_more share.watching c.watching watcher)
+]
+
+-- what a change leaves of a seat at a tube
+abbrev IsLeft : SeatChange → SeatRecord → List ℕ → Type 0
+IsLeft what s name = (((touched what).using ≡ true) × (is_same_name name s.used ≡ true)) ⊎ (((touched what).watching ≡ true) × (watches name s ≡ true))
+
+at_both : (s : SeatRecord) (name : List ℕ) → is_seated_at name s ≡ true → (is_same_name name s.used ≡ true) ⊎ (watches name s ≡ true)
+at_both s name h = or_cases (is_same_name name s.used) (watches name s) (and_parts s.connected (is_same_name name s.used || watches name s) h).1
+
+leaves : (what : SeatChange) (s : SeatRecord) (name : List ℕ) → is_seated_at name s ≡ true → (is_seated_at name (seat_changed what s) ≡ true) ⊎ IsLeft what s name
+leaves StopWaiting s name h = inl h
+leaves (Wait ticket until) s name h = inl h
+leaves Connect s name h = elim (at_both s name h) [ inl used ↦ inr (inl (refl, used)) | inr watched ↦ inr (inr (refl, watched)) ]
+leaves Clear s name h = elim (at_both s name h) [ inl used ↦ inr (inl (refl, used)) | inr watched ↦ inr (inr (refl, watched)) ]
+leaves End s name h = inl h
+leaves (Use tube) s name h = elim (at_both s name h) [
+  | inl used ↦ inr (inl (refl, used))
+  | inr watched ↦ inl (and_from s.connected _ (and_parts s.connected (is_same_name name s.used || watches name s) h).0 (or_right (is_same_name name tube) _ watched))
+]
+
+module _ (n : ℕ) (what : SeatChange) (loss : Loss) (jobs : List Job) (seats : List SeatRecord) (es : List TubeRecord) (k : KeptTubes) (h : AreNumbered seats) (fits : length seats ≤ greatest) (order : AreInOrder es)
+    (of_jobs : All (λ j. has_entry j.tube es ≡ true) jobs) (seated : All IsSeated seats) (same_entries : k.entries ≡ es) (counted : k.tallies ≡ tallies_of jobs es) where
+  abbrev new : List SeatRecord
+  new = map (seat_changed_at n what) seats
+
+  module _ (s : SeatRecord) (found : seat_with n seats ≡ Some s) (left : k.crowds ≡ crowds_recounted Goes (touched what) s es (crowds_of seats es)) where
+    -- A tube whose counts without the seat tell that it exists does so afterwards.
+    exists_then : (name : List ℕ) → has_entry name es ≡ true → exists_in k name ≡ true → is_tube_of jobs new name ≡ true
+    exists_then name there e =
+        let once = (all_read IsSeated seats n s seated (seat_there seats n s h found)).once in
+        let mid : crowd_at name k.entries k.crowds ≡ crowd_without (share_at (touched what) s name) (crowd_of seats name) =
+        (λ i. crowd_at name (same_entries i) ((left ∙ all_recounted Goes (touched what) s (crowd_in seats) es order once) i))
+        ∙ named_crowd name (λ m. crowd_without (share_at (touched what) s m) (crowd_of seats m)) es there in
+        let some : has_jobs (tally_at name k.entries k.tallies) ≡ list_any (λ j. is_same_name name j.tube) jobs =
+        ap has_jobs ((λ i. tally_at name (same_entries i) (counted i)) ∙ tally_there name jobs es of_jobs) ∙ has_jobs_in name jobs in
+        let now : has_seats (crowd_at name k.entries k.crowds) ≡ true → list_any (is_seated_at name) new ≡ true =
+        λ has. sym (ap has_seats (crowd_moved n what s seats h fits found name) ∙ has_seats_of new name)
+        ∙ still_seats (share_at (touched what) (seat_changed what s) name) (crowd_without (share_at (touched what) s name) (crowd_of seats name)) (ap has_seats (sym mid) ∙ has) in
+        elim (or_cases (is_same_name name default_tube || has_jobs (tally_at name k.entries k.tallies)) (has_seats (crowd_at name k.entries k.crowds)) e) [
+          | inl first ↦ or_left _ (list_any (is_seated_at name) new) (ap (λ b. is_same_name name default_tube || b) (sym some) ∙ first)
+          | inr has ↦ or_right (is_same_name name default_tube || list_any (λ j. is_same_name name j.tube) jobs) _ (now has)
+        ]
+
+    gone_then : (name : List ℕ) → IsLeft what s name → exists_in k name ≡ false → may_be_gone (loss_of (touched what) k (Some s) loss) name ≡ true
+    gone_then name is gone = elim is [
+      | inl used ↦
+          let one = all_lost k (s.used ∷ []) name loss (or_left (is_same_name name s.used) false used.1) gone in
+          let here : may_be_gone (lost_if (touched what).using k (s.used ∷ []) loss) name ≡ true = ap (λ b. may_be_gone (lost_if b k (s.used ∷ []) loss) name) used.0 ∙ one in
+          if_keeps k (touched what).watching s.watched name (lost_if (touched what).using k (s.used ∷ []) loss) here
+      | inr watched ↦
+          let before = lost_if (touched what).using k (s.used ∷ []) loss in
+          ap (λ b. may_be_gone (lost_if b k s.watched before) name) watched.0 ∙ all_lost k s.watched name before watched.1 gone
+    ]
+
+    by_leaving : (name : List ℕ) → has_entry name es ≡ true → IsLeft what s name → is_accounted (loss_of (touched what) k (Some s) loss) jobs new name ≡ true
+    by_leaving name there is = go (exists_in k name) refl
+      where
+        go : (b : Bool) → exists_in k name ≡ b → is_accounted (loss_of (touched what) k (Some s) loss) jobs new name ≡ true
+        go true e = or_left _ (may_be_gone (loss_of (touched what) k (Some s) loss) name) (exists_then name there e)
+        go false e = by_loss (loss_of (touched what) k (Some s) loss) jobs new name (gone_then name is e)
+
+    still_gone : (name : List ℕ) → may_be_gone loss name ≡ true → may_be_gone (loss_of (touched what) k (Some s) loss) name ≡ true
+    still_gone name g = if_keeps k (touched what).watching s.watched name (lost_if (touched what).using k (s.used ∷ []) loss) (if_keeps k (touched what).using (s.used ∷ []) name loss g)
+
+    entry_accounted : (name : List ℕ) → has_entry name es ≡ true → is_accounted loss jobs seats name ≡ true → is_accounted (loss_of (touched what) k (Some s) loss) jobs new name ≡ true
+    entry_accounted name there is =
+        let after = loss_of (touched what) k (Some s) loss in
+        let place = seat_there seats n s h found in
+        still_accounted loss after jobs jobs seats new name (by_job after jobs new name)
+        (λ some. elim (any_set (is_seated_at name) (IsLeft what s name) seats n s (seat_changed what s) place (leaves what s name) some) [
+          | inl still ↦ by_seat after jobs new name (ap (list_any (is_seated_at name)) (changed_there seats n s (seat_changed what) h place) ∙ still)
+          | inr left ↦ by_leaving name there left
+        ])
+        (λ g. by_loss after jobs new name (still_gone name g))
+        is
+
+  pub alive_left : k.crowds ≡ crowds_recounted_for Goes (touched what) (seat_with n seats) es (crowds_of seats es) → AreAlive loss jobs seats es
+      → AreAlive (loss_of (touched what) k (seat_with n seats) loss) jobs (map (seat_changed_at n what) seats) es
+  alive_left crowds all = go (seat_with n seats) refl
+    where
+      go : (o : Option SeatRecord) → seat_with n seats ≡ o → AreAlive (loss_of (touched what) k (seat_with n seats) loss) jobs new es
+      go None none =
+          let same : new ≡ seats = none_changed n (seat_changed what) seats none in
+          rw (none, same) all
+      go (Some s) found =
+          let left = crowds ∙ ap (λ o. crowds_recounted_for Goes (touched what) o es (crowds_of seats es)) found in
+          rw found (all_from_members (λ t. is_accounted (loss_of (touched what) k (Some s) loss) jobs new t.name ≡ true) es (λ t here.
+          entry_accounted s found left t.name (list_any_with (λ u. is_same_name t.name u.name) es t here (same_itself t.name))
+          (all_at (λ t. is_accounted loss jobs seats t.name ≡ true) es t all here)))

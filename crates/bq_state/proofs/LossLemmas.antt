@@ -1,0 +1,366 @@
+-- Which entries may be of tubes that are gone, as jobs and seats change.
+use Rattle.std.proofs.Common.{◌<◌}
+use Rattle.std.proofs.lemmas.Bool.{ne_eqb}
+use Rattle.std.proofs.Common.{◌≡◌, ℕ, zero, suc, Bool, true, false, not, ◌||◌, ◌==◌, ◌≤◌, List, [], ◌∷◌, ◌++◌, Option, Some, map, length, set, slice_get, refl, sym, ap, ◌∙◌, arith, ◌⊎◌, inl, inr, if◌then◌else◌}
+use Rattle.std.specs.Prelude.{filter, nat_lt}
+use Rattle.std.specs.List.{AllByRecursion as All, list_any}
+use Rattle.std.proofs.lemmas.Bool.Decides.{nat_tests}
+use Rattle.std.proofs.lemmas.Bool.{cases_Bool, eqb-true, or_cases, or_left, or_right, and_parts, and_from}
+use Rattle.bq_job.specs.declared.job.Job.{Job}
+use Rattle.bq_job.specs.machine.Changes.{job_with}
+use Rattle.bq_job.specs.beside.Lawful.{AreIdsWithin}
+use Rattle.bq_job.specs.machine.Machine.{SeatRecord, TubeRecord, default_tube}
+use Rattle.bq_job.specs.machine.TubeCommands.{watching}
+use Rattle.bq_job.specs.reading.TubeName.{is_same_name}
+use Rattle.bq_job.specs.machine.Tubes.{fresh_tube, is_name_before, is_seated_at, watches, with_record}
+use Rattle.bq_job.proofs.ListLemmas.{all_weaker}
+use Rattle.bq_job.proofs.NameOrderLemmas.{not_same}
+use Rattle.bq_jobs.specs.Kept.{is_id_before, with_added, without}
+use Rattle.bq_state.specs.declared.known.hints.Loss.{Loss}
+use Rattle.bq_state.specs.declared.known.hints.Loss.TheVariants.{Nothing, Of, Any}
+use Rattle.bq_state.specs.Dues.{first_pause_end, pause_end_left}
+use Rattle.bq_state.specs.Losses.{AreAlive, is_accounted, may_be_gone, with_regained, with_lost}
+use Rattle.bq_state.specs.TubeEntries.{has_entry, is_tube_of, provided}
+use Rattle.bq_state.proofs.TubeLemmas.{same_itself, same_name}
+
+-- no id of the list is below its least
+pub none_with : (low id next : ℕ) (jobs : List Job) → id < low → AreIdsWithin low jobs next → All (λ j. (j.id == id) ≡ false) jobs
+none_with low id next [] less h = tt
+none_with low id next (j ∷ jobs) less h =
+    (ne_eqb j.id id (λ e. absurd (let a = h.0 in omega arith)), none_with (suc j.id) id next jobs (let a = h.0 in omega arith) h.1)
+
+-- what may be gone still may
+pub still_lost : (more : List ℕ) (loss : Loss) (name : List ℕ) → may_be_gone loss name ≡ true → may_be_gone (with_lost more loss) name ≡ true
+still_lost more Nothing name h = absurd cc
+still_lost more (Of lost) name h = go (is_same_name lost more) refl
+  where
+    go : (b : Bool) → is_same_name lost more ≡ b → may_be_gone (if b then Of more else Any) name ≡ true
+    go true e = ap (λ n. is_same_name n name) (sym (same_name lost more e)) ∙ h
+    go false e = refl
+still_lost more Any name h = refl
+
+pub now_lost : (name : List ℕ) (loss : Loss) → may_be_gone (with_lost name loss) name ≡ true
+now_lost name Nothing = same_itself name
+now_lost name (Of lost) = go (is_same_name lost name)
+  where
+    go : (b : Bool) → may_be_gone (if b then Of name else Any) name ≡ true
+    go true = same_itself name
+    go false = refl
+now_lost name Any = refl
+
+named_lost : (name more : List ℕ) (loss : Loss) → is_same_name name more ≡ true → may_be_gone (with_lost more loss) name ≡ true
+named_lost name more loss same = ap (may_be_gone (with_lost more loss)) (same_name name more same) ∙ now_lost more loss
+
+-- why a tube is accounted for
+module _ (loss : Loss) (jobs : List Job) (seats : List SeatRecord) (name : List ℕ) where
+  pub by_job : list_any (λ j. is_same_name name j.tube) jobs ≡ true → is_accounted loss jobs seats name ≡ true
+  by_job h = or_left _ (may_be_gone loss name) (or_left _ (list_any (is_seated_at name) seats) (or_right (is_same_name name default_tube) _ h))
+
+  pub by_seat : list_any (is_seated_at name) seats ≡ true → is_accounted loss jobs seats name ≡ true
+  by_seat h = or_left _ (may_be_gone loss name) (or_right (is_same_name name default_tube || list_any (λ j. is_same_name name j.tube) jobs) _ h)
+
+  pub by_loss : may_be_gone loss name ≡ true → is_accounted loss jobs seats name ≡ true
+  by_loss h = or_right (is_tube_of jobs seats name) _ h
+
+  by_default : is_same_name name default_tube ≡ true → is_accounted loss jobs seats name ≡ true
+  by_default h = or_left _ (may_be_gone loss name) (or_left _ (list_any (is_seated_at name) seats) (or_left _ (list_any (λ j. is_same_name name j.tube) jobs) h))
+
+pub still_accounted : (loss loss' : Loss) (jobs jobs' : List Job) (seats seats' : List SeatRecord) (name : List ℕ)
+    → (list_any (λ j. is_same_name name j.tube) jobs ≡ true → is_accounted loss' jobs' seats' name ≡ true)
+    → (list_any (is_seated_at name) seats ≡ true → is_accounted loss' jobs' seats' name ≡ true)
+    → (may_be_gone loss name ≡ true → is_accounted loss' jobs' seats' name ≡ true)
+    → is_accounted loss jobs seats name ≡ true → is_accounted loss' jobs' seats' name ≡ true
+still_accounted loss loss' jobs jobs' seats seats' name job seat lost h =
+    elim (or_cases (is_tube_of jobs seats name) (may_be_gone loss name) h) [
+      | inl exists ↦ elim (or_cases (is_same_name name default_tube || list_any (λ j. is_same_name name j.tube) jobs) (list_any (is_seated_at name) seats) exists) [
+        | inl first ↦ elim (or_cases (is_same_name name default_tube) (list_any (λ j. is_same_name name j.tube) jobs) first) [
+          | inl is ↦ by_default loss' jobs' seats' name is
+          | inr some ↦ job some
+        ]
+        | inr some ↦ seat some
+      ]
+      | inr gone ↦ lost gone
+    ]
+
+-- a job comes
+still_some : (p : Job → Bool) (j : Job) (jobs : List Job) → list_any p jobs ≡ true → list_any p (with_added j jobs) ≡ true
+still_some p j [] h = absurd cc
+still_some p j (k ∷ jobs) h = go (is_id_before k j) (λ more. still_some p j jobs more)
+  where
+    go : (b : Bool) → (list_any p jobs ≡ true → list_any p (with_added j jobs) ≡ true) → list_any p (if b then k ∷ with_added j jobs else j ∷ k ∷ jobs) ≡ true
+    go true rest = elim (or_cases (p k) (list_any p jobs) h) [
+      | inl here ↦ or_left (p k) _ here
+      | inr more ↦ or_right (p k) _ (rest more)
+    ]
+    go false rest = or_right (p j) _ h
+
+now_some : (p : Job → Bool) (j : Job) (jobs : List Job) → p j ≡ true → list_any p (with_added j jobs) ≡ true
+now_some p j [] h = or_left (p j) _ h
+now_some p j (k ∷ jobs) h = go (is_id_before k j) (now_some p j jobs h)
+  where
+    go : (b : Bool) → list_any p (with_added j jobs) ≡ true → list_any p (if b then k ∷ with_added j jobs else j ∷ k ∷ jobs) ≡ true
+    go true rest = or_right (p k) _ rest
+    go false rest = or_left (p j) _ h
+
+pub alive_added : (j : Job) (loss : Loss) (jobs : List Job) (seats : List SeatRecord) (entries : List TubeRecord) → AreAlive loss jobs seats entries → AreAlive (with_regained j.tube loss) (with_added j jobs) seats entries
+alive_added j loss jobs seats entries all =
+    all_weaker (λ t. is_accounted loss jobs seats t.name ≡ true) (λ t. is_accounted (with_regained j.tube loss) (with_added j jobs) seats t.name ≡ true) entries
+    (λ t h. still_accounted loss (with_regained j.tube loss) jobs (with_added j jobs) seats seats t.name
+    (λ some. by_job (with_regained j.tube loss) (with_added j jobs) seats t.name (still_some (λ k. is_same_name t.name k.tube) j jobs some))
+    (by_seat (with_regained j.tube loss) (with_added j jobs) seats t.name)
+    (lost t.name loss)
+    h)
+    all
+  where
+    at : (name lost : List ℕ) (b : Bool) → is_same_name lost j.tube ≡ b → is_same_name lost name ≡ true → is_accounted (if b then Nothing else Of lost) (with_added j jobs) seats name ≡ true
+    at name lost true e h =
+        let is : name ≡ j.tube = sym (same_name lost name h) ∙ same_name lost j.tube e in
+        let same : is_same_name name j.tube ≡ true = ap (λ n. is_same_name n j.tube) is ∙ same_itself j.tube in
+        by_job Nothing (with_added j jobs) seats name (now_some (λ k. is_same_name name k.tube) j jobs same)
+    at name lost false e h = by_loss (Of lost) (with_added j jobs) seats name h
+
+    lost : (name : List ℕ) (loss : Loss) → may_be_gone loss name ≡ true → is_accounted (with_regained j.tube loss) (with_added j jobs) seats name ≡ true
+    lost name Nothing h = absurd cc
+    lost name (Of gone) h = at name gone (is_same_name gone j.tube) refl h
+    lost name Any h = by_loss Any (with_added j jobs) seats name refl
+
+-- or goes: then only its tube has lost it
+module _ (p : Job → Bool) where
+  all_stay : (id : ℕ) (jobs : List Job) → All (λ k. (k.id == id) ≡ false) jobs → without id jobs ≡ jobs
+  all_stay id [] all = refl
+  all_stay id (k ∷ jobs) all = rw all.0 (ap (λ ks. k ∷ ks) (all_stay id jobs all.1))
+
+  left_over : (low next id : ℕ) (j : Job) (jobs : List Job) → AreIdsWithin low jobs next → job_with id jobs ≡ Some j → list_any p jobs ≡ true → (list_any p (without id jobs) ≡ true) ⊎ (p j ≡ true)
+  left_over low next id j [] ids found h = absurd cc
+  left_over low next id j (k ∷ jobs) ids found h = elim (cases_Bool (k.id == id)) [
+    | inl same ↦
+        let e : Some k ≡ Some j = rw same at found in
+        let one : k ≡ j = cc in
+        let at : k.id ≡ id = eqb-true k.id id same in
+        elim (or_cases (p k) (list_any p jobs) h) [
+          | inl here ↦ inr (ap p (sym one) ∙ here)
+          | inr more ↦ inl (rw same (ap (list_any p) (all_stay id jobs (none_with (suc k.id) id next jobs (omega arith) ids.1)) ∙ more))
+        ]
+    | inr other ↦
+        let there : job_with id jobs ≡ Some j = rw other at found in
+        elim (or_cases (p k) (list_any p jobs) h) [
+          | inl here ↦ inl (rw other (or_left (p k) _ here))
+          | inr more ↦ elim (left_over (suc k.id) next id j jobs ids.1 there more) [
+            | inl rest ↦ inl (rw other (or_right (p k) _ rest))
+            | inr it ↦ inr it
+          ]
+        ]
+  ]
+
+pub alive_taken : (low next id : ℕ) (j : Job) (loss : Loss) (jobs : List Job) (seats : List SeatRecord) (entries : List TubeRecord) → AreIdsWithin low jobs next → job_with id jobs ≡ Some j
+    → AreAlive loss jobs seats entries → AreAlive (with_lost j.tube loss) (without id jobs) seats entries
+alive_taken low next id j loss jobs seats entries ids found all =
+    all_weaker (λ t. is_accounted loss jobs seats t.name ≡ true) (λ t. is_accounted (with_lost j.tube loss) (without id jobs) seats t.name ≡ true) entries
+    (λ t h. still_accounted loss (with_lost j.tube loss) jobs (without id jobs) seats seats t.name
+    (λ some. elim (left_over (λ k. is_same_name t.name k.tube) low next id j jobs ids found some) [
+      | inl rest ↦ by_job (with_lost j.tube loss) (without id jobs) seats t.name rest
+      | inr it ↦ by_loss (with_lost j.tube loss) (without id jobs) seats t.name (named_lost t.name j.tube loss it)
+    ])
+    (by_seat (with_lost j.tube loss) (without id jobs) seats t.name)
+    (λ gone. by_loss (with_lost j.tube loss) (without id jobs) seats t.name (still_lost j.tube loss t.name gone))
+    h)
+    all
+
+-- where some seat was at the tube, and still is after a change of seats, the tube is accounted for as before
+alive_reseated : (loss loss' : Loss) (jobs : List Job) (seats seats' : List SeatRecord) (entries : List TubeRecord)
+    → ((name : List ℕ) → list_any (is_seated_at name) seats ≡ true → is_accounted loss' jobs seats' name ≡ true)
+    → ((name : List ℕ) → may_be_gone loss name ≡ true → may_be_gone loss' name ≡ true)
+    → AreAlive loss jobs seats entries → AreAlive loss' jobs seats' entries
+alive_reseated loss loss' jobs seats seats' entries seat lost all =
+    all_weaker (λ t. is_accounted loss jobs seats t.name ≡ true) (λ t. is_accounted loss' jobs seats' t.name ≡ true) entries
+    (λ t h. still_accounted loss loss' jobs jobs seats seats' t.name (by_job loss' jobs seats' t.name) (seat t.name) (λ gone. by_loss loss' jobs seats' t.name (lost t.name gone)) h)
+    all
+
+-- a seat at its place watches other tubes
+pub any_set : (p : SeatRecord → Bool) (Q : Type 0) (seats : List SeatRecord) (i : ℕ) (s new : SeatRecord) → slice_get seats i ≡ Some s → (p s ≡ true → (p new ≡ true) ⊎ Q) → list_any p seats ≡ true → (list_any p (set seats i new) ≡ true) ⊎ Q
+any_set p Q [] i s new found keeps h = absurd cc
+any_set p Q (t ∷ seats) zero s new found keeps h =
+    let e : t ≡ s = cc in
+    elim (or_cases (p t) (list_any p seats) h) [
+      | inl here ↦ elim (keeps (ap p (sym e) ∙ here)) [
+        | inl new ↦ inl (or_left _ (list_any p seats) new)
+        | inr q ↦ inr q
+      ]
+      | inr more ↦ inl (or_right (p new) _ more)
+    ]
+any_set p Q (t ∷ seats) (suc i) s new found keeps h =
+    elim (or_cases (p t) (list_any p seats) h) [
+      | inl here ↦ inl (or_left (p t) _ here)
+      | inr more ↦ elim (any_set p Q seats i s new found keeps more) [
+        | inl rest ↦ inl (or_right (p t) _ rest)
+        | inr q ↦ inr q
+      ]
+    ]
+
+any_joined : {A : Type 0} (p : A → Bool) (xs ys : List A) → list_any p xs ≡ true → list_any p (xs ++ ys) ≡ true
+any_joined p [] ys h = absurd cc
+any_joined p (x ∷ xs) ys h = elim (or_cases (p x) (list_any p xs) h) [
+  | inl here ↦ or_left (p x) _ here
+  | inr more ↦ or_right (p x) _ (any_joined p xs ys more)
+]
+
+watches_more : (name more : List ℕ) (s : SeatRecord) → is_seated_at name s ≡ true → is_seated_at name (watching (s.watched ++ more ∷ []) s) ≡ true
+watches_more name more s h =
+    let parts = and_parts s.connected (is_same_name name s.used || watches name s) h in
+    and_from s.connected _ parts.0 (elim (or_cases (is_same_name name s.used) (watches name s) parts.1) [
+      | inl used ↦ or_left (is_same_name name s.used) _ used
+      | inr watched ↦ or_right (is_same_name name s.used) _ (any_joined (is_same_name name) s.watched (more ∷ []) watched)
+    ])
+
+pub alive_watching : (more : List ℕ) (i : ℕ) (s : SeatRecord) (loss : Loss) (jobs : List Job) (seats : List SeatRecord) (entries : List TubeRecord) → slice_get seats i ≡ Some s
+    → AreAlive loss jobs seats entries → AreAlive loss jobs (set seats i (watching (s.watched ++ more ∷ []) s)) entries
+alive_watching more i s loss jobs seats entries found all =
+    alive_reseated loss loss jobs seats (set seats i (watching (s.watched ++ more ∷ []) s)) entries
+    (λ name h. elim (any_set (is_seated_at name) ⊥ seats i s (watching (s.watched ++ more ∷ []) s) found (λ at. inl (watches_more name more s at)) h) [
+      | inl still ↦ by_seat loss jobs (set seats i (watching (s.watched ++ more ∷ []) s)) name still
+      | inr never ↦ absurd never
+    ])
+    (λ name h. h)
+    all
+
+-- or one tube fewer
+others_left : (lost name : List ℕ) (names : List (List ℕ)) → list_any (is_same_name name) names ≡ true → (list_any (is_same_name name) (filter (λ other. not (is_same_name lost other)) names) ≡ true) ⊎ (is_same_name name lost ≡ true)
+others_left lost name [] h = absurd cc
+others_left lost name (n ∷ names) h = go (is_same_name lost n) refl (λ more. others_left lost name names more)
+  where
+    left : List (List ℕ)
+    left = filter (λ other. not (is_same_name lost other)) names
+
+    go : (b : Bool) → is_same_name lost n ≡ b → (list_any (is_same_name name) names ≡ true → (list_any (is_same_name name) left ≡ true) ⊎ (is_same_name name lost ≡ true))
+        → (list_any (is_same_name name) (if not b then n ∷ left else left) ≡ true) ⊎ (is_same_name name lost ≡ true)
+    go true e rest = elim (or_cases (is_same_name name n) (list_any (is_same_name name) names) h) [
+      | inl here ↦ inr (ap (is_same_name name) (same_name lost n e) ∙ here)
+      | inr more ↦ rest more
+    ]
+    go false e rest = elim (or_cases (is_same_name name n) (list_any (is_same_name name) names) h) [
+      | inl here ↦ inl (or_left (is_same_name name n) _ here)
+      | inr more ↦ elim (rest more) [
+        | inl some ↦ inl (or_right (is_same_name name n) _ some)
+        | inr it ↦ inr it
+      ]
+    ]
+
+watches_fewer : (lost name : List ℕ) (s : SeatRecord) → is_seated_at name s ≡ true → (is_seated_at name (watching (filter (λ other. not (is_same_name lost other)) s.watched) s) ≡ true) ⊎ (is_same_name name lost ≡ true)
+watches_fewer lost name s h =
+    let parts = and_parts s.connected (is_same_name name s.used || watches name s) h in
+    elim (or_cases (is_same_name name s.used) (watches name s) parts.1) [
+      | inl used ↦ inl (and_from s.connected _ parts.0 (or_left (is_same_name name s.used) _ used))
+      | inr watched ↦ elim (others_left lost name s.watched watched) [
+        | inl some ↦ inl (and_from s.connected _ parts.0 (or_right (is_same_name name s.used) _ some))
+        | inr it ↦ inr it
+      ]
+    ]
+
+pub alive_ignoring : (lost : List ℕ) (i : ℕ) (s : SeatRecord) (loss : Loss) (jobs : List Job) (seats : List SeatRecord) (entries : List TubeRecord) → slice_get seats i ≡ Some s
+    → AreAlive loss jobs seats entries → AreAlive (with_lost lost loss) jobs (set seats i (watching (filter (λ other. not (is_same_name lost other)) s.watched) s)) entries
+alive_ignoring lost i s loss jobs seats entries found all =
+    alive_reseated loss (with_lost lost loss) jobs seats (set seats i new) entries
+    (λ name h. elim (any_set (is_seated_at name) (is_same_name name lost ≡ true) seats i s new found (watches_fewer lost name s) h) [
+      | inl still ↦ by_seat (with_lost lost loss) jobs (set seats i new) name still
+      | inr it ↦ by_loss (with_lost lost loss) jobs (set seats i new) name (named_lost name lost loss it)
+    ])
+    (λ name h. still_lost lost loss name h)
+    all
+  where
+    new : SeatRecord
+    new = watching (filter (λ other. not (is_same_name lost other)) s.watched) s
+
+-- an entry is provided, whose tube may be gone where it is new
+pub alive_provided : (name : List ℕ) (loss : Loss) (jobs : List Job) (seats : List SeatRecord) (entries : List TubeRecord) → AreAlive loss jobs seats entries → AreAlive (if not (has_entry name entries) then with_lost name loss else loss) jobs seats (provided name entries)
+alive_provided name loss jobs seats entries all = go (has_entry name entries)
+  where
+    weaker : AreAlive (with_lost name loss) jobs seats entries
+    weaker = alive_reseated loss (with_lost name loss) jobs seats seats entries (λ n h. by_seat (with_lost name loss) jobs seats n h) (λ n h. still_lost name loss n h) all
+
+    new : is_accounted (with_lost name loss) jobs seats name ≡ true
+    new = by_loss (with_lost name loss) jobs seats name (now_lost name loss)
+
+    inserted : (entries : List TubeRecord) → AreAlive (with_lost name loss) jobs seats entries → AreAlive (with_lost name loss) jobs seats (with_record (fresh_tube name) entries)
+    inserted [] all = (new, tt)
+    inserted (t ∷ entries) all = at (is_same_name name t.name) (is_name_before name t.name) (inserted entries all.1)
+      where
+        at : (same before : Bool) → AreAlive (with_lost name loss) jobs seats (with_record (fresh_tube name) entries)
+            → AreAlive (with_lost name loss) jobs seats (if same then fresh_tube name ∷ entries else (if before then fresh_tube name ∷ t ∷ entries else t ∷ with_record (fresh_tube name) entries))
+        at true before rest = (new, all.1)
+        at false true rest = (new, all)
+        at false false rest = (all.0, rest)
+
+    go : (b : Bool) → AreAlive (if not b then with_lost name loss else loss) jobs seats (if b then entries else with_record (fresh_tube name) entries)
+    go true = all
+    go false = inserted entries weaker
+
+-- names stay
+pub alive_renamed : (f : TubeRecord → TubeRecord) → ((t : TubeRecord) → (f t).name ≡ t.name) → (loss : Loss) (jobs : List Job) (seats : List SeatRecord) (entries : List TubeRecord) → AreAlive loss jobs seats entries → AreAlive loss jobs seats (map f entries)
+alive_renamed f keeps loss jobs seats [] all = tt
+alive_renamed f keeps loss jobs seats (t ∷ entries) all = (ap (is_accounted loss jobs seats) (keeps t) ∙ all.0, alive_renamed f keeps loss jobs seats entries all.1)
+
+-- Where nothing may be gone, all is kept,
+pub alive_or : (b : Bool) → (b || false) ≡ true → b ≡ true
+alive_or true h = refl
+alive_or false h = h
+
+pub all_kept_alive : (jobs : List Job) (seats : List SeatRecord) (entries : List TubeRecord) → AreAlive Nothing jobs seats entries → filter (λ t. is_tube_of jobs seats t.name) entries ≡ entries
+all_kept_alive jobs seats [] all = refl
+all_kept_alive jobs seats (t ∷ entries) all = rw (alive_or (is_tube_of jobs seats t.name) all.0) (ap (λ ts. t ∷ ts) (all_kept_alive jobs seats entries all.1))
+
+-- and where one may be, all the others are.
+pub alive_but : (b c : Bool) → (b || c) ≡ true → c ≡ false → (b || false) ≡ true
+alive_but true c h e = refl
+alive_but false c h e = absurd (let g : c ≡ true = h in cc)
+
+pub others_alive : (name : List ℕ) (jobs : List Job) (seats : List SeatRecord) (entries : List TubeRecord) → All (λ u. is_name_before name u.name ≡ true) entries → AreAlive (Of name) jobs seats entries → AreAlive Nothing jobs seats entries
+others_alive name jobs seats [] later all = tt
+others_alive name jobs seats (t ∷ entries) later all =
+    (alive_but (is_tube_of jobs seats t.name) (is_same_name name t.name) all.0 (apart (is_same_name name t.name) refl), others_alive name jobs seats entries later.1 all.1)
+  where
+    apart : (b : Bool) → is_same_name name t.name ≡ b → b ≡ false
+    apart false e = refl
+    apart true e =
+        let is : name ≡ t.name = same_name name t.name e in
+        let other : is_same_name t.name name ≡ false = not_same name t.name (is_same_name t.name name) refl later.0 in
+        let back : is_same_name t.name name ≡ true = ap (is_same_name t.name) is ∙ same_itself t.name in
+        cc
+
+-- afterwards each entry is of a tube that exists
+pub alive_forgotten : (jobs : List Job) (seats : List SeatRecord) (entries : List TubeRecord) → AreAlive Nothing jobs seats (filter (λ t. is_tube_of jobs seats t.name) entries)
+alive_forgotten jobs seats [] = tt
+alive_forgotten jobs seats (t ∷ entries) = go (is_tube_of jobs seats t.name) refl (alive_forgotten jobs seats entries)
+  where
+    left : List TubeRecord
+    left = filter (λ t. is_tube_of jobs seats t.name) entries
+
+    go : (b : Bool) → is_tube_of jobs seats t.name ≡ b → AreAlive Nothing jobs seats left → AreAlive Nothing jobs seats (if b then t ∷ left else left)
+    go true e rest = (or_left (is_tube_of jobs seats t.name) false e, rest)
+    go false e rest = rest
+
+-- where as many are left, all are
+at_most : {A : Type 0} (p : A → Bool) (xs : List A) → length (filter p xs) ≤ length xs
+at_most p [] = omega arith
+at_most {A = A} p (x ∷ xs) = go (p x) (at_most p xs)
+  where
+    go : (b : Bool) → length (filter p xs) ≤ length xs → length (if b then x ∷ filter p xs else filter p xs) ≤ suc (length xs)
+    go true h = omega arith
+    go false h = omega arith
+
+pub as_many_left : {A : Type 0} (p : A → Bool) (xs : List A) → length xs ≤ length (filter p xs) → filter p xs ≡ xs
+as_many_left p [] h = refl
+as_many_left {A = A} p (x ∷ xs) h = go (p x) h (at_most p xs) (as_many_left p xs)
+  where
+    go : (b : Bool) → suc (length xs) ≤ length (if b then x ∷ filter p xs else filter p xs) → length (filter p xs) ≤ length xs → (length xs ≤ length (filter p xs) → filter p xs ≡ xs) → (if b then x ∷ filter p xs else filter p xs) ≡ x ∷ xs
+    go true h most rest = ap (λ ys. x ∷ ys) (rest (omega arith))
+    go false h most rest = absurd (omega arith)
+
+pub end_of_those_left : (p : TubeRecord → Bool) (entries : List TubeRecord) (were : ℕ) (last : Option ℕ) → were ≡ length entries → last ≡ first_pause_end entries → pause_end_left (filter p entries) were last ≡ first_pause_end (filter p entries)
+end_of_those_left p entries were last many h = go (nat_lt (length (filter p entries)) were) refl
+  where
+    as_many : nat_lt (length (filter p entries)) were ≡ false → length entries ≤ length (filter p entries)
+    as_many e = grind (arith, nat_tests)
+
+    go : (b : Bool) → nat_lt (length (filter p entries)) were ≡ b → (if b then first_pause_end (filter p entries) else last) ≡ first_pause_end (filter p entries)
+    go true e = refl
+    go false e = h ∙ ap first_pause_end (sym (as_many_left p entries (as_many e)))

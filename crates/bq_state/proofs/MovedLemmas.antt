@@ -1,0 +1,157 @@
+-- What the change of a job keeps.
+use Rattle.std.proofs.Common.{◌≡◌, ◌∙◌, ◌≤◌, ◌&&◌, ◌||◌, ◌==◌, not, ℕ, Bool, true, false, if◌then◌else◌, List, [], ◌∷◌, Some, refl, sym, ap, arith, length, map, subst, inl, inr}
+use Rattle.std.specs.List.{AllByRecursion as All, list_any}
+use Rattle.std.proofs.lemmas.Bool.{cases_Bool}
+use Rattle.std.proofs.lemmas.List.{length-map}
+use Rattle.bq_job.specs.declared.job.Job.{Job}
+use Rattle.bq_job.specs.machine.Changes.{is_ready, is_ready_state, job_with}
+use Rattle.bq_job.specs.beside.Lawful.{AreIdsWithin}
+use Rattle.bq_job.specs.machine.Limits.{greatest}
+use Rattle.bq_job.specs.machine.Machine.{SeatRecord, TubeRecord, default_tube}
+use Rattle.bq_job.specs.machine.Timers.{is_due, is_expired}
+use Rattle.bq_job.specs.reading.TubeName.{is_same_name}
+use Rattle.bq_job.specs.machine.Tubes.{is_seated_at}
+use Rattle.bq_jobs.specs.declared.row.Moved.{Moved}
+use Rattle.bq_jobs.specs.Changed.{IgnoresTube, KeepsId, KeepsTube, moved_by, with_changed}
+use Rattle.bq_jobs.specs.Kept.{with_added, without}
+use Rattle.bq_jobs.proofs.Changes.{changed as changed_by_id, found_id}
+use Rattle.bq_state.specs.declared.job_store.JobChange.{JobChange}
+use Rattle.bq_state.specs.declared.job_store.JobChange.TheVariants.{FireTimers, HandOut, GiveBack, Release, Bury, Touch, Kick}
+use Rattle.bq_state.specs.declared.known.hints.Loss.{Loss}
+use Rattle.bq_state.specs.declared.known.Tally.{Tally}
+use Rattle.bq_state.specs.declared.known.hints.Stir.{Stir}
+use Rattle.bq_state.specs.Crowds.{is_waiter}
+use Rattle.bq_state.specs.JobChanges.{changed}
+use Rattle.bq_state.specs.Losses.{AreAlive, may_be_gone}
+use Rattle.bq_state.specs.SeatChanges.{AreNumbered}
+use Rattle.bq_state.specs.Stirs.{AreKnown, IsKnown, with_stirred}
+use Rattle.bq_state.specs.Tallies.{AreCounted, tallies_at, tallies_of, tallies_without, tally_moved, tally_of, tally_with, tally_without}
+use Rattle.bq_state.specs.TubeEntries.{AreEntries, AreInOrder, has_entry}
+use Rattle.bq_state.specs.Warnings.{AreWarned, IsWarned, has_waiting_holder, with_holder_of}
+use Rattle.bq_state.specs.declared.known.hints.Warns.{Warns}
+use Rattle.bq_state.proofs.PartsLemmas.{all_filtered, all_kept}
+use Rattle.bq_state.proofs.StirLemmas.{known_added}
+use Rattle.bq_state.proofs.TallyPlaces.{counted_added, counted_taken}
+use Rattle.bq_state.proofs.WarningLemmas.{warned_added}
+
+same_tube : (b : Bool) (x y : Job) (tube : List ℕ) → x.tube ≡ tube → y.tube ≡ tube → (if b then x else y).tube ≡ tube
+same_tube true x y tube h i = h
+same_tube false x y tube h i = i
+
+same_id : (b : Bool) (x y : Job) (id : ℕ) → x.id ≡ id → y.id ≡ id → (if b then x else y).id ≡ id
+same_id true x y id h i = h
+same_id false x y id h i = i
+
+-- no change depends on the tube
+pub tube_ignored : (change : JobChange) → IgnoresTube (changed change)
+tube_ignored (FireTimers moment) j tube =
+    elim (cases_Bool (is_due moment j.state)) [
+      | inl due ↦ rw due refl
+      | inr later ↦ elim (cases_Bool (is_expired moment j.state)) [
+        | inl over ↦ rw (later, over) refl
+        | inr kept ↦ rw (later, kept) refl
+      ]
+    ]
+tube_ignored (HandOut seat moment) j tube = refl
+tube_ignored (GiveBack state) j tube = refl
+tube_ignored (Release pri delay moment) j tube = refl
+tube_ignored (Bury number pri) j tube = refl
+tube_ignored (Touch seat deadline) j tube = refl
+tube_ignored Kick j tube = refl
+
+-- and so none brings a job into another one
+pub tube_kept : (change : JobChange) → KeepsTube (changed change)
+tube_kept change j = ap (λ (i : Job). i.tube) (tube_ignored change j j.tube)
+
+-- one job alone is changed
+module _ (id : ℕ) (f : Job → Job) where
+  pub one_id : KeepsId f → KeepsId (λ k. if k.id == id then f k else k)
+  one_id keeps k = same_id (k.id == id) (f k) k k.id (keeps k) refl
+
+  pub one_tube : KeepsTube f → KeepsTube (λ k. if k.id == id then f k else k)
+  one_tube stays k = same_tube (k.id == id) (f k) k k.tube (stays k) refl
+
+module _ (g : Job → Job) (stays : KeepsTube g) where
+  pub entries_of_changed : (jobs : List Job) (seats : List SeatRecord) (entries : List TubeRecord) → AreEntries jobs seats entries → AreEntries (map g jobs) seats entries
+  entries_of_changed jobs seats entries e = record {
+    order = e.order;
+    fresh = e.fresh;
+    of_default = e.of_default;
+    of_jobs = all_kept (λ j. has_entry j.tube entries ≡ true) g (λ j h. ap (λ tube. has_entry tube entries) (stays j) ∙ h) jobs e.of_jobs;
+    of_seats = e.of_seats;
+  }
+
+  any_kept : (name : List ℕ) (jobs : List Job) → list_any (λ j. is_same_name name j.tube) (map g jobs) ≡ list_any (λ j. is_same_name name j.tube) jobs
+  any_kept name [] = refl
+  any_kept name (j ∷ jobs) =
+      ap (λ tube. is_same_name name tube || list_any (λ k. is_same_name name k.tube) (map g jobs)) (stays j)
+      ∙ ap (λ b. is_same_name name j.tube || b) (any_kept name jobs)
+
+  pub alive_changed : (loss : Loss) (jobs : List Job) (seats : List SeatRecord) (entries : List TubeRecord) → AreAlive loss jobs seats entries → AreAlive loss (map g jobs) seats entries
+  alive_changed loss jobs seats [] all = tt
+  alive_changed loss jobs seats (t ∷ entries) all = (
+    ap (λ b. (is_same_name t.name default_tube || b || list_any (is_seated_at t.name) seats) || may_be_gone loss t.name) (any_kept t.name jobs) ∙ all.0,
+    alive_changed loss jobs seats entries all.1,
+  )
+
+-- two changes at one name
+at_once : (name : List ℕ) (g h : Tally → Tally) (es : List TubeRecord) (tallies : List Tally)
+    → tallies_at name (λ t. g (h t)) es tallies ≡ tallies_at name g es (tallies_at name h es tallies)
+at_once name g h [] tallies = refl
+at_once name g h (t ∷ es) [] = refl
+at_once name g h (t ∷ es) (x ∷ tallies) =
+    elim (cases_Bool (is_same_name name t.name)) [
+      | inl e ↦
+          ap (λ b. if b then g (h x) ∷ tallies else x ∷ tallies_at name (λ y. g (h y)) es tallies) e
+          ∙ sym (ap (λ b. if b then g (h x) ∷ tallies else h x ∷ tallies_at name g es tallies) e)
+          ∙ sym (ap (λ b. tallies_at name g (t ∷ es) (if b then h x ∷ tallies else x ∷ tallies_at name h es tallies)) e)
+      | inr e ↦
+          ap (λ b. if b then g (h x) ∷ tallies else x ∷ tallies_at name (λ y. g (h y)) es tallies) e
+          ∙ ap (λ ts. x ∷ ts) (at_once name g h es tallies)
+          ∙ sym (ap (λ b. if b then g x ∷ tallies_at name h es tallies else x ∷ tallies_at name g es (tallies_at name h es tallies)) e)
+          ∙ sym (ap (λ b. tallies_at name g (t ∷ es) (if b then h x ∷ tallies else x ∷ tallies_at name h es tallies)) e)
+    ]
+
+-- a job stands otherwise
+pub counted_moved : (low next id : ℕ) (f : Job → Job) → KeepsId f → KeepsTube f → (j : Job) (m : Moved) → m ≡ moved_by f j → (tally : Tally) (tallies : List Tally) (jobs : List Job) (es : List TubeRecord)
+    → AreIdsWithin low jobs next → job_with id jobs ≡ Some j → AreInOrder es → length jobs ≤ greatest
+    → AreCounted tally tallies jobs es → AreCounted (tally_moved m tally) (tallies_at m.tube (tally_moved m) es tallies) (with_changed id f jobs) es
+counted_moved low next id f keeps stays j m is tally tallies jobs es ids found order fits was =
+    let made : with_added (f j) (without id jobs) ≡ with_changed id f jobs = changed_by_id low next id f j jobs ids found (keeps j ∙ found_id id jobs j found) in
+    let as_many : length (with_added (f j) (without id jobs)) ≡ length jobs = ap length made ∙ length-map jobs _ in
+    let fits_then : length (with_added (f j) (without id jobs)) ≤ greatest = omega (arith, as_many, fits) in
+    let after = counted_added (f j) (tally_without j tally) (tallies_without j es tallies) (without id jobs) es fits_then order (counted_taken low next id j tally tallies jobs es ids found order was) in
+    record {
+      whole = ap (λ (n : Moved). tally_moved n tally) is ∙ after.whole ∙ ap tally_of made;
+      each = ap (λ (n : Moved). tallies_at n.tube (tally_moved n) es tallies) is
+          ∙ at_once j.tube (tally_with (f j)) (tally_without j) es tallies
+          ∙ ap (λ tube. tallies_at tube (tally_with (f j)) es (tallies_without j es tallies)) (sym (stays j))
+          ∙ after.each ∙ ap (λ js. tallies_of js es) made;
+    }
+
+module _ (low next id : ℕ) (f : Job → Job) (keeps : KeepsId f) (stays : KeepsTube f) (j : Job) (m : Moved) (is : m ≡ moved_by f j) (jobs : List Job) (ids : AreIdsWithin low jobs next) (found : job_with id jobs ≡ Some j) where
+  made_of : with_added (f j) (without id jobs) ≡ with_changed id f jobs
+  made_of = changed_by_id low next id f j jobs ids found (keeps j ∙ found_id id jobs j found)
+
+  pub known_moved : (stir : Stir) (seats : List SeatRecord) (tubes : List TubeRecord) (b : Bool) → b ≡ (is_ready_state m.to.state && list_any (is_waiter m.tube) seats) → AreKnown stir jobs seats tubes
+      → AreKnown (if b then with_stirred m.tube stir else stir) (with_changed id f jobs) seats tubes
+  known_moved stir seats tubes b e was =
+      let known = known_added (f j) stir (without id jobs) seats tubes (all_filtered (λ k. All (IsKnown stir tubes k) seats) (λ k. not (k.id == id)) jobs was) in
+      let b_is : b ≡ (is_ready (f j) && list_any (is_waiter (f j).tube) seats) =
+      e ∙ ap (λ (n : Moved). is_ready_state n.to.state && list_any (is_waiter n.tube) seats) is ∙ ap (λ tube. is_ready (f j) && list_any (is_waiter tube) seats) (sym (stays j)) in
+      let stir_is : (if b then with_stirred m.tube stir else stir) ≡ (if is_ready (f j) && list_any (is_waiter (f j).tube) seats then with_stirred (f j).tube stir else stir) =
+      ap (λ x. if x then with_stirred m.tube stir else stir) b_is
+      ∙ ap (λ tube. if is_ready (f j) && list_any (is_waiter (f j).tube) seats then with_stirred tube stir else stir) (ap (λ (n : Moved). n.tube) is ∙ sym (stays j)) in
+      subst (λ x. AreKnown x (with_changed id f jobs) seats tubes) (sym stir_is)
+      (subst (λ js. AreKnown (if is_ready (f j) && list_any (is_waiter (f j).tube) seats then with_stirred (f j).tube stir else stir) js seats tubes) made_of known)
+
+  pub warned_moved : (warns : Warns) (seats : List SeatRecord) (b : Bool) → AreNumbered seats → b ≡ has_waiting_holder m.to.state seats → AreWarned warns jobs seats
+      → AreWarned (if b then with_holder_of m.to.state warns else warns) (with_changed id f jobs) seats
+  warned_moved warns seats b numbered e was =
+      let warned = warned_added (f j) warns (without id jobs) seats numbered (all_filtered (λ k. All (IsWarned warns k) seats) (λ k. not (k.id == id)) jobs was) in
+      let b_is : b ≡ has_waiting_holder (f j).state seats = e ∙ ap (λ (n : Moved). has_waiting_holder n.to.state seats) is in
+      let state_is : m.to.state ≡ (f j).state = ap (λ (n : Moved). n.to.state) is in
+      let warns_are : (if b then with_holder_of m.to.state warns else warns) ≡ (if has_waiting_holder (f j).state seats then with_holder_of (f j).state warns else warns) =
+      λ i. if b_is i then with_holder_of (state_is i) warns else warns in
+      subst (λ x. AreWarned x (with_changed id f jobs) seats) (sym warns_are)
+      (subst (λ js. AreWarned (if has_waiting_holder (f j).state seats then with_holder_of (f j).state warns else warns) js seats) made_of warned)

@@ -1,0 +1,274 @@
+-- What lies in the catalog of the tubes: entries found by their names.
+use Rattle.std.proofs.Common.{◌≡◌, ◌∙◌, ◌+◌, ℕ, suc, Bool, true, false, cond, ◌&&◌, ◌||◌, if◌then◌else◌, List, [], ◌∷◌, Option, Some, None, is_some, map, refl, sym, ap, arith, inl, inr}
+use Rattle.std.specs.Prelude.{find}
+use Rattle.std.specs.Borrow.{Bor}
+use Rattle.std.specs.declared.cmp.Ordering.{Ordering}
+use Rattle.std.specs.declared.cmp.Ordering.TheVariants.{Less, Equal, Greater}
+use Rattle.std.specs.Ordering.{is_eq, is_lt, match_ordering, nat_cmp, ordering_reverse}
+use Rattle.std.specs.BTreeMap.{insert_entry}
+use Rattle.std.specs.Cmp.Lexicographic.{nat_list_cmp_total, slice_cmp, texts_ties}
+use Rattle.std.specs.List.{AllByRecursion as All, insert, list_any, prefix_len}
+use Rattle.std.specs.List.Sorted.{IsStrictlySortedBy}
+use Rattle.std.specs.Map.{keys_of, lookup}
+use Rattle.std.specs.Option.{option_map}
+use Rattle.std.proofs.lemmas.Bool.{cases_Bool}
+use Rattle.bq_index.specs.Order.{InOrder}
+use Rattle.bq_job.specs.machine.Machine.{TubeRecord}
+use Rattle.bq_job.specs.reading.TubeName.{is_same_name}
+use Rattle.bq_job.specs.machine.Tubes.{fresh_tube, is_name_before, with_record}
+use Rattle.bq_state.specs.KeptTubes.{KeptTube, KeptTubes, Named, crowd_by, crowd_kept, edited, fresh_entry, is_named_at, is_paused_by, kept_changed, record_at, record_of, tally_by, tally_kept}
+use Rattle.bq_state.specs.Tallies.{tallies_at, tallies_provided, tally_at, tally_of}
+use Rattle.bq_state.specs.TubeEntries.{AreInOrder, has_entry, provided, tube_changed}
+use Rattle.bq_state.specs.Crowds.{crowd_at, crowds_at, crowds_provided, no_crowd}
+use Rattle.bq_state.specs.declared.tubes.entry.Crowd.{Crowd}
+use Rattle.bq_state.specs.declared.known.Tally.{Tally}
+use Rattle.bq_state.specs.declared.tubes.entry.TubeChange.{TubeChange}
+use Rattle.bq_state.specs.declared.tubes.entry.TubeChange.TheVariants.{CountPut, CountDelete, Pause}
+use Rattle.bq_state.proofs.TubeLemmas.{changed_one, head_differs, none_later, same_name}
+
+-- a look-up asks whether names are the same
+pub ties : (a b : List ℕ) → is_named_at a b ≡ is_same_name a b
+ties a b = sym (texts_ties a b)
+
+abbrev records : List Named → List TubeRecord
+records es = map record_at es
+
+-- The names of entries are in order.
+pub in_order : (es : List Named) → InOrder (slice_cmp nat_cmp) es → AreInOrder (map record_at es)
+unfolding IsStrictlySortedBy
+in_order [] s = tt
+in_order (x ∷ es) s = (later es s.0, in_order es s.1)
+  where
+    later : (es : List Named) → All (λ y. slice_cmp nat_cmp x.0 y ≡ Less) (keys_of es) → All (λ u. is_name_before x.0 u.name ≡ true) (map record_at es)
+    later [] all = tt
+    later (y ∷ es) all = (ap is_lt all.0, later es all.1)
+
+module _ (name : List ℕ) where
+  at : (x : List ℕ) (b : Bool) → is_same_name name x ≡ b → is_named_at name x ≡ b
+  at x b e = ties name x ∙ e
+
+  -- What is found is the entry of the name,
+  pub found_entry : (es : List Named) → option_map (record_of name) (lookup (is_named_at name) es) ≡ find (λ t. is_same_name name t.name) (map record_at es)
+  found_entry [] = refl
+  found_entry (x ∷ es) = elim (cases_Bool (is_same_name name x.0)) [
+    | inl e ↦ rw (at x.0 true e, e) (ap (λ n. Some (record_of n x.1)) (same_name name x.0 e))
+    | inr e ↦ rw (at x.0 false e, e) (found_entry es)
+  ]
+
+  pub found_any : (es : List Named) → is_some (lookup (is_named_at name) es) ≡ has_entry name (map record_at es)
+  found_any [] = refl
+  found_any (x ∷ es) = elim (cases_Bool (is_same_name name x.0)) [
+    | inl e ↦ rw (at x.0 true e, e) refl
+    | inr e ↦ rw (at x.0 false e, e) (found_any es)
+  ]
+
+  -- by which it is told whether the tube is paused,
+  pub found_pause : (es : List Named) → AreInOrder (map record_at es) → is_paused_by (lookup (is_named_at name) es) ≡ list_any (λ t. is_same_name name t.name && is_some t.pause) (map record_at es)
+  found_pause [] order = refl
+  found_pause (x ∷ es) order = elim (cases_Bool (is_same_name name x.0)) [
+    | inl e ↦
+        let is : name ≡ x.0 = same_name name x.0 e in
+        let none : has_entry name (records es) ≡ false = ap (λ n. has_entry n (records es)) is ∙ none_later x.0 (records es) order.0 in
+        rw (at x.0 true e, e, no_pause (records es) none) (or_false (is_some x.1.pause))
+    | inr e ↦ rw (at x.0 false e, e) (found_pause es order.1)
+  ]
+    where
+      or_false : (b : Bool) → b ≡ (b || false)
+      or_false true = refl
+      or_false false = refl
+
+      no_pause : (ts : List TubeRecord) → has_entry name ts ≡ false → list_any (λ t. is_same_name name t.name && is_some t.pause) ts ≡ false
+      no_pause [] h = refl
+      no_pause (t ∷ ts) h =
+          let parts = head_differs (is_same_name name t.name) (has_entry name ts) h in
+          rw parts.0 (no_pause ts parts.1)
+
+  -- and how many jobs it has.
+  pub found_tally : (es : List Named) → tally_by (lookup (is_named_at name) es) ≡ tally_at name (map record_at es) (map tally_kept es)
+  found_tally [] = refl
+  found_tally (x ∷ es) = elim (cases_Bool (is_same_name name x.0)) [
+    | inl e ↦ rw (at x.0 true e, e) refl
+    | inr e ↦ rw (at x.0 false e, e) (found_tally es)
+  ]
+
+  pub found_crowd : (es : List Named) → crowd_by (lookup (is_named_at name) es) ≡ crowd_at name (map record_at es) (map crowd_kept es)
+  found_crowd [] = refl
+  found_crowd (x ∷ es) = elim (cases_Bool (is_same_name name x.0)) [
+    | inl e ↦ rw (at x.0 true e, e) refl
+    | inr e ↦ rw (at x.0 false e, e) (found_crowd es)
+  ]
+
+  -- Others stay.
+  unchanged : (g : TubeRecord → TubeRecord) (ts : List TubeRecord) → has_entry name ts ≡ false → map (changed_one name g) ts ≡ ts
+  unchanged g [] h = refl
+  unchanged g (t ∷ ts) h =
+      let parts = head_differs (is_same_name name t.name) (has_entry name ts) h in
+      rw parts.0 (ap (λ us. t ∷ us) (unchanged g ts parts.1))
+
+  -- The value there is changed:
+  some_is : (a b : KeptTube) → Some a ≡ Some b → a ≡ b
+  some_is a b e = cc
+
+  module _ (f : KeptTube → KeptTube) where
+    edited_here : (x : Named) (es : List Named) → is_same_name name x.0 ≡ true → edited name f (lookup (is_named_at name) (x ∷ es)) (x ∷ es) ≡ (x.0, f x.1) ∷ es
+    edited_here x es e = rw (at x.0 true e) (rw (at x.0 true e) refl)
+
+    edited_past : (x : Named) (es : List Named) → is_same_name name x.0 ≡ false → edited name f (lookup (is_named_at name) (x ∷ es)) (x ∷ es) ≡ x ∷ edited name f (lookup (is_named_at name) es) es
+    edited_past x es e = ap (λ o. edited name f o (x ∷ es)) found ∙ go (lookup (is_named_at name) es)
+      where
+        away : is_named_at name x.0 ≡ false
+        away = at x.0 false e
+
+        found : lookup (is_named_at name) (x ∷ es) ≡ lookup (is_named_at name) es
+        found = rw away refl
+
+        go : (o : Option KeptTube) → edited name f o (x ∷ es) ≡ x ∷ edited name f o es
+        go None = refl
+        go (Some t) = rw away refl
+
+    -- the counts alone,
+    pub edit_tally : (g : Tally → Tally) → ((t : KeptTube) → (f t).tally ≡ g t.tally) → (es : List Named)
+        → map tally_kept (edited name f (lookup (is_named_at name) es) es) ≡ tallies_at name g (map record_at es) (map tally_kept es)
+    edit_tally g made [] = refl
+    edit_tally g made (x ∷ es) = elim (cases_Bool (is_same_name name x.0)) [
+      | inl e ↦ ap (map tally_kept) (edited_here x es e) ∙ (λ i. made x.1 i ∷ map tally_kept es) ∙ sym (rw e refl)
+      | inr e ↦ ap (map tally_kept) (edited_past x es e) ∙ ap (λ ts. x.1.tally ∷ ts) (edit_tally g made es) ∙ sym (rw e refl)
+    ]
+
+    pub edit_crowd : (g : Crowd → Crowd) → ((t : KeptTube) → (f t).crowd ≡ g t.crowd) → (es : List Named)
+        → map crowd_kept (edited name f (lookup (is_named_at name) es) es) ≡ crowds_at name g (map record_at es) (map crowd_kept es)
+    edit_crowd g made [] = refl
+    edit_crowd g made (x ∷ es) = elim (cases_Bool (is_same_name name x.0)) [
+      | inl e ↦ ap (map crowd_kept) (edited_here x es e) ∙ (λ i. made x.1 i ∷ map crowd_kept es) ∙ sym (rw e refl)
+      | inr e ↦ ap (map crowd_kept) (edited_past x es e) ∙ ap (λ cs. x.1.crowd ∷ cs) (edit_crowd g made es) ∙ sym (rw e refl)
+    ]
+
+    pub edit_same_records : ((n : List ℕ) (t : KeptTube) → record_of n (f t) ≡ record_of n t) → (es : List Named) → map record_at (edited name f (lookup (is_named_at name) es) es) ≡ map record_at es
+    edit_same_records same [] = refl
+    edit_same_records same (x ∷ es) = elim (cases_Bool (is_same_name name x.0)) [
+      | inl e ↦ ap (map record_at) (edited_here x es e) ∙ (λ i. same x.0 x.1 i ∷ map record_at es)
+      | inr e ↦ ap (map record_at) (edited_past x es e) ∙ ap (λ ts. record_at x ∷ ts) (edit_same_records same es)
+    ]
+
+    -- or all but these.
+    pub edit_same_tallies : ((t : KeptTube) → (f t).tally ≡ t.tally) → (es : List Named) → map tally_kept (edited name f (lookup (is_named_at name) es) es) ≡ map tally_kept es
+    edit_same_tallies same [] = refl
+    edit_same_tallies same (x ∷ es) = elim (cases_Bool (is_same_name name x.0)) [
+      | inl e ↦ ap (map tally_kept) (edited_here x es e) ∙ (λ i. same x.1 i ∷ map tally_kept es)
+      | inr e ↦ ap (map tally_kept) (edited_past x es e) ∙ ap (λ ts. x.1.tally ∷ ts) (edit_same_tallies same es)
+    ]
+
+    pub edit_same_crowds : ((t : KeptTube) → (f t).crowd ≡ t.crowd) → (es : List Named) → map crowd_kept (edited name f (lookup (is_named_at name) es) es) ≡ map crowd_kept es
+    edit_same_crowds same [] = refl
+    edit_same_crowds same (x ∷ es) = elim (cases_Bool (is_same_name name x.0)) [
+      | inl e ↦ ap (map crowd_kept) (edited_here x es e) ∙ (λ i. same x.1 i ∷ map crowd_kept es)
+      | inr e ↦ ap (map crowd_kept) (edited_past x es e) ∙ ap (λ cs. x.1.crowd ∷ cs) (edit_same_crowds same es)
+    ]
+
+    pub edit_change : (g : TubeRecord → TubeRecord) → ((n : List ℕ) (t : KeptTube) → record_of n (f t) ≡ g (record_of n t)) → (es : List Named) → AreInOrder (map record_at es)
+        → map record_at (edited name f (lookup (is_named_at name) es) es) ≡ map (changed_one name g) (map record_at es)
+    edit_change g made [] order = refl
+    edit_change g made (x ∷ es) order = elim (cases_Bool (is_same_name name x.0)) [
+      | inl e ↦
+          let same : name ≡ x.0 = same_name name x.0 e in
+          let none : has_entry name (records es) ≡ false = ap (λ n. has_entry n (records es)) same ∙ none_later x.0 (records es) order.0 in
+          ap (map record_at) (edited_here x es e) ∙ (λ i. made x.0 x.1 i ∷ sym (unchanged g (records es) none) i) ∙ sym (rw e refl)
+      | inr e ↦ ap (map record_at) (edited_past x es e) ∙ ap (λ ts. record_at x ∷ ts) (edit_change g made es order.1) ∙ sym (rw e refl)
+    ]
+
+  -- A new entry
+  reversed : (x : List ℕ) (a : Ordering) → slice_cmp nat_cmp name x ≡ a → slice_cmp nat_cmp x name ≡ ordering_reverse a
+  reversed x a e = nat_list_cmp_total.antisymm x name ∙ ap ordering_reverse e
+
+  one_more : (n : ℕ) → 1 + n ≡ suc n
+  one_more n = omega arith
+
+  abbrev place : List TubeRecord → ℕ
+  place ts = prefix_len (λ t. is_name_before t.name name) ts
+
+  new_at : (x : Named) (es : List Named) (a : Ordering) → slice_cmp nat_cmp name x.0 ≡ a → is_same_name name x.0 ≡ false
+      → map record_at (insert_entry (slice_cmp nat_cmp) es name fresh_entry) ≡ with_record (fresh_tube name) (map record_at es)
+      → map record_at (match_ordering a ((name, fresh_entry) ∷ x ∷ es) ((x.0, fresh_entry) ∷ es) (x ∷ insert_entry (slice_cmp nat_cmp) es name fresh_entry)) ≡ with_record (fresh_tube name) (map record_at (x ∷ es))
+  new_at x es Less e other rest = rw (other, ap is_lt e) refl
+  new_at x es Equal e other rest = absurd (let g : is_same_name name x.0 ≡ true = sym (ties name x.0) ∙ ap is_eq e in cc)
+  new_at x es Greater e other rest = rw (other, ap is_lt e) (ap (λ ts. record_at x ∷ ts) rest)
+
+  pub new_record : (es : List Named) → has_entry name (map record_at es) ≡ false → map record_at (insert_entry (slice_cmp nat_cmp) es name fresh_entry) ≡ with_record (fresh_tube name) (map record_at es)
+  new_record [] h = refl
+  new_record (x ∷ es) h =
+      let parts = head_differs (is_same_name name x.0) (has_entry name (records es)) h in
+      new_at x es (slice_cmp nat_cmp name x.0) refl parts.0 (new_record es parts.1)
+
+  pub new_entry : (es : List Named) → has_entry name (map record_at es) ≡ false → map record_at (insert_entry (slice_cmp nat_cmp) es name fresh_entry) ≡ provided name (map record_at es)
+  new_entry es none = new_record es none ∙ sym (ap (λ b. if b then records es else with_record (fresh_tube name) (records es)) none)
+
+  -- has the counts of no job.
+  tally_new_at : (x : Named) (es : List Named) (a : Ordering) → slice_cmp nat_cmp name x.0 ≡ a → is_same_name name x.0 ≡ false
+      → map tally_kept (insert_entry (slice_cmp nat_cmp) es name fresh_entry) ≡ insert (map tally_kept es) (prefix_len (λ t. is_name_before t.name name) (map record_at es)) (tally_of [])
+      → map tally_kept (match_ordering a ((name, fresh_entry) ∷ x ∷ es) ((x.0, fresh_entry) ∷ es) (x ∷ insert_entry (slice_cmp nat_cmp) es name fresh_entry))
+      ≡ insert (x.1.tally ∷ map tally_kept es) (cond (is_name_before x.0 name) (1 + prefix_len (λ t. is_name_before t.name name) (map record_at es)) 0) (tally_of [])
+  tally_new_at x es Less e other rest = rw (ap is_lt (reversed x.0 Less e)) refl
+  tally_new_at x es Equal e other rest = absurd (let g : is_same_name name x.0 ≡ true = sym (ties name x.0) ∙ ap is_eq e in cc)
+  tally_new_at x es Greater e other rest =
+      rw (ap is_lt (reversed x.0 Greater e)) (ap (λ ts. x.1.tally ∷ ts) rest ∙ ap (λ k. insert (x.1.tally ∷ map tally_kept es) k (tally_of [])) (sym (one_more (place (records es)))))
+
+  tally_new : (es : List Named) → has_entry name (map record_at es) ≡ false
+      → map tally_kept (insert_entry (slice_cmp nat_cmp) es name fresh_entry) ≡ insert (map tally_kept es) (prefix_len (λ t. is_name_before t.name name) (map record_at es)) (tally_of [])
+  tally_new [] h = refl
+  tally_new (x ∷ es) h =
+      let parts = head_differs (is_same_name name x.0) (has_entry name (records es)) h in
+      tally_new_at x es (slice_cmp nat_cmp name x.0) refl parts.0 (tally_new es parts.1)
+
+  pub new_tally : (es : List Named) → has_entry name (map record_at es) ≡ false → map tally_kept (insert_entry (slice_cmp nat_cmp) es name fresh_entry) ≡ tallies_provided name (map record_at es) (map tally_kept es)
+  new_tally es none = tally_new es none ∙ sym (ap (λ b. if b then map tally_kept es else insert (map tally_kept es) (place (records es)) (tally_of [])) none)
+
+  -- and of no client.
+  crowd_new_at : (x : Named) (es : List Named) (a : Ordering) → slice_cmp nat_cmp name x.0 ≡ a → is_same_name name x.0 ≡ false
+      → map crowd_kept (insert_entry (slice_cmp nat_cmp) es name fresh_entry) ≡ insert (map crowd_kept es) (prefix_len (λ t. is_name_before t.name name) (map record_at es)) no_crowd
+      → map crowd_kept (match_ordering a ((name, fresh_entry) ∷ x ∷ es) ((x.0, fresh_entry) ∷ es) (x ∷ insert_entry (slice_cmp nat_cmp) es name fresh_entry))
+      ≡ insert (x.1.crowd ∷ map crowd_kept es) (cond (is_name_before x.0 name) (1 + prefix_len (λ t. is_name_before t.name name) (map record_at es)) 0) no_crowd
+  crowd_new_at x es Less e other rest = rw (ap is_lt (reversed x.0 Less e)) refl
+  crowd_new_at x es Equal e other rest = absurd (let g : is_same_name name x.0 ≡ true = sym (ties name x.0) ∙ ap is_eq e in cc)
+  crowd_new_at x es Greater e other rest =
+      rw (ap is_lt (reversed x.0 Greater e)) (ap (λ cs. x.1.crowd ∷ cs) rest ∙ ap (λ k. insert (x.1.crowd ∷ map crowd_kept es) k no_crowd) (sym (one_more (place (records es)))))
+
+  crowd_new : (es : List Named) → has_entry name (map record_at es) ≡ false
+      → map crowd_kept (insert_entry (slice_cmp nat_cmp) es name fresh_entry) ≡ insert (map crowd_kept es) (prefix_len (λ t. is_name_before t.name name) (map record_at es)) no_crowd
+  crowd_new [] h = refl
+  crowd_new (x ∷ es) h =
+      let parts = head_differs (is_same_name name x.0) (has_entry name (records es)) h in
+      crowd_new_at x es (slice_cmp nat_cmp name x.0) refl parts.0 (crowd_new es parts.1)
+
+  pub new_crowd : (es : List Named) → has_entry name (map record_at es) ≡ false → map crowd_kept (insert_entry (slice_cmp nat_cmp) es name fresh_entry) ≡ crowds_provided name (map record_at es) (map crowd_kept es)
+  new_crowd es none = crowd_new es none ∙ sym (ap (λ b. if b then map crowd_kept es else insert (map crowd_kept es) (place (records es)) no_crowd) none)
+
+  pub absent : (es : List Named) → is_some (lookup (is_named_at name) es) ≡ false → lookup (is_named_at name) es ≡ None
+  absent es h = go (lookup (is_named_at name) es) h
+    where
+      go : (o : Option KeptTube) → is_some o ≡ false → o ≡ None
+      go None h = refl
+      go (Some t) h = absurd cc
+
+-- What happens to a tube changes its record.
+pub change_kept : (what : TubeChange) (name : List ℕ) (t : KeptTube) → record_of name (kept_changed what t) ≡ tube_changed what (record_of name t)
+change_kept CountPut name t = refl
+change_kept CountDelete name t = refl
+change_kept (Pause seconds moment) name t = refl
+
+-- What is lent is what is found.
+pub lent_any : (o : Option (Bor KeptTube)) {found : Option KeptTube} → option_map (λ (t : Bor KeptTube). t.now) o ≡ found → is_some o ≡ is_some found
+lent_any None e = ap is_some e
+lent_any (Some t) e = ap is_some e
+
+pub provided_there : (name : List ℕ) (ts : List TubeRecord) → has_entry name ts ≡ true → provided name ts ≡ ts
+provided_there name ts h = ap (λ b. if b then ts else with_record (fresh_tube name) ts) h
+
+pub tallies_provided_there : (name : List ℕ) (ts : List TubeRecord) (us : List Tally) → has_entry name ts ≡ true → tallies_provided name ts us ≡ us
+tallies_provided_there name ts us h = ap (λ b. if b then us else insert us (prefix_len (λ t. is_name_before t.name name) ts) (tally_of [])) h
+
+pub crowds_provided_there : (name : List ℕ) (ts : List TubeRecord) (us : List Crowd) → has_entry name ts ≡ true → crowds_provided name ts us ≡ us
+crowds_provided_there name ts us h = ap (λ b. if b then us else insert us (prefix_len (λ t. is_name_before t.name name) ts) no_crowd) h
+
+-- what is kept is the same where its three lists are
+pub kept_alike : {k l : KeptTubes} → k.entries ≡ l.entries → k.tallies ≡ l.tallies → k.crowds ≡ l.crowds → k ≡ l
+kept_alike e t w = λ i. record { entries = e i; tallies = t i; crowds = w i }

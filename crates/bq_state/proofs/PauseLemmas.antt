@@ -1,0 +1,100 @@
+-- When the first of the pauses ends.
+use Rattle.bq_job.specs.machine.Machine.{Pause as PauseOf}
+use Rattle.bq_job.specs.machine.Timers.{pause_after_timers, tube_after_timers}
+use Rattle.bq_state.specs.TubeEntries.{counted, is_counted}
+use Rattle.bq_job.proofs.ListLemmas.{all_of_filter, all_weaker, list_any_not, map_all_same, none_pass}
+use Rattle.std.proofs.Common.{◌≡◌, ℕ, Bool, true, false, ◌||◌, min, List, [], ◌∷◌, Option, Some, None, map, refl, sym, ap, ◌∙◌, arith, if◌then◌else◌}
+use Rattle.std.specs.Prelude.{fold, nat_le}
+use Rattle.std.specs.List.{list_any}
+use Rattle.std.proofs.lemmas.Bool.Decides.{nat_tests}
+use Rattle.bq_job.specs.machine.Machine.{TubeRecord}
+use Rattle.bq_job.specs.machine.Machine.{Pause as PauseRecord}
+use Rattle.bq_job.specs.beside.NextDue.{dues_of_pause, earliest}
+use Rattle.bq_job.specs.reading.TubeName.{is_same_name}
+use Rattle.bq_job.specs.machine.Tubes.{fresh_tube, is_name_before, with_record}
+use Rattle.bq_state.specs.declared.tubes.entry.TubeChange.{TubeChange}
+use Rattle.bq_state.specs.declared.tubes.entry.TubeChange.TheVariants.{CountPut, CountDelete, Pause}
+use Rattle.bq_state.specs.Dues.{earlier_of_both, first_pause_end, is_end_over, pause_end_after, with_tube_due}
+use Rattle.bq_state.specs.TubeEntries.{has_entry, is_over, is_pause_over, provided, tube_changed, tube_changed_at}
+use Rattle.bq_state.proofs.TubeLemmas.{head_differs}
+
+-- changes that keep the pauses
+same_ends : (f : TubeRecord → TubeRecord) → ((t : TubeRecord) → (f t).pause ≡ t.pause) → (entries : List TubeRecord) (best : Option ℕ) → fold with_tube_due best (map f entries) ≡ fold with_tube_due best entries
+same_ends f keeps [] best = refl
+same_ends f keeps (t ∷ entries) best =
+    ap (λ p. fold with_tube_due (earlier_of_both best (earliest (dues_of_pause p))) (map f entries)) (keeps t)
+    ∙ same_ends f keeps entries (earlier_of_both best (earliest (dues_of_pause t.pause)))
+
+same_pause : (b : Bool) (x y : TubeRecord) → x.pause ≡ y.pause → (if b then x else y).pause ≡ y.pause
+same_pause true x y h = h
+same_pause false x y h = refl
+
+pub end_after_change : (name : List ℕ) (what : TubeChange) (entries : List TubeRecord) (last : Option ℕ) → last ≡ first_pause_end entries → pause_end_after (map (tube_changed_at name what) entries) what last ≡ first_pause_end (map (tube_changed_at name what) entries)
+end_after_change name CountPut entries last h =
+    h ∙ sym (same_ends (tube_changed_at name CountPut) (λ t. same_pause (is_same_name name t.name) (tube_changed CountPut t) t refl) entries None)
+end_after_change name CountDelete entries last h =
+    h ∙ sym (same_ends (tube_changed_at name CountDelete) (λ t. same_pause (is_same_name name t.name) (tube_changed CountDelete t) t refl) entries None)
+end_after_change name (Pause seconds moment) entries last h = refl
+
+-- a new entry has no pause
+no_other : (a : Option ℕ) → earlier_of_both a None ≡ a
+no_other None = refl
+no_other (Some a) = refl
+
+fresh_adds_none : (name : List ℕ) (entries : List TubeRecord) (best : Option ℕ) → has_entry name entries ≡ false → fold with_tube_due best (with_record (fresh_tube name) entries) ≡ fold with_tube_due best entries
+fresh_adds_none name [] best h = no_other best
+fresh_adds_none name (t ∷ entries) best h =
+    let parts = head_differs (is_same_name name t.name) (has_entry name entries) h in
+    rw parts.0 (go (is_name_before name t.name) (fresh_adds_none name entries (earlier_of_both best (earliest (dues_of_pause t.pause))) parts.1))
+  where
+    go : (b : Bool) → fold with_tube_due best (t ∷ with_record (fresh_tube name) entries) ≡ fold with_tube_due best (t ∷ entries) → fold with_tube_due best (if b then fresh_tube name ∷ t ∷ entries else t ∷ with_record (fresh_tube name) entries) ≡ fold with_tube_due best (t ∷ entries)
+    go true rest = ap (λ o. fold with_tube_due o (t ∷ entries)) (no_other best)
+    go false rest = rest
+
+pub end_provided : (name : List ℕ) (entries : List TubeRecord) → first_pause_end (provided name entries) ≡ first_pause_end entries
+end_provided name entries = go (has_entry name entries) refl
+  where
+    go : (b : Bool) → has_entry name entries ≡ b → first_pause_end (if b then entries else with_record (fresh_tube name) entries) ≡ first_pause_end entries
+    go true h = refl
+    go false h = fresh_adds_none name entries None h
+
+-- Where the first end is yet to come, no pause is over.
+both_to_come : (moment : ℕ) (a b : Option ℕ) → is_end_over moment (earlier_of_both a b) ≡ false → (is_end_over moment a ≡ false) × (is_end_over moment b ≡ false)
+both_to_come moment None b h = (refl, h)
+both_to_come moment (Some a) None h = (h, refl)
+both_to_come moment (Some a) (Some b) h = (first moment a b h, second moment a b h)
+  where
+    first : (moment a b : ℕ) → nat_le (min a b) moment ≡ false → nat_le a moment ≡ false
+    first moment a b h = grind (arith, nat_tests)
+
+    second : (moment a b : ℕ) → nat_le (min a b) moment ≡ false → nat_le b moment ≡ false
+    second moment a b h = grind (arith, nat_tests)
+
+not_over : (moment : ℕ) (p : Option PauseRecord) → is_end_over moment (earliest (dues_of_pause p)) ≡ false → is_over moment p ≡ false
+not_over moment None h = refl
+not_over moment (Some pause) h = h
+
+all_to_come : (moment : ℕ) (best : Option ℕ) (entries : List TubeRecord) → is_end_over moment (fold with_tube_due best entries) ≡ false → (is_end_over moment best ≡ false) × (list_any (is_pause_over moment) entries ≡ false)
+all_to_come moment best [] h = (h, refl)
+all_to_come moment best (t ∷ entries) h =
+    let rest = all_to_come moment (earlier_of_both best (earliest (dues_of_pause t.pause))) entries h in
+    let parts = both_to_come moment best (earliest (dues_of_pause t.pause)) rest.0 in
+    (parts.0, ap (λ b. b || list_any (is_pause_over moment) entries) (not_over moment t.pause parts.1) ∙ rest.1)
+
+pub none_over : (moment : ℕ) (entries : List TubeRecord) → is_end_over moment (first_pause_end entries) ≡ false → list_any (is_pause_over moment) entries ≡ false
+none_over moment entries h = (all_to_come moment None entries h).1
+
+-- no pause is over
+pub none_counted : (moment : ℕ) (entries : List TubeRecord) → list_any (is_pause_over moment) entries ≡ false → list_any (is_pause_over moment) (counted entries) ≡ false
+none_counted moment entries h =
+    list_any_not (is_pause_over moment) (counted entries)
+    (all_weaker (λ t. (is_pause_over moment t ≡ false) × (is_counted t ≡ true)) (λ t. is_pause_over moment t ≡ false) (counted entries) (λ t k. k.0) (all_of_filter (λ t. is_pause_over moment t ≡ false) is_counted entries (none_pass (is_pause_over moment) entries h)))
+
+pub no_pause_ends : (moment : ℕ) (tubes : List TubeRecord) → list_any (is_pause_over moment) tubes ≡ false → map (tube_after_timers moment) tubes ≡ tubes
+no_pause_ends moment tubes h = map_all_same (tube_after_timers moment) tubes (all_weaker (λ t. is_pause_over moment t ≡ false) (λ t. tube_after_timers moment t ≡ t) tubes (λ t none. stays t t.pause refl none) (none_pass (is_pause_over moment) tubes h))
+  where
+    stays : (t : TubeRecord) (p : Option PauseOf) → t.pause ≡ p → is_over moment p ≡ false → tube_after_timers moment t ≡ t
+    stays t None e h = ap (λ q. record t { pause = pause_after_timers moment q }) e ∙ ap (λ q. record t { pause = q }) (sym e)
+    stays t (Some p) e h =
+        let same : pause_after_timers moment (Some p) ≡ Some p = rw h refl in
+        ap (λ q. record t { pause = pause_after_timers moment q }) e ∙ ap (λ q. record t { pause = q }) (same ∙ sym e)

@@ -1,0 +1,52 @@
+-- Seats that are numbered in order are found by their places.
+use Rattle.std.proofs.Common.{zero, ◌++◌, add-one}
+use Rattle.std.proofs.lemmas.List.{map-append}
+use Rattle.bq_job.specs.machine.Machine.{empty_seat}
+use Rattle.std.proofs.Common.{◌≡◌, ℕ, suc, false, ◌==◌, ◌<◌, ◌+◌, ◌≤◌, List, [], ◌∷◌, Option, Some, None, map, length, refl, sym, ap, ◌∙◌, arith, if◌then◌else◌, get_or, slice_get}
+use Rattle.std.specs.Borrow.{Bor}
+use Rattle.std.specs.List.{HoldsAt}
+use Rattle.std.specs.Option.{IfSome, MatchOption, option_copied}
+use Rattle.std.proofs.lemmas.Bool.{ne_eqb}
+use Rattle.std.proofs.lemmas.Option.{slice_get_past, slice_get_read}
+use Rattle.bq_job.specs.machine.Changes.{seat_with}
+use Rattle.bq_job.specs.machine.Machine.{SeatRecord, numbers}
+use Rattle.bq_state.specs.SeatChanges.{AreNumbered}
+use Rattle.bq_state.proofs.PartsLemmas.{seat_read, seat_there}
+
+-- what stands at the place of a number is the seat of that number, if there is one
+pub place_is_seat : (seats : List SeatRecord) (i : ℕ) → AreNumbered seats → slice_get seats i ≡ seat_with i seats
+place_is_seat seats i h = go (slice_get seats i) (seat_with i seats) refl refl
+  where
+    go : (a b : Option SeatRecord) → slice_get seats i ≡ a → seat_with i seats ≡ b → slice_get seats i ≡ b
+    go (Some s) b e f = sym (sym f ∙ seat_read seats i s h e ∙ sym e)
+    go None (Some s) e f = seat_there seats i s h f
+    go None None e f = e
+
+-- what a look at that place finds
+pub found_there : (seats : List SeatRecord) (i : ℕ) (found : Option (Bor SeatRecord)) → AreNumbered seats → IfSome found (λ s. s.now ≡ get_or seats i s.now)
+    → MatchOption found (length seats ≤ i) (λ s. (i < length seats) × HoldsAt (λ y. s.now ≡ y) seats i) → option_copied found ≡ seat_with i seats
+found_there seats i None h read there = sym (slice_get_past seats i there) ∙ place_is_seat seats i h
+found_there seats i (Some s) h read there = sym (slice_get_read seats (length seats) i s.now refl there.0 read) ∙ place_is_seat seats i h
+
+-- where there is no seat of a number, a change of it changes none
+none_from : (low i : ℕ) (seats : List SeatRecord) (f : SeatRecord → SeatRecord) → map (λ s. s.number) seats ≡ numbers low (length seats) → low + length seats ≤ i → map (λ s. if s.number == i then f s else s) seats ≡ seats
+none_from low i [] f h less = refl
+none_from low i (t ∷ seats) f h less =
+    let first : t.number ≡ low = cc in
+    let more : map (λ s. s.number) seats ≡ numbers (suc low) (length seats) = cc in
+    let other : (t.number == i) ≡ false = ne_eqb t.number i (λ e. absurd (omega arith)) in
+    rw other (ap (λ ts. t ∷ ts) (none_from (suc low) i seats f more (omega arith)))
+
+pub none_there : (seats : List SeatRecord) (i : ℕ) (f : SeatRecord → SeatRecord) → AreNumbered seats → length seats ≤ i → map (λ s. if s.number == i then f s else s) seats ≡ seats
+none_there seats i f h less = none_from 0 i seats f h (omega arith)
+
+pub numbers_more : (low n : ℕ) → numbers low (suc n) ≡ numbers low n ++ (low + n) ∷ []
+numbers_more low zero = ap (λ k. k ∷ []) (omega arith)
+numbers_more low (suc n) = ap (λ ns. low ∷ ns) (numbers_more (suc low) n ∙ ap (λ k. numbers (suc low) n ++ k ∷ []) (omega arith))
+
+pub places_more : (n : ℕ) → map empty_seat (numbers 0 (n + 1)) ≡ map empty_seat (numbers 0 n) ++ empty_seat n ∷ []
+places_more n =
+    ap (λ k. map empty_seat (numbers 0 k)) (add-one n)
+    ∙ ap (map empty_seat) (numbers_more 0 n)
+    ∙ map-append empty_seat (numbers 0 n) ((0 + n) ∷ [])
+    ∙ ap (λ k. map empty_seat (numbers 0 n) ++ empty_seat k ∷ []) (omega arith)

@@ -1,0 +1,292 @@
+-- What is known of the jobs that waiting clients may have.
+use Rattle.std.proofs.Common.{◌≡◌, ◌==◌, ◌&&◌, ◌||◌, ℕ, Bool, true, false, not, List, Option, Some, None, [], ◌∷◌, filter, find, is_some, map, refl, sym, ap, ◌∙◌, subst, inl, inr, set, slice_get, if◌then◌else◌}
+use Rattle.std.specs.Prelude.{unwrap_or}
+use Rattle.std.specs.List.{AllByRecursion as All, Contains, list_any}
+use Rattle.std.proofs.lemmas.Bool.{cases_Bool}
+use Rattle.bq_job.specs.declared.job.Job.{Job}
+use Rattle.bq_job.specs.machine.Changes.{is_ready, is_waiting}
+use Rattle.bq_job.specs.machine.Dispatch.{is_job_before, is_waiting_for, next_job}
+use Rattle.bq_job.specs.machine.JobCommands.{with_put, with_delete}
+use Rattle.bq_job.specs.machine.Machine.{Machine, Pause, SeatRecord, TubeRecord, default_tube}
+use Rattle.bq_job.specs.machine.Limits.{later}
+use Rattle.bq_job.specs.machine.TubeCommands.{watching, with_pause}
+use Rattle.bq_job.specs.reading.TubeName.{is_same_name}
+use Rattle.bq_job.specs.machine.Tubes.{forgetting, fresh_tube, is_name_before, is_paused, is_tube, tube_record, watches, with_record, with_tube}
+use Rattle.bq_job.proofs.ChoiceLemmas.{first_of_none, first_of_none_passes}
+use Rattle.bq_job.proofs.ListLemmas.{all_always, all_at, all_from_members, all_of_map, all_weaker, find_in_filter, found_passes, list_any_not, list_any_with, none_pass}
+use Rattle.bq_jobs.specs.Kept.{with_added}
+use Rattle.bq_state.specs.Crowds.{is_waiter}
+use Rattle.bq_state.specs.SeatChanges.{seat_changed, seat_changed_at}
+use Rattle.bq_state.specs.Stirs.{AreKnown, IsKnown, is_nothing, is_paused_by, is_wanted_by, may_get, stirred_by_change, stirred_by_seat, with_anything, with_asker, with_stirred}
+use Rattle.bq_state.specs.TubeEntries.{tube_changed}
+use Rattle.bq_state.specs.declared.seats.SeatChange.{SeatChange}
+use Rattle.bq_state.specs.declared.seats.SeatChange.TheVariants.{StopWaiting, Wait, Connect, Clear, End, Use}
+use Rattle.bq_state.specs.declared.known.hints.Stir.{Stir}
+use Rattle.bq_state.specs.declared.known.hints.Stir.TheVariants.{Nothing, Tube, Client, Any}
+use Rattle.bq_state.specs.declared.tubes.entry.TubeChange.{TubeChange}
+use Rattle.bq_state.specs.declared.tubes.entry.TubeChange.TheVariants.{CountPut, CountDelete, Pause as PauseFor}
+use Rattle.bq_state.proofs.PartsLemmas.{all_added, all_read, all_set}
+use Rattle.bq_state.proofs.TubeLemmas.{same_itself, same_name}
+
+-- what could be had can be had yet
+still_stirred : (name : List ℕ) (stir : Stir) (tube : List ℕ) (seat : ℕ) → may_get stir tube seat ≡ true → may_get (with_stirred name stir) tube seat ≡ true
+still_stirred name Nothing tube seat h = absurd cc
+still_stirred name (Tube stirred) tube seat h = elim (cases_Bool (is_same_name stirred name)) [
+  | inl same ↦ rw same (subst (λ n. is_same_name n tube ≡ true) (same_name stirred name same) h)
+  | inr other ↦ rw other refl
+]
+still_stirred name (Client asker) tube seat h = refl
+still_stirred name Any tube seat h = refl
+
+now_stirred : (name : List ℕ) (stir : Stir) (seat : ℕ) → may_get (with_stirred name stir) name seat ≡ true
+now_stirred name Nothing seat = same_itself name
+now_stirred name (Tube stirred) seat = elim (cases_Bool (is_same_name stirred name)) [
+  | inl same ↦ rw same (same_itself name)
+  | inr other ↦ rw other refl
+]
+now_stirred name (Client asker) seat = refl
+now_stirred name Any seat = refl
+
+still_asked : (number : ℕ) (stir : Stir) (tube : List ℕ) (seat : ℕ) → may_get stir tube seat ≡ true → may_get (with_asker number stir) tube seat ≡ true
+still_asked number Nothing tube seat h = absurd cc
+still_asked number (Tube stirred) tube seat h = refl
+still_asked number (Client asker) tube seat h = refl
+still_asked number Any tube seat h = refl
+
+now_asked : (number : ℕ) (stir : Stir) (tube : List ℕ) (seat : ℕ) → (seat == number) ≡ true → may_get (with_asker number stir) tube seat ≡ true
+now_asked number Nothing tube seat h = h
+now_asked number (Tube stirred) tube seat h = refl
+now_asked number (Client asker) tube seat h = refl
+now_asked number Any tube seat h = refl
+
+-- what is known of each job and client after a change
+known_then : (stir stir' : Stir) (jobs : List Job) (seats : List SeatRecord) (tubes tubes' : List TubeRecord)
+    → ((j : Job) → Contains jobs j → (s : SeatRecord) → IsKnown stir tubes j s → IsKnown stir' tubes' j s) → AreKnown stir jobs seats tubes → AreKnown stir' jobs seats tubes'
+known_then stir stir' jobs seats tubes tubes' goes known =
+    all_from_members (λ j. All (IsKnown stir' tubes' j) seats) jobs
+    (λ j c. all_weaker (IsKnown stir tubes j) (IsKnown stir' tubes' j) seats (goes j c) (all_at (λ k. All (IsKnown stir tubes k) seats) jobs j known c))
+
+-- a client waits for a job where it waits, the job is ready, and its tube is watched
+wanted_parts : (w r n d : Bool) → (w && (r && n && not d)) ≡ true → (w ≡ true) × (r ≡ true) × (n ≡ true) × (d ≡ false)
+wanted_parts true true true false h = (refl, refl, refl, refl)
+wanted_parts true true true true h = absurd cc
+wanted_parts true true false d h = absurd cc
+wanted_parts true false n d h = absurd cc
+wanted_parts false r n d h = absurd cc
+
+pub parts_of : (tubes : List TubeRecord) (j : Job) (s : SeatRecord) → is_wanted_by tubes j s ≡ true → (is_waiting s ≡ true) × (is_ready j ≡ true) × (watches j.tube s ≡ true) × (is_paused_by tubes j.tube ≡ false)
+parts_of tubes j s h = wanted_parts (is_waiting s) (is_ready j) (watches j.tube s) (is_paused_by tubes j.tube) h
+
+-- a pause that goes on leaves no job to be had
+paused_then : (stir stir' : Stir) (tubes tubes' : List TubeRecord) (j : Job) (s : SeatRecord) → (may_get stir j.tube s.number ≡ true → may_get stir' j.tube s.number ≡ true)
+    → (is_paused_by tubes j.tube ≡ true → is_paused_by tubes' j.tube ≡ true) → IsKnown stir tubes j s → IsKnown stir' tubes' j s
+paused_then stir stir' tubes tubes' j s more stays known wanted =
+    let parts = parts_of tubes' j s wanted in
+    let free : is_paused_by tubes j.tube ≡ false = go (is_paused_by tubes j.tube) (is_paused_by tubes' j.tube) stays parts.3 in
+    more (known (rw (parts.0, parts.1, parts.2, free) refl))
+  where
+    go : (b c : Bool) → (b ≡ true → c ≡ true) → c ≡ false → b ≡ false
+    go false c k e = refl
+    go true c k e = sym (k refl) ∙ e
+
+pub known_any : (jobs : List Job) (seats : List SeatRecord) (tubes : List TubeRecord) → AreKnown Any jobs seats tubes
+known_any jobs seats tubes = all_always (λ j. All (IsKnown Any tubes j) seats) jobs (λ j. all_always (IsKnown Any tubes j) seats (λ s w. refl))
+
+-- where there is no next job
+pub known_nothing : (m : Machine) → next_job m ≡ None → AreKnown Nothing m.jobs m.seats m.tubes
+known_nothing m none =
+    all_weaker (λ j. list_any (is_waiting_for m j) m.seats ≡ false) (λ j. All (IsKnown Nothing m.tubes j) m.seats) m.jobs
+    (λ j no. all_weaker (λ s. is_waiting_for m j s ≡ false) (IsKnown Nothing m.tubes j) m.seats (λ s f w. sym f ∙ w) (none_pass (is_waiting_for m j) m.seats no))
+    (none_pass (λ j. list_any (is_waiting_for m j) m.seats) m.jobs (first_of_none (λ j. list_any (is_waiting_for m j) m.seats) is_job_before m.jobs none))
+
+-- there is none where none may be had
+pub none_known : (stir : Stir) (m : Machine) → is_nothing stir ≡ true → AreKnown stir m.jobs m.seats m.tubes → next_job m ≡ None
+none_known Nothing m e known =
+    first_of_none_passes (λ j. list_any (is_waiting_for m j) m.seats) is_job_before m.jobs
+    (list_any_not (λ j. list_any (is_waiting_for m j) m.seats) m.jobs
+    (all_weaker (λ j. All (IsKnown Nothing m.tubes j) m.seats) (λ j. list_any (is_waiting_for m j) m.seats ≡ false) m.jobs
+    (λ j all. list_any_not (is_waiting_for m j) m.seats
+    (all_weaker (IsKnown Nothing m.tubes j) (λ s. is_waiting_for m j s ≡ false) m.seats (λ s k. go (is_waiting_for m j s) k) all)) known))
+  where
+    go : (b : Bool) → (b ≡ true → false ≡ true) → b ≡ false
+    go true k = absurd (let e = k refl in cc)
+    go false k = refl
+none_known (Tube stirred) m e known = absurd cc
+none_known (Client asker) m e known = absurd cc
+none_known Any m e known = absurd cc
+
+-- a job is added
+pub known_added : (j : Job) (stir : Stir) (jobs : List Job) (seats : List SeatRecord) (tubes : List TubeRecord) → AreKnown stir jobs seats tubes
+    → AreKnown (if is_ready j && list_any (is_waiter j.tube) seats then with_stirred j.tube stir else stir) (with_added j jobs) seats tubes
+known_added j stir jobs seats tubes known = go (is_ready j && list_any (is_waiter j.tube) seats) refl
+  where
+    both : (b c : Bool) → b ≡ true → c ≡ true → (b && c) ≡ false → false ≡ true
+    both true true e f h = sym h
+    both true false e f h = f
+    both false c e f h = e
+
+    waiter : (b c : Bool) → b ≡ true → c ≡ true → (b && c) ≡ true
+    waiter true true e f = refl
+    waiter true false e f = f
+    waiter false c e f = e
+
+    unwanted : (is_ready j && list_any (is_waiter j.tube) seats) ≡ false → (s : SeatRecord) → Contains seats s → IsKnown stir tubes j s
+    unwanted none s c wanted =
+        let parts = parts_of tubes j s wanted in
+        absurd
+        (let e = both (is_ready j) (list_any (is_waiter j.tube) seats) parts.1
+        (list_any_with (is_waiter j.tube) seats s c (waiter (is_waiting s) (watches j.tube s) parts.0 parts.2)) none in cc)
+
+    go : (b : Bool) → (is_ready j && list_any (is_waiter j.tube) seats) ≡ b → AreKnown (if b then with_stirred j.tube stir else stir) (with_added j jobs) seats tubes
+    go true e =
+        all_added (λ k. All (IsKnown (with_stirred j.tube stir) tubes k) seats) j jobs (all_always (IsKnown (with_stirred j.tube stir) tubes j) seats (λ s w. now_stirred j.tube stir s.number))
+        (known_then stir (with_stirred j.tube stir) jobs seats tubes tubes (λ k c s known w. still_stirred j.tube stir k.tube s.number (known w)) known)
+    go false e = all_added (λ k. All (IsKnown stir tubes k) seats) j jobs (all_from_members (IsKnown stir tubes j) seats (unwanted e)) known
+
+-- a seat is changed
+still_by_seat : (number : ℕ) (what : SeatChange) (stir : Stir) (tube : List ℕ) (seat : ℕ) → may_get stir tube seat ≡ true → may_get (stirred_by_seat number what stir) tube seat ≡ true
+still_by_seat number StopWaiting stir tube seat h = h
+still_by_seat number (Wait ticket until) stir tube seat h = still_asked number stir tube seat h
+still_by_seat number Connect stir tube seat h = h
+still_by_seat number Clear stir tube seat h = h
+still_by_seat number End stir tube seat h = h
+still_by_seat number (Use name) stir tube seat h = h
+
+known_changed : (number : ℕ) (what : SeatChange) (stir : Stir) (tubes : List TubeRecord) (j : Job) (s : SeatRecord) → (s.number == number) ≡ true → IsKnown stir tubes j s → IsKnown (stirred_by_seat number what stir) tubes j (seat_changed what s)
+known_changed number StopWaiting stir tubes j s e known = λ w. absurd cc
+known_changed number (Wait ticket until) stir tubes j s e known = λ w. now_asked number stir j.tube s.number e
+known_changed number Connect stir tubes j s e known = λ w. absurd cc
+known_changed number Clear stir tubes j s e known = λ w. absurd cc
+known_changed number End stir tubes j s e known = known
+known_changed number (Use name) stir tubes j s e known = known
+
+pub known_of_seat : (number : ℕ) (what : SeatChange) (stir : Stir) (jobs : List Job) (seats : List SeatRecord) (tubes : List TubeRecord) → AreKnown stir jobs seats tubes
+    → AreKnown (stirred_by_seat number what stir) jobs (map (seat_changed_at number what) seats) tubes
+known_of_seat number what stir jobs seats tubes known =
+    all_weaker (λ j. All (IsKnown stir tubes j) seats) (λ j. All (IsKnown (stirred_by_seat number what stir) tubes j) (map (seat_changed_at number what) seats)) jobs
+    (λ j all. all_of_map (IsKnown (stirred_by_seat number what stir) tubes j) (seat_changed_at number what) seats
+    (all_weaker (IsKnown stir tubes j) (λ s. IsKnown (stirred_by_seat number what stir) tubes j (seat_changed_at number what s)) seats (λ s k. go j s k (s.number == number) refl) all)) known
+  where
+    go : (j : Job) (s : SeatRecord) → IsKnown stir tubes j s → (b : Bool) → (s.number == number) ≡ b → IsKnown (stirred_by_seat number what stir) tubes j (if b then seat_changed what s else s)
+    go j s k true e = known_changed number what stir tubes j s e k
+    go j s k false e = λ w. still_by_seat number what stir j.tube s.number (k w)
+
+-- a client watches other tubes: any job may be had if it waits
+pub known_watching : (names : List (List ℕ)) (i : ℕ) (s : SeatRecord) (stir : Stir) (jobs : List Job) (seats : List SeatRecord) (tubes : List TubeRecord) → AreKnown stir jobs seats tubes
+    → AreKnown (if is_waiting s then with_anything stir else stir) jobs (set seats i (watching names s)) tubes
+known_watching names i s stir jobs seats tubes known = go (is_waiting s) refl
+  where
+    quiet : is_waiting s ≡ false → (j : Job) → IsKnown stir tubes j (watching names s)
+    quiet e j w = absurd (let no = (parts_of tubes j (watching names s) w).0 in cc)
+
+    go : (b : Bool) → is_waiting s ≡ b → AreKnown (if b then with_anything stir else stir) jobs (set seats i (watching names s)) tubes
+    go true e = known_any jobs (set seats i (watching names s)) tubes
+    go false e =
+        all_weaker (λ j. All (IsKnown stir tubes j) seats) (λ j. All (IsKnown stir tubes j) (set seats i (watching names s))) jobs
+        (λ j all. all_set (IsKnown stir tubes j) seats i (watching names s) all (quiet e j)) known
+
+-- a client watches fewer
+any_left : (p q : List ℕ → Bool) (names : List (List ℕ)) → list_any p (filter q names) ≡ true → list_any p names ≡ true
+any_left p q [] h = absurd cc
+any_left p q (name ∷ names) h = go (p name) (q name) refl h (any_left p q names)
+  where
+    go : (b c : Bool) → p name ≡ b → list_any p (if c then name ∷ filter q names else filter q names) ≡ true → (list_any p (filter q names) ≡ true → list_any p names ≡ true) → (b || list_any p names) ≡ true
+    go true c e h rest = refl
+    go false true e h rest = rest (rw e at h)
+    go false false e h rest = rest h
+
+pub known_ignoring : (q : List ℕ → Bool) (i : ℕ) (s : SeatRecord) (stir : Stir) (jobs : List Job) (seats : List SeatRecord) (tubes : List TubeRecord) → slice_get seats i ≡ Some s → AreKnown stir jobs seats tubes
+    → AreKnown stir jobs (set seats i (watching (filter q s.watched) s)) tubes
+known_ignoring q i s stir jobs seats tubes here known =
+    all_weaker (λ j. All (IsKnown stir tubes j) seats) (λ j. All (IsKnown stir tubes j) (set seats i (watching (filter q s.watched) s))) jobs
+    (λ j all. all_set (IsKnown stir tubes j) seats i (watching (filter q s.watched) s) all (fewer j (all_read (IsKnown stir tubes j) seats i s all here))) known
+  where
+    fewer : (j : Job) → IsKnown stir tubes j s → IsKnown stir tubes j (watching (filter q s.watched) s)
+    fewer j k w =
+        let parts = parts_of tubes j (watching (filter q s.watched) s) w in
+        let watched : watches j.tube s ≡ true = any_left (is_same_name j.tube) q s.watched parts.2 in
+        k (rw (parts.0, parts.1, watched, parts.3) refl)
+
+-- a record whose pause ends none leaves all tubes paused
+paused_kept : (name : List ℕ) (t : TubeRecord) (tubes : List TubeRecord) → (is_same_name name t.name ≡ true → is_some (unwrap_or (find (λ u. is_same_name name u.name) tubes) (fresh_tube name)).pause ≡ true → is_some t.pause ≡ true)
+    → is_some (unwrap_or (find (λ u. is_same_name name u.name) tubes) (fresh_tube name)).pause ≡ true → is_some (unwrap_or (find (λ u. is_same_name name u.name) (with_record t tubes)) (fresh_tube name)).pause ≡ true
+paused_kept name t [] same = λ h. absurd cc
+paused_kept name t (u ∷ us) same = elim (cases_Bool (is_same_name t.name u.name)) [
+  | inl a ↦ elim (cases_Bool (is_same_name name t.name)) [
+    | inl e ↦ rw (a, e) (same e)
+    | inr e ↦ let other : is_same_name name u.name ≡ false = ap (is_same_name name) (sym (same_name t.name u.name a)) ∙ e in rw (a, e, other) (λ h. h)
+  ]
+  | inr a ↦ elim (cases_Bool (is_name_before t.name u.name)) [
+    | inl b ↦ elim (cases_Bool (is_same_name name t.name)) [ inl e ↦ rw (a, b, e) (same e) | inr e ↦ rw (a, b, e) (λ h. h) ]
+    | inr b ↦ elim (cases_Bool (is_same_name name u.name)) [
+      | inl d ↦ rw (a, b, d) (λ h. h)
+      | inr d ↦ rw (a, b, d) (paused_kept name t us (rw d at same))
+    ]
+  ]
+]
+
+named : (name : List ℕ) (m : Machine) → (tube_record name m).name ≡ name
+named name m = go (find (λ t. is_same_name name t.name) m.tubes) refl
+  where
+    go : (o : Option TubeRecord) → find (λ t. is_same_name name t.name) m.tubes ≡ o → (unwrap_or o (fresh_tube name)).name ≡ name
+    go None e = refl
+    go (Some t) e = sym (same_name name t.name ((found_passes (λ u. is_same_name name u.name) m.tubes t e).0))
+
+-- a change of one tube that ends no pause of it
+pub pauses_kept : (tube : List ℕ) (f : TubeRecord → TubeRecord) (m : Machine) → ((t : TubeRecord) → (f t).name ≡ t.name) → (is_paused tube m ≡ true → is_some (f (tube_record tube m)).pause ≡ true) → (name : List ℕ) → is_paused name m ≡ true → is_paused name (with_tube tube f m) ≡ true
+pauses_kept tube f m keeps stays name =
+    paused_kept name (f (tube_record tube m)) m.tubes (λ e h.
+    let is : name ≡ tube = same_name name (f (tube_record tube m)).name e ∙ keeps (tube_record tube m) ∙ named tube m in
+    stays (subst (λ n. is_paused n m ≡ true) is h))
+
+-- a tube is changed: only the end of its pause lets its jobs be had
+other_paused : (name tube : List ℕ) (f : TubeRecord → TubeRecord) (m : Machine) → ((t : TubeRecord) → (f t).name ≡ t.name) → is_same_name tube name ≡ false → is_paused name m ≡ true → is_paused name (with_tube tube f m) ≡ true
+other_paused name tube f m keeps other =
+    paused_kept name (f (tube_record tube m)) m.tubes (λ e h.
+    let is : name ≡ tube = same_name name (f (tube_record tube m)).name e ∙ keeps (tube_record tube m) ∙ named tube m in
+    absurd (let same : is_same_name tube name ≡ true = ap (is_same_name tube) is ∙ same_itself tube in cc))
+
+pub known_of_change : (tube : List ℕ) (what : TubeChange) (m : Machine) (stir : Stir) → AreKnown stir m.jobs m.seats m.tubes → AreKnown (stirred_by_change tube what stir) m.jobs m.seats (with_tube tube (tube_changed what) m).tubes
+known_of_change tube CountPut m stir known =
+    known_then stir stir m.jobs m.seats m.tubes (with_tube tube with_put m).tubes
+    (λ j c s k. paused_then stir stir m.tubes (with_tube tube with_put m).tubes j s (λ h. h) (pauses_kept tube with_put m (λ t. refl) (λ p. p) j.tube) k) known
+known_of_change tube CountDelete m stir known =
+    known_then stir stir m.jobs m.seats m.tubes (with_tube tube with_delete m).tubes
+    (λ j c s k. paused_then stir stir m.tubes (with_tube tube with_delete m).tubes j s (λ h. h) (pauses_kept tube with_delete m (λ t. refl) (λ p. p) j.tube) k) known
+known_of_change tube (PauseFor seconds moment) m stir known = go (seconds == 0) refl
+  where
+    after : List TubeRecord
+    after = (with_tube tube (with_pause seconds moment) m).tubes
+
+    stays : (b : Bool) (pause : Pause) → b ≡ false → is_some (if b then None else Some pause) ≡ true
+    stays true pause e = absurd cc
+    stays false pause e = refl
+
+    one : (j : Job) (s : SeatRecord) → IsKnown stir m.tubes j s → IsKnown (with_stirred tube stir) after j s
+    one j s k = elim (cases_Bool (is_same_name tube j.tube)) [
+      | inl same ↦ λ w. subst (λ n. may_get (with_stirred tube stir) n s.number ≡ true) (same_name tube j.tube same) (now_stirred tube stir s.number)
+      | inr other ↦ paused_then stir (with_stirred tube stir) m.tubes after j s (still_stirred tube stir j.tube s.number) (other_paused j.tube tube (with_pause seconds moment) m (λ t. refl) other) k
+    ]
+
+    go : (b : Bool) → (seconds == 0) ≡ b → AreKnown (if b then with_stirred tube stir else stir) m.jobs m.seats after
+    go true e = known_then stir (with_stirred tube stir) m.jobs m.seats m.tubes after (λ j c s k. one j s k) known
+    go false e =
+        known_then stir stir m.jobs m.seats m.tubes after
+        (λ j c s k. paused_then stir stir m.tubes after j s (λ h. h) (pauses_kept tube (with_pause seconds moment) m (λ t. refl) (λ p. stays (seconds == 0) (record { seconds = seconds; until = later moment seconds }) e) j.tube) k) known
+
+-- what is forgotten is of no tube with a job
+pub known_forgotten : (m : Machine) (stir : Stir) → AreKnown stir m.jobs m.seats m.tubes → AreKnown stir m.jobs m.seats (forgetting m).tubes
+known_forgotten m stir known =
+    known_then stir stir m.jobs m.seats m.tubes (forgetting m).tubes
+    (λ j c s k. subst (λ (p : Option TubeRecord). (is_waiting s && (is_ready j && watches j.tube s && not (is_some (unwrap_or p (fresh_tube j.tube)).pause))) ≡ true → may_get stir j.tube s.number ≡ true)
+    (sym (find_in_filter (λ t. is_same_name j.tube t.name) (λ t. is_tube t.name m) m.tubes (all_always (λ t. is_same_name j.tube t.name ≡ true → is_tube t.name m ≡ true) m.tubes (λ t e. stays j c t e)))) k) known
+  where
+    or_middle : (a b c : Bool) → b ≡ true → (a || b || c) ≡ true
+    or_middle true b c e = refl
+    or_middle false b c e = rw e refl
+
+    stays : (j : Job) → Contains m.jobs j → (t : TubeRecord) → is_same_name j.tube t.name ≡ true → is_tube t.name m ≡ true
+    stays j c t e =
+        let there : list_any (λ k. is_same_name t.name k.tube) m.jobs ≡ true =
+        list_any_with (λ k. is_same_name t.name k.tube) m.jobs j c (ap (λ n. is_same_name t.name n) (same_name j.tube t.name e) ∙ same_itself t.name) in
+        or_middle (is_same_name t.name default_tube) _ _ there

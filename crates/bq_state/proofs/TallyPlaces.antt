@@ -1,0 +1,175 @@
+-- The counts of tubes stand at the places of their entries.
+use Rattle.std.proofs.Common.{◌≡◌, ◌∙◌, ◌+◌, ◌≤◌, ◌||◌, ℕ, Bool, true, false, List, [], ◌∷◌, Some, refl, sym, ap, arith, length, map, inl, inr}
+use Rattle.std.specs.Prelude.{◌++◌, nat_lt, count_by, filter, take, drop}
+use Rattle.std.proofs.lemmas.List.{drop-map, map-append, take-map}
+use Rattle.std.specs.List.{AllByRecursion as All, insert, list_any, prefix_len}
+use Rattle.std.specs.Cmp.Lexicographic.{bytes_decides}
+use Rattle.std.proofs.lemmas.Bool.{cases_Bool, lt-ltb, or_left, or_right}
+use Rattle.bq_job.specs.declared.job.Job.{Job}
+use Rattle.bq_job.specs.declared.job.JobState.{JobState}
+use Rattle.bq_job.specs.declared.job.JobState.TheVariants as states
+use Rattle.bq_job.specs.machine.Changes.{is_ready, is_ready_state, job_with}
+use Rattle.bq_job.specs.machine.JobStates.{is_buried, is_delayed, is_reserved}
+use Rattle.bq_job.specs.beside.Lawful.{AreIdsWithin}
+use Rattle.bq_job.specs.machine.Limits.{greatest}
+use Rattle.bq_job.specs.machine.Machine.{TubeRecord}
+use Rattle.bq_job.specs.reading.TubeName.{is_same_name}
+use Rattle.bq_job.specs.machine.Tubes.{fresh_tube, is_name_before}
+use Rattle.bq_job.proofs.ListLemmas.{count_cons}
+use Rattle.bq_job.proofs.NameOrderLemmas.{not_same}
+use Rattle.bq_jobs.specs.Kept.{with_added, without}
+use Rattle.bq_state.specs.declared.known.Tally.{Tally}
+use Rattle.bq_state.specs.Tallies.{AreCounted, has_jobs, tallies_at, tallies_of, tallies_provided, tallies_with, tallies_without, tally_at, tally_in, tally_of, tally_with, tally_without}
+use Rattle.bq_state.specs.TubeEntries.{AreInOrder, has_entry, provided}
+use Rattle.bq_state.proofs.TubeLemmas.{provided_new}
+use Rattle.bq_state.proofs.TallyLemmas.{tally_added, tally_stays_added, tally_stays_taken, tally_taken, whole_added, whole_taken}
+
+module _ (j : Job) (old new : List Job) (f : Tally → Tally)
+    (here : (t : TubeRecord) → is_same_name t.name j.tube ≡ true → tally_in new t ≡ f (tally_in old t))
+    (elsewhere : (t : TubeRecord) → is_same_name t.name j.tube ≡ false → tally_in new t ≡ tally_in old t) where
+  -- no later entry has the name of the first one
+  later_stay : (t : TubeRecord) → j.tube ≡ t.name → (es : List TubeRecord) → All (λ u. is_name_before t.name u.name ≡ true) es → tallies_of old es ≡ tallies_of new es
+  later_stay t is [] all = refl
+  later_stay t is (u ∷ es) all =
+      let apart : is_same_name u.name t.name ≡ false = not_same t.name u.name (is_same_name u.name t.name) refl all.0 in
+      let head = elsewhere u (ap (is_same_name u.name) is ∙ apart) in
+      λ i. sym head i ∷ later_stay t is es all.1 i
+
+  pub followed : (es : List TubeRecord) → AreInOrder es → tallies_at j.tube f es (tallies_of old es) ≡ tallies_of new es
+  followed [] order = refl
+  followed (t ∷ es) order =
+      elim (cases_Bool (is_same_name j.tube t.name)) [
+        | inl e ↦
+            let is : j.tube ≡ t.name = (bytes_decides j.tube t.name).0 e in
+            let back : is_same_name t.name j.tube ≡ true = (bytes_decides t.name j.tube).1 (sym is) in
+            rw e (λ i. sym (here t back) i ∷ later_stay t is es order.0 i)
+        | inr e ↦
+            let apart : is_same_name t.name j.tube ≡ false = turned (is_same_name t.name j.tube) refl e in
+            rw e (λ i. sym (elsewhere t apart) i ∷ followed es order.1 i)
+      ]
+    where
+      turned : (b : Bool) → is_same_name t.name j.tube ≡ b → is_same_name j.tube t.name ≡ false → b ≡ false
+      turned false g e = refl
+      turned true g e = let back : is_same_name j.tube t.name ≡ true = (bytes_decides j.tube t.name).1 (sym ((bytes_decides t.name j.tube).0 g)) in cc
+
+-- the counts of each tube, once a job comes
+pub tallies_added : (j : Job) (jobs : List Job) → length (with_added j jobs) ≤ greatest → (es : List TubeRecord) → AreInOrder es
+    → tallies_with j es (tallies_of jobs es) ≡ tallies_of (with_added j jobs) es
+tallies_added j jobs fits = followed j jobs (with_added j jobs) (tally_with j)
+    (λ t e. tally_added (λ k. is_same_name t.name k.tube) j jobs fits e) (λ t e. tally_stays_added (λ k. is_same_name t.name k.tube) j jobs e)
+
+-- or goes
+pub tallies_taken : (low next id : ℕ) (j : Job) (jobs : List Job) → AreIdsWithin low jobs next → job_with id jobs ≡ Some j → (es : List TubeRecord) → AreInOrder es
+    → tallies_without j es (tallies_of jobs es) ≡ tallies_of (without id jobs) es
+tallies_taken low next id j jobs ids found = followed j jobs (without id jobs) (tally_without j)
+    (λ t e. tally_taken (λ k. is_same_name t.name k.tube) low next id j jobs ids found e)
+    (λ t e. tally_stays_taken (λ k. is_same_name t.name k.tube) low next id j jobs ids found e)
+
+-- the counts of a tube hang on its name alone
+same_tallies : (f : TubeRecord → TubeRecord) → ((t : TubeRecord) → (f t).name ≡ t.name) → (jobs : List Job) (es : List TubeRecord) → tallies_of jobs es ≡ tallies_of jobs (map f es)
+same_tallies f same jobs [] = refl
+same_tallies f same jobs (t ∷ es) =
+    let head = ap (λ n. tally_of (filter (λ k. is_same_name n k.tube) jobs)) (sym (same t)) in
+    λ i. head i ∷ same_tallies f same jobs es i
+
+pub counted_kept : (f : TubeRecord → TubeRecord) → ((t : TubeRecord) → (f t).name ≡ t.name) → (tally : Tally) (tallies : List Tally) (jobs : List Job) (es : List TubeRecord)
+    → AreCounted tally tallies jobs es → AreCounted tally tallies jobs (map f es)
+counted_kept f same tally tallies jobs es was = record { whole = was.whole; each = was.each ∙ same_tallies f same jobs es }
+
+-- a tube that gets an entry has no job
+no_job_there : (name : List ℕ) (jobs : List Job) (es : List TubeRecord) → has_entry name es ≡ false → All (λ j. has_entry j.tube es ≡ true) jobs → filter (λ j. is_same_name name j.tube) jobs ≡ []
+no_job_there name [] es none all = refl
+no_job_there name (j ∷ jobs) es none all =
+    elim (cases_Bool (is_same_name name j.tube)) [
+      | inl e ↦
+          let is : name ≡ j.tube = (bytes_decides name j.tube).0 e in
+          let there : has_entry j.tube es ≡ false = ap (λ n. has_entry n es) (sym is) ∙ none in
+          absurd (let g = all.0 in cc)
+      | inr e ↦ rw e (no_job_there name jobs es none all.1)
+    ]
+
+inserted_tallies : (jobs : List Job) (es : List TubeRecord) (n : ℕ) (x : TubeRecord) → insert (tallies_of jobs es) n (tally_in jobs x) ≡ tallies_of jobs (insert es n x)
+inserted_tallies jobs es n x =
+    let f = tally_in jobs in
+    ap (λ ts. ts ++ f x ∷ drop n (map f es)) (take-map f n es) ∙ ap (λ ts. map f (take n es) ++ f x ∷ ts) (drop-map f n es) ∙ sym (map-append f (take n es) (x ∷ drop n es))
+
+pub counted_provided : (name : List ℕ) (tally : Tally) (tallies : List Tally) (jobs : List Job) (es : List TubeRecord) → All (λ j. has_entry j.tube es ≡ true) jobs
+    → AreCounted tally tallies jobs es → AreCounted tally (tallies_provided name es tallies) jobs (provided name es)
+counted_provided name tally tallies jobs es all was = record { whole = was.whole; each = ap (tallies_provided name es) was.each ∙ go (has_entry name es) refl }
+  where
+    go : (b : Bool) → has_entry name es ≡ b → tallies_provided name es (tallies_of jobs es) ≡ tallies_of jobs (provided name es)
+    go true e = rw e refl
+    go false e =
+        let n = prefix_len (λ t. is_name_before t.name name) es in
+        let zero = ap tally_of (no_job_there name jobs es e all) in
+        let put : tallies_provided name es (tallies_of jobs es) ≡ insert (tallies_of jobs es) n (tally_of []) = rw e refl in
+        put ∙ ap (insert (tallies_of jobs es) n) (sym zero) ∙ inserted_tallies jobs es n (fresh_tube name) ∙ ap (tallies_of jobs) (provided_new name es e)
+
+-- a job comes,
+pub counted_added : (j : Job) (tally : Tally) (tallies : List Tally) (jobs : List Job) (es : List TubeRecord) → length (with_added j jobs) ≤ greatest → AreInOrder es
+    → AreCounted tally tallies jobs es → AreCounted (tally_with j tally) (tallies_with j es tallies) (with_added j jobs) es
+counted_added j tally tallies jobs es fits order was = record {
+  whole = ap (tally_with j) was.whole ∙ sym (whole_added j jobs fits);
+  each = ap (tallies_with j es) was.each ∙ tallies_added j jobs fits es order;
+}
+
+-- or goes
+pub counted_taken : (low next id : ℕ) (j : Job) (tally : Tally) (tallies : List Tally) (jobs : List Job) (es : List TubeRecord)
+    → AreIdsWithin low jobs next → job_with id jobs ≡ Some j → AreInOrder es
+    → AreCounted tally tallies jobs es → AreCounted (tally_without j tally) (tallies_without j es tallies) (without id jobs) es
+counted_taken low next id j tally tallies jobs es ids found order was = record {
+  whole = ap (tally_without j) was.whole ∙ sym (whole_taken low next id j jobs ids found);
+  each = ap (tallies_without j es) was.each ∙ tallies_taken low next id j jobs ids found es order;
+}
+
+some_counted : (p : Job → Bool) (j : Job) (jobs : List Job) → p j ≡ true → nat_lt 0 (count_by p (j ∷ jobs)) ≡ true
+some_counted p j jobs e = rw (count_cons p j jobs, e) (lt-ltb 0 (1 + count_by p jobs) (omega arith))
+
+has_one : (j : Job) (jobs : List Job) → has_jobs (tally_of (j ∷ jobs)) ≡ true
+has_one j jobs = go j.state refl
+  where
+    counts : Tally
+    counts = tally_of (j ∷ jobs)
+
+    go : (state : JobState) → j.state ≡ state → has_jobs (tally_of (j ∷ jobs)) ≡ true
+    go states.Ready e = or_left (nat_lt 0 counts.ready) (nat_lt 0 counts.reserved || (nat_lt 0 counts.delayed || nat_lt 0 counts.buried)) (some_counted is_ready j jobs (ap is_ready_state e))
+    go (states.Reserved seat deadline) e = or_right (nat_lt 0 counts.ready) (nat_lt 0 counts.reserved || (nat_lt 0 counts.delayed || nat_lt 0 counts.buried)) (or_left (nat_lt 0 counts.reserved) (nat_lt 0 counts.delayed || nat_lt 0 counts.buried) (some_counted (λ k. is_reserved k.state) j jobs (ap is_reserved e)))
+    go (states.Delayed due) e = or_right (nat_lt 0 counts.ready) (nat_lt 0 counts.reserved || (nat_lt 0 counts.delayed || nat_lt 0 counts.buried)) (or_right (nat_lt 0 counts.reserved) (nat_lt 0 counts.delayed || nat_lt 0 counts.buried) (or_left (nat_lt 0 counts.delayed) (nat_lt 0 counts.buried) (some_counted (λ k. is_delayed k.state) j jobs (ap is_delayed e))))
+    go (states.Buried burial) e = or_right (nat_lt 0 counts.ready) (nat_lt 0 counts.reserved || (nat_lt 0 counts.delayed || nat_lt 0 counts.buried)) (or_right (nat_lt 0 counts.reserved) (nat_lt 0 counts.delayed || nat_lt 0 counts.buried) (or_right (nat_lt 0 counts.delayed) (nat_lt 0 counts.buried) (some_counted (λ k. is_buried k.state) j jobs (ap is_buried e))))
+
+-- a job is counted where there is one
+pub has_jobs_in : (name : List ℕ) (jobs : List Job) → has_jobs (tally_of (filter (λ j. is_same_name name j.tube) jobs)) ≡ list_any (λ j. is_same_name name j.tube) jobs
+has_jobs_in name [] = refl
+has_jobs_in name (j ∷ jobs) =
+    elim (cases_Bool (is_same_name name j.tube)) [
+      | inl e ↦ rw e (has_one j (filter (λ k. is_same_name name k.tube) jobs))
+      | inr e ↦ rw e (has_jobs_in name jobs)
+    ]
+
+tally_named : (name : List ℕ) (jobs : List Job) (es : List TubeRecord) → has_entry name es ≡ true
+    → tally_at name es (tallies_of jobs es) ≡ tally_of (filter (λ j. is_same_name name j.tube) jobs)
+tally_named name jobs [] h = absurd cc
+tally_named name jobs (t ∷ es) h =
+    elim (cases_Bool (is_same_name name t.name)) [
+      | inl e ↦
+          let is : name ≡ t.name = (bytes_decides name t.name).0 e in
+          rw e (ap (λ n. tally_of (filter (λ j. is_same_name n j.tube) jobs)) (sym is))
+      | inr e ↦ rw e (tally_named name jobs es (rw e at h))
+    ]
+
+tally_missing : (name : List ℕ) (jobs : List Job) (es : List TubeRecord) → has_entry name es ≡ false → tally_at name es (tallies_of jobs es) ≡ tally_of []
+tally_missing name jobs [] h = refl
+tally_missing name jobs (t ∷ es) h =
+    elim (cases_Bool (is_same_name name t.name)) [
+      | inl e ↦ absurd (let g = rw e at h in cc)
+      | inr e ↦ rw e (tally_missing name jobs es (rw e at h))
+    ]
+
+-- the counts that stand at a name are those of its jobs
+pub tally_there : (name : List ℕ) (jobs : List Job) (es : List TubeRecord) → All (λ j. has_entry j.tube es ≡ true) jobs
+    → tally_at name es (tallies_of jobs es) ≡ tally_of (filter (λ j. is_same_name name j.tube) jobs)
+tally_there name jobs es all = go (has_entry name es) refl
+  where
+    go : (b : Bool) → has_entry name es ≡ b → tally_at name es (tallies_of jobs es) ≡ tally_of (filter (λ j. is_same_name name j.tube) jobs)
+    go true e = tally_named name jobs es e
+    go false e = tally_missing name jobs es e ∙ ap tally_of (sym (no_job_there name jobs es e all))

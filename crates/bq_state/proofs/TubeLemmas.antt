@@ -1,0 +1,350 @@
+-- What is kept of tubes: the entries and the machine's records of them.
+use Rattle.std.proofs.Common.{◌≡◌, ℕ, suc, Bool, true, false, ◌&&◌, ◌||◌, not, List, [], ◌∷◌, Option, Some, None, is_some, map, refl, sym, ap, ◌∙◌, if◌then◌else◌, inl, inr, length, ◌≤◌, ◌<◌, ◌⊎◌, ◌+◌, arith, cond}
+use Rattle.std.proofs.Math.Bool.{or-false, or-true}
+use Rattle.std.specs.Prelude.{filter, find, unwrap_or}
+use Rattle.std.specs.List.{AllByRecursion as All, insert, list_any, position, position_or_len, prefix_len}
+use Rattle.std.specs.Cmp.Lexicographic.{bytes_decides}
+use Rattle.std.proofs.lemmas.Bool.{cases_Bool, cases_lt, le-ltb, lt-ltb, or_cases}
+use Rattle.bq_job.specs.machine.Machine.{TubeRecord}
+use Rattle.bq_job.specs.machine.Tubes.{fresh_tube, is_name_before, with_record}
+use Rattle.bq_job.specs.reading.TubeName.{is_same_name}
+use Rattle.bq_job.proofs.NameOrderLemmas.{after, before_trans, not_before}
+use Rattle.bq_state.specs.TubeEntries.{AreInOrder, IsFreshUnlessCounted, counted, has_entry, is_counted, provided}
+
+pub same_name : (a b : List ℕ) → is_same_name a b ≡ true → a ≡ b
+same_name a b h = (bytes_decides a b).0 h
+
+pub same_itself : (a : List ℕ) → is_same_name a a ≡ true
+same_itself a = (bytes_decides a a).1 refl
+
+-- a name that comes before another one is another one
+pub before_differs : (a b : List ℕ) → is_name_before a b ≡ true → is_same_name a b ≡ false
+before_differs a b h = elim (cases_Bool (is_same_name a b)) [
+  | inl same ↦ let e : a ≡ b = same_name a b same in
+      let one : is_name_before a a ≡ true = ap (λ x. is_name_before a x) e ∙ h in
+      let other : is_name_before a a ≡ false = not_before a a one in
+      absurd cc
+  | inr other ↦ other
+]
+
+-- a filter and a change that don't touch one another
+filter_of_map_at : {A : Type 0} (p : A → Bool) (f : A → A) (x : A) (xs : List A) (b : Bool) → filter p (map f xs) ≡ map f (filter p xs) → (if b then f x ∷ filter p (map f xs) else filter p (map f xs)) ≡ map f (if b then x ∷ filter p xs else filter p xs)
+filter_of_map_at p f x xs true rest = ap (λ ys. f x ∷ ys) rest
+filter_of_map_at p f x xs false rest = rest
+
+pub filter_of_map : {A : Type 0} (p : A → Bool) (f : A → A) → ((x : A) → p (f x) ≡ p x) → (xs : List A) → filter p (map f xs) ≡ map f (filter p xs)
+filter_of_map p f same [] = refl
+filter_of_map p f same (x ∷ xs) =
+    ap (λ b. if b then f x ∷ filter p (map f xs) else filter p (map f xs)) (same x)
+    ∙ filter_of_map_at p f x xs (p x) (filter_of_map p f same xs)
+
+swap_at : {A : Type 0} (p q : A → Bool) (x : A) (xs : List A) (a b : Bool) → p x ≡ a → q x ≡ b → filter p (filter q xs) ≡ filter q (filter p xs) → filter p (if b then x ∷ filter q xs else filter q xs) ≡ filter q (if a then x ∷ filter p xs else filter p xs)
+swap_at p q x xs true true e f rest = rw (e, f) (ap (λ ys. x ∷ ys) rest)
+swap_at p q x xs true false e f rest = rw f rest
+swap_at p q x xs false true e f rest = rw e rest
+swap_at p q x xs false false e f rest = rest
+
+pub filters_swap : {A : Type 0} (p q : A → Bool) (xs : List A) → filter p (filter q xs) ≡ filter q (filter p xs)
+filters_swap p q [] = refl
+filters_swap p q (x ∷ xs) = swap_at p q x xs (p x) (q x) refl refl (filters_swap p q xs)
+
+-- names that come later are others
+pub none_later : (name : List ℕ) (entries : List TubeRecord) → All (λ u. is_name_before name u.name ≡ true) entries → has_entry name entries ≡ false
+none_later name [] all = refl
+none_later name (t ∷ entries) all = rw (before_differs name t.name all.0) (none_later name entries all.1)
+
+missed_at : (name : List ℕ) (t : TubeRecord) (entries : List TubeRecord) (b : Bool) → is_same_name name t.name ≡ false → find (λ t. is_same_name name t.name) (counted entries) ≡ None → find (λ t. is_same_name name t.name) (if b then t ∷ counted entries else counted entries) ≡ None
+missed_at name t entries true other rest = rw other rest
+missed_at name t entries false other rest = rest
+
+pub head_differs : (a b : Bool) → (a || b) ≡ false → (a ≡ false) × (b ≡ false)
+head_differs true b h = cc
+head_differs false b h = (refl, h)
+
+-- no record of a tube without an entry
+pub none_found : (name : List ℕ) (entries : List TubeRecord) → has_entry name entries ≡ false → find (λ t. is_same_name name t.name) (counted entries) ≡ None
+none_found name [] h = refl
+none_found name (t ∷ entries) h =
+    let parts = head_differs (is_same_name name t.name) (has_entry name entries) h in
+    missed_at name t entries (is_counted t) parts.0 (none_found name entries parts.1)
+
+-- the record of a tube
+abbrev pub found : List ℕ → List TubeRecord → TubeRecord
+found name entries = unwrap_or (find (λ t. is_same_name name t.name) (counted entries)) (fresh_tube name)
+
+abbrev pub pauses_there : List ℕ → List TubeRecord → Bool
+pauses_there name entries = list_any (λ t. is_same_name name t.name && is_some t.pause) entries
+
+no_pause_there : (name : List ℕ) (entries : List TubeRecord) → has_entry name entries ≡ false → pauses_there name entries ≡ false
+no_pause_there name [] h = refl
+no_pause_there name (t ∷ entries) h =
+    let parts = head_differs (is_same_name name t.name) (has_entry name entries) h in
+    rw parts.0 (no_pause_there name entries parts.1)
+
+paused_at : (name : List ℕ) (t : TubeRecord) (entries : List TubeRecord) (same kept : Bool) → is_same_name name t.name ≡ same → is_counted t ≡ kept → IsFreshUnlessCounted t → All (λ u. is_name_before t.name u.name ≡ true) entries → is_some (found name entries).pause ≡ pauses_there name entries → is_some (found name (t ∷ entries)).pause ≡ pauses_there name (t ∷ entries)
+paused_at name t entries true true e k fresh later rest =
+    let is : name ≡ t.name = same_name name t.name e in
+    let none : has_entry name entries ≡ false = ap (λ n. has_entry n entries) is ∙ none_later t.name entries later in
+    rw (k, e, no_pause_there name entries none) (sym (or-false (is_some t.pause)))
+paused_at name t entries true false e k fresh later rest =
+    let is : name ≡ t.name = same_name name t.name e in
+    let none : has_entry name entries ≡ false = ap (λ n. has_entry n entries) is ∙ none_later t.name entries later in
+    let empty : t.pause ≡ None = ap (λ u. u.pause) (fresh k) in
+    rw (k, e, no_pause_there name entries none, none_found name entries none, empty) refl
+paused_at name t entries false true e k fresh later rest = rw (k, e) rest
+paused_at name t entries false false e k fresh later rest = rw (k, e) rest
+
+-- a tube is paused where its entry says so
+pub paused_is : (name : List ℕ) (entries : List TubeRecord) → AreInOrder entries → All IsFreshUnlessCounted entries → is_some (found name entries).pause ≡ pauses_there name entries
+paused_is name [] order fresh = refl
+paused_is name (t ∷ entries) order fresh =
+    paused_at name t entries (is_same_name name t.name) (is_counted t) refl refl fresh.0 order.0 (paused_is name entries order.1 fresh.1)
+
+-- what an entry of this name becomes
+abbrev pub changed_one : List ℕ → (TubeRecord → TubeRecord) → TubeRecord → TubeRecord
+changed_one name f t = if is_same_name name t.name then f t else t
+
+unchanged : (name : List ℕ) (f : TubeRecord → TubeRecord) (entries : List TubeRecord) → has_entry name entries ≡ false → map (changed_one name f) entries ≡ entries
+unchanged name f [] h = refl
+unchanged name f (t ∷ entries) h =
+    let parts = head_differs (is_same_name name t.name) (has_entry name entries) h in
+    rw parts.0 (ap (λ ts. t ∷ ts) (unchanged name f entries parts.1))
+
+-- a record that comes before all others stands first
+first_record : (x : TubeRecord) (entries : List TubeRecord) → All (λ u. is_name_before x.name u.name ≡ true) entries → with_record x (counted entries) ≡ x ∷ counted entries
+first_record x [] later = refl
+first_record x (t ∷ entries) later = go (is_counted t) (first_record x entries later.1)
+  where
+    go : (b : Bool) → with_record x (counted entries) ≡ x ∷ counted entries → with_record x (if b then t ∷ counted entries else counted entries) ≡ x ∷ (if b then t ∷ counted entries else counted entries)
+    go true rest = rw (before_differs x.name t.name later.0, later.0) refl
+    go false rest = rest
+
+-- where an entry of this name comes later, this one comes before it
+comes_before : (name : List ℕ) (t : TubeRecord) (entries : List TubeRecord) → All (λ u. is_name_before t.name u.name ≡ true) entries → has_entry name entries ≡ true → is_name_before t.name name ≡ true
+comes_before name t [] later h = absurd cc
+comes_before name t (u ∷ entries) later h =
+    elim (or_cases (is_same_name name u.name) (has_entry name entries) h) [
+      | inl same ↦ let e : name ≡ u.name = same_name name u.name same in ap (λ n. is_name_before t.name n) e ∙ later.0
+      | inr more ↦ comes_before name t entries later.1 more
+    ]
+
+found_name : (name : List ℕ) (entries : List TubeRecord) → (found name entries).name ≡ name
+found_name name entries = go (counted entries)
+  where
+    one : (t : TubeRecord) (more : List TubeRecord) (b : Bool) → is_same_name name t.name ≡ b → (unwrap_or (find (λ t. is_same_name name t.name) more) (fresh_tube name)).name ≡ name → (unwrap_or (if b then Some t else find (λ t. is_same_name name t.name) more) (fresh_tube name)).name ≡ name
+    one t more true e rest = sym (same_name name t.name e)
+    one t more false e rest = rest
+
+    go : (more : List TubeRecord) → (unwrap_or (find (λ t. is_same_name name t.name) more) (fresh_tube name)).name ≡ name
+    go [] = refl
+    go (t ∷ more) = one t more (is_same_name name t.name) refl (go more)
+
+stands_behind : (x t : TubeRecord) (records : List TubeRecord) → is_same_name x.name t.name ≡ false → is_name_before x.name t.name ≡ false → with_record x (t ∷ records) ≡ t ∷ with_record x records
+stands_behind x t records other before = rw (other, before) refl
+
+changed_at : (name : List ℕ) (f : TubeRecord → TubeRecord) → ((t : TubeRecord) → is_counted (f t) ≡ true) → ((t : TubeRecord) → (f t).name ≡ t.name) → (t : TubeRecord) (entries : List TubeRecord) (same kept : Bool) → is_same_name name t.name ≡ same → is_counted t ≡ kept → IsFreshUnlessCounted t → All (λ u. is_name_before t.name u.name ≡ true) entries → has_entry name (t ∷ entries) ≡ true
+    → (has_entry name entries ≡ true → with_record (f (found name entries)) (counted entries) ≡ counted (map (changed_one name f) entries))
+    → with_record (f (found name (t ∷ entries))) (counted (t ∷ entries)) ≡ counted (map (changed_one name f) (t ∷ entries))
+changed_at name f counts keeps t entries true true e k fresh later h rest =
+    let is : name ≡ t.name = same_name name t.name e in
+    let none : has_entry name entries ≡ false = ap (λ n. has_entry n entries) is ∙ none_later t.name entries later in
+    let same : is_same_name (f t).name t.name ≡ true = ap (λ n. is_same_name n t.name) (keeps t) ∙ same_itself t.name in
+    rw (k, e, same, unchanged name f entries none, counts t) refl
+changed_at name f counts keeps t entries true false e k fresh later h rest =
+    let is : name ≡ t.name = same_name name t.name e in
+    let none : has_entry name entries ≡ false = ap (λ n. has_entry n entries) is ∙ none_later t.name entries later in
+    let it : fresh_tube name ≡ t = ap fresh_tube is ∙ sym (fresh k) in
+    let first = first_record (f t) entries (rw (keeps t) later) in
+    rw (k, e, none_found name entries none, it, unchanged name f entries none, counts t) first
+changed_at name f counts keeps t entries false true e k fresh later h rest =
+    let there : has_entry name entries ≡ true = rw e at h in
+    let name_is : (f (found name entries)).name ≡ name = keeps (found name entries) ∙ found_name name entries in
+    let before : is_name_before name t.name ≡ false = not_before t.name name (comes_before name t entries later there) in
+    let same_found : found name (t ∷ entries) ≡ found name entries = rw (k, e) refl in
+    let same_records : counted (t ∷ entries) ≡ t ∷ counted entries = rw k refl in
+    let after_it : counted (map (changed_one name f) (t ∷ entries)) ≡ t ∷ counted (map (changed_one name f) entries) = rw (e, k) refl in
+    ap (λ x. with_record (f x) (counted (t ∷ entries))) same_found
+    ∙ ap (with_record (f (found name entries))) same_records
+    ∙ stands_behind (f (found name entries)) t (counted entries) (ap (λ n. is_same_name n t.name) name_is ∙ e) (ap (λ n. is_name_before n t.name) name_is ∙ before)
+    ∙ ap (λ ts. t ∷ ts) (rest there)
+    ∙ sym after_it
+changed_at name f counts keeps t entries false false e k fresh later h rest =
+    let there : has_entry name entries ≡ true = rw e at h in
+    rw (k, e, k) (rest there)
+
+-- what is kept of a tube that has an entry, changed
+pub record_changed : (name : List ℕ) (f : TubeRecord → TubeRecord) → ((t : TubeRecord) → is_counted (f t) ≡ true) → ((t : TubeRecord) → (f t).name ≡ t.name) → (entries : List TubeRecord) → AreInOrder entries → All IsFreshUnlessCounted entries → has_entry name entries ≡ true → with_record (f (found name entries)) (counted entries) ≡ counted (map (changed_one name f) entries)
+record_changed name f counts keeps [] order fresh h = absurd cc
+record_changed name f counts keeps (t ∷ entries) order fresh h =
+    changed_at name f counts keeps t entries (is_same_name name t.name) (is_counted t) refl refl fresh.0 order.0 h (record_changed name f counts keeps entries order.1 fresh.1)
+
+-- a change that keeps names
+pub same_entries : (f : TubeRecord → TubeRecord) → ((t : TubeRecord) → (f t).name ≡ t.name) → (name : List ℕ) (entries : List TubeRecord) → has_entry name (map f entries) ≡ has_entry name entries
+same_entries f keeps name [] = refl
+same_entries f keeps name (t ∷ entries) = rw (keeps t, same_entries f keeps name entries) refl
+
+later_kept : (f : TubeRecord → TubeRecord) → ((t : TubeRecord) → (f t).name ≡ t.name) → (name : List ℕ) (entries : List TubeRecord) → All (λ u. is_name_before name u.name ≡ true) entries → All (λ u. is_name_before name u.name ≡ true) (map f entries)
+later_kept f keeps name [] all = tt
+later_kept f keeps name (t ∷ entries) all = (ap (λ n. is_name_before name n) (keeps t) ∙ all.0, later_kept f keeps name entries all.1)
+
+pub order_kept : (f : TubeRecord → TubeRecord) → ((t : TubeRecord) → (f t).name ≡ t.name) → (entries : List TubeRecord) → AreInOrder entries → AreInOrder (map f entries)
+order_kept f keeps [] order = tt
+order_kept f keeps (t ∷ entries) order = (rw (keeps t) (later_kept f keeps t.name entries order.0), order_kept f keeps entries order.1)
+
+later_filtered : (p : TubeRecord → Bool) (name : List ℕ) (entries : List TubeRecord) → All (λ u. is_name_before name u.name ≡ true) entries → All (λ u. is_name_before name u.name ≡ true) (filter p entries)
+later_filtered p name [] all = tt
+later_filtered p name (t ∷ entries) all = go (p t) (later_filtered p name entries all.1)
+  where
+    go : (b : Bool) → All (λ u. is_name_before name u.name ≡ true) (filter p entries) → All (λ u. is_name_before name u.name ≡ true) (if b then t ∷ filter p entries else filter p entries)
+    go true rest = (all.0, rest)
+    go false rest = rest
+
+pub order_filtered : (p : TubeRecord → Bool) (entries : List TubeRecord) → AreInOrder entries → AreInOrder (filter p entries)
+order_filtered p [] order = tt
+order_filtered p (t ∷ entries) order = go (p t) (order_filtered p entries order.1)
+  where
+    go : (b : Bool) → AreInOrder (filter p entries) → AreInOrder (if b then t ∷ filter p entries else filter p entries)
+    go true rest = (later_filtered p t.name entries order.0, rest)
+    go false rest = rest
+
+-- what has an entry that passes has one among those that pass
+pub entry_filtered : (p : TubeRecord → Bool) (name : List ℕ) → ((t : TubeRecord) → name ≡ t.name → p t ≡ true) → (entries : List TubeRecord) → has_entry name entries ≡ true → has_entry name (filter p entries) ≡ true
+entry_filtered p name passes [] h = absurd cc
+entry_filtered p name passes (t ∷ entries) h =
+    elim (or_cases (is_same_name name t.name) (has_entry name entries) h) [
+      | inl same ↦ rw (passes t (same_name name t.name same), same) refl
+      | inr more ↦ go (p t) (entry_filtered p name passes entries more)
+    ]
+  where
+    go : (b : Bool) → has_entry name (filter p entries) ≡ true → has_entry name (if b then t ∷ filter p entries else filter p entries) ≡ true
+    go true rest = rw rest (or-true (is_same_name name t.name))
+    go false rest = rest
+
+one_more : (n : ℕ) → 1 + n ≡ suc n
+one_more n = omega arith
+
+-- the place of a new entry
+pub placed : (x : TubeRecord) (entries : List TubeRecord) → has_entry x.name entries ≡ false → insert entries (prefix_len (λ t. is_name_before t.name x.name) entries) x ≡ with_record x entries
+placed x [] h = refl
+placed x (t ∷ entries) h =
+    let parts = head_differs (is_same_name x.name t.name) (has_entry x.name entries) h in
+    rw parts.0 (go (is_name_before x.name t.name) refl parts.0 (placed x entries parts.1))
+  where
+    place : List TubeRecord → ℕ
+    place ts = prefix_len (λ t. is_name_before t.name x.name) ts
+
+    go : (b : Bool) → is_name_before x.name t.name ≡ b → is_same_name x.name t.name ≡ false → insert entries (place entries) x ≡ with_record x entries → insert (t ∷ entries) (cond (is_name_before t.name x.name) (1 + place entries) 0) x ≡ (if b then x ∷ t ∷ entries else t ∷ with_record x entries)
+    go true e other rest = rw (not_before x.name t.name e) refl
+    go false e other rest = rw (after x.name t.name other e) (ap (λ k. insert (t ∷ entries) k x) (one_more (place entries)) ∙ ap (λ ts. t ∷ ts) rest)
+
+-- that place is within the list, or at its end
+pub place_within : {A : Type 0} (p : A → Bool) (xs : List A) → prefix_len p xs ≤ length xs
+place_within p [] = omega arith
+place_within p (x ∷ xs) = go (p x) (place_within p xs)
+  where
+    go : (b : Bool) → prefix_len p xs ≤ length xs → cond b (1 + prefix_len p xs) 0 ≤ suc (length xs)
+    go true h = omega arith
+    go false h = omega arith
+
+not_twice : (b : Bool) → not (not b) ≡ b
+not_twice true = refl
+not_twice false = refl
+
+prefix_alike : {A : Type 0} (p q : A → Bool) → ((x : A) → p x ≡ q x) → (xs : List A) → prefix_len p xs ≡ prefix_len q xs
+prefix_alike p q same [] = refl
+prefix_alike p q same (x ∷ xs) = rw (same x, prefix_alike p q same xs) refl
+
+-- the first element that fails, or else the end
+pub place_read : {A : Type 0} (p : A → Bool) (xs : List A) → unwrap_or (position (λ x. not (p x)) xs) (length xs) ≡ prefix_len p xs
+place_read {A = A} p xs = go (cases_lt (position_or_len (λ x. not (p x)) xs) (length xs))
+  where
+    n : ℕ
+    n = position_or_len (λ x. not (p x)) xs
+
+    same : n ≡ prefix_len p xs
+    same = prefix_alike (λ x. not (not (p x))) p (λ x. not_twice (p x)) xs
+
+    go : (n < length xs) ⊎ (length xs ≤ n) → unwrap_or (position (λ x. not (p x)) xs) (length xs) ≡ prefix_len p xs
+    go (inl h) = ap (λ b. unwrap_or (cond b (Some n) None) (length xs)) (lt-ltb n (length xs) h) ∙ same
+    go (inr h) = ap (λ b. unwrap_or (cond b (Some n) None) (length xs)) (le-ltb n (length xs) h) ∙ (let w = place_within p xs in let e : length xs ≡ prefix_len p xs = omega (arith, same) in e)
+
+later_inserted : (name : List ℕ) (x : TubeRecord) (entries : List TubeRecord) → is_name_before name x.name ≡ true → All (λ u. is_name_before name u.name ≡ true) entries → All (λ u. is_name_before name u.name ≡ true) (with_record x entries)
+later_inserted name x [] b all = (b, tt)
+later_inserted name x (t ∷ entries) b all = go (is_same_name x.name t.name) (is_name_before x.name t.name) (later_inserted name x entries b all.1)
+  where
+    go : (same before : Bool) → All (λ u. is_name_before name u.name ≡ true) (with_record x entries) → All (λ u. is_name_before name u.name ≡ true) (if same then x ∷ entries else (if before then x ∷ t ∷ entries else t ∷ with_record x entries))
+    go true before rest = (b, all.1)
+    go false true rest = (b, all)
+    go false false rest = (all.0, rest)
+
+before_all : (a b : List ℕ) → is_name_before a b ≡ true → (entries : List TubeRecord) → All (λ u. is_name_before b u.name ≡ true) entries → All (λ u. is_name_before a u.name ≡ true) entries
+before_all a b h [] all = tt
+before_all a b h (t ∷ entries) all = (before_trans a b t.name h all.0, before_all a b h entries all.1)
+
+pub order_inserted : (x : TubeRecord) (entries : List TubeRecord) → has_entry x.name entries ≡ false → AreInOrder entries → AreInOrder (with_record x entries)
+order_inserted x [] h order = (tt, tt)
+order_inserted x (t ∷ entries) h order =
+    let parts = head_differs (is_same_name x.name t.name) (has_entry x.name entries) h in
+    rw parts.0 (go (is_name_before x.name t.name) refl parts.0 (order_inserted x entries parts.1 order.1))
+  where
+    go : (b : Bool) → is_name_before x.name t.name ≡ b → is_same_name x.name t.name ≡ false → AreInOrder (with_record x entries) → AreInOrder (if b then x ∷ t ∷ entries else t ∷ with_record x entries)
+    go true e other rest = ((e, before_all x.name t.name e entries order.0), order)
+    go false e other rest = (later_inserted t.name x entries (after x.name t.name other e) order.0, rest)
+
+pub fresh_inserted : (x : TubeRecord) → IsFreshUnlessCounted x → (entries : List TubeRecord) → All IsFreshUnlessCounted entries → All IsFreshUnlessCounted (with_record x entries)
+fresh_inserted x f [] all = (f, tt)
+fresh_inserted x f (t ∷ entries) all = go (is_same_name x.name t.name) (is_name_before x.name t.name) (fresh_inserted x f entries all.1)
+  where
+    go : (same before : Bool) → All IsFreshUnlessCounted (with_record x entries) → All IsFreshUnlessCounted (if same then x ∷ entries else (if before then x ∷ t ∷ entries else t ∷ with_record x entries))
+    go true before rest = (f, all.1)
+    go false true rest = (f, all)
+    go false false rest = (all.0, rest)
+
+pub counted_inserted : (x : TubeRecord) → is_counted x ≡ false → (entries : List TubeRecord) → has_entry x.name entries ≡ false → counted (with_record x entries) ≡ counted entries
+counted_inserted x c [] h = rw c refl
+counted_inserted x c (t ∷ entries) h =
+    let parts = head_differs (is_same_name x.name t.name) (has_entry x.name entries) h in
+    rw parts.0 (go (is_name_before x.name t.name) (counted_inserted x c entries parts.1))
+  where
+    go : (b : Bool) → counted (with_record x entries) ≡ counted entries → counted (if b then x ∷ t ∷ entries else t ∷ with_record x entries) ≡ counted (t ∷ entries)
+    go true rest = rw c refl
+    go false rest = ap (λ ts. if is_counted t then t ∷ ts else ts) rest
+
+-- an inserted record is there, and the others of other names stay
+pub has_inserted : (x : TubeRecord) (entries : List TubeRecord) → has_entry x.name (with_record x entries) ≡ true
+has_inserted x [] = rw (same_itself x.name) refl
+has_inserted x (t ∷ entries) = go (is_same_name x.name t.name) (is_name_before x.name t.name) (has_inserted x entries)
+  where
+    go : (same before : Bool) → has_entry x.name (with_record x entries) ≡ true → has_entry x.name (if same then x ∷ entries else (if before then x ∷ t ∷ entries else t ∷ with_record x entries)) ≡ true
+    go true before rest = rw (same_itself x.name) refl
+    go false true rest = rw (same_itself x.name) refl
+    go false false rest = rw rest (or-true (is_same_name x.name t.name))
+
+pub still_has : (x : TubeRecord) (name : List ℕ) (entries : List TubeRecord) → has_entry x.name entries ≡ false → has_entry name entries ≡ true → has_entry name (with_record x entries) ≡ true
+still_has x name [] none h = absurd cc
+still_has x name (t ∷ entries) none h =
+    let parts = head_differs (is_same_name x.name t.name) (has_entry x.name entries) none in
+    rw parts.0 (go (is_name_before x.name t.name) (λ more. still_has x name entries parts.1 more))
+  where
+    go : (b : Bool) → (has_entry name entries ≡ true → has_entry name (with_record x entries) ≡ true) → has_entry name (if b then x ∷ t ∷ entries else t ∷ with_record x entries) ≡ true
+    go true rest = ap (λ b. is_same_name name x.name || b) h ∙ or-true (is_same_name name x.name)
+    go false rest = elim (or_cases (is_same_name name t.name) (has_entry name entries) h) [
+      | inl same ↦ rw same refl
+      | inr more ↦ ap (λ b. is_same_name name t.name || b) (rest more) ∙ or-true (is_same_name name t.name)
+    ]
+
+pub provided_new : (name : List ℕ) (entries : List TubeRecord) → has_entry name entries ≡ false → insert entries (prefix_len (λ t. is_name_before t.name name) entries) (fresh_tube name) ≡ provided name entries
+provided_new name entries none = placed (fresh_tube name) entries none ∙ sym (ap (λ b. if b then entries else with_record (fresh_tube name) entries) none)
+
+-- where some element passes, some are left
+pub some_left : {A : Type 0} (p : A → Bool) (xs : List A) → list_any p xs ≡ true → 0 < length (filter p xs)
+some_left p [] h = absurd cc
+some_left {A = A} p (x ∷ xs) h = go (p x) refl (λ more. some_left p xs more)
+  where
+    go : (b : Bool) → p x ≡ b → (list_any p xs ≡ true → 0 < length (filter p xs)) → 0 < length (if b then x ∷ filter p xs else filter p xs)
+    go true e rest = omega arith
+    go false e rest = rest (rw e at h)
+
+-- The place of the first that doesn't pass, or the end, where the search for it is told.
+pub place_told : {A : Type 0} (p : A → Bool) (xs : List A) (o : Option ℕ) (r : ℕ) → r ≡ unwrap_or o (length xs) → o ≡ position (λ x. not (p x)) xs → r ≡ prefix_len p xs
+place_told p xs o r is found = is ∙ ap (λ k. unwrap_or k (length xs)) found ∙ place_read p xs

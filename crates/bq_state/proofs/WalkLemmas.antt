@@ -1,0 +1,295 @@
+-- A walk over those that wait, in their turn, comes to the same as one over all seats.
+use Rattle.std.proofs.Common.{◌≡◌, ◌<◌, ◌∙◌, ◌==◌, ◌&&◌, ◌||◌, ◌≤◌, ℕ, suc, Bool, true, false, List, [], ◌∷◌, Option, Some, None, if◌then◌else◌, cond, inl, inr, refl, sym, ap, arith, length, map, slice_get}
+use Rattle.std.specs.Prelude.{find, fold, is_some, nat_lt, option_map}
+use Rattle.std.specs.Cmp.{IsStrictWeakOrder}
+use Rattle.std.specs.List.{AllByRecursion as All, Contains, list_any, position, position_or_len}
+use Rattle.std.proofs.lemmas.Bool.{cases_Bool, eq-eqb, ltb-false, ne_eqb}
+use Rattle.std.proofs.lemmas.Bool.Decides.{nat_tests}
+use Rattle.std.proofs.lemmas.List.Folds.{find_at}
+use Rattle.std.proofs.lemmas.Option.{slice_get_past, slice_get_within}
+use Rattle.bq_job.specs.machine.Changes.{better_of, first_of, is_pair_before, is_waiting, seat_with}
+use Rattle.bq_job.specs.machine.Dispatch.{is_wait_before, ticket_of}
+use Rattle.bq_job.specs.machine.Machine.{SeatRecord, numbers}
+use Rattle.bq_job.proofs.ChoiceLemmas.{first_of_contains, first_of_is_some, pair_order}
+use Rattle.bq_job.proofs.KeptLemmas.{numbers_above, only_seat}
+use Rattle.bq_job.proofs.ListLemmas.{all_at, all_from_members, all_weaker}
+use Rattle.bq_state.specs.Clients.{seat_passes}
+use Rattle.bq_state.specs.EndingWaits.{is_after, turn_of, waits_after}
+use Rattle.bq_state.specs.Offers.{these}
+use Rattle.bq_state.specs.Places.{item_at}
+use Rattle.bq_state.specs.WaitingTurns.{IsRising, at_turn, is_turn_after, is_turn_before, passes_at, placed, turns_of}
+use Rattle.bq_state.specs.SeatChanges.{AreNumbered}
+use Rattle.bq_state.proofs.ClientLemmas.{heads}
+use Rattle.bq_state.proofs.WaitingLemmas.{all_placed, rising_placed}
+use Rattle.bq_state.proofs.SeatPlaces.{place_is_seat}
+use Rattle.bq_state.proofs.WarningLemmas.{none_found}
+
+-- the clients that wait, in their turn
+abbrev pub in_turn : List SeatRecord → List SeatRecord
+in_turn [] = []
+in_turn (s ∷ seats) = if is_waiting s then placed is_wait_before s (in_turn seats) else in_turn seats
+
+map_placed : (s : SeatRecord) (ss : List SeatRecord) → map turn_of (placed is_wait_before s ss) ≡ placed is_turn_before (turn_of s) (map turn_of ss)
+map_placed s [] = refl
+map_placed s (u ∷ us) = go (is_wait_before u s) (map_placed s us)
+  where
+    go : (b : Bool) → map turn_of (placed is_wait_before s us) ≡ placed is_turn_before (turn_of s) (map turn_of us)
+        → map turn_of (if b then u ∷ placed is_wait_before s us else s ∷ u ∷ us) ≡ (if b then turn_of u ∷ placed is_turn_before (turn_of s) (map turn_of us) else turn_of s ∷ turn_of u ∷ map turn_of us)
+    go true rest = ap (λ ts. turn_of u ∷ ts) rest
+    go false rest = refl
+
+turns_in : (seats : List SeatRecord) → turns_of seats ≡ map turn_of (in_turn seats)
+turns_in [] = refl
+turns_in (s ∷ seats) = go (is_waiting s) (turns_in seats)
+  where
+    go : (b : Bool) → turns_of seats ≡ map turn_of (in_turn seats) → (if b then placed is_turn_before (turn_of s) (turns_of seats) else turns_of seats) ≡ map turn_of (if b then placed is_wait_before s (in_turn seats) else in_turn seats)
+    go true rest = ap (placed is_turn_before (turn_of s)) rest ∙ sym (map_placed s (in_turn seats))
+    go false rest = rest
+
+-- what is so of those that wait
+all_in_turn : (P : SeatRecord → Type 0) (seats : List SeatRecord) → All (λ s. is_waiting s ≡ true → P s) seats → All P (in_turn seats)
+all_in_turn P [] all = tt
+all_in_turn P (s ∷ seats) all = go (is_waiting s) refl (all_in_turn P seats all.1)
+  where
+    go : (b : Bool) → is_waiting s ≡ b → All P (in_turn seats) → All P (if b then placed is_wait_before s (in_turn seats) else in_turn seats)
+    go true e rest = all_placed P is_wait_before s (in_turn seats) (all.0 e) rest
+    go false e rest = rest
+
+-- each seat stands at its place
+pub read_each : (seats : List SeatRecord) → AreNumbered seats → All (λ s. slice_get seats s.number ≡ Some s) seats
+read_each seats h = all_from_members (λ s. slice_get seats s.number ≡ Some s) seats (λ s here. place_is_seat seats s.number h ∙ go s here (seat_with s.number seats) refl)
+  where
+    go : (s : SeatRecord) → Contains seats s → (o : Option SeatRecord) → seat_with s.number seats ≡ o → o ≡ Some s
+    go s here None e =
+        let other : (s.number == s.number) ≡ false = all_at (λ t. (t.number == s.number) ≡ false) seats s (none_found s.number seats e) here in
+        absurd (let same = eq-eqb s.number s.number refl in let k = sym same ∙ other in cc)
+    go s here (Some t) e =
+        let one : s ≡ t = all_at (λ u. u.number ≡ s.number → u ≡ t) seats s (only_seat 0 (length seats) s.number seats t h e) here refl in
+        ap Some (sym one)
+
+read_in_turn : (seats : List SeatRecord) → AreNumbered seats → All (λ s. slice_get seats s.number ≡ Some s) (in_turn seats)
+read_in_turn seats h = all_in_turn (λ s. slice_get seats s.number ≡ Some s) seats (all_weaker (λ s. slice_get seats s.number ≡ Some s) (λ s. is_waiting s ≡ true → slice_get seats s.number ≡ Some s) seats (λ s e _. e) (read_each seats h))
+
+-- a fold in which it is the same what comes first
+fold_placed : {A B : Type 0} (f : B → A → B) (before : A → A → Bool) (x : A) (ys : List A) → All (λ y. (b : B) → f (f b x) y ≡ f (f b y) x) ys → (b : B) → fold f b (placed before x ys) ≡ fold f (f b x) ys
+fold_placed f before x [] all b = refl
+fold_placed {A = A} {B = B} f before x (y ∷ ys) all b = go (before y x) (fold_placed f before x ys all.1 (f b y))
+  where
+    go : (c : Bool) → fold f (f b y) (placed before x ys) ≡ fold f (f (f b y) x) ys → fold f b (if c then y ∷ placed before x ys else x ∷ y ∷ ys) ≡ fold f (f (f b x) y) ys
+    go true rest = rest ∙ ap (λ a. fold f a ys) (sym (all.0 b))
+    go false rest = refl
+
+fold_in_turn : {B : Type 0} (f : B → SeatRecord → B) → ((s : SeatRecord) → is_waiting s ≡ false → (b : B) → f b s ≡ b) → ((s t : SeatRecord) → (s.number == t.number) ≡ false → (b : B) → f (f b s) t ≡ f (f b t) s)
+    → (low : ℕ) (seats : List SeatRecord) → map (λ s. s.number) seats ≡ numbers low (length seats) → (b : B) → fold f b (in_turn seats) ≡ fold f b seats
+fold_in_turn f skips swaps low [] h b = refl
+fold_in_turn {B = B} f skips swaps low (s ∷ seats) h b =
+    let parts = heads low s seats h in
+    go (is_waiting s) refl parts (fold_in_turn f skips swaps (suc low) seats parts.1)
+  where
+    go : (c : Bool) → is_waiting s ≡ c → (s.number ≡ low) × (map (λ s. s.number) seats ≡ numbers (suc low) (length seats)) → ((b : B) → fold f b (in_turn seats) ≡ fold f b seats)
+        → fold f b (if c then placed is_wait_before s (in_turn seats) else in_turn seats) ≡ fold f (f b s) seats
+    go true e parts rest =
+        let others : All (λ t. is_waiting t ≡ true → (b : B) → f (f b s) t ≡ f (f b t) s) seats =
+        all_weaker (λ t. suc low ≤ t.number) (λ t. is_waiting t ≡ true → (b : B) → f (f b s) t ≡ f (f b t) s) seats
+        (λ t above _. swaps s t (ne_eqb s.number t.number (λ same. absurd (let a = parts.0 in omega arith)))) (numbers_above (suc low) (length seats) seats parts.1) in
+        fold_placed f is_wait_before s (in_turn seats) (all_in_turn (λ t. (b : B) → f (f b s) t ≡ f (f b t) s) seats others) b
+        ∙ rest (f b s)
+    go false e parts rest = rest b ∙ ap (λ a. fold f a seats) (sym (skips s e b))
+
+fold_there : {B : Type 0} (f : B → SeatRecord → B) (seats ss : List SeatRecord) → All (λ s. slice_get seats s.number ≡ Some s) ss → (b : B) → fold (at_turn f seats) b (map turn_of ss) ≡ fold f b ss
+fold_there f seats [] all b = refl
+fold_there f seats (s ∷ ss) all b =
+    ap (λ o. fold (at_turn f seats) (fold f b (these o)) (map turn_of ss)) all.0
+    ∙ fold_there f seats ss all.1 (f b s)
+
+-- a walk from turn to turn folds all seats
+pub walked : {B : Type 0} (f : B → SeatRecord → B) → ((s : SeatRecord) → is_waiting s ≡ false → (b : B) → f b s ≡ b) → ((s t : SeatRecord) → (s.number == t.number) ≡ false → (b : B) → f (f b s) t ≡ f (f b t) s)
+    → (seats : List SeatRecord) → AreNumbered seats → (b : B) → fold (at_turn f seats) b (turns_of seats) ≡ fold f b seats
+walked f skips swaps seats h b =
+    ap (fold (at_turn f seats) b) (turns_in seats)
+    ∙ fold_there f seats (in_turn seats) (read_in_turn seats h) b
+    ∙ fold_in_turn f skips swaps 0 seats h b
+
+-- Of two choices it is the same which comes first.
+abbrev pub chosen : {A : Type 0} → (A → A → Bool) → Option A → Option A → Option A
+chosen before None other = other
+chosen before (Some x) None = Some x
+chosen before (Some x) (Some y) = if before y x then Some y else Some x
+
+two_chosen : {A : Type 0} {before : A → A → Bool} (order : IsStrictWeakOrder before) (x y : A) → (before x y ≡ false → before y x ≡ false → x ≡ y) → chosen before (Some x) (Some y) ≡ chosen before (Some y) (Some x)
+two_chosen {before = before} order x y same =
+    elim (cases_Bool (before x y)) [
+      | inl e ↦ rw (e, order.one_way x y e) refl
+      | inr e ↦ elim (cases_Bool (before y x)) [
+        | inl g ↦ rw (e, g) refl
+        | inr g ↦ rw (e, g) (ap Some (same e g))
+      ]
+    ]
+
+no_other : {A : Type 0} (before : A → A → Bool) (b : Option A) → chosen before b None ≡ b
+no_other before None = refl
+no_other before (Some x) = refl
+
+pub chosen_twice : {A : Type 0} {before : A → A → Bool} (order : IsStrictWeakOrder before) (b o u : Option A) → ((x y : A) → o ≡ Some x → u ≡ Some y → before x y ≡ false → before y x ≡ false → x ≡ y)
+    → chosen before (chosen before b o) u ≡ chosen before (chosen before b u) o
+chosen_twice {before = before} order b None u same = ap (λ c. chosen before c u) (no_other before b) ∙ sym (no_other before (chosen before b u))
+chosen_twice {before = before} order b (Some x) None same = no_other before (chosen before b (Some x)) ∙ ap (λ c. chosen before c (Some x)) (sym (no_other before b))
+chosen_twice order None (Some x) (Some y) same = two_chosen order x y (same x y refl refl)
+chosen_twice {before = before} order (Some z) (Some x) (Some y) same = go (before x z) (before y z) refl refl
+  where
+    go : (p q : Bool) → before x z ≡ p → before y z ≡ q → chosen before (if p then Some x else Some z) (Some y) ≡ chosen before (if q then Some y else Some z) (Some x)
+    go true true e f = two_chosen order x y (same x y refl refl)
+    go true false e f = let g : before y x ≡ false = order.chain y z x f (order.one_way x z e) in rw (g, e) refl
+    go false true e f = let g : before x y ≡ false = order.chain x z y e (order.one_way y z f) in rw (f, g) refl
+    go false false e f = rw (f, e) refl
+
+better_chosen : {A : Type 0} (p : A → Bool) (before : A → A → Bool) (b : Option A) (x : A) → better_of p before b x ≡ chosen before b (if p x then Some x else None)
+better_chosen p before None x = refl
+better_chosen p before (Some z) x = go (p x)
+  where
+    go : (c : Bool) → (if c && before x z then Some x else Some z) ≡ chosen before (Some z) (if c then Some x else None)
+    go true = refl
+    go false = refl
+
+-- seats of which the numbers differ don't tie
+pair_same : (a i b j : ℕ) → is_pair_before a i b j ≡ false → is_pair_before b j a i ≡ false → (i == j) ≡ false → Unit {0} → ⊥
+pair_same a i b j h o d u = grind (arith, nat_tests)
+
+wait_order : IsStrictWeakOrder is_wait_before
+wait_order = pair_order (λ s. ticket_of s.wait) (λ s. s.number)
+
+better_swaps : (p : SeatRecord → Bool) (s t : SeatRecord) → (s.number == t.number) ≡ false → (b : Option SeatRecord) → better_of p is_wait_before (better_of p is_wait_before b s) t ≡ better_of p is_wait_before (better_of p is_wait_before b t) s
+better_swaps p s t other b =
+    let one = if p s then Some s else None in
+    let two = if p t then Some t else None in
+    better_chosen p is_wait_before (better_of p is_wait_before b s) t
+    ∙ ap (λ c. chosen is_wait_before c two) (better_chosen p is_wait_before b s)
+    ∙ chosen_twice wait_order b one two apart
+    ∙ ap (λ c. chosen is_wait_before c one) (sym (better_chosen p is_wait_before b t))
+    ∙ sym (better_chosen p is_wait_before (better_of p is_wait_before b t) s)
+  where
+    is_it : (c : Bool) (r x : SeatRecord) → (if c then Some r else None) ≡ Some x → r ≡ x
+    is_it true r x h = cc
+    is_it false r x h = absurd cc
+
+    apart : (x y : SeatRecord) → (if p s then Some s else None) ≡ Some x → (if p t then Some t else None) ≡ Some y → is_wait_before x y ≡ false → is_wait_before y x ≡ false → x ≡ y
+    apart x y e f g h =
+        let at : s ≡ x = is_it (p s) s x e in
+        let to : t ≡ y = is_it (p t) t y f in
+        let g2 : is_wait_before s t ≡ false = (λ i. is_wait_before (at i) (to i)) ∙ g in
+        let h2 : is_wait_before t s ≡ false = (λ i. is_wait_before (to i) (at i)) ∙ h in
+        absurd (pair_same (ticket_of s.wait) s.number (ticket_of t.wait) t.number g2 h2 other tt)
+
+-- Those that wait stand in the order of their turns.
+rising_in_turn : (seats : List SeatRecord) → IsRising is_wait_before (in_turn seats)
+rising_in_turn [] = tt
+rising_in_turn (s ∷ seats) = go (is_waiting s) (rising_in_turn seats)
+  where
+    go : (b : Bool) → IsRising is_wait_before (in_turn seats) → IsRising is_wait_before (if b then placed is_wait_before s (in_turn seats) else in_turn seats)
+    go true rest = rising_placed wait_order s (in_turn seats) rest
+    go false rest = rest
+
+fold_stays : {A : Type 0} (p : A → Bool) (before : A → A → Bool) (b : A) (xs : List A) → All (λ y. before y b ≡ false) xs → fold (better_of p before) (Some b) xs ≡ Some b
+fold_stays p before b [] all = refl
+fold_stays p before b (x ∷ xs) all = ap (λ o. fold (better_of p before) o xs) (go (p x) (before x b) all.0) ∙ fold_stays p before b xs all.1
+  where
+    go : (c d : Bool) → d ≡ false → (if c && d then Some x else Some b) ≡ Some b
+    go true true h = absurd cc
+    go true false h = refl
+    go false d h = refl
+
+first_rising : {A : Type 0} (p : A → Bool) (before : A → A → Bool) (xs : List A) → IsRising before xs → first_of p before xs ≡ find p xs
+first_rising p before [] rising = refl
+first_rising p before (x ∷ xs) rising = go (p x) (fold_stays p before x xs rising.0) (first_rising p before xs rising.1)
+  where
+    go : (c : Bool) → fold (better_of p before) (Some x) xs ≡ Some x → first_of p before xs ≡ find p xs → fold (better_of p before) (if c then Some x else None) xs ≡ cond c (Some x) (find p xs)
+    go true here rest = here
+    go false here rest = rest
+
+find_mapped : (q : ℕ × ℕ → Bool) (p : SeatRecord → Bool) (ss : List SeatRecord) → All (λ s. q (turn_of s) ≡ p s) ss → find q (map turn_of ss) ≡ option_map turn_of (find p ss)
+find_mapped q p [] all = refl
+find_mapped q p (s ∷ ss) all = ap (λ b. cond b (Some (turn_of s)) (find q (map turn_of ss))) all.0 ∙ go (p s) (find_mapped q p ss all.1)
+  where
+    go : (c : Bool) → find q (map turn_of ss) ≡ option_map turn_of (find p ss) → cond c (Some (turn_of s)) (find q (map turn_of ss)) ≡ option_map turn_of (cond c (Some s) (find p ss))
+    go true rest = refl
+    go false rest = rest
+
+-- The first turn that passes is that of the first client which does.
+pub first_turn : (q : ℕ × ℕ → Bool) (p : SeatRecord → Bool) (seats : List SeatRecord) → AreNumbered seats → ((s : SeatRecord) → is_waiting s ≡ false → p s ≡ false) → ((s : SeatRecord) → is_waiting s ≡ true → slice_get seats s.number ≡ Some s → q (turn_of s) ≡ p s)
+    → find q (turns_of seats) ≡ option_map turn_of (first_of p is_wait_before seats)
+first_turn q p seats h waits agrees =
+    let there = all_in_turn (λ s. q (turn_of s) ≡ p s) seats (all_weaker (λ s. slice_get seats s.number ≡ Some s) (λ s. is_waiting s ≡ true → q (turn_of s) ≡ p s) seats (λ s read waiting. agrees s waiting read) (read_each seats h)) in
+    let skips = λ (s : SeatRecord) (e : is_waiting s ≡ false) (b : Option SeatRecord). better_chosen p is_wait_before b s ∙ ap (λ c. chosen is_wait_before b (if c then Some s else None)) (waits s e) ∙ no_other is_wait_before b in
+    ap (find q) (turns_in seats)
+    ∙ find_mapped q p (in_turn seats) there
+    ∙ ap (option_map turn_of) (sym (first_rising p is_wait_before (in_turn seats) (rising_in_turn seats)) ∙ fold_in_turn (better_of p is_wait_before) skips (better_swaps p) 0 seats h None)
+
+-- what stands at the place of the first that passes
+pub found_at : {A : Type 0} (q : A → Bool) (xs : List A) (i : ℕ) → position q xs ≡ Some i → slice_get xs i ≡ find q xs
+found_at q xs i h = go (nat_lt (position_or_len q xs) (length xs)) h
+  where
+    go : (b : Bool) → cond b (Some (position_or_len q xs)) None ≡ Some i → slice_get xs i ≡ find q xs
+    go true e = let at : position_or_len q xs ≡ i = cc in ap (slice_get xs) (sym at) ∙ sym (find_at q xs)
+    go false e = absurd cc
+
+pub none_at : {A : Type 0} (q : A → Bool) (xs : List A) → position q xs ≡ None → find q xs ≡ None
+none_at q xs h = go (nat_lt (position_or_len q xs) (length xs)) refl h
+  where
+    go : (b : Bool) → nat_lt (position_or_len q xs) (length xs) ≡ b → cond b (Some (position_or_len q xs)) None ≡ None → find q xs ≡ None
+    go true e k = absurd cc
+    go false e k = find_at q xs ∙ slice_get_past xs (position_or_len q xs) (ltb-false (position_or_len q xs) (length xs) e)
+
+pub item_found : {A : Type 0} (q : A → Bool) (xs : List A) → item_at xs (position q xs) ≡ find q xs
+item_found q xs = go (position q xs) refl
+  where
+    go : (o : Option ℕ) → position q xs ≡ o → item_at xs o ≡ find q xs
+    go None e = sym (none_at q xs e)
+    go (Some i) e = found_at q xs i e
+
+pub number_of_turn : (o : Option SeatRecord) → option_map (λ t. t.1) (option_map turn_of o) ≡ option_map (λ s. s.number) o
+number_of_turn None = refl
+number_of_turn (Some s) = refl
+
+any_found : {A : Type 0} (q : A → Bool) (xs : List A) → list_any q xs ≡ is_some (find q xs)
+any_found q [] = refl
+any_found q (x ∷ xs) = go (q x) (any_found q xs)
+  where
+    go : (b : Bool) → list_any q xs ≡ is_some (find q xs) → (b || list_any q xs) ≡ is_some (cond b (Some x) (find q xs))
+    go true rest = refl
+    go false rest = rest
+
+-- One of the turns passes exactly where a client does.
+pub any_turn : (p : SeatRecord → Bool) (seats : List SeatRecord) → AreNumbered seats → ((s : SeatRecord) → is_waiting s ≡ false → p s ≡ false) → list_any (passes_at p seats) (turns_of seats) ≡ list_any p seats
+any_turn p seats h waits =
+    any_found (passes_at p seats) (turns_of seats)
+    ∙ ap is_some (first_turn (passes_at p seats) p seats h waits (λ s _ read. ap (seat_passes p) read))
+    ∙ go (first_of p is_wait_before seats)
+    ∙ first_of_is_some p is_wait_before seats
+  where
+    go : (o : Option SeatRecord) → is_some (option_map turn_of o) ≡ is_some o
+    go None = refl
+    go (Some s) = refl
+
+pub none_first : (o : Option SeatRecord) → None ≡ option_map turn_of o → None ≡ o
+none_first None h = refl
+none_first (Some s) h = absurd cc
+
+-- Who was found stands at the place of its number.
+pub first_read : (p : SeatRecord → Bool) (seats : List SeatRecord) → AreNumbered seats → (t : ℕ × ℕ) → Some t ≡ option_map turn_of (first_of p is_wait_before seats)
+    → (slice_get seats t.1 ≡ first_of p is_wait_before seats) × (t.1 < length seats)
+first_read p seats h t is = go (first_of p is_wait_before seats) refl is
+  where
+    go : (o : Option SeatRecord) → first_of p is_wait_before seats ≡ o → Some t ≡ option_map turn_of o → (slice_get seats t.1 ≡ o) × (t.1 < length seats)
+    go None e i = absurd cc
+    go (Some s) e i =
+        let at : t ≡ turn_of s = cc in
+        let read : slice_get seats t.1 ≡ Some s =
+        ap (λ u. slice_get seats u.1) at ∙ all_at (λ u. slice_get seats u.number ≡ Some u) seats s (read_each seats h) (first_of_contains p is_wait_before seats s e) in
+        (read, slice_get_within seats t.1 s read)
+
+pub next_turn : (last : Option (ℕ × ℕ)) (seats : List SeatRecord) → AreNumbered seats → find (is_turn_after last) (turns_of seats) ≡ option_map turn_of (first_of (waits_after last) is_wait_before seats)
+next_turn last seats h = first_turn (is_turn_after last) (waits_after last) seats h (λ s e. rw e refl) (λ s waits _. rw waits (same last s))
+  where
+    same : (last : Option (ℕ × ℕ)) (s : SeatRecord) → is_turn_after last (turn_of s) ≡ is_after last s
+    same None s = refl
+    same (Some last) s = refl

@@ -1,0 +1,49 @@
+use Rattle.std.proofs.Common.{◌∙◌, ◌&&◌, ◌≤◌, ◌==◌, if◌then◌else◌, ap, sym, arith, length}
+use Rattle.bq_job.specs.machine.Changes.{is_ready_state, job_with}
+use Rattle.bq_job.proofs.KeptLemmas.{ids_of_map}
+use Rattle.std.proofs.lemmas.List.{length-map}
+use Rattle.bq_jobs.proofs.Told.{nothing_told_of, told_of}
+use Rattle.bq_jobs.specs.Changed.{moved_by}
+use Rattle.bq_state.specs.JobChanges.{changed}
+use Rattle.bq_state.specs.Warnings.{has_waiting_holder}
+use Rattle.bq_state.proofs.KnowledgeLemmas.{so_with_moved}
+use Rattle.bq_state.proofs.CrowdPlaces.{waiters_counted}
+use Rattle.bq_state.proofs.MovedLemmas.{entries_of_changed, one_id, one_tube, tube_ignored, tube_kept}
+use Rattle.bq_state.proofs.PartsLemmas.{id_kept, no_job_changed}
+use Rattle.bq_state.proofs.changes.change_job.Goals as goal
+
+pub invariant_of-state : goal.invariant_of-state
+invariant_of-state c =
+    let st = c.args.state.now in
+    let none = nothing_told_of (moved_by (changed c.args.what.now)) (job_with c.args.id st.jobs.jobs) (sym c.in_default.ensures.moved) in
+    let same = c.in_default.ensures.jobs ∙ no_job_changed c.args.id (changed c.args.what.now) st.jobs.jobs none in
+    record { sound = rw same c.args.state.now.sound }
+
+pub invariant_of-state-2 : goal.invariant_of-state-2
+invariant_of-state-2 c =
+    let st = c.args.state.now in
+    let was = c.args.state.now.sound in
+    let id = c.args.id in
+    let what = c.args.what.now in
+    let f = changed what in
+    let m = c.in-Some.moved in
+    let of = told_of (moved_by f) (job_with id st.jobs.jobs) m (sym c.in-Some.ensures.moved) in
+    let many = c.len-jobs.ensures.len ∙ ap length c.in-Some.ensures.jobs ∙ length-map st.jobs.jobs _ in
+    let fits : length st.jobs.jobs ≤ 18446744073709551615 = omega (arith, many) in
+    let wanted = c.counts_waiter_of-is_wanted.ensures ∙ ap (λ b. is_ready_state m.to.state && b) (waiters_counted m.tube st.known.clients st.tubes.crowds st.seats.items st.tubes.entries was.entries.of_seats was.known.crowds was.known.clients) in
+    let waits = c.holder_waits-waits.ensures ∙ ap (has_waiting_holder m.to.state) c.as_slice.ensures.value in
+    record {
+      sound =
+          rw (c.move_job.ensures, c.move_job-2.ensures, c.in-Some.ensures.jobs)
+          (record {
+            entries = entries_of_changed (λ k. if k.id == id then f k else k) (one_tube id f (tube_kept what)) st.jobs.jobs st.seats.items st.tubes.entries was.entries;
+            numbered = was.numbered;
+            next = was.next;
+            ids = ids_of_map (λ k. if k.id == id then f k else k) 1 st.next_id st.jobs.jobs (one_id id f (id_kept what)) was.ids;
+            waiting = was.waiting;
+            known = so_with_moved st id what of.job m c.counts_waiter_of-is_wanted.result c.holder_waits-waits.result of.there of.is fits wanted waits;
+          });
+    }
+
+pub change-requires-clause-tube : goal.change-requires-clause-tube
+change-requires-clause-tube c = tube_ignored c.args.what.now

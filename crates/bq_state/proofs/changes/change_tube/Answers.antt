@@ -1,0 +1,35 @@
+use Rattle.std.proofs.Common.{◌∙◌, ap, sym}
+use Rattle.bq_state.specs.KeptTubes.{KeptTubes}
+use Rattle.bq_state.specs.Knowledge.{with_tube_changed}
+use Rattle.bq_state.specs.CoreParts.{machine_of}
+use Rattle.bq_state.specs.TubeEntries.{counted, tube_changed}
+use Rattle.bq_state.proofs.KnowledgeLemmas.{so_with_tube}
+use Rattle.bq_state.proofs.PartsLemmas.{entries_of_tube, tube_counts, tube_name_kept}
+use Rattle.bq_state.proofs.TubeLemmas.{record_changed}
+use Rattle.bq_state.proofs.changes.change_tube.Goals as goal
+
+pub returns-clause-after : goal.returns-clause-after
+returns-clause-after c =
+    let s = c.args.state.now in
+    let e = c.args.state.now.sound.entries in
+    ap (λ tubes. record (machine_of s) { tubes = tubes })
+    (ap counted (ap (λ (k : KeptTubes). k.entries) c.change.ensures)
+    ∙ sym (record_changed c.args.tube.now (tube_changed c.args.what) (tube_counts c.args.what) (tube_name_kept c.args.what) s.tubes.entries e.order e.fresh c.requires.entry))
+
+pub invariant_of-state : goal.invariant_of-state
+invariant_of-state c =
+    let st = c.args.state.now in
+    let was = c.args.state.now.sound in
+    let known = c.change_tube.ensures ∙ ap (λ (k : KeptTubes). with_tube_changed c.args.tube.now c.args.what k.entries st.known) c.change.ensures in
+    record {
+      sound =
+          rw (known, c.change.ensures)
+          (record {
+            entries = entries_of_tube c.args.tube.now c.args.what st.jobs.jobs st.seats.items st.tubes.entries was.entries;
+            numbered = was.numbered;
+            next = was.next;
+            ids = was.ids;
+            waiting = was.waiting;
+            known = so_with_tube st c.args.tube.now c.args.what c.requires.entry;
+          });
+    }

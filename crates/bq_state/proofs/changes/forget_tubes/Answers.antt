@@ -1,0 +1,35 @@
+use Rattle.std.proofs.Common.{◌≡◌, ◌∙◌, ap, arith}
+use Rattle.std.specs.Prelude.{filter}
+use Rattle.bq_state.specs.CoreParts.{machine_of}
+use Rattle.bq_state.specs.TubeEntries.{counted, is_counted, is_tube_of}
+use Rattle.bq_state.proofs.KnowledgeLemmas.{so_forgotten}
+use Rattle.bq_state.proofs.PartsLemmas.{entries_forgotten}
+use Rattle.bq_state.proofs.TubeLemmas.{filters_swap}
+use Rattle.bq_state.proofs.changes.forget_tubes.Goals as goal
+
+pub returns-clause-after : goal.returns-clause-after
+returns-clause-after c =
+    let s = c.args.state.now in
+    ap (λ tubes. record (machine_of s) { tubes = counted tubes })
+    (c.forget_lost.ensures.after s.jobs.jobs s.seats.items c.args.state.now.sound.entries.order c.args.state.now.sound.known.alive c.args.state.now.sound.known.counts.each c.args.state.now.sound.known.crowds.each)
+    ∙ ap (λ tubes. record (machine_of s) { tubes = tubes }) (filters_swap is_counted (λ t. is_tube_of s.jobs.jobs s.seats.items t.name) s.tubes.entries)
+
+pub invariant_of-state : goal.invariant_of-state
+invariant_of-state c =
+    let s = c.args.state.now in
+    let was = c.args.state.now.sound in
+    let left : c.forget_lost.new.self.entries ≡ filter (λ t. is_tube_of s.jobs.jobs s.seats.items t.name) s.tubes.entries =
+    c.forget_lost.ensures.after s.jobs.jobs s.seats.items was.entries.order was.known.alive was.known.counts.each was.known.crowds.each in
+    record {
+      sound =
+          record {
+            entries = rw left (entries_forgotten s.jobs.jobs s.seats.items s.tubes.entries was.entries);
+            numbered = was.numbered;
+            next = was.next;
+            ids = was.ids;
+            waiting = was.waiting;
+            known =
+                rw c.forget_tubes.ensures
+                (so_forgotten s c.forget_lost.new.self c.len-entries.result (omega (arith, c.len-entries.ensures)) left (c.forget_lost.ensures.kept s.jobs.jobs s.seats.items was.known.counts.each was.known.crowds.each));
+          };
+    }

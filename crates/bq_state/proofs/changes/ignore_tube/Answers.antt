@@ -1,0 +1,67 @@
+use Rattle.std.proofs.Common.{◌≤◌, ◌≡◌, ◌∙◌, List, ℕ, ap, sym, arith, not, filter, get_or, length, refl}
+use Rattle.std.proofs.lemmas.Option.{slice_get_read, slice_get_within}
+use Rattle.bq_job.specs.machine.Limits.{greatest}
+use Rattle.bq_job.specs.machine.TubeCommands.{watching}
+use Rattle.bq_job.specs.reading.TubeName.{is_same_name}
+use Rattle.bq_state.specs.Counting.{with_crowds_at}
+use Rattle.bq_state.specs.Crowds.{recounted}
+use Rattle.bq_state.specs.KeptTubes.{KeptTubes}
+use Rattle.bq_state.specs.CoreParts.{machine_of}
+use Rattle.bq_state.specs.TubeEntries.{counted}
+use Rattle.bq_state.specs.declared.tubes.entry.Moving.TheVariants.{Goes}
+use Rattle.bq_state.proofs.KnowledgeLemmas.{so_ignoring}
+use Rattle.bq_state.proofs.WaitingLemmas.{in_turn_watching}
+use Rattle.bq_state.proofs.PartsLemmas.{changed_there, seat_read, seat_there, watching_fewer, watching_numbered}
+use Rattle.bq_state.proofs.changes.ignore_tube.Goals as goal
+
+pub ignore-requires-clause-other : goal.ignore-requires-clause-other
+ignore-requires-clause-other c s there =
+    c.requires.other s (seat_read c.args.state.now.seats.items c.args.seat s c.args.state.now.sound.numbered there)
+
+pub returns-then-from-len-clause-after : goal.returns-then-from-len-clause-after
+returns-then-from-len-clause-after c s found =
+    let old = c.args.state.now in
+    let there = seat_there old.seats.items c.args.seat s c.args.state.now.sound.numbered found in
+    let names = filter (λ other. not (is_same_name c.args.tube.now other)) s.watched in
+    ap (λ entries. record (machine_of old) { seats = c.ignore.new.seats.items; tubes = counted entries }) (ap (λ (k : KeptTubes). k.entries) c.recount.ensures)
+    ∙ ap (λ seats. record (machine_of old) { seats = seats })
+    (c.ignore.ensures.ignored s there ∙ sym (changed_there old.seats.items c.args.seat s (watching names) c.args.state.now.sound.numbered there))
+
+pub invariant_of-state : goal.invariant_of-state
+invariant_of-state c =
+    let st = c.args.state.now in
+    let was = c.args.state.now.sound in
+    let n = c.args.seat in
+    let name = c.args.tube.now in
+    let t = c.index.result.now in
+    let read : t ≡ get_or st.seats.items n t = c.index.ensures ∙ ap (λ k. get_or st.seats.items k t) c.from-then-from-len.ensures in
+    let here = slice_get_read st.seats.items (length st.seats.items) n t refl (omega arith) read in
+    let few : length st.seats.items ≤ greatest = omega (arith, c.len.ensures) in
+    let fewer = λ (other : List ℕ). not (is_same_name name other) in
+    let tubes = c.recount.ensures ∙ ap (λ share. with_crowds_at name (recounted Goes share) st.tubes) c.at-share.ensures in
+    record {
+      sound =
+          rw (c.lose.ensures, tubes, c.ignore.ensures.ignored t here)
+          (record {
+            entries = watching_fewer fewer n t st.jobs.jobs st.seats.items st.tubes.entries here was.entries;
+            numbered = watching_numbered (filter fewer t.watched) n t st.seats.items here was.numbered;
+            next = was.next;
+            ids = was.ids;
+            waiting = in_turn_watching (filter fewer t.watched) n t st.waiting st.seats.items here was.numbered was.waiting;
+            known = so_ignoring st name n t here few;
+          });
+    }
+
+pub returns-else-from-len-clause-after : goal.returns-else-from-len-clause-after
+returns-else-from-len-clause-after c s found =
+    let here = slice_get_within c.args.state.now.seats.items c.args.seat s (seat_there c.args.state.now.seats.items c.args.seat s c.args.state.now.sound.numbered found) in
+    absurd (omega arith)
+
+pub returns-then-from-len-clause-count : goal.returns-then-from-len-clause-count
+returns-then-from-len-clause-count c s found =
+    c.ignore.ensures.count s (seat_there c.args.state.now.seats.items c.args.seat s c.args.state.now.sound.numbered found)
+
+pub returns-else-from-len-clause-count : goal.returns-else-from-len-clause-count
+returns-else-from-len-clause-count c s found =
+    let here = slice_get_within c.args.state.now.seats.items c.args.seat s (seat_there c.args.state.now.seats.items c.args.seat s c.args.state.now.sound.numbered found) in
+    absurd (omega arith)

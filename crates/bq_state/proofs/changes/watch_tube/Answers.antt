@@ -1,0 +1,76 @@
+use Rattle.std.proofs.Common.{◌≤◌, ◌≡◌, ◌∙◌, ◌++◌, ◌∷◌, [], ap, sym, arith, slice_get, set, Some, vec_len, get_or, if◌then◌else◌, length, refl}
+use Rattle.std.proofs.lemmas.Option.{slice_get_read, slice_get_within}
+use Rattle.bq_job.specs.machine.Changes.{seat_with}
+use Rattle.bq_job.specs.machine.Machine.{Machine}
+use Rattle.bq_job.specs.machine.Limits.{greatest}
+use Rattle.bq_job.specs.machine.TubeCommands.{watching}
+use Rattle.bq_state.specs.Counting.{with_crowds_at}
+use Rattle.bq_state.specs.Crowds.{recounted}
+use Rattle.bq_state.specs.KeptTubes.{KeptTubes}
+use Rattle.bq_state.specs.CoreParts.{machine_of}
+use Rattle.bq_state.specs.Stirs.{with_anything}
+use Rattle.bq_state.specs.TubeEntries.{counted}
+use Rattle.bq_state.specs.declared.tubes.entry.Moving.TheVariants.{Comes}
+use Rattle.bq_state.specs.declared.tubes.entry.Share.{Share}
+use Rattle.bq_state.proofs.KnowledgeLemmas.{so_watching}
+use Rattle.bq_state.proofs.WaitingLemmas.{in_turn_watching}
+use Rattle.bq_state.proofs.PartsLemmas.{changed_there, seat_read, seat_there, watching_more, watching_numbered}
+use Rattle.bq_state.proofs.changes.watch_tube.Goals as goal
+
+pub returns-then-from-len-clause-count : goal.returns-then-from-len-clause-count
+returns-then-from-len-clause-count c s found =
+    let here = slice_get_within c.args.state.now.seats.items c.args.seat s (seat_there c.args.state.now.seats.items c.args.seat s c.args.state.now.sound.numbered found) in
+    let same = ap (λ v. vec_len v) c.in_ok-provide_tube.ensures.seats in
+    absurd (omega arith)
+
+pub returns-then-from-len-clause-watched : goal.returns-then-from-len-clause-watched
+returns-then-from-len-clause-watched c s found =
+    let here = slice_get_within c.args.state.now.seats.items c.args.seat s (seat_there c.args.state.now.seats.items c.args.seat s c.args.state.now.sound.numbered found) in
+    let same = ap (λ v. vec_len v) c.in_ok-provide_tube.ensures.seats in
+    absurd (omega arith)
+
+pub returns-in-Ok-clause-count : goal.returns-in-Ok-clause-count
+returns-in-Ok-clause-count c s found =
+    let here = seat_there c.args.state.now.seats.items c.args.seat s c.args.state.now.sound.numbered found in
+    c.in-Ok.ensures.count s (ap (λ v. slice_get v.items c.args.seat) c.in_ok-provide_tube.ensures.seats ∙ here)
+
+pub returns-in-Ok-clause-watched : goal.returns-in-Ok-clause-watched
+returns-in-Ok-clause-watched c s found =
+    let old = c.args.state.now in
+    let p = c.in_ok-provide_tube.ensures in
+    let here = seat_there old.seats.items c.args.seat s c.args.state.now.sound.numbered found in
+    let there : slice_get c.provide_tube.new.state.seats.items c.args.seat ≡ Some s = ap (λ v. slice_get v.items c.args.seat) p.seats ∙ here in
+    ap (λ entries. record (machine_of c.provide_tube.new.state) { seats = c.watch.new.seats.items; tubes = counted entries }) (ap (λ (k : KeptTubes). k.entries) c.recount.ensures)
+    ∙ ap (λ (m : Machine). record m { seats = c.watch.new.seats.items }) p.after
+    ∙ ap (λ seats. record (machine_of old) { seats = seats })
+    (c.in-Ok.ensures.watched s there
+    ∙ ap (λ v. set v.items c.args.seat (watching (s.watched ++ c.args.tube.now ∷ []) s)) p.seats
+    ∙ sym (changed_there old.seats.items c.args.seat s (watching (s.watched ++ c.args.tube.now ∷ [])) c.args.state.now.sound.numbered here))
+
+pub invariant_of-state : goal.invariant_of-state
+invariant_of-state c =
+    let mid = c.provide_tube.new.state in
+    let was = c.provide_tube.new.state.sound in
+    let p = c.in_ok-provide_tube.ensures in
+    let n = c.args.seat in
+    let name = c.args.tube.now in
+    let t = c.index.result.now in
+    let read : t ≡ get_or mid.seats.items n t = c.index.ensures ∙ ap (λ k. get_or mid.seats.items k t) c.from-2.ensures in
+    let here = slice_get_read mid.seats.items (length mid.seats.items) n t refl (omega arith) read in
+    let share = c.of_watcher-share.ensures in
+    let fresh = c.requires.fresh t (ap (λ v. seat_with n v.items) (sym p.seats) ∙ seat_read mid.seats.items n t was.numbered here) in
+    let few : length mid.seats.items ≤ greatest = omega (arith, c.len.ensures) in
+    let tubes = c.recount.ensures ∙ ap (λ what. with_crowds_at name (recounted Comes what) mid.tubes) share in
+    let stir = c.stir_all_if.ensures ∙ ap (λ (s : Share). if s.waiting then with_anything mid.known.stir else mid.known.stir) share in
+    record {
+      sound =
+          rw (stir, tubes, c.in-Ok.ensures.watched t here)
+          (record {
+            entries = watching_more name n t mid.jobs.jobs mid.seats.items mid.tubes.entries here p.entry was.entries;
+            numbered = watching_numbered (t.watched ++ name ∷ []) n t mid.seats.items here was.numbered;
+            next = was.next;
+            ids = was.ids;
+            waiting = in_turn_watching (t.watched ++ name ∷ []) n t mid.waiting mid.seats.items here was.numbered was.waiting;
+            known = so_watching mid name n t here few fresh;
+          });
+    }

@@ -1,0 +1,28 @@
+use Rattle.std.proofs.Common.{◌∙◌, ap, refl}
+use Rattle.std.specs.Prelude.{find, option_map}
+use Rattle.bq_job.specs.machine.Changes.{first_of}
+use Rattle.bq_job.specs.machine.Dispatch.{is_wait_before}
+use Rattle.bq_state.specs.Clients.{seat_passes}
+use Rattle.bq_state.specs.Offers.{waits_at}
+use Rattle.bq_state.specs.Places.{item_at}
+use Rattle.bq_state.specs.WaitingTurns.{passes_at}
+use Rattle.bq_state.proofs.WalkLemmas.{first_turn, item_found, number_of_turn}
+use Rattle.bq_state.proofs.seats.first_waiting.Goals as goal
+
+pub returns-in-None : goal.returns-in-None
+returns-in-None c =
+    let seats = c.args.seats.now in
+    let p = waits_at c.args.tube.now in
+    let q = passes_at p seats in
+    let found = first_turn q p seats c.requires.numbered (λ s e. rw e refl) (λ s _ read. ap (seat_passes p) read) in
+    ap (option_map (λ t. t.1)) (c.in-None.ensures ∙ ap (item_at c.args.turns.now) c.place_waiting.ensures ∙ item_found q c.args.turns.now ∙ ap (find q) c.requires.turns ∙ found)
+    ∙ number_of_turn (first_of p is_wait_before seats)
+
+pub returns-in-Some : goal.returns-in-Some
+returns-in-Some c =
+    let seats = c.args.seats.now in
+    let p = waits_at c.args.tube.now in
+    let q = passes_at p seats in
+    let found = first_turn q p seats c.requires.numbered (λ s e. rw e refl) (λ s _ read. ap (seat_passes p) read) in
+    ap (option_map (λ t. t.1)) (c.in-Some.ensures ∙ ap (item_at c.args.turns.now) c.place_waiting.ensures ∙ item_found q c.args.turns.now ∙ ap (find q) c.requires.turns ∙ found)
+    ∙ number_of_turn (first_of p is_wait_before seats)

@@ -1,0 +1,18 @@
+-- What the pauses that ended so far leave to end.
+use Rattle.std.proofs.Common.{◌≡◌, map}
+use Rattle.std.specs.Prelude.{count_by}
+use Rattle.bq_job.specs.machine.Timers.{tube_after_timers}
+use Rattle.bq_state.specs.KeptTubes.{crowd_kept, record_at, tally_kept}
+use Rattle.bq_state.specs.PauseEnds.{AreEnds, is_paused}
+use Rattle.bq_state.proofs.tubes.pauses.end_all.Given as goal
+
+abbrev pub invariant-loop : goal.invariant-loop
+invariant-loop l = record {
+  records : map (tube_after_timers l.moment) (map record_at l.kept.entries) ≡ map (tube_after_timers l.moment) (map record_at l.fn.kept.entries);
+  tallies : map tally_kept l.kept.entries ≡ map tally_kept l.fn.kept.entries;
+  crowds : map crowd_kept l.kept.entries ≡ map crowd_kept l.fn.kept.entries;
+  ends : AreEnds (map record_at l.kept.entries) l.ends;
+}
+
+abbrev pub decreases-loop : goal.decreases-loop
+decreases-loop l = count_by is_paused (map record_at l.kept.entries)

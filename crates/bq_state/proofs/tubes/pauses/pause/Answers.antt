@@ -1,0 +1,49 @@
+use Rattle.std.proofs.Common.{◌∙◌, ap, arith, map, refl, sym}
+use Rattle.std.specs.Map.{lookup}
+use Rattle.bq_state.specs.KeptTubes.{edited, is_named_at, kept_changed, record_at}
+use Rattle.bq_state.specs.PauseEnds.{found_end, pause_at, with_end, without_end}
+use Rattle.bq_state.proofs.EndMoves.{change_moves, end_absent, end_fits, end_held, ends_moved, one_box}
+use Rattle.bq_state.proofs.NamedLemmas.{in_order}
+use Rattle.bq_state.proofs.tubes.pauses.pause.Goals as goal
+
+pub leave-requires : goal.leave-requires
+leave-requires c x is =
+    let name = c.args.name.now in
+    let es = c.args.kept.now.entries in
+    let new = edited name (kept_changed c.args.what) (lookup (is_named_at name) es) es in
+    let m = change_moves name c.args.what es new (in_order es c.len-tubes.ensures.ordered) refl in
+    end_held name (pause_at name (map record_at es)) (pause_at name (map record_at new)) (map record_at es) (map record_at new) c.args.ends.now c.requires c.len-ends.ensures.ordered m x (sym c.end_of-from.ensures ∙ is)
+
+pub enter-requires-clause-spare : goal.enter-requires-clause-spare
+enter-requires-clause-spare c x is =
+    let name = c.args.name.now in
+    let es = c.args.kept.now.entries in
+    let new = c.change.new.catalog.entries in
+    let m = change_moves name c.args.what es new (in_order es c.len-tubes.ensures.ordered) c.change.ensures in
+    let from = pause_at name (map record_at es) in
+    let one = one_box name from c.end_of-from.result c.end_of-from.ensures in
+    end_fits name from (pause_at name (map record_at new)) (map record_at es) (map record_at new) c.args.ends.now c.requires c.len-ends.ensures.ordered m c.leave.new.ends.spare (omega (arith, c.leave.ensures.spare, one)) x (sym c.end_of-to.ensures ∙ is)
+
+pub enter-requires-clause-absent : goal.enter-requires-clause-absent
+enter-requires-clause-absent c x is =
+    let name = c.args.name.now in
+    let es = c.args.kept.now.entries in
+    let new = c.change.new.catalog.entries in
+    let m = change_moves name c.args.what es new (in_order es c.len-tubes.ensures.ordered) c.change.ensures in
+    ap (found_end x) (c.leave.ensures.entries ∙ ap (λ o. without_end o c.args.ends.now.entries) c.end_of-from.ensures)
+    ∙ end_absent name (pause_at name (map record_at es)) (pause_at name (map record_at new)) (map record_at es) (map record_at new) c.args.ends.now c.requires c.len-ends.ensures.ordered m x (sym c.end_of-to.ensures ∙ is)
+
+pub returns-clause-ends : goal.returns-clause-ends
+returns-clause-ends c =
+    let name = c.args.name.now in
+    let es = c.args.kept.now.entries in
+    let new = c.change.new.catalog.entries in
+    let m = change_moves name c.args.what es new (in_order es c.len-tubes.ensures.ordered) c.change.ensures in
+    let from = pause_at name (map record_at es) in
+    let to = pause_at name (map record_at new) in
+    let one = one_box name from c.end_of-from.result c.end_of-from.ensures in
+    let other = one_box name to c.end_of-to.result c.end_of-to.ensures in
+    let left = c.leave.ensures.entries ∙ ap (λ o. without_end o c.args.ends.now.entries) c.end_of-from.ensures in
+    ends_moved name from to (map record_at es) (map record_at new) c.args.ends.now c.requires c.len-ends.ensures.ordered m c.enter.new.ends
+    (c.enter.ensures.entries ∙ (λ i. with_end (c.end_of-to.ensures i) (left i)))
+    (omega (arith, c.enter.ensures.spare, c.leave.ensures.spare, one, other))

@@ -1,0 +1,16 @@
+-- the entries of tubes that are gone are dropped up to the last one that was found
+use Rattle.std.proofs.Common.{◌≡◌, filter, length, map}
+use Rattle.bq_state.specs.KeptTubes.{is_alive_at, record_at}
+use Rattle.bq_state.specs.PauseEnds.{AreEnds}
+use Rattle.bq_state.proofs.GoneLemmas.{AllLeftBefore}
+use Rattle.bq_state.proofs.tubes.walks.forget_all.Given as goal
+
+abbrev pub invariant-loop-name : goal.invariant-loop-name
+invariant-loop-name l = record {
+  left : filter is_alive_at l.catalog.entries ≡ filter is_alive_at l.fn.catalog.entries;
+  before : AllLeftBefore l.last l.catalog.entries;
+  ends : AreEnds (map record_at l.catalog.entries) l.ends;
+}
+
+abbrev pub decreases-loop-name : goal.decreases-loop-name
+decreases-loop-name l = length l.catalog.entries

@@ -1,0 +1,84 @@
+-- The machine that a core stands for.
+use Rattle.std.specs.Prelude.{ℕ, Bool, ◌≡◌, List, Some, Vec, count_by}
+use Rattle.std.specs.Global.{Global}
+use Rattle.bq_job.specs.declared.job.Job.{Job}
+use Rattle.bq_job.specs.declared.settings.Settings.{Settings}
+use Rattle.bq_job.specs.machine.Changes.{seat_with, with_seat}
+use Rattle.bq_job.specs.machine.Machine.{Machine, SeatRecord}
+use Rattle.bq_job.specs.machine.TubeCommands.{watching}
+use Rattle.bq_jobs.specs.Kept.{Kept}
+use Rattle.bq_state.specs.KeptTubes.{KeptTubes}
+use Rattle.bq_state.specs.WaitingTurns.{WaitingTurns}
+use Rattle.bq_state.specs.TubeEntries.{counted}
+use Rattle.bq_state.specs.declared.known.Known.{Known}
+use Rattle.bq_state.specs.declared.core_parts.CoreParts.{CoreParts}
+
+-- what a state holds beside the fact that it is sound
+pub record Held : Type 0 where
+  pub config : Settings
+  pub jobs : Kept
+  pub seats : Vec SeatRecord Global
+  pub waiting : WaitingTurns
+  pub tubes : KeptTubes
+  pub known : Known
+  pub moment : ℕ
+  pub next_id : ℕ
+  pub burials : ℕ
+  pub tickets : ℕ
+  pub draining : Bool
+  pub timeouts : ℕ
+  pub puts : ℕ
+  pub connections : ℕ
+
+abbrev pub held : CoreParts → Held
+held s = record {
+  config = s.config;
+  jobs = s.jobs;
+  seats = s.seats;
+  waiting = s.waiting;
+  tubes = s.tubes;
+  known = s.known;
+  moment = s.moment;
+  next_id = s.next_id;
+  burials = s.burials;
+  tickets = s.tickets;
+  draining = s.draining;
+  timeouts = s.timeouts;
+  puts = s.puts;
+  connections = s.connections;
+}
+
+abbrev pub machine_held : Held → Machine
+machine_held h = record {
+  settings = h.config;
+  jobs = h.jobs.jobs;
+  seats = h.seats.items;
+  tubes = counted h.tubes.entries;
+  moment = h.moment;
+  next_id = h.next_id;
+  burials = h.burials;
+  tickets = h.tickets;
+  draining = h.draining;
+  timeouts = h.timeouts;
+  puts = h.puts;
+  connections = h.connections;
+}
+
+abbrev pub machine_of : CoreParts → Machine
+machine_of s = machine_held (held s)
+
+-- It is the same but for the count of comparisons.
+abbrev pub OnlyCompares : CoreParts → CoreParts → Type 0
+OnlyCompares old new = held new ≡ record (held old) { jobs = record old.jobs { comparisons = new.jobs.comparisons } }
+
+-- how many of its jobs pass
+abbrev pub count_jobs : (Job → Bool) → CoreParts → ℕ
+count_jobs passes s = count_by passes s.jobs.jobs
+
+-- this is so of the record of this seat, if there is one
+abbrev pub AtSeat : ℕ → CoreParts → (SeatRecord → Type 0) → Type 0
+AtSeat seat state P = (s : SeatRecord) → seat_with seat (machine_of state).seats ≡ Some s → P s
+
+-- the client at this seat watches these tubes, out of those that it watched
+abbrev pub Watches : ℕ → (SeatRecord → List (List ℕ)) → CoreParts → CoreParts → Type 0
+Watches seat names old new = AtSeat seat old (λ s. machine_of new ≡ with_seat seat (watching (names s)) (machine_of old))

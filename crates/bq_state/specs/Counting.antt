@@ -1,0 +1,54 @@
+-- What is kept of tubes whose counts are those of jobs and of seats.
+use Rattle.std.specs.Prelude.{ℕ, ◌≡◌, List, Option, filter}
+use Rattle.bq_job.specs.declared.job.Job.{Job}
+use Rattle.bq_job.specs.machine.Machine.{SeatRecord}
+use Rattle.bq_state.specs.Crowds.{crowds_at, crowds_at_all, crowds_of, crowds_provided, crowds_recounted_for}
+use Rattle.bq_state.specs.KeptTubes.{KeptTubes}
+use Rattle.bq_state.specs.Losses.{AreAlive}
+use Rattle.bq_state.specs.Tallies.{tallies_at, tallies_of, tallies_provided}
+use Rattle.bq_state.specs.TubeEntries.{AreInOrder, is_tube_of, provided}
+use Rattle.bq_state.specs.declared.tubes.entry.Crowd.{Crowd}
+use Rattle.bq_state.specs.declared.tubes.entry.Moving.{Moving}
+use Rattle.bq_state.specs.declared.tubes.entry.Share.{Share}
+use Rattle.bq_state.specs.declared.known.hints.Loss.{Loss}
+use Rattle.bq_state.specs.declared.known.Tally.{Tally}
+
+-- the counts are those of these jobs and seats
+abbrev pub AreCounts : KeptTubes → List Job → List SeatRecord → Type 0
+AreCounts k jobs seats = (k.tallies ≡ tallies_of jobs k.entries) × (k.crowds ≡ crowds_of seats k.entries)
+
+-- this is so of all jobs and seats of which the counts are
+abbrev pub IfCounted : KeptTubes → (List Job → List SeatRecord → Type 0) → Type 0
+IfCounted k P =
+    (jobs : List Job) (seats : List SeatRecord)
+    → k.tallies ≡ tallies_of jobs k.entries → k.crowds ≡ crowds_of seats k.entries → P jobs seats
+
+-- Where it is known which entries may be of tubes that are gone, those of tubes that exist are left.
+abbrev pub DropsGone : Loss → KeptTubes → KeptTubes → Type 0
+DropsGone loss old new =
+    (jobs : List Job) (seats : List SeatRecord) → AreInOrder old.entries → AreAlive loss jobs seats old.entries
+    → old.tallies ≡ tallies_of jobs old.entries → old.crowds ≡ crowds_of seats old.entries
+    → new.entries ≡ filter (λ t. is_tube_of jobs seats t.name) old.entries
+
+-- what is kept once a tube has an entry
+abbrev pub tubes_with : List ℕ → KeptTubes → KeptTubes
+tubes_with name k = record {
+  entries = provided name k.entries;
+  tallies = tallies_provided name k.entries k.tallies;
+  crowds = crowds_provided name k.entries k.crowds;
+}
+
+-- with the counts of the jobs of the tube of this name changed by f, and with those of its clients
+abbrev pub with_tallies_at : List ℕ → (Tally → Tally) → KeptTubes → KeptTubes
+with_tallies_at name f k = record k { tallies = tallies_at name f k.entries k.tallies }
+
+abbrev pub with_crowds_at : List ℕ → (Crowd → Crowd) → KeptTubes → KeptTubes
+with_crowds_at name f k = record k { crowds = crowds_at name f k.entries k.crowds }
+
+-- and with those of the clients of each of these tubes
+abbrev pub with_crowds_at_all : List (List ℕ) → (Crowd → Crowd) → KeptTubes → KeptTubes
+with_crowds_at_all names f k = record k { crowds = crowds_at_all names f k.entries k.crowds }
+
+-- once what a seat counts for, if there is this seat, comes or goes
+abbrev pub recounted_for : Moving → Share → Option SeatRecord → KeptTubes → KeptTubes
+recounted_for moving what o k = record k { crowds = crowds_recounted_for moving what o k.entries k.crowds }

@@ -1,0 +1,146 @@
+-- How many clients are at each tube.
+use Rattle.std.specs.Prelude.{ℕ, Bool, true, false, ◌≡◌, ◌&&◌, ◌||◌, nat_lt, not, if◌then◌else◌}
+use Rattle.std.specs.Prelude.{List, [], ◌∷◌, Option, Some, None, count_by, fold, map}
+use Rattle.std.specs.List.{AllByRecursion, insert, prefix_len}
+use Rattle.bq_job.specs.machine.Changes.{is_waiting}
+use Rattle.bq_job.specs.beside.Lawful.{none_twice}
+use Rattle.bq_job.specs.machine.Machine.{SeatRecord, TubeRecord}
+use Rattle.bq_job.specs.reading.TubeName.{is_same_name}
+use Rattle.bq_job.specs.machine.Tubes.{is_name_before, watches}
+use Rattle.bq_state.specs.SeatStates.{is_connected}
+use Rattle.bq_state.specs.Tallies.{count_with, count_without}
+use Rattle.bq_state.specs.TubeEntries.{has_entry}
+use Rattle.bq_state.specs.declared.tubes.entry.Crowd.{Crowd}
+use Rattle.bq_state.specs.declared.tubes.entry.Moving.{Moving}
+use Rattle.bq_state.specs.declared.tubes.entry.Moving.TheVariants.{Comes, Goes}
+use Rattle.bq_state.specs.declared.tubes.entry.Share.{Share}
+use Rattle.bq_state.specs.declared.seats.SeatChange.{SeatChange}
+use Rattle.bq_state.specs.declared.seats.SeatChange.TheVariants.{StopWaiting, Wait, Connect, Clear, End, Use}
+
+-- an open seat uses the tube, or watches it, or a client waits at it
+abbrev pub is_user : List ℕ → SeatRecord → Bool
+is_user name s = s.connected && is_same_name name s.used
+
+abbrev pub is_watcher : List ℕ → SeatRecord → Bool
+is_watcher name s = s.connected && watches name s
+
+abbrev pub is_waiter : List ℕ → SeatRecord → Bool
+is_waiter name s = is_waiting s && watches name s
+
+-- the counts of a tube,
+abbrev pub crowd_of : List SeatRecord → List ℕ → Crowd
+crowd_of seats name = record {
+  using = count_by (is_user name) seats;
+  watching = count_by (is_watcher name) seats;
+  waiting = count_by (is_waiter name) seats;
+}
+
+-- and of each tube that has an entry, in the order of the entries
+abbrev pub crowd_in : List SeatRecord → TubeRecord → Crowd
+crowd_in seats t = crowd_of seats t.name
+
+abbrev pub crowds_of : List SeatRecord → List TubeRecord → List Crowd
+crowds_of seats entries = map (crowd_in seats) entries
+
+abbrev pub is_none : Share → Bool
+is_none share = not share.using && (not share.watching && not share.waiting)
+
+-- the counts with a share
+abbrev pub crowd_with : Share → Crowd → Crowd
+crowd_with share c = record {
+  using = count_with share.using c.using;
+  watching = count_with share.watching c.watching;
+  waiting = count_with share.waiting c.waiting;
+}
+
+-- the counts without a share
+abbrev pub crowd_without : Share → Crowd → Crowd
+crowd_without share c = record {
+  using = count_without share.using c.using;
+  watching = count_without share.watching c.watching;
+  waiting = count_without share.waiting c.waiting;
+}
+
+-- the counts, once a share comes or goes
+abbrev pub recounted : Moving → Share → Crowd → Crowd
+recounted Comes share c = crowd_with share c
+recounted Goes share c = crowd_without share c
+
+-- a client uses or watches the tube
+abbrev pub has_seats : Crowd → Bool
+has_seats c = nat_lt 0 c.using || nat_lt 0 c.watching
+
+-- the counts of the default tube at the start, and of a tube that gets an entry
+abbrev pub no_crowd : Crowd
+no_crowd = record { using = 0; watching = 0; waiting = 0 }
+
+-- what a change of a seat can touch
+abbrev pub touched : SeatChange → Share
+touched StopWaiting = record { using = false; watching = false; waiting = true }
+touched (Wait ticket until) = record { using = false; watching = false; waiting = true }
+touched Connect = record { using = true; watching = true; waiting = true }
+touched Clear = record { using = true; watching = true; waiting = true }
+touched End = record { using = false; watching = false; waiting = false }
+touched (Use tube) = record { using = true; watching = false; waiting = false }
+
+-- who comes to wait is connected
+abbrev pub may_wait : SeatChange → Option SeatRecord → Bool
+may_wait (Wait ticket until) o = is_connected o
+may_wait _ o = true
+
+-- what of it the seat counts for at the tube that it uses, and at those that it watches
+abbrev pub share_as_user : Share → SeatRecord → Share
+share_as_user what s = record { using = what.using && s.connected; watching = false; waiting = false }
+
+abbrev pub share_as_watcher : Share → SeatRecord → Share
+share_as_watcher what s = record { using = false; watching = what.watching && s.connected; waiting = what.waiting && is_waiting s }
+
+-- what a seat counts for at a tube more that it watches, and at one that it may watch
+abbrev pub share_of_watcher : SeatRecord → Share
+share_of_watcher s = record { using = false; watching = s.connected; waiting = is_waiting s }
+
+abbrev pub share_of_watching : List ℕ → SeatRecord → Share
+share_of_watching name s = record { using = false; watching = is_watcher name s; waiting = is_waiter name s }
+
+-- the counts beside the entries, changed by f at the first entry of this name
+abbrev pub crowds_at : List ℕ → (Crowd → Crowd) → List TubeRecord → List Crowd → List Crowd
+crowds_at name f [] crowds = crowds
+crowds_at name f (t ∷ entries) [] = []
+crowds_at name f (t ∷ entries) (crowd ∷ crowds) =
+    if is_same_name name t.name then f crowd ∷ crowds else crowd ∷ crowds_at name f entries crowds
+
+-- and at that of each of these names
+abbrev pub crowds_at_all : List (List ℕ) → (Crowd → Crowd) → List TubeRecord → List Crowd → List Crowd
+crowds_at_all names f entries crowds = fold (λ some name. crowds_at name f entries some) crowds names
+
+-- the counts, once what a seat counts for comes or goes
+abbrev pub crowds_recounted : Moving → Share → SeatRecord → List TubeRecord → List Crowd → List Crowd
+crowds_recounted moving what s entries crowds =
+    let as_user = crowds_at s.used (recounted moving (share_as_user what s)) entries crowds in
+    crowds_at_all s.watched (recounted moving (share_as_watcher what s)) entries as_user
+
+-- the same, if there is a seat
+abbrev pub crowds_recounted_for : Moving → Share → Option SeatRecord → List TubeRecord → List Crowd → List Crowd
+crowds_recounted_for moving what None entries crowds = crowds
+crowds_recounted_for moving what (Some s) entries crowds = crowds_recounted moving what s entries crowds
+
+-- the counts at the first entry of this name, if there is one
+abbrev pub crowd_at : List ℕ → List TubeRecord → List Crowd → Crowd
+crowd_at name [] crowds = no_crowd
+crowd_at name (t ∷ entries) [] = no_crowd
+crowd_at name (t ∷ entries) (crowd ∷ crowds) = if is_same_name name t.name then crowd else crowd_at name entries crowds
+
+-- the counts with those of a tube that gets an entry
+abbrev pub crowds_provided : List ℕ → List TubeRecord → List Crowd → List Crowd
+crowds_provided name entries crowds =
+    if has_entry name entries then crowds else insert crowds (prefix_len (λ t. is_name_before t.name name) entries) no_crowd
+
+-- Who waits is connected, and watches no tube twice.
+pub record IsSeated (s : SeatRecord) : Type 0 where
+  pub waits : is_waiting s ≡ true → s.connected ≡ true
+  pub once : none_twice s.watched ≡ true
+
+-- The clients at each tube are counted.
+pub record AreCrowds (crowds : List Crowd) (seats : List SeatRecord) (entries : List TubeRecord) : Type 0 where
+  pub each : crowds ≡ crowds_of seats entries
+  pub seated : AllByRecursion IsSeated seats

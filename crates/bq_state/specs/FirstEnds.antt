@@ -1,0 +1,41 @@
+-- When the first wait of a client is over by its timeout.
+use Rattle.std.specs.Prelude.{ℕ, Bool, true, false, ◌≡◌, ◌&&◌, not, if◌then◌else◌, List, Option, Some, None, fold, is_some}
+use Rattle.std.specs.List.{AllByRecursion}
+use Rattle.bq_job.specs.machine.Changes.{is_waiting}
+use Rattle.bq_job.specs.machine.Machine.{SeatRecord}
+use Rattle.bq_job.specs.beside.NextDue.{dues_of_wait, earliest}
+use Rattle.bq_state.specs.Dues.{with_seat_due}
+use Rattle.bq_state.specs.declared.known.hints.FirstEnd.{FirstEnd}
+use Rattle.bq_state.specs.declared.known.hints.FirstEnd.TheVariants.{Known, Unknown}
+use Rattle.bq_state.specs.declared.seats.SeatChange.{SeatChange}
+use Rattle.bq_state.specs.declared.seats.SeatChange.TheVariants.{StopWaiting, Wait, Connect, Clear, End, Use}
+
+-- when the client gives up, if it waits
+abbrev pub gives_up_at : SeatRecord → Option ℕ
+gives_up_at s = earliest (dues_of_wait s.wait)
+
+-- the client waits, and sends no more
+abbrev pub is_gone_in_wait : SeatRecord → Bool
+is_gone_in_wait s = is_waiting s && s.ended
+
+abbrev pub IsThere : SeatRecord → Type 0
+IsThere s = is_gone_in_wait s ≡ false
+
+-- What is known of the first end is so.
+abbrev pub AreTimeouts : FirstEnd → List SeatRecord → Type 0
+AreTimeouts Unknown seats = Unit {0}
+AreTimeouts (Known first) seats = (fold with_seat_due None seats ≡ first) × AllByRecursion IsThere seats
+
+-- the change leaves when the client gives up
+abbrev pub keeps_end : SeatChange → SeatRecord → Bool
+keeps_end StopWaiting s = not (is_some (gives_up_at s))
+keeps_end (Wait ticket until) s = not (is_some until) && not (is_some (gives_up_at s)) && not s.ended
+keeps_end Connect s = not (is_some (gives_up_at s))
+keeps_end Clear s = not (is_some (gives_up_at s))
+keeps_end End s = not (is_waiting s)
+keeps_end (Use tube) s = true
+
+-- what is known after a change of a seat, if there is one
+abbrev pub end_after : SeatChange → Option SeatRecord → FirstEnd → FirstEnd
+end_after what None first = first
+end_after what (Some s) first = if keeps_end what s then first else Unknown

@@ -1,0 +1,26 @@
+-- The first job of a kind: by its priority, its due moment or its burial number, and then by its id.
+use Rattle.std.specs.Prelude.{ℕ, Bool, List, Option}
+use Rattle.bq_job.specs.declared.job.Job.{Job}
+use Rattle.bq_job.specs.machine.Changes.{first_of, is_pair_before}
+use Rattle.bq_job.specs.machine.JobCommands.{is_buried_in, is_delayed_in}
+use Rattle.bq_job.specs.machine.JobStates.{burial_of, due_of}
+use Rattle.bq_job.specs.machine.TubeCommands.{is_ready_in}
+use Rattle.bq_state.specs.declared.job_store.JobKind.{JobKind}
+use Rattle.bq_state.specs.declared.job_store.JobKind.TheVariants.{Ready, Delayed, Buried}
+
+abbrev pub is_of : JobKind → List ℕ → Job → Bool
+is_of Ready tube j = is_ready_in tube j
+is_of Delayed tube j = is_delayed_in tube j
+is_of Buried tube j = is_buried_in tube j
+
+abbrev pub rank_of : JobKind → Job → ℕ
+rank_of Ready j = j.pri
+rank_of Delayed j = due_of j.state
+rank_of Buried j = burial_of j.state
+
+abbrev pub is_before_of : JobKind → Job → Job → Bool
+is_before_of kind a b = is_pair_before (rank_of kind a) a.id (rank_of kind b) b.id
+
+-- the first job of this kind in this tube
+abbrev pub first_of_kind : JobKind → List ℕ → List Job → Option Job
+first_of_kind kind tube jobs = first_of (is_of kind tube) (is_before_of kind) jobs

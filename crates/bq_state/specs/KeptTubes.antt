@@ -1,0 +1,158 @@
+-- What is kept of the tubes that have an entry.
+use Rattle.std.specs.Borrow.{Bor}
+use Rattle.std.specs.Prelude.{ℕ, Bool, false, true, ◌&&◌, not, is_some, if◌then◌else◌, List, [], ◌∷◌, ◌++◌, Option, Some, None, map}
+use Rattle.std.specs.Ordering.{is_gt, nat_cmp}
+use Rattle.std.specs.BTreeMap.{is_at}
+use Rattle.std.specs.Map.{lookup, remove_entry, set_value}
+use Rattle.std.specs.Cmp.Lexicographic.{slice_cmp}
+use Rattle.bq_job.specs.declared.job.Job.{Job}
+use Rattle.bq_job.specs.machine.Limits.{raised}
+use Rattle.bq_job.specs.machine.Machine.{Pause, TubeRecord, default_tube}
+use Rattle.bq_job.specs.machine.Timers.{pause_after_timers, tube_after_timers}
+use Rattle.bq_job.specs.machine.Tubes.{fresh_tube}
+use Rattle.bq_jobs.specs.declared.row.Moved.{Moved}
+use Rattle.bq_state.specs.Crowds.{has_seats, no_crowd, recounted}
+use Rattle.bq_state.specs.Tallies.{has_jobs, tally_moved, tally_of, tally_with, tally_without}
+use Rattle.bq_state.specs.TubeEntries.{is_tube_by, tube_changed}
+use Rattle.bq_state.specs.declared.tubes.entry.Crowd.{Crowd}
+use Rattle.bq_state.specs.declared.tubes.entry.Moving.{Moving}
+use Rattle.bq_state.specs.declared.tubes.entry.Share.{Share}
+use Rattle.bq_state.specs.declared.known.Tally.{Tally}
+use Rattle.bq_state.specs.declared.tubes.entry.TubeChange.{TubeChange}
+
+-- the entries, and at the same places the counts of the tubes' jobs and of their clients
+pub record KeptTubes : Type 0 where
+  pub entries : List TubeRecord
+  pub tallies : List Tally
+  pub crowds : List Crowd
+
+-- the default tube alone, without a job and a client
+abbrev pub first_tubes : KeptTubes
+first_tubes = record { entries = fresh_tube default_tube ∷ []; tallies = tally_of [] ∷ []; crowds = no_crowd ∷ [] }
+
+-- what is kept of a tube beside its name
+pub record KeptTube : Type 0 where
+  pub pause : Option Pause
+  pub puts : ℕ
+  pub deletes : ℕ
+  pub pauses : ℕ
+  pub tally : Tally
+  pub crowd : Crowd
+
+-- an entry, by the name that it is found by
+abbrev pub Named : Type 0
+Named = List ℕ × KeptTube
+
+-- the record of a tube of which this is kept
+abbrev pub record_of : List ℕ → KeptTube → TubeRecord
+record_of name t = record { name = name; pause = t.pause; puts = t.puts; deletes = t.deletes; pauses = t.pauses }
+
+abbrev pub record_at : Named → TubeRecord
+record_at e = record_of e.0 e.1
+
+abbrev pub tally_kept : Named → Tally
+tally_kept e = e.1.tally
+
+abbrev pub crowd_kept : Named → Crowd
+crowd_kept e = e.1.crowd
+
+abbrev pub tubes_kept : List Named → KeptTubes
+tubes_kept es = record { entries = map record_at es; tallies = map tally_kept es; crowds = map crowd_kept es }
+
+-- where nothing happened yet
+abbrev pub fresh_entry : KeptTube
+fresh_entry = record { pause = None; puts = 0; deletes = 0; pauses = 0; tally = tally_of []; crowd = no_crowd }
+
+-- what is kept once this happened to a tube
+abbrev pub kept_after : TubeRecord → KeptTube → KeptTube
+kept_after r t = record { pause = r.pause; puts = r.puts; deletes = r.deletes; pauses = r.pauses; tally = t.tally; crowd = t.crowd }
+
+abbrev pub kept_changed : TubeChange → KeptTube → KeptTube
+kept_changed what t = kept_after (tube_changed what (record_of [] t)) t
+
+-- with a job more, and with one less
+abbrev pub kept_with : Job → KeptTube → KeptTube
+kept_with j t = record t { tally = tally_with j t.tally }
+
+abbrev pub kept_without : Job → KeptTube → KeptTube
+kept_without j t = record t { tally = tally_without j t.tally }
+
+-- with a job that stands otherwise
+abbrev pub kept_moved : Moved → KeptTube → KeptTube
+kept_moved m t = record t { tally = tally_moved m t.tally }
+
+-- with a share of a seat more, or without it
+abbrev pub kept_recounted : Moving → Share → KeptTube → KeptTube
+kept_recounted moving share t = record t { crowd = recounted moving share t.crowd }
+
+-- the test of names that a look-up of this one makes
+abbrev pub is_named_at : List ℕ → List ℕ → Bool
+is_named_at name = is_at (slice_cmp nat_cmp name)
+
+-- the entries with the one that is found changed by f
+abbrev pub edited : List ℕ → (KeptTube → KeptTube) → Option KeptTube → List Named → List Named
+edited name f None es = es
+edited name f (Some t) es = set_value (is_named_at name) es (f t)
+
+-- the entries with the one of this name, if there is one, changed by f
+abbrev pub edited_at : List ℕ → (KeptTube → KeptTube) → List Named → List Named
+edited_at name f es = edited name f (lookup (is_named_at name) es) es
+
+-- whether a tube is paused, by its entry, if it has one
+abbrev pub is_paused_by : Option KeptTube → Bool
+is_paused_by None = false
+is_paused_by (Some t) = is_some t.pause
+
+-- the counts, by its entry
+abbrev pub tally_by : Option KeptTube → Tally
+tally_by None = tally_of []
+tally_by (Some t) = t.tally
+
+abbrev pub crowd_by : Option KeptTube → Crowd
+crowd_by None = no_crowd
+crowd_by (Some t) = t.crowd
+
+-- the entry once its pause, if it is over, has ended
+abbrev pub ended : ℕ → KeptTube → KeptTube
+ended moment t = record t { pause = pause_after_timers moment t.pause }
+
+-- the records once the pauses that are over have ended
+abbrev pub records_ended : ℕ → List Named → List TubeRecord
+records_ended moment es = map (tube_after_timers moment) (map record_at es)
+
+-- whether the tube of an entry exists
+abbrev pub is_alive_with : List ℕ → KeptTube → Bool
+is_alive_with name t = is_tube_by (has_jobs t.tally) (has_seats t.crowd) name
+
+abbrev pub is_alive_at : Named → Bool
+is_alive_at e = is_alive_with e.0 e.1
+
+-- one more, if the tube exists
+abbrev pub with_alive : ℕ → List ℕ → KeptTube → ℕ
+with_alive count name t = if is_alive_with name t then raised count else count
+
+-- the name, if the tube exists
+abbrev pub name_if_alive : List ℕ → KeptTube → List (List ℕ)
+name_if_alive name t = if is_alive_with name t then name ∷ [] else []
+
+-- one name more, if the tube exists
+abbrev pub with_name_of : List (List ℕ) → Bor (List ℕ) × Bor KeptTube → List (List ℕ)
+with_name_of names e = names ++ name_if_alive e.0.now e.1.now
+
+-- whether the tube of this entry, if there is one, is gone
+abbrev pub is_gone_by : List ℕ → Option KeptTube → Bool
+is_gone_by name None = false
+is_gone_by name (Some t) = not (is_alive_with name t)
+
+-- without the entry of this name, where its tube is gone
+abbrev pub without_gone : List ℕ → List Named → List Named
+without_gone name es = if is_gone_by name (lookup (is_named_at name) es) then remove_entry (is_named_at name) es else es
+
+-- not before this name, if there is one
+abbrev pub is_from : Option (List ℕ) → Named → Bool
+is_from None e = true
+is_from (Some name) e = not (is_gt (slice_cmp nat_cmp name e.0))
+
+-- an entry from there on whose tube is gone
+abbrev pub is_gone_from : Option (List ℕ) → Named → Bool
+is_gone_from from e = is_from from e && not (is_alive_at e)

@@ -1,0 +1,100 @@
+-- What is known without a search: that it is so, and how it follows a change.
+use Rattle.std.specs.Prelude.{ℕ, Bool, if◌then◌else◌, ◌≡◌, List, [], Option, None}
+use Rattle.bq_job.specs.declared.job.Job.{Job}
+use Rattle.bq_job.specs.machine.Machine.{SeatRecord, TubeRecord}
+use Rattle.bq_jobs.specs.declared.row.Moved.{Moved}
+use Rattle.bq_state.specs.Clients.{clients_of, clients_with, clients_without}
+use Rattle.bq_state.specs.Crowds.{AreCrowds}
+use Rattle.bq_state.specs.Dues.{first_pause_end, pause_end_after, pause_end_left}
+use Rattle.bq_state.specs.FirstEnds.{AreTimeouts, end_after}
+use Rattle.bq_state.specs.KeptTubes.{KeptTubes}
+use Rattle.bq_state.specs.Leaving.{loss_of}
+use Rattle.bq_state.specs.Losses.{AreAlive, with_lost, with_regained}
+use Rattle.bq_state.specs.Stirs.{AreKnown, stirred_by_change, stirred_by_seat, with_stirred}
+use Rattle.bq_state.specs.Tallies.{AreCounted, tally_moved, tally_of, tally_with, tally_without}
+use Rattle.bq_state.specs.TubeEntries.{counted}
+use Rattle.bq_state.specs.Warnings.{AreWarned, warned_by_seat, with_holder_of}
+use Rattle.bq_state.specs.declared.tubes.entry.Share.{Share}
+use Rattle.bq_state.specs.declared.known.hints.FirstEnd.TheVariants as ends
+use Rattle.bq_state.specs.declared.known.Known.{Known}
+use Rattle.bq_state.specs.declared.known.hints.Loss.TheVariants as losses
+use Rattle.bq_state.specs.declared.seats.SeatChange.{SeatChange}
+use Rattle.bq_state.specs.declared.known.hints.Stir.TheVariants as stirs
+use Rattle.bq_state.specs.declared.tubes.entry.TubeChange.{TubeChange}
+use Rattle.bq_state.specs.declared.known.hints.Warns.TheVariants as holders
+
+-- What is known is so of these jobs, seats and tubes, and what is counted at the tubes is what there is.
+pub record IsSo (k : Known) (jobs : List Job) (seats : List SeatRecord) (tubes : KeptTubes) : Type 0 where
+  pub counts : AreCounted k.tally tubes.tallies jobs tubes.entries
+  pub clients : k.clients ≡ clients_of seats
+  pub crowds : AreCrowds tubes.crowds seats tubes.entries
+  -- which entries may be of tubes that are gone
+  pub alive : AreAlive k.loss jobs seats tubes.entries
+  -- which jobs waiting clients may have
+  pub stirs : AreKnown k.stir jobs seats (counted tubes.entries)
+  -- which waiting clients may hold a job
+  pub warnings : AreWarned k.warns jobs seats
+  -- when the first wait ends by its timeout
+  pub timeouts : AreTimeouts k.first_end seats
+  -- when the first pause ends
+  pub pauses : k.pause_end ≡ first_pause_end tubes.entries
+
+-- where there is nothing to know
+abbrev pub nothing_known : Known
+nothing_known = record {
+  tally = tally_of [];
+  clients = clients_of [];
+  loss = losses.Nothing;
+  stir = stirs.Nothing;
+  warns = holders.Nobody;
+  first_end = ends.Known None;
+  pause_end = None;
+}
+
+-- with one job more, that is wanted or not, and whose holder waits or not
+abbrev pub with_job : Job → Bool → Bool → Known → Known
+with_job j wanted waits k = record k {
+  tally = tally_with j k.tally;
+  loss = with_regained j.tube k.loss;
+  stir = if wanted then with_stirred j.tube k.stir else k.stir;
+  warns = if waits then with_holder_of j.state k.warns else k.warns;
+}
+
+-- with one less
+abbrev pub without_job : Job → Known → Known
+without_job j k = record k { tally = tally_without j k.tally; loss = with_lost j.tube k.loss }
+
+-- and with a job changed
+abbrev pub with_moved : Moved → Bool → Bool → Known → Known
+with_moved m wanted waits k = record k {
+  tally = tally_moved m k.tally;
+  stir = if wanted then with_stirred m.tube k.stir else k.stir;
+  warns = if waits then with_holder_of m.to.state k.warns else k.warns;
+}
+
+-- once a seat, if there is one, is about to be changed
+abbrev pub with_left : Option SeatRecord → SeatChange → Share → KeptTubes → Known → Known
+with_left o what touched tubes k = record k {
+  clients = clients_without o k.clients;
+  first_end = end_after what o k.first_end;
+  loss = loss_of touched tubes o k.loss;
+}
+
+-- and once it was
+abbrev pub with_joined : Option SeatRecord → ℕ → SeatChange → Known → Known
+with_joined o number what k = record k {
+  clients = clients_with o k.clients;
+  stir = stirred_by_seat number what k.stir;
+  warns = warned_by_seat number what k.warns;
+}
+
+-- once a tube was changed, and these are the entries
+abbrev pub with_tube_changed : List ℕ → TubeChange → List TubeRecord → Known → Known
+with_tube_changed name what entries k = record k {
+  stir = stirred_by_change name what k.stir;
+  pause_end = pause_end_after entries what k.pause_end;
+}
+
+-- once tubes that are gone were forgotten, and these are left of so many
+abbrev pub with_forgotten : ℕ → List TubeRecord → Known → Known
+with_forgotten were entries k = record k { loss = losses.Nothing; pause_end = pause_end_left entries were k.pause_end }

@@ -1,0 +1,89 @@
+-- The ends of the pauses of tubes, in their order.
+use Rattle.std.specs.Prelude.{ℕ, Bool, false, ◌≡◌, ◌==◌, ◌&&◌, ◌+◌, ◌≤◌, nat_le, if◌then◌else◌}
+use Rattle.std.specs.Prelude.{List, [], ◌∷◌, Option, Some, None, count_by, find, is_some, length, map}
+use Rattle.std.specs.declared.cmp.Ordering.{Ordering}
+use Rattle.std.specs.BTreeMap.{insert_entry, is_at}
+use Rattle.std.specs.Cmp.{IsTotalOrder, nat_cmp_total, on_total, then_total}
+use Rattle.std.specs.Cmp.Lexicographic.{nat_list_cmp_total, slice_cmp}
+use Rattle.std.specs.List.{list_any}
+use Rattle.std.specs.Map.{lookup, remove_entry}
+use Rattle.std.specs.Ordering.{nat_cmp, on, then_cmp}
+use Rattle.bq_index.specs.Catalog.{CatalogSeen}
+use Rattle.bq_job.specs.machine.Machine.{Pause, TubeRecord}
+use Rattle.bq_job.specs.reading.TubeName.{is_same_name}
+use Rattle.bq_state.specs.KeptTubes.{Named, record_at}
+use Rattle.bq_state.specs.declared.tubes.pauses.PauseEnd.{PauseEnd}
+
+-- by moment, and at one moment by name
+abbrev pub end_cmp : PauseEnd → PauseEnd → Ordering
+end_cmp = then_cmp (on (λ e. e.until) nat_cmp) (on (λ e. e.name) (slice_cmp nat_cmp))
+
+pub end_total : IsTotalOrder end_cmp
+end_total = then_total (on_total (λ e. e.until) nat_cmp_total) (on_total (λ e. e.name) nat_list_cmp_total)
+
+-- ends as a shelf has them
+abbrev pub Ends : Type 0
+Ends = List (PauseEnd × Unit {0})
+
+abbrev pub found_end : PauseEnd → Ends → Option (Unit {0})
+found_end e ends = lookup (is_at (end_cmp e)) ends
+
+abbrev pub has_end : PauseEnd → Ends → Bool
+has_end e ends = is_some (found_end e ends)
+
+-- the first one
+abbrev pub first_end : Ends → Option PauseEnd
+first_end [] = None
+first_end (e ∷ ends) = Some e.0
+
+-- if it has come
+abbrev pub if_over : ℕ → Option PauseEnd → Option PauseEnd
+if_over moment None = None
+if_over moment (Some e) = if nat_le e.until moment then Some e else None
+
+-- with an end more, if there is one, and without it
+abbrev pub with_end : Option PauseEnd → Ends → Ends
+with_end None ends = ends
+with_end (Some e) ends = insert_entry end_cmp ends e tt
+
+abbrev pub without_end : Option PauseEnd → Ends → Ends
+without_end None ends = ends
+without_end (Some e) ends = remove_entry (is_at (end_cmp e)) ends
+
+-- the end of the pause of the tube of this name, if it has one
+abbrev pub end_of : List ℕ → Option Pause → Option PauseEnd
+end_of name None = None
+end_of name (Some pause) = Some (record { until = pause.until; name = name })
+
+abbrev pub pause_in : Option TubeRecord → Option Pause
+pause_in None = None
+pause_in (Some t) = t.pause
+
+-- the pause of the tube of this name, by its entry
+abbrev pub pause_at : List ℕ → List TubeRecord → Option Pause
+pause_at name entries = pause_in (find (λ t. is_same_name name t.name) entries)
+
+-- the pause, if there is one, ends then
+abbrev pub ends_at : ℕ → Option Pause → Bool
+ends_at moment None = false
+ends_at moment (Some pause) = pause.until == moment
+
+abbrev pub is_end_of : PauseEnd → TubeRecord → Bool
+is_end_of e t = is_same_name e.name t.name && ends_at e.until t.pause
+
+-- it is the end of the pause of one of these tubes
+abbrev pub is_end_in : PauseEnd → List TubeRecord → Bool
+is_end_in e entries = list_any (is_end_of e) entries
+
+abbrev pub is_paused : TubeRecord → Bool
+is_paused t = is_some t.pause
+
+-- how many of the tubes of these entries are paused
+abbrev pub paused_count : List Named → ℕ
+paused_count es = count_by is_paused (map record_at es)
+
+-- The ends of the pauses of these tubes are kept, and no others, and there is a box for that of each tube.
+pub record AreEnds (entries : List TubeRecord) (ends : CatalogSeen PauseEnd (Unit {0})) : Type 0 where
+  pub known : (e : PauseEnd) → has_end e ends.entries ≡ is_end_in e entries
+  pub counted : length ends.entries ≡ count_by is_paused entries
+  pub roomy : length entries ≤ length ends.entries + ends.spare

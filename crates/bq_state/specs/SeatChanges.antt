@@ -1,0 +1,52 @@
+-- What happens at seats, one by one.
+use Rattle.std.specs.Prelude.{ℕ, Bool, true, ◌≡◌, ◌==◌, ◌++◌, ◌∷◌, [], not, if◌then◌else◌, List, Some, filter, length, map, set, slice_get}
+use Rattle.std.specs.List.{list_any}
+use Rattle.bq_job.specs.machine.Asked.{with_end}
+use Rattle.bq_job.specs.machine.Changes.{without_wait}
+use Rattle.bq_job.specs.machine.JobCommands.{waiting_from}
+use Rattle.bq_job.specs.machine.Machine.{SeatRecord, TubeRecord, empty_seat, numbers}
+use Rattle.bq_job.specs.machine.TubeCommands.{using}
+use Rattle.bq_job.specs.reading.TubeName.{is_same_name}
+use Rattle.bq_state.specs.TubeEntries.{has_entry}
+use Rattle.bq_state.specs.declared.seats.SeatChange.{SeatChange}
+use Rattle.bq_state.specs.declared.seats.SeatChange.TheVariants.{StopWaiting, Wait, Connect, Clear, End, Use}
+
+-- each seat stands at the place of its number
+abbrev pub AreNumbered : List SeatRecord → Type 0
+AreNumbered seats = map (λ s. s.number) seats ≡ numbers 0 (length seats)
+
+abbrev pub seat_changed : SeatChange → SeatRecord → SeatRecord
+seat_changed StopWaiting s = without_wait s
+seat_changed (Wait ticket until) s = waiting_from ticket until s
+seat_changed Connect s = record (empty_seat s.number) { connected = true }
+seat_changed Clear s = empty_seat s.number
+seat_changed End s = with_end s
+seat_changed (Use tube) s = using tube s
+
+abbrev pub seat_changed_at : ℕ → SeatChange → SeatRecord → SeatRecord
+seat_changed_at number change s = if s.number == number then seat_changed change s else s
+
+-- the tube that the seat comes to use has an entry
+abbrev pub has_tube_of : SeatChange → List TubeRecord → Bool
+has_tube_of (Use tube) entries = has_entry tube entries
+has_tube_of _ entries = true
+
+-- the tubes that the client watches, with one more
+abbrev pub more_watched : List ℕ → SeatRecord → List (List ℕ)
+more_watched name s = s.watched ++ name ∷ []
+
+-- the tubes that it watches, without this one
+abbrev pub fewer_watched : List ℕ → SeatRecord → List (List ℕ)
+fewer_watched name s = filter (λ other. not (is_same_name name other)) s.watched
+
+-- it watches another tube than this one
+abbrev pub watches_other : List ℕ → SeatRecord → Bool
+watches_other name s = list_any (λ other. not (is_same_name name other)) s.watched
+
+-- of the record at place k this is so
+abbrev pub AtPlace : List SeatRecord → ℕ → (SeatRecord → Type 0) → Type 0
+AtPlace seats k P = (s : SeatRecord) → slice_get seats k ≡ Some s → P s
+
+-- the record at place k, if there is one, is changed so
+abbrev pub IsSetAt : List SeatRecord → ℕ → (SeatRecord → SeatRecord) → List SeatRecord → Type 0
+IsSetAt seats k f later = AtPlace seats k (λ s. later ≡ set seats k (f s))

@@ -1,0 +1,18 @@
+-- Whether a seat is free, and whether its client can ask.
+use Rattle.std.specs.Prelude.{Bool, false, ◌&&◌, not, Option, Some, None}
+use Rattle.bq_job.specs.machine.Changes.{is_waiting}
+use Rattle.bq_job.specs.machine.Machine.{SeatRecord}
+
+-- nobody is connected there
+abbrev pub is_free : Option SeatRecord → Bool
+is_free None = false
+is_free (Some s) = not s.connected
+
+abbrev pub is_connected : Option SeatRecord → Bool
+is_connected None = false
+is_connected (Some s) = s.connected
+
+-- the client there can ask
+abbrev pub is_asking : Option SeatRecord → Bool
+is_asking None = false
+is_asking (Some s) = s.connected && not (is_waiting s)

@@ -1,0 +1,50 @@
+-- What a core's state has at each moment.
+use Rattle.std.specs.Prelude.{ℕ, Bool, false, ◌≡◌, ◌≤◌, List, [], ◌∷◌}
+use Rattle.std.specs.Coded.{×_prop, Unit-prop, le_prop}
+use Rattle.std.proofs.Props.{props}
+use Rattle.bq_job.specs.declared.job.Job.{Job}
+use Rattle.bq_job.specs.beside.Lawful.{AreIdsWithin}
+use Rattle.bq_job.specs.machine.JobCommands.{last_id}
+use Rattle.bq_job.specs.machine.Machine.{SeatRecord, TubeRecord}
+use Rattle.bq_state.specs.FirstEnds.{AreTimeouts}
+use Rattle.bq_state.specs.KeptTubes.{KeptTubes}
+use Rattle.bq_state.specs.Knowledge.{IsSo}
+use Rattle.bq_state.specs.WaitingTurns.{AreInTurn, WaitingTurns}
+use Rattle.bq_state.specs.SeatChanges.{AreNumbered}
+use Rattle.bq_state.specs.TubeEntries.{AreEntries, AreInOrder}
+use Rattle.bq_state.specs.declared.known.hints.FirstEnd.{FirstEnd}
+use Rattle.bq_state.specs.declared.known.hints.FirstEnd.TheVariants as ends
+use Rattle.bq_state.specs.declared.known.Known.{Known}
+
+-- The fields of a state agree with one another: these jobs, seats and tubes with what is kept beside them.
+pub record Soundness (jobs : List Job) (seats : List SeatRecord) (tubes : KeptTubes) (turns : WaitingTurns) (k : Known)
+    (next_id : ℕ) (draining : Bool) : Type 0 where
+  pub entries : AreEntries jobs seats tubes.entries
+  -- Seats are numbered in order.
+  pub numbered : AreNumbered seats
+  -- Before the ids run out the machine drains.
+  pub next : draining ≡ false → next_id ≤ last_id
+  -- Each id was given once.
+  pub ids : AreIdsWithin 1 jobs next_id
+  -- Those that wait stand in their turn.
+  pub waiting : AreInTurn turns seats
+  -- What is known without a search is so.
+  pub known : IsSo k jobs seats tubes
+
+AreInOrder-prop : (entries : List TubeRecord) → IsProp (AreInOrder entries)
+AreInOrder-prop [] = Unit-prop
+AreInOrder-prop (t ∷ entries) = ×_prop (Prim.hlevel props) (AreInOrder-prop entries)
+
+AreIdsWithin-prop : (low : ℕ) (jobs : List Job) (next : ℕ) → IsProp (AreIdsWithin low jobs next)
+AreIdsWithin-prop low [] next = le_prop
+AreIdsWithin-prop low (j ∷ jobs) next = ×_prop le_prop (AreIdsWithin-prop _ jobs next)
+
+AreTimeouts-prop : (first_end : FirstEnd) (seats : List SeatRecord) → IsProp (AreTimeouts first_end seats)
+AreTimeouts-prop ends.Unknown seats = Unit-prop
+AreTimeouts-prop (ends.Known first) seats = Prim.hlevel props
+
+-- There is one proof of it at most, so a field can hold it.
+pub Soundness-prop : (jobs : List Job) (seats : List SeatRecord) (tubes : KeptTubes) (turns : WaitingTurns) (k : Known)
+    → (next_id : ℕ) (draining : Bool)
+    → IsProp (Soundness jobs seats tubes turns k next_id draining)
+Soundness-prop jobs seats tubes turns k next_id draining = Prim.hlevel (props, AreInOrder-prop, AreIdsWithin-prop, AreTimeouts-prop)

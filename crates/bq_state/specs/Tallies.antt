@@ -1,0 +1,118 @@
+-- How many of the jobs are in each state.
+use Rattle.std.specs.Prelude.{ℕ, Bool, true, false, ◌≡◌, ◌-◌, ◌&&◌, ◌||◌, nat_lt, if◌then◌else◌, List, [], ◌∷◌, count_by, filter, map}
+use Rattle.std.specs.List.{insert, prefix_len}
+use Rattle.bq_job.specs.declared.job.Job.{Job}
+use Rattle.bq_job.specs.machine.Changes.{is_ready, is_ready_state}
+use Rattle.bq_job.specs.machine.JobStates.{is_buried, is_delayed, is_reserved}
+use Rattle.bq_job.specs.machine.Limits.{raised}
+use Rattle.bq_job.specs.machine.Machine.{TubeRecord}
+use Rattle.bq_job.specs.machine.Statistics.{is_urgent}
+use Rattle.bq_job.specs.reading.TubeName.{is_same_name}
+use Rattle.bq_job.specs.machine.Tubes.{is_name_before}
+use Rattle.bq_jobs.specs.declared.row.Moved.{Moved}
+use Rattle.bq_jobs.specs.declared.row.Standing.{Standing}
+use Rattle.bq_state.specs.TubeEntries.{has_entry}
+use Rattle.bq_state.specs.declared.known.Tally.{Tally}
+
+abbrev pub tally_of : List Job → Tally
+tally_of jobs = record {
+  urgent = count_by is_urgent jobs;
+  ready = count_by is_ready jobs;
+  reserved = count_by (λ j. is_reserved j.state) jobs;
+  delayed = count_by (λ j. is_delayed j.state) jobs;
+  buried = count_by (λ j. is_buried j.state) jobs;
+}
+
+-- one more, if it is counted
+abbrev pub count_with : Bool → ℕ → ℕ
+count_with true n = raised n
+count_with false n = n
+
+-- one less, if it was counted
+abbrev pub count_without : Bool → ℕ → ℕ
+count_without true n = n - 1
+count_without false n = n
+
+-- the counts with those of a job that stands so
+abbrev pub tally_entered : Standing → Tally → Tally
+tally_entered at t = record {
+  urgent = count_with (is_ready_state at.state && nat_lt at.pri 1024) t.urgent;
+  ready = count_with (is_ready_state at.state) t.ready;
+  reserved = count_with (is_reserved at.state) t.reserved;
+  delayed = count_with (is_delayed at.state) t.delayed;
+  buried = count_with (is_buried at.state) t.buried;
+}
+
+-- the counts without those of a job that stood so
+abbrev pub tally_left : Standing → Tally → Tally
+tally_left at t = record {
+  urgent = count_without (is_ready_state at.state && nat_lt at.pri 1024) t.urgent;
+  ready = count_without (is_ready_state at.state) t.ready;
+  reserved = count_without (is_reserved at.state) t.reserved;
+  delayed = count_without (is_delayed at.state) t.delayed;
+  buried = count_without (is_buried at.state) t.buried;
+}
+
+-- the counts once a job that stood so stands otherwise
+abbrev pub tally_moved : Moved → Tally → Tally
+tally_moved m t = tally_entered m.to (tally_left m.from t)
+
+-- the counts with those of a job
+abbrev pub tally_with : Job → Tally → Tally
+tally_with j t = record {
+  urgent = count_with (is_urgent j) t.urgent;
+  ready = count_with (is_ready j) t.ready;
+  reserved = count_with (is_reserved j.state) t.reserved;
+  delayed = count_with (is_delayed j.state) t.delayed;
+  buried = count_with (is_buried j.state) t.buried;
+}
+
+-- the counts without those of a job
+abbrev pub tally_without : Job → Tally → Tally
+tally_without j t = record {
+  urgent = count_without (is_urgent j) t.urgent;
+  ready = count_without (is_ready j) t.ready;
+  reserved = count_without (is_reserved j.state) t.reserved;
+  delayed = count_without (is_delayed j.state) t.delayed;
+  buried = count_without (is_buried j.state) t.buried;
+}
+
+-- the counts of the jobs of each tube that has an entry, in the order of the entries
+abbrev pub tally_in : List Job → TubeRecord → Tally
+tally_in jobs t = tally_of (filter (λ j. is_same_name t.name j.tube) jobs)
+
+abbrev pub tallies_of : List Job → List TubeRecord → List Tally
+tallies_of jobs entries = map (tally_in jobs) entries
+
+-- the counts, changed by f at the first entry of this name
+abbrev pub tallies_at : List ℕ → (Tally → Tally) → List TubeRecord → List Tally → List Tally
+tallies_at name f [] tallies = tallies
+tallies_at name f (t ∷ entries) [] = []
+tallies_at name f (t ∷ entries) (tally ∷ tallies) =
+    if is_same_name name t.name then f tally ∷ tallies else tally ∷ tallies_at name f entries tallies
+
+abbrev pub tallies_with : Job → List TubeRecord → List Tally → List Tally
+tallies_with j entries tallies = tallies_at j.tube (tally_with j) entries tallies
+
+abbrev pub tallies_without : Job → List TubeRecord → List Tally → List Tally
+tallies_without j entries tallies = tallies_at j.tube (tally_without j) entries tallies
+
+-- the counts at the first entry of this name, if there is one
+abbrev pub tally_at : List ℕ → List TubeRecord → List Tally → Tally
+tally_at name [] tallies = tally_of []
+tally_at name (t ∷ entries) [] = tally_of []
+tally_at name (t ∷ entries) (tally ∷ tallies) = if is_same_name name t.name then tally else tally_at name entries tallies
+
+-- the counts of all jobs, and those of each tube that has an entry
+pub record AreCounted (tally : Tally) (tallies : List Tally) (jobs : List Job) (entries : List TubeRecord) : Type 0 where
+  pub whole : tally ≡ tally_of jobs
+  pub each : tallies ≡ tallies_of jobs entries
+
+-- the counts with those of a tube that gets an entry
+abbrev pub tallies_provided : List ℕ → List TubeRecord → List Tally → List Tally
+tallies_provided name entries tallies =
+    if has_entry name entries then tallies else insert tallies (prefix_len (λ t. is_name_before t.name name) entries) (tally_of [])
+
+-- whether a job is counted
+abbrev pub has_jobs : Tally → Bool
+has_jobs t = nat_lt 0 t.ready || (nat_lt 0 t.reserved || (nat_lt 0 t.delayed || nat_lt 0 t.buried))

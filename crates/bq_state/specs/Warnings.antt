@@ -1,0 +1,72 @@
+-- Which clients wait while they hold a job: they are told when its time to run ends soon.
+use Rattle.std.specs.Prelude.{ℕ, Bool, true, false, ◌≡◌, ◌==◌, ◌&&◌, ◌||◌, not, if◌then◌else◌, List, Option, Some, None}
+use Rattle.std.specs.List.{AllByRecursion, list_any}
+use Rattle.bq_job.specs.declared.job.Job.{Job}
+use Rattle.bq_job.specs.declared.job.JobState.{JobState}
+use Rattle.bq_job.specs.declared.job.JobState.TheVariants as states
+use Rattle.bq_job.specs.machine.Changes.{is_held_by, is_waiting, seat_with}
+use Rattle.bq_job.specs.machine.Machine.{SeatRecord}
+use Rattle.bq_state.specs.declared.seats.SeatChange.{SeatChange}
+use Rattle.bq_state.specs.declared.seats.SeatChange.TheVariants.{Clear, StopWaiting, Wait}
+use Rattle.bq_state.specs.declared.known.hints.Warns.{Warns}
+use Rattle.bq_state.specs.declared.known.hints.Warns.TheVariants.{Nobody, Client, Any}
+
+-- the client at this seat may hold a job while it waits
+abbrev pub may_warn : Warns → ℕ → Bool
+may_warn Nobody seat = false
+may_warn (Client holder) seat = seat == holder
+may_warn Any seat = true
+
+-- the client at this seat too
+abbrev pub with_holder : ℕ → Warns → Warns
+with_holder seat Nobody = Client seat
+with_holder seat (Client holder) = if holder == seat then Client seat else Any
+with_holder seat Any = Any
+
+-- who holds a job in this state too
+abbrev pub with_holder_of : JobState → Warns → Warns
+with_holder_of (states.Reserved seat deadline) warns = with_holder seat warns
+with_holder_of _ warns = warns
+
+-- the client at this seat no longer
+abbrev pub without_holder : ℕ → Warns → Warns
+without_holder seat Nobody = Nobody
+without_holder seat (Client holder) = if holder == seat then Nobody else Client holder
+without_holder seat Any = Any
+
+-- Of the changes of a seat two end a wait.
+abbrev pub warned_by_seat : ℕ → SeatChange → Warns → Warns
+warned_by_seat seat StopWaiting warns = without_holder seat warns
+warned_by_seat seat Clear warns = without_holder seat warns
+warned_by_seat seat _ warns = warns
+
+-- Where no client is to be told, none holds a job.
+abbrev pub warned_if_due : Bool → Warns → Warns
+warned_if_due true warns = warns
+warned_if_due false warns = Nobody
+
+-- the client at the seat, if there is one, waits
+abbrev pub is_waiting_there : Option SeatRecord → Bool
+is_waiting_there None = false
+is_waiting_there (Some s) = is_waiting s
+
+-- who holds a job in this state waits
+abbrev pub has_waiting_holder : JobState → List SeatRecord → Bool
+has_waiting_holder (states.Reserved seat deadline) seats = is_waiting_there (seat_with seat seats)
+has_waiting_holder _ seats = false
+
+-- the client waits, and holds the job
+abbrev pub holds_in_wait : Job → SeatRecord → Bool
+holds_in_wait j s = is_waiting s && is_held_by s.number j
+
+abbrev pub IsWarned : Warns → Job → SeatRecord → Type 0
+IsWarned warns j s = holds_in_wait j s ≡ true → may_warn warns s.number ≡ true
+
+-- Where a client holds a job while it waits, that is known.
+abbrev pub AreWarned : Warns → List Job → List SeatRecord → Type 0
+AreWarned warns jobs seats = AllByRecursion (λ j. AllByRecursion (IsWarned warns j) seats) jobs
+
+-- of who comes to wait it is known where it holds a job
+abbrev pub may_hold : SeatChange → ℕ → Warns → List Job → Bool
+may_hold (Wait ticket until) seat warns jobs = may_warn warns seat || not (list_any (is_held_by seat) jobs)
+may_hold _ seat warns jobs = true

@@ -1,0 +1,326 @@
+//! How what a core holds is changed.
+ghost use Rattle.std.specs.Prelude.{◌≡◌, ◌&&◌, ◌<◌, ◌≤◌, OnErr, [], None, true, false, length, map, nat_lt, if◌then◌else◌, IfSome, IfOk};
+ghost use Rattle.std.specs.List.{list_any};
+ghost use Rattle.bq_job.specs.beside.NameOrder.{is_in_order};
+ghost use Rattle.bq_job.specs.machine.Changes.{is_held_by, is_ready_state, job_with, seat_with, with_job, with_seat};
+ghost use Rattle.bq_job.specs.machine.Machine.{empty_seat, new_machine, numbers};
+ghost use Rattle.bq_job.specs.reading.TubeName.{is_same_name};
+ghost use Rattle.bq_job.specs.machine.Timers.{at_moment};
+ghost use Rattle.bq_job.specs.machine.TubeOrder.{tubes};
+ghost use Rattle.bq_job.specs.machine.Tubes.{forgetting, watches, with_tube};
+ghost use Rattle.bq_jobs.specs.Kept.{ComparesAtMost, with_added, without};
+ghost use Rattle.bq_jobs.specs.Numbering.{is_known};
+ghost use Rattle.bq_state.specs.Asking.{Asks};
+ghost use Rattle.bq_state.specs.Crowds.{may_wait};
+ghost use Rattle.bq_state.specs.JobChanges.{changed};
+ghost use Rattle.bq_state.specs.KeptTubes.{first_tubes};
+ghost use Rattle.bq_state.specs.Offers.{is_waited_at};
+ghost use Rattle.bq_state.specs.CoreParts.{AtSeat, Watches};
+ghost use Rattle.bq_state.specs.SeatChanges.{seat_changed, has_tube_of, more_watched, fewer_watched, watches_other};
+ghost use Rattle.bq_state.specs.Keeping.{Looks};
+ghost use Rattle.bq_state.specs.CoreParts.{held, machine_of};
+ghost use Rattle.bq_state.specs.Names.{names_of};
+ghost use Rattle.bq_state.specs.TubeEntries.{has_entry, is_tube_of, tube_changed};
+ghost use Rattle.bq_state.specs.Warnings.{has_waiting_holder, may_hold, with_holder};
+
+use crate::core_parts::CoreParts;
+use crate::job_store::JobChange;
+use crate::known::{Clients, FirstEnd, Known, Loss};
+use crate::name_lists::Names;
+use crate::seats::{SeatChange, SeatRecord};
+use crate::tubes::{Moving, TubeChange, Tubes};
+use crate::waiting::Waiting;
+use crate::{job_store, seats, shares};
+use bq_job::{Job, JobId, JobState, Moment, NoMemory, Seat, TubeName};
+use bq_jobs::{Jobs, Moved};
+use bq_steps::Config;
+use std::alloc::Global;
+
+/// Makes room for a job of this tube, where there is none.
+pub fn make_room(state: &mut CoreParts, alloc: Global, tube: &TubeName) -> Result<(), NoMemory>
+    ensures room { IfOk result (λ _. 0 < state.new.jobs.room) }
+    ensures known { IfOk result (λ _. is_known tube.now state.new.jobs ≡ true) }
+    ensures after { machine_of state.new ≡ machine_of state.old }
+    ensures seats { state.new.seats ≡ state.old.seats }
+    ensures tubes { state.new.tubes ≡ state.old.tubes }
+    ensures asks { Asks 0 state.old.jobs state.new.jobs }
+{
+    state.jobs.reserve_one(alloc)?;
+    state.jobs.know(alloc, tube)
+}
+
+/// Puts a job in, where there is room for it. Its id is one that was given, and its tube has an
+/// entry.
+pub fn add(state: &mut CoreParts, job: Job)
+    requires room { 0 < state.old.jobs.room }
+    requires given { (1 ≤ job.id) × (job.id < state.old.next_id) }
+    requires free { job_with job.id (machine_of state.old).jobs ≡ None }
+    requires known { is_known job.tube state.old.jobs ≡ true }
+    requires entry { has_entry job.tube state.old.tubes.entries ≡ true }
+    ensures after { machine_of state.new
+        ≡ record (machine_of state.old) { jobs = with_added job (machine_of state.old).jobs } }
+    ensures asks { ComparesAtMost 4 state.old.jobs state.new.jobs }
+{
+    let is_wanted = state.is_wanted(&job);
+    let waits = state.has_waiting_holder(&job);
+    // There are fewer jobs than ids, and no count comes to its end.
+    let _ids = state.next_id;
+    state.known.add_job(&job, is_wanted, waits);
+    state.tubes.add_job(&job);
+    state.jobs.add(job);
+}
+
+/// Takes the job of this id out, if there is one. Its room is kept, but for what nobody needs.
+pub fn take(state: &mut CoreParts, id: JobId) -> Option<Job>
+    ensures job { result ≡ job_with id (machine_of state.old).jobs }
+    ensures after { machine_of state.new
+        ≡ record (machine_of state.old) { jobs = without id (machine_of state.old).jobs } }
+    ensures id { IfSome result (λ job. job.id ≡ id) }
+    ensures gone { job_with id (machine_of state.new).jobs ≡ None }
+    ensures given { IfSome result (λ job. (1 ≤ job.id) × (job.id < state.new.next_id)) }
+    ensures room { IfSome result (λ job. 0 < state.new.jobs.room) }
+    ensures entry { IfSome result (λ job. has_entry job.tube state.new.tubes.entries ≡ true) }
+    ensures asks { ComparesAtMost 4 state.old.jobs state.new.jobs }
+{
+    let job = state.jobs.remove(id)?;
+    job_store::let_room_go(&mut state.jobs);
+    state.known.remove_job(&job);
+    state.tubes.remove_job(&job);
+    Some(job)
+}
+
+/// The jobs know a tube no longer where none is left in it.
+pub fn forget_last(state: &mut CoreParts, tube: &TubeName)
+    ensures gone { list_any (λ j. is_same_name tube.now j.tube) state.old.jobs.jobs ≡ false
+        → is_known tube.now state.new.jobs ≡ false }
+    ensures jobs { state.new.jobs ≡ record state.old.jobs { tubes = state.new.jobs.tubes } }
+    ensures after { machine_of state.new ≡ machine_of state.old }
+{
+    if !state.has_job_in(tube) {
+        state.jobs.forget(tube);
+    }
+}
+
+// Whether the job is ready now, and somebody waits at its tube, by the counts that are kept.
+fn counts_waiter_of(clients: &Clients, tubes: &Tubes, moved: &Moved) -> bool
+    ensures { result
+        ≡ (is_ready_state moved.now.to.state
+        && (nat_lt 0 clients.now.waiting && is_waited_at moved.now.tube tubes.now)) }
+{
+    matches!(moved.to.state, JobState::Ready) && tubes.has_waiter_at(clients, &moved.tube)
+}
+
+/// Changes the job of this id, if there is one.
+pub fn change_job(state: &mut CoreParts, id: JobId, what: &JobChange)
+    ensures after { machine_of state.new ≡ with_job id (changed what.now) (machine_of state.old) }
+    ensures asks { Asks 8 state.old.jobs state.new.jobs }
+{
+    let Some(moved) = state.jobs.change(id, what) else {
+        return;
+    };
+    let is_wanted = counts_waiter_of(&state.known.clients, &state.tubes, &moved);
+    let waits = seats::holder_waits(state.seats.as_slice(), moved.to.state);
+    // So many jobs there can be, and no count comes to its end.
+    let _jobs = state.jobs.len();
+    state.known.move_job(&moved, is_wanted, waits);
+    state.tubes.move_job(&moved);
+}
+
+/// Changes the seat of this number. A tube that it uses then has an entry already.
+pub fn change_seat(state: &mut CoreParts, seat: Seat, what: &SeatChange)
+    requires entry { has_tube_of what.now state.old.tubes.entries ≡ true }
+    requires waits { may_wait what.now (seat_with seat state.old.seats.items) ≡ true }
+    requires holds { may_hold what.now seat state.old.known.warns state.old.jobs.jobs ≡ true }
+    ensures after { machine_of state.new
+        ≡ with_seat seat (seat_changed what.now) (machine_of state.old) }
+    ensures jobs { state.new.jobs ≡ state.old.jobs }
+{
+    let touched = shares::touched(what);
+    let client = seats::find(state.seats.as_slice(), seat);
+    state.waiting.leave(client);
+    shares::recount(&mut state.tubes, client, Moving::Goes, touched);
+    state.known.leave(client, what, touched, &state.tubes);
+    seats::change_at(&mut state.seats, seat, what);
+    let client = seats::find(state.seats.as_slice(), seat);
+    state.waiting.join(client);
+    shares::recount(&mut state.tubes, client, Moving::Comes, touched);
+    // So many seats there can be, and no count comes to its end.
+    let _seats = state.seats.len();
+    state.known.join(client, seat, what);
+}
+
+/// Takes down whether the client at the seat, which is about to wait, holds a job.
+pub fn note_leases(state: &mut CoreParts, seat: Seat)
+    ensures known { state.new.known.warns
+        ≡ (if list_any (is_held_by seat) state.old.jobs.jobs then with_holder seat state.old.known.warns else state.old.known.warns) }
+    ensures tickets { state.new.tickets ≡ state.old.tickets }
+    ensures seats { state.new.seats ≡ state.old.seats }
+    ensures tubes { state.new.tubes ≡ state.old.tubes }
+    ensures after { machine_of state.new ≡ machine_of state.old }
+    ensures asks { Asks 1 state.old.jobs state.new.jobs }
+{
+    let holds = job_store::holds_some(&mut state.jobs, seat);
+    state.known.warns.warn_if(seat, holds);
+}
+
+/// Looks for when the first wait of a client is over by its timeout, where that isn't known.
+pub fn find_first_end(state: &mut CoreParts)
+    ensures { held state.new
+        ≡ record (held state.old) { known = record state.old.known { first_end = state.new.known.first_end } } }
+{
+    if let FirstEnd::Unknown = &state.known.first_end {
+        state.known.first_end = FirstEnd::find(state.seats.as_slice(), state.waiting.as_slice());
+    }
+}
+
+/// Changes what is kept of a tube that has an entry.
+pub fn change_tube(state: &mut CoreParts, tube: &TubeName, what: TubeChange)
+    requires entry { has_entry tube.now state.old.tubes.entries ≡ true }
+    ensures after { machine_of state.new
+        ≡ with_tube tube.now (tube_changed what) (machine_of state.old) }
+    ensures jobs { state.new.jobs ≡ state.old.jobs }
+{
+    state.tubes.change(tube, what);
+    state.known.change_tube(tube, what, &state.tubes);
+}
+
+/// Sees to it that a tube has an entry. The growth that this needs comes before any change.
+pub fn provide_tube(state: &mut CoreParts, alloc: Global, tube: &TubeName) -> Result<(), NoMemory>
+    ensures after { machine_of state.new ≡ machine_of state.old }
+    ensures entry { IfOk result (λ _. has_entry tube.now state.new.tubes.entries ≡ true) }
+    ensures seats { state.new.seats ≡ state.old.seats }
+    ensures jobs { state.new.jobs ≡ state.old.jobs }
+{
+    match state.tubes.provide(alloc, tube) {
+        Ok(is_new) => {
+            state.known.loss.lose_if(tube, is_new);
+            Ok(())
+        }
+        Err(fault) => Err(fault),
+    }
+}
+
+/// The client at the seat watches one more tube. The growths that this needs come before any
+/// change. Tells how many it watches then.
+pub fn watch_tube(
+    state: &mut CoreParts,
+    alloc: Global,
+    seat: Seat,
+    tube: &TubeName,
+) -> Result<u64, NoMemory>
+    requires fresh { AtSeat seat state.old (λ s. watches tube.now s ≡ false) }
+    ensures count { IfOk result
+        (λ n. AtSeat seat state.old (λ s. n ≡ length (more_watched tube.now s))) }
+    ensures watched { IfOk result (λ _. Watches seat (more_watched tube.now) state.old state.new) }
+    ensures same { OnErr result (machine_of state.new ≡ machine_of state.old) }
+    ensures jobs { state.new.jobs ≡ state.old.jobs }
+{
+    provide_tube(state, alloc, tube)?;
+    if usize::from(seat) >= state.seats.len() {
+        return Ok(0);
+    }
+    let share = shares::of_watcher(&state.seats[usize::from(seat)]);
+    match seats::watch(&mut state.seats, alloc, seat, tube) {
+        Ok(count) => {
+            state.tubes.recount(tube, Moving::Comes, share);
+            state.known.stir.stir_all_if(share.waiting);
+            Ok(count)
+        }
+        Err(fault) => Err(fault),
+    }
+}
+
+/// The client at the seat watches a tube no longer, where another one is still watched. Tells how
+/// many it watches then.
+pub fn ignore_tube(state: &mut CoreParts, seat: Seat, tube: &TubeName) -> u64
+    requires other { AtSeat seat state.old (λ s. watches_other tube.now s ≡ true) }
+    ensures count { AtSeat seat state.old (λ s. result ≡ length (fewer_watched tube.now s)) }
+    ensures after { Watches seat (fewer_watched tube.now) state.old state.new }
+    ensures jobs { state.new.jobs ≡ state.old.jobs }
+{
+    if usize::from(seat) < state.seats.len() {
+        let share = shares::at(&state.seats[usize::from(seat)], tube);
+        state.tubes.recount(tube, Moving::Goes, share);
+        state.known.loss.lose(tube);
+        seats::ignore(&mut state.seats, seat, tube)
+    } else {
+        0
+    }
+}
+
+/// Whether the tube exists.
+#[tactic(auto, using(crate::proofs::CrowdPlaces::tube_there))]
+pub fn is_tube(state: &CoreParts, tube: &TubeName) -> bool
+    ensures { result
+        ≡ is_tube_of (machine_of state.now).jobs (machine_of state.now).seats tube.now }
+{
+    state.tubes.is_tube(tube)
+}
+
+/// How many tubes exist: so many as there are entries, where none may be gone.
+pub fn tube_count(state: &CoreParts) -> u64
+    ensures { result ≡ length (tubes (machine_of state.now)) }
+{
+    match &state.known.loss {
+        Loss::Nothing => state.tubes.len() as u64,
+        _ => state.tubes.count_alive(),
+    }
+}
+
+/// The names of the tubes that exist, in byte order. Their memory is asked for before.
+pub fn tube_names<'a>(state: &'a CoreParts, alloc: Global) -> Result<Names<'a>, NoMemory>
+    ensures names { IfOk result (λ names. names_of names.items ≡ tubes (machine_of state.now)) }
+    ensures ordered { IfOk result (λ names. is_in_order (names_of names.items) ≡ true) }
+{
+    state.tubes.names_alive(alloc)
+}
+
+/// Drops the entries of tubes that are gone. It looks only at those that may be.
+pub fn forget_tubes(state: &mut CoreParts)
+    ensures after { machine_of state.new ≡ forgetting (machine_of state.old) }
+    ensures jobs { state.new.jobs ≡ state.old.jobs }
+{
+    let entries = state.tubes.len();
+    state.tubes.forget_lost(&state.known.loss);
+    state.known.forget_tubes(entries, &state.tubes);
+}
+
+/// A moment below the last one counts as that one.
+pub fn raise_moment(state: &mut CoreParts, at: Moment)
+    ensures after { machine_of state.new ≡ at_moment at (machine_of state.old) }
+    ensures jobs { state.new.jobs ≡ state.old.jobs }
+{
+    state.moment = state.moment.max(at);
+}
+
+/// No jobs, and nobody at the seats.
+pub fn new_parts(
+    config: Config,
+    seats: Vec<SeatRecord, Global>,
+    waiting: Waiting,
+    tubes: Tubes,
+) -> CoreParts
+    requires free { seats.items ≡ map empty_seat (numbers 0 config.seats) }
+    requires nobody { waiting.turns ≡ [] }
+    requires room { config.seats ≤ waiting.room }
+    requires first { tubes ≡ first_tubes }
+    ensures empty { machine_of result ≡ new_machine config }
+    ensures comparisons { result.jobs.comparisons ≡ 0 }
+{
+    CoreParts {
+        config,
+        jobs: Jobs::new(),
+        seats,
+        waiting,
+        tubes,
+        known: Known::nothing(),
+        moment: 0,
+        next_id: 1,
+        burials: 0,
+        tickets: 0,
+        draining: false,
+        timeouts: 0,
+        puts: 0,
+        connections: 0,
+    }
+}

@@ -1,0 +1,180 @@
+//! What a core holds.
+ghost use Rattle.bq_state.specs.Soundness.{Soundness, Soundness-prop};
+
+use crate::job_store::{JobKind, JobTest};
+use crate::known::{Known, Tally};
+use crate::seats::SeatRecord;
+use crate::tubes::{Crowd, Tubes};
+use crate::waiting::Waiting;
+use crate::{job_store, seats};
+use bq_job::{Body, Job, JobId, Moment, NoMemory, Seat, TubeName};
+use bq_jobs::Jobs;
+use bq_steps::Config;
+use std::alloc::Global;
+
+/// What a core holds. That it is sound stands here once: what builds or changes a state has to keep
+/// it, and what reads one may use it.
+#[derive(Drop)]
+pub struct CoreParts {
+    pub config: Config,
+    pub jobs: Jobs,
+    pub seats: Vec<SeatRecord, Global>,
+    /// The clients that wait, in their turn.
+    pub waiting: Waiting,
+    /// What is kept of each tube that exists.
+    pub tubes: Tubes,
+    /// What is known without a search.
+    pub known: Known,
+    pub moment: Moment,
+    pub next_id: JobId,
+    pub burials: u64,
+    pub tickets: u64,
+    pub draining: bool,
+    pub timeouts: u64,
+    pub puts: u64,
+    pub connections: u64,
+    pub ghost sound: { Soundness jobs.jobs seats.items tubes waiting known
+        next_id draining } by { Soundness-prop jobs.jobs seats.items tubes waiting known next_id draining },
+}
+
+impl CoreParts {
+    ghost use Rattle.std.specs.Prelude.{◌≡◌, ◌&&◌, filter, is_some, IfSome, IfOk};
+    ghost use Rattle.std.specs.List.{list_any};
+    ghost use Rattle.std.specs.Option.{option_map};
+    ghost use Rattle.bq_job.specs.machine.Changes.{is_ready, is_waiting, job_with, seat_with};
+    ghost use Rattle.bq_job.specs.reading.TubeName.{is_same_name};
+    ghost use Rattle.bq_jobs.specs.Seen.{IsBodyOf};
+    ghost use Rattle.bq_state.specs.JobKinds.{first_of_kind};
+    ghost use Rattle.bq_state.specs.SeatStates.{is_asking, is_connected, is_free};
+    ghost use Rattle.bq_state.specs.Crowds.{crowd_of, is_waiter};
+    ghost use Rattle.bq_state.specs.Keeping.{Looks};
+    ghost use Rattle.bq_state.specs.CoreParts.{machine_of};
+    ghost use Rattle.bq_state.specs.Tallies.{tally_of};
+    ghost use Rattle.bq_state.specs.Warnings.{has_waiting_holder};
+    ghost use Rattle.bq_state.specs.JobChanges.{is_passed_by, passes, ttr_held_by};
+
+    /// Whether there is a seat of this number, and nobody is connected there.
+    pub fn is_free(&self, seat: Seat) -> bool
+        ensures { result ≡ is_free (seat_with seat self.now.seats.items) }
+    {
+        match seats::find(self.seats.as_slice(), seat) {
+            None => false,
+            Some(client) => !client.is_connected(),
+        }
+    }
+
+    /// Whether somebody is connected at the seat.
+    pub fn is_connected(&self, seat: Seat) -> bool
+        ensures { result ≡ is_connected (seat_with seat self.now.seats.items) }
+    {
+        match seats::find(self.seats.as_slice(), seat) {
+            None => false,
+            Some(client) => client.is_connected(),
+        }
+    }
+
+    /// Whether the client at the seat can ask: it is connected, and doesn't wait.
+    pub fn is_asking(&self, seat: Seat) -> bool
+        ensures { result ≡ is_asking (seat_with seat self.now.seats.items) }
+    {
+        match seats::find(self.seats.as_slice(), seat) {
+            None => false,
+            Some(client) => client.is_connected() && !client.is_waiting(),
+        }
+    }
+
+    /// Whether there is a job of this id, and it passes.
+    #[tactic(auto, using(crate::proofs::PartsLemmas::compared_sound))]
+    pub fn has_job(&mut self, id: JobId, test: JobTest) -> bool
+        ensures has { result ≡ is_passed_by (passes test) (job_with id (machine_of self.old).jobs) }
+        ensures kept { Looks 1 self.old self.new }
+    {
+        job_store::has(&mut self.jobs, id, test)
+    }
+
+    /// How long the client at the seat may hold the job of this id, in seconds, if it holds it.
+    #[tactic(auto, using(crate::proofs::PartsLemmas::compared_sound))]
+    pub fn time_to_run(&mut self, id: JobId, seat: Seat) -> Option<u32>
+        ensures ttr { result ≡ ttr_held_by seat (job_with id (machine_of self.old).jobs) }
+        ensures kept { Looks 1 self.old self.new }
+    {
+        job_store::time_to_run(&mut self.jobs, id, seat)
+    }
+
+    /// One more owner of the body of the job of this id, unless it is refused; None where there is
+    /// no job.
+    #[tactic(auto, using(crate::proofs::PartsLemmas::compared_sound))]
+    pub fn share(&mut self, id: JobId) -> Option<Result<Body, NoMemory>>
+        ensures none { is_some result ≡ is_some (job_with id (machine_of self.old).jobs) }
+        ensures share { IfSome result
+            (λ shared. IfOk shared (IsBodyOf (job_with id (machine_of self.old).jobs))) }
+        ensures kept { Looks 1 self.old self.new }
+    {
+        job_store::share(&mut self.jobs, id)
+    }
+
+    /// The id of the first job of this kind in this tube.
+    #[tactic(auto, using(crate::proofs::PartsLemmas::compared_sound))]
+    pub fn first(&mut self, kind: JobKind, tube: &TubeName) -> Option<JobId>
+        ensures id { result
+            ≡ option_map (λ j. j.id) (first_of_kind kind tube.now self.old.jobs.jobs) }
+        ensures kept { Looks 1 self.old self.new }
+    {
+        job_store::first(&mut self.jobs, kind, tube)
+    }
+
+    /// Whether somebody waits.
+    #[tactic(auto, using(crate::proofs::ClientLemmas::some_pass))]
+    pub fn has_waiter(&self) -> bool
+        ensures { result ≡ list_any is_waiting self.now.seats.items }
+    {
+        self.known.clients.waiting > 0
+    }
+
+    /// Whether somebody waits at the tube.
+    #[tactic(auto, using(crate::proofs::CrowdPlaces::waiters_counted))]
+    pub(crate) fn has_waiter_at(&self, tube: &TubeName) -> bool
+        ensures { result ≡ list_any (is_waiter tube.now) self.now.seats.items }
+    {
+        self.tubes.has_waiter_at(&self.known.clients, tube)
+    }
+
+    /// How many jobs are in the tube.
+    #[tactic(auto, using(crate::proofs::TallyPlaces::tally_there))]
+    pub fn tally_in(&self, tube: &TubeName) -> Tally
+        ensures { result
+            ≡ tally_of (filter (λ j. is_same_name tube.now j.tube) self.now.jobs.jobs) }
+    {
+        self.tubes.tally_of(tube)
+    }
+
+    /// How many clients are at the tube.
+    #[tactic(auto, using(crate::proofs::CrowdPlaces::crowd_there))]
+    pub fn crowd_at(&self, tube: &TubeName) -> Crowd
+        ensures { result ≡ crowd_of self.now.seats.items tube.now }
+    {
+        self.tubes.crowd_of(tube)
+    }
+
+    /// Whether a job is in the tube.
+    pub(crate) fn has_job_in(&self, tube: &TubeName) -> bool
+        ensures { result ≡ list_any (λ j. is_same_name tube.now j.tube) self.now.jobs.jobs }
+    {
+        self.tubes.has_jobs_in(tube)
+    }
+
+    /// Whether the job is ready, and somebody waits at its tube.
+    pub(crate) fn is_wanted(&self, job: &Job) -> bool
+        ensures { result
+            ≡ (is_ready job.now && list_any (is_waiter job.now.tube) self.now.seats.items) }
+    {
+        job_store::is_ready(job) && self.has_waiter_at(&job.tube)
+    }
+
+    /// Whether the client waits that holds the job, if one does.
+    pub(crate) fn has_waiting_holder(&self, job: &Job) -> bool
+        ensures { result ≡ has_waiting_holder job.now.state self.now.seats.items }
+    {
+        seats::holder_waits(self.seats.as_slice(), job.state)
+    }
+}

@@ -1,0 +1,290 @@
+//! The jobs: a change of one, what a command asks of one, and the room for more.
+ghost use Rattle.std.specs.Prelude.{◌≡◌, ◌<◌, ◌||◌, length, not, is_some, IfSome, IfOk};
+ghost use Rattle.std.specs.Option.{option_map};
+ghost use Rattle.bq_job.specs.machine.Changes.{is_ready, job_with};
+ghost use Rattle.bq_job.specs.machine.Changes.{is_held_by as held_by};
+ghost use Rattle.bq_job.specs.machine.Dispatch.{reserved_by};
+ghost use Rattle.bq_job.specs.machine.JobStates.{is_buried, is_delayed, is_reserved};
+ghost use Rattle.bq_job.specs.machine.Limits.{later as later_by};
+ghost use Rattle.std.specs.List.{list_any};
+ghost use Rattle.bq_job.specs.machine.Timers.{job_after_timers};
+ghost use Rattle.bq_job.specs.machine.JobCommands.{buried, delayed_by as delayed_for, kicked, released};
+ghost use Rattle.bq_jobs.specs.Kept.{ComparesAtMost};
+ghost use Rattle.bq_jobs.specs.Seen.{IsBodyOf};
+ghost use Rattle.bq_state.specs.JobChanges.{changed, is_passed_by, passes, ttr_held_by};
+ghost use Rattle.bq_state.specs.JobKinds.{first_of_kind};
+ghost use Rattle.bq_state.specs.Room.{room_left};
+
+use bq_job::{Body, Job, JobId, JobState, Moment, NoMemory, Pri, Seat, TubeName};
+use bq_jobs::{JobEdit, Jobs, Row};
+
+// Room for so many more jobs than there are is kept.
+const ROOM_TO_SPARE: usize = 1000;
+
+/// What happens to a job.
+#[derive(Clone, Copy)]
+pub enum JobChange {
+    /// Timers fire at this moment.
+    FireTimers(Moment),
+    /// It goes to the client at this seat, at this moment.
+    HandOut(Seat, Moment),
+    /// The client that holds it is gone: it stands so from now on.
+    GiveBack(JobState),
+    /// It gets this priority and this delay, counted from this moment.
+    Release(Pri, u32, Moment),
+    /// It is buried, with this burial number and this priority.
+    Bury(u64, Pri),
+    /// The client at this seat holds it until this deadline.
+    Touch(Seat, Moment),
+    /// It becomes ready.
+    Kick,
+}
+
+/// The jobs of a tube that a client can choose the first of.
+#[derive(Clone, Copy)]
+pub enum JobKind {
+    Ready,
+    Delayed,
+    Buried,
+}
+
+/// The moment so many seconds later, at most 2^64 - 1.
+pub fn later(moment: Moment, seconds: u32) -> Moment
+    ensures { result ≡ later_by moment seconds }
+{
+    moment.saturating_add(u64::from(seconds) * 1000)
+}
+
+fn fire_timers(job: &mut Row, moment: Moment)
+    ensures { job.new ≡ job_after_timers moment job.old }
+{
+    match job.state() {
+        JobState::Delayed(due) => {
+            if due <= moment {
+                job.set_state(JobState::Ready);
+            }
+        }
+        JobState::Reserved(_, deadline) => {
+            if deadline <= moment {
+                job.set_state(JobState::Ready);
+                job.counts.timeouts = job.counts.timeouts.saturating_add(1);
+            }
+        }
+        JobState::Ready | JobState::Buried(_) => {}
+    }
+}
+
+fn hand_out(job: &mut Row, seat: Seat, moment: Moment)
+    ensures { job.new ≡ reserved_by moment seat job.old }
+{
+    job.set_state(JobState::Reserved(seat, later(moment, job.ttr)));
+    job.counts.reserves = job.counts.reserves.saturating_add(1);
+}
+
+/// Whether the client at the seat holds the job.
+pub(crate) fn is_held_by(job: &Row, seat: Seat) -> bool
+    ensures { result ≡ held_by seat job.now }
+{
+    match job.state() {
+        JobState::Reserved(holder, _) => holder == seat,
+        _ => false,
+    }
+}
+
+/// Whether the job is ready.
+pub(crate) fn is_ready(job: &Job) -> bool
+    ensures { result ≡ is_ready job.now }
+{
+    matches!(job.state, JobState::Ready)
+}
+
+/// Whether the client at the seat holds a job.
+#[tactic(auto, using(crate::proofs::DueLemmas::held_some))]
+pub(crate) fn holds_some(jobs: &mut Jobs, seat: Seat) -> bool
+    ensures holds { result ≡ list_any (held_by seat) jobs.old.jobs }
+    ensures same { jobs.new ≡ record jobs.old { comparisons = jobs.new.comparisons } }
+    ensures comparisons { ComparesAtMost 1 jobs.old jobs.new }
+{
+    jobs.next_deadline_of(seat).is_some()
+}
+
+/// Whether some client holds the job.
+pub(crate) fn is_reserved(job: &Row) -> bool
+    ensures { result ≡ is_reserved job.now.state }
+{
+    matches!(job.state(), JobState::Reserved(_, _))
+}
+
+/// Whether nobody holds the job, or the client at the seat does.
+pub(crate) fn is_free_for(job: &Row, seat: Seat) -> bool
+    ensures { result ≡ (not (is_reserved job.now.state) || held_by seat job.now) }
+{
+    !is_reserved(job) || is_held_by(job, seat)
+}
+
+/// Whether the job is buried or delayed.
+pub(crate) fn is_kickable(job: &Row) -> bool
+    ensures { result ≡ (is_buried job.now.state || is_delayed job.now.state) }
+{
+    matches!(job.state(), JobState::Buried(_) | JobState::Delayed(_))
+}
+
+/// Ready, or delayed so many seconds from this moment on.
+pub fn delayed_by(delay: u32, moment: Moment) -> JobState
+    ensures { result ≡ delayed_for delay moment }
+{
+    if delay == 0 {
+        JobState::Ready
+    } else {
+        JobState::Delayed(later(moment, delay))
+    }
+}
+
+fn release(job: &mut Row, pri: Pri, delay: u32, moment: Moment)
+    ensures { job.new ≡ released moment pri delay job.old }
+{
+    job.pri = pri;
+    job.delay = delay;
+    job.set_state(delayed_by(delay, moment));
+    job.counts.releases = job.counts.releases.saturating_add(1);
+}
+
+fn bury(job: &mut Row, number: u64, pri: Pri)
+    ensures { job.new ≡ buried number pri job.old }
+{
+    job.pri = pri;
+    job.set_state(JobState::Buried(number));
+    job.counts.buries = job.counts.buries.saturating_add(1);
+}
+
+fn kick(job: &mut Row)
+    ensures { job.new ≡ kicked job.old }
+{
+    job.set_state(JobState::Ready);
+    job.counts.kicks = job.counts.kicks.saturating_add(1);
+}
+
+/// Changes a job.
+pub(crate) fn change(job: &mut Row, change: &JobChange)
+    ensures { job.new ≡ changed change.now job.old }
+{
+    match *change {
+        JobChange::FireTimers(moment) => fire_timers(job, moment),
+        JobChange::HandOut(seat, moment) => hand_out(job, seat, moment),
+        JobChange::GiveBack(becomes) => job.set_state(becomes),
+        JobChange::Release(pri, delay, moment) => release(job, pri, delay, moment),
+        JobChange::Bury(number, pri) => bury(job, number, pri),
+        JobChange::Touch(seat, deadline) => job.set_state(JobState::Reserved(seat, deadline)),
+        JobChange::Kick => kick(job),
+    }
+}
+
+impl JobEdit for JobChange {
+    ghost edited = { changed };
+
+    fn edit(&self, job: &mut Row) {
+        change(job, self);
+    }
+}
+
+/// The id of the first job of this kind in this tube.
+pub fn first(jobs: &mut Jobs, kind: JobKind, tube: &TubeName) -> Option<JobId>
+    ensures id { result ≡ option_map (λ j. j.id) (first_of_kind kind tube.now jobs.old.jobs) }
+    ensures same { jobs.new ≡ record jobs.old { comparisons = jobs.new.comparisons } }
+    ensures comparisons { ComparesAtMost 1 jobs.old jobs.new }
+{
+    match kind {
+        JobKind::Ready => jobs.first_ready(tube),
+        JobKind::Delayed => jobs.first_delayed(tube),
+        JobKind::Buried => jobs.first_buried(tube),
+    }
+}
+
+/// What a command asks of a job.
+#[derive(Clone, Copy)]
+pub enum JobTest {
+    /// The client at this seat holds it.
+    HeldBy(Seat),
+    /// Nobody holds it, or the client at this seat does.
+    FreeFor(Seat),
+    /// Nobody holds it.
+    Free,
+    /// It is buried or delayed.
+    Kickable,
+}
+
+fn passes(job: &Row, test: JobTest) -> bool
+    ensures { result ≡ passes test job.now }
+{
+    match test {
+        JobTest::HeldBy(seat) => is_held_by(job, seat),
+        JobTest::FreeFor(seat) => is_free_for(job, seat),
+        JobTest::Free => !is_reserved(job),
+        JobTest::Kickable => is_kickable(job),
+    }
+}
+
+/// Whether there is a job of this id, and it passes.
+pub(crate) fn has(jobs: &mut Jobs, id: JobId, test: JobTest) -> bool
+    ensures has { result ≡ is_passed_by (passes test) (job_with id jobs.old.jobs) }
+    ensures same { jobs.new ≡ record jobs.old { comparisons = jobs.new.comparisons } }
+    ensures comparisons { ComparesAtMost 1 jobs.old jobs.new }
+{
+    match jobs.get(id) {
+        None => false,
+        Some(job) => passes(job, test),
+    }
+}
+
+/// How long the client at the seat may hold the job of this id, in seconds, if it holds it.
+pub(crate) fn time_to_run(jobs: &mut Jobs, id: JobId, seat: Seat) -> Option<u32>
+    ensures ttr { result ≡ ttr_held_by seat (job_with id jobs.old.jobs) }
+    ensures same { jobs.new ≡ record jobs.old { comparisons = jobs.new.comparisons } }
+    ensures comparisons { ComparesAtMost 1 jobs.old jobs.new }
+{
+    match jobs.get(id) {
+        None => None,
+        Some(job) => if is_held_by(job, seat) {
+            Some(job.ttr)
+        } else {
+            None
+        },
+    }
+}
+
+/// One more owner of the body of the job of this id, unless it is refused; None where there is no
+/// job.
+pub(crate) fn share(jobs: &mut Jobs, id: JobId) -> Option<Result<Body, NoMemory>>
+    ensures none { is_some result ≡ is_some (job_with id jobs.old.jobs) }
+    ensures share { IfSome result (λ shared. IfOk shared (IsBodyOf (job_with id jobs.old.jobs))) }
+    ensures same { jobs.new ≡ record jobs.old { comparisons = jobs.new.comparisons } }
+    ensures comparisons { ComparesAtMost 1 jobs.old jobs.new }
+{
+    match jobs.share(id) {
+        None => None,
+        Some((_, body)) => Some(body),
+    }
+}
+
+// The room of one job goes back to the heap, where there is room for so many more than there are.
+fn let_one_room_go(jobs: &mut Jobs)
+    ensures same { jobs.new ≡ record jobs.old { room = jobs.new.room } }
+    ensures given { jobs.new.room ≡ room_left (length jobs.old.jobs) jobs.old.room }
+    ensures room { 0 < jobs.old.room → 0 < jobs.new.room }
+{
+    if jobs.room().saturating_sub(jobs.len()) >= ROOM_TO_SPARE {
+        jobs.give_back();
+    }
+}
+
+/// Room that nobody needs goes back to the heap: that of two jobs at a time, so that no step takes
+/// long.
+pub(crate) fn let_room_go(jobs: &mut Jobs)
+    ensures same { jobs.new ≡ record jobs.old { room = jobs.new.room } }
+    ensures given { jobs.new.room
+        ≡ room_left (length jobs.old.jobs) (room_left (length jobs.old.jobs) jobs.old.room) }
+    ensures room { 0 < jobs.old.room → 0 < jobs.new.room }
+{
+    let_one_room_go(jobs);
+    let_one_room_go(jobs);
+}

@@ -1,0 +1,70 @@
+//! Lists of names, each once, in byte order.
+ghost use Rattle.std.specs.Prelude.{◌≡◌, ◌<◌, ◌≤◌, ◌+◌, not, vec_len, IfOk};
+ghost use Rattle.std.specs.List.{position, prefix_len, slice_get};
+ghost use Rattle.std.specs.Vec.{vec_capacity};
+ghost use Rattle.bq_job.specs.machine.TubeOrder.{in_name_order, with_name};
+ghost use Rattle.bq_job.specs.machine.Tubes.{is_name_before};
+ghost use Rattle.bq_state.specs.Names.{is_named, names_of};
+
+use bq_job::{NoMemory, TubeName};
+use std::alloc::Global;
+
+/// Names that stand elsewhere.
+pub type Names<'a> = Vec<&'a [u8], Global>;
+
+fn is_before(a: &[u8], b: &[u8]) -> bool
+    ensures { result ≡ is_name_before a.now b.now }
+{
+    a.cmp(b).is_lt()
+}
+
+// The place of the first name that doesn't come before this one.
+fn first_after(names: &[&[u8]], name: &[u8]) -> Option<usize>
+    ensures { result ≡ position (λ other. not (is_name_before other.now name.now)) names.now }
+{
+    names.iter().position(|other| !is_before(other, name))
+}
+
+// Where the name would stand.
+#[tactic(auto, using(crate::proofs::TubeLemmas::place_told))]
+fn place_of(names: &[&[u8]], name: &[u8]) -> usize
+    ensures { result ≡ prefix_len (λ other. is_name_before other.now name.now) names.now }
+{
+    first_after(names, name).unwrap_or(names.len())
+}
+
+// Whether the name stands at place i.
+fn is_at(names: &[&[u8]], i: usize, name: &[u8]) -> bool
+    ensures { result ≡ is_named name.now (slice_get names.now i) }
+{
+    match names.get(i) {
+        None => false,
+        Some(other) => name == *other,
+    }
+}
+
+// Adds a name at its place, unless it is there. It takes no memory.
+fn add<'a>(names: &mut Names<'a>, name: &'a [u8])
+    requires { vec_len names.old < vec_capacity names.old }
+    ensures names { names_of names.new.items ≡ with_name (names_of names.old.items) name.now }
+    ensures len { vec_len names.new ≤ vec_len names.old + 1 }
+    ensures capacity { vec_capacity names.old ≤ vec_capacity names.new }
+{
+    let i = place_of(names.as_slice(), name);
+    if !is_at(names.as_slice(), i, name) {
+        let _fits = names.insert(i, name);
+    }
+}
+
+/// These names, each once, in byte order. Their memory is asked for before.
+pub fn in_order<'a>(alloc: Global, tubes: &'a [TubeName]) -> Result<Names<'a>, NoMemory>
+    ensures { IfOk result (λ names. names_of names.items ≡ in_name_order tubes.now) }
+{
+    let Ok(mut names) = Vec::with_capacity(alloc, tubes.len()) else {
+        return Err(NoMemory);
+    };
+    for tube in tubes {
+        add(&mut names, tube.as_slice());
+    }
+    Ok(names)
+}

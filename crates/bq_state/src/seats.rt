@@ -1,0 +1,476 @@
+//! The seats: what is known of each and of its client, and what happens there.
+ghost use Rattle.std.specs.Prelude.{◌≡◌, ◌<◌, true, map, length, IfOk, OnErr};
+ghost use Rattle.std.specs.List.{list_any, position};
+ghost use Rattle.std.specs.Option.{option_copied, option_map};
+ghost use Rattle.bq_job.specs.machine.Changes.{first_of, seat_with, is_waiting, without_wait};
+ghost use Rattle.bq_job.specs.machine.Dispatch.{is_wait_before, ticket_of};
+ghost use Rattle.bq_job.specs.machine.Machine.{empty_seat, numbers};
+ghost use Rattle.bq_job.specs.machine.TubeCommands.{watching, using};
+ghost use Rattle.bq_state.specs.SeatChanges.{AreNumbered, AtPlace, IsSetAt, seat_changed};
+ghost use Rattle.bq_state.specs.SeatChanges.{seat_changed_at, more_watched, fewer_watched};
+ghost use Rattle.bq_state.specs.SeatChanges.{watches_other};
+ghost use Rattle.bq_state.specs.EndingWaits.{has_waited, turn_of};
+ghost use Rattle.bq_state.specs.FirstEnds.{is_gone_in_wait};
+ghost use Rattle.bq_state.specs.Offers.{waits_at};
+ghost use Rattle.bq_state.specs.WaitingTurns.{passes_at, turns_of};
+ghost use Rattle.bq_state.specs.Warnings.{has_waiting_holder, is_waiting_there};
+ghost use Rattle.bq_job.specs.machine.Asked.{with_end};
+ghost use Rattle.bq_job.specs.machine.JobCommands.{waiting_from};
+ghost use Rattle.bq_job.specs.beside.NextDue.{dues_of_wait, earliest};
+ghost use Rattle.bq_job.specs.machine.Tubes.{watches};
+ghost use Rattle.bq_job.specs.machine.Waits.{is_timed_out_at};
+
+use crate::waiting;
+use crate::watch_list::{WatchList, default_tube};
+use bq_job::{JobState, Moment, NoMemory, Seat, TubeName};
+use std::alloc::Global;
+use std::marker::Model;
+
+/// What happens at a seat.
+#[derive(Clone, Copy)]
+pub enum SeatChange {
+    /// The client waits no longer.
+    StopWaiting,
+    /// The client waits, with this ticket, until this moment if there is one.
+    Wait(u64, Option<Moment>),
+    /// A client comes.
+    Connect,
+    /// The client is gone.
+    Clear,
+    /// The client sends no more.
+    End,
+    /// Its jobs go into this tube.
+    Use(TubeName),
+}
+
+fn change(client: &mut SeatRecord, what: &SeatChange)
+    ensures { client.new ≡ seat_changed what.now client.old }
+{
+    match *what {
+        SeatChange::StopWaiting => client.stop_waiting(),
+        SeatChange::Wait(ticket, until) => client.wait_from(ticket, until),
+        SeatChange::Connect => client.connect(),
+        SeatChange::Clear => client.clear(),
+        SeatChange::End => client.end(),
+        SeatChange::Use(tube) => client.use_tube(&tube),
+    }
+}
+
+/// Changes the seat of this number. No other is looked at.
+pub(crate) fn change_at(seats: &mut Vec<SeatRecord, Global>, number: Seat, what: &SeatChange)
+    requires { AreNumbered seats.old.items }
+    ensures { seats.new.items ≡ map (seat_changed_at number what.now) seats.old.items }
+{
+    if let Some(client) = seats.get_mut(usize::from(number)) {
+        change(client, what);
+    }
+}
+
+/// The client at the seat of this number watches one more tube. Tells how many it watches then.
+pub(crate) fn watch(
+    seats: &mut Vec<SeatRecord, Global>,
+    alloc: Global,
+    number: Seat,
+    name: &TubeName,
+) -> Result<u64, NoMemory>
+    requires { number < length seats.old.items }
+    ensures count { IfOk result
+        (λ n. AtPlace seats.old.items number (λ s. n ≡ length (more_watched name.now s))) }
+    ensures watched { IfOk result
+        (λ _. IsSetAt seats.old.items number
+        (λ s. watching (more_watched name.now s) s) seats.new.items) }
+    ensures same { OnErr result (seats.new.items ≡ seats.old.items) }
+{
+    let client = &mut seats[usize::from(number)];
+    client.watch(alloc, name)?;
+    Ok(client.watch_count() as u64)
+}
+
+/// The client at the seat of this number watches a tube no longer, where another one is still
+/// watched. Tells how many it watches then.
+pub(crate) fn ignore(seats: &mut Vec<SeatRecord, Global>, number: Seat, name: &TubeName) -> u64
+    requires there { number < length seats.old.items }
+    requires other { AtPlace seats.old.items number (λ s. watches_other name.now s ≡ true) }
+    ensures count { AtPlace seats.old.items number
+        (λ s. result ≡ length (fewer_watched name.now s)) }
+    ensures ignored { IsSetAt seats.old.items number
+        (λ s. watching (fewer_watched name.now s) s) seats.new.items }
+{
+    let client = &mut seats[usize::from(number)];
+    client.ignore(name);
+    client.watch_count() as u64
+}
+
+/// The seat of this number. No other is looked at.
+#[tactic(auto, using(crate::proofs::SeatPlaces::found_there))]
+pub fn find(seats: &[SeatRecord], number: Seat) -> Option<&SeatRecord>
+    requires { AreNumbered seats.now }
+    ensures { option_copied result ≡ seat_with number seats.now }
+{
+    seats.get(usize::from(number))
+}
+
+/// Whether the client waits that holds a job in this state, if one does.
+pub(crate) fn holder_waits(seats: &[SeatRecord], at: JobState) -> bool
+    requires { AreNumbered seats.now }
+    ensures { result ≡ has_waiting_holder at seats.now }
+{
+    match at {
+        JobState::Reserved(seat, _) => is_waiting_at(seats, seat),
+        _ => false,
+    }
+}
+
+// Whether the client at the seat, if there is one, waits.
+fn is_waiting_at(seats: &[SeatRecord], seat: Seat) -> bool
+    requires { AreNumbered seats.now }
+    ensures { result ≡ is_waiting_there (seat_with seat seats.now) }
+{
+    match find(seats, seat) {
+        None => false,
+        Some(client) => client.is_waiting(),
+    }
+}
+
+// Whether the client waits at this tube.
+fn waits_at(client: &SeatRecord, tube: &TubeName) -> bool
+    ensures { result ≡ waits_at tube.now client.now }
+{
+    client.is_waiting() && client.watches(tube)
+}
+
+// Whether the client of this turn waits at this tube.
+fn waits_there(seats: &[SeatRecord], turn: Turn, tube: &TubeName) -> bool
+    ensures { result ≡ passes_at (waits_at tube.now) seats.now turn }
+{
+    match seats.get(usize::from(turn.1)) {
+        None => false,
+        Some(client) => waits_at(client, tube),
+    }
+}
+
+// The place among the turns of the first client that waits at this tube.
+fn place_waiting(seats: &[SeatRecord], turns: &[Turn], tube: &TubeName) -> Option<usize>
+    ensures { result ≡ position (passes_at (waits_at tube.now) seats.now) turns.now }
+{
+    turns
+        .iter()
+        .position(|turn| waits_there(seats, *turn, tube))
+}
+
+/// The seat of the client that has waited longest of those that wait at this tube. Only who waits
+/// is looked at.
+pub fn first_waiting(seats: &[SeatRecord], turns: &[Turn], tube: &TubeName) -> Option<Seat>
+    requires numbered { AreNumbered seats.now }
+    requires turns { turns.now ≡ turns_of seats.now }
+    ensures { result
+        ≡ option_map (λ s. s.number) (first_of (waits_at tube.now) is_wait_before seats.now) }
+{
+    match waiting::turn_at(turns, place_waiting(seats, turns, tube)) {
+        None => None,
+        Some(turn) => Some(turn.1),
+    }
+}
+
+fn has_waited(client: &SeatRecord, moment: Moment) -> bool
+    ensures { result ≡ has_waited moment client.now }
+{
+    client.is_waiting() && client.is_timed_out(moment)
+}
+
+fn has_waited_there(seats: &[SeatRecord], turn: Turn, moment: Moment) -> bool
+    ensures { result ≡ passes_at (has_waited moment) seats.now turn }
+{
+    match seats.get(usize::from(turn.1)) {
+        None => false,
+        Some(client) => has_waited(client, moment),
+    }
+}
+
+// Whether the wait of a client that has one of these turns is over.
+fn is_some_turn_over(seats: &[SeatRecord], turns: &[Turn], moment: Moment) -> bool
+    ensures { result ≡ list_any (passes_at (has_waited moment) seats.now) turns.now }
+{
+    turns
+        .iter()
+        .any(|turn| has_waited_there(seats, *turn, moment))
+}
+
+/// Whether some wait is over by its timeout, or because its client sends no more. Only who waits is
+/// looked at.
+#[tactic(auto, using(crate::proofs::WalkLemmas::any_turn))]
+pub fn is_some_wait_over(seats: &[SeatRecord], turns: &[Turn], moment: Moment) -> bool
+    requires numbered { AreNumbered seats.now }
+    requires turns { turns.now ≡ turns_of seats.now }
+    ensures { result ≡ list_any (has_waited moment) seats.now }
+{
+    is_some_turn_over(seats, turns, moment)
+}
+
+fn is_gone_in_wait(client: &SeatRecord) -> bool
+    ensures { result ≡ is_gone_in_wait client.now }
+{
+    client.is_waiting() && client.has_ended()
+}
+
+fn is_gone_there(seats: &[SeatRecord], turn: Turn) -> bool
+    ensures { result ≡ passes_at is_gone_in_wait seats.now turn }
+{
+    match seats.get(usize::from(turn.1)) {
+        None => false,
+        Some(client) => is_gone_in_wait(client),
+    }
+}
+
+// Whether a client that has one of these turns sends no more.
+fn is_some_turn_gone(seats: &[SeatRecord], turns: &[Turn]) -> bool
+    ensures { result ≡ list_any (passes_at is_gone_in_wait seats.now) turns.now }
+{
+    turns.iter().any(|turn| is_gone_there(seats, *turn))
+}
+
+/// Whether some client waits that sends no more. Only who waits is looked at.
+#[tactic(auto, using(crate::proofs::WalkLemmas::any_turn))]
+pub(crate) fn is_some_waiter_gone(seats: &[SeatRecord], turns: &[Turn]) -> bool
+    requires numbered { AreNumbered seats.now }
+    requires turns { turns.now ≡ turns_of seats.now }
+    ensures { result ≡ list_any is_gone_in_wait seats.now }
+{
+    is_some_turn_gone(seats, turns)
+}
+
+/// So many seats, with nobody there.
+#[tactic(auto, using(crate::proofs::SeatPlaces::places_more))]
+pub fn free_seats(alloc: Global, count: u16) -> Result<Vec<SeatRecord, Global>, NoMemory>
+    ensures { IfOk result (λ seats. seats.items ≡ map empty_seat (numbers 0 count)) }
+{
+    let Ok(mut seats) = Vec::with_capacity(alloc, usize::from(count)) else {
+        return Err(NoMemory);
+    };
+    for number in 0..count {
+        match SeatRecord::new(alloc, number) {
+            Ok(client) => seats.push_reserved(client),
+            Err(fault) => return Err(fault),
+        }
+    }
+    Ok(seats)
+}
+
+/// The turn of a client among those that wait: its ticket and its seat.
+pub type Turn = (u64, Seat);
+
+/// A client that waits for a job.
+#[derive(Clone, Copy)]
+pub(crate) struct Waiting {
+    ticket: u64,
+    until: Option<Moment>,
+}
+
+impl Model for Waiting {
+    ghost use Rattle.bq_job.specs.machine.Machine.{Wait};
+
+    ghost Value = { Wait };
+
+    ghost view = { λ w. record { ticket = w.ticket; until = w.until } };
+
+    ghost inverse = { λ w. record { ticket = w.ticket; until = w.until } };
+}
+
+/// What is known of a seat and of the client there, if one is connected. Who comes uses and watches
+/// the default tube alone.
+#[derive(Drop)]
+pub struct SeatRecord {
+    number: Seat,
+    connected: bool,
+    used: TubeName,
+    watched: WatchList,
+    wait: Option<Waiting>,
+    ended: bool,
+}
+
+impl Model for SeatRecord {
+    ghost use Rattle.bq_job.specs.machine.Machine.{SeatRecord};
+
+    ghost Value = { SeatRecord };
+
+    ghost use Rattle.bq_state.specs.SeatView.{seat_of};
+
+    ghost view = { seat_of };
+}
+
+impl SeatRecord {
+    pub(crate) fn new(alloc: Global, number: Seat) -> Result<SeatRecord, NoMemory>
+        ensures { IfOk result (λ client. client ≡ empty_seat number) }
+    {
+        let watched = WatchList::new(alloc)?;
+        Ok(SeatRecord {
+            number,
+            connected: false,
+            used: default_tube(),
+            watched,
+            wait: None,
+            ended: false,
+        })
+    }
+
+    /// Its number.
+    pub fn number(&self) -> Seat
+        ensures { result ≡ self.now.number }
+    {
+        self.number
+    }
+
+    pub(crate) fn is_connected(&self) -> bool
+        ensures { result ≡ self.now.connected }
+    {
+        self.connected
+    }
+
+    /// The tube that the client's jobs go into.
+    pub fn used(&self) -> &TubeName
+        ensures { result.now ≡ self.now.used }
+    {
+        &self.used
+    }
+
+    /// How many tubes are watched.
+    pub fn watch_count(&self) -> usize
+        ensures { result ≡ length self.now.watched }
+    {
+        self.watched.len()
+    }
+
+    /// The tubes that are watched, in the order in which they were watched.
+    pub fn watched(&self) -> &[TubeName]
+        ensures { result.now ≡ self.now.watched }
+    {
+        self.watched.as_slice()
+    }
+
+    /// Whether this tube is watched.
+    pub fn watches(&self, name: &TubeName) -> bool
+        ensures { result ≡ watches name.now self.now }
+    {
+        self.watched.has(name)
+    }
+
+    /// Whether another tube than this one is watched.
+    pub fn watches_other(&self, name: &TubeName) -> bool
+        ensures { result ≡ watches_other name.now self.now }
+    {
+        self.watched.has_other(name)
+    }
+
+    /// Whether the client waits.
+    pub fn is_waiting(&self) -> bool
+        ensures { result ≡ is_waiting self.now }
+    {
+        self.wait.is_some()
+    }
+
+    /// Whether the client sends no more.
+    pub(crate) fn has_ended(&self) -> bool
+        ensures { result ≡ self.now.ended }
+    {
+        self.ended
+    }
+
+    fn ticket(&self) -> u64
+        ensures { result ≡ ticket_of self.now.wait }
+    {
+        match &self.wait {
+            None => 0,
+            Some(wait) => wait.ticket,
+        }
+    }
+
+    /// When the client gives up waiting.
+    pub(crate) fn gives_up_at(&self) -> Option<Moment>
+        ensures { result ≡ earliest (dues_of_wait self.now.wait) }
+    {
+        match &self.wait {
+            None => None,
+            Some(wait) => wait.until,
+        }
+    }
+
+    /// The client's turn among those that wait.
+    pub fn turn(&self) -> Turn
+        ensures { result ≡ turn_of self.now }
+    {
+        (self.ticket(), self.number)
+    }
+
+    /// Whether a wait of this client would be over by its timeout, or because the client sends no
+    /// more.
+    pub fn is_timed_out(&self, moment: Moment) -> bool
+        ensures { result ≡ is_timed_out_at moment self.now }
+    {
+        let is_past = match &self.wait {
+            None => false,
+            Some(wait) => match wait.until {
+                None => false,
+                Some(until) => until <= moment,
+            },
+        };
+        is_past || self.ended
+    }
+
+    pub(crate) fn stop_waiting(&mut self)
+        ensures { self.new ≡ without_wait self.old }
+    {
+        self.wait = None;
+    }
+
+    pub(crate) fn wait_from(&mut self, ticket: u64, until: Option<Moment>)
+        ensures { self.new ≡ waiting_from ticket until self.old }
+    {
+        self.wait = Some(Waiting { ticket, until });
+    }
+
+    pub(crate) fn connect(&mut self)
+        ensures { self.new ≡ record (empty_seat self.old.number) { connected = true } }
+    {
+        self.clear();
+        self.connected = true;
+    }
+
+    pub(crate) fn use_tube(&mut self, name: &TubeName)
+        ensures { self.new ≡ using name.now self.old }
+    {
+        self.used = *name;
+    }
+
+    /// Watches one more tube.
+    pub(crate) fn watch(&mut self, alloc: Global, name: &TubeName) -> Result<(), NoMemory>
+        ensures watched { IfOk result
+            (λ _. self.new ≡ watching (more_watched name.now self.old) self.old) }
+        ensures same { OnErr result (self.new ≡ self.old) }
+    {
+        self.watched.add(alloc, *name)
+    }
+
+    /// Watches a tube no longer, where another one is still watched.
+    pub(crate) fn ignore(&mut self, name: &TubeName)
+        requires { watches_other name.now self.old ≡ true }
+        ensures { self.new ≡ watching (fewer_watched name.now self.old) self.old }
+    {
+        self.watched.remove(name);
+    }
+
+    pub(crate) fn clear(&mut self)
+        ensures { self.new ≡ empty_seat self.old.number }
+    {
+        self.used = default_tube();
+        self.watched.reset();
+        self.wait = None;
+        self.ended = false;
+        self.connected = false;
+    }
+
+    pub(crate) fn end(&mut self)
+        ensures { self.new ≡ with_end self.old }
+    {
+        self.ended = true;
+    }
+}

@@ -1,0 +1,124 @@
+//! What a seat counts for at the tubes that its client uses and watches.
+ghost use Rattle.std.specs.Prelude.{◌≡◌};
+ghost use Rattle.std.specs.Option.{option_copied};
+ghost use Rattle.bq_state.specs.Counting.{recounted_for, with_crowds_at, with_crowds_at_all};
+ghost use Rattle.bq_state.specs.Crowds.{recounted, touched};
+ghost use Rattle.bq_state.specs.Crowds.{share_as_user, share_as_watcher, share_of_watcher, share_of_watching};
+
+use crate::seats::{SeatChange, SeatRecord};
+use crate::tubes::{Moving, Share, Tubes};
+use bq_job::TubeName;
+
+/// What a change of a seat can touch.
+pub(crate) fn touched(what: &SeatChange) -> Share
+    ensures { result ≡ touched what.now }
+{
+    match what {
+        SeatChange::StopWaiting | SeatChange::Wait(_, _) => Share {
+            using: false,
+            watching: false,
+            waiting: true,
+        },
+        SeatChange::Connect | SeatChange::Clear => Share {
+            using: true,
+            watching: true,
+            waiting: true,
+        },
+        SeatChange::End => Share {
+            using: false,
+            watching: false,
+            waiting: false,
+        },
+        SeatChange::Use(_) => Share {
+            using: true,
+            watching: false,
+            waiting: false,
+        },
+    }
+}
+
+/// What a seat counts for at one more tube that its client watches.
+pub(crate) fn of_watcher(client: &SeatRecord) -> Share
+    ensures { result ≡ share_of_watcher client.now }
+{
+    Share {
+        using: false,
+        watching: client.is_connected(),
+        waiting: client.is_waiting(),
+    }
+}
+
+/// What a seat counts for at a tube, if its client watches it.
+pub(crate) fn at(client: &SeatRecord, name: &TubeName) -> Share
+    ensures { result ≡ share_of_watching name.now client.now }
+{
+    Share {
+        using: false,
+        watching: client.is_connected() && client.watches(name),
+        waiting: client.is_waiting() && client.watches(name),
+    }
+}
+
+// Counts a share at a tube, or counts it no longer. Where it is none, the tube isn't looked for.
+#[tactic(auto, using(crate::proofs::CrowdLemmas::beside_same, crate::proofs::CrowdLemmas::none_recounted))]
+fn recount_at(tubes: &mut Tubes, name: &TubeName, moving: Moving, share: Share)
+    ensures { tubes.new ≡ with_crowds_at name.now (recounted moving share) tubes.old }
+{
+    if !share.is_none() {
+        tubes.recount(name, moving, share);
+    }
+}
+
+// Counts a share at each of these tubes, or counts it no longer.
+#[tactic(auto, using(crate::proofs::LoopLemmas::folded_more))]
+fn recount_all(tubes: &mut Tubes, names: &[TubeName], moving: Moving, share: Share)
+    ensures { tubes.new ≡ with_crowds_at_all names.now (recounted moving share) tubes.old }
+{
+    for i in 0..names.len() {
+        tubes.recount(&names[i], moving, share);
+    }
+}
+
+// The same; where the share is none, no tube is looked for.
+#[tactic(auto, using(crate::proofs::CrowdLemmas::all_same, crate::proofs::CrowdLemmas::none_recounted))]
+fn recount_watched(tubes: &mut Tubes, names: &[TubeName], moving: Moving, share: Share)
+    ensures { tubes.new ≡ with_crowds_at_all names.now (recounted moving share) tubes.old }
+{
+    if !share.is_none() {
+        recount_all(tubes, names, moving, share);
+    }
+}
+
+// What a seat counts for at the tube that its client uses, of what is asked for.
+fn as_user(client: &SeatRecord, what: Share) -> Share
+    ensures { result ≡ share_as_user what client.now }
+{
+    Share {
+        using: what.using && client.is_connected(),
+        watching: false,
+        waiting: false,
+    }
+}
+
+// What it counts for at each tube that its client watches.
+fn as_watcher(client: &SeatRecord, what: Share) -> Share
+    ensures { result ≡ share_as_watcher what client.now }
+{
+    Share {
+        using: false,
+        watching: what.watching && client.is_connected(),
+        waiting: what.waiting && client.is_waiting(),
+    }
+}
+
+/// Counts what a seat counts for, of what is asked for, or counts it no longer.
+#[tactic(auto, using(crate::proofs::NamedLemmas::kept_alike))]
+pub(crate) fn recount(tubes: &mut Tubes, client: Option<&SeatRecord>, moving: Moving, what: Share)
+    ensures { tubes.new ≡ recounted_for moving what (option_copied client.entry) tubes.old }
+{
+    let Some(client) = client else {
+        return;
+    };
+    recount_at(tubes, client.used(), moving, as_user(client, what));
+    recount_watched(tubes, client.watched(), moving, as_watcher(client, what));
+}

@@ -1,0 +1,376 @@
+//! What is kept of a tube, and how the entry of a name is changed in its place.
+ghost use Rattle.std.specs.Prelude.{◌≡◌, [], is_some};
+ghost use Rattle.bq_job.specs.machine.TubeCommands.{with_pause};
+ghost use Rattle.bq_state.specs.KeptTubes.{ended, fresh_entry, kept_after, kept_changed, kept_moved};
+ghost use Rattle.bq_state.specs.KeptTubes.{kept_recounted, record_of, edited_at, kept_with};
+ghost use Rattle.bq_state.specs.KeptTubes.{kept_without};
+ghost use Rattle.bq_state.specs.PauseEnds.{end_of};
+ghost use Rattle.bq_state.specs.Tallies.{tally_with, tally_without};
+ghost use Rattle.bq_state.specs.Crowds.{crowd_with, crowd_without, has_seats, is_none, no_crowd};
+ghost use Rattle.bq_state.specs.Crowds.{recounted};
+
+use super::pauses::PauseEnd;
+use crate::job_store::later;
+use crate::known::Tally;
+use bq_index::Catalog;
+use bq_job::{Job, Moment, TubeName};
+use bq_jobs::Moved;
+use std::marker::Model;
+
+/// A pause of a tube.
+#[derive(Clone, Copy)]
+pub struct Pausing {
+    seconds: u32,
+    until: Moment,
+}
+
+impl Model for Pausing {
+    ghost use Rattle.bq_job.specs.machine.Machine.{Pause};
+
+    ghost Value = { Pause };
+
+    ghost view = { λ p. record { seconds = p.seconds; until = p.until } };
+
+    ghost inverse = { λ p. record { seconds = p.seconds; until = p.until } };
+}
+
+impl Pausing {
+    /// How many seconds were asked for.
+    pub fn seconds(self) -> u32
+        ensures { result ≡ self.seconds }
+    {
+        self.seconds
+    }
+
+    /// When it ends.
+    pub fn until(self) -> Moment
+        ensures { result ≡ self.until }
+    {
+        self.until
+    }
+}
+
+/// What is kept of a tube that exists, beside its name.
+#[derive(Drop)]
+pub struct TubeEntry {
+    pause: Option<Pausing>,
+    puts: u64,
+    deletes: u64,
+    pauses: u64,
+    tally: Tally,
+    crowd: Crowd,
+}
+
+impl Model for TubeEntry {
+    ghost use Rattle.bq_state.specs.KeptTubes.{KeptTube};
+
+    ghost Value = { KeptTube };
+
+    ghost use Rattle.bq_state.specs.TubeView.{kept_of};
+
+    ghost view = { kept_of };
+}
+
+/// What happens to a tube.
+#[derive(Clone, Copy)]
+pub enum TubeChange {
+    CountPut,
+    CountDelete,
+    /// It is paused so many seconds from this moment on.
+    Pause(u32, Moment),
+}
+
+impl TubeEntry {
+    /// Nothing is kept of the tube yet.
+    pub fn new() -> TubeEntry
+        ensures { result ≡ fresh_entry }
+    {
+        TubeEntry {
+            pause: None,
+            puts: 0,
+            deletes: 0,
+            pauses: 0,
+            tally: Tally::none(),
+            crowd: Crowd::none(),
+        }
+    }
+
+    /// How many jobs were put into the tube.
+    pub fn puts(&self) -> u64
+        ensures { result ≡ self.now.puts }
+    {
+        self.puts
+    }
+
+    /// How many of its jobs were deleted.
+    pub fn deletes(&self) -> u64
+        ensures { result ≡ self.now.deletes }
+    {
+        self.deletes
+    }
+
+    /// How often it was paused.
+    pub fn pauses(&self) -> u64
+        ensures { result ≡ self.now.pauses }
+    {
+        self.pauses
+    }
+
+    /// Its pause, if there is one.
+    pub fn pause(&self) -> Option<Pausing>
+        ensures { result ≡ self.now.pause }
+    {
+        self.pause
+    }
+
+    /// How many jobs it has.
+    pub(crate) fn tally(&self) -> Tally
+        ensures { result ≡ self.now.tally }
+    {
+        self.tally
+    }
+
+    /// How many clients are at it.
+    pub(crate) fn crowd(&self) -> Crowd
+        ensures { result ≡ self.now.crowd }
+    {
+        self.crowd
+    }
+
+    /// The end of its pause, under the name of the tube.
+    pub(crate) fn end(&self, name: &TubeName) -> Option<PauseEnd>
+        ensures { result ≡ end_of name.now self.now.pause }
+    {
+        match &self.pause {
+            None => None,
+            Some(pause) => Some(PauseEnd {
+                until: pause.until,
+                name: *name,
+            }),
+        }
+    }
+
+    pub(crate) fn is_paused(&self) -> bool
+        ensures { result ≡ is_some self.now.pause }
+    {
+        self.pause.is_some()
+    }
+
+    fn set_pause(&mut self, seconds: u32, moment: Moment)
+        ensures { self.new
+            ≡ kept_after (with_pause seconds moment (record_of [] self.old)) self.old }
+    {
+        self.pauses = self.pauses.saturating_add(1);
+        self.pause = if seconds == 0 {
+            None
+        } else {
+            Some(Pausing {
+                seconds,
+                until: later(moment, seconds),
+            })
+        };
+    }
+
+    pub(crate) fn change(&mut self, what: TubeChange)
+        ensures { self.new ≡ kept_changed what self.old }
+    {
+        match what {
+            TubeChange::CountPut => self.puts = self.puts.saturating_add(1),
+            TubeChange::CountDelete => self.deletes = self.deletes.saturating_add(1),
+            TubeChange::Pause(seconds, moment) => self.set_pause(seconds, moment),
+        }
+    }
+
+    /// Counts a job.
+    pub(crate) fn add_job(&mut self, job: &Job)
+        ensures { self.new ≡ record self.old { tally = tally_with job.now self.old.tally } }
+    {
+        self.tally.add(job);
+    }
+
+    /// Counts a job no longer.
+    pub(crate) fn remove_job(&mut self, job: &Job)
+        ensures { self.new ≡ record self.old { tally = tally_without job.now self.old.tally } }
+    {
+        self.tally.remove(job);
+    }
+
+    /// A job of the tube stands otherwise.
+    pub(crate) fn move_job(&mut self, moved: &Moved)
+        ensures { self.new ≡ kept_moved moved.now self.old }
+    {
+        self.tally.leave(moved.from);
+        self.tally.enter(moved.to);
+    }
+
+    /// Counts a share of a seat, or counts it no longer.
+    pub(crate) fn recount(&mut self, moving: Moving, share: Share)
+        ensures { self.new ≡ kept_recounted moving share self.old }
+    {
+        self.crowd.recount(moving, share);
+    }
+
+    pub(crate) fn fire_timer(&mut self, moment: Moment)
+        ensures { self.new ≡ ended moment self.old }
+    {
+        let Some(pause) = self.pause else {
+            return;
+        };
+        if pause.until <= moment {
+            self.pause = None;
+        }
+    }
+}
+
+/// Changes the tube of this name.
+pub(crate) fn change(catalog: &mut Catalog<TubeName, TubeEntry>, name: &TubeName, what: TubeChange)
+    ensures { catalog.new.entries ≡ edited_at name.now (kept_changed what) catalog.old.entries }
+{
+    if let Some(entry) = catalog.get_mut(name) {
+        entry.change(what);
+    }
+}
+
+/// The pause of the tube of this name ends, if it is over.
+pub(crate) fn end_pause(catalog: &mut Catalog<TubeName, TubeEntry>, name: &TubeName, moment: Moment)
+    ensures { catalog.new.entries ≡ edited_at name.now (ended moment) catalog.old.entries }
+{
+    if let Some(entry) = catalog.get_mut(name) {
+        entry.fire_timer(moment);
+    }
+}
+
+/// Counts a job in its tube.
+pub(crate) fn add_job(catalog: &mut Catalog<TubeName, TubeEntry>, job: &Job)
+    ensures { catalog.new.entries ≡ edited_at job.now.tube (kept_with job.now) catalog.old.entries }
+{
+    if let Some(entry) = catalog.get_mut(&job.tube) {
+        entry.add_job(job);
+    }
+}
+
+/// Counts a job in its tube no longer.
+pub(crate) fn remove_job(catalog: &mut Catalog<TubeName, TubeEntry>, job: &Job)
+    ensures { catalog.new.entries
+        ≡ edited_at job.now.tube (kept_without job.now) catalog.old.entries }
+{
+    if let Some(entry) = catalog.get_mut(&job.tube) {
+        entry.remove_job(job);
+    }
+}
+
+/// A job stands otherwise in its tube.
+pub(crate) fn move_job(catalog: &mut Catalog<TubeName, TubeEntry>, moved: &Moved)
+    ensures { catalog.new.entries
+        ≡ edited_at moved.now.tube (kept_moved moved.now) catalog.old.entries }
+{
+    if let Some(entry) = catalog.get_mut(&moved.tube) {
+        entry.move_job(moved);
+    }
+}
+
+/// Counts a share of a seat at the tube of this name, or counts it no longer.
+pub(crate) fn recount(
+    catalog: &mut Catalog<TubeName, TubeEntry>,
+    name: &TubeName,
+    moving: Moving,
+    share: Share,
+)
+    ensures { catalog.new.entries
+        ≡ edited_at name.now (kept_recounted moving share) catalog.old.entries }
+{
+    if let Some(entry) = catalog.get_mut(name) {
+        entry.recount(moving, share);
+    }
+}
+
+/// What a seat counts for at a tube: whether its client uses it, watches it, and waits at it.
+#[derive(Clone, Copy)]
+pub(crate) struct Share {
+    pub(crate) using: bool,
+    pub(crate) watching: bool,
+    pub(crate) waiting: bool,
+}
+
+/// How many clients use a tube, watch it, and wait at it. A count stops at 2^64 - 1, which no
+/// number of seats comes to.
+#[derive(Clone, Copy, PartialEq, Eq)]
+pub struct Crowd {
+    pub using: u64,
+    pub watching: u64,
+    pub waiting: u64,
+}
+
+/// Whether a share is counted from now on, or no longer.
+#[derive(Clone, Copy)]
+pub(crate) enum Moving {
+    Comes,
+    Goes,
+}
+
+impl Share {
+    /// Whether it counts for nothing.
+    pub(crate) fn is_none(self) -> bool
+        ensures { result ≡ is_none self }
+    {
+        !self.using && !self.watching && !self.waiting
+    }
+}
+
+impl Crowd {
+    /// Nobody is counted.
+    pub(crate) fn none() -> Crowd
+        ensures { result ≡ no_crowd }
+    {
+        Crowd {
+            using: 0,
+            watching: 0,
+            waiting: 0,
+        }
+    }
+
+    /// Whether a client uses or watches the tube.
+    pub(crate) fn has_seats(&self) -> bool
+        ensures { result ≡ has_seats self.now }
+    {
+        self.using > 0 || self.watching > 0
+    }
+
+    fn add(&mut self, share: Share)
+        ensures { self.new ≡ crowd_with share self.old }
+    {
+        if share.using {
+            self.using = self.using.saturating_add(1);
+        }
+        if share.watching {
+            self.watching = self.watching.saturating_add(1);
+        }
+        if share.waiting {
+            self.waiting = self.waiting.saturating_add(1);
+        }
+    }
+
+    fn remove(&mut self, share: Share)
+        ensures { self.new ≡ crowd_without share self.old }
+    {
+        if share.using {
+            self.using = self.using.saturating_sub(1);
+        }
+        if share.watching {
+            self.watching = self.watching.saturating_sub(1);
+        }
+        if share.waiting {
+            self.waiting = self.waiting.saturating_sub(1);
+        }
+    }
+
+    /// Counts a seat's share, or counts it no longer.
+    pub(crate) fn recount(&mut self, moving: Moving, share: Share)
+        ensures { self.new ≡ recounted moving share self.old }
+    {
+        match moving {
+            Moving::Comes => self.add(share),
+            Moving::Goes => self.remove(share),
+        }
+    }
+}

@@ -1,0 +1,239 @@
+//! Changes of the tubes with which pauses come and go. The ends of the pauses follow, in their
+//! order.
+ghost use Rattle.std.specs.Prelude.{◌≡◌, ◌<◌, map, true, false, ◌+◌, ◌≤◌, length, is_some};
+ghost use Rattle.std.specs.Prelude.{if◌then◌else◌, IfOk, None};
+ghost use Rattle.std.specs.Map.{remove_entry};
+ghost use Rattle.bq_state.specs.Dues.{first_pause_end, is_end_over};
+ghost use Rattle.bq_state.specs.KeptTubes.{crowd_kept, edited_at, is_named_at, kept_changed};
+ghost use Rattle.bq_state.specs.KeptTubes.{record_at, records_ended, tally_kept};
+ghost use Rattle.bq_state.specs.PauseEnds.{AreEnds, end_of, pause_at, paused_count, end_cmp};
+ghost use Rattle.bq_state.specs.PauseEnds.{end_total, first_end, found_end, has_end, if_over};
+ghost use Rattle.bq_state.specs.PauseEnds.{with_end, without_end};
+ghost use Rattle.std.proofs.Common.{refl};
+ghost use Rattle.std.specs.Ordering.{as_partial_cmp, eq_by_cmp};
+ghost use Rattle.std.specs.Option.{ForSome, option_map};
+ghost use Rattle.std.specs.Cmp as Cmp;
+
+use super::entry::{self, TubeChange, TubeEntry};
+use bq_index::{Catalog, Test};
+use bq_job::{Moment, NoMemory, TubeName};
+use std::alloc::Global;
+use std::cmp::Ordering;
+
+// The end of the pause of the tube of this name, if it is paused.
+#[tactic(auto, using(crate::proofs::EndMoves::none_lent, crate::proofs::EndMoves::some_lent))]
+fn end_of(kept: &Catalog<TubeName, TubeEntry>, name: &TubeName) -> Option<PauseEnd>
+    ensures { result ≡ end_of name.now (pause_at name.now (map record_at kept.now.entries)) }
+{
+    match kept.peek(name) {
+        None => None,
+        Some(entry) => entry.end(name),
+    }
+}
+
+/// Pauses the tube of this name, or ends its pause.
+pub(crate) fn pause(
+    kept: &mut Catalog<TubeName, TubeEntry>,
+    ends: &mut PauseEnds,
+    name: &TubeName,
+    what: TubeChange,
+)
+    requires { AreEnds (map record_at kept.old.entries) ends.old }
+    ensures kept { kept.new.entries ≡ edited_at name.now (kept_changed what) kept.old.entries }
+    ensures ends { AreEnds (map record_at kept.new.entries) ends.new }
+{
+    // The names are in order, and so are the ends.
+    let _tubes = kept.len();
+    let _ends = ends.len();
+    let from = end_of(kept, name);
+    leave(ends, from);
+    entry::change(kept, name, what);
+    let to = end_of(kept, name);
+    enter(ends, to);
+}
+
+/// Drops the entry of this name, if there is one.
+pub(crate) fn drop_entry(
+    kept: &mut Catalog<TubeName, TubeEntry>,
+    ends: &mut PauseEnds,
+    name: &TubeName,
+)
+    requires { AreEnds (map record_at kept.old.entries) ends.old }
+    ensures kept { kept.new.entries ≡ remove_entry (is_named_at name.now) kept.old.entries }
+    ensures ends { AreEnds (map record_at kept.new.entries) ends.new }
+{
+    // The names are in order, and so are the ends.
+    let _tubes = kept.len();
+    let _ends = ends.len();
+    let from = end_of(kept, name);
+    leave(ends, from);
+    let _entry = kept.remove(name);
+}
+
+// The first pause ends, if it is over.
+fn end_first(kept: &mut Catalog<TubeName, TubeEntry>, ends: &mut PauseEnds, moment: Moment) -> bool
+    requires { AreEnds (map record_at kept.old.entries) ends.old }
+    ensures done { result ≡ false
+        → is_end_over moment (first_pause_end (map record_at kept.new.entries)) ≡ false }
+    ensures records { records_ended moment kept.new.entries
+        ≡ records_ended moment kept.old.entries }
+    ensures tallies { map tally_kept kept.new.entries ≡ map tally_kept kept.old.entries }
+    ensures crowds { map crowd_kept kept.new.entries ≡ map crowd_kept kept.old.entries }
+    ensures fewer { result ≡ true → paused_count kept.new.entries < paused_count kept.old.entries }
+    ensures ends { AreEnds (map record_at kept.new.entries) ends.new }
+{
+    // The names are in order, and so are the ends.
+    let _tubes = kept.len();
+    let _ends = ends.len();
+    let Some(end) = first_over(ends, moment) else {
+        return false;
+    };
+    entry::end_pause(kept, &end.name, moment);
+    leave(ends, Some(end));
+    true
+}
+
+/// Pauses that are over end. No other tube is looked at.
+#[tactic(auto, using(crate::proofs::PauseLemmas::no_pause_ends, crate::proofs::PauseLemmas::none_over))]
+pub(crate) fn end_all(kept: &mut Catalog<TubeName, TubeEntry>, ends: &mut PauseEnds, moment: Moment)
+    requires { AreEnds (map record_at kept.old.entries) ends.old }
+    ensures records { map record_at kept.new.entries ≡ records_ended moment kept.old.entries }
+    ensures tallies { map tally_kept kept.new.entries ≡ map tally_kept kept.old.entries }
+    ensures crowds { map crowd_kept kept.new.entries ≡ map crowd_kept kept.old.entries }
+    ensures ends { AreEnds (map record_at kept.new.entries) ends.new }
+{
+    while end_first(kept, ends, moment) {}
+}
+
+/// When the pause of a tube ends: by moment, and at one moment by name.
+#[derive(Clone, Copy)]
+pub(crate) struct PauseEnd {
+    pub(crate) until: Moment,
+    pub(crate) name: TubeName,
+}
+
+impl PartialEq for PauseEnd {
+    ghost eq = { eq_by_cmp end_cmp };
+
+    ghost laws = { Cmp.partial_equiv_from_equiv (Cmp.eq_by_cmp_equiv end_total) };
+
+    fn eq(&self, other: &PauseEnd) -> bool {
+        self.cmp(other).is_eq()
+    }
+}
+
+impl Eq for PauseEnd {
+    ghost laws = { Cmp.eq_by_cmp_equiv end_total };
+}
+
+impl PartialOrd for PauseEnd {
+    ghost partial_cmp = { as_partial_cmp end_cmp };
+
+    ghost laws = { Cmp.partial_order_from_agreeing_total end_cmp end_total (λ a b. refl) (λ a b. refl) };
+
+    fn partial_cmp(&self, other: &PauseEnd) -> Option<Ordering> {
+        Some(self.cmp(other))
+    }
+}
+
+impl Ord for PauseEnd {
+    ghost cmp = { end_cmp };
+
+    ghost total = { end_total };
+
+    ghost matches_partial_cmp = { λ a b. refl };
+
+    ghost matches_eq = { λ a b. refl };
+
+    fn cmp(&self, other: &PauseEnd) -> Ordering {
+        self.until
+            .cmp(&other.until)
+            .then_with(|| self.name.cmp(&other.name))
+    }
+}
+
+/// The ends of pauses, one for each tube that is paused.
+pub(crate) type PauseEnds = Catalog<PauseEnd, ()>;
+
+// Each end passes.
+#[derive(Clone, Copy)]
+struct Each;
+
+impl Test<PauseEnd, ()> for Each {
+    ghost use Rattle.std.specs.Prelude.{true};
+
+    ghost passed = { λ _ _ _. true };
+
+    fn passes(&self, _end: &PauseEnd, _none: &()) -> bool {
+        true
+    }
+}
+
+/// The first end, if there is one.
+pub(crate) fn first(ends: &PauseEnds) -> Option<PauseEnd>
+    ensures { result ≡ first_end ends.now.entries }
+{
+    match ends.first(&Each) {
+        None => None,
+        Some((end, _)) => Some(*end),
+    }
+}
+
+/// When the first pause ends, if there is one.
+pub(crate) fn first_until(ends: &PauseEnds) -> Option<Moment>
+    ensures { result ≡ option_map (λ e. e.until) (first_end ends.now.entries) }
+{
+    match first(ends) {
+        None => None,
+        Some(end) => Some(end.until),
+    }
+}
+
+/// The first end, if it has come.
+pub(crate) fn first_over(ends: &PauseEnds, moment: Moment) -> Option<PauseEnd>
+    ensures { result ≡ if_over moment (first_end ends.now.entries) }
+{
+    match first(ends) {
+        None => None,
+        Some(end) => if end.until <= moment { Some(end) } else { None },
+    }
+}
+
+/// Sets boxes aside for the ends of the pauses of so many tubes and of one more.
+pub(crate) fn make_room(ends: &mut PauseEnds, alloc: Global, tubes: usize) -> Result<(), NoMemory>
+    ensures entries { ends.new.entries ≡ ends.old.entries }
+    ensures not_fewer { ends.old.spare ≤ ends.new.spare }
+    ensures room { IfOk result (λ _. tubes + 1 ≤ length ends.new.entries + ends.new.spare) }
+{
+    let Some(wanted) = tubes.checked_add(1) else {
+        return Err(NoMemory);
+    };
+    let more = wanted.saturating_sub(ends.len());
+    match ends.reserve(alloc, more) {
+        Ok(()) => Ok(()),
+        Err(_) => Err(NoMemory),
+    }
+}
+
+/// Puts an end in, if there is one.
+pub(crate) fn enter(ends: &mut PauseEnds, end: Option<PauseEnd>)
+    requires spare { ForSome end (λ _. 0 < ends.old.spare) }
+    requires absent { ForSome end (λ e. found_end e ends.old.entries ≡ None) }
+    ensures entries { ends.new.entries ≡ with_end end ends.old.entries }
+    ensures spare { ends.new.spare + (if is_some end then 1 else 0) ≡ ends.old.spare }
+{
+    if let Some(end) = end {
+        ends.insert(end, ());
+    }
+}
+
+/// Takes an end out, if there is one.
+pub(crate) fn leave(ends: &mut PauseEnds, end: Option<PauseEnd>)
+    requires { ForSome end (λ e. has_end e ends.old.entries ≡ true) }
+    ensures entries { ends.new.entries ≡ without_end end ends.old.entries }
+    ensures spare { ends.new.spare ≡ ends.old.spare + (if is_some end then 1 else 0) }
+{
+    if let Some(end) = end {
+        let _held = ends.remove(&end);
+    }
+}

@@ -1,0 +1,157 @@
+//! What is asked of all entries of tubes, and which of them are dropped.
+ghost use Rattle.std.specs.Prelude.{◌≡◌, ◌<◌, ◌≤◌, ◌+◌, ◌++◌, [], vec_len, IfOk, fold, filter};
+ghost use Rattle.std.specs.Prelude.{find, map};
+ghost use Rattle.std.specs.Vec.{vec_capacity};
+ghost use Rattle.bq_state.specs.KeptTubes.{is_alive_with, name_if_alive, with_alive, with_name_of};
+ghost use Rattle.bq_state.specs.KeptTubes.{is_alive_at, is_gone_by, is_gone_from, is_named_at};
+ghost use Rattle.bq_state.specs.KeptTubes.{record_at, without_gone};
+ghost use Rattle.bq_state.specs.Names.{names_of};
+ghost use Rattle.std.specs.Map.{lookup};
+ghost use Rattle.std.specs.Option.{option_map};
+ghost use Rattle.bq_state.specs.PauseEnds.{AreEnds};
+
+use super::entry::TubeEntry;
+use super::pauses::{self, PauseEnds};
+use crate::name_lists::Names;
+use crate::watch_list::default_tube;
+use bq_index::{Catalog, Test, Visitor};
+use bq_job::{NoMemory, TubeName};
+use std::alloc::Global;
+
+/// How many of those that were seen are of tubes that exist. The count stops at 2^64 - 1.
+#[derive(Clone, Copy)]
+pub(crate) struct HowMany {
+    count: u64,
+}
+
+impl HowMany {
+    /// None was seen yet.
+    pub(crate) fn none() -> HowMany
+        ensures { result ≡ record { count = 0 } }
+    {
+        HowMany { count: 0 }
+    }
+
+    pub(crate) fn count(&self) -> u64
+        ensures { result ≡ self.now.count }
+    {
+        self.count
+    }
+}
+
+impl Visitor<TubeName, TubeEntry> for HowMany {
+    ghost after = { λ s n t. record { count = with_alive s.count n t } };
+
+    fn visit(&mut self, name: &TubeName, entry: &TubeEntry) {
+        if is_alive(name, entry) {
+            self.count = self.count.saturating_add(1);
+        }
+    }
+}
+
+/// Whether the tube of an entry exists.
+pub(crate) fn is_alive(name: &TubeName, entry: &TubeEntry) -> bool
+    ensures { result ≡ is_alive_with name.now entry.now }
+{
+    *name == default_tube() || entry.tally().has_jobs() || entry.crowd().has_seats()
+}
+
+// Adds the name of an entry, if its tube exists. It takes no memory.
+fn add_alive<'a>(names: &mut Names<'a>, name: &'a TubeName, entry: &TubeEntry)
+    requires { vec_len names.old < vec_capacity names.old }
+    ensures names { names_of names.new.items
+        ≡ names_of names.old.items ++ name_if_alive name.now entry.now }
+    ensures len { vec_len names.new ≤ vec_len names.old + 1 }
+    ensures capacity { vec_capacity names.new ≡ vec_capacity names.old }
+{
+    if is_alive(name, entry) {
+        names.push_reserved(name.as_slice());
+    }
+}
+
+/// The names of those of these tubes that exist, in their order. Their memory is asked for before.
+pub(crate) fn names_alive<'a>(
+    alloc: Global,
+    listed: &[(&'a TubeName, &'a TubeEntry)],
+) -> Result<Names<'a>, NoMemory>
+    ensures { IfOk result (λ names. names_of names.items ≡ fold with_name_of [] listed.now) }
+{
+    let Ok(mut names) = Vec::with_capacity(alloc, listed.len()) else {
+        return Err(NoMemory);
+    };
+    for i in 0..listed.len() {
+        let (name, entry) = listed[i];
+        add_alive(&mut names, name, entry);
+    }
+    Ok(names)
+}
+
+// The tube of an entry is gone.
+#[derive(Clone, Copy)]
+struct GoneTube;
+
+impl Test<TubeName, TubeEntry> for GoneTube {
+    ghost use Rattle.std.specs.Prelude.{not};
+    ghost use Rattle.bq_state.specs.KeptTubes.{is_alive_with};
+
+    ghost passed = { λ _ n t. not (is_alive_with n t) };
+
+    fn passes(&self, name: &TubeName, entry: &TubeEntry) -> bool {
+        !is_alive(name, entry)
+    }
+}
+
+// Whether the tube of this name has an entry, and is gone.
+fn is_gone(catalog: &Catalog<TubeName, TubeEntry>, name: &TubeName) -> bool
+    ensures { result ≡ is_gone_by name.now (lookup (is_named_at name.now) catalog.now.entries) }
+{
+    match catalog.peek(name) {
+        None => false,
+        Some(entry) => !is_alive(name, entry),
+    }
+}
+
+/// Drops the entry of this name, where its tube is gone.
+pub(crate) fn forget_named(
+    catalog: &mut Catalog<TubeName, TubeEntry>,
+    ends: &mut PauseEnds,
+    name: &TubeName,
+)
+    requires { AreEnds (map record_at catalog.old.entries) ends.old }
+    ensures ends { AreEnds (map record_at catalog.new.entries) ends.new }
+    ensures kept { catalog.new.entries ≡ without_gone name.now catalog.old.entries }
+{
+    if is_gone(catalog, name) {
+        pauses::drop_entry(catalog, ends, name);
+    }
+}
+
+// The name of the first entry whose tube is gone, or of the first from this name on.
+fn next_gone(catalog: &Catalog<TubeName, TubeEntry>, from: &Option<TubeName>) -> Option<TubeName>
+    ensures { result ≡ option_map (λ e. e.0) (find (is_gone_from from.now) catalog.now.entries) }
+{
+    let found = match from {
+        None => catalog.first(&GoneTube),
+        Some(name) => catalog.first_from(name, &GoneTube),
+    };
+    match found {
+        None => None,
+        Some((name, _)) => Some(*name),
+    }
+}
+
+/// Drops all entries whose tubes are gone. After each, the search goes on from there.
+#[tactic(auto, using(crate::proofs::GoneLemmas::name_removed, crate::proofs::GoneLemmas::no_name, crate::proofs::GoneLemmas::none_gone))]
+pub(crate) fn forget_all(catalog: &mut Catalog<TubeName, TubeEntry>, ends: &mut PauseEnds)
+    requires { AreEnds (map record_at catalog.old.entries) ends.old }
+    ensures ends { AreEnds (map record_at catalog.new.entries) ends.new }
+    ensures kept { catalog.new.entries ≡ filter is_alive_at catalog.old.entries }
+{
+    let mut last = None;
+    while let Some(name) = next_gone(catalog, &last) {
+        // The names are in order.
+        let _entries = catalog.len();
+        pauses::drop_entry(catalog, ends, &name);
+        last = Some(name);
+    }
+}

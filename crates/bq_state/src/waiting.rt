@@ -1,0 +1,178 @@
+//! The clients that wait, in their turn.
+ghost use Rattle.std.specs.Prelude.{◌≡◌, ◌==◌, ◌-◌, ◌<◌, ◌≤◌, [], find, not, length, vec_len, IfOk};
+ghost use Rattle.std.specs.List.{position, prefix_len, slice_get};
+ghost use Rattle.std.specs.Option.{option_copied};
+ghost use Rattle.std.specs.Vec.{vec_capacity};
+ghost use Rattle.bq_state.specs.Places.{item_at};
+ghost use Rattle.bq_state.specs.WaitingTurns.{IsRising, is_none_or_before, is_turn_after};
+ghost use Rattle.bq_state.specs.WaitingTurns.{is_turn_before, placed, removed, with_turn};
+ghost use Rattle.bq_state.specs.WaitingTurns.{without_turn};
+
+use crate::seats::{SeatRecord, Turn};
+use bq_job::{NoMemory, Seat};
+use std::alloc::Global;
+use std::marker::Model;
+
+/// The turns of the clients that wait, the one that has waited longest first. All its memory is
+/// given when it is made.
+#[derive(Drop)]
+pub struct Waiting {
+    turns: Vec<Turn, Global>,
+}
+
+impl Model for Waiting {
+    ghost use Rattle.std.specs.Vec.{vec_capacity};
+    ghost use Rattle.bq_state.specs.WaitingTurns.{WaitingTurns};
+
+    ghost Value = { WaitingTurns };
+
+    ghost view = { λ q. record { turns = q.turns.items; room = vec_capacity q.turns } };
+}
+
+// Whether the one turn comes before the other.
+fn is_before(turn: Turn, other: Turn) -> bool
+    ensures { result ≡ is_turn_before turn other }
+{
+    turn.0 < other.0 || (turn.0 == other.0 && turn.1 < other.1)
+}
+
+// The place of the first turn that doesn't come before this one.
+fn first_after(turns: &[Turn], turn: Turn) -> Option<usize>
+    ensures { result ≡ position (λ other. not (is_turn_before other turn)) turns.now }
+{
+    turns.iter().position(|other| !is_before(*other, turn))
+}
+
+// Whether the turn comes after the last one, if there is one.
+fn is_after(turn: Turn, last: Option<Turn>) -> bool
+    ensures { result ≡ is_turn_after last turn }
+{
+    match last {
+        None => true,
+        Some(last) => is_before(last, turn),
+    }
+}
+
+// The place of the first turn that comes after the last one.
+fn place_after(turns: &[Turn], last: Option<Turn>) -> Option<usize>
+    ensures { result ≡ position (is_turn_after last) turns.now }
+{
+    turns.iter().position(|turn| is_after(*turn, last))
+}
+
+/// What stands at this place, if anything does.
+pub(crate) fn turn_at(turns: &[Turn], place: Option<usize>) -> Option<Turn>
+    ensures { result ≡ item_at turns.now place }
+{
+    match place {
+        None => None,
+        Some(i) => turns.get(i).copied(),
+    }
+}
+
+// Whether the last turn, if there is one, comes before this one.
+fn ends_before(turns: &[Turn], turn: Turn) -> bool
+    ensures { result ≡ is_none_or_before turn (slice_get turns.now (length turns.now - 1)) }
+{
+    match turns.last() {
+        None => true,
+        Some(last) => is_before(*last, turn),
+    }
+}
+
+// Where the turn would stand. Who begins to wait mostly stands last.
+fn place_of(turns: &[Turn], turn: Turn) -> usize
+    requires { IsRising is_turn_before turns.now }
+    ensures { result ≡ prefix_len (λ other. is_turn_before other turn) turns.now }
+{
+    if ends_before(turns, turn) {
+        return turns.len();
+    }
+    first_after(turns, turn).unwrap_or(turns.len())
+}
+
+// Puts a turn in at its place. It takes no memory.
+fn place(turns: &mut Vec<Turn, Global>, turn: Turn)
+    requires fits { vec_len turns.old < vec_capacity turns.old }
+    requires rising { IsRising is_turn_before turns.old.items }
+    ensures turns { turns.new.items ≡ placed is_turn_before turn turns.old.items }
+    ensures room { vec_capacity turns.old ≤ vec_capacity turns.new }
+{
+    let i = place_of(turns.as_slice(), turn);
+    let _fits = turns.insert(i, turn);
+}
+
+// The place of the turn of this seat.
+fn place_of_seat(turns: &[Turn], number: Seat) -> Option<usize>
+    ensures { result ≡ position (λ turn. turn.1 == number) turns.now }
+{
+    turns.iter().position(|turn| turn.1 == number)
+}
+
+// Takes the turn of this seat out.
+fn remove(turns: &mut Vec<Turn, Global>, number: Seat)
+    ensures turns { turns.new.items ≡ removed number turns.old.items }
+    ensures room { vec_capacity turns.new ≡ vec_capacity turns.old }
+{
+    if let Some(i) = place_of_seat(turns.as_slice(), number) {
+        let _turn = turns.remove(i);
+    }
+}
+
+impl Waiting {
+    /// With nobody in it, and with room for so many.
+    pub fn new(alloc: Global, room: u16) -> Result<Waiting, NoMemory>
+        ensures empty { IfOk result (λ waiting. waiting.turns ≡ []) }
+        ensures room { IfOk result (λ waiting. waiting.room ≡ room) }
+    {
+        match Vec::with_capacity(alloc, usize::from(room)) {
+            Ok(turns) => Ok(Waiting { turns }),
+            Err(_) => Err(NoMemory),
+        }
+    }
+
+    /// The turns, the first one first.
+    pub fn as_slice(&self) -> &[Turn]
+        ensures { result.now ≡ self.now.turns }
+    {
+        self.turns.as_slice()
+    }
+
+    /// The first turn that comes after the last one, or where there is no last one, the first of
+    /// all.
+    #[tactic(auto, using(crate::proofs::WalkLemmas::item_found))]
+    pub fn next_after(&self, last: Option<Turn>) -> Option<Turn>
+        ensures { result ≡ find (is_turn_after last) self.now.turns }
+    {
+        let turns = self.turns.as_slice();
+        turn_at(turns, place_after(turns, last))
+    }
+
+    /// Puts in the turn of the client, if there is one and it waits.
+    pub(crate) fn join(&mut self, client: Option<&SeatRecord>)
+        requires fits { length (with_turn (option_copied client) self.old.turns) ≤ self.old.room }
+        requires rising { IsRising is_turn_before self.old.turns }
+        ensures turns { self.new.turns ≡ with_turn (option_copied client.entry) self.old.turns }
+        ensures room { self.old.room ≤ self.new.room }
+    {
+        let Some(client) = client else {
+            return;
+        };
+        if client.is_waiting() {
+            place(&mut self.turns, client.turn());
+        }
+    }
+
+    /// Takes it out.
+    pub(crate) fn leave(&mut self, client: Option<&SeatRecord>)
+        ensures turns { self.new.turns ≡ without_turn (option_copied client.entry) self.old.turns }
+        ensures room { self.new.room ≡ self.old.room }
+    {
+        let Some(client) = client else {
+            return;
+        };
+        if client.is_waiting() {
+            remove(&mut self.turns, client.number());
+        }
+    }
+}
