@@ -15,7 +15,7 @@ use Rattle.bq_job.specs.machine.Machine.{Machine, SeatRecord}
 use Rattle.bq_job.specs.machine.Timers.{is_due, is_expired, job_after_timers, with_timeout}
 use Rattle.bq_job.specs.machine.Dispatch.{is_wait_before}
 use Rattle.bq_job.specs.machine.Waits.{ends_waiting, is_deadline_soon, is_ending_lease, is_timed_out, is_timed_out_at, next_end}
-use Rattle.bq_state.specs.EndingWaits.{has_waited, is_lease_short}
+use Rattle.bq_state.specs.EndingWaits.{has_waited, is_lease_short, is_soon}
 use Rattle.bq_job.proofs.ChoiceLemmas.{first_of_contains, first_of_is_least, first_of_none, first_of_none_passes, first_of_passes, pair_order}
 use Rattle.bq_job.proofs.ListLemmas.{all_always, all_at, all_from_members, all_weaker, count_all_not, count_cons, list_any_not, list_any_with, map_all_same, none_pass}
 use Rattle.bq_jobs.specs.Kept.{ranked}
@@ -239,13 +239,6 @@ module _ (p : Job → Bool) (number : Job → ℕ) (q : ℕ → Job → Bool) (q
       let past_it : nat_le (number j) t ≡ true = let n = c.at_is in grind (arith, nat_tests) in
       record { job = j; found = c.chosen_is.found; passes_is = q_is t j ∙ rw (c.chosen_is.passes_is, past_it) refl }
 
-  pub any_past : (t at id : ℕ) → Some (at, id) ≡ option_map (ranked number) (first_of p (λ a b. is_pair_before (number a) a.id (number b) b.id) jobs) → at ≤ t → list_any (q t) jobs ≡ true
-  any_past t at id e past =
-      let c = chosen_at p number low next jobs at id ids e in
-      let one = first_past t at id e past in
-      list_any_with (q t) jobs c.chosen_is.job (first_of_contains p (λ a b. is_pair_before (number a) a.id (number b) b.id) jobs c.chosen_is.job c.chosen_is.first)
-      (let j = c.chosen_is.job in let past_it : nat_le (number j) t ≡ true = let n = c.at_is in grind (arith, nat_tests) in q_is t j ∙ rw (c.chosen_is.passes_is, past_it) refl)
-
   -- the first one is after the moment
   pub none_past : (t at id : ℕ) → Some (at, id) ≡ option_map (ranked number) (first_of p (λ a b. is_pair_before (number a) a.id (number b) b.id) jobs) → t < at → list_any (q t) jobs ≡ false
   none_past t at id e later =
@@ -307,15 +300,46 @@ given_none state seat m e =
     no_id (Some j) h = absurd cc
 
 -- the first lease of a client ends within a second
-pub endings_told : (seat moment : ℕ) (jobs : List Job) → list_any (λ j. is_ending_lease moment seat j.state) jobs ≡ list_any (λ j. is_held_by seat j && nat_le (deadline_of j.state) (moment + 1000)) jobs
+endings_told : (seat moment : ℕ) (jobs : List Job) → list_any (λ j. is_ending_lease moment seat j.state) jobs ≡ list_any (λ j. is_held_by seat j && nat_le (deadline_of j.state) (moment + 1000)) jobs
 endings_told seat moment [] = refl
 endings_told seat moment (j ∷ jobs) = rw (ending_is moment seat j.state, endings_told seat moment jobs) refl
 
-pub soon_told : (d m s : ℕ) → s ≡ d - 1000 → nat_le s m ≡ nat_le d (m + 1000)
+soon_told : (d m s : ℕ) → s ≡ d - 1000 → nat_le s m ≡ nat_le d (m + 1000)
 soon_told d m s e = elim (cases_Bool (nat_le d (m + 1000))) [
   | inl x ↦ let y : nat_le s m ≡ true = grind (arith, nat_tests) in y ∙ sym x
   | inr x ↦ let y : nat_le s m ≡ false = grind (arith, nat_tests) in y ∙ sym x
 ]
+
+-- The first of some leases tells whether one of them ends within a second.
+soon_first : (p : Job → Bool) (moment : ℕ) (jobs : List Job) (found : Option (ℕ × ℕ)) → found ≡ option_map (ranked (λ j. deadline_of j.state)) (first_of p is_lease_before jobs)
+    → is_soon moment found ≡ list_any (λ j. p j && nat_le (deadline_of j.state) (moment + 1000)) jobs
+soon_first p moment jobs found is = ap (is_soon moment) is ∙ go (first_of p is_lease_before jobs) refl
+  where
+    q : Job → Bool
+    q j = p j && nat_le (deadline_of j.state) (moment + 1000)
+
+    late : (k j : Job) → is_lease_before k j ≡ false → nat_le (deadline_of j.state) (moment + 1000) ≡ false → nat_le (deadline_of k.state) (moment + 1000) ≡ false
+    late k j after h = grind (arith, nat_tests)
+
+    go : (o : Option Job) → first_of p is_lease_before jobs ≡ o → is_soon moment (option_map (ranked (λ j. deadline_of j.state)) o) ≡ list_any q jobs
+    go None e = sym (list_any_not q jobs (all_weaker (λ k. p k ≡ false) (λ k. q k ≡ false) jobs (λ k fail. rw fail refl) (none_pass p jobs (first_of_none p is_lease_before jobs e))))
+    go (Some j) e = soon_told (deadline_of j.state) moment (deadline_of j.state - 1000) refl ∙ elim (cases_Bool (nat_le (deadline_of j.state) (moment + 1000))) [
+      | inl past ↦ past ∙ sym (list_any_with q jobs j (first_of_contains p is_lease_before jobs j e) (rw (first_of_passes p is_lease_before jobs j e, past) refl))
+      | inr later ↦
+          later
+          ∙ sym (list_any_not q jobs (all_from_members (λ k. q k ≡ false) jobs (λ k here. elim (cases_Bool (p k)) [
+            | inl pass ↦ rw (pass, late k j (first_of_is_least p (pair_order (λ k. deadline_of k.state) (λ k. k.id)) jobs j k e here pass) later) refl
+            | inr fail ↦ rw fail refl
+          ])))
+    ]
+
+pub seat_warned : (seat moment : ℕ) (jobs : List Job) (found : Option (ℕ × ℕ)) (soon : Bool) → soon ≡ is_soon moment found → found ≡ option_map (ranked (λ j. deadline_of j.state)) (first_of (is_held_by seat) is_lease_before jobs)
+    → soon ≡ list_any (λ j. is_ending_lease moment seat j.state) jobs
+seat_warned seat moment jobs found soon told is = told ∙ soon_first (is_held_by seat) moment jobs found is ∙ sym (endings_told seat moment jobs)
+
+pub some_warned : (moment : ℕ) (jobs : List Job) (found : Option (ℕ × ℕ)) (soon : Bool) → soon ≡ is_soon moment found → found ≡ option_map (ranked (λ j. deadline_of j.state)) (first_of (λ j. is_reserved j.state) is_lease_before jobs)
+    → soon ≡ list_any (is_lease_short moment) jobs
+some_warned moment jobs found soon told is = told ∙ soon_first (λ j. is_reserved j.state) moment jobs found is
 
 -- nobody waits: no wait ends
 pub nobody_ends : (m : Machine) → list_any is_waiting m.seats ≡ false → next_end m ≡ None

@@ -7,6 +7,7 @@ ghost use Rattle.bq_jobs.specs.Kept.{ComparesAtMost};
 ghost use Rattle.bq_state.specs.Asking.{Asks};
 ghost use Rattle.bq_core.specs.Firing.{ExpiresOne, IsOne, after_job_timers, is_ripe, is_some_due};
 ghost use Rattle.bq_core.specs.Firing.{is_some_expired, with_pauses_ended, after_giving_back};
+ghost use Rattle.bq_state.specs.Keeping.{Looks};
 ghost use Rattle.bq_state.specs.CoreParts.{machine_of, count_jobs};
 ghost use Rattle.bq_core.specs.Firing.{HaveFired};
 ghost use Rattle.bq_job.specs.machine.Asked.{state_once_left};
@@ -30,27 +31,29 @@ use bq_state::seats::{SeatRecord, Turn};
 use bq_state::{changes, job_store, seats};
 
 // The delayed job that is due first, if its moment has come.
-fn first_ripe(jobs: &mut Jobs, moment: Moment) -> Option<JobId>
-    ensures found { IfSome result (λ id. IsOne (λ j. is_due moment j.state) jobs.old.jobs id) }
-    ensures none { result ≡ None → list_any (λ j. is_due moment j.state) jobs.old.jobs ≡ false }
-    ensures same { jobs.new ≡ record jobs.old { comparisons = jobs.new.comparisons } }
-    ensures comparisons { ComparesAtMost 1 jobs.old jobs.new }
+#[tactic(auto, using(bq_state::proofs::PartsLemmas::compared_sound))]
+fn first_ripe(state: &mut CoreParts) -> Option<JobId>
+    ensures found { IfSome result (λ id. IsOne (λ j. is_due state.old.moment j.state) state.old.jobs.jobs id) }
+    ensures none { result ≡ None → list_any (λ j. is_due state.old.moment j.state) state.old.jobs.jobs ≡ false }
+    ensures kept { Looks 1 state.old state.new }
 {
-    let _jobs = jobs.len();
-    let (due, id) = jobs.next_due()?;
-    if due <= moment { Some(id) } else { None }
+    let (due, id) = state.jobs.next_due()?;
+    if due <= state.moment { Some(id) } else { None }
 }
 
 // The job whose time to run is over first, if that moment has come.
-fn first_expired(jobs: &mut Jobs, moment: Moment) -> Option<JobId>
-    ensures found { IfSome result (λ id. IsOne (λ j. is_expired moment j.state) jobs.old.jobs id) }
-    ensures none { result ≡ None → list_any (λ j. is_expired moment j.state) jobs.old.jobs ≡ false }
-    ensures same { jobs.new ≡ record jobs.old { comparisons = jobs.new.comparisons } }
-    ensures comparisons { ComparesAtMost 1 jobs.old jobs.new }
+#[tactic(auto, using(bq_state::proofs::PartsLemmas::compared_sound))]
+fn first_expired(state: &mut CoreParts) -> Option<JobId>
+    ensures found { IfSome result (λ id. IsOne (λ j. is_expired state.old.moment j.state) state.old.jobs.jobs id) }
+    ensures none { result ≡ None → list_any (λ j. is_expired state.old.moment j.state) state.old.jobs.jobs ≡ false }
+    ensures kept { Looks 1 state.old state.new }
 {
-    let _jobs = jobs.len();
-    let (deadline, id) = jobs.next_deadline()?;
-    if deadline <= moment { Some(id) } else { None }
+    let (deadline, id) = state.jobs.next_deadline()?;
+    if deadline <= state.moment {
+        Some(id)
+    } else {
+        None
+    }
 }
 
 // One delayed job becomes ready, if one is due.
@@ -64,7 +67,7 @@ fn ripen(state: &mut CoreParts) -> bool
     ensures asks { Asks (if result then 9 else 1) state.old.jobs state.new.jobs }
 {
     let moment = state.moment;
-    let Some(id) = first_ripe(&mut state.jobs, moment) else {
+    let Some(id) = first_ripe(state) else {
         return false;
     };
     changes::change_job(state, id, &JobChange::FireTimers(moment));
@@ -79,7 +82,7 @@ fn expire_first(state: &mut CoreParts) -> bool
     ensures asks { Asks (if result then 9 else 1) state.old.jobs state.new.jobs }
 {
     let moment = state.moment;
-    let Some(id) = first_expired(&mut state.jobs, moment) else {
+    let Some(id) = first_expired(state) else {
         return false;
     };
     changes::change_job(state, id, &JobChange::FireTimers(moment));

@@ -9,7 +9,7 @@ ghost use Rattle.bq_job.specs.machine.Waits.{WaitEndTurn, is_ending_lease, next_
 ghost use Rattle.bq_jobs.specs.Kept.{ComparesAtMost};
 ghost use Rattle.bq_state.specs.Asking.{Asks};
 ghost use Rattle.bq_state.specs.CoreParts.{held, machine_of};
-ghost use Rattle.bq_state.specs.EndingWaits.{AreLookedAt, has_waited, is_lease_short, left_after, may_end};
+ghost use Rattle.bq_state.specs.EndingWaits.{AreLookedAt, has_waited, is_lease_short, is_soon, left_after, may_end};
 ghost use Rattle.bq_state.specs.EndingWaits.{told_at_end, waits_after};
 ghost use Rattle.bq_state.specs.Keeping.{Looks};
 ghost use Rattle.bq_state.specs.Places.{item_at};
@@ -17,7 +17,7 @@ ghost use Rattle.bq_core.specs.Serving.{IsLastTurn};
 ghost use Rattle.bq_core.specs.Turns.{Gives, HasRoom, none_refused};
 ghost use Rattle.bq_core.specs.WaitEnds.{EndsWait, LooksAt};
 
-use bq_job::{Answer, Moment, Seat};
+use bq_job::{Answer, JobId, Moment, Seat};
 use bq_jobs::Jobs;
 use bq_state::core_parts::CoreParts;
 use bq_state::known::{self, FirstEnd};
@@ -25,30 +25,33 @@ use bq_state::seats::{SeatChange, Turn};
 use bq_state::{changes, seats};
 use bq_steps::Outs;
 
+// Whether the moment that was found, if one was, comes within a second.
+fn is_soon(found: Option<(Moment, JobId)>, moment: Moment) -> bool
+    ensures { result ≡ is_soon moment found }
+{
+    match found {
+        None => false,
+        Some((due, _)) => due.saturating_sub(1000) <= moment,
+    }
+}
+
 // Whether the client at the seat holds a job whose time to run ends within a second.
 fn is_deadline_soon(jobs: &mut Jobs, seat: Seat, moment: Moment) -> bool
     ensures soon { result ≡ list_any (λ j. is_ending_lease moment seat j.state) jobs.old.jobs }
     ensures same { jobs.new ≡ record jobs.old { comparisons = jobs.new.comparisons } }
     ensures comparisons { ComparesAtMost 1 jobs.old jobs.new }
 {
-    let _jobs = jobs.len();
-    match jobs.next_deadline_of(seat) {
-        None => false,
-        Some((deadline, _)) => deadline.saturating_sub(1000) <= moment,
-    }
+    is_soon(jobs.next_deadline_of(seat), moment)
 }
 
 // Whether the time to run of some reserved job ends within a second.
+#[tactic(auto, using(crate::proofs::FiringLemmas::some_warned))]
 fn is_some_deadline_soon(jobs: &mut Jobs, moment: Moment) -> bool
     ensures soon { result ≡ list_any (is_lease_short moment) jobs.old.jobs }
     ensures same { jobs.new ≡ record jobs.old { comparisons = jobs.new.comparisons } }
     ensures comparisons { ComparesAtMost 1 jobs.old jobs.new }
 {
-    let _jobs = jobs.len();
-    match jobs.next_deadline() {
-        None => false,
-        Some((first, _)) => first.saturating_sub(1000) <= moment,
-    }
+    is_soon(jobs.next_deadline(), moment)
 }
 
 // What the client at place k, which waits, is told if its wait ends now. Its first lease is asked

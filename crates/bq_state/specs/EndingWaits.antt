@@ -1,5 +1,5 @@
 -- Which waits end.
-use Rattle.std.specs.Prelude.{ℕ, Bool, true, ◌≡◌, ◌+◌, ◌&&◌, ◌||◌, nat_le, if◌then◌else◌, Option, Some, None, count_by}
+use Rattle.std.specs.Prelude.{ℕ, Bool, true, ◌≡◌, ◌+◌, ◌&&◌, ◌||◌, nat_le, if◌then◌else◌, Option, Some, None, count_by, false, ◌-◌}
 use Rattle.std.specs.List.{AllByRecursion, list_any}
 use Rattle.bq_job.specs.declared.answer.Answer.{Answer}
 use Rattle.bq_job.specs.declared.answer.Answer.TheVariants as answers
@@ -14,6 +14,11 @@ use Rattle.bq_job.specs.machine.Waits.{ends_waiting, is_deadline_soon, is_timed_
 -- a reservation whose time to run ends within a second
 abbrev pub is_lease_short : ℕ → Job → Bool
 is_lease_short moment j = is_reserved j.state && nat_le (deadline_of j.state) (moment + 1000)
+
+-- the moment that was found, if one was, comes within a second
+abbrev pub is_soon : ℕ → Option (ℕ × ℕ) → Bool
+is_soon moment None = false
+is_soon moment (Some rank) = nat_le (rank.0 - 1000) moment
 
 -- a client whose wait is over by its timeout, or because the client sends no more
 abbrev pub has_waited : ℕ → SeatRecord → Bool
