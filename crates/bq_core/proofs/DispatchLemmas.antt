@@ -18,8 +18,8 @@ use Rattle.bq_job.proofs.ListLemmas.{all_always, all_at, all_weaker, list_any_no
 use Rattle.bq_jobs.specs.Kept.{ranked}
 use Rattle.bq_state.specs.Offers.{better_rank, is_paused_among, offered, waits_at, with_offer, with_offers}
 use Rattle.bq_state.specs.Stirs.{AreKnown, IsKnown, may_get}
-use Rattle.bq_state.specs.declared.known.hints.Stir.{Stir}
-use Rattle.bq_state.specs.declared.known.hints.Stir.TheVariants.{Client}
+use Rattle.bq_state.specs.declared.known.Stir.{Stir}
+use Rattle.bq_state.specs.declared.known.Stir.TheVariants.{Client}
 use Rattle.bq_core.proofs.FiringLemmas.{chosen}
 use Rattle.bq_core.proofs.KickLemmas.{finds_each}
 use Rattle.bq_state.proofs.TubeLemmas.{same_itself, same_name}

@@ -5,7 +5,7 @@ use Rattle.bq_state.specs.Soundness.{Soundness}
 use Rattle.bq_state.specs.CoreParts.{machine_of}
 use Rattle.bq_state.specs.Stirs.{is_nothing}
 use Rattle.bq_state.specs.declared.core_parts.CoreParts.{CoreParts}
-use Rattle.bq_state.specs.declared.known.hints.Stir.TheVariants.{Nothing}
+use Rattle.bq_state.specs.declared.known.Stir.TheVariants.{Nothing}
 use Rattle.bq_state.proofs.KnowledgeLemmas.{so_with_nothing}
 use Rattle.bq_state.proofs.StirLemmas.{none_known}
 

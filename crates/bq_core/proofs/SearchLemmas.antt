@@ -20,7 +20,7 @@ use Rattle.bq_state.specs.Crowds.{is_waiter}
 use Rattle.bq_state.specs.Offers.{next_rank, these}
 use Rattle.bq_state.specs.SeatChanges.{AreNumbered}
 use Rattle.bq_state.specs.Stirs.{AreKnown, IsKnown}
-use Rattle.bq_state.specs.declared.known.hints.Stir.TheVariants.{Tube, Client}
+use Rattle.bq_state.specs.declared.known.Stir.TheVariants.{Tube, Client}
 use Rattle.bq_state.proofs.StirLemmas.{parts_of}
 use Rattle.bq_state.proofs.TubeLemmas.{same_name}
 use Rattle.bq_state.proofs.WarningLemmas.{none_found}

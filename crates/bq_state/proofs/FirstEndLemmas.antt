@@ -15,8 +15,8 @@ use Rattle.bq_state.specs.Dues.{earlier_of_both, is_end_over, with_seat_due}
 use Rattle.bq_state.specs.EndingWaits.{has_waited}
 use Rattle.bq_state.specs.FirstEnds.{AreTimeouts, IsThere, end_after, gives_up_at, keeps_end}
 use Rattle.bq_state.specs.SeatChanges.{AreNumbered, seat_changed, seat_changed_at}
-use Rattle.bq_state.specs.declared.known.hints.FirstEnd.{FirstEnd}
-use Rattle.bq_state.specs.declared.known.hints.FirstEnd.TheVariants.{Known, Unknown}
+use Rattle.bq_state.specs.declared.known.FirstEnd.{FirstEnd}
+use Rattle.bq_state.specs.declared.known.FirstEnd.TheVariants.{Known, Unknown}
 use Rattle.bq_state.specs.declared.seats.SeatChange.{SeatChange}
 use Rattle.bq_state.specs.declared.seats.SeatChange.TheVariants.{StopWaiting, Connect, Clear, End, Use}
 use Rattle.bq_state.specs.declared.seats.SeatChange.TheVariants.{Wait as WaitFrom}

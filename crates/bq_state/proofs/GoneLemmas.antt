@@ -23,7 +23,7 @@ use Rattle.bq_state.specs.KeptTubes.{KeptTube, Named, crowd_kept, is_alive_at, i
 use Rattle.bq_state.specs.Losses.{AreAlive}
 use Rattle.bq_state.specs.Tallies.{has_jobs, tallies_of, tally_in}
 use Rattle.bq_state.specs.TubeEntries.{AreInOrder, is_tube_of, names_alive}
-use Rattle.bq_state.specs.declared.known.hints.Loss.TheVariants.{Of}
+use Rattle.bq_state.specs.declared.known.Loss.TheVariants.{Of}
 use Rattle.bq_state.specs.declared.tubes.walks.HowMany.{HowMany}
 use Rattle.bq_state.proofs.CrowdLemmas.{has_seats_of}
 use Rattle.bq_state.proofs.CrowdPlaces.{exists_by_counts}

@@ -31,7 +31,7 @@ use Rattle.bq_state.specs.declared.tubes.entry.Moving.TheVariants.{Comes, Goes}
 use Rattle.bq_state.specs.declared.job_store.JobChange.{JobChange}
 use Rattle.bq_state.specs.declared.seats.SeatChange.{SeatChange}
 use Rattle.bq_state.specs.declared.core_parts.CoreParts.{CoreParts}
-use Rattle.bq_state.specs.declared.known.hints.Stir.TheVariants as stirs
+use Rattle.bq_state.specs.declared.known.Stir.TheVariants as stirs
 use Rattle.bq_state.specs.declared.tubes.entry.TubeChange.{TubeChange}
 use Rattle.bq_state.proofs.ClientLemmas.{clients_moved, clients_watching, first_clients}
 use Rattle.bq_state.proofs.CrowdLemmas.{crowds_moved}

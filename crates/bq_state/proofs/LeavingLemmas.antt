@@ -13,7 +13,7 @@ use Rattle.bq_job.proofs.ListLemmas.{all_at, all_from_members, list_any_with}
 use Rattle.bq_state.specs.declared.tubes.entry.Crowd.{Crowd}
 use Rattle.bq_state.specs.declared.tubes.entry.Moving.TheVariants.{Goes}
 use Rattle.bq_state.specs.declared.tubes.entry.Share.{Share}
-use Rattle.bq_state.specs.declared.known.hints.Loss.{Loss}
+use Rattle.bq_state.specs.declared.known.Loss.{Loss}
 use Rattle.bq_state.specs.declared.seats.SeatChange.{SeatChange}
 use Rattle.bq_state.specs.declared.seats.SeatChange.TheVariants.{StopWaiting, Wait, Connect, Clear, End, Use}
 use Rattle.bq_state.specs.Crowds.{IsSeated, crowd_at, crowd_in, crowd_of, crowd_with, crowd_without, crowds_of, crowds_recounted, crowds_recounted_for, has_seats, touched}

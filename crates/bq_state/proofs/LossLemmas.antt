@@ -16,8 +16,8 @@ use Rattle.bq_job.specs.machine.Tubes.{fresh_tube, is_name_before, is_seated_at,
 use Rattle.bq_job.proofs.ListLemmas.{all_weaker}
 use Rattle.bq_job.proofs.NameOrderLemmas.{not_same}
 use Rattle.bq_jobs.specs.Kept.{is_id_before, with_added, without}
-use Rattle.bq_state.specs.declared.known.hints.Loss.{Loss}
-use Rattle.bq_state.specs.declared.known.hints.Loss.TheVariants.{Nothing, Of, Any}
+use Rattle.bq_state.specs.declared.known.Loss.{Loss}
+use Rattle.bq_state.specs.declared.known.Loss.TheVariants.{Nothing, Of, Any}
 use Rattle.bq_state.specs.Dues.{first_pause_end, pause_end_left}
 use Rattle.bq_state.specs.Losses.{AreAlive, is_accounted, may_be_gone, with_regained, with_lost}
 use Rattle.bq_state.specs.TubeEntries.{has_entry, is_tube_of, provided}

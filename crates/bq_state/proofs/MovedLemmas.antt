@@ -17,9 +17,9 @@ use Rattle.bq_jobs.specs.Kept.{with_added, without}
 use Rattle.bq_jobs.proofs.Changes.{changed as changed_by_id, found_id}
 use Rattle.bq_state.specs.declared.job_store.JobChange.{JobChange}
 use Rattle.bq_state.specs.declared.job_store.JobChange.TheVariants.{FireTimers, HandOut, GiveBack, Release, Bury, Touch, Kick}
-use Rattle.bq_state.specs.declared.known.hints.Loss.{Loss}
+use Rattle.bq_state.specs.declared.known.Loss.{Loss}
 use Rattle.bq_state.specs.declared.known.Tally.{Tally}
-use Rattle.bq_state.specs.declared.known.hints.Stir.{Stir}
+use Rattle.bq_state.specs.declared.known.Stir.{Stir}
 use Rattle.bq_state.specs.Crowds.{is_waiter}
 use Rattle.bq_state.specs.JobChanges.{changed}
 use Rattle.bq_state.specs.Losses.{AreAlive, may_be_gone}
@@ -28,7 +28,7 @@ use Rattle.bq_state.specs.Stirs.{AreKnown, IsKnown, with_stirred}
 use Rattle.bq_state.specs.Tallies.{AreCounted, tallies_at, tallies_of, tallies_without, tally_moved, tally_of, tally_with, tally_without}
 use Rattle.bq_state.specs.TubeEntries.{AreEntries, AreInOrder, has_entry}
 use Rattle.bq_state.specs.Warnings.{AreWarned, IsWarned, has_waiting_holder, with_holder_of}
-use Rattle.bq_state.specs.declared.known.hints.Warns.{Warns}
+use Rattle.bq_state.specs.declared.known.Warns.{Warns}
 use Rattle.bq_state.proofs.PartsLemmas.{all_filtered, all_kept}
 use Rattle.bq_state.proofs.StirLemmas.{known_added}
 use Rattle.bq_state.proofs.TallyPlaces.{counted_added, counted_taken}

@@ -21,8 +21,8 @@ use Rattle.bq_state.specs.Stirs.{AreKnown, IsKnown, is_nothing, is_paused_by, is
 use Rattle.bq_state.specs.TubeEntries.{tube_changed}
 use Rattle.bq_state.specs.declared.seats.SeatChange.{SeatChange}
 use Rattle.bq_state.specs.declared.seats.SeatChange.TheVariants.{StopWaiting, Wait, Connect, Clear, End, Use}
-use Rattle.bq_state.specs.declared.known.hints.Stir.{Stir}
-use Rattle.bq_state.specs.declared.known.hints.Stir.TheVariants.{Nothing, Tube, Client, Any}
+use Rattle.bq_state.specs.declared.known.Stir.{Stir}
+use Rattle.bq_state.specs.declared.known.Stir.TheVariants.{Nothing, Tube, Client, Any}
 use Rattle.bq_state.specs.declared.tubes.entry.TubeChange.{TubeChange}
 use Rattle.bq_state.specs.declared.tubes.entry.TubeChange.TheVariants.{CountPut, CountDelete, Pause as PauseFor}
 use Rattle.bq_state.proofs.PartsLemmas.{all_added, all_read, all_set}

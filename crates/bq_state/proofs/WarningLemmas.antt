@@ -20,8 +20,8 @@ use Rattle.bq_state.specs.SeatChanges.{AreNumbered, seat_changed, seat_changed_a
 use Rattle.bq_state.specs.Warnings.{AreWarned, IsWarned, has_waiting_holder, holds_in_wait, is_waiting_there, may_hold, may_warn, warned_by_seat, warned_if_due, with_holder, with_holder_of, without_holder}
 use Rattle.bq_state.specs.declared.seats.SeatChange.{SeatChange}
 use Rattle.bq_state.specs.declared.seats.SeatChange.TheVariants.{StopWaiting, Wait, Connect, Clear, End, Use}
-use Rattle.bq_state.specs.declared.known.hints.Warns.{Warns}
-use Rattle.bq_state.specs.declared.known.hints.Warns.TheVariants.{Nobody, Client, Any}
+use Rattle.bq_state.specs.declared.known.Warns.{Warns}
+use Rattle.bq_state.specs.declared.known.Warns.TheVariants.{Nobody, Client, Any}
 use Rattle.bq_state.proofs.PartsLemmas.{all_added, all_read, all_set}
 
 -- more may be known

@@ -10,7 +10,7 @@ use Rattle.bq_state.specs.TubeEntries.{AreInOrder, is_tube_of, provided}
 use Rattle.bq_state.specs.declared.tubes.entry.Crowd.{Crowd}
 use Rattle.bq_state.specs.declared.tubes.entry.Moving.{Moving}
 use Rattle.bq_state.specs.declared.tubes.entry.Share.{Share}
-use Rattle.bq_state.specs.declared.known.hints.Loss.{Loss}
+use Rattle.bq_state.specs.declared.known.Loss.{Loss}
 use Rattle.bq_state.specs.declared.known.Tally.{Tally}
 
 -- the counts are those of these jobs and seats

@@ -5,8 +5,8 @@ use Rattle.bq_job.specs.machine.Changes.{is_waiting}
 use Rattle.bq_job.specs.machine.Machine.{SeatRecord}
 use Rattle.bq_job.specs.beside.NextDue.{dues_of_wait, earliest}
 use Rattle.bq_state.specs.Dues.{with_seat_due}
-use Rattle.bq_state.specs.declared.known.hints.FirstEnd.{FirstEnd}
-use Rattle.bq_state.specs.declared.known.hints.FirstEnd.TheVariants.{Known, Unknown}
+use Rattle.bq_state.specs.declared.known.FirstEnd.{FirstEnd}
+use Rattle.bq_state.specs.declared.known.FirstEnd.TheVariants.{Known, Unknown}
 use Rattle.bq_state.specs.declared.seats.SeatChange.{SeatChange}
 use Rattle.bq_state.specs.declared.seats.SeatChange.TheVariants.{StopWaiting, Wait, Connect, Clear, End, Use}
 

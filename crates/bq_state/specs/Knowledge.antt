@@ -15,13 +15,13 @@ use Rattle.bq_state.specs.Tallies.{AreCounted, tally_moved, tally_of, tally_with
 use Rattle.bq_state.specs.TubeEntries.{counted}
 use Rattle.bq_state.specs.Warnings.{AreWarned, warned_by_seat, with_holder_of}
 use Rattle.bq_state.specs.declared.tubes.entry.Share.{Share}
-use Rattle.bq_state.specs.declared.known.hints.FirstEnd.TheVariants as ends
+use Rattle.bq_state.specs.declared.known.FirstEnd.TheVariants as ends
 use Rattle.bq_state.specs.declared.known.Known.{Known}
-use Rattle.bq_state.specs.declared.known.hints.Loss.TheVariants as losses
+use Rattle.bq_state.specs.declared.known.Loss.TheVariants as losses
 use Rattle.bq_state.specs.declared.seats.SeatChange.{SeatChange}
-use Rattle.bq_state.specs.declared.known.hints.Stir.TheVariants as stirs
+use Rattle.bq_state.specs.declared.known.Stir.TheVariants as stirs
 use Rattle.bq_state.specs.declared.tubes.entry.TubeChange.{TubeChange}
-use Rattle.bq_state.specs.declared.known.hints.Warns.TheVariants as holders
+use Rattle.bq_state.specs.declared.known.Warns.TheVariants as holders
 
 -- What is known is so of these jobs, seats and tubes, and what is counted at the tubes is what there is.
 pub record IsSo (k : Known) (jobs : List Job) (seats : List SeatRecord) (tubes : KeptTubes) : Type 0 where

@@ -7,7 +7,7 @@ use Rattle.bq_state.specs.Losses.{with_lost}
 use Rattle.bq_state.specs.Tallies.{has_jobs, tally_at}
 use Rattle.bq_state.specs.TubeEntries.{is_tube_by}
 use Rattle.bq_state.specs.declared.tubes.entry.Share.{Share}
-use Rattle.bq_state.specs.declared.known.hints.Loss.{Loss}
+use Rattle.bq_state.specs.declared.known.Loss.{Loss}
 
 -- the tube exists, by its counts
 abbrev pub exists_in : KeptTubes → List ℕ → Bool

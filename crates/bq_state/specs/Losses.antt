@@ -5,8 +5,8 @@ use Rattle.bq_job.specs.declared.job.Job.{Job}
 use Rattle.bq_job.specs.machine.Machine.{SeatRecord, TubeRecord}
 use Rattle.bq_job.specs.reading.TubeName.{is_same_name}
 use Rattle.bq_state.specs.TubeEntries.{is_tube_of}
-use Rattle.bq_state.specs.declared.known.hints.Loss.{Loss}
-use Rattle.bq_state.specs.declared.known.hints.Loss.TheVariants.{Nothing, Of, Any}
+use Rattle.bq_state.specs.declared.known.Loss.{Loss}
+use Rattle.bq_state.specs.declared.known.Loss.TheVariants.{Nothing, Of, Any}
 
 -- the tube of this name may be gone
 abbrev pub may_be_gone : Loss → List ℕ → Bool

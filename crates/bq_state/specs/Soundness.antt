@@ -12,8 +12,8 @@ use Rattle.bq_state.specs.Knowledge.{IsSo}
 use Rattle.bq_state.specs.WaitingTurns.{AreInTurn, WaitingTurns}
 use Rattle.bq_state.specs.SeatChanges.{AreNumbered}
 use Rattle.bq_state.specs.TubeEntries.{AreEntries, AreInOrder}
-use Rattle.bq_state.specs.declared.known.hints.FirstEnd.{FirstEnd}
-use Rattle.bq_state.specs.declared.known.hints.FirstEnd.TheVariants as ends
+use Rattle.bq_state.specs.declared.known.FirstEnd.{FirstEnd}
+use Rattle.bq_state.specs.declared.known.FirstEnd.TheVariants as ends
 use Rattle.bq_state.specs.declared.known.Known.{Known}
 
 -- The fields of a state agree with one another: these jobs, seats and tubes with what is kept beside them.

@@ -8,8 +8,8 @@ use Rattle.bq_job.specs.reading.TubeName.{is_same_name}
 use Rattle.bq_job.specs.machine.Tubes.{fresh_tube, watches}
 use Rattle.bq_state.specs.declared.seats.SeatChange.{SeatChange}
 use Rattle.bq_state.specs.declared.seats.SeatChange.TheVariants.{Wait}
-use Rattle.bq_state.specs.declared.known.hints.Stir.{Stir}
-use Rattle.bq_state.specs.declared.known.hints.Stir.TheVariants.{Nothing, Tube, Client, Any}
+use Rattle.bq_state.specs.declared.known.Stir.{Stir}
+use Rattle.bq_state.specs.declared.known.Stir.TheVariants.{Nothing, Tube, Client, Any}
 use Rattle.bq_state.specs.declared.tubes.entry.TubeChange.{TubeChange}
 use Rattle.bq_state.specs.declared.tubes.entry.TubeChange.TheVariants.{Pause}
 

@@ -8,8 +8,8 @@ use Rattle.bq_job.specs.machine.Changes.{is_held_by, is_waiting, seat_with}
 use Rattle.bq_job.specs.machine.Machine.{SeatRecord}
 use Rattle.bq_state.specs.declared.seats.SeatChange.{SeatChange}
 use Rattle.bq_state.specs.declared.seats.SeatChange.TheVariants.{Clear, StopWaiting, Wait}
-use Rattle.bq_state.specs.declared.known.hints.Warns.{Warns}
-use Rattle.bq_state.specs.declared.known.hints.Warns.TheVariants.{Nobody, Client, Any}
+use Rattle.bq_state.specs.declared.known.Warns.{Warns}
+use Rattle.bq_state.specs.declared.known.Warns.TheVariants.{Nobody, Client, Any}
 
 -- the client at this seat may hold a job while it waits
 abbrev pub may_warn : Warns → ℕ → Bool

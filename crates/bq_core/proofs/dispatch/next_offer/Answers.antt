@@ -15,8 +15,8 @@ use Rattle.bq_state.specs.CoreParts.{machine_of}
 use Rattle.bq_state.specs.Stirs.{AreKnown}
 use Rattle.bq_state.specs.declared.tubes.entry.Crowd.{Crowd}
 use Rattle.bq_state.specs.declared.core_parts.CoreParts.{CoreParts}
-use Rattle.bq_state.specs.declared.known.hints.Stir.{Stir}
-use Rattle.bq_state.specs.declared.known.hints.Stir.TheVariants.{Nothing}
+use Rattle.bq_state.specs.declared.known.Stir.{Stir}
+use Rattle.bq_state.specs.declared.known.Stir.TheVariants.{Nothing}
 use Rattle.bq_core.proofs.AskLemmas.{asks_more}
 use Rattle.bq_state.proofs.ClientLemmas.{some_pass}
 use Rattle.bq_state.proofs.CrowdPlaces.{crowd_there}
