@@ -1,5 +1,11 @@
 -- Texts that are made.
-use Rattle.std.proofs.Common.{◌≡◌, ◌∙◌, ℕ, List, IfOk, Option, None, Some, Result, Ok, Err, ap, decimal, option_map, refl, sym}
+use Rattle.std.proofs.Common.{◌≡◌, ◌∙◌, ◌++◌, ℕ, Bor, List, [], ◌∷◌, IfOk, Option, None, Some, Result, Ok, Err, true, ap, codes, decimal, flat_map, option_map, refl, sym}
+use Rattle.bq_job.specs.beside.NameOrder.{is_in_order}
+use Rattle.bq_job.specs.declared.fault.NoMemory.{NoMemory}
+use Rattle.bq_job.specs.machine.TubeOrder.{name_list}
+use Rattle.bq_job.specs.texts.Yaml.{name_line}
+use Rattle.bq_job.proofs.NameOrderLemmas.{stays_fold}
+use Rattle.bq_state.specs.Names.{names_of}
 use Rattle.bq_job.specs.declared.job.Job.{Job}
 use Rattle.bq_job.specs.machine.Changes.{job_with}
 use Rattle.bq_job.specs.texts.Yaml.{KeyValue, key_number}
@@ -31,3 +37,13 @@ id_of_row id row jobs same = of (job_with id jobs) (found_id id jobs) same
     of : (o : Option Job) → ((j : Job) → o ≡ Some j → j.id ≡ id) → Some (but_for_tube row) ≡ option_map but_for_tube o → id ≡ row.id
     of None has is = absurd cc
     of (Some j) has is = sym (ap id_or is ∙ has j refl)
+
+lines_of : (names : List (Bor (List ℕ))) → flat_map (λ (name : Bor (List ℕ)). name_line name.now) names ≡ flat_map name_line (names_of names)
+lines_of [] = refl
+lines_of (name ∷ names) = ap (λ more. name_line name.now ++ more) (lines_of names)
+
+-- Names in order are listed as they are.
+pub names_told : (names : List (Bor (List ℕ))) (r : Result (List ℕ) NoMemory) → is_in_order (names_of names) ≡ true → IfOk r (λ text. text ≡ codes "---\n" ++ flat_map (λ (name : Bor (List ℕ)). name_line name.now) names)
+    → IfOk r (λ text. text ≡ name_list (names_of names))
+names_told names (Ok text) order is = is ∙ ap (λ lines. codes "---\n" ++ lines) (lines_of names ∙ ap (flat_map name_line) (sym (stays_fold (names_of names) [] order)))
+names_told names (Err e) order is = tt

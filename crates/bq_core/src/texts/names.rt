@@ -26,6 +26,7 @@ impl<'a> Line for &'a [u8] {
 }
 
 /// The list of these names, which stand in byte order. Where its memory is refused there is none.
+#[tactic(auto, using(crate::proofs::TextLemmas::names_told))]
 pub(crate) fn names_text(alloc: Global, names: &[&[u8]]) -> Result<Text, NoMemory>
     requires { IsTrue (is_in_order (names_of names.now)) }
     ensures { IfOk result (λ text. text ≡ name_list (names_of names.now)) }
