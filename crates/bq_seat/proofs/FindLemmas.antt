@@ -12,7 +12,7 @@ use Rattle.bq_seat.specs.SeatMoves.{IsMove, OpensPast}
 use Rattle.bq_seat.specs.SeatParts.{IfLineOver, IsStagedMove, OpensLine}
 use Rattle.bq_seat.specs.SeatStands.{AgreesWith, StandsInStage, StandsFor, awaited, awaited_at}
 use Rattle.bq_seat.specs.Served.{IsServed}
-use Rattle.bq_wire.specs.declared.reader_state.ReaderState.{ReaderState}
+use Rattle.bq_wire.specs.declared.reader.ReaderState.{ReaderState}
 use Rattle.bq_seat.specs.declared.machine.Action.{Action}
 use Rattle.bq_seat.specs.declared.machine.Action.TheVariants as actions
 use Rattle.bq_seat.specs.declared.machine.Event.{Event}

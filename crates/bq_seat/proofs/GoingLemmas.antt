@@ -10,7 +10,7 @@ use Rattle.bq_seat.specs.Past.{Past, with_action}
 use Rattle.bq_seat.specs.SeatParts.{GoesOn, asking_stage, holding, in_stage}
 use Rattle.bq_seat.specs.SeatStands.{AgreesWith, IsOpen, StandsInStage}
 use Rattle.bq_wire.specs.Standing.{Stands, HandsRequest}
-use Rattle.bq_wire.specs.declared.reader_state.ReaderState.{ReaderState}
+use Rattle.bq_wire.specs.declared.reader.ReaderState.{ReaderState}
 use Rattle.bq_seat.specs.declared.machine.Action.{Action}
 use Rattle.bq_seat.specs.declared.machine.Action.TheVariants as actions
 use Rattle.bq_seat.specs.declared.machine.SeatMachine.{SeatMachine}

@@ -13,7 +13,7 @@ use Rattle.bq_seat.specs.InTurn.{IsInTurn}
 use Rattle.bq_seat.proofs.StepLemmas.{answered_count-asked}
 use Rattle.bq_seat.specs.Past.{Awaited, Past}
 use Rattle.bq_seat.specs.SeatStands.{HasAskedQuit, StandsInStage, awaited_at, end_if, has_quit}
-use Rattle.bq_wire.specs.declared.reader_state.ReaderState.{ReaderState}
+use Rattle.bq_wire.specs.declared.reader.ReaderState.{ReaderState}
 use Rattle.bq_seat.specs.declared.machine.Stage.{Stage}
 use Rattle.bq_seat.specs.declared.machine.Stage.TheVariants as stages
 use Rattle.bq_seat.proofs.ReadingLemmas.{neither}

@@ -8,7 +8,7 @@ use Rattle.bq_job.specs.declared.step.Step.TheVariants as steps
 use Rattle.bq_job.specs.reading.Reading.{is_quit}
 use Rattle.bq_job.specs.promise.LineSteps.{ends_by_wait, wanted}
 use Rattle.bq_job.specs.declared.line_end.LineEnd.{LineEnd}
-use Rattle.bq_wire.specs.declared.reader_state.ReaderState.{ReaderState}
+use Rattle.bq_wire.specs.declared.reader.ReaderState.{ReaderState}
 use Rattle.bq_seat.specs.Looks.{GoesFurther, LooksBehindStep, asked_in, is_read_on, is_unanswered, last_step}
 use Rattle.bq_seat.specs.Past.{Past}
 use Rattle.bq_seat.specs.SeatStands.{HasAskedQuit, IsClosing, IsOpen, IsWaiting, end_if, has_quit}

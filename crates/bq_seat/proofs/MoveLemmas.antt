@@ -12,7 +12,7 @@ use Rattle.bq_seat.specs.Past.{Past, with_action, with_event, past_after, is_str
 use Rattle.bq_seat.specs.SeatParts.{GoesOn, IfLineOver, IsStagedMove, OpensLine, in_stage, reads_on}
 use Rattle.bq_seat.specs.SeatStands.{AgreesWith, IsOpen, StandsInStage, awaited_at}
 use Rattle.bq_wire.specs.Standing.{Stands}
-use Rattle.bq_wire.specs.declared.reader_state.ReaderState.{ReaderState}
+use Rattle.bq_wire.specs.declared.reader.ReaderState.{ReaderState}
 use Rattle.bq_seat.specs.declared.machine.Action.{Action}
 use Rattle.bq_seat.specs.declared.machine.Action.TheVariants as actions
 use Rattle.bq_seat.specs.declared.machine.Event.{Event}

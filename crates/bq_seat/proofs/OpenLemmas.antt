@@ -18,7 +18,7 @@ use Rattle.bq_seat.specs.Past.{Past, with_action, with_mail, with_fault, first_p
 use Rattle.bq_seat.specs.Served.{IsLastBroken, IsServed, IsServedToClose}
 use Rattle.bq_seat.specs.SeatStands.{IsClosing, IsOpen, IsWaiting, StandsInStage, end_if}
 use Rattle.bq_wire.specs.Standing.{Stands}
-use Rattle.bq_wire.specs.declared.reader_state.ReaderState.{ReaderState}
+use Rattle.bq_wire.specs.declared.reader.ReaderState.{ReaderState}
 use Rattle.bq_seat.specs.declared.machine.Action.TheVariants as actions
 use Rattle.bq_seat.specs.declared.machine.Stage.TheVariants as stages
 use Rattle.bq_seat.proofs.ReadingLemmas.{BeginsNoUnit-[], AreUnits-append, one_unit, Reads-after, Reads-begun, Reads-quit, ends_by_quit-append, neither}

@@ -2,7 +2,7 @@
 use Rattle.std.proofs.Common.{◌≡◌, ℕ, ◌+◌, Bool, true, false, List, ◌∷◌, ◌++◌, length, map, arith, refl, ap, ◌∙◌, append-nil}
 use Rattle.std.proofs.lemmas.List.{length-map}
 use Rattle.bq_job.specs.declared.step.Step.TheVariants as steps
-use Rattle.bq_wire.specs.declared.reader_state.ReaderState.{ReaderState}
+use Rattle.bq_wire.specs.declared.reader.ReaderState.{ReaderState}
 use Rattle.bq_seat.specs.Past.{Awaited, Past}
 use Rattle.bq_seat.specs.SeatStands.{IsOpen, StandsFor, StandsInStage, awaited_at, end_if}
 use Rattle.bq_seat.specs.Outstanding.{ReadsWith}

@@ -13,7 +13,7 @@ use Rattle.bq_job.specs.reading.Reading.{AreUnits, BeginsNoUnit, is_quit}
 use Rattle.bq_job.specs.promise.LineSteps.{ends_by_wait}
 use Rattle.bq_job.specs.machine.OneClient.{has_closed}
 use Rattle.bq_wire.specs.Standing.{Stands}
-use Rattle.bq_wire.specs.declared.reader_state.ReaderState.{ReaderState}
+use Rattle.bq_wire.specs.declared.reader.ReaderState.{ReaderState}
 use Rattle.bq_seat.specs.Past.{Past, Awaited, IsOrderly, with_action}
 use Rattle.bq_seat.specs.Served.{IsServed, IsServedToClose}
 use Rattle.bq_seat.specs.declared.machine.Action.TheVariants as actions

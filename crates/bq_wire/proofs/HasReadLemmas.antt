@@ -10,9 +10,9 @@ use Rattle.bq_job.specs.declared.request.Request.{Request}
 use Rattle.bq_job.proofs.UnitsLemmas.{AreUnits-append, ends_by_quit-append, quits_last-append}
 use Rattle.bq_wire.specs.HasRead.{HasRead, HasReadText, ReadsOn}
 use Rattle.bq_wire.specs.Standing.{Stands, StandsAt, Feeds, FeedsText, Waits, HandsRequest}
-use Rattle.bq_wire.specs.declared.reader_state.ReaderPlace.{ReaderPlace}
-use Rattle.bq_wire.specs.declared.reader_state.ReaderPlace.TheVariants.{InLine, InLongLine, InBody, Over}
-use Rattle.bq_wire.specs.declared.reader_state.ReaderState.{ReaderState}
+use Rattle.bq_wire.specs.declared.reader.ReaderPlace.{ReaderPlace}
+use Rattle.bq_wire.specs.declared.reader.ReaderPlace.TheVariants.{InLine, InLongLine, InBody, Over}
+use Rattle.bq_wire.specs.declared.reader.ReaderState.{ReaderState}
 use Rattle.bq_wire.proofs.PutBodyLemmas.{take_two}
 use Rattle.bq_wire.proofs.ReaderLemmas.{Stands-no_unit}
 

@@ -19,9 +19,9 @@ use Rattle.bq_wire.specs.LineEnds.{line_end_after, last_is_cr}
 use Rattle.bq_wire.specs.PutBodies.{IsBodySoFar, TakesBytes}
 use Rattle.bq_wire.specs.Standing.{Stands, StandsAt, IsPutBegun, EndsLineAsking, Waits, HandsRequest, FeedsText, length_beside_cr, but_last, Keeps}
 use Rattle.bq_wire.specs.declared.put_body.PutBody.{PutBody}
-use Rattle.bq_wire.specs.declared.reader_state.ReaderPlace.{ReaderPlace}
-use Rattle.bq_wire.specs.declared.reader_state.ReaderPlace.TheVariants.{InLine, InLongLine, InBody, Over}
-use Rattle.bq_wire.specs.declared.reader_state.ReaderState.{ReaderState}
+use Rattle.bq_wire.specs.declared.reader.ReaderPlace.{ReaderPlace}
+use Rattle.bq_wire.specs.declared.reader.ReaderPlace.TheVariants.{InLine, InLongLine, InBody, Over}
+use Rattle.bq_wire.specs.declared.reader.ReaderState.{ReaderState}
 use Rattle.bq_wire.proofs.LineEndLemmas.{goes_on, ends_there, line_end_within, line_end_one, last_is_cr-append}
 
 -- a text with no line begins with no unit

@@ -3,7 +3,7 @@ use Rattle.std.specs.Prelude.{ℕ, ◌≡◌, ◌⊎◌, false, IsTrue, List, []
 use Rattle.bq_job.specs.reading.Reading.{AreUnits, quits_last, ends_by_quit}
 use Rattle.bq_job.specs.declared.request.Request.{Request}
 use Rattle.bq_wire.specs.Standing.{Stands, IsOver}
-use Rattle.bq_wire.specs.declared.reader_state.ReaderState.{ReaderState}
+use Rattle.bq_wire.specs.declared.reader.ReaderState.{ReaderState}
 
 -- The bytes taken are the units of the requests handed out, and then a text that the reader stands for;
 -- behind a quit it stands for none, and nothing more was taken.

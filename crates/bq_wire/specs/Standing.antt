@@ -9,9 +9,9 @@ use Rattle.bq_wire.specs.Asked.{put_line_of}
 use Rattle.bq_wire.specs.LineEnds.{last_is_cr}
 use Rattle.bq_wire.specs.PutBodies.{IsBodySoFar, HasBodyRoom}
 use Rattle.bq_wire.specs.declared.put_body.PutBody.{PutBody}
-use Rattle.bq_wire.specs.declared.reader_state.ReaderPlace.{ReaderPlace}
-use Rattle.bq_wire.specs.declared.reader_state.ReaderPlace.TheVariants.{InLine, InLongLine, InBody, Over}
-use Rattle.bq_wire.specs.declared.reader_state.ReaderState.{ReaderState}
+use Rattle.bq_wire.specs.declared.reader.ReaderPlace.{ReaderPlace}
+use Rattle.bq_wire.specs.declared.reader.ReaderPlace.TheVariants.{InLine, InLongLine, InBody, Over}
+use Rattle.bq_wire.specs.declared.reader.ReaderState.{ReaderState}
 
 -- how many bytes a begun line has beside a last CR, which may be the one of its CR LF
 abbrev pub length_beside_cr : List ℕ → ℕ

@@ -8,7 +8,4 @@ mod command;
 mod line_read;
 mod put_body;
 mod reader;
-mod reader_state;
-mod shapes;
 mod texts;
-mod words;

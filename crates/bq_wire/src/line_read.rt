@@ -1,15 +1,18 @@
-//! Lines: where they end, and what they ask for.
-ghost use Rattle.std.specs.Prelude.{◌≡◌, ◌<◌, ◌≤◌, ◌+◌, IfSome, Some, None, MatchOption, length, drop, if◌then◌else◌, false};
+//! Lines: where they end, their words, and what they ask for.
+ghost use Rattle.std.specs.Prelude.{◌≡◌, ◌<◌, ◌≤◌, ◌+◌, ◌^◌, [], ◌∷◌, IfSome, Some, None, MatchOption, length, drop, if◌then◌else◌, false};
+ghost use Rattle.std.specs.Option.{SomeIff};
 ghost use Rattle.bq_job.specs.reading.CommandWords.{command_named};
 ghost use Rattle.bq_job.specs.reading.LineRead as spec;
+ghost use Rattle.bq_job.specs.reading.Words as numbers;
+ghost use Rattle.bq_job.specs.reading.Words.{words};
 ghost use Rattle.bq_wire.specs.Asked.{asked_by};
 ghost use Rattle.bq_wire.specs.LineEnds as ends;
+ghost use Rattle.bq_wire.specs.WordsLeft.{words_left};
 
-use crate::command::read_command;
-use crate::shapes::refused;
-use crate::words::Words;
-use bq_job::{Pri, Refusal, Request};
+use crate::command::{read_command, refused};
+use bq_job::{JobId, Pri, Refusal, Request};
 use memchr::memchr;
+use std::marker::Model;
 
 /// How many bytes a line has at most, without its CR LF.
 pub const LONGEST_LINE: usize = 222;
@@ -111,4 +114,98 @@ pub fn line_end_after(after_cr: bool, bytes: &[u8]) -> Option<usize>
         after_cr = false;
     }
     None
+}
+
+/// The words of a line that are left: it is parted at each space, and a word may be empty.
+#[derive(Drop)]
+pub struct Words<'a> {
+    // What stands behind the last space, if that hasn't been handed out.
+    rest: Option<&'a [u8]>,
+}
+
+impl<'a> Model for Words<'a> {
+    ghost use Rattle.std.specs.Prelude.{List, ℕ};
+
+    ghost Value = { List (List ℕ) };
+
+    ghost use Rattle.bq_wire.specs.WordsLeft.{words_left};
+
+    ghost view = { λ w. words_left w.rest };
+}
+
+impl<'a> Words<'a> {
+    /// The words of a line.
+    pub fn new(line: &'a [u8]) -> Words<'a>
+        ensures { result ≡ words line.now }
+    {
+        Words { rest: Some(line) }
+    }
+
+    /// Takes the first word that is left.
+    pub fn next(&mut self) -> Option<&'a [u8]>
+        ensures { MatchOption result ((self.old ≡ []) × (self.new ≡ []))
+            (λ word. self.old ≡ word.now ∷ self.new) }
+    {
+        let (word, more) = first_word(self.rest?);
+        self.rest = more;
+        Some(word)
+    }
+}
+
+// The first word of a line, and what comes after the space behind it.
+#[tactic(auto, using(crate::proofs::WordLemmas::words_first))]
+fn first_word(line: &[u8]) -> (&[u8], Option<&[u8]>)
+    ensures { words line.now ≡ result.0.now ∷ words_left result.1 }
+{
+    match memchr(b' ', line) {
+        Some(space) => (&line[..space], Some(&line[space + 1..])),
+        None => (line, None),
+    }
+}
+
+// The number with one more digit, if it fits.
+fn with_digit(value: u64, digit: u8) -> Option<u64>
+    requires { 48 ≤ digit }
+    ensures { SomeIff result (numbers.with_digit value digit < 2 ^ 64) (numbers.with_digit value digit) }
+{
+    let Some(shifted) = value.checked_mul(10) else {
+        return None;
+    };
+    shifted.checked_add(u64::from(digit - b'0'))
+}
+
+// The number that a word is, digits alone, if it fits.
+#[tactic(auto, using(crate::proofs::NumberLemmas::too_great, crate::proofs::NumberLemmas::all_digits))]
+fn decimal(word: &[u8]) -> Option<u64>
+    ensures { result ≡ numbers.job_id word.now }
+{
+    if word.is_empty() {
+        return None;
+    }
+    let mut value: u64 = 0;
+    for byte in word {
+        if !byte.is_ascii_digit() {
+            return None;
+        }
+        let Some(longer) = with_digit(value, *byte) else {
+            return None;
+        };
+        value = longer;
+    }
+    Some(value)
+}
+
+/// The id of a job that a word is, if it is one.
+pub fn job_id(word: &[u8]) -> Option<JobId>
+    ensures { result ≡ numbers.job_id word.now }
+{
+    decimal(word)
+}
+
+/// The number below 2^32 that a word is, if it is one.
+pub fn number(word: &[u8]) -> Option<u32>
+    ensures { result ≡ numbers.number word.now }
+{
+    let value = decimal(word)?;
+    u32::try_from(value).ok()
 }

@@ -1,6 +1,6 @@
 use Rattle.std.proofs.Common.{◌≡◌, ◌≤◌, ◌++◌, ◌-◌, ℕ, List, length, take}
 use Rattle.bq_wire.specs.HasRead.{HasRead}
-use Rattle.bq_wire.specs.declared.reader_state.ReaderPlace.TheVariants.{Over}
+use Rattle.bq_wire.specs.declared.reader.ReaderPlace.TheVariants.{Over}
 use Rattle.bq_wire.proofs.reader.feed_all.Given as goal
 
 abbrev pub invariant-loop-request : goal.invariant-loop-request

@@ -1,7 +1,7 @@
 use Rattle.std.proofs.Common.{◌≡◌, ◌<◌, ◌^◌, drop, fold}
 use Rattle.std.specs.List.{list_all}
 use Rattle.bq_job.specs.reading.Words as spec
-use Rattle.bq_wire.proofs.words.decimal.Given as goal
+use Rattle.bq_wire.proofs.line_read.decimal.Given as goal
 
 -- the digits that are left make of the value so far that of the whole word
 abbrev pub invariant-loop-byte : goal.invariant-loop-byte
