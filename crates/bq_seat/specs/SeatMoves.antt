@@ -10,7 +10,7 @@ use Rattle.bq_seat.specs.declared.machine.Event.TheVariants as events
 use Rattle.bq_seat.specs.declared.machine.Action.{Action}
 use Rattle.bq_seat.specs.declared.machine.Action.TheVariants as actions
 use Rattle.bq_seat.specs.declared.machine.SeatMachine.{SeatMachine}
-use Rattle.bq_seat.specs.declared.kept.TheConstants.{PIECE_ROOM}
+use Rattle.bq_seat.specs.declared.machine.TheConstants.{PIECE_ROOM}
 
 -- No more bytes are handed in at once than there is room for.
 abbrev pub FitsPiece : Event → Type 0

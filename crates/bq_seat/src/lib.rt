@@ -4,10 +4,8 @@
 #![tactic(auto)]
 
 pub use bq_job::LineEnd;
-pub use kept::PIECE_ROOM;
 pub use laws::pasts_are_orderly;
-pub use machine::{Action, Event, SeatMachine};
+pub use machine::{Action, Event, PIECE_ROOM, SeatMachine};
 
-mod kept;
 mod laws;
 mod machine;
