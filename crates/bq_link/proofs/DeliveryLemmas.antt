@@ -4,7 +4,7 @@ use mathlib.Core.Option.{some, some-ne-none}
 use lib.ListN.{get_elem?}
 use Rattle.crossbeam_queue.specs.Fifo.{Pushes, Pops, Learns}
 use Rattle.bq_job.specs.declared.step.Step.{Step}
-use Rattle.bq_link.specs.declared.intake.View.{View}
+use Rattle.bq_link.specs.declared.ends.View.{View}
 use Rattle.bq_link.specs.Delivery.{Delivers, IsCorePass, IsSeatPass, WaitsOf, core_view}
 use Rattle.bq_link.specs.Submissions.{AreBelow, Covers, MaySubmit, MayTake, Past, steps_of}
 use Rattle.bq_link.proofs.ViewLemmas.{apart, differ, each_more, each_set, no}

@@ -5,7 +5,7 @@ use mathlib.Core.Option.{some}
 use lib.ListN.{get_elem?}
 use Rattle.crossbeam_queue.specs.Fifo.{Forks, Merges}
 use Rattle.crossbeam_queue.proofs.Lists.{at_set}
-use Rattle.bq_link.specs.declared.intake.View.{View}
+use Rattle.bq_link.specs.declared.ends.View.{View}
 use Rattle.bq_link.specs.Delivery.{Delivers, IsCorePass, IsSeatPass, blank_view, seat_view}
 use Rattle.bq_link.specs.Submissions.{Past}
 use Rattle.bq_link.proofs.SubmissionLemmas.{below_more, of_none}

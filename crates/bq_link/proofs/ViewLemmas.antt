@@ -3,7 +3,7 @@ use Rattle.std.proofs.Common.{◌≡◌, ◌≢◌, ℕ, zero, suc, ◌⊎◌, i
 use mathlib.Core.Option.{some, some-ne-none, some-injective}
 use lib.ListN.{get_elem?}
 use Rattle.crossbeam_queue.proofs.Lists.{at_set}
-use Rattle.bq_link.specs.declared.intake.View.{View}
+use Rattle.bq_link.specs.declared.ends.View.{View}
 
 abbrev pub Each : (ℕ → View → Type 0) → List View → Type 0
 Each F views = (pass : ℕ) (v : View) → get_elem? views pass ≡ some v → F pass v

@@ -3,7 +3,7 @@ use Rattle.std.specs.Prelude.{ℕ, ◌≡◌, ◌≤◌, ◌++◌, true, false, 
 use mathlib.Core.Option.{some}
 use lib.ListN.{get_elem?}
 use Rattle.bq_job.specs.declared.step.Step.{Step}
-use Rattle.bq_link.specs.declared.intake.View.{View}
+use Rattle.bq_link.specs.declared.ends.View.{View}
 use Rattle.bq_link.specs.Submissions.{AreBelow, Covers, Past, steps_of}
 
 -- what an end's thread knows: the steps that it submitted

@@ -4,14 +4,12 @@
 //! Each thread has an end of its own. What an end submitted, took or sent is seen by contracts as lists.
 #![tactic(auto)]
 
-pub use ends::{CoreEnd, SeatEnd};
-pub use intake::{Intake, Record};
+pub use ends::{CoreEnd, Intake, Record, SeatEnd};
 pub use laws::{empty_looks_are_of_empty_intakes, pairs_stay, refusals_are_of_full_intakes};
 pub use making::links;
 pub use no_ticks::NoTicks;
 
 mod ends;
-mod intake;
 mod laws;
 mod making;
 mod no_ticks;

@@ -1,8 +1,7 @@
 ghost use Rattle.std.specs.Prelude.{◌≡◌, ◌+◌, ◌*◌, ◌≤◌, [], IfOk, OnOk, length};
 ghost use Rattle.bq_link.specs.NewEnds.{AreNewSeats, IsNewCore};
 
-use crate::ends::{CoreEnd, SeatEnd};
-use crate::intake::{Intake, Record};
+use crate::ends::{CoreEnd, Intake, Record, SeatEnd};
 use bq_job::NoMemory;
 use crossbeam_queue::RuledArrayQueue;
 use std::alloc::{AllocError, Global};

@@ -1,6 +1,6 @@
 //! What is so of the intake of a run at each moment.
 
-use crate::intake::Record;
+use crate::ends::Record;
 
 /// No step that was submitted is a tick: time passes by the core alone.
 pub struct NoTicks;

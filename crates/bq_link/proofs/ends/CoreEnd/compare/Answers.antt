@@ -1,7 +1,7 @@
 use Rattle.std.proofs.Common.{ℕ, ◌++◌, ap, subst, sym, ◌∙◌, rules}
 use Rattle.crossbeam_queue.specs.Passes.{Pass, view}
 use Rattle.bq_job.specs.declared.step.Step.{Step}
-use Rattle.bq_link.specs.declared.intake.View.{View}
+use Rattle.bq_link.specs.declared.ends.View.{View}
 use Rattle.bq_link.specs.Submissions.{steps_of}
 use Rattle.bq_link.proofs.DeliveryLemmas.{compares}
 use Rattle.bq_link.proofs.PassLemmas.{blanks, joins, parts}
