@@ -8,12 +8,10 @@ ghost use Rattle.bq_line.specs.Streams.{StaysOver, StreamSeen};
 
 pub use io_line::{BufferedLine, ByteRecord, IoLine};
 pub use mem_line::{MemLine, Part};
-pub use read_buffer::{READ_ROOM, ReadBuffer};
-pub use stream::{Connection, Duplex, Socket};
+pub use stream::{Connection, Duplex, READ_ROOM, ReadBuffer, Socket};
 
 mod io_line;
 mod mem_line;
-mod read_buffer;
 mod stream;
 
 use bq_job::LineFault;

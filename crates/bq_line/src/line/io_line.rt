@@ -4,8 +4,7 @@ ghost use Rattle.std.specs.Io.KnownBytes.{Keeps, ReadConsumes, WriteAppends};
 ghost use Rattle.bq_line.specs.LineCalls.{after_fill, after_flush, after_read, after_write};
 ghost use Rattle.bq_line.specs.Streams.{StaysOver};
 
-use crate::line::read_buffer::ReadBuffer;
-use crate::line::stream::{Duplex, read_by};
+use crate::line::stream::{Duplex, ReadBuffer, read_by};
 use crate::line::{Line, is_nothing_yet, note_fault};
 use boxcar::tag::{Names, Tag};
 use bq_job::LineFault;
