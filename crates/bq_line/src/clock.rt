@@ -10,10 +10,9 @@ mod script_clock;
 
 use boxcar::tag::{Names, Tag};
 use bq_job::Moment;
-use std::fmt::{Debug, Formatter, Write};
 use std::marker::Model;
+use std::rt;
 use std::time::Instant;
-use std::{fmt, rt};
 
 /// A clock that a run reads. What it reads is told by a relation between the clock before some readings,
 /// those readings in their order, and the clock after them.
@@ -46,7 +45,7 @@ pub fn moment_heard(last: Moment, reading: Option<Moment>) -> Moment
 
 /// The machine's clock: the milliseconds since it was made. It tells the readings that it gave; nothing is
 /// claimed of what the system's clock reads.
-#[derive(Debug, Drop)]
+#[derive(Drop)]
 pub struct MachineClock<R> {
     rt: R,
     // None where the system's clock couldn't be read.
@@ -136,12 +135,6 @@ fn with_reading(tag: &Tag, reading: Option<Moment>) -> Tag
     ensures { result.numbers ≡ tag.now.numbers ++ number_of_reading reading ∷ [] }
 {
     Tag::of::<Further<'_>, Noted>(&Further { tag, reading })
-}
-
-impl Debug for ReadingRecord {
-    fn fmt<W: Write>(&self, f: &mut Formatter<W>) -> fmt::Result {
-        f.write_str("ReadingRecord")
-    }
 }
 
 /// What a run tells whoever operates the server.

@@ -8,7 +8,7 @@ use std::marker::Model;
 
 /// A clock that gives its readings in their order, and then the last one again and again. An empty one
 /// gives none. Contracts see the readings and the place in them.
-#[derive(Debug, Drop)]
+#[derive(Drop)]
 pub struct ScriptClock {
     script: Vec<Option<Moment>, Global>,
     place: usize,

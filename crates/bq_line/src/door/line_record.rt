@@ -4,8 +4,6 @@ ghost use Rattle.bq_line.specs.LineNumbers.{numbers_with_line};
 use crate::line::Line;
 use boxcar::tag::{Names, Tag};
 use bq_job::LineEnd;
-use std::fmt;
-use std::fmt::{Debug, Formatter, Write};
 use std::marker::Model;
 
 /// The lines that are over, in the order in which they were shut. It takes no memory, and its methods do
@@ -63,10 +61,4 @@ fn with_line<L: Line>(tag: &Tag, line: &L, end: LineEnd) -> Tag
         ≡ numbers_with_line (record { seen = L.seen line.now; over = end }) tag.now.numbers }
 {
     Tag::of::<Further<'_, L>, Noted>(&Further { tag, line, end })
-}
-
-impl Debug for LineRecord {
-    fn fmt<W: Write>(&self, f: &mut Formatter<W>) -> fmt::Result {
-        f.write_str("LineRecord")
-    }
 }

@@ -11,8 +11,6 @@ use crate::line::{Line, MemLine};
 use bq_job::{LineEnd, NoMemory};
 use std::alloc::Global;
 use std::collections::VecDeque;
-use std::fmt;
-use std::fmt::{Debug, Formatter, Write};
 use std::snapshot::Snapshot;
 
 /// The lines that were put in at a door, for proofs alone.
@@ -21,14 +19,8 @@ struct PutIn {
     lines: Snapshot<VecDeque<MemLine, Global>>,
 }
 
-impl Debug for PutIn {
-    fn fmt<W: Write>(&self, f: &mut Formatter<W>) -> fmt::Result {
-        f.write_str("PutIn")
-    }
-}
-
 /// A door in memory: lines that come one after another, and those that are over.
-#[derive(Debug, Drop)]
+#[derive(Drop)]
 pub struct MemDoor {
     coming: VecDeque<MemLine, Global>,
     over: Vec<(MemLine, LineEnd), Global>,

@@ -8,13 +8,12 @@ use crate::line::stream::{Duplex, ReadBuffer, read_by};
 use crate::line::{Line, is_nothing_yet, note_fault};
 use boxcar::tag::{Names, Tag};
 use bq_job::LineFault;
-use std::fmt::{Debug, Formatter, Write};
+use std::io;
 use std::marker::Model;
-use std::{fmt, io};
 
 /// A line over any stream. Beside the stream it keeps the two marks, and records of the bytes that the
 /// stream's reads gave and its writes took, which take no memory.
-#[derive(Debug, Drop)]
+#[derive(Drop)]
 pub struct IoLine<S> {
     stream: S,
     ended: bool,
@@ -181,7 +180,7 @@ impl<S: Duplex> Line for IoLine<S> {
 /// A line over a stream that is read through a buffer, which is the line's own room: what lies there is lent, so that
 /// nobody has to copy it. Only where nothing does is the stream asked, for as much as the buffer has room for. What is
 /// written goes to the stream at once.
-#[derive(Debug, Drop)]
+#[derive(Drop)]
 pub struct BufferedLine<S> {
     line: IoLine<S>,
     came: ReadBuffer,
@@ -330,10 +329,4 @@ fn with_bytes(tag: &Tag, bytes: &[u8]) -> Tag
     ensures { result.numbers ≡ tag.now.numbers ++ bytes.now }
 {
     Tag::of::<Longer<'_>, Joined>(&Longer { tag, bytes })
-}
-
-impl Debug for ByteRecord {
-    fn fmt<W: Write>(&self, f: &mut Formatter<W>) -> fmt::Result {
-        f.write_str("ByteRecord")
-    }
 }

@@ -12,7 +12,7 @@ use std::io;
 use std::io::ErrorKind;
 
 /// A part of what a client in memory does.
-#[derive(Debug, Drop)]
+#[derive(Drop)]
 pub enum Part {
     /// It sends these bytes. A part without bytes gives none, and is no end of the input.
     Bytes(Vec<u8, Global>),
@@ -24,7 +24,7 @@ pub enum Part {
 
 /// A line to a client in memory: a list of parts, behind which the input ends, and room for the bytes
 /// that are written.
-#[derive(Debug, Drop)]
+#[derive(Drop)]
 pub struct MemLine {
     parts: Vec<Part, Global>,
     // How many parts are over, and how many bytes of the next one were read.

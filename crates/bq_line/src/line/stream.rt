@@ -8,11 +8,10 @@ ghost use Rattle.std.specs.Vec.{vec_capacity};
 use super::copy_first;
 use bq_job::NoMemory;
 use std::alloc::Global;
-use std::fmt::{Debug, Formatter};
+use std::io;
 use std::io::{Read, Write};
 use std::marker::Model;
 use std::net::TcpStream;
-use std::{fmt, io};
 
 /// A stream that is read and written, and whose two ways are apart: a read changes nothing of what was written, and
 /// a write nothing of what is left to read. The standard library's `Read` and `Write` each speak of one way alone.
@@ -113,7 +112,7 @@ impl Duplex for TcpStream {
 /// A connection. Its reads and writes wait, however long it takes; `read_now` doesn't. What is written goes out at
 /// once; while more is expected, the system may gather it for a while. The stream is switched over only where the last
 /// call was of the other kind.
-#[derive(Debug, Drop)]
+#[derive(Drop)]
 pub struct Connection<S> {
     stream: S,
     // Whether calls of the stream wait.
@@ -334,10 +333,4 @@ fn read_once<S: Duplex>(
     ensures apart { Keeps (S.contents stream.old) (S.contents stream.new) }
 {
     read_by(stream, room.as_mut_slice(), waits)
-}
-
-impl Debug for ReadBuffer {
-    fn fmt<W: fmt::Write>(&self, f: &mut Formatter<W>) -> fmt::Result {
-        f.write_str("ReadBuffer")
-    }
 }
