@@ -4,7 +4,7 @@ use Rattle.std.specs.VecDeque.{deque_capacity}
 use Rattle.bq_job.specs.machine.Dispatch.{GivenAnswer}
 use Rattle.bq_job.specs.promise.Runs.{answers_to}
 use Rattle.bq_link.specs.EndStates.{CoreState, room_for, sent_to}
-use Rattle.bq_core_work.specs.declared.core_work.sender.Sender.{Sender}
+use Rattle.bq_core_work.specs.declared.core_work.Sender.{Sender}
 
 -- Of these answers some were sent, and the others are left: each end sees them in their order.
 pub record AreSent (old : CoreState) (before : List GivenAnswer) (new : CoreState) (after : List GivenAnswer) : Type 0 where

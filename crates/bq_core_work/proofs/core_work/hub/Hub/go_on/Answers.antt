@@ -1,7 +1,7 @@
 use Rattle.std.proofs.Common.{◌∙◌, ◌++◌, ◌∷◌, [], ap, subst}
 use Rattle.bq_link.specs.EndStates.{CoreState}
 use Rattle.bq_core_work.specs.Worked.{WorksOn, hub_state}
-use Rattle.bq_core_work.specs.declared.core_work.sender.Sender.{Sender}
+use Rattle.bq_core_work.specs.declared.core_work.Sender.{Sender}
 use Rattle.bq_core_work.proofs.WorkedLemmas.{pending_on, worked_step}
 use Rattle.bq_core_work.proofs.core_work.hub.Hub.go_on.Goals as goal
 

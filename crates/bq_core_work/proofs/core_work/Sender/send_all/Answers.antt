@@ -1,7 +1,7 @@
 use Rattle.std.proofs.Common.{◌∙◌, ◌++◌, arith, ap, refl}
 use Rattle.bq_steps.specs.Outbox.{Outbox}
 use Rattle.bq_core_work.proofs.SendingLemmas.{sent_before, sent_next, sent_on}
-use Rattle.bq_core_work.proofs.core_work.sender.Sender.send_all.Goals as goal
+use Rattle.bq_core_work.proofs.core_work.Sender.send_all.Goals as goal
 
 pub loop-self-init : goal.loop-self-init
 loop-self-init c =

@@ -1,7 +1,7 @@
 use Rattle.std.proofs.Common.{◌∙◌, ◌++◌, arith, ap, length, subst, sym}
 use Rattle.bq_core_work.specs.Sending.{AreSent}
 use Rattle.bq_core_work.proofs.SendingLemmas.{sent_next, sent_on}
-use Rattle.bq_core_work.proofs.core_work.sender.Sender.try_again.Goals as goal
+use Rattle.bq_core_work.proofs.core_work.Sender.try_again.Goals as goal
 
 pub loop-seat-preserved : goal.loop-seat-preserved
 loop-seat-preserved c =

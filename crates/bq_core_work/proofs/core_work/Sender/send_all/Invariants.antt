@@ -1,6 +1,6 @@
 use Rattle.std.proofs.Common.{◌≡◌, ◌++◌, length}
 use Rattle.bq_core_work.specs.Sending.{AreSent, AreStuck, IsAtRest}
-use Rattle.bq_core_work.proofs.core_work.sender.Sender.send_all.Given as goal
+use Rattle.bq_core_work.proofs.core_work.Sender.send_all.Given as goal
 
 abbrev pub invariant-loop-self : goal.invariant-loop-self
 invariant-loop-self l = record {

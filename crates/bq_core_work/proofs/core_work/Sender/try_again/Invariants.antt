@@ -1,6 +1,6 @@
 use Rattle.std.proofs.Common.{◌≡◌, ◌≤◌, ◌+◌, ◌++◌, length}
 use Rattle.bq_core_work.specs.Sending.{AreSent, AreStuck, HasPlaces}
-use Rattle.bq_core_work.proofs.core_work.sender.Sender.try_again.Given as goal
+use Rattle.bq_core_work.proofs.core_work.Sender.try_again.Given as goal
 
 abbrev pub invariant-loop-seat : goal.invariant-loop-seat
 invariant-loop-seat l = record {

@@ -1,8 +1,8 @@
 use Rattle.std.proofs.Common.{◌≡◌, ◌∙◌, ◌∷◌, [], ◌++◌, ap, subst, sym}
 use Rattle.bq_core_work.specs.Sending.{AreSent}
-use Rattle.bq_core_work.specs.declared.core_work.sender.Sender.{Sender}
+use Rattle.bq_core_work.specs.declared.core_work.Sender.{Sender}
 use Rattle.bq_core_work.proofs.SendingLemmas.{sent_before, sent_on, sent_one}
-use Rattle.bq_core_work.proofs.core_work.sender.Sender.send_or_keep.Goals as goal
+use Rattle.bq_core_work.proofs.core_work.Sender.send_or_keep.Goals as goal
 
 pub returns-then-can_send-clause-sent : goal.returns-then-can_send-clause-sent
 returns-then-can_send-clause-sent c =
