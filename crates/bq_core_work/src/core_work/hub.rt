@@ -131,6 +131,7 @@ impl<C: Clock + Drop, K: QueueCore + Drop> Hub<C, K> {
     /// rung after it.
     ///
     /// Says whether steps may be left that wait.
+    #[tactic(auto, using(crate::proofs::TurnLemmas::on_still, crate::proofs::TurnLemmas::on_both))]
     pub fn help<R: Wait>(
         &mut self,
         rt: &R,
@@ -151,6 +152,7 @@ impl<C: Clock + Drop, K: QueueCore + Drop> Hub<C, K> {
     }
 
     // A turn without a rest. Whether there may be more to do at once.
+    #[tactic(auto, using(crate::proofs::TurnLemmas::on_both))]
     fn work_once<R: Wait>(
         &mut self,
         rt: &R,
