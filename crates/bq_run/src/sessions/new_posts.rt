@@ -1,5 +1,5 @@
 //! The posts of a run, before its threads start.
-ghost use Rattle.std.specs.Prelude.{◌≡◌, ◌++◌, ◌∷◌, ◌+◌, [], IfOk, IsTrue, map, reverse, vec_len};
+ghost use Rattle.std.specs.Prelude.{◌≡◌, ◌++◌, ◌∷◌, ◌+◌, [], IfOk, IsTrue, OnOk, map, reverse, vec_len};
 ghost use Rattle.std.specs.List.{All};
 ghost use Rattle.bq_steps.specs.Limits.{is_body_size};
 ghost use Rattle.bq_driver.specs.Tending.{IsNewDoor, door_seen};
@@ -92,6 +92,38 @@ fn new_seats<'a, L: Line + Drop, D: Door<Line = L> + Drop>(
     let Ok(mut posts) = Vec::with_capacity(alloc, doors.len()) else {
         return Err(NoMemory);
     };
+    fill_seats(
+        alloc,
+        max_job_size,
+        intake,
+        &mut ends,
+        &mut doors,
+        &mut posts,
+    )?;
+    Ok(posts)
+}
+
+// The same into room for them. Whoever calls it gives up what is left, so that it does so in one place.
+fn fill_seats<'a, L: Line + Drop, D: Door<Line = L> + Drop>(
+    alloc: Global,
+    max_job_size: u32,
+    intake: &'a Intake<NoTicks>,
+    ends: &mut Vec<SeatEnd, Global>,
+    doors: &mut Vec<D, Global>,
+    posts: &mut Vec<SeatPost<'a, D>, Global>,
+) -> Result<(), NoMemory>
+    requires size { IsTrue (is_body_size max_job_size) }
+    requires many { vec_len ends.old ≡ vec_len doors.old }
+    requires of_intake { All (λ end. end.intake ≡ intake.now.id) ends.old.items }
+    requires new_ends { All (λ end. IsNewEnd end) ends.old.items }
+    requires new { All
+        (λ door. IsNewDoor (door_seen D.is_out D.is_at_end D.lines_over door)) doors.old.items }
+    requires none { posts.old.items ≡ [] }
+    ensures limits { OnOk result
+        (All (λ post. post.max_job_size ≡ max_job_size) posts.new.items) }
+    ensures ends { OnOk result (reverse (map (λ p. p.end) posts.new.items) ≡ ends.old.items) }
+    ensures doors { OnOk result (reverse (map (λ p. p.door) posts.new.items) ≡ doors.old.items) }
+{
     while let Some(door) = doors.pop() {
         let Some(end) = ends.pop() else {
             unreachable!()
@@ -101,5 +133,5 @@ fn new_seats<'a, L: Line + Drop, D: Door<Line = L> + Drop>(
             return Err(NoMemory);
         };
     }
-    Ok(posts)
+    Ok(())
 }

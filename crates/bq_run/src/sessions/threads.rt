@@ -19,7 +19,7 @@ use bq_run_start::{RunFault, Start};
 use bq_seat_work::control_work::control_work;
 use bq_seat_work::seat_work::SharedCore;
 use bq_steps::QueueCore;
-use std::alloc::Global;
+use std::alloc::{AllocError, Global};
 use std::snapshot::Snapshot;
 use std::sync::Wait;
 use std::thread;
@@ -38,6 +38,11 @@ impl<D: Door> Promise<Option<(SeatEnd, D)>> for SeatPromise<D> {
         IfSome result (λ r. IsSameSeat p.end.value r.0 × IsDoorServed p.max_job_size (at r.1) r.0.submitted r.0.taken)
         × IfSome result (λ r. D.same p.door.value r.1) };
 }
+
+// The threads of the seats, with what each will give back.
+type SeatThreads<D> = Vec<PromisedHandle<Option<(SeatEnd, D)>, SeatPromise<D>>, Global>;
+
+type Rooms<D> = (SeatThreads<D>, Vec<SeatEnd, Global>, Vec<D, Global>);
 
 /// Serves all posts, those of the seats each in a thread of its own, and the control line in this one. The core lies
 /// under a lock, and whoever has submitted a step does its work; one more thread watches its clock. The threads begin
@@ -147,12 +152,7 @@ fn serve_all<
         control: control_post,
         max_job_size,
     } = posts;
-    let count = seats.len();
-    let (Ok(mut threads), Ok(doors), Ok(ends)) = (
-        Vec::with_capacity(alloc, count),
-        Vec::with_capacity(alloc, count),
-        Vec::with_capacity(alloc, count + 1),
-    ) else {
+    let Ok((mut threads, ends, doors)) = new_rooms(alloc, seats.len()) else {
         return Err(RunFault::NoMemory);
     };
     let Ok(watcher) = scope.spawn(move || watch(rt, core, start)) else {
@@ -173,6 +173,18 @@ fn serve_all<
         control_end,
         control,
     })
+}
+
+// Room for the threads of so many seats, and for what they give back, with the control line's end.
+fn new_rooms<D: Door + Drop>(alloc: Global, seats: usize) -> Result<Rooms<D>, AllocError>
+    ensures threads { IfOk result (λ r. vec_len r.0 ≡ 0) }
+    ensures ends { IfOk result (λ r. r.1.items ≡ []) }
+    ensures doors { IfOk result (λ r. r.2.items ≡ []) }
+{
+    let threads = Vec::with_capacity(alloc, seats)?;
+    let ends = Vec::with_capacity(alloc, seats.saturating_add(1))?;
+    let doors = Vec::with_capacity(alloc, seats)?;
+    Ok((threads, ends, doors))
 }
 
 // Watches the clock, where all threads were started.
@@ -209,7 +221,7 @@ fn start_seats<
     core: &'s S,
     start: &'s Start,
     max_job_size: u32,
-    threads: &mut Vec<PromisedHandle<Option<(SeatEnd, D)>, SeatPromise<D>>, Global>,
+    threads: &mut SeatThreads<D>,
 ) -> bool
     requires none { vec_len threads.old ≡ 0 }
     requires limits { All (λ post. post.max_job_size ≡ max_job_size) posts.items }
@@ -221,12 +233,7 @@ fn start_seats<
         → All (λ t. t.promise.max_job_size ≡ max_job_size) threads.new.items }
 {
     while let Some(post) = posts.pop() {
-        let promise = SeatPromise {
-            end: Snapshot::of(&post.end),
-            door: Snapshot::of(&post.door),
-            max_job_size: post.max_job_size,
-        };
-        let Ok(thread) = scope.spawn_with(promise, move || post.serve(rt, core, start)) else {
+        let Some(thread) = start_seat(scope, rt, post, core, start) else {
             return false;
         };
         let Ok(()) = threads.push(thread) else {
@@ -236,10 +243,39 @@ fn start_seats<
     true
 }
 
+// A thread for this seat, if it could be started.
+fn start_seat<
+    's,
+    E,
+    R: Threads + Wait + Sync,
+    L: Line + Drop + Send + 's,
+    D: Door<Line = L> + Drop + Send + 's,
+    S: SharedCore + Sync,
+>(
+    scope: &'s Scope<'s, E>,
+    rt: &'s R,
+    post: SeatPost<'s, D>,
+    core: &'s S,
+    start: &'s Start,
+) -> Option<PromisedHandle<Option<(SeatEnd, D)>, SeatPromise<D>>>
+    ensures end { IfSome result (λ t. t.promise.end.value ≡ post.entry.end) }
+    ensures door { IfSome result (λ t. t.promise.door.value ≡ post.entry.door) }
+    ensures limit { IfSome result (λ t. t.promise.max_job_size ≡ post.entry.max_job_size) }
+{
+    let promise = SeatPromise {
+        end: Snapshot::of(&post.end),
+        door: Snapshot::of(&post.door),
+        max_job_size: post.max_job_size,
+    };
+    scope
+        .spawn_with(promise, move || post.serve(rt, core, start))
+        .ok()
+}
+
 // Waits for the threads of all seats. Their ends and doors come behind one another, for which there is room.
 fn join_seats<R: Threads, D: Door + Drop + Send>(
     rt: &R,
-    threads: Vec<PromisedHandle<Option<(SeatEnd, D)>, SeatPromise<D>>, Global>,
+    threads: SeatThreads<D>,
     mut ends: Vec<SeatEnd, Global>,
     mut doors: Vec<D, Global>,
     max_job_size: u32,

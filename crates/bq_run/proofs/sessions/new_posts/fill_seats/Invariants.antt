@@ -3,7 +3,7 @@ use Rattle.std.specs.List.{All}
 use Rattle.bq_driver.specs.Tending.{IsNewDoor, door_seen}
 use Rattle.bq_seat_work.specs.Ends.{IsNewEnd}
 use Rattle.std.specs.Prelude.{reverse}
-use Rattle.bq_run.proofs.sessions.new_posts.new_seats.Given as goal
+use Rattle.bq_run.proofs.sessions.new_posts.fill_seats.Given as goal
 
 abbrev pub invariant-loop-door : goal.invariant-loop-door
 invariant-loop-door g l = record {
