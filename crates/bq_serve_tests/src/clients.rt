@@ -27,13 +27,6 @@ pub const WAITS: &str = "reserve~ + after 19";
 
 pub const PUTS: &str = "put 5 0 10 3~abc~";
 
-fn bytes(alloc: Global, text: &[u8]) -> Result<Part, NoMemory> {
-    match Vec::from_slice(alloc, text) {
-        Ok(bytes) => Ok(Part::Bytes(bytes)),
-        Err(_) => Err(NoMemory),
-    }
-}
-
 fn push(parts: &mut Vec<Part, Global>, part: Part) -> Result<(), NoMemory> {
     match parts.push(part) {
         Ok(()) => Ok(()),
@@ -72,15 +65,6 @@ pub fn parts_of(alloc: Global, does: &str) -> Result<Vec<Part, Global>, NoMemory
             return Err(NoMemory);
         };
         push(&mut parts, part)?;
-    }
-    Ok(parts)
-}
-
-/// The parts of a line to a client that sends this text in pieces of so many bytes.
-pub fn pieces_of(alloc: Global, text: &[u8], size: usize) -> Result<Vec<Part, Global>, NoMemory> {
-    let mut parts: Vec<Part> = Vec::new(alloc);
-    for piece in text.chunks(size.max(1)) {
-        push(&mut parts, bytes(alloc, piece)?)?;
     }
     Ok(parts)
 }

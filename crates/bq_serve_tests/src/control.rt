@@ -1,11 +1,9 @@
-//! A reader of a control line in pieces.
+//! A control line that comes in pieces.
 
-ghost use Rattle.std.specs.Prelude.{true};
-
-use bq_driver::control_line::Heard;
-use bq_driver::control_reader::{ControlReader, next_of};
+use bq_job::NoMemory;
+use std::alloc::Global;
 use std::io;
-use std::io::{BufRead, ErrorKind, Read};
+use std::io::{BufReader, ErrorKind, Read};
 
 /// What a read of a control line comes to.
 #[derive(Clone, Copy)]
@@ -17,61 +15,37 @@ pub enum Gives {
     Fault,
 }
 
-/// A reader that gives these, one after another, and then the end.
+/// What gives these, one after another, and then the end. A text fits the buffer of who reads it.
 #[derive(Drop)]
-pub struct Control {
+pub struct Pieces {
     next: &'static [Gives],
-    text: &'static [u8],
 }
 
-impl Control {
-    pub fn new(gives: &'static [Gives]) -> Control {
-        Control {
-            next: gives,
-            text: b"",
-        }
-    }
-}
-
-impl BufRead for Control {
-    fn fill_buf(&mut self) -> io::Result<&[u8]> {
-        if !self.text.is_empty() {
-            return Ok(self.text);
-        }
+impl Read for Pieces {
+    fn read(&mut self, buf: &mut [u8]) -> io::Result<usize> {
         let Some((first, behind)) = self.next.split_first() else {
-            return Ok(b"");
+            return Ok(0);
         };
         self.next = behind;
         match first {
             Gives::Text(text) => {
-                self.text = text.as_bytes();
-                Ok(self.text)
+                let bytes = text.as_bytes();
+                let count = bytes.len().min(buf.len());
+                buf[..count].copy_from_slice(&bytes[..count]);
+                Ok(count)
             }
             Gives::NothingYet => Err(io::Error::from(ErrorKind::WouldBlock)),
             Gives::Fault => Err(io::Error::from(ErrorKind::BrokenPipe)),
         }
     }
-
-    fn consume(&mut self, amount: usize) {
-        let count = amount.min(self.text.len());
-        self.text = &self.text[count..];
-    }
 }
 
-impl ControlReader for Control {
-    ghost may_fail = { λ _. true };
+/// A control line, read as that of a server is.
+pub type Control = BufReader<Pieces>;
 
-    fn next_byte(&mut self) -> Heard {
-        next_of(self)
-    }
-}
-
-impl Read for Control {
-    fn read(&mut self, buf: &mut [u8]) -> io::Result<usize> {
-        let available = self.fill_buf()?;
-        let count = available.len().min(buf.len());
-        buf[..count].copy_from_slice(&available[..count]);
-        self.consume(count);
-        Ok(count)
+pub fn control(alloc: Global, gives: &'static [Gives]) -> Result<Control, NoMemory> {
+    match BufReader::new(alloc, Pieces { next: gives }) {
+        Ok(control) => Ok(control),
+        Err(_) => Err(NoMemory),
     }
 }

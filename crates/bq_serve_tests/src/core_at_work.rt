@@ -6,7 +6,7 @@ ghost use Rattle.bq_link.specs.NewEnds.{IsNewCore};
 use crate::clients::{STILL, clock};
 use crate::runs::config;
 use bq_core::{Core, Outs};
-use bq_job::{Answer, Body, NoMemory, Request, Step, USUAL_BODY};
+use bq_job::{Answer, NoMemory, Request, Step, USUAL_BODY};
 use bq_link::{CoreEnd, Intake, NoTicks, SeatEnd, links};
 use bq_serve::core_work::{CoreRoom, core_work};
 use std::alloc::{AllocError, Global};
@@ -55,17 +55,6 @@ fn submits<R: Wait>(rt: &R, intake: &Intake<NoTicks>, end: &mut SeatEnd, step: S
     ensures { end.new.intake ≡ end.old.intake }
 {
     end.submit(rt, intake, step).is_ok()
-}
-
-fn put(alloc: Global) -> Result<Step, NoMemory>
-    ensures { IfOk result (λ step. is_tick step ≡ false) }
-{
-    Ok(Step::Ask(Request::Put {
-        pri: 0,
-        delay: 0,
-        ttr: 1,
-        body: Body::new(alloc, b"x")?,
-    }))
 }
 
 // A core for three seats, and its end.
@@ -119,9 +108,39 @@ fn is_not_found<R: Wait>(rt: &R, end: &mut SeatEnd) -> bool
     unreachable!()
 }
 
+// The first seat asks for one answer more than its ring takes, and then the second one for its own.
+fn ask<R: Wait>(rt: &R, intake: &Intake<NoTicks>, first: &mut SeatEnd, second: &mut SeatEnd) -> bool
+    requires first { first.old.intake ≡ intake.now.id }
+    requires second { second.old.intake ≡ intake.now.id }
+    ensures first { first.new.intake ≡ first.old.intake }
+    ensures second { second.new.intake ≡ second.old.intake }
+{
+    submits(rt, intake, first, Step::Connect)
+        && submits(rt, intake, second, Step::Connect)
+        && submits(rt, intake, first, Step::Ask(Request::PeekReady))
+        && submits(rt, intake, first, Step::Ask(Request::PeekReady))
+        && submits(rt, intake, first, Step::Ask(Request::PeekReady))
+        && submits(rt, intake, first, Step::Ask(Request::PeekReady))
+        && submits(rt, intake, first, Step::Ask(Request::PeekReady))
+        && submits(rt, intake, second, Step::Ask(Request::PeekReady))
+}
+
+// Whether the second seat has its answer while the ring of the first is full, which takes its five answers after that.
+fn take_late<R: Wait>(rt: &R, first: &mut SeatEnd, second: &mut SeatEnd) -> bool
+    ensures first { first.new.intake ≡ first.old.intake }
+    ensures second { second.new.intake ≡ second.old.intake }
+{
+    is_not_found(rt, second)
+        && is_not_found(rt, first)
+        && is_not_found(rt, first)
+        && is_not_found(rt, first)
+        && is_not_found(rt, first)
+        && is_not_found(rt, first)
+}
+
 impl<'a> Ends<'a> {
-    // The second seat has its answer while the ring of the first is full, which takes its five answers after that.
-    fn take_late<R: Wait>(self, rt: &R) -> bool {
+    // Whether all comes as it has to. The core ends once all ends are gone.
+    fn work<R: Wait>(self, rt: &R) -> bool {
         let Ends {
             intake,
             mut first,
@@ -129,17 +148,13 @@ impl<'a> Ends<'a> {
             mut third,
             mut control,
         } = self;
-        let mut found = u32::from(is_not_found(rt, &mut second));
-        found += u32::from(is_not_found(rt, &mut first));
-        found += u32::from(is_not_found(rt, &mut first));
-        found += u32::from(is_not_found(rt, &mut first));
-        found += u32::from(is_not_found(rt, &mut first));
-        found += u32::from(is_not_found(rt, &mut first));
-        found == 6
-            && submits(rt, intake, &mut first, Step::Gone)
+        let is_asked = ask(rt, intake, &mut first, &mut second);
+        let is_right = is_asked && take_late(rt, &mut first, &mut second);
+        submits(rt, intake, &mut first, Step::Gone)
             && submits(rt, intake, &mut second, Step::Gone)
             && submits(rt, intake, &mut third, Step::Gone)
             && submits(rt, intake, &mut control, Step::Gone)
+            && is_right
     }
 }
 
@@ -154,7 +169,7 @@ fn work_beside<R: Threads + Wait + Sync>(
         thread::scope_env(),
         rt,
         |scope| -> Result<bool, AllocError> {
-            let child = scope.spawn(move || ends.take_late(rt))?;
+            let child = scope.spawn(move || ends.work(rt))?;
             let Ok(()) = core.work(rt, alloc) else {
                 return Err(AllocError);
             };
@@ -164,39 +179,8 @@ fn work_beside<R: Threads + Wait + Sync>(
 }
 
 #[test]
-fn core_serves_two_ends(rt: HostRuntime) -> Result<(), Fail> {
-    let (intake, end, (mut first, mut second), (mut third, mut control)) = four_ends(rt.alloc())?;
-    assert!(rt; submits(&rt, &intake, &mut second, Step::Connect));
-    assert!(rt; submits(&rt, &intake, &mut second, Step::Ask(Request::Reserve)));
-    assert!(rt; submits(&rt, &intake, &mut first, Step::Connect));
-    assert!(rt; submits(&rt, &intake, &mut first, put(rt.alloc())?));
-    assert!(rt; submits(&rt, &intake, &mut second, Step::Gone));
-    assert!(rt; submits(&rt, &intake, &mut first, Step::Gone));
-    assert!(rt; submits(&rt, &intake, &mut control, Step::Gone));
-    assert!(rt; submits(&rt, &intake, &mut third, Step::Gone));
-    let core = CoreSide {
-        intake: &intake,
-        end,
-    };
-    core.work(&rt, rt.alloc())?;
-    assert!(rt; matches!(first.mail(), Some(Answer::Inserted(1))));
-    assert!(rt; matches!(second.mail(), Some(Answer::Reserved(1, _))));
-    assert!(rt; first.mail().is_none() && second.mail().is_none());
-    assert!(rt; third.mail().is_none() && control.mail().is_none());
-    Ok(())
-}
-
-#[test]
 fn core_serves_others_while_a_ring_is_full(rt: HostRuntime) -> Result<(), Fail> {
-    let (intake, end, (mut first, mut second), (third, control)) = four_ends(rt.alloc())?;
-    assert!(rt; submits(&rt, &intake, &mut first, Step::Connect));
-    assert!(rt; submits(&rt, &intake, &mut second, Step::Connect));
-    assert!(rt; submits(&rt, &intake, &mut first, Step::Ask(Request::PeekReady)));
-    assert!(rt; submits(&rt, &intake, &mut first, Step::Ask(Request::PeekReady)));
-    assert!(rt; submits(&rt, &intake, &mut first, Step::Ask(Request::PeekReady)));
-    assert!(rt; submits(&rt, &intake, &mut first, Step::Ask(Request::PeekReady)));
-    assert!(rt; submits(&rt, &intake, &mut first, Step::Ask(Request::PeekReady)));
-    assert!(rt; submits(&rt, &intake, &mut second, Step::Ask(Request::PeekReady)));
+    let (intake, end, (first, second), (third, control)) = four_ends(rt.alloc())?;
     let core = CoreSide {
         intake: &intake,
         end,

@@ -1,16 +1,14 @@
 //! The control line: once it has said `drain`, no put is accepted.
-ghost use Rattle.std.specs.Prelude.{◌≡◌, IfOk};
+ghost use Rattle.std.specs.Prelude.{◌≡◌, ◌<◌};
 
-use crate::clients::STILL;
 use crate::control::Gives;
 use crate::runs::{around_a_lock, by_threads, config};
 use bq_core::{Core, Outs};
 use bq_job::{Answer, Body, NoMemory, Request, Step, USUAL_BODY};
-use bq_serve::{Locked, RunFault};
+use bq_serve::Locked;
 use std::alloc::Global;
 use std::sync::Wait;
 use std::sync::atomic::AtomicU64;
-use std::test::Fail;
 use std::thread::Threads;
 
 /// What the control line comes to, and whether a put is refused then.
@@ -53,77 +51,69 @@ fn put(alloc: Global) -> Result<Step, NoMemory> {
     }))
 }
 
-// The core that a run by threads leaves.
-fn core_left<R: Threads + Wait + Sync>(
-    rt: &R,
-    alloc: Global,
-    control: &'static [Gives],
-) -> Result<Core, RunFault>
-    ensures { IfOk result (λ core. core.machine.settings.seats ≡ 1) }
+// Whether a core refuses its first client's put, where it is silent before.
+fn refuses(alloc: Global, core: &mut Core, outs: &mut Outs, put: Step) -> Option<bool>
+    requires { core.old.machine.settings.seats < outs.old.most }
 {
-    let opened = AtomicU64::new(0);
-    let config = config(1, USUAL_BODY);
-    match by_threads(rt, alloc, config, &[&[]], control, &opened) {
-        Ok(run) => Ok(run.core),
-        Err(fault) => Err(fault),
+    core.step(alloc, 0, 0, Step::Connect, outs);
+    if outs.take_first().is_some() {
+        return None;
     }
+    core.step(alloc, 0, 0, put, outs);
+    Some(matches!(outs.take_first(), Some((0, Answer::Draining))))
 }
 
-// What a run around a lock leaves under it.
-fn locked_left<R: Threads + Wait + Sync>(
-    rt: &R,
-    alloc: Global,
-    control: &'static [Gives],
-) -> Result<Locked, RunFault> {
-    let opened = AtomicU64::new(0);
-    let config = config(1, USUAL_BODY);
-    match around_a_lock(rt, alloc, config, &[&[]], STILL, control, 0, &opened) {
-        Ok(run) => Ok(run.locked),
-        Err(fault) => Err(fault),
-    }
-}
-
-// Whether the core refuses the first client's put.
-fn core_drains(alloc: Global, core: &mut Core) -> Result<bool, NoMemory>
+// The same of a core for one client.
+fn core_drains(alloc: Global, core: &mut Core) -> Option<bool>
     requires { core.old.machine.settings.seats ≡ 1 }
 {
-    let mut outs = Outs::new(alloc, 1)?;
-    let put = put(alloc)?;
-    core.step(alloc, 0, 0, Step::Connect, &mut outs);
-    core.step(alloc, 0, 0, put, &mut outs);
-    Ok(matches!(outs.take_first(), Some((0, Answer::Draining))))
+    let mut outs = Outs::new(alloc, 1).ok()?;
+    let put = put(alloc).ok()?;
+    refuses(alloc, core, &mut outs, put)
 }
 
-fn lock_drains(alloc: Global, locked: &mut Locked) -> Result<bool, NoMemory> {
-    let put = put(alloc)?;
+fn lock_drains(alloc: Global, locked: &mut Locked) -> Option<bool> {
+    let put = put(alloc).ok()?;
     locked.step(0, 0, Step::Connect);
+    if locked.fetch(0).is_some() {
+        return None;
+    }
     locked.step(0, 0, put);
-    Ok(matches!(locked.fetch(0), Some(Answer::Draining)))
+    Some(matches!(locked.fetch(0), Some(Answer::Draining)))
 }
 
+// Whether what a run by threads leaves refuses puts.
 fn drains_by_threads<R: Threads + Wait + Sync>(
     rt: &R,
     alloc: Global,
     control: &'static [Gives],
-) -> Result<bool, Fail> {
-    let mut core = core_left(rt, alloc, control)?;
-    Ok(core_drains(alloc, &mut core)?)
+) -> Option<bool> {
+    let opened = AtomicU64::new(0);
+    let config = config(1, USUAL_BODY);
+    match by_threads(rt, alloc, config, &[&[]], control, &opened) {
+        Ok(mut run) => core_drains(alloc, &mut run.core),
+        Err(_) => None,
+    }
 }
 
+// The same of a run around a lock.
 fn drains_around_a_lock<R: Threads + Wait + Sync>(
     rt: &R,
     alloc: Global,
     control: &'static [Gives],
-) -> Result<bool, Fail> {
-    let mut locked = locked_left(rt, alloc, control)?;
-    Ok(lock_drains(alloc, &mut locked)?)
+) -> Option<bool> {
+    let opened = AtomicU64::new(0);
+    let config = config(1, USUAL_BODY);
+    match around_a_lock(rt, alloc, config, &[&[]], control, 0, &opened) {
+        Ok(mut run) => lock_drains(alloc, &mut run.locked),
+        Err(_) => None,
+    }
 }
 
 #[test]
-fn control_lines(rt: HostRuntime) -> Result<(), Fail> {
+fn control_lines(rt: HostRuntime) {
     for (control, drains) in EXAMPLES {
-        assert!(rt; drains_by_threads(&rt, rt.alloc(), control)? == *drains);
-        assert!(rt; drains_around_a_lock(&rt, rt.alloc(), control)? == *drains);
+        assert!(rt; drains_by_threads(&rt, rt.alloc(), control) == Some(*drains));
+        assert!(rt; drains_around_a_lock(&rt, rt.alloc(), control) == Some(*drains));
     }
-    Ok(())
 }

@@ -89,12 +89,20 @@ fn rooms_of_each_length(rt: HostRuntime) -> Result<(), Fail> {
     Ok(())
 }
 
+fn is_broken_alone<R: Threads + Wait + Abort + Sync>(
+    rt: &R,
+    alloc: Global,
+    way: Way,
+) -> Result<bool, Fail> {
+    let opened = AtomicU64::new(0);
+    let doors = served(rt, alloc, way, BROKEN, &opened)?;
+    Ok(is_other_unhurt(doors.as_slice()))
+}
+
 #[test]
 fn fault_while_it_waits(rt: HostRuntime) -> Result<(), Fail> {
     for way in WAYS {
-        let opened = AtomicU64::new(0);
-        let doors = served(&rt, rt.alloc(), *way, BROKEN, &opened)?;
-        assert!(rt; is_other_unhurt(doors.as_slice()));
+        assert!(rt; is_broken_alone(&rt, rt.alloc(), *way)?);
     }
     Ok(())
 }

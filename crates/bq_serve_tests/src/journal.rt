@@ -5,8 +5,7 @@ ghost use Rattle.std.specs.Prelude.{◌≡◌, ◌<◌};
 use crate::doors::CountedDoor;
 use bq_core::{Config, Core, CoreFault, Outs};
 use bq_job::{Answer, Entry, LineEnd, Moment, Seat, Step};
-use bq_serve::LockedRun;
-use bq_serve::clock::ScriptClock;
+use bq_serve::Locked;
 use bq_wire::{HeadBuf, answer_body, answer_head, answer_tail};
 use std::alloc::Global;
 use std::process::Abort;
@@ -48,8 +47,8 @@ impl Alone {
     }
 }
 
-/// Adds the text of an answer. A line that is closed has its mark.
-pub fn add_answer(text: &mut Vec<u8, Global>, answer: &Answer) -> Result<(), Fail> {
+// Adds the text of an answer. A line that is closed has its mark.
+fn add_answer(text: &mut Vec<u8, Global>, answer: &Answer) -> Result<(), Fail> {
     if let Answer::Closed = answer {
         text.push(LINE_OVER)?;
         return Ok(());
@@ -62,8 +61,25 @@ pub fn add_answer(text: &mut Vec<u8, Global>, answer: &Answer) -> Result<(), Fai
     Ok(())
 }
 
-/// The joined texts of what a new core answers a seat, where it is given these entries.
-pub fn replayed(
+// The joined texts of what it answers a seat, where it is given these entries.
+fn replay(
+    rt: &impl Abort,
+    alone: &mut Alone,
+    text: &mut Vec<u8, Global>,
+    entries: &[Entry],
+    seat: Seat,
+) -> Result<(), Fail> {
+    for entry in entries {
+        let step = entry.step.share()?;
+        let left_out = alone.step(entry.moment, entry.seat, step);
+        assert!(rt; left_out == entry.left_out);
+        alone.add_answers(text, seat)?;
+    }
+    Ok(())
+}
+
+// The same of a new core.
+fn replayed(
     rt: &impl Abort,
     alloc: Global,
     config: Config,
@@ -72,12 +88,7 @@ pub fn replayed(
 ) -> Result<Vec<u8, Global>, Fail> {
     let mut text: Vec<u8> = Vec::new(alloc);
     let mut alone = Alone::new(alloc, config)?;
-    for entry in entries {
-        let step = entry.step.share()?;
-        let left_out = alone.step(entry.moment, entry.seat, step);
-        assert!(rt; left_out == entry.left_out);
-        alone.add_answers(&mut text, seat)?;
-    }
+    replay(rt, &mut alone, &mut text, entries, seat)?;
     Ok(text)
 }
 
@@ -139,23 +150,35 @@ fn times_gone(entries: &[Entry], seat: Seat) -> u64 {
     times
 }
 
+// Whether a door was written what a core by itself answers its seat, and the seat went once.
+fn is_replayed(
+    rt: &impl Abort,
+    alloc: Global,
+    config: Config,
+    entries: &[Entry],
+    seat: Seat,
+    door: &CountedDoor,
+) -> Result<bool, Fail> {
+    let text = written(alloc, door)?;
+    let wanted = replayed(rt, alloc, config, entries, seat)?;
+    Ok(times_gone(entries, seat) == 1 && is_due(door, text.as_slice(), wanted.as_slice()))
+}
+
 /// The journal is whole, each seat and the control line went once, and at each door that was written which
 /// a core by itself answers, where there was room for it.
 pub fn expect_whole_journal(
     rt: &impl Abort,
     alloc: Global,
     config: Config,
-    run: &LockedRun<CountedDoor, ScriptClock>,
+    locked: &Locked,
+    doors: &[CountedDoor],
 ) -> Result<(), Fail> {
-    let entries = run.locked.journal();
-    assert!(rt; run.locked.whole());
+    let entries = locked.journal();
+    assert!(rt; locked.whole());
     assert!(rt; times_gone(entries, config.seats) == 1);
     let mut seat: Seat = 0;
-    for door in run.doors.as_slice() {
-        assert!(rt; times_gone(entries, seat) == 1);
-        let text = written(alloc, door)?;
-        let wanted = replayed(rt, alloc, config, entries, seat)?;
-        assert!(rt; is_due(door, text.as_slice(), wanted.as_slice()));
+    for door in doors {
+        assert!(rt; is_replayed(rt, alloc, config, entries, seat, door)?);
         seat = seat.saturating_add(1);
     }
     Ok(())

@@ -25,5 +25,3 @@ mod one_line;
 mod refused;
 #[cfg(test)]
 mod runs;
-#[cfg(test)]
-mod steps;

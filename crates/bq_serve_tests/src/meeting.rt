@@ -20,8 +20,8 @@ use guest::{GUESTS, Guest};
 use guest_control::GuestControl;
 use guest_door::GuestDoor;
 use std::alloc::Global;
+use std::io::BufReader;
 use std::sync::Wait;
-use std::test::Fail;
 use std::thread::Threads;
 
 /// How often each run is made.
@@ -64,15 +64,16 @@ fn met<'m, R: Threads + Wait + Sync>(
     alloc: Global,
     meeting: &'m Meeting,
     chosen: u16,
-) -> Result<Run<GuestDoor<'m>, ScriptClock, GuestControl<'m>>, RunFault> {
+) -> Result<Run<GuestDoor<'m>, ScriptClock, BufReader<GuestControl<'m>>>, RunFault> {
     let Ok(doors) = doors(alloc, meeting, chosen) else {
         return Err(RunFault::NoMemory);
     };
-    let Ok(clock) = clock(alloc, STILL) else {
+    let control = BufReader::new(alloc, GuestControl::new(meeting));
+    let (Ok(clock), Ok(control)) = (clock(alloc, STILL), control) else {
         return Err(RunFault::NoMemory);
     };
     let config = config(GUESTS, USUAL_BODY);
-    run_sessions(rt, alloc, config, doors, clock, GuestControl::new(meeting))
+    run_sessions(rt, alloc, config, doors, clock, control)
 }
 
 // Whether the door's client has an answer, the last one or another, and its line has ended.
@@ -95,15 +96,20 @@ fn are_served(doors: Vec<GuestDoor<'_>, Global>, chosen: u16) -> bool {
     right
 }
 
+// Whether the clients of one run met, and each was served.
+fn do_all_meet<R: Threads + Wait + Sync>(rt: &R, alloc: Global, chosen: u16) -> bool {
+    let meeting = Meeting::new();
+    match met(rt, alloc, &meeting, chosen) {
+        Ok(run) => are_served(run.doors, chosen) && !meeting.has_failed(),
+        Err(_) => false,
+    }
+}
+
 #[test]
-fn each_waits_for_the_others(rt: HostRuntime) -> Result<(), Fail> {
+fn each_waits_for_the_others(rt: HostRuntime) {
     for chosen in 0..GUESTS {
         for _ in 0..TIMES {
-            let meeting = Meeting::new();
-            let run = met(&rt, rt.alloc(), &meeting, chosen)?;
-            assert!(rt; are_served(run.doors, chosen));
-            assert!(rt; !run.control.into_reader().has_failed());
+            assert!(rt; do_all_meet(&rt, rt.alloc(), chosen));
         }
     }
-    Ok(())
 }

@@ -45,7 +45,7 @@ fn fault_around_a_lock<R: Threads + Wait + Sync>(
     opened: &AtomicU64,
 ) -> Option<RunFault> {
     let config = config(row.0, row.1);
-    around_a_lock(rt, alloc, config, CLIENTS, STILL, SILENT, row.2, opened).err()
+    around_a_lock(rt, alloc, config, CLIENTS, SILENT, row.2, opened).err()
 }
 
 // Of one line, which isn't read either.

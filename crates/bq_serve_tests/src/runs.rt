@@ -2,7 +2,7 @@
 ghost use Rattle.std.specs.Prelude.{◌≡◌, IfOk};
 
 use crate::clients::{Client, STILL, clock};
-use crate::control::{Control, Gives};
+use crate::control::{Control, Gives, control};
 use crate::doors::{CountedDoor, doors};
 use crate::journal::expect_whole_journal;
 use bq_core::Config;
@@ -58,7 +58,7 @@ pub fn by_threads<'c, R: Threads + Wait + Sync>(
     alloc: Global,
     config: Config,
     clients: &[&[Client]],
-    control: &'static [Gives],
+    gives: &'static [Gives],
     opened: &'c AtomicU64,
 ) -> Result<Run<CountedDoor<'c>, ScriptClock, Control>, RunFault>
     ensures { IfOk result (λ run. run.core.machine.settings.seats ≡ config.seats) }
@@ -66,30 +66,28 @@ pub fn by_threads<'c, R: Threads + Wait + Sync>(
     let Ok(doors) = doors(alloc, clients, opened) else {
         return Err(RunFault::NoMemory);
     };
-    let Ok(clock) = clock(alloc, STILL) else {
+    let (Ok(clock), Ok(control)) = (clock(alloc, STILL), control(alloc, gives)) else {
         return Err(RunFault::NoMemory);
     };
-    run_sessions(rt, alloc, config, doors.all, clock, Control::new(control))
+    run_sessions(rt, alloc, config, doors.all, clock, control)
 }
 
-/// A run around a lock over doors at which these clients come, by a clock of these readings.
+/// A run around a lock over doors at which these clients come, by a clock that stands still.
 pub fn around_a_lock<'c, R: Threads + Wait + Sync>(
     rt: &R,
     alloc: Global,
     config: Config,
     clients: &[&[Client]],
-    readings: &[Option<Moment>],
-    control: &'static [Gives],
+    gives: &'static [Gives],
     room: usize,
     opened: &'c AtomicU64,
 ) -> Result<LockedRun<CountedDoor<'c>, ScriptClock>, RunFault> {
     let Ok(doors) = doors(alloc, clients, opened) else {
         return Err(RunFault::NoMemory);
     };
-    let Ok(clock) = clock(alloc, readings) else {
+    let (Ok(clock), Ok(control)) = (clock(alloc, STILL), control(alloc, gives)) else {
         return Err(RunFault::NoMemory);
     };
-    let control = Control::new(control);
     run_locked(rt, alloc, config, doors.all, clock, control, room)
 }
 
@@ -125,8 +123,8 @@ fn served_around_a_lock<'c, R: Threads + Wait + Abort + Sync>(
     opened: &'c AtomicU64,
 ) -> Result<Vec<CountedDoor<'c>, Global>, Fail> {
     let room = JOURNAL_ROOM;
-    let run = around_a_lock(rt, alloc, config, clients, STILL, SILENT, room, opened)?;
-    expect_whole_journal(rt, alloc, config, &run)?;
+    let run = around_a_lock(rt, alloc, config, clients, SILENT, room, opened)?;
+    expect_whole_journal(rt, alloc, config, &run.locked, run.doors.as_slice())?;
     Ok(run.doors)
 }
 

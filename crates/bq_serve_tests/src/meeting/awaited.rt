@@ -1,6 +1,6 @@
 //! What clients wait for.
 
-use std::sync::atomic::{AtomicU64, Ordering};
+use std::sync::atomic::{AtomicBool, AtomicU64, Ordering};
 use std::thread;
 
 /// How often a wait looks at most.
@@ -11,6 +11,7 @@ const LOOKS: u64 = 10_000_000;
 pub struct Meeting {
     begun: AtomicU64,
     answered: AtomicU64,
+    has_failed: AtomicBool,
 }
 
 impl Meeting {
@@ -19,6 +20,7 @@ impl Meeting {
         Meeting {
             begun: AtomicU64::new(0),
             answered: AtomicU64::new(0),
+            has_failed: AtomicBool::new(false),
         }
     }
 
@@ -30,6 +32,15 @@ impl Meeting {
     /// One client more has its answer.
     pub fn answer(&self) {
         self.answered.fetch_add(1, Ordering::SeqCst);
+    }
+
+    /// Not all clients have their answers, for which the control line waits.
+    pub fn fail(&self) {
+        self.has_failed.store(true, Ordering::SeqCst);
+    }
+
+    pub fn has_failed(&self) -> bool {
+        self.has_failed.load(Ordering::SeqCst)
     }
 
     /// Waits until so many clients are begun to be read. Whether it came about.
