@@ -9,13 +9,14 @@ use std::alloc::Global;
 use std::marker::Model;
 use std::test::Fail;
 
-/// A core, its answers and the reader.
+/// A core, its answers and the reader, and the comparisons that its steps had made when they were last looked at.
 #[derive(Drop)]
 pub(crate) struct Bench {
     alloc: Global,
     core: Core,
     outs: Outs,
     reader: RequestReader,
+    compared: u64,
 }
 
 impl Model for Bench {
@@ -42,13 +43,8 @@ pub(crate) fn config(seats: u16, max_job_size: u32) -> Config
 }
 
 impl Bench {
-    /// A new core, where nobody is connected.
-    pub(crate) fn new(alloc: Global, seats: u16, max_job_size: u32) -> Result<Bench, Fail> {
-        Bench::of(alloc, config(seats, max_job_size))
-    }
-
     /// A new core of this configuration, where nobody is connected.
-    pub(crate) fn of(alloc: Global, config: Config) -> Result<Bench, Fail> {
+    pub(crate) fn new(alloc: Global, config: Config) -> Result<Bench, Fail> {
         let core = Core::new(alloc, config)?;
         let outs = Outs::new(alloc, config.seats)?;
         let reader = RequestReader::new(alloc, 10)?;
@@ -57,6 +53,7 @@ impl Bench {
             core,
             outs,
             reader,
+            compared: 0,
         })
     }
 
@@ -108,7 +105,13 @@ impl Bench {
         self.core.next_due()
     }
 
-    pub(crate) fn comparisons(&self) -> u64 {
-        self.core.comparisons()
+    /// From here on comparisons are counted.
+    pub(crate) fn count(&mut self) {
+        self.compared = self.core.comparisons();
+    }
+
+    /// How many comparisons were made since then.
+    pub(crate) fn counted(&self) -> u64 {
+        self.core.comparisons().saturating_sub(self.compared)
     }
 }

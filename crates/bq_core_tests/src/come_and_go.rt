@@ -1,7 +1,6 @@
 //! Tubes that come and go by the thousand, each with a job in one of the states.
 use crate::bench::Bench;
-use crate::play::start;
-use crate::scale::long_name;
+use crate::crowds::long_name;
 use crate::texts::tube;
 use bq_job::{Answer, Body, JobId, Request, Seat};
 use std::alloc::Global;
@@ -34,8 +33,13 @@ fn state_of(turn: u32) -> State {
     }
 }
 
-fn ended<E: Into<Fail> + Drop>(is_well: bool, told: E) -> Result<(), Fail> {
-    if is_well { Ok(()) } else { Err(told.into()) }
+// A step of this turn went as it has to.
+fn ended(is_well: bool, turn: u32) -> Result<(), Fail> {
+    if is_well {
+        Ok(())
+    } else {
+        Err(Fail::from(turn))
+    }
 }
 
 // The client at seat 0 uses the tube of a turn. Its name comes back once it is long gone.
@@ -46,10 +50,7 @@ fn use_tube(bench: &mut Bench, turn: u32) -> Result<(), Fail> {
             tube: tube(&long_name(turn % NAMES))?,
         },
     );
-    ended(
-        matches!(bench.answer(), Some((0, Answer::Using(_)))),
-        ("use", turn),
-    )
+    ended(matches!(bench.answer(), Some((0, Answer::Using(_)))), turn)
 }
 
 fn is_found(answer: &Option<(Seat, Answer)>, wanted: Option<JobId>) -> bool {
@@ -63,25 +64,26 @@ fn is_found(answer: &Option<(Seat, Answer)>, wanted: Option<JobId>) -> bool {
 // What the three peeks of the used tube find.
 fn see(
     bench: &mut Bench,
+    turn: u32,
     ready: Option<JobId>,
     delayed: Option<JobId>,
     buried: Option<JobId>,
 ) -> Result<(), Fail> {
     bench.ask(0, Request::PeekReady);
-    ended(is_found(&bench.answer(), ready), ("ready", ready))?;
+    ended(is_found(&bench.answer(), ready), turn)?;
     bench.ask(0, Request::PeekDelayed);
-    ended(is_found(&bench.answer(), delayed), ("delayed", delayed))?;
+    ended(is_found(&bench.answer(), delayed), turn)?;
     bench.ask(0, Request::PeekBuried);
-    ended(is_found(&bench.answer(), buried), ("buried", buried))
+    ended(is_found(&bench.answer(), buried), turn)
 }
 
 fn see_job(bench: &mut Bench, turn: u32) -> Result<(), Fail> {
     let job = Some(JobId::from(turn));
     match state_of(turn) {
-        State::Ready => see(bench, job, None, None),
-        State::Delayed => see(bench, None, job, None),
-        State::Buried => see(bench, None, None, job),
-        State::Held => see(bench, None, None, None),
+        State::Ready => see(bench, turn, job, None, None),
+        State::Delayed => see(bench, turn, None, job, None),
+        State::Buried => see(bench, turn, None, None, job),
+        State::Held => see(bench, turn, None, None, None),
     }
 }
 
@@ -101,7 +103,7 @@ fn put(alloc: Global, bench: &mut Bench, turn: u32) -> Result<(), Fail> {
     );
     let is_put =
         matches!(bench.answer(), Some((0, Answer::Inserted(id))) if id == JobId::from(turn));
-    ended(is_put, ("put", turn))
+    ended(is_put, turn)
 }
 
 fn hold(bench: &mut Bench, turn: u32) -> Result<(), Fail> {
@@ -109,23 +111,20 @@ fn hold(bench: &mut Bench, turn: u32) -> Result<(), Fail> {
     bench.ask(0, Request::ReserveJob { id });
     ended(
         matches!(bench.answer(), Some((0, Answer::Reserved(_, _)))),
-        ("hold", turn),
+        turn,
     )
 }
 
 fn bury(bench: &mut Bench, turn: u32) -> Result<(), Fail> {
     let id = JobId::from(turn);
     bench.ask(0, Request::Bury { id, pri: turn });
-    ended(
-        matches!(bench.answer(), Some((0, Answer::Buried))),
-        ("bury", turn),
-    )
+    ended(matches!(bench.answer(), Some((0, Answer::Buried))), turn)
 }
 
 // A tube comes: no job of another is in it, and its own is, in the state of its turn.
 fn come(alloc: Global, bench: &mut Bench, turn: u32) -> Result<(), Fail> {
     use_tube(bench, turn)?;
-    see(bench, None, None, None)?;
+    see(bench, turn, None, None, None)?;
     put(alloc, bench, turn)?;
     match state_of(turn) {
         State::Ready | State::Delayed => {}
@@ -144,13 +143,11 @@ fn go(bench: &mut Bench, turn: u32) -> Result<(), Fail> {
     see_job(bench, turn)?;
     let id = JobId::from(turn);
     bench.ask(0, Request::Delete { id });
-    ended(
-        matches!(bench.answer(), Some((0, Answer::Deleted))),
-        ("delete", turn),
-    )
+    ended(matches!(bench.answer(), Some((0, Answer::Deleted))), turn)
 }
 
-fn come_and_go(alloc: Global, bench: &mut Bench) -> Result<(), Fail> {
+/// Tubes come and go, and their names come back. No job is ever seen in another's tube.
+pub(crate) fn come_and_go(alloc: Global, bench: &mut Bench) -> Result<(), Fail> {
     for turn in 1..=TUBES {
         come(alloc, bench, turn)?;
         if turn > STAY {
@@ -158,11 +155,4 @@ fn come_and_go(alloc: Global, bench: &mut Bench) -> Result<(), Fail> {
         }
     }
     Ok(())
-}
-
-/// No job is ever seen in another's tube, though tubes come and go and their names come back.
-#[test]
-fn tubes_come_and_go(rt: HostRuntime) -> Result<(), Fail> {
-    let mut bench = start(rt.alloc())?;
-    come_and_go(rt.alloc(), &mut bench)
 }

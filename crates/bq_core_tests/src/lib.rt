@@ -9,11 +9,11 @@ mod come_and_go;
 #[cfg(test)]
 mod comparisons;
 #[cfg(test)]
+mod crowds;
+#[cfg(test)]
 mod each_answer;
 #[cfg(test)]
 mod holders;
-#[cfg(test)]
-mod large_bodies;
 #[cfg(test)]
 mod limits;
 #[cfg(test)]
@@ -26,8 +26,6 @@ mod one_tube;
 mod play;
 #[cfg(test)]
 mod requeue;
-#[cfg(test)]
-mod scale;
 #[cfg(test)]
 mod statistics;
 #[cfg(test)]

@@ -1,5 +1,6 @@
 //! Scripts of steps, taken and answered.
 use crate::bench::{Bench, config};
+use crate::crowds::has_come;
 use crate::texts::is_wanted;
 use bq_core::Config;
 use bq_job::{Moment, Seat, Step};
@@ -9,7 +10,8 @@ use std::test::Fail;
 /// Steps and what they are answered, in a row each: the moment, the seat, what happens there, and behind each `|` an
 /// answer, with the seat that it goes to. It is answered that and nothing else. `~` is CR LF, and `/` is LF. Of an
 /// answer that begins with `..` only these lines are wanted. A row of `due` is no step: it tells the next due moment.
-/// A row that begins with `#` is a remark.
+/// Nor is one of `count`, from which on comparisons are counted, nor one of a crowd. A row that begins with `#` is a
+/// remark.
 pub(crate) type Script = &'static str;
 
 /// A row of a script.
@@ -68,6 +70,13 @@ fn is_right(alloc: Global, bench: &mut Bench, row: &Row) -> Result<bool, Fail> {
     if let Some(due) = row.words.strip_prefix("due ") {
         return Ok(bench.next_due() == due.parse::<u64>().ok());
     }
+    if row.words == "count" {
+        bench.count();
+        return Ok(true);
+    }
+    if let Some(crowd) = row.words.strip_prefix("crowd of ") {
+        return has_come(alloc, bench, crowd);
+    }
     Ok(bench.take(row.at, row.seat, row.words)? && is_answered(alloc, bench, row.answers)?)
 }
 
@@ -79,8 +88,8 @@ fn is_kept(alloc: Global, bench: &mut Bench, text: &'static str) -> Result<bool,
     }
 }
 
-/// The steps of the script are taken, and answered as it says. Else the failure tells the row.
-pub(crate) fn take_all(alloc: Global, bench: &mut Bench, script: Script) -> Result<(), Fail> {
+// The steps of the script are taken, and answered as it says. Else the failure tells the row.
+fn take_all(alloc: Global, bench: &mut Bench, script: Script) -> Result<(), Fail> {
     for text in script.split('\n') {
         let text = text.trim();
         if !is_kept(alloc, bench, text)? {
@@ -90,30 +99,30 @@ pub(crate) fn take_all(alloc: Global, bench: &mut Bench, script: Script) -> Resu
     Ok(())
 }
 
-/// A core with four seats and bodies of 10 bytes, where the first three are connected.
-pub(crate) fn start(alloc: Global) -> Result<Bench, Fail> {
-    start_with(alloc, config(4, 10))
-}
-
-// A core of this configuration, where the first three seats are connected.
-fn start_with(alloc: Global, config: Config) -> Result<Bench, Fail> {
-    let mut bench = Bench::of(alloc, config)?;
+// The first three seats connect, and then the script is played. How many comparisons were counted in it.
+fn play_at(alloc: Global, bench: &mut Bench, script: Script) -> Result<u64, Fail> {
     for seat in 0..3 {
         bench.step(0, seat, Step::Connect);
     }
-    Ok(bench)
+    take_all(alloc, bench, script)?;
+    Ok(bench.counted())
 }
 
-/// Each script is played, from its start.
-pub(crate) fn play(alloc: Global, scripts: &[Script]) -> Result<(), Fail> {
-    play_with(alloc, config(4, 10), scripts)
+/// A script is played at a new core of this configuration. How many comparisons were counted in it.
+pub(crate) fn play_one(alloc: Global, config: Config, script: Script) -> Result<u64, Fail> {
+    let mut bench = Bench::new(alloc, config)?;
+    play_at(alloc, &mut bench, script)
 }
 
-/// Each script is played, from the start of a core of this configuration.
+/// Each script is played, at a core of its own.
 pub(crate) fn play_with(alloc: Global, config: Config, scripts: &[Script]) -> Result<(), Fail> {
     for script in scripts {
-        let mut bench = start_with(alloc, config)?;
-        take_all(alloc, &mut bench, script)?;
+        play_one(alloc, config, script)?;
     }
     Ok(())
+}
+
+/// The same with four seats and bodies of 10 bytes.
+pub(crate) fn play(alloc: Global, scripts: &[Script]) -> Result<(), Fail> {
+    play_with(alloc, config(4, 10), scripts)
 }

@@ -1,19 +1,7 @@
 //! Whole texts, as they were written down by hand.
-use crate::bench::Bench;
-use crate::play::{Script, play, take_all};
-use bq_job::Step;
-use std::alloc::Global;
+use crate::bench::config;
+use crate::play::{Script, play, play_with};
 use std::test::Fail;
-
-// Each script is played in a core with one seat and usual bodies, where a client is connected.
-fn play_lone(alloc: Global, scripts: &[Script]) -> Result<(), Fail> {
-    for script in scripts {
-        let mut bench = Bench::new(alloc, 1, 65_535)?;
-        bench.step(0, 0, Step::Connect);
-        take_all(alloc, &mut bench, script)?;
-    }
-    Ok(())
-}
 
 static FIRST_TEXTS: &[Script] = &[
     "# first texts
@@ -128,6 +116,7 @@ static EACH_NUMBER: &[Script] = &[
 
 #[test]
 fn whole_texts(rt: HostRuntime) -> Result<(), Fail> {
-    play_lone(rt.alloc(), FIRST_TEXTS)?;
+    // There is one seat, and bodies are usual.
+    play_with(rt.alloc(), config(1, 65_535), FIRST_TEXTS)?;
     play(rt.alloc(), EACH_NUMBER)
 }

@@ -1,17 +1,28 @@
-//! Many jobs and many tubes: each is put, used, watched and listed.
+//! Many jobs, many tubes and many clients. A job is put and a tube is used, watched and listed each.
 use crate::bench::Bench;
-use crate::play::{Script, start, take_all};
+use crate::come_and_go::come_and_go;
+use crate::play::{Script, play};
 use crate::texts::tube;
-use bq_job::{Answer, Body, Request, Seat};
+use bq_job::{Answer, Body, Request, Seat, Step};
 use std::alloc::Global;
 use std::test::Fail;
 
 /// How many tubes there are beside the default tube.
 const TUBES: u32 = 1200;
 
-static AMONG_MANY_TUBES: Script = "0 1 stats | 1 ..current-jobs-ready: 1200/
+static MANY_TUBES: &[Script] = &[
+    "0 0 crowd of 1200 tubes
+    0 1 stats | 1 ..current-jobs-ready: 1200/
     0 1 stats | 1 ..current-tubes: 1201/
-    0 1 reserve | 1 RESERVED 1 1~x";
+    0 1 reserve | 1 RESERVED 1 1~x",
+];
+
+// Of the last of them five are left, with that which is used and the default tube.
+static TUBES_IN_TURN: &[Script] = &[
+    "0 0 crowd of 3000 tubes in turn
+    0 1 stats | 1 ..current-jobs-ready: 2/current-jobs-reserved: 1/current-jobs-delayed: 1/current-jobs-buried: 1/
+    0 1 stats | 1 ..current-tubes: 7/",
+];
 
 fn is_inserted(answer: &Option<(Seat, Answer)>, number: u32) -> bool {
     matches!(answer, Some((0, Answer::Inserted(id))) if *id == u64::from(number))
@@ -32,18 +43,12 @@ fn put(alloc: Global, bench: &mut Bench, number: u32) -> Result<(), Fail> {
     Ok(())
 }
 
-/// So many jobs more are put, of which the first is the most urgent, into a core that had none.
-pub(crate) fn put_jobs(alloc: Global, bench: &mut Bench, jobs: u32) -> Result<(), Fail> {
+// So many jobs more are put, of which the first is the most urgent, into a core that had none.
+fn put_jobs(alloc: Global, bench: &mut Bench, jobs: u32) -> Result<(), Fail> {
     for number in 1..=jobs {
         put(alloc, bench, number)?;
     }
     Ok(())
-}
-
-#[test]
-fn many_jobs(rt: HostRuntime) -> Result<(), Fail> {
-    let mut bench = start(rt.alloc())?;
-    put_jobs(rt.alloc(), &mut bench, 25_000)
 }
 
 // A name of 200 bytes. Names are in the order of their numbers.
@@ -135,12 +140,49 @@ fn see_lists(alloc: Global, bench: &mut Bench) -> Result<(), Fail> {
 fn see_tubes(alloc: Global, bench: &mut Bench) -> Result<(), Fail> {
     use_tubes(alloc, bench)?;
     watch_tubes(bench)?;
-    see_lists(alloc, bench)?;
-    take_all(alloc, bench, AMONG_MANY_TUBES)
+    see_lists(alloc, bench)
+}
+
+// The client at this seat watches an empty tube alone.
+fn watch_empty(bench: &mut Bench, seat: Seat) -> Result<(), Fail> {
+    let (empty, default) = (tube(b"empty")?, tube(b"default")?);
+    bench.step(0, seat, Step::Connect);
+    bench.ask(seat, Request::Watch { tube: empty });
+    bench.ask(seat, Request::Ignore { tube: default });
+    Ok(())
+}
+
+// Clients at the seats from 1 on watch another tube than the client at seat 0, and wait or don't.
+fn watch_all(bench: &mut Bench, clients: u16, do_wait: bool) -> Result<(), Fail> {
+    for number in 0..clients {
+        let seat = number.saturating_add(1);
+        watch_empty(bench, seat)?;
+        if do_wait {
+            bench.ask(seat, Request::Reserve);
+        }
+    }
+    Ok(())
+}
+
+/// The crowd of these words comes. Whether there is such a one.
+pub(crate) fn has_come(alloc: Global, bench: &mut Bench, words: &str) -> Result<bool, Fail> {
+    match words {
+        "10000 jobs" => put_jobs(alloc, bench, 10_000)?,
+        "1200 tubes" => see_tubes(alloc, bench)?,
+        "3000 tubes in turn" => come_and_go(alloc, bench)?,
+        "250 watchers" => watch_all(bench, 250, false)?,
+        "250 waiters" => watch_all(bench, 250, true)?,
+        _ => return Ok(false),
+    }
+    Ok(true)
+}
+
+#[test]
+fn tubes_come_and_go(rt: HostRuntime) -> Result<(), Fail> {
+    play(rt.alloc(), TUBES_IN_TURN)
 }
 
 #[test]
 fn many_tubes(rt: HostRuntime) -> Result<(), Fail> {
-    let mut bench = start(rt.alloc())?;
-    see_tubes(rt.alloc(), &mut bench)
+    play(rt.alloc(), MANY_TUBES)
 }
