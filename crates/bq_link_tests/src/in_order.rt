@@ -1,7 +1,7 @@
 //! Seats that submit numbered steps from threads of their own, which the core takes once and in order.
 ghost use Rattle.std.specs.Prelude.{◌≡◌};
 
-use crate::ends::{Shared, links_of_four, submit_one};
+use crate::ends::{Shared, last_ends, submit_one};
 use bq_job::{Request, Seat, Step};
 use bq_link::{CoreEnd, SeatEnd};
 use std::sync::Wait;
@@ -37,12 +37,16 @@ fn take_one<R: Wait>(rt: &R, intake: &Shared, core: &mut CoreEnd) -> (Seat, Step
     unreachable!()
 }
 
-// Takes so many steps, and says whether each seat's were its touches, once and in order.
-fn take_all<R: Wait>(rt: &R, intake: &Shared, core: CoreEnd, next: &mut [u64], count: u64) -> bool
+// As many steps as each seat submits.
+const STEPS: u64 = 1000;
+
+// Takes all steps of two seats, and says whether each seat's were its touches, once and in order.
+fn take_all<R: Wait>(rt: &R, intake: &Shared, core: CoreEnd) -> bool
     requires { core.intake ≡ intake.now.id }
 {
     let mut core = core;
-    for _taken in 0..count {
+    let mut next = [1; 2];
+    for _taken in 0..2 * STEPS {
         let (seat, step) = take_one(rt, intake, &mut core);
         let (Some(want), Step::Ask(Request::Touch { id })) = (next.get_mut(usize::from(seat)), step)
         else {
@@ -53,11 +57,8 @@ fn take_all<R: Wait>(rt: &R, intake: &Shared, core: CoreEnd, next: &mut [u64], c
         }
         *want = id.wrapping_add(1);
     }
-    core.take(rt, intake).is_none()
+    next == [STEPS + 1; 2] && core.take(rt, intake).is_none()
 }
-
-// As many steps as each seat submits.
-const STEPS: u64 = 1000;
 
 fn submit_two<R: Threads + Wait + Sync>(rt: &R, intake: &Shared, a: SeatEnd, b: SeatEnd)
     requires { (a.intake ≡ intake.now.id) × (b.intake ≡ intake.now.id) }
@@ -73,36 +74,20 @@ fn submit_two<R: Threads + Wait + Sync>(rt: &R, intake: &Shared, a: SeatEnd, b: 
     );
 }
 
-// Four seats submit 4,000 steps through an intake of ten places, so that many find it full and try again.
+// Two seats submit 2,000 steps through an intake of four places, so that many find it full and try again.
 #[test]
-fn four_seats_in_order(rt: HostRuntime) -> Result<(), Fail> {
-    let (intake, core, (a, b), (c, d)) = links_of_four(rt.alloc())?;
+fn two_seats_in_order(rt: HostRuntime) -> Result<(), Fail> {
+    let (intake, core, a, b) = last_ends(rt.alloc(), 1)?;
     let shared = &intake;
-    let (_, (in_order, next)) = thread::join(
+    let (_, are_in_order) = thread::join(
         &rt,
         move ||
-            requires { (a.intake ≡ shared.now.id) × (b.intake ≡ shared.now.id)
-                × (c.intake ≡ shared.now.id) × (d.intake ≡ shared.now.id) }
-        {
-            thread::join(
-                &rt,
-                move ||
-                    requires { (a.intake ≡ shared.now.id) × (b.intake ≡ shared.now.id) }
-                { submit_two(&rt, shared, a, b) },
-                move ||
-                    requires { (c.intake ≡ shared.now.id) × (d.intake ≡ shared.now.id) }
-                { submit_two(&rt, shared, c, d) },
-            )
-        },
+            requires { (a.intake ≡ shared.now.id) × (b.intake ≡ shared.now.id) }
+        { submit_two(&rt, shared, a, b) },
         move ||
             requires { core.intake ≡ shared.now.id }
-        {
-            let mut next = [1; 4];
-            let in_order = take_all(&rt, shared, core, &mut next, 4 * STEPS);
-            (in_order, next)
-        },
+        { take_all(&rt, shared, core) },
     );
-    assert!(rt; in_order);
-    assert!(rt; next == [STEPS + 1; 4]);
+    assert!(rt; are_in_order);
     Ok(())
 }
