@@ -1,8 +1,7 @@
 //! The text of an answer of each kind, as the protocol has it, and how texts are joined.
 
-use arrayvec::ArrayVec;
 use bq_job::{Answer, Body, JobId, Text, TubeName};
-use bq_wire::{HeadBuf, answer_body, answer_head, answer_tail, push_bytes};
+use bq_wire::{HeadBuf, answer_body, answer_head, answer_tail};
 use std::alloc::{AllocError, Global};
 use std::test::Fail;
 
@@ -36,7 +35,7 @@ fn is_reserved(alloc: Global, id: JobId, bytes: &[u8], want: &str) -> Result<boo
 }
 
 fn is_found(alloc: Global, id: JobId, bytes: &[u8], want: &str) -> Result<bool, Fail> {
-    let body = Body::new(alloc, bytes)?;
+    let body = Body::from_vec(alloc, Vec::from_slice(alloc, bytes)?)?;
     Ok(is_text(alloc, Answer::Found(id, body), want)?)
 }
 
@@ -110,13 +109,4 @@ fn answers_of_words_alone(rt: HostRuntime) -> Result<(), Fail> {
     assert!(rt; are_words(rt.alloc())? == 16);
     assert!(rt; is_text(rt.alloc(), word_alone(16), "")?);
     Ok(())
-}
-
-#[test]
-fn bytes_stand_behind_one_another_up_to_the_last_place(rt: HostRuntime) {
-    let mut buf: ArrayVec<u8, 4> = ArrayVec::new();
-    push_bytes(&mut buf, b"abc");
-    push_bytes(&mut buf, b"");
-    push_bytes(&mut buf, b"d");
-    assert!(rt; buf.as_slice() == b"abcd".as_slice());
 }

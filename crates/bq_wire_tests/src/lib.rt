@@ -5,11 +5,7 @@
 #[cfg(test)]
 mod answers;
 #[cfg(test)]
-mod bodies;
-#[cfg(test)]
 mod cut_readings;
-#[cfg(test)]
-mod large_bodies;
 #[cfg(test)]
 mod lines;
 #[cfg(test)]

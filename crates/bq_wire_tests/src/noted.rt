@@ -3,9 +3,13 @@
 use bq_job::{Request, TubeName};
 use std::alloc::{AllocError, Global};
 
+fn digits(alloc: Global, number: u64) -> Result<String, AllocError> {
+    format!(in alloc; "{number}")
+}
+
 fn push_number(alloc: Global, note: &mut String, number: u64) -> Result<(), AllocError> {
-    let text = format!(in alloc; " {number}")?;
-    note.push_str(text.as_str())
+    note.push(' ')?;
+    note.push_str(digits(alloc, number)?.as_str())
 }
 
 fn with_numbers(alloc: Global, word: &str, numbers: &[u64]) -> Result<String, AllocError> {
@@ -56,10 +60,6 @@ fn noted_pause(alloc: Global, tube: &TubeName, delay: u32) -> Result<String, All
     Ok(note)
 }
 
-fn noted_refusal(alloc: Global, code: u16) -> Result<String, AllocError> {
-    format!(in alloc; "{code}")
-}
-
 /// A request in short, in the words of the protocol: a refusal is its number.
 pub fn noted(alloc: Global, request: &Request) -> Result<String, AllocError> {
     match request {
@@ -76,7 +76,7 @@ pub fn noted(alloc: Global, request: &Request) -> Result<String, AllocError> {
         Request::Watch { tube } => with_tube(alloc, "watch", tube),
         Request::Ignore { tube } => with_tube(alloc, "ignore", tube),
         Request::StatsTube { tube } => with_tube(alloc, "stats-tube", tube),
-        Request::Refused(why) => noted_refusal(alloc, why.code()),
+        Request::Refused(why) => digits(alloc, u64::from(why.code())),
         other => noted_number(alloc, other),
     }
 }

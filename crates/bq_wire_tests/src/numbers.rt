@@ -19,14 +19,18 @@ fn numbers_of_refusals(rt: HostRuntime) {
     assert!(rt; NoMemory.code() == 301);
 }
 
+fn number_of(answer: Answer) -> u16 {
+    answer.code().unwrap_or(0)
+}
+
 #[test]
 fn numbers_of_answers(rt: HostRuntime) {
-    assert!(rt; Answer::BadFormat.code() == Some(102));
-    assert!(rt; Answer::NotFound.code() == Some(201));
-    assert!(rt; Answer::NotIgnored.code() == Some(202));
-    assert!(rt; Answer::Draining.code() == Some(203));
-    assert!(rt; Answer::OutOfMemory.code() == Some(204));
-    assert!(rt; Answer::TimedOut.code() == Some(205));
-    assert!(rt; Answer::DeadlineSoon.code() == Some(206));
-    assert!(rt; Answer::Deleted.code().is_none());
+    assert!(rt; number_of(Answer::BadFormat) == 102);
+    assert!(rt; number_of(Answer::NotFound) == 201);
+    assert!(rt; number_of(Answer::NotIgnored) == 202);
+    assert!(rt; number_of(Answer::Draining) == 203);
+    assert!(rt; number_of(Answer::OutOfMemory) == 204);
+    assert!(rt; number_of(Answer::TimedOut) == 205);
+    assert!(rt; number_of(Answer::DeadlineSoon) == 206);
+    assert!(rt; number_of(Answer::Deleted) == 0);
 }

@@ -107,18 +107,25 @@ fn stray(
 }
 
 // Lines, one behind another: in each row an event, and the action that answers it.
-fn play(rt: &impl Abort, alloc: Global, session: &str, strays: bool) -> Result<(), Fail> {
-    let mut machine = SeatMachine::new(alloc, 65535)?;
+fn play_at(
+    rt: &impl Abort,
+    alloc: Global,
+    machine: &mut SeatMachine,
+    session: &str,
+) -> Result<(), Fail> {
     let mut last = "over";
     for row in session.split('\n') {
         let (event, wanted) = row.split_once('|').ok_or("no row")?;
-        if strays {
-            stray(rt, alloc, &mut machine, last)?;
-        }
-        last = told(alloc, &mut machine, event)?;
+        stray(rt, alloc, machine, last)?;
+        last = told(alloc, machine, event)?;
         assert!(rt; last == wanted);
     }
     Ok(())
+}
+
+fn play(rt: &impl Abort, alloc: Global, session: &str) -> Result<(), Fail> {
+    let mut machine = SeatMachine::new(alloc, 65535)?;
+    play_at(rt, alloc, &mut machine, session)
 }
 
 // A line with commands behind a wait, and then one that comes in pieces and quits inside a body first.
@@ -201,18 +208,9 @@ const FAULTS: &str = "opened|connect\n\
     submitted|poll\n\
     nothing yet|poll";
 
-fn play_all(rt: &impl Abort, alloc: Global, strays: bool) -> Result<(), Fail> {
-    play(rt, alloc, WAITS, strays)?;
-    play(rt, alloc, ENDS, strays)?;
-    play(rt, alloc, FAULTS, strays)
-}
-
 #[test]
 fn whole_lines(rt: HostRuntime) -> Result<(), Fail> {
-    play_all(&rt, rt.alloc(), false)
-}
-
-#[test]
-fn stray_events(rt: HostRuntime) -> Result<(), Fail> {
-    play_all(&rt, rt.alloc(), true)
+    play(&rt, rt.alloc(), WAITS)?;
+    play(&rt, rt.alloc(), ENDS)?;
+    play(&rt, rt.alloc(), FAULTS)
 }

@@ -1,7 +1,7 @@
 -- the name of the last action is a text
 use denote.Shadow.{shadow}
 use denote.Text.{Utf8}
-use Rattle.bq_wire_tests.proofs.seat_machine.play.Given as goal
+use Rattle.bq_wire_tests.proofs.seat_machine.play_at.Given as goal
 
 abbrev pub invariant-loop-row : goal.invariant-loop-row
 invariant-loop-row g l = shadow (Utf8 l.last)
