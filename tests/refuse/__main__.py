@@ -55,14 +55,15 @@ def main():
     parser = argparse.ArgumentParser(description=__doc__, formatter_class=argparse.RawDescriptionHelpFormatter)
     parser.add_argument("--bq", required=True)
     parser.add_argument("--bqd", required=True)
-    parser.add_argument("--library", required=True, help="the program of tests bq_refused")
+    parser.add_argument("--library", required=True, help="the tests of bq_refused")
     parser.add_argument("--minutes", type=float, default=2.5, help="begin no further case after so many minutes")
     parser.add_argument("--self-check", action="store_true", help="sweep programs that are broken on purpose")
     asked = parser.parse_args()
     begun, passed, failed = time.monotonic(), 0, 0
     with tempfile.TemporaryDirectory(prefix="refuse-") as folder:
         host = Host(library(folder), folder)
-        bq, bqd, library_calls = (Program(it, host) for it in (asked.bq, asked.bqd, asked.library))
+        bq, bqd = Program(asked.bq, host), Program(asked.bqd, host)
+        library_calls = Program(asked.library, host, library_cases.TEST)
         cases = [*session_cases.cases(bq), *library_cases.cases(library_calls), *server_cases.cases(bqd)]
         if asked.self_check:
             cases = broken_cases(bq, library_calls, folder)

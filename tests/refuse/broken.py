@@ -12,7 +12,7 @@ class Broken(Program):
     """A program whose outcome is turned where a request was refused, or always."""
 
     def __init__(self, program, turn, always=False):
-        super().__init__(program.path, program.host)
+        super().__init__(program.path, program.host, *program.first)
         self.turn, self.always = turn, always
 
     def run(self, words, given, **chosen):

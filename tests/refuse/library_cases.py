@@ -1,12 +1,17 @@
-"""Calls of the libraries, by the program of tests bq_refused: each with its requests for memory refused in turn.
+"""Calls of the libraries, by the one test of bq_refused: each with its requests for memory refused in turn.
 
 It tells what came of each call in a line, then the steps of a core, one after another (its steps.rt). What it
-tells where nothing is refused stands in its file stdout, which the gate compares.
+tells where nothing is refused stands in library_told.txt.
 """
 import os
+import pathlib
 import re
 
 from refusal import each_in_turn
+
+# The test, as its program is asked for it, and what it tells where nothing is refused, with the toolchain's last line.
+TEST = "told::all_calls"
+TOLD = (pathlib.Path(__file__).resolve().parent / "library_told.txt").read_bytes() + b"\ntest result: ok\n"
 
 # What may come of a call where one request was refused, beside `made`.
 OUTCOMES = {
@@ -51,8 +56,8 @@ def refused_once(program, full, nth):
 def calls_refused(program):
     """Each request of the whole program refused in turn."""
     status, full, complaint = program.run([], b"")
-    if status != 0 or complaint or b"wrong" in full:
-        return 1, f"status {status} though nothing was refused"
+    if status != 0 or complaint or full != TOLD:
+        return 1, f"status {status} though nothing was refused, and it tells {full[-120:]!r}"
     return each_in_turn(lambda nth: refused_once(program, full, nth))
 
 

@@ -26,15 +26,15 @@ class Host:
 
 
 class Program:
-    """A program under that host."""
+    """A program under that host, with the words that each of its runs begins with."""
 
-    def __init__(self, path, host):
-        self.path, self.host = os.path.abspath(path), host
+    def __init__(self, path, host, *first):
+        self.path, self.host, self.first = os.path.abspath(path), host, first
 
     def run(self, words, given, **chosen):
         """One whole run on standard input: status, standard output, standard error. A hang is status None."""
         try:
-            ran = subprocess.run([self.path, *words], input=given, capture_output=True, timeout=10, env=self.host.environment(**chosen))
+            ran = subprocess.run([self.path, *self.first, *words], input=given, capture_output=True, timeout=10, env=self.host.environment(**chosen))
         except subprocess.TimeoutExpired as late:
             return None, late.stdout or b"", late.stderr or b""
         return ran.returncode, ran.stdout, ran.stderr

@@ -5,7 +5,10 @@ import signal
 import subprocess
 import sys
 
-from unproved import KIT, TEST
+from unproved import KIT
+
+# How the name of a crate of tests ends.
+TEST = "_tests"
 
 # How long a trial may take, in seconds: a program that hangs is a program that was seen.
 LIMIT = 600
