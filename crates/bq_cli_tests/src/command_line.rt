@@ -128,8 +128,8 @@ const BAD: &str = "bq --max-job-size 0|\n\
     bqd --listen|\n\
     bq -V|'-V'";
 
-/// Whether the words of each row are refused, and what stands behind them is told.
-pub fn are_refused(alloc: Global, rows: &str) -> Result<bool, Fail> {
+// Whether the words of each row are refused, and what stands behind them is told.
+fn are_refused(alloc: Global, rows: &str) -> Result<bool, Fail> {
     for row in rows.split('\n') {
         let (line, part) = row_of(row)?;
         let Err(OptionFault::BadOptions(text)) = chosen(alloc, line)? else {
@@ -145,42 +145,5 @@ pub fn are_refused(alloc: Global, rows: &str) -> Result<bool, Fail> {
 #[test]
 fn bad_options(rt: HostRuntime) -> Result<(), Fail> {
     assert!(rt; are_refused(rt.alloc(), BAD)?);
-    Ok(())
-}
-
-const VERSIONS: &str = "bq --version|bq 0.1.0\n\
-    bq -v|bq 0.1.0\n\
-    bqd --version|bqd 0.1.0\n\
-    bqd -v|bqd 0.1.0\n\
-    bqd -Vv|bqd 0.1.0";
-
-// What asks for help, and a word that stands there.
-const HELP: &str = "bq -h|--still\n\
-    bq --help|--max-job-size <BYTES>\n\
-    bqd -h|--requeue-delay <SECONDS>\n\
-    bqd --help|-z, --max-job-size <BYTES>\n\
-    bqd -h|-V\n\
-    bqd -h|-v, --version";
-
-// Whether each line asks for a text that is the wanted one with the end of a line, or that has the wanted part.
-fn are_told(alloc: Global, rows: &str, whole: bool) -> Result<bool, Fail> {
-    for row in rows.split('\n') {
-        let (line, wanted) = row_of(row)?;
-        let Err(OptionFault::AskedHelp(text)) = chosen(alloc, line)? else {
-            return Ok(false);
-        };
-        if whole && text.as_str().strip_suffix('\n') != Some(wanted)
-            || !text.as_str().contains(wanted)
-        {
-            return Ok(false);
-        }
-    }
-    Ok(true)
-}
-
-#[test]
-fn versions_and_help(rt: HostRuntime) -> Result<(), Fail> {
-    assert!(rt; are_told(rt.alloc(), VERSIONS, true)?);
-    assert!(rt; are_told(rt.alloc(), HELP, false)?);
     Ok(())
 }

@@ -1,6 +1,6 @@
-//! Options that take a number, at both ends of their range and one beyond.
+//! Options that take a number, at both ends of their range.
 
-use crate::command_line::{are_chosen, are_refused};
+use crate::command_line::are_chosen;
 use std::test::Fail;
 
 const ENDS: &str = "bq --max-job-size 1|- 1 1 - 0 - -\n\
@@ -20,30 +20,8 @@ const ENDS: &str = "bq --max-job-size 1|- 1 1 - 0 - -\n\
     bqd --listen=a --sessions 1|a 16 65535 - 0 1 -\n\
     bqd --listen=a --sessions 4294967295|a 16 65535 - 0 4294967295 -";
 
-const BEYOND: &str = "bq --max-job-size 0|\n\
-    bq --max-job-size 1048577|\n\
-    bq --max-jobs 0|\n\
-    bq --max-jobs 4294967296|\n\
-    bqd --listen=a --seats 0|\n\
-    bqd --listen=a --seats 257|\n\
-    bqd --listen=a --max-job-size 0|\n\
-    bqd --listen=a --max-job-size 1048577|\n\
-    bqd --listen=a -z 0|\n\
-    bqd --listen=a -z 1048577|\n\
-    bqd --listen=a --max-jobs 0|\n\
-    bqd --listen=a --max-jobs 4294967296|\n\
-    bqd --listen=a --requeue-delay 4294967296|\n\
-    bqd --listen=a --sessions 0|\n\
-    bqd --listen=a --sessions 4294967296|";
-
 #[test]
 fn numbers_at_the_ends(rt: HostRuntime) -> Result<(), Fail> {
     assert!(rt; are_chosen(rt.alloc(), ENDS)?);
-    Ok(())
-}
-
-#[test]
-fn numbers_beyond_the_ends(rt: HostRuntime) -> Result<(), Fail> {
-    assert!(rt; are_refused(rt.alloc(), BEYOND)?);
     Ok(())
 }

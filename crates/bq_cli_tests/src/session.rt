@@ -1,6 +1,6 @@
 //! The session of `bq`: from its words to how the client's line is over, over a console in memory.
 
-use bq_cli::{Console, OptionFault, Served, Stop, serve_client};
+use bq_cli::{Console, Served, Stop, serve_client};
 use bq_job::LineEnd;
 use bq_line::clock::MachineClock;
 use std::alloc::Global;
@@ -185,25 +185,6 @@ fn sessions_of_words(rt: HostRuntime) -> Result<(), Fail> {
     for example in EXAMPLES {
         let words = words_of(alloc, example.words)?;
         assert!(rt; is_met(&rt, alloc, words.as_slice(), example));
-    }
-    Ok(())
-}
-
-// Where the words ask for help, or have something wrong, nobody is served.
-#[test]
-fn nobody_is_served(rt: HostRuntime) -> Result<(), Fail> {
-    let alloc = rt.alloc();
-    for (word, asks) in [("--help", true), ("--max-job-size=0", false)] {
-        let words = words_of(alloc, &[word])?;
-        let sends = Sends {
-            bytes: b"reserve\r\n",
-            behind: Behind::SendsNoMore,
-        };
-        match came(&rt, alloc, words.as_slice(), sends, 100) {
-            Err(Stop::Options(OptionFault::AskedHelp(_))) => assert!(rt; asks),
-            Err(Stop::Options(OptionFault::BadOptions(_))) => assert!(rt; !asks),
-            _ => return Err(Fail::from("served")),
-        }
     }
     Ok(())
 }
