@@ -1,5 +1,5 @@
 // An ordered map that is read by who only looks, and whose comparisons nobody counts.
-ghost use Rattle.std.specs.Prelude.{◌≡◌, ◌+◌, ◌<◌, ◌≤◌, [], find, fold, length, map, is_some, if◌then◌else◌, None, IfOk, OnOk};
+ghost use Rattle.std.specs.Prelude.{◌≡◌, ◌+◌, ◌<◌, ◌≤◌, ◌^◌, [], find, fold, length, map, is_some, if◌then◌else◌, None, IfOk, OnOk};
 ghost use Rattle.std.specs.Option.{option_map, option_copied_mut};
 ghost use Rattle.bq_index.specs.Order.{InOrder};
 ghost use Rattle.std.specs.Map.{lookup, remove_entry};
@@ -83,13 +83,16 @@ impl<K: Ord + Drop, V: Drop> Catalog<K, V> {
         ensures value { result ≡ lookup (is_at (K.cmp key.now)) self.old.entries }
         ensures entries { self.new.entries ≡ remove_entry (is_at (K.cmp key.now)) self.old.entries }
         ensures spare { self.new.spare ≡ self.old.spare + (if is_some result then 1 else 0) }
+        ensures ordered { InOrder K.cmp self.old.entries }
     {
         self.shelf.remove(key)
     }
 
     /// The value at a key.
     pub fn peek(&self, key: &K) -> Option<&V>
-        ensures { option_map (λ v. v.now) result ≡ lookup (is_at (K.cmp key.now)) self.now.entries }
+        ensures value { option_map (λ v. v.now) result
+            ≡ lookup (is_at (K.cmp key.now)) self.now.entries }
+        ensures ordered { InOrder K.cmp self.now.entries }
     {
         self.shelf.peek(key)
     }
@@ -99,21 +102,24 @@ impl<K: Ord + Drop, V: Drop> Catalog<K, V> {
         ensures* writes_back { sem 𝓛
             (LendsEntry K.row V.row K.Ord self.entry (K.cmp key.now) result) }
         ensures value { option_copied_mut result ≡ lookup (is_at (K.cmp key.now)) self.old.entries }
+        ensures ordered { InOrder K.cmp self.old.entries }
     {
         self.shelf.get_mut(key)
     }
 
-    /// Shows a visitor each entry, in the order of the keys.
+    /// Shows a visitor each entry, in the order of the keys. A count of 64 bits holds how many it sees.
     pub fn walk<T: Visitor<K, V>>(&self, visitor: &mut T)
-        ensures { visitor.new ≡ fold (seen_by T.after) visitor.old self.now.entries }
+        ensures visitor { visitor.new ≡ fold (seen_by T.after) visitor.old self.now.entries }
+        ensures few { length self.now.entries < 2 ^ 64 }
     {
         self.shelf.walk(visitor);
     }
 
     /// The first entry that passes a test.
     pub fn first<T: Test<K, V>>(&self, test: &T) -> Option<(&K, &V)>
-        ensures { option_map entry_of result
+        ensures entry { option_map entry_of result
             ≡ find (passes_by (T.passed test.now)) self.now.entries }
+        ensures ordered { InOrder K.cmp self.now.entries }
     {
         self.shelf.first(test)
     }

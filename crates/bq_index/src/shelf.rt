@@ -1,5 +1,5 @@
 // An ordered map whose insertions take no memory.
-ghost use Rattle.std.specs.Prelude.{◌≡◌, ◌+◌, ◌-◌, ◌<◌, ◌≤◌, max};
+ghost use Rattle.std.specs.Prelude.{◌≡◌, ◌+◌, ◌-◌, ◌<◌, ◌≤◌, ◌^◌, max};
 ghost use Rattle.std.specs.Prelude.{[], find, fold, length, map, is_some, if◌then◌else◌, None, IfOk, OnOk, OnErr};
 ghost use Rattle.std.specs.Option.{option_map, option_copied_mut};
 ghost use Rattle.bq_index.specs.Order.{InOrder, entry_from};
@@ -178,6 +178,7 @@ impl<K: Ord + Drop, V: Drop> Shelf<K, V> {
         ensures value { result ≡ lookup (is_at (K.cmp key.now)) self.old.entries }
         ensures entries { self.new.entries ≡ remove_entry (is_at (K.cmp key.now)) self.old.entries }
         ensures spare { self.new.spare ≡ self.old.spare + (if is_some result then 1 else 0) }
+        ensures ordered { InOrder K.cmp self.old.entries }
         ensures comparisons { ComparesFew self.old self.new }
     {
         let tree = mem::replace(&mut self.tree, Tree::Leaf);
@@ -213,7 +214,9 @@ impl<K: Ord + Drop, V: Drop> Shelf<K, V> {
 
     // What follows up to `list` is for a catalog, which counts no comparisons: the value at a key.
     pub(crate) fn peek(&self, key: &K) -> Option<&V>
-        ensures { option_map (λ v. v.now) result ≡ lookup (is_at (K.cmp key.now)) self.now.entries }
+        ensures value { option_map (λ v. v.now) result
+            ≡ lookup (is_at (K.cmp key.now)) self.now.entries }
+        ensures ordered { InOrder K.cmp self.now.entries }
     {
         let mut uncounted = 0;
         find::get(self.tree.top(), key, &mut uncounted)
@@ -221,15 +224,17 @@ impl<K: Ord + Drop, V: Drop> Shelf<K, V> {
 
     // Shows a visitor each entry, in the order of the keys. No keys are compared.
     pub(crate) fn walk<T: Visitor<K, V>>(&self, visitor: &mut T)
-        ensures { visitor.new ≡ fold (seen_by T.after) visitor.old self.now.entries }
+        ensures visitor { visitor.new ≡ fold (seen_by T.after) visitor.old self.now.entries }
+        ensures few { length self.now.entries < 2 ^ 64 }
     {
         walk::walk(self.tree.top(), visitor);
     }
 
     // The first entry that passes a test.
     pub(crate) fn first<T: Test<K, V>>(&self, test: &T) -> Option<(&K, &V)>
-        ensures { option_map entry_of result
+        ensures entry { option_map entry_of result
             ≡ find (passes_by (T.passed test.now)) self.now.entries }
+        ensures ordered { InOrder K.cmp self.now.entries }
     {
         walk::first(self.tree.top(), test)
     }
@@ -259,6 +264,7 @@ impl<K: Ord + Drop, V: Drop> Shelf<K, V> {
         ensures* writes_back { sem 𝓛
             (LendsValue K.row V.row K.Ord self.entry (K.cmp key.now) result) }
         ensures value { option_copied_mut result ≡ lookup (is_at (K.cmp key.now)) self.old.entries }
+        ensures ordered { InOrder K.cmp self.old.entries }
     {
         find::value_mut(&mut self.tree, key, &mut self.comparisons)
     }

@@ -5,7 +5,7 @@ use Rattle.std.specs.Prelude.{◌==◌, count_by, nat_le}
 use Rattle.std.specs.Ordering.{is_eq}
 use Rattle.std.specs.Borrow.{Bor}
 use Rattle.std.specs.Map.{lookup, remove_entry}
-use Rattle.std.specs.Option.{option_map}
+use Rattle.std.specs.Option.{ForSome, option_map}
 use Rattle.std.proofs.lemmas.Bool.{cases_Bool, eqb-true}
 use Rattle.std.proofs.lemmas.Bool.Decides.{nat_tests}
 use Rattle.bq_index.proofs.Order.{length_inserted, length_removed}
@@ -63,7 +63,7 @@ count_few (t ∷ ts) = rw (count_cons is_paused t ts) (elim (cases_Bool (is_paus
   | inr e ↦ rw e (omega (arith, count_few ts))
 ])
 
-module _ (name : List ℕ) (from to : Option PauseRecord) (old new : List TubeRecord) (ends : CatalogSeen PauseEnd (Unit {0})) (h : AreEnds old ends) (s : InOrder end_cmp ends.entries) (m : Moves name from to old new) where
+module _ (name : List ℕ) (from to : Option PauseRecord) (old new : List TubeRecord) (ends : CatalogSeen PauseEnd (Unit {0})) (h : AreEnds old ends) (m : Moves name from to old new) where
   -- the end of the pause that it had is there,
   pub end_held : (e : PauseEnd) → end_of name from ≡ Some e → has_end e ends.entries ≡ true
   end_held e is = go from refl is
@@ -77,10 +77,23 @@ module _ (name : List ℕ) (from to : Option PauseRecord) (old new : List TubeRe
           some_is : (a b : PauseEnd) → Some a ≡ Some b → a ≡ b
           some_is a b e = cc
 
+  -- and there is a box for that of the one that it gets.
+  pub end_fits : (spare : ℕ) → spare ≡ ends.spare + one_if from → (e : PauseEnd) → end_of name to ≡ Some e → 0 < spare
+  end_fits spare boxes e is = go to refl is
+    where
+      go : (p : Option PauseRecord) → to ≡ p → end_of name p ≡ Some e → 0 < spare
+      go None f is = absurd (let g : None ≡ Some e = is in cc)
+      go (Some p) f is =
+          let more : one_if to ≡ 1 = ap one_if f in
+          omega (arith, more, m.count, m.fewer, count_few new, h.roomy, h.counted, boxes)
+
+-- An end can only leave where they are in order.
+module _ (name : List ℕ) (from to : Option PauseRecord) (old new : List TubeRecord) (ends : CatalogSeen PauseEnd (Unit {0})) (h : AreEnds old ends) (m : Moves name from to old new)
+    (s : ForSome (end_of name from) (λ _. InOrder end_cmp ends.entries)) where
   abbrev left : Ends
   left = without_end (end_of name from) ends.entries
 
-  -- and is none of the tube once it has left,
+  -- None is of the tube once its own has left,
   none_left : (u : ℕ) → has_end (record { until = u; name = name }) left ≡ false
   none_left u = go from refl
     where
@@ -95,17 +108,17 @@ module _ (name : List ℕ) (from to : Option PauseRecord) (old new : List TubeRe
       go None f = h.known q ∙ m.was u ∙ ap (ends_at u) f
       go (Some p) f =
           let there : has_end q ends.entries ≡ (p.until == u) = h.known q ∙ m.was u ∙ ap (ends_at u) f in
-          has_left q (record { until = p.until; name = name }) ends.entries s
+          has_left q (record { until = p.until; name = name }) ends.entries (s (record { until = p.until; name = name }) (ap (end_of name) f))
           ∙ (λ i. cond (ends_alike (record { until = p.until; name = name }) q (same_itself name) i) false (there i))
           ∙ gone (p.until == u)
 
   others_left : (q : PauseEnd) → is_same_name name q.name ≡ false → has_end q left ≡ has_end q ends.entries
-  others_left q other = go from
+  others_left q other = go from refl
     where
-      go : (p : Option PauseRecord) → has_end q (without_end (end_of name p) ends.entries) ≡ has_end q ends.entries
-      go None = refl
-      go (Some p) =
-          has_left q (record { until = p.until; name = name }) ends.entries s
+      go : (p : Option PauseRecord) → from ≡ p → has_end q (without_end (end_of name p) ends.entries) ≡ has_end q ends.entries
+      go None f = refl
+      go (Some p) f =
+          has_left q (record { until = p.until; name = name }) ends.entries (s (record { until = p.until; name = name }) (ap (end_of name) f))
           ∙ ap (λ b. cond b false (has_end q ends.entries)) (ends_apart (record { until = p.until; name = name }) q other)
 
   left_length : length left + one_if from ≡ length ends.entries
@@ -115,10 +128,10 @@ module _ (name : List ℕ) (from to : Option PauseRecord) (old new : List TubeRe
       go None f = omega arith
       go (Some p) f =
           let e : PauseEnd = record { until = p.until; name = name } in
-          let held = some_unit (found_end e ends.entries) (end_held e (ap (end_of name) f)) in
+          let held = some_unit (found_end e ends.entries) (end_held name from to old new ends h m e (ap (end_of name) f)) in
           length_removed (λ k. is_eq (end_cmp e k)) ends.entries (Some (e, tt)) refl (sym held)
 
-  -- the end of the one that it gets is new,
+  -- and that of the one that it gets is new.
   pub end_absent : (e : PauseEnd) → end_of name to ≡ Some e → found_end e left ≡ None
   end_absent e is = none_from (found_end e left) (go to is)
     where
@@ -130,16 +143,6 @@ module _ (name : List ℕ) (from to : Option PauseRecord) (old new : List TubeRe
         where
           some_is : (a b : PauseEnd) → Some a ≡ Some b → a ≡ b
           some_is a b e = cc
-
-  -- and has a box.
-  pub end_fits : (spare : ℕ) → spare ≡ ends.spare + one_if from → (e : PauseEnd) → end_of name to ≡ Some e → 0 < spare
-  end_fits spare boxes e is = go to refl is
-    where
-      go : (p : Option PauseRecord) → to ≡ p → end_of name p ≡ Some e → 0 < spare
-      go None f is = absurd (let g : None ≡ Some e = is in cc)
-      go (Some p) f is =
-          let more : one_if to ≡ 1 = ap one_if f in
-          omega (arith, more, m.count, m.fewer, count_few new, h.roomy, h.counted, boxes)
 
   -- Then the ends are those of the pauses again.
   pub ends_moved : (last : CatalogSeen PauseEnd (Unit {0})) → last.entries ≡ with_end (end_of name to) left → last.spare + one_if to ≡ ends.spare + one_if from → AreEnds new last

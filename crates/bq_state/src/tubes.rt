@@ -2,6 +2,9 @@
 ghost use Rattle.std.specs.Prelude.{◌≡◌, ◌&&◌, ◌<◌, [], IfOk, find, length, map, not, nat_lt, is_some, is_ok, if◌then◌else◌};
 ghost use Rattle.std.specs.List.{list_any};
 ghost use Rattle.std.specs.Option.{option_map};
+ghost use Rattle.std.specs.Cmp.Lexicographic.{slice_cmp};
+ghost use Rattle.std.specs.Ordering.{nat_cmp};
+ghost use Rattle.bq_index.specs.Order.{InOrder};
 ghost use Rattle.bq_job.specs.reading.TubeName.{is_same_name};
 ghost use Rattle.bq_job.specs.machine.Timers.{tube_after_timers};
 ghost use Rattle.bq_state.specs.Counting.{AreCounts, DropsGone, IfCounted, tubes_with, with_crowds_at, with_tallies_at};
@@ -63,9 +66,8 @@ fn change(
     requires { AreEnds (map record_at kept.old.entries) ends.old }
     ensures kept { kept.new.entries ≡ edited_at name.now (kept_changed what) kept.old.entries }
     ensures ends { AreEnds (map record_at kept.new.entries) ends.new }
+    ensures ordered { InOrder (slice_cmp nat_cmp) kept.old.entries }
 {
-    // The names are in order.
-    let _tubes = kept.len();
     match what {
         TubeChange::Pause(_, _) => pauses::pause(kept, ends, name, what),
         TubeChange::CountPut => entry::change(kept, name, what),
@@ -138,8 +140,6 @@ impl Tubes {
         ensures { self.new
             ≡ record self.old { entries = map (tube_changed_at name.now what) self.old.entries } }
     {
-        // The names are in order.
-        let _entries = self.kept.len();
         change(&mut self.kept, &mut self.ends, name, what);
     }
 
@@ -164,8 +164,6 @@ impl Tubes {
         ensures pause { is_paused_by (option_map (λ t. t.now) result)
             ≡ list_any (λ t. is_same_name name.now t.name && is_some t.pause) self.now.entries }
     {
-        // The names are in order.
-        let _entries = self.kept.len();
         self.kept.peek(name)
     }
 
@@ -262,8 +260,6 @@ impl Tubes {
         ensures { IfCounted self.now
             (λ jobs seats. result ≡ length (names_alive jobs seats self.now.entries)) }
     {
-        // So many there can be, and the count doesn't come to its end.
-        let _entries = self.kept.len();
         let mut alive = HowMany::none();
         self.kept.walk(&mut alive);
         alive.count()
@@ -293,12 +289,11 @@ impl Tubes {
         }
     }
 
-    /// When the first pause ends. The ends are in order.
+    /// When the first pause ends.
     #[tactic(auto, using(crate::proofs::EndLemmas::first_seen))]
     pub fn first_pause_end(&self) -> Option<Moment>
         ensures { result ≡ first_pause_end self.now.entries }
     {
-        let _ends = self.ends.len();
         pauses::first_until(&self.ends)
     }
 

@@ -1,5 +1,8 @@
 //! What is kept of a tube, and how the entry of a name is changed in its place.
 ghost use Rattle.std.specs.Prelude.{◌≡◌, [], is_some};
+ghost use Rattle.std.specs.Cmp.Lexicographic.{slice_cmp};
+ghost use Rattle.std.specs.Ordering.{nat_cmp};
+ghost use Rattle.bq_index.specs.Order.{InOrder};
 ghost use Rattle.bq_job.specs.machine.TubeCommands.{with_pause};
 ghost use Rattle.bq_state.specs.KeptTubes.{ended, fresh_entry, kept_after, kept_changed, kept_moved};
 ghost use Rattle.bq_state.specs.KeptTubes.{kept_recounted, record_of, edited_at, kept_with};
@@ -222,18 +225,22 @@ impl TubeEntry {
     }
 }
 
-/// Changes the tube of this name.
+/// Changes the tube of this name. The contract tells besides that the names ascend.
 pub(crate) fn change(catalog: &mut Catalog<TubeName, TubeEntry>, name: &TubeName, what: TubeChange)
-    ensures { catalog.new.entries ≡ edited_at name.now (kept_changed what) catalog.old.entries }
+    ensures entries { catalog.new.entries
+        ≡ edited_at name.now (kept_changed what) catalog.old.entries }
+    ensures ordered { InOrder (slice_cmp nat_cmp) catalog.old.entries }
 {
     if let Some(entry) = catalog.get_mut(name) {
         entry.change(what);
     }
 }
 
-/// The pause of the tube of this name ends, if it is over.
+/// The pause of the tube of this name ends, if it is over. The names ascend here too.
 pub(crate) fn end_pause(catalog: &mut Catalog<TubeName, TubeEntry>, name: &TubeName, moment: Moment)
-    ensures { catalog.new.entries ≡ edited_at name.now (ended moment) catalog.old.entries }
+    ensures entries { catalog.new.entries
+        ≡ edited_at name.now (ended moment) catalog.old.entries }
+    ensures ordered { InOrder (slice_cmp nat_cmp) catalog.old.entries }
 {
     if let Some(entry) = catalog.get_mut(name) {
         entry.fire_timer(moment);

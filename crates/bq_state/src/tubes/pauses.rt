@@ -10,7 +10,9 @@ ghost use Rattle.bq_state.specs.PauseEnds.{AreEnds, end_of, pause_at, paused_cou
 ghost use Rattle.bq_state.specs.PauseEnds.{end_total, first_end, found_end, has_end, if_over};
 ghost use Rattle.bq_state.specs.PauseEnds.{with_end, without_end};
 ghost use Rattle.std.proofs.Common.{refl};
-ghost use Rattle.std.specs.Ordering.{as_partial_cmp, eq_by_cmp};
+ghost use Rattle.std.specs.Cmp.Lexicographic.{slice_cmp};
+ghost use Rattle.std.specs.Ordering.{as_partial_cmp, eq_by_cmp, nat_cmp};
+ghost use Rattle.bq_index.specs.Order.{InOrder};
 ghost use Rattle.std.specs.Option.{ForSome, option_map};
 ghost use Rattle.std.specs.Cmp as Cmp;
 
@@ -23,7 +25,9 @@ use std::cmp::Ordering;
 // The end of the pause of the tube of this name, if it is paused.
 #[tactic(auto, using(crate::proofs::EndMoves::none_lent, crate::proofs::EndMoves::some_lent))]
 fn end_of(kept: &Catalog<TubeName, TubeEntry>, name: &TubeName) -> Option<PauseEnd>
-    ensures { result ≡ end_of name.now (pause_at name.now (map record_at kept.now.entries)) }
+    ensures end { result
+        ≡ end_of name.now (pause_at name.now (map record_at kept.now.entries)) }
+    ensures ordered { InOrder (slice_cmp nat_cmp) kept.now.entries }
 {
     match kept.peek(name) {
         None => None,
@@ -41,10 +45,8 @@ pub(crate) fn pause(
     requires { AreEnds (map record_at kept.old.entries) ends.old }
     ensures kept { kept.new.entries ≡ edited_at name.now (kept_changed what) kept.old.entries }
     ensures ends { AreEnds (map record_at kept.new.entries) ends.new }
+    ensures ordered { InOrder (slice_cmp nat_cmp) kept.old.entries }
 {
-    // The names are in order, and so are the ends.
-    let _tubes = kept.len();
-    let _ends = ends.len();
     let from = end_of(kept, name);
     leave(ends, from);
     entry::change(kept, name, what);
@@ -61,10 +63,8 @@ pub(crate) fn drop_entry(
     requires { AreEnds (map record_at kept.old.entries) ends.old }
     ensures kept { kept.new.entries ≡ remove_entry (is_named_at name.now) kept.old.entries }
     ensures ends { AreEnds (map record_at kept.new.entries) ends.new }
+    ensures ordered { InOrder (slice_cmp nat_cmp) kept.old.entries }
 {
-    // The names are in order, and so are the ends.
-    let _tubes = kept.len();
-    let _ends = ends.len();
     let from = end_of(kept, name);
     leave(ends, from);
     let _entry = kept.remove(name);
@@ -82,9 +82,6 @@ fn end_first(kept: &mut Catalog<TubeName, TubeEntry>, ends: &mut PauseEnds, mome
     ensures fewer { result ≡ true → paused_count kept.new.entries < paused_count kept.old.entries }
     ensures ends { AreEnds (map record_at kept.new.entries) ends.new }
 {
-    // The names are in order, and so are the ends.
-    let _tubes = kept.len();
-    let _ends = ends.len();
     let Some(end) = first_over(ends, moment) else {
         return false;
     };
@@ -171,7 +168,8 @@ impl Test<PauseEnd, ()> for Each {
 
 /// The first end, if there is one.
 pub(crate) fn first(ends: &PauseEnds) -> Option<PauseEnd>
-    ensures { result ≡ first_end ends.now.entries }
+    ensures end { result ≡ first_end ends.now.entries }
+    ensures ordered { InOrder end_cmp ends.now.entries }
 {
     match ends.first(&Each) {
         None => None,
@@ -181,7 +179,8 @@ pub(crate) fn first(ends: &PauseEnds) -> Option<PauseEnd>
 
 /// When the first pause ends, if there is one.
 pub(crate) fn first_until(ends: &PauseEnds) -> Option<Moment>
-    ensures { result ≡ option_map (λ e. e.until) (first_end ends.now.entries) }
+    ensures until { result ≡ option_map (λ e. e.until) (first_end ends.now.entries) }
+    ensures ordered { InOrder end_cmp ends.now.entries }
 {
     match first(ends) {
         None => None,
@@ -191,7 +190,8 @@ pub(crate) fn first_until(ends: &PauseEnds) -> Option<Moment>
 
 /// The first end, if it has come.
 pub(crate) fn first_over(ends: &PauseEnds, moment: Moment) -> Option<PauseEnd>
-    ensures { result ≡ if_over moment (first_end ends.now.entries) }
+    ensures end { result ≡ if_over moment (first_end ends.now.entries) }
+    ensures ordered { InOrder end_cmp ends.now.entries }
 {
     match first(ends) {
         None => None,
@@ -231,6 +231,7 @@ pub(crate) fn enter(ends: &mut PauseEnds, end: Option<PauseEnd>)
 pub(crate) fn leave(ends: &mut PauseEnds, end: Option<PauseEnd>)
     requires { ForSome end (λ e. has_end e ends.old.entries ≡ true) }
     ensures entries { ends.new.entries ≡ without_end end ends.old.entries }
+    ensures ordered { ForSome end (λ _. InOrder end_cmp ends.old.entries) }
     ensures spare { ends.new.spare ≡ ends.old.spare + (if is_some end then 1 else 0) }
 {
     if let Some(end) = end {

@@ -149,8 +149,6 @@ pub(crate) fn forget_all(catalog: &mut Catalog<TubeName, TubeEntry>, ends: &mut 
 {
     let mut last = None;
     while let Some(name) = next_gone(catalog, &last) {
-        // The names are in order.
-        let _entries = catalog.len();
         pauses::drop_entry(catalog, ends, &name);
         last = Some(name);
     }

@@ -17,24 +17,24 @@ read f (Some t) e = ap (option_map f) e
 pub returns-clause-entry : goal.returns-clause-entry
 returns-clause-entry c =
     let name = c.args.name.now in
-    read (record_of name) c.peek.result c.peek.ensures
+    read (record_of name) c.peek.result c.peek.ensures.value
     ∙ found_entry name c.self.inside.kept.entries
     ∙ ap (λ (k : KeptTubes). find (λ t. is_same_name name t.name) k.entries) c.self.view_is
 
 pub returns-clause-tally : goal.returns-clause-tally
 returns-clause-tally c =
     let name = c.args.name.now in
-    ap tally_by c.peek.ensures ∙ found_tally name c.self.inside.kept.entries ∙ ap (λ (k : KeptTubes). tally_at name k.entries k.tallies) c.self.view_is
+    ap tally_by c.peek.ensures.value ∙ found_tally name c.self.inside.kept.entries ∙ ap (λ (k : KeptTubes). tally_at name k.entries k.tallies) c.self.view_is
 
 pub returns-clause-crowd : goal.returns-clause-crowd
 returns-clause-crowd c =
     let name = c.args.name.now in
-    ap crowd_by c.peek.ensures ∙ found_crowd name c.self.inside.kept.entries ∙ ap (λ (k : KeptTubes). crowd_at name k.entries k.crowds) c.self.view_is
+    ap crowd_by c.peek.ensures.value ∙ found_crowd name c.self.inside.kept.entries ∙ ap (λ (k : KeptTubes). crowd_at name k.entries k.crowds) c.self.view_is
 
 pub returns-clause-pause : goal.returns-clause-pause
 returns-clause-pause c =
     let name = c.args.name.now in
     let es = c.self.inside.kept.entries in
-    ap is_paused_by c.peek.ensures
-    ∙ found_pause name es (in_order es c.len-entries.ensures.ordered)
+    ap is_paused_by c.peek.ensures.value
+    ∙ found_pause name es (in_order es c.peek.ensures.ordered)
     ∙ ap (λ (k : KeptTubes). list_any (λ t. is_same_name name t.name && is_some t.pause) k.entries) c.self.view_is

@@ -12,12 +12,12 @@ pub returns-in_default-clause-done : goal.returns-in_default-clause-done
 returns-in_default-clause-done c _ =
     let moment = c.args.moment in
     let ends = c.args.ends.now in
-    ap (is_end_over moment) (sym (first_is (map record_at c.args.kept.now.entries) ends c.requires c.len-ends.ensures.ordered)) ∙ none_over_yet moment (first_end ends.entries) c.in_default.ensures
+    ap (is_end_over moment) (sym (first_is (map record_at c.args.kept.now.entries) ends c.requires c.in_default.ensures.ordered)) ∙ none_over_yet moment (first_end ends.entries) c.in_default.ensures.end
 
 pub leave-requires : goal.leave-requires
 leave-requires c x is =
     let same : c.in-Some.end ≡ x = some_is c.in-Some.end x is in
-    subst (λ (e : PauseEnd). has_end e c.args.ends.now.entries ≡ true) same (one_over c.args.moment c.in-Some.end c.args.ends.now.entries c.in-Some.ensures).0
+    subst (λ (e : PauseEnd). has_end e c.args.ends.now.entries ≡ true) same (one_over c.args.moment c.in-Some.end c.args.ends.now.entries c.in-Some.ensures.end).0
   where
     some_is : (a b : PauseEnd) → Some a ≡ Some b → a ≡ b
     some_is a b e = cc
@@ -25,32 +25,32 @@ leave-requires c x is =
 pub returns-clause-records : goal.returns-clause-records
 returns-clause-records c =
     let es = c.args.kept.now.entries in
-    over_records c.args.moment c.in-Some.end es c.end_pause.new.catalog.entries c.args.ends.now c.requires (in_order es c.len-tubes.ensures.ordered) c.in-Some.ensures c.end_pause.ensures
+    over_records c.args.moment c.in-Some.end es c.end_pause.new.catalog.entries c.args.ends.now c.requires (in_order es c.end_pause.ensures.ordered) c.in-Some.ensures.end c.end_pause.ensures.entries
 
 pub returns-clause-tallies : goal.returns-clause-tallies
-returns-clause-tallies c = ap (map tally_kept) c.end_pause.ensures ∙ edit_same_tallies c.in-Some.end.name (ended c.args.moment) (λ t. refl) c.args.kept.now.entries
+returns-clause-tallies c = ap (map tally_kept) c.end_pause.ensures.entries ∙ edit_same_tallies c.in-Some.end.name (ended c.args.moment) (λ t. refl) c.args.kept.now.entries
 
 pub returns-clause-crowds : goal.returns-clause-crowds
-returns-clause-crowds c = ap (map crowd_kept) c.end_pause.ensures ∙ edit_same_crowds c.in-Some.end.name (ended c.args.moment) (λ t. refl) c.args.kept.now.entries
+returns-clause-crowds c = ap (map crowd_kept) c.end_pause.ensures.entries ∙ edit_same_crowds c.in-Some.end.name (ended c.args.moment) (λ t. refl) c.args.kept.now.entries
 
 pub returns-clause-fewer : goal.returns-clause-fewer
 returns-clause-fewer c _ =
     let es = c.args.kept.now.entries in
-    over_fewer c.args.moment c.in-Some.end es c.end_pause.new.catalog.entries c.args.ends.now c.requires (in_order es c.len-tubes.ensures.ordered) c.in-Some.ensures c.end_pause.ensures
+    over_fewer c.args.moment c.in-Some.end es c.end_pause.new.catalog.entries c.args.ends.now c.requires (in_order es c.end_pause.ensures.ordered) c.in-Some.ensures.end c.end_pause.ensures.entries
 
 pub returns-clause-ends : goal.returns-clause-ends
 returns-clause-ends c =
     let es = c.args.kept.now.entries in
     let new = c.end_pause.new.catalog.entries in
     let end = c.in-Some.end in
-    let order = in_order es c.len-tubes.ensures.ordered in
+    let order = in_order es c.end_pause.ensures.ordered in
     let from = pause_at end.name (map record_at es) in
     let to = pause_at end.name (map record_at new) in
-    let is = over_from c.args.moment end es new c.args.ends.now c.requires order c.in-Some.ensures c.end_pause.ensures in
-    let gone = over_to c.args.moment end es new c.args.ends.now c.requires order c.in-Some.ensures c.end_pause.ensures in
-    let m = over_moves c.args.moment end es new c.args.ends.now c.requires order c.in-Some.ensures c.end_pause.ensures in
+    let is = over_from c.args.moment end es new c.args.ends.now c.requires order c.in-Some.ensures.end c.end_pause.ensures.entries in
+    let gone = over_to c.args.moment end es new c.args.ends.now c.requires order c.in-Some.ensures.end c.end_pause.ensures.entries in
+    let m = over_moves c.args.moment end es new c.args.ends.now c.requires order c.in-Some.ensures.end c.end_pause.ensures.entries in
     let one = one_box end.name from (Some end) (sym is) in
     let none = ap (λ p. one_if p) gone in
-    ends_moved end.name from to (map record_at es) (map record_at new) c.args.ends.now c.requires c.len-ends.ensures.ordered m c.leave.new.ends
+    ends_moved end.name from to (map record_at es) (map record_at new) c.args.ends.now c.requires m (λ _ _. c.in-Some.ensures.ordered) c.leave.new.ends
     (c.leave.ensures.entries ∙ (λ i. with_end (end_of end.name (sym gone i)) (without_end (sym is i) c.args.ends.now.entries)))
     (omega (arith, c.leave.ensures.spare, one, none))
