@@ -354,10 +354,10 @@ body_told k id rows (Ok body) is = body_is k id rows body is
 body_told k id rows (Err e) is = tt
 
 -- what the search takes for an addition, a removal, a change and a share
-pub ruleset additions = (none_named, numbered_added, numbered_row, row_added)
+pub ruleset additions = (ids_named, none_named, numbered_added, numbered_row, row_added)
 
 pub ruleset removals = (job_named, numbered_without, some_named, told_rows, without_named)
 
-pub ruleset changes = (changed_named, numbered_changed, told_moved)
+pub ruleset changes = (changed_named, ids_named, numbered_changed, told_moved)
 
 pub ruleset shares = (some_named, no_name, tube_is, body_told)

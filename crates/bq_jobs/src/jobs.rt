@@ -126,6 +126,7 @@ impl Jobs {
         requires absent { job_with job.id self.old.jobs ≡ None }
         requires known { is_known job.tube self.old ≡ true }
         ensures jobs { self.new.jobs ≡ with_added job self.old.jobs }
+        ensures ordered { AreIdsWithin 0 self.new.jobs (2 ^ 64) }
         ensures tubes { self.new.tubes ≡ self.old.tubes }
         ensures room { self.new.room + 1 ≡ self.old.room }
         ensures comparisons { ComparesAtMost 4 self.old self.new }
@@ -159,6 +160,7 @@ impl Jobs {
         ensures moved { result
             ≡ option_map (moved_by (E.edited edit.now)) (job_with id self.old.jobs) }
         ensures jobs { self.new.jobs ≡ with_changed id (E.edited edit.now) self.old.jobs }
+        ensures ordered { AreIdsWithin 0 self.old.jobs (2 ^ 64) }
         ensures tubes { self.new.tubes ≡ self.old.tubes }
         ensures room { self.new.room ≡ self.old.room }
         ensures comparisons { ComparesAtMost 7 self.old self.new }

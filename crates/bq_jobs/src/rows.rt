@@ -131,6 +131,7 @@ impl Rows {
         requires room { 0 < self.old.room }
         requires absent { job_with job.id self.old.jobs ≡ None }
         ensures jobs { self.new.jobs ≡ with_added job self.old.jobs }
+        ensures ordered { AreIdsWithin 0 self.new.jobs (2 ^ 64) }
         ensures room { self.new.room + 1 ≡ self.old.room }
         ensures comparisons { ComparesAtMost 4 self.old self.new }
     {
@@ -163,6 +164,7 @@ impl Rows {
         ensures moved { result
             ≡ option_map (row_moved_by (E.edited edit.now)) (job_with id self.old.jobs) }
         ensures jobs { self.new.jobs ≡ with_changed id (E.edited edit.now) self.old.jobs }
+        ensures ordered { AreIdsWithin 0 self.old.jobs (2 ^ 64) }
         ensures room { self.new.room ≡ self.old.room }
         ensures comparisons { ComparesAtMost 7 self.old self.new }
     {

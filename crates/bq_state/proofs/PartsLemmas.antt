@@ -2,7 +2,7 @@
 use Rattle.std.proofs.Common.{get_or}
 use Rattle.std.proofs.lemmas.Option.{slice_get-get_or}
 use Rattle.std.specs.Prelude.{Result, Ok, Err, IfOk}
-use Rattle.std.proofs.Common.{◌≡◌, ℕ, zero, suc, Bool, true, false, ◌&&◌, ◌||◌, ◌==◌, List, [], ◌∷◌, ◌++◌, Some, None, map, refl, sym, ap, ◌∙◌, if◌then◌else◌, subst, inl, inr, length, ◌≤◌, ◌<◌, ◌+◌, arith, set, slice_get}
+use Rattle.std.proofs.Common.{◌≡◌, ℕ, zero, suc, Bool, true, false, ◌&&◌, ◌||◌, ◌==◌, List, [], ◌∷◌, ◌++◌, Some, None, map, refl, sym, ap, ◌∙◌, if◌then◌else◌, subst, inl, inr, length, ◌≤◌, ◌<◌, ◌+◌, arith, set, slice_get, ◌^◌}
 use Rattle.std.proofs.Math.Bool.{and-false}
 use Rattle.std.proofs.lemmas.Bool.Decides.{nat_tests}
 use Rattle.std.proofs.lemmas.List.{length-map}
@@ -16,7 +16,7 @@ use Rattle.bq_job.specs.machine.Machine.{SeatRecord, TubeRecord, default_tube, e
 use Rattle.bq_job.specs.reading.TubeName.{is_same_name}
 use Rattle.bq_job.specs.machine.Timers.{is_due, is_expired, tube_after_timers}
 use Rattle.bq_job.specs.machine.TubeCommands.{watching}
-use Rattle.bq_job.specs.machine.Limits.{raised}
+use Rattle.bq_job.specs.machine.Limits.{greatest, raised}
 use Rattle.bq_job.specs.machine.Tubes.{fresh_tube, is_seated_at, watches, with_record}
 use Rattle.bq_job.proofs.ListLemmas.{all_at, all_from_members, all_weaker, found_passes, list_any_with}
 use Rattle.bq_jobs.specs.Kept.{Kept, with_added}
@@ -134,6 +134,11 @@ some_next low next (k ∷ jobs) h = let a = h.0 in let b = some_next (suc k.id) 
 pub as_many_ids : (low next : ℕ) (jobs : List Job) → AreIdsWithin low jobs next → length jobs + low ≤ next
 as_many_ids low next [] h = omega arith
 as_many_ids low next (k ∷ jobs) h = let a = h.0 in let b = as_many_ids (suc k.id) next jobs h.1 in omega arith
+
+-- fewer than a count can tell, whatever the next id is
+pub few_jobs : (next : ℕ) (jobs : List Job) → AreIdsWithin 1 jobs next → AreIdsWithin 0 jobs (2 ^ 64) → length jobs ≤ greatest
+few_jobs next [] given h = omega arith
+few_jobs next (k ∷ jobs) given h = let few = as_many_ids 1 (2 ^ 64) (k ∷ jobs) (given.0, h.1) in omega (arith, few)
 
 -- where there is no job of the id, none is changed
 pub no_job_changed : (id : ℕ) (f : Job → Job) (jobs : List Job) → job_with id jobs ≡ None → map (λ j. if j.id == id then f j else j) jobs ≡ jobs

@@ -63,8 +63,6 @@ pub fn add(state: &mut CoreParts, job: Job)
 {
     let is_wanted = state.is_wanted(&job);
     let waits = state.has_waiting_holder(&job);
-    // There are fewer jobs than ids, and no count comes to its end.
-    let _ids = state.next_id;
     state.known.add_job(&job, is_wanted, waits);
     state.tubes.add_job(&job);
     state.jobs.add(job);
@@ -120,8 +118,6 @@ pub fn change_job(state: &mut CoreParts, id: JobId, what: &JobChange)
     };
     let is_wanted = counts_waiter_of(&state.known.clients, &state.tubes, &moved);
     let waits = seats::holder_waits(state.seats.as_slice(), moved.to.state);
-    // So many jobs there can be, and no count comes to its end.
-    let _jobs = state.jobs.len();
     state.known.move_job(&moved, is_wanted, waits);
     state.tubes.move_job(&moved);
 }
@@ -144,8 +140,6 @@ pub fn change_seat(state: &mut CoreParts, seat: Seat, what: &SeatChange)
     let client = seats::find(state.seats.as_slice(), seat);
     state.waiting.join(client);
     shares::recount(&mut state.tubes, client, Moving::Comes, touched);
-    // So many seats there can be, and no count comes to its end.
-    let _seats = state.seats.len();
     state.known.join(client, seat, what);
 }
 

@@ -1,8 +1,9 @@
-use Rattle.std.proofs.Common.{◌∙◌, ◌≤◌, arith, length}
+use Rattle.std.proofs.Common.{◌∙◌, ◌^◌, subst}
+use Rattle.bq_job.specs.beside.Lawful.{AreIdsWithin}
 use Rattle.bq_jobs.specs.Kept.{with_added}
 use Rattle.bq_state.specs.Knowledge.{with_job}
 use Rattle.bq_state.proofs.KnowledgeLemmas.{so_with_job}
-use Rattle.bq_state.proofs.PartsLemmas.{as_many_ids, entries_of_added, ids_of_added}
+use Rattle.bq_state.proofs.PartsLemmas.{entries_of_added, few_jobs, ids_of_added}
 use Rattle.bq_state.proofs.changes.add.Goals as goal
 
 pub invariant_of-state : goal.invariant_of-state
@@ -11,7 +12,7 @@ invariant_of-state c =
     let was = c.args.state.now.sound in
     let j = c.args.job in
     let ids = ids_of_added 1 st.next_id j st.jobs.jobs was.ids c.requires.free c.requires.given.0 c.requires.given.1 in
-    let fits : length (with_added j st.jobs.jobs) ≤ 18446744073709551615 = let many = as_many_ids 1 st.next_id (with_added j st.jobs.jobs) ids in omega arith in
+    let fits = few_jobs st.next_id (with_added j st.jobs.jobs) ids (subst (λ jobs. AreIdsWithin 0 jobs (2 ^ 64)) c.add.ensures.jobs c.add.ensures.ordered) in
     let known = c.add_job.ensures ∙ (λ i. with_job j (c.is_wanted-is_wanted.ensures i) (c.has_waiting_holder-waits.ensures i) st.known) in
     record {
       sound =

@@ -1,7 +1,6 @@
-use Rattle.std.proofs.Common.{◌∙◌, ◌&&◌, ◌≤◌, ◌==◌, if◌then◌else◌, ap, sym, arith, length}
+use Rattle.std.proofs.Common.{◌∙◌, ◌&&◌, ◌==◌, if◌then◌else◌, ap, sym}
 use Rattle.bq_job.specs.machine.Changes.{is_ready_state, job_with}
 use Rattle.bq_job.proofs.KeptLemmas.{ids_of_map}
-use Rattle.std.proofs.lemmas.List.{length-map}
 use Rattle.bq_jobs.proofs.Told.{nothing_told_of, told_of}
 use Rattle.bq_jobs.specs.Changed.{moved_by}
 use Rattle.bq_state.specs.JobChanges.{changed}
@@ -9,7 +8,7 @@ use Rattle.bq_state.specs.Warnings.{has_waiting_holder}
 use Rattle.bq_state.proofs.KnowledgeLemmas.{so_with_moved}
 use Rattle.bq_state.proofs.CrowdPlaces.{waiters_counted}
 use Rattle.bq_state.proofs.MovedLemmas.{entries_of_changed, one_id, one_tube, tube_ignored, tube_kept}
-use Rattle.bq_state.proofs.PartsLemmas.{id_kept, no_job_changed}
+use Rattle.bq_state.proofs.PartsLemmas.{few_jobs, id_kept, no_job_changed}
 use Rattle.bq_state.proofs.changes.change_job.Goals as goal
 
 pub invariant_of-state : goal.invariant_of-state
@@ -28,8 +27,7 @@ invariant_of-state-2 c =
     let f = changed what in
     let m = c.in-Some.moved in
     let of = told_of (moved_by f) (job_with id st.jobs.jobs) m (sym c.in-Some.ensures.moved) in
-    let many = c.len-jobs.ensures.len ∙ ap length c.in-Some.ensures.jobs ∙ length-map st.jobs.jobs _ in
-    let fits : length st.jobs.jobs ≤ 18446744073709551615 = omega (arith, many) in
+    let fits = few_jobs st.next_id st.jobs.jobs was.ids c.in-Some.ensures.ordered in
     let wanted = c.counts_waiter_of-is_wanted.ensures ∙ ap (λ b. is_ready_state m.to.state && b) (waiters_counted m.tube st.known.clients st.tubes.crowds st.seats.items st.tubes.entries was.entries.of_seats was.known.crowds was.known.clients) in
     let waits = c.holder_waits-waits.ensures ∙ ap (has_waiting_holder m.to.state) c.as_slice.ensures.value in
     record {

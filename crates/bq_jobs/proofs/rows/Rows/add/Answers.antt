@@ -26,6 +26,9 @@ invariant_of-self c =
       timer_spare = ap (λ p. c.enter-2.new.order.spare + cond (is_some p) 1 0) (sym c.timer_place.ensures) ∙ c.enter-2.ensures.spare;
     })
 
+pub returns-clause-ordered : goal.returns-clause-ordered
+returns-clause-ordered c = (invariant_of-self c).ids
+
 pub returns-clause-comparisons : goal.returns-clause-comparisons
 returns-clause-comparisons c =
     let s = c.self.inside in
