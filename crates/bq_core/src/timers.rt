@@ -33,8 +33,10 @@ use bq_state::{changes, job_store, seats};
 // The delayed job that is due first, if its moment has come.
 #[tactic(auto, using(bq_state::proofs::PartsLemmas::compared_sound))]
 fn first_ripe(state: &mut CoreParts) -> Option<JobId>
-    ensures found { IfSome result (λ id. IsOne (λ j. is_due state.old.moment j.state) state.old.jobs.jobs id) }
-    ensures none { result ≡ None → list_any (λ j. is_due state.old.moment j.state) state.old.jobs.jobs ≡ false }
+    ensures found { IfSome result
+        (λ id. IsOne (λ j. is_due state.old.moment j.state) state.old.jobs.jobs id) }
+    ensures none { result ≡ None
+        → list_any (λ j. is_due state.old.moment j.state) state.old.jobs.jobs ≡ false }
     ensures kept { Looks 1 state.old state.new }
 {
     let (due, id) = state.jobs.next_due()?;
@@ -44,8 +46,10 @@ fn first_ripe(state: &mut CoreParts) -> Option<JobId>
 // The job whose time to run is over first, if that moment has come.
 #[tactic(auto, using(bq_state::proofs::PartsLemmas::compared_sound))]
 fn first_expired(state: &mut CoreParts) -> Option<JobId>
-    ensures found { IfSome result (λ id. IsOne (λ j. is_expired state.old.moment j.state) state.old.jobs.jobs id) }
-    ensures none { result ≡ None → list_any (λ j. is_expired state.old.moment j.state) state.old.jobs.jobs ≡ false }
+    ensures found { IfSome result
+        (λ id. IsOne (λ j. is_expired state.old.moment j.state) state.old.jobs.jobs id) }
+    ensures none { result ≡ None
+        → list_any (λ j. is_expired state.old.moment j.state) state.old.jobs.jobs ≡ false }
     ensures kept { Looks 1 state.old state.new }
 {
     let (deadline, id) = state.jobs.next_deadline()?;

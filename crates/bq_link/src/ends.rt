@@ -1,6 +1,7 @@
 //! The ends of the links: the core's, and one for each seat and the control line. Behind them is the intake that they
 //! share, with its rule: what a thread knows of it, and what each call tells.
-ghost use Rattle.std.specs.Prelude.{ℕ, ◌≡◌, ◌+◌, ◌<◌, ◌≤◌, ◌∷◌, ◌++◌, [], false, true, List, IfErr, IfNone, IfOk, IfSome, IsOk, OnErr, OnOk, length};
+ghost use Rattle.std.specs.Prelude.{ℕ, ◌≡◌, ◌+◌, ◌<◌, ◌≤◌, ◌∷◌, ◌++◌, [], false, true, List, length};
+ghost use Rattle.std.specs.Prelude.{IfErr, IfNone, IfOk, IfSome, IsOk, OnErr, OnOk};
 ghost use Rattle.bq_job.specs.declared.step.Step.{Step as AStep};
 ghost use Rattle.bq_link.specs.Delivery.{WaitsOf, blank_view, seat_view};
 ghost use Rattle.bq_link.specs.EndChanges.{with_room, with_sent, with_told};
@@ -157,7 +158,8 @@ impl CoreEnd {
         requires core { self.old.intake ≡ intake.now.id }
         requires seat { seat.old.intake ≡ intake.now.id }
         ensures waits { (waiting : List (ℕ × AStep)) × J.was self.old.taken waiting
-            × (seat.old.submitted ≡ steps_of seat.old.number self.old.taken ++ steps_of seat.old.number waiting) }
+            × (seat.old.submitted
+            ≡ steps_of seat.old.number self.old.taken ++ steps_of seat.old.number waiting) }
         ensures told { self.new ≡ with_told self.old seat.old }
         ensures seat { seat.new ≡ seat.old }
     {

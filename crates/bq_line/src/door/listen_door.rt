@@ -175,7 +175,8 @@ impl<'l, R: Wait + Clock + Eprint, S: Socket + Drop + Send, T: Listen<Stream = S
     fn open(&mut self) -> Result<Option<BufferedLine<Connection<S>>>, DoorFault>
         requires inside { self.old.is_out ≡ false }
         requires more { self.old.is_at_end ≡ false }
-        ensures opened { IsOpened ⟦<BufferedLine<Connection<S>> as Line>⟧.seen self.new.is_out self.new.is_at_end result }
+        ensures opened { IsOpened ⟦<BufferedLine<Connection<S>> as Line>⟧.seen
+            self.new.is_out self.new.is_at_end result }
         ensures over { self.new.over ≡ self.old.over }
         ensures same { (first : _) → ⟦<ListenDoor<'l, R, T> as Door>⟧.same first self.old →
             ⟦<ListenDoor<'l, R, T> as Door>⟧.same first self.new }

@@ -97,7 +97,8 @@ impl Door for MemDoor {
     fn open(&mut self) -> Result<Option<MemLine>, DoorFault>
         requires inside { self.old.is_out ≡ false }
         requires more { self.old.is_at_end ≡ false }
-        ensures opened { IsOpened ⟦<MemLine as Line>⟧.seen self.new.is_out self.new.is_at_end result }
+        ensures opened { IsOpened ⟦<MemLine as Line>⟧.seen
+            self.new.is_out self.new.is_at_end result }
         ensures over { self.new.over ≡ self.old.over }
         ensures put_in { self.new.put_in ≡ self.old.put_in }
         // The next line comes out, and none only where none is left.

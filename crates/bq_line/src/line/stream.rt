@@ -1,6 +1,7 @@
 //! Streams of both ways: what a line lies over, what a connection needs of a stream, and the connection. Behind them is
 //! the buffer that a stream is read into.
-ghost use Rattle.std.specs.Prelude.{◌≡◌, ◌==◌, ◌≤◌, ◌<◌, ℕ, [], IfOk, IsOk, OnErr, OnOk, List, None, Option, drop, false, length, min, take, true, vec_len};
+ghost use Rattle.std.specs.Prelude.{◌≡◌, ◌==◌, ◌≤◌, ◌<◌, ℕ, [], IfOk, IsOk, OnErr, OnOk, List, None, Option};
+ghost use Rattle.std.specs.Prelude.{drop, false, length, min, take, true, vec_len};
 ghost use Rattle.std.specs.Io.{ReadsAtMost, WritesAtMost};
 ghost use Rattle.std.specs.Io.KnownBytes.{Consumes, IsAtEnd, Keeps, ReadConsumes, WriteAppends, prepend_known};
 ghost use Rattle.std.specs.Vec.{vec_capacity};
