@@ -25,7 +25,7 @@ CONTROL = "/run/bqd.control"
 RULES = []
 
 # First words of a line that is a command. A program's name alone is none.
-HEADS = """rt tools/build tools/edits nc telnet systemctl journalctl apt echo bqd bq bqd-top bqd-drain prlimit ulimit
+HEADS = """rt tools/build tools/warm tools/edits nc telnet systemctl journalctl apt echo bqd bq bqd-top bqd-drain prlimit ulimit
     python3 sed printf packaging/deb.sh (cd crates/bqd/out/bqd crates/bq/out/bq bash""".split()
 
 
@@ -227,6 +227,13 @@ def builds(room, names):
     for name in names.split():
         assert (ROOT / "crates" / name / "src/main.rt").is_file(), f"no program {name}"
     return "it proves for a quarter of an hour; what it builds was given"
+
+
+@rule(r"tools/warm((?: \w+)*)")
+def warms(room, names):
+    for name in names.split():
+        assert (ROOT / "crates" / name / "src").is_dir(), f"no crate {name}"
+    return "it proves for a quarter of an hour"
 
 
 @rule(r"\.ci/run")
