@@ -1,6 +1,5 @@
 pub mod DeskOf
 pub mod DeskState
 pub mod DeskWent
-pub mod LastParts
 pub mod RunSettings
 pub mod TimePassing

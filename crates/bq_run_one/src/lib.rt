@@ -5,5 +5,4 @@ pub use one::{One, run_one};
 
 pub mod desk;
 pub mod desk_seat;
-pub mod mail;
 mod one;

@@ -7,7 +7,7 @@ ghost use Rattle.bq_journal.specs.LockedSteps.{AreDelivered};
 
 use bq_core::Outs;
 use bq_job::{Answer, NoMemory, Seat};
-use bq_run_one::mail::{Mail, new_mails};
+use bq_mail::{Mail, new_mails};
 use std::alloc::Global;
 
 /// An outbox for each seat, and whom the last step answered.
