@@ -1,14 +1,11 @@
 -- What can't be, each by itself: a search among all that is known of a run is too long.
-use Rattle.std.proofs.Common.{◌≡◌, ◌==◌, ◌&&◌, ℕ, true, false, not, inl, inr, refl}
+use Rattle.std.proofs.Common.{◌≡◌, ◌==◌, ◌&&◌, Bool, ℕ, true, false, not, inl, inr, refl}
 use Rattle.std.specs.Prelude.{◌↔◌, IsErrOf, IsTrue, Result, Ok, Err}
 use Rattle.std.proofs.lemmas.Bool.{cases_Bool, eq-eqb}
 use Rattle.bq_job.specs.declared.settings.Settings.{Settings}
-use Rattle.bq_steps.specs.Limits.{are_in_range}
+use Rattle.bq_steps.specs.Limits.{are_in_range, is_body_size, is_job_limit, is_seat_count}
 use Rattle.bq_run_start.specs.declared.fault.RunFault.{RunFault}
-use Rattle.bq_run_start.specs.declared.fault.RunFault.TheVariants.{BadConfiguration, NoMemory}
-
-pub no_memory_is_another : {A : Type 0} (x y : Result A RunFault) → x ≡ Err NoMemory → y ≡ Err BadConfiguration → x ≡ y → ⊥
-no_memory_is_another x y a b e = cc
+use Rattle.bq_run_start.specs.declared.fault.RunFault.TheVariants.{BadConfiguration}
 
 ok_is_no_fault : {A E : Type 0} (x y : Result A E) (ok : A) (fault : E) → x ≡ Ok ok → y ≡ Err fault → x ≡ y → ⊥
 ok_is_no_fault x y ok fault a b e = cc
@@ -28,3 +25,16 @@ well_configured result config doors made bad many other =
         | inr out ↦ absurd (ok_is_no_fault _ _ _ _ refl refl (bad.1 (rw out refl)))
       ],
     )
+
+size_of_all : (seats size jobs : Bool) → (seats && size && jobs) ≡ true → size ≡ true
+size_of_all true true jobs e = refl
+size_of_all true false jobs e = absurd (false_is_not_true e)
+size_of_all false size jobs e = absurd (false_is_not_true e)
+
+-- Bodies of a run for which what the lock holds was made have a size that there is.
+pub size_fits : {A : Type 0} (config : Settings) (made : A) → (IsErrOf {T = A} {E = RunFault} (Ok made) BadConfiguration ↔ IsTrue (not (are_in_range config))) → IsTrue (is_body_size config.max_job_size)
+size_fits config made bad =
+    elim (cases_Bool (are_in_range config)) [
+      | inl good ↦ size_of_all (is_seat_count config.seats) (is_body_size config.max_job_size) (is_job_limit config.max_jobs) good
+      | inr out ↦ absurd (ok_is_no_fault _ _ _ _ refl refl (bad.1 (rw out refl)))
+    ]

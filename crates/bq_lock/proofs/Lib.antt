@@ -1,4 +1,2 @@
 pub mod FaultLemmas
-pub mod PostLemmas
-pub mod RungLemmas
 pub mod SendLemmas

@@ -1,3 +1,1 @@
 pub mod LockedDesks
-pub mod LockedRuns
-pub mod Rung

@@ -9,8 +9,8 @@ use Rattle.bq_job.specs.beside.NextDue.{next_due}
 use Rattle.bq_journal.specs.LockedState.{oldest_for, without_oldest}
 use Rattle.bq_journal.specs.LockedSteps.{TakesStep}
 use Rattle.bq_lock.specs.declared.locked_desk.LockedDesk.{LockedDesk}
-use Rattle.bq_lock.specs.declared.shared_desk.Look.{Look}
-use Rattle.bq_lock.specs.declared.shared_desk.Look.TheVariants as looks
+use Rattle.bq_lock_work.specs.declared.shared_desk.Look.{Look}
+use Rattle.bq_lock_work.specs.declared.shared_desk.Look.TheVariants as looks
 
 -- The clock was read once, and the moment heard last follows the reading.
 abbrev pub HasHeard : {C : Type 0} → (C → List (Option ℕ) → C → Type 0) → LockedDesk C → LockedDesk C → Type 0

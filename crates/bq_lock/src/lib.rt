@@ -3,9 +3,5 @@
 
 pub use locked_run::{LockedRun, run_locked};
 
-mod bell;
-mod bells;
 mod locked_desk;
 mod locked_run;
-mod post;
-mod shared_desk;

@@ -1,12 +1,10 @@
 //! A desk under a lock, at which each seat is served by its own thread.
 ghost use Rattle.std.specs.Prelude.{◌≡◌, ◌≤◌};
 
-use crate::bells::Rings;
-use crate::shared_desk::{LONGEST_REST, Look, SharedDesk};
 use bq_job::{Answer, Moment, Seat, Step};
 use bq_journal::Locked;
 use bq_line::clock::{Clock, moment_heard};
-use std::sync::{Mutex, Wait};
+use bq_lock_work::{Desk, LONGEST_REST, Look, Rings};
 
 /// What lies under the one lock of a run: the core with its outboxes, the clock, and the moment heard last.
 #[derive(Drop)]
@@ -20,7 +18,7 @@ impl<C: Clock + Drop> LockedDesk<C> {
     ghost use Rattle.bq_job.specs.beside.NextDue.{next_due};
     ghost use Rattle.bq_line.specs.GivenReadings.{GaveReadings};
     ghost use Rattle.bq_lock.specs.LockedDesks.{EndsInTime, HasLooked, HasPassed, HasServed, HasTaken};
-    ghost use Rattle.bq_lock.specs.Rung.{AreRung, AreRungByTick, others};
+    ghost use Rattle.bq_lock_work.specs.Rung.{AreRung, AreRungByTick, others};
     ghost use Rattle.std.specs.Prelude.{[], ◌∷◌};
     ghost use Rattle.bq_job.specs.promise.History.{moment_heard};
 
@@ -103,16 +101,16 @@ impl<C: Clock + Drop> LockedDesk<C> {
     }
 }
 
-impl<C: Clock + Drop> SharedDesk for Mutex<LockedDesk<C>> {
-    fn step<R: Wait>(&self, rt: &R, seat: Seat, what: Step) -> Rings {
-        self.lock(rt).step(seat, what)
+impl<C: Clock + Drop> Desk for LockedDesk<C> {
+    fn take(&mut self, seat: Seat, what: Step) -> Rings {
+        self.step(seat, what)
     }
 
-    fn serve<R: Wait>(&self, rt: &R, seat: Seat, what: Step) -> (Option<Answer>, Rings) {
-        self.lock(rt).serve(seat, what)
+    fn take_and_fetch(&mut self, seat: Seat, what: Step) -> (Option<Answer>, Rings) {
+        self.serve(seat, what)
     }
 
-    fn look<R: Wait>(&self, rt: &R, seat: Seat) -> (Look, Rings) {
-        self.lock(rt).look(seat)
+    fn fetch(&mut self, seat: Seat) -> (Look, Rings) {
+        self.look(seat)
     }
 }

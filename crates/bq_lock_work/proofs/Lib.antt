@@ -1,0 +1,2 @@
+pub mod PostLemmas
+pub mod RungLemmas

@@ -1,0 +1,2 @@
+pub mod LockedRuns
+pub mod Rung
