@@ -2,8 +2,7 @@
 //!
 //! Here are the run of one line by one thread, that of many doors, each by a thread of its own, and that around
 //! one lock, with the lines, doors and clocks that they serve. Each is made in a crate of its own, so that what
-//! stands on one of them doesn't wait for the proofs of the others. The run by threads is made for any core, and
-//! here it has that of `bq_core`.
+//! stands on one of them doesn't wait for the proofs of the others.
 #![tactic(auto)]
 
 pub use bq_core_work::core_work;
@@ -15,6 +14,4 @@ pub use bq_lock::{LockedRun, run_locked};
 pub use bq_run_one::{One, run_one};
 pub use bq_run_start::RunFault;
 pub use bq_seat_work::{control_work, seat_work};
-pub use sessions::{Run, run_sessions};
-
-mod sessions;
+pub use bq_sessions::{Run, run_sessions};

@@ -1,4 +1,4 @@
-//! The run of many doors, each by a thread of its own, with the core of `bq_core`.
+//! The run over doors by threads, for the core of `bq_core`.
 ghost use Rattle.std.specs.Prelude.{◌≡◌, ◌↔◌, ◌&&◌, ◌==◌, false, true, not, IfOk, IsErrOf, IsTrue, vec_len};
 ghost use Rattle.std.specs.List.{All};
 ghost use Rattle.bq_steps.specs.Limits.{are_in_range};
