@@ -1,6 +1,6 @@
 //! Words of a command line, and what is chosen or answered by them.
 
-use bq_cli::{OptionFault, Options, Program, options};
+use bq_program::{OptionFault, Options, Program, options};
 use std::alloc::{AllocError, Global};
 use std::test::Fail;
 

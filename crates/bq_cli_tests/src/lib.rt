@@ -1,5 +1,5 @@
-//! Tests of the options, of a lone client's session and of the server. They stand above the crate that they
-//! test, so that it isn't proved once more for them.
+//! Tests of the options, of a lone client's session and of the server. They stand above the crates that they
+//! test, so that these aren't proved once more for them.
 #![tactic(auto)]
 
 #[cfg(test)]

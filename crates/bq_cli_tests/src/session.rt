@@ -1,8 +1,9 @@
 //! The session of `bq`: from its words to how the client's line is over, over a console in memory.
 
-use bq_cli::{Console, Served, Stop, serve_client};
 use bq_job::LineEnd;
 use bq_line::clock::MachineClock;
+use bq_program::Stop;
+use bq_session::{Console, Served, serve_client};
 use std::alloc::Global;
 use std::io;
 use std::io::{ErrorKind, Read, Write};

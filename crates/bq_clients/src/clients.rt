@@ -1,0 +1,78 @@
+//! Clients in memory: what they do, as the parts of a line.
+
+use bq_job::{LineEnd, Moment, NoMemory};
+use bq_line::clock::ScriptClock;
+use bq_line::line::Part;
+use std::alloc::{AllocError, Global};
+
+/// Room for what is written to a client, where it is ample.
+pub const ROOM: usize = 1000;
+
+/// A clock that stands still.
+pub const STILL: &[Option<Moment>] = &[Some(0)];
+
+/// What a client does, and the room for what is written to it. Between ` + ` stands a part: bytes, in which `~` is CR LF;
+/// `after`, with how many bytes it waits for that are written to it; or `fails`, where its line does.
+pub type Client<'t> = (&'t str, usize);
+
+/// What was written to a client, and how its line was over.
+pub type Outcome<'t> = (&'t str, LineEnd);
+
+pub const RESERVED: &str = "RESERVED 1 3\r\nabc\r\n";
+
+pub const INSERTED: &str = "INSERTED 1\r\n";
+
+/// It reserves, and stays until it has the job.
+pub const WAITS: &str = "reserve~ + after 19";
+
+pub const PUTS: &str = "put 5 0 10 3~abc~";
+
+fn push(parts: &mut Vec<Part, Global>, part: Part) -> Result<(), NoMemory> {
+    match parts.push(part) {
+        Ok(()) => Ok(()),
+        Err(_) => Err(NoMemory),
+    }
+}
+
+// The bytes of a text, in which `~` is CR LF.
+fn bytes_of(alloc: Global, text: &str) -> Result<Vec<u8>, AllocError> {
+    let mut bytes = Vec::new(alloc);
+    for byte in text.as_bytes() {
+        if *byte == b'~' {
+            bytes.extend_from_slice(b"\r\n")?;
+        } else {
+            bytes.push(*byte)?;
+        }
+    }
+    Ok(bytes)
+}
+
+fn part_of(alloc: Global, text: &str) -> Result<Part, AllocError> {
+    if text == "fails" {
+        return Ok(Part::Fault);
+    }
+    if let Some(count) = text.strip_prefix("after ") {
+        return Ok(Part::AfterWritten(count.parse::<usize>().unwrap_or(0)));
+    }
+    Ok(Part::Bytes(bytes_of(alloc, text)?))
+}
+
+/// The parts of a line to a client that does this.
+pub fn parts_of(alloc: Global, does: &str) -> Result<Vec<Part, Global>, NoMemory> {
+    let mut parts: Vec<Part> = Vec::new(alloc);
+    for text in does.split(" + ") {
+        let Ok(part) = part_of(alloc, text) else {
+            return Err(NoMemory);
+        };
+        push(&mut parts, part)?;
+    }
+    Ok(parts)
+}
+
+/// A clock of these readings.
+pub fn clock(alloc: Global, readings: &[Option<Moment>]) -> Result<ScriptClock, NoMemory> {
+    match Vec::from_slice(alloc, readings) {
+        Ok(script) => Ok(ScriptClock::new(script)),
+        Err(_) => Err(NoMemory),
+    }
+}

@@ -1,0 +1,137 @@
+//! Doors in memory, at which clients come.
+ghost use Rattle.std.specs.Prelude.{◌≡◌, false, IfOk, []};
+ghost use Rattle.std.specs.List.{All};
+ghost use Rattle.bq_line.specs.MemDoors.{IsFresh};
+ghost use Rattle.bq_driver.specs.Tending.{IsNewDoor};
+
+use crate::clients::{Client, Outcome, parts_of};
+use bq_job::{LineEnd, NoMemory};
+use bq_line::line::MemLine;
+use bq_line::{Door, DoorFault, MemDoor};
+use std::alloc::Global;
+use std::collections::VecDeque;
+use std::sync::atomic::{AtomicU64, Ordering};
+
+/// A door that counts how often it was opened.
+#[derive(Drop)]
+pub struct CountedDoor<'c> {
+    pub door: MemDoor,
+    opened: &'c AtomicU64,
+}
+
+impl<'c> Door for CountedDoor<'c> {
+    ghost use Rattle.std.proofs.Common.{refl};
+
+    type Line = MemLine;
+
+    ghost is_out = { λ d. ⟦<MemDoor as Door>⟧.is_out d.door };
+
+    ghost is_at_end = { λ d. ⟦<MemDoor as Door>⟧.is_at_end d.door };
+
+    ghost lines_over = { λ d. ⟦<MemDoor as Door>⟧.lines_over d.door };
+
+    ghost same = { λ first last. ⟦<MemDoor as Door>⟧.same first.door last.door };
+
+    ghost same_self = { λ d. refl };
+
+    fn open(&mut self) -> Result<Option<MemLine>, DoorFault> {
+        self.opened.fetch_add(1, Ordering::SeqCst);
+        self.door.open()
+    }
+
+    fn shut(&mut self, line: MemLine, end: LineEnd) {
+        self.door.shut(line, end);
+    }
+}
+
+/// Doors on which nothing was done.
+#[derive(Drop)]
+pub struct NewDoors<'c> {
+    pub all: Vec<CountedDoor<'c>, Global>,
+    ghost new: { All (λ door. IsNewDoor (record {
+      is_out = ⟦<MemDoor as Door>⟧.is_out door.door;
+      is_at_end = ⟦<MemDoor as Door>⟧.is_at_end door.door;
+      lines_over = ⟦<MemDoor as Door>⟧.lines_over door.door;
+    })) all.items },
+}
+
+impl<'c> NewDoors<'c> {
+    // One door more.
+    fn push(&mut self, door: MemDoor, opened: &'c AtomicU64) -> Result<(), NoMemory>
+        requires inside { ⟦<MemDoor as Door>⟧.is_out door ≡ false }
+        requires more { ⟦<MemDoor as Door>⟧.is_at_end door ≡ false }
+        requires none_over { ⟦<MemDoor as Door>⟧.lines_over door ≡ [] }
+    {
+        match self.all.push(CountedDoor { door, opened }) {
+            Ok(()) => Ok(()),
+            Err(_) => Err(NoMemory),
+        }
+    }
+}
+
+fn line(alloc: Global, client: &Client) -> Result<MemLine, NoMemory>
+    ensures { IfOk result IsFresh }
+{
+    let parts = parts_of(alloc, client.0)?;
+    MemLine::new(alloc, parts, client.1)
+}
+
+/// A door at which these clients come, one after another.
+pub fn door(alloc: Global, clients: &[Client]) -> Result<MemDoor, NoMemory>
+    ensures inside { IfOk result (λ door. ⟦<MemDoor as Door>⟧.is_out door ≡ false) }
+    ensures more { IfOk result (λ door. ⟦<MemDoor as Door>⟧.is_at_end door ≡ false) }
+    ensures none_over { IfOk result (λ door. ⟦<MemDoor as Door>⟧.lines_over door ≡ []) }
+{
+    let Ok(mut lines) = VecDeque::with_capacity(alloc, clients.len()) else {
+        return Err(NoMemory);
+    };
+    for client in clients {
+        let line = line(alloc, client)?;
+        let Ok(()) = lines.push_back(line) else {
+            return Err(NoMemory);
+        };
+    }
+    MemDoor::new(alloc, lines)
+}
+
+/// A door for each of these groups of clients. They share a count of how often they are opened.
+pub fn doors<'c>(
+    alloc: Global,
+    clients: &[&[Client]],
+    opened: &'c AtomicU64,
+) -> Result<NewDoors<'c>, NoMemory> {
+    let mut doors = NewDoors {
+        all: Vec::new(alloc),
+    };
+    for clients in clients {
+        doors.push(door(alloc, clients)?, opened)?;
+    }
+    Ok(doors)
+}
+
+/// Whether these lines are over at the door, in this order, and none is left.
+pub fn is_left_so(door: &CountedDoor, outcomes: &[Outcome]) -> bool {
+    let over = door.door.over();
+    if over.len() != outcomes.len() || door.door.left() != 0 {
+        return false;
+    }
+    for i in 0..over.len() {
+        if over[i].0.written() != outcomes[i].0.as_bytes() || over[i].1 != outcomes[i].1 {
+            return false;
+        }
+    }
+    true
+}
+
+/// The same of each door.
+pub fn are_left_so(doors: &[CountedDoor], outcomes: &[&[Outcome]]) -> bool {
+    if doors.len() != outcomes.len() {
+        return false;
+    }
+    for i in 0..doors.len() {
+        if !is_left_so(&doors[i], outcomes[i]) {
+            return false;
+        }
+    }
+    true
+}

@@ -1,0 +1,24 @@
+//! Runs of one client that are refused: they open no door.
+
+use crate::clients::{Client, PUTS, ROOM};
+use bq_run_start::RunFault;
+
+/// How many seats are asked for, how big a job's body may be, and the fault.
+pub type Refused = (u16, u32, Option<RunFault>);
+
+pub const REFUSED: &[Refused] = &[
+    (1, 1, None),
+    (2, 1, Some(RunFault::BadConfiguration)),
+    (0, 1, Some(RunFault::BadConfiguration)),
+    (257, 1, Some(RunFault::BadConfiguration)),
+    (1, 0, Some(RunFault::BadConfiguration)),
+    (1, 1_048_577, Some(RunFault::BadConfiguration)),
+];
+
+/// The one client, at the one door.
+pub const ONE: &[&[Client]] = &[&[(PUTS, ROOM)]];
+
+/// How often the door is opened: where the run isn't refused, for its line and once more.
+pub fn opens_of(fault: Option<RunFault>) -> u64 {
+    if fault.is_none() { 2 } else { 0 }
+}

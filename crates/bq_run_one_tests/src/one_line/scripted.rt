@@ -1,0 +1,78 @@
+//! Sessions of a client that does one thing after another, or of a clock that goes on.
+
+use bq_clients::clients::{ROOM, STILL};
+use bq_job::{LineEnd, Moment};
+
+/// What the client does, the readings of the clock, the room for what is written to it, what is written, and
+/// how its line is over.
+pub type Scripted = (
+    &'static str,
+    &'static [Option<Moment>],
+    usize,
+    &'static str,
+    LineEnd,
+);
+
+pub const SCRIPTED: &[Scripted] = &[
+    // A wait of a second ends by the clock, though a further command is there.
+    (
+        "reserve-with-timeout 1~list-tube-used~",
+        &[Some(0), Some(1000), Some(2000), Some(3000), Some(20_000)],
+        ROOM,
+        "TIMED_OUT\r\nUSING default\r\n",
+        LineEnd::EndOfInput,
+    ),
+    // A clock that falls, or that can't be read, stands still: the job of 1 second's delay isn't due.
+    (
+        "put 0 1 9 1~x~reserve~",
+        &[Some(1000), Some(999), None, Some(0)],
+        ROOM,
+        "INSERTED 1\r\nTIMED_OUT\r\n",
+        LineEnd::EndOfInput,
+    ),
+    // A client that waits for its answers, and a clock that moves: a delayed job comes when it is due.
+    (
+        "after 0 + put 0 1 9 1~ + x~reserve~ + after 29 + delete 1~",
+        &[
+            Some(0),
+            None,
+            Some(300),
+            None,
+            Some(600),
+            None,
+            Some(900),
+            None,
+            Some(1200),
+            None,
+            Some(1500),
+        ],
+        ROOM,
+        "INSERTED 1\r\nRESERVED 1 1\r\nx\r\nDELETED\r\n",
+        LineEnd::EndOfInput,
+    ),
+    // The age of a job is in whole seconds. The connection, the put and the two questions read the clock once
+    // each, and nothing is due that would read it besides.
+    (
+        "put 0 0 9 1~x~stats-job 1~stats-job 1~",
+        &[Some(0), Some(500), Some(2499), Some(2500)],
+        ROOM,
+        "INSERTED 1\r\nOK 135\r\n---\nid: 1\ntube: default\nstate: ready\npri: 0\nage: 1\n\
+            delay: 0\nttr: 9\ntime-left: 0\nreserves: 0\ntimeouts: 0\nreleases: 0\nburies: 0\n\
+            kicks: 0\n\r\nOK 135\r\n---\nid: 1\ntube: default\nstate: ready\npri: 0\nage: 2\n\
+            delay: 0\nttr: 9\ntime-left: 0\nreserves: 0\ntimeouts: 0\nreleases: 0\nburies: 0\n\
+            kicks: 0\n\r\n",
+        LineEnd::EndOfInput,
+    ),
+    // A write is cut short where the room ends, and that ends the line.
+    ("put 0 0 9 1~x~", STILL, 5, "INSER", LineEnd::WriteFault),
+    // What came before a read fault is answered.
+    (
+        "put 0 0 9 1~x~put +  + fails",
+        STILL,
+        ROOM,
+        "INSERTED 1\r\n",
+        LineEnd::ReadFault,
+    ),
+    // A read fault ends a line also behind a reserve, which nothing has answered.
+    ("reserve~ + fails", STILL, ROOM, "", LineEnd::ReadFault),
+];

@@ -1,0 +1,20 @@
+//! Runs of one line that are refused.
+
+use crate::runs::on_one_line;
+use bq_clients::clients::{PUTS, ROOM, STILL};
+use bq_clients::refused::{REFUSED, Refused};
+use bq_clients::settings::config;
+use std::alloc::Global;
+use std::sync::Wait;
+
+// A configuration isn't for one line where it isn't for one seat.
+fn is_refused<R: Wait>(rt: &R, alloc: Global, row: &Refused) -> bool {
+    on_one_line(rt, alloc, config(row.0, row.1), PUTS, ROOM, STILL).err() == row.2
+}
+
+#[test]
+fn refused_runs(rt: HostRuntime) {
+    for row in REFUSED {
+        assert!(rt; is_refused(&rt, rt.alloc(), row));
+    }
+}

@@ -1,0 +1,74 @@
+//! A client that waits for others.
+
+use super::awaited::Meeting;
+use bq_line::line::Duplex;
+use std::alloc::Global;
+use std::io;
+use std::io::ErrorKind;
+
+/// How many clients there are.
+pub const GUESTS: u16 = 4;
+
+/// A client that puts a job. Its first read waits until those of all clients have begun, and until so many others
+/// have their answers; where that doesn't come about, the read fails.
+#[derive(Drop)]
+pub struct Guest<'m> {
+    meeting: &'m Meeting,
+    others: u64,
+    has_begun: bool,
+    sends: &'static [u8],
+    written: Vec<u8, Global>,
+}
+
+impl<'m> Guest<'m> {
+    pub fn new(alloc: Global, meeting: &'m Meeting, others: u64) -> Guest<'m> {
+        Guest {
+            meeting,
+            others,
+            has_begun: false,
+            sends: b"put 0 0 9 1\r\nx\r\n",
+            written: Vec::new(alloc),
+        }
+    }
+
+    /// What was written to it.
+    pub fn written(&self) -> &[u8] {
+        self.written.as_slice()
+    }
+
+    // Whether all that it waits for came about.
+    fn begins(&mut self) -> bool {
+        if self.has_begun {
+            return true;
+        }
+        self.has_begun = true;
+        self.meeting.begin();
+        self.meeting.await_begun(u64::from(GUESTS)) && self.meeting.await_answered(self.others)
+    }
+}
+
+impl<'m> Duplex for Guest<'m> {
+    fn read(&mut self, buf: &mut [u8]) -> io::Result<usize> {
+        if !self.begins() {
+            return Err(io::Error::from(ErrorKind::BrokenPipe));
+        }
+        let count = self.sends.len().min(buf.len());
+        buf[..count].copy_from_slice(&self.sends[..count]);
+        self.sends = &self.sends[count..];
+        Ok(count)
+    }
+
+    fn write(&mut self, buf: &[u8]) -> io::Result<usize> {
+        if self.written.extend_from_slice(buf).is_err() {
+            return Err(io::Error::from(ErrorKind::OutOfMemory));
+        }
+        if self.written.as_slice().ends_with(b"\r\n") {
+            self.meeting.answer();
+        }
+        Ok(buf.len())
+    }
+
+    fn flush(&mut self) -> io::Result<()> {
+        Ok(())
+    }
+}
