@@ -49,12 +49,15 @@ pub(crate) fn get<'a, K: Ord, V>(
         ≡ lookup (is_at (K.cmp key.now)) (entries_of (lent tree.entry)) }
     ensures counted { RaisedByAtMost (height_of (lent tree.entry)) count.old count.new }
 {
-    let (left, other, value, right) = parts(tree)?;
-    match compare(key, other, count) {
-        Ordering::Less => get(left, key, count),
-        Ordering::Greater => get(right, key, count),
-        Ordering::Equal => Some(value),
+    let mut below = tree;
+    while let Some((left, other, value, right)) = parts(below) {
+        match compare(key, other, count) {
+            Ordering::Less => below = left,
+            Ordering::Greater => below = right,
+            Ordering::Equal => return Some(value),
+        }
     }
+    None
 }
 
 // The first entry whose key is not below `key`.
@@ -69,15 +72,20 @@ pub(crate) fn next_from<'a, K: Ord, V>(
         ≡ entry_from (K.cmp key.now) (entries_of (lent tree.entry)) }
     ensures counted { RaisedByAtMost (height_of (lent tree.entry)) count.old count.new }
 {
-    let (left, other, value, right) = parts(tree)?;
-    match compare(key, other, count) {
-        Ordering::Less => match next_from(left, key, count) {
-            None => Some((other, value)),
-            found => found,
-        },
-        Ordering::Greater => next_from(right, key, count),
-        Ordering::Equal => Some((other, value)),
+    let mut below = tree;
+    // The least entry above the key so far: that of the last box which the way left on its left.
+    let mut above = None;
+    while let Some((left, other, value, right)) = parts(below) {
+        match compare(key, other, count) {
+            Ordering::Less => {
+                above = Some((other, value));
+                below = left;
+            }
+            Ordering::Greater => below = right,
+            Ordering::Equal => return Some((other, value)),
+        }
     }
+    above
 }
 
 // The value at a key, to be changed in its place: a loan through a tree of bounded height. A recursion that lends has

@@ -1,0 +1,18 @@
+use Rattle.std.proofs.Common.{◌≡◌, ◌+◌, ◌≤◌, length}
+use Rattle.std.specs.Option.{option_map, option_or}
+use Rattle.bq_index.specs.Order.{InOrder, entry_from}
+use Rattle.bq_index.specs.Tree.{entries_of, height_of, lent, IsBalancedFrom}
+use Rattle.bq_index.proofs.find.next_from.Given as goal
+
+abbrev pub invariant-loop-left : goal.invariant-loop-left
+invariant-loop-left g l = record {
+  balanced : IsBalancedFrom (lent l.below);
+  in_order : InOrder g.K.Ord.cmp (entries_of (lent l.below));
+  same : entry_from (g.K.Ord.cmp l.key) (entries_of (lent l.fn.tree))
+      ≡ option_or (entry_from (g.K.Ord.cmp l.key) (entries_of (lent l.below))) (option_map (λ p. (p.0.now, p.1.now)) l.above);
+  more : l.fn.count ≤ l.count;
+  few : l.count + height_of (lent l.below) ≤ l.fn.count + height_of (lent l.fn.tree);
+}
+
+abbrev pub decreases-loop-left : goal.decreases-loop-left
+decreases-loop-left g l = length (entries_of (lent l.below))
