@@ -4,3 +4,4 @@ pub mod PartLemmas
 pub mod ReadingsLemmas
 pub mod SeenLemmas
 pub mod StreamLemmas
+pub mod TogetherLemmas

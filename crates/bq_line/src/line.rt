@@ -1,5 +1,5 @@
 //! Lines of bytes, each to one client and back.
-ghost use Rattle.std.specs.Prelude.{◌≡◌, ◌≤◌, ◌<◌, ℕ, List, length, min, take};
+ghost use Rattle.std.specs.Prelude.{◌≡◌, ◌≤◌, ◌<◌, ℕ, List, length, min, take, ◌++◌};
 ghost use Rattle.std.specs.Io.{ReadsAtMost, WritesAtMost};
 ghost use Rattle.std.specs.IoError.{error_kind};
 ghost use Rattle.bq_job.specs.promise.LineSteps.{LineSeen};
@@ -73,6 +73,18 @@ pub trait Line {
         ensures bound { WritesAtMost result buf.now }
         ensures seen { seen self.new ≡ after_write result buf.now (seen self.old) }
         ensures stays { StaysOver lies_over self.old self.new };
+
+    /// The same for three texts, as if they were one. A line that can copies none of them into one place first; any other
+    /// writes of the first text.
+    fn write_together(&mut self, first: &[u8], second: &[u8], third: &[u8]) -> io::Result<usize>
+        requires { 0 < length first.now }
+        ensures bound { WritesAtMost result (first.now ++ second.now ++ third.now) }
+        ensures seen { seen self.new
+            ≡ after_write result (first.now ++ second.now ++ third.now) (seen self.old) }
+        ensures stays { StaysOver lies_over self.old self.new }
+    {
+        self.write(first)
+    }
 
     /// Hands on what is held back, if anything is. An error is a write fault.
     fn flush(&mut self) -> io::Result<()>

@@ -1,4 +1,4 @@
-ghost use Rattle.std.specs.Prelude.{◌≡◌, ◌<◌, [], Err, None, false, length, ◌++◌};
+ghost use Rattle.std.specs.Prelude.{◌≡◌, ◌<◌, [], Err, None, false, length, take, ◌++◌};
 ghost use Rattle.std.specs.Io.{ReadsAtMost, WritesAtMost};
 ghost use Rattle.std.specs.Io.KnownBytes.{Keeps, ReadConsumes, WriteAppends};
 ghost use Rattle.bq_line.specs.LineCalls.{after_fill, after_flush, after_read, after_write};
@@ -153,6 +153,24 @@ impl<S: Duplex> Line for IoLine<S> {
         result
     }
 
+    fn write_together(&mut self, first: &[u8], second: &[u8], third: &[u8]) -> io::Result<usize>
+        requires { 0 < length first.now }
+        ensures bound { WritesAtMost result (first.now ++ second.now ++ third.now) }
+        ensures seen { ⟦<IoLine<S> as Line>⟧.seen self.new
+            ≡ after_write result (first.now ++ second.now ++ third.now) (⟦<IoLine<S> as Line>⟧.seen self.old) }
+        ensures stream { WriteAppends (S.contents self.old.stream)
+            (S.contents self.new.stream) result (first.now ++ second.now ++ third.now) }
+        ensures apart { Keeps (S.remaining self.old.stream) (S.remaining self.new.stream) }
+        ensures stays { StaysOver ⟦<IoLine<S> as Line>⟧.lies_over self.old self.new }
+    {
+        let result = self.stream.write_together(first, second, third);
+        match &result {
+            Ok(0) | Err(_) => note_fault(&mut self.fault, LineFault::Write),
+            Ok(count) => self.written.note_together(*count, first, second, third),
+        }
+        result
+    }
+
     fn flush(&mut self) -> io::Result<()>
         ensures seen { ⟦<IoLine<S> as Line>⟧.seen self.new
             ≡ after_flush result (⟦<IoLine<S> as Line>⟧.seen self.old) }
@@ -268,6 +286,10 @@ impl<S: Duplex> Line for BufferedLine<S> {
         self.line.write(buf)
     }
 
+    fn write_together(&mut self, first: &[u8], second: &[u8], third: &[u8]) -> io::Result<usize> {
+        self.line.write_together(first, second, third)
+    }
+
     fn flush(&mut self) -> io::Result<()> {
         self.line.flush()
     }
@@ -308,6 +330,25 @@ impl ByteRecord {
     {
         self.tag = with_bytes(&self.tag, bytes);
     }
+
+    // So many first bytes of three texts went over the line too.
+    #[tactic(auto, using(crate::proofs::TogetherLemmas::taken_together))]
+    fn note_together(&mut self, count: usize, first: &[u8], second: &[u8], third: &[u8])
+        ensures { self.new ≡ self.old ++ take count (first.now ++ second.now ++ third.now) }
+    {
+        let behind_first = count.saturating_sub(first.len());
+        let behind_second = behind_first.saturating_sub(second.len());
+        self.note(first_bytes(count, first));
+        self.note(first_bytes(behind_first, second));
+        self.note(first_bytes(behind_second, third));
+    }
+}
+
+// So many first bytes, or all where there are fewer.
+fn first_bytes(count: usize, bytes: &[u8]) -> &[u8]
+    ensures { result.now ≡ take count bytes.now }
+{
+    &bytes[..count.min(bytes.len())]
 }
 
 // A tag and more numbers.

@@ -1,6 +1,6 @@
 //! Streams of both ways: what a line lies over, what a connection needs of a stream, and the connection. Behind them is
 //! the buffer that a stream is read into.
-ghost use Rattle.std.specs.Prelude.{◌≡◌, ◌==◌, ◌≤◌, ◌<◌, ℕ, [], IfOk, IsOk, OnErr, OnOk, List, None, Option};
+ghost use Rattle.std.specs.Prelude.{◌≡◌, ◌==◌, ◌≤◌, ◌<◌, ℕ, [], IfOk, IsOk, OnErr, OnOk, List, None, Option, ◌++◌};
 ghost use Rattle.std.specs.Prelude.{drop, false, length, min, take, true, vec_len};
 ghost use Rattle.std.specs.Io.{ReadsAtMost, WritesAtMost};
 ghost use Rattle.std.specs.Io.KnownBytes.{Consumes, IsAtEnd, Keeps, ReadConsumes, WriteAppends, prepend_known};
@@ -10,7 +10,7 @@ use super::copy_first;
 use bq_job::NoMemory;
 use std::alloc::Global;
 use std::io;
-use std::io::{Read, Write};
+use std::io::{IoSlice, Read, Write};
 use std::marker::Model;
 use std::net::TcpStream;
 
@@ -44,6 +44,17 @@ pub trait Duplex {
         ensures bound { WritesAtMost result buf.now }
         ensures bytes { WriteAppends (contents self.old) (contents self.new) result buf.now }
         ensures apart { Keeps (remaining self.old) (remaining self.new) };
+
+    /// Writes first bytes of three texts, as `write` does of the one that they are together. A stream that has a call for
+    /// that copies none of them into one place first; any other writes of the first text.
+    fn write_together(&mut self, first: &[u8], second: &[u8], third: &[u8]) -> io::Result<usize>
+        ensures bound { WritesAtMost result (first.now ++ second.now ++ third.now) }
+        ensures bytes { WriteAppends (contents self.old) (contents self.new)
+            result (first.now ++ second.now ++ third.now) }
+        ensures apart { Keeps (remaining self.old) (remaining self.new) }
+    {
+        self.write(first)
+    }
 
     /// Hands on what is held back, as `std::io::Write` does.
     fn flush(&mut self) -> io::Result<()>
@@ -103,6 +114,18 @@ impl Duplex for TcpStream {
 
     fn write(&mut self, buf: &[u8]) -> io::Result<usize> {
         Write::write(self, buf)
+    }
+
+    fn write_together(&mut self, first: &[u8], second: &[u8], third: &[u8]) -> io::Result<usize> {
+        // The stream's own: that of `Write` writes of the first slice alone.
+        TcpStream::write_vectored(
+            self,
+            &[
+                IoSlice::new(first),
+                IoSlice::new(second),
+                IoSlice::new(third),
+            ],
+        )
     }
 
     fn flush(&mut self) -> io::Result<()> {
@@ -168,6 +191,11 @@ impl<S: Socket> Duplex for Connection<S> {
         // The last read may not have waited.
         self.set_waits(true)?;
         self.stream.write(buf)
+    }
+
+    fn write_together(&mut self, first: &[u8], second: &[u8], third: &[u8]) -> io::Result<usize> {
+        self.set_waits(true)?;
+        self.stream.write_together(first, second, third)
     }
 
     fn flush(&mut self) -> io::Result<()> {
