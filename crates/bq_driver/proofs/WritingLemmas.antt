@@ -1,7 +1,9 @@
 -- Texts that are written part after part.
-use Rattle.std.proofs.Common.{◌≡◌, ℕ, ◌+◌, ◌-◌, Bool, true, false, List, ◌++◌, sym, ap, subst, ◌∙◌, arith, length, take, drop, take-add, append_assoc}
+use Rattle.std.proofs.Common.{◌≡◌, ℕ, ◌+◌, ◌-◌, ◌≤◌, Bool, true, false, nat_lt, List, [], ◌++◌, append-nil, refl, sym, ap, subst, ◌∙◌, arith, length, take, drop, take-add, append_assoc}
+use Rattle.std.proofs.lemmas.Bool.Decides.{nat_tests}
 use Rattle.std.proofs.lemmas.Grind.{common_steps}
-use Rattle.std.proofs.lemmas.List.{take-append-drop}
+use Rattle.std.proofs.lemmas.List.{take-append-drop, drop-append-le, drop_all}
+use Rattle.std.proofs.Math.Seq.{drop-append-add}
 use Rattle.bq_job.specs.promise.LineSteps.{LineSeen, IsBeginning}
 use Rattle.bq_job.specs.declared.line_end.LineFault.TheVariants as faults
 use Rattle.bq_line.specs.LineCalls.{with_line_fault}
@@ -25,6 +27,13 @@ written_on old mid new bytes rest done n m rest_is h =
 pub breaks_off : (old mid new : LineSeen) (text cut : List ℕ) → IsBeginning cut text → mid ≡ with_written cut old
     → new ≡ with_line_fault faults.Write mid → BreaksOff text old new
 breaks_off old mid new text cut begins m n = record { cut = cut; is_beginning = begins; seen = n ∙ ap (with_line_fault faults.Write) m }
+
+pub breaks_at_once : (old new : LineSeen) (text : List ℕ) → new ≡ with_line_fault faults.Write old → BreaksOff text old new
+breaks_at_once old new text n = record {
+  cut = [];
+  is_beginning = (text, refl);
+  seen = n ∙ ap (λ w. with_line_fault faults.Write (record old { written = w })) (sym (append-nil old.written));
+}
 
 pub take_begins : (n : ℕ) (bytes : List ℕ) → IsBeginning (take n bytes) bytes
 take_begins n bytes = (drop n bytes, sym (take-append-drop n bytes))
@@ -70,3 +79,30 @@ pub breaks_behind : (old new : LineSeen) (head body tail first rest : List ℕ) 
     → BreaksOff (head ++ first) old new → BreaksOff (head ++ body ++ tail) old new
 breaks_behind old new head body tail first rest n f r b =
     subst (λ text. BreaksOff text old new) (parted head body tail first rest (halves body first rest n f r)) (breaks_first old new (head ++ first) (rest ++ tail) b)
+
+-- what is left of two parts
+left_of_two : (n : ℕ) (xs ys : List ℕ) → drop n (xs ++ ys) ≡ drop n xs ++ drop (n - length xs) ys
+left_of_two n xs ys = by (nat_lt n (length xs)) refl
+  where
+    by : (b : Bool) → nat_lt n (length xs) ≡ b → drop n (xs ++ ys) ≡ drop n xs ++ drop (n - length xs) ys
+    by true h =
+        let within : n ≤ length xs = grind (arith, nat_tests, h) in
+        let none : n - length xs ≡ 0 = omega (arith, within) in
+        drop-append-le n xs ys within ∙ ap (λ m. drop n xs ++ drop m ys) (sym none)
+    by false h =
+        let beyond : length xs ≤ n = grind (arith, nat_tests, h) in
+        let parts : n ≡ length xs + (n - length xs) = omega (arith, beyond) in
+        ap (λ m. drop m (xs ++ ys)) parts ∙ drop-append-add xs ys (n - length xs) ∙ ap (λ l. l ++ drop (n - length xs) ys) (sym (drop_all n xs beyond))
+
+-- first bytes of three parts are written, and then what is left of each
+pub writes_left : (old mid new : LineSeen) (head body tail h b t : List ℕ) (n m k : ℕ) (whole : Bool) → mid ≡ with_written (take n (head ++ body ++ tail)) old
+    → m ≡ n - length head → k ≡ m - length body → h ≡ drop n head → b ≡ drop m body → t ≡ drop k tail
+    → Writes (h ++ b ++ t) mid new whole → Writes (head ++ body ++ tail) old new whole
+writes_left old mid new head body tail h b t n m k whole w m_is k_is h_is b_is t_is rest =
+    let behind : n - length (head ++ body) ≡ k = grind (arith, common_steps, m_is, k_is) in
+    let left : drop n (head ++ body ++ tail) ≡ h ++ b ++ t =
+    left_of_two n (head ++ body) tail ∙ ap (λ l. l ++ drop (n - length (head ++ body)) tail) (left_of_two n head body)
+    ∙ ap (λ j. (drop n head ++ drop (n - length head) body) ++ drop j tail) behind ∙ ap (λ j. (drop n head ++ drop j body) ++ drop k tail) (sym m_is)
+    ∙ ap (λ l. (l ++ drop m body) ++ drop k tail) (sym h_is) ∙ ap (λ l. (h ++ l) ++ drop k tail) (sym b_is) ∙ ap (λ l. (h ++ b) ++ l) (sym t_is) in
+    subst (λ text. Writes text old new whole) (take-append-drop n (head ++ body ++ tail))
+    (writes_more old mid new (take n (head ++ body ++ tail)) (drop n (head ++ body ++ tail)) whole w (subst (λ text. Writes text mid new whole) (sym left) rest))

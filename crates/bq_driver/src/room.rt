@@ -1,5 +1,5 @@
 //! The room of a seat, from which answers go out to its line, and into which it reads.
-ghost use Rattle.std.specs.Prelude.{◌≡◌, ◌==◌, ◌≤◌, ◌+◌, ◌++◌, IfOk, length, take, true};
+ghost use Rattle.std.specs.Prelude.{◌≡◌, ◌==◌, ◌<◌, ◌≤◌, ◌+◌, ◌++◌, IfOk, drop, length, take, true};
 ghost use Rattle.bq_job.specs.texts.AnswerText.{answer_text};
 ghost use Rattle.bq_line.specs.Streams.{StaysOver};
 ghost use Rattle.bq_driver.specs.Writing.{Writes};
@@ -143,17 +143,73 @@ fn write_behind<L: Line>(line: &mut L, head: &mut HeadBuf, body: &[u8], tail: &[
     write_all(line, head.as_slice())
 }
 
-// Of the others most are joined in a piece. The room for answers isn't touched for these.
+// Of the others most are joined in a piece. What is longer goes out from where it lies, where the line has a room for
+// answers, since a copy of a large body costs more than the call that takes its parts apart.
 fn write_long<L: Line>(line: &mut L, room: &mut Room, head: &[u8], body: &[u8], tail: &[u8]) -> bool
     ensures text { Writes (head.now ++ body.now ++ tail.now)
         (L.seen line.old) (L.seen line.new) result }
     ensures stays { StaysOver L.lies_over line.old line.new }
 {
-    if room.answer.is_none() || fits(PIECE_ROOM, head, body, tail) {
+    if room.answer.is_none() || head.is_empty() || fits(PIECE_ROOM, head, body, tail) {
         write_joined(line, &mut room.piece, head, body, tail)
     } else {
-        write_joined(line, room.answer.bytes(), head, body, tail)
+        write_together(line, head, body, tail)
     }
+}
+
+// Writes the parts by one call, and what that left of each by calls of their own.
+fn write_together<L: Line>(line: &mut L, head: &[u8], body: &[u8], tail: &[u8]) -> bool
+    requires { 0 < length head.now }
+    ensures text { Writes (head.now ++ body.now ++ tail.now)
+        (L.seen line.old) (L.seen line.new) result }
+    ensures stays { StaysOver L.lies_over line.old line.new }
+{
+    match line.write_together(head, body, tail) {
+        Ok(count) => {
+            if count == 0 {
+                return false;
+            }
+            let behind_head = count.saturating_sub(head.len());
+            let behind_body = behind_head.saturating_sub(body.len());
+            write_each(
+                line,
+                behind(count, head),
+                behind(behind_head, body),
+                behind(behind_body, tail),
+            )
+        }
+        Err(_) => false,
+    }
+}
+
+// What is left behind so many bytes.
+fn behind(count: usize, bytes: &[u8]) -> &[u8]
+    ensures { result.now ≡ drop count bytes.now }
+{
+    &bytes[count.min(bytes.len())..]
+}
+
+// Writes three parts one after the other.
+fn write_each<L: Line>(line: &mut L, head: &[u8], body: &[u8], tail: &[u8]) -> bool
+    ensures text { Writes (head.now ++ body.now ++ tail.now)
+        (L.seen line.old) (L.seen line.new) result }
+    ensures stays { StaysOver L.lies_over line.old line.new }
+{
+    if !write_both(line, head, body) {
+        return false;
+    }
+    write_all(line, tail)
+}
+
+// Writes two parts one after the other.
+fn write_both<L: Line>(line: &mut L, first: &[u8], second: &[u8]) -> bool
+    ensures text { Writes (first.now ++ second.now) (L.seen line.old) (L.seen line.new) result }
+    ensures stays { StaysOver L.lies_over line.old line.new }
+{
+    if !write_all(line, first) {
+        return false;
+    }
+    write_all(line, second)
 }
 
 // The parts of a text that this place holds go out in one write, and a longer one in as few as the place allows.
@@ -251,10 +307,7 @@ fn write_pair<L: Line>(line: &mut L, room: &mut [u8], first: &[u8], second: &[u8
         let behind_first = put(room, 0, first);
         return write_with(line, room, behind_first, second);
     }
-    if !write_all(line, first) {
-        return false;
-    }
-    write_all(line, second)
+    write_both(line, first, second)
 }
 
 // Writes until all bytes are taken or a write fails.
