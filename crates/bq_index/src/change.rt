@@ -1,5 +1,5 @@
 // A tree with one entry more or less. Boxes are changed where they lie: only where one gets or loses a side, or sides are
-// turned, does an entry move.
+// turned, does an entry move. What ends a way down stays a function of its own, so that the steps on the way are short.
 ghost use Rattle.std.specs.Prelude.{◌≡◌, ◌+◌, ◌<◌, ◌≤◌, max, [], ◌++◌, Some, None, IsSome, IfSome, IfNone};
 ghost use Rattle.std.specs.Option.{option_map, option_to_list};
 ghost use Rattle.std.specs.Map.{lookup, remove_entry};
@@ -16,6 +16,7 @@ use std::mem;
 
 // Hangs a box with an entry alone on the left of one that has nothing there.
 #[tactic(auto, using(crate::proofs::Parts::come_apart))]
+#[inline(never)]
 fn hang_left<K, V>(here: &mut Node<K, V>, node: Box<Node<K, V>>)
 where
     K: Drop,
@@ -36,6 +37,7 @@ where
 
 // Hangs a box with an entry alone on the right of one that has nothing there.
 #[tactic(auto, using(crate::proofs::Parts::come_apart))]
+#[inline(never)]
 fn hang_right<K, V>(here: &mut Node<K, V>, node: Box<Node<K, V>>)
 where
     K: Drop,
@@ -233,6 +235,7 @@ where
 
 // Takes the entry out of a box that has a side, and gives the box that is spare then.
 #[tactic(auto, using(crate::proofs::Parts::come_apart))]
+#[inline(never)]
 fn take_out<K, V>(here: &mut Node<K, V>) -> (Box<Node<K, V>>, V)
 where
     K: Drop,
@@ -278,6 +281,7 @@ where
 
 // Removes the key on the left of a box, and takes that apart.
 #[tactic(auto, using(crate::proofs::Parts::come_apart))]
+#[inline(never)]
 fn cut_left<K: Ord, V>(
     here: &mut Node<K, V>,
     key: &K,
@@ -307,6 +311,7 @@ where
 
 // Removes the key on the right of a box, and takes that apart.
 #[tactic(auto, using(crate::proofs::Parts::come_apart))]
+#[inline(never)]
 fn cut_right<K: Ord, V>(
     here: &mut Node<K, V>,
     key: &K,
@@ -334,12 +339,14 @@ where
     found
 }
 
-// Removes the key from a box that has a side, or from below it.
+// Removes the key from a box that has a side, or from below it, and puts what was there in a place that the calls hand
+// down: so a value, which may be long, is not handed up from call to call.
 fn remove_below<K: Ord, V>(
     here: &mut Node<K, V>,
     key: &K,
     count: &mut u64,
-) -> Option<(Box<Node<K, V>>, V)>
+    found: &mut Option<(Box<Node<K, V>>, V)>,
+)
 where
     K: Drop,
     V: Drop,
@@ -349,7 +356,7 @@ where
     requires fits { height_in here.old < 200 }
     ensures is { entries_in here.new ≡ remove_entry (is_at (K.cmp key.now)) (entries_in here.old) }
     ensures balanced { IsLevel here.new }
-    ensures found { option_map (λ p. p.1) result
+    ensures found { option_map (λ p. p.1) found.new
         ≡ lookup (is_at (K.cmp key.now)) (entries_in here.old) }
     ensures not_higher { height_in here.new ≤ height_in here.old }
     ensures not_lower { height_in here.old ≤ height_in here.new + 1 }
@@ -359,13 +366,13 @@ where
         Ordering::Less => {
             let before = here.left_height();
             if before <= 1 {
-                return cut_left(here, key, count);
+                *found = cut_left(here, key, count);
+                return;
             }
             match here {
                 Node::Both { left, .. } => {
-                    let found = remove_below(left, key, count);
+                    remove_below(left, key, count, found);
                     mend_left(here, before);
-                    found
                 }
                 _ => unreachable!(),
             }
@@ -373,18 +380,18 @@ where
         Ordering::Greater => {
             let before = here.right_height();
             if before <= 1 {
-                return cut_right(here, key, count);
+                *found = cut_right(here, key, count);
+                return;
             }
             match here {
                 Node::Both { right, .. } => {
-                    let found = remove_below(right, key, count);
+                    remove_below(right, key, count, found);
                     mend_right(here, before);
-                    found
                 }
                 _ => unreachable!(),
             }
         }
-        Ordering::Equal => Some(take_out(here)),
+        Ordering::Equal => *found = Some(take_out(here)),
     }
 }
 
@@ -411,7 +418,8 @@ where
     match tree {
         Tree::Leaf => (Tree::Leaf, None),
         Tree::Fork(mut top) => if top.height() > 1 {
-            let found = remove_below(&mut top, key, count);
+            let mut found = None;
+            remove_below(&mut top, key, count, &mut found);
             (Tree::Fork(top), found)
         } else {
             remove_apart(Tree::Fork(top), key, count)

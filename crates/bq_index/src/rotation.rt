@@ -1,4 +1,4 @@
-// What keeps a tree balanced.
+// What keeps a tree balanced. What few calls need stays a function of its own, so that the others are short.
 ghost use Rattle.std.specs.Prelude.{◌≡◌, ◌+◌, ◌-◌, ◌<◌, ◌≤◌, ◌++◌, max, Some, IsSome, IsTrue};
 ghost use Rattle.std.specs.Option.{option_to_list};
 ghost use Rattle.bq_index.specs.Tree.{entries, entries_in, entries_of, entry_in, height, height_in, height_of, held, left_in, right_in};
@@ -64,6 +64,7 @@ where
 // Mends a box whose left side has changed in its place, by a level at most: it was `before` high. The whole rises or falls
 // no more than that side.
 #[tactic(auto, using(crate::proofs::Parts::by_sides, crate::proofs::Parts::still_level))]
+#[inline(always)]
 pub(crate) fn mend_left<K, V>(node: &mut Node<K, V>, before: u8)
 where
     K: Drop,
@@ -82,15 +83,39 @@ where
     ensures not_lower { height_in node.old ≤ height_in node.new + (before - height_of (left_in node.old)) }
 {
     if node.left_height() != before {
-        let high = node.height();
-        let (left, entry, right) = node.take_parts();
-        with_left(node, left, entry, right, high, before);
+        change_left(node, before);
     }
+}
+
+// The same, where it has.
+#[tactic(auto, using(crate::proofs::Parts::by_sides, crate::proofs::Parts::still_level))]
+#[inline(never)]
+fn change_left<K, V>(node: &mut Node<K, V>, before: u8)
+where
+    K: Drop,
+    V: Drop,
+    requires filled { IsSome (entry_in node.old) }
+    requires left_balanced { IsBalancedFrom (left_in node.old) }
+    requires right_balanced { IsBalancedFrom (right_in node.old) }
+    requires known { height_in node.old ≡ max before (height_of (right_in node.old)) + 1 }
+    requires near { DifferByAtMost 1 before (height_of (right_in node.old)) }
+    requires changed { DifferByAtMost 1 before (height_of (left_in node.old)) }
+    requires fits { height_in node.old < 200 }
+    ensures is { entries_in node.new
+        ≡ entries_of (left_in node.old) ++ (option_to_list (entry_in node.old) ++ entries_of (right_in node.old)) }
+    ensures balanced { IsLevel node.new }
+    ensures not_higher { height_in node.new ≤ height_in node.old + (height_of (left_in node.old) - before) }
+    ensures not_lower { height_in node.old ≤ height_in node.new + (before - height_of (left_in node.old)) }
+{
+    let high = node.height();
+    let (left, entry, right) = node.take_parts();
+    with_left(node, left, entry, right, high, before);
 }
 
 // Mends a box whose right side has changed in its place, by a level at most: it was `before` high. The whole rises or falls
 // no more than that side.
 #[tactic(auto, using(crate::proofs::Parts::by_sides, crate::proofs::Parts::still_level))]
+#[inline(always)]
 pub(crate) fn mend_right<K, V>(node: &mut Node<K, V>, before: u8)
 where
     K: Drop,
@@ -109,10 +134,33 @@ where
     ensures not_lower { height_in node.old ≤ height_in node.new + (before - height_of (right_in node.old)) }
 {
     if node.right_height() != before {
-        let high = node.height();
-        let (left, entry, right) = node.take_parts();
-        with_right(node, left, entry, right, high, before);
+        change_right(node, before);
     }
+}
+
+// The same, where it has.
+#[tactic(auto, using(crate::proofs::Parts::by_sides, crate::proofs::Parts::still_level))]
+#[inline(never)]
+fn change_right<K, V>(node: &mut Node<K, V>, before: u8)
+where
+    K: Drop,
+    V: Drop,
+    requires filled { IsSome (entry_in node.old) }
+    requires left_balanced { IsBalancedFrom (left_in node.old) }
+    requires right_balanced { IsBalancedFrom (right_in node.old) }
+    requires known { height_in node.old ≡ max before (height_of (left_in node.old)) + 1 }
+    requires near { DifferByAtMost 1 before (height_of (left_in node.old)) }
+    requires changed { DifferByAtMost 1 before (height_of (right_in node.old)) }
+    requires fits { height_in node.old < 200 }
+    ensures is { entries_in node.new
+        ≡ entries_of (left_in node.old) ++ (option_to_list (entry_in node.old) ++ entries_of (right_in node.old)) }
+    ensures balanced { IsLevel node.new }
+    ensures not_higher { height_in node.new ≤ height_in node.old + (height_of (right_in node.old) - before) }
+    ensures not_lower { height_in node.old ≤ height_in node.new + (before - height_of (right_in node.old)) }
+{
+    let high = node.height();
+    let (left, entry, right) = node.take_parts();
+    with_right(node, left, entry, right, high, before);
 }
 
 // Fills a box with an entry and two sides, whose heights differ by up to two. Where neither changed, the box is as high
@@ -151,6 +199,7 @@ where
 }
 
 // The box of the higher side goes below, and takes the entry.
+#[inline(never)]
 fn lean_left<K, V>(node: &mut Node<K, V>, left: Tree<K, V>, entry: (K, V), right: Tree<K, V>)
 where
     K: Drop,
@@ -177,6 +226,7 @@ where
     *node = Node::over(Tree::Fork(low), middle, Tree::Fork(other));
 }
 
+#[inline(never)]
 fn lean_right<K, V>(node: &mut Node<K, V>, left: Tree<K, V>, entry: (K, V), right: Tree<K, V>)
 where
     K: Drop,
