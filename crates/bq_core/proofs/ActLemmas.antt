@@ -1,34 +1,18 @@
 -- What each event at a seat does, where its seat is known.
-use Rattle.std.proofs.Common.{◌≡◌, ℕ, suc, Bool, true, false, ◌+◌, ◌<◌, ◌&&◌, ◌||◌, ◌==◌, not, List, [], ◌∷◌, ◌++◌, Option, Some, None, is_some, map, filter, refl, sym, ap, ◌∙◌, if◌then◌else◌, nat_le, arith, inl, inr, append-nil, length, set, slice_get, zero}
-use Rattle.std.proofs.Math.Bool.{or-false}
+use Rattle.std.proofs.Common.{◌&&◌, ◌++◌, ◌+◌, ◌<◌, ◌==◌, ◌||◌, ◌∙◌, ◌∷◌, ◌≡◌, if◌then◌else◌, Bool, List, None, Option, Some, [], ℕ, ap, append-nil, arith, false, filter, inl, inr, is_some, length, map, nat_le, not, refl, set, slice_get}
+use Rattle.std.proofs.{Common.{suc, sym, true, zero}, lemmas.Bool.{and_parts, cases_Bool, eqb-true}, Math.Bool.or-false}
 use Rattle.std.specs.List.{find, list_any}
-use Rattle.std.proofs.lemmas.Bool.{and_parts, cases_Bool, eqb-true}
-use Rattle.bq_job.specs.declared.answer.Answer.{Answer}
+use Rattle.bq_job.specs.declared.{answer.Answer.Answer, job.Job.Job, request.Request.Request, step.Step.Step}
 use Rattle.bq_job.specs.declared.answer.Answer.TheVariants as answers
-use Rattle.bq_job.specs.declared.job.Job.{Job}
-use Rattle.bq_job.specs.declared.step.Step.{Step}
 use Rattle.bq_job.specs.declared.step.Step.TheVariants as steps
-use Rattle.bq_job.specs.declared.request.Request.{Request}
-use Rattle.bq_job.specs.machine.Acts.{Effect, on_job, telling}
-use Rattle.bq_job.specs.machine.Asked.{after_close, after_connect, ask_effect, asked, at_found, close_effect, connect_effect, effect, end_effect, with_end}
-use Rattle.bq_job.specs.machine.Changes.{is_waiting, job_with, seat_with, with_job, with_seat}
-use Rattle.bq_job.specs.machine.JobCommands.{is_full, last_id, new_job, put_effect, reserve_job_effect, with_put}
-use Rattle.bq_job.specs.machine.Dispatch.{reserved_by}
-use Rattle.bq_job.specs.machine.JobStates.{is_reserved}
-use Rattle.bq_job.specs.machine.TubeCommands.{ignore_effect, watch_effect, watching, watching_or_refused}
-use Rattle.bq_job.specs.machine.Tubes.{watches, with_tube}
-use Rattle.bq_job.specs.machine.Limits.{raised}
-use Rattle.bq_job.specs.machine.Machine.{Machine, SeatRecord}
-use Rattle.bq_job.specs.machine.Steps.{granted, step_takes_memory, takes_memory}
-use Rattle.bq_job.specs.reading.TubeName.{is_same_name}
-use Rattle.bq_core.specs.Acting.{Acts, Replies}
-use Rattle.bq_state.specs.SeatStates.{is_asking, is_connected, is_free}
-use Rattle.bq_core.specs.declared.acts.Reply.{Reply}
-use Rattle.bq_state.specs.JobChanges.{is_passed_by}
+use Rattle.bq_job.specs.machine.{Effect, SeatRecord, after_close, after_connect, ask_effect, asked, at_found, close_effect, connect_effect, effect, end_effect, granted, ignore_effect, is_full, is_reserved, is_waiting, job_with, last_id}
+use Rattle.bq_job.specs.machine.{new_job, on_job, put_effect, raised, reserve_job_effect, reserved_by, seat_with, step_takes_memory, takes_memory, telling, watch_effect, watches, watching, watching_or_refused, with_end, with_job, with_put}
+use Rattle.bq_job.specs.{machine.{with_seat, with_tube, Machine.Machine}, reading.TubeName.is_same_name}
 use Rattle.bq_steps.specs.Outbox.{Outbox}
-use Rattle.bq_state.specs.SeatChanges.{AreNumbered}
-use Rattle.bq_state.proofs.PartsLemmas.{changed_there, seat_there}
-use Rattle.bq_state.proofs.TubeLemmas.{some_left}
+use Rattle.bq_state.specs.{JobChanges.is_passed_by, SeatChanges.AreNumbered, SeatStates.{is_asking, is_connected, is_free}}
+use Rattle.bq_state.proofs.{PartsLemmas.{changed_there, seat_there}, TubeLemmas.some_left}
+use Rattle.bq_core.specs.declared.acts.Reply.{Reply}
+use Rattle.bq_core.specs.Acting.{Acts, Replies}
 
 -- what is found passes
 found_passes : {A : Type 0} (p : A → Bool) (xs : List A) (x : A) → find p xs ≡ Some x → p x ≡ true

@@ -1,15 +1,11 @@
 -- Searches add up.
-use Rattle.std.proofs.Common.{◌≡◌, ◌==◌, List, ℕ, zero, suc, ◌+◌, ◌*◌, ◌/◌, ◌<◌, ◌≤◌, true, false, get_or, take, length, max, ap, refl, sym, ◌∙◌, arith, inl, inr, subst}
+use Rattle.std.proofs.Common.{◌*◌, ◌+◌, ◌/◌, ◌<◌, ◌==◌, ◌∙◌, ◌≡◌, ◌≤◌, List, ℕ, ap, arith, false, get_or, inl, inr, length, max, refl, subst, suc, sym, take, true, zero}
+use Rattle.std.proofs.{lemmas.{Bool.{cases_Bool, Decides.nat_tests}, List.Sums.sum_by_more, Nat.mul-le}, Math.Nat.add-mul}
 use Rattle.std.specs.List.{sum_by}
-use Rattle.std.proofs.Math.Nat.{add-mul}
-use Rattle.std.proofs.lemmas.Nat.{mul-le}
-use Rattle.std.proofs.lemmas.Bool.{cases_Bool}
-use Rattle.std.proofs.lemmas.Bool.Decides.{nat_tests}
 use Rattle.bq_index.specs.Digits.{binary_digits, digits_up_to}
-use Rattle.std.proofs.lemmas.List.Sums.{sum_by_more}
 use Rattle.bq_jobs.specs.Kept.{ComparesAtMost, Kept}
-use Rattle.bq_state.specs.Asking.{Asks, AsksAsChanged, AsksWithin, search_among}
 use Rattle.bq_steps.specs.Cost.{changed_jobs}
+use Rattle.bq_state.specs.Asking.{Asks, AsksAsChanged, AsksWithin, search_among}
 
 -- a smaller number has no more digits
 digits_rise : (most more n m : ℕ) → n ≤ m → m ≤ more → digits_up_to most n ≤ digits_up_to more m

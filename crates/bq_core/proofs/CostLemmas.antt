@@ -1,34 +1,16 @@
 -- What the parts of a step ask, in terms of the machine.
-use Rattle.std.proofs.Common.{◌≡◌, ℕ, suc, Bool, true, false, ◌+◌, ◌-◌, ◌*◌, ◌≤◌, ◌<◌, ◌==◌, ◌&&◌, ◌||◌, not, cond, List, [], ◌∷◌, Some, map, length, refl, sym, ap, ◌∙◌, arith, subst, inl, inr, if◌then◌else◌}
-use Rattle.std.proofs.Math.Nat.{suc-mul}
-use Rattle.std.specs.Prelude.{count_by, option_map}
-use Rattle.std.specs.List.{AllByRecursion as All, list_any, sum_by}
-use Rattle.std.proofs.lemmas.Bool.{and_parts}
-use Rattle.std.proofs.lemmas.List.{length-append}
-use Rattle.std.proofs.lemmas.List.Sums.{sum_by-cons}
-use Rattle.std.proofs.lemmas.Nat.{mul-le}
-use Rattle.bq_job.specs.declared.job.Job.{Job}
-use Rattle.bq_job.specs.declared.job.JobState.{JobState}
+use Rattle.std.proofs.Common.{◌&&◌, ◌*◌, ◌+◌, ◌-◌, ◌<◌, ◌==◌, ◌||◌, ◌∙◌, ◌∷◌, ◌≡◌, ◌≤◌, if◌then◌else◌, Bool, List, Some, [], ℕ, ap, arith, cond, false, inl, inr, length, map, not, refl, subst, suc, sym, true}
+use Rattle.std.proofs.{lemmas.{Bool.and_parts, List.{length-append, Sums.sum_by-cons}, Nat.mul-le}, Math.Nat.suc-mul}
+use Rattle.std.specs.{List.{AllByRecursion as All, list_any, sum_by}, Prelude.{count_by, option_map}}
+use Rattle.bq_job.specs.declared.job.{Job.Job, JobState.JobState}
 use Rattle.bq_job.specs.declared.job.JobState.TheVariants as states
-use Rattle.bq_job.specs.machine.Changes.{given_back, in_state, is_held_by, is_holder, is_waiting, job_with, with_seat, without_wait}
-use Rattle.bq_job.specs.beside.Computed.{waiting_count}
-use Rattle.bq_job.specs.machine.Dispatch.{DispatchTurn, GivenAnswer, IsHandOut}
-use Rattle.bq_job.specs.machine.JobCommands.{kicked}
-use Rattle.bq_job.specs.machine.JobStates.{is_reserved}
-use Rattle.bq_job.specs.beside.Lawful.{AreIdsWithin}
-use Rattle.bq_job.specs.machine.Machine.{Machine, SeatRecord}
-use Rattle.bq_job.specs.machine.Waits.{Chain, WaitEndTurn}
-use Rattle.bq_job.proofs.DispatchLemmas.{turn_of}
-use Rattle.bq_job.proofs.LawfulLemmas.{end_of}
-use Rattle.bq_job.proofs.ListLemmas.{count_cons}
-use Rattle.bq_state.specs.declared.job_store.JobKind.{JobKind}
-use Rattle.bq_state.specs.declared.job_store.JobKind.TheVariants.{Ready, Delayed, Buried}
-use Rattle.bq_state.specs.Cost.{waited_tubes}
-use Rattle.bq_steps.specs.Cost.{changed_jobs, tubes_watched, is_gone_or_changed, is_same_job, is_same_state}
-use Rattle.bq_state.specs.JobKinds.{is_of}
-use Rattle.bq_core.specs.Kicking.{all_kicked}
-use Rattle.bq_steps.specs.Outbox.{Outbox}
-use Rattle.bq_core.specs.Turns.{Gives}
+use Rattle.bq_job.specs.beside.{AreIdsWithin, waiting_count}
+use Rattle.bq_job.specs.machine.{Chain, DispatchTurn, GivenAnswer, IsHandOut, SeatRecord, WaitEndTurn, given_back, in_state, is_held_by, is_holder, is_reserved, is_waiting, job_with, kicked, with_seat, without_wait, Machine.Machine}
+use Rattle.bq_job.proofs.{DispatchLemmas.turn_of, LawfulLemmas.end_of, ListLemmas.count_cons}
+use Rattle.bq_steps.specs.{Cost.{changed_jobs, is_gone_or_changed, is_same_job, is_same_state, tubes_watched}, Outbox.Outbox}
+use Rattle.bq_state.specs.declared.job_store.JobKind.{JobKind, TheVariants.{Buried, Delayed, Ready}}
+use Rattle.bq_state.specs.{Cost.waited_tubes, JobKinds.is_of}
+use Rattle.bq_core.specs.{Kicking.all_kicked, Turns.Gives}
 use Rattle.bq_core.proofs.KickLemmas.{finds_each}
 
 -- where each change makes it no more, a sum is no more

@@ -1,28 +1,17 @@
 -- Which job is handed out next, found tube by tube.
-use Rattle.std.proofs.Common.{◌≡◌, ℕ, Bool, true, false, ◌==◌, ◌||◌, ◌&&◌, not, List, [], ◌∷◌, Option, Some, None, refl, sym, ap, ◌∙◌, arith, inl, inr, if◌then◌else◌, subst}
-use Rattle.std.specs.Prelude.{fold, is_some, option_map}
-use Rattle.std.specs.List.{AllByRecursion as All, Contains, list_any}
-use Rattle.std.proofs.lemmas.Bool.{cases_Bool, eqb-true, or_cases, or_left, or_right}
-use Rattle.std.proofs.lemmas.Bool.Decides.{nat_tests}
+use Rattle.std.proofs.Common.{◌&&◌, ◌==◌, ◌||◌, ◌∙◌, ◌∷◌, ◌≡◌, if◌then◌else◌, Bool, List, None, Option, Some, [], ℕ, ap, arith, false, inl, inr, not, refl, subst, sym, true}
+use Rattle.std.proofs.lemmas.Bool.{cases_Bool, eqb-true, or_cases, or_left, or_right, Decides.nat_tests}
+use Rattle.std.specs.{List.{AllByRecursion as All, Contains, list_any}, Prelude.{fold, is_some, option_map}}
 use Rattle.bq_job.specs.declared.job.Job.{Job}
-use Rattle.bq_job.specs.machine.Changes.{first_of, is_ready, is_waiting, job_with}
-use Rattle.bq_job.specs.machine.Dispatch.{is_job_before, is_wait_before, is_waiting_for, may_have, next_job, next_seat}
-use Rattle.bq_job.specs.beside.Lawful.{AreIdsWithin}
-use Rattle.bq_job.specs.machine.Machine.{Machine, SeatRecord, TubeRecord}
-use Rattle.bq_job.specs.machine.TubeCommands.{is_ready_in}
+use Rattle.bq_job.specs.{beside.AreIdsWithin, machine.{SeatRecord, TubeRecord, first_of, is_job_before, is_paused, is_ready, is_ready_in, is_wait_before, is_waiting, is_waiting_for, job_with, may_have, next_job, next_seat, Machine.Machine}}
 use Rattle.bq_job.specs.reading.TubeName.{is_same_name}
-use Rattle.bq_job.specs.machine.Tubes.{is_paused}
-use Rattle.bq_job.proofs.ChoiceLemmas.{first_of_agrees, first_of_contains, first_of_is, first_of_is_least, first_of_is_some, first_of_none, first_of_none_passes, first_of_passes, first_of_some, pair_order}
-use Rattle.bq_job.proofs.ComputedLemmas.{next_has_seat}
+use Rattle.bq_job.proofs.{ChoiceLemmas.{first_of_agrees, first_of_contains, first_of_is, first_of_is_least, first_of_is_some, first_of_none, first_of_none_passes, first_of_passes, first_of_some, pair_order}, ComputedLemmas.next_has_seat}
 use Rattle.bq_job.proofs.ListLemmas.{all_always, all_at, all_weaker, list_any_not, none_pass}
 use Rattle.bq_jobs.specs.Kept.{ranked}
-use Rattle.bq_state.specs.Offers.{better_rank, is_paused_among, offered, waits_at, with_offer, with_offers}
-use Rattle.bq_state.specs.Stirs.{AreKnown, IsKnown, may_get}
-use Rattle.bq_state.specs.declared.known.Stir.{Stir}
-use Rattle.bq_state.specs.declared.known.Stir.TheVariants.{Client}
-use Rattle.bq_core.proofs.FiringLemmas.{chosen}
-use Rattle.bq_core.proofs.KickLemmas.{finds_each}
+use Rattle.bq_state.specs.declared.known.Stir.{Stir, TheVariants.Client}
+use Rattle.bq_state.specs.{Offers.{better_rank, is_paused_among, offered, waits_at, with_offer, with_offers}, Stirs.{AreKnown, IsKnown, may_get}}
 use Rattle.bq_state.proofs.TubeLemmas.{same_itself, same_name}
+use Rattle.bq_core.proofs.{FiringLemmas.chosen, KickLemmas.finds_each}
 
 module _ (next : ℕ) (jobs : List Job) (ids : AreIdsWithin 1 jobs next) where
   -- the best of the jobs that pass, by its priority and its id

@@ -1,28 +1,19 @@
 -- Timers of jobs fire one after another, and jobs are given back one after another.
-use Rattle.std.proofs.Common.{◌≡◌, ℕ, suc, Bool, true, false, ◌≤◌, ◌<◌, ◌+◌, ◌-◌, ◌==◌, ◌||◌, ◌&&◌, List, [], ◌∷◌, Option, Some, None, map, refl, sym, ap, ◌∙◌, arith, inl, inr, min, if◌then◌else◌}
-use Rattle.std.specs.Prelude.{count_by, nat_le, option_map}
-use Rattle.std.specs.List.{AllByRecursion as All, list_any}
-use Rattle.std.proofs.lemmas.Bool.{cases_Bool, eqb-true, or_left, or_right}
-use Rattle.std.proofs.lemmas.Bool.Decides.{nat_tests}
-use Rattle.bq_job.specs.declared.job.Job.{Job}
-use Rattle.bq_job.specs.declared.job.JobState.{JobState}
+use Rattle.std.proofs.Common.{◌&&◌, ◌+◌, ◌-◌, ◌<◌, ◌==◌, ◌||◌, ◌∙◌, ◌∷◌, ◌≡◌, ◌≤◌, if◌then◌else◌, Bool, List, None, Option, Some, [], ℕ, ap, arith, false, inl, inr, map, min, refl, suc, sym, true}
+use Rattle.std.proofs.lemmas.Bool.{cases_Bool, eqb-true, or_left, or_right, Decides.nat_tests}
+use Rattle.std.specs.{List.{AllByRecursion as All, list_any}, Prelude.{count_by, nat_le, option_map}}
+use Rattle.bq_job.specs.declared.job.{Job.Job, JobState.JobState}
 use Rattle.bq_job.specs.declared.job.JobState.TheVariants as states
-use Rattle.bq_job.specs.machine.Changes.{first_of, given_back, in_state, is_held_by, is_holder, is_pair_before, is_waiting, job_with, with_job}
-use Rattle.bq_job.specs.machine.JobStates.{due_of, is_delayed, is_reserved}
-use Rattle.bq_job.specs.beside.Lawful.{AreIdsWithin}
-use Rattle.bq_job.specs.machine.Limits.{greatest, grown, raised}
-use Rattle.bq_job.specs.machine.Machine.{Machine, SeatRecord}
-use Rattle.bq_job.specs.machine.Timers.{is_due, is_expired, job_after_timers, with_timeout}
-use Rattle.bq_job.specs.machine.Dispatch.{is_wait_before}
-use Rattle.bq_job.specs.machine.Waits.{ends_waiting, is_deadline_soon, is_ending_lease, is_timed_out, is_timed_out_at, next_end}
-use Rattle.bq_state.specs.EndingWaits.{has_waited, is_lease_short, is_soon}
+use Rattle.bq_job.specs.beside.{AreIdsWithin}
+use Rattle.bq_job.specs.machine.{SeatRecord, due_of, ends_waiting, first_of, given_back, greatest, grown, in_state, is_deadline_soon, is_delayed, is_due, is_ending_lease, is_expired, is_held_by, is_holder, is_pair_before, is_reserved}
+use Rattle.bq_job.specs.machine.{is_timed_out, is_timed_out_at, is_wait_before, is_waiting, job_after_timers, job_with, next_end, raised, with_job, with_timeout, Machine.Machine}
 use Rattle.bq_job.proofs.ChoiceLemmas.{first_of_contains, first_of_is_least, first_of_none, first_of_none_passes, first_of_passes, pair_order}
 use Rattle.bq_job.proofs.ListLemmas.{all_always, all_at, all_from_members, all_weaker, count_all_not, count_cons, list_any_not, list_any_with, map_all_same, none_pass}
-use Rattle.bq_jobs.specs.Kept.{ranked}
-use Rattle.bq_jobs.specs.Leases.{deadline_of, is_lease_before}
+use Rattle.bq_jobs.specs.{Kept.ranked, Leases.{deadline_of, is_lease_before}}
+use Rattle.bq_state.specs.EndingWaits.{has_waited, is_lease_short, is_soon}
+use Rattle.bq_state.proofs.LossLemmas.{none_with}
 use Rattle.bq_core.specs.Firing.{ExpiresOne, IsOne, after_giving_back, after_job_timers, is_ripe}
 use Rattle.bq_core.proofs.KickLemmas.{finds_each, one_of_id}
-use Rattle.bq_state.proofs.LossLemmas.{none_with}
 
 -- changing one job and then all is changing all, where the second change makes up for the first
 absorbed : (f g : Job → Job) (id : ℕ) (jobs : List Job) → All (λ k. (k.id == id) ≡ true → f (g k) ≡ f k) jobs → map f (map (λ k. if k.id == id then g k else k) jobs) ≡ map f jobs

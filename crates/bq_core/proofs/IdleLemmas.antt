@@ -1,13 +1,9 @@
 -- A state where no client may have a job.
-use Rattle.std.proofs.Common.{◌≡◌, true, None, sym}
-use Rattle.bq_job.specs.machine.Dispatch.{next_job}
-use Rattle.bq_state.specs.Soundness.{Soundness}
-use Rattle.bq_state.specs.CoreParts.{machine_of}
-use Rattle.bq_state.specs.Stirs.{is_nothing}
-use Rattle.bq_state.specs.declared.core_parts.CoreParts.{CoreParts}
-use Rattle.bq_state.specs.declared.known.Stir.TheVariants.{Nothing}
-use Rattle.bq_state.proofs.KnowledgeLemmas.{so_with_nothing}
-use Rattle.bq_state.proofs.StirLemmas.{none_known}
+use Rattle.std.proofs.Common.{◌≡◌, None, sym, true}
+use Rattle.bq_job.specs.machine.{next_job}
+use Rattle.bq_state.specs.declared.{core_parts.CoreParts.CoreParts, known.Stir.TheVariants.Nothing}
+use Rattle.bq_state.specs.{CoreParts.machine_of, Soundness.Soundness, Stirs.is_nothing}
+use Rattle.bq_state.proofs.{KnowledgeLemmas.so_with_nothing, StirLemmas.none_known}
 
 -- Where that is known, there is no next job.
 pub none_next : (st : CoreParts) → true ≡ is_nothing st.known.stir → next_job (machine_of st) ≡ None

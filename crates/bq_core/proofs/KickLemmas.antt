@@ -1,24 +1,15 @@
 -- Kicking the first job of a kind again and again kicks the first ones in their order.
-use Rattle.bq_state.proofs.LossLemmas.{none_with}
-use Rattle.std.proofs.Common.{◌≡◌, ℕ, zero, suc, Bool, true, false, ◌&&◌, ◌==◌, ◌+◌, ◌≤◌, ◌<◌, not, List, [], ◌∷◌, Option, Some, None, map, filter, refl, sym, ap, ◌∙◌, if◌then◌else◌, inl, inr, arith, eq-eqb, length, take, is_some}
-use Rattle.std.specs.Prelude.{option_map}
-use Rattle.std.specs.List.{AllByRecursion as All, Contains, list_any}
-use Rattle.std.proofs.lemmas.Bool.{and_from, cases_Bool, eqb-true, ne_eqb}
-use Rattle.std.proofs.lemmas.Bool.Decides.{nat_tests}
+use Rattle.std.proofs.Common.{◌&&◌, ◌+◌, ◌<◌, ◌==◌, ◌∙◌, ◌∷◌, ◌≡◌, ◌≤◌, if◌then◌else◌, Bool, List, None, Option, Some, [], ℕ, ap, arith, eq-eqb, false, filter, inl, inr, is_some, length, map, not, refl, suc, sym, take, true, zero}
+use Rattle.std.proofs.lemmas.Bool.{and_from, cases_Bool, eqb-true, ne_eqb, Decides.nat_tests}
+use Rattle.std.specs.{List.{AllByRecursion as All, Contains, list_any}, Prelude.option_map}
 use Rattle.bq_job.specs.declared.job.Job.{Job}
-use Rattle.bq_job.specs.machine.Changes.{first_of, is_pair_before, job_with}
-use Rattle.bq_job.specs.machine.JobCommands.{in_order, is_buried_in, kickable, kicked, kicked_first, put_in_order}
-use Rattle.bq_job.specs.machine.JobStates.{is_buried_before}
-use Rattle.bq_job.specs.beside.Lawful.{AreIdsWithin}
-use Rattle.bq_job.proofs.ChoiceLemmas.{first_of_contains, first_of_is_least, first_of_is_some, first_of_none, first_of_passes, pair_order}
-use Rattle.bq_job.proofs.KeptLemmas.{ids_from_below, ids_of_filter}
-use Rattle.bq_job.proofs.ListLemmas.{all_at, all_from_members, list_any_with}
-use Rattle.bq_state.specs.declared.job_store.JobKind.{JobKind}
-use Rattle.bq_state.specs.declared.job_store.JobKind.TheVariants.{Delayed, Buried}
+use Rattle.bq_job.specs.{beside.AreIdsWithin, machine.{first_of, in_order, is_buried_before, is_buried_in, is_pair_before, job_with, kickable, kicked, kicked_first, put_in_order}}
+use Rattle.bq_job.proofs.{ChoiceLemmas.{first_of_contains, first_of_is_least, first_of_is_some, first_of_none, first_of_passes, pair_order}, KeptLemmas.{ids_from_below, ids_of_filter}, ListLemmas.{all_at, all_from_members, list_any_with}}
+use Rattle.bq_state.specs.declared.job_store.JobKind.{JobKind, TheVariants.{Buried, Delayed}}
 use Rattle.bq_state.specs.JobKinds.{is_before_of, is_of, rank_of}
+use Rattle.bq_state.proofs.{LossLemmas.none_with, TubeLemmas.some_left}
 use Rattle.bq_core.specs.Kicking.{KicksFirst, all_kicked, jobs_of}
 use Rattle.bq_core.proofs.ActLemmas.{none_left}
-use Rattle.bq_state.proofs.TubeLemmas.{some_left}
 
 -- later ids are above
 ids_above : (low next : ℕ) (jobs : List Job) → AreIdsWithin low jobs next → All (λ j. low ≤ j.id) jobs

@@ -1,20 +1,12 @@
 -- What a walk over those that wait finds for them.
-use Rattle.std.proofs.Common.{◌≡◌, ◌∙◌, ◌+◌, ℕ, Bool, true, false, List, [], ◌∷◌, Option, Some, None, if◌then◌else◌, refl, sym, ap, arith, slice_get, subst}
-use Rattle.std.specs.Prelude.{fold}
-use Rattle.std.specs.List.{sum_by}
-use Rattle.std.proofs.lemmas.Bool.Decides.{nat_tests}
+use Rattle.std.proofs.{Common.{◌+◌, ◌∙◌, ◌∷◌, ◌≡◌, if◌then◌else◌, Bool, List, None, Option, Some, [], ℕ, ap, arith, false, refl, slice_get, subst, sym, true}, lemmas.Bool.Decides.nat_tests}
+use Rattle.std.specs.{List.sum_by, Prelude.fold}
 use Rattle.bq_job.specs.declared.job.Job.{Job}
-use Rattle.bq_job.specs.machine.Changes.{is_pair_before, is_waiting, seat_with}
-use Rattle.bq_job.specs.machine.Machine.{SeatRecord, TubeRecord}
+use Rattle.bq_job.specs.machine.{SeatRecord, TubeRecord, is_pair_before, is_waiting, seat_with}
 use Rattle.bq_job.proofs.ChoiceLemmas.{pair_order}
 use Rattle.bq_jobs.specs.Kept.{Kept}
-use Rattle.bq_state.specs.Asking.{Asks}
-use Rattle.bq_state.specs.Cost.{waited_tubes}
-use Rattle.bq_state.specs.Offers.{better_rank, offered, these, with_offer, with_offers}
-use Rattle.bq_state.specs.WaitingTurns.{at_turn, by_seat, is_turn_before, turns_of, waited_at}
-use Rattle.bq_state.specs.SeatChanges.{AreNumbered}
-use Rattle.bq_state.proofs.SeatPlaces.{place_is_seat}
-use Rattle.bq_state.proofs.WalkLemmas.{chosen, chosen_twice, walked}
+use Rattle.bq_state.specs.{Asking.Asks, Cost.waited_tubes, Offers.{better_rank, offered, these, with_offer, with_offers}, SeatChanges.AreNumbered, WaitingTurns.{at_turn, by_seat, is_turn_before, turns_of, waited_at}}
+use Rattle.bq_state.proofs.{SeatPlaces.place_is_seat, WalkLemmas.{chosen, chosen_twice, walked}}
 
 -- Of two jobs it is the same which is looked at first.
 rank_chosen : (a b : Option (ℕ × ℕ)) → better_rank a b ≡ chosen is_turn_before a b

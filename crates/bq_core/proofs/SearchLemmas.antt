@@ -1,29 +1,14 @@
 -- The next job, where it is known what may be had.
-use Rattle.std.proofs.Common.{◌≡◌, ◌≤◌, ◌==◌, ◌&&◌, ◌||◌, ℕ, Bool, true, false, not, List, Option, Some, None, [], ◌∷◌, length, refl, sym, ap, ◌∙◌, inl, inr, arith, subst, if◌then◌else◌}
-use Rattle.std.specs.Prelude.{option_map}
-use Rattle.std.specs.List.{AllByRecursion as All, Contains, list_any, sum_by}
-use Rattle.std.proofs.lemmas.Bool.{eqb-true, or_cases}
-use Rattle.std.proofs.lemmas.List.Sums.{sum_by-cons}
+use Rattle.std.proofs.Common.{◌&&◌, ◌==◌, ◌||◌, ◌∙◌, ◌∷◌, ◌≡◌, ◌≤◌, if◌then◌else◌, Bool, List, None, Option, Some, [], ℕ, ap, arith, false, inl, inr, length, not, refl, subst, sym, true}
+use Rattle.std.proofs.lemmas.{Bool.{eqb-true, or_cases}, List.Sums.sum_by-cons}
+use Rattle.std.specs.{List.{AllByRecursion as All, Contains, list_any, sum_by}, Prelude.option_map}
 use Rattle.bq_job.specs.declared.job.Job.{Job}
-use Rattle.bq_job.specs.machine.Changes.{first_of, is_ready, is_waiting, seat_with}
-use Rattle.bq_job.specs.machine.Dispatch.{is_job_before, is_waiting_for}
-use Rattle.bq_job.specs.machine.Machine.{Machine, SeatRecord}
-use Rattle.bq_job.specs.machine.TubeCommands.{is_ready_in}
-use Rattle.bq_job.specs.reading.TubeName.{is_same_name}
-use Rattle.bq_job.specs.machine.Tubes.{is_paused, watches}
-use Rattle.bq_job.proofs.ChoiceLemmas.{first_of_agrees}
-use Rattle.bq_job.proofs.KeptLemmas.{only_seat}
-use Rattle.bq_job.proofs.ListLemmas.{all_at, all_from_members, all_weaker, contains_head, contains_tail, found_passes, list_any_not, list_any_with}
+use Rattle.bq_job.specs.{machine.{SeatRecord, first_of, is_job_before, is_paused, is_ready, is_ready_in, is_waiting, is_waiting_for, seat_with, watches, Machine.Machine}, reading.TubeName.is_same_name}
+use Rattle.bq_job.proofs.{ChoiceLemmas.first_of_agrees, KeptLemmas.only_seat, ListLemmas.{all_at, all_from_members, all_weaker, contains_head, contains_tail, found_passes, list_any_not, list_any_with}}
 use Rattle.bq_jobs.specs.Kept.{ranked}
-use Rattle.bq_state.specs.Cost.{waited_tubes}
-use Rattle.bq_state.specs.Crowds.{is_waiter}
-use Rattle.bq_state.specs.Offers.{next_rank, these}
-use Rattle.bq_state.specs.SeatChanges.{AreNumbered}
-use Rattle.bq_state.specs.Stirs.{AreKnown, IsKnown}
-use Rattle.bq_state.specs.declared.known.Stir.TheVariants.{Tube, Client}
-use Rattle.bq_state.proofs.StirLemmas.{parts_of}
-use Rattle.bq_state.proofs.TubeLemmas.{same_name}
-use Rattle.bq_state.proofs.WarningLemmas.{none_found}
+use Rattle.bq_state.specs.declared.known.Stir.TheVariants.{Client, Tube}
+use Rattle.bq_state.specs.{Cost.waited_tubes, Crowds.is_waiter, Offers.{next_rank, these}, SeatChanges.AreNumbered, Stirs.{AreKnown, IsKnown}}
+use Rattle.bq_state.proofs.{StirLemmas.parts_of, TubeLemmas.same_name, WarningLemmas.none_found}
 
 -- the next one is the first of those that pass, where these are the ones that are waited for
 pub rank_agrees : (m : Machine) (p : Job → Bool) → All (λ j. list_any (is_waiting_for m j) m.seats ≡ p j) m.jobs → next_rank m ≡ option_map (ranked (λ j. j.pri)) (first_of p is_job_before m.jobs)

@@ -1,13 +1,13 @@
 -- A core may go to another thread. It is said step by step, since one search through all its
 -- shelves would be too long.
-use denote.Param.Send.{IsSend, sendable}
-use Rattle.bq_core.specs.contracts.step.Core as Core
-use Rattle.bq_state.specs.contracts.tubes.Tubes as Tubes
+use Rattle.std.proofs.Crossing as Crossing
 use Rattle.bq_index.proofs.tree.Node.TheLaws.TheKnot as TheKnot
 use Rattle.bq_jobs.specs.contracts.jobs.Jobs as Jobs
 use Rattle.bq_jobs.specs.contracts.tubes.NumberedTubes as NumberedTubes
 use Rattle.bq_jobs.specs.contracts.rows.Rows as Rows
-use Rattle.std.proofs.Crossing as Crossing
+use Rattle.bq_state.specs.contracts.tubes.Tubes as Tubes
+use Rattle.bq_core.specs.contracts.step.Core as Core
+use denote.Param.Send.{IsSend, sendable}
 
 rows_send : IsSend (Rows.the_field).row
 rows_send = search (Crossing.crosses, TheKnot.crosses, sendable) depth 60 fits 20000

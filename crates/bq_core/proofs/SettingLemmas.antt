@@ -1,18 +1,9 @@
 -- No step changes what was chosen at the start.
-use Rattle.std.proofs.Common.{◌≡◌, ℕ, List, [], ◌∷◌, Option, Some, None, refl, ap, ◌∙◌, inl, inr}
+use Rattle.std.proofs.Common.{◌∙◌, ◌∷◌, ◌≡◌, List, None, Option, Some, [], ℕ, ap, inl, inr, refl}
 use Rattle.std.specs.Prelude.{MatchOption}
-use Rattle.bq_job.specs.declared.job.Job.{Job}
-use Rattle.bq_job.specs.declared.request.Request.{Request}
-use Rattle.bq_job.specs.declared.step.Step.{Step}
-use Rattle.bq_job.specs.machine.Acts.{Effect}
-use Rattle.bq_job.specs.machine.Changes.{with_seat, without_wait}
-use Rattle.bq_job.specs.machine.Dispatch.{DispatchTurn, GivenAnswer, IsHandOut, next_job, next_seat}
-use Rattle.bq_job.specs.machine.Machine.{Machine, SeatRecord}
-use Rattle.bq_job.specs.machine.Steps.{IsStep, Memory, Outcome, Serves, acted}
-use Rattle.bq_job.specs.machine.Waits.{Chain, WaitEndTurn, end_of_wait, next_end}
-use Rattle.bq_job.proofs.CommandKinds.{kind_of}
-use Rattle.bq_job.proofs.EachEvent.{each_acted}
-use Rattle.bq_job.proofs.EffectKinds.{Kind, adds, changes_jobs, changes_seat, changes_tube, deletes, passes, tells, waits}
+use Rattle.bq_job.specs.declared.{job.Job.Job, request.Request.Request, step.Step.Step}
+use Rattle.bq_job.specs.machine.{Chain, DispatchTurn, Effect, GivenAnswer, IsHandOut, IsStep, Memory, Outcome, SeatRecord, Serves, WaitEndTurn, acted, end_of_wait, next_end, next_job, next_seat, with_seat, without_wait, Machine.Machine}
+use Rattle.bq_job.proofs.{CommandKinds.kind_of, EachEvent.each_acted, EffectKinds.{Kind, adds, changes_jobs, changes_seat, changes_tube, deletes, passes, tells, waits}}
 
 -- the effect leaves them
 abbrev Leaves : Machine → Effect → Type 0

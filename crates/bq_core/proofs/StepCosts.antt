@@ -1,29 +1,15 @@
 -- What a whole step asks of the shelves, out of its parts.
-use Rattle.std.proofs.Common.{◌≡◌, ℕ, false, ◌+◌, ◌*◌, ◌≤◌, List, [], None, cond, length, max, sym, ap, ◌∙◌, arith, subst}
-use Rattle.std.proofs.Math.Nat.{add-mul}
+use Rattle.std.proofs.{Common.{◌*◌, ◌+◌, ◌∙◌, ◌≡◌, ◌≤◌, List, None, [], ℕ, ap, arith, cond, false, length, max, subst, sym}, lemmas.Nat.mul-le, Math.Nat.add-mul}
 use Rattle.std.specs.List.{sum_by}
-use Rattle.std.proofs.lemmas.Nat.{mul-le}
 use Rattle.bq_job.specs.declared.step.Step.{Step}
-use Rattle.bq_job.specs.machine.Changes.{is_waiting, without_wait}
-use Rattle.bq_job.specs.beside.Computed.{waiting_count}
-use Rattle.bq_job.specs.machine.Dispatch.{DispatchTurn, GivenAnswer}
-use Rattle.bq_job.specs.machine.Machine.{Machine, SeatRecord}
-use Rattle.bq_job.specs.machine.Steps.{Serves, acted, has_refused_share}
-use Rattle.bq_job.specs.machine.Waits.{WaitEndTurn, next_end}
-use Rattle.bq_job.specs.machine.Dispatch.{next_job}
+use Rattle.bq_job.specs.{beside.waiting_count, machine.{DispatchTurn, GivenAnswer, SeatRecord, Serves, WaitEndTurn, acted, has_refused_share, is_waiting, next_end, next_job, without_wait, Machine.Machine}}
 use Rattle.bq_job.proofs.LawfulLemmas.{leaves_acted}
 use Rattle.bq_jobs.specs.Kept.{Kept}
+use Rattle.bq_steps.specs.{Cost.{IsStepWithin, changed_jobs, ripening, tubes_watched, watched_tubes}, Outbox.Outbox}
 use Rattle.bq_state.specs.declared.core_parts.CoreParts.{CoreParts}
-use Rattle.bq_state.specs.Asking.{Asks, AsksAsChanged, AsksByTurn, search_among}
-use Rattle.bq_state.specs.Cost.{waited}
-use Rattle.bq_steps.specs.Cost.{IsStepWithin, changed_jobs, watched_tubes, tubes_watched, ripening}
-use Rattle.bq_steps.specs.Outbox.{Outbox}
-use Rattle.bq_core.specs.Serving.{NoneIsGone, ServesAsking, ServesInto}
-use Rattle.bq_state.specs.CoreParts.{machine_of}
-use Rattle.bq_core.specs.Turns.{Gives, none_refused}
-use Rattle.bq_core.proofs.AskLemmas.{asks_more, asks_then, search_grows}
-use Rattle.bq_core.proofs.CostLemmas.{ended_stop, entries_less, given_length, handed_stop}
-use Rattle.bq_core.proofs.StepLemmas.{Begun, keeps, serves_into, whole_step}
+use Rattle.bq_state.specs.{Asking.{Asks, AsksAsChanged, AsksByTurn, search_among}, CoreParts.machine_of, Cost.waited}
+use Rattle.bq_core.specs.{Serving.{NoneIsGone, ServesAsking, ServesInto}, Turns.{Gives, none_refused}}
+use Rattle.bq_core.proofs.{AskLemmas.{asks_more, asks_then, search_grows}, CostLemmas.{ended_stop, entries_less, given_length, handed_stop}, StepLemmas.{Begun, keeps, serves_into, whole_step}}
 use Rattle.bq_core.proofs.WatchLemmas.{acted_few, waited_few, waiting_few}
 
 -- dispatch and the ends of waits, one after the other

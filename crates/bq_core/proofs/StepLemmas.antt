@@ -1,34 +1,18 @@
 -- A whole step out of its parts.
-use Rattle.std.proofs.Common.{◌≡◌, ℕ, Bool, true, false, ◌+◌, ◌≤◌, ◌<◌, ◌||◌, ◌==◌, List, [], ◌∷◌, ◌++◌, map, length, refl, sym, ap, ◌∙◌, subst, if◌then◌else◌, arith, None, inl, inr}
-use Rattle.std.proofs.Math.Bool.{or-false}
-use Rattle.std.specs.Prelude.{filter}
-use Rattle.std.proofs.lemmas.List.{length-append}
-use Rattle.std.proofs.lemmas.List.Sums.{count_by-le-length}
-use Rattle.std.specs.List.{list_all, list_any}
-use Rattle.std.proofs.lemmas.Bool.{and_parts}
-use Rattle.bq_job.specs.declared.step.Step.{Step}
-use Rattle.bq_job.specs.declared.job.Job.{Job}
+use Rattle.std.proofs.Common.{◌++◌, ◌+◌, ◌<◌, ◌==◌, ◌||◌, ◌∙◌, ◌∷◌, ◌≡◌, ◌≤◌, if◌then◌else◌, Bool, List, None, [], ℕ, ap, arith, false, inl, inr, length, map, refl, subst, sym, true}
+use Rattle.std.proofs.{lemmas.{Bool.and_parts, List.{length-append, Sums.count_by-le-length}}, Math.Bool.or-false}
+use Rattle.std.specs.{List.{list_all, list_any}, Prelude.filter}
+use Rattle.bq_job.specs.declared.{job.Job.Job, step.Step.Step}
 use Rattle.bq_job.specs.declared.job.JobState.TheVariants as states
-use Rattle.bq_job.specs.machine.Changes.{in_state, is_waiting, with_seat, without_wait}
-use Rattle.bq_job.specs.beside.Computed.{waiting_count}
-use Rattle.bq_job.specs.machine.Dispatch.{DispatchTurn, GivenAnswer, IsHandOut, after_hand_out, reserved_by}
-use Rattle.bq_job.specs.beside.Lawful.{IsLawful}
-use Rattle.bq_job.specs.machine.Machine.{Machine, SeatRecord, TubeRecord, default_tube}
-use Rattle.bq_job.specs.machine.Steps.{IsStep, acted, addressed, has_refused_share, is_growth_refused, is_share_refused}
-use Rattle.bq_job.specs.machine.Timers.{after_timers, at_moment, is_due, is_expired, job_after_timers, tube_after_timers, with_timeout}
-use Rattle.bq_job.specs.machine.Tubes.{forgetting, is_seated_at, is_tube}
-use Rattle.bq_job.specs.machine.Waits.{Chain, WaitEndTurn, next_end}
-use Rattle.bq_job.specs.machine.Dispatch.{next_job}
-use Rattle.bq_job.specs.reading.TubeName.{is_same_name}
-use Rattle.bq_job.proofs.DispatchLemmas.{turn_of}
-use Rattle.bq_job.proofs.KeptLemmas.{Keeps, kept_of_lawful}
-use Rattle.bq_job.proofs.LawfulLemmas.{end_of, kept_of_timers, only_tubes, leaves_acted, length_addressed, seats_many, served}
-use Rattle.bq_state.specs.declared.core_parts.CoreParts.{CoreParts}
-use Rattle.bq_core.specs.Acting.{Acts}
+use Rattle.bq_job.specs.beside.{IsLawful, waiting_count}
+use Rattle.bq_job.specs.machine.{Chain, DispatchTurn, GivenAnswer, IsHandOut, IsStep, SeatRecord, TubeRecord, WaitEndTurn, acted, addressed, after_hand_out, after_timers, at_moment, default_tube, forgetting, has_refused_share, in_state}
+use Rattle.bq_job.specs.machine.{is_due, is_expired, is_growth_refused, is_seated_at, is_share_refused, is_tube, is_waiting, job_after_timers, next_end, next_job, reserved_by, tube_after_timers, with_seat, with_timeout, without_wait}
+use Rattle.bq_job.specs.{machine.Machine.Machine, reading.TubeName.is_same_name}
+use Rattle.bq_job.proofs.{DispatchLemmas.turn_of, KeptLemmas.{Keeps, kept_of_lawful}, LawfulLemmas.{end_of, kept_of_timers, leaves_acted, length_addressed, only_tubes, seats_many, served}}
 use Rattle.bq_steps.specs.Outbox.{Outbox}
-use Rattle.bq_core.specs.Serving.{NoneIsGone, ServesInto}
+use Rattle.bq_state.specs.declared.core_parts.CoreParts.{CoreParts}
 use Rattle.bq_state.specs.CoreParts.{machine_of}
-use Rattle.bq_core.specs.Turns.{Gives, HasRoom, none_refused}
+use Rattle.bq_core.specs.{Acting.Acts, Serving.{NoneIsGone, ServesInto}, Turns.{Gives, HasRoom, none_refused}}
 use Rattle.bq_core.proofs.TurnLemmas.{room_kept}
 
 -- where nothing is kept of tubes that are gone, nothing is forgotten

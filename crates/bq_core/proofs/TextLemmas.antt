@@ -1,16 +1,11 @@
 -- Texts that are made.
-use Rattle.std.proofs.Common.{◌≡◌, ◌∙◌, ◌++◌, ℕ, Bor, List, [], ◌∷◌, IfOk, Option, None, Some, Result, Ok, Err, true, ap, codes, decimal, flat_map, option_map, refl, sym}
-use Rattle.bq_job.specs.beside.NameOrder.{is_in_order}
-use Rattle.bq_job.specs.declared.fault.NoMemory.{NoMemory}
-use Rattle.bq_job.specs.machine.TubeOrder.{name_list}
-use Rattle.bq_job.specs.texts.Yaml.{name_line}
+use Rattle.std.proofs.Common.{◌++◌, ◌∙◌, ◌∷◌, ◌≡◌, Bor, Err, IfOk, List, None, Ok, Option, Result, Some, [], ℕ, ap, codes, decimal, flat_map, option_map, refl, sym, true}
+use Rattle.bq_job.specs.declared.{fault.NoMemory.NoMemory, job.Job.Job}
+use Rattle.bq_job.specs.{beside.is_in_order, machine.{job_with, name_list}, texts.Yaml.{KeyValue, key_number, name_line}}
 use Rattle.bq_job.proofs.NameOrderLemmas.{stays_fold}
-use Rattle.bq_state.specs.Names.{names_of}
-use Rattle.bq_job.specs.declared.job.Job.{Job}
-use Rattle.bq_job.specs.machine.Changes.{job_with}
-use Rattle.bq_job.specs.texts.Yaml.{KeyValue, key_number}
 use Rattle.bq_jobs.specs.Seen.{but_for_tube}
 use Rattle.bq_jobs.proofs.Changes.{found_id}
+use Rattle.bq_state.specs.Names.{names_of}
 
 -- A text that is known tells the same of each machine that fits.
 pub told_of : {T E M : Type 0} (r : Result T E) (x : T) (Fits : M → Type 0) (f : M → T)

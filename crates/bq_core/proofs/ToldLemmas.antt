@@ -1,14 +1,12 @@
 -- What a command that asks for one job shows.
-use Rattle.std.proofs.Common.{◌≡◌, ◌∙◌, ℕ, List, IfOk, Result, Ok, ap, is_some, sym, true}
-use Rattle.bq_job.specs.declared.answer.Answer.TheVariants as answers
+use Rattle.std.proofs.Common.{◌∙◌, ◌≡◌, IfOk, List, Ok, Result, ℕ, ap, is_some, sym, true}
 use Rattle.bq_job.specs.declared.fault.NoMemory.{NoMemory}
-use Rattle.bq_job.specs.machine.Acts.{showing, telling}
-use Rattle.bq_job.specs.machine.Changes.{job_with}
+use Rattle.bq_job.specs.declared.answer.Answer.TheVariants as answers
+use Rattle.bq_job.specs.machine.{job_with, showing, telling}
 use Rattle.bq_jobs.specs.Seen.{IsBodyOf}
-use Rattle.bq_state.specs.CoreParts.{OnlyCompares, machine_held, machine_of}
 use Rattle.bq_state.specs.declared.core_parts.CoreParts.{CoreParts}
-use Rattle.bq_core.proofs.ActLemmas.{id_found, some_there}
-use Rattle.bq_core.proofs.TurnLemmas.{if_ok}
+use Rattle.bq_state.specs.CoreParts.{OnlyCompares, machine_held, machine_of}
+use Rattle.bq_core.proofs.{ActLemmas.{id_found, some_there}, TurnLemmas.if_ok}
 
 -- A job that is there is shown with its body.
 pub shown_so : (st last : CoreParts) (id : ℕ) (r : Result (List ℕ) NoMemory) (body : List ℕ) → r ≡ Ok body → true ≡ is_some (job_with id (machine_of st).jobs) → IfOk r (IsBodyOf (job_with id (machine_of st).jobs))

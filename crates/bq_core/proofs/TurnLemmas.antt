@@ -1,29 +1,18 @@
 -- A turn of dispatch or of the ends of waits, and chains of them.
-use Rattle.bq_state.proofs.PartsLemmas.{ok_weaker}
-use Rattle.std.proofs.Common.{◌≡◌, ℕ, Bool, true, false, ◌<◌, ◌||◌, List, [], ◌∷◌, ◌++◌, Option, Some, None, length, refl, sym, ap, ◌∙◌, arith, slice_get, append_assoc, append-nil, get_or, inl, inr, subst}
-use Rattle.std.proofs.Math.Bool.{or-false, or-true}
-use Rattle.std.proofs.lemmas.Option.{slice_get_read}
-use Rattle.std.proofs.lemmas.List.{length-append}
-use Rattle.std.specs.Prelude.{Result, Ok, IfOk, option_map}
-use Rattle.std.specs.List.{Contains, list_any}
-use Rattle.bq_job.specs.declared.fault.NoMemory.{NoMemory}
-use Rattle.bq_job.specs.declared.answer.Answer.{Answer}
+use Rattle.std.proofs.Common.{◌++◌, ◌<◌, ◌||◌, ◌∙◌, ◌∷◌, ◌≡◌, Bool, List, None, Option, Some, [], ℕ, ap, append-nil, append_assoc, arith, false, get_or, inl, inr, length, refl, slice_get, subst, sym, true}
+use Rattle.std.proofs.{lemmas.{List.length-append, Option.slice_get_read}, Math.Bool.{or-false, or-true}}
+use Rattle.std.specs.{List.{Contains, list_any}, Prelude.{IfOk, Ok, Result, option_map}}
+use Rattle.bq_job.specs.declared.{answer.Answer.Answer, fault.NoMemory.NoMemory, job.Job.Job}
 use Rattle.bq_job.specs.declared.answer.Answer.TheVariants as answers
-use Rattle.bq_job.specs.declared.job.Job.{Job}
-use Rattle.bq_job.specs.machine.Changes.{is_waiting, with_job, with_seat, without_wait}
-use Rattle.bq_job.specs.beside.Computed.{waiting_count}
-use Rattle.bq_job.specs.machine.Dispatch.{DispatchTurn, GivenAnswer, IsHandOut, is_job_before, is_waiting_for, next_job, next_seat, reserved_by}
-use Rattle.bq_job.specs.machine.Machine.{Machine, SeatRecord}
-use Rattle.bq_job.specs.machine.Steps.{has_refused_share, is_out_of_memory}
-use Rattle.bq_job.specs.machine.Waits.{Chain, WaitEndTurn, end_of_wait, next_end}
-use Rattle.bq_job.proofs.ChoiceLemmas.{first_of_none_passes}
-use Rattle.bq_job.proofs.ComputedLemmas.{next_seat_waits, waiting_falls}
-use Rattle.bq_state.specs.declared.core_parts.CoreParts.{CoreParts}
-use Rattle.bq_core.specs.HandOuts.{AddsHandOut, HandsOut}
+use Rattle.bq_job.specs.beside.{waiting_count}
+use Rattle.bq_job.specs.machine.{Chain, DispatchTurn, GivenAnswer, IsHandOut, SeatRecord, WaitEndTurn, end_of_wait, has_refused_share, is_job_before, is_out_of_memory, is_waiting, is_waiting_for, next_end, next_job, next_seat, reserved_by}
+use Rattle.bq_job.specs.machine.{with_job, with_seat, without_wait, Machine.Machine}
+use Rattle.bq_job.proofs.{ChoiceLemmas.first_of_none_passes, ComputedLemmas.{next_seat_waits, waiting_falls}}
 use Rattle.bq_steps.specs.Outbox.{Outbox}
+use Rattle.bq_state.specs.declared.core_parts.CoreParts.{CoreParts}
 use Rattle.bq_state.specs.CoreParts.{machine_of}
-use Rattle.bq_core.specs.Turns.{Gives, HasRoom, none_refused}
-use Rattle.bq_core.specs.WaitEnds.{AddsWaitEnd}
+use Rattle.bq_state.proofs.PartsLemmas.{ok_weaker}
+use Rattle.bq_core.specs.{HandOuts.{AddsHandOut, HandsOut}, Turns.{Gives, HasRoom, none_refused}, WaitEnds.AddsWaitEnd}
 
 -- a hand-out takes the client away, whether the share was given or not
 hand_out_falls : (m : Machine) (j : Job) (s : SeatRecord) (g : GivenAnswer) (next : Machine) → Contains m.seats s → is_waiting s ≡ true → IsHandOut m j s g next → waiting_count next < waiting_count m

@@ -1,29 +1,19 @@
 -- The ends of waits, one waiting client after another in the order of their turns.
-use Rattle.std.proofs.Common.{◌≡◌, ℕ, Bool, true, false, ◌+◌, ◌≤◌, ◌<◌, ◌==◌, ◌&&◌, ◌||◌, not, cond, List, [], ◌∷◌, Option, Some, None, map, length, refl, sym, ap, ◌∙◌, arith, subst, inl, inr, slice_get, if◌then◌else◌}
-use Rattle.std.specs.Prelude.{count_by}
-use Rattle.std.specs.List.{AllByRecursion as All, Contains, list_any}
-use Rattle.std.proofs.lemmas.Bool.{and_parts, cases_Bool, eq-eqb, eqb-true}
-use Rattle.std.proofs.lemmas.Bool.Decides.{nat_tests}
+use Rattle.std.proofs.Common.{◌&&◌, ◌+◌, ◌<◌, ◌==◌, ◌||◌, ◌∙◌, ◌∷◌, ◌≡◌, ◌≤◌, if◌then◌else◌, Bool, List, None, Option, Some, [], ℕ, ap, arith, cond, false, inl, inr, length, map, not, refl, slice_get, subst, sym, true}
+use Rattle.std.proofs.lemmas.Bool.{and_parts, cases_Bool, eq-eqb, eqb-true, Decides.nat_tests}
+use Rattle.std.specs.{List.{AllByRecursion as All, Contains, list_any}, Prelude.count_by}
 use Rattle.bq_job.specs.declared.answer.Answer.{Answer}
 use Rattle.bq_job.specs.declared.answer.Answer.TheVariants as answers
-use Rattle.bq_job.specs.machine.Changes.{first_of, is_pair_before, is_waiting, with_seat, without_wait}
-use Rattle.bq_job.specs.beside.Computed.{waiting_count}
-use Rattle.bq_job.specs.machine.Dispatch.{is_wait_before, ticket_of}
-use Rattle.bq_job.specs.machine.Machine.{Machine, SeatRecord}
-use Rattle.bq_job.specs.machine.Waits.{WaitEndTurn, end_of_wait, ends_waiting, is_deadline_soon, is_timed_out, next_end}
-use Rattle.bq_job.proofs.ChoiceLemmas.{first_of_contains, first_of_is, first_of_is_least, first_of_none, first_of_none_passes, first_of_passes, pair_order}
-use Rattle.bq_job.proofs.ComputedLemmas.{waiting_falls}
-use Rattle.bq_job.proofs.KeptLemmas.{only_seat}
+use Rattle.bq_job.specs.beside.{waiting_count}
+use Rattle.bq_job.specs.machine.{SeatRecord, WaitEndTurn, end_of_wait, ends_waiting, first_of, is_deadline_soon, is_pair_before, is_timed_out, is_wait_before, is_waiting, next_end, ticket_of, with_seat, without_wait, Machine.Machine}
+use Rattle.bq_job.proofs.{ChoiceLemmas.{first_of_contains, first_of_is, first_of_is_least, first_of_none, first_of_none_passes, first_of_passes, pair_order}, ComputedLemmas.waiting_falls, KeptLemmas.only_seat}
 use Rattle.bq_job.proofs.ListLemmas.{all_always, all_at, all_from_members, all_of_map, count_cons, found_passes, list_any_not, list_any_with, none_pass}
-use Rattle.bq_state.specs.declared.core_parts.CoreParts.{CoreParts}
-use Rattle.bq_state.specs.EndingWaits.{AreLookedAt, is_after, left_after, told_at_end, turn_of, waits_after}
 use Rattle.bq_steps.specs.Outbox.{Outbox}
-use Rattle.bq_state.specs.CoreParts.{machine_of}
-use Rattle.bq_core.specs.Turns.{Gives, none_refused}
-use Rattle.bq_core.specs.WaitEnds.{LooksAt}
-use Rattle.bq_state.proofs.PartsLemmas.{seat_read}
+use Rattle.bq_state.specs.declared.core_parts.CoreParts.{CoreParts}
+use Rattle.bq_state.specs.{CoreParts.machine_of, EndingWaits.{AreLookedAt, is_after, left_after, told_at_end, turn_of, waits_after}}
+use Rattle.bq_state.proofs.PartsLemmas.{seat_read, some_at}
+use Rattle.bq_core.specs.{Turns.{Gives, none_refused}, WaitEnds.LooksAt}
 use Rattle.bq_core.proofs.TurnLemmas.{gives_nothing, one_end}
-use Rattle.bq_state.proofs.PartsLemmas.{some_at}
 
 -- what a waiting client is told, by its first lease and its timeout
 pub told_soon : (m : Machine) (s : SeatRecord) → is_deadline_soon m s ≡ true → Some answers.DeadlineSoon ≡ told_at_end m s

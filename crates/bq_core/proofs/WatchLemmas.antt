@@ -1,27 +1,13 @@
 -- The tubes that the clients watch who wait, as commands change the seats.
-use Rattle.std.proofs.Common.{◌≡◌, ℕ, Bool, true, false, ◌≤◌, ◌==◌, ◌&&◌, ◌||◌, cond, List, [], ◌∷◌, map, length, refl, ap, ◌∙◌, arith, subst, if◌then◌else◌}
-use Rattle.std.specs.Prelude.{count_by, is_some}
-use Rattle.std.specs.List.{AllByRecursion as All, sum_by}
-use Rattle.std.proofs.lemmas.Bool.{eqb-true}
-use Rattle.std.proofs.lemmas.List.Sums.{sum_by-cons}
-use Rattle.bq_job.specs.declared.request.Request.{Request}
-use Rattle.bq_job.specs.declared.step.Step.{Step}
-use Rattle.bq_job.specs.machine.Acts.{Effect}
-use Rattle.bq_job.specs.machine.Asked.{after_close, after_connect, asked, with_end}
-use Rattle.bq_job.specs.machine.Changes.{is_waiting, with_seat}
-use Rattle.bq_job.specs.beside.Computed.{waiting_count}
-use Rattle.bq_job.specs.machine.JobCommands.{waiting_from}
-use Rattle.bq_job.specs.beside.Lawful.{IsLawful, has_one, none_twice, watches_once}
-use Rattle.bq_job.specs.machine.Limits.{raised}
-use Rattle.bq_job.specs.machine.Machine.{Machine, SeatRecord, empty_seat, numbers}
-use Rattle.bq_job.specs.machine.Steps.{Memory, acted}
-use Rattle.bq_job.proofs.KeptLemmas.{only_seat}
+use Rattle.std.proofs.{Common.{◌&&◌, ◌==◌, ◌||◌, ◌∙◌, ◌∷◌, ◌≡◌, ◌≤◌, if◌then◌else◌, Bool, List, [], ℕ, ap, arith, cond, false, length, map, refl, subst, true}, lemmas.{Bool.eqb-true, List.Sums.sum_by-cons}}
+use Rattle.std.specs.{List.{AllByRecursion as All, sum_by}, Prelude.{count_by, is_some}}
+use Rattle.bq_job.specs.declared.{request.Request.Request, step.Step.Step}
+use Rattle.bq_job.specs.beside.{IsLawful, has_one, none_twice, waiting_count, watches_once}
+use Rattle.bq_job.specs.machine.{Effect, Memory, SeatRecord, acted, after_close, after_connect, asked, empty_seat, is_waiting, numbers, raised, waiting_from, with_end, with_seat, Machine.Machine}
+use Rattle.bq_job.proofs.{CommandKinds.kind_of, EachEvent.{IsSeat, each_acted}, EffectKinds.{Kind, adds, changes_jobs, changes_seat, changes_tube, deletes, passes, tells, waits}, KeptLemmas.only_seat}
 use Rattle.bq_job.proofs.ListLemmas.{all_always, all_pass, all_weaker, count_cons}
+use Rattle.bq_steps.specs.Cost.{tubes_watched, watched_tubes}
 use Rattle.bq_state.specs.Cost.{waited, waited_tubes}
-use Rattle.bq_steps.specs.Cost.{watched_tubes, tubes_watched}
-use Rattle.bq_job.proofs.CommandKinds.{kind_of}
-use Rattle.bq_job.proofs.EachEvent.{IsSeat, each_acted}
-use Rattle.bq_job.proofs.EffectKinds.{Kind, adds, changes_jobs, changes_seat, changes_tube, deletes, passes, tells, waits}
 
 sum_no_more : {X : Type 0} (f g : X → ℕ) (xs : List X) → All (λ x. f x ≤ g x) xs → sum_by f xs ≤ sum_by g xs
 sum_no_more f g [] all = omega arith

@@ -1,14 +1,9 @@
 -- The command's own effect, as the core carries it out.
-use Rattle.std.specs.Prelude.{ℕ, Bool, ◌≡◌, ◌&&◌, ◌||◌, ◌++◌, IsTrue, Some, None}
-use Rattle.bq_job.specs.declared.answer.Answer.{Answer}
-use Rattle.bq_job.specs.declared.step.Step.{Step}
-use Rattle.bq_job.specs.machine.Acts.{Effect}
-use Rattle.bq_job.specs.machine.Machine.{Machine}
-use Rattle.bq_job.specs.machine.Steps.{Memory, acted, addressed, is_possible, shares_body}
-use Rattle.bq_job.specs.machine.Steps.{is_growth_refused, is_share_refused, may_be_left_out}
-use Rattle.bq_core.specs.declared.acts.Reply.{Reply}
-use Rattle.bq_core.specs.declared.acts.Reply.TheVariants.{Silent, Told, LeftOut, Unshared}
+use Rattle.std.specs.Prelude.{◌&&◌, ◌++◌, ◌||◌, ◌≡◌, Bool, IsTrue, None, Some, ℕ}
+use Rattle.bq_job.specs.declared.{answer.Answer.Answer, step.Step.Step}
+use Rattle.bq_job.specs.machine.{Effect, Memory, acted, addressed, is_growth_refused, is_possible, is_share_refused, may_be_left_out, shares_body, Machine.Machine}
 use Rattle.bq_steps.specs.Outbox.{Outbox}
+use Rattle.bq_core.specs.declared.acts.Reply.{Reply, TheVariants.{LeftOut, Silent, Told, Unshared}}
 
 -- What a request came to: it had this effect, with the answer that was told, or it takes memory and was left out because a growth was
 -- refused, or it would show a body, of which one more owner was refused.

@@ -1,14 +1,9 @@
 -- Timers of jobs fire, one job after another.
-use Rattle.std.specs.Prelude.{ℕ, Bool, ◌≡◌, ◌||◌, IsTrue, List, Some, count_by, map}
-use Rattle.std.specs.List.{list_any}
-use Rattle.bq_job.specs.declared.job.Job.{Job}
-use Rattle.bq_job.specs.declared.job.JobState.{JobState}
-use Rattle.bq_job.specs.machine.Changes.{given_back, job_with, with_job}
-use Rattle.bq_job.specs.machine.Limits.{grown}
-use Rattle.bq_job.specs.machine.Machine.{Machine}
-use Rattle.bq_job.specs.machine.Timers.{is_due, is_expired, job_after_timers, tube_after_timers}
-use Rattle.bq_state.specs.CoreParts.{machine_of}
+use Rattle.std.specs.{List.list_any, Prelude.{◌||◌, ◌≡◌, Bool, IsTrue, List, Some, ℕ, count_by, map}}
+use Rattle.bq_job.specs.declared.job.{Job.Job, JobState.JobState}
+use Rattle.bq_job.specs.machine.{given_back, grown, is_due, is_expired, job_after_timers, job_with, tube_after_timers, with_job, Machine.Machine}
 use Rattle.bq_state.specs.declared.core_parts.CoreParts.{CoreParts}
+use Rattle.bq_state.specs.CoreParts.{machine_of}
 
 -- the machine once all timers of jobs have fired
 abbrev pub after_job_timers : Machine → Machine

@@ -1,12 +1,7 @@
 -- One job is handed out.
-use Rattle.std.specs.Prelude.{ℕ, ◌≡◌, ◌||◌, ◌++◌, List, [], ◌∷◌, Some, Result, IfOk}
-use Rattle.std.specs.Option.{option_map}
-use Rattle.bq_job.specs.declared.fault.NoMemory.{NoMemory}
-use Rattle.bq_job.specs.declared.job.Job.{Job}
-use Rattle.bq_job.specs.machine.Changes.{with_job, with_seat, without_wait}
-use Rattle.bq_job.specs.machine.Dispatch.{GivenAnswer, IsHandOut, next_job, next_seat, reserved_by}
-use Rattle.bq_job.specs.machine.Machine.{Machine, SeatRecord}
-use Rattle.bq_job.specs.machine.Steps.{is_out_of_memory}
+use Rattle.std.specs.{Option.option_map, Prelude.{◌++◌, ◌||◌, ◌∷◌, ◌≡◌, IfOk, List, Result, Some, [], ℕ}}
+use Rattle.bq_job.specs.declared.{fault.NoMemory.NoMemory, job.Job.Job}
+use Rattle.bq_job.specs.machine.{GivenAnswer, IsHandOut, SeatRecord, is_out_of_memory, next_job, next_seat, reserved_by, with_job, with_seat, without_wait, Machine.Machine}
 use Rattle.bq_steps.specs.Outbox.{Outbox}
 
 -- the client at this seat is the one that gets the next job, if there is one

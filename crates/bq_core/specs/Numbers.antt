@@ -1,13 +1,8 @@
 -- The numbers that statistics tell are those of the machine.
-use Rattle.std.specs.Prelude.{ℕ, ◌≡◌, List, count_by, length}
-use Rattle.bq_job.specs.machine.Changes.{is_waiting}
-use Rattle.bq_job.specs.machine.Machine.{Machine}
-use Rattle.bq_job.specs.machine.Statistics.{jobs_in, using_count, waiting_clients_of, watching_count}
-use Rattle.bq_job.specs.machine.TubeOrder.{tubes}
-use Rattle.bq_job.specs.machine.Tubes.{tube_record}
+use Rattle.std.specs.Prelude.{◌≡◌, List, ℕ, count_by, length}
+use Rattle.bq_job.specs.machine.{is_waiting, jobs_in, tube_record, tubes, using_count, waiting_clients_of, watching_count, Machine.Machine}
 use Rattle.bq_state.specs.Tallies.{tally_of}
-use Rattle.bq_core.specs.declared.texts.statistics.ServerNumbers.{ServerNumbers}
-use Rattle.bq_core.specs.declared.texts.statistics.TubeNumbers.{TubeNumbers}
+use Rattle.bq_core.specs.declared.texts.statistics.{ServerNumbers.ServerNumbers, TubeNumbers.TubeNumbers}
 
 -- the numbers of the tube of this name
 pub record AreOfTube (n : TubeNumbers) (name : List ℕ) (m : Machine) : Type 0 where

@@ -1,8 +1,6 @@
 -- A put gives an id.
 use Rattle.std.specs.Prelude.{◌+◌, nat_le}
-use Rattle.bq_job.specs.machine.JobCommands.{last_id}
-use Rattle.bq_job.specs.machine.Limits.{raised}
-use Rattle.bq_job.specs.machine.Machine.{Machine}
+use Rattle.bq_job.specs.machine.{last_id, raised, Machine.Machine}
 
 -- the next id was given to a job that was put
 abbrev pub after_given : Machine → Machine

@@ -1,16 +1,11 @@
 -- What commands come to, between the states before and after.
-use Rattle.std.specs.Prelude.{ℕ, Bool, ◌≡◌, Option}
+use Rattle.std.specs.Prelude.{◌≡◌, Bool, Option, ℕ}
 use Rattle.bq_job.specs.declared.answer.Answer.{Answer}
-use Rattle.bq_job.specs.machine.Acts.{Effect, showing, silent, telling}
-use Rattle.bq_job.specs.machine.JobCommands.{reserve_effect}
-use Rattle.bq_job.specs.machine.Machine.{Machine, SeatRecord}
-use Rattle.bq_core.specs.Acting.{Replies}
-use Rattle.bq_state.specs.JobKinds.{first_of_kind}
-use Rattle.bq_state.specs.CoreParts.{machine_of}
-use Rattle.bq_state.specs.CoreParts.{AtSeat}
-use Rattle.bq_state.specs.declared.job_store.JobKind.{JobKind}
+use Rattle.bq_job.specs.machine.{Effect, SeatRecord, reserve_effect, showing, silent, telling, Machine.Machine}
+use Rattle.bq_state.specs.declared.{core_parts.CoreParts.CoreParts, job_store.JobKind.JobKind}
+use Rattle.bq_state.specs.{CoreParts.{AtSeat, machine_of}, JobKinds.first_of_kind}
 use Rattle.bq_core.specs.declared.acts.Reply.{Reply}
-use Rattle.bq_state.specs.declared.core_parts.CoreParts.{CoreParts}
+use Rattle.bq_core.specs.Acting.{Replies}
 
 -- a request came to this reply
 abbrev pub RepliesBy : Bool → (Machine → Effect) → CoreParts → Reply → Answer → CoreParts → Type 0

@@ -1,20 +1,12 @@
 -- Dispatch, and then the ends of waits, with their answers added.
-use Rattle.std.specs.Prelude.{ℕ, ◌≡◌, ◌+◌, ◌*◌, ◌||◌, ◌++◌, List, Option, None, IsTrue, length}
-use Rattle.std.specs.List.{list_all}
+use Rattle.std.specs.{List.list_all, Prelude.{◌*◌, ◌++◌, ◌+◌, ◌||◌, ◌≡◌, IsTrue, List, None, Option, ℕ, length}}
 use Rattle.bq_job.specs.declared.step.Step.{Step}
-use Rattle.bq_job.specs.beside.Computed.{waiting_count}
-use Rattle.bq_job.specs.machine.Dispatch.{GivenAnswer}
-use Rattle.bq_job.specs.machine.Machine.{Machine}
-use Rattle.bq_job.specs.machine.Steps.{Serves, has_refused_share}
-use Rattle.bq_job.specs.machine.Tubes.{is_tube}
+use Rattle.bq_job.specs.{beside.waiting_count, machine.{GivenAnswer, Serves, has_refused_share, is_tube, Machine.Machine}}
 use Rattle.bq_jobs.specs.Kept.{Kept}
-use Rattle.bq_state.specs.Asking.{Asks}
-use Rattle.bq_state.specs.Cost.{waited}
-use Rattle.bq_steps.specs.Cost.{IsStepWithin}
-use Rattle.bq_steps.specs.Outbox.{Outbox, outcome_of}
-use Rattle.bq_state.specs.CoreParts.{machine_of}
-use Rattle.bq_core.specs.Turns.{HasRoom}
+use Rattle.bq_steps.specs.{Cost.IsStepWithin, Outbox.{Outbox, outcome_of}}
 use Rattle.bq_state.specs.declared.core_parts.CoreParts.{CoreParts}
+use Rattle.bq_state.specs.{Asking.Asks, CoreParts.machine_of, Cost.waited}
+use Rattle.bq_core.specs.Turns.{HasRoom}
 
 -- there was no next one, and nothing happened
 abbrev pub IsLastTurn : {A : Type 0} → Option A → CoreParts → CoreParts → Outbox → Outbox → Type 0

@@ -1,10 +1,8 @@
 -- Texts of statistics and lists.
-use Rattle.std.specs.Prelude.{ℕ, ◌≡◌, ◌≤◌, ◌^◌, List, Option, Some, None, decimal, length}
+use Rattle.std.specs.Prelude.{◌^◌, ◌≡◌, ◌≤◌, List, None, Option, Some, ℕ, decimal, length}
 use Rattle.bq_job.specs.declared.job.Job.{Job}
-use Rattle.bq_job.specs.machine.Machine.{Machine}
-use Rattle.bq_job.specs.machine.Statistics.{job_statistics}
-use Rattle.bq_core.specs.declared.texts.key_value.Value.{Value}
-use Rattle.bq_core.specs.declared.texts.key_value.Value.TheVariants.{Number, Word}
+use Rattle.bq_job.specs.machine.{job_statistics, Machine.Machine}
+use Rattle.bq_core.specs.declared.texts.key_value.Value.{Value, TheVariants.{Number, Word}}
 
 -- a text that is being written: the bytes so far, and how many more there is room for
 pub record TextSoFar : Type 0 where

@@ -1,9 +1,6 @@
 -- What dispatch and the ends of waits add to the answers.
-use Rattle.std.specs.Prelude.{ℕ, Bool, false, ◌≡◌, ◌+◌, ◌≤◌, ◌||◌, ◌++◌, List, length}
-use Rattle.bq_job.specs.beside.Computed.{waiting_count}
-use Rattle.bq_job.specs.machine.Dispatch.{GivenAnswer}
-use Rattle.bq_job.specs.machine.Machine.{Machine}
-use Rattle.bq_job.specs.machine.Waits.{Chain}
+use Rattle.std.specs.Prelude.{◌++◌, ◌+◌, ◌||◌, ◌≡◌, ◌≤◌, Bool, List, ℕ, false, length}
+use Rattle.bq_job.specs.{beside.waiting_count, machine.{Chain, GivenAnswer, Machine.Machine}}
 use Rattle.bq_steps.specs.Outbox.{Outbox}
 
 -- Turns of this kind led from the first machine to the last, and their answers were added. What they mean

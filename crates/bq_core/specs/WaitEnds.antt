@@ -1,9 +1,7 @@
 -- One wait ends.
-use Rattle.std.specs.Prelude.{ℕ, true, false, ◌≡◌, ◌++◌, [], ◌∷◌, Some, slice_get}
+use Rattle.std.specs.Prelude.{◌++◌, ◌∷◌, ◌≡◌, Some, [], ℕ, false, slice_get, true}
 use Rattle.bq_job.specs.declared.answer.Answer.{Answer}
-use Rattle.bq_job.specs.machine.Changes.{is_waiting, with_seat, without_wait}
-use Rattle.bq_job.specs.machine.Machine.{Machine, SeatRecord}
-use Rattle.bq_job.specs.machine.Waits.{end_of_wait, ends_waiting}
+use Rattle.bq_job.specs.machine.{SeatRecord, end_of_wait, ends_waiting, is_waiting, with_seat, without_wait, Machine.Machine}
 use Rattle.bq_steps.specs.Outbox.{Outbox}
 
 -- the wait of this client ended, and it was told so

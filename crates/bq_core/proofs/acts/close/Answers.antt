@@ -1,21 +1,14 @@
 use Rattle.std.proofs.Common.{◌∙◌, ap, arith, subst, sym}
-use Rattle.bq_job.specs.declared.answer.Answer.TheVariants as answers
 use Rattle.bq_job.specs.declared.job.JobState.{JobState}
-use Rattle.bq_job.specs.machine.Acts.{telling}
-use Rattle.bq_job.specs.machine.Changes.{with_seat}
-use Rattle.bq_job.specs.machine.JobStates.{is_reserved}
-use Rattle.bq_job.specs.machine.Machine.{Machine}
+use Rattle.bq_job.specs.declared.answer.Answer.TheVariants as answers
+use Rattle.bq_job.specs.machine.{is_reserved, telling, with_seat, Machine.Machine}
 use Rattle.bq_job.proofs.BecomeLemmas.{free_by_delay}
 use Rattle.bq_jobs.specs.Kept.{Kept}
-use Rattle.bq_state.specs.Asking.{AsksAsChanged}
 use Rattle.bq_steps.specs.Cost.{changed_jobs}
 use Rattle.bq_state.specs.declared.seats.SeatChange.TheVariants.{Clear}
-use Rattle.bq_state.specs.SeatChanges.{seat_changed}
+use Rattle.bq_state.specs.{Asking.AsksAsChanged, CoreParts.machine_of, SeatChanges.seat_changed}
 use Rattle.bq_core.specs.Firing.{after_giving_back}
-use Rattle.bq_state.specs.CoreParts.{machine_of}
-use Rattle.bq_core.proofs.ActLemmas.{closed_connected}
-use Rattle.bq_core.proofs.AskLemmas.{within}
-use Rattle.bq_core.proofs.CostLemmas.{given_back_changed}
+use Rattle.bq_core.proofs.{ActLemmas.closed_connected, AskLemmas.within, CostLemmas.given_back_changed}
 use Rattle.bq_core.proofs.acts.close.Goals as goal
 
 pub give_back_all-requires : goal.give_back_all-requires

@@ -1,10 +1,7 @@
 use Rattle.std.proofs.Common.{◌∙◌, ap, sym}
-use Rattle.bq_job.specs.machine.Changes.{with_seat}
-use Rattle.bq_job.specs.machine.Limits.{raised}
-use Rattle.bq_job.specs.machine.Machine.{Machine}
+use Rattle.bq_job.specs.machine.{raised, with_seat, Machine.Machine}
 use Rattle.bq_state.specs.declared.seats.SeatChange.TheVariants.{Connect}
-use Rattle.bq_state.specs.SeatChanges.{seat_changed}
-use Rattle.bq_state.specs.CoreParts.{machine_of}
+use Rattle.bq_state.specs.{CoreParts.machine_of, SeatChanges.seat_changed}
 use Rattle.bq_core.proofs.ActLemmas.{connected_free}
 use Rattle.bq_core.proofs.acts.connect.Goals as goal
 

@@ -1,8 +1,8 @@
 use Rattle.std.proofs.Common.{◌∙◌, ap}
 use Rattle.bq_jobs.specs.Kept.{Kept}
 use Rattle.bq_state.specs.Offers.{better_rank, offered, with_offer}
-use Rattle.bq_core.proofs.AskLemmas.{asks_then}
 use Rattle.bq_state.proofs.LoopLemmas.{folded_more}
+use Rattle.bq_core.proofs.AskLemmas.{asks_then}
 use Rattle.bq_core.proofs.dispatch.best_among.Goals as goal
 
 pub loop-i-preserved : goal.loop-i-preserved

@@ -1,10 +1,7 @@
 -- the best of the turns so far
 use Rattle.std.proofs.Common.{◌≡◌, None, take}
-use Rattle.std.specs.Prelude.{fold}
-use Rattle.std.specs.List.{sum_by}
-use Rattle.bq_state.specs.Asking.{Asks}
-use Rattle.bq_state.specs.Offers.{with_offers}
-use Rattle.bq_state.specs.WaitingTurns.{by_seat, waited_at}
+use Rattle.std.specs.{List.sum_by, Prelude.fold}
+use Rattle.bq_state.specs.{Asking.Asks, Offers.with_offers, WaitingTurns.{by_seat, waited_at}}
 use Rattle.bq_core.proofs.dispatch.best_of_turns.Given as goal
 
 abbrev pub invariant-loop-i : goal.invariant-loop-i

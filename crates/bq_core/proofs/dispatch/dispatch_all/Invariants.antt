@@ -1,11 +1,7 @@
 -- what the turns so far gave, and how often they asked
-use Rattle.std.proofs.Common.{◌+◌, ◌-◌, ◌*◌, length}
-use Rattle.bq_job.specs.beside.Computed.{waiting_count}
-use Rattle.bq_job.specs.machine.Dispatch.{DispatchTurn}
-use Rattle.bq_job.specs.machine.Steps.{has_refused_share}
-use Rattle.bq_state.specs.Asking.{Asks}
-use Rattle.bq_state.specs.Cost.{waited}
-use Rattle.bq_state.specs.CoreParts.{machine_of}
+use Rattle.std.proofs.Common.{◌*◌, ◌+◌, ◌-◌, length}
+use Rattle.bq_job.specs.{beside.waiting_count, machine.{DispatchTurn, has_refused_share}}
+use Rattle.bq_state.specs.{Asking.Asks, CoreParts.machine_of, Cost.waited}
 use Rattle.bq_core.specs.Turns.{Gives, HasRoom}
 use Rattle.bq_core.proofs.dispatch.dispatch_all.Given as goal
 

@@ -1,29 +1,12 @@
-use Rattle.std.proofs.Common.{◌≡◌, ◌∙◌, ◌&&◌, ◌≤◌, ℕ, Bool, List, None, ap, arith, false, not, refl, subst, sym, true, if◌then◌else◌, rules}
-use Rattle.std.specs.Prelude.{fold, nat_lt, option_map}
-use Rattle.std.specs.List.{list_any, sum_by}
-use Rattle.bq_job.specs.machine.Changes.{seat_with}
-use Rattle.bq_job.specs.machine.Dispatch.{is_job_before, is_waiting_for}
-use Rattle.bq_job.specs.machine.TubeCommands.{is_ready_in}
-use Rattle.bq_job.specs.machine.Tubes.{is_paused}
-use Rattle.bq_job.proofs.ChoiceLemmas.{first_of_none_passes}
-use Rattle.bq_job.proofs.ListLemmas.{all_always, list_any_not}
+use Rattle.std.proofs.Common.{◌&&◌, ◌∙◌, ◌≡◌, ◌≤◌, if◌then◌else◌, Bool, List, None, ℕ, ap, arith, false, not, refl, rules, subst, sym, true}
+use Rattle.std.specs.{List.{list_any, sum_by}, Prelude.{fold, nat_lt, option_map}}
+use Rattle.bq_job.specs.machine.{is_job_before, is_paused, is_ready_in, is_waiting_for, seat_with}
+use Rattle.bq_job.proofs.{ChoiceLemmas.first_of_none_passes, ListLemmas.{all_always, list_any_not}}
 use Rattle.bq_jobs.specs.Kept.{ranked}
-use Rattle.bq_state.specs.Cost.{waited_tubes}
-use Rattle.bq_state.specs.Crowds.{is_waiter}
-use Rattle.bq_state.specs.Offers.{is_waited_at, next_rank, offered, these, with_offers}
-use Rattle.bq_state.specs.CoreParts.{machine_of}
-use Rattle.bq_state.specs.Stirs.{AreKnown}
-use Rattle.bq_state.specs.declared.tubes.entry.Crowd.{Crowd}
-use Rattle.bq_state.specs.declared.core_parts.CoreParts.{CoreParts}
-use Rattle.bq_state.specs.declared.known.Stir.{Stir}
-use Rattle.bq_state.specs.declared.known.Stir.TheVariants.{Nothing}
-use Rattle.bq_core.proofs.AskLemmas.{asks_more}
-use Rattle.bq_state.proofs.ClientLemmas.{some_pass}
-use Rattle.bq_state.proofs.CrowdPlaces.{crowd_there}
-use Rattle.bq_core.proofs.DispatchLemmas.{next_offer, offered_is}
-use Rattle.bq_core.proofs.SearchLemmas.{client_entries, client_waits, rank_agrees, tube_entries, tube_waits}
-use Rattle.bq_state.proofs.StirLemmas.{none_known}
-use Rattle.bq_state.proofs.TubeLemmas.{paused_is}
+use Rattle.bq_state.specs.declared.{core_parts.CoreParts.CoreParts, known.Stir.{Stir, TheVariants.Nothing}, tubes.entry.Crowd.Crowd}
+use Rattle.bq_state.specs.{CoreParts.machine_of, Cost.waited_tubes, Crowds.is_waiter, Offers.{is_waited_at, next_rank, offered, these, with_offers}, Stirs.AreKnown}
+use Rattle.bq_state.proofs.{ClientLemmas.some_pass, CrowdPlaces.crowd_there, StirLemmas.none_known, TubeLemmas.paused_is}
+use Rattle.bq_core.proofs.{AskLemmas.asks_more, DispatchLemmas.{next_offer, offered_is}, SearchLemmas.{client_entries, client_waits, rank_agrees, tube_entries, tube_waits}}
 use Rattle.bq_core.proofs.dispatch.next_offer.Goals as goal
 
 -- the tube's count tells whether somebody waits at it

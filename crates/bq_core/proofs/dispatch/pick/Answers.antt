@@ -1,17 +1,11 @@
-use Rattle.std.proofs.Common.{◌≡◌, ◌∙◌, ap, subst, sym, true, Some, None}
-use Rattle.std.specs.Prelude.{is_some, option_map}
-use Rattle.std.specs.List.{AllByRecursion as All, list_any}
+use Rattle.std.proofs.Common.{◌∙◌, ◌≡◌, None, Some, ap, subst, sym, true}
+use Rattle.std.specs.{List.{AllByRecursion as All, list_any}, Prelude.{is_some, option_map}}
 use Rattle.bq_job.specs.declared.job.Job.{Job}
-use Rattle.bq_job.specs.machine.Changes.{first_of, job_with}
-use Rattle.bq_job.specs.machine.Dispatch.{is_wait_before, next_seat}
-use Rattle.bq_job.specs.machine.Machine.{SeatRecord}
+use Rattle.bq_job.specs.machine.{SeatRecord, first_of, is_wait_before, job_with, next_seat}
 use Rattle.bq_job.proofs.ComputedLemmas.{next_has_seat}
-use Rattle.bq_state.specs.Offers.{waits_at}
-use Rattle.bq_state.specs.CoreParts.{machine_of}
-use Rattle.bq_state.specs.Stirs.{may_get}
-use Rattle.bq_core.proofs.ActLemmas.{none_there, some_there}
-use Rattle.bq_core.proofs.DispatchLemmas.{next_is, next_there, seat_at_tube, some_at_tube, takers_known}
+use Rattle.bq_state.specs.{CoreParts.machine_of, Offers.waits_at, Stirs.may_get}
 use Rattle.bq_state.proofs.PartsLemmas.{ok_weaker}
+use Rattle.bq_core.proofs.{ActLemmas.{none_there, some_there}, DispatchLemmas.{next_is, next_there, seat_at_tube, some_at_tube, takers_known}}
 use Rattle.bq_core.proofs.dispatch.pick.Goals as goal
 
 pub returns-in_err-tube-clause-some : goal.returns-in_err-tube-clause-some

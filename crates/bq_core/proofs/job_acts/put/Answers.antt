@@ -1,21 +1,13 @@
-use Rattle.std.proofs.Common.{◌≡◌, ◌∙◌, ◌==◌, ◌+◌, ◌++◌, ◌∷◌, [], ap, arith, subst, sym, Some}
-use Rattle.bq_job.specs.declared.answer.Answer.TheVariants as answers
+use Rattle.std.proofs.Common.{◌++◌, ◌+◌, ◌==◌, ◌∙◌, ◌∷◌, ◌≡◌, Some, [], ap, arith, subst, sym}
 use Rattle.bq_job.specs.declared.job.Job.{Job}
-use Rattle.bq_job.specs.machine.Acts.{telling}
-use Rattle.bq_job.specs.machine.Changes.{job_with, seat_with}
-use Rattle.bq_job.specs.machine.JobCommands.{new_job, with_put}
-use Rattle.bq_job.specs.beside.Lawful.{AreIdsWithin}
-use Rattle.bq_job.specs.machine.Machine.{Machine, SeatRecord}
-use Rattle.bq_job.specs.machine.Tubes.{with_tube}
+use Rattle.bq_job.specs.declared.answer.Answer.TheVariants as answers
+use Rattle.bq_job.specs.{beside.AreIdsWithin, machine.{SeatRecord, job_with, new_job, seat_with, telling, with_put, with_tube, Machine.Machine}}
 use Rattle.bq_job.proofs.ListLemmas.{all_at, found_passes}
 use Rattle.bq_jobs.specs.Kept.{Kept, with_added}
-use Rattle.bq_core.specs.Putting.{after_given}
-use Rattle.bq_state.specs.CoreParts.{Held, machine_of}
-use Rattle.bq_state.specs.TubeEntries.{HasTubes, has_entry}
-use Rattle.bq_core.proofs.ActLemmas.{asker_connected, put_done}
+use Rattle.bq_state.specs.{Asking.Asks, CoreParts.{Held, machine_of}, TubeEntries.{HasTubes, has_entry}}
 use Rattle.bq_state.proofs.PartsLemmas.{some_next}
-use Rattle.bq_state.specs.Asking.{Asks}
-use Rattle.bq_core.proofs.AskLemmas.{asked_before}
+use Rattle.bq_core.specs.Putting.{after_given}
+use Rattle.bq_core.proofs.{ActLemmas.{asker_connected, put_done}, AskLemmas.asked_before}
 use Rattle.bq_core.proofs.job_acts.put.Goals as goal
 
 pub change_tube-requires : goal.change_tube-requires

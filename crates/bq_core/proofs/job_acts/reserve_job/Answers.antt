@@ -1,15 +1,9 @@
-use Rattle.std.proofs.Common.{◌≡◌, ◌∙◌, ap, false, sym}
+use Rattle.std.proofs.Common.{◌∙◌, ◌≡◌, ap, false, sym}
 use Rattle.bq_job.specs.declared.answer.Answer.TheVariants as answers
-use Rattle.bq_job.specs.machine.Acts.{telling}
-use Rattle.bq_job.specs.machine.Changes.{job_with, with_job}
-use Rattle.bq_job.specs.machine.Dispatch.{reserved_by}
-use Rattle.bq_job.specs.machine.JobStates.{is_reserved}
-use Rattle.bq_job.specs.machine.Machine.{Machine}
+use Rattle.bq_job.specs.machine.{is_reserved, job_with, reserved_by, telling, with_job, Machine.Machine}
 use Rattle.bq_state.specs.declared.job_store.JobTest.TheVariants.{Free}
-use Rattle.bq_state.specs.JobChanges.{passes}
-use Rattle.bq_state.specs.CoreParts.{machine_held, machine_of}
-use Rattle.bq_core.proofs.ActLemmas.{not_true, passed_by, reserve_job_done}
-use Rattle.bq_core.proofs.TurnLemmas.{if_ok}
+use Rattle.bq_state.specs.{CoreParts.{machine_held, machine_of}, JobChanges.passes}
+use Rattle.bq_core.proofs.{ActLemmas.{not_true, passed_by, reserve_job_done}, TurnLemmas.if_ok}
 use Rattle.bq_core.proofs.job_acts.reserve_job.Goals as goal
 
 pub returns-clause-reply : goal.returns-clause-reply

@@ -1,14 +1,10 @@
-use Rattle.std.proofs.Common.{◌≡◌, ◌∙◌, ◌==◌, ap, arith, map, subst, sym, if◌then◌else◌}
+use Rattle.std.proofs.Common.{◌==◌, ◌∙◌, ◌≡◌, if◌then◌else◌, ap, arith, map, subst, sym}
 use Rattle.std.specs.Prelude.{count_by}
 use Rattle.bq_job.specs.declared.job.Job.{Job}
-use Rattle.bq_job.specs.machine.Changes.{first_of}
-use Rattle.bq_job.specs.machine.JobCommands.{kicked}
-use Rattle.bq_job.specs.machine.Machine.{Machine}
-use Rattle.bq_state.specs.JobKinds.{is_before_of, is_of}
+use Rattle.bq_job.specs.machine.{first_of, kicked, Machine.Machine}
+use Rattle.bq_state.specs.{CoreParts.{machine_held, machine_of}, JobKinds.{is_before_of, is_of}}
 use Rattle.bq_core.specs.Kicking.{KicksFirst}
-use Rattle.bq_state.specs.CoreParts.{machine_held, machine_of}
-use Rattle.bq_core.proofs.FiringLemmas.{chosen, one_fewer}
-use Rattle.bq_core.proofs.KickLemmas.{kicks_first, no_id, none_of_kind}
+use Rattle.bq_core.proofs.{FiringLemmas.{chosen, one_fewer}, KickLemmas.{kicks_first, no_id, none_of_kind}}
 use Rattle.bq_core.proofs.kicks.kick_first.Goals as goal
 
 pub returns-in_default-clause-none : goal.returns-in_default-clause-none

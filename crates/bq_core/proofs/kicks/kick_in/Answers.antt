@@ -1,13 +1,11 @@
-use Rattle.std.proofs.Common.{◌≡◌, ◌∙◌, ap, arith, length, take}
+use Rattle.std.proofs.Common.{◌∙◌, ◌≡◌, ap, arith, length, take}
 use Rattle.std.specs.Prelude.{count_by}
-use Rattle.bq_job.specs.machine.JobCommands.{after_kick}
+use Rattle.bq_job.specs.machine.{after_kick, Machine.Machine}
 use Rattle.bq_jobs.specs.Kept.{Kept}
-use Rattle.bq_job.specs.machine.Machine.{Machine}
-use Rattle.bq_state.specs.JobKinds.{is_of}
+use Rattle.bq_state.specs.{CoreParts.machine_of, JobKinds.is_of}
+use Rattle.bq_state.proofs.PartsLemmas.{compared_sound}
 use Rattle.bq_core.specs.Kicking.{all_kicked, jobs_of}
 use Rattle.bq_core.proofs.CostLemmas.{kicked_changed}
-use Rattle.bq_state.specs.CoreParts.{machine_of}
-use Rattle.bq_state.proofs.PartsLemmas.{compared_sound}
 use Rattle.bq_core.proofs.kicks.kick_in.Goals as goal
 
 pub invariant_of-state : goal.invariant_of-state

@@ -1,12 +1,9 @@
-use Rattle.std.proofs.Common.{◌≡◌, ◌∙◌, ◌+◌, ◌-◌, suc, ap, arith, length, refl, sym, take, subst, if◌then◌else◌}
-use Rattle.bq_job.specs.machine.Machine.{Machine}
+use Rattle.std.proofs.Common.{◌+◌, ◌-◌, ◌∙◌, ◌≡◌, if◌then◌else◌, ap, arith, length, refl, subst, suc, sym, take}
 use Rattle.std.specs.Prelude.{count_by}
-use Rattle.bq_state.specs.JobKinds.{is_of}
+use Rattle.bq_job.specs.machine.Machine.{Machine}
+use Rattle.bq_state.specs.{Asking.Asks, CoreParts.machine_of, JobKinds.is_of}
 use Rattle.bq_core.specs.Kicking.{all_kicked, jobs_of}
-use Rattle.bq_state.specs.CoreParts.{machine_of}
-use Rattle.bq_state.specs.Asking.{Asks}
-use Rattle.bq_core.proofs.AskLemmas.{asks_more, asks_none, asks_then}
-use Rattle.bq_core.proofs.KickLemmas.{none_kicked, one_on, take_none, zero_more}
+use Rattle.bq_core.proofs.{AskLemmas.{asks_more, asks_none, asks_then}, KickLemmas.{none_kicked, one_on, take_none, zero_more}}
 use Rattle.bq_core.proofs.kicks.kick_some.Goals as goal
 
 pub loop-done-init : goal.loop-done-init

@@ -1,13 +1,9 @@
-use Rattle.std.proofs.Common.{◌≡◌, ◌∙◌, ap, refl, sym}
+use Rattle.std.proofs.Common.{◌∙◌, ◌≡◌, ap, refl, sym}
 use Rattle.bq_job.specs.declared.answer.Answer.TheVariants as answers
-use Rattle.bq_job.specs.machine.Acts.{telling}
-use Rattle.bq_job.specs.machine.Changes.{job_with}
-use Rattle.bq_job.specs.machine.Statistics.{job_statistics}
-use Rattle.bq_job.specs.machine.StatisticsCommands.{job_statistics_or_not}
+use Rattle.bq_job.specs.machine.{job_statistics, job_statistics_or_not, job_with, telling}
 use Rattle.bq_jobs.specs.Kept.{Kept}
 use Rattle.bq_state.specs.CoreParts.{held, machine_held, machine_of}
-use Rattle.bq_core.proofs.ActLemmas.{some_there}
-use Rattle.bq_core.proofs.TurnLemmas.{if_ok}
+use Rattle.bq_core.proofs.{ActLemmas.some_there, TurnLemmas.if_ok}
 use Rattle.bq_core.proofs.statistics_acts.stats_job.Goals as goal
 
 pub returns-in-Some-Ok-clause-reply : goal.returns-in-Some-Ok-clause-reply

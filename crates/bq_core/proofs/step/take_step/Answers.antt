@@ -1,17 +1,11 @@
-use Rattle.std.proofs.Common.{◌∙◌, ◌+◌, ◌*◌, ap, arith, sym, subst, ◌<◌}
+use Rattle.std.proofs.Common.{◌*◌, ◌+◌, ◌<◌, ◌∙◌, ap, arith, subst, sym}
 use Rattle.std.specs.Prelude.{count_by}
-use Rattle.bq_job.specs.machine.Machine.{Machine}
-use Rattle.bq_jobs.specs.Kept.{Kept}
-use Rattle.bq_state.specs.Asking.{Asks, AsksAsChanged}
-use Rattle.bq_core.specs.Firing.{is_ripe}
-use Rattle.bq_job.specs.machine.Timers.{after_timers}
-use Rattle.bq_core.specs.Serving.{NoneIsGone}
-use Rattle.bq_state.specs.CoreParts.{machine_of}
+use Rattle.bq_job.specs.machine.{after_timers, Machine.Machine}
 use Rattle.bq_job.proofs.LawfulLemmas.{step_is_lawful}
-use Rattle.bq_core.proofs.AskLemmas.{asks_more}
-use Rattle.bq_core.proofs.SettingLemmas.{settings_stay}
-use Rattle.bq_core.proofs.StepCosts.{step_within}
-use Rattle.bq_core.proofs.StepLemmas.{first_room, forgotten_none, less_room, room_after_act, timers_alike, whole_step}
+use Rattle.bq_jobs.specs.Kept.{Kept}
+use Rattle.bq_state.specs.{Asking.{Asks, AsksAsChanged}, CoreParts.machine_of}
+use Rattle.bq_core.specs.{Firing.is_ripe, Serving.NoneIsGone}
+use Rattle.bq_core.proofs.{AskLemmas.asks_more, SettingLemmas.settings_stay, StepCosts.step_within, StepLemmas.{first_room, forgotten_none, less_room, room_after_act, timers_alike, whole_step}}
 use Rattle.bq_core.proofs.step.take_step.Goals as goal
 
 pub serve-requires-clause-tubes : goal.serve-requires-clause-tubes

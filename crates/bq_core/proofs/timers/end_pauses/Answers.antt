@@ -1,15 +1,8 @@
-use Rattle.std.proofs.Common.{◌≡◌, ◌∙◌, ap, refl, false, sym}
+use Rattle.std.proofs.Common.{◌∙◌, ◌≡◌, ap, false, refl, sym}
 use Rattle.std.specs.List.{list_any}
-use Rattle.bq_job.specs.machine.Timers.{tube_after_timers}
-use Rattle.bq_state.specs.KeptTubes.{KeptTubes}
-use Rattle.bq_state.specs.Dues.{first_pause_end, is_end_over}
-use Rattle.bq_state.specs.CoreParts.{machine_of}
-use Rattle.bq_state.specs.TubeEntries.{counted, is_counted, is_pause_over}
-use Rattle.bq_state.proofs.PauseLemmas.{no_pause_ends, none_counted}
-use Rattle.bq_state.proofs.KnowledgeLemmas.{so_with_pauses}
-use Rattle.bq_state.proofs.PauseLemmas.{none_over}
-use Rattle.bq_state.proofs.PartsLemmas.{entries_of_timers}
-use Rattle.bq_state.proofs.TubeLemmas.{filter_of_map}
+use Rattle.bq_job.specs.machine.{tube_after_timers}
+use Rattle.bq_state.specs.{CoreParts.machine_of, Dues.{first_pause_end, is_end_over}, KeptTubes.KeptTubes, TubeEntries.{counted, is_counted, is_pause_over}}
+use Rattle.bq_state.proofs.{KnowledgeLemmas.so_with_pauses, PartsLemmas.entries_of_timers, PauseLemmas.{no_pause_ends, none_counted, none_over}, TubeLemmas.filter_of_map}
 use Rattle.bq_core.proofs.timers.end_pauses.Goals as goal
 
 pub returns-clause-after : goal.returns-clause-after

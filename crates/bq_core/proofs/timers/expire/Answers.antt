@@ -1,9 +1,8 @@
-use Rattle.std.proofs.Common.{◌∙◌, ap, if◌then◌else◌, sym, subst, ◌<◌}
+use Rattle.std.proofs.Common.{◌<◌, ◌∙◌, if◌then◌else◌, ap, subst, sym}
 use Rattle.std.specs.Prelude.{count_by}
-use Rattle.bq_job.specs.machine.Limits.{grown}
-use Rattle.bq_job.specs.machine.Machine.{Machine}
-use Rattle.bq_core.specs.Firing.{is_ripe}
+use Rattle.bq_job.specs.machine.{grown, Machine.Machine}
 use Rattle.bq_state.specs.CoreParts.{machine_of}
+use Rattle.bq_core.specs.Firing.{is_ripe}
 use Rattle.bq_core.proofs.FiringLemmas.{counted_fired, fewer_expired, none_fires}
 use Rattle.bq_core.proofs.timers.expire.Goals as goal
 

@@ -1,8 +1,8 @@
-use Rattle.std.proofs.Common.{◌≡◌, ◌<◌, ap, arith, refl, subst, ◌∙◌}
+use Rattle.std.proofs.Common.{◌<◌, ◌∙◌, ◌≡◌, ap, arith, refl, subst}
 use Rattle.std.specs.Prelude.{count_by}
 use Rattle.bq_job.specs.machine.Machine.{Machine}
-use Rattle.bq_core.specs.Firing.{is_ripe}
 use Rattle.bq_state.specs.CoreParts.{machine_of}
+use Rattle.bq_core.specs.Firing.{is_ripe}
 use Rattle.bq_core.proofs.AskLemmas.{asks_more, asks_none, asks_then}
 use Rattle.bq_core.proofs.timers.fire_jobs.Goals as goal
 

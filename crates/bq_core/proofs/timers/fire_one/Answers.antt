@@ -1,7 +1,6 @@
-use Rattle.std.proofs.Common.{◌≡◌, ◌∙◌, ◌+◌, ◌≤◌, Bool, ap, arith, subst, sym, true, false, if◌then◌else◌}
+use Rattle.std.proofs.Common.{◌+◌, ◌∙◌, ◌≡◌, ◌≤◌, if◌then◌else◌, Bool, ap, arith, false, subst, sym, true}
 use Rattle.std.specs.List.{list_any}
-use Rattle.bq_job.specs.machine.Machine.{Machine}
-use Rattle.bq_job.specs.machine.Timers.{is_due}
+use Rattle.bq_job.specs.machine.{is_due, Machine.Machine}
 use Rattle.bq_state.specs.Asking.{Asks}
 use Rattle.bq_core.specs.Firing.{after_job_timers}
 use Rattle.bq_core.proofs.AskLemmas.{asks_more, asks_then}

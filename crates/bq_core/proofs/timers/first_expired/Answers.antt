@@ -1,6 +1,5 @@
-use Rattle.std.proofs.Common.{sym, ◌∙◌, arith}
-use Rattle.bq_job.specs.machine.JobStates.{is_reserved}
-use Rattle.bq_job.specs.machine.Timers.{is_expired}
+use Rattle.std.proofs.Common.{◌∙◌, arith, sym}
+use Rattle.bq_job.specs.machine.{is_expired, is_reserved}
 use Rattle.bq_jobs.specs.Leases.{deadline_of}
 use Rattle.bq_core.proofs.FiringLemmas.{expiries_are, first_past, none_past, none_there}
 use Rattle.bq_core.proofs.timers.first_expired.Goals as goal

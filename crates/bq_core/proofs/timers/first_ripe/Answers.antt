@@ -1,6 +1,5 @@
-use Rattle.std.proofs.Common.{sym, ◌∙◌, arith}
-use Rattle.bq_job.specs.machine.JobStates.{due_of, is_delayed}
-use Rattle.bq_job.specs.machine.Timers.{is_due}
+use Rattle.std.proofs.Common.{◌∙◌, arith, sym}
+use Rattle.bq_job.specs.machine.{due_of, is_delayed, is_due}
 use Rattle.bq_core.proofs.FiringLemmas.{dues_are, first_past, none_past, none_there}
 use Rattle.bq_core.proofs.timers.first_ripe.Goals as goal
 

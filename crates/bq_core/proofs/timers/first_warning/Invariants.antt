@@ -1,9 +1,7 @@
 -- the least moment so far
 use Rattle.std.proofs.Common.{◌≡◌, None, take}
 use Rattle.std.specs.Prelude.{fold}
-use Rattle.bq_state.specs.Asking.{Asks}
-use Rattle.bq_state.specs.Dues.{with_warning_due}
-use Rattle.bq_state.specs.WaitingTurns.{at_turn}
+use Rattle.bq_state.specs.{Asking.Asks, Dues.with_warning_due, WaitingTurns.at_turn}
 use Rattle.bq_core.proofs.timers.first_warning.Given as goal
 
 abbrev pub invariant-loop-i : goal.invariant-loop-i

@@ -1,10 +1,9 @@
-use Rattle.std.proofs.Common.{◌∙◌, ap, sym, subst, ◌<◌}
+use Rattle.std.proofs.Common.{◌<◌, ◌∙◌, ap, subst, sym}
 use Rattle.std.specs.Prelude.{count_by}
-use Rattle.bq_job.specs.machine.Changes.{in_state, is_held_by, with_job}
-use Rattle.bq_job.specs.machine.Machine.{Machine}
+use Rattle.bq_job.specs.machine.{in_state, is_held_by, with_job, Machine.Machine}
 use Rattle.bq_jobs.specs.Kept.{Kept}
-use Rattle.bq_core.specs.Firing.{after_giving_back}
 use Rattle.bq_state.specs.CoreParts.{machine_of}
+use Rattle.bq_core.specs.Firing.{after_giving_back}
 use Rattle.bq_core.proofs.FiringLemmas.{given_fewer, given_none, given_one}
 use Rattle.bq_core.proofs.timers.give_back_one.Goals as goal
 

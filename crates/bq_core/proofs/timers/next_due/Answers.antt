@@ -1,14 +1,10 @@
-use Rattle.std.proofs.Common.{◌≡◌, ◌∙◌, None, ap, sym}
+use Rattle.std.proofs.Common.{◌∙◌, ◌≡◌, None, ap, sym}
 use Rattle.std.specs.Prelude.{flat_map, fold, is_some}
 use Rattle.bq_job.specs.declared.job.Job.{Job}
-use Rattle.bq_job.specs.machine.Machine.{SeatRecord, TubeRecord}
-use Rattle.bq_job.specs.beside.NextDue.{dues_of_pause, dues_of_state, dues_of_wait, earliest}
+use Rattle.bq_job.specs.{beside.{dues_of_pause, dues_of_state, dues_of_wait, earliest}, machine.{SeatRecord, TubeRecord}}
 use Rattle.bq_jobs.specs.Kept.{Kept}
-use Rattle.bq_state.specs.Dues.{earlier_of_both, with_seat_due, with_warning_due}
-use Rattle.bq_state.specs.CoreParts.{held, machine_held, machine_of}
-use Rattle.bq_state.specs.TubeEntries.{counted}
-use Rattle.bq_state.proofs.DueLemmas.{all_due, earliest_of_all, jobs_due_is, pauses_counted}
-use Rattle.bq_state.proofs.KnowledgeLemmas.{so_settled}
+use Rattle.bq_state.specs.{CoreParts.{held, machine_held, machine_of}, Dues.{earlier_of_both, with_seat_due, with_warning_due}, TubeEntries.counted}
+use Rattle.bq_state.proofs.{DueLemmas.{all_due, earliest_of_all, jobs_due_is, pauses_counted}, KnowledgeLemmas.so_settled}
 use Rattle.bq_core.proofs.timers.next_due.Goals as goal
 
 pub warnings_due-warning-requires-clause-warned : goal.warnings_due-warning-requires-clause-warned

@@ -1,10 +1,8 @@
-use Rattle.std.proofs.Common.{◌∙◌, ap, sym, subst, ◌<◌}
+use Rattle.std.proofs.Common.{◌<◌, ◌∙◌, ap, subst, sym}
 use Rattle.std.specs.Prelude.{count_by}
-use Rattle.bq_job.specs.machine.Changes.{with_job}
-use Rattle.bq_job.specs.machine.Machine.{Machine}
-use Rattle.bq_job.specs.machine.Timers.{job_after_timers}
-use Rattle.bq_core.specs.Firing.{after_job_timers, is_ripe}
+use Rattle.bq_job.specs.machine.{job_after_timers, with_job, Machine.Machine}
 use Rattle.bq_state.specs.CoreParts.{Held, machine_held, machine_of}
+use Rattle.bq_core.specs.Firing.{after_job_timers, is_ripe}
 use Rattle.bq_core.proofs.FiringLemmas.{fewer_due, fired_due}
 use Rattle.bq_core.proofs.timers.ripen.Goals as goal
 

@@ -1,12 +1,8 @@
 use Rattle.std.proofs.Common.{◌∙◌, None, ap, arith, length, subst, sym}
 use Rattle.std.specs.Prelude.{fold}
-use Rattle.bq_state.specs.Warnings.{AreWarned}
-use Rattle.bq_state.specs.Dues.{warning_due_at, with_warning_due}
-use Rattle.bq_state.specs.WaitingTurns.{at_turn}
+use Rattle.bq_state.specs.{Dues.{warning_due_at, with_warning_due}, WaitingTurns.at_turn, Warnings.AreWarned}
+use Rattle.bq_state.proofs.{DueLemmas.warnings_walked, WaitingLemmas.turns_counted, WarningLemmas.{none_due, one_due, one_waits}}
 use Rattle.bq_core.proofs.AskLemmas.{asks_more}
-use Rattle.bq_state.proofs.DueLemmas.{warnings_walked}
-use Rattle.bq_state.proofs.WaitingLemmas.{turns_counted}
-use Rattle.bq_state.proofs.WarningLemmas.{none_due, one_due, one_waits}
 use Rattle.bq_core.proofs.timers.warnings_due.Goals as goal
 
 pub returns-in-Nobody-clause-due : goal.returns-in-Nobody-clause-due

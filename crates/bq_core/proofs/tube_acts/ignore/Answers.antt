@@ -1,9 +1,7 @@
-use Rattle.std.proofs.Common.{◌≡◌, ◌∙◌, ap, sym, not}
+use Rattle.std.proofs.Common.{◌∙◌, ◌≡◌, ap, not, sym}
 use Rattle.std.specs.List.{list_any}
 use Rattle.bq_job.specs.declared.answer.Answer.TheVariants as answers
-use Rattle.bq_job.specs.machine.Acts.{telling}
-use Rattle.bq_job.specs.machine.Machine.{SeatRecord}
-use Rattle.bq_job.specs.reading.TubeName.{is_same_name}
+use Rattle.bq_job.specs.{machine.{SeatRecord, telling}, reading.TubeName.is_same_name}
 use Rattle.bq_state.specs.CoreParts.{machine_of}
 use Rattle.bq_core.proofs.ActLemmas.{ignored_now, not_ignored}
 use Rattle.bq_core.proofs.tube_acts.ignore.Goals as goal

@@ -1,8 +1,6 @@
-use Rattle.std.proofs.Common.{◌≡◌, ◌∙◌, ap, sym, length}
+use Rattle.std.proofs.Common.{◌∙◌, ◌≡◌, ap, length, sym}
 use Rattle.bq_job.specs.declared.answer.Answer.TheVariants as answers
-use Rattle.bq_job.specs.machine.Acts.{telling}
-use Rattle.bq_job.specs.machine.Machine.{SeatRecord}
-use Rattle.bq_job.specs.machine.Tubes.{watches}
+use Rattle.bq_job.specs.machine.{SeatRecord, telling, watches}
 use Rattle.bq_state.specs.CoreParts.{machine_of}
 use Rattle.bq_core.proofs.ActLemmas.{watched_already, watched_now}
 use Rattle.bq_core.proofs.tube_acts.watch.Goals as goal

@@ -1,10 +1,7 @@
 -- what the looks so far gave, and how often they asked
-use Rattle.std.proofs.Common.{◌≤◌, ◌-◌}
-use Rattle.bq_job.specs.beside.Computed.{waiting_count}
-use Rattle.bq_job.specs.machine.Waits.{WaitEndTurn}
-use Rattle.bq_state.specs.Asking.{Asks}
-use Rattle.bq_state.specs.EndingWaits.{AreLookedAt, left_after}
-use Rattle.bq_state.specs.CoreParts.{machine_of}
+use Rattle.std.proofs.Common.{◌-◌, ◌≤◌}
+use Rattle.bq_job.specs.{beside.waiting_count, machine.WaitEndTurn}
+use Rattle.bq_state.specs.{Asking.Asks, CoreParts.machine_of, EndingWaits.{AreLookedAt, left_after}}
 use Rattle.bq_core.specs.Turns.{Gives, HasRoom, none_refused}
 use Rattle.bq_core.proofs.waits.end_all.Given as goal
 

@@ -1,10 +1,9 @@
-use Rattle.std.proofs.Common.{◌≡◌, ◌∙◌, ap, false, sym}
+use Rattle.std.proofs.Common.{◌∙◌, ◌≡◌, ap, false, sym}
 use Rattle.std.specs.List.{list_any}
 use Rattle.bq_jobs.specs.Kept.{Kept}
-use Rattle.bq_state.specs.EndingWaits.{is_lease_short}
-use Rattle.bq_state.specs.CoreParts.{Held, held, machine_held, machine_of}
-use Rattle.bq_core.proofs.FiringLemmas.{nobody_ends, none_ends}
+use Rattle.bq_state.specs.{CoreParts.{Held, held, machine_held, machine_of}, EndingWaits.is_lease_short}
 use Rattle.bq_state.proofs.PartsLemmas.{compared_sound}
+use Rattle.bq_core.proofs.FiringLemmas.{nobody_ends, none_ends}
 use Rattle.bq_core.proofs.waits.may_end.Goals as goal
 
 pub returns-then-not-has_waiter-clause-none : goal.returns-then-not-has_waiter-clause-none

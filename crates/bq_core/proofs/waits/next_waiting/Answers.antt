@@ -1,9 +1,7 @@
-use Rattle.std.proofs.Common.{◌∙◌, ap, slice_get, sym, subst, ◌<◌, length}
+use Rattle.std.proofs.Common.{◌<◌, ◌∙◌, ap, length, slice_get, subst, sym}
 use Rattle.std.specs.Prelude.{find}
-use Rattle.bq_job.specs.machine.Changes.{first_of}
-use Rattle.bq_job.specs.machine.Dispatch.{is_wait_before}
-use Rattle.bq_state.specs.EndingWaits.{waits_after}
-use Rattle.bq_state.specs.WaitingTurns.{is_turn_after}
+use Rattle.bq_job.specs.machine.{first_of, is_wait_before}
+use Rattle.bq_state.specs.{EndingWaits.waits_after, WaitingTurns.is_turn_after}
 use Rattle.bq_state.proofs.WalkLemmas.{first_read, next_turn, none_first}
 use Rattle.bq_core.proofs.waits.next_waiting.Goals as goal
 

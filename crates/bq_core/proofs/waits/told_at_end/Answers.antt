@@ -1,9 +1,8 @@
 use Rattle.std.proofs.Common.{◌∙◌, ap, sym}
 use Rattle.std.specs.List.{list_any}
-use Rattle.bq_job.specs.machine.Waits.{is_ending_lease, is_timed_out_at}
+use Rattle.bq_job.specs.machine.{is_ending_lease, is_timed_out_at}
 use Rattle.bq_state.specs.CoreParts.{machine_of}
-use Rattle.bq_core.proofs.TurnLemmas.{same_read}
-use Rattle.bq_core.proofs.WaitLemmas.{told_none, told_over, told_soon}
+use Rattle.bq_core.proofs.{TurnLemmas.same_read, WaitLemmas.{told_none, told_over, told_soon}}
 use Rattle.bq_core.proofs.waits.told_at_end.Goals as goal
 
 pub returns-then-is_deadline_soon-clause-told : goal.returns-then-is_deadline_soon-clause-told

@@ -1,9 +1,7 @@
-use Rattle.std.proofs.Common.{◌≡◌, ◌∙◌, ◌<◌, Some, ap, arith, refl, subst, sym}
+use Rattle.std.proofs.Common.{◌<◌, ◌∙◌, ◌≡◌, Some, ap, arith, refl, subst, sym}
 use Rattle.std.specs.Prelude.{ℕ}
-use Rattle.bq_state.specs.EndingWaits.{AreLookedAt, left_after, turn_of}
-use Rattle.bq_state.specs.CoreParts.{machine_of}
-use Rattle.bq_core.proofs.TurnLemmas.{same_read}
-use Rattle.bq_core.proofs.WaitLemmas.{here, look_falls, look_given, look_passed, none_left, one_waits, s}
+use Rattle.bq_state.specs.{CoreParts.machine_of, EndingWaits.{AreLookedAt, left_after, turn_of}}
+use Rattle.bq_core.proofs.{TurnLemmas.same_read, WaitLemmas.{here, look_falls, look_given, look_passed, none_left, one_waits, s}}
 use Rattle.bq_core.proofs.waits.turn.Goals as goal
 
 pub returns-in_default-clause-done : goal.returns-in_default-clause-done

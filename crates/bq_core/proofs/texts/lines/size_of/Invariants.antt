@@ -1,5 +1,5 @@
 -- The bytes so far, and those of the lines that are left, are the text's.
-use Rattle.std.proofs.Common.{◌≡◌, ◌+◌, ◌++◌, codes, length, flat_map, drop}
+use Rattle.std.proofs.Common.{◌++◌, ◌+◌, ◌≡◌, codes, drop, flat_map, length}
 use Rattle.bq_core.proofs.texts.lines.size_of.Given as goal
 
 abbrev pub invariant-loop-line : goal.invariant-loop-line

@@ -1,5 +1,5 @@
 -- The bytes so far, and those of the lines that are left, are the text's; and there is room for these.
-use Rattle.std.proofs.Common.{◌≡◌, ◌≤◌, ◌++◌, length, flat_map, drop}
+use Rattle.std.proofs.Common.{◌++◌, ◌≡◌, ◌≤◌, drop, flat_map, length}
 use Rattle.bq_core.proofs.texts.lines.write_all.Given as goal
 
 abbrev pub invariant-loop-line : goal.invariant-loop-line

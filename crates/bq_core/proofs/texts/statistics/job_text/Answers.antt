@@ -1,11 +1,8 @@
 -- The lines are those of the definition, at a machine of this moment.
-use Rattle.std.proofs.Common.{◌≡◌, ◌∙◌, [], ◌∷◌, ap, sym}
+use Rattle.std.proofs.Common.{◌∙◌, ◌∷◌, ◌≡◌, [], ap, sym}
 use Rattle.bq_job.specs.declared.job.Job.{Job}
-use Rattle.bq_job.specs.machine.Machine.{Machine}
-use Rattle.bq_job.specs.machine.Statistics.{job_statistics, seconds_between, state_word, time_left}
-use Rattle.bq_job.specs.texts.Yaml.{statistics_text}
-use Rattle.bq_jobs.specs.Seen.{in_tube}
-use Rattle.bq_jobs.specs.Stages.{state_of}
+use Rattle.bq_job.specs.{machine.{job_statistics, seconds_between, state_word, time_left, Machine.Machine}, texts.Yaml.statistics_text}
+use Rattle.bq_jobs.specs.{Seen.in_tube, Stages.state_of}
 use Rattle.bq_core.proofs.TextLemmas.{told_of, with_number, with_word}
 use Rattle.bq_core.proofs.texts.statistics.job_text.Goals as goal
 

@@ -1,7 +1,6 @@
 -- The lines are those of the definition, at a machine whose numbers these are.
-use Rattle.std.proofs.Common.{◌∙◌, [], ◌∷◌, ap}
-use Rattle.bq_job.specs.machine.Statistics.{bool_word, server_statistics}
-use Rattle.bq_job.specs.texts.Yaml.{statistics_text}
+use Rattle.std.proofs.Common.{◌∙◌, ◌∷◌, [], ap}
+use Rattle.bq_job.specs.{machine.{bool_word, server_statistics}, texts.Yaml.statistics_text}
 use Rattle.bq_core.specs.Numbers.{AreOfServer}
 use Rattle.bq_core.proofs.TextLemmas.{told_of, with_number, with_word}
 use Rattle.bq_core.proofs.texts.statistics.server_text.Goals as goal
