@@ -1,22 +1,12 @@
 -- Counts of seats, once one seat changes.
-use Rattle.std.proofs.Common.{◌≡◌, ◌∙◌, ◌+◌, ◌≤◌, ◌<◌, ◌==◌, ℕ, suc, Bool, true, false, cond, not, List, [], ◌∷◌, Some, if◌then◌else◌, refl, sym, ap, arith, length, map, filter, set, slice_get, inl, inr}
-use Rattle.std.specs.Prelude.{count_by, nat_lt}
-use Rattle.std.specs.List.{list_any}
-use Rattle.std.proofs.lemmas.Bool.{cases_Bool, eqb-true, lt-ltb, ne_eqb}
-use Rattle.std.proofs.lemmas.List.{length-map}
-use Rattle.std.proofs.lemmas.List.Sums.{count_by-le-length}
-use Rattle.bq_job.specs.machine.Changes.{is_waiting, seat_with}
-use Rattle.bq_job.specs.machine.Limits.{greatest}
-use Rattle.bq_job.specs.machine.Machine.{SeatRecord, empty_seat, numbers}
-use Rattle.bq_job.specs.machine.TubeCommands.{watching}
+use Rattle.std.proofs.Common.{◌+◌, ◌<◌, ◌==◌, ◌∙◌, ◌∷◌, ◌≡◌, ◌≤◌, if◌then◌else◌, Bool, List, Some, [], ℕ, ap, arith, cond, false, filter, inl, inr, length, map, not, refl, set, slice_get, suc, sym, true}
+use Rattle.std.proofs.lemmas.{Bool.{cases_Bool, eqb-true, lt-ltb, ne_eqb}, List.{length-map, Sums.count_by-le-length}}
+use Rattle.std.specs.{List.list_any, Prelude.{count_by, nat_lt}}
+use Rattle.bq_job.specs.machine.{SeatRecord, empty_seat, greatest, is_waiting, numbers, seat_with, watching}
 use Rattle.bq_job.proofs.ListLemmas.{count_cons}
-use Rattle.bq_state.specs.declared.known.Clients.{Clients}
-use Rattle.bq_state.specs.declared.seats.SeatChange.{SeatChange}
-use Rattle.bq_state.specs.Clients.{clients_of, clients_with, clients_without, seat_passes}
-use Rattle.bq_state.specs.SeatChanges.{AreNumbered, seat_changed, seat_changed_at}
-use Rattle.bq_state.specs.Tallies.{count_with, count_without}
-use Rattle.bq_state.proofs.PartsLemmas.{changed_there, number_kept}
-use Rattle.bq_state.proofs.TallyLemmas.{with_is, without_is}
+use Rattle.bq_state.specs.declared.{known.Clients.Clients, seats.SeatChange.SeatChange}
+use Rattle.bq_state.specs.{Clients.{clients_of, clients_with, clients_without, seat_passes}, SeatChanges.{AreNumbered, seat_changed, seat_changed_at}, Tallies.{count_with, count_without}}
+use Rattle.bq_state.proofs.{PartsLemmas.{changed_there, number_kept}, TallyLemmas.{with_is, without_is}}
 
 -- all seats but that of the number
 abbrev pub others : ℕ → List SeatRecord → List SeatRecord

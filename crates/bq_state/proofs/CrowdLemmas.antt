@@ -1,30 +1,12 @@
 -- Counts of the clients at tubes, once a seat changes.
-use Rattle.std.proofs.Common.{◌≡◌, ◌∙◌, ◌≤◌, ◌==◌, ℕ, Bool, true, false, not, ◌&&◌, ◌||◌, List, [], ◌∷◌, Option, Some, None, if◌then◌else◌, refl, sym, ap, length, map, inl, inr}
-use Rattle.std.proofs.Math.Bool.{and-false}
-use Rattle.std.specs.Prelude.{count_by}
-use Rattle.std.specs.List.{AllByRecursion as All, list_any}
-use Rattle.std.specs.Cmp.Lexicographic.{bytes_decides}
-use Rattle.std.proofs.lemmas.Bool.{and_parts, cases_Bool}
-use Rattle.bq_job.specs.machine.Changes.{is_waiting, seat_with}
-use Rattle.bq_job.specs.beside.Lawful.{none_twice}
-use Rattle.bq_job.specs.machine.Limits.{greatest}
-use Rattle.bq_job.specs.machine.Machine.{SeatRecord, TubeRecord}
-use Rattle.bq_job.specs.reading.TubeName.{is_same_name}
-use Rattle.bq_job.specs.machine.Tubes.{is_name_before, is_seated_at, watches}
-use Rattle.bq_state.specs.declared.tubes.entry.Crowd.{Crowd}
-use Rattle.bq_state.specs.declared.tubes.entry.Moving.{Moving}
-use Rattle.bq_state.specs.declared.tubes.entry.Moving.TheVariants.{Comes, Goes}
-use Rattle.bq_state.specs.declared.tubes.entry.Share.{Share}
-use Rattle.bq_state.specs.declared.seats.SeatChange.{SeatChange}
-use Rattle.bq_state.specs.declared.seats.SeatChange.TheVariants.{StopWaiting, Wait, Connect, Clear, End, Use}
-use Rattle.bq_state.specs.SeatStates.{is_asking, is_connected}
-use Rattle.bq_state.specs.Crowds.{AreCrowds, IsSeated, crowd_in, crowd_of, crowd_with, crowd_without, crowds_at, crowds_at_all, crowds_of, crowds_recounted, crowds_recounted_for, has_seats, is_none, is_user, is_waiter, is_watcher, may_wait, recounted, share_as_user, share_as_watcher, touched}
-use Rattle.bq_state.specs.SeatChanges.{AreNumbered, seat_changed, seat_changed_at}
-use Rattle.bq_state.specs.Tallies.{count_with, count_without}
+use Rattle.std.proofs.{Common.{◌&&◌, ◌==◌, ◌||◌, ◌∙◌, ◌∷◌, ◌≡◌, ◌≤◌, if◌then◌else◌, Bool, List, None, Option, Some, [], ℕ, ap, false, inl, inr, length, map, not, refl, sym, true}, lemmas.Bool.{and_parts, cases_Bool}, Math.Bool.and-false}
+use Rattle.std.specs.{Cmp.Lexicographic.bytes_decides, List.{AllByRecursion as All, list_any}, Prelude.count_by}
+use Rattle.bq_job.specs.{beside.none_twice, machine.{SeatRecord, TubeRecord, greatest, is_name_before, is_seated_at, is_waiting, seat_with, watches}, reading.TubeName.is_same_name}
+use Rattle.bq_state.specs.declared.{seats.SeatChange.{SeatChange, TheVariants.{Clear, Connect, End, StopWaiting, Use, Wait}}, tubes.entry.{Crowd.Crowd, Moving.{Moving, TheVariants.{Comes, Goes}}, Share.Share}}
+use Rattle.bq_state.specs.Crowds.{AreCrowds, IsSeated, crowd_in, crowd_of, crowd_with, crowd_without, crowds_at, crowds_at_all, crowds_of, crowds_recounted, crowds_recounted_for, has_seats, is_none, is_user, is_waiter, is_watcher, may_wait}
+use Rattle.bq_state.specs.{Crowds.{recounted, share_as_user, share_as_watcher, touched}, SeatChanges.{AreNumbered, seat_changed, seat_changed_at}, SeatStates.{is_asking, is_connected}, Tallies.{count_with, count_without}}
 use Rattle.bq_state.specs.TubeEntries.{AreInOrder}
-use Rattle.bq_state.proofs.ClientLemmas.{count_changed, count_stays, found_changed, some_pass}
-use Rattle.bq_state.proofs.PartsLemmas.{all_read, all_set, changed_there, number_kept, numbered_after, seat_there}
-use Rattle.bq_state.proofs.TubeLemmas.{before_differs, same_name}
+use Rattle.bq_state.proofs.{ClientLemmas.{count_changed, count_stays, found_changed, some_pass}, PartsLemmas.{all_read, all_set, changed_there, number_kept, numbered_after, seat_there}, TubeLemmas.{before_differs, same_name}}
 
 -- names are the same either way round
 pub same_turned : (a b : List ℕ) → is_same_name a b ≡ is_same_name b a

@@ -1,26 +1,13 @@
 -- The counts of the clients at tubes stand at the places of their entries.
-use Rattle.std.proofs.Common.{◌≡◌, ◌∙◌, ◌||◌, ◌++◌, ℕ, Bool, true, false, ◌&&◌, List, [], ◌∷◌, refl, sym, ap, map, inl, inr}
-use Rattle.std.specs.Prelude.{count_by, drop, nat_lt, take}
-use Rattle.std.proofs.lemmas.List.{drop-map, map-append, take-map}
-use Rattle.std.specs.List.{AllByRecursion as All, insert, list_any, prefix_len}
-use Rattle.std.proofs.lemmas.Bool.{cases_Bool}
+use Rattle.std.proofs.{Common.{◌&&◌, ◌++◌, ◌||◌, ◌∙◌, ◌∷◌, ◌≡◌, Bool, List, [], ℕ, ap, false, inl, inr, map, refl, sym, true}, lemmas.{Bool.cases_Bool, List.{drop-map, map-append, take-map}}}
+use Rattle.std.specs.{List.{AllByRecursion as All, insert, list_any, prefix_len}, Prelude.{count_by, drop, nat_lt, take}}
 use Rattle.bq_job.specs.declared.job.Job.{Job}
-use Rattle.bq_job.specs.machine.Changes.{is_waiting}
-use Rattle.bq_job.specs.machine.Machine.{SeatRecord, TubeRecord, default_tube, empty_seat}
-use Rattle.bq_job.specs.reading.TubeName.{is_same_name}
-use Rattle.bq_job.specs.machine.Tubes.{fresh_tube, is_name_before, is_seated_at, watches}
+use Rattle.bq_job.specs.{machine.{SeatRecord, TubeRecord, default_tube, empty_seat, fresh_tube, is_name_before, is_seated_at, is_waiting, watches}, reading.TubeName.is_same_name}
 use Rattle.bq_job.proofs.ListLemmas.{all_weaker, count_all_not, list_any_not, none_pass}
-use Rattle.bq_state.specs.declared.known.Clients.{Clients}
-use Rattle.bq_state.specs.declared.tubes.entry.Crowd.{Crowd}
-use Rattle.bq_state.specs.declared.known.Tally.{Tally}
-use Rattle.bq_state.specs.Clients.{clients_of}
-use Rattle.bq_state.specs.Crowds.{AreCrowds, IsSeated, crowd_at, crowd_in, crowd_of, crowds_of, crowds_provided, has_seats, is_user, is_waiter, is_watcher, no_crowd}
-use Rattle.bq_state.specs.Tallies.{has_jobs, tallies_of, tally_at}
+use Rattle.bq_state.specs.declared.{known.{Clients.Clients, Tally.Tally}, tubes.entry.Crowd.Crowd}
+use Rattle.bq_state.specs.{Clients.clients_of, Crowds.{AreCrowds, IsSeated, crowd_at, crowd_in, crowd_of, crowds_of, crowds_provided, has_seats, is_user, is_waiter, is_watcher, no_crowd}, Tallies.{has_jobs, tallies_of, tally_at}}
 use Rattle.bq_state.specs.TubeEntries.{AreEntries, HasTubes, has_entry, is_tube_by, is_tube_of, provided}
-use Rattle.bq_state.proofs.ClientLemmas.{some_pass}
-use Rattle.bq_state.proofs.CrowdLemmas.{has_seats_of}
-use Rattle.bq_state.proofs.TallyPlaces.{has_jobs_in, tally_there}
-use Rattle.bq_state.proofs.TubeLemmas.{provided_new, same_name}
+use Rattle.bq_state.proofs.{ClientLemmas.some_pass, CrowdLemmas.has_seats_of, TallyPlaces.{has_jobs_in, tally_there}, TubeLemmas.{provided_new, same_name}}
 
 -- counts of 0
 pub nobody_counted : (c : Crowd) → (c.using ≡ 0) × ((c.watching ≡ 0) × (c.waiting ≡ 0)) → c ≡ no_crowd

@@ -1,25 +1,12 @@
 -- Counts of the clients at tubes, once a client watches a tube more, or one fewer.
-use Rattle.std.proofs.Common.{◌≡◌, ◌∙◌, ◌≤◌, ◌==◌, ℕ, Bool, true, false, not, ◌&&◌, ◌||◌, List, [], ◌∷◌, ◌++◌, Some, if◌then◌else◌, refl, sym, ap, length, map, filter, set, slice_get}
+use Rattle.std.proofs.{Common.{◌&&◌, ◌++◌, ◌==◌, ◌||◌, ◌∙◌, ◌∷◌, ◌≡◌, ◌≤◌, if◌then◌else◌, Bool, List, Some, [], ℕ, ap, false, filter, length, map, not, refl, set, slice_get, sym, true}, lemmas.Bool.{and_from, and_parts}}
 use Rattle.std.proofs.Math.Bool.{and-false, or-false}
-use Rattle.std.specs.Prelude.{count_by}
-use Rattle.std.specs.List.{list_any}
-use Rattle.std.proofs.lemmas.Bool.{and_from, and_parts}
-use Rattle.bq_job.specs.machine.Changes.{is_waiting}
-use Rattle.bq_job.specs.beside.Lawful.{none_twice}
-use Rattle.bq_job.specs.machine.Limits.{greatest}
-use Rattle.bq_job.specs.machine.Machine.{SeatRecord, TubeRecord}
-use Rattle.bq_job.specs.machine.TubeCommands.{watching}
-use Rattle.bq_job.specs.reading.TubeName.{is_same_name}
-use Rattle.bq_job.specs.machine.Tubes.{watches}
+use Rattle.std.specs.{List.list_any, Prelude.count_by}
+use Rattle.bq_job.specs.{beside.none_twice, machine.{SeatRecord, TubeRecord, greatest, is_waiting, watches, watching}, reading.TubeName.is_same_name}
 use Rattle.bq_state.specs.declared.tubes.entry.Crowd.{Crowd}
-use Rattle.bq_state.specs.Crowds.{AreCrowds, IsSeated, crowd_in, crowd_of, crowd_with, crowd_without, crowds_at, is_user, is_waiter, is_watcher, share_of_watcher, share_of_watching}
-use Rattle.bq_state.specs.SeatChanges.{AreNumbered}
-use Rattle.bq_state.specs.Tallies.{count_with, count_without}
-use Rattle.bq_state.specs.TubeEntries.{AreInOrder}
-use Rattle.bq_state.proofs.ClientLemmas.{count_changed, count_unchanged}
-use Rattle.bq_state.proofs.CrowdLemmas.{at_named, map_same, same_turned}
-use Rattle.bq_state.proofs.PartsLemmas.{all_read, all_set, changed_there, seat_read, watching_numbered}
-use Rattle.bq_state.proofs.TubeLemmas.{same_name}
+use Rattle.bq_state.specs.{Crowds.{AreCrowds, IsSeated, crowd_in, crowd_of, crowd_with, crowd_without, crowds_at, is_user, is_waiter, is_watcher, share_of_watcher, share_of_watching}, SeatChanges.AreNumbered}
+use Rattle.bq_state.specs.{Tallies.{count_with, count_without}, TubeEntries.AreInOrder}
+use Rattle.bq_state.proofs.{ClientLemmas.{count_changed, count_unchanged}, CrowdLemmas.{at_named, map_same, same_turned}, PartsLemmas.{all_read, all_set, changed_there, seat_read, watching_numbered}, TubeLemmas.same_name}
 
 -- Names of which none stands twice: one more that isn't there,
 any_with : (name more : List ℕ) (names : List (List ℕ)) → list_any (is_same_name name) (names ++ more ∷ []) ≡ list_any (is_same_name name) names || is_same_name name more

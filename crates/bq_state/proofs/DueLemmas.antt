@@ -1,26 +1,14 @@
 -- The next due moment, out of those of jobs, tubes and seats.
-use Rattle.std.proofs.Common.{◌≡◌, ℕ, Bool, true, false, ◌++◌, ◌-◌, ◌≤◌, ◌==◌, ◌&&◌, ◌||◌, not, inl, inr, List, [], ◌∷◌, Option, Some, None, refl, sym, ap, ◌∙◌, arith, if◌then◌else◌}
-use Rattle.std.specs.Prelude.{flat_map, fold, is_some, min, nat_lt, option_map}
-use Rattle.std.specs.List.{AllByRecursion as All, Contains, list_all, list_any}
-use Rattle.std.proofs.lemmas.Bool.{cases_Bool}
-use Rattle.std.proofs.lemmas.Bool.Decides.{nat_tests}
-use Rattle.bq_job.specs.declared.job.Job.{Job}
-use Rattle.bq_job.specs.declared.job.JobState.{JobState}
+use Rattle.std.proofs.{Common.{◌&&◌, ◌++◌, ◌-◌, ◌==◌, ◌||◌, ◌∙◌, ◌∷◌, ◌≡◌, ◌≤◌, if◌then◌else◌, Bool, List, None, Option, Some, [], ℕ, ap, arith, false, inl, inr, not, refl, sym, true}, lemmas.Bool.{cases_Bool, Decides.nat_tests}}
+use Rattle.std.specs.{List.{AllByRecursion as All, Contains, list_all, list_any}, Prelude.{flat_map, fold, is_some, min, nat_lt, option_map}}
+use Rattle.bq_job.specs.declared.job.{Job.Job, JobState.JobState}
 use Rattle.bq_job.specs.declared.job.JobState.TheVariants as states
-use Rattle.bq_job.specs.machine.Changes.{first_of, is_held_by, is_holder, is_pair_before, is_waiting}
-use Rattle.bq_job.specs.machine.JobStates.{due_of, is_delayed, is_due_before, is_reserved}
-use Rattle.bq_job.specs.machine.Machine.{Machine, SeatRecord, TubeRecord, Wait}
-use Rattle.bq_job.specs.machine.OneClient.{is_waiting_at}
-use Rattle.bq_job.proofs.ChoiceLemmas.{first_of_contains, first_of_is_least, first_of_is_some, first_of_none, first_of_passes, pair_order}
-use Rattle.bq_job.proofs.ListLemmas.{all_at, all_from_members, all_pass, all_weaker, list_all_from, none_pass}
-use Rattle.bq_jobs.specs.Kept.{ranked}
-use Rattle.bq_jobs.specs.Leases.{deadline_of, is_lease_before}
-use Rattle.bq_job.specs.beside.NextDue.{dues_of_pause, dues_of_state, dues_of_wait, earliest, is_before}
-use Rattle.bq_state.specs.Dues.{earlier_of_both, jobs_due, warning_due, with_seat_due, with_warning_due}
-use Rattle.bq_state.specs.FirstEnds.{IsThere, is_gone_in_wait}
+use Rattle.bq_job.specs.beside.{dues_of_pause, dues_of_state, dues_of_wait, earliest, is_before}
+use Rattle.bq_job.specs.machine.{SeatRecord, TubeRecord, Wait, due_of, first_of, is_delayed, is_due_before, is_held_by, is_holder, is_pair_before, is_reserved, is_waiting, is_waiting_at, Machine.Machine}
+use Rattle.bq_job.proofs.{ChoiceLemmas.{first_of_contains, first_of_is_least, first_of_is_some, first_of_none, first_of_passes, pair_order}, ListLemmas.{all_at, all_from_members, all_pass, all_weaker, list_all_from, none_pass}}
+use Rattle.bq_jobs.specs.{Kept.ranked, Leases.{deadline_of, is_lease_before}}
+use Rattle.bq_state.specs.{Dues.{earlier_of_both, jobs_due, warning_due, with_seat_due, with_warning_due}, FirstEnds.{IsThere, is_gone_in_wait}, SeatChanges.AreNumbered, TubeEntries.{IsFreshUnlessCounted, counted, is_counted}}
 use Rattle.bq_state.specs.WaitingTurns.{at_turn, turns_of}
-use Rattle.bq_state.specs.SeatChanges.{AreNumbered}
-use Rattle.bq_state.specs.TubeEntries.{IsFreshUnlessCounted, counted, is_counted}
 use Rattle.bq_state.proofs.WalkLemmas.{walked}
 
 no_other : (a : Option ℕ) → earlier_of_both a None ≡ a

@@ -1,18 +1,10 @@
 -- All that is kept of the tubes, once the entry of one is changed in its place.
-use Rattle.std.proofs.Common.{◌≡◌, ◌∙◌, ℕ, List, ap, map, refl, subst, sym}
-use Rattle.std.specs.Cmp.Lexicographic.{slice_cmp}
-use Rattle.std.specs.Ordering.{nat_cmp}
-use Rattle.bq_index.specs.Catalog.{CatalogSeen}
-use Rattle.bq_index.specs.Order.{InOrder}
-use Rattle.bq_state.specs.Crowds.{crowds_at}
-use Rattle.bq_state.specs.KeptTubes.{KeptTube, KeptTubes, Named, crowd_kept, edited_at, kept_changed, record_at, record_of, tally_kept, tubes_kept}
-use Rattle.bq_state.specs.PauseEnds.{AreEnds}
-use Rattle.bq_state.specs.Tallies.{tallies_at}
+use Rattle.std.proofs.Common.{◌∙◌, ◌≡◌, List, ℕ, ap, map, refl, subst, sym}
+use Rattle.std.specs.{Cmp.Lexicographic.slice_cmp, Ordering.nat_cmp}
+use Rattle.bq_index.specs.{Catalog.CatalogSeen, Order.InOrder}
+use Rattle.bq_state.specs.declared.{known.Tally.Tally, tubes.{entry.{Crowd.Crowd, TubeChange.TubeChange}, pauses.PauseEnd.PauseEnd}}
+use Rattle.bq_state.specs.{Crowds.crowds_at, KeptTubes.{KeptTube, KeptTubes, Named, crowd_kept, edited_at, kept_changed, record_at, record_of, tally_kept, tubes_kept}, PauseEnds.AreEnds, Tallies.tallies_at}
 use Rattle.bq_state.specs.TubeEntries.{tube_changed, tube_changed_at}
-use Rattle.bq_state.specs.declared.known.Tally.{Tally}
-use Rattle.bq_state.specs.declared.tubes.entry.Crowd.{Crowd}
-use Rattle.bq_state.specs.declared.tubes.entry.TubeChange.{TubeChange}
-use Rattle.bq_state.specs.declared.tubes.pauses.PauseEnd.{PauseEnd}
 use Rattle.bq_state.proofs.NamedLemmas.{change_kept, edit_change, edit_crowd, edit_same_crowds, edit_same_records, edit_same_tallies, edit_tally, in_order, kept_alike}
 
 -- Where the records stay, so do the ends of their pauses.

@@ -1,31 +1,15 @@
 -- The ends of pauses: what is found among them after a change, and the first of them.
-use Rattle.std.proofs.Common.{◌≡◌, ◌∙◌, ◌≤◌, ℕ, Bool, true, false, cond, ◌&&◌, ◌||◌, if◌then◌else◌, List, [], ◌∷◌, Option, Some, None, min, map, refl, sym, ap, arith, subst, inl, inr, is_some}
-use Rattle.std.specs.Prelude.{◌==◌, fold, nat_le, nat_lt}
-use Rattle.std.specs.declared.cmp.Ordering.{Ordering}
-use Rattle.std.specs.declared.cmp.Ordering.TheVariants.{Less, Equal, Greater}
-use Rattle.std.specs.Ordering.{is_eq, nat_cmp, ordering_then}
-use Rattle.std.specs.Cmp.Lexicographic.{slice_cmp}
-use Rattle.std.specs.List.{AllByRecursion as All, list_any}
-use Rattle.std.specs.List.Sorted.{IsStrictlySortedBy}
-use Rattle.std.specs.Map.{keys_of}
-use Rattle.std.specs.Option.{option_map}
-use Rattle.std.proofs.lemmas.Bool.{cases_Bool}
-use Rattle.std.proofs.lemmas.Bool.Decides.{nat_tests}
-use Rattle.std.proofs.lemmas.Cmp.{alike_right}
-use Rattle.std.proofs.Math.Bool.{or-true}
-use Rattle.bq_index.specs.Catalog.{CatalogSeen}
-use Rattle.bq_index.specs.Order.{InOrder}
-use Rattle.bq_job.specs.machine.Machine.{TubeRecord}
-use Rattle.bq_job.specs.machine.Machine.{Pause as PauseRecord}
-use Rattle.bq_job.specs.beside.NextDue.{dues_of_pause, earliest}
-use Rattle.bq_job.specs.reading.TubeName.{is_same_name}
+use Rattle.std.proofs.Common.{◌&&◌, ◌||◌, ◌∙◌, ◌∷◌, ◌≡◌, ◌≤◌, if◌then◌else◌, Bool, List, None, Option, Some, [], ℕ, ap, arith, cond, false, inl, inr, is_some, map, min, refl, subst, sym, true}
+use Rattle.std.proofs.{lemmas.{Bool.{cases_Bool, Decides.nat_tests}, Cmp.alike_right}, Math.Bool.or-true}
+use Rattle.std.specs.{Cmp.Lexicographic.slice_cmp, declared.cmp.Ordering.{Ordering, TheVariants.{Equal, Greater, Less}}, List.{AllByRecursion as All, list_any, Sorted.IsStrictlySortedBy}, Map.keys_of, Option.option_map}
+use Rattle.std.specs.{Ordering.{is_eq, nat_cmp, ordering_then}, Prelude.{◌==◌, fold, nat_le, nat_lt}}
+use Rattle.bq_job.specs.{beside.{dues_of_pause, earliest}, machine.{Pause as PauseRecord, TubeRecord}, reading.TubeName.is_same_name}
+use Rattle.bq_index.specs.{Catalog.CatalogSeen, Order.InOrder}
 use Rattle.bq_jobs.proofs.Choice.{equal_from, lookup_inserted, lookup_removed}
-use Rattle.bq_state.specs.Dues.{earlier_of_both, first_pause_end, is_end_over, with_tube_due}
-use Rattle.bq_state.specs.KeptTubes.{KeptTubes, Named, record_at, tubes_kept}
-use Rattle.bq_state.specs.PauseEnds.{AreEnds, Ends, end_cmp, end_total, ends_at, first_end, found_end, has_end, if_over, is_end_in, is_end_of, with_end, without_end}
 use Rattle.bq_state.specs.declared.tubes.pauses.PauseEnd.{PauseEnd}
-use Rattle.bq_state.proofs.NamedLemmas.{ties}
-use Rattle.bq_state.proofs.TubeLemmas.{head_differs, same_itself}
+use Rattle.bq_state.specs.{Dues.{earlier_of_both, first_pause_end, is_end_over, with_tube_due}, KeptTubes.{KeptTubes, Named, record_at, tubes_kept}}
+use Rattle.bq_state.specs.PauseEnds.{AreEnds, Ends, end_cmp, end_total, ends_at, first_end, found_end, has_end, if_over, is_end_in, is_end_of, with_end, without_end}
+use Rattle.bq_state.proofs.{NamedLemmas.ties, TubeLemmas.{head_differs, same_itself}}
 
 -- Two ends tie where they are of one moment and of one tube.
 both_equal : (a b : Ordering) → is_eq (ordering_then a b) ≡ (is_eq a && is_eq b)

@@ -1,30 +1,16 @@
 -- What a change of a pause, and the coming and going of a tube, do to the ends of pauses.
-use Rattle.std.proofs.Common.{◌≡◌, ◌∙◌, ◌+◌, ◌≤◌, ◌<◌, ℕ, suc, Bool, true, false, cond, ◌&&◌, ◌||◌, if◌then◌else◌, List, [], ◌∷◌, Option, Some, None, map, length, refl, subst, sym, ap, arith, inl, inr, is_some}
-use Rattle.std.proofs.Math.Bool.{or-false}
-use Rattle.std.specs.Prelude.{◌==◌, count_by, nat_le}
-use Rattle.std.specs.Ordering.{is_eq}
-use Rattle.std.specs.Borrow.{Bor}
-use Rattle.std.specs.Map.{lookup, remove_entry}
-use Rattle.std.specs.Option.{ForSome, option_map}
-use Rattle.std.proofs.lemmas.Bool.{cases_Bool, eqb-true}
-use Rattle.std.proofs.lemmas.Bool.Decides.{nat_tests}
-use Rattle.bq_index.proofs.Order.{length_inserted, length_removed}
-use Rattle.bq_index.specs.Catalog.{CatalogSeen}
-use Rattle.bq_index.specs.Order.{InOrder}
-use Rattle.bq_job.specs.machine.Machine.{TubeRecord}
-use Rattle.bq_job.specs.machine.Machine.{Pause as PauseRecord}
-use Rattle.bq_job.specs.machine.Timers.{pause_after_timers, tube_after_timers}
-use Rattle.bq_job.specs.machine.Tubes.{fresh_tube, is_name_before, with_record}
-use Rattle.bq_job.specs.reading.TubeName.{is_same_name}
+use Rattle.std.proofs.Common.{◌&&◌, ◌+◌, ◌<◌, ◌||◌, ◌∙◌, ◌∷◌, ◌≡◌, ◌≤◌, if◌then◌else◌, Bool, List, None, Option, Some, [], ℕ, ap, arith, cond, false, inl, inr, is_some, length, map, refl, subst, suc, sym, true}
+use Rattle.std.proofs.{lemmas.Bool.{cases_Bool, eqb-true, Decides.nat_tests}, Math.Bool.or-false}
+use Rattle.std.specs.{Borrow.Bor, Map.{lookup, remove_entry}, Option.{ForSome, option_map}, Ordering.is_eq, Prelude.{◌==◌, count_by, nat_le}}
+use Rattle.bq_job.specs.{machine.{Pause as PauseRecord, TubeRecord, fresh_tube, is_name_before, pause_after_timers, tube_after_timers, with_record}, reading.TubeName.is_same_name}
 use Rattle.bq_job.proofs.ListLemmas.{count_cons}
+use Rattle.bq_index.specs.{Catalog.CatalogSeen, Order.InOrder}
+use Rattle.bq_index.proofs.Order.{length_inserted, length_removed}
+use Rattle.bq_state.specs.declared.tubes.{entry.TubeChange.{TubeChange, TheVariants.{CountDelete, CountPut, Pause}}, pauses.PauseEnd.PauseEnd}
 use Rattle.bq_state.specs.KeptTubes.{KeptTube, Named, edited, ended, is_named_at, kept_changed, record_at, record_of}
 use Rattle.bq_state.specs.PauseEnds.{AreEnds, Ends, end_cmp, end_of, ends_at, first_end, found_end, has_end, if_over, is_end_in, is_end_of, is_paused, pause_at, pause_in, with_end, without_end}
 use Rattle.bq_state.specs.TubeEntries.{AreInOrder, has_entry, tube_changed}
-use Rattle.bq_state.specs.declared.tubes.entry.TubeChange.{TubeChange}
-use Rattle.bq_state.specs.declared.tubes.entry.TubeChange.TheVariants.{CountPut, CountDelete, Pause}
-use Rattle.bq_state.specs.declared.tubes.pauses.PauseEnd.{PauseEnd}
-use Rattle.bq_state.proofs.EndLemmas.{ends_alike, ends_apart, has_entered, has_left, one_over}
-use Rattle.bq_state.proofs.NamedLemmas.{change_kept, edit_change, found_entry, ties}
+use Rattle.bq_state.proofs.{EndLemmas.{ends_alike, ends_apart, has_entered, has_left, one_over}, NamedLemmas.{change_kept, edit_change, found_entry, ties}}
 use Rattle.bq_state.proofs.TubeLemmas.{changed_one, head_differs, none_later, order_kept, same_itself, same_name}
 
 abbrev pub one_if : Option PauseRecord → ℕ

@@ -1,27 +1,12 @@
 -- When the first wait of a client is over by its timeout, as seats change.
-use Rattle.std.proofs.Common.{◌≡◌, ◌==◌, ◌&&◌, ◌||◌, ℕ, zero, suc, Bool, true, false, not, List, Option, Some, None, [], ◌∷◌, map, length, refl, sym, ap, ◌∙◌, inl, inr, set, slice_get, arith, if◌then◌else◌}
-use Rattle.std.specs.Prelude.{fold, is_some, min, nat_le}
-use Rattle.std.specs.List.{AllByRecursion as All, list_any}
-use Rattle.std.proofs.lemmas.Bool.{cases_Bool, eqb-true}
-use Rattle.std.proofs.lemmas.Bool.Decides.{nat_tests}
-use Rattle.bq_job.specs.machine.Changes.{is_waiting, seat_with}
-use Rattle.bq_job.specs.machine.Machine.{SeatRecord, Wait, empty_seat}
-use Rattle.bq_job.specs.beside.NextDue.{dues_of_until, dues_of_wait, earliest}
-use Rattle.bq_job.specs.machine.TubeCommands.{watching}
-use Rattle.bq_job.specs.machine.Waits.{is_past, is_until_over}
-use Rattle.bq_job.proofs.KeptLemmas.{only_seat}
-use Rattle.bq_job.proofs.ListLemmas.{all_both, all_of_map, all_weaker}
-use Rattle.bq_state.specs.Dues.{earlier_of_both, is_end_over, with_seat_due}
-use Rattle.bq_state.specs.EndingWaits.{has_waited}
-use Rattle.bq_state.specs.FirstEnds.{AreTimeouts, IsThere, end_after, gives_up_at, keeps_end}
-use Rattle.bq_state.specs.SeatChanges.{AreNumbered, seat_changed, seat_changed_at}
-use Rattle.bq_state.specs.declared.known.FirstEnd.{FirstEnd}
-use Rattle.bq_state.specs.declared.known.FirstEnd.TheVariants.{Known, Unknown}
-use Rattle.bq_state.specs.declared.seats.SeatChange.{SeatChange}
-use Rattle.bq_state.specs.declared.seats.SeatChange.TheVariants.{StopWaiting, Connect, Clear, End, Use}
-use Rattle.bq_state.specs.declared.seats.SeatChange.TheVariants.{Wait as WaitFrom}
-use Rattle.bq_state.proofs.CrowdLemmas.{none_changed}
-use Rattle.bq_state.proofs.PartsLemmas.{all_read, all_set}
+use Rattle.std.proofs.Common.{◌&&◌, ◌==◌, ◌||◌, ◌∙◌, ◌∷◌, ◌≡◌, if◌then◌else◌, Bool, List, None, Option, Some, [], ℕ, ap, arith, false, inl, inr, length, map, not, refl, set, slice_get, suc, sym, true, zero}
+use Rattle.std.proofs.lemmas.Bool.{cases_Bool, eqb-true, Decides.nat_tests}
+use Rattle.std.specs.{List.{AllByRecursion as All, list_any}, Prelude.{fold, is_some, min, nat_le}}
+use Rattle.bq_job.specs.{beside.{dues_of_until, dues_of_wait, earliest}, machine.{SeatRecord, Wait, empty_seat, is_past, is_until_over, is_waiting, seat_with, watching}}
+use Rattle.bq_job.proofs.{KeptLemmas.only_seat, ListLemmas.{all_both, all_of_map, all_weaker}}
+use Rattle.bq_state.specs.declared.{known.FirstEnd.{FirstEnd, TheVariants.{Known, Unknown}}, seats.SeatChange.{SeatChange, TheVariants.{Clear, Connect, End, StopWaiting, Use, Wait as WaitFrom}}}
+use Rattle.bq_state.specs.{Dues.{earlier_of_both, is_end_over, with_seat_due}, EndingWaits.has_waited, FirstEnds.{AreTimeouts, IsThere, end_after, gives_up_at, keeps_end}, SeatChanges.{AreNumbered, seat_changed, seat_changed_at}}
+use Rattle.bq_state.proofs.{CrowdLemmas.none_changed, PartsLemmas.{all_read, all_set}}
 
 -- the same moments, and so the same first one
 fold_kept : (g : SeatRecord → SeatRecord) (best : Option ℕ) (seats : List SeatRecord) → All (λ s. gives_up_at (g s) ≡ gives_up_at s) seats → fold with_seat_due best (map g seats) ≡ fold with_seat_due best seats

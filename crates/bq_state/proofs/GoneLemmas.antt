@@ -1,36 +1,15 @@
 -- Entries whose tubes are gone are dropped from the catalog of the tubes; the others are counted and listed.
-use Rattle.std.proofs.Common.{◌≡◌, ◌∙◌, ◌+◌, ◌≤◌, ℕ, Bool, true, false, cond, ◌&&◌, not, if◌then◌else◌, List, [], ◌∷◌, ◌++◌, Option, Some, None, map, length, refl, subst, sym, ap, arith, inl, inr, append_assoc}
-use Rattle.std.specs.Prelude.{filter, find, fold}
-use Rattle.std.specs.Borrow.{Bor}
-use Rattle.std.specs.declared.cmp.Ordering.{Ordering}
-use Rattle.std.specs.declared.cmp.Ordering.TheVariants.{Less, Equal, Greater}
-use Rattle.std.specs.Ordering.{is_eq, is_gt, nat_cmp, ordering_reverse}
-use Rattle.std.specs.Cmp.Lexicographic.{nat_list_cmp_total, slice_cmp}
-use Rattle.std.specs.List.{AllByRecursion as All}
-use Rattle.std.specs.List.Sorted.{IsStrictlySortedBy}
-use Rattle.std.specs.Map.{keys_of, lookup, remove_entry}
-use Rattle.std.specs.Option.{option_map}
-use Rattle.std.proofs.lemmas.Bool.{cases_Bool}
-use Rattle.std.proofs.lemmas.List.{append-nil}
-use Rattle.bq_index.specs.Order.{InOrder}
-use Rattle.bq_index.specs.Walk.{entry_of, seen_by}
+use Rattle.std.proofs.Common.{◌&&◌, ◌++◌, ◌+◌, ◌∙◌, ◌∷◌, ◌≡◌, ◌≤◌, if◌then◌else◌, Bool, List, None, Option, Some, [], ℕ, ap, append_assoc, arith, cond, false, inl, inr, length, map, not, refl, subst, sym, true}
+use Rattle.std.proofs.lemmas.{Bool.cases_Bool, List.append-nil}
+use Rattle.std.specs.{Borrow.Bor, Cmp.Lexicographic.{nat_list_cmp_total, slice_cmp}, declared.cmp.Ordering.{Ordering, TheVariants.{Equal, Greater, Less}}, List.{AllByRecursion as All, Sorted.IsStrictlySortedBy}}
+use Rattle.std.specs.{Map.{keys_of, lookup, remove_entry}, Option.option_map, Ordering.{is_eq, is_gt, nat_cmp, ordering_reverse}, Prelude.{filter, find, fold}}
 use Rattle.bq_job.specs.declared.job.Job.{Job}
-use Rattle.bq_job.specs.machine.Limits.{greatest}
-use Rattle.bq_job.specs.machine.Machine.{SeatRecord}
-use Rattle.bq_job.specs.reading.TubeName.{is_same_name}
-use Rattle.bq_state.specs.Crowds.{crowd_in, crowds_of, has_seats}
-use Rattle.bq_state.specs.KeptTubes.{KeptTube, Named, crowd_kept, is_alive_at, is_alive_with, is_from, is_gone_by, is_gone_from, is_named_at, record_at, tally_kept, with_alive, with_name_of}
-use Rattle.bq_state.specs.Losses.{AreAlive}
-use Rattle.bq_state.specs.Tallies.{has_jobs, tallies_of, tally_in}
-use Rattle.bq_state.specs.TubeEntries.{AreInOrder, is_tube_of, names_alive}
-use Rattle.bq_state.specs.declared.known.Loss.TheVariants.{Of}
-use Rattle.bq_state.specs.declared.tubes.walks.HowMany.{HowMany}
-use Rattle.bq_state.proofs.CrowdLemmas.{has_seats_of}
-use Rattle.bq_state.proofs.CrowdPlaces.{exists_by_counts}
-use Rattle.bq_state.proofs.LossLemmas.{all_kept_alive, alive_but, alive_or, others_alive}
-use Rattle.bq_state.proofs.NamedLemmas.{ties}
-use Rattle.bq_state.proofs.TallyPlaces.{has_jobs_in}
-use Rattle.bq_state.proofs.TubeLemmas.{same_name}
+use Rattle.bq_job.specs.{machine.{SeatRecord, greatest}, reading.TubeName.is_same_name}
+use Rattle.bq_index.specs.{Order.InOrder, Walk.{entry_of, seen_by}}
+use Rattle.bq_state.specs.declared.{known.Loss.TheVariants.Of, tubes.walks.HowMany.HowMany}
+use Rattle.bq_state.specs.{Crowds.{crowd_in, crowds_of, has_seats}, KeptTubes.{KeptTube, Named, crowd_kept, is_alive_at, is_alive_with, is_from, is_gone_by, is_gone_from, is_named_at, record_at, tally_kept, with_alive, with_name_of}}
+use Rattle.bq_state.specs.{Losses.AreAlive, Tallies.{has_jobs, tallies_of, tally_in}, TubeEntries.{AreInOrder, is_tube_of, names_alive}}
+use Rattle.bq_state.proofs.{CrowdLemmas.has_seats_of, CrowdPlaces.exists_by_counts, LossLemmas.{alive_but, alive_or, all_kept_alive, others_alive}, NamedLemmas.ties, TallyPlaces.has_jobs_in, TubeLemmas.same_name}
 
 -- The counts are those of these jobs and of these seats.
 abbrev pub AreTallied : List Job → List SeatRecord → List Named → Type 0

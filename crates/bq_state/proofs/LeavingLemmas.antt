@@ -1,34 +1,15 @@
 -- Which tubes may be gone once a seat changes: those that its client left, but for those whose counts tell that they exist.
-use Rattle.std.proofs.Common.{◌≡◌, ◌∙◌, ◌≤◌, ℕ, Bool, true, false, ◌||◌, ◌⊎◌, List, [], ◌∷◌, Option, Some, None, refl, sym, ap, length, map, inl, inr}
-use Rattle.std.specs.Prelude.{nat_lt}
-use Rattle.std.specs.List.{AllByRecursion as All, list_any}
-use Rattle.std.proofs.lemmas.Bool.{and_from, and_parts, lt-ltb, or_cases, or_left, or_right}
+use Rattle.std.proofs.{Common.{◌||◌, ◌∙◌, ◌∷◌, ◌≡◌, ◌≤◌, ◌⊎◌, Bool, List, None, Option, Some, [], ℕ, ap, false, inl, inr, length, map, refl, sym, true}, lemmas.Bool.{and_from, and_parts, lt-ltb, or_cases, or_left, or_right}}
+use Rattle.std.specs.{List.{AllByRecursion as All, list_any}, Prelude.nat_lt}
 use Rattle.bq_job.specs.declared.job.Job.{Job}
-use Rattle.bq_job.specs.machine.Changes.{seat_with}
-use Rattle.bq_job.specs.machine.Limits.{greatest}
-use Rattle.bq_job.specs.machine.Machine.{SeatRecord, TubeRecord, default_tube}
-use Rattle.bq_job.specs.reading.TubeName.{is_same_name}
-use Rattle.bq_job.specs.machine.Tubes.{is_seated_at, watches}
+use Rattle.bq_job.specs.{machine.{SeatRecord, TubeRecord, default_tube, greatest, is_seated_at, seat_with, watches}, reading.TubeName.is_same_name}
 use Rattle.bq_job.proofs.ListLemmas.{all_at, all_from_members, list_any_with}
-use Rattle.bq_state.specs.declared.tubes.entry.Crowd.{Crowd}
-use Rattle.bq_state.specs.declared.tubes.entry.Moving.TheVariants.{Goes}
-use Rattle.bq_state.specs.declared.tubes.entry.Share.{Share}
-use Rattle.bq_state.specs.declared.known.Loss.{Loss}
-use Rattle.bq_state.specs.declared.seats.SeatChange.{SeatChange}
-use Rattle.bq_state.specs.declared.seats.SeatChange.TheVariants.{StopWaiting, Wait, Connect, Clear, End, Use}
-use Rattle.bq_state.specs.Crowds.{IsSeated, crowd_at, crowd_in, crowd_of, crowd_with, crowd_without, crowds_of, crowds_recounted, crowds_recounted_for, has_seats, touched}
-use Rattle.bq_state.specs.KeptTubes.{KeptTubes}
-use Rattle.bq_state.specs.Leaving.{exists_in, loss_of, lost_all, lost_if, lost_unless}
-use Rattle.bq_state.specs.Losses.{AreAlive, is_accounted, may_be_gone}
-use Rattle.bq_state.specs.SeatChanges.{AreNumbered, seat_changed, seat_changed_at}
-use Rattle.bq_state.specs.Tallies.{count_with, has_jobs, tallies_of, tally_at}
-use Rattle.bq_state.specs.TubeEntries.{AreInOrder, has_entry, is_tube_of}
-use Rattle.bq_state.proofs.CrowdLemmas.{all_recounted, crowd_moved, has_seats_of, none_changed, share_at}
-use Rattle.bq_state.proofs.CrowdPlaces.{named_crowd}
-use Rattle.bq_state.proofs.LossLemmas.{any_set, by_job, by_loss, by_seat, now_lost, still_accounted, still_lost}
-use Rattle.bq_state.proofs.PartsLemmas.{all_read, changed_there, raised_some, seat_there}
-use Rattle.bq_state.proofs.TallyPlaces.{has_jobs_in, tally_there}
-use Rattle.bq_state.proofs.TubeLemmas.{same_itself, same_name}
+use Rattle.bq_state.specs.declared.{known.Loss.Loss, seats.SeatChange.{SeatChange, TheVariants.{Clear, Connect, End, StopWaiting, Use, Wait}}, tubes.entry.{Crowd.Crowd, Moving.TheVariants.Goes, Share.Share}}
+use Rattle.bq_state.specs.{Crowds.{IsSeated, crowd_at, crowd_in, crowd_of, crowd_with, crowd_without, crowds_of, crowds_recounted, crowds_recounted_for, has_seats, touched}, KeptTubes.KeptTubes}
+use Rattle.bq_state.specs.{Leaving.{exists_in, loss_of, lost_all, lost_if, lost_unless}, Losses.{AreAlive, is_accounted, may_be_gone}, SeatChanges.{AreNumbered, seat_changed, seat_changed_at}}
+use Rattle.bq_state.specs.{Tallies.{count_with, has_jobs, tallies_of, tally_at}, TubeEntries.{AreInOrder, has_entry, is_tube_of}}
+use Rattle.bq_state.proofs.{CrowdLemmas.{all_recounted, crowd_moved, has_seats_of, none_changed, share_at}, CrowdPlaces.named_crowd, LossLemmas.{any_set, by_job, by_loss, by_seat, now_lost, still_accounted, still_lost}}
+use Rattle.bq_state.proofs.{PartsLemmas.{all_read, changed_there, raised_some, seat_there}, TallyPlaces.{has_jobs_in, tally_there}, TubeLemmas.{same_itself, same_name}}
 
 module _ (k : KeptTubes) where
   -- What may be gone still may,

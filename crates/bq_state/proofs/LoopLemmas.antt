@@ -1,7 +1,6 @@
 -- What loops over lists keep from turn to turn.
-use Rattle.std.proofs.Common.{◌≡◌, ℕ, zero, suc, ◌+◌, ◌<◌, List, [], ◌∷◌, ◌++◌, length, get_or, take, drop, map, refl, sym, ap, ◌∙◌, arith}
+use Rattle.std.proofs.{Common.{◌++◌, ◌+◌, ◌<◌, ◌∙◌, ◌∷◌, ◌≡◌, List, [], ℕ, ap, arith, drop, get_or, length, map, refl, suc, sym, take, zero}, lemmas.List.Sums.fold_more}
 use Rattle.std.specs.Prelude.{fold}
-use Rattle.std.proofs.lemmas.List.Sums.{fold_more}
 
 -- the first i elements changed by f, and the others as they were
 abbrev pub changed_before : {A : Type 0} → (A → A) → ℕ → List A → List A

@@ -1,26 +1,13 @@
 -- Which entries may be of tubes that are gone, as jobs and seats change.
-use Rattle.std.proofs.Common.{◌<◌}
-use Rattle.std.proofs.lemmas.Bool.{ne_eqb}
-use Rattle.std.proofs.Common.{◌≡◌, ℕ, zero, suc, Bool, true, false, not, ◌||◌, ◌==◌, ◌≤◌, List, [], ◌∷◌, ◌++◌, Option, Some, map, length, set, slice_get, refl, sym, ap, ◌∙◌, arith, ◌⊎◌, inl, inr, if◌then◌else◌}
-use Rattle.std.specs.Prelude.{filter, nat_lt}
-use Rattle.std.specs.List.{AllByRecursion as All, list_any}
-use Rattle.std.proofs.lemmas.Bool.Decides.{nat_tests}
-use Rattle.std.proofs.lemmas.Bool.{cases_Bool, eqb-true, or_cases, or_left, or_right, and_parts, and_from}
+use Rattle.std.proofs.Common.{◌++◌, ◌<◌, ◌==◌, ◌||◌, ◌∙◌, ◌∷◌, ◌≡◌, ◌≤◌, ◌⊎◌, if◌then◌else◌, Bool, List, Option, Some, [], ℕ, ap, arith, false, inl, inr, length, map, not, refl, set, slice_get, suc, sym, true, zero}
+use Rattle.std.proofs.lemmas.Bool.{and_from, and_parts, cases_Bool, eqb-true, ne_eqb, or_cases, or_left, or_right, Decides.nat_tests}
+use Rattle.std.specs.{List.{AllByRecursion as All, list_any}, Prelude.{filter, nat_lt}}
 use Rattle.bq_job.specs.declared.job.Job.{Job}
-use Rattle.bq_job.specs.machine.Changes.{job_with}
-use Rattle.bq_job.specs.beside.Lawful.{AreIdsWithin}
-use Rattle.bq_job.specs.machine.Machine.{SeatRecord, TubeRecord, default_tube}
-use Rattle.bq_job.specs.machine.TubeCommands.{watching}
-use Rattle.bq_job.specs.reading.TubeName.{is_same_name}
-use Rattle.bq_job.specs.machine.Tubes.{fresh_tube, is_name_before, is_seated_at, watches, with_record}
-use Rattle.bq_job.proofs.ListLemmas.{all_weaker}
-use Rattle.bq_job.proofs.NameOrderLemmas.{not_same}
+use Rattle.bq_job.specs.{beside.AreIdsWithin, machine.{SeatRecord, TubeRecord, default_tube, fresh_tube, is_name_before, is_seated_at, job_with, watches, watching, with_record}, reading.TubeName.is_same_name}
+use Rattle.bq_job.proofs.{ListLemmas.all_weaker, NameOrderLemmas.not_same}
 use Rattle.bq_jobs.specs.Kept.{is_id_before, with_added, without}
-use Rattle.bq_state.specs.declared.known.Loss.{Loss}
-use Rattle.bq_state.specs.declared.known.Loss.TheVariants.{Nothing, Of, Any}
-use Rattle.bq_state.specs.Dues.{first_pause_end, pause_end_left}
-use Rattle.bq_state.specs.Losses.{AreAlive, is_accounted, may_be_gone, with_regained, with_lost}
-use Rattle.bq_state.specs.TubeEntries.{has_entry, is_tube_of, provided}
+use Rattle.bq_state.specs.declared.known.Loss.{Loss, TheVariants.{Any, Nothing, Of}}
+use Rattle.bq_state.specs.{Dues.{first_pause_end, pause_end_left}, Losses.{AreAlive, is_accounted, may_be_gone, with_lost, with_regained}, TubeEntries.{has_entry, is_tube_of, provided}}
 use Rattle.bq_state.proofs.TubeLemmas.{same_itself, same_name}
 
 -- no id of the list is below its least

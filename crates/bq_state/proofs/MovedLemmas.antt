@@ -1,38 +1,16 @@
 -- What the change of a job keeps.
-use Rattle.std.proofs.Common.{◌≡◌, ◌∙◌, ◌≤◌, ◌&&◌, ◌||◌, ◌==◌, not, ℕ, Bool, true, false, if◌then◌else◌, List, [], ◌∷◌, Some, refl, sym, ap, arith, length, map, subst, inl, inr}
+use Rattle.std.proofs.{Common.{◌&&◌, ◌==◌, ◌||◌, ◌∙◌, ◌∷◌, ◌≡◌, ◌≤◌, if◌then◌else◌, Bool, List, Some, [], ℕ, ap, arith, false, inl, inr, length, map, not, refl, subst, sym, true}, lemmas.{Bool.cases_Bool, List.length-map}}
 use Rattle.std.specs.List.{AllByRecursion as All, list_any}
-use Rattle.std.proofs.lemmas.Bool.{cases_Bool}
-use Rattle.std.proofs.lemmas.List.{length-map}
 use Rattle.bq_job.specs.declared.job.Job.{Job}
-use Rattle.bq_job.specs.machine.Changes.{is_ready, is_ready_state, job_with}
-use Rattle.bq_job.specs.beside.Lawful.{AreIdsWithin}
-use Rattle.bq_job.specs.machine.Limits.{greatest}
-use Rattle.bq_job.specs.machine.Machine.{SeatRecord, TubeRecord, default_tube}
-use Rattle.bq_job.specs.machine.Timers.{is_due, is_expired}
-use Rattle.bq_job.specs.reading.TubeName.{is_same_name}
-use Rattle.bq_job.specs.machine.Tubes.{is_seated_at}
+use Rattle.bq_job.specs.{beside.AreIdsWithin, machine.{SeatRecord, TubeRecord, default_tube, greatest, is_due, is_expired, is_ready, is_ready_state, is_seated_at, job_with}, reading.TubeName.is_same_name}
 use Rattle.bq_jobs.specs.declared.row.Moved.{Moved}
-use Rattle.bq_jobs.specs.Changed.{IgnoresTube, KeepsId, KeepsTube, moved_by, with_changed}
-use Rattle.bq_jobs.specs.Kept.{with_added, without}
+use Rattle.bq_jobs.specs.{Changed.{IgnoresTube, KeepsId, KeepsTube, moved_by, with_changed}, Kept.{with_added, without}}
 use Rattle.bq_jobs.proofs.Changes.{changed as changed_by_id, found_id}
-use Rattle.bq_state.specs.declared.job_store.JobChange.{JobChange}
-use Rattle.bq_state.specs.declared.job_store.JobChange.TheVariants.{FireTimers, HandOut, GiveBack, Release, Bury, Touch, Kick}
-use Rattle.bq_state.specs.declared.known.Loss.{Loss}
-use Rattle.bq_state.specs.declared.known.Tally.{Tally}
-use Rattle.bq_state.specs.declared.known.Stir.{Stir}
-use Rattle.bq_state.specs.Crowds.{is_waiter}
-use Rattle.bq_state.specs.JobChanges.{changed}
-use Rattle.bq_state.specs.Losses.{AreAlive, may_be_gone}
-use Rattle.bq_state.specs.SeatChanges.{AreNumbered}
-use Rattle.bq_state.specs.Stirs.{AreKnown, IsKnown, with_stirred}
-use Rattle.bq_state.specs.Tallies.{AreCounted, tallies_at, tallies_of, tallies_without, tally_moved, tally_of, tally_with, tally_without}
-use Rattle.bq_state.specs.TubeEntries.{AreEntries, AreInOrder, has_entry}
+use Rattle.bq_state.specs.declared.{job_store.JobChange.{JobChange, TheVariants.{Bury, FireTimers, GiveBack, HandOut, Kick, Release, Touch}}, known.{Loss.Loss, Stir.Stir, Tally.Tally, Warns.Warns}}
+use Rattle.bq_state.specs.{Crowds.is_waiter, JobChanges.changed, Losses.{AreAlive, may_be_gone}, SeatChanges.AreNumbered, Stirs.{AreKnown, IsKnown, with_stirred}}
+use Rattle.bq_state.specs.{Tallies.{AreCounted, tallies_at, tallies_of, tallies_without, tally_moved, tally_of, tally_with, tally_without}, TubeEntries.{AreEntries, AreInOrder, has_entry}}
 use Rattle.bq_state.specs.Warnings.{AreWarned, IsWarned, has_waiting_holder, with_holder_of}
-use Rattle.bq_state.specs.declared.known.Warns.{Warns}
-use Rattle.bq_state.proofs.PartsLemmas.{all_filtered, all_kept}
-use Rattle.bq_state.proofs.StirLemmas.{known_added}
-use Rattle.bq_state.proofs.TallyPlaces.{counted_added, counted_taken}
-use Rattle.bq_state.proofs.WarningLemmas.{warned_added}
+use Rattle.bq_state.proofs.{PartsLemmas.{all_filtered, all_kept}, StirLemmas.known_added, TallyPlaces.{counted_added, counted_taken}, WarningLemmas.warned_added}
 
 same_tube : (b : Bool) (x y : Job) (tube : List ℕ) → x.tube ≡ tube → y.tube ≡ tube → (if b then x else y).tube ≡ tube
 same_tube true x y tube h i = h

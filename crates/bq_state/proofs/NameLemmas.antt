@@ -1,22 +1,11 @@
 -- The names of the tubes that exist.
-use Rattle.std.proofs.Common.{◌≡◌, ◌∙◌, ◌+◌, ◌⊎◌, ℕ, suc, Bool, true, false, ◌&&◌, ◌||◌, cond, List, [], ◌∷◌, ◌++◌, Option, Some, None, codes, refl, sym, ap, arith, if◌then◌else◌, inl, inr, map}
-use Rattle.std.specs.Prelude.{filter, find, flat_map, unwrap_or}
-use Rattle.std.specs.List.{AllByRecursion as All, insert, list_any, prefix_len, slice_get}
-use Rattle.std.specs.Borrow.{Bor}
-use Rattle.std.specs.Option.{option_map}
-use Rattle.std.specs.Prelude.{Result, IsOk, is_ok}
-use Rattle.std.proofs.lemmas.Bool.{cases_Bool, or_cases}
-use Rattle.bq_job.specs.machine.Machine.{Machine, TubeRecord, default_tube}
-use Rattle.bq_job.specs.beside.NameOrder.{is_in_order}
-use Rattle.bq_job.specs.reading.TubeName.{is_same_name}
-use Rattle.bq_job.specs.machine.TubeOrder.{in_name_order, name_list, seated_tubes, tubes, with_name}
-use Rattle.bq_job.specs.machine.Tubes.{fresh_tube, is_name_before, is_tube}
+use Rattle.std.proofs.{Common.{◌&&◌, ◌++◌, ◌+◌, ◌||◌, ◌∙◌, ◌∷◌, ◌≡◌, ◌⊎◌, if◌then◌else◌, Bool, List, None, Option, Some, [], ℕ, ap, arith, codes, cond, false, inl, inr, map, refl, suc, sym, true}, lemmas.Bool.{cases_Bool, or_cases}}
+use Rattle.std.specs.{Borrow.Bor, List.{AllByRecursion as All, insert, list_any, prefix_len, slice_get}, Option.option_map, Prelude.{IsOk, Result, filter, find, flat_map, is_ok, unwrap_or}}
+use Rattle.bq_job.specs.{beside.is_in_order, machine.{TubeRecord, default_tube, fresh_tube, in_name_order, is_name_before, is_tube, name_list, seated_tubes, tubes, with_name, Machine.Machine}, reading.TubeName.is_same_name}
 use Rattle.bq_job.specs.texts.Yaml.{name_line}
 use Rattle.bq_job.proofs.NameOrderLemmas.{after, first_of_order, in_order_fold, in_order_from, listed, not_before, not_same, rest_in_order, stays_fold}
-use Rattle.bq_state.specs.Names.{is_named, names_of}
-use Rattle.bq_state.specs.TubeEntries.{AreEntries, AreInOrder, IsFreshUnlessCounted, counted, has_entry, is_counted, is_tube_of, names_alive}
-use Rattle.bq_state.proofs.PartsLemmas.{tube_has_entry}
-use Rattle.bq_state.proofs.TubeLemmas.{before_differs, none_found, none_later, order_filtered, same_itself, same_name}
+use Rattle.bq_state.specs.{Names.{is_named, names_of}, TubeEntries.{AreEntries, AreInOrder, IsFreshUnlessCounted, counted, has_entry, is_counted, is_tube_of, names_alive}}
+use Rattle.bq_state.proofs.{PartsLemmas.tube_has_entry, TubeLemmas.{before_differs, none_found, none_later, order_filtered, same_itself, same_name}}
 
 -- names that come later are others
 none_listed : (name : List ℕ) (names : List (List ℕ)) → All (λ n. is_name_before name n ≡ true) names → list_any (is_same_name name) names ≡ false

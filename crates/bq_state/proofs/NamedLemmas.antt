@@ -1,29 +1,13 @@
 -- What lies in the catalog of the tubes: entries found by their names.
-use Rattle.std.proofs.Common.{◌≡◌, ◌∙◌, ◌+◌, ℕ, suc, Bool, true, false, cond, ◌&&◌, ◌||◌, if◌then◌else◌, List, [], ◌∷◌, Option, Some, None, is_some, map, refl, sym, ap, arith, inl, inr}
-use Rattle.std.specs.Prelude.{find}
-use Rattle.std.specs.Borrow.{Bor}
-use Rattle.std.specs.declared.cmp.Ordering.{Ordering}
-use Rattle.std.specs.declared.cmp.Ordering.TheVariants.{Less, Equal, Greater}
-use Rattle.std.specs.Ordering.{is_eq, is_lt, match_ordering, nat_cmp, ordering_reverse}
-use Rattle.std.specs.BTreeMap.{insert_entry}
-use Rattle.std.specs.Cmp.Lexicographic.{nat_list_cmp_total, slice_cmp, texts_ties}
-use Rattle.std.specs.List.{AllByRecursion as All, insert, list_any, prefix_len}
-use Rattle.std.specs.List.Sorted.{IsStrictlySortedBy}
-use Rattle.std.specs.Map.{keys_of, lookup}
-use Rattle.std.specs.Option.{option_map}
-use Rattle.std.proofs.lemmas.Bool.{cases_Bool}
+use Rattle.std.proofs.{Common.{◌&&◌, ◌+◌, ◌||◌, ◌∙◌, ◌∷◌, ◌≡◌, if◌then◌else◌, Bool, List, None, Option, Some, [], ℕ, ap, arith, cond, false, inl, inr, is_some, map, refl, suc, sym, true}, lemmas.Bool.cases_Bool}
+use Rattle.std.specs.{Borrow.Bor, BTreeMap.insert_entry, Cmp.Lexicographic.{nat_list_cmp_total, slice_cmp, texts_ties}, declared.cmp.Ordering.{Ordering, TheVariants.{Equal, Greater, Less}}}
+use Rattle.std.specs.{List.{AllByRecursion as All, insert, list_any, prefix_len, Sorted.IsStrictlySortedBy}, Map.{keys_of, lookup}, Option.option_map, Ordering.{is_eq, is_lt, match_ordering, nat_cmp, ordering_reverse}, Prelude.find}
+use Rattle.bq_job.specs.{machine.{TubeRecord, fresh_tube, is_name_before, with_record}, reading.TubeName.is_same_name}
 use Rattle.bq_index.specs.Order.{InOrder}
-use Rattle.bq_job.specs.machine.Machine.{TubeRecord}
-use Rattle.bq_job.specs.reading.TubeName.{is_same_name}
-use Rattle.bq_job.specs.machine.Tubes.{fresh_tube, is_name_before, with_record}
-use Rattle.bq_state.specs.KeptTubes.{KeptTube, KeptTubes, Named, crowd_by, crowd_kept, edited, fresh_entry, is_named_at, is_paused_by, kept_changed, record_at, record_of, tally_by, tally_kept}
-use Rattle.bq_state.specs.Tallies.{tallies_at, tallies_provided, tally_at, tally_of}
-use Rattle.bq_state.specs.TubeEntries.{AreInOrder, has_entry, provided, tube_changed}
+use Rattle.bq_state.specs.declared.{known.Tally.Tally, tubes.entry.{Crowd.Crowd, TubeChange.{TubeChange, TheVariants.{CountDelete, CountPut, Pause}}}}
 use Rattle.bq_state.specs.Crowds.{crowd_at, crowds_at, crowds_provided, no_crowd}
-use Rattle.bq_state.specs.declared.tubes.entry.Crowd.{Crowd}
-use Rattle.bq_state.specs.declared.known.Tally.{Tally}
-use Rattle.bq_state.specs.declared.tubes.entry.TubeChange.{TubeChange}
-use Rattle.bq_state.specs.declared.tubes.entry.TubeChange.TheVariants.{CountPut, CountDelete, Pause}
+use Rattle.bq_state.specs.KeptTubes.{KeptTube, KeptTubes, Named, crowd_by, crowd_kept, edited, fresh_entry, is_named_at, is_paused_by, kept_changed, record_at, record_of, tally_by, tally_kept}
+use Rattle.bq_state.specs.{Tallies.{tallies_at, tallies_provided, tally_at, tally_of}, TubeEntries.{AreInOrder, has_entry, provided, tube_changed}}
 use Rattle.bq_state.proofs.TubeLemmas.{changed_one, head_differs, none_later, same_name}
 
 -- a look-up asks whether names are the same

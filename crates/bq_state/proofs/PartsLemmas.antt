@@ -1,35 +1,16 @@
 -- What changes of the state keep.
-use Rattle.std.proofs.Common.{get_or}
-use Rattle.std.proofs.lemmas.Option.{slice_get-get_or}
-use Rattle.std.specs.Prelude.{Result, Ok, Err, IfOk}
-use Rattle.std.proofs.Common.{◌≡◌, ℕ, zero, suc, Bool, true, false, ◌&&◌, ◌||◌, ◌==◌, List, [], ◌∷◌, ◌++◌, Some, None, map, refl, sym, ap, ◌∙◌, if◌then◌else◌, subst, inl, inr, length, ◌≤◌, ◌<◌, ◌+◌, arith, set, slice_get, ◌^◌}
-use Rattle.std.proofs.Math.Bool.{and-false}
-use Rattle.std.proofs.lemmas.Bool.Decides.{nat_tests}
-use Rattle.std.proofs.lemmas.List.{length-map}
-use Rattle.std.specs.Prelude.{filter, nat_le, nat_lt}
-use Rattle.std.specs.List.{AllByRecursion as All, Contains, list_any}
-use Rattle.std.proofs.lemmas.Bool.{cases_Bool, eq-eqb, leb-false, ne_eqb, or_cases, or_left, or_right, and_parts, and_from}
+use Rattle.std.proofs.Common.{◌&&◌, ◌++◌, ◌+◌, ◌<◌, ◌==◌, ◌^◌, ◌||◌, ◌∙◌, ◌∷◌, ◌≡◌, ◌≤◌, if◌then◌else◌, Bool, List, None, Some, [], ℕ, ap, arith, false, get_or, inl, inr, length, map, refl, set, slice_get, subst, suc, sym, true, zero}
+use Rattle.std.proofs.{lemmas.{Bool.{and_from, and_parts, cases_Bool, eq-eqb, leb-false, ne_eqb, or_cases, or_left, or_right, Decides.nat_tests}, List.length-map, Option.slice_get-get_or}, Math.Bool.and-false}
+use Rattle.std.specs.{List.{AllByRecursion as All, Contains, list_any}, Prelude.{Err, IfOk, Ok, Result, filter, nat_le, nat_lt}}
 use Rattle.bq_job.specs.declared.job.Job.{Job}
-use Rattle.bq_job.specs.machine.Changes.{job_with, seat_with}
-use Rattle.bq_job.specs.beside.Lawful.{AreIdsWithin}
-use Rattle.bq_job.specs.machine.Machine.{SeatRecord, TubeRecord, default_tube, empty_seat, numbers}
+use Rattle.bq_job.specs.beside.{AreIdsWithin}
+use Rattle.bq_job.specs.machine.{SeatRecord, TubeRecord, default_tube, empty_seat, fresh_tube, greatest, is_due, is_expired, is_seated_at, job_with, numbers, raised, seat_with, tube_after_timers, watches, watching, with_record}
 use Rattle.bq_job.specs.reading.TubeName.{is_same_name}
-use Rattle.bq_job.specs.machine.Timers.{is_due, is_expired, tube_after_timers}
-use Rattle.bq_job.specs.machine.TubeCommands.{watching}
-use Rattle.bq_job.specs.machine.Limits.{greatest, raised}
-use Rattle.bq_job.specs.machine.Tubes.{fresh_tube, is_seated_at, watches, with_record}
 use Rattle.bq_job.proofs.ListLemmas.{all_at, all_from_members, all_weaker, found_passes, list_any_with}
 use Rattle.bq_jobs.specs.Kept.{Kept, with_added}
-use Rattle.bq_state.specs.declared.core_parts.CoreParts.{CoreParts}
-use Rattle.bq_state.specs.declared.job_store.JobChange.{JobChange}
-use Rattle.bq_state.specs.declared.job_store.JobChange.TheVariants.{FireTimers, HandOut, GiveBack, Release, Bury, Touch, Kick}
-use Rattle.bq_state.specs.declared.seats.SeatChange.{SeatChange}
-use Rattle.bq_state.specs.declared.seats.SeatChange.TheVariants.{StopWaiting, Wait, Connect, Clear, End, Use}
-use Rattle.bq_state.specs.declared.tubes.entry.TubeChange.{TubeChange}
-use Rattle.bq_state.specs.declared.tubes.entry.TubeChange.TheVariants.{CountPut, CountDelete, Pause}
-use Rattle.bq_state.specs.JobChanges.{changed}
-use Rattle.bq_state.specs.Soundness.{Soundness}
-use Rattle.bq_state.specs.SeatChanges.{AreNumbered, has_tube_of, seat_changed, seat_changed_at}
+use Rattle.bq_state.specs.declared.{core_parts.CoreParts.CoreParts, job_store.JobChange.{JobChange, TheVariants.{Bury, FireTimers, GiveBack, HandOut, Kick, Release, Touch}}}
+use Rattle.bq_state.specs.declared.{seats.SeatChange.{SeatChange, TheVariants.{Clear, Connect, End, StopWaiting, Use, Wait}}, tubes.entry.TubeChange.{TubeChange, TheVariants.{CountDelete, CountPut, Pause}}}
+use Rattle.bq_state.specs.{JobChanges.changed, SeatChanges.{AreNumbered, has_tube_of, seat_changed, seat_changed_at}, Soundness.Soundness}
 use Rattle.bq_state.specs.TubeEntries.{AreEntries, AreInOrder, HasTubes, IsFreshUnlessCounted, counted, has_entry, is_counted, is_tube_of, provided, tube_changed, tube_changed_at}
 use Rattle.bq_state.proofs.TubeLemmas.{counted_inserted, entry_filtered, fresh_inserted, has_inserted, order_filtered, order_inserted, order_kept, same_entries, same_itself, same_name, still_has}
 

@@ -1,21 +1,10 @@
 -- When the first of the pauses ends.
-use Rattle.bq_job.specs.machine.Machine.{Pause as PauseOf}
-use Rattle.bq_job.specs.machine.Timers.{pause_after_timers, tube_after_timers}
-use Rattle.bq_state.specs.TubeEntries.{counted, is_counted}
+use Rattle.std.proofs.{Common.{◌||◌, ◌∙◌, ◌∷◌, ◌≡◌, if◌then◌else◌, Bool, List, None, Option, Some, [], ℕ, ap, arith, false, map, min, refl, sym, true}, lemmas.Bool.Decides.nat_tests}
+use Rattle.std.specs.{List.list_any, Prelude.{fold, nat_le}}
+use Rattle.bq_job.specs.{beside.{dues_of_pause, earliest}, machine.{Pause as PauseOf, Pause as PauseRecord, TubeRecord, fresh_tube, is_name_before, pause_after_timers, tube_after_timers, with_record}, reading.TubeName.is_same_name}
 use Rattle.bq_job.proofs.ListLemmas.{all_of_filter, all_weaker, list_any_not, map_all_same, none_pass}
-use Rattle.std.proofs.Common.{◌≡◌, ℕ, Bool, true, false, ◌||◌, min, List, [], ◌∷◌, Option, Some, None, map, refl, sym, ap, ◌∙◌, arith, if◌then◌else◌}
-use Rattle.std.specs.Prelude.{fold, nat_le}
-use Rattle.std.specs.List.{list_any}
-use Rattle.std.proofs.lemmas.Bool.Decides.{nat_tests}
-use Rattle.bq_job.specs.machine.Machine.{TubeRecord}
-use Rattle.bq_job.specs.machine.Machine.{Pause as PauseRecord}
-use Rattle.bq_job.specs.beside.NextDue.{dues_of_pause, earliest}
-use Rattle.bq_job.specs.reading.TubeName.{is_same_name}
-use Rattle.bq_job.specs.machine.Tubes.{fresh_tube, is_name_before, with_record}
-use Rattle.bq_state.specs.declared.tubes.entry.TubeChange.{TubeChange}
-use Rattle.bq_state.specs.declared.tubes.entry.TubeChange.TheVariants.{CountPut, CountDelete, Pause}
-use Rattle.bq_state.specs.Dues.{earlier_of_both, first_pause_end, is_end_over, pause_end_after, with_tube_due}
-use Rattle.bq_state.specs.TubeEntries.{has_entry, is_over, is_pause_over, provided, tube_changed, tube_changed_at}
+use Rattle.bq_state.specs.declared.tubes.entry.TubeChange.{TubeChange, TheVariants.{CountDelete, CountPut, Pause}}
+use Rattle.bq_state.specs.{Dues.{earlier_of_both, first_pause_end, is_end_over, pause_end_after, with_tube_due}, TubeEntries.{counted, has_entry, is_counted, is_over, is_pause_over, provided, tube_changed, tube_changed_at}}
 use Rattle.bq_state.proofs.TubeLemmas.{head_differs}
 
 -- changes that keep the pauses

@@ -1,15 +1,8 @@
 -- Seats that are numbered in order are found by their places.
-use Rattle.std.proofs.Common.{zero, ◌++◌, add-one}
-use Rattle.std.proofs.lemmas.List.{map-append}
-use Rattle.bq_job.specs.machine.Machine.{empty_seat}
-use Rattle.std.proofs.Common.{◌≡◌, ℕ, suc, false, ◌==◌, ◌<◌, ◌+◌, ◌≤◌, List, [], ◌∷◌, Option, Some, None, map, length, refl, sym, ap, ◌∙◌, arith, if◌then◌else◌, get_or, slice_get}
-use Rattle.std.specs.Borrow.{Bor}
-use Rattle.std.specs.List.{HoldsAt}
-use Rattle.std.specs.Option.{IfSome, MatchOption, option_copied}
-use Rattle.std.proofs.lemmas.Bool.{ne_eqb}
-use Rattle.std.proofs.lemmas.Option.{slice_get_past, slice_get_read}
-use Rattle.bq_job.specs.machine.Changes.{seat_with}
-use Rattle.bq_job.specs.machine.Machine.{SeatRecord, numbers}
+use Rattle.std.proofs.Common.{◌++◌, ◌+◌, ◌<◌, ◌==◌, ◌∙◌, ◌∷◌, ◌≡◌, ◌≤◌, if◌then◌else◌, List, None, Option, Some, [], ℕ, add-one, ap, arith, false, get_or, length, map, refl, slice_get, suc, sym, zero}
+use Rattle.std.proofs.lemmas.{Bool.ne_eqb, List.map-append, Option.{slice_get_past, slice_get_read}}
+use Rattle.std.specs.{Borrow.Bor, List.HoldsAt, Option.{IfSome, MatchOption, option_copied}}
+use Rattle.bq_job.specs.machine.{SeatRecord, empty_seat, numbers, seat_with}
 use Rattle.bq_state.specs.SeatChanges.{AreNumbered}
 use Rattle.bq_state.proofs.PartsLemmas.{seat_read, seat_there}
 

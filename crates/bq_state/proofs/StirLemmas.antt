@@ -1,32 +1,16 @@
 -- What is known of the jobs that waiting clients may have.
-use Rattle.std.proofs.Common.{◌≡◌, ◌==◌, ◌&&◌, ◌||◌, ℕ, Bool, true, false, not, List, Option, Some, None, [], ◌∷◌, filter, find, is_some, map, refl, sym, ap, ◌∙◌, subst, inl, inr, set, slice_get, if◌then◌else◌}
-use Rattle.std.specs.Prelude.{unwrap_or}
-use Rattle.std.specs.List.{AllByRecursion as All, Contains, list_any}
-use Rattle.std.proofs.lemmas.Bool.{cases_Bool}
+use Rattle.std.proofs.{Common.{◌&&◌, ◌==◌, ◌||◌, ◌∙◌, ◌∷◌, ◌≡◌, if◌then◌else◌, Bool, List, None, Option, Some, [], ℕ, ap, false, filter, find, inl, inr, is_some, map, not, refl, set, slice_get, subst, sym, true}, lemmas.Bool.cases_Bool}
+use Rattle.std.specs.{List.{AllByRecursion as All, Contains, list_any}, Prelude.unwrap_or}
 use Rattle.bq_job.specs.declared.job.Job.{Job}
-use Rattle.bq_job.specs.machine.Changes.{is_ready, is_waiting}
-use Rattle.bq_job.specs.machine.Dispatch.{is_job_before, is_waiting_for, next_job}
-use Rattle.bq_job.specs.machine.JobCommands.{with_put, with_delete}
-use Rattle.bq_job.specs.machine.Machine.{Machine, Pause, SeatRecord, TubeRecord, default_tube}
-use Rattle.bq_job.specs.machine.Limits.{later}
-use Rattle.bq_job.specs.machine.TubeCommands.{watching, with_pause}
-use Rattle.bq_job.specs.reading.TubeName.{is_same_name}
-use Rattle.bq_job.specs.machine.Tubes.{forgetting, fresh_tube, is_name_before, is_paused, is_tube, tube_record, watches, with_record, with_tube}
-use Rattle.bq_job.proofs.ChoiceLemmas.{first_of_none, first_of_none_passes}
-use Rattle.bq_job.proofs.ListLemmas.{all_always, all_at, all_from_members, all_of_map, all_weaker, find_in_filter, found_passes, list_any_not, list_any_with, none_pass}
+use Rattle.bq_job.specs.machine.{Pause, SeatRecord, TubeRecord, default_tube, forgetting, fresh_tube, is_job_before, is_name_before, is_paused, is_ready, is_tube, is_waiting, is_waiting_for, later, next_job, tube_record, watches, watching}
+use Rattle.bq_job.specs.{machine.{with_delete, with_pause, with_put, with_record, with_tube, Machine.Machine}, reading.TubeName.is_same_name}
+use Rattle.bq_job.proofs.{ChoiceLemmas.{first_of_none, first_of_none_passes}, ListLemmas.{all_always, all_at, all_from_members, all_of_map, all_weaker, find_in_filter, found_passes, list_any_not, list_any_with, none_pass}}
 use Rattle.bq_jobs.specs.Kept.{with_added}
-use Rattle.bq_state.specs.Crowds.{is_waiter}
-use Rattle.bq_state.specs.SeatChanges.{seat_changed, seat_changed_at}
-use Rattle.bq_state.specs.Stirs.{AreKnown, IsKnown, is_nothing, is_paused_by, is_wanted_by, may_get, stirred_by_change, stirred_by_seat, with_anything, with_asker, with_stirred}
-use Rattle.bq_state.specs.TubeEntries.{tube_changed}
-use Rattle.bq_state.specs.declared.seats.SeatChange.{SeatChange}
-use Rattle.bq_state.specs.declared.seats.SeatChange.TheVariants.{StopWaiting, Wait, Connect, Clear, End, Use}
-use Rattle.bq_state.specs.declared.known.Stir.{Stir}
-use Rattle.bq_state.specs.declared.known.Stir.TheVariants.{Nothing, Tube, Client, Any}
-use Rattle.bq_state.specs.declared.tubes.entry.TubeChange.{TubeChange}
-use Rattle.bq_state.specs.declared.tubes.entry.TubeChange.TheVariants.{CountPut, CountDelete, Pause as PauseFor}
-use Rattle.bq_state.proofs.PartsLemmas.{all_added, all_read, all_set}
-use Rattle.bq_state.proofs.TubeLemmas.{same_itself, same_name}
+use Rattle.bq_state.specs.declared.{known.Stir.{Stir, TheVariants.{Any, Client, Nothing, Tube}}, seats.SeatChange.{SeatChange, TheVariants.{Clear, Connect, End, StopWaiting, Use, Wait}}}
+use Rattle.bq_state.specs.declared.tubes.entry.TubeChange.{TubeChange, TheVariants.{CountDelete, CountPut, Pause as PauseFor}}
+use Rattle.bq_state.specs.{Crowds.is_waiter, SeatChanges.{seat_changed, seat_changed_at}}
+use Rattle.bq_state.specs.{Stirs.{AreKnown, IsKnown, is_nothing, is_paused_by, is_wanted_by, may_get, stirred_by_change, stirred_by_seat, with_anything, with_asker, with_stirred}, TubeEntries.tube_changed}
+use Rattle.bq_state.proofs.{PartsLemmas.{all_added, all_read, all_set}, TubeLemmas.{same_itself, same_name}}
 
 -- what could be had can be had yet
 still_stirred : (name : List ℕ) (stir : Stir) (tube : List ℕ) (seat : ℕ) → may_get stir tube seat ≡ true → may_get (with_stirred name stir) tube seat ≡ true

@@ -1,14 +1,8 @@
 -- Counts of jobs, once a job comes or goes.
-use Rattle.std.proofs.Common.{◌≡◌, ◌∙◌, ◌+◌, ◌≤◌, ℕ, Bool, true, false, cond, List, [], ◌∷◌, Some, refl, sym, ap, arith, length, filter, inl, inr}
+use Rattle.std.proofs.{Common.{◌+◌, ◌∙◌, ◌∷◌, ◌≡◌, ◌≤◌, Bool, List, Some, [], ℕ, ap, arith, cond, false, filter, inl, inr, length, refl, sym, true}, lemmas.{Bool.cases_Bool, List.Sums.count_by-le-length}}
 use Rattle.std.specs.Prelude.{◌&&◌, count_by}
-use Rattle.std.proofs.lemmas.Bool.{cases_Bool}
-use Rattle.std.proofs.lemmas.List.Sums.{count_by-le-length}
 use Rattle.bq_job.specs.declared.job.Job.{Job}
-use Rattle.bq_job.specs.machine.Changes.{is_ready, job_with}
-use Rattle.bq_job.specs.machine.JobStates.{is_buried, is_delayed, is_reserved}
-use Rattle.bq_job.specs.beside.Lawful.{AreIdsWithin}
-use Rattle.bq_job.specs.machine.Limits.{greatest}
-use Rattle.bq_job.specs.machine.Statistics.{is_urgent}
+use Rattle.bq_job.specs.{beside.AreIdsWithin, machine.{greatest, is_buried, is_delayed, is_ready, is_reserved, is_urgent, job_with}}
 use Rattle.bq_job.proofs.ListLemmas.{count_cons}
 use Rattle.bq_jobs.specs.Kept.{with_added, without}
 use Rattle.bq_jobs.proofs.Changes.{count_added, count_without as count_taken}

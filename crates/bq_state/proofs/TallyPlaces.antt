@@ -1,28 +1,14 @@
 -- The counts of tubes stand at the places of their entries.
-use Rattle.std.proofs.Common.{◌≡◌, ◌∙◌, ◌+◌, ◌≤◌, ◌||◌, ℕ, Bool, true, false, List, [], ◌∷◌, Some, refl, sym, ap, arith, length, map, inl, inr}
-use Rattle.std.specs.Prelude.{◌++◌, nat_lt, count_by, filter, take, drop}
-use Rattle.std.proofs.lemmas.List.{drop-map, map-append, take-map}
-use Rattle.std.specs.List.{AllByRecursion as All, insert, list_any, prefix_len}
-use Rattle.std.specs.Cmp.Lexicographic.{bytes_decides}
-use Rattle.std.proofs.lemmas.Bool.{cases_Bool, lt-ltb, or_left, or_right}
-use Rattle.bq_job.specs.declared.job.Job.{Job}
-use Rattle.bq_job.specs.declared.job.JobState.{JobState}
+use Rattle.std.proofs.{Common.{◌+◌, ◌||◌, ◌∙◌, ◌∷◌, ◌≡◌, ◌≤◌, Bool, List, Some, [], ℕ, ap, arith, false, inl, inr, length, map, refl, sym, true}, lemmas.{Bool.{cases_Bool, lt-ltb, or_left, or_right}, List.{drop-map, map-append, take-map}}}
+use Rattle.std.specs.{Cmp.Lexicographic.bytes_decides, List.{AllByRecursion as All, insert, list_any, prefix_len}, Prelude.{◌++◌, count_by, drop, filter, nat_lt, take}}
+use Rattle.bq_job.specs.declared.job.{Job.Job, JobState.JobState}
 use Rattle.bq_job.specs.declared.job.JobState.TheVariants as states
-use Rattle.bq_job.specs.machine.Changes.{is_ready, is_ready_state, job_with}
-use Rattle.bq_job.specs.machine.JobStates.{is_buried, is_delayed, is_reserved}
-use Rattle.bq_job.specs.beside.Lawful.{AreIdsWithin}
-use Rattle.bq_job.specs.machine.Limits.{greatest}
-use Rattle.bq_job.specs.machine.Machine.{TubeRecord}
-use Rattle.bq_job.specs.reading.TubeName.{is_same_name}
-use Rattle.bq_job.specs.machine.Tubes.{fresh_tube, is_name_before}
-use Rattle.bq_job.proofs.ListLemmas.{count_cons}
-use Rattle.bq_job.proofs.NameOrderLemmas.{not_same}
+use Rattle.bq_job.specs.{beside.AreIdsWithin, machine.{TubeRecord, fresh_tube, greatest, is_buried, is_delayed, is_name_before, is_ready, is_ready_state, is_reserved, job_with}, reading.TubeName.is_same_name}
+use Rattle.bq_job.proofs.{ListLemmas.count_cons, NameOrderLemmas.not_same}
 use Rattle.bq_jobs.specs.Kept.{with_added, without}
 use Rattle.bq_state.specs.declared.known.Tally.{Tally}
-use Rattle.bq_state.specs.Tallies.{AreCounted, has_jobs, tallies_at, tallies_of, tallies_provided, tallies_with, tallies_without, tally_at, tally_in, tally_of, tally_with, tally_without}
-use Rattle.bq_state.specs.TubeEntries.{AreInOrder, has_entry, provided}
-use Rattle.bq_state.proofs.TubeLemmas.{provided_new}
-use Rattle.bq_state.proofs.TallyLemmas.{tally_added, tally_stays_added, tally_stays_taken, tally_taken, whole_added, whole_taken}
+use Rattle.bq_state.specs.{Tallies.{AreCounted, has_jobs, tallies_at, tallies_of, tallies_provided, tallies_with, tallies_without, tally_at, tally_in, tally_of, tally_with, tally_without}, TubeEntries.{AreInOrder, has_entry, provided}}
+use Rattle.bq_state.proofs.{TallyLemmas.{tally_added, tally_stays_added, tally_stays_taken, tally_taken, whole_added, whole_taken}, TubeLemmas.provided_new}
 
 module _ (j : Job) (old new : List Job) (f : Tally → Tally)
     (here : (t : TubeRecord) → is_same_name t.name j.tube ≡ true → tally_in new t ≡ f (tally_in old t))

@@ -1,13 +1,8 @@
 -- What is kept of tubes: the entries and the machine's records of them.
-use Rattle.std.proofs.Common.{◌≡◌, ℕ, suc, Bool, true, false, ◌&&◌, ◌||◌, not, List, [], ◌∷◌, Option, Some, None, is_some, map, refl, sym, ap, ◌∙◌, if◌then◌else◌, inl, inr, length, ◌≤◌, ◌<◌, ◌⊎◌, ◌+◌, arith, cond}
-use Rattle.std.proofs.Math.Bool.{or-false, or-true}
-use Rattle.std.specs.Prelude.{filter, find, unwrap_or}
-use Rattle.std.specs.List.{AllByRecursion as All, insert, list_any, position, position_or_len, prefix_len}
-use Rattle.std.specs.Cmp.Lexicographic.{bytes_decides}
-use Rattle.std.proofs.lemmas.Bool.{cases_Bool, cases_lt, le-ltb, lt-ltb, or_cases}
-use Rattle.bq_job.specs.machine.Machine.{TubeRecord}
-use Rattle.bq_job.specs.machine.Tubes.{fresh_tube, is_name_before, with_record}
-use Rattle.bq_job.specs.reading.TubeName.{is_same_name}
+use Rattle.std.proofs.Common.{◌&&◌, ◌+◌, ◌<◌, ◌||◌, ◌∙◌, ◌∷◌, ◌≡◌, ◌≤◌, ◌⊎◌, if◌then◌else◌, Bool, List, None, Option, Some, [], ℕ, ap, arith, cond, false, inl, inr, is_some, length, map, not, refl, suc, sym, true}
+use Rattle.std.proofs.{lemmas.Bool.{cases_Bool, cases_lt, le-ltb, lt-ltb, or_cases}, Math.Bool.{or-false, or-true}}
+use Rattle.std.specs.{Cmp.Lexicographic.bytes_decides, List.{AllByRecursion as All, insert, list_any, position, position_or_len, prefix_len}, Prelude.{filter, find, unwrap_or}}
+use Rattle.bq_job.specs.{machine.{TubeRecord, fresh_tube, is_name_before, with_record}, reading.TubeName.is_same_name}
 use Rattle.bq_job.proofs.NameOrderLemmas.{after, before_trans, not_before}
 use Rattle.bq_state.specs.TubeEntries.{AreInOrder, IsFreshUnlessCounted, counted, has_entry, is_counted, provided}
 

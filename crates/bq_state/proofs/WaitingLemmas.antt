@@ -1,23 +1,13 @@
 -- The turns of those that wait, once one seat changes.
-use Rattle.std.proofs.Common.{◌≡◌, ◌∙◌, ◌==◌, ◌+◌, ◌-◌, ◌<◌, ◌≤◌, ℕ, zero, suc, Bool, true, false, not, List, [], ◌∷◌, Option, Some, None, if◌then◌else◌, cond, inl, inr, subst, refl, sym, ap, arith, length, map, set, slice_get}
-use Rattle.std.specs.Prelude.{count_by, nat_lt}
-use Rattle.std.specs.Cmp.{IsStrictWeakOrder}
-use Rattle.std.specs.List.{AllByRecursion as All, insert, position, prefix_len, remove}
-use Rattle.std.proofs.lemmas.Bool.{cases_Bool, eq-eqb, eqb-true, ltb-false, ltb-true}
-use Rattle.std.proofs.lemmas.List.{length-map}
-use Rattle.std.proofs.lemmas.Bool.Decides.{nat_tests}
-use Rattle.bq_job.specs.machine.Changes.{is_pair_before, is_waiting, seat_with}
-use Rattle.bq_job.specs.machine.Machine.{SeatRecord, empty_seat, numbers}
-use Rattle.bq_job.specs.machine.TubeCommands.{watching}
-use Rattle.bq_job.proofs.ChoiceLemmas.{pair_order}
-use Rattle.bq_job.proofs.ListLemmas.{all_weaker, count_cons, found_passes}
-use Rattle.bq_state.specs.EndingWaits.{turn_of}
-use Rattle.bq_state.specs.WaitingTurns.{AreInTurn, IsRising, WaitingTurns, is_none_or_before, is_turn_before, placed, removed, turns_of, with_turn, without_turn}
-use Rattle.bq_state.specs.SeatChanges.{AreNumbered, seat_changed, seat_changed_at}
+use Rattle.std.proofs.Common.{◌+◌, ◌-◌, ◌<◌, ◌==◌, ◌∙◌, ◌∷◌, ◌≡◌, ◌≤◌, if◌then◌else◌, Bool, List, None, Option, Some, [], ℕ, ap, arith, cond, false, inl, inr, length, map, not, refl, set, slice_get, subst, suc, sym, true, zero}
+use Rattle.std.proofs.lemmas.{Bool.{cases_Bool, eq-eqb, eqb-true, ltb-false, ltb-true, Decides.nat_tests}, List.length-map}
+use Rattle.std.specs.{Cmp.IsStrictWeakOrder, List.{AllByRecursion as All, insert, position, prefix_len, remove}, Prelude.{count_by, nat_lt}}
+use Rattle.bq_job.specs.machine.{SeatRecord, empty_seat, is_pair_before, is_waiting, numbers, seat_with, watching}
+use Rattle.bq_job.proofs.{ChoiceLemmas.pair_order, ListLemmas.{all_weaker, count_cons, found_passes}}
 use Rattle.bq_state.specs.declared.seats.SeatChange.{SeatChange}
-use Rattle.bq_state.proofs.ClientLemmas.{all_others, heads, others, others_left}
-use Rattle.bq_state.proofs.PartsLemmas.{all_read, changed_there, number_kept, numbered_after, numbers_length}
-use Rattle.bq_state.proofs.PartsLemmas.{some_at}
+use Rattle.bq_state.specs.{EndingWaits.turn_of, SeatChanges.{AreNumbered, seat_changed, seat_changed_at}}
+use Rattle.bq_state.specs.WaitingTurns.{AreInTurn, IsRising, WaitingTurns, is_none_or_before, is_turn_before, placed, removed, turns_of, with_turn, without_turn}
+use Rattle.bq_state.proofs.{ClientLemmas.{all_others, heads, others, others_left}, PartsLemmas.{all_read, changed_there, number_kept, numbered_after, numbers_length, some_at}}
 
 -- the place behind those that come before
 pub placed_at : {A : Type 0} (before : A → A → Bool) (x : A) (xs : List A) → insert xs (prefix_len (λ y. before y x) xs) x ≡ placed before x xs

@@ -1,28 +1,12 @@
 -- A walk over those that wait, in their turn, comes to the same as one over all seats.
-use Rattle.std.proofs.Common.{◌≡◌, ◌<◌, ◌∙◌, ◌==◌, ◌&&◌, ◌||◌, ◌≤◌, ℕ, suc, Bool, true, false, List, [], ◌∷◌, Option, Some, None, if◌then◌else◌, cond, inl, inr, refl, sym, ap, arith, length, map, slice_get}
-use Rattle.std.specs.Prelude.{find, fold, is_some, nat_lt, option_map}
-use Rattle.std.specs.Cmp.{IsStrictWeakOrder}
-use Rattle.std.specs.List.{AllByRecursion as All, Contains, list_any, position, position_or_len}
-use Rattle.std.proofs.lemmas.Bool.{cases_Bool, eq-eqb, ltb-false, ne_eqb}
-use Rattle.std.proofs.lemmas.Bool.Decides.{nat_tests}
-use Rattle.std.proofs.lemmas.List.Folds.{find_at}
-use Rattle.std.proofs.lemmas.Option.{slice_get_past, slice_get_within}
-use Rattle.bq_job.specs.machine.Changes.{better_of, first_of, is_pair_before, is_waiting, seat_with}
-use Rattle.bq_job.specs.machine.Dispatch.{is_wait_before, ticket_of}
-use Rattle.bq_job.specs.machine.Machine.{SeatRecord, numbers}
-use Rattle.bq_job.proofs.ChoiceLemmas.{first_of_contains, first_of_is_some, pair_order}
-use Rattle.bq_job.proofs.KeptLemmas.{numbers_above, only_seat}
-use Rattle.bq_job.proofs.ListLemmas.{all_at, all_from_members, all_weaker}
-use Rattle.bq_state.specs.Clients.{seat_passes}
-use Rattle.bq_state.specs.EndingWaits.{is_after, turn_of, waits_after}
-use Rattle.bq_state.specs.Offers.{these}
-use Rattle.bq_state.specs.Places.{item_at}
+use Rattle.std.proofs.Common.{◌&&◌, ◌<◌, ◌==◌, ◌||◌, ◌∙◌, ◌∷◌, ◌≡◌, ◌≤◌, if◌then◌else◌, Bool, List, None, Option, Some, [], ℕ, ap, arith, cond, false, inl, inr, length, map, refl, slice_get, suc, sym, true}
+use Rattle.std.proofs.lemmas.{Bool.{cases_Bool, eq-eqb, ltb-false, ne_eqb, Decides.nat_tests}, List.Folds.find_at, Option.{slice_get_past, slice_get_within}}
+use Rattle.std.specs.{Cmp.IsStrictWeakOrder, List.{AllByRecursion as All, Contains, list_any, position, position_or_len}, Prelude.{find, fold, is_some, nat_lt, option_map}}
+use Rattle.bq_job.specs.machine.{SeatRecord, better_of, first_of, is_pair_before, is_wait_before, is_waiting, numbers, seat_with, ticket_of}
+use Rattle.bq_job.proofs.{ChoiceLemmas.{first_of_contains, first_of_is_some, pair_order}, KeptLemmas.{numbers_above, only_seat}, ListLemmas.{all_at, all_from_members, all_weaker}}
+use Rattle.bq_state.specs.{Clients.seat_passes, EndingWaits.{is_after, turn_of, waits_after}, Offers.these, Places.item_at, SeatChanges.AreNumbered}
 use Rattle.bq_state.specs.WaitingTurns.{IsRising, at_turn, is_turn_after, is_turn_before, passes_at, placed, turns_of}
-use Rattle.bq_state.specs.SeatChanges.{AreNumbered}
-use Rattle.bq_state.proofs.ClientLemmas.{heads}
-use Rattle.bq_state.proofs.WaitingLemmas.{all_placed, rising_placed}
-use Rattle.bq_state.proofs.SeatPlaces.{place_is_seat}
-use Rattle.bq_state.proofs.WarningLemmas.{none_found}
+use Rattle.bq_state.proofs.{ClientLemmas.heads, SeatPlaces.place_is_seat, WaitingLemmas.{all_placed, rising_placed}, WarningLemmas.none_found}
 
 -- the clients that wait, in their turn
 abbrev pub in_turn : List SeatRecord → List SeatRecord

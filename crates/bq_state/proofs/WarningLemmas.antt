@@ -1,27 +1,15 @@
 -- What is known of the clients that wait while they hold a job.
-use Rattle.std.proofs.Common.{◌≡◌, ◌==◌, ◌&&◌, ◌||◌, ℕ, ◌-◌, Bool, true, false, not, List, Option, Some, None, [], ◌∷◌, map, refl, sym, ap, ◌∙◌, set, slice_get, if◌then◌else◌}
-use Rattle.std.proofs.Common.{◌+◌, ◌≤◌, arith, cond, min, subst}
-use Rattle.std.specs.Prelude.{count_by, fold, is_some, length, option_map}
-use Rattle.std.specs.List.{AllByRecursion as All, Contains, list_any}
+use Rattle.std.proofs.Common.{◌&&◌, ◌+◌, ◌-◌, ◌==◌, ◌||◌, ◌∙◌, ◌∷◌, ◌≡◌, ◌≤◌, if◌then◌else◌, Bool, List, None, Option, Some, [], ℕ, ap, arith, cond, false, map, min, not, refl, set, slice_get, subst, sym, true}
 use Rattle.std.proofs.lemmas.Bool.{eq-eqb, eqb-true}
-use Rattle.bq_job.specs.declared.job.Job.{Job}
-use Rattle.bq_job.specs.declared.job.JobState.{JobState}
+use Rattle.std.specs.{List.{AllByRecursion as All, Contains, list_any}, Prelude.{count_by, fold, is_some, length, option_map}}
+use Rattle.bq_job.specs.declared.job.{Job.Job, JobState.JobState}
 use Rattle.bq_job.specs.declared.job.JobState.TheVariants as states
-use Rattle.bq_job.specs.machine.Changes.{first_of, is_held_by, is_holder, is_waiting, seat_with}
-use Rattle.bq_job.specs.machine.Machine.{SeatRecord}
-use Rattle.bq_job.specs.machine.TubeCommands.{watching}
-use Rattle.bq_job.proofs.ChoiceLemmas.{first_of_none, first_of_none_passes}
-use Rattle.bq_job.proofs.KeptLemmas.{only_seat}
-use Rattle.bq_job.proofs.ListLemmas.{all_at, all_from_members, all_of_map, all_weaker, count_cons, list_any_not, list_any_with, none_pass}
-use Rattle.bq_jobs.specs.Kept.{with_added}
-use Rattle.bq_jobs.specs.Leases.{deadline_of, is_lease_before}
-use Rattle.bq_state.specs.Dues.{earlier_of_both, warning_due, warning_due_at, with_warning_due}
-use Rattle.bq_state.specs.SeatChanges.{AreNumbered, seat_changed, seat_changed_at}
+use Rattle.bq_job.specs.machine.{SeatRecord, first_of, is_held_by, is_holder, is_waiting, seat_with, watching}
+use Rattle.bq_job.proofs.{ChoiceLemmas.{first_of_none, first_of_none_passes}, KeptLemmas.only_seat, ListLemmas.{all_at, all_from_members, all_of_map, all_weaker, count_cons, list_any_not, list_any_with, none_pass}}
+use Rattle.bq_jobs.specs.{Kept.with_added, Leases.{deadline_of, is_lease_before}}
+use Rattle.bq_state.specs.declared.{known.Warns.{Warns, TheVariants.{Any, Client, Nobody}}, seats.SeatChange.{SeatChange, TheVariants.{Clear, Connect, End, StopWaiting, Use, Wait}}}
+use Rattle.bq_state.specs.{Dues.{earlier_of_both, warning_due, warning_due_at, with_warning_due}, SeatChanges.{AreNumbered, seat_changed, seat_changed_at}}
 use Rattle.bq_state.specs.Warnings.{AreWarned, IsWarned, has_waiting_holder, holds_in_wait, is_waiting_there, may_hold, may_warn, warned_by_seat, warned_if_due, with_holder, with_holder_of, without_holder}
-use Rattle.bq_state.specs.declared.seats.SeatChange.{SeatChange}
-use Rattle.bq_state.specs.declared.seats.SeatChange.TheVariants.{StopWaiting, Wait, Connect, Clear, End, Use}
-use Rattle.bq_state.specs.declared.known.Warns.{Warns}
-use Rattle.bq_state.specs.declared.known.Warns.TheVariants.{Nobody, Client, Any}
 use Rattle.bq_state.proofs.PartsLemmas.{all_added, all_read, all_set}
 
 -- more may be known

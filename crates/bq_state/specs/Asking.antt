@@ -1,9 +1,8 @@
 -- How many comparisons of keys calls make, told as so many searches among the jobs.
-use Rattle.std.specs.Prelude.{ℕ, ◌≡◌, ◌≤◌, ◌+◌, ◌-◌, ◌*◌, length, max}
+use Rattle.std.specs.Prelude.{◌*◌, ◌+◌, ◌-◌, ◌≡◌, ◌≤◌, ℕ, length, max}
 use Rattle.bq_index.specs.Digits.{binary_digits}
 use Rattle.bq_jobs.specs.Kept.{Kept}
-use Rattle.bq_steps.specs.Cost.{changed_jobs}
-use Rattle.bq_steps.specs.Outbox.{Outbox}
+use Rattle.bq_steps.specs.{Cost.changed_jobs, Outbox.Outbox}
 
 -- twice the binary digits of a little more than twice the jobs: as many comparisons as one search among so
 -- many may take

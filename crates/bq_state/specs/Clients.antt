@@ -1,9 +1,8 @@
 -- How many clients there are.
-use Rattle.std.specs.Prelude.{Bool, false, List, Option, Some, None, count_by}
-use Rattle.bq_job.specs.machine.Changes.{is_waiting}
-use Rattle.bq_job.specs.machine.Machine.{SeatRecord}
-use Rattle.bq_state.specs.Tallies.{count_with, count_without}
+use Rattle.std.specs.Prelude.{Bool, List, None, Option, Some, count_by, false}
+use Rattle.bq_job.specs.machine.{SeatRecord, is_waiting}
 use Rattle.bq_state.specs.declared.known.Clients.{Clients}
+use Rattle.bq_state.specs.Tallies.{count_with, count_without}
 
 abbrev pub clients_of : List SeatRecord → Clients
 clients_of seats = record { connected = count_by (λ s. s.connected) seats; waiting = count_by is_waiting seats }

@@ -1,17 +1,10 @@
 -- The machine that a core stands for.
-use Rattle.std.specs.Prelude.{ℕ, Bool, ◌≡◌, List, Some, Vec, count_by}
-use Rattle.std.specs.Global.{Global}
-use Rattle.bq_job.specs.declared.job.Job.{Job}
-use Rattle.bq_job.specs.declared.settings.Settings.{Settings}
-use Rattle.bq_job.specs.machine.Changes.{seat_with, with_seat}
-use Rattle.bq_job.specs.machine.Machine.{Machine, SeatRecord}
-use Rattle.bq_job.specs.machine.TubeCommands.{watching}
+use Rattle.std.specs.{Global.Global, Prelude.{◌≡◌, Bool, List, Some, Vec, ℕ, count_by}}
+use Rattle.bq_job.specs.declared.{job.Job.Job, settings.Settings.Settings}
+use Rattle.bq_job.specs.machine.{SeatRecord, seat_with, watching, with_seat, Machine.Machine}
 use Rattle.bq_jobs.specs.Kept.{Kept}
-use Rattle.bq_state.specs.KeptTubes.{KeptTubes}
-use Rattle.bq_state.specs.WaitingTurns.{WaitingTurns}
-use Rattle.bq_state.specs.TubeEntries.{counted}
-use Rattle.bq_state.specs.declared.known.Known.{Known}
-use Rattle.bq_state.specs.declared.core_parts.CoreParts.{CoreParts}
+use Rattle.bq_state.specs.declared.{core_parts.CoreParts.CoreParts, known.Known.Known}
+use Rattle.bq_state.specs.{KeptTubes.KeptTubes, TubeEntries.counted, WaitingTurns.WaitingTurns}
 
 -- what a state holds beside the fact that it is sound
 pub record Held : Type 0 where

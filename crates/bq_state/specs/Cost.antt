@@ -1,8 +1,6 @@
 -- How many tubes the clients watch that wait.
-use Rattle.std.specs.Prelude.{ℕ, length, if◌then◌else◌}
-use Rattle.std.specs.List.{sum_by}
-use Rattle.bq_job.specs.machine.Changes.{is_waiting}
-use Rattle.bq_job.specs.machine.Machine.{Machine, SeatRecord}
+use Rattle.std.specs.{List.sum_by, Prelude.{if◌then◌else◌, ℕ, length}}
+use Rattle.bq_job.specs.machine.{SeatRecord, is_waiting, Machine.Machine}
 
 -- how many tubes the client watches, if it waits
 abbrev pub waited_tubes : SeatRecord → ℕ

@@ -1,21 +1,8 @@
 -- How many clients are at each tube.
-use Rattle.std.specs.Prelude.{ℕ, Bool, true, false, ◌≡◌, ◌&&◌, ◌||◌, nat_lt, not, if◌then◌else◌}
-use Rattle.std.specs.Prelude.{List, [], ◌∷◌, Option, Some, None, count_by, fold, map}
-use Rattle.std.specs.List.{AllByRecursion, insert, prefix_len}
-use Rattle.bq_job.specs.machine.Changes.{is_waiting}
-use Rattle.bq_job.specs.beside.Lawful.{none_twice}
-use Rattle.bq_job.specs.machine.Machine.{SeatRecord, TubeRecord}
-use Rattle.bq_job.specs.reading.TubeName.{is_same_name}
-use Rattle.bq_job.specs.machine.Tubes.{is_name_before, watches}
-use Rattle.bq_state.specs.SeatStates.{is_connected}
-use Rattle.bq_state.specs.Tallies.{count_with, count_without}
-use Rattle.bq_state.specs.TubeEntries.{has_entry}
-use Rattle.bq_state.specs.declared.tubes.entry.Crowd.{Crowd}
-use Rattle.bq_state.specs.declared.tubes.entry.Moving.{Moving}
-use Rattle.bq_state.specs.declared.tubes.entry.Moving.TheVariants.{Comes, Goes}
-use Rattle.bq_state.specs.declared.tubes.entry.Share.{Share}
-use Rattle.bq_state.specs.declared.seats.SeatChange.{SeatChange}
-use Rattle.bq_state.specs.declared.seats.SeatChange.TheVariants.{StopWaiting, Wait, Connect, Clear, End, Use}
+use Rattle.std.specs.{List.{AllByRecursion, insert, prefix_len}, Prelude.{◌&&◌, ◌||◌, ◌∷◌, ◌≡◌, if◌then◌else◌, Bool, List, None, Option, Some, [], ℕ, count_by, false, fold, map, nat_lt, not, true}}
+use Rattle.bq_job.specs.{beside.none_twice, machine.{SeatRecord, TubeRecord, is_name_before, is_waiting, watches}, reading.TubeName.is_same_name}
+use Rattle.bq_state.specs.declared.{seats.SeatChange.{SeatChange, TheVariants.{Clear, Connect, End, StopWaiting, Use, Wait}}, tubes.entry.{Crowd.Crowd, Moving.{Moving, TheVariants.{Comes, Goes}}, Share.Share}}
+use Rattle.bq_state.specs.{SeatStates.is_connected, Tallies.{count_with, count_without}, TubeEntries.has_entry}
 
 -- an open seat uses the tube, or watches it, or a client waits at it
 abbrev pub is_user : List ℕ → SeatRecord → Bool

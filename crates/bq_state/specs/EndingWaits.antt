@@ -1,15 +1,9 @@
 -- Which waits end.
-use Rattle.std.specs.Prelude.{ℕ, Bool, true, ◌≡◌, ◌+◌, ◌&&◌, ◌||◌, nat_le, if◌then◌else◌, Option, Some, None, count_by, false, ◌-◌}
-use Rattle.std.specs.List.{AllByRecursion, list_any}
-use Rattle.bq_job.specs.declared.answer.Answer.{Answer}
+use Rattle.std.specs.{List.{AllByRecursion, list_any}, Prelude.{◌&&◌, ◌+◌, ◌-◌, ◌||◌, ◌≡◌, if◌then◌else◌, Bool, None, Option, Some, ℕ, count_by, false, nat_le, true}}
+use Rattle.bq_job.specs.declared.{answer.Answer.Answer, job.Job.Job}
 use Rattle.bq_job.specs.declared.answer.Answer.TheVariants as answers
-use Rattle.bq_job.specs.declared.job.Job.{Job}
-use Rattle.bq_job.specs.machine.Changes.{is_pair_before, is_waiting}
-use Rattle.bq_job.specs.machine.Dispatch.{ticket_of}
-use Rattle.bq_job.specs.machine.Machine.{Machine, SeatRecord}
-use Rattle.bq_job.specs.machine.JobStates.{is_reserved}
+use Rattle.bq_job.specs.machine.{SeatRecord, ends_waiting, is_deadline_soon, is_pair_before, is_reserved, is_timed_out, is_timed_out_at, is_waiting, ticket_of, Machine.Machine}
 use Rattle.bq_jobs.specs.Leases.{deadline_of}
-use Rattle.bq_job.specs.machine.Waits.{ends_waiting, is_deadline_soon, is_timed_out, is_timed_out_at}
 
 -- a reservation whose time to run ends within a second
 abbrev pub is_lease_short : ℕ → Job → Bool

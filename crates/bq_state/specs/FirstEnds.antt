@@ -1,14 +1,8 @@
 -- When the first wait of a client is over by its timeout.
-use Rattle.std.specs.Prelude.{ℕ, Bool, true, false, ◌≡◌, ◌&&◌, not, if◌then◌else◌, List, Option, Some, None, fold, is_some}
-use Rattle.std.specs.List.{AllByRecursion}
-use Rattle.bq_job.specs.machine.Changes.{is_waiting}
-use Rattle.bq_job.specs.machine.Machine.{SeatRecord}
-use Rattle.bq_job.specs.beside.NextDue.{dues_of_wait, earliest}
+use Rattle.std.specs.{List.AllByRecursion, Prelude.{◌&&◌, ◌≡◌, if◌then◌else◌, Bool, List, None, Option, Some, ℕ, false, fold, is_some, not, true}}
+use Rattle.bq_job.specs.{beside.{dues_of_wait, earliest}, machine.{SeatRecord, is_waiting}}
+use Rattle.bq_state.specs.declared.{known.FirstEnd.{FirstEnd, TheVariants.{Known, Unknown}}, seats.SeatChange.{SeatChange, TheVariants.{Clear, Connect, End, StopWaiting, Use, Wait}}}
 use Rattle.bq_state.specs.Dues.{with_seat_due}
-use Rattle.bq_state.specs.declared.known.FirstEnd.{FirstEnd}
-use Rattle.bq_state.specs.declared.known.FirstEnd.TheVariants.{Known, Unknown}
-use Rattle.bq_state.specs.declared.seats.SeatChange.{SeatChange}
-use Rattle.bq_state.specs.declared.seats.SeatChange.TheVariants.{StopWaiting, Wait, Connect, Clear, End, Use}
 
 -- when the client gives up, if it waits
 abbrev pub gives_up_at : SeatRecord → Option ℕ

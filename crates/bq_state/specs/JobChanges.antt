@@ -1,16 +1,9 @@
 -- What happens to a job.
-use Rattle.std.specs.Prelude.{ℕ, Bool, false, ◌||◌, not, if◌then◌else◌, Option, Some, None}
+use Rattle.std.specs.Prelude.{◌||◌, if◌then◌else◌, Bool, None, Option, Some, ℕ, false, not}
 use Rattle.bq_job.specs.declared.job.Job.{Job}
 use Rattle.bq_job.specs.declared.job.JobState.TheVariants as states
-use Rattle.bq_job.specs.machine.Changes.{in_state, is_held_by}
-use Rattle.bq_job.specs.machine.Dispatch.{reserved_by}
-use Rattle.bq_job.specs.machine.JobCommands.{buried, kicked, released}
-use Rattle.bq_job.specs.machine.JobStates.{is_buried, is_delayed, is_reserved}
-use Rattle.bq_job.specs.machine.Timers.{job_after_timers}
-use Rattle.bq_state.specs.declared.job_store.JobChange.{JobChange}
-use Rattle.bq_state.specs.declared.job_store.JobChange.TheVariants.{FireTimers, HandOut, GiveBack, Release, Bury, Touch, Kick}
-use Rattle.bq_state.specs.declared.job_store.JobTest.{JobTest}
-use Rattle.bq_state.specs.declared.job_store.JobTest.TheVariants.{HeldBy, FreeFor, Free, Kickable}
+use Rattle.bq_job.specs.machine.{buried, in_state, is_buried, is_delayed, is_held_by, is_reserved, job_after_timers, kicked, released, reserved_by}
+use Rattle.bq_state.specs.declared.job_store.{JobChange.{JobChange, TheVariants.{Bury, FireTimers, GiveBack, HandOut, Kick, Release, Touch}}, JobTest.{JobTest, TheVariants.{Free, FreeFor, HeldBy, Kickable}}}
 
 abbrev pub changed : JobChange → Job → Job
 changed (FireTimers moment) j = job_after_timers moment j

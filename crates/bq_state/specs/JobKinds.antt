@@ -1,12 +1,8 @@
 -- The first job of a kind: by its priority, its due moment or its burial number, and then by its id.
-use Rattle.std.specs.Prelude.{ℕ, Bool, List, Option}
+use Rattle.std.specs.Prelude.{Bool, List, Option, ℕ}
 use Rattle.bq_job.specs.declared.job.Job.{Job}
-use Rattle.bq_job.specs.machine.Changes.{first_of, is_pair_before}
-use Rattle.bq_job.specs.machine.JobCommands.{is_buried_in, is_delayed_in}
-use Rattle.bq_job.specs.machine.JobStates.{burial_of, due_of}
-use Rattle.bq_job.specs.machine.TubeCommands.{is_ready_in}
-use Rattle.bq_state.specs.declared.job_store.JobKind.{JobKind}
-use Rattle.bq_state.specs.declared.job_store.JobKind.TheVariants.{Ready, Delayed, Buried}
+use Rattle.bq_job.specs.machine.{burial_of, due_of, first_of, is_buried_in, is_delayed_in, is_pair_before, is_ready_in}
+use Rattle.bq_state.specs.declared.job_store.JobKind.{JobKind, TheVariants.{Buried, Delayed, Ready}}
 
 abbrev pub is_of : JobKind → List ℕ → Job → Bool
 is_of Ready tube j = is_ready_in tube j

@@ -1,8 +1,7 @@
 -- What calls keep of a state.
 use Rattle.std.specs.Prelude.{ℕ}
-use Rattle.bq_state.specs.Asking.{Asks}
-use Rattle.bq_state.specs.CoreParts.{OnlyCompares}
 use Rattle.bq_state.specs.declared.core_parts.CoreParts.{CoreParts}
+use Rattle.bq_state.specs.{Asking.Asks, CoreParts.OnlyCompares}
 
 -- Jobs were looked at, by no more comparisons than in n searches, and nothing was changed.
 pub record Looks (n : ℕ) (old new : CoreParts) : Type 0 where

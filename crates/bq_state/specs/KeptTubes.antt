@@ -1,24 +1,11 @@
 -- What is kept of the tubes that have an entry.
-use Rattle.std.specs.Borrow.{Bor}
-use Rattle.std.specs.Prelude.{ℕ, Bool, false, true, ◌&&◌, not, is_some, if◌then◌else◌, List, [], ◌∷◌, ◌++◌, Option, Some, None, map}
-use Rattle.std.specs.Ordering.{is_gt, nat_cmp}
-use Rattle.std.specs.BTreeMap.{is_at}
-use Rattle.std.specs.Map.{lookup, remove_entry, set_value}
-use Rattle.std.specs.Cmp.Lexicographic.{slice_cmp}
+use Rattle.std.specs.{Borrow.Bor, BTreeMap.is_at, Cmp.Lexicographic.slice_cmp, Map.{lookup, remove_entry, set_value}, Ordering.{is_gt, nat_cmp}}
+use Rattle.std.specs.Prelude.{◌&&◌, ◌++◌, ◌∷◌, if◌then◌else◌, Bool, List, None, Option, Some, [], ℕ, false, is_some, map, not, true}
 use Rattle.bq_job.specs.declared.job.Job.{Job}
-use Rattle.bq_job.specs.machine.Limits.{raised}
-use Rattle.bq_job.specs.machine.Machine.{Pause, TubeRecord, default_tube}
-use Rattle.bq_job.specs.machine.Timers.{pause_after_timers, tube_after_timers}
-use Rattle.bq_job.specs.machine.Tubes.{fresh_tube}
+use Rattle.bq_job.specs.machine.{Pause, TubeRecord, default_tube, fresh_tube, pause_after_timers, raised, tube_after_timers}
 use Rattle.bq_jobs.specs.declared.row.Moved.{Moved}
-use Rattle.bq_state.specs.Crowds.{has_seats, no_crowd, recounted}
-use Rattle.bq_state.specs.Tallies.{has_jobs, tally_moved, tally_of, tally_with, tally_without}
-use Rattle.bq_state.specs.TubeEntries.{is_tube_by, tube_changed}
-use Rattle.bq_state.specs.declared.tubes.entry.Crowd.{Crowd}
-use Rattle.bq_state.specs.declared.tubes.entry.Moving.{Moving}
-use Rattle.bq_state.specs.declared.tubes.entry.Share.{Share}
-use Rattle.bq_state.specs.declared.known.Tally.{Tally}
-use Rattle.bq_state.specs.declared.tubes.entry.TubeChange.{TubeChange}
+use Rattle.bq_state.specs.declared.{known.Tally.Tally, tubes.entry.{Crowd.Crowd, Moving.Moving, Share.Share, TubeChange.TubeChange}}
+use Rattle.bq_state.specs.{Crowds.{has_seats, no_crowd, recounted}, Tallies.{has_jobs, tally_moved, tally_of, tally_with, tally_without}, TubeEntries.{is_tube_by, tube_changed}}
 
 -- the entries, and at the same places the counts of the tubes' jobs and of their clients
 pub record KeptTubes : Type 0 where

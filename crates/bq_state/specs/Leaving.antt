@@ -1,13 +1,8 @@
 -- Which tubes may be gone once a client leaves them.
-use Rattle.std.specs.Prelude.{ℕ, Bool, true, false, List, [], ◌∷◌, Option, Some, None, fold}
-use Rattle.bq_job.specs.machine.Machine.{SeatRecord}
-use Rattle.bq_state.specs.Crowds.{crowd_at, has_seats}
-use Rattle.bq_state.specs.KeptTubes.{KeptTubes}
-use Rattle.bq_state.specs.Losses.{with_lost}
-use Rattle.bq_state.specs.Tallies.{has_jobs, tally_at}
-use Rattle.bq_state.specs.TubeEntries.{is_tube_by}
-use Rattle.bq_state.specs.declared.tubes.entry.Share.{Share}
-use Rattle.bq_state.specs.declared.known.Loss.{Loss}
+use Rattle.std.specs.Prelude.{◌∷◌, Bool, List, None, Option, Some, [], ℕ, false, fold, true}
+use Rattle.bq_job.specs.machine.{SeatRecord}
+use Rattle.bq_state.specs.declared.{known.Loss.Loss, tubes.entry.Share.Share}
+use Rattle.bq_state.specs.{Crowds.{crowd_at, has_seats}, KeptTubes.KeptTubes, Losses.with_lost, Tallies.{has_jobs, tally_at}, TubeEntries.is_tube_by}
 
 -- the tube exists, by its counts
 abbrev pub exists_in : KeptTubes → List ℕ → Bool

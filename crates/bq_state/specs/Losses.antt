@@ -1,12 +1,9 @@
 -- Which entries may be of tubes that are gone.
-use Rattle.std.specs.Prelude.{ℕ, Bool, true, false, ◌≡◌, ◌||◌, if◌then◌else◌, List}
-use Rattle.std.specs.List.{AllByRecursion}
+use Rattle.std.specs.{List.AllByRecursion, Prelude.{◌||◌, ◌≡◌, if◌then◌else◌, Bool, List, ℕ, false, true}}
 use Rattle.bq_job.specs.declared.job.Job.{Job}
-use Rattle.bq_job.specs.machine.Machine.{SeatRecord, TubeRecord}
-use Rattle.bq_job.specs.reading.TubeName.{is_same_name}
+use Rattle.bq_job.specs.{machine.{SeatRecord, TubeRecord}, reading.TubeName.is_same_name}
+use Rattle.bq_state.specs.declared.known.Loss.{Loss, TheVariants.{Any, Nothing, Of}}
 use Rattle.bq_state.specs.TubeEntries.{is_tube_of}
-use Rattle.bq_state.specs.declared.known.Loss.{Loss}
-use Rattle.bq_state.specs.declared.known.Loss.TheVariants.{Nothing, Of, Any}
 
 -- the tube of this name may be gone
 abbrev pub may_be_gone : Loss → List ℕ → Bool

@@ -1,6 +1,5 @@
 -- Names that stand elsewhere.
-use Rattle.std.specs.Prelude.{ℕ, Bool, false, List, Option, Some, None, map}
-use Rattle.std.specs.Borrow.{Bor}
+use Rattle.std.specs.{Borrow.Bor, Prelude.{Bool, List, None, Option, Some, ℕ, false, map}}
 use Rattle.bq_job.specs.reading.TubeName.{is_same_name}
 
 -- the names that are pointed at

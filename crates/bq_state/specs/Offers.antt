@@ -1,16 +1,9 @@
 -- Of what waiting clients can have, the job that is handed out first, tube by tube.
-use Rattle.std.specs.Prelude.{ℕ, Bool, ◌&&◌, if◌then◌else◌, List, [], ◌∷◌, Option, Some, None, fold, is_some, nat_lt}
-use Rattle.std.specs.Option.{option_map}
-use Rattle.std.specs.List.{list_any}
+use Rattle.std.specs.{List.list_any, Option.option_map, Prelude.{◌&&◌, ◌∷◌, if◌then◌else◌, Bool, List, None, Option, Some, [], ℕ, fold, is_some, nat_lt}}
 use Rattle.bq_job.specs.declared.job.Job.{Job}
-use Rattle.bq_job.specs.machine.Changes.{first_of, is_pair_before, is_waiting}
-use Rattle.bq_job.specs.machine.Dispatch.{is_job_before, next_job}
-use Rattle.bq_job.specs.machine.Machine.{Machine, SeatRecord, TubeRecord}
-use Rattle.bq_job.specs.machine.TubeCommands.{is_ready_in}
-use Rattle.bq_job.specs.reading.TubeName.{is_same_name}
+use Rattle.bq_job.specs.{machine.{SeatRecord, TubeRecord, first_of, is_job_before, is_pair_before, is_ready_in, is_waiting, next_job, Machine.Machine}, reading.TubeName.is_same_name}
 use Rattle.bq_jobs.specs.Kept.{ranked}
-use Rattle.bq_state.specs.Crowds.{crowd_at}
-use Rattle.bq_state.specs.KeptTubes.{KeptTubes}
+use Rattle.bq_state.specs.{Crowds.crowd_at, KeptTubes.KeptTubes}
 
 abbrev pub earlier_of_ranks : ℕ × ℕ → ℕ × ℕ → Option (ℕ × ℕ)
 earlier_of_ranks best other = if is_pair_before other.0 other.1 best.0 best.1 then Some other else Some best

@@ -1,18 +1,10 @@
 -- The ends of the pauses of tubes, in their order.
-use Rattle.std.specs.Prelude.{ℕ, Bool, false, ◌≡◌, ◌==◌, ◌&&◌, ◌+◌, ◌≤◌, nat_le, if◌then◌else◌}
-use Rattle.std.specs.Prelude.{List, [], ◌∷◌, Option, Some, None, count_by, find, is_some, length, map}
-use Rattle.std.specs.declared.cmp.Ordering.{Ordering}
-use Rattle.std.specs.BTreeMap.{insert_entry, is_at}
-use Rattle.std.specs.Cmp.{IsTotalOrder, nat_cmp_total, on_total, then_total}
-use Rattle.std.specs.Cmp.Lexicographic.{nat_list_cmp_total, slice_cmp}
-use Rattle.std.specs.List.{list_any}
-use Rattle.std.specs.Map.{lookup, remove_entry}
-use Rattle.std.specs.Ordering.{nat_cmp, on, then_cmp}
+use Rattle.std.specs.{BTreeMap.{insert_entry, is_at}, Cmp.{IsTotalOrder, nat_cmp_total, on_total, then_total, Lexicographic.{nat_list_cmp_total, slice_cmp}}, declared.cmp.Ordering.Ordering, List.list_any, Map.{lookup, remove_entry}}
+use Rattle.std.specs.{Ordering.{nat_cmp, on, then_cmp}, Prelude.{◌&&◌, ◌+◌, ◌==◌, ◌∷◌, ◌≡◌, ◌≤◌, if◌then◌else◌, Bool, List, None, Option, Some, [], ℕ, count_by, false, find, is_some, length, map, nat_le}}
+use Rattle.bq_job.specs.{machine.{Pause, TubeRecord}, reading.TubeName.is_same_name}
 use Rattle.bq_index.specs.Catalog.{CatalogSeen}
-use Rattle.bq_job.specs.machine.Machine.{Pause, TubeRecord}
-use Rattle.bq_job.specs.reading.TubeName.{is_same_name}
-use Rattle.bq_state.specs.KeptTubes.{Named, record_at}
 use Rattle.bq_state.specs.declared.tubes.pauses.PauseEnd.{PauseEnd}
+use Rattle.bq_state.specs.KeptTubes.{Named, record_at}
 
 -- by moment, and at one moment by name
 abbrev pub end_cmp : PauseEnd → PauseEnd → Ordering

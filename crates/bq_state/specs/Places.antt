@@ -1,5 +1,5 @@
 -- What stands at a place of a list.
-use Rattle.std.specs.Prelude.{ℕ, List, Option, Some, None, slice_get}
+use Rattle.std.specs.Prelude.{List, None, Option, Some, ℕ, slice_get}
 
 abbrev pub item_at : {A : Type 0} → List A → Option ℕ → Option A
 item_at xs None = None

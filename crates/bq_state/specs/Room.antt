@@ -1,5 +1,5 @@
 -- The room for more jobs that is kept.
-use Rattle.std.specs.Prelude.{ℕ, ◌-◌, nat_le, if◌then◌else◌}
+use Rattle.std.specs.Prelude.{◌-◌, if◌then◌else◌, ℕ, nat_le}
 
 -- what is left of it, where there are so many jobs, once that of one goes back, if there is plenty
 abbrev pub room_left : ℕ → ℕ → ℕ

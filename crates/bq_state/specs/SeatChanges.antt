@@ -1,15 +1,8 @@
 -- What happens at seats, one by one.
-use Rattle.std.specs.Prelude.{ℕ, Bool, true, ◌≡◌, ◌==◌, ◌++◌, ◌∷◌, [], not, if◌then◌else◌, List, Some, filter, length, map, set, slice_get}
-use Rattle.std.specs.List.{list_any}
-use Rattle.bq_job.specs.machine.Asked.{with_end}
-use Rattle.bq_job.specs.machine.Changes.{without_wait}
-use Rattle.bq_job.specs.machine.JobCommands.{waiting_from}
-use Rattle.bq_job.specs.machine.Machine.{SeatRecord, TubeRecord, empty_seat, numbers}
-use Rattle.bq_job.specs.machine.TubeCommands.{using}
-use Rattle.bq_job.specs.reading.TubeName.{is_same_name}
+use Rattle.std.specs.{List.list_any, Prelude.{◌++◌, ◌==◌, ◌∷◌, ◌≡◌, if◌then◌else◌, Bool, List, Some, [], ℕ, filter, length, map, not, set, slice_get, true}}
+use Rattle.bq_job.specs.{machine.{SeatRecord, TubeRecord, empty_seat, numbers, using, waiting_from, with_end, without_wait}, reading.TubeName.is_same_name}
+use Rattle.bq_state.specs.declared.seats.SeatChange.{SeatChange, TheVariants.{Clear, Connect, End, StopWaiting, Use, Wait}}
 use Rattle.bq_state.specs.TubeEntries.{has_entry}
-use Rattle.bq_state.specs.declared.seats.SeatChange.{SeatChange}
-use Rattle.bq_state.specs.declared.seats.SeatChange.TheVariants.{StopWaiting, Wait, Connect, Clear, End, Use}
 
 -- each seat stands at the place of its number
 abbrev pub AreNumbered : List SeatRecord → Type 0

@@ -1,7 +1,6 @@
 -- Whether a seat is free, and whether its client can ask.
-use Rattle.std.specs.Prelude.{Bool, false, ◌&&◌, not, Option, Some, None}
-use Rattle.bq_job.specs.machine.Changes.{is_waiting}
-use Rattle.bq_job.specs.machine.Machine.{SeatRecord}
+use Rattle.std.specs.Prelude.{◌&&◌, Bool, None, Option, Some, false, not}
+use Rattle.bq_job.specs.machine.{SeatRecord, is_waiting}
 
 -- nobody is connected there
 abbrev pub is_free : Option SeatRecord → Bool

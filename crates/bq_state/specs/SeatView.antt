@@ -1,5 +1,5 @@
 -- What a seat is seen as.
-use Rattle.bq_job.specs.machine.Machine.{SeatRecord}
+use Rattle.bq_job.specs.machine.{SeatRecord}
 use Rattle.bq_state.specs.declared.seats.SeatRecord.TheInside.{Inside}
 
 abbrev pub seat_of : Inside → SeatRecord

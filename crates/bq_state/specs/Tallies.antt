@@ -1,18 +1,10 @@
 -- How many of the jobs are in each state.
-use Rattle.std.specs.Prelude.{ℕ, Bool, true, false, ◌≡◌, ◌-◌, ◌&&◌, ◌||◌, nat_lt, if◌then◌else◌, List, [], ◌∷◌, count_by, filter, map}
-use Rattle.std.specs.List.{insert, prefix_len}
+use Rattle.std.specs.{List.{insert, prefix_len}, Prelude.{◌&&◌, ◌-◌, ◌||◌, ◌∷◌, ◌≡◌, if◌then◌else◌, Bool, List, [], ℕ, count_by, false, filter, map, nat_lt, true}}
 use Rattle.bq_job.specs.declared.job.Job.{Job}
-use Rattle.bq_job.specs.machine.Changes.{is_ready, is_ready_state}
-use Rattle.bq_job.specs.machine.JobStates.{is_buried, is_delayed, is_reserved}
-use Rattle.bq_job.specs.machine.Limits.{raised}
-use Rattle.bq_job.specs.machine.Machine.{TubeRecord}
-use Rattle.bq_job.specs.machine.Statistics.{is_urgent}
-use Rattle.bq_job.specs.reading.TubeName.{is_same_name}
-use Rattle.bq_job.specs.machine.Tubes.{is_name_before}
-use Rattle.bq_jobs.specs.declared.row.Moved.{Moved}
-use Rattle.bq_jobs.specs.declared.row.Standing.{Standing}
-use Rattle.bq_state.specs.TubeEntries.{has_entry}
+use Rattle.bq_job.specs.{machine.{TubeRecord, is_buried, is_delayed, is_name_before, is_ready, is_ready_state, is_reserved, is_urgent, raised}, reading.TubeName.is_same_name}
+use Rattle.bq_jobs.specs.declared.row.{Moved.Moved, Standing.Standing}
 use Rattle.bq_state.specs.declared.known.Tally.{Tally}
+use Rattle.bq_state.specs.TubeEntries.{has_entry}
 
 abbrev pub tally_of : List Job → Tally
 tally_of jobs = record {

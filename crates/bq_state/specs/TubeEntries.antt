@@ -1,16 +1,8 @@
 -- What the core keeps of tubes: an entry for each that exists, so that nothing later wants memory.
-use Rattle.std.specs.Prelude.{ℕ, Bool, true, false, ◌≡◌, ◌&&◌, ◌||◌, ◌==◌, not, nat_le, if◌then◌else◌}
-use Rattle.std.specs.Prelude.{List, [], ◌∷◌, Option, Some, None, filter, map}
-use Rattle.std.specs.List.{AllByRecursion, list_any}
+use Rattle.std.specs.{List.{AllByRecursion, list_any}, Prelude.{◌&&◌, ◌==◌, ◌||◌, ◌∷◌, ◌≡◌, if◌then◌else◌, Bool, List, None, Option, Some, [], ℕ, false, filter, map, nat_le, not, true}}
 use Rattle.bq_job.specs.declared.job.Job.{Job}
-use Rattle.bq_job.specs.machine.JobCommands.{with_put, with_delete}
-use Rattle.bq_job.specs.machine.Machine.{SeatRecord, TubeRecord, default_tube}
-use Rattle.bq_job.specs.machine.Machine.{Pause as PauseRecord}
-use Rattle.bq_job.specs.machine.TubeCommands.{with_pause}
-use Rattle.bq_job.specs.reading.TubeName.{is_same_name}
-use Rattle.bq_job.specs.machine.Tubes.{fresh_tube, is_name_before, is_seated_at, with_record}
-use Rattle.bq_state.specs.declared.tubes.entry.TubeChange.{TubeChange}
-use Rattle.bq_state.specs.declared.tubes.entry.TubeChange.TheVariants.{CountPut, CountDelete, Pause}
+use Rattle.bq_job.specs.{machine.{Pause as PauseRecord, SeatRecord, TubeRecord, default_tube, fresh_tube, is_name_before, is_seated_at, with_delete, with_pause, with_put, with_record}, reading.TubeName.is_same_name}
+use Rattle.bq_state.specs.declared.tubes.entry.TubeChange.{TubeChange, TheVariants.{CountDelete, CountPut, Pause}}
 
 -- something was counted in the tube: the machine has a record of it
 abbrev pub is_counted : TubeRecord → Bool

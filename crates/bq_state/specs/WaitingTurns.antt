@@ -1,13 +1,7 @@
 -- The clients that wait, in their turn.
-use Rattle.std.specs.Prelude.{ℕ, Bool, true, false, ◌≡◌, ◌==◌, ◌≤◌, if◌then◌else◌, List}
-use Rattle.std.specs.Prelude.{[], ◌∷◌, Option, Some, None, fold, length, slice_get}
-use Rattle.std.specs.List.{AllByRecursion, sum_by}
-use Rattle.bq_job.specs.machine.Changes.{is_pair_before, is_waiting, seat_with}
-use Rattle.bq_job.specs.machine.Machine.{SeatRecord}
-use Rattle.bq_state.specs.Clients.{seat_passes}
-use Rattle.bq_state.specs.Cost.{waited_tubes}
-use Rattle.bq_state.specs.EndingWaits.{turn_of}
-use Rattle.bq_state.specs.Offers.{these}
+use Rattle.std.specs.{List.{AllByRecursion, sum_by}, Prelude.{◌==◌, ◌∷◌, ◌≡◌, ◌≤◌, if◌then◌else◌, Bool, List, None, Option, Some, [], ℕ, false, fold, length, slice_get, true}}
+use Rattle.bq_job.specs.machine.{SeatRecord, is_pair_before, is_waiting, seat_with}
+use Rattle.bq_state.specs.{Clients.seat_passes, Cost.waited_tubes, EndingWaits.turn_of, Offers.these}
 
 -- the turns of those that wait, the first one first, and for how many there is room
 pub record WaitingTurns : Type 0 where

@@ -1,15 +1,9 @@
 -- Which clients wait while they hold a job: they are told when its time to run ends soon.
-use Rattle.std.specs.Prelude.{ℕ, Bool, true, false, ◌≡◌, ◌==◌, ◌&&◌, ◌||◌, not, if◌then◌else◌, List, Option, Some, None}
-use Rattle.std.specs.List.{AllByRecursion, list_any}
-use Rattle.bq_job.specs.declared.job.Job.{Job}
-use Rattle.bq_job.specs.declared.job.JobState.{JobState}
+use Rattle.std.specs.{List.{AllByRecursion, list_any}, Prelude.{◌&&◌, ◌==◌, ◌||◌, ◌≡◌, if◌then◌else◌, Bool, List, None, Option, Some, ℕ, false, not, true}}
+use Rattle.bq_job.specs.declared.job.{Job.Job, JobState.JobState}
 use Rattle.bq_job.specs.declared.job.JobState.TheVariants as states
-use Rattle.bq_job.specs.machine.Changes.{is_held_by, is_waiting, seat_with}
-use Rattle.bq_job.specs.machine.Machine.{SeatRecord}
-use Rattle.bq_state.specs.declared.seats.SeatChange.{SeatChange}
-use Rattle.bq_state.specs.declared.seats.SeatChange.TheVariants.{Clear, StopWaiting, Wait}
-use Rattle.bq_state.specs.declared.known.Warns.{Warns}
-use Rattle.bq_state.specs.declared.known.Warns.TheVariants.{Nobody, Client, Any}
+use Rattle.bq_job.specs.machine.{SeatRecord, is_held_by, is_waiting, seat_with}
+use Rattle.bq_state.specs.declared.{known.Warns.{Warns, TheVariants.{Any, Client, Nobody}}, seats.SeatChange.{SeatChange, TheVariants.{Clear, StopWaiting, Wait}}}
 
 -- the client at this seat may hold a job while it waits
 abbrev pub may_warn : Warns → ℕ → Bool

@@ -1,9 +1,8 @@
-use Rattle.std.proofs.Common.{◌∙◌, ◌^◌, subst}
-use Rattle.bq_job.specs.beside.Lawful.{AreIdsWithin}
+use Rattle.std.proofs.Common.{◌^◌, ◌∙◌, subst}
+use Rattle.bq_job.specs.beside.{AreIdsWithin}
 use Rattle.bq_jobs.specs.Kept.{with_added}
 use Rattle.bq_state.specs.Knowledge.{with_job}
-use Rattle.bq_state.proofs.KnowledgeLemmas.{so_with_job}
-use Rattle.bq_state.proofs.PartsLemmas.{entries_of_added, few_jobs, ids_of_added}
+use Rattle.bq_state.proofs.{KnowledgeLemmas.so_with_job, PartsLemmas.{entries_of_added, few_jobs, ids_of_added}}
 use Rattle.bq_state.proofs.changes.add.Goals as goal
 
 pub invariant_of-state : goal.invariant_of-state

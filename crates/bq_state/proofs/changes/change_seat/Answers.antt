@@ -1,16 +1,9 @@
-use Rattle.std.proofs.Common.{◌≡◌, ◌≤◌, ◌∙◌, ap, arith, length, map, subst, sym}
+use Rattle.std.proofs.{Common.{◌∙◌, ◌≡◌, ◌≤◌, ap, arith, length, map, subst, sym}, lemmas.List.length-map}
 use Rattle.std.specs.Option.{option_copied}
-use Rattle.std.proofs.lemmas.List.{length-map}
-use Rattle.bq_job.specs.machine.Changes.{seat_with}
-use Rattle.bq_job.specs.machine.Limits.{greatest}
-use Rattle.bq_state.specs.Counting.{recounted_for}
-use Rattle.bq_state.specs.Knowledge.{with_joined, with_left}
-use Rattle.bq_state.specs.WaitingTurns.{IsRising, is_turn_before, turns_of, with_turn, without_turn}
-use Rattle.bq_state.specs.SeatChanges.{seat_changed_at}
+use Rattle.bq_job.specs.machine.{greatest, seat_with}
 use Rattle.bq_state.specs.declared.tubes.entry.Moving.TheVariants.{Comes, Goes}
-use Rattle.bq_state.proofs.KnowledgeLemmas.{so_with_seat}
-use Rattle.bq_state.proofs.WaitingLemmas.{rising_left, turns_moved, turns_within}
-use Rattle.bq_state.proofs.PartsLemmas.{entries_of_seat, numbered_after}
+use Rattle.bq_state.specs.{Counting.recounted_for, Knowledge.{with_joined, with_left}, SeatChanges.seat_changed_at, WaitingTurns.{IsRising, is_turn_before, turns_of, with_turn, without_turn}}
+use Rattle.bq_state.proofs.{KnowledgeLemmas.so_with_seat, PartsLemmas.{entries_of_seat, numbered_after}, WaitingLemmas.{rising_left, turns_moved, turns_within}}
 use Rattle.bq_state.proofs.changes.change_seat.Goals as goal
 
 pub find-client-requires-2 : goal.find-client-requires-2

@@ -1,11 +1,6 @@
 use Rattle.std.proofs.Common.{◌∙◌, ap, sym}
-use Rattle.bq_state.specs.KeptTubes.{KeptTubes}
-use Rattle.bq_state.specs.Knowledge.{with_tube_changed}
-use Rattle.bq_state.specs.CoreParts.{machine_of}
-use Rattle.bq_state.specs.TubeEntries.{counted, tube_changed}
-use Rattle.bq_state.proofs.KnowledgeLemmas.{so_with_tube}
-use Rattle.bq_state.proofs.PartsLemmas.{entries_of_tube, tube_counts, tube_name_kept}
-use Rattle.bq_state.proofs.TubeLemmas.{record_changed}
+use Rattle.bq_state.specs.{CoreParts.machine_of, KeptTubes.KeptTubes, Knowledge.with_tube_changed, TubeEntries.{counted, tube_changed}}
+use Rattle.bq_state.proofs.{KnowledgeLemmas.so_with_tube, PartsLemmas.{entries_of_tube, tube_counts, tube_name_kept}, TubeLemmas.record_changed}
 use Rattle.bq_state.proofs.changes.change_tube.Goals as goal
 
 pub returns-clause-after : goal.returns-clause-after

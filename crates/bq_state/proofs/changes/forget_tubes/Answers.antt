@@ -1,10 +1,7 @@
-use Rattle.std.proofs.Common.{◌≡◌, ◌∙◌, ap, arith}
+use Rattle.std.proofs.Common.{◌∙◌, ◌≡◌, ap, arith}
 use Rattle.std.specs.Prelude.{filter}
-use Rattle.bq_state.specs.CoreParts.{machine_of}
-use Rattle.bq_state.specs.TubeEntries.{counted, is_counted, is_tube_of}
-use Rattle.bq_state.proofs.KnowledgeLemmas.{so_forgotten}
-use Rattle.bq_state.proofs.PartsLemmas.{entries_forgotten}
-use Rattle.bq_state.proofs.TubeLemmas.{filters_swap}
+use Rattle.bq_state.specs.{CoreParts.machine_of, TubeEntries.{counted, is_counted, is_tube_of}}
+use Rattle.bq_state.proofs.{KnowledgeLemmas.so_forgotten, PartsLemmas.entries_forgotten, TubeLemmas.filters_swap}
 use Rattle.bq_state.proofs.changes.forget_tubes.Goals as goal
 
 pub returns-clause-after : goal.returns-clause-after

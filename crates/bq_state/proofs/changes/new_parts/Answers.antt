@@ -1,9 +1,7 @@
-use Rattle.std.proofs.Common.{arith, ap, sym}
-use Rattle.bq_job.specs.machine.Machine.{numbers}
+use Rattle.std.proofs.Common.{ap, arith, sym}
+use Rattle.bq_job.specs.machine.{numbers}
 use Rattle.bq_jobs.specs.Kept.{Kept}
-use Rattle.bq_state.proofs.KnowledgeLemmas.{so_at_first}
-use Rattle.bq_state.proofs.WaitingLemmas.{many_seats, none_in_turn}
-use Rattle.bq_state.proofs.PartsLemmas.{first_entries, first_numbered}
+use Rattle.bq_state.proofs.{KnowledgeLemmas.so_at_first, PartsLemmas.{first_entries, first_numbered}, WaitingLemmas.{many_seats, none_in_turn}}
 use Rattle.bq_state.proofs.changes.new_parts.Goals as goal
 
 pub invariant_of-result : goal.invariant_of-result

@@ -1,9 +1,6 @@
 use Rattle.std.proofs.Common.{◌∙◌, ap}
-use Rattle.bq_state.specs.KeptTubes.{KeptTubes}
-use Rattle.bq_state.specs.CoreParts.{machine_of}
-use Rattle.bq_state.specs.TubeEntries.{counted, has_entry}
-use Rattle.bq_state.proofs.KnowledgeLemmas.{so_provided}
-use Rattle.bq_state.proofs.PartsLemmas.{counted_provided, entries_provided, has_provided}
+use Rattle.bq_state.specs.{CoreParts.machine_of, KeptTubes.KeptTubes, TubeEntries.{counted, has_entry}}
+use Rattle.bq_state.proofs.{KnowledgeLemmas.so_provided, PartsLemmas.{counted_provided, entries_provided, has_provided}}
 use Rattle.bq_state.proofs.changes.provide_tube.Goals as goal
 
 pub returns-in-Ok-clause-after : goal.returns-in-Ok-clause-after

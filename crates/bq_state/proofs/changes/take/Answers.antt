@@ -1,11 +1,9 @@
-use Rattle.std.proofs.Common.{◌∙◌, ap, sym, not, ◌==◌}
+use Rattle.std.proofs.Common.{◌==◌, ◌∙◌, ap, not, sym}
 use Rattle.bq_job.proofs.KeptLemmas.{ids_of_filter}
-use Rattle.bq_jobs.proofs.Changes.{without_none}
 use Rattle.bq_jobs.specs.Kept.{Kept}
-use Rattle.bq_state.specs.KeptTubes.{KeptTubes}
-use Rattle.bq_state.specs.TubeEntries.{has_entry}
-use Rattle.bq_state.proofs.KnowledgeLemmas.{so_without_job}
-use Rattle.bq_state.proofs.PartsLemmas.{entries_of_fewer, given_of_job, has_of_job}
+use Rattle.bq_jobs.proofs.Changes.{without_none}
+use Rattle.bq_state.specs.{KeptTubes.KeptTubes, TubeEntries.has_entry}
+use Rattle.bq_state.proofs.{KnowledgeLemmas.so_without_job, PartsLemmas.{entries_of_fewer, given_of_job, has_of_job}}
 use Rattle.bq_state.proofs.changes.take.Goals as goal
 
 pub invariant_of-state : goal.invariant_of-state

@@ -1,9 +1,6 @@
-use Rattle.std.proofs.Common.{◌∙◌, ap, length, map, subst, sym}
-use Rattle.std.proofs.lemmas.List.{length-map}
-use Rattle.bq_state.specs.Losses.{AreAlive}
-use Rattle.bq_state.specs.CoreParts.{machine_of}
-use Rattle.bq_state.proofs.LossLemmas.{all_kept_alive}
-use Rattle.bq_state.proofs.NameLemmas.{alive_are_tubes}
+use Rattle.std.proofs.{Common.{◌∙◌, ap, length, map, subst, sym}, lemmas.List.length-map}
+use Rattle.bq_state.specs.{CoreParts.machine_of, Losses.AreAlive}
+use Rattle.bq_state.proofs.{LossLemmas.all_kept_alive, NameLemmas.alive_are_tubes}
 use Rattle.bq_state.proofs.changes.tube_count.Goals as goal
 
 pub returns-in-Nothing : goal.returns-in-Nothing

@@ -1,10 +1,8 @@
-use Rattle.std.proofs.Common.{◌≡◌, ◌∙◌, ap, subst}
+use Rattle.std.proofs.Common.{◌∙◌, ◌≡◌, ap, subst}
 use Rattle.std.specs.Prelude.{IfOk}
-use Rattle.bq_job.specs.beside.NameOrder.{is_in_order}
-use Rattle.bq_state.specs.CoreParts.{machine_of}
-use Rattle.bq_state.specs.Names.{names_of}
-use Rattle.bq_state.proofs.NameLemmas.{alive_are_tubes, tubes_in_order}
-use Rattle.bq_state.proofs.PartsLemmas.{ok_weaker}
+use Rattle.bq_job.specs.beside.{is_in_order}
+use Rattle.bq_state.specs.{CoreParts.machine_of, Names.names_of}
+use Rattle.bq_state.proofs.{NameLemmas.{alive_are_tubes, tubes_in_order}, PartsLemmas.ok_weaker}
 use Rattle.bq_state.proofs.changes.tube_names.Goals as goal
 
 pub returns-clause-names : goal.returns-clause-names

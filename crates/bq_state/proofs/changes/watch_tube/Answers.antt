@@ -1,20 +1,8 @@
-use Rattle.std.proofs.Common.{◌≤◌, ◌≡◌, ◌∙◌, ◌++◌, ◌∷◌, [], ap, sym, arith, slice_get, set, Some, vec_len, get_or, if◌then◌else◌, length, refl}
-use Rattle.std.proofs.lemmas.Option.{slice_get_read, slice_get_within}
-use Rattle.bq_job.specs.machine.Changes.{seat_with}
-use Rattle.bq_job.specs.machine.Machine.{Machine}
-use Rattle.bq_job.specs.machine.Limits.{greatest}
-use Rattle.bq_job.specs.machine.TubeCommands.{watching}
-use Rattle.bq_state.specs.Counting.{with_crowds_at}
-use Rattle.bq_state.specs.Crowds.{recounted}
-use Rattle.bq_state.specs.KeptTubes.{KeptTubes}
-use Rattle.bq_state.specs.CoreParts.{machine_of}
-use Rattle.bq_state.specs.Stirs.{with_anything}
-use Rattle.bq_state.specs.TubeEntries.{counted}
-use Rattle.bq_state.specs.declared.tubes.entry.Moving.TheVariants.{Comes}
-use Rattle.bq_state.specs.declared.tubes.entry.Share.{Share}
-use Rattle.bq_state.proofs.KnowledgeLemmas.{so_watching}
-use Rattle.bq_state.proofs.WaitingLemmas.{in_turn_watching}
-use Rattle.bq_state.proofs.PartsLemmas.{changed_there, seat_read, seat_there, watching_more, watching_numbered}
+use Rattle.std.proofs.{Common.{◌++◌, ◌∙◌, ◌∷◌, ◌≡◌, ◌≤◌, if◌then◌else◌, Some, [], ap, arith, get_or, length, refl, set, slice_get, sym, vec_len}, lemmas.Option.{slice_get_read, slice_get_within}}
+use Rattle.bq_job.specs.machine.{greatest, seat_with, watching, Machine.Machine}
+use Rattle.bq_state.specs.declared.tubes.entry.{Moving.TheVariants.Comes, Share.Share}
+use Rattle.bq_state.specs.{CoreParts.machine_of, Counting.with_crowds_at, Crowds.recounted, KeptTubes.KeptTubes, Stirs.with_anything, TubeEntries.counted}
+use Rattle.bq_state.proofs.{KnowledgeLemmas.so_watching, PartsLemmas.{changed_there, seat_read, seat_there, watching_more, watching_numbered}, WaitingLemmas.in_turn_watching}
 use Rattle.bq_state.proofs.changes.watch_tube.Goals as goal
 
 pub returns-then-from-len-clause-count : goal.returns-then-from-len-clause-count

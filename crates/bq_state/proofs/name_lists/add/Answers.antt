@@ -1,10 +1,8 @@
-use Rattle.std.proofs.Common.{◌≡◌, ◌∙◌, ap, refl, sym, slice_get, List, ℕ, false, true}
-use Rattle.std.specs.Borrow.{Bor}
-use Rattle.std.specs.List.{insert, prefix_len}
-use Rattle.bq_job.specs.machine.Tubes.{is_name_before}
+use Rattle.std.proofs.Common.{◌∙◌, ◌≡◌, List, ℕ, ap, false, refl, slice_get, sym, true}
+use Rattle.std.specs.{Borrow.Bor, List.{insert, prefix_len}}
+use Rattle.bq_job.specs.machine.{is_name_before}
 use Rattle.bq_state.specs.Names.{is_named, names_of}
-use Rattle.bq_state.proofs.NameLemmas.{place_kept, place_new, when_ok}
-use Rattle.bq_state.proofs.TubeLemmas.{place_within}
+use Rattle.bq_state.proofs.{NameLemmas.{place_kept, place_new, when_ok}, TubeLemmas.place_within}
 use Rattle.bq_state.proofs.name_lists.add.Goals as goal
 
 pub insert-fits-requires : goal.insert-fits-requires

@@ -1,8 +1,6 @@
-use Rattle.std.proofs.Common.{◌≡◌, ◌∙◌, ap, arith, length, refl, set, slice_get, Some, sym}
-use Rattle.std.proofs.lemmas.Option.{slice_get_read}
+use Rattle.std.proofs.{Common.{◌∙◌, ◌≡◌, Some, ap, arith, length, refl, set, slice_get, sym}, lemmas.Option.slice_get_read}
 use Rattle.bq_state.specs.SeatChanges.{seat_changed}
-use Rattle.bq_state.proofs.SeatPlaces.{none_there}
-use Rattle.bq_state.proofs.PartsLemmas.{changed_there}
+use Rattle.bq_state.proofs.{PartsLemmas.changed_there, SeatPlaces.none_there}
 use Rattle.bq_state.proofs.seats.change_at.Goals as goal
 
 pub returns-in-Some : goal.returns-in-Some

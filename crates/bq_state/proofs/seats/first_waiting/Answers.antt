@@ -1,11 +1,7 @@
 use Rattle.std.proofs.Common.{◌∙◌, ap, refl}
 use Rattle.std.specs.Prelude.{find, option_map}
-use Rattle.bq_job.specs.machine.Changes.{first_of}
-use Rattle.bq_job.specs.machine.Dispatch.{is_wait_before}
-use Rattle.bq_state.specs.Clients.{seat_passes}
-use Rattle.bq_state.specs.Offers.{waits_at}
-use Rattle.bq_state.specs.Places.{item_at}
-use Rattle.bq_state.specs.WaitingTurns.{passes_at}
+use Rattle.bq_job.specs.machine.{first_of, is_wait_before}
+use Rattle.bq_state.specs.{Clients.seat_passes, Offers.waits_at, Places.item_at, WaitingTurns.passes_at}
 use Rattle.bq_state.proofs.WalkLemmas.{first_turn, item_found, number_of_turn}
 use Rattle.bq_state.proofs.seats.first_waiting.Goals as goal
 

@@ -1,7 +1,5 @@
-use Rattle.std.proofs.Common.{◌≡◌, ◌∙◌, ap, not, length, filter, get_or, set, refl}
-use Rattle.std.proofs.lemmas.Option.{slice_get_read}
-use Rattle.bq_job.specs.machine.TubeCommands.{watching}
-use Rattle.bq_job.specs.reading.TubeName.{is_same_name}
+use Rattle.std.proofs.{Common.{◌∙◌, ◌≡◌, ap, filter, get_or, length, not, refl, set}, lemmas.Option.slice_get_read}
+use Rattle.bq_job.specs.{machine.watching, reading.TubeName.is_same_name}
 use Rattle.bq_state.proofs.seats.ignore.Goals as goal
 
 pub ignore-requires : goal.ignore-requires

@@ -1,7 +1,6 @@
 -- the tubes of the names so far
 use Rattle.std.proofs.Common.{◌≡◌, take}
-use Rattle.bq_state.specs.Counting.{with_crowds_at_all}
-use Rattle.bq_state.specs.Crowds.{recounted}
+use Rattle.bq_state.specs.{Counting.with_crowds_at_all, Crowds.recounted}
 use Rattle.bq_state.proofs.shares.recount_all.Given as goal
 
 abbrev pub invariant-loop-i : goal.invariant-loop-i

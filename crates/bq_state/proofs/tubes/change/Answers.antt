@@ -1,7 +1,6 @@
 use Rattle.std.proofs.Common.{ap}
 use Rattle.bq_state.specs.TubeEntries.{tube_changed}
-use Rattle.bq_state.proofs.EndMoves.{count_stays}
-use Rattle.bq_state.proofs.NamedLemmas.{in_order}
+use Rattle.bq_state.proofs.{EndMoves.count_stays, NamedLemmas.in_order}
 use Rattle.bq_state.proofs.tubes.change.Goals as goal
 
 pub returns-in-CountPut-clause-ends : goal.returns-in-CountPut-clause-ends

@@ -1,9 +1,7 @@
-use Rattle.std.proofs.Common.{subst, sym, ◌∙◌, ap, List, ℕ}
+use Rattle.std.proofs.Common.{◌∙◌, List, ℕ, ap, subst, sym}
 use Rattle.std.specs.List.{insert, prefix_len}
 use Rattle.bq_state.specs.WaitingTurns.{IsRising, is_turn_before}
-use Rattle.bq_state.proofs.NameLemmas.{when_ok}
-use Rattle.bq_state.proofs.WaitingLemmas.{placed_at}
-use Rattle.bq_state.proofs.TubeLemmas.{place_within}
+use Rattle.bq_state.proofs.{NameLemmas.when_ok, TubeLemmas.place_within, WaitingLemmas.placed_at}
 use Rattle.bq_state.proofs.waiting.place.Goals as goal
 
 pub place_of-i-requires : goal.place_of-i-requires

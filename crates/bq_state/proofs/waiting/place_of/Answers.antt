@@ -1,8 +1,7 @@
 use Rattle.std.proofs.Common.{◌∙◌, ap, length, sym}
 use Rattle.std.specs.Prelude.{unwrap_or}
 use Rattle.bq_state.specs.WaitingTurns.{is_turn_before}
-use Rattle.bq_state.proofs.WaitingLemmas.{all_before}
-use Rattle.bq_state.proofs.TubeLemmas.{place_read}
+use Rattle.bq_state.proofs.{TubeLemmas.place_read, WaitingLemmas.all_before}
 use Rattle.bq_state.proofs.waiting.place_of.Goals as goal
 
 pub returns-then-ends_before : goal.returns-then-ends_before

@@ -1,4 +1,4 @@
-use Rattle.std.proofs.Common.{◌∙◌, ◌==◌, ap, arith, length, sym}
+use Rattle.std.proofs.Common.{◌==◌, ◌∙◌, ap, arith, length, sym}
 use Rattle.std.specs.List.{position}
 use Rattle.bq_state.proofs.WaitingLemmas.{removed_found, removed_missed}
 use Rattle.bq_state.proofs.waiting.remove.Goals as goal

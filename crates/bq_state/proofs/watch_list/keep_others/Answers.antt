@@ -1,5 +1,4 @@
-use Rattle.std.proofs.Common.{rules, not}
-use Rattle.std.proofs.lemmas.Fn.{filter_same}
+use Rattle.std.proofs.{Common.{not, rules}, lemmas.Fn.filter_same}
 use Rattle.bq_job.specs.reading.TubeName.{is_same_name}
 use Rattle.bq_state.proofs.TubeLemmas.{some_left}
 use Rattle.bq_state.proofs.watch_list.keep_others.Goals as goal

@@ -1,12 +1,7 @@
-use Rattle.std.proofs.Common.{◌≡◌, ◌∙◌, ◌&&◌, Option, None, Some, ap, is_some}
-use Rattle.std.specs.Borrow.{Bor}
-use Rattle.std.specs.List.{list_any}
-use Rattle.std.specs.Option.{option_map}
-use Rattle.std.specs.Prelude.{find}
+use Rattle.std.proofs.Common.{◌&&◌, ◌∙◌, ◌≡◌, None, Option, Some, ap, is_some}
+use Rattle.std.specs.{Borrow.Bor, List.list_any, Option.option_map, Prelude.find}
 use Rattle.bq_job.specs.reading.TubeName.{is_same_name}
-use Rattle.bq_state.specs.Crowds.{crowd_at}
-use Rattle.bq_state.specs.KeptTubes.{KeptTube, KeptTubes, crowd_by, is_paused_by, record_of, tally_by}
-use Rattle.bq_state.specs.Tallies.{tally_at}
+use Rattle.bq_state.specs.{Crowds.crowd_at, KeptTubes.{KeptTube, KeptTubes, crowd_by, is_paused_by, record_of, tally_by}, Tallies.tally_at}
 use Rattle.bq_state.proofs.NamedLemmas.{found_crowd, found_entry, found_pause, found_tally, in_order}
 use Rattle.bq_state.proofs.tubes.Tubes.entry_of.Goals as goal
 

@@ -1,12 +1,7 @@
 use Rattle.std.proofs.Common.{◌∙◌, ap, filter, map, subst, sym}
 use Rattle.std.specs.Map.{lookup}
-use Rattle.bq_state.specs.KeptTubes.{KeptTubes, is_alive_at, is_gone_by, is_named_at, record_at}
-use Rattle.bq_state.specs.Crowds.{crowds_of}
-use Rattle.bq_state.specs.Losses.{AreAlive}
-use Rattle.bq_state.specs.Tallies.{tallies_of}
-use Rattle.bq_state.specs.TubeEntries.{AreInOrder, is_tube_of}
-use Rattle.bq_state.proofs.GoneLemmas.{AreTallied, filter_records, filter_tallied, if_tallied, one_left}
-use Rattle.bq_state.proofs.LossLemmas.{all_kept_alive}
+use Rattle.bq_state.specs.{Crowds.crowds_of, KeptTubes.{KeptTubes, is_alive_at, is_gone_by, is_named_at, record_at}, Losses.AreAlive, Tallies.tallies_of, TubeEntries.{AreInOrder, is_tube_of}}
+use Rattle.bq_state.proofs.{GoneLemmas.{AreTallied, filter_records, filter_tallied, if_tallied, one_left}, LossLemmas.all_kept_alive}
 use Rattle.bq_state.proofs.tubes.Tubes.forget_lost.Goals as goal
 
 pub returns-in-Nothing-clause-after : goal.returns-in-Nothing-clause-after

@@ -1,15 +1,7 @@
-use Rattle.std.proofs.Common.{◌≡◌, ◌∙◌, ap, arith, false, map, not, subst, sym, true}
-use Rattle.std.specs.BTreeMap.{insert_entry}
-use Rattle.std.specs.Cmp.Lexicographic.{slice_cmp}
-use Rattle.std.specs.Ordering.{nat_cmp}
-use Rattle.std.proofs.lemmas.List.{length-map}
-use Rattle.bq_state.specs.KeptTubes.{KeptTubes, crowd_kept, record_at, tally_kept}
-use Rattle.bq_state.specs.Crowds.{crowds_provided}
-use Rattle.bq_state.specs.PauseEnds.{AreEnds}
-use Rattle.bq_state.specs.Tallies.{tallies_provided}
-use Rattle.bq_state.specs.TubeEntries.{has_entry, provided}
-use Rattle.bq_state.proofs.EndMoves.{ends_provided}
-use Rattle.bq_state.proofs.NamedLemmas.{kept_alike, crowds_provided_there, found_any, lent_any, new_crowd, new_entry, new_record, new_tally, provided_there, tallies_provided_there}
+use Rattle.std.proofs.{Common.{◌∙◌, ◌≡◌, ap, arith, false, map, not, subst, sym, true}, lemmas.List.length-map}
+use Rattle.std.specs.{BTreeMap.insert_entry, Cmp.Lexicographic.slice_cmp, Ordering.nat_cmp}
+use Rattle.bq_state.specs.{Crowds.crowds_provided, KeptTubes.{KeptTubes, crowd_kept, record_at, tally_kept}, PauseEnds.AreEnds, Tallies.tallies_provided, TubeEntries.{has_entry, provided}}
+use Rattle.bq_state.proofs.{EndMoves.ends_provided, NamedLemmas.{crowds_provided_there, found_any, kept_alike, lent_any, new_crowd, new_entry, new_record, new_tally, provided_there, tallies_provided_there}}
 use Rattle.bq_state.proofs.tubes.Tubes.provide.Goals as goal
 
 pub invariant_of-self-2 : goal.invariant_of-self-2

@@ -1,9 +1,7 @@
 use Rattle.std.proofs.Common.{◌∙◌, None, ap, arith, map, subst, sym}
 use Rattle.std.specs.Map.{remove_entry}
-use Rattle.bq_state.specs.KeptTubes.{is_named_at, record_at}
-use Rattle.bq_state.specs.PauseEnds.{AreEnds, pause_at, without_end}
-use Rattle.bq_state.proofs.EndMoves.{end_held, ends_moved, moves_out, one_box}
-use Rattle.bq_state.proofs.NamedLemmas.{in_order}
+use Rattle.bq_state.specs.{KeptTubes.{is_named_at, record_at}, PauseEnds.{AreEnds, pause_at, without_end}}
+use Rattle.bq_state.proofs.{EndMoves.{end_held, ends_moved, moves_out, one_box}, NamedLemmas.in_order}
 use Rattle.bq_state.proofs.tubes.pauses.drop_entry.Goals as goal
 
 pub leave-requires : goal.leave-requires

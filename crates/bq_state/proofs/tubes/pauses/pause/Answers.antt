@@ -1,9 +1,7 @@
 use Rattle.std.proofs.Common.{◌∙◌, ap, arith, map, refl, sym}
 use Rattle.std.specs.Map.{lookup}
-use Rattle.bq_state.specs.KeptTubes.{edited, is_named_at, kept_changed, record_at}
-use Rattle.bq_state.specs.PauseEnds.{found_end, pause_at, with_end, without_end}
-use Rattle.bq_state.proofs.EndMoves.{change_moves, end_absent, end_fits, end_held, ends_moved, one_box}
-use Rattle.bq_state.proofs.NamedLemmas.{in_order}
+use Rattle.bq_state.specs.{KeptTubes.{edited, is_named_at, kept_changed, record_at}, PauseEnds.{found_end, pause_at, with_end, without_end}}
+use Rattle.bq_state.proofs.{EndMoves.{change_moves, end_absent, end_fits, end_held, ends_moved, one_box}, NamedLemmas.in_order}
 use Rattle.bq_state.proofs.tubes.pauses.pause.Goals as goal
 
 pub leave-requires : goal.leave-requires

@@ -1,7 +1,6 @@
 -- the entries of tubes that are gone are dropped up to the last one that was found
 use Rattle.std.proofs.Common.{◌≡◌, filter, length, map}
-use Rattle.bq_state.specs.KeptTubes.{is_alive_at, record_at}
-use Rattle.bq_state.specs.PauseEnds.{AreEnds}
+use Rattle.bq_state.specs.{KeptTubes.{is_alive_at, record_at}, PauseEnds.AreEnds}
 use Rattle.bq_state.proofs.GoneLemmas.{AllLeftBefore}
 use Rattle.bq_state.proofs.tubes.walks.forget_all.Given as goal
 

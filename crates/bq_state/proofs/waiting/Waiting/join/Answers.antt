@@ -1,10 +1,7 @@
-use Rattle.std.proofs.Common.{◌≡◌, ◌≤◌, ◌∙◌, Option, Some, arith, if◌then◌else◌, length, subst, sym, true, vec_capacity}
-use Rattle.std.specs.Option.{option_copied}
-use Rattle.std.specs.Borrow.{Bor}
-use Rattle.bq_job.specs.machine.Machine.{SeatRecord}
-use Rattle.bq_job.specs.machine.Changes.{is_waiting}
-use Rattle.bq_state.specs.EndingWaits.{turn_of}
-use Rattle.bq_state.specs.WaitingTurns.{IsRising, WaitingTurns, is_turn_before, placed, with_turn}
+use Rattle.std.proofs.Common.{◌∙◌, ◌≡◌, ◌≤◌, if◌then◌else◌, Option, Some, arith, length, subst, sym, true, vec_capacity}
+use Rattle.std.specs.{Borrow.Bor, Option.option_copied}
+use Rattle.bq_job.specs.machine.{SeatRecord, is_waiting}
+use Rattle.bq_state.specs.{EndingWaits.turn_of, WaitingTurns.{IsRising, WaitingTurns, is_turn_before, placed, with_turn}}
 use Rattle.bq_state.proofs.WaitingLemmas.{placed_length}
 use Rattle.bq_state.proofs.waiting.Waiting.join.Goals as goal
 
