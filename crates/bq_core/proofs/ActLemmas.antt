@@ -1,13 +1,13 @@
 -- What each event at a seat does, where its seat is known.
-use Rattle.std.proofs.Common.{◌&&◌, ◌++◌, ◌+◌, ◌<◌, ◌==◌, ◌||◌, ◌∙◌, ◌∷◌, ◌≡◌, if◌then◌else◌, Bool, List, None, Option, Some, [], ℕ, ap, append-nil, arith, false, filter, inl, inr, is_some, length, map, nat_le, not, refl, set, slice_get}
-use Rattle.std.proofs.{Common.{suc, sym, true, zero}, lemmas.Bool.{and_parts, cases_Bool, eqb-true}, Math.Bool.or-false}
+use Rattle.std.proofs.Common.{◌++◌, ◌+◌, ◌<◌, ◌==◌, ◌||◌, ◌∙◌, ◌∷◌, ◌≡◌, if◌then◌else◌, Bool, List, None, Option, Some, [], ℕ, ap, append-nil, arith, false, filter, inl, inr, is_some, length, map, nat_le, not, refl, set, slice_get, suc}
+use Rattle.std.proofs.{Common.{sym, true, zero}, lemmas.{Bool.{and_parts, cases_Bool, eqb-true}, Grind.common_steps}, Math.Bool.or-false}
 use Rattle.std.specs.List.{find, list_any}
 use Rattle.bq_job.specs.declared.{answer.Answer.Answer, job.Job.Job, request.Request.Request, step.Step.Step}
 use Rattle.bq_job.specs.declared.answer.Answer.TheVariants as answers
 use Rattle.bq_job.specs.declared.step.Step.TheVariants as steps
-use Rattle.bq_job.specs.machine.{Effect, SeatRecord, after_close, after_connect, ask_effect, asked, at_found, close_effect, connect_effect, effect, end_effect, granted, ignore_effect, is_full, is_reserved, is_waiting, job_with, last_id}
-use Rattle.bq_job.specs.machine.{new_job, on_job, put_effect, raised, reserve_job_effect, reserved_by, seat_with, step_takes_memory, takes_memory, telling, watch_effect, watches, watching, watching_or_refused, with_end, with_job, with_put}
-use Rattle.bq_job.specs.{machine.{with_seat, with_tube, Machine.Machine}, reading.TubeName.is_same_name}
+use Rattle.bq_job.specs.machine.{Effect, SeatRecord, after_close, after_connect, ask_effect, asked, at_found, close_effect, connect_effect, effect, end_effect, ignore_effect, is_full, is_reserved, job_with, last_id, new_job, on_job}
+use Rattle.bq_job.specs.machine.{put_effect, raised, reserve_job_effect, reserved_by, seat_with, step_takes_memory, takes_memory, telling, watch_effect, watches, watching, watching_or_refused, with_end, with_job, with_put, with_seat}
+use Rattle.bq_job.specs.{machine.{with_tube, Machine.Machine}, reading.TubeName.is_same_name}
 use Rattle.bq_steps.specs.Outbox.{Outbox}
 use Rattle.bq_state.specs.{JobChanges.is_passed_by, SeatChanges.AreNumbered, SeatStates.{is_asking, is_connected, is_free}}
 use Rattle.bq_state.proofs.{PartsLemmas.{changed_there, seat_there}, TubeLemmas.some_left}
@@ -28,9 +28,7 @@ id_found id jobs j h = eqb-true j.id id (found_passes (λ j. j.id == id) jobs j 
 -- a client comes to a seat that is free
 connect_at : (m : Machine) (seat : ℕ) (o : Option SeatRecord) → seat_with seat m.seats ≡ o → is_free o ≡ true → (at_found connect_effect m o).machine ≡ after_connect m seat
 connect_at m seat None e free = absurd cc
-connect_at m seat (Some s) e free =
-    let open_not : s.connected ≡ false = grind (arith, cases_Bool) in
-    rw (open_not, number_found seat m.seats s e) refl
+connect_at m seat (Some s) e free = grind (arith, common_steps, cases_Bool, number_found)
 
 pub connected_free : (m : Machine) (seat : ℕ) → is_free (seat_with seat m.seats) ≡ true → (effect m seat steps.Connect).machine ≡ after_connect m seat
 connected_free m seat free = connect_at m seat (seat_with seat m.seats) refl free
@@ -54,10 +52,7 @@ pub on_job_found : (id : ℕ) (passes : Job → Bool) (act : Job → Effect) (m 
 on_job_found id passes act m j found pass = rw (found, pass) refl
 
 pub reserve_job_done : (m : Machine) (s : SeatRecord) (seat id : ℕ) (j : Job) → s.number ≡ seat → job_with id m.jobs ≡ Some j → is_reserved j.state ≡ false → reserve_job_effect id m s ≡ telling (answers.Reserved id j.body) (with_job id (reserved_by m.moment seat) m)
-reserve_job_done m s seat id j at found free =
-    on_job_found id (λ j. not (is_reserved j.state)) (λ j. telling (answers.Reserved j.id j.body) (with_job id (reserved_by m.moment s.number) m)) m j found (ap not free)
-    ∙ ap (λ n. telling (answers.Reserved n j.body) (with_job id (reserved_by m.moment s.number) m)) (id_found id m.jobs j found)
-    ∙ ap (λ n. telling (answers.Reserved id j.body) (with_job id (reserved_by m.moment n) m)) at
+reserve_job_done m s seat id j at found free = grind (arith, common_steps, on_job_found, id_found)
 
 -- what a put comes to that is accepted
 pub put_done : (m : Machine) (s : SeatRecord) (pri delay ttr : ℕ) (body tube : List ℕ) (j : Job) → s.used ≡ tube → m.draining ≡ false → is_full m.settings.max_jobs m.jobs ≡ false → j ≡ new_job m s pri delay ttr body → put_effect pri delay ttr body m s ≡ telling (answers.Inserted m.next_id) (record (with_tube tube with_put m) { jobs = m.jobs ++ j ∷ []; next_id = m.next_id + 1; puts = raised m.puts; draining = nat_le last_id m.next_id })
@@ -98,10 +93,7 @@ some_watched [] m s h = absurd (omega arith)
 some_watched (name ∷ names) m s h = refl
 
 pub ignored_now : (m : Machine) (s : SeatRecord) (seat : ℕ) (tube : List ℕ) → seat_with seat m.seats ≡ Some s → list_any (λ name. not (is_same_name tube name)) s.watched ≡ true → ignore_effect tube m s ≡ telling (answers.Watching (length (filter (λ name. not (is_same_name tube name)) s.watched))) (with_seat seat (watching (filter (λ name. not (is_same_name tube name)) s.watched)) m)
-ignored_now m s seat tube found h =
-    let names = filter (λ name. not (is_same_name tube name)) s.watched in
-    some_watched names m s (some_left (λ name. not (is_same_name tube name)) s.watched h)
-    ∙ ap (λ n. telling (answers.Watching (length names)) (with_seat n (watching names) m)) (number_found seat m.seats s found)
+ignored_now m s seat tube found h = grind (arith, common_steps, some_watched, some_left, number_found)
 
 -- the client who asks
 pub record Asks (m : Machine) (seat : ℕ) (request : Request) : Type 0 where
@@ -118,31 +110,13 @@ ask_at m seat request asking = asks_at m seat request (seat_with seat m.seats) r
 
 -- who asks is connected
 pub asker_connected : (seat : ℕ) (seats : List SeatRecord) (s : SeatRecord) → seat_with seat seats ≡ Some s → is_asking (seat_with seat seats) ≡ true → s.connected ≡ true
-asker_connected seat seats s found asking =
-    let here : (s.connected && not (is_waiting s)) ≡ true = rw found at asking in
-    (and_parts s.connected (not (is_waiting s)) here).0
+asker_connected seat seats s found asking = grind (arith, common_steps, and_parts)
 
 pub acts_silent : (m : Machine) (seat : ℕ) (what : Step) (outs : Outbox) (last : Machine) → effect m seat what ≡ record { machine = last; answer = None } → Acts m seat what outs outs last
-acts_silent m seat what outs last is = record {
-  memory = granted;
-  possible = refl;
-  after = sym (ap (λ e. e.machine) is);
-  added = rw (ap (λ e. e.answer) is) (sym (append-nil outs.given));
-  most = refl;
-  left_out = sym (or-false outs.left_out);
-  unshared = sym (or-false outs.unshared);
-}
+acts_silent m seat what outs last is = grind (arith, common_steps, append-nil, or-false)
 
 pub acts_told : (m : Machine) (seat : ℕ) (what : Step) (answer : Answer) (old new : Outbox) (last : Machine) → effect m seat what ≡ record { machine = last; answer = Some answer } → new ≡ record old { given = old.given ++ (seat, answer) ∷ [] } → Acts m seat what old new last
-acts_told m seat what answer old new last is adds = record {
-  memory = granted;
-  possible = refl;
-  after = sym (ap (λ e. e.machine) is);
-  added = rw (ap (λ e. e.answer) is) (ap (λ o. o.given) adds);
-  most = ap (λ o. o.most) adds;
-  left_out = ap (λ o. o.left_out) adds ∙ sym (or-false old.left_out);
-  unshared = ap (λ o. o.unshared) adds ∙ sym (or-false old.unshared);
-}
+acts_told m seat what answer old new last is adds = grind (arith, common_steps, or-false)
 
 -- there is a job that passes
 pub passed_by : (p : Job → Bool) (o : Option Job) → is_passed_by p o ≡ true → (j : Job) × (o ≡ Some j) × (p j ≡ true)

@@ -1,6 +1,6 @@
 -- Searches add up.
-use Rattle.std.proofs.Common.{◌*◌, ◌+◌, ◌/◌, ◌<◌, ◌==◌, ◌∙◌, ◌≡◌, ◌≤◌, List, ℕ, ap, arith, false, get_or, inl, inr, length, max, refl, subst, suc, sym, take, true, zero}
-use Rattle.std.proofs.{lemmas.{Bool.{cases_Bool, Decides.nat_tests}, List.Sums.sum_by_more, Nat.mul-le}, Math.Nat.add-mul}
+use Rattle.std.proofs.Common.{◌*◌, ◌+◌, ◌/◌, ◌<◌, ◌==◌, ◌≡◌, ◌≤◌, List, ℕ, ap, arith, false, get_or, inl, inr, length, max, refl, subst, suc, sym, take, true, zero}
+use Rattle.std.proofs.{lemmas.{Bool.{cases_Bool, Decides.nat_tests}, Grind.common_steps, List.Sums.sum_by_more, Nat.mul-le}, Math.Nat.add-mul}
 use Rattle.std.specs.List.{sum_by}
 use Rattle.bq_index.specs.Digits.{binary_digits, digits_up_to}
 use Rattle.bq_jobs.specs.Kept.{ComparesAtMost, Kept}
@@ -35,10 +35,7 @@ asked n e h = record { many = ap (λ (k : Kept). length k.jobs) e; stays = h.0; 
 
 -- first these searches, and then those
 pub asks_then : {n k : ℕ} {first between last : Kept} → Asks n first between → Asks k between last → Asks (n + k) first last
-asks_then {n = n} {k = k} {first = first} {between = between} {last = last} a b =
-    let s = search_among (length first.jobs) in
-    let same : k * search_among (length between.jobs) ≡ k * s = ap (λ i. k * search_among i) a.many in
-    record { many = b.many ∙ a.many; stays = omega (arith, a.stays, b.stays); rise = omega (arith, a.rise, b.rise, same, add-mul n k s) }
+asks_then {n = n} {k = k} {first = first} {between = between} {last = last} a b = grind (arith, common_steps, add-mul)
 
 -- a turn of a loop that asks once for each element that passes
 pub asks_summed : {A : Type 0} (f : A → ℕ) (xs : List A) (i : ℕ) (d : A) {first between last : Kept} → i < length xs → Asks (sum_by f (take i xs)) first between → Asks (f (get_or xs i d)) between last → Asks (sum_by f (take (i + 1) xs)) first last
@@ -46,15 +43,10 @@ asks_summed f xs i d {first = first} {last = last} fits a b = subst (λ n. Asks 
 
 -- so many searches are no more than more of them
 pub asks_more : {n : ℕ} (k : ℕ) {old new : Kept} → n ≤ k → Asks n old new → Asks k old new
-asks_more {n = n} k {old = old} l a =
-    let s = search_among (length old.jobs) in
-    record { many = a.many; stays = a.stays; rise = omega (arith, a.rise, mul-le n s k s l (omega arith)) }
+asks_more {n = n} k {old = old} l a = grind (arith, common_steps, mul-le)
 
 pub within : {n : ℕ} (k : ℕ) {old new : Kept} → n ≤ k → Asks n old new → AsksWithin k old new
-within {n = n} k {old = old} {new = new} l a =
-    let s = search_among (length old.jobs) in
-    let t = search_among (max (length old.jobs) (length new.jobs)) in
-    record { stays = a.stays; rise = omega (arith, a.rise, mul-le n s k t l (search_grows (length old.jobs) (max (length old.jobs) (length new.jobs)) (omega arith))) }
+within {n = n} k {old = old} {new = new} l a = grind (arith, common_steps, mul-le, search_grows)
 
 -- what is asked before the one search that adds a job or takes one out
 pub asked_before : (n k : ℕ) {old between new : Kept} → n + k ≤ 10 → Asks n old between → ComparesAtMost k between new → AsksAsChanged old new

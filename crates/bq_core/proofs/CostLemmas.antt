@@ -1,11 +1,11 @@
 -- What the parts of a step ask, in terms of the machine.
-use Rattle.std.proofs.Common.{◌&&◌, ◌*◌, ◌+◌, ◌-◌, ◌<◌, ◌==◌, ◌||◌, ◌∙◌, ◌∷◌, ◌≡◌, ◌≤◌, if◌then◌else◌, Bool, List, Some, [], ℕ, ap, arith, cond, false, inl, inr, length, map, not, refl, subst, suc, sym, true}
-use Rattle.std.proofs.{lemmas.{Bool.and_parts, List.{length-append, Sums.sum_by-cons}, Nat.mul-le}, Math.Nat.suc-mul}
+use Rattle.std.proofs.Common.{◌&&◌, ◌*◌, ◌+◌, ◌-◌, ◌<◌, ◌==◌, ◌∙◌, ◌∷◌, ◌≡◌, ◌≤◌, if◌then◌else◌, Bool, List, Some, [], ℕ, ap, arith, cond, false, inl, inr, length, map, not, refl, subst, suc, sym, true}
+use Rattle.std.proofs.{lemmas.{Bool.and_parts, Grind.common_steps, List.{length-append, Sums.sum_by-cons}, Nat.mul-le}, Math.Nat.suc-mul}
 use Rattle.std.specs.{List.{AllByRecursion as All, list_any, sum_by}, Prelude.{count_by, option_map}}
 use Rattle.bq_job.specs.declared.job.{Job.Job, JobState.JobState}
 use Rattle.bq_job.specs.declared.job.JobState.TheVariants as states
 use Rattle.bq_job.specs.beside.{AreIdsWithin, waiting_count}
-use Rattle.bq_job.specs.machine.{Chain, DispatchTurn, GivenAnswer, IsHandOut, SeatRecord, WaitEndTurn, given_back, in_state, is_held_by, is_holder, is_reserved, is_waiting, job_with, kicked, with_seat, without_wait, Machine.Machine}
+use Rattle.bq_job.specs.machine.{Chain, DispatchTurn, GivenAnswer, IsHandOut, SeatRecord, WaitEndTurn, given_back, in_state, is_held_by, is_holder, is_reserved, job_with, kicked, with_seat, without_wait, Machine.Machine}
 use Rattle.bq_job.proofs.{DispatchLemmas.turn_of, LawfulLemmas.end_of, ListLemmas.count_cons}
 use Rattle.bq_steps.specs.{Cost.{changed_jobs, is_gone_or_changed, is_same_job, is_same_state, tubes_watched}, Outbox.Outbox}
 use Rattle.bq_state.specs.declared.job_store.JobKind.{JobKind, TheVariants.{Buried, Delayed, Ready}}
@@ -19,11 +19,7 @@ sum_falls f g less [] = omega arith
 sum_falls f g less (x ∷ xs) = omega (arith, sum_by-cons f (g x) (map g xs), sum_by-cons f x xs, less x, sum_falls f g less xs)
 
 one_stops : (f : SeatRecord → ℕ) → ((s : SeatRecord) → f (without_wait s) ≤ f s) → (number : ℕ) (s : SeatRecord) → f (if s.number == number then without_wait s else s) ≤ f s
-one_stops f less number s = go (s.number == number)
-  where
-    go : (b : Bool) → f (if b then without_wait s else s) ≤ f s
-    go true = less s
-    go false = omega arith
+one_stops f less number s = grind (arith, common_steps)
 
 -- what is counted of seats falls as waits end
 module _ (f : SeatRecord → ℕ) (less : (s : SeatRecord) → f (without_wait s) ≤ f s) where
@@ -51,20 +47,11 @@ pub waited_less : (s : SeatRecord) → waited_tubes (without_wait s) ≤ waited_
 waited_less s = omega arith
 
 pub entries_less : (seat : ℕ) (s : SeatRecord) → tubes_watched seat (without_wait s) ≤ tubes_watched seat s
-entries_less seat s = go (s.number == seat) (is_waiting s)
-  where
-    go : (b w : Bool) → (if (false || b) then length s.watched else 0) ≤ (if (w || b) then length s.watched else 0)
-    go true true = omega arith
-    go true false = omega arith
-    go false w = omega arith
+entries_less seat s = grind (arith, common_steps)
 
 -- a turn that takes a waiting client away gives an answer
 pub one_longer : (Turn : Machine → GivenAnswer → Machine → Type 0) (refused : List GivenAnswer → Bool) (first last : Machine) (old new : Outbox) → Gives Turn refused first last old new → waiting_count last < waiting_count first → length old.given < length new.given
-one_longer Turn refused first last old new gives falls = go gives.given gives.turns (ap length gives.added ∙ length-append old.given gives.given)
-  where
-    go : (given : List GivenAnswer) → Chain Turn first given last → length new.given ≡ length old.given + length given → length old.given < length new.given
-    go [] chain long = absurd (let same = ap waiting_count chain in omega arith)
-    go (g ∷ given) chain long = omega arith
+one_longer Turn refused first last old new gives falls = grind (arith, common_steps, length-append)
 
 pub no_shorter : (Turn : Machine → GivenAnswer → Machine → Type 0) (refused : List GivenAnswer → Bool) (first last : Machine) (old new : Outbox) → Gives Turn refused first last old new → length old.given ≤ length new.given
 no_shorter Turn refused first last old new gives = let long = ap length gives.added ∙ length-append old.given gives.given in omega arith
@@ -79,11 +66,7 @@ one_more_turn n more w v l u = omega (arith, mul-le (suc n) (w + 9) more (w + 9)
 -- a job that was changed is found changed
 found_changed : (f : Job → Job) → ((j : Job) → (f j).id ≡ j.id) → (id : ℕ) (jobs : List Job) → job_with id (map f jobs) ≡ option_map f (job_with id jobs)
 found_changed f keeps id [] = refl
-found_changed f keeps id (j ∷ jobs) = go (j.id == id) (ap (λ n. n == id) (keeps j)) (found_changed f keeps id jobs)
-  where
-    go : (b : Bool) → ((f j).id == id) ≡ b → job_with id (map f jobs) ≡ option_map f (job_with id jobs) → (if (f j).id == id then Some (f j) else job_with id (map f jobs)) ≡ option_map f (if b then Some j else job_with id jobs)
-    go true e rest = rw e refl
-    go false e rest = rw e rest
+found_changed f keeps id (j ∷ jobs) = grind (arith, common_steps, found_changed f keeps id jobs)
 
 -- where all jobs are changed by their ids, those that pass and become others are counted
 module _ (f : Job → Job) (keeps : (j : Job) → (f j).id ≡ j.id) (q : Job → Bool) (other : (j : Job) → q j ≡ true → is_same_job j (f j) ≡ false) where
@@ -136,13 +119,7 @@ given_back_changed state seat low next jobs free ids = changed_of (given_back st
 -- what no longer passes was counted once
 passing_apart : (p : Job → Bool) (f : Job → Job) (jobs : List Job) → count_by p jobs ≤ count_by p (map f jobs) + count_by (λ j. p j && not (p (f j))) jobs
 passing_apart p f [] = omega arith
-passing_apart p f (j ∷ jobs) =
-    rw (count_cons p j jobs, count_cons p (f j) (map f jobs), count_cons (λ k. p k && not (p (f k))) j jobs) (go (p j) (p (f j)) (passing_apart p f jobs))
-  where
-    go : (b c : Bool) → count_by p jobs ≤ count_by p (map f jobs) + count_by (λ k. p k && not (p (f k))) jobs → cond b 1 0 + count_by p jobs ≤ cond c 1 0 + count_by p (map f jobs) + (cond (b && not c) 1 0 + count_by (λ k. p k && not (p (f k))) jobs)
-    go true true rest = omega arith
-    go true false rest = omega arith
-    go false c rest = omega arith
+passing_apart p f (j ∷ jobs) = grind (arith, common_steps, count_cons, passing_apart p f jobs)
 
 -- the jobs that are kicked are changed
 module _ (kind : JobKind) (tube : List ℕ) (out : (k : Job) → is_of kind tube (kicked k) ≡ false) (chosen : List Job) where

@@ -1,6 +1,6 @@
 -- Timers of jobs fire one after another, and jobs are given back one after another.
 use Rattle.std.proofs.Common.{◌&&◌, ◌+◌, ◌-◌, ◌<◌, ◌==◌, ◌||◌, ◌∙◌, ◌∷◌, ◌≡◌, ◌≤◌, if◌then◌else◌, Bool, List, None, Option, Some, [], ℕ, ap, arith, false, inl, inr, map, min, refl, suc, sym, true}
-use Rattle.std.proofs.lemmas.Bool.{cases_Bool, eqb-true, or_left, or_right, Decides.nat_tests}
+use Rattle.std.proofs.lemmas.{Bool.{cases_Bool, eqb-true, or_left, or_right, Decides.nat_tests}, Grind.common_steps}
 use Rattle.std.specs.{List.{AllByRecursion as All, list_any}, Prelude.{count_by, nat_le, option_map}}
 use Rattle.bq_job.specs.declared.job.{Job.Job, JobState.JobState}
 use Rattle.bq_job.specs.declared.job.JobState.TheVariants as states
@@ -18,11 +18,7 @@ use Rattle.bq_core.proofs.KickLemmas.{finds_each, one_of_id}
 -- changing one job and then all is changing all, where the second change makes up for the first
 absorbed : (f g : Job → Job) (id : ℕ) (jobs : List Job) → All (λ k. (k.id == id) ≡ true → f (g k) ≡ f k) jobs → map f (map (λ k. if k.id == id then g k else k) jobs) ≡ map f jobs
 absorbed f g id [] all = refl
-absorbed f g id (k ∷ jobs) all = go (k.id == id) refl (absorbed f g id jobs all.1)
-  where
-    go : (b : Bool) → (k.id == id) ≡ b → map f (map (λ k. if k.id == id then g k else k) jobs) ≡ map f jobs → f (if b then g k else k) ∷ map f (map (λ k. if k.id == id then g k else k) jobs) ≡ f k ∷ map f jobs
-    go true e rest = ap (λ y. y ∷ map f (map (λ k. if k.id == id then g k else k) jobs)) (all.0 e) ∙ ap (λ ys. f k ∷ ys) rest
-    go false e rest = ap (λ ys. f k ∷ ys) rest
+absorbed f g id (k ∷ jobs) all = grind (arith, common_steps, absorbed f g id jobs all.1)
 
 not_there : (id : ℕ) (g : Job → Job) (jobs : List Job) → All (λ k. (k.id == id) ≡ false) jobs → map (λ k. if k.id == id then g k else k) jobs ≡ jobs
 not_there id g [] all = refl
@@ -48,27 +44,14 @@ one_fewer p g id low next (k ∷ jobs) j ids found was is = elim (cases_Bool (k.
 
 as_many : (p : Job → Bool) (g : Job → Job) (id : ℕ) (jobs : List Job) → All (λ k. (k.id == id) ≡ true → p (g k) ≡ p k) jobs → count_by p (map (λ k. if k.id == id then g k else k) jobs) ≡ count_by p jobs
 as_many p g id [] all = refl
-as_many p g id (k ∷ jobs) all = go (k.id == id) refl (as_many p g id jobs all.1)
-  where
-    rest_of : List Job
-    rest_of = map (λ k. if k.id == id then g k else k) jobs
-
-    go : (b : Bool) → (k.id == id) ≡ b → count_by p rest_of ≡ count_by p jobs → count_by p ((if b then g k else k) ∷ rest_of) ≡ count_by p (k ∷ jobs)
-    go true e rest = rw (count_cons p (g k) rest_of, count_cons p k jobs, all.0 e, rest) refl
-    go false e rest = rw (count_cons p k rest_of, count_cons p k jobs, rest) refl
+as_many p g id (k ∷ jobs) all = grind (arith, common_steps, count_cons, as_many p g id jobs all.1)
 
 -- what a job becomes whose timer has come
 ripened : (moment : ℕ) (j : Job) → is_due moment j.state ≡ true → job_after_timers moment j ≡ in_state states.Ready j
 ripened moment j h = rw h refl
 
 expired : (moment : ℕ) (j : Job) → is_expired moment j.state ≡ true → job_after_timers moment j ≡ record j { state = states.Ready; counts = with_timeout j.counts }
-expired moment j h = rw (not_due j.state h, h) refl
-  where
-    not_due : (s : JobState) → is_expired moment s ≡ true → is_due moment s ≡ false
-    not_due states.Ready e = refl
-    not_due (states.Delayed due) e = absurd cc
-    not_due (states.Reserved seat deadline) e = refl
-    not_due (states.Buried number) e = refl
+expired moment j h = grind (arith, common_steps)
 
 not_expired : (moment : ℕ) (s : JobState) → is_due moment s ≡ true → is_expired moment s ≡ false
 not_expired moment states.Ready e = refl
@@ -77,13 +60,7 @@ not_expired moment (states.Reserved seat deadline) e = absurd cc
 not_expired moment (states.Buried number) e = refl
 
 fired_once : (moment : ℕ) (j : Job) → job_after_timers moment (job_after_timers moment j) ≡ job_after_timers moment j
-fired_once moment j = elim (cases_Bool (is_due moment j.state)) [
-  | inl due ↦ ap (job_after_timers moment) (ripened moment j due) ∙ sym (ripened moment j due)
-  | inr none ↦ elim (cases_Bool (is_expired moment j.state)) [
-    | inl over ↦ ap (job_after_timers moment) (expired moment j over) ∙ sym (expired moment j over)
-    | inr held ↦ let same : job_after_timers moment j ≡ j = rw (none, held) refl in ap (job_after_timers moment) same
-  ]
-]
+fired_once moment j = grind (arith, common_steps, cases_Bool, ripened, expired)
 
 -- one delayed job that is due becomes ready
 pub fired_due : (m : Machine) (id : ℕ) → AreIdsWithin 1 m.jobs m.next_id → IsOne (λ j. is_due m.moment j.state) m.jobs id → after_job_timers (with_job id (job_after_timers m.moment) m) ≡ after_job_timers m
@@ -104,28 +81,15 @@ stops_once t c d e = omega arith
 
 -- one reservation ends
 pub fired_expired : (m : Machine) (id : ℕ) → AreIdsWithin 1 m.jobs m.next_id → IsOne (λ j. is_expired m.moment j.state) m.jobs id → after_job_timers (record (with_job id (job_after_timers m.moment) m) { timeouts = raised m.timeouts }) ≡ after_job_timers m
-fired_expired m id ids one =
-    let f = job_after_timers m.moment in
-    let p = λ (j : Job). is_expired m.moment j.state in
-    let jobs = absorbed f f id m.jobs (all_always (λ k. (k.id == id) ≡ true → f (f k) ≡ f k) m.jobs (λ k e. fired_once m.moment k)) in
-    let fewer = one_fewer p f id 1 m.next_id m.jobs one.job ids one.found one.passes_is (ap p (expired m.moment one.job one.passes_is)) in
-    ap (λ js. record m { jobs = js; timeouts = grown (count_by p (with_job id f m).jobs) (raised m.timeouts) }) jobs
-    ∙ ap (λ n. record m { jobs = map f m.jobs; timeouts = n }) (stops_once m.timeouts (count_by p m.jobs) (count_by p (with_job id f m).jobs) fewer)
+fired_expired m id ids one = grind (arith, common_steps, absorbed, all_always, fired_once, one_fewer, expired, stops_once)
 
 none_more : (t c : ℕ) → min (min (t + 0) greatest + c) greatest ≡ min (t + c) greatest
 none_more t c = omega arith
 
 -- one reservation ended and was counted, or none
 pub counted_fired : (m next : Machine) (t : ℕ) (b : Bool) → AreIdsWithin 1 m.jobs m.next_id → (b ≡ false → (list_any (λ j. is_expired m.moment j.state) m.jobs ≡ false) × (next ≡ m)) → (b ≡ true → ExpiresOne m next) → t ≡ grown (if b then 1 else 0) next.timeouts → after_job_timers (record next { timeouts = t }) ≡ after_job_timers m
-counted_fired m next t true ids none one e =
-    let x = one refl in
-    ap (λ n. after_job_timers (record next { timeouts = n })) e
-    ∙ ap (λ (n : Machine). after_job_timers (record n { timeouts = raised n.timeouts })) x.after
-    ∙ fired_expired m x.id ids x.one
-counted_fired m next t false ids none one e =
-    ap (λ n. after_job_timers (record next { timeouts = n })) e
-    ∙ ap (λ (n : Machine). after_job_timers (record n { timeouts = grown 0 n.timeouts })) (none refl).1
-    ∙ ap (λ n. record m { jobs = map (job_after_timers m.moment) m.jobs; timeouts = n }) (none_more m.timeouts (count_by (λ j. is_expired m.moment j.state) m.jobs))
+counted_fired m next t true ids none one e = grind (arith, common_steps, fired_expired)
+counted_fired m next t false ids none one e = grind (arith, common_steps, none_more)
 
 -- one timer less is to fire
 fewer_ripe : (m : Machine) (id : ℕ) (one : Job) → AreIdsWithin 1 m.jobs m.next_id → job_with id m.jobs ≡ Some one → is_ripe m.moment one ≡ true → is_ripe m.moment (job_after_timers m.moment one) ≡ false → count_by (is_ripe m.moment) (with_job id (job_after_timers m.moment) m).jobs < count_by (is_ripe m.moment) m.jobs
@@ -296,10 +260,7 @@ endings_told seat moment [] = refl
 endings_told seat moment (j ∷ jobs) = rw (ending_is moment seat j.state, endings_told seat moment jobs) refl
 
 soon_told : (d m s : ℕ) → s ≡ d - 1000 → nat_le s m ≡ nat_le d (m + 1000)
-soon_told d m s e = elim (cases_Bool (nat_le d (m + 1000))) [
-  | inl x ↦ let y : nat_le s m ≡ true = grind (arith, nat_tests) in y ∙ sym x
-  | inr x ↦ let y : nat_le s m ≡ false = grind (arith, nat_tests) in y ∙ sym x
-]
+soon_told d m s e = grind (arith, common_steps, cases_Bool, nat_tests)
 
 -- The first of some leases tells whether one of them ends within a second.
 soon_first : (p : Job → Bool) (moment : ℕ) (jobs : List Job) (found : Option (ℕ × ℕ)) → found ≡ option_map (ranked (λ j. deadline_of j.state)) (first_of p is_lease_before jobs)

@@ -1,5 +1,5 @@
 -- A state where no client may have a job.
-use Rattle.std.proofs.Common.{◌≡◌, None, sym, true}
+use Rattle.std.proofs.{Common.{◌≡◌, None, arith, sym, true}, lemmas.Grind.common_steps}
 use Rattle.bq_job.specs.machine.{next_job}
 use Rattle.bq_state.specs.declared.{core_parts.CoreParts.CoreParts, known.Stir.TheVariants.Nothing}
 use Rattle.bq_state.specs.{CoreParts.machine_of, Soundness.Soundness, Stirs.is_nothing}
@@ -12,6 +12,4 @@ none_next st nothing = none_known st.known.stir (machine_of st) (sym nothing) st
 -- Where there is none, that may be known.
 pub is_sound : (st : CoreParts) → next_job (machine_of st) ≡ None
     → Soundness st.jobs.jobs st.seats.items st.tubes st.waiting (record st.known { stir = Nothing }) st.next_id st.draining
-is_sound st none =
-    let was = st.sound in
-    record { entries = was.entries; numbered = was.numbered; next = was.next; ids = was.ids; waiting = was.waiting; known = so_with_nothing st none }
+is_sound st none = grind (arith, common_steps, so_with_nothing)

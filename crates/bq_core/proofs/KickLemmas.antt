@@ -1,6 +1,6 @@
 -- Kicking the first job of a kind again and again kicks the first ones in their order.
 use Rattle.std.proofs.Common.{◌&&◌, ◌+◌, ◌<◌, ◌==◌, ◌∙◌, ◌∷◌, ◌≡◌, ◌≤◌, if◌then◌else◌, Bool, List, None, Option, Some, [], ℕ, ap, arith, eq-eqb, false, filter, inl, inr, is_some, length, map, not, refl, suc, sym, take, true, zero}
-use Rattle.std.proofs.lemmas.Bool.{and_from, cases_Bool, eqb-true, ne_eqb, Decides.nat_tests}
+use Rattle.std.proofs.lemmas.{Bool.{and_from, cases_Bool, eqb-true, ne_eqb, Decides.nat_tests}, Grind.common_steps}
 use Rattle.std.specs.{List.{AllByRecursion as All, Contains, list_any}, Prelude.option_map}
 use Rattle.bq_job.specs.declared.job.Job.{Job}
 use Rattle.bq_job.specs.{beside.AreIdsWithin, machine.{first_of, in_order, is_buried_before, is_buried_in, is_pair_before, job_with, kickable, kicked, kicked_first, put_in_order}}
@@ -53,11 +53,7 @@ at_head before j (k ∷ ks) all = rw all.0 refl
 
 all_put : (P : Job → Type 0) (before : Job → Job → Bool) (j : Job) (ks : List Job) → P j → All P ks → All P (put_in_order before j ks)
 all_put P before j [] h all = (h, tt)
-all_put P before j (k ∷ ks) h all = go (before k j) (all_put P before j ks h all.1)
-  where
-    go : (b : Bool) → All P (put_in_order before j ks) → All P (if b then k ∷ put_in_order before j ks else j ∷ k ∷ ks)
-    go true rest = (all.0, rest)
-    go false rest = (h, all)
+all_put P before j (k ∷ ks) h all = grind (arith, common_steps, all_put P before j ks h all.1)
 
 all_ordered : (P : Job → Type 0) (before : Job → Job → Bool) (js : List Job) → All P js → All P (in_order before js)
 all_ordered P before [] all = tt
@@ -94,30 +90,12 @@ first_ordered before j low next (x ∷ js) ids all here = elim (cases_Bool (x.id
 -- what is kicked is of the kind no longer
 kicked_are_out : (p : Job → Bool) (id : ℕ) → ((k : Job) → p (kicked k) ≡ false) → (js : List Job) → filter p (map (λ k. if k.id == id then kicked k else k) js) ≡ filter (λ k. not (k.id == id)) (filter p js)
 kicked_are_out p id out [] = refl
-kicked_are_out p id out (x ∷ js) = go (x.id == id) (p x) refl refl (kicked_are_out p id out js)
-  where
-    go : (b c : Bool) → (x.id == id) ≡ b → p x ≡ c → filter p (map (λ k. if k.id == id then kicked k else k) js) ≡ filter (λ k. not (k.id == id)) (filter p js)
-        → filter p ((if b then kicked x else x) ∷ map (λ k. if k.id == id then kicked k else k) js) ≡ filter (λ k. not (k.id == id)) (if c then x ∷ filter p js else filter p js)
-    go true true e f rest = rw (out x, e) rest
-    go true false e f rest = rw (out x) rest
-    go false true e f rest = rw (f, e) (ap (λ ys. x ∷ ys) rest)
-    go false false e f rest = rw f rest
+kicked_are_out p id out (x ∷ js) = grind (arith, common_steps, kicked_are_out p id out js)
 
 -- those that are left are others
 left_are_others : (p : Job → Bool) (id : ℕ) → ((k : Job) → p (kicked k) ≡ false) → (js : List Job) → All (λ x. (x.id == id) ≡ false) (filter p (map (λ k. if k.id == id then kicked k else k) js))
 left_are_others p id out [] = tt
-left_are_others p id out (x ∷ js) = go (x.id == id) refl (left_are_others p id out js)
-  where
-    rest_of : List Job
-    rest_of = filter p (map (λ k. if k.id == id then kicked k else k) js)
-
-    keep : (c : Bool) → (x.id == id) ≡ false → All (λ y. (y.id == id) ≡ false) rest_of → All (λ y. (y.id == id) ≡ false) (if c then x ∷ rest_of else rest_of)
-    keep true e rest = (e, rest)
-    keep false e rest = rest
-
-    go : (b : Bool) → (x.id == id) ≡ b → All (λ y. (y.id == id) ≡ false) rest_of → All (λ y. (y.id == id) ≡ false) (filter p ((if b then kicked x else x) ∷ map (λ k. if k.id == id then kicked k else k) js))
-    go true e rest = rw (out x) rest
-    go false e rest = keep (p x) e rest
+left_are_others p id out (x ∷ js) = grind (arith, common_steps, left_are_others p id out js)
 
 all_taken : (P : Job → Type 0) (n : ℕ) (js : List Job) → All P js → All P (take n js)
 all_taken P zero js all = tt
@@ -156,14 +134,8 @@ those P q (x ∷ js) all = those_at P q x js (q x) refl all.0 (those P q js all.
 
 -- a job that passes is among those that do
 some_at : (q : Job → Bool) (id : ℕ) (x : Job) (js : List Job) (b : Bool) → q x ≡ b → list_any (λ y. (y.id == id) && q y) (x ∷ js) ≡ true → (list_any (λ y. (y.id == id) && q y) js ≡ true → list_any (λ y. y.id == id) (filter q js) ≡ true) → list_any (λ y. y.id == id) (if b then x ∷ filter q js else filter q js) ≡ true
-some_at q id x js true e h rest = elim (cases_Bool (x.id == id)) [
-  | inl same ↦ rw same refl
-  | inr other ↦ rw other (rest (rw other at h))
-]
-some_at q id x js false e h rest = elim (cases_Bool (x.id == id)) [
-  | inl same ↦ rest (rw (same, e) at h)
-  | inr other ↦ rest (rw other at h)
-]
+some_at q id x js true e h rest = grind (arith, common_steps, cases_Bool)
+some_at q id x js false e h rest = grind (arith, common_steps, cases_Bool)
 
 some_there_at : (q : Job → Bool) (id : ℕ) (js : List Job) → list_any (λ y. (y.id == id) && q y) js ≡ true → list_any (λ y. y.id == id) (filter q js) ≡ true
 some_there_at q id [] h = absurd cc

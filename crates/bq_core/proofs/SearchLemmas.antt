@@ -1,6 +1,6 @@
 -- The next job, where it is known what may be had.
 use Rattle.std.proofs.Common.{◌&&◌, ◌==◌, ◌||◌, ◌∙◌, ◌∷◌, ◌≡◌, ◌≤◌, if◌then◌else◌, Bool, List, None, Option, Some, [], ℕ, ap, arith, false, inl, inr, length, not, refl, subst, sym, true}
-use Rattle.std.proofs.lemmas.{Bool.{eqb-true, or_cases}, List.Sums.sum_by-cons}
+use Rattle.std.proofs.lemmas.{Bool.{eqb-true, or_cases}, Grind.common_steps, List.Sums.sum_by-cons}
 use Rattle.std.specs.{List.{AllByRecursion as All, Contains, list_any, sum_by}, Prelude.option_map}
 use Rattle.bq_job.specs.declared.job.Job.{Job}
 use Rattle.bq_job.specs.{machine.{SeatRecord, first_of, is_job_before, is_paused, is_ready, is_ready_in, is_waiting, is_waiting_for, seat_with, watches, Machine.Machine}, reading.TubeName.is_same_name}
@@ -107,16 +107,11 @@ tube_waits m name w waits known =
 -- the tubes that one client watches are some of all
 entries_within : (f : SeatRecord → ℕ) (seats : List SeatRecord) → All (λ s. f s ≤ sum_by f seats) seats
 entries_within f [] = tt
-entries_within f (s ∷ seats) =
-    let total = sum_by-cons f s seats in
-    (omega (arith, total), all_weaker (λ t. f t ≤ sum_by f seats) (λ t. f t ≤ sum_by f (s ∷ seats)) seats (λ t h. omega (arith, total, h)) (entries_within f seats))
+entries_within f (s ∷ seats) = grind (arith, common_steps, sum_by-cons, all_weaker, entries_within f seats)
 
 pub client_entries : (seats : List SeatRecord) (seat : ℕ) (o : Option SeatRecord) → seat_with seat seats ≡ o → sum_by waited_tubes (these o) ≤ sum_by waited_tubes seats
 client_entries seats seat None found = omega arith
-client_entries seats seat (Some s) found =
-    let one = sum_by-cons waited_tubes s [] in
-    let within = all_at (λ t. waited_tubes t ≤ sum_by waited_tubes seats) seats s (entries_within waited_tubes seats) (found_passes (λ t. t.number == seat) seats s found).1 in
-    omega (arith, one, within)
+client_entries seats seat (Some s) found = grind (arith, common_steps, sum_by-cons, all_at, entries_within, found_passes)
 
 pub tube_entries : (seats : List SeatRecord) (name : List ℕ) → list_any (is_waiter name) seats ≡ true → 1 ≤ sum_by waited_tubes seats
 tube_entries seats name h =

@@ -1,13 +1,11 @@
 -- A whole step out of its parts.
 use Rattle.std.proofs.Common.{◌++◌, ◌+◌, ◌<◌, ◌==◌, ◌||◌, ◌∙◌, ◌∷◌, ◌≡◌, ◌≤◌, if◌then◌else◌, Bool, List, None, [], ℕ, ap, arith, false, inl, inr, length, map, refl, subst, sym, true}
-use Rattle.std.proofs.{lemmas.{Bool.and_parts, List.{length-append, Sums.count_by-le-length}}, Math.Bool.or-false}
+use Rattle.std.proofs.{lemmas.{Bool.and_parts, Grind.common_steps, List.{length-append, Sums.count_by-le-length}}, Math.Bool.or-false}
 use Rattle.std.specs.{List.{list_all, list_any}, Prelude.filter}
 use Rattle.bq_job.specs.declared.{job.Job.Job, step.Step.Step}
-use Rattle.bq_job.specs.declared.job.JobState.TheVariants as states
 use Rattle.bq_job.specs.beside.{IsLawful, waiting_count}
-use Rattle.bq_job.specs.machine.{Chain, DispatchTurn, GivenAnswer, IsHandOut, IsStep, SeatRecord, TubeRecord, WaitEndTurn, acted, addressed, after_hand_out, after_timers, at_moment, default_tube, forgetting, has_refused_share, in_state}
-use Rattle.bq_job.specs.machine.{is_due, is_expired, is_growth_refused, is_seated_at, is_share_refused, is_tube, is_waiting, job_after_timers, next_end, next_job, reserved_by, tube_after_timers, with_seat, with_timeout, without_wait}
-use Rattle.bq_job.specs.{machine.Machine.Machine, reading.TubeName.is_same_name}
+use Rattle.bq_job.specs.machine.{Chain, DispatchTurn, GivenAnswer, IsHandOut, IsStep, SeatRecord, TubeRecord, WaitEndTurn, acted, addressed, after_hand_out, after_timers, at_moment, forgetting, has_refused_share, is_growth_refused}
+use Rattle.bq_job.specs.machine.{is_seated_at, is_share_refused, is_tube, is_waiting, job_after_timers, next_end, next_job, tube_after_timers, with_seat, without_wait, Machine.Machine}
 use Rattle.bq_job.proofs.{DispatchLemmas.turn_of, KeptLemmas.{Keeps, kept_of_lawful}, LawfulLemmas.{end_of, kept_of_timers, leaves_acted, length_addressed, only_tubes, seats_many, served}}
 use Rattle.bq_steps.specs.Outbox.{Outbox}
 use Rattle.bq_state.specs.declared.core_parts.CoreParts.{CoreParts}
@@ -37,16 +35,11 @@ agree_any p f same [] = refl
 agree_any p f same (x ∷ xs) = rw (same x, agree_any p f same xs) refl
 
 none_gone_after : (m n : Machine) → SameTubes m n → NoneIsGone m → NoneIsGone n
-none_gone_after m n same h =
-    ap (list_all (λ t. is_tube t.name n)) same.tubes
-    ∙ agree_all (λ t. is_tube t.name n) (λ t. is_tube t.name m) (λ t. same.exist t.name) m.tubes
-    ∙ h
+none_gone_after m n same h = grind (arith, common_steps, agree_all)
 
 -- changes of jobs that leave them in their tubes, and of seats that leave them at theirs
 changed_alike : (m : Machine) (f : Job → Job) (g : SeatRecord → SeatRecord) → ((j : Job) → (f j).tube ≡ j.tube) → ((name : List ℕ) (s : SeatRecord) → is_seated_at name (g s) ≡ is_seated_at name s) → (name : List ℕ) → is_tube name (record m { jobs = map f m.jobs; seats = map g m.seats }) ≡ is_tube name m
-changed_alike m f g in_tube at name =
-    ap (λ b. is_same_name name default_tube || b || list_any (is_seated_at name) (map g m.seats)) (agree_any (λ j. is_same_name name j.tube) f (λ j. ap (is_same_name name) (in_tube j)) m.jobs)
-    ∙ ap (λ b. is_same_name name default_tube || list_any (λ j. is_same_name name j.tube) m.jobs || b) (agree_any (is_seated_at name) g (at name) m.seats)
+changed_alike m f g in_tube at name = grind (arith, common_steps, agree_any)
 
 one_tube : (b : Bool) (x y : Job) → x.tube ≡ y.tube → (if b then x else y).tube ≡ y.tube
 one_tube true x y h = h
@@ -69,12 +62,7 @@ waits_alike m number = record {
 }
 
 hand_out_alike : (m : Machine) (j : Job) (s : SeatRecord) → SameTubes m (after_hand_out m j s)
-hand_out_alike m j s = record {
-  tubes = refl;
-  exist = λ name.
-      changed_alike m (λ k. if k.id == j.id then reserved_by m.moment s.number k else k) (λ t. if t.number == s.number then without_wait t else t)
-      (λ k. one_tube (k.id == j.id) (reserved_by m.moment s.number k) k refl) (λ n t. one_seat (t.number == s.number) (without_wait t) t n refl) name;
-}
+hand_out_alike m j s = grind (arith, common_steps, changed_alike, one_tube, one_seat)
 
 given_alike : (m : Machine) (j : Job) (s : SeatRecord) (g : GivenAnswer) (next : Machine) → IsHandOut m j s g next → NoneIsGone m → NoneIsGone next
 given_alike m j s g next (inl h) none = subst NoneIsGone (sym h.1) (none_gone_after m (after_hand_out m j s) (hand_out_alike m j s) none)
@@ -94,12 +82,7 @@ chain_alike Turn keeps first (g ∷ given) last chain none = chain_alike Turn ke
 
 -- timers leave jobs in their tubes
 timer_tube : (moment : ℕ) (j : Job) → (job_after_timers moment j).tube ≡ j.tube
-timer_tube moment j = go (is_due moment j.state) (is_expired moment j.state)
-  where
-    go : (b c : Bool) → (if b then in_state states.Ready j else (if c then record j { state = states.Ready; counts = with_timeout j.counts } else j)).tube ≡ j.tube
-    go true c = refl
-    go false true = refl
-    go false false = refl
+timer_tube moment j = grind (arith, common_steps)
 
 names_alike : (p : List ℕ → Bool) (f : TubeRecord → TubeRecord) → ((t : TubeRecord) → (f t).name ≡ t.name) → (ts : List TubeRecord) → list_all (λ t. p t.name) (map f ts) ≡ list_all (λ t. p t.name) ts
 names_alike p f keeps [] = refl

@@ -1,5 +1,5 @@
 -- Texts that are made.
-use Rattle.std.proofs.Common.{◌++◌, ◌∙◌, ◌∷◌, ◌≡◌, Bor, Err, IfOk, List, None, Ok, Option, Result, Some, [], ℕ, ap, codes, decimal, flat_map, option_map, refl, sym, true}
+use Rattle.std.proofs.{Common.{◌++◌, ◌∙◌, ◌∷◌, ◌≡◌, Bor, Err, IfOk, List, Ok, Result, Some, [], ℕ, ap, arith, codes, decimal, flat_map, option_map, refl, sym, true}, lemmas.Grind.common_steps}
 use Rattle.bq_job.specs.declared.{fault.NoMemory.NoMemory, job.Job.Job}
 use Rattle.bq_job.specs.{beside.is_in_order, machine.{job_with, name_list}, texts.Yaml.{KeyValue, key_number, name_line}}
 use Rattle.bq_job.proofs.NameOrderLemmas.{stays_fold}
@@ -23,15 +23,7 @@ with_word key p word known line is = line ∙ ap (λ w. let pair : KeyValue = (k
 
 -- The record that is found by an id is of the job that has it.
 pub id_of_row : (id : ℕ) (row : Job) (jobs : List Job) → Some (but_for_tube row) ≡ option_map but_for_tube (job_with id jobs) → id ≡ row.id
-id_of_row id row jobs same = of (job_with id jobs) (found_id id jobs) same
-  where
-    id_or : Option Job → ℕ
-    id_or None = 0
-    id_or (Some j) = j.id
-
-    of : (o : Option Job) → ((j : Job) → o ≡ Some j → j.id ≡ id) → Some (but_for_tube row) ≡ option_map but_for_tube o → id ≡ row.id
-    of None has is = absurd cc
-    of (Some j) has is = sym (ap id_or is ∙ has j refl)
+id_of_row id row jobs same = grind (arith, common_steps, found_id)
 
 lines_of : (names : List (Bor (List ℕ))) → flat_map (λ (name : Bor (List ℕ)). name_line name.now) names ≡ flat_map name_line (names_of names)
 lines_of [] = refl

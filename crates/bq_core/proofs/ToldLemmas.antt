@@ -1,22 +1,14 @@
 -- What a command that asks for one job shows.
-use Rattle.std.proofs.Common.{◌∙◌, ◌≡◌, IfOk, List, Ok, Result, ℕ, ap, is_some, sym, true}
+use Rattle.std.proofs.{Common.{◌≡◌, IfOk, List, Ok, Result, ℕ, arith, is_some, true}, lemmas.Grind.common_steps}
 use Rattle.bq_job.specs.declared.fault.NoMemory.{NoMemory}
 use Rattle.bq_job.specs.declared.answer.Answer.TheVariants as answers
 use Rattle.bq_job.specs.machine.{job_with, showing, telling}
 use Rattle.bq_jobs.specs.Seen.{IsBodyOf}
 use Rattle.bq_state.specs.declared.core_parts.CoreParts.{CoreParts}
-use Rattle.bq_state.specs.CoreParts.{OnlyCompares, machine_held, machine_of}
+use Rattle.bq_state.specs.CoreParts.{OnlyCompares, machine_of}
 use Rattle.bq_core.proofs.{ActLemmas.{id_found, some_there}, TurnLemmas.if_ok}
 
 -- A job that is there is shown with its body.
 pub shown_so : (st last : CoreParts) (id : ℕ) (r : Result (List ℕ) NoMemory) (body : List ℕ) → r ≡ Ok body → true ≡ is_some (job_with id (machine_of st).jobs) → IfOk r (IsBodyOf (job_with id (machine_of st).jobs))
     → OnlyCompares st last → showing (machine_of st) (job_with id (machine_of st).jobs) ≡ telling (answers.Found id body) (machine_of last)
-shown_so st last id r body is there told same =
-    let m = machine_of st in
-    let found = some_there (job_with id m.jobs) (sym there) in
-    let j = found.0 in
-    let has : body ≡ j.body = if_ok r body _ is told j found.1 in
-    ap (showing m) found.1
-    ∙ ap (λ n. telling (answers.Found n j.body) m) (id_found id m.jobs j found.1)
-    ∙ ap (λ b. telling (answers.Found id b) m) (sym has)
-    ∙ ap (telling (answers.Found id body)) (sym (ap machine_held same))
+shown_so st last id r body is there told same = grind (arith, common_steps, some_there, if_ok, id_found)

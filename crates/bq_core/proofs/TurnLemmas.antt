@@ -1,6 +1,6 @@
 -- A turn of dispatch or of the ends of waits, and chains of them.
-use Rattle.std.proofs.Common.{◌++◌, ◌<◌, ◌||◌, ◌∙◌, ◌∷◌, ◌≡◌, Bool, List, None, Option, Some, [], ℕ, ap, append-nil, append_assoc, arith, false, get_or, inl, inr, length, refl, slice_get, subst, sym, true}
-use Rattle.std.proofs.{lemmas.{List.length-append, Option.slice_get_read}, Math.Bool.{or-false, or-true}}
+use Rattle.std.proofs.Common.{◌++◌, ◌<◌, ◌||◌, ◌∙◌, ◌∷◌, ◌≡◌, Bool, List, None, Option, Some, [], ℕ, ap, append-nil, arith, false, get_or, length, refl, slice_get, subst, sym, true}
+use Rattle.std.proofs.{lemmas.{Grind.common_steps, List.length-append, Option.slice_get_read}, Math.Bool.{or-false, or-true}}
 use Rattle.std.specs.{List.{Contains, list_any}, Prelude.{IfOk, Ok, Result, option_map}}
 use Rattle.bq_job.specs.declared.{answer.Answer.Answer, fault.NoMemory.NoMemory, job.Job.Job}
 use Rattle.bq_job.specs.declared.answer.Answer.TheVariants as answers
@@ -16,11 +16,7 @@ use Rattle.bq_core.specs.{HandOuts.{AddsHandOut, HandsOut}, Turns.{Gives, HasRoo
 
 -- a hand-out takes the client away, whether the share was given or not
 hand_out_falls : (m : Machine) (j : Job) (s : SeatRecord) (g : GivenAnswer) (next : Machine) → Contains m.seats s → is_waiting s ≡ true → IsHandOut m j s g next → waiting_count next < waiting_count m
-hand_out_falls m j s g next here waits h =
-    elim h [
-      | inl given ↦ rw given.1 (waiting_falls m s here waits)
-      | inr refused ↦ rw refused.1 (waiting_falls m s here waits)
-    ]
+hand_out_falls m j s g next here waits h = grind (arith, common_steps, waiting_falls)
 
 -- one turn is a chain of turns
 one_turn : (m next : Machine) (old new : Outbox) (j : Job) (s : SeatRecord) → next_job m ≡ Some j → next_seat m j ≡ Some s → Contains m.seats s → is_waiting s ≡ true → AddsHandOut m j s old new next → Gives DispatchTurn has_refused_share m next old new
@@ -93,11 +89,7 @@ module _ (st : CoreParts) (id : ℕ) (job_is : Some id ≡ option_map (λ j. j.i
 
 pub refused_joined : (xs ys : List GivenAnswer) → has_refused_share (xs ++ ys) ≡ (has_refused_share xs || has_refused_share ys)
 refused_joined [] ys = refl
-refused_joined (x ∷ xs) ys = ap (λ b. is_out_of_memory x.1 || b) (refused_joined xs ys) ∙ or_assoc (is_out_of_memory x.1) (has_refused_share xs) (has_refused_share ys)
-  where
-    or_assoc : (a b c : Bool) → (a || (b || c)) ≡ ((a || b) || c)
-    or_assoc true b c = refl
-    or_assoc false b c = refl
+refused_joined (x ∷ xs) ys = grind (arith, common_steps, refused_joined xs ys)
 
 chain_joined : (Turn : Machine → GivenAnswer → Machine → Type 0) (first middle last : Machine) (xs ys : List GivenAnswer) → Chain Turn first xs middle → Chain Turn middle ys last → Chain Turn first (xs ++ ys) last
 chain_joined Turn first middle last [] ys a b = rw a at b
@@ -105,31 +97,11 @@ chain_joined Turn first middle last (x ∷ xs) ys a b = (a.0, a.1, chain_joined 
 
 -- no turn was taken
 pub gives_nothing : (Turn : Machine → GivenAnswer → Machine → Type 0) (refused : List GivenAnswer → Bool) → refused [] ≡ false → (m : Machine) (o : Outbox) → Gives Turn refused m m o o
-gives_nothing Turn refused none m o = record {
-  given = [];
-  turns = refl;
-  added = sym (append-nil o.given);
-  most = refl;
-  left_out = refl;
-  unshared = sym (ap (λ b. o.unshared || b) none ∙ or-false o.unshared);
-  taken = omega arith;
-}
+gives_nothing Turn refused none m o = grind (arith, common_steps, append-nil, or-false)
 
 -- first these turns were taken, and then those
 pub gives_joined : (Turn : Machine → GivenAnswer → Machine → Type 0) (refused : List GivenAnswer → Bool) → ((xs ys : List GivenAnswer) → refused (xs ++ ys) ≡ (refused xs || refused ys)) → (first middle last : Machine) (old between new : Outbox) → Gives Turn refused first middle old between → Gives Turn refused middle last between new → Gives Turn refused first last old new
-gives_joined Turn refused joined first middle last old between new a b = record {
-  given = a.given ++ b.given;
-  turns = chain_joined Turn first middle last a.given b.given a.turns b.turns;
-  added = b.added ∙ ap (λ xs. xs ++ b.given) a.added ∙ append_assoc old.given a.given b.given;
-  most = b.most ∙ a.most;
-  left_out = b.left_out ∙ a.left_out;
-  unshared = b.unshared ∙ ap (λ u. u || refused b.given) a.unshared ∙ or_assoc old.unshared (refused a.given) (refused b.given) ∙ ap (λ r. old.unshared || r) (sym (joined a.given b.given));
-  taken = omega (arith, length-append a.given b.given, a.taken, b.taken);
-}
-  where
-    or_assoc : (a b c : Bool) → ((a || b) || c) ≡ (a || (b || c))
-    or_assoc true b c = refl
-    or_assoc false b c = refl
+gives_joined Turn refused joined first middle last old between new a b = grind (arith, common_steps, chain_joined, length-append)
 
 -- turns that take a waiting client away for each answer leave the room that there was
 pub room_kept : (Turn : Machine → GivenAnswer → Machine → Type 0) (refused : List GivenAnswer → Bool) (more : ℕ) (first last : Machine) (old new : Outbox) → Gives Turn refused first last old new → HasRoom more first old → HasRoom more last new
@@ -138,53 +110,17 @@ room_kept Turn refused more first last old new gives room =
 
 -- one end of a wait is a chain of them
 pub one_end : (m next : Machine) (old new : Outbox) (s : SeatRecord) → next_end m ≡ Some s → Contains m.seats s → is_waiting s ≡ true → AddsWaitEnd m s old new next → Gives WaitEndTurn none_refused m next old new
-one_end m next old new s is here waits adds =
-    let given : GivenAnswer = (s.number, end_of_wait m s) in
-    let turn : WaitEndTurn m given next = rw is (refl, adds.ended) in
-    record {
-      given = given ∷ [];
-      turns = (next, turn, refl);
-      added = ap (λ o. o.given) adds.added;
-      most = ap (λ o. o.most) adds.added;
-      left_out = ap (λ o. o.left_out) adds.added;
-      unshared = ap (λ o. o.unshared) adds.added ∙ sym (or-false old.unshared);
-      taken = rw adds.ended (omega (arith, waiting_falls m s here waits));
-    }
+one_end m next old new s is here waits adds = grind (arith, common_steps, or-false, waiting_falls)
 
 -- what was read at a place
 pub same_read : {A : Type 0} (xs : List A) (i : ℕ) (x y : A) → i < length xs → y ≡ get_or xs i y → slice_get xs i ≡ Some x → y ≡ x
 same_read xs i x y there read is = let here = slice_get_read xs (length xs) i y refl there read in cc
 
 pub shared_given : (m last : Machine) (id number : ℕ) (body : List ℕ) (j : Job) (s : SeatRecord) (old new : Outbox) → id ≡ j.id → number ≡ s.number → body ≡ j.body → last ≡ with_seat number without_wait (with_job id (reserved_by m.moment number) m) → new ≡ record old { given = old.given ++ (number, answers.Reserved id body) ∷ [] } → AddsHandOut m j s old new last
-shared_given m last id number body j s old new i n b after told = record {
-  given = (s.number, answers.Reserved j.id j.body);
-  hand_out = inl (refl, after ∙ ap (λ a. with_seat a without_wait (with_job id (reserved_by m.moment a) m)) n ∙ ap (λ a. with_seat s.number without_wait (with_job a (reserved_by m.moment s.number) m)) i);
-  added =
-      told
-      ∙ ap (λ a. record old { given = old.given ++ (a, answers.Reserved id body) ∷ [] }) n
-      ∙ ap (λ a. record old { given = old.given ++ (s.number, answers.Reserved a body) ∷ [] }) i
-      ∙ ap (λ a. record old { given = old.given ++ (s.number, answers.Reserved j.id a) ∷ [] }) b
-      ∙ ap (λ u. record old { given = old.given ++ (s.number, answers.Reserved j.id j.body) ∷ []; unshared = u }) (sym (or-false old.unshared));
-}
+shared_given m last id number body j s old new i n b after told = grind (arith, common_steps, or-false)
 
 pub refused_given : (m last : Machine) (number : ℕ) (j : Job) (s : SeatRecord) (old new : Outbox) → number ≡ s.number → last ≡ with_seat number without_wait m → new ≡ record old { given = old.given ++ (number, answers.OutOfMemory) ∷ []; unshared = true } → AddsHandOut m j s old new last
-refused_given m last number j s old new n after told = record {
-  given = (s.number, answers.OutOfMemory);
-  hand_out = inr (refl, after ∙ ap (λ a. with_seat a without_wait m) n);
-  added =
-      told
-      ∙ ap (λ a. record old { given = old.given ++ (a, answers.OutOfMemory) ∷ []; unshared = true }) n
-      ∙ ap (λ u. record old { given = old.given ++ (s.number, answers.OutOfMemory) ∷ []; unshared = u }) (sym (or-true old.unshared));
-}
+refused_given m last number j s old new n after told = grind (arith, common_steps, or-true)
 
 pub ended_given : (m last : Machine) (k number : ℕ) (s t : SeatRecord) (answer : Answer) (old new : Outbox) → k < length m.seats → t ≡ get_or m.seats k t → slice_get m.seats k ≡ Some s → number ≡ t.number → answer ≡ end_of_wait m s → last ≡ with_seat number without_wait m → new ≡ record old { given = old.given ++ (number, answer) ∷ [] } → AddsWaitEnd m s old new last
-ended_given m last k number s t answer old new seat_there seat_read seat number_is answer_is after told =
-    let f : t ≡ s = same_read m.seats k s t seat_there seat_read seat in
-    let n : number ≡ s.number = number_is ∙ ap (λ r. r.number) f in
-    record {
-      ended = after ∙ ap (λ a. with_seat a without_wait m) n;
-      added =
-          told
-          ∙ ap (λ a. record old { given = old.given ++ (a, answer) ∷ [] }) n
-          ∙ ap (λ a. record old { given = old.given ++ (s.number, a) ∷ [] }) answer_is;
-    }
+ended_given m last k number s t answer old new seat_there seat_read seat number_is answer_is after told = grind (arith, common_steps, same_read)

@@ -1,6 +1,6 @@
 -- The ends of waits, one waiting client after another in the order of their turns.
 use Rattle.std.proofs.Common.{◌&&◌, ◌+◌, ◌<◌, ◌==◌, ◌||◌, ◌∙◌, ◌∷◌, ◌≡◌, ◌≤◌, if◌then◌else◌, Bool, List, None, Option, Some, [], ℕ, ap, arith, cond, false, inl, inr, length, map, not, refl, slice_get, subst, sym, true}
-use Rattle.std.proofs.lemmas.Bool.{and_parts, cases_Bool, eq-eqb, eqb-true, Decides.nat_tests}
+use Rattle.std.proofs.lemmas.{Bool.{and_parts, cases_Bool, eq-eqb, eqb-true, Decides.nat_tests}, Grind.common_steps}
 use Rattle.std.specs.{List.{AllByRecursion as All, Contains, list_any}, Prelude.count_by}
 use Rattle.bq_job.specs.declared.answer.Answer.{Answer}
 use Rattle.bq_job.specs.declared.answer.Answer.TheVariants as answers
@@ -27,36 +27,17 @@ told_none m s h i = rw (h, i) refl
 
 -- who is told something is told how its wait ends, and nobody else's wait ends
 pub told_is : (m : Machine) (s : SeatRecord) (answer : Answer) → is_waiting s ≡ true → Some answer ≡ told_at_end m s → (ends_waiting m s ≡ true) × (answer ≡ end_of_wait m s)
-told_is m s answer waits told = go (is_deadline_soon m s) (is_timed_out m s) refl refl told
-  where
-    go : (b c : Bool) → is_deadline_soon m s ≡ b → is_timed_out m s ≡ c → Some answer ≡ (if b then Some answers.DeadlineSoon else (if c then Some answers.TimedOut else None)) → (ends_waiting m s ≡ true) × (answer ≡ end_of_wait m s)
-    go true c e f h = (rw (waits, e) refl, rw e (let g : Some answer ≡ Some answers.DeadlineSoon = h in cc))
-    go false true e f h = (rw (waits, e, f) refl, rw e (let g : Some answer ≡ Some answers.TimedOut = h in cc))
-    go false false e f h = absurd (let g : Some answer ≡ None = h in cc)
+told_is m s answer waits told = grind (arith, common_steps)
 
 pub told_nothing : (m : Machine) (s : SeatRecord) → None ≡ told_at_end m s → ends_waiting m s ≡ false
-told_nothing m s told = go (is_waiting s) (is_deadline_soon m s) (is_timed_out m s) told
-  where
-    go : (w b c : Bool) → None ≡ (if b then Some answers.DeadlineSoon else (if c then Some answers.TimedOut else None)) → (w && (b || c)) ≡ false
-    go w true c h = absurd cc
-    go w false true h = absurd cc
-    go true false false h = refl
-    go false false false h = refl
+told_nothing m s told = grind (arith, common_steps)
 
 -- nobody was looked at
 pub none_looked_at : (m : Machine) → AreLookedAt m None
 none_looked_at m = all_always (λ s. ends_waiting m s ≡ true → true ≡ true) m.seats (λ s h. refl)
 
 pub all_left : (m : Machine) → left_after None m ≤ waiting_count m
-all_left m = go m.seats
-  where
-    and_true : (b : Bool) → (b && true) ≡ b
-    and_true true = refl
-    and_true false = refl
-
-    go : (seats : List SeatRecord) → count_by (waits_after None) seats ≤ count_by is_waiting seats
-    go [] = omega arith
-    go (s ∷ seats) = rw (count_cons (waits_after None) s seats, count_cons is_waiting s seats, and_true (is_waiting s)) (omega (arith, go seats))
+all_left m = grind (arith, common_steps, count_cons)
 
 -- nobody is left: no wait ends
 pub none_left : (m : Machine) (last : Option (ℕ × ℕ)) → AreLookedAt m last → None ≡ first_of (waits_after last) is_wait_before m.seats → next_end m ≡ None

@@ -1,6 +1,6 @@
 -- The tubes that the clients watch who wait, as commands change the seats.
-use Rattle.std.proofs.{Common.{◌&&◌, ◌==◌, ◌||◌, ◌∙◌, ◌∷◌, ◌≡◌, ◌≤◌, if◌then◌else◌, Bool, List, [], ℕ, ap, arith, cond, false, length, map, refl, subst, true}, lemmas.{Bool.eqb-true, List.Sums.sum_by-cons}}
-use Rattle.std.specs.{List.{AllByRecursion as All, sum_by}, Prelude.{count_by, is_some}}
+use Rattle.std.proofs.{Common.{◌&&◌, ◌==◌, ◌||◌, ◌∙◌, ◌∷◌, ◌≡◌, ◌≤◌, if◌then◌else◌, Bool, List, [], ℕ, arith, cond, false, length, map, subst, true}, lemmas.{Bool.eqb-true, Grind.common_steps, List.Sums.sum_by-cons}}
+use Rattle.std.specs.{List.{AllByRecursion as All, sum_by}, Prelude.count_by}
 use Rattle.bq_job.specs.declared.{request.Request.Request, step.Step.Step}
 use Rattle.bq_job.specs.beside.{IsLawful, has_one, none_twice, waiting_count, watches_once}
 use Rattle.bq_job.specs.machine.{Effect, Memory, SeatRecord, acted, after_close, after_connect, asked, empty_seat, is_waiting, numbers, raised, waiting_from, with_end, with_seat, Machine.Machine}
@@ -18,52 +18,25 @@ sum_of_map f g h [] all = omega arith
 sum_of_map f g h (x ∷ xs) all = omega (arith, sum_by-cons f (h x) (map h xs), sum_by-cons g x xs, all.0, sum_of_map f g h xs all.1)
 
 one_seat : (number : ℕ) (s : SeatRecord) → waited_tubes s ≤ tubes_watched number s
-one_seat number s = go (is_waiting s) (s.number == number)
-  where
-    go : (w b : Bool) → (if w then length s.watched else 0) ≤ (if (w || b) then length s.watched else 0)
-    go true b = omega arith
-    go false true = omega arith
-    go false false = omega arith
+one_seat number s = grind (arith, common_steps)
 
 -- who waits is among those that wait or sit at the seat
 pub waited_few : (number : ℕ) (m : Machine) → waited m ≤ watched_tubes number m
 waited_few number m = sum_no_more waited_tubes (tubes_watched number) m.seats (all_always (λ s. waited_tubes s ≤ tubes_watched number s) m.seats (one_seat number))
 
 at_most_watched : (s : SeatRecord) → waited_tubes s ≤ length s.watched
-at_most_watched s = go (is_waiting s)
-  where
-    go : (w : Bool) → (if w then length s.watched else 0) ≤ length s.watched
-    go true = omega arith
-    go false = omega arith
+at_most_watched s = grind (arith, common_steps)
 
 -- a change of one seat that lets no more be waited for than was watched there
 with_seat_few : (number : ℕ) (f : SeatRecord → SeatRecord) (m : Machine) → All (λ s. s.number ≡ number → waited_tubes (f s) ≤ length s.watched) m.seats → waited (with_seat number f m) ≤ watched_tubes number m
-with_seat_few number f m less =
-    sum_of_map waited_tubes (tubes_watched number) (λ s. if s.number == number then f s else s) m.seats
-    (all_weaker (λ s. s.number ≡ number → waited_tubes (f s) ≤ length s.watched) (λ s. waited_tubes (if s.number == number then f s else s) ≤ tubes_watched number s) m.seats
-    (λ s h. here s h (s.number == number) refl) less)
-  where
-    here : (s : SeatRecord) → (s.number ≡ number → waited_tubes (f s) ≤ length s.watched) → (b : Bool) → (s.number == number) ≡ b → waited_tubes (if b then f s else s) ≤ (if (is_waiting s || b) then length s.watched else 0)
-    here s h true e = there (is_waiting s) (h (eqb-true s.number number e))
-      where
-        there : (w : Bool) → waited_tubes (f s) ≤ length s.watched → waited_tubes (f s) ≤ (if (w || true) then length s.watched else 0)
-        there true l = l
-        there false l = l
-    here s h false e = there (is_waiting s) refl
-      where
-        there : (w : Bool) → is_waiting s ≡ w → waited_tubes s ≤ (if (w || false) then length s.watched else 0)
-        there true i = rw i (omega arith)
-        there false i = rw i (omega arith)
+with_seat_few number f m less = grind (arith, common_steps, sum_of_map, all_weaker, eqb-true)
 
 always_few : (number : ℕ) (f : SeatRecord → SeatRecord) (m : Machine) → ((s : SeatRecord) → waited_tubes (f s) ≤ length s.watched) → waited (with_seat number f m) ≤ watched_tubes number m
 always_few number f m less = with_seat_few number f m (all_always (λ s. s.number ≡ number → waited_tubes (f s) ≤ length s.watched) m.seats (λ s e. less s))
 
 -- who asks doesn't wait, and its seat waits no more than before
 quiet_few : (f : SeatRecord → SeatRecord) (m : Machine) (s : SeatRecord) → ((t : SeatRecord) → (f t).wait ≡ t.wait) → All (λ t. t.number ≡ s.number → t ≡ s) m.seats → is_waiting s ≡ false → waited (with_seat s.number f m) ≤ watched_tubes s.number m
-quiet_few f m s waits_as alone quiet =
-    with_seat_few s.number f m
-    (all_weaker (λ t. t.number ≡ s.number → t ≡ s) (λ t. t.number ≡ s.number → waited_tubes (f t) ≤ length t.watched) m.seats
-    (λ t only e. let w : is_waiting (f t) ≡ false = ap is_some (waits_as t) ∙ ap is_waiting (only e) ∙ quiet in rw w (omega arith)) alone)
+quiet_few f m s waits_as alone quiet = grind (arith, common_steps, with_seat_few, all_weaker)
 
 -- every kind of command
 kind_few : (request : Request) (m : Machine) (s : SeatRecord) {e : Effect} → Kind m s request e → All (λ t. t.number ≡ s.number → t ≡ s) m.seats → is_waiting s ≡ false → waited e.machine ≤ watched_tubes s.number m
