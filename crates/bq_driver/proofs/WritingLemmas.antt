@@ -61,25 +61,6 @@ writes_more old mid new first more false m w = record {
       ∙ ap (λ x. with_line_fault faults.Write (record old { written = x })) (append_assoc old.written first w.cut);
 }
 
--- a part that comes in two
-halves : (part first rest : List ℕ) (n : ℕ) → first ≡ take n part → rest ≡ drop n part → first ++ rest ≡ part
-halves part first rest n f r = ap (λ x. x ++ rest) f ∙ ap (λ x. take n part ++ x) r ∙ take-append-drop n part
-
-parted : (head body tail first rest : List ℕ) → first ++ rest ≡ body → (head ++ first) ++ (rest ++ tail) ≡ (head ++ body) ++ tail
-parted head body tail first rest e =
-    sym (append_assoc (head ++ first) rest tail) ∙ ap (λ x. x ++ tail) (append_assoc head first rest) ∙ ap (λ x. (head ++ x) ++ tail) e
-
--- the first half of a body is written behind the head, and then the rest
-pub writes_behind : (old mid new : LineSeen) (head body tail first rest : List ℕ) (n : ℕ) (whole : Bool) → first ≡ take n body → rest ≡ drop n body
-    → mid ≡ with_written (head ++ first) old → Writes (rest ++ tail) mid new whole → Writes (head ++ body ++ tail) old new whole
-writes_behind old mid new head body tail first rest n whole f r m w =
-    subst (λ text. Writes text old new whole) (parted head body tail first rest (halves body first rest n f r)) (writes_more old mid new (head ++ first) (rest ++ tail) whole m w)
-
-pub breaks_behind : (old new : LineSeen) (head body tail first rest : List ℕ) (n : ℕ) → first ≡ take n body → rest ≡ drop n body
-    → BreaksOff (head ++ first) old new → BreaksOff (head ++ body ++ tail) old new
-breaks_behind old new head body tail first rest n f r b =
-    subst (λ text. BreaksOff text old new) (parted head body tail first rest (halves body first rest n f r)) (breaks_first old new (head ++ first) (rest ++ tail) b)
-
 -- what is left of two parts
 left_of_two : (n : ℕ) (xs ys : List ℕ) → drop n (xs ++ ys) ≡ drop n xs ++ drop (n - length xs) ys
 left_of_two n xs ys = by (nat_lt n (length xs)) refl

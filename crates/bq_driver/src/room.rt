@@ -1,98 +1,33 @@
 //! The room of a seat, from which answers go out to its line, and into which it reads.
-ghost use Rattle.std.specs.Prelude.{◌≡◌, ◌==◌, ◌<◌, ◌≤◌, ◌+◌, ◌++◌, IfOk, drop, length, take, true};
+ghost use Rattle.std.specs.Prelude.{◌≡◌, ◌<◌, ◌≤◌, ◌+◌, ◌++◌, drop, length, take, true};
 ghost use Rattle.bq_job.specs.texts.AnswerText.{answer_text};
 ghost use Rattle.bq_line.specs.Streams.{StaysOver};
 ghost use Rattle.bq_driver.specs.Writing.{Writes};
 
-use bq_job::{Answer, NoMemory};
+use bq_job::Answer;
 use bq_line::line::Line;
 use bq_seat::PIECE_ROOM;
 use bq_wire::{HeadBuf, answer_body, answer_head, answer_tail, push_bytes};
-use std::alloc::Global;
-use std::marker::Model;
 
-/// How many bytes the room for answers has.
-pub const ROOM_BYTES: usize = 65536;
-
-/// Room for an answer that doesn't fit into a piece and goes out in one write. Its memory is set aside once, and nobody
-/// touches it before the first such answer: a seat that had none costs hardly any. Contracts see the number of its bytes.
-#[derive(Drop)]
-pub struct AnswerRoom {
-    bytes: Vec<u8, Global>,
-}
-
-impl Model for AnswerRoom {
-    ghost use Rattle.std.specs.Prelude.{ℕ};
-    ghost use Rattle.std.specs.Vec.{vec_capacity};
-
-    ghost Value = { ℕ };
-
-    ghost view = { λ r. vec_capacity r.bytes };
-}
-
-impl AnswerRoom {
-    /// Its memory is asked for here.
-    pub fn new(alloc: Global) -> Result<AnswerRoom, NoMemory>
-        ensures { IfOk result (λ room. room ≡ ROOM_BYTES) }
-    {
-        match Vec::with_capacity(alloc, ROOM_BYTES) {
-            Ok(bytes) => Ok(AnswerRoom { bytes }),
-            Err(_) => Err(NoMemory),
-        }
-    }
-
-    /// No room: it takes no memory.
-    pub fn none(alloc: Global) -> AnswerRoom
-        ensures { result ≡ 0 }
-    {
-        AnswerRoom {
-            bytes: Vec::new(alloc),
-        }
-    }
-
-    /// Whether it is no room, so that no answer goes out from it.
-    pub fn is_none(&self) -> bool
-        ensures { result ≡ (self.now == 0) }
-    {
-        self.bytes.capacity() == 0
-    }
-
-    /// The whole room. What lies in it before and after has no meaning.
-    pub fn bytes(&mut self) -> &mut [u8]
-        ensures { length result.now ≡ self.old }
-    {
-        let whole = self.bytes.capacity();
-        if self.bytes.len() < whole {
-            // At the first use. It takes no memory, for that is there.
-            let _fits = self.bytes.resize(whole, 0);
-        }
-        self.bytes.as_mut_slice()
-    }
-}
-
-/// Room for the answers that are written to a line, a piece for most of them and more for the others, and for one read
-/// of a line that has no room of its own. It is made once a run, since a new one would be filled with zeros first.
+/// Room for one piece: an answer that fits into it goes out from there, and a line that has no room of its own is read
+/// into it. It is made once a run, since a new one would be filled with zeros first.
 #[derive(Drop)]
 pub struct Room {
     pub piece: [u8; PIECE_ROOM],
-    pub answer: AnswerRoom,
 }
 
 impl Room {
-    /// With this room for the answers that don't fit into a piece. Where it is none, they go out in pieces.
-    pub fn new(answer: AnswerRoom) -> Room
-        ensures { result.answer ≡ answer }
-    {
+    /// What lies in it has no meaning.
+    pub fn new() -> Room {
         Room {
             piece: [0; PIECE_ROOM],
-            answer,
         }
     }
 }
 
 /// Writes the text of an answer, and hands on what the line holds back. Whether all of it went well.
 ///
-/// As much of it as the room holds goes out in one write. What lies in the room before and after has no meaning.
+/// It goes out in one write, where the line takes it whole. What lies in the room before and after has no meaning.
 pub fn write_answer<L: Line>(line: &mut L, answer: &Answer, room: &mut Room) -> bool
     ensures text { Writes (answer_text answer.now) (L.seen line.old) (L.seen line.new) result }
     ensures stays { StaysOver L.lies_over line.old line.new }
@@ -143,15 +78,17 @@ fn write_behind<L: Line>(line: &mut L, head: &mut HeadBuf, body: &[u8], tail: &[
     write_all(line, head.as_slice())
 }
 
-// Of the others most are joined in a piece. What is longer goes out from where it lies, where the line has a room for
-// answers, since a copy of a large body costs more than the call that takes its parts apart.
+// Of the others most are joined in the room. What is longer goes out from where it lies, since a copy of a large body
+// costs more than the call that takes its parts apart.
 fn write_long<L: Line>(line: &mut L, room: &mut Room, head: &[u8], body: &[u8], tail: &[u8]) -> bool
     ensures text { Writes (head.now ++ body.now ++ tail.now)
         (L.seen line.old) (L.seen line.new) result }
     ensures stays { StaysOver L.lies_over line.old line.new }
 {
-    if room.answer.is_none() || head.is_empty() || fits(PIECE_ROOM, head, body, tail) {
+    if fits(room.piece.len(), head, body, tail) {
         write_joined(line, &mut room.piece, head, body, tail)
+    } else if head.is_empty() {
+        write_each(line, head, body, tail)
     } else {
         write_together(line, head, body, tail)
     }
@@ -212,7 +149,7 @@ fn write_both<L: Line>(line: &mut L, first: &[u8], second: &[u8]) -> bool
     write_all(line, second)
 }
 
-// The parts of a text that this place holds go out in one write, and a longer one in as few as the place allows.
+// Joins the parts of a text in the room, which holds them, and writes them together.
 fn write_joined<L: Line>(
     line: &mut L,
     room: &mut [u8],
@@ -220,17 +157,14 @@ fn write_joined<L: Line>(
     body: &[u8],
     tail: &[u8],
 ) -> bool
+    requires { length head.now + length body.now + length tail.now ≤ length room.old }
     ensures text { Writes (head.now ++ body.now ++ tail.now)
         (L.seen line.old) (L.seen line.new) result }
     ensures stays { StaysOver L.lies_over line.old line.new }
 {
-    if fits(room.len(), head, body, tail) {
-        let behind_head = put(room, 0, head);
-        let behind_body = put(room, behind_head, body);
-        write_with(line, room, behind_body, tail)
-    } else {
-        write_parts(line, room, head, body, tail)
-    }
+    let behind_head = put(room, 0, head);
+    let behind_body = put(room, behind_head, body);
+    write_with(line, room, behind_body, tail)
 }
 
 // Whether a room of so many bytes holds all three.
@@ -262,52 +196,6 @@ fn write_with<L: Line>(line: &mut L, room: &mut [u8], at: usize, bytes: &[u8]) -
 {
     let end = put(room, at, bytes);
     write_all(line, &room[..end])
-}
-
-// The head goes with the first bytes of the body, and the tail with its last ones. What lies between goes out
-// from where it is.
-fn write_parts<L: Line>(
-    line: &mut L,
-    room: &mut [u8],
-    head: &[u8],
-    body: &[u8],
-    tail: &[u8],
-) -> bool
-    ensures text { Writes (head.now ++ body.now ++ tail.now)
-        (L.seen line.old) (L.seen line.new) result }
-    ensures stays { StaysOver L.lies_over line.old line.new }
-{
-    let beside_head = room.len().saturating_sub(head.len());
-    let (first, rest) = body.split_at(body.len().min(beside_head));
-    if !write_pair(line, room, head, first) {
-        return false;
-    }
-    write_rest(line, room, rest, tail)
-}
-
-// The rest of a body, and the tail with its last bytes.
-fn write_rest<L: Line>(line: &mut L, room: &mut [u8], rest: &[u8], tail: &[u8]) -> bool
-    ensures text { Writes (rest.now ++ tail.now) (L.seen line.old) (L.seen line.new) result }
-    ensures stays { StaysOver L.lies_over line.old line.new }
-{
-    let beside_tail = room.len().saturating_sub(tail.len());
-    let (middle, last) = rest.split_at(rest.len().saturating_sub(beside_tail));
-    if !write_all(line, middle) {
-        return false;
-    }
-    write_pair(line, room, last, tail)
-}
-
-// Two parts go out in one write where the room holds them.
-fn write_pair<L: Line>(line: &mut L, room: &mut [u8], first: &[u8], second: &[u8]) -> bool
-    ensures text { Writes (first.now ++ second.now) (L.seen line.old) (L.seen line.new) result }
-    ensures stays { StaysOver L.lies_over line.old line.new }
-{
-    if fits(room.len(), first, second, &[]) {
-        let behind_first = put(room, 0, first);
-        return write_with(line, room, behind_first, second);
-    }
-    write_both(line, first, second)
 }
 
 // Writes until all bytes are taken or a write fails.

@@ -11,7 +11,7 @@ ghost use Rattle.bq_driver.specs.Tending.{IsNewDoor, door_seen};
 use crate::bells::Bells;
 use crate::shared_desk::{SharedDesk, SharedSeat};
 use bq_driver::attendant::Attendant;
-use bq_driver::room::{AnswerRoom, Room};
+use bq_driver::room::Room;
 use bq_job::{NoMemory, Seat};
 use bq_line::Door;
 use bq_line::line::Line;
@@ -92,7 +92,7 @@ impl<L: Line + Drop, D: Door<Line = L> + Drop> Post<L, D> {
             at_hand: None,
             rests: false,
         };
-        let mut room = Room::new(AnswerRoom::none(alloc));
+        let mut room = Room::new();
         for _ in rt.forever() {
             if attendant.is_done() {
                 return Some(door);

@@ -11,7 +11,7 @@ ghost use Rattle.bq_run_one.specs.RunSettings.{is_lone};
 use crate::desk::Desk;
 use crate::desk_seat::act;
 use bq_core::Config;
-use bq_driver::room::{AnswerRoom, Room};
+use bq_driver::room::Room;
 use bq_job::{LineEnd, Seat};
 use bq_line::clock::Clock;
 use bq_line::line::Line;
@@ -67,10 +67,7 @@ pub fn run_one<R: Wait, L: Line + Drop, C: Clock + Drop>(
     let Ok(machine) = SeatMachine::new(alloc, config.max_job_size) else {
         return Err(RunFault::NoMemory);
     };
-    let Ok(room) = AnswerRoom::new(alloc) else {
-        return Err(RunFault::NoMemory);
-    };
-    Ok(serve_line(rt, line, desk, machine, room))
+    Ok(serve_line(rt, line, desk, machine))
 }
 
 // Serves a line to its end at a new desk, by its only seat.
@@ -79,7 +76,6 @@ fn serve_line<R: Wait, L: Line + Drop, C: Clock + Drop>(
     line: L,
     desk: Desk<C>,
     machine: SeatMachine,
-    room: AnswerRoom,
 ) -> One<L, C>
     requires new { L.seen line ≡ new_line }
     requires desk { IsNewDesk desk.core.machine.settings (state_of desk) }
@@ -93,7 +89,7 @@ fn serve_line<R: Wait, L: Line + Drop, C: Clock + Drop>(
     let mut line = line;
     let mut desk = desk;
     let mut machine = machine;
-    let mut room = Room::new(room);
+    let mut room = Room::new();
     let bell = Parker::new();
     let mut action = machine.on(desk.alloc, Event::Opened);
     for _ in rt.forever() {

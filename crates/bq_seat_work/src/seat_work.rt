@@ -17,7 +17,7 @@ use bq_driver::attendant::{Attendant, LinePlace};
 use bq_driver::control::{ControlLink, submit_control};
 use bq_driver::control_line::ControlInput;
 use bq_driver::link::Link;
-use bq_driver::room::{AnswerRoom, Room};
+use bq_driver::room::Room;
 use bq_job::{Seat, Step};
 use bq_line::Door;
 use bq_line::line::Line;
@@ -44,7 +44,6 @@ pub fn seat_work<R: Wait, S: SharedCore, L: Line + Drop, D: Door<Line = L> + Dro
     core: &S,
     end: SeatEnd,
     machine: SeatMachine,
-    room: AnswerRoom,
     door: D,
 ) -> (SeatEnd, D)
     requires intake { end.intake ≡ intake.now.id }
@@ -64,7 +63,7 @@ pub fn seat_work<R: Wait, S: SharedCore, L: Line + Drop, D: Door<Line = L> + Dro
         machine,
         place: LinePlace::Between,
     };
-    let mut room = Room::new(room);
+    let mut room = Room::new();
     let mut pace = Pace::new();
     for _ in rt.forever() {
         if attendant.is_done() {

@@ -7,7 +7,6 @@ ghost use Rattle.bq_driver.specs.Tending.{IsDoorServed, IsNewDoor, door_seen};
 ghost use Rattle.bq_link.specs.EndStates.{IsSameSeat};
 ghost use Rattle.bq_seat_work.specs.Ends.{IsNewEnd};
 
-use bq_driver::room::AnswerRoom;
 use bq_job::NoMemory;
 use bq_line::Door;
 use bq_line::line::Line;
@@ -25,7 +24,6 @@ pub struct SeatPost<'a, D: Door> {
     intake: &'a Intake<NoTicks>,
     pub end: SeatEnd,
     machine: SeatMachine,
-    room: AnswerRoom,
     pub door: D,
     pub max_job_size: u32,
     ghost of_intake: { end.intake ≡ intake.now.id },
@@ -53,13 +51,11 @@ impl<'a, L: Line + Drop, D: Door<Line = L> + Drop> SeatPost<'a, D> {
         ensures door { IfOk result (λ post. post.door ≡ door) }
     {
         let machine = SeatMachine::new(alloc, max_job_size)?;
-        let room = AnswerRoom::new(alloc)?;
         Ok(SeatPost {
             alloc,
             intake,
             end,
             machine,
-            room,
             door,
             max_job_size,
         })
@@ -82,12 +78,11 @@ impl<'a, L: Line + Drop, D: Door<Line = L> + Drop> SeatPost<'a, D> {
             intake,
             end,
             machine,
-            room,
             door,
             max_job_size: _,
         } = self;
         if start.wait(rt) {
-            Some(seat_work(rt, alloc, intake, core, end, machine, room, door))
+            Some(seat_work(rt, alloc, intake, core, end, machine, door))
         } else {
             None
         }
